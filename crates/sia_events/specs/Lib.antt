@@ -1,0 +1,14 @@
+pub mod Places
+pub mod Lists
+pub mod Text
+pub mod Events
+pub mod Refusals
+pub mod Reading
+pub mod Streaming
+pub mod Transactions
+pub mod Reads
+pub mod Isolation
+pub mod Dependencies
+pub mod DangerousStructures
+pub mod Replay
+pub mod Laws

@@ -1,0 +1,83 @@
+ghost use Rattle.std.specs.Prelude.{◌≡◌};
+
+use std::marker::Model;
+
+/// A transaction's name, from 1.
+pub type TxnId = u32;
+
+/// 0, or the transaction that wrote the version.
+pub type Version = u32;
+
+pub type Key = u64;
+
+/// The keys that a range read listed, each with the version that it saw.
+#[derive(Debug, Drop)]
+pub struct Listed {
+    pairs: Vec<(Key, Version)>,
+}
+
+impl Model for Listed {
+    ghost use Rattle.std.specs.Prelude.{List, ℕ};
+
+    ghost Value = { List (ℕ × ℕ) };
+
+    ghost view = { λ a. a.pairs.items };
+}
+
+impl Listed {
+    pub fn new(pairs: Vec<(Key, Version)>) -> Self
+        ensures { result ≡ pairs.items }
+    {
+        Listed { pairs }
+    }
+
+    pub fn as_slice(&self) -> &[(Key, Version)]
+        ensures { result.now ≡ self.now }
+    {
+        self.pairs.as_slice()
+    }
+}
+
+/// One event of a history.
+#[derive(Debug, Drop, PartialEq)]
+pub enum Event {
+    Begin {
+        txn: TxnId,
+        start: Option<u32>,
+    },
+    Read {
+        txn: TxnId,
+        key: Key,
+        saw: Version,
+    },
+    Range {
+        txn: TxnId,
+        lo: Key,
+        hi: Key,
+        listed: Listed,
+    },
+    Write {
+        txn: TxnId,
+        key: Key,
+    },
+    Commit {
+        txn: TxnId,
+    },
+    Abort {
+        txn: TxnId,
+    },
+}
+
+impl PartialEq for Listed {
+    ghost use Rattle.std.specs.Cmp.Lexicographic.{pointwise, lists_per};
+    ghost use Rattle.std.specs.Prelude.{ℕ};
+    ghost use Rattle.std.specs.Cmp.{and_per, on_per, nat_eq_equiv, partial_equiv_from_equiv};
+
+    ghost eq = { pointwise ⟦<(Key, Version) as PartialEq>⟧.eq };
+
+    ghost laws = { lists_per (and_per (on_per (λ (p : ℕ × ℕ). p.0) (partial_equiv_from_equiv nat_eq_equiv)) (on_per (λ (p : ℕ × ℕ). p.1) (partial_equiv_from_equiv nat_eq_equiv))) };
+
+    fn eq(&self, other: &Listed) -> bool {
+        self.pairs == other.pairs
+    }
+}

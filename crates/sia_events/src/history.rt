@@ -1,0 +1,42 @@
+ghost use Rattle.std.specs.Prelude.{◌≡◌, length};
+ghost use Rattle.std.specs.Option.{option_copied};
+ghost use Rattle.sia_events.specs.Places.{at_place};
+
+use crate::event::Event;
+use std::marker::Model;
+
+/// A well-formed history: its events, in order.
+#[derive(Debug, Drop)]
+pub struct History {
+    events: Vec<Event>,
+}
+
+impl Model for History {
+    ghost use Rattle.std.specs.Prelude.{List};
+    ghost use Rattle.sia_events.specs.declared.event.Event.{Event};
+    ghost use Rattle.sia_events.specs.Refusals.{IsWellFormed};
+
+    ghost Value = { List Event };
+
+    ghost view = { λ h. h.events.items };
+
+    ghost invariant = { λ h. IsWellFormed h.events.items };
+}
+
+impl History {
+    pub fn len(&self) -> u32
+        ensures { result ≡ length self.now }
+    {
+        self.events.len() as u32
+    }
+
+    /// The event at a place, from 1.
+    pub fn event(&self, place: u32) -> Option<&Event>
+        ensures { option_copied result ≡ at_place self.now place }
+    {
+        if place == 0 {
+            return None;
+        }
+        self.events.get(place as usize - 1)
+    }
+}

@@ -1,0 +1,12 @@
+//! Pivots, the least order or a cycle, and the replay of a history by an order.
+#![tactic(auto)]
+
+mod pivot;
+mod replaying;
+mod settling;
+mod txns;
+
+pub use pivot::Pivot;
+pub use replaying::{Mismatch, ReplayFault};
+pub use settling::{Step, Steps, Verdict};
+pub use txns::Txns;

@@ -1,0 +1,34 @@
+-- What is known of a transaction, and of a committed transaction's version of a key.
+use Rattle.std.specs.Prelude.{◌≡◌, ℕ, List, [], ◌∷◌, Option, Some, None}
+use Rattle.sia_events.specs.declared.event.Event.{Event}
+use Rattle.sia_events.specs.Lists.{ListsBy, ListsAscending}
+use Rattle.sia_events.specs.Transactions.{StartsAt, CommitsAt, AbortsAt, IsOpen, Wrote}
+use Rattle.sia_index.specs.declared.info.Made.{Made}
+use Rattle.sia_index.specs.declared.info.TxnInfo.{TxnInfo}
+use Rattle.sia_index.specs.declared.info.Fate.{Fate}
+use Rattle.sia_index.specs.declared.info.Fate.TheVariants.{Committed, Aborted, Unfinished}
+
+-- how t ended, and where
+abbrev pub EndsAs : List Event → ℕ → Fate → Option ℕ → Type 0
+EndsAs h t Committed None = ⊥
+EndsAs h t Committed (Some p) = CommitsAt h t p
+EndsAs h t Aborted None = ⊥
+EndsAs h t Aborted (Some p) = AbortsAt h t p
+EndsAs h t Unfinished None = IsOpen h t
+EndsAs h t Unfinished (Some p) = ⊥
+
+-- where t starts, and how it ended
+abbrev pub IsInfo : List Event → ℕ → TxnInfo → Type 0
+IsInfo h t info = StartsAt h t info.start × EndsAs h t info.fate info.ended
+
+-- a committed writer of k, with its commit
+abbrev pub IsMade : List Event → ℕ → Made → Type 0
+IsMade h k made = Wrote h made.txn k × CommitsAt h made.txn made.commit
+
+-- the committed writers of k, each once, by commit
+abbrev pub AreVersions : List Event → ℕ → List Made → Type 0
+AreVersions h k versions = ListsBy (λ made. made.commit ∷ []) (IsMade h k) versions
+
+-- the keys that some write event names, each once, ascending
+abbrev pub AreWrittenKeys : List Event → List ℕ → Type 0
+AreWrittenKeys h keys = ListsAscending (λ k. (t : ℕ) × Wrote h t k) keys
