@@ -1,4 +1,5 @@
 ghost use Rattle.std.specs.Prelude.{◌≡◌};
+ghost use Rattle.sia_events.specs.Events.{actor, named_start};
 
 use std::marker::Model;
 
@@ -66,6 +67,32 @@ pub enum Event {
     Abort {
         txn: TxnId,
     },
+}
+
+impl Event {
+    /// The transaction that acts.
+    pub fn txn(&self) -> TxnId
+        ensures { result ≡ actor self.now }
+    {
+        match self {
+            Event::Begin { txn, .. } => *txn,
+            Event::Read { txn, .. } => *txn,
+            Event::Range { txn, .. } => *txn,
+            Event::Write { txn, .. } => *txn,
+            Event::Commit { txn } => *txn,
+            Event::Abort { txn } => *txn,
+        }
+    }
+
+    /// The start that a begin names, in events recorded before it; nothing for every other event.
+    pub fn named_start(&self) -> Option<u32>
+        ensures { result ≡ named_start self.now }
+    {
+        match self {
+            Event::Begin { start, .. } => *start,
+            _ => None,
+        }
+    }
 }
 
 impl PartialEq for Listed {

@@ -1,11 +1,12 @@
 ghost use Rattle.std.specs.Prelude.{◌≡◌, length};
 ghost use Rattle.std.specs.Option.{option_copied};
 ghost use Rattle.sia_events.specs.Places.{at_place};
+ghost use Rattle.sia_events.specs.Refusals.{IsWellFormed};
 
 use crate::event::Event;
 use std::marker::Model;
 
-/// A well-formed history: its events, in order.
+/// A well-formed history: its events, in the order in which they were recorded.
 #[derive(Debug, Drop)]
 pub struct History {
     events: Vec<Event>,
@@ -24,13 +25,15 @@ impl Model for History {
 }
 
 impl History {
+    /// How many events there are.
     pub fn len(&self) -> u32
-        ensures { result ≡ length self.now }
+        ensures len { result ≡ length self.now }
+        ensures well_formed { IsWellFormed self.now }
     {
         self.events.len() as u32
     }
 
-    /// The event at a place, from 1.
+    /// The event at a place, counted from 1. There is none at 0 and above the length.
     pub fn event(&self, place: u32) -> Option<&Event>
         ensures { option_copied result ≡ at_place self.now place }
     {
