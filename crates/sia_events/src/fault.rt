@@ -1,8 +1,21 @@
+use std::alloc::{AllocError, AllocFailed};
 use thiserror::Error;
 
 /// A growth was refused.
 #[derive(Clone, Copy, Debug, PartialEq, Eq)]
 pub struct NoMemory;
+
+impl From<AllocError> for NoMemory {
+    fn from(_refused: AllocError) -> NoMemory {
+        NoMemory
+    }
+}
+
+impl<T: Drop> From<AllocFailed<T>> for NoMemory {
+    fn from(_refused: AllocFailed<T>) -> NoMemory {
+        NoMemory
+    }
+}
 
 /// Why a token can't stand where it stands. Of several the first in this list is told.
 #[derive(Clone, Copy, Debug, PartialEq, Eq)]
