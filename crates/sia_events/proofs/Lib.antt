@@ -5,4 +5,5 @@ pub mod Canonical
 pub mod OneRefusal
 pub mod WellFormed
 pub mod OneList
+pub mod Starts
 pub mod Samples
