@@ -3,7 +3,9 @@ pub mod Decimals
 pub mod Spelling
 pub mod Canonical
 pub mod OneRefusal
-pub mod WellFormed
-pub mod OneList
+pub mod Decisions
 pub mod Starts
+pub mod WellFormed
+pub mod Endings
+pub mod OneList
 pub mod Samples
