@@ -108,7 +108,7 @@ token_has ts i e BadStart h = (e, tt, refl, h)
 spelled_none : (h : List Event) → IsWellFormed h → (i : ℕ) (r : Reason) → ¬ HasReason (map spell h) i r
 spelled_none h wf i r = subst (λ ts. ¬ HasReason ts i r) (canonical_stands h) (accepted_none (canonical h) wf i r)
 
-place_spelled : (h : List Event) (i : ℕ) (e : Event) → at_place h i ≡ Some e → at_place (map spell h) i ≡ Some (spell e)
+pub place_spelled : (h : List Event) (i : ℕ) (e : Event) → at_place h i ≡ Some e → at_place (map spell h) i ≡ Some (spell e)
 place_spelled h i e at = at_place-map h i ∙ ap (option_map spell) at
 
 -- no event of a well-formed history has a reason, by the events before it
