@@ -1,12 +1,11 @@
 -- A transaction of a well-formed history ends once, and nothing of it follows its end.
-use Rattle.std.proofs.Common.{◌≡◌, ◌≢◌, inl, inr, ℕ, ◌≤◌, List, Some, refl, ap, sym, subst, ◌∙◌, arith}
+use Rattle.std.proofs.Common.{◌≡◌, ◌≢◌, inr, ℕ, ◌≤◌, List, Some, refl, sym, subst, arith}
 use Rattle.sia_events.specs.declared.event.Event.{Event}
 use Rattle.sia_events.specs.declared.event.Event.TheVariants.{Commit, Abort}
 use Rattle.sia_events.specs.declared.fault.Reason.TheVariants.{AlreadyEnded}
 use Rattle.sia_events.specs.Places.{at_place}
-use Rattle.sia_events.specs.Events.{actor}
 use Rattle.sia_events.specs.Refusals.{IsWellFormed}
-use Rattle.sia_events.specs.Transactions.{ActsAt, CommitsAt, AbortsAt, CommitsBefore}
+use Rattle.sia_events.specs.Transactions.{ActsAt, CommitsAt, AbortsAt}
 use Rattle.sia_events.proofs.Starts.{one_event}
 use Rattle.sia_events.proofs.Decisions.{at_most}
 use Rattle.sia_events.proofs.WellFormed.{event_has_none, nothing_after_end}

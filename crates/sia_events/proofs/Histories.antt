@@ -1,12 +1,11 @@
 -- An accepted text stands for one history, and this one is well-formed.
-use Rattle.std.proofs.Common.{◌≡◌, ◌≢◌, ◌⊎◌, inl, inr, ℕ, zero, suc, ◌≤◌, List, [], ◌∷◌, map, length, slice_get, Some, refl, ap, sym, subst, ◌∙◌, arith}
+use Rattle.std.proofs.Common.{◌≡◌, inl, inr, ℕ, suc, ◌≤◌, List, [], ◌∷◌, map, length, slice_get, Some, refl, sym, subst, ◌∙◌, arith}
 use Rattle.sia_events.specs.declared.event.Event.{Event}
 use Rattle.sia_events.specs.declared.fault.Reason.TheVariants.{BadEvent}
 use Rattle.sia_events.specs.declared.fault.TextFault.TheVariants.{NoMemory, TextTooLong, Refused}
-use Rattle.sia_events.specs.Places.{at_place}
 use Rattle.sia_events.specs.Text.{spell, tokens, canonical, StandsFor}
 use Rattle.sia_events.specs.Refusals.{HasReason, AnyForm, IsAccepted, IsWellFormed}
-use Rattle.sia_events.specs.Laws.{OneHistory}
+use Rattle.sia_events.specs.Laws.{OneHistory, HasHistory}
 use Rattle.sia_events.proofs.Canonical.{canonical_stands, spellings_injective}
 use Rattle.sia_events.proofs.Shortest.{canonical_shortest}
 use Rattle.sia_events.proofs.Unspelling.{spelling_or_not}
@@ -42,3 +41,8 @@ accepted_alike text other same short a (Refused i r) refusal = accepted_none tex
 -- the history of an accepted text is well-formed
 pub accepted_well_formed : (text : List ℕ) (h : List Event) → IsAccepted text → StandsFor text h → IsWellFormed h
 accepted_well_formed text h a stands = accepted_alike text (canonical h) (canonical_stands h ∙ sym stands) (canonical_shortest h text stands) a
+
+pub has_history : (text : List ℕ) → HasHistory text
+has_history text a =
+    let found = accepted_has_history text a in
+    (found.0, found.1, accepted_well_formed text found.0 a found.1)

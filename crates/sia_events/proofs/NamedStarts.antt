@@ -1,6 +1,6 @@
 -- Named starts only add: what the grammar without them accepts or refuses is accepted or refused alike, unless the faulty
 -- token has the form of a named start.
-use Rattle.std.proofs.Common.{◌≡◌, ◌≢◌, ◌⊎◌, inl, inr, ℕ, zero, suc, ◌+◌, ◌-◌, ◌<◌, ◌≤◌, List, [], ◌∷◌, map, Option, Some, None, refl, ap, sym, subst, ◌∙◌, arith}
+use Rattle.std.proofs.Common.{◌≡◌, ◌≢◌, ◌⊎◌, inl, inr, ℕ, ◌+◌, ◌<◌, ◌≤◌, List, Option, Some, None, refl, ap, sym, subst, ◌∙◌, arith}
 use Rattle.std.specs.Prelude.{◌↔◌, MatchOption, length}
 use Rattle.std.proofs.lemmas.Option.{MatchOption-at_none}
 use Rattle.sia_events.specs.declared.event.Event.{Event}
@@ -11,7 +11,7 @@ use Rattle.sia_events.specs.declared.fault.TextFault.TheVariants.{NoMemory, Text
 use Rattle.sia_events.specs.Places.{at_place}
 use Rattle.sia_events.specs.Events.{named_start}
 use Rattle.sia_events.specs.Text.{spell, tokens, StandsFor}
-use Rattle.sia_events.specs.Refusals.{EventHas, IsEarlier, TokenHas, HasReasonIn, reason_number, IsFirstFaultIn, IsRefusalIn, IsRefusal, IsAcceptedIn, IsAccepted, AnyForm}
+use Rattle.sia_events.specs.Refusals.{TokenHas, HasReasonIn, reason_number, IsFirstFaultIn, IsRefusalIn, IsRefusal, IsAcceptedIn, IsAccepted, AnyForm}
 use Rattle.sia_events.specs.Transactions.{IsFirstEvent, StartsAt}
 use Rattle.sia_events.specs.Laws.{IsPlain, NamesStart, StartsPlainly, NamedStartsOnlyAdd}
 use Rattle.sia_events.proofs.Decisions.{Decided, at_most}

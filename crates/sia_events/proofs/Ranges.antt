@@ -1,6 +1,6 @@
 -- A range read of a well-formed history: its bounds and its listed keys are in order, and it sees each key at one version.
-use Rattle.std.proofs.Common.{◌≡◌, ◌≢◌, ◌⊎◌, inl, inr, ℕ, ◌+◌, ◌<◌, ◌≤◌, List, map, length, Some, refl, ap, sym, ◌∙◌, subst, arith}
-use Rattle.std.specs.Prelude.{Contains, All, slice_index, slice_index_or}
+use Rattle.std.proofs.Common.{◌≡◌, ◌⊎◌, inl, inr, ℕ, ◌+◌, ◌<◌, ◌≤◌, List, map, length, Some, refl, ap, sym, ◌∙◌, subst, arith}
+use Rattle.std.specs.Prelude.{Contains, slice_index, slice_index_or}
 use Rattle.std.specs.List.Sorted.{IsStrictlyIncreasing}
 use Rattle.std.proofs.lemmas.Bool.{cases_order}
 use Rattle.std.proofs.lemmas.List.{get_or-map, get_or_default, length-map}
@@ -11,7 +11,6 @@ use Rattle.sia_events.specs.declared.fault.Reason.TheVariants.{EmptyRange, BadLi
 use Rattle.sia_events.specs.Places.{at_place}
 use Rattle.sia_events.specs.Events.{Saw}
 use Rattle.sia_events.specs.Refusals.{IsGoodList, IsWellFormed}
-use Rattle.sia_events.specs.Reads.{SawAt}
 use Rattle.sia_events.proofs.Decisions.{at_most}
 use Rattle.sia_events.proofs.WellFormed.{below_or, event_has_none}
 

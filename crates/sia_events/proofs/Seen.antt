@@ -1,11 +1,10 @@
 -- What a read of a well-formed history saw was written before it.
-use Rattle.std.proofs.Common.{◌≡◌, ◌≢◌, ℕ, ◌<◌, List, Some, refl, sym, ◌∙◌, subst, arith}
+use Rattle.std.proofs.Common.{◌≢◌, ℕ, ◌<◌, List, subst, arith}
 use Rattle.sia_events.specs.declared.event.Event.{Event}
 use Rattle.sia_events.specs.declared.event.Event.TheVariants.{Begin, Read, Range, Write, Commit, Abort}
-use Rattle.sia_events.specs.Places.{at_place}
 use Rattle.sia_events.specs.Events.{actor}
 use Rattle.sia_events.specs.Refusals.{IsTxn, IsInRange, IsWellFormed}
-use Rattle.sia_events.specs.Transactions.{ActsAt, IsCommitted, Wrote, WroteBefore}
+use Rattle.sia_events.specs.Transactions.{ActsAt, IsCommitted, WroteBefore}
 use Rattle.sia_events.specs.Reads.{SawAt}
 use Rattle.sia_events.specs.Dependencies.{IsCommittedWriter}
 use Rattle.sia_events.proofs.WellFormed.{seen_was_written, event_in_range}

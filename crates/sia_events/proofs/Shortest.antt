@@ -1,8 +1,8 @@
 -- No text is shorter than its tokens with one byte between each two: so of a history's texts the canonical one is shortest.
-use Rattle.std.proofs.Common.{◌≡◌, ℕ, suc, ◌+◌, ◌≤◌, Bool, true, false, cond, List, [], ◌∷◌, length, map, refl, ap, sym, subst, ◌∙◌, arith}
+use Rattle.std.proofs.Common.{◌≡◌, ℕ, suc, ◌≤◌, Bool, true, false, cond, List, [], ◌∷◌, length, refl, ap, sym, subst, ◌∙◌, arith}
 use Rattle.std.specs.List.{join_with_byte}
 use Rattle.sia_events.specs.declared.event.Event.{Event}
-use Rattle.sia_events.specs.Text.{spell, is_separator, goes_on, onto_first, with_byte, tokens, canonical, StandsFor}
+use Rattle.sia_events.specs.Text.{is_separator, goes_on, onto_first, with_byte, tokens, canonical, StandsFor}
 use Rattle.sia_events.specs.Laws.{CanonicalLaw}
 use Rattle.sia_events.proofs.Canonical.{ends_token, goes_on_token, goes_on_unbroken, canonical_stands, one_text}
 

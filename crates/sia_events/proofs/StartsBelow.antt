@@ -1,5 +1,5 @@
 -- In a well-formed history each event of a transaction stands after its start, and at or before its end.
-use Rattle.std.proofs.Common.{◌≡◌, ℕ, ◌+◌, ◌-◌, ◌<◌, ◌≤◌, List, Option, Some, None, refl, ap, sym, ◌∙◌, arith}
+use Rattle.std.proofs.Common.{◌≡◌, ℕ, ◌+◌, ◌-◌, ◌<◌, ◌≤◌, List, Option, Some, None, refl, arith}
 use Rattle.std.specs.Prelude.{MatchOption}
 use Rattle.sia_events.specs.declared.event.Event.{Event}
 use Rattle.sia_events.specs.declared.event.Event.TheVariants.{Commit, Abort}
@@ -7,7 +7,7 @@ use Rattle.sia_events.specs.declared.fault.Reason.TheVariants.{BadStart}
 use Rattle.sia_events.specs.Places.{at_place}
 use Rattle.sia_events.specs.Events.{named_start}
 use Rattle.sia_events.specs.Refusals.{IsWellFormed}
-use Rattle.sia_events.specs.Transactions.{ActsAt, IsFirstEvent, StartsAt, CommitsAt, AbortsAt}
+use Rattle.sia_events.specs.Transactions.{ActsAt, StartsAt, CommitsAt, AbortsAt}
 use Rattle.sia_events.proofs.Decisions.{at_most}
 use Rattle.sia_events.proofs.TransactionDecisions.{place_within}
 use Rattle.sia_events.proofs.WellFormed.{event_has_none}

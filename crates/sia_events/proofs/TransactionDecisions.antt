@@ -1,6 +1,6 @@
 -- What can be told of a transaction, of any list of events: whether it has an event, what it wrote, how it ended, and
 -- where it has an event its start.
-use Rattle.std.proofs.Common.{◌≡◌, ◌⊎◌, inl, inr, ℕ, zero, suc, ◌+◌, ◌<◌, ◌≤◌, List, [], ◌∷◌, length, slice_get, Option, Some, None, refl, ap, sym, subst, ◌∙◌, arith}
+use Rattle.std.proofs.Common.{◌≡◌, ◌⊎◌, inl, inr, ℕ, zero, suc, ◌+◌, ◌<◌, ◌≤◌, List, length, Option, Some, None, refl, ap, ◌∙◌, arith}
 use Rattle.std.specs.Prelude.{MatchOption}
 use Rattle.std.proofs.lemmas.Bool.{cases_eq}
 use Rattle.std.proofs.lemmas.Option.{slice_get_within}
@@ -8,8 +8,8 @@ use Rattle.sia_events.specs.declared.event.Event.{Event}
 use Rattle.sia_events.specs.declared.event.Event.TheVariants.{Write, Commit, Abort}
 use Rattle.sia_events.specs.Places.{at_place}
 use Rattle.sia_events.specs.Events.{actor, named_start}
-use Rattle.sia_events.specs.Transactions.{ActsAt, HasEvent, IsFirstEvent, StartsAt, CommitsAt, IsCommitted, AbortsAt, IsAborted, IsOpen, WritesAt, Wrote, WroteBefore}
-use Rattle.sia_events.proofs.Decisions.{Decided, both, decided_alike, first_below, same_option, same_event}
+use Rattle.sia_events.specs.Transactions.{ActsAt, HasEvent, IsFirstEvent, StartsAt, IsCommitted, IsAborted, IsOpen, WritesAt, Wrote, WroteBefore}
+use Rattle.sia_events.proofs.Decisions.{Decided, first_below, same_option, same_event}
 
 -- an event stands at a place from 1 to the number of events
 pub place_within : (h : List Event) (p : ℕ) (e : Event) → at_place h p ≡ Some e → (0 < p) × (p ≤ length h)

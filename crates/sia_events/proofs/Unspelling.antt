@@ -1,14 +1,14 @@
 -- A spelling read back: whether bytes spell an event can be told.
-use Rattle.std.proofs.Common.{◌≡◌, ◌≢◌, ◌⊎◌, inl, inr, ℕ, zero, suc, ◌+◌, ◌-◌, ◌*◌, ◌≤◌, Bool, true, false, cond, List, [], ◌∷◌, ◌++◌, Option, Some, None, refl, ap, sym, subst, ◌∙◌, arith}
+use Rattle.std.proofs.Common.{◌≡◌, ◌≢◌, ◌⊎◌, inl, inr, ℕ, ◌+◌, ◌-◌, ◌*◌, ◌≤◌, Bool, true, false, cond, List, [], ◌∷◌, ◌++◌, Some, None, refl, ap, sym, ◌∙◌, arith}
 use Rattle.std.specs.Prelude.{fold, ◌==◌, ◌&&◌, nat_lt}
 use Rattle.std.proofs.lemmas.Bool.{cases_eq}
 use Rattle.std.proofs.lemmas.Bool.Decides.{nat_tests}
 use Rattle.sia_events.specs.declared.event.Event.{Event}
 use Rattle.sia_events.specs.declared.event.Event.TheVariants.{Begin, Read, Range, Write, Commit, Abort}
 use Rattle.sia_events.specs.Text.{numeral, spell}
-use Rattle.sia_events.proofs.Decisions.{Decided, same_list}
+use Rattle.sia_events.proofs.Decisions.{same_list}
 use Rattle.sia_events.proofs.Numerals.{IsDigit, AreDigits, numeral-digits, value_of-numeral}
-use Rattle.sia_events.proofs.Spelling.{pairs_text, list_text, start_text, event_text, regrouped}
+use Rattle.sia_events.proofs.Spelling.{pairs_text, list_text, event_text, regrouped}
 
 abbrev is_digit : ℕ → Bool
 is_digit c = nat_lt 47 c && nat_lt c 58

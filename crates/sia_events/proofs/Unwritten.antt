@@ -1,11 +1,11 @@
 -- A key that no write event names has no entry in a verdict.
-use Rattle.std.proofs.Common.{◌≡◌, ◌≢◌, ◌⊎◌, inl, inr, ℕ, List, refl, sym, ◌∙◌}
+use Rattle.std.proofs.Common.{◌≡◌, inl, inr, ℕ, List, sym, ◌∙◌}
 use Rattle.std.proofs.lemmas.Bool.{cases_eq}
 use Rattle.sia_events.specs.declared.event.Event.{Event}
 use Rattle.sia_events.specs.Refusals.{IsWellFormed}
 use Rattle.sia_events.specs.Transactions.{Wrote}
 use Rattle.sia_events.specs.Reads.{SawAt, IsDue}
-use Rattle.sia_events.specs.Laws.{HasNoEntry, UnwrittenLaw}
+use Rattle.sia_events.specs.Laws.{UnwrittenLaw}
 use Rattle.sia_events.proofs.Seen.{saw_written}
 
 module _ (h : List Event) (wf : IsWellFormed h) (k : ℕ) (none : (t : ℕ) → ¬ Wrote h t k) where
