@@ -1,5 +1,5 @@
 -- What an accepted text and a well-formed history keep.
-use Rattle.std.proofs.Common.{◌≡◌, ◌≢◌, ◌⊎◌, inl, inr, ℕ, zero, suc, ◌+◌, ◌-◌, ◌^◌, ◌<◌, ◌≤◌, List, [], ◌∷◌, map, length, slice_get, Option, Some, None, refl, ap, sym, subst, ◌∙◌, arith}
+use Rattle.std.proofs.Common.{◌≡◌, ◌≢◌, inl, inr, ℕ, zero, suc, ◌+◌, ◌-◌, ◌^◌, ◌<◌, ◌≤◌, List, [], ◌∷◌, map, length, slice_get, Option, Some, None, refl, ap, sym, subst, ◌∙◌, arith}
 use Rattle.std.proofs.lemmas.Bool.{cases_lt}
 use Rattle.std.proofs.lemmas.Option.{slice_get-map}
 use Rattle.std.specs.Option.{option_map}
@@ -15,6 +15,7 @@ use Rattle.sia_events.specs.Text.{spell, tokens, canonical}
 use Rattle.sia_events.specs.Refusals.{IsTxn, IsStart, IsInRange, reason_number, HasReason, HasReasonIn, TokenHas, EventHas, IsEarlier, IsFirstFaultIn, IsAccepted, IsAcceptedIn, AnyForm, IsWellFormed}
 use Rattle.sia_events.proofs.Spelling.{spell_injective}
 use Rattle.sia_events.proofs.Canonical.{canonical_stands}
+use Rattle.sia_events.proofs.Decisions.{Decided, at_most, first_below, same_option, same_event}
 
 numbers_below : (r : Reason) → reason_number r < 11
 numbers_below TooManyEvents = omega arith
@@ -26,10 +27,6 @@ numbers_below EmptyRange = omega arith
 numbers_below BadList = omega arith
 numbers_below NotWritten = omega arith
 numbers_below BadStart = omega arith
-
--- m is at most n, or n is below it
-at_most : (m n : ℕ) → ¬ (n < m) → m ≤ n
-at_most m n h = elim (cases_lt n m) [ inl less ↦ absurd (h less) | inr more ↦ more ]
 
 -- where no first fault is, nothing has a reason
 module _ (Form : Event → Type 0) (ts : List (List ℕ)) (none : (i : ℕ) (r : Reason) → ¬ IsFirstFaultIn Form ts i r) where
@@ -111,7 +108,7 @@ token_has ts i e BadStart h = (e, tt, refl, h)
 spelled_none : (h : List Event) → IsWellFormed h → (i : ℕ) (r : Reason) → ¬ HasReason (map spell h) i r
 spelled_none h wf i r = subst (λ ts. ¬ HasReason ts i r) (canonical_stands h) (accepted_none (canonical h) wf i r)
 
-place_spelled : (h : List Event) (i : ℕ) (e : Event) → at_place h i ≡ Some e → at_place (map spell h) i ≡ Some (spell e)
+pub place_spelled : (h : List Event) (i : ℕ) (e : Event) → at_place h i ≡ Some e → at_place (map spell h) i ≡ Some (spell e)
 place_spelled h i e at = at_place-map h i ∙ ap (option_map spell) at
 
 -- no event of a well-formed history has a reason, by the events before it
@@ -146,45 +143,22 @@ few_events h wf = at_most (length h) 100000 (λ more.
     let found = at_index h 100000 more in
     spelled_none h wf 100001 TooManyEvents (spell found.0, place_spelled h 100001 found.0 found.1, refl))
 
-same_or_not : (a b : ℕ) → (a ≡ b) ⊎ (a ≢ b)
-same_or_not a b = elim (cases_lt a b) [
-  | inl less ↦ inr (λ e. omega arith)
-  | inr more ↦ elim (cases_lt b a) [ inl less ↦ inr (λ e. omega arith) | inr least ↦ inl (omega arith) ]
-]
-
-is_write_or_not : (o : Option Event) (v k : ℕ) → (o ≡ Some (Write v k)) ⊎ ¬ (o ≡ Some (Write v k))
-is_write_or_not None v k = inr (λ e. cc)
-is_write_or_not (Some (Write t j)) v k = elim (same_or_not t v) [
-  | inl a ↦ elim (same_or_not j k) [
-    | inl b ↦ inl (λ i. Some (Write (a i) (b i)))
-    | inr n ↦ inr (λ e. n (let p : j ≡ k = cc in p))
-  ]
-  | inr n ↦ inr (λ e. n (let p : t ≡ v = cc in p))
-]
-is_write_or_not (Some e) v k = inr (λ p. cc)
-
--- whether a transaction wrote a key before a place can be told
-pub before_or_not : (h : List Event) (i v k : ℕ) → IsBefore h i (Write v k) ⊎ ¬ IsBefore h i (Write v k)
-before_or_not h zero v k = inr (λ b. let l = b.1 in omega arith)
-before_or_not h (suc i) v k = elim (before_or_not h i v k) [
-  | inl b ↦ inl (b.0, (let l = b.1 in omega arith), b.2)
-  | inr none ↦ elim (is_write_or_not (at_place h i) v k) [
-    | inl e ↦ inl (i, omega arith, e)
-    | inr n ↦ inr (λ b. elim (same_or_not b.0 i) [
-      | inl same ↦ n (subst (λ j. at_place h j ≡ Some (Write v k)) same b.2)
-      | inr other ↦ none (b.0, (let l = b.1 in omega arith), b.2)
-    ])
-  ]
+-- whether an event stands before a place can be told
+pub before_or_not : (h : List Event) (i : ℕ) (f : Event) → Decided (IsBefore h i f)
+before_or_not h i f = elim (first_below (λ j. at_place h j ≡ Some f) (λ j. same_option same_event (at_place h j) (Some f)) i) [
+  | inl found ↦ inl (found.0, found.1, found.2)
+  | inr none ↦ inr (λ b. none b.0 b.1 b.2)
 ]
 
 -- a version that was seen and isn't 0 was written before
 pub seen_was_written : (h : List Event) → IsWellFormed h → (i k v : ℕ) (e : Event) → at_place h i ≡ Some e → Saw e k v → v ≢ 0 → IsBefore h i (Write v k)
-seen_was_written h wf i k v e at saw v0 = elim (before_or_not h i v k) [
+seen_was_written h wf i k v e at saw v0 = elim (before_or_not h i (Write v k)) [
   | inl b ↦ b
   | inr n ↦ absurd (event_has_none h wf i e at NotWritten (k, v, saw, v0, n))
 ]
 
-below_or : (m n : ℕ) → ¬ ¬ (m < n) → m < n
+-- what isn't refuted of two numbers holds
+pub below_or : (m n : ℕ) → ¬ ¬ (m < n) → m < n
 below_or m n h = elim (cases_lt m n) [ inl less ↦ less | inr more ↦ absurd (h (λ less. omega arith)) ]
 
 txn_range : (t : ℕ) → ¬ ¬ IsTxn t → IsTxn t

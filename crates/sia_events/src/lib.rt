@@ -4,7 +4,12 @@
 mod event;
 mod fault;
 mod history;
+mod laws;
 
 pub use event::{Event, Key, Listed, TxnId, Version};
 pub use fault::{NoMemory, Reason, TextFault};
 pub use history::History;
+pub use laws::{
+    accepted_text_has_a_history, canonical_law, named_starts_only_add, one_history, one_refusal,
+    unwritten_law,
+};
