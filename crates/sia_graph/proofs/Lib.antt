@@ -1,2 +1,6 @@
 pub mod Sample
 pub mod OneVerdict
+pub mod Deciding
+pub mod Facts
+pub mod Due
+pub mod ReadyOrders
