@@ -4,3 +4,5 @@ pub mod Deciding
 pub mod Facts
 pub mod Due
 pub mod ReadyOrders
+pub mod OrderPlaces
+pub mod RwDecided
