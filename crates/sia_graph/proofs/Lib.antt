@@ -6,3 +6,4 @@ pub mod Due
 pub mod ReadyOrders
 pub mod OrderPlaces
 pub mod RwDecided
+pub mod NoStuckSet
