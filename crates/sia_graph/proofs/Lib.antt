@@ -7,3 +7,5 @@ pub mod ReadyOrders
 pub mod OrderPlaces
 pub mod RwDecided
 pub mod NoStuckSet
+pub mod LastWriter
+pub mod Serial
