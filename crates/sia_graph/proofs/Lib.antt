@@ -9,3 +9,4 @@ pub mod RwDecided
 pub mod NoStuckSet
 pub mod LastWriter
 pub mod Serial
+pub mod Found
