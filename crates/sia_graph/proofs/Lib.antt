@@ -10,3 +10,4 @@ pub mod NoStuckSet
 pub mod LastWriter
 pub mod Serial
 pub mod Found
+pub mod ReplayLaw
