@@ -1,9 +1,9 @@
 -- Searches over the numbers below a bound, and over the events of a history.
-use Rattle.std.proofs.Common.{◌≡◌, ◌≢◌, ◌⊎◌, inl, inr, ℕ, zero, suc, ◌+◌, ◌<◌, ◌≤◌, List, [], ◌∷◌, length, slice_get, Option, Some, None, refl, ap, sym, subst, ◌∙◌, arith}
+use Rattle.std.proofs.Common.{◌≡◌, ◌⊎◌, inl, inr, ℕ, zero, suc, ◌<◌, ◌≤◌, List, length, slice_get, Option, Some, None, refl, ap, sym, subst, ◌∙◌, arith}
 use Rattle.std.proofs.lemmas.Bool.{cases_lt, cases_eq}
 use Rattle.std.proofs.lemmas.Option.{same_Some, slice_get_within}
 use Rattle.sia_events.specs.declared.event.Event.{Event}
-use Rattle.sia_events.specs.declared.event.Event.TheVariants.{Begin, Read, Range, Write, Commit, Abort}
+use Rattle.sia_events.specs.declared.event.Event.TheVariants.{Write, Commit}
 use Rattle.sia_events.specs.Places.{at_place}
 use Rattle.sia_events.specs.Transactions.{IsCommitted, Wrote}
 
@@ -15,6 +15,12 @@ pub both_decided : (P Q : Type 0) → Decided P → Decided Q → Decided (P × 
 both_decided P Q (inl p) (inl q) = inl (p, q)
 both_decided P Q (inl p) (inr n) = inr (λ w. n w.1)
 both_decided P Q (inr n) d = inr (λ w. n w.0)
+
+pub three_decided : (P Q R : Type 0) → Decided P → Decided Q → Decided R → Decided (P × Q × R)
+three_decided P Q R (inr n) e f = inr (λ w. n w.0)
+three_decided P Q R (inl p) (inr n) f = inr (λ w. n w.1)
+three_decided P Q R (inl p) (inl q) (inr n) = inr (λ w. n w.2)
+three_decided P Q R (inl p) (inl q) (inl r) = inl (p, q, r)
 
 pub either_decided : (P Q : Type 0) → Decided P → Decided Q → Decided (P ⊎ Q)
 either_decided P Q (inl p) d = inl (inl p)
@@ -91,7 +97,7 @@ is_commit t (Commit u) = elim (cases_eq u t) [
 ]
 is_commit t e = inr (λ p. cc)
 
-is_write : (t k : ℕ) (e : Event) → Decided (e ≡ Write t k)
+pub is_write : (t k : ℕ) (e : Event) → Decided (e ≡ Write t k)
 is_write t k (Write u j) = elim (cases_eq u t) [
   | inl a ↦ elim (cases_eq j k) [
     | inl b ↦ inl (λ i. Write (a i) (b i))

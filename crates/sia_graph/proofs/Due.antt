@@ -1,18 +1,16 @@
 -- The version due to a read: there is one, and where isolation is kept it is what the read saw.
-use Rattle.std.proofs.Common.{◌≡◌, ◌≢◌, ◌⊎◌, inl, inr, ℕ, zero, suc, ◌+◌, ◌<◌, ◌≤◌, List, Option, Some, None, refl, ap, sym, subst, ◌∙◌, arith}
-use Rattle.std.proofs.lemmas.Bool.{cases_lt, cases_eq}
-use Rattle.std.proofs.lemmas.Option.{same_Some}
+use Rattle.std.proofs.Common.{◌≡◌, ◌≢◌, ◌⊎◌, inl, inr, ℕ, ◌+◌, ◌≤◌, List, Some, refl, ap, sym, subst, ◌∙◌, arith}
+use Rattle.std.proofs.lemmas.Bool.{cases_eq}
 use Rattle.sia_events.specs.declared.event.Event.{Event}
-use Rattle.sia_events.specs.declared.event.Event.TheVariants.{Begin, Read, Range, Write, Commit, Abort}
+use Rattle.sia_events.specs.declared.event.Event.TheVariants.{Commit}
 use Rattle.sia_events.specs.Places.{at_place}
-use Rattle.sia_events.specs.Events.{actor}
 use Rattle.sia_events.specs.Refusals.{IsWellFormed}
 use Rattle.sia_events.specs.Transactions.{ActsAt, StartsAt, CommitsAt, IsCommitted, Wrote, WroteBefore}
 use Rattle.sia_events.specs.Reads.{SawAt, IsVisible, IsNewestVisible, IsDue}
 use Rattle.sia_events.specs.Isolation.{IsolationKept, NoneUnexplained}
 use Rattle.sia_events.proofs.WellFormed.{one_commit, before_or_not}
-use Rattle.sia_graph.proofs.Deciding.{Decided, inside_decided, greatest_below, committed_decided, wrote_decided}
-use Rattle.sia_graph.proofs.Facts.{one_start, start_of, committed_positive}
+use Rattle.sia_graph.proofs.Deciding.{Decided, inside_decided, greatest_below, wrote_decided}
+use Rattle.sia_graph.proofs.Facts.{one_start, start_of}
 
 -- the event is a commit of a writer of k
 abbrev CommitsWriter : List Event → ℕ → Event → Type 0

@@ -1,5 +1,5 @@
 -- Facts of well-formed histories: when a transaction starts and commits.
-use Rattle.std.proofs.Common.{◌≡◌, ◌≢◌, ◌⊎◌, inl, inr, ℕ, zero, suc, ◌+◌, ◌-◌, ◌<◌, ◌≤◌, List, Option, Some, None, MatchOption, refl, ap, sym, subst, ◌∙◌, arith}
+use Rattle.std.proofs.Common.{◌≡◌, ◌⊎◌, inl, inr, ℕ, zero, suc, ◌+◌, ◌-◌, ◌<◌, ◌≤◌, List, Option, Some, None, MatchOption, refl, ap, sym, subst, ◌∙◌, arith}
 use Rattle.std.proofs.lemmas.Bool.{cases_lt, cases_eq}
 use Rattle.std.proofs.lemmas.Option.{same_Some}
 use Rattle.sia_events.specs.declared.event.Event.{Event}
@@ -8,7 +8,7 @@ use Rattle.sia_events.specs.declared.fault.Reason.TheVariants.{BadStart}
 use Rattle.sia_events.specs.Places.{at_place}
 use Rattle.sia_events.specs.Events.{actor, named_start}
 use Rattle.sia_events.specs.Refusals.{IsInRange, IsWellFormed}
-use Rattle.sia_events.specs.Transactions.{ActsAt, IsFirstEvent, StartsAt, CommitsAt, IsCommitted, Wrote, Sees, CommitsBefore}
+use Rattle.sia_events.specs.Transactions.{ActsAt, StartsAt, CommitsAt, IsCommitted, Wrote, Sees, CommitsBefore}
 use Rattle.sia_events.proofs.WellFormed.{event_has_none, event_in_range, one_commit}
 use Rattle.sia_graph.proofs.Deciding.{Decided, inside_decided, least_below, committed_decided}
 

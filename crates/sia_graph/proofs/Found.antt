@@ -1,6 +1,6 @@
 -- What a replay finds at an event: its own transaction's version after an own write, and else that of the last writer among
 -- the transactions before it in the order. A replay said by the order's places, with no list of events.
-use Rattle.std.proofs.Common.{◌≡◌, ◌≢◌, ◌⊎◌, inl, inr, ℕ, zero, suc, ◌+◌, ◌<◌, ◌≤◌, List, [], ◌∷◌, ◌++◌, take, flat_map, slice_get, Option, Some, None, refl, ap, sym, subst, ◌∙◌, arith, append-nil}
+use Rattle.std.proofs.Common.{◌≡◌, ◌⊎◌, inl, inr, ℕ, zero, suc, ◌+◌, ◌<◌, List, [], ◌∷◌, ◌++◌, take, flat_map, slice_get, Option, Some, None, refl, ap, sym, subst, ◌∙◌, arith, append-nil}
 use Rattle.std.proofs.lemmas.Bool.{cases_lt}
 use Rattle.std.proofs.lemmas.Option.{same_Some}
 use Rattle.std.proofs.lemmas.List.Concat.{flat_map-append}
@@ -9,7 +9,7 @@ use Rattle.sia_events.specs.declared.event.Event.TheVariants.{Begin, Read, Range
 use Rattle.sia_events.specs.Places.{at_place}
 use Rattle.sia_events.specs.Events.{actor, Saw}
 use Rattle.sia_events.specs.Transactions.{Wrote, WroteBefore}
-use Rattle.sia_events.specs.Replay.{events_of, serial, found_at, MayFollow, IsRightAt, IsRightBelow, Replays}
+use Rattle.sia_events.specs.Replay.{events_of, serial, found_at, MayFollow, IsRightAt, Replays}
 use Rattle.sia_graph.proofs.LastWriter.{last_from, last_from-append, found_is_last, events_from, Writes, IsLastOwn, last_own}
 use Rattle.sia_graph.proofs.Serial.{split_place, joined_place, split_event, own_event}
 

@@ -11,3 +11,4 @@ pub mod LastWriter
 pub mod Serial
 pub mod Found
 pub mod ReplayLaw
+pub mod SsiLaw

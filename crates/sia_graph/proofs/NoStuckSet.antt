@@ -1,18 +1,18 @@
 -- Where isolation is kept, an edge goes to a transaction that sees the first one's commit, or else it is a vulnerable one. So
 -- where no dangerous structure's last transaction commits first, some order keeps every edge.
-use Rattle.std.proofs.Common.{◌≡◌, ◌≢◌, ◌⊎◌, inl, inr, ℕ, zero, suc, ◌+◌, ◌<◌, ◌≤◌, List, [], ◌∷◌, Option, Some, None, refl, ap, sym, subst, ◌∙◌, arith}
-use Rattle.std.proofs.lemmas.Bool.{cases_lt, cases_eq}
+use Rattle.std.proofs.Common.{◌≡◌, ◌⊎◌, inl, inr, ℕ, ◌<◌, ◌≤◌, List, [], ◌∷◌, refl, sym, subst, arith}
+use Rattle.std.proofs.lemmas.Bool.{cases_lt}
 use Rattle.sia_events.specs.declared.event.Event.{Event}
 use Rattle.sia_events.specs.Refusals.{IsWellFormed}
 use Rattle.sia_events.specs.Transactions.{StartsAt, CommitsAt, IsCommitted, Sees, StartsBeforeCommit, CommitsBefore, Overlap}
 use Rattle.sia_events.specs.Reads.{IsDue}
 use Rattle.sia_events.specs.Isolation.{IsolationKept}
-use Rattle.sia_events.specs.Dependencies.{IsVersionBefore, WwEdge, WrEdge, RwEdge, HasEdge}
+use Rattle.sia_events.specs.Dependencies.{WwEdge, WrEdge, RwEdge, HasEdge}
 use Rattle.sia_events.specs.DangerousStructures.{IsVulnerable, NoFirst}
 use Rattle.sia_events.specs.Replay.{IsOrder, Keeps}
 use Rattle.sia_events.proofs.WellFormed.{one_commit}
 use Rattle.sia_graph.proofs.Deciding.{Decided, both_decided, either_decided, le_decided, committed_decided}
-use Rattle.sia_graph.proofs.Facts.{one_start, same_committer, committed_positive, writer_positive, Span, span_of, sees_le, commits_lt}
+use Rattle.sia_graph.proofs.Facts.{one_start, same_committer, committed_positive, Span, span_of, sees_le, commits_lt}
 use Rattle.sia_graph.proofs.Due.{saw_due}
 use Rattle.sia_graph.proofs.RwDecided.{rw_decided}
 use Rattle.sia_graph.proofs.ReadyOrders.{In, IsFed}

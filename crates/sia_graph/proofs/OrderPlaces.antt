@@ -1,16 +1,14 @@
 -- Lists of members by their places, and an order of all committed transactions that keeps a relation.
-use Rattle.std.proofs.Common.{◌≡◌, ◌≢◌, ◌⊎◌, ◌↔◌, inl, inr, ℕ, zero, suc, ◌+◌, ◌<◌, ◌≤◌, List, [], ◌∷◌, length, get_or, slice_get, Option, Some, None, refl, ap, sym, subst, ◌∙◌, arith}
+use Rattle.std.proofs.Common.{◌≡◌, ◌≢◌, inl, inr, ℕ, zero, suc, ◌<◌, List, [], ◌∷◌, length, get_or, slice_get, Some, ap, sym, arith}
 use Rattle.std.specs.Prelude.{AllPairs, Contains}
-use Rattle.std.proofs.lemmas.Bool.{cases_lt, cases_eq, cases_order}
 use Rattle.std.proofs.lemmas.Option.{same_Some}
 use Rattle.sia_events.specs.declared.event.Event.{Event}
 use Rattle.sia_events.specs.declared.event.Event.TheVariants.{Begin, Read, Range, Write, Commit, Abort}
-use Rattle.sia_events.specs.Lists.{HoldsExactly}
-use Rattle.sia_events.specs.Replay.{StandsBefore, Keeps, IsOrder}
+use Rattle.sia_events.specs.Replay.{StandsBefore, IsOrder}
 use Rattle.sia_events.specs.Places.{at_place}
 use Rattle.sia_events.specs.Transactions.{IsCommitted}
 use Rattle.sia_graph.proofs.Deciding.{Decided}
-use Rattle.sia_graph.proofs.ReadyOrders.{In, Precedes, IsOnce, IsFed, KeepsAmong, order_among}
+use Rattle.sia_graph.proofs.ReadyOrders.{In, IsAhead, IsOnce, IsFed, order_among}
 
 in_contains : (t : ℕ) (xs : List ℕ) → In t xs → Contains xs t
 in_contains t [] i = absurd i
@@ -32,10 +30,10 @@ place_in t [] i e = cc
 place_in t (x ∷ xs) zero e = inl (same_Some x t e)
 place_in t (x ∷ xs) (suc i) e = inr (place_in t xs i e)
 
-pub precedes_stands : (t u : ℕ) (xs : List ℕ) → Precedes t u xs → StandsBefore xs t u
-precedes_stands t u [] p = absurd p
-precedes_stands t u (x ∷ xs) (inl w) = let j = in_place u xs w.1 in (0, suc j.0, omega arith, ap Some w.0, j.1)
-precedes_stands t u (x ∷ xs) (inr p) = let w = precedes_stands t u xs p in let l = w.2 in (suc w.0, suc w.1, omega arith, w.3, w.4)
+pub ahead_stands : (t u : ℕ) (xs : List ℕ) → IsAhead t u xs → StandsBefore xs t u
+ahead_stands t u [] p = absurd p
+ahead_stands t u (x ∷ xs) (inl w) = let j = in_place u xs w.1 in (0, suc j.0, omega arith, ap Some w.0, j.1)
+ahead_stands t u (x ∷ xs) (inr p) = let w = ahead_stands t u xs p in let l = w.2 in (suc w.0, suc w.1, omega arith, w.3, w.4)
 
 pub once_pairs : (xs : List ℕ) → IsOnce xs → AllPairs (λ x y. x ≢ y) xs
 once_pairs [] o i j d less below = absurd (omega arith)
@@ -103,5 +101,5 @@ order_exists h Edge decide none_fed =
           λ c. in_contains t made.0 (k.into t (committed_in h t c.0 c.1)),
         );
       },
-      λ t u c d e. precedes_stands t u made.0 (k.kept t u (committed_in h t c.0 c.1) (committed_in h u d.0 d.1) e),
+      λ t u c d e. ahead_stands t u made.0 (k.kept t u (committed_in h t c.0 c.1) (committed_in h u d.0 d.1) e),
     )

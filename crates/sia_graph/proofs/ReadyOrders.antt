@@ -1,10 +1,7 @@
 -- An order that keeps a relation, made by taking what is ready, one at a time.
-use Rattle.std.proofs.Common.{◌≡◌, ◌≢◌, ◌⊎◌, ◌↔◌, inl, inr, ℕ, zero, suc, ◌+◌, ◌<◌, ◌≤◌, List, [], ◌∷◌, length, slice_get, Option, Some, None, refl, ap, sym, subst, ◌∙◌, arith}
-use Rattle.std.specs.Prelude.{AllPairs, Contains, slice_index_or, ⊤}
-use Rattle.std.proofs.lemmas.Bool.{cases_lt, cases_eq}
-use Rattle.std.proofs.lemmas.Option.{same_Some}
-use Rattle.sia_events.specs.Lists.{HoldsExactly}
-use Rattle.sia_events.specs.Replay.{StandsBefore, Keeps}
+use Rattle.std.proofs.Common.{◌≡◌, ◌≢◌, ◌⊎◌, inl, inr, ℕ, zero, suc, ◌<◌, ◌≤◌, List, [], ◌∷◌, length, refl, sym, subst, ◌∙◌, arith}
+use Rattle.std.specs.Prelude.{⊤}
+use Rattle.std.proofs.lemmas.Bool.{cases_eq}
 use Rattle.sia_graph.proofs.Deciding.{Decided}
 
 -- t is a member of the list
@@ -13,9 +10,9 @@ In t [] = ⊥
 In t (x ∷ xs) = (x ≡ t) ⊎ In t xs
 
 -- t stands in the list, and u after it
-abbrev pub Precedes : ℕ → ℕ → List ℕ → Type 0
-Precedes t u [] = ⊥
-Precedes t u (x ∷ xs) = ((x ≡ t) × In u xs) ⊎ Precedes t u xs
+abbrev pub IsAhead : ℕ → ℕ → List ℕ → Type 0
+IsAhead t u [] = ⊥
+IsAhead t u (x ∷ xs) = ((x ≡ t) × In u xs) ⊎ IsAhead t u xs
 
 -- each member stands once
 abbrev pub IsOnce : List ℕ → Type 0
@@ -87,7 +84,7 @@ module _ (Edge : ℕ → ℕ → Type 0) where
     pub into : (t : ℕ) → In t xs → In t order
     pub back : (t : ℕ) → In t order → In t xs
     pub once : IsOnce order
-    pub kept : (t u : ℕ) → In t xs → In u xs → Edge t u → Precedes t u order
+    pub kept : (t u : ℕ) → In t xs → In u xs → Edge t u → IsAhead t u order
 
   module _ (decide : (s t : ℕ) → Decided (Edge s t)) where
     -- some member is ready, unless the list is fed

@@ -1,6 +1,6 @@
 -- An order replays a well-formed history exactly where it keeps every edge and no read is unexplained.
-use Rattle.std.proofs.Common.{◌≡◌, ◌≢◌, ◌⊎◌, ◌↔◌, inl, inr, ℕ, zero, suc, ◌+◌, ◌<◌, ◌≤◌, List, [], ◌∷◌, length, get_or, slice_get, Option, Some, None, refl, ap, sym, subst, ◌∙◌, arith}
-use Rattle.std.proofs.lemmas.Bool.{cases_lt, cases_eq, cases_order}
+use Rattle.std.proofs.Common.{◌≡◌, ◌≢◌, ◌⊎◌, inl, inr, ℕ, zero, suc, ◌<◌, List, slice_get, Some, refl, ap, sym, subst, ◌∙◌, arith}
+use Rattle.std.proofs.lemmas.Bool.{cases_eq, cases_order}
 use Rattle.std.proofs.lemmas.Option.{same_Some, slice_get_within, slice_get-get_or, get_or_from_slice_get}
 use Rattle.sia_events.specs.declared.event.Event.{Event}
 use Rattle.sia_events.specs.declared.event.Event.TheVariants.{Begin, Read, Range, Write, Commit, Abort}
@@ -13,9 +13,9 @@ use Rattle.sia_events.specs.Isolation.{NoneUnexplained}
 use Rattle.sia_events.specs.Dependencies.{IsVersionBefore, WwEdge, WrEdge, RwEdge, HasEdge}
 use Rattle.sia_events.specs.Replay.{IsOrder, StandsBefore, Keeps, Replays, MayFollow}
 use Rattle.sia_events.specs.Laws.{ReplayLaw}
-use Rattle.sia_events.proofs.WellFormed.{before_or_not, seen_was_written}
-use Rattle.sia_graph.proofs.Deciding.{Decided, least_below, inside_decided, committed_decided}
-use Rattle.sia_graph.proofs.Facts.{committed_positive, writer_positive, actor_positive, commits_lt, commit_cases, not_before_itself, before_trans}
+use Rattle.sia_events.proofs.WellFormed.{seen_was_written}
+use Rattle.sia_graph.proofs.Deciding.{least_below, inside_decided, is_write, committed_decided}
+use Rattle.sia_graph.proofs.Facts.{committed_positive, writer_positive, commit_cases, not_before_itself, before_trans}
 use Rattle.sia_graph.proofs.Found.{IsLastWriter, IsFound, IsRight, replay_right, right_replay}
 
 module _ (h : List Event) (wf : IsWellFormed h) (order : List ℕ) (is_order : IsOrder h order) where
@@ -131,3 +131,125 @@ module _ (h : List Event) (wf : IsWellFormed h) (order : List ℕ) (is_order : I
 
     pub keeps_replays : Replays h order
     keeps_replays = right_replay h order event_right
+
+  -- from a replay to edges kept
+  module _ (replays : Replays h order) where
+    -- what was seen is what the replay finds
+    saw_found : (j t p k v : ℕ) → slice_get order j ≡ Some t → SawAt h p t k v → IsFound h order j t p k v
+    saw_found j t p k v at saw =
+        let r = replay_right h order replays j t p saw.0 k at saw.1 saw.2 in
+        subst (λ x. IsFound h order j t p k x) (sym (by_event saw.0 saw.3 r.0 r.2)) r.1
+      where
+        by_event : (e : Event) → Saw e k v → (f : ℕ) → IsRight h f e k → v ≡ f
+        by_event (Begin u start) s f right = absurd s
+        by_event (Read u key seen) s f right = right v s
+        by_event (Range u lo hi listed) s f right = right v s
+        by_event (Write u key) s f right = absurd s
+        by_event (Commit u) s f right = absurd s
+        by_event (Abort u) s f right = absurd s
+
+    pub replays_explain : NoneUnexplained h
+    replays_explain p t k v bad =
+        let place = place_of t bad.0 in
+        by_found (saw_found place.0 t p k v place.1 bad.1) bad.2
+      where
+        by_found : {j : ℕ} → IsFound h order j t p k v → ¬ ((WroteBefore h t k p × (v ≢ t)) ⊎ ((v ≢ 0) × (v ≢ t) × ¬ IsCommitted h v))
+        by_found (inl own) (inl missed) = missed.1 own.1
+        by_found (inl own) (inr unknown) = unknown.1 own.1
+        by_found (inr before) (inl missed) = before.0 missed.0
+        by_found (inr before) (inr unknown) = elim (before.1) [
+          | inl none ↦ unknown.0 none.1
+          | inr w ↦ unknown.2 (committed_at v w.0 w.2)
+        ]
+
+    -- a writer's first write of a key
+    first_write : (u k : ℕ) → Wrote h u k → (p : ℕ) × (at_place h p ≡ Some (Write u k)) × ¬ WroteBefore h u k p
+    first_write u k wrote = elim (least_below (λ p. (e : Event) × (at_place h p ≡ Some e) × (e ≡ Write u k)) (λ p. inside_decided (λ e. e ≡ Write u k) (is_write u k) (at_place h p)) (suc wrote.0)) [
+      | inl w ↦ (w.0, w.2.1 ∙ ap Some w.2.2, λ before. let l = w.3 before.0 (Write u k, before.2, refl) in let m = before.1 in omega arith)
+      | inr none ↦ absurd (none wrote.0 (omega arith) (Write u k, wrote.1, refl))
+    ]
+
+    -- the last writer before u's place, whose version u's first write found, commits before u
+    found_before : (k u j f m : ℕ) → m < j → slice_get order m ≡ Some f → slice_get order j ≡ Some u → Wrote h f k → MayFollow h k f u → CommitsBefore h f u
+    found_before k u j f m less there at wrote follows = elim follows [
+      | inl unwritten ↦ absurd (let l = writer_positive h wf f k wrote in omega arith)
+      | inr (inl same) ↦ absurd (let e = one_place m j f u same there at in omega arith)
+      | inr (inr (inl first)) ↦ absurd (let l = writer_positive h wf f k wrote in let z = first.0 in omega arith)
+      | inr (inr (inr both)) ↦ both.2
+    ]
+
+    -- writers of a key stand in the order as they commit
+    commit_in_turn : (n k t u i j : ℕ) → j < n → slice_get order i ≡ Some t → slice_get order j ≡ Some u → Wrote h t k → Wrote h u k → i < j → CommitsBefore h t u
+    commit_in_turn zero k t u i j below a b wrote_t wrote_u less = absurd (omega arith)
+    commit_in_turn (suc n) k t u i j below a b wrote_t wrote_u less =
+        let first = first_write u k wrote_u in
+        let r = replay_right h order replays j u first.0 (Write u k) k b first.1 refl in
+        by_found r.0 first.0 first.2 r.1 (r.2 refl) (λ f m l there wrote. commit_in_turn n k t f i m (omega arith) a there wrote_t wrote)
+      where
+        by_found : (f p : ℕ) → ¬ WroteBefore h u k p → IsFound h order j u p k f → MayFollow h k f u
+            → ((f m : ℕ) → m < j → slice_get order m ≡ Some f → Wrote h f k → i < m → CommitsBefore h t f) → CommitsBefore h t u
+        by_found f p first (inl own) follows rest = absurd (first own.0)
+        by_found f p first (inr (before, inl none)) follows rest = absurd (none.0 i t less a wrote_t)
+        by_found f p first (inr (before, inr w)) follows rest =
+            let last = found_before k u j f w.0 w.1 w.2 b w.3 follows in
+            elim (cases_order i w.0) [
+              | inl same ↦ subst (λ x. CommitsBefore h x u) (same_Some f t (sym w.2 ∙ ap (slice_get order) (sym same) ∙ a)) last
+              | inr (inl fewer) ↦ before_trans h wf t f u (rest f w.0 w.1 w.2 w.3 fewer) last
+              | inr (inr more) ↦ absurd (w.4 i t more less a wrote_t)
+            ]
+
+    ww_kept : (k t u : ℕ) → WwEdge h t u k → StandsBefore order t u
+    ww_kept k t u e =
+        let before = e.2 in
+        let a = place_of t (before.0, before.2) in
+        let b = place_of u (before.1, before.3) in
+        elim (cases_order a.0 b.0) [
+          | inl same ↦
+              let one : t ≡ u = same_Some t u (sym a.1 ∙ ap (slice_get order) same ∙ b.1) in
+              absurd (not_before_itself h wf u (subst (λ x. CommitsBefore h x u) one before))
+          | inr (inl less) ↦ (a.0, b.0, less, a.1, b.1)
+          | inr (inr more) ↦
+              let after = commit_in_turn (suc a.0) k u t b.0 a.0 (omega arith) b.1 a.1 e.1 e.0 more in
+              absurd (not_before_itself h wf t (before_trans h wf t u t before after))
+        ]
+
+    wr_kept : (k t u : ℕ) → WrEdge h t u k → StandsBefore order t u
+    wr_kept k t u e =
+        let b = place_of u e.2 in
+        by_found b.0 b.1 (saw_found b.0 u e.3 k e.4 b.1 e.5) e.8
+      where
+        by_found : (j : ℕ) → slice_get order j ≡ Some u → IsFound h order j u e.3 k e.4 → (t ≡ e.4) ⊎ IsVersionBefore h k t e.4 → StandsBefore order t u
+        by_found j at (inl own) version = absurd (e.7 own.1)
+        by_found j at (inr (before, inl none)) version = absurd (let l = committed_positive h wf e.4 e.6 in let z = none.1 in omega arith)
+        by_found j at (inr (before, inr w)) (inl same) = (w.0, j, w.1, w.2 ∙ ap Some (sym same), at)
+        by_found j at (inr (before, inr w)) (inr (inl first)) = absurd (let l = committed_positive h wf t e.1.1 in let z = first.0 in omega arith)
+        by_found j at (inr (before, inr w)) (inr (inr both)) =
+            let a = place_of t e.1.1 in
+            let l = in_turn t e.4 a.0 w.0 (ww_kept k t e.4 both) a.1 w.2 in
+            let m = w.1 in
+            (a.0, j, omega arith, a.1, at)
+
+    rw_kept : (k t u : ℕ) → RwEdge h t u k → StandsBefore order t u
+    rw_kept k t u e =
+        let a = place_of t e.1 in
+        let b = place_of u e.2.1 in
+        elim (cases_order a.0 b.0) [
+          | inl same ↦ absurd (e.0 (same_Some t u (sym a.1 ∙ ap (slice_get order) same ∙ b.1)))
+          | inr (inl less) ↦ (a.0, b.0, less, a.1, b.1)
+          | inr (inr more) ↦ absurd (by_found a.0 b.0 more b.1 (saw_found a.0 t e.3 k e.4 a.1 e.5) e.8)
+        ]
+      where
+        by_found : (i j : ℕ) → j < i → slice_get order j ≡ Some u → IsFound h order i t e.3 k e.4 → ¬ IsVersionBefore h k e.4 u
+        by_found i j less at (inl own) version = e.7 own.1
+        by_found i j less at (inr (before, inl none)) version = none.0 j u less at e.2.0
+        by_found i j less at (inr (before, inr w)) (inl first) = let l = writer_positive h wf e.4 k w.3 in let z = first.0 in omega arith
+        by_found i j less at (inr (before, inr w)) (inr both) = w.4 j u (in_turn e.4 u w.0 j (ww_kept k e.4 u both) w.2 at) less at e.2.0
+
+    pub replays_keeps : Keeps (HasEdge h) order
+    replays_keeps t u e = elim (e.1) [ inl ww ↦ ww_kept e.0 t u ww | inr (inl wr) ↦ wr_kept e.0 t u wr | inr (inr rw') ↦ rw_kept e.0 t u rw' ]
+
+pub replay_holds : (h : List Event) → IsWellFormed h → ReplayLaw h
+replay_holds h wf order is_order = (
+  λ replays. (replays_keeps h wf order is_order replays, replays_explain h wf order is_order replays),
+  λ both. keeps_replays h wf order is_order both.0 both.1,
+)

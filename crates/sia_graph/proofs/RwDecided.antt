@@ -1,5 +1,5 @@
 -- Whether a transaction has an rw edge to another can be told.
-use Rattle.std.proofs.Common.{◌≡◌, ◌≢◌, ◌⊎◌, inl, inr, ℕ, zero, suc, ◌+◌, ◌<◌, ◌≤◌, List, get_or, slice_get, Option, Some, None, refl, ap, sym, subst, ◌∙◌, arith}
+use Rattle.std.proofs.Common.{◌≡◌, ◌≢◌, ◌⊎◌, inl, inr, ℕ, ◌≤◌, List, Some, refl, ap, subst, ◌∙◌}
 use Rattle.std.specs.Prelude.{Contains, ⊤}
 use Rattle.std.proofs.lemmas.Bool.{cases_eq}
 use Rattle.std.proofs.lemmas.Option.{slice_get_within, slice_get-get_or, get_or_from_slice_get}
@@ -9,16 +9,9 @@ use Rattle.sia_events.specs.Places.{at_place}
 use Rattle.sia_events.specs.Events.{actor, Saw}
 use Rattle.sia_events.specs.Refusals.{IsWellFormed}
 use Rattle.sia_events.specs.Transactions.{IsCommitted, Wrote, CommitsBefore}
-use Rattle.sia_events.specs.Reads.{SawAt}
 use Rattle.sia_events.specs.Dependencies.{IsCommittedWriter, IsVersionBefore, RwEdge}
-use Rattle.sia_graph.proofs.Deciding.{Decided, both_decided, either_decided, not_decided, le_decided, element_decided, event_decided, committed_decided, wrote_decided}
+use Rattle.sia_graph.proofs.Deciding.{Decided, both_decided, three_decided, either_decided, not_decided, le_decided, element_decided, event_decided, committed_decided, wrote_decided}
 use Rattle.sia_graph.proofs.Facts.{commits_before_decided}
-
-three_decided : (P Q R : Type 0) → Decided P → Decided Q → Decided R → Decided (P × Q × R)
-three_decided P Q R (inr n) e f = inr (λ w. n w.0)
-three_decided P Q R (inl p) (inr n) f = inr (λ w. n w.1)
-three_decided P Q R (inl p) (inl q) (inr n) = inr (λ w. n w.2)
-three_decided P Q R (inl p) (inl q) (inl r) = inl (p, q, r)
 
 module _ (Good : ℕ → Type 0) (decide : (v : ℕ) → Decided (Good v)) (k : ℕ) where
   -- k is listed at a good version
