@@ -1,2 +1,14 @@
 pub mod Sample
 pub mod OneVerdict
+pub mod Deciding
+pub mod Facts
+pub mod Due
+pub mod ReadyOrders
+pub mod OrderPlaces
+pub mod RwDecided
+pub mod NoStuckSet
+pub mod LastWriter
+pub mod Serial
+pub mod Found
+pub mod ReplayLaw
+pub mod SsiLaw

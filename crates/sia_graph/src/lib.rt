@@ -1,11 +1,13 @@
 //! Pivots, the least order or a cycle, and the replay of a history by an order.
 #![tactic(auto)]
 
+mod laws;
 mod pivot;
 mod replaying;
 mod settling;
 mod txns;
 
+pub use laws::{pivot_law, replay_law, ssi_law};
 pub use pivot::Pivot;
 pub use replaying::{Mismatch, ReplayFault};
 pub use settling::{Step, Steps, Verdict};

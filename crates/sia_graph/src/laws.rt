@@ -1,0 +1,20 @@
+//! The laws of histories, each carried by a function that does nothing.
+ghost use Rattle.std.specs.Prelude.{List};
+ghost use Rattle.sia_events.specs.declared.event.Event.{Event};
+ghost use Rattle.sia_events.specs.Refusals.{IsWellFormed};
+ghost use Rattle.sia_events.specs.Laws.{PivotLaw, ReplayLaw, SsiLaw};
+
+/// An order replays a history exactly if it keeps every edge and no read is unexplained.
+pub fn replay_law()
+    ensures { (h : List Event) → IsWellFormed h → ReplayLaw h }
+{}
+
+/// What keeps isolation, with no dangerous structure whose last transaction commits first, has a serial order.
+pub fn ssi_law()
+    ensures { (h : List Event) → IsWellFormed h → SsiLaw h }
+{}
+
+/// What keeps isolation with no pivot has a serial order.
+pub fn pivot_law()
+    ensures { (h : List Event) → IsWellFormed h → PivotLaw h }
+{}
