@@ -17,4 +17,7 @@ pub mod Unwritten
 pub mod OneList
 pub mod Histories
 pub mod NamedStarts
+pub mod Tests
 pub mod Samples
+pub mod WorkedReads
+pub mod WorkedEdges
