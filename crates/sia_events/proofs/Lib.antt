@@ -18,6 +18,8 @@ pub mod OneList
 pub mod Histories
 pub mod NamedStarts
 pub mod Tests
-pub mod Samples
+pub mod WorkedTexts
 pub mod WorkedReads
 pub mod WorkedEdges
+pub mod WorkedReplay
+pub mod WorkedStarts
