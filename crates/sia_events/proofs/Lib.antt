@@ -18,7 +18,9 @@ pub mod OneList
 pub mod Histories
 pub mod NamedStarts
 pub mod Tests
+pub mod Refusing
 pub mod WorkedTexts
+pub mod WorkedRefusals
 pub mod WorkedReads
 pub mod WorkedEdges
 pub mod WorkedReplay

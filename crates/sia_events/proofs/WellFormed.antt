@@ -66,7 +66,7 @@ accepted_none text a = accepted_none_in AnyForm text a
 abbrev pub IsBefore : List Event → ℕ → Event → Type 0
 IsBefore h i f = (j : ℕ) × (j < i) × (at_place h j ≡ Some f)
 
-at_place-map : (h : List Event) (j : ℕ) → at_place (map spell h) j ≡ option_map spell (at_place h j)
+pub at_place-map : (h : List Event) (j : ℕ) → at_place (map spell h) j ≡ option_map spell (at_place h j)
 at_place-map h zero = refl
 at_place-map h (suc j) = slice_get-map spell h j
 
@@ -74,14 +74,14 @@ spelled : (o : Option Event) (f : Event) → option_map spell o ≡ Some (spell 
 spelled None f e = cc
 spelled (Some g) f e = ap Some (spell_injective g f (let p : spell g ≡ spell f = cc in p))
 
-earlier_before : (h : List Event) (i : ℕ) (f : Event) → IsEarlier (map spell h) i f → IsBefore h i f
+pub earlier_before : (h : List Event) (i : ℕ) (f : Event) → IsEarlier (map spell h) i f → IsBefore h i f
 earlier_before h i f e = (e.0, e.1, spelled (at_place h e.0) f (sym (at_place-map h e.0) ∙ e.2))
 
-before_earlier : (h : List Event) (i : ℕ) (f : Event) → IsBefore h i f → IsEarlier (map spell h) i f
+pub before_earlier : (h : List Event) (i : ℕ) (f : Event) → IsBefore h i f → IsEarlier (map spell h) i f
 before_earlier h i f b = (b.0, b.1, at_place-map h b.0 ∙ ap (option_map spell) b.2)
 
 -- the reasons of an event go by what is before it
-moved : (n : ℕ) (Earlier Before : Event → Type 0) → ((f : Event) → Before f → Earlier f) → ((f : Event) → Earlier f → Before f) → (e : Event) (r : Reason) → EventHas n Before e r → EventHas n Earlier e r
+pub moved : (n : ℕ) (Earlier Before : Event → Type 0) → ((f : Event) → Before f → Earlier f) → ((f : Event) → Earlier f → Before f) → (e : Event) (r : Reason) → EventHas n Before e r → EventHas n Earlier e r
 moved n Earlier Before to from e TooManyEvents h = absurd h
 moved n Earlier Before to from e BadEvent h = absurd h
 moved n Earlier Before to from e BadNumber h = h
@@ -93,7 +93,7 @@ moved n Earlier Before to from e BadList h = h
 moved n Earlier Before to from e NotWritten h = (h.0, h.1, h.2, h.3, λ w. h.4 (from (Write h.1 h.0) w))
 moved n Earlier Before to from e BadStart h = h
 
-token_has : (ts : List (List ℕ)) (i : ℕ) (e : Event) (r : Reason) → EventHas (i - 1) (IsEarlier ts i) e r → TokenHas AnyForm ts i (spell e) r
+pub token_has : (ts : List (List ℕ)) (i : ℕ) (e : Event) (r : Reason) → EventHas (i - 1) (IsEarlier ts i) e r → TokenHas AnyForm ts i (spell e) r
 token_has ts i e TooManyEvents h = absurd h
 token_has ts i e BadEvent h = absurd h
 token_has ts i e BadNumber h = (e, tt, refl, h)
