@@ -11,13 +11,14 @@ pub mod Starts
 pub mod WellFormed
 pub mod Endings
 pub mod StartsBelow
+pub mod Due
 pub mod Seen
 pub mod Ranges
 pub mod Unwritten
 pub mod OneList
 pub mod Histories
 pub mod NamedStarts
-pub mod Tests
+pub mod EventTests
 pub mod Refusing
 pub mod WorkedTexts
 pub mod WorkedRefusals

@@ -15,7 +15,8 @@ use Rattle.sia_events.specs.Text.{spell, tokens, canonical}
 use Rattle.sia_events.specs.Refusals.{IsTxn, IsStart, IsInRange, reason_number, HasReason, HasReasonIn, TokenHas, EventHas, IsEarlier, IsFirstFaultIn, IsAccepted, IsAcceptedIn, AnyForm, IsWellFormed}
 use Rattle.sia_events.proofs.Spelling.{spell_injective}
 use Rattle.sia_events.proofs.Canonical.{canonical_stands}
-use Rattle.sia_events.proofs.Decisions.{Decided, at_most, first_below, same_option, same_event}
+use Rattle.sia_events.proofs.Decisions.{Decided, at_most}
+use Rattle.sia_events.proofs.TransactionDecisions.{wrote_before_or_not}
 
 numbers_below : (r : Reason) → reason_number r < 11
 numbers_below TooManyEvents = omega arith
@@ -143,16 +144,13 @@ few_events h wf = at_most (length h) 100000 (λ more.
     let found = at_index h 100000 more in
     spelled_none h wf 100001 TooManyEvents (spell found.0, place_spelled h 100001 found.0 found.1, refl))
 
--- whether an event stands before a place can be told
-pub before_or_not : (h : List Event) (i : ℕ) (f : Event) → Decided (IsBefore h i f)
-before_or_not h i f = elim (first_below (λ j. at_place h j ≡ Some f) (λ j. same_option same_event (at_place h j) (Some f)) i) [
-  | inl found ↦ inl (found.0, found.1, found.2)
-  | inr none ↦ inr (λ b. none b.0 b.1 b.2)
-]
+-- whether a transaction wrote a key before a place can be told
+pub before_or_not : (h : List Event) (i v k : ℕ) → Decided (IsBefore h i (Write v k))
+before_or_not h i v k = wrote_before_or_not h v k i
 
 -- a version that was seen and isn't 0 was written before
 pub seen_was_written : (h : List Event) → IsWellFormed h → (i k v : ℕ) (e : Event) → at_place h i ≡ Some e → Saw e k v → v ≢ 0 → IsBefore h i (Write v k)
-seen_was_written h wf i k v e at saw v0 = elim (before_or_not h i (Write v k)) [
+seen_was_written h wf i k v e at saw v0 = elim (before_or_not h i v k) [
   | inl b ↦ b
   | inr n ↦ absurd (event_has_none h wf i e at NotWritten (k, v, saw, v0, n))
 ]

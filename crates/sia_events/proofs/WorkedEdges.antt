@@ -8,7 +8,7 @@ use Rattle.sia_events.specs.Reads.{SawAt}
 use Rattle.sia_events.specs.Dependencies.{RwEdge}
 use Rattle.sia_events.specs.DangerousStructures.{IsVulnerable, IsPivot, IsFirst}
 use Rattle.sia_events.proofs.Starts.{one_start}
-use Rattle.sia_events.proofs.Tests.{starts_before, not_wrote, one_writer, one_reader, one_key_read, one_key_written, commits_up_to, commits_after}
+use Rattle.sia_events.proofs.EventTests.{starts_before, not_wrote, one_writer, one_reader, one_key_read, one_key_written, commits_up_to, commits_after}
 
 -- transaction 2 reads two keys while 1 changes both
 abbrev pub read_during_change : List Event

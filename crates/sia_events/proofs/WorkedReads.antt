@@ -7,7 +7,7 @@ use Rattle.sia_events.specs.Transactions.{CommitsAt, StartsAt}
 use Rattle.sia_events.specs.Reads.{IsVisible, IsNewestVisible, IsDue}
 use Rattle.sia_events.specs.Isolation.{IsBadRead, IsUnexplained}
 use Rattle.sia_events.proofs.Starts.{none_seen_from_zero}
-use Rattle.sia_events.proofs.Tests.{starts_before, not_committed, not_wrote_before, one_writer, commits_up_to, commits_after}
+use Rattle.sia_events.proofs.EventTests.{starts_before, not_committed, not_wrote_before, one_writer, commits_up_to, commits_after}
 
 -- a version is read whose transaction aborts
 abbrev pub aborted_read : List Event

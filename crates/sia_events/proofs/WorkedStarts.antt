@@ -10,7 +10,7 @@ use Rattle.sia_events.specs.Reads.{SawAt, IsDue}
 use Rattle.sia_events.specs.Isolation.{IsBadRead, IsBadWrite}
 use Rattle.sia_events.proofs.TransactionDecisions.{place_within}
 use Rattle.sia_events.proofs.Starts.{one_event, one_start, none_seen_from_zero}
-use Rattle.sia_events.proofs.Tests.{starts_before, starts_named, not_wrote_before, commits_up_to, commits_after}
+use Rattle.sia_events.proofs.EventTests.{starts_before, starts_named, not_wrote_before, commits_up_to, commits_after}
 
 -- transaction 2 begins after 1 committed, and names the start before it. Where it names none, its read is a bad one
 abbrev pub early_start : List Event
