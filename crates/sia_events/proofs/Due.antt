@@ -1,13 +1,12 @@
 -- In a well-formed history one version is due to a read of a key by a transaction.
-use Rattle.std.proofs.Common.{◌≡◌, ◌⊎◌, inl, inr, ℕ, zero, suc, ◌+◌, ◌<◌, ◌≤◌, List, Option, Some, None, refl, ap, sym, subst, ◌∙◌, arith}
-use Rattle.std.proofs.lemmas.Bool.{cases_eq}
+use Rattle.std.proofs.Common.{◌≡◌, ◌⊎◌, inl, inr, ℕ, ◌+◌, ◌<◌, ◌≤◌, List, Option, Some, None, refl, sym, subst, ◌∙◌, arith}
 use Rattle.sia_events.specs.declared.event.Event.{Event}
-use Rattle.sia_events.specs.declared.event.Event.TheVariants.{Begin, Read, Range, Write, Commit, Abort}
+use Rattle.sia_events.specs.declared.event.Event.TheVariants.{Commit}
 use Rattle.sia_events.specs.Places.{at_place}
 use Rattle.sia_events.specs.Refusals.{IsWellFormed}
 use Rattle.sia_events.specs.Transactions.{HasEvent, StartsAt, CommitsAt, Wrote, WroteBefore}
 use Rattle.sia_events.specs.Reads.{IsVisible, IsNewestVisible, IsDue}
-use Rattle.sia_events.proofs.Decisions.{Decided, at_most, last_below}
+use Rattle.sia_events.proofs.Decisions.{Decided, last_below}
 use Rattle.sia_events.proofs.TransactionDecisions.{wrote_or_not, wrote_before_or_not, has_start}
 use Rattle.sia_events.proofs.Starts.{one_start}
 use Rattle.sia_events.proofs.Endings.{one_committer}

@@ -1,13 +1,13 @@
 -- What a test of each event says of a list of events and its transactions. At a list that is written out it computes.
-use Rattle.std.proofs.Common.{◌≡◌, ◌≢◌, ◌⊎◌, inl, inr, ℕ, zero, suc, ◌+◌, ◌-◌, ◌<◌, ◌≤◌, Bool, true, false, List, [], ◌∷◌, slice_get, take, drop, Option, Some, None, refl, ap, sym, subst, ◌∙◌, arith}
-use Rattle.std.specs.Prelude.{MatchOption, not, ◌&&◌, ◌||◌, ◌==◌, eqb}
+use Rattle.std.proofs.Common.{◌≡◌, ℕ, zero, suc, ◌+◌, ◌<◌, ◌≤◌, Bool, true, false, List, [], ◌∷◌, slice_get, take, drop, Some, None, refl, ap, sym, subst, ◌∙◌, arith}
+use Rattle.std.specs.Prelude.{MatchOption, not, ◌&&◌, ◌==◌}
 use Rattle.std.specs.List.{list_any}
-use Rattle.std.proofs.lemmas.Bool.{or_parts, both_ways, eqb-true, eq-eqb, and_from, cases_Bool, not_from_false}
+use Rattle.std.proofs.lemmas.Bool.{or_parts, both_ways, eqb-true, eq-eqb, and_from}
 use Rattle.sia_events.specs.declared.event.Event.{Event}
 use Rattle.sia_events.specs.declared.event.Event.TheVariants.{Begin, Read, Range, Write, Commit, Abort}
 use Rattle.sia_events.specs.Places.{at_place}
 use Rattle.sia_events.specs.Events.{actor, named_start, Saw}
-use Rattle.sia_events.specs.Transactions.{ActsAt, IsFirstEvent, StartsAt, CommitsAt, IsCommitted, WritesAt, Wrote, WroteBefore}
+use Rattle.sia_events.specs.Transactions.{IsFirstEvent, StartsAt, CommitsAt, IsCommitted, Wrote, WroteBefore}
 use Rattle.sia_events.specs.Reads.{SawAt}
 
 abbrev pub acts : ℕ → Event → Bool

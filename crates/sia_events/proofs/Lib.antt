@@ -13,6 +13,7 @@ pub mod Endings
 pub mod StartsBelow
 pub mod Due
 pub mod Seen
+pub mod SawDecisions
 pub mod Ranges
 pub mod Unwritten
 pub mod OneList

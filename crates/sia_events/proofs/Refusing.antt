@@ -2,14 +2,14 @@
 use Rattle.std.proofs.Common.{◌≡◌, ◌≢◌, ◌⊎◌, inl, inr, ℕ, ◌-◌, ◌<◌, ◌≤◌, List, map, length, Option, Some, None, refl, ap, sym, subst, ◌∙◌, arith}
 use Rattle.std.specs.Option.{option_map}
 use Rattle.sia_events.specs.declared.event.Event.{Event}
-use Rattle.sia_events.specs.declared.event.Event.TheVariants.{Begin, Read, Range, Write, Commit, Abort}
+use Rattle.sia_events.specs.declared.event.Event.TheVariants.{Range, Commit, Abort}
 use Rattle.sia_events.specs.declared.fault.Reason.{Reason}
 use Rattle.sia_events.specs.declared.fault.Reason.TheVariants.{TooManyEvents, BadEvent, BadNumber, AlreadyEnded, AlreadyBegun, EmptyRange, BadList, NotWritten, BadStart}
 use Rattle.sia_events.specs.declared.fault.TextFault.TheVariants.{Refused}
 use Rattle.sia_events.specs.Places.{at_place}
 use Rattle.sia_events.specs.Events.{actor}
-use Rattle.sia_events.specs.Text.{spell, tokens, StandsFor}
-use Rattle.sia_events.specs.Refusals.{IsInRange, EventHas, IsEarlier, TokenHas, HasReasonIn, HasReason, reason_number, AnyForm, IsFirstFault, IsRefusal}
+use Rattle.sia_events.specs.Text.{spell, StandsFor}
+use Rattle.sia_events.specs.Refusals.{IsInRange, EventHas, IsEarlier, TokenHas, HasReason, reason_number, AnyForm, IsFirstFault, IsRefusal}
 use Rattle.sia_events.proofs.Decisions.{at_most}
 use Rattle.sia_events.proofs.Spelling.{spell_injective}
 use Rattle.sia_events.proofs.Starts.{one_event}

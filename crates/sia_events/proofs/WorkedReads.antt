@@ -1,10 +1,10 @@
 -- Reads of worked histories: of an aborted version, of a commit after the start, and of an old version.
-use Rattle.std.proofs.Common.{◌≡◌, ◌≢◌, inl, inr, ℕ, suc, ◌<◌, ◌≤◌, List, [], ◌∷◌, codes, Some, None, refl, ap, sym, subst, ◌∙◌, arith}
+use Rattle.std.proofs.Common.{◌≡◌, inl, inr, ℕ, ◌<◌, ◌≤◌, List, [], ◌∷◌, codes, None, refl, subst, arith}
 use Rattle.sia_events.specs.declared.event.Event.{Event}
 use Rattle.sia_events.specs.declared.event.Event.TheVariants.{Begin, Read, Write, Commit, Abort}
 use Rattle.sia_events.specs.Text.{numeral, canonical}
 use Rattle.sia_events.specs.Transactions.{CommitsAt, StartsAt}
-use Rattle.sia_events.specs.Reads.{IsVisible, IsNewestVisible, IsDue}
+use Rattle.sia_events.specs.Reads.{IsVisible, IsNewestVisible}
 use Rattle.sia_events.specs.Isolation.{IsBadRead, IsUnexplained}
 use Rattle.sia_events.proofs.Starts.{none_seen_from_zero}
 use Rattle.sia_events.proofs.EventTests.{starts_before, not_committed, not_wrote_before, one_writer, commits_up_to, commits_after}

@@ -1,7 +1,7 @@
 -- The refusals of worked texts: of a version that no one wrote, of a start that is not there yet, and of a second begin.
-use Rattle.std.proofs.Common.{◌≡◌, ◌≢◌, ◌⊎◌, inl, inr, ℕ, zero, suc, ◌-◌, ◌<◌, ◌≤◌, List, [], ◌∷◌, codes, Some, None, refl, ap, sym, subst, ◌∙◌, arith}
+use Rattle.std.proofs.Common.{◌≡◌, inl, inr, ℕ, zero, suc, ◌-◌, ◌<◌, ◌≤◌, List, [], ◌∷◌, codes, Some, None, refl, ap, subst, arith}
 use Rattle.sia_events.specs.declared.event.Event.{Event}
-use Rattle.sia_events.specs.declared.event.Event.TheVariants.{Begin, Read, Range, Write, Commit, Abort}
+use Rattle.sia_events.specs.declared.event.Event.TheVariants.{Begin, Read, Write, Commit, Abort}
 use Rattle.sia_events.specs.declared.fault.Reason.{Reason}
 use Rattle.sia_events.specs.declared.fault.Reason.TheVariants.{TooManyEvents, BadEvent, BadNumber, AlreadyEnded, AlreadyBegun, EmptyRange, BadList, NotWritten, BadStart}
 use Rattle.sia_events.specs.declared.fault.TextFault.TheVariants.{Refused}
@@ -11,7 +11,7 @@ use Rattle.sia_events.specs.Refusals.{IsInRange, EventHas, reason_number, IsRefu
 use Rattle.sia_events.proofs.Starts.{one_event}
 use Rattle.sia_events.proofs.TransactionDecisions.{place_within}
 use Rattle.sia_events.proofs.WellFormed.{IsBefore}
-use Rattle.sia_events.proofs.Refusing.{IsFirstFaulty, refused, none_before_first, first_reasons}
+use Rattle.sia_events.proofs.Refusing.{refused, none_before_first, first_reasons}
 
 -- nothing stands before place 1
 none_below_one : (h : List Event) (j : ℕ) (f : Event) → j < 1 → ¬ (at_place h j ≡ Some f)

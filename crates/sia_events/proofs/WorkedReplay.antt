@@ -1,6 +1,5 @@
 -- The serial replay of a worked history, and what is found in it.
-use Rattle.std.proofs.Common.{◌≡◌, ℕ, List, [], ◌∷◌, refl}
-use Rattle.sia_events.specs.declared.event.Event.{Event}
+use Rattle.std.proofs.Common.{◌≡◌, [], ◌∷◌, refl}
 use Rattle.sia_events.specs.declared.event.Event.TheVariants.{Read, Write, Commit}
 use Rattle.sia_events.specs.Replay.{serial, found_at}
 use Rattle.sia_events.proofs.WorkedEdges.{read_during_change}

@@ -1,11 +1,11 @@
 -- Named starts of worked histories: they decide which version is due, what overlaps, and which write is bad.
-use Rattle.std.proofs.Common.{◌≡◌, ◌≢◌, ◌⊎◌, inl, inr, ℕ, zero, suc, ◌<◌, ◌≤◌, List, [], ◌∷◌, codes, length, Some, None, refl, ap, sym, subst, ◌∙◌, arith}
+use Rattle.std.proofs.Common.{◌≡◌, ◌⊎◌, inl, inr, ℕ, zero, suc, ◌<◌, ◌≤◌, List, [], ◌∷◌, codes, Some, refl, ap, sym, subst, ◌∙◌, arith}
 use Rattle.sia_events.specs.declared.event.Event.{Event}
 use Rattle.sia_events.specs.declared.event.Event.TheVariants.{Begin, Read, Write, Commit}
 use Rattle.sia_events.specs.Places.{at_place}
 use Rattle.sia_events.specs.Events.{actor, Saw}
 use Rattle.sia_events.specs.Text.{numeral, canonical}
-use Rattle.sia_events.specs.Transactions.{CommitsAt, StartsAt, WritesAt, WroteBefore, StartsBeforeCommit, CommitsBefore, Overlap}
+use Rattle.sia_events.specs.Transactions.{StartsAt, WroteBefore, StartsBeforeCommit, CommitsBefore, Overlap}
 use Rattle.sia_events.specs.Reads.{SawAt, IsDue}
 use Rattle.sia_events.specs.Isolation.{IsBadRead, IsBadWrite}
 use Rattle.sia_events.proofs.TransactionDecisions.{place_within}

@@ -1,5 +1,5 @@
 -- Spellings of worked events, and the tokens of a worked text.
-use Rattle.std.proofs.Common.{◌≡◌, List, [], ◌∷◌, codes, refl}
+use Rattle.std.proofs.Common.{◌≡◌, [], ◌∷◌, codes, refl}
 use Rattle.sia_events.specs.declared.event.Event.TheVariants.{Range}
 use Rattle.sia_events.specs.Text.{numeral, spell, tokens}
 
