@@ -14,6 +14,7 @@ pub mod StartsBelow
 pub mod Due
 pub mod Seen
 pub mod SawDecisions
+pub mod Versions
 pub mod Ranges
 pub mod Unwritten
 pub mod OneList
