@@ -1,0 +1,6 @@
+pub mod Samples
+pub mod CommandLines
+pub mod OneReport
+pub mod Scanning
+pub mod Found
+pub mod Sets
