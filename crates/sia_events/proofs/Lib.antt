@@ -6,3 +6,6 @@ pub mod OneRefusal
 pub mod WellFormed
 pub mod OneList
 pub mod Samples
+pub mod Digits
+pub mod NumberLaws
+pub mod Pairs

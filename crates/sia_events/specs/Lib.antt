@@ -3,6 +3,7 @@ pub mod Lists
 pub mod Text
 pub mod Events
 pub mod Refusals
+pub mod Parsing
 pub mod Reading
 pub mod Streaming
 pub mod Transactions

@@ -3,7 +3,10 @@
 
 mod event;
 mod fault;
+mod found;
 mod history;
+mod number;
+mod token;
 
 pub use event::{Event, Key, Listed, TxnId, Version};
 pub use fault::{NoMemory, Reason, TextFault};
