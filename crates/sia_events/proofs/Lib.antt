@@ -8,4 +8,5 @@ pub mod OneList
 pub mod Samples
 pub mod Digits
 pub mod NumberLaws
+pub mod Tokens
 pub mod Pairs

@@ -131,3 +131,82 @@ numeral_numeral_below (suc limit) n below = elim (cases_lt n 10) [
 
 pub numeral_numeral : (n : ℕ) → IsNumeral (numeral n)
 numeral_numeral n = numeral_numeral_below (n + 1) n (omega arith)
+
+-- what lacks_numeral tests, of the digits that the bytes begin with
+lacks : List ℕ → Bool
+lacks [] = true
+lacks (c ∷ []) = false
+lacks (c ∷ d ∷ ds) = c == 48
+
+lacks_numeral_is : (bytes ds rest : List ℕ) → SplitsDigits bytes ds rest → lacks_numeral bytes ≡ lacks ds
+unfolding lacks
+lacks_numeral_is bytes [] rest s = rw s.len refl
+lacks_numeral_is bytes (c ∷ []) rest s = rw s.len refl
+lacks_numeral_is bytes (c ∷ d ∷ ds) rest s =
+    let long : digits_len bytes ≡ suc (suc (length ds)) = s.len in
+    let some : (digits_len bytes == 0) ≡ false = grind (arith, nat_tests) in
+    let more : nat_lt 1 (digits_len bytes) ≡ true = grind (arith, nat_tests) in
+    let first : get_or bytes 0 0 ≡ c = ap (λ (xs : List ℕ). get_or xs 0 0) s.whole in
+    let same : (get_or bytes 0 0 == 48) ≡ (c == 48) = ap (λ n. n == 48) first in
+    rw (some, more) same
+
+lacks_none : (ds : List ℕ) → IsNumeral ds → lacks ds ≡ false
+unfolding lacks
+lacks_none [] n = absurd n
+lacks_none (c ∷ []) n = refl
+lacks_none (c ∷ d ∷ ds) n = let above : 48 < c = n in grind (arith, nat_tests)
+
+not_lacking : (ds : List ℕ) → AreDigits ds → lacks ds ≡ false → IsNumeral ds
+unfolding lacks
+not_lacking [] a e = absurd cc
+not_lacking (c ∷ []) a e = tt
+not_lacking (c ∷ d ∷ ds) a e = let low : 48 ≤ c = a.0.0 in (let above : 48 < c = grind (arith, nat_tests) in above)
+
+-- a number stands at the front of the bytes, and what follows it
+pub record BeginsWith (bytes : List ℕ) (n : ℕ) (rest : List ℕ) : Type 0 where
+  pub whole : bytes ≡ numeral n ++ rest
+  pub stops : StopsDigits rest
+  pub read : number_at bytes ≡ Ok (narrow n, rest)
+
+abbrev pub HasNumber : List ℕ → Type 0
+HasNumber bytes = (number_at bytes ≡ Err BadEvent) ⊎ ((n : ℕ) × (rest : List ℕ) × BeginsWith bytes n rest)
+
+-- what the digits give is read
+reads : (bytes ds rest : List ℕ) → SplitsDigits bytes ds rest → lacks ds ≡ false → number_at bytes ≡ Ok (narrow (value_of ds), rest)
+unfolding number_at
+reads bytes ds rest s e = rw (lacks_numeral_is bytes ds rest s ∙ e, s.front, s.back) refl
+
+-- where the bytes begin with a number it is read
+pub number_cases : (bytes : List ℕ) → HasNumber bytes
+unfolding number_at
+number_cases bytes = by_digits (splits bytes).0 (splits bytes).1 (splits bytes).2 (lacks (splits bytes).0) refl
+  where
+    by_digits : (ds rest : List ℕ) → SplitsDigits bytes ds rest → (b : Bool) → lacks ds ≡ b → HasNumber bytes
+    by_digits ds rest s true e = inl (rw (lacks_numeral_is bytes ds rest s ∙ e) refl)
+    by_digits ds rest s false e = inr (value_of ds, rest, record {
+      whole = s.whole ∙ ap (λ (xs : List ℕ). xs ++ rest) (sym (numeral_of_digits ds s.digits (not_lacking ds s.digits e)));
+      stops = s.stops;
+      read = reads bytes ds rest s e;
+    })
+
+front_of : (ds rest : List ℕ) → take (length ds) (ds ++ rest) ≡ ds
+front_of [] rest = refl
+front_of (d ∷ ds) rest = ap (λ (xs : List ℕ). d ∷ xs) (front_of ds rest)
+
+back_of : (ds rest : List ℕ) → drop (length ds) (ds ++ rest) ≡ rest
+back_of [] rest = refl
+back_of (d ∷ ds) rest = back_of ds rest
+
+-- a numeral is read, whatever follows it that is no digit
+pub number_again : (n : ℕ) (rest : List ℕ) → StopsDigits rest → number_at (numeral n ++ rest) ≡ Ok (narrow n, rest)
+number_again n rest stops =
+    let len : digits_len (numeral n ++ rest) ≡ length (numeral n) = digits_len-append (numeral n) rest (numeral-digits n) stops in
+    let s : SplitsDigits (numeral n ++ rest) (numeral n) rest = record {
+      whole = refl;
+      digits = numeral-digits n;
+      stops = stops;
+      front = rw len (front_of (numeral n) rest);
+      back = rw len (back_of (numeral n) rest);
+      len = len;
+    } in
+    reads (numeral n ++ rest) (numeral n) rest s (lacks_none (numeral n) (numeral_numeral n)) ∙ ap (λ m. Ok (narrow m, rest)) (value_of-numeral n)

@@ -1,4 +1,5 @@
 ghost use Rattle.std.specs.Prelude.{◌≡◌};
+ghost use Rattle.sia_events.specs.Events.{actor};
 
 use std::marker::Model;
 
@@ -66,6 +67,22 @@ pub enum Event {
     Abort {
         txn: TxnId,
     },
+}
+
+impl Event {
+    /// Who acts.
+    pub fn txn(&self) -> TxnId
+        ensures { result ≡ actor self.now }
+    {
+        match self {
+            Event::Begin { txn, .. }
+            | Event::Read { txn, .. }
+            | Event::Range { txn, .. }
+            | Event::Write { txn, .. }
+            | Event::Commit { txn }
+            | Event::Abort { txn } => *txn,
+        }
+    }
 }
 
 impl PartialEq for Listed {

@@ -5,7 +5,9 @@ mod event;
 mod fault;
 mod found;
 mod history;
+mod judge;
 mod number;
+mod tables;
 mod token;
 
 pub use event::{Event, Key, Listed, TxnId, Version};
