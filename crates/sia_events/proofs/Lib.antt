@@ -9,4 +9,6 @@ pub mod Samples
 pub mod Digits
 pub mod NumberLaws
 pub mod Tokens
+pub mod Judged
+pub mod EventLaws
 pub mod Pairs

@@ -1,18 +1,15 @@
 -- The tokens of a text that is read from left to right.
-use Rattle.std.proofs.Common.{◌≡◌, ◌⊎◌, inl, inr, ℕ, ◌+◌, ◌≤◌, ◌<◌, Bool, true, false, cond, List, [], ◌∷◌, ◌++◌, length, refl, ap, sym, subst, ◌∙◌, append_assoc, arith}
-use Rattle.std.specs.List.{AllByRecursion}
+use Rattle.std.proofs.Common.{◌≡◌, ◌⊎◌, inl, inr, ℕ, ◌+◌, ◌≤◌, ◌<◌, Bool, true, false, cond, List, [], ◌∷◌, ◌++◌, length, take, drop, get_or, suc, refl, ap, sym, subst, ◌∙◌, append_assoc, arith}
+use Rattle.std.specs.List.{AllByRecursion, position_or_len}
+use Rattle.std.proofs.lemmas.List.Sums.{split_at_first, passes_at_first}
 use Rattle.std.proofs.lemmas.List.{append-nil}
 use Rattle.sia_events.specs.Text.{is_separator, goes_on, onto_first, with_byte, tokens}
+use Rattle.sia_events.specs.Judging.{as_token, IsSplitAfter}
 use Rattle.sia_events.proofs.Canonical.{HasNoSeparator}
 
 -- nothing, or bytes up to a separator
 abbrev pub IsClosed : List ℕ → Type 0
 IsClosed closed = (closed ≡ []) ⊎ ((front : List ℕ) × (c : ℕ) × (closed ≡ front ++ c ∷ []) × (is_separator c ≡ true))
-
--- one token, or none where there are no bytes
-abbrev pub as_token : List ℕ → List (List ℕ)
-as_token [] = []
-as_token (c ∷ cs) = (c ∷ cs) ∷ []
 
 skipped : (c : ℕ) (after : List ℕ) (ts : List (List ℕ)) → is_separator c ≡ true → with_byte c after ts ≡ ts
 skipped c after ts e = ap (λ b. cond b ts (cond (goes_on after) (onto_first c ts) ((c ∷ []) ∷ ts))) e
@@ -107,3 +104,27 @@ tokens_more closed w s ends t e = tokens-append closed (w ++ s ∷ []) ends ∙ 
 
 pub tokens_rest : (closed w : List ℕ) → IsClosed closed → HasNoSeparator w → tokens (closed ++ w) ≡ tokens closed ++ as_token w
 tokens_rest closed w ends t = tokens-append closed w ends ∙ ap (λ (ts : List (List ℕ)). tokens closed ++ ts) (tokens_unbroken w t)
+
+-- no separator comes before the first
+pub unbroken_front : (bs : List ℕ) → HasNoSeparator (take (position_or_len is_separator bs) bs)
+unbroken_front [] = tt
+unbroken_front (c ∷ bs) = by_test (is_separator c) refl (unbroken_front bs)
+  where
+    by_test : (b : Bool) → is_separator c ≡ b → HasNoSeparator (take (position_or_len is_separator bs) bs) → HasNoSeparator (take (position_or_len is_separator (c ∷ bs)) (c ∷ bs))
+    by_test true e rest = let none : position_or_len is_separator (c ∷ bs) ≡ 0 = rw e refl in rw none tt
+    by_test false e rest = let more : position_or_len is_separator (c ∷ bs) ≡ suc (position_or_len is_separator bs) = rw e (omega arith) in rw more (e, rest)
+
+pub all_unbroken : (bs : List ℕ) → position_or_len is_separator bs ≡ length bs → HasNoSeparator bs
+all_unbroken bs e = subst HasNoSeparator (ap (λ n. take n bs) e ∙ take_all bs) (unbroken_front bs)
+  where
+    take_all : (xs : List ℕ) → take (length xs) xs ≡ xs
+    take_all [] = refl
+    take_all (x ∷ xs) = ap (λ (ys : List ℕ). x ∷ ys) (take_all xs)
+
+pub splits_after : (text : List ℕ) → position_or_len is_separator text < length text → IsSplitAfter text (take (position_or_len is_separator text) text) (drop (position_or_len is_separator text + 1) text)
+splits_after text some = record {
+  separator = get_or text (position_or_len is_separator text) 0;
+  whole = split_at_first is_separator text 0 some;
+  unbroken = unbroken_front text;
+  separates = passes_at_first is_separator text 0 some;
+}

@@ -1,9 +1,12 @@
 //! The events of a text so far, and the judgement of its next token.
-ghost use Rattle.std.specs.Prelude.{◌≡◌, [], ◌∷◌, ◌++◌, Ok, OnOk, IfErr};
+ghost use Rattle.std.specs.Prelude.{◌≡◌, ◌≤◌, ℕ, length, List, [], ◌∷◌, ◌++◌, Ok, false, OnOk, IfOk, IfErr, IfSome, IfNone};
+ghost use Rattle.std.specs.List.{AllByRecursion, position_or_len};
 ghost use Rattle.sia_events.specs.declared.event.Event.{Event as AnEvent};
 ghost use Rattle.sia_events.specs.Parsing.{Fails};
 ghost use Rattle.sia_events.specs.Known.{Knows};
-ghost use Rattle.sia_events.specs.Judging.{judged};
+ghost use Rattle.sia_events.specs.Judging.{judged, JudgedAll, as_token, IsSplitAfter};
+ghost use Rattle.sia_events.specs.Text.{is_separator, tokens};
+ghost use Rattle.sia_events.specs.Streaming.{IsCutAtLastSeparator};
 
 use crate::event::Event;
 use crate::fault::{Reason, Refusal};
@@ -52,4 +55,62 @@ impl Judge {
         self.events.push(event)?;
         Ok(())
     }
+
+    /// Takes the event of the token, if there is one.
+    #[tactic(auto, unfolding(crate::specs::Judging::JudgedAll))]
+    pub(crate) fn take_some(&mut self, token: &[u8]) -> Result<(), Refusal>
+        requires { Knows self.old.tables self.old.events.items }
+        ensures taken { OnOk result (JudgedAll self.old.events.items (as_token token.now) self.new.events.items) }
+        ensures knows { OnOk result (Knows self.new.tables self.new.events.items) }
+    {
+        if token.is_empty() {
+            return Ok(());
+        }
+        self.take(token)
+    }
+
+    /// Takes the events of all tokens that a separator follows, and answers what comes after the last separator.
+    pub(crate) fn take_closed<'a>(&mut self, text: &'a [u8]) -> Result<&'a [u8], Refusal>
+        requires { Knows self.old.tables self.old.events.items }
+        ensures taken { IfOk result (λ rest. (closed : List ℕ) × IsCutAtLastSeparator text.now closed rest.now × JudgedAll self.old.events.items (tokens closed) self.new.events.items) }
+        ensures knows { OnOk result (Knows self.new.tables self.new.events.items) }
+    {
+        let mut rest = text;
+        while let Some((token, after)) = split_token(rest) {
+            self.take_some(token)?;
+            rest = after;
+        }
+        Ok(rest)
+    }
+}
+
+/// Space, tab, CR or LF.
+fn is_separator(byte: u8) -> bool
+    ensures { result ≡ is_separator byte }
+{
+    matches!(byte, b' ' | b'\t' | b'\r' | b'\n')
+}
+
+/// How many bytes come before the first separator, or at all.
+fn token_len(text: &[u8]) -> usize
+    ensures len { result ≡ position_or_len is_separator text.now }
+    ensures within { result ≤ length text.now }
+{
+    let mut len = 0;
+    while len < text.len() && !is_separator(text[len]) {
+        len += 1;
+    }
+    len
+}
+
+/// The bytes before the first separator, and those after it, if there is one.
+fn split_token(text: &[u8]) -> Option<(&[u8], &[u8])>
+    ensures none { IfNone result (AllByRecursion (λ c. is_separator c ≡ false) text.now) }
+    ensures some { IfSome result (λ parts. IsSplitAfter text.now parts.0.now parts.1.now) }
+{
+    let len = token_len(text);
+    if len == text.len() {
+        return None;
+    }
+    Some((&text[..len], &text[len + 1..]))
 }
