@@ -15,7 +15,7 @@ use Rattle.sia_events.proofs.Spelling.{pairs_text, list_text, start_text, event_
 
 -- ---- a step that has no form, or that goes on
 
-abbrev Lacks : {A : Type 0} → Result A Reason → Type 0
+abbrev pub Lacks : {A : Type 0} → Result A Reason → Type 0
 Lacks read = read ≡ Err BadEvent
 
 record Goes (byte : ℕ) (bytes rest : List ℕ) : Type 0 where
@@ -38,15 +38,15 @@ ended_cases (c ∷ rest) = inl refl
 
 -- ---- a token that is read is spelled so
 
-commit_sound : (txn : Option ℕ) (bytes : List ℕ) → Lacks (commit_at txn bytes) ⊎ (bytes ≡ [])
+pub commit_sound : (txn : Option ℕ) (bytes : List ℕ) → Lacks (commit_at txn bytes) ⊎ (bytes ≡ [])
 unfolding commit_at
 commit_sound txn bytes = elim (ended_cases bytes) [ inl e ↦ inl (rw e refl) | inr e ↦ inr e ]
 
-abort_sound : (txn : Option ℕ) (bytes : List ℕ) → Lacks (abort_at txn bytes) ⊎ (bytes ≡ [])
+pub abort_sound : (txn : Option ℕ) (bytes : List ℕ) → Lacks (abort_at txn bytes) ⊎ (bytes ≡ [])
 unfolding abort_at
 abort_sound txn bytes = elim (ended_cases bytes) [ inl e ↦ inl (rw e refl) | inr e ↦ inr e ]
 
-begin_sound : (txn : Option ℕ) (bytes : List ℕ) → Lacks (begin_at txn bytes) ⊎ ((start : Option ℕ) × (bytes ≡ start_text start))
+pub begin_sound : (txn : Option ℕ) (bytes : List ℕ) → Lacks (begin_at txn bytes) ⊎ ((start : Option ℕ) × (bytes ≡ start_text start))
 unfolding begin_at
 begin_sound txn [] = inr (None, refl)
 begin_sound txn (c ∷ bytes) = elim (after_cases 64 (c ∷ bytes)) [
@@ -60,7 +60,7 @@ begin_sound txn (c ∷ bytes) = elim (after_cases 64 (c ∷ bytes)) [
   ]
 ]
 
-write_sound : (txn : Option ℕ) (bytes : List ℕ) → Lacks (write_at txn bytes) ⊎ ((k : ℕ) × (bytes ≡ 91 ∷ (numeral k ++ (93 ∷ []))))
+pub write_sound : (txn : Option ℕ) (bytes : List ℕ) → Lacks (write_at txn bytes) ⊎ ((k : ℕ) × (bytes ≡ 91 ∷ (numeral k ++ (93 ∷ []))))
 unfolding write_at
 write_sound txn bytes = elim (after_cases 91 bytes) [
   | inl e ↦ inl (rw e refl)
@@ -191,11 +191,11 @@ range_sound txn low bytes = elim (number_cases bytes) [
 ]
 
 -- what follows a reader's name
-abbrev IsReadText : List ℕ → Type 0
+abbrev pub IsReadText : List ℕ → Type 0
 IsReadText bytes = ((k : ℕ) × (v : ℕ) × (bytes ≡ 91 ∷ (numeral k ++ (58 ∷ (numeral v ++ (93 ∷ []))))))
     ⊎ ((lo : ℕ) × (hi : ℕ) × (ps : List (ℕ × ℕ)) × (bytes ≡ 91 ∷ (numeral lo ++ (46 ∷ 46 ∷ (numeral hi ++ list_text ps)))))
 
-read_sound : (txn : Option ℕ) (bytes : List ℕ) → Lacks (read_at txn bytes) ⊎ IsReadText bytes
+pub read_sound : (txn : Option ℕ) (bytes : List ℕ) → Lacks (read_at txn bytes) ⊎ IsReadText bytes
 unfolding read_at
 read_sound txn bytes = elim (after_cases 91 bytes) [
   | inl e ↦ inl (rw e refl)

@@ -11,4 +11,5 @@ pub mod NumberLaws
 pub mod Tokens
 pub mod Judged
 pub mod EventLaws
+pub mod EventAgain
 pub mod Pairs
