@@ -64,13 +64,13 @@ pub spell_token : (e : Event) → IsToken (spell e)
 spell_token e = subst IsToken (sym (regrouped e)) (token_of_text e)
 
 -- a byte at the end of a token, and before more of one
-ends_token : (c : ℕ) (after : List ℕ) (ts : List (List ℕ)) → is_separator c ≡ false → goes_on after ≡ false → with_byte c after ts ≡ (c ∷ []) ∷ ts
+pub ends_token : (c : ℕ) (after : List ℕ) (ts : List (List ℕ)) → is_separator c ≡ false → goes_on after ≡ false → with_byte c after ts ≡ (c ∷ []) ∷ ts
 ends_token c after ts p q = ap (λ b. cond b ts (cond (goes_on after) (onto_first c ts) ((c ∷ []) ∷ ts))) p ∙ ap (λ b. cond b (onto_first c ts) ((c ∷ []) ∷ ts)) q
 
-goes_on_token : (c : ℕ) (after : List ℕ) (ts : List (List ℕ)) → is_separator c ≡ false → goes_on after ≡ true → with_byte c after ts ≡ onto_first c ts
+pub goes_on_token : (c : ℕ) (after : List ℕ) (ts : List (List ℕ)) → is_separator c ≡ false → goes_on after ≡ true → with_byte c after ts ≡ onto_first c ts
 goes_on_token c after ts p q = ap (λ b. cond b ts (cond (goes_on after) (onto_first c ts) ((c ∷ []) ∷ ts))) p ∙ ap (λ b. cond b (onto_first c ts) ((c ∷ []) ∷ ts)) q
 
-goes_on_unbroken : (d : ℕ) (ds : List ℕ) → is_separator d ≡ false → goes_on (d ∷ ds) ≡ true
+pub goes_on_unbroken : (d : ℕ) (ds : List ℕ) → is_separator d ≡ false → goes_on (d ∷ ds) ≡ true
 goes_on_unbroken d ds p = ap (λ b. cond b false true) p
 
 -- a token and what follows it: nothing, or a space and more

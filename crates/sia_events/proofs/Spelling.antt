@@ -4,7 +4,7 @@ use Rattle.std.specs.List.{join_with_byte}
 use Rattle.std.proofs.lemmas.List.{append-nil}
 use Rattle.sia_events.specs.declared.event.Event.{Event}
 use Rattle.sia_events.specs.declared.event.Event.TheVariants.{Begin, Read, Range, Write, Commit, Abort}
-use Rattle.sia_events.specs.Text.{numeral, spell_pair, spell_list, spell_start, spell}
+use Rattle.sia_events.specs.Text.{numeral, spell_pair, spell_list, spell}
 use Rattle.sia_events.proofs.Numerals.{IsDigit, StopsDigits, split_numeral}
 
 -- listed keys and what follows them, from left to right

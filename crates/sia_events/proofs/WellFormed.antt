@@ -1,5 +1,5 @@
 -- What an accepted text and a well-formed history keep.
-use Rattle.std.proofs.Common.{◌≡◌, ◌≢◌, ◌⊎◌, inl, inr, ℕ, zero, suc, ◌+◌, ◌-◌, ◌^◌, ◌<◌, ◌≤◌, List, [], ◌∷◌, map, length, slice_get, Option, Some, None, refl, ap, sym, subst, ◌∙◌, arith}
+use Rattle.std.proofs.Common.{◌≡◌, ◌≢◌, inl, inr, ℕ, zero, suc, ◌+◌, ◌-◌, ◌^◌, ◌<◌, ◌≤◌, List, [], ◌∷◌, map, length, slice_get, Option, Some, None, refl, ap, sym, subst, ◌∙◌, arith}
 use Rattle.std.proofs.lemmas.Bool.{cases_lt}
 use Rattle.std.proofs.lemmas.Option.{slice_get-map}
 use Rattle.std.specs.Option.{option_map}
@@ -15,6 +15,8 @@ use Rattle.sia_events.specs.Text.{spell, tokens, canonical}
 use Rattle.sia_events.specs.Refusals.{IsTxn, IsStart, IsInRange, reason_number, HasReason, HasReasonIn, TokenHas, EventHas, IsEarlier, IsFirstFaultIn, IsAccepted, IsAcceptedIn, AnyForm, IsWellFormed}
 use Rattle.sia_events.proofs.Spelling.{spell_injective}
 use Rattle.sia_events.proofs.Canonical.{canonical_stands}
+use Rattle.sia_events.proofs.Decisions.{Decided, at_most}
+use Rattle.sia_events.proofs.TransactionDecisions.{wrote_before_or_not}
 
 numbers_below : (r : Reason) → reason_number r < 11
 numbers_below TooManyEvents = omega arith
@@ -26,10 +28,6 @@ numbers_below EmptyRange = omega arith
 numbers_below BadList = omega arith
 numbers_below NotWritten = omega arith
 numbers_below BadStart = omega arith
-
--- m is at most n, or n is below it
-at_most : (m n : ℕ) → ¬ (n < m) → m ≤ n
-at_most m n h = elim (cases_lt n m) [ inl less ↦ absurd (h less) | inr more ↦ more ]
 
 -- where no first fault is, nothing has a reason
 module _ (Form : Event → Type 0) (ts : List (List ℕ)) (none : (i : ℕ) (r : Reason) → ¬ IsFirstFaultIn Form ts i r) where
@@ -69,7 +67,7 @@ accepted_none text a = accepted_none_in AnyForm text a
 abbrev pub IsBefore : List Event → ℕ → Event → Type 0
 IsBefore h i f = (j : ℕ) × (j < i) × (at_place h j ≡ Some f)
 
-at_place-map : (h : List Event) (j : ℕ) → at_place (map spell h) j ≡ option_map spell (at_place h j)
+pub at_place-map : (h : List Event) (j : ℕ) → at_place (map spell h) j ≡ option_map spell (at_place h j)
 at_place-map h zero = refl
 at_place-map h (suc j) = slice_get-map spell h j
 
@@ -77,14 +75,14 @@ spelled : (o : Option Event) (f : Event) → option_map spell o ≡ Some (spell 
 spelled None f e = cc
 spelled (Some g) f e = ap Some (spell_injective g f (let p : spell g ≡ spell f = cc in p))
 
-earlier_before : (h : List Event) (i : ℕ) (f : Event) → IsEarlier (map spell h) i f → IsBefore h i f
+pub earlier_before : (h : List Event) (i : ℕ) (f : Event) → IsEarlier (map spell h) i f → IsBefore h i f
 earlier_before h i f e = (e.0, e.1, spelled (at_place h e.0) f (sym (at_place-map h e.0) ∙ e.2))
 
-before_earlier : (h : List Event) (i : ℕ) (f : Event) → IsBefore h i f → IsEarlier (map spell h) i f
+pub before_earlier : (h : List Event) (i : ℕ) (f : Event) → IsBefore h i f → IsEarlier (map spell h) i f
 before_earlier h i f b = (b.0, b.1, at_place-map h b.0 ∙ ap (option_map spell) b.2)
 
 -- the reasons of an event go by what is before it
-moved : (n : ℕ) (Earlier Before : Event → Type 0) → ((f : Event) → Before f → Earlier f) → ((f : Event) → Earlier f → Before f) → (e : Event) (r : Reason) → EventHas n Before e r → EventHas n Earlier e r
+pub moved : (n : ℕ) (Earlier Before : Event → Type 0) → ((f : Event) → Before f → Earlier f) → ((f : Event) → Earlier f → Before f) → (e : Event) (r : Reason) → EventHas n Before e r → EventHas n Earlier e r
 moved n Earlier Before to from e TooManyEvents h = absurd h
 moved n Earlier Before to from e BadEvent h = absurd h
 moved n Earlier Before to from e BadNumber h = h
@@ -96,7 +94,7 @@ moved n Earlier Before to from e BadList h = h
 moved n Earlier Before to from e NotWritten h = (h.0, h.1, h.2, h.3, λ w. h.4 (from (Write h.1 h.0) w))
 moved n Earlier Before to from e BadStart h = h
 
-token_has : (ts : List (List ℕ)) (i : ℕ) (e : Event) (r : Reason) → EventHas (i - 1) (IsEarlier ts i) e r → TokenHas AnyForm ts i (spell e) r
+pub token_has : (ts : List (List ℕ)) (i : ℕ) (e : Event) (r : Reason) → EventHas (i - 1) (IsEarlier ts i) e r → TokenHas AnyForm ts i (spell e) r
 token_has ts i e TooManyEvents h = absurd h
 token_has ts i e BadEvent h = absurd h
 token_has ts i e BadNumber h = (e, tt, refl, h)
@@ -111,7 +109,7 @@ token_has ts i e BadStart h = (e, tt, refl, h)
 spelled_none : (h : List Event) → IsWellFormed h → (i : ℕ) (r : Reason) → ¬ HasReason (map spell h) i r
 spelled_none h wf i r = subst (λ ts. ¬ HasReason ts i r) (canonical_stands h) (accepted_none (canonical h) wf i r)
 
-place_spelled : (h : List Event) (i : ℕ) (e : Event) → at_place h i ≡ Some e → at_place (map spell h) i ≡ Some (spell e)
+pub place_spelled : (h : List Event) (i : ℕ) (e : Event) → at_place h i ≡ Some e → at_place (map spell h) i ≡ Some (spell e)
 place_spelled h i e at = at_place-map h i ∙ ap (option_map spell) at
 
 -- no event of a well-formed history has a reason, by the events before it
@@ -146,36 +144,9 @@ few_events h wf = at_most (length h) 100000 (λ more.
     let found = at_index h 100000 more in
     spelled_none h wf 100001 TooManyEvents (spell found.0, place_spelled h 100001 found.0 found.1, refl))
 
-same_or_not : (a b : ℕ) → (a ≡ b) ⊎ (a ≢ b)
-same_or_not a b = elim (cases_lt a b) [
-  | inl less ↦ inr (λ e. omega arith)
-  | inr more ↦ elim (cases_lt b a) [ inl less ↦ inr (λ e. omega arith) | inr least ↦ inl (omega arith) ]
-]
-
-is_write_or_not : (o : Option Event) (v k : ℕ) → (o ≡ Some (Write v k)) ⊎ ¬ (o ≡ Some (Write v k))
-is_write_or_not None v k = inr (λ e. cc)
-is_write_or_not (Some (Write t j)) v k = elim (same_or_not t v) [
-  | inl a ↦ elim (same_or_not j k) [
-    | inl b ↦ inl (λ i. Some (Write (a i) (b i)))
-    | inr n ↦ inr (λ e. n (let p : j ≡ k = cc in p))
-  ]
-  | inr n ↦ inr (λ e. n (let p : t ≡ v = cc in p))
-]
-is_write_or_not (Some e) v k = inr (λ p. cc)
-
 -- whether a transaction wrote a key before a place can be told
-pub before_or_not : (h : List Event) (i v k : ℕ) → IsBefore h i (Write v k) ⊎ ¬ IsBefore h i (Write v k)
-before_or_not h zero v k = inr (λ b. let l = b.1 in omega arith)
-before_or_not h (suc i) v k = elim (before_or_not h i v k) [
-  | inl b ↦ inl (b.0, (let l = b.1 in omega arith), b.2)
-  | inr none ↦ elim (is_write_or_not (at_place h i) v k) [
-    | inl e ↦ inl (i, omega arith, e)
-    | inr n ↦ inr (λ b. elim (same_or_not b.0 i) [
-      | inl same ↦ n (subst (λ j. at_place h j ≡ Some (Write v k)) same b.2)
-      | inr other ↦ none (b.0, (let l = b.1 in omega arith), b.2)
-    ])
-  ]
-]
+pub before_or_not : (h : List Event) (i v k : ℕ) → Decided (IsBefore h i (Write v k))
+before_or_not h i v k = wrote_before_or_not h v k i
 
 -- a version that was seen and isn't 0 was written before
 pub seen_was_written : (h : List Event) → IsWellFormed h → (i k v : ℕ) (e : Event) → at_place h i ≡ Some e → Saw e k v → v ≢ 0 → IsBefore h i (Write v k)
@@ -184,7 +155,8 @@ seen_was_written h wf i k v e at saw v0 = elim (before_or_not h i v k) [
   | inr n ↦ absurd (event_has_none h wf i e at NotWritten (k, v, saw, v0, n))
 ]
 
-below_or : (m n : ℕ) → ¬ ¬ (m < n) → m < n
+-- what isn't refuted of two numbers holds
+pub below_or : (m n : ℕ) → ¬ ¬ (m < n) → m < n
 below_or m n h = elim (cases_lt m n) [ inl less ↦ less | inr more ↦ absurd (h (λ less. omega arith)) ]
 
 txn_range : (t : ℕ) → ¬ ¬ IsTxn t → IsTxn t

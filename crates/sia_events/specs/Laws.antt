@@ -1,5 +1,5 @@
 -- The laws of histories, as statements.
-use Rattle.std.specs.Prelude.{◌≡◌, ◌⊎◌, ◌↔◌, ℕ, ◌+◌, ◌≤◌, List, length, All, Some, None}
+use Rattle.std.specs.Prelude.{◌≡◌, ◌⊎◌, ◌↔◌, ℕ, ◌+◌, ◌≤◌, List, length, Some, None}
 use Rattle.sia_events.specs.declared.event.Event.{Event}
 use Rattle.sia_events.specs.declared.fault.Reason.TheVariants.{BadEvent}
 use Rattle.sia_events.specs.declared.fault.TextFault.{TextFault}
@@ -7,7 +7,7 @@ use Rattle.sia_events.specs.declared.fault.TextFault.TheVariants.{Refused}
 use Rattle.sia_events.specs.Places.{at_place}
 use Rattle.sia_events.specs.Events.{named_start}
 use Rattle.sia_events.specs.Text.{spell, tokens, canonical, StandsFor}
-use Rattle.sia_events.specs.Refusals.{IsRefusal, IsRefusalIn, IsAccepted, IsAcceptedIn}
+use Rattle.sia_events.specs.Refusals.{IsRefusal, IsRefusalIn, IsAccepted, IsAcceptedIn, IsWellFormed}
 use Rattle.sia_events.specs.Transactions.{Wrote, StartsAt, IsFirstEvent}
 use Rattle.sia_events.specs.Isolation.{IsolationKept, IsBadRead, IsBadWrite, IsUnexplained, NoneUnexplained}
 use Rattle.sia_events.specs.Dependencies.{WwEdge, WrEdge, RwEdge, HasEdge}
@@ -35,6 +35,14 @@ PivotLaw h = IsolationKept h → NoPivot h → HasSerialOrder h
 -- a text stands for one history at most
 abbrev pub OneHistory : List ℕ → Type 0
 OneHistory text = (h others : List Event) → StandsFor text h → StandsFor text others → h ≡ others
+
+-- a text has one refusal at most
+abbrev pub OneRefusal : List ℕ → Type 0
+OneRefusal text = (fault other : TextFault) → IsRefusal text fault → IsRefusal text other → fault ≡ other
+
+-- an accepted text stands for a history, which is well-formed
+abbrev pub HasHistory : List ℕ → Type 0
+HasHistory text = IsAccepted text → (h : List Event) × StandsFor text h × IsWellFormed h
 
 -- a canonical text stands for its history, is no longer than another text of it, and is that of no other history
 pub record CanonicalLaw (h : List Event) : Type 0 where

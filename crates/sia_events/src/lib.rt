@@ -6,6 +6,7 @@ mod fault;
 mod found;
 mod history;
 mod judge;
+mod laws;
 mod number;
 mod tables;
 mod token;
@@ -13,3 +14,7 @@ mod token;
 pub use event::{Event, Key, Listed, TxnId, Version};
 pub use fault::{NoMemory, Reason, TextFault};
 pub use history::History;
+pub use laws::{
+    accepted_text_has_a_history, canonical_law, named_starts_only_add, one_history, one_refusal,
+    unwritten_law,
+};

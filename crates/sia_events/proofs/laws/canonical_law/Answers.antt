@@ -1,0 +1,5 @@
+use Rattle.sia_events.proofs.Shortest.{canonical_law}
+use Rattle.sia_events.proofs.laws.canonical_law.Goals as goal
+
+pub returns : goal.returns
+returns c = canonical_law

@@ -1,0 +1,5 @@
+use Rattle.sia_events.proofs.Histories.{one_history}
+use Rattle.sia_events.proofs.laws.one_history.Goals as goal
+
+pub returns : goal.returns
+returns c = one_history

@@ -1,0 +1,5 @@
+use Rattle.sia_events.proofs.OneRefusal.{one_refusal}
+use Rattle.sia_events.proofs.laws.one_refusal.Goals as goal
+
+pub returns : goal.returns
+returns c = one_refusal

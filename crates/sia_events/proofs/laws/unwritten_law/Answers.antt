@@ -1,0 +1,5 @@
+use Rattle.sia_events.proofs.Unwritten.{unwritten_has_none}
+use Rattle.sia_events.proofs.laws.unwritten_law.Goals as goal
+
+pub returns : goal.returns
+returns c = unwritten_has_none

@@ -1,0 +1,35 @@
+//! Laws of texts and histories, each as the contract of a function that does nothing.
+ghost use Rattle.std.specs.Prelude.{List, ℕ};
+ghost use Rattle.sia_events.specs.declared.event.Event.{Event};
+ghost use Rattle.sia_events.specs.Refusals.{IsWellFormed};
+ghost use Rattle.sia_events.specs.Laws.{CanonicalLaw, HasHistory, NamedStartsOnlyAdd, OneHistory, OneRefusal, UnwrittenLaw};
+
+/// A text has one refusal at most.
+pub fn one_refusal()
+    ensures { (text : List ℕ) → OneRefusal text }
+{}
+
+/// A text stands for one history at most.
+pub fn one_history()
+    ensures { (text : List ℕ) → OneHistory text }
+{}
+
+/// An accepted text stands for a history, which is well-formed.
+pub fn accepted_text_has_a_history()
+    ensures { (text : List ℕ) → HasHistory text }
+{}
+
+/// A canonical text stands for its history alone, and no other text of the history is shorter.
+pub fn canonical_law()
+    ensures { (h : List Event) → CanonicalLaw h }
+{}
+
+/// A key that no write event names has no entry in a verdict.
+pub fn unwritten_law()
+    ensures { (h : List Event) → IsWellFormed h → UnwrittenLaw h }
+{}
+
+/// What is accepted without named starts is accepted with them, and what is refused is refused alike.
+pub fn named_starts_only_add()
+    ensures { (text : List ℕ) → NamedStartsOnlyAdd text }
+{}
