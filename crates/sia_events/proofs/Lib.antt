@@ -34,4 +34,6 @@ pub mod Tokens
 pub mod Judged
 pub mod EventLaws
 pub mod EventAgain
+pub mod EventCases
+pub mod Faults
 pub mod Pairs
