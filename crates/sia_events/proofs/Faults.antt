@@ -41,7 +41,7 @@ among_any test events e a p = at_index events a.0 a.1
 
 -- ---- what the tests say
 
-same_true : (n : ℕ) → (n == n) ≡ true
+pub same_true : (n : ℕ) → (n == n) ≡ true
 same_true n = grind (arith, nat_tests)
 
 pub ends_is : (t : ℕ) (e : Event) → ends t e ≡ true → (e ≡ Commit t) ⊎ (e ≡ Abort t)
@@ -72,26 +72,26 @@ writes_is k v (Abort u) p = absurd cc
 pub writes_same : (k v : ℕ) → writes (k, v) (Write v k) ≡ true
 writes_same k v = rw (same_true k, same_true v) refl
 
-true_false : (b : Bool) → b ≡ true → b ≡ false → ⊥
+pub true_false : (b : Bool) → b ≡ true → b ≡ false → ⊥
 true_false b p q = cc
 
 -- ---- an event in which the tables find no fault has no reason
 
-none_of : (b : Bool) (r : Reason) (rest : Option Reason) → cond b (Some r) rest ≡ None → (b ≡ false) × (rest ≡ None)
+pub none_of : (b : Bool) (r : Reason) (rest : Option Reason) → cond b (Some r) rest ≡ None → (b ≡ false) × (rest ≡ None)
 none_of true r rest e = absurd cc
 none_of false r rest e = (refl, e)
 
-else_none : (b : Bool) (r : Reason) (rest : Option Reason) → cond b rest (Some r) ≡ None → (b ≡ true) × (rest ≡ None)
+pub else_none : (b : Bool) (r : Reason) (rest : Option Reason) → cond b rest (Some r) ≡ None → (b ≡ true) × (rest ≡ None)
 else_none true r rest e = (refl, e)
 else_none false r rest e = absurd cc
 
-explained : (events : List Event) (k v : ℕ) → is_explained events (k, v) ≡ true → v ≢ 0 → IsAmong events (Write v k)
+pub explained : (events : List Event) (k v : ℕ) → is_explained events (k, v) ≡ true → v ≢ 0 → IsAmong events (Write v k)
 explained events k v p other =
     let zero : (v == 0) ≡ false = grind (arith, nat_tests) in
     let found = any_among (writes (k, v)) events (subst (λ b. (b || list_any (writes (k, v)) events) ≡ true) zero p) in
     subst (IsAmong events) (writes_is k v found.0 found.2) found.1
 
-all_explained : (events : List Event) (listed : List (ℕ × ℕ)) → list_all (is_explained events) listed ≡ true → (k v : ℕ) → Contains listed (k, v) → v ≢ 0 → IsAmong events (Write v k)
+pub all_explained : (events : List Event) (listed : List (ℕ × ℕ)) → list_all (is_explained events) listed ≡ true → (k v : ℕ) → Contains listed (k, v) → v ≢ 0 → IsAmong events (Write v k)
 all_explained events listed p k v c other = at_index listed c.0 c.1 c.2 p
   where
     at_index : (ps : List (ℕ × ℕ)) (i : ℕ) → i < length ps → slice_index_or ps i (k, v) ≡ (k, v) → list_all (is_explained events) ps ≡ true → IsAmong events (Write v k)

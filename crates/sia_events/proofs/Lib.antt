@@ -36,4 +36,6 @@ pub mod EventLaws
 pub mod EventAgain
 pub mod EventCases
 pub mod Faults
+pub mod Fits
+pub mod Clean
 pub mod Pairs
