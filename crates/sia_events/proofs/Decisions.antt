@@ -48,6 +48,7 @@ last_below P decide (suc n) = elim (decide n) [
   ]
 ]
 
+-- whether two lists, options, pairs or events are one
 pub same_list : {A : Type 0} → ((x y : A) → Decided (x ≡ y)) → (xs ys : List A) → Decided (xs ≡ ys)
 same_list same [] [] = inl refl
 same_list same [] (y ∷ ys) = inr (λ e. cc)

@@ -9,63 +9,51 @@ use Rattle.sia_events.specs.Places.{at_place}
 use Rattle.sia_events.specs.Events.{actor, named_start, Saw}
 use Rattle.sia_events.specs.Transactions.{IsFirstEvent, StartsAt, CommitsAt, IsCommitted, Wrote, WroteBefore}
 use Rattle.sia_events.specs.Reads.{SawAt}
+use Rattle.sia_events.proofs.WellFormed.{IsBefore}
 
+-- the event is one of t
 abbrev pub acts : ℕ → Event → Bool
 acts t e = actor e == t
 
+-- t commits
 abbrev pub commits : ℕ → Event → Bool
 commits t (Commit u) = u == t
-commits t (Begin u start) = false
-commits t (Read u k v) = false
-commits t (Range u lo hi listed) = false
-commits t (Write u k) = false
-commits t (Abort u) = false
+commits t e = false
 
+-- t aborts
+abbrev pub aborts : ℕ → Event → Bool
+aborts t (Abort u) = u == t
+aborts t e = false
+
+-- t writes k
 abbrev pub writes : ℕ → ℕ → Event → Bool
 writes t k (Write u j) = (u == t) && (j == k)
-writes t k (Begin u start) = false
-writes t k (Read u j v) = false
-writes t k (Range u lo hi listed) = false
-writes t k (Commit u) = false
-writes t k (Abort u) = false
+writes t k e = false
 
 -- another transaction than t writes k
 abbrev pub others_write : ℕ → ℕ → Event → Bool
 others_write t k (Write u j) = (j == k) && not (u == t)
-others_write t k (Begin u start) = false
-others_write t k (Read u j v) = false
-others_write t k (Range u lo hi listed) = false
-others_write t k (Commit u) = false
-others_write t k (Abort u) = false
+others_write t k e = false
 
 -- t writes another key than k
 abbrev pub writes_others : ℕ → ℕ → Event → Bool
 writes_others t k (Write u j) = (u == t) && not (j == k)
-writes_others t k (Begin u start) = false
-writes_others t k (Read u j v) = false
-writes_others t k (Range u lo hi listed) = false
-writes_others t k (Commit u) = false
-writes_others t k (Abort u) = false
+writes_others t k e = false
 
--- another transaction than t reads k, or a range
+-- another transaction than t reads k, or someone reads a range
 abbrev pub others_read : ℕ → ℕ → Event → Bool
 others_read t k (Read u j v) = (j == k) && not (u == t)
 others_read t k (Range u lo hi listed) = true
-others_read t k (Begin u start) = false
-others_read t k (Write u j) = false
-others_read t k (Commit u) = false
-others_read t k (Abort u) = false
+others_read t k e = false
 
--- t reads another key than k, or someone a range
+-- t reads another key than k, or someone reads a range
 abbrev pub reads_others : ℕ → ℕ → Event → Bool
 reads_others t k (Read u j v) = (u == t) && not (j == k)
 reads_others t k (Range u lo hi listed) = true
-reads_others t k (Begin u start) = false
-reads_others t k (Write u j) = false
-reads_others t k (Commit u) = false
-reads_others t k (Abort u) = false
+reads_others t k e = false
 
 module _ (test : Event → Bool) where
+  -- what passes has an index from n on, where none of the first n does, and one below n, where none of the later ones does
   from_index : (h : List Event) (n i : ℕ) (e : Event) → list_any test (take n h) ≡ false → slice_get h i ≡ Some e → test e ≡ true → n ≤ i
   from_index [] n i e none at pass = cc
   from_index (f ∷ h) zero i e none at pass = omega arith
@@ -100,6 +88,7 @@ module _ (test : Event → Bool) where
   nowhere h zero e none at pass = cc
   nowhere h (suc i) e none at pass = let less : i < 0 = below_index h 0 i e none at pass in omega arith
 
+-- a number is equal to itself by the test too
 same : (t : ℕ) → (t == t) ≡ true
 same t = eq-eqb t t refl
 
@@ -120,11 +109,19 @@ starts_before h t n e at is none plain = (suc n, e, first_at h t n e at is none,
 pub starts_named : (h : List Event) (t n s : ℕ) (e : Event) → at_place h (suc n) ≡ Some e → actor e ≡ t → list_any (acts t) (take n h) ≡ false → named_start e ≡ Some s → StartsAt h t s
 starts_named h t n s e at is none names = (suc n, e, first_at h t n e at is none, subst (λ o. MatchOption o (s + 1 ≡ suc n) (λ m. s ≡ m)) (sym names) refl)
 
+-- a commit stands after the first n places, and up to place n, where no other place has it
 pub commits_after : (h : List Event) (t n c : ℕ) → list_any (commits t) (take n h) ≡ false → CommitsAt h t c → n < c
 commits_after h t n c none at = after_place (commits t) h n c (Commit t) none at (same t)
 
 pub commits_up_to : (h : List Event) (t n c : ℕ) → list_any (commits t) (drop n h) ≡ false → CommitsAt h t c → c ≤ n
 commits_up_to h t n c none at = up_to_place (commits t) h n c (Commit t) none at (same t)
+
+-- what passes doesn't stand before a place, where no event before it passes
+pub not_before : (test : Event → Bool) (h : List Event) (n : ℕ) (e : Event) → list_any test (take n h) ≡ false → test e ≡ true → ¬ IsBefore h (suc n) e
+not_before test h n e none pass b =
+    let after : n < b.0 = after_place test h n b.0 e none b.2 pass in
+    let below : b.0 < suc n = b.1 in
+    omega arith
 
 pub not_committed : (h : List Event) (t : ℕ) → list_any (commits t) h ≡ false → ¬ IsCommitted h t
 not_committed h t none c = nowhere (commits t) h c.0 (Commit t) none c.1 (same t)

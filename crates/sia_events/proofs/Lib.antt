@@ -24,6 +24,7 @@ pub mod EventTests
 pub mod Refusing
 pub mod WorkedTexts
 pub mod WorkedRefusals
+pub mod WorkedAccepted
 pub mod WorkedReads
 pub mod WorkedEdges
 pub mod WorkedReplay

@@ -1,15 +1,18 @@
 -- The refusal of a text whose tokens spell events, from the reasons that these have among themselves.
-use Rattle.std.proofs.Common.{◌≡◌, ◌≢◌, ◌⊎◌, inl, inr, ℕ, ◌-◌, ◌<◌, ◌≤◌, List, map, length, Option, Some, None, refl, ap, sym, subst, ◌∙◌, arith}
+use Rattle.std.proofs.Common.{◌≡◌, ◌≢◌, ◌⊎◌, inl, inr, ℕ, zero, suc, ◌-◌, ◌<◌, ◌≤◌, List, map, length, Option, Some, None, refl, ap, sym, subst, ◌∙◌, arith}
 use Rattle.std.specs.Option.{option_map}
+use Rattle.std.proofs.lemmas.List.{length-map}
+use Rattle.std.proofs.lemmas.Option.{slice_get_within}
 use Rattle.sia_events.specs.declared.event.Event.{Event}
-use Rattle.sia_events.specs.declared.event.Event.TheVariants.{Range, Commit, Abort}
+use Rattle.sia_events.specs.declared.event.Event.TheVariants.{Range, Write, Commit, Abort}
 use Rattle.sia_events.specs.declared.fault.Reason.{Reason}
 use Rattle.sia_events.specs.declared.fault.Reason.TheVariants.{TooManyEvents, BadEvent, BadNumber, AlreadyEnded, AlreadyBegun, EmptyRange, BadList, NotWritten, BadStart}
-use Rattle.sia_events.specs.declared.fault.TextFault.TheVariants.{Refused}
+use Rattle.sia_events.specs.declared.fault.TextFault.TheVariants.{NoMemory, TextTooLong, Refused}
 use Rattle.sia_events.specs.Places.{at_place}
-use Rattle.sia_events.specs.Events.{actor}
-use Rattle.sia_events.specs.Text.{spell, StandsFor}
-use Rattle.sia_events.specs.Refusals.{IsInRange, EventHas, IsEarlier, TokenHas, HasReason, reason_number, AnyForm, IsFirstFault, IsRefusal}
+use Rattle.sia_events.specs.Events.{actor, named_start, Saw}
+use Rattle.sia_events.specs.Text.{spell, canonical, StandsFor}
+use Rattle.sia_events.specs.Refusals.{IsInRange, EventHas, IsEarlier, TokenHas, HasReason, reason_number, AnyForm, IsFirstFault, IsRefusal, IsBegin, IsEmptyRange, HasBadList, IsWellFormed}
+use Rattle.sia_events.proofs.Canonical.{canonical_stands}
 use Rattle.sia_events.proofs.Decisions.{at_most}
 use Rattle.sia_events.proofs.Spelling.{spell_injective}
 use Rattle.sia_events.proofs.Starts.{one_event}
@@ -91,3 +94,45 @@ first_reasons h e fits other EmptyRange has = absurd (other has.0 has.1 has.2 ha
 first_reasons h e fits other BadList has = absurd (other has.0 has.1 has.2 has.3)
 first_reasons h e fits other NotWritten has = inl refl
 first_reasons h e fits other BadStart has = inr refl
+
+-- an event that has no reason, by the events before it
+pub record IsFit (n : ℕ) (Earlier : Event → Type 0) (e : Event) : Type 0 where
+  pub in_range : IsInRange e
+  pub not_committed : ¬ Earlier (Commit (actor e))
+  pub not_aborted : ¬ Earlier (Abort (actor e))
+  pub begins_first : IsBegin e → (f : Event) → Earlier f → actor f ≢ actor e
+  pub not_empty : ¬ IsEmptyRange e
+  pub list_good : ¬ HasBadList e
+  pub written : (k v : ℕ) → Saw e k v → v ≢ 0 → Earlier (Write v k)
+  pub start_there : (start : ℕ) → named_start e ≡ Some start → start ≤ n
+
+fit_has_none : (n : ℕ) (Earlier : Event → Type 0) (e : Event) → IsFit n Earlier e → (r : Reason) → ¬ EventHas n Earlier e r
+fit_has_none n Earlier e f TooManyEvents has = has
+fit_has_none n Earlier e f BadEvent has = has
+fit_has_none n Earlier e f BadNumber has = has f.in_range
+fit_has_none n Earlier e f AlreadyEnded (inl c) = f.not_committed c
+fit_has_none n Earlier e f AlreadyEnded (inr a) = f.not_aborted a
+fit_has_none n Earlier e f AlreadyBegun has = f.begins_first has.0 has.1 has.2 has.3
+fit_has_none n Earlier e f EmptyRange has = f.not_empty has
+fit_has_none n Earlier e f BadList has = f.list_good has
+fit_has_none n Earlier e f NotWritten has = has.4 (f.written has.0 has.1 has.2 has.3)
+fit_has_none n Earlier e f BadStart has = let most : has.0 ≤ n = f.start_there has.0 has.1 in let less : n < has.0 = has.2 in omega arith
+
+-- a list of events within the limits is well-formed, where none of these has a reason
+pub well_formed_from : (h : List Event) → length h ≤ 100000 → length (canonical h) ≤ 16777216 → ((i : ℕ) (e : Event) → at_place h i ≡ Some e → IsFit (i - 1) (IsBefore h i) e) → IsWellFormed h
+well_formed_from h few short each NoMemory refusal = refusal
+well_formed_from h few short each TextTooLong refusal = omega arith
+well_formed_from h few short each (Refused i r) refusal = none (subst (λ ts. HasReason ts i r) (canonical_stands h) refusal.1.has)
+  where
+    within : HasReason (map spell h) i r → i ≤ 100000
+    within has = place_of i has.1
+      where
+        place_of : (j : ℕ) → at_place (map spell h) j ≡ Some has.0 → j ≤ 100000
+        place_of zero at = omega arith
+        place_of (suc j) at = let below : j < length (map spell h) = slice_get_within (map spell h) j has.0 at in omega (arith, length-map h spell)
+
+    none : ¬ HasReason (map spell h) i r
+    none has =
+        let most : i ≤ 100000 = within has in
+        let found = place_event h i r (λ is. omega arith) has in
+        fit_has_none (i - 1) (IsBefore h i) found.0 (each i found.0 found.1) r found.2

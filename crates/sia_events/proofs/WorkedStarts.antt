@@ -10,6 +10,7 @@ use Rattle.sia_events.specs.Reads.{SawAt, IsDue}
 use Rattle.sia_events.specs.Isolation.{IsBadRead, IsBadWrite}
 use Rattle.sia_events.proofs.TransactionDecisions.{place_within}
 use Rattle.sia_events.proofs.Starts.{one_event, one_start, none_seen_from_zero}
+use Rattle.sia_events.proofs.Due.{one_due}
 use Rattle.sia_events.proofs.EventTests.{starts_before, starts_named, not_wrote_before, commits_up_to, commits_after}
 
 -- transaction 2 begins after 1 committed, and names the start before it. Where it names none, its read is a bad one
@@ -29,14 +30,6 @@ none_written = not_wrote_before early_start 2 1 3 refl
 zero_is_due : IsDue early_start 2 4 1 0
 zero_is_due = inr (none_written, inr ((λ u v. none_seen_from_zero early_start 2 u starts_at_zero v.1), refl))
 
--- no other version is due
-due_is_zero : (v : ℕ) → IsDue early_start 2 4 1 v → v ≡ 0
-due_is_zero v (inl own) = absurd (none_written own.0)
-due_is_zero v (inr other) = elim other.1 [
-  | inl newest ↦ absurd (none_seen_from_zero early_start 2 v starts_at_zero newest.0.1)
-  | inr none ↦ none.1
-]
-
 -- what place 4 saw
 seen_at_four : (t k v : ℕ) → SawAt early_start 4 t k v → (t ≡ 2) × (k ≡ 1) × (v ≡ 0)
 seen_at_four t k v saw =
@@ -48,7 +41,7 @@ no_bad_read : (t k saw due : ℕ) → ¬ IsBadRead early_start 4 t k saw due
 no_bad_read t k saw due bad =
     let seen = seen_at_four t k saw bad.0 in
     let due_here : IsDue early_start 2 4 1 due = subst (λ j. IsDue early_start 2 4 j due) seen.1 (subst (λ u. IsDue early_start u 4 k due) seen.0 bad.1) in
-    bad.2 (seen.2 ∙ sym (due_is_zero due due_here))
+    bad.2 (seen.2 ∙ sym (one_due early_start 2 4 1 due 0 due_here zero_is_due))
 
 they_overlap : Overlap early_start 1 2
 they_overlap = (
