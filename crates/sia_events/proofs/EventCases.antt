@@ -193,10 +193,13 @@ TokenCases w = ((event_at w ≡ Err BadEvent) × ((e : Event) → w ≢ spell e)
 
 pub token_cases : (w : List ℕ) → TokenCases w
 token_cases w = elim (event_found w) [
-  | inl bad ↦ inl (bad, λ e is. elim (ranges_cases e) [
+  | inl bad ↦ inl (
+    bad,
+    λ e is. elim (ranges_cases e) [
       | inl r ↦ let two : ◌≡◌ {A = Result Event Reason} (Err BadEvent) (Ok e) = sym bad ∙ ap event_at is ∙ event_again e ∙ r.0 in cc
       | inr r ↦ let two : ◌≡◌ {A = Result Event Reason} (Err BadEvent) (Err BadNumber) = sym bad ∙ ap event_at is ∙ event_again e ∙ r.0 in cc
-    ])
+    ],
+  )
   | inr f ↦
       let is : w ≡ spell f.0 = f.1 ∙ sym (regrouped f.0) in
       elim (ranges_cases f.0) [

@@ -111,10 +111,14 @@ pair_cases bytes = elim (number_cases bytes) [
     | inl e ↦ inl (rw (k.2.read, e) refl)
     | inr a ↦ elim (number_cases a.0) [
       | inl e ↦ inl (rw (k.2.read, a.1.read, e) refl)
-      | inr v ↦ inr ((k.0, v.0), v.1, record {
+      | inr v ↦ inr (
+        (k.0, v.0),
+        v.1,
+        record {
           whole = k.2.whole ∙ ap (λ (xs : List ℕ). numeral k.0 ++ xs) (a.1.whole ∙ ap (λ (xs : List ℕ). 58 ∷ xs) v.2.whole);
           read = rw (k.2.read, a.1.read, v.2.read) refl;
-        })
+        },
+      )
     ]
   ]
 ]
@@ -145,10 +149,15 @@ pairs_cases (suc m) bytes = elim (pair_cases bytes) [
         → Lacks (pairs_within (suc m) bytes) ⊎ ((q : ℕ × ℕ) × (ps : List (ℕ × ℕ)) × (after : List ℕ) × HasPairs (suc m) bytes q ps after)
     by_comma p rest h false e others = inr (p, [], rest, record { whole = h.whole; read = rw (h.read, e) (ap (λ ps. Ok (ps, rest)) (sym (joined_none (narrow_pair p)))) })
     by_comma p rest h true e (inl bad) = inl (rw (h.read, e, bad) refl)
-    by_comma p rest h true e (inr o) = inr (p, o.0 ∷ o.1, o.2, record {
-      whole = h.whole ∙ ap (λ (xs : List ℕ). numeral p.0 ++ (58 ∷ (numeral p.1 ++ xs))) (begins_is 44 rest e ∙ ap (λ (xs : List ℕ). 44 ∷ xs) o.3.whole);
-      read = rw (h.read, e, o.3.read) refl;
-    })
+    by_comma p rest h true e (inr o) = inr (
+      p,
+      o.0 ∷ o.1,
+      o.2,
+      record {
+        whole = h.whole ∙ ap (λ (xs : List ℕ). numeral p.0 ++ (58 ∷ (numeral p.1 ++ xs))) (begins_is 44 rest e ∙ ap (λ (xs : List ℕ). 44 ∷ xs) o.3.whole);
+        read = rw (h.read, e, o.3.read) refl;
+      },
+    )
 
 -- what follows an upper end, with what follows that
 abbrev list_front : List (ℕ × ℕ) → List ℕ → List ℕ

@@ -39,4 +39,5 @@ pub mod EventCases
 pub mod Faults
 pub mod Fits
 pub mod Clean
+pub mod Cuts
 pub mod Pairs

@@ -53,25 +53,31 @@ splits (c ∷ bytes) = by_test (splits bytes) (is_digit c) refl
     by_test : ((ds : List ℕ) × (rest : List ℕ) × SplitsDigits bytes ds rest) → (b : Bool) → is_digit c ≡ b → (ds : List ℕ) × (rest : List ℕ) × SplitsDigits (c ∷ bytes) ds rest
     by_test h true e =
         let s = h.2 in
-        let l : digits_len (c ∷ bytes) ≡ suc (digits_len bytes) = rw e (omega arith) in
-        (c ∷ h.0, h.1, record {
-          whole = ap (λ (xs : List ℕ). c ∷ xs) s.whole;
-          digits = (passes_digit c e, s.digits);
-          stops = s.stops;
-          front = ap (λ n. take n (c ∷ bytes)) l ∙ ap (λ (xs : List ℕ). c ∷ xs) s.front;
-          back = ap (λ n. drop n (c ∷ bytes)) l ∙ s.back;
-          len = l ∙ ap suc s.len;
-        })
+        let l : digits_len (c ∷ bytes) ≡ suc (digits_len bytes) = rw e (omega arith) in (
+          c ∷ h.0,
+          h.1,
+          record {
+            whole = ap (λ (xs : List ℕ). c ∷ xs) s.whole;
+            digits = (passes_digit c e, s.digits);
+            stops = s.stops;
+            front = ap (λ n. take n (c ∷ bytes)) l ∙ ap (λ (xs : List ℕ). c ∷ xs) s.front;
+            back = ap (λ n. drop n (c ∷ bytes)) l ∙ s.back;
+            len = l ∙ ap suc s.len;
+          },
+        )
     by_test h false e =
-        let l : digits_len (c ∷ bytes) ≡ 0 = rw e refl in
-        ([], c ∷ bytes, record {
-          whole = refl;
-          digits = tt;
-          stops = λ d. (let t : true ≡ false = sym (digit_passes c d) ∙ e in cc);
-          front = ap (λ n. take n (c ∷ bytes)) l;
-          back = ap (λ n. drop n (c ∷ bytes)) l;
-          len = l;
-        })
+        let l : digits_len (c ∷ bytes) ≡ 0 = rw e refl in (
+          [],
+          c ∷ bytes,
+          record {
+            whole = refl;
+            digits = tt;
+            stops = λ d. (let t : true ≡ false = sym (digit_passes c d) ∙ e in cc);
+            front = ap (λ n. take n (c ∷ bytes)) l;
+            back = ap (λ n. drop n (c ∷ bytes)) l;
+            len = l;
+          },
+        )
 
 -- digits with no leading zero are the numeral of their value
 abbrev IsNumeral : List ℕ → Type 0
@@ -183,11 +189,15 @@ number_cases bytes = by_digits (splits bytes).0 (splits bytes).1 (splits bytes).
   where
     by_digits : (ds rest : List ℕ) → SplitsDigits bytes ds rest → (b : Bool) → lacks ds ≡ b → HasNumber bytes
     by_digits ds rest s true e = inl (rw (lacks_numeral_is bytes ds rest s ∙ e) refl)
-    by_digits ds rest s false e = inr (value_of ds, rest, record {
-      whole = s.whole ∙ ap (λ (xs : List ℕ). xs ++ rest) (sym (numeral_of_digits ds s.digits (not_lacking ds s.digits e)));
-      stops = s.stops;
-      read = reads bytes ds rest s e;
-    })
+    by_digits ds rest s false e = inr (
+      value_of ds,
+      rest,
+      record {
+        whole = s.whole ∙ ap (λ (xs : List ℕ). xs ++ rest) (sym (numeral_of_digits ds s.digits (not_lacking ds s.digits e)));
+        stops = s.stops;
+        read = reads bytes ds rest s e;
+      },
+    )
 
 front_of : (ds rest : List ℕ) → take (length ds) (ds ++ rest) ≡ ds
 front_of [] rest = refl

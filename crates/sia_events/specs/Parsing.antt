@@ -193,8 +193,8 @@ event_at [] = Err BadEvent
 event_at (letter ∷ bytes) = do
   txn ← number_at bytes
   if letter == 98 then begin_at txn.0 txn.1
-    else if letter == 114 then read_at txn.0 txn.1
-    else if letter == 119 then write_at txn.0 txn.1
-    else if letter == 99 then commit_at txn.0 txn.1
-    else if letter == 97 then abort_at txn.0 txn.1
-    else Err BadEvent
+      else if letter == 114 then read_at txn.0 txn.1
+      else if letter == 119 then write_at txn.0 txn.1
+      else if letter == 99 then commit_at txn.0 txn.1
+      else if letter == 97 then abort_at txn.0 txn.1
+      else Err BadEvent

@@ -37,6 +37,10 @@ impl Found {
     pub(crate) fn finish(self) -> Option<Vec<(Key, Version)>>
         ensures { items_of result ≡ kept self.in_range self.pairs.items }
     {
-        if self.in_range { Some(self.pairs) } else { None }
+        if self.in_range {
+            Some(self.pairs)
+        } else {
+            None
+        }
     }
 }

@@ -1,6 +1,7 @@
 ghost use Rattle.std.specs.Prelude.{◌≡◌, length};
 ghost use Rattle.std.specs.Option.{option_copied};
 ghost use Rattle.sia_events.specs.Places.{at_place};
+ghost use Rattle.sia_events.specs.Refusals.{IsWellFormed};
 
 use crate::event::Event;
 use std::marker::Model;
@@ -24,6 +25,13 @@ impl Model for History {
 }
 
 impl History {
+    pub(crate) fn new(events: Vec<Event>) -> Self
+        requires { IsWellFormed events.items }
+        ensures { result ≡ events.items }
+    {
+        History { events }
+    }
+
     pub fn len(&self) -> u32
         ensures { result ≡ length self.now }
     {

@@ -1,5 +1,5 @@
 //! The events of a text so far, and the judgement of its next token.
-ghost use Rattle.std.specs.Prelude.{◌≡◌, ◌≤◌, ℕ, length, List, [], ◌∷◌, ◌++◌, Ok, false, OnOk, IfOk, IfErr, IfSome, IfNone};
+ghost use Rattle.std.specs.Prelude.{◌≡◌, ◌+◌, ◌≤◌, ℕ, length, List, [], ◌∷◌, ◌++◌, Ok, false, OnOk, IfOk, IfErr, IfSome, IfNone};
 ghost use Rattle.std.specs.List.{AllByRecursion, position_or_len};
 ghost use Rattle.sia_events.specs.declared.event.Event.{Event as AnEvent};
 ghost use Rattle.sia_events.specs.Parsing.{Fails};
@@ -81,6 +81,28 @@ impl Judge {
             rest = after;
         }
         Ok(rest)
+    }
+
+    /// Takes the events of all tokens.
+    pub(crate) fn take_all(&mut self, text: &[u8]) -> Result<(), Refusal>
+        requires { Knows self.old.tables self.old.events.items }
+        ensures taken { OnOk result (JudgedAll self.old.events.items (tokens text.now) self.new.events.items) }
+    {
+        let rest = self.take_closed(text)?;
+        self.take_some(rest)
+    }
+
+    /// The number of the next token.
+    pub(crate) fn next_token(&self) -> u32
+        ensures { length self.now.events.items ≤ 100000 → result ≡ length self.now.events.items + 1 }
+    {
+        self.events.len().min(MAX_EVENTS) as u32 + 1
+    }
+
+    pub(crate) fn finish(self) -> Vec<Event>
+        ensures { result.items ≡ self.events.items }
+    {
+        self.events
     }
 }
 

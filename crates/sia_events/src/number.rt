@@ -19,7 +19,10 @@ fn digits(text: &[u8]) -> (usize, Number)
     let mut len = 0;
     while len < text.len() && text[len].is_ascii_digit() {
         let digit = u64::from(text[len] - b'0');
-        match value.checked_mul(10).and_then(|tens| tens.checked_add(digit)) {
+        match value
+            .checked_mul(10)
+            .and_then(|tens| tens.checked_add(digit))
+        {
             Some(more) => value = more,
             None => fits = false,
         }

@@ -72,10 +72,7 @@ fn add_ended(ended: &mut BTreeSet<TxnId>, event: &Event) -> Result<(), AllocErro
     }
 }
 
-fn add_written(
-    written: &mut BTreeSet<(Key, TxnId)>,
-    event: &Event,
-) -> Result<(), AllocError>
+fn add_written(written: &mut BTreeSet<(Key, TxnId)>, event: &Event) -> Result<(), AllocError>
     ensures { OnOk result ((p : ℕ × ℕ) → contains pair_cmp written.new p ≡ (contains pair_cmp written.old p || writes p event.now)) }
 {
     match event {

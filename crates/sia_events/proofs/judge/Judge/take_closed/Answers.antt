@@ -22,10 +22,10 @@ loop-token-preserved c =
     let after = c.in-Some.after.now in
     let more = closed ++ (token ++ s.separator ∷ []) in
     let whole : c.args.text.now ≡ more ++ after =
-        i.1 ∙ ap (λ (bs : List ℕ). closed ++ bs) (s.whole ∙ sym (append_assoc token (s.separator ∷ []) after)) ∙ sym (append_assoc closed (token ++ s.separator ∷ []) after) in
+    i.1 ∙ ap (λ (bs : List ℕ). closed ++ bs) (s.whole ∙ sym (append_assoc token (s.separator ∷ []) after)) ∙ sym (append_assoc closed (token ++ s.separator ∷ []) after) in
     let all : JudgedAll c.args.self.now.events.items (tokens more) c.take_some.new.self.events.items =
-        subst (λ (ts : List (List ℕ)). JudgedAll c.args.self.now.events.items ts c.take_some.new.self.events.items) (sym (tokens_more closed token s.separator i.2 s.unbroken s.separates))
-        (JudgedAll-append c.args.self.now.events.items c.loop-token.self.events.items c.take_some.new.self.events.items (tokens closed) (as_token token) i.3 c.in_ok-take_some.ensures.taken) in
+    subst (λ (ts : List (List ℕ)). JudgedAll c.args.self.now.events.items ts c.take_some.new.self.events.items) (sym (tokens_more closed token s.separator i.2 s.unbroken s.separates))
+    (JudgedAll-append c.args.self.now.events.items c.loop-token.self.events.items c.take_some.new.self.events.items (tokens closed) (as_token token) i.3 c.in_ok-take_some.ensures.taken) in
     record {
       cut = (more, whole, closes closed token s.separator s.separates, all);
       knows = c.in_ok-take_some.ensures.knows;
