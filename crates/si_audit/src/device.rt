@@ -1,4 +1,4 @@
-ghost use Rattle.std.specs.Prelude.{◌≡◌, ◌↔◌, ◌⊎◌, ℕ, ◌<◌, ◌≤◌, List, length, Bool, ◌||◌, Option, Ok, IfOk, IsErr, IsTrue};
+ghost use Rattle.std.specs.Prelude.{◌≡◌, ◌↔◌, ◌⊎◌, ℕ, ◌<◌, ◌≤◌, List, length, Bool, ◌||◌, Option, Ok, IfOk, OnOk, IsErr, IsTrue, IsFalse};
 ghost use Rattle.std.specs.Io.KnownBytes.{ReadConsumes, WriteAppends, Keeps};
 ghost use Rattle.si_audit.specs.Devices.{device_of, IsSound};
 
@@ -35,6 +35,8 @@ pub trait Sink {
     ghost has_failed: { Self → Bool };
     /// Whether a write has failed, or taken nothing of some bytes.
     ghost has_refused: { Self → Bool };
+    /// Whether a flush has succeeded and no write came after it.
+    ghost is_flushed: { Self → Bool };
     /// A write that was refused is a failure.
     ghost refused_fails: { (s : Self) → IsTrue (has_refused s) → IsTrue (has_failed s) };
 
@@ -45,13 +47,15 @@ pub trait Sink {
         ensures failed { IsTrue (has_failed self.new)
             ↔ (IsTrue (has_failed self.old) ⊎ IsErr result ⊎ ((result ≡ Ok 0) × (0 < length bytes.now))) }
         ensures refused { IsTrue (has_refused self.new)
-            ↔ (IsTrue (has_refused self.old) ⊎ IsErr result ⊎ ((result ≡ Ok 0) × (0 < length bytes.now))) };
+            ↔ (IsTrue (has_refused self.old) ⊎ IsErr result ⊎ ((result ≡ Ok 0) × (0 < length bytes.now))) }
+        ensures unflushed { IsFalse (is_flushed self.new) };
 
     /// Hands on what was taken.
     fn flush(&mut self) -> Result<(), Failed>
         ensures bytes { Keeps (taken self.old) (taken self.new) }
         ensures failed { IsTrue (has_failed self.new) ↔ (IsTrue (has_failed self.old) ⊎ IsErr result) }
-        ensures refused { has_refused self.new ≡ has_refused self.old };
+        ensures refused { has_refused self.new ≡ has_refused self.old }
+        ensures flushed { OnOk result (IsTrue (is_flushed self.new)) };
 
     /// Whether a call has failed, or a write has taken nothing of some bytes. It stays true.
     fn failed(&self) -> bool
@@ -64,6 +68,7 @@ pub struct FromStd<D> {
     device: D,
     refused: bool,
     flush_failed: bool,
+    flushed: bool,
 }
 
 impl<D> FromStd<D> {
@@ -75,7 +80,15 @@ impl<D> FromStd<D> {
             device,
             refused: false,
             flush_failed: false,
+            flushed: false,
         }
+    }
+
+    /// The reader or writer itself.
+    pub fn into_inner(self) -> D
+        ensures { result ≡ device_of self }
+    {
+        self.device
     }
 }
 
@@ -106,11 +119,14 @@ impl<D: Write> Sink for FromStd<D> {
 
     ghost has_refused = { λ s. s.refused };
 
+    ghost is_flushed = { λ s. s.flushed };
+
     ghost use Rattle.si_audit.specs.Devices.{or_first};
 
     ghost refused_fails = { λ s e. or_first s.refused s.flush_failed e };
 
     fn write(&mut self, bytes: &[u8]) -> Result<usize, Failed> {
+        self.flushed = false;
         match self.device.write(bytes) {
             Ok(n) => {
                 if n == 0 && !bytes.is_empty() {
@@ -127,7 +143,10 @@ impl<D: Write> Sink for FromStd<D> {
 
     fn flush(&mut self) -> Result<(), Failed> {
         match self.device.flush() {
-            Ok(()) => Ok(()),
+            Ok(()) => {
+                self.flushed = true;
+                Ok(())
+            }
             Err(_) => {
                 self.flush_failed = true;
                 Err(Failed)

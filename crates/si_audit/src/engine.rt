@@ -1,4 +1,4 @@
-ghost use Rattle.std.specs.Prelude.{◌≡◌, ◌≢◌, ◌↔◌, ℕ, List, ◌++◌, IfOk, IfErr, IfSome, Err, IsTrue, IsFalse};
+ghost use Rattle.std.specs.Prelude.{◌≡◌, ◌≢◌, ◌↔◌, ℕ, List, ◌++◌, IfOk, IfErr, IfSome, OnOk, Err, IsTrue, IsFalse};
 ghost use Rattle.std.specs.Io.KnownBytes.{Appends, Keeps};
 ghost use Rattle.si_audit.specs.Outcomes.{status_of};
 ghost use Rattle.si_audit.specs.Told.{IsTold};
@@ -72,6 +72,7 @@ pub fn run<R: Source, W: Sink>(
     requires writer { IsFalse (W.has_failed writer.old) }
     ensures told { IfOk result (λ outcome. IfSome (R.remaining reader.old) (λ text.
         (bytes : List ℕ) × IsTold text bytes outcome × Appends (W.taken writer.old) (W.taken writer.new) bytes)) }
+    ensures flushed { OnOk result (IsTrue (W.is_flushed writer.new)) }
 
     // Each fault comes exactly where its device failed.
     ensures read { (result ≡ Err RunFault.Read) ↔ IsTrue (R.has_failed reader.new) }

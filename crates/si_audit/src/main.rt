@@ -10,6 +10,8 @@ mod input;
 mod lines;
 mod output;
 mod telling;
+#[cfg(test)]
+mod tests;
 
 use device::FromStd;
 use engine::{RunFault, run, status};

@@ -30,6 +30,7 @@ pub(crate) fn write_whole<W: Sink>(writer: &mut W, bytes: &[u8]) -> Result<(), F
     ensures front { OnErr result ((front : List ℕ) × (rest : List ℕ) × (bytes.now ≡ front ++ rest) × Appends (W.taken writer.old) (W.taken writer.new) front) }
     ensures whole { IsFalse (W.has_refused writer.new) → Appends (W.taken writer.old) (W.taken writer.new) bytes.now }
     ensures failed { IsTrue (W.has_failed writer.new) ↔ IsErr result }
+    ensures flushed { OnOk result (IsTrue (W.is_flushed writer.new)) }
 {
     write_bytes(writer, bytes)?;
     writer.flush()
