@@ -29,3 +29,15 @@ pub mod WorkedReads
 pub mod WorkedEdges
 pub mod WorkedReplay
 pub mod WorkedStarts
+pub mod Digits
+pub mod NumberLaws
+pub mod Tokens
+pub mod Judged
+pub mod EventLaws
+pub mod EventAgain
+pub mod EventCases
+pub mod Faults
+pub mod Fits
+pub mod Clean
+pub mod Cuts
+pub mod Pairs

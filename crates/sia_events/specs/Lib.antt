@@ -3,6 +3,9 @@ pub mod Lists
 pub mod Text
 pub mod Events
 pub mod Refusals
+pub mod Parsing
+pub mod Known
+pub mod Judging
 pub mod Reading
 pub mod Streaming
 pub mod Transactions
