@@ -4,3 +4,4 @@ pub mod OneReport
 pub mod Scanning
 pub mod Found
 pub mod Sets
+pub mod WhatIsTold

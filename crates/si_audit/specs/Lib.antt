@@ -9,3 +9,4 @@ pub mod Devices
 pub mod Input
 pub mod Told
 pub mod Newest
+pub mod ToldOf

@@ -35,6 +35,8 @@ pub trait Sink {
     ghost has_failed: { Self → Bool };
     /// Whether a write has failed, or taken nothing of some bytes.
     ghost has_refused: { Self → Bool };
+    /// A write that was refused is a failure.
+    ghost refused_fails: { (s : Self) → IsTrue (has_refused s) → IsTrue (has_failed s) };
 
     /// Takes some bytes from the front of `bytes`, and answers how many.
     fn write(&mut self, bytes: &[u8]) -> Result<usize, Failed>
@@ -103,6 +105,10 @@ impl<D: Write> Sink for FromStd<D> {
     ghost has_failed = { λ s. s.refused || s.flush_failed };
 
     ghost has_refused = { λ s. s.refused };
+
+    ghost use Rattle.si_audit.specs.Devices.{or_first};
+
+    ghost refused_fails = { λ s e. or_first s.refused s.flush_failed e };
 
     fn write(&mut self, bytes: &[u8]) -> Result<usize, Failed> {
         match self.device.write(bytes) {

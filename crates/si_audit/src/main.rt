@@ -1,4 +1,5 @@
-//! The audit of a history that a multiversion store recorded.
+//! The audit of a history that a multiversion store recorded: it reads the history from standard input and writes the
+//! report to standard output.
 #![tactic(auto)]
 
 mod bad_reads;
@@ -8,11 +9,27 @@ mod engine;
 mod input;
 mod lines;
 mod output;
+mod telling;
 
-use device::{FromStd, Sink, Source};
-use engine::{Outcome, RunFault, status};
+use device::FromStd;
+use engine::{RunFault, run, status};
 use std::process::ExitCode;
 
+/// The word of a fault, as standard error has it.
+fn words_of(fault: RunFault) -> &'static str {
+    match fault {
+        RunFault::Read => "read failed",
+        RunFault::Write => "write failed",
+        RunFault::NoMemory => "no memory",
+    }
+}
+
 fn main(rt: HostRuntime) -> ExitCode {
-    ExitCode::from(status(&Ok(Outcome::Clean)))
+    let mut reader = FromStd::new(rt.stdin());
+    let mut writer = FromStd::new(rt.stdout());
+    let result = run(rt.alloc(), &mut reader, &mut writer);
+    if let Err(fault) = &result {
+        let _ = eprintln!(&rt; "si_audit: {}", words_of(*fault));
+    }
+    ExitCode::from(status(&result))
 }

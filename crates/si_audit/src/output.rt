@@ -6,7 +6,7 @@ use crate::device::{Failed, Sink};
 
 /// Writes all the bytes, in as many writes as the sink wants.
 fn write_bytes<W: Sink>(writer: &mut W, bytes: &[u8]) -> Result<(), Failed>
-    requires sound { IsFalse (W.has_failed writer.old) × IsFalse (W.has_refused writer.old) }
+    requires { IsFalse (W.has_failed writer.old) }
     ensures ok { OnOk result (Appends (W.taken writer.old) (W.taken writer.new) bytes.now) }
     ensures err { OnErr result ((front : List ℕ) × (rest : List ℕ) × (bytes.now ≡ front ++ rest) × Appends (W.taken writer.old) (W.taken writer.new) front) }
     ensures failed { IsTrue (W.has_failed writer.new) ↔ IsErr result }
@@ -25,7 +25,7 @@ fn write_bytes<W: Sink>(writer: &mut W, bytes: &[u8]) -> Result<(), Failed>
 
 /// Writes all the bytes, and flushes once.
 pub(crate) fn write_whole<W: Sink>(writer: &mut W, bytes: &[u8]) -> Result<(), Failed>
-    requires sound { IsFalse (W.has_failed writer.old) × IsFalse (W.has_refused writer.old) }
+    requires { IsFalse (W.has_failed writer.old) }
     ensures ok { OnOk result (Appends (W.taken writer.old) (W.taken writer.new) bytes.now) }
     ensures front { OnErr result ((front : List ℕ) × (rest : List ℕ) × (bytes.now ≡ front ++ rest) × Appends (W.taken writer.old) (W.taken writer.new) front) }
     ensures whole { IsFalse (W.has_refused writer.new) → Appends (W.taken writer.old) (W.taken writer.new) bytes.now }
