@@ -1,4 +1,4 @@
-pub mod Samples
+pub mod WorkedLines
 pub mod CommandLines
 pub mod OneReport
 pub mod Scanning

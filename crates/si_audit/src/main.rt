@@ -7,6 +7,7 @@ mod counts;
 mod device;
 mod engine;
 mod input;
+mod laws;
 mod lines;
 mod output;
 mod telling;
