@@ -43,4 +43,5 @@ pub mod Cuts
 pub mod LeastFaults
 pub mod EventFaults
 pub mod FirstFaults
+pub mod Pieces
 pub mod Pairs

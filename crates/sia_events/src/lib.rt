@@ -8,7 +8,6 @@ mod history;
 mod judge;
 mod laws;
 mod number;
-mod reader;
 mod tables;
 mod token;
 
@@ -19,7 +18,3 @@ pub use laws::{
     accepted_text_has_a_history, canonical_law, named_starts_only_add, one_history, one_refusal,
     unwritten_law,
 };
-pub use reader::read_history;
-
-#[cfg(test)]
-mod tests;
