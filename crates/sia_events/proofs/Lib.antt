@@ -44,4 +44,5 @@ pub mod LeastFaults
 pub mod EventFaults
 pub mod FirstFaults
 pub mod Pieces
+pub mod Progresses
 pub mod Pairs
