@@ -26,16 +26,24 @@ cut_front c text closed rest cut = by_end closed cut cut.closed_ends (is_separat
   where
     by_end : (ended : List ℕ) → IsCutAtLastSeparator text ended rest → IsClosed ended → (b : Bool) → is_separator c ≡ b → (more : List ℕ) × (left : List ℕ) × IsCutAtLastSeparator (c ∷ text) more left
     by_end ended k (inr h) b e = (c ∷ ended, rest, record { whole = ap (λ (xs : List ℕ). c ∷ xs) k.whole; rest_goes_on = k.rest_goes_on; closed_ends = inr (c ∷ h.0, h.1, ap (λ (xs : List ℕ). c ∷ xs) h.2, h.3) })
-    by_end ended k (inl none) true e = (c ∷ [], rest, record {
-      whole = ap (λ (xs : List ℕ). c ∷ xs) (k.whole ∙ ap (λ (xs : List ℕ). xs ++ rest) none);
-      rest_goes_on = k.rest_goes_on;
-      closed_ends = inr ([], c, refl, e);
-    })
-    by_end ended k (inl none) false e = ([], c ∷ rest, record {
-      whole = ap (λ (xs : List ℕ). c ∷ xs) (k.whole ∙ ap (λ (xs : List ℕ). xs ++ rest) none);
-      rest_goes_on = All-cons (λ b. is_separator b ≡ false) c rest e k.rest_goes_on;
-      closed_ends = inl refl;
-    })
+    by_end ended k (inl none) true e = (
+      c ∷ [],
+      rest,
+      record {
+        whole = ap (λ (xs : List ℕ). c ∷ xs) (k.whole ∙ ap (λ (xs : List ℕ). xs ++ rest) none);
+        rest_goes_on = k.rest_goes_on;
+        closed_ends = inr ([], c, refl, e);
+      },
+    )
+    by_end ended k (inl none) false e = (
+      [],
+      c ∷ rest,
+      record {
+        whole = ap (λ (xs : List ℕ). c ∷ xs) (k.whole ∙ ap (λ (xs : List ℕ). xs ++ rest) none);
+        rest_goes_on = All-cons (λ b. is_separator b ≡ false) c rest e k.rest_goes_on;
+        closed_ends = inl refl;
+      },
+    )
 
 pub some_cut : (text : List ℕ) → (closed : List ℕ) × (rest : List ℕ) × IsCutAtLastSeparator text closed rest
 some_cut [] = ([], [], record { whole = refl; rest_goes_on = All-nil (λ b. is_separator b ≡ false); closed_ends = inl refl })
@@ -64,10 +72,14 @@ stops_in events middle all text closed token after s r whole ends unbroken separ
     let done = closed ++ (token ++ s ∷ []) in
     let done_ends = closes closed token s separates in
     let same : text ≡ done ++ after =
-        whole ∙ ap (λ (xs : List ℕ). closed ++ xs) (sym (append_assoc token (s ∷ []) after)) ∙ sym (append_assoc closed (token ++ s ∷ []) after) in
+    whole ∙ ap (λ (xs : List ℕ). closed ++ xs) (sym (append_assoc token (s ∷ []) after)) ∙ sym (append_assoc closed (token ++ s ∷ []) after) in
     let first : IsCutAtLastSeparator done done [] = record { whole = sym (append-nil done); rest_goes_on = All-nil (λ b. is_separator b ≡ false); closed_ends = done_ends } in
     let cut : IsCutAtLastSeparator text (done ++ h.0) h.1 = subst (λ (t : List ℕ). IsCutAtLastSeparator t (done ++ h.0) h.1) (sym same) (cut_then done done [] after h.0 h.1 first h.2) in
     let all_tokens : tokens (done ++ h.0) ≡ (tokens closed ++ as_token token) ++ tokens h.0 =
-        tokens-append done h.0 done_ends ∙ ap (λ (ts : List (List ℕ)). ts ++ tokens h.0) (tokens_more closed token s ends unbroken separates) in
-    (done ++ h.0, h.1, cut, subst (λ ts. StopsAt events ts all r) (sym all_tokens)
-        (StopsAt-more events all (tokens closed ++ as_token token) (tokens h.0) r (StopsAt-after events middle all (tokens closed) (as_token token) r fine stops)))
+    tokens-append done h.0 done_ends ∙ ap (λ (ts : List (List ℕ)). ts ++ tokens h.0) (tokens_more closed token s ends unbroken separates) in (
+      done ++ h.0,
+      h.1,
+      cut,
+      subst (λ ts. StopsAt events ts all r) (sym all_tokens)
+          (StopsAt-more events all (tokens closed ++ as_token token) (tokens h.0) r (StopsAt-after events middle all (tokens closed) (as_token token) r fine stops)),
+    )

@@ -210,8 +210,11 @@ reason_front ts us i r within has = at_number i within has
   where
     at_number : (j : ℕ) → j ≤ length ts → HasReason (ts ++ us) j r → HasReason ts j r
     at_number zero most h = (let is = h.1 in cc)
-    at_number (suc j) most h = (h.0, sym (get_front ts us j (omega arith)) ∙ h.1,
-        token_moved (ts ++ us) ts (suc j) h.0 (λ f. earlier_front ts us (suc j) f most) (λ f. front_earlier ts us (suc j) f most) r h.2)
+    at_number (suc j) most h = (
+      h.0,
+      sym (get_front ts us j (omega arith)) ∙ h.1,
+      token_moved (ts ++ us) ts (suc j) h.0 (λ f. earlier_front ts us (suc j) f most) (λ f. front_earlier ts us (suc j) f most) r h.2,
+    )
 
 front_reason : (ts us : List (List ℕ)) (i : ℕ) (r : Reason) → HasReason ts i r → (i ≤ length ts) × HasReason (ts ++ us) i r
 front_reason ts us i r has = at_number i has
@@ -293,5 +296,5 @@ pub stops_first : (es : List Event) (ts : List (List ℕ)) (all : List Event) (r
 stops_first es ts all r clean s =
     let read = judged_clean es s.before all clean s.fine in
     let whole : map spell es ++ ts ≡ map spell all ++ s.token ∷ s.after =
-        ap (λ (us : List (List ℕ)). map spell es ++ us) s.whole ∙ sym (append_assoc (map spell es) s.before (s.token ∷ s.after)) ∙ ap (λ (us : List (List ℕ)). us ++ s.token ∷ s.after) read.spelled in
+    ap (λ (us : List (List ℕ)). map spell es ++ us) s.whole ∙ sym (append_assoc (map spell es) s.before (s.token ∷ s.after)) ∙ ap (λ (us : List (List ℕ)). us ++ s.token ∷ s.after) read.spelled in
     subst (λ us. IsFirstFault us (suc (length all)) r) (sym whole) (next_first all s.token s.after r read.clean (judged_err all s.token r s.refused))

@@ -1,6 +1,6 @@
 -- What a reader keeps stands for a text: as it opens, after one more piece, and as it ends.
 use Rattle.std.proofs.Common.{◌≡◌, inl, ℕ, zero, suc, ◌+◌, ◌<◌, ◌≤◌, Bool, true, false, List, [], ◌∷◌, ◌++◌, map, length, All, Option, Some, None, refl, ap, sym, subst, ◌∙◌, append_assoc, arith}
-use Rattle.std.specs.Prelude.{min, IsNone}
+use Rattle.std.specs.Prelude.{min, is_some, IsNone}
 use Rattle.std.proofs.lemmas.List.{length-append}
 use Rattle.std.proofs.lemmas.List.Elements.{All-nil}
 use Rattle.sia_events.specs.declared.event.Event.{Event}
@@ -24,6 +24,14 @@ opened_stands = record {
   counted = refl;
   judged = λ short. ([], [], record { whole = refl; rest_goes_on = All-nil (λ c. is_separator c ≡ false); closed_ends = inl refl }, (clean_no_reason [] clean_none, refl), λ none. refl);
 }
+
+pub none_is : (fault : Option (ℕ × Reason)) → is_some fault ≡ false → fault ≡ None
+none_is None e = refl
+none_is (Some f) e = cc
+
+-- the events before a refused token are clean
+pub stops_clean : (events all : List Event) (ts : List (List ℕ)) (r : Reason) → IsClean events → StopsAt events ts all r → IsClean all
+stops_clean events all ts r clean stops = (judged_clean events stops.before all clean stops.fine).clean
 
 -- ---- one more piece
 
@@ -74,6 +82,11 @@ module _ (text piece : List ℕ) (count more : ℕ) (counts : more ≡ min (coun
         let all_tokens : tokens j.0 ++ tokens h.0 ≡ tokens (j.0 ++ h.0) = sym (tokens_then j.0 h.0 j.2.closed_ends) in
         (j.0 ++ h.0, h.1, cut_then text j.0 j.1 piece h.0 h.1 j.2 h.2, subst (λ ts. IsFirstFault ts i r) all_tokens (first_fault_kept (tokens j.0) (tokens h.0) i r j.3), λ none. absurd cc);
   }
+
+  pub stands_decided : (fault : Option (ℕ × Reason)) (events : List Event) (unfinished : List ℕ) (lost : Bool) → is_some fault ≡ true → StandsForRead (record { count = count; fault = fault; events = events; unfinished = unfinished; lost = lost }) text
+      → StandsForRead (record { count = more; fault = fault; events = events; unfinished = unfinished; lost = lost }) (text ++ piece)
+  stands_decided None events unfinished lost some stands = absurd cc
+  stands_decided (Some f) events unfinished lost some stands = stands_kept events unfinished lost lost f.0 f.1 stands
 
   -- the text is too long
   pub stands_long : (fault now : Option (ℕ × Reason)) (events all : List Event) (unfinished kept : List ℕ) (lost after : Bool) → 16777216 < more → StandsForRead (record { count = count; fault = fault; events = events; unfinished = unfinished; lost = lost }) text
@@ -137,5 +150,5 @@ pub text_history : (count : ℕ) (events all : List Event) (unfinished : List �
 text_history count events all unfinished h few fine =
     let c = h.counted in
     let whole : JudgedAll [] (tokens h.text) all =
-        subst (λ ts. JudgedAll [] ts all) (sym (tokens_cut h.text h.closed unfinished h.cut)) (JudgedAll-append [] events all (tokens h.closed) (as_token unfinished) h.fine fine) in
+    subst (λ ts. JudgedAll [] ts all) (sym (tokens_cut h.text h.closed unfinished h.cut)) (JudgedAll-append [] events all (tokens h.closed) (as_token unfinished) h.fine fine) in
     (read_as h.text all (omega arith) whole).well_formed

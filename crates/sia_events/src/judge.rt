@@ -105,7 +105,11 @@ impl Judge {
 
     /// Takes the events of all tokens of the unfinished bytes and the piece that a separator follows, and leaves as
     /// unfinished what comes after the last separator.
-    pub(crate) fn take_piece(&mut self, unfinished: &mut Vec<u8>, piece: &[u8]) -> Result<(), Refusal>
+    pub(crate) fn take_piece(
+        &mut self,
+        unfinished: &mut Vec<u8>,
+        piece: &[u8],
+    ) -> Result<(), Refusal>
         requires knows { Knows self.old.tables self.old.events.items }
         requires unbroken { All (λ c. is_separator c ≡ false) unfinished.old.items }
         ensures taken { OnOk result ((closed : List ℕ) × IsCutAtLastSeparator (unfinished.old.items ++ piece.now) closed unfinished.new.items × JudgedAll self.old.events.items (tokens closed) self.new.events.items) }

@@ -44,4 +44,4 @@ returns-in_err-take_some-clause-refused c =
     let i = c.loop-token.invariant.cut in
     let s = c.in-Some.ensures.some in
     rw (p.1, p.2) (halts_in c.in_err-take_some.field-0.0 c.args.self.now.events.items c.loop-token.self.events.items c.take_some.new.self.events.items c.args.text.now i.0 c.in-Some.token.now c.in-Some.after.now s.separator
-        (i.1 ∙ ap (λ (bs : List ℕ). i.0 ++ bs) s.whole) i.2 s.unbroken s.separates i.3 c.in_err-take_some.ensures.refused)
+    (i.1 ∙ ap (λ (bs : List ℕ). i.0 ++ bs) s.whole) i.2 s.unbroken s.separates i.3 c.in_err-take_some.ensures.refused)
