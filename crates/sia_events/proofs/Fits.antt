@@ -20,7 +20,7 @@ record IsOwnFit (n : ℕ) (Earlier : Event → Type 0) (e : Event) : Type 0 wher
   written : (k v : ℕ) → Saw e k v → v ≢ 0 → Earlier (Write v k)
   start_there : (start : ℕ) → named_start e ≡ Some start → start ≤ n
 
-none_acts : (events : List Event) (t : ℕ) → list_any (acts t) events ≡ false → (f : Event) → IsAmong events f → actor f ≢ t
+pub none_acts : (events : List Event) (t : ℕ) → list_any (acts t) events ≡ false → (f : Event) → IsAmong events f → actor f ≢ t
 none_acts events t none f among same = true_false (list_any (acts t) events) (among_any (acts t) events f among (subst (λ u. (t == u) ≡ true) (sym same) (same_true t))) none
 
 own_fit : (events : List Event) (n : ℕ) (e : Event) → own_fault events n e ≡ None → IsOwnFit n (IsAmong events) e
@@ -89,7 +89,7 @@ own_fit events n (Abort t) p = record {
   start_there = λ start is. absurd cc;
 }
 
-none_ends : (events : List Event) (t : ℕ) → list_any (ends t) events ≡ false → ¬ IsAmong events (Commit t) × ¬ IsAmong events (Abort t)
+pub none_ends : (events : List Event) (t : ℕ) → list_any (ends t) events ≡ false → ¬ IsAmong events (Commit t) × ¬ IsAmong events (Abort t)
 none_ends events t none = (
   λ among. true_false (list_any (ends t) events) (among_any (ends t) events (Commit t) among (same_true t)) none,
   λ among. true_false (list_any (ends t) events) (among_any (ends t) events (Abort t) among (same_true t)) none,

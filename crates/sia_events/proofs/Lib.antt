@@ -40,4 +40,9 @@ pub mod Faults
 pub mod Fits
 pub mod Clean
 pub mod Cuts
+pub mod LeastFaults
+pub mod EventFaults
+pub mod FirstFaults
+pub mod Pieces
+pub mod Progresses
 pub mod Pairs

@@ -38,7 +38,7 @@ token_event h i e r few has = moved (i - 1) (IsBefore h i) (IsEarlier (map spell
     of_reason BadStart t = same BadStart t.0 t.2 t.3
 
 -- what has a reason spells an event, which has it
-place_event : (h : List Event) (i : ℕ) (r : Reason) → i ≢ 100001 → HasReason (map spell h) i r → (e : Event) × (at_place h i ≡ Some e) × EventHas (i - 1) (IsBefore h i) e r
+pub place_event : (h : List Event) (i : ℕ) (r : Reason) → i ≢ 100001 → HasReason (map spell h) i r → (e : Event) × (at_place h i ≡ Some e) × EventHas (i - 1) (IsBefore h i) e r
 place_event h i r few has = of_place (at_place h i) refl
   where
     of_place : (o : Option Event) → at_place h i ≡ o → (e : Event) × (at_place h i ≡ Some e) × EventHas (i - 1) (IsBefore h i) e r
@@ -106,7 +106,7 @@ pub record IsFit (n : ℕ) (Earlier : Event → Type 0) (e : Event) : Type 0 whe
   pub written : (k v : ℕ) → Saw e k v → v ≢ 0 → Earlier (Write v k)
   pub start_there : (start : ℕ) → named_start e ≡ Some start → start ≤ n
 
-fit_has_none : (n : ℕ) (Earlier : Event → Type 0) (e : Event) → IsFit n Earlier e → (r : Reason) → ¬ EventHas n Earlier e r
+pub fit_has_none : (n : ℕ) (Earlier : Event → Type 0) (e : Event) → IsFit n Earlier e → (r : Reason) → ¬ EventHas n Earlier e r
 fit_has_none n Earlier e f TooManyEvents has = has
 fit_has_none n Earlier e f BadEvent has = has
 fit_has_none n Earlier e f BadNumber has = has f.in_range

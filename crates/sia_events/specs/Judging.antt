@@ -4,7 +4,10 @@ use Rattle.std.specs.List.{AllByRecursion}
 use Rattle.sia_events.specs.declared.event.Event.{Event}
 use Rattle.sia_events.specs.declared.fault.Reason.{Reason}
 use Rattle.sia_events.specs.declared.fault.Reason.TheVariants.{TooManyEvents}
-use Rattle.sia_events.specs.Text.{is_separator}
+use Rattle.sia_events.specs.declared.fault.Refusal.{Refusal}
+use Rattle.sia_events.specs.declared.fault.Refusal.TheVariants as refusals
+use Rattle.sia_events.specs.Text.{is_separator, tokens}
+use Rattle.sia_events.specs.Streaming.{IsCutAtLastSeparator}
 use Rattle.sia_events.specs.Parsing.{◌>>=◌, event_at}
 use Rattle.sia_events.specs.Known.{fault_of}
 
@@ -42,3 +45,21 @@ pub record StopsAt (events : List Event) (tokens : List (List ℕ)) (all : List 
   pub whole : tokens ≡ before ++ token ∷ after
   pub fine : JudgedAll events before all
   pub refused : judged all token ≡ Err reason
+
+-- what a refusal at one of the tokens says: for want of memory nothing
+abbrev pub Halts : Refusal → List Event → List (List ℕ) → List Event → Type 0
+Halts refusals.NoMemory events tokens all = Unit {0}
+Halts (refusals.Bad reason) events tokens all = StopsAt events tokens all reason
+
+-- the same of the tokens of a text that a separator follows
+abbrev pub HaltsIn : Refusal → List Event → List ℕ → List Event → Type 0
+HaltsIn refusals.NoMemory events text all = Unit {0}
+HaltsIn (refusals.Bad reason) events text all = (closed : List ℕ) × (rest : List ℕ) × IsCutAtLastSeparator text closed rest × StopsAt events (tokens closed) all reason
+
+-- a text of so many bytes, whose tokens up to its last separator are judged to the events, and which the unfinished bytes end
+pub record HasText (count : ℕ) (events : List Event) (unfinished : List ℕ) : Type 0 where
+  pub text : List ℕ
+  pub closed : List ℕ
+  pub counted : length text ≡ count
+  pub cut : IsCutAtLastSeparator text closed unfinished
+  pub fine : JudgedAll [] (tokens closed) events

@@ -5,9 +5,9 @@ pub mod Events
 pub mod Refusals
 pub mod Parsing
 pub mod Known
-pub mod Judging
 pub mod Reading
 pub mod Streaming
+pub mod Judging
 pub mod Transactions
 pub mod Reads
 pub mod Isolation

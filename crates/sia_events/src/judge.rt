@@ -1,10 +1,10 @@
 //! The events of a text so far, and the judgement of its next token.
-ghost use Rattle.std.specs.Prelude.{◌≡◌, ◌+◌, ◌≤◌, ℕ, length, List, [], ◌∷◌, ◌++◌, Ok, false, OnOk, IfOk, IfErr, IfSome, IfNone};
+ghost use Rattle.std.specs.Prelude.{◌≡◌, ◌+◌, ◌≤◌, ℕ, length, List, [], ◌∷◌, ◌++◌, Ok, false, All, OnOk, OnErr, IfOk, IfErr, IfSome, IfNone};
 ghost use Rattle.std.specs.List.{AllByRecursion, position_or_len};
 ghost use Rattle.sia_events.specs.declared.event.Event.{Event as AnEvent};
 ghost use Rattle.sia_events.specs.Parsing.{Fails};
 ghost use Rattle.sia_events.specs.Known.{Knows};
-ghost use Rattle.sia_events.specs.Judging.{judged, JudgedAll, as_token, IsSplitAfter};
+ghost use Rattle.sia_events.specs.Judging.{judged, JudgedAll, Halts, HaltsIn, as_token, IsSplitAfter};
 ghost use Rattle.sia_events.specs.Text.{is_separator, tokens};
 ghost use Rattle.sia_events.specs.Streaming.{IsCutAtLastSeparator};
 
@@ -43,6 +43,7 @@ impl Judge {
         ensures taken { OnOk result ((e : AnEvent) × (judged self.old.events.items token.now ≡ Ok e) × (self.new.events.items ≡ self.old.events.items ++ e ∷ [])) }
         ensures knows { OnOk result (Knows self.new.tables self.new.events.items) }
         ensures refused { IfErr result (λ fault. Fails fault (judged self.old.events.items token.now)) }
+        ensures kept { OnErr result (self.new.events.items ≡ self.old.events.items) }
     {
         if self.events.len() == MAX_EVENTS {
             return Err(Refusal::Bad(Reason::TooManyEvents));
@@ -62,6 +63,7 @@ impl Judge {
         requires { Knows self.old.tables self.old.events.items }
         ensures taken { OnOk result (JudgedAll self.old.events.items (as_token token.now) self.new.events.items) }
         ensures knows { OnOk result (Knows self.new.tables self.new.events.items) }
+        ensures refused { IfErr result (λ fault. Halts fault self.old.events.items (as_token token.now) self.new.events.items) }
     {
         if token.is_empty() {
             return Ok(());
@@ -74,6 +76,7 @@ impl Judge {
         requires { Knows self.old.tables self.old.events.items }
         ensures taken { IfOk result (λ rest. (closed : List ℕ) × IsCutAtLastSeparator text.now closed rest.now × JudgedAll self.old.events.items (tokens closed) self.new.events.items) }
         ensures knows { OnOk result (Knows self.new.tables self.new.events.items) }
+        ensures refused { IfErr result (λ fault. HaltsIn fault self.old.events.items text.now self.new.events.items) }
     {
         let mut rest = text;
         while let Some((token, after)) = split_token(rest) {
@@ -83,13 +86,44 @@ impl Judge {
         Ok(rest)
     }
 
-    /// Takes the events of all tokens.
-    pub(crate) fn take_all(&mut self, text: &[u8]) -> Result<(), Refusal>
+    /// Takes the event of the token that the unfinished bytes and these make, if there is one.
+    fn take_joined(&mut self, unfinished: &mut Vec<u8>, front: &[u8]) -> Result<(), Refusal>
         requires { Knows self.old.tables self.old.events.items }
-        ensures taken { OnOk result (JudgedAll self.old.events.items (tokens text.now) self.new.events.items) }
+        ensures taken { OnOk result (JudgedAll self.old.events.items (as_token (unfinished.old.items ++ front.now)) self.new.events.items) }
+        ensures knows { OnOk result (Knows self.new.tables self.new.events.items) }
+        ensures cleared { OnOk result (unfinished.new.items ≡ []) }
+        ensures refused { IfErr result (λ fault. Halts fault self.old.events.items (as_token (unfinished.old.items ++ front.now)) self.new.events.items) }
     {
-        let rest = self.take_closed(text)?;
-        self.take_some(rest)
+        if unfinished.is_empty() {
+            return self.take_some(front);
+        }
+        unfinished.extend_from_slice(front)?;
+        self.take_some(unfinished)?;
+        unfinished.clear();
+        Ok(())
+    }
+
+    /// Takes the events of all tokens of the unfinished bytes and the piece that a separator follows, and leaves as
+    /// unfinished what comes after the last separator.
+    pub(crate) fn take_piece(
+        &mut self,
+        unfinished: &mut Vec<u8>,
+        piece: &[u8],
+    ) -> Result<(), Refusal>
+        requires knows { Knows self.old.tables self.old.events.items }
+        requires unbroken { All (λ c. is_separator c ≡ false) unfinished.old.items }
+        ensures taken { OnOk result ((closed : List ℕ) × IsCutAtLastSeparator (unfinished.old.items ++ piece.now) closed unfinished.new.items × JudgedAll self.old.events.items (tokens closed) self.new.events.items) }
+        ensures knows { OnOk result (Knows self.new.tables self.new.events.items) }
+        ensures refused { IfErr result (λ fault. HaltsIn fault self.old.events.items (unfinished.old.items ++ piece.now) self.new.events.items) }
+    {
+        let Some((front, after)) = split_token(piece) else {
+            unfinished.extend_from_slice(piece)?;
+            return Ok(());
+        };
+        self.take_joined(unfinished, front)?;
+        let rest = self.take_closed(after)?;
+        unfinished.extend_from_slice(rest)?;
+        Ok(())
     }
 
     /// The number of the next token.

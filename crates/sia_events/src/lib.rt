@@ -19,7 +19,7 @@ pub use laws::{
     accepted_text_has_a_history, canonical_law, named_starts_only_add, one_history, one_refusal,
     unwritten_law,
 };
-pub use reader::read_history;
+pub use reader::{TextReader, read_history};
 
 #[cfg(test)]
 mod tests;

@@ -4,6 +4,8 @@ use Rattle.std.proofs.lemmas.List.Elements.{All-from_recursion}
 use Rattle.sia_events.specs.Text.{is_separator, tokens}
 use Rattle.sia_events.specs.Judging.{JudgedAll, as_token}
 use Rattle.sia_events.proofs.Tokens.{closes, tokens_more}
+use Rattle.std.proofs.lemmas.Result.{err_from_is_err_and}
+use Rattle.sia_events.proofs.Pieces.{halts_in}
 use Rattle.sia_events.proofs.Judged.{JudgedAll-append, JudgedAll-none}
 use Rattle.sia_events.proofs.judge.Judge.take_closed.Goals as goal
 
@@ -35,3 +37,11 @@ pub returns-clause-taken : goal.returns-clause-taken
 returns-clause-taken c =
     let i = c.loop-token.invariant.cut in
     (i.0, record { whole = i.1; rest_goes_on = All-from_recursion (λ b. is_separator b ≡ false) c.loop-token.rest.now c.in_default.ensures.none; closed_ends = i.2 }, i.3)
+
+pub returns-in_err-take_some-clause-refused : goal.returns-in_err-take_some-clause-refused
+returns-in_err-take_some-clause-refused c =
+    let p = err_from_is_err_and c.from_residual.result c.from_residual.ensures.1 in
+    let i = c.loop-token.invariant.cut in
+    let s = c.in-Some.ensures.some in
+    rw (p.1, p.2) (halts_in c.in_err-take_some.field-0.0 c.args.self.now.events.items c.loop-token.self.events.items c.take_some.new.self.events.items c.args.text.now i.0 c.in-Some.token.now c.in-Some.after.now s.separator
+    (i.1 ∙ ap (λ (bs : List ℕ). i.0 ++ bs) s.whole) i.2 s.unbroken s.separates i.3 c.in_err-take_some.ensures.refused)
