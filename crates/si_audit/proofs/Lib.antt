@@ -5,3 +5,4 @@ pub mod Scanning
 pub mod Found
 pub mod Sets
 pub mod WhatIsTold
+pub mod ReadSoFar

@@ -1,43 +1,25 @@
--- What is told of what was read is told of the text.
-use Rattle.std.proofs.Common.{◌≡◌, inl, inr, ℕ, List, ◌++◌, Option, Some, None, IfSome, subst, arith}
+-- What is told of the bytes that a source had.
+use Rattle.std.proofs.Common.{◌≡◌, ℕ, List, ◌++◌, Option, Some, None, IfSome, subst}
 use Rattle.std.specs.Io.KnownBytes.{Appends}
-use Rattle.sia_events.specs.Refusals.{AnyForm}
-use Rattle.sia_events.proofs.WellFormed.{accepted_short}
+use Rattle.sia_events.specs.Streaming.{Progress, StandsForRead}
 use Rattle.si_audit.specs.declared.engine.Outcome.{Outcome}
-use Rattle.si_audit.specs.Input.{IsReadFrom}
 use Rattle.si_audit.specs.Told.{IsTold}
 
-told_read : (read text bytes : List ℕ) (outcome : Outcome) → IsReadFrom read text → IsTold read bytes outcome → IsTold text bytes outcome
-told_read read text bytes outcome (inl whole) told = subst (λ t. IsTold t bytes outcome) whole told
-told_read read text bytes outcome (inr front) (inl refused) = inl refused
-told_read read text bytes outcome (inr front) (inr history) =
-    let short = accepted_short AnyForm read history.3 in
-    absurd (let long = front.2 in omega arith)
+-- a fact of each text that a reader stands for, of the text that the source had
+pub of_source : (P : List ℕ → Type 0) (remaining : Option (List ℕ)) (r : Progress) → IfSome remaining (StandsForRead r) → ((text : List ℕ) → StandsForRead r text → P text) → IfSome remaining P
+of_source P None r stands f = tt
+of_source P (Some text) r stands f = f text stands
 
-module _ (remaining taken now : Option (List ℕ)) (read : List ℕ) (read_from : IfSome remaining (IsReadFrom read)) where
+module _ (taken now : Option (List ℕ)) (text : List ℕ) (bytes : List ℕ) (outcome : Outcome) (told : IsTold text bytes outcome) where
   -- all of it was written
-  pub told_all : (bytes : List ℕ) (outcome : Outcome) → IsTold read bytes outcome → Appends taken now bytes
-      → IfSome remaining (λ text. (bs : List ℕ) × IsTold text bs outcome × Appends taken now bs)
-  told_all bytes outcome told wrote = by_text remaining read_from
-    where
-      by_text : (r : Option (List ℕ)) → IfSome r (IsReadFrom read) → IfSome r (λ text. (bs : List ℕ) × IsTold text bs outcome × Appends taken now bs)
-      by_text None from = tt
-      by_text (Some text) from = (bytes, told_read read text bytes outcome from told, wrote)
+  pub told_all : Appends taken now bytes → (bs : List ℕ) × IsTold text bs outcome × Appends taken now bs
+  told_all wrote = (bytes, told, wrote)
 
   -- all of it was written, and a flush failed
-  pub told_whole : (bytes : List ℕ) (outcome : Outcome) → IsTold read bytes outcome → Appends taken now bytes
-      → IfSome remaining (λ text. (o : Outcome) × (bs : List ℕ) × IsTold text bs o × Appends taken now bs)
-  told_whole bytes outcome told wrote = by_text remaining read_from
-    where
-      by_text : (r : Option (List ℕ)) → IfSome r (IsReadFrom read) → IfSome r (λ text. (o : Outcome) × (bs : List ℕ) × IsTold text bs o × Appends taken now bs)
-      by_text None from = tt
-      by_text (Some text) from = (outcome, bytes, told_read read text bytes outcome from told, wrote)
+  pub told_whole : Appends taken now bytes → (o : Outcome) × (bs : List ℕ) × IsTold text bs o × Appends taken now bs
+  told_whole wrote = (outcome, bytes, told, wrote)
 
   -- a front of it was written
-  pub told_front : (bytes front rest : List ℕ) (outcome : Outcome) → IsTold read bytes outcome → bytes ≡ front ++ rest → Appends taken now front
-      → IfSome remaining (λ text. (o : Outcome) × (bs : List ℕ) × (more : List ℕ) × IsTold text (bs ++ more) o × Appends taken now bs)
-  told_front bytes front rest outcome told split wrote = by_text remaining read_from
-    where
-      by_text : (r : Option (List ℕ)) → IfSome r (IsReadFrom read) → IfSome r (λ text. (o : Outcome) × (bs : List ℕ) × (more : List ℕ) × IsTold text (bs ++ more) o × Appends taken now bs)
-      by_text None from = tt
-      by_text (Some text) from = (outcome, front, rest, subst (λ b. IsTold text b outcome) split (told_read read text bytes outcome from told), wrote)
+  pub told_front : (front rest : List ℕ) → bytes ≡ front ++ rest → Appends taken now front
+      → (o : Outcome) × (bs : List ℕ) × (more : List ℕ) × IsTold text (bs ++ more) o × Appends taken now bs
+  told_front front rest split wrote = (outcome, front, rest, subst (λ b. IsTold text b outcome) split told, wrote)

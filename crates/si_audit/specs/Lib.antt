@@ -6,7 +6,6 @@ pub mod Lines
 pub mod Report
 pub mod Outcomes
 pub mod Devices
-pub mod Input
 pub mod Told
 pub mod Newest
 pub mod ToldOf

@@ -1,10 +1,9 @@
 -- What is told of a history so far: the counts, exactly, and some of its bad reads.
-use Rattle.std.specs.Prelude.{◌≡◌, ◌≢◌, ◌⊎◌, ℕ, if◌then◌else◌, List, ◌++◌, flat_map, All, AllPairs, length}
+use Rattle.std.specs.Prelude.{◌≡◌, ◌⊎◌, ℕ, if◌then◌else◌, List, ◌++◌, flat_map, All, AllPairs, length}
 use Rattle.sia_events.specs.declared.event.Event.{Event}
 use Rattle.sia_events.specs.declared.fault.TextFault.{TextFault}
-use Rattle.sia_events.specs.declared.fault.TextFault.TheVariants.{NoMemory}
 use Rattle.sia_events.specs.Text.{StandsFor}
-use Rattle.sia_events.specs.Refusals.{IsAccepted}
+use Rattle.sia_events.specs.Refusals.{IsRefusal, IsAccepted}
 use Rattle.sia_events.specs.Lists.{Precedes, CountsAll}
 use Rattle.sia_events.specs.Transactions.{IsCommitted, IsAborted, IsOpen}
 use Rattle.sia_events.specs.Isolation.{IsBadRead}
@@ -35,10 +34,10 @@ told_text n found = events_line n.events n.committed n.aborted n.unfinished ++ i
 abbrev pub told_outcome : List BadRead → Outcome
 told_outcome found = if is_empty found then Clean else Faulty
 
--- what is told so far of a text, and the outcome that goes with it: the line of some refusal, or the lines of the history
--- that an accepted text stands for
+-- what is told so far of a text, and the outcome that goes with it: the line of a refused text's refusal, or the lines of the
+-- history that an accepted text stands for
 abbrev pub IsTold : List ℕ → List ℕ → Outcome → Type 0
 IsTold text bytes outcome =
-    ((fault : TextFault) × (fault ≢ NoMemory) × (bytes ≡ refusal_line fault) × (outcome ≡ Refused))
+    ((fault : TextFault) × IsRefusal text fault × (bytes ≡ refusal_line fault) × (outcome ≡ Refused))
     ⊎ ((h : List Event) × (n : Counts) × (found : List BadRead) × IsAccepted text × StandsFor text h
     × AreCounts h n × AreBadReads h found × (bytes ≡ told_text n found) × (outcome ≡ told_outcome found))

@@ -88,7 +88,7 @@ pub fn run<R: Source, W: Sink>(
         × Appends (W.taken writer.old) (W.taken writer.new) bytes) }
 {
     let text = read_text(alloc, reader)?;
-    let told = tell(alloc, text.as_slice())?;
+    let told = tell(alloc, text)?;
     match write_whole(writer, told.bytes.as_slice()) {
         Ok(()) => Ok(told.outcome),
         Err(Failed) => Err(RunFault::Write),

@@ -1,5 +1,6 @@
 // What is told of a text.
-ghost use Rattle.std.specs.Prelude.{◌≡◌, ◌++◌, flat_map, OnOk, IfOk};
+ghost use Rattle.std.specs.Prelude.{◌≡◌, ℕ, List, ◌++◌, flat_map, OnOk, IfOk};
+ghost use Rattle.sia_events.specs.Streaming.{StandsForRead};
 ghost use Rattle.si_audit.specs.Lines.{refusal_line, bad_read_line};
 ghost use Rattle.si_audit.specs.Told.{told_text, told_outcome, IsTold};
 ghost use Rattle.si_audit.specs.ToldOf.{IsToldOf};
@@ -8,7 +9,7 @@ use crate::bad_reads::bad_reads;
 use crate::counts::{Counts, counted};
 use crate::engine::Outcome;
 use crate::lines::{push_bad_read, push_events, push_isolation, push_refusal};
-use sia_events::{History, NoMemory, TextFault, read_history};
+use sia_events::{History, NoMemory, TextFault, TextReader};
 use sia_parts::BadRead;
 use std::alloc::{AllocError, Global};
 
@@ -73,11 +74,11 @@ fn told_of_refusal(alloc: Global, fault: &TextFault) -> Result<Told, NoMemory>
     })
 }
 
-/// What is told of a text.
-pub(crate) fn tell(alloc: Global, text: &[u8]) -> Result<Told, NoMemory>
-    ensures { IfOk result (λ t. IsTold text.now t.bytes.items t.outcome) }
+/// What is told of the text that was read.
+pub(crate) fn tell(alloc: Global, text: TextReader) -> Result<Told, NoMemory>
+    ensures { (bytes : List ℕ) → StandsForRead text bytes → IfOk result (λ t. IsTold bytes t.bytes.items t.outcome) }
 {
-    match read_history(alloc, text) {
+    match text.finish() {
         Ok(h) => told_of_history(alloc, &h),
         Err(TextFault::NoMemory) => Err(NoMemory),
         Err(fault) => told_of_refusal(alloc, &fault),
