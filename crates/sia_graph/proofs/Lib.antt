@@ -12,3 +12,5 @@ pub mod Serial
 pub mod Found
 pub mod ReplayLaw
 pub mod SsiLaw
+pub mod Positions
+pub mod Fronts

@@ -1,0 +1,44 @@
+-- What holds while an order is made one transaction at a time: what the front of an order keeps, and how many edges lead to
+-- each transaction from outside the front.
+use Rattle.std.specs.Prelude.{◌≡◌, ◌⊎◌, ℕ, ◌<◌, ◌==◌, ◌&&◌, ◌||◌, Bool, false, not, List, [], ◌∷◌, slice_get, slice_index, length, count_by, Contains, Some, ⊤}
+use Rattle.sia_parts.specs.declared.finding.Edge.{Edge}
+use Rattle.sia_graph.specs.Orders.{Leads, IsKeepingOrder}
+
+-- t is in the list
+abbrev pub stands : List ℕ → ℕ → Bool
+stands [] t = false
+stands (x ∷ xs) t = x == t || stands xs t
+
+-- xs is before ys, or ys goes on from xs
+abbrev pub IsNoLater : List ℕ → List ℕ → Type 0
+IsNoLater [] ys = ⊤
+IsNoLater (x ∷ xs) [] = ⊥
+IsNoLater (x ∷ xs) (y ∷ ys) = (x < y) ⊎ ((x ≡ y) × IsNoLater xs ys)
+
+-- members, each once; whoever has an edge to one of them stands before it; and no order that keeps every edge is before them
+pub record IsFront (IsMember : ℕ → Type 0) (IsEdge : Edge → Type 0) (front : List ℕ) : Type 0 where
+  pub members : (t i : ℕ) → slice_get front i ≡ Some t → IsMember t
+  pub once : (t i j : ℕ) → slice_get front i ≡ Some t → slice_get front j ≡ Some t → i ≡ j
+  pub closed : (s t i : ℕ) → Leads IsEdge s t → slice_get front i ≡ Some t → (j : ℕ) × (j < i) × (slice_get front j ≡ Some s)
+  pub no_later : (order : List ℕ) → IsKeepingOrder IsMember IsEdge order → IsNoLater front order
+
+-- the edge leads to t
+abbrev pub leads_to : ℕ → Edge → Bool
+leads_to t e = e.dst == t
+
+-- how many edges lead to t
+abbrev pub arriving : List Edge → ℕ → ℕ
+arriving edges t = count_by (leads_to t) edges
+
+-- the edge leads to t from outside the front
+abbrev pub holds_back : List ℕ → ℕ → Edge → Bool
+holds_back front t e = not (stands front e.src) && e.dst == t
+
+-- how many edges lead to t from outside the front
+abbrev pub waiting : List ℕ → List Edge → ℕ → ℕ
+waiting front edges t = count_by (holds_back front t) edges
+
+-- the counts, one for each of ids
+abbrev pub AreWaiting : List ℕ → List ℕ → List Edge → List ℕ → Type 0
+AreWaiting front ids edges counts = (length counts ≡ length ids)
+    × ((i : ℕ) → i < length ids → slice_index counts i ≡ waiting front edges (slice_index ids i))
