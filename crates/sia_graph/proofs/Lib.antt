@@ -14,3 +14,4 @@ pub mod ReplayLaw
 pub mod SsiLaw
 pub mod Positions
 pub mod Fronts
+pub mod Waiting

@@ -1,6 +1,6 @@
 -- What holds while an order is made one transaction at a time: what the front of an order keeps, and how many edges lead to
 -- each transaction from outside the front.
-use Rattle.std.specs.Prelude.{◌≡◌, ◌⊎◌, ℕ, ◌<◌, ◌==◌, ◌&&◌, ◌||◌, Bool, false, not, List, [], ◌∷◌, slice_get, slice_index, length, count_by, Contains, Some, ⊤}
+use Rattle.std.specs.Prelude.{◌≡◌, ◌⊎◌, ℕ, ◌<◌, ◌==◌, ◌&&◌, ◌||◌, Bool, false, not, List, [], ◌∷◌, ◌++◌, All, slice_get, slice_index, length, count_by, Contains, Some, ⊤}
 use Rattle.sia_parts.specs.declared.finding.Edge.{Edge}
 use Rattle.sia_graph.specs.Orders.{Leads, IsKeepingOrder}
 
@@ -42,3 +42,16 @@ waiting front edges t = count_by (holds_back front t) edges
 abbrev pub AreWaiting : List ℕ → List ℕ → List Edge → List ℕ → Type 0
 AreWaiting front ids edges counts = (length counts ≡ length ids)
     × ((i : ℕ) → i < length ids → slice_index counts i ≡ waiting front edges (slice_index ids i))
+
+-- these edges are those from t, which stand side by side
+abbrev pub AreEdgesFrom : List Edge → ℕ → List Edge → Type 0
+AreEdgesFrom edges t group = (before : List Edge) × (after : List Edge) × (edges ≡ before ++ (group ++ after))
+    × All (λ e. e.src < t) before × All (λ e. e.src ≡ t) group × All (λ e. t < e.src) after
+
+-- the last of the edges that lead to t is among these
+abbrev pub IsFreed : List ℕ → List Edge → List ℕ → ℕ → Type 0
+IsFreed ids leaving counts t = (i : ℕ) × (i < length ids) × (slice_index ids i ≡ t) × (0 < arriving leaving t) × (slice_index counts i ≡ 0)
+
+-- how many of ids aren't in the front
+abbrev pub left_over : List ℕ → List ℕ → ℕ
+left_over ids front = count_by (λ t. not (stands front t)) ids
