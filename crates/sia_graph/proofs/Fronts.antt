@@ -143,8 +143,8 @@ module _ (M : ℕ → Type 0) (E : Edge → Type 0) where
   no_order F fed t f order keeping =
       none_fed order
       (λ s u i leads at.
-          let b = keeping.1 s u leads in
-          let e : i ≡ b.1 = one_position order keeping.0.once u i b.1 at b.4 in
-          let l = b.2 in
-          (b.0, omega arith, b.3))
+      let b = keeping.1 s u leads in
+      let e : i ≡ b.1 = one_position order keeping.0.once u i b.1 at b.4 in
+      let l = b.2 in
+      (b.0, omega arith, b.3))
       F (λ u g. let w = fed u g in (w.1, w.2, w.3)) t (contains_stands order t ((keeping.0.each t).1 (fed t f).0)) f

@@ -15,3 +15,6 @@ pub mod SsiLaw
 pub mod Positions
 pub mod Fronts
 pub mod Waiting
+pub mod EdgeGroups
+pub mod Releasing
+pub mod OneTaken

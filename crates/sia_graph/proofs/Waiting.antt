@@ -105,13 +105,19 @@ waits_if front edges t s leads outside = elim (cases_lt 0 (waiting front edges t
   | inr none ↦ absurd (outside (none_waits front edges t (omega arith) s leads))
 ]
 
+pub none_wait_if : (front : List ℕ) (edges : List Edge) (t : ℕ) → ((s : ℕ) → Leads (Contains edges) s t → Stands front s) → waiting front edges t ≡ 0
+none_wait_if front edges t all = elim (cases_lt 0 (waiting front edges t)) [
+  | inl more ↦ let w = some_waits front edges t more in absurd (w.2 (all w.0 w.1))
+  | inr none ↦ omega arith
+]
+
 same_test : (front : List ℕ) (t s : ℕ) → s ≢ t → stands (front ++ t ∷ []) s ≡ stands front s
 same_test front t s other = elim (cases_Bool (stands front s)) [
   | inl in' ↦ stands_true (front ++ t ∷ []) s (stands_more front t s (true_stands front s in')) ∙ sym in'
   | inr out ↦ stands_false (front ++ t ∷ []) s (λ w. elim (stands_cases front t s w) [ inl here ↦ false_stands front s out here | inr e ↦ other (sym e) ]) ∙ sym out
 ]
 
-all_at : {A : Type 0} (P : A → Type 0) (xs : List A) → All P xs → (i : ℕ) (x : A) → slice_get xs i ≡ Some x → P x
+pub all_at : {A : Type 0} (P : A → Type 0) (xs : List A) → All P xs → (i : ℕ) (x : A) → slice_get xs i ≡ Some x → P x
 all_at P xs all i x at = subst P (get_or_from_slice_get xs i x x at) (all i x (slice_get_within xs i x at))
 
 -- a count over three parts

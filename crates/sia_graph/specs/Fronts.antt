@@ -1,6 +1,8 @@
 -- What holds while an order is made one transaction at a time: what the front of an order keeps, and how many edges lead to
 -- each transaction from outside the front.
-use Rattle.std.specs.Prelude.{◌≡◌, ◌⊎◌, ℕ, ◌<◌, ◌==◌, ◌&&◌, ◌||◌, Bool, false, not, List, [], ◌∷◌, ◌++◌, All, slice_get, slice_index, length, count_by, Contains, Some, ⊤}
+use Rattle.std.specs.Prelude.{◌≡◌, ◌⊎◌, ℕ, ◌<◌, ◌==◌, ◌&&◌, ◌||◌, Bool, false, not, List, [], ◌∷◌, ◌++◌, All, slice_get, slice_index, length, count_by, Contains, Some, ⊤, IsTrue, ◌↔◌}
+use Rattle.std.specs.BTreeSet.{BTreeSet, contains}
+use Rattle.std.specs.Ordering.{nat_cmp}
 use Rattle.sia_parts.specs.declared.finding.Edge.{Edge}
 use Rattle.sia_graph.specs.Orders.{Leads, IsKeepingOrder}
 
@@ -55,3 +57,15 @@ IsFreed ids leaving counts t = (i : ℕ) × (i < length ids) × (slice_index ids
 -- how many of ids aren't in the front
 abbrev pub left_over : List ℕ → List ℕ → ℕ
 left_over ids front = count_by (λ t. not (stands front t)) ids
+
+-- a front with the counts of what is left, of which none is ready
+pub record IsLastFront (ids : List ℕ) (edges : List Edge) (counts front : List ℕ) : Type 0 where
+  pub is_front : IsFront (Contains ids) (Contains edges) front
+  pub counted : AreWaiting front ids edges counts
+  pub none_ready : (t : ℕ) → Contains ids t → waiting front edges t ≡ 0 → (i : ℕ) × (slice_get front i ≡ Some t)
+
+-- a front with the counts and the ready ones of what is left
+pub record IsTaking (ids : List ℕ) (edges : List Edge) (counts front : List ℕ) (ready : BTreeSet ℕ) : Type 0 where
+  pub is_front : IsFront (Contains ids) (Contains edges) front
+  pub counted : AreWaiting front ids edges counts
+  pub is_ready : (t : ℕ) → IsTrue (contains nat_cmp ready t) ↔ (Contains ids t × IsTrue (not (stands front t)) × (waiting front edges t ≡ 0))

@@ -1,10 +1,12 @@
 //! Pivots, the least order or a cycle, and the replay of a history by an order.
 #![tactic(auto)]
 
+mod adjacency;
 mod laws;
 mod pivot;
 mod replaying;
 mod settling;
+mod taking;
 mod txns;
 
 pub use laws::{pivot_law, replay_law, ssi_law};
