@@ -18,3 +18,9 @@ pub mod Waiting
 pub mod EdgeGroups
 pub mod Releasing
 pub mod OneTaken
+pub mod Walks
+pub mod LeastSources
+pub mod Rounds
+pub mod LeastEdges
+pub mod PrintedCycle
+pub mod StuckSets

@@ -48,10 +48,10 @@ group_leads edges group t u from some =
       eqb-true e.dst u w.3,
     )
 
-abbrev Joins : List ℕ → List Edge → Type 0
+abbrev pub Joins : List ℕ → List Edge → Type 0
 Joins ids edges = All (λ e. Contains ids e.src × Contains ids e.dst × (e.src ≢ e.dst)) edges
 
-edge_joins : (ids : List ℕ) (edges : List Edge) → Joins ids edges → (e : Edge) → Contains edges e → Contains ids e.src × Contains ids e.dst × (e.src ≢ e.dst)
+pub edge_joins : (ids : List ℕ) (edges : List Edge) → Joins ids edges → (e : Edge) → Contains edges e → Contains ids e.src × Contains ids e.dst × (e.src ≢ e.dst)
 edge_joins ids edges joins e c = subst (λ (x : Edge). Contains ids x.src × Contains ids x.dst × (x.src ≢ x.dst)) c.2 (joins c.0 e c.1)
 
 module _ (ids : List ℕ) (edges : List Edge) (counts front : List ℕ) (ready : BTreeSet ℕ) (taking : IsTaking ids edges counts front ready) where

@@ -8,9 +8,10 @@ mod replaying;
 mod settling;
 mod taking;
 mod txns;
+mod walking;
 
 pub use laws::{pivot_law, replay_law, ssi_law};
 pub use pivot::Pivot;
 pub use replaying::{Mismatch, ReplayFault};
-pub use settling::{Step, Steps, Verdict};
+pub use settling::{Step, Steps, Verdict, settle};
 pub use txns::Txns;
