@@ -24,3 +24,4 @@ pub mod Rounds
 pub mod LeastEdges
 pub mod PrintedCycle
 pub mod StuckSets
+pub mod NoFirsts

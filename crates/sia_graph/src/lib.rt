@@ -3,6 +3,7 @@
 
 mod adjacency;
 mod laws;
+mod passing;
 mod pivot;
 mod replaying;
 mod settling;
@@ -11,6 +12,7 @@ mod txns;
 mod walking;
 
 pub use laws::{pivot_law, replay_law, ssi_law};
+pub use passing::ssi_pass;
 pub use pivot::Pivot;
 pub use replaying::{Mismatch, ReplayFault};
 pub use settling::{Step, Steps, Verdict, settle};
