@@ -12,3 +12,16 @@ pub mod Serial
 pub mod Found
 pub mod ReplayLaw
 pub mod SsiLaw
+pub mod Positions
+pub mod Fronts
+pub mod Waiting
+pub mod EdgeGroups
+pub mod Releasing
+pub mod OneTaken
+pub mod Walks
+pub mod LeastSources
+pub mod Rounds
+pub mod LeastEdges
+pub mod PrintedCycle
+pub mod StuckSets
+pub mod NoFirsts

@@ -1,14 +1,19 @@
 //! Pivots, the least order or a cycle, and the replay of a history by an order.
 #![tactic(auto)]
 
+mod adjacency;
 mod laws;
+mod passing;
 mod pivot;
 mod replaying;
 mod settling;
+mod taking;
 mod txns;
+mod walking;
 
 pub use laws::{pivot_law, replay_law, ssi_law};
+pub use passing::ssi_pass;
 pub use pivot::Pivot;
 pub use replaying::{Mismatch, ReplayFault};
-pub use settling::{Step, Steps, Verdict};
+pub use settling::{Step, Steps, Verdict, settle};
 pub use txns::Txns;

@@ -1,0 +1,90 @@
+-- Positions of ids, and the edges from one transaction, in sorted lists.
+use Rattle.std.proofs.Common.{◌≡◌, ◌≢◌, ◌⊎◌, inl, inr, ℕ, zero, suc, ◌+◌, ◌-◌, ◌<◌, ◌≤◌, Bool, true, false, List, [], ◌∷◌, ◌++◌, length, get_or, take, drop, ltb, leb, ap, sym, ◌∙◌, refl, subst, arith}
+use Rattle.std.specs.Prelude.{Contains, All, AllPairs}
+use Rattle.std.specs.List.{AllWithin}
+use Rattle.std.specs.List.Sorted.{IsStrictlyIncreasing, IsNonDecreasingBy, IsPartitionPoint}
+use Rattle.std.proofs.lemmas.Bool.{cases_lt, cases_order, ltb-true, ltb-false, leb-true, leb-false}
+use Rattle.std.proofs.lemmas.List.{take-append-drop, get_or-take, get_or-drop, length-take, length-drop, get_or_default}
+use Rattle.std.proofs.lemmas.List.Kept.{AllPairs-from_increasing}
+use Rattle.sia_events.specs.Lists.{Precedes}
+use Rattle.sia_parts.specs.declared.finding.Edge.{Edge}
+use Rattle.sia_parts.specs.Entries.{edge_rank}
+use Rattle.sia_graph.specs.Fronts.{AreEdgesFrom}
+
+module _ (ids : List ℕ) (up : IsStrictlyIncreasing ids) where
+  pub ids_less : (i j : ℕ) → i < j → j < length ids → get_or ids i 0 < get_or ids j 0
+  ids_less i j l b = AllPairs-from_increasing ids up i j 0 l b
+
+  pub ids_no_less : (i j : ℕ) → i ≤ j → j < length ids → get_or ids i 0 ≤ get_or ids j 0
+  ids_no_less i j l b = elim (cases_lt i j) [
+    | inl less ↦ let m = ids_less i j less b in omega arith
+    | inr more ↦ let e : i ≡ j = omega arith in let f = ap (λ k. get_or ids k 0) e in omega arith
+  ]
+
+  pub one_id : (i j : ℕ) → i < length ids → j < length ids → get_or ids i 0 ≡ get_or ids j 0 → i ≡ j
+  one_id i j a b e = elim (cases_order i j) [
+    | inl same ↦ same
+    | inr (inl less) ↦ let l = ids_less i j less b in absurd (omega arith)
+    | inr (inr more) ↦ let l = ids_less j i more a in absurd (omega arith)
+  ]
+
+  pub ids_rise : IsNonDecreasingBy (λ x. x) ids
+  ids_rise i j d l b =
+      let e = get_or_default ids i d 0 (omega arith) in
+      let f = get_or_default ids j d 0 b in
+      let m = ids_no_less i j l b in
+      omega arith
+
+  pub found_position : (t i : ℕ) → IsPartitionPoint (λ y. ltb y t ≡ true) (λ y. ltb y t ≡ false) ids i → Contains ids t → (i < length ids) × (get_or ids i 0 ≡ t)
+  found_position t i point c =
+      let k = c.0 in
+      let below = c.1 in
+      let e : get_or ids k 0 ≡ t = get_or_default ids k 0 t c.1 ∙ c.2 in
+      elim (cases_lt k i) [
+        | inl less ↦ let l = ltb-true (get_or ids k 0) t (point.0 k 0 (omega arith) less) in absurd (omega arith)
+        | inr more ↦
+            let l : i < length ids = omega arith in
+            let m = ltb-false (get_or ids i 0) t (point.1 i 0 (omega arith) l) in
+            let n = ids_no_less i k more c.1 in
+            (l, omega arith)
+      ]
+
+precedes_src : (d e : Edge) → Precedes (edge_rank d) (edge_rank e) → d.src ≤ e.src
+precedes_src d e (inl l) = omega arith
+precedes_src d e (inr w) = let s = w.0 in omega arith
+
+pub sources_rise : (edges : List Edge) → AllPairs (λ d e. Precedes (edge_rank d) (edge_rank e)) edges → IsNonDecreasingBy (λ e. e.src) edges
+sources_rise edges sorted i j d l b = elim (cases_lt i j) [
+  | inl less ↦ precedes_src (get_or edges i d) (get_or edges j d) (sorted i j d less b)
+  | inr more ↦ let e : i ≡ j = omega arith in let f = ap (λ k. (get_or edges k d).src) e in omega arith
+]
+
+pub edges_at : (edges rest : List Edge) (t first count : ℕ) → rest ≡ drop first edges
+    → IsPartitionPoint (λ e. ltb e.src t ≡ true) (λ e. ltb e.src t ≡ false) edges first
+    → IsPartitionPoint (λ e. leb e.src t ≡ true) (λ e. leb e.src t ≡ false) rest count
+    → AreEdgesFrom edges t (take count rest)
+edges_at edges rest t first count is a b =
+    let at = λ (k : ℕ) (d : Edge). ap (λ l. get_or l k d) is ∙ get_or-drop first edges k d in
+    let long : length rest ≡ length edges - first = ap (length {A = Edge}) is ∙ length-drop first edges in (
+      take first edges,
+      drop count rest,
+      sym (ap (λ l. take first edges ++ l) (take-append-drop count rest ∙ is) ∙ take-append-drop first edges),
+      λ k d l.
+          let m = length-take first edges in
+          let e = get_or-take first edges k d (omega arith) in
+          let f = ltb-true (get_or edges k d).src t (a.0 k d (omega arith) (omega arith)) in
+          subst (λ (x : Edge). x.src < t) (sym e) f,
+      λ k d l.
+          let m = length-take count rest in
+          let e = get_or-take count rest k d (omega arith) in
+          let f = at k d in
+          let g = leb-true (get_or rest k d).src t (b.0 k d (omega arith) (omega arith)) in
+          let h = ltb-false (get_or edges (first + k) d).src t (a.1 (first + k) d (omega arith) (omega arith)) in
+          let i : (get_or rest k d).src ≡ (get_or edges (first + k) d).src = ap (λ (x : Edge). x.src) f in
+          subst (λ (x : Edge). x.src ≡ t) (sym e) (omega arith),
+      λ k d l.
+          let m = length-drop count rest in
+          let e = get_or-drop count rest k d in
+          let f = leb-false (get_or rest (count + k) d).src t (b.1 (count + k) d (omega arith) (omega arith)) in
+          subst (λ (x : Edge). t < x.src) (sym e) f,
+    )

@@ -1,0 +1,69 @@
+-- Findings with no bad read, no bad write and no first are those of a history that passes.
+use Rattle.std.proofs.Common.{◌≡◌, ◌↔◌, ◌<◌, ℕ, suc, zero, List, [], ◌∷◌, length, get_or, map, refl, ap, sym, subst, ◌∙◌, Bool, arith}
+use Rattle.std.specs.Prelude.{IsTrue, ⊤, All, Contains}
+use Rattle.std.proofs.lemmas.List.{get_or-map, length-map, get_or_default}
+use Rattle.sia_events.specs.declared.event.Event.{Event}
+use Rattle.sia_events.specs.Lists.{ListsBy}
+use Rattle.sia_events.specs.DangerousStructures.{IsPivot, IsFirst, NoFirst, PassesSsi}
+use Rattle.sia_events.specs.Isolation.{IsBadRead, IsBadWrite}
+use Rattle.sia_parts.specs.Entries.{bad_read_rank, bad_write_rank}
+use Rattle.sia_parts.specs.declared.findings.Findings.{Findings}
+use Rattle.sia_parts.specs.Findings.{AreFindings}
+use Rattle.sia_graph.specs.declared.pivot.Pivot.{Pivot}
+use Rattle.sia_graph.specs.Pivots.{ArePivots}
+
+module _ {A : Type 0} (rank : A → List ℕ) (P : A → Type 0) where
+  -- nothing has P where the list is empty
+  nothing : (xs : List A) → ListsBy rank P xs → xs ≡ [] → (x : A) → ¬ P x
+  nothing [] l e x p = let c = (l.each x).1 p in absurd (let b = c.1 in omega arith)
+  nothing (y ∷ ys) l e x p = cc
+
+  -- the list is empty where nothing has P
+  empty : (xs : List A) → ListsBy rank P xs → ((x : A) → ¬ P x) → xs ≡ []
+  empty [] l none = refl
+  empty (x ∷ xs) l none = absurd (none x ((l.each x).0 (0, omega arith, refl)))
+
+module _ (h : List Event) (ps : List Pivot) (pivots : ArePivots h ps) where
+  -- the entry of a pivot
+  entry_of : (t : ℕ) (d : Pivot) → IsPivot h t → (k : ℕ) × (k < length ps) × ((get_or ps k d).txn ≡ t)
+  entry_of t d pivot =
+      let c = (pivots.txns.each t).1 pivot in
+      let k = c.0 in
+      let l = c.1 in
+      let n = length-map ps (λ (p : Pivot). p.txn) in
+      let e = get_or-map (λ (p : Pivot). p.txn) ps k d t (omega arith) in
+      (k, omega arith, sym e ∙ c.2)
+
+  no_first : All (λ p. p.firsts ≡ []) ps → NoFirst h
+  no_first none t u first =
+      let d : Pivot = record { txn = 0; ins = []; outs = []; firsts = [] } in
+      let at = entry_of t d ((first.2, first.3), (u, first.0)) in
+      let p = get_or ps at.0 d in
+      let lists = (pivots.neighbours at.0 d at.1).firsts in
+      let f = subst (λ x. IsFirst h x u) (sym at.2) first in
+      nothing (λ x. x ∷ []) (λ x. IsFirst h p.txn x) p.firsts lists (none at.0 d at.1) u f
+
+  none_first : NoFirst h → All (λ p. p.firsts ≡ []) ps
+  none_first none k d l =
+      let p = get_or ps k d in
+      empty (λ x. x ∷ []) (λ x. IsFirst h p.txn x) p.firsts (pivots.neighbours k d l).firsts (λ u. none p.txn u)
+
+pub passes_by : (b : Bool) (h : List Event) (f : Findings) (ps : List Pivot) → (IsTrue b ↔ ((f.bad_reads.items ≡ []) × (f.bad_writes.items ≡ []) × All (λ p. p.firsts ≡ []) ps))
+    → AreFindings h f → ArePivots h ps → IsTrue b ↔ PassesSsi h
+passes_by b h f ps e found pivots = (λ t. to (e.0 t), λ q. e.1 (from q))
+  where
+    to : (f.bad_reads.items ≡ []) × (f.bad_writes.items ≡ []) × All (λ p. p.firsts ≡ []) ps → PassesSsi h
+    to e = (
+      record {
+        reads = λ p t k saw due bad. nothing bad_read_rank (λ b. IsBadRead h b.place b.txn b.key b.saw b.due × ⊤) f.bad_reads.items found.bad_reads e.0 (record { place = p; txn = t; key = k; saw = saw; due = due }) (bad, tt);
+        writes = λ k first second bad. nothing bad_write_rank (λ b. IsBadWrite h b.key b.first b.second × ⊤) f.bad_writes.items found.bad_writes e.1 (record { key = k; first = first; second = second }) (bad, tt);
+      },
+      no_first h ps pivots e.2,
+    )
+
+    from : PassesSsi h → (f.bad_reads.items ≡ []) × (f.bad_writes.items ≡ []) × All (λ p. p.firsts ≡ []) ps
+    from e = (
+      empty bad_read_rank (λ b. IsBadRead h b.place b.txn b.key b.saw b.due × ⊤) f.bad_reads.items found.bad_reads (λ b bad. e.0.reads b.place b.txn b.key b.saw b.due bad.0),
+      empty bad_write_rank (λ b. IsBadWrite h b.key b.first b.second × ⊤) f.bad_writes.items found.bad_writes (λ b bad. e.0.writes b.key b.first b.second bad.0),
+      none_first h ps pivots e.1,
+    )

@@ -1,0 +1,97 @@
+-- Elements of lists by their positions.
+use Rattle.std.proofs.Common.{◌≡◌, ◌≢◌, ◌⊎◌, inl, inr, ℕ, zero, suc, ◌+◌, ◌<◌, Bool, true, false, List, [], ◌∷◌, ◌++◌, length, get_or, slice_get, Some, eqb, ap, sym, ◌∙◌, refl, subst, arith}
+use Rattle.std.specs.Prelude.{Contains, AllPairs, ◌||◌}
+use Rattle.std.proofs.lemmas.Bool.{or_cases, or_left, or_right, cases_order, cases_Bool, eqb-true, eq-eqb, cases_lt}
+use Rattle.std.proofs.lemmas.Option.{same_Some, slice_get_within, slice_get-get_or, get_or_from_slice_get}
+use Rattle.sia_graph.specs.Fronts.{stands}
+
+-- x has a position in xs
+abbrev pub Stands : {A : Type 0} → List A → A → Type 0
+Stands xs x = (i : ℕ) × (slice_get xs i ≡ Some x)
+
+module _ {A : Type 0} where
+  pub contains_stands : (xs : List A) (x : A) → Contains xs x → Stands xs x
+  contains_stands xs x c = (c.0, slice_get-get_or xs c.0 x c.1 ∙ ap Some c.2)
+
+  pub stands_contains : (xs : List A) (x : A) → Stands xs x → Contains xs x
+  stands_contains xs x s = (s.0, slice_get_within xs s.0 x s.1, get_or_from_slice_get xs s.0 x x s.1)
+
+  pub get_left : (xs ys : List A) (i : ℕ) (x : A) → slice_get xs i ≡ Some x → slice_get (xs ++ ys) i ≡ Some x
+  get_left [] ys i x e = cc
+  get_left (y ∷ xs) ys zero x e = e
+  get_left (y ∷ xs) ys (suc i) x e = get_left xs ys i x e
+
+  pub get_right : (xs ys : List A) (i : ℕ) (x : A) → slice_get ys i ≡ Some x → slice_get (xs ++ ys) (length xs + i) ≡ Some x
+  get_right [] ys i x e = let same : 0 + i ≡ i = omega arith in ap (slice_get ys) same ∙ e
+  get_right (y ∷ xs) ys i x e = let same : suc (length xs) + i ≡ suc (length xs + i) = omega arith in ap (slice_get (y ∷ (xs ++ ys))) same ∙ get_right xs ys i x e
+
+  pub get_cases : (xs ys : List A) (i : ℕ) (x : A) → slice_get (xs ++ ys) i ≡ Some x → (slice_get xs i ≡ Some x) ⊎ ((j : ℕ) × (i ≡ length xs + j) × (slice_get ys j ≡ Some x))
+  get_cases [] ys i x e = inr (i, omega arith, e)
+  get_cases (y ∷ xs) ys zero x e = inl e
+  get_cases (y ∷ xs) ys (suc i) x e = elim (get_cases xs ys i x e) [
+    | inl here ↦ inl here
+    | inr w ↦ let p = w.1 in inr (w.0, omega arith, w.2)
+  ]
+
+  pub get_within : (xs ys : List A) (i : ℕ) (x : A) → i < length xs → slice_get (xs ++ ys) i ≡ Some x → slice_get xs i ≡ Some x
+  get_within xs ys i x l e = elim (get_cases xs ys i x e) [
+    | inl here ↦ here
+    | inr w ↦ let p = w.1 in absurd (omega arith)
+  ]
+
+  pub only_one : (x y : A) (j : ℕ) → slice_get (y ∷ []) j ≡ Some x → (j ≡ 0) × (y ≡ x)
+  only_one x y zero e = (refl, same_Some y x e)
+  only_one x y (suc j) e = cc
+
+-- each number has one position
+pub one_position : (xs : List ℕ) → AllPairs (λ x y. x ≢ y) xs → (t i j : ℕ) → slice_get xs i ≡ Some t → slice_get xs j ≡ Some t → i ≡ j
+one_position xs once t i j a b = elim (cases_order i j) [
+  | inl same ↦ same
+  | inr (inl less) ↦ absurd (once i j t less (slice_get_within xs j t b) (get_or_from_slice_get xs i t t a ∙ sym (get_or_from_slice_get xs j t t b)))
+  | inr (inr more) ↦ absurd (once j i t more (slice_get_within xs i t a) (get_or_from_slice_get xs j t t b ∙ sym (get_or_from_slice_get xs i t t a)))
+]
+
+pub once_from_positions : (xs : List ℕ) → ((t i j : ℕ) → slice_get xs i ≡ Some t → slice_get xs j ≡ Some t → i ≡ j) → AllPairs (λ x y. x ≢ y) xs
+once_from_positions xs once i j d less below same =
+    let a = slice_get-get_or xs i d (omega arith) in
+    let b = slice_get-get_or xs j d below in
+    let e : i ≡ j = once (get_or xs j d) i j (a ∙ ap Some same) b in
+    omega arith
+
+-- the test of a place, and what it decides
+pub stands_true : (xs : List ℕ) (t : ℕ) → Stands xs t → stands xs t ≡ true
+stands_true [] t s = let e = s.1 in cc
+stands_true (x ∷ xs) t s = by_position (stands_true xs t) s.0 s.1
+  where
+    by_position : (Stands xs t → stands xs t ≡ true) → (i : ℕ) → slice_get (x ∷ xs) i ≡ Some t → stands (x ∷ xs) t ≡ true
+    by_position later zero e = or_left (eqb x t) (stands xs t) (eq-eqb x t (same_Some x t e))
+    by_position later (suc i) e = or_right (eqb x t) (stands xs t) (later (i, e))
+
+pub true_stands : (xs : List ℕ) (t : ℕ) → stands xs t ≡ true → Stands xs t
+true_stands [] t e = cc
+true_stands (x ∷ xs) t e = elim (or_cases (eqb x t) (stands xs t) e) [
+  | inl here ↦ (0, ap Some (eqb-true x t here))
+  | inr there ↦ let s = true_stands xs t there in (suc s.0, s.1)
+]
+
+pub false_stands : (xs : List ℕ) (t : ℕ) → stands xs t ≡ false → ¬ Stands xs t
+false_stands xs t e s = let p = sym e ∙ stands_true xs t s in cc
+
+pub stands_false : (xs : List ℕ) (t : ℕ) → ¬ Stands xs t → stands xs t ≡ false
+stands_false xs t n = elim (cases_Bool (stands xs t)) [ inl e ↦ absurd (n (true_stands xs t e)) | inr e ↦ e ]
+
+pub stands_or_not : (xs : List ℕ) (t : ℕ) → Stands xs t ⊎ ¬ Stands xs t
+stands_or_not xs t = elim (cases_Bool (stands xs t)) [ inl e ↦ inl (true_stands xs t e) | inr e ↦ inr (false_stands xs t e) ]
+
+-- one more at the end
+pub stands_more : (xs : List ℕ) (t u : ℕ) → Stands xs u → Stands (xs ++ t ∷ []) u
+stands_more xs t u s = (s.0, get_left xs (t ∷ []) s.0 u s.1)
+
+pub stands_last : (xs : List ℕ) (t : ℕ) → Stands (xs ++ t ∷ []) t
+stands_last xs t = (length xs + 0, get_right xs (t ∷ []) 0 t refl)
+
+pub stands_cases : (xs : List ℕ) (t u : ℕ) → Stands (xs ++ t ∷ []) u → Stands xs u ⊎ (t ≡ u)
+stands_cases xs t u s = elim (get_cases xs (t ∷ []) s.0 u s.1) [
+  | inl here ↦ inl (s.0, here)
+  | inr w ↦ inr (only_one u t w.0 w.2).1
+]

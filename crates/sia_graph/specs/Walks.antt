@@ -1,0 +1,45 @@
+-- Going back from a transaction to the least one with an edge to it, among those that are left. Transactions are told by their
+-- positions among ids, and those that are left by a count that isn't 0.
+use Rattle.std.specs.Prelude.{◌≡◌, ◌↔◌, ℕ, zero, suc, ◌<◌, ◌≤◌, List, [], ◌∷◌, length, slice_index, Contains}
+use Rattle.sia_parts.specs.declared.finding.Edge.{Edge}
+use Rattle.sia_graph.specs.declared.settling.Step.{Step}
+use Rattle.sia_graph.specs.Orders.{Leads}
+use Rattle.sia_graph.specs.Cycles.{IsPrevious, GoesRound, StartsAtLeast}
+
+-- p is left, and has an edge to i
+abbrev pub IsSource : List ℕ → List Edge → List ℕ → ℕ → ℕ → Type 0
+IsSource ids edges counts i p = (p < length ids) × (0 < slice_index counts p) × Leads (Contains edges) (slice_index ids p) (slice_index ids i)
+
+abbrev pub IsLeastSource : List ℕ → List Edge → List ℕ → ℕ → ℕ → Type 0
+IsLeastSource ids edges counts i p = IsSource ids edges counts i p × ((q : ℕ) → IsSource ids edges counts i q → p ≤ q)
+
+-- what is left has an edge from what is left
+abbrev pub IsFedBack : List ℕ → List Edge → List ℕ → Type 0
+IsFedBack ids edges counts = (i : ℕ) → i < length ids → 0 < slice_index counts i → (p : ℕ) × IsSource ids edges counts i p
+
+-- the least source of each that is left
+abbrev pub ArePrevious : List ℕ → List Edge → List ℕ → List ℕ → Type 0
+ArePrevious ids edges counts previous = (i : ℕ) → i < length ids → 0 < slice_index counts i → IsLeastSource ids edges counts i (slice_index previous i)
+
+-- each position leads back to one
+abbrev pub StaysWithin : List ℕ → Type 0
+StaysWithin previous = (i : ℕ) → i < length previous → slice_index previous i < length previous
+
+-- where n steps back from i lead
+abbrev pub back : List ℕ → ℕ → ℕ → ℕ
+back previous zero i = i
+back previous (suc n) i = back previous n (slice_index previous i)
+
+-- one goes round from home by these steps, and home is the least on the way
+abbrev pub GoesRoundFrom : List ℕ → List Edge → ℕ → List Step → Type 0
+GoesRoundFrom stuck edges home [] = ⊥
+GoesRoundFrom stuck edges home (first ∷ steps) = (first.txn ≡ home) × StartsAtLeast steps first.txn × GoesRound (Contains edges) stuck (first ∷ steps) first.txn
+
+-- along the whole way back from home the steps lead to the previous ones
+abbrev pub LeadsBack : List ℕ → List ℕ → List Edge → List ℕ → ℕ → Type 0
+LeadsBack stuck ids edges previous home = (n : ℕ)
+    → IsPrevious (Contains edges) stuck (slice_index ids (slice_index previous (back previous n home))) (slice_index ids (back previous n home))
+
+-- the list holds those that are left
+abbrev pub AreLeft : List ℕ → List ℕ → List ℕ → Type 0
+AreLeft ids counts stuck = (t : ℕ) → Contains stuck t ↔ ((i : ℕ) × (i < length ids) × (slice_index ids i ≡ t) × (0 < slice_index counts i))

@@ -1,0 +1,32 @@
+//! The test of serializable snapshot isolation.
+ghost use Rattle.std.specs.Prelude.{[], ◌≡◌, ◌↔◌, All, IsTrue, List};
+ghost use Rattle.sia_events.specs.declared.event.Event.{Event};
+ghost use Rattle.sia_events.specs.DangerousStructures.{PassesSsi};
+ghost use Rattle.sia_parts.specs.Findings.{AreFindings};
+ghost use Rattle.sia_graph.specs.Pivots.{ArePivots};
+
+use crate::pivot::Pivot;
+use sia_parts::Findings;
+
+/// Whether there is no bad read, no bad write, and no dangerous structure whose last transaction commits first. The pivots
+/// are those of the findings.
+pub fn ssi_pass(f: &Findings, p: &[Pivot]) -> bool
+    requires { (h : List Event) × AreFindings h f.now × ArePivots h p.now }
+    ensures empty { IsTrue result ↔ ((f.now.bad_reads.items ≡ []) × (f.now.bad_writes.items ≡ []) × All (λ pivot. pivot.firsts ≡ []) p.now) }
+    ensures passes { (h : List Event) → AreFindings h f.now → ArePivots h p.now → IsTrue result ↔ PassesSsi h }
+{
+    has_none(f, p)
+}
+
+/// Whether there is no bad read, no bad write, and no pivot with a first.
+fn has_none(f: &Findings, p: &[Pivot]) -> bool
+    ensures { IsTrue result ↔ ((f.now.bad_reads.items ≡ []) × (f.now.bad_writes.items ≡ []) × All (λ pivot. pivot.firsts ≡ []) p.now) }
+{
+    f.bad_reads.is_empty() && f.bad_writes.is_empty() && no_firsts(p)
+}
+
+fn no_firsts(p: &[Pivot]) -> bool
+    ensures { IsTrue result ↔ All (λ pivot. pivot.firsts ≡ []) p.now }
+{
+    p.iter().all(|pivot| pivot.firsts.as_slice().is_empty())
+}
