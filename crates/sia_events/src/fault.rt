@@ -8,6 +8,18 @@ use thiserror::Error;
 #[derive(Clone, Copy, Debug, PartialEq, Eq)]
 pub struct NoMemory;
 
+impl From<AllocError> for NoMemory {
+    fn from(_fault: AllocError) -> NoMemory {
+        NoMemory
+    }
+}
+
+impl<T: Drop> From<AllocFailed<T>> for NoMemory {
+    fn from(_fault: AllocFailed<T>) -> NoMemory {
+        NoMemory
+    }
+}
+
 /// Why a token can't stand where it stands. Of several the first in this list is told.
 #[derive(Clone, Copy, Debug, PartialEq, Eq)]
 pub enum Reason {
