@@ -45,4 +45,5 @@ pub mod EventFaults
 pub mod FirstFaults
 pub mod Pieces
 pub mod Progresses
+pub mod Writing
 pub mod Pairs

@@ -11,6 +11,7 @@ mod number;
 mod reader;
 mod tables;
 mod token;
+mod writer;
 
 pub use event::{Event, Key, Listed, TxnId, Version};
 pub use fault::{NoMemory, Reason, TextFault};
@@ -20,6 +21,7 @@ pub use laws::{
     unwritten_law,
 };
 pub use reader::{TextReader, read_history};
+pub use writer::write_history;
 
 #[cfg(test)]
 mod tests;
