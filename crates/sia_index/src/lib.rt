@@ -1,6 +1,11 @@
 //! What an index of a history answers: where a transaction starts and how it ends, and the versions of a key.
 #![tactic(auto)]
 
+mod indexed;
 mod info;
+pub mod make;
+mod ordering;
+mod rows;
 
+pub use indexed::Index;
 pub use info::{Fate, Made, TxnInfo};

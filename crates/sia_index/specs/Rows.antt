@@ -1,0 +1,31 @@
+-- The rows of an index's tables: what each says of a history, and the order that they stand in.
+use Rattle.std.specs.Prelude.{◌≡◌, ◌<◌, ℕ, List, [], ◌∷◌, All, AllPairs, Any}
+use Rattle.sia_events.specs.declared.event.Event.{Event}
+use Rattle.sia_events.specs.Lists.{ListsBy}
+use Rattle.sia_events.specs.Transactions.{ActsAt, HasEvent, WritesAt, Wrote, CommitsAt}
+use Rattle.sia_index.specs.Info.{IsInfo}
+use Rattle.sia_index.specs.declared.rows.ActRow.{ActRow}
+use Rattle.sia_index.specs.declared.rows.WriteRow.{WriteRow}
+use Rattle.sia_index.specs.declared.rows.VersionRow.{VersionRow}
+use Rattle.sia_index.specs.declared.rows.TxnRow.{TxnRow}
+
+-- every event, by transaction
+abbrev pub AreActs : List Event → List ActRow → Type 0
+AreActs h acts = ListsBy (λ a. a.txn ∷ a.place ∷ []) (λ a. ActsAt h a.txn a.place) acts
+
+-- every write event, by key and transaction
+abbrev pub AreWrites : List Event → List WriteRow → Type 0
+AreWrites h writes = ListsBy (λ w. w.key ∷ w.txn ∷ w.place ∷ []) (λ w. WritesAt h w.txn w.key w.place) writes
+
+-- every version that a committed transaction made, by key and commit
+abbrev pub AreVersionRows : List Event → List VersionRow → Type 0
+AreVersionRows h rows = ListsBy (λ v. v.key ∷ v.commit ∷ v.txn ∷ []) (λ v. Wrote h v.txn v.key × CommitsAt h v.txn v.commit) rows
+
+abbrev pub AscendsByTxn : List TxnRow → Type 0
+AscendsByTxn table = AllPairs (λ x y. x.txn < y.txn) table
+
+-- every transaction once, ascending, with what is known of it
+pub record AreTxns (h : List Event) (table : List TxnRow) : Type 0 where
+  pub ascending : AscendsByTxn table
+  pub right : All (λ row. IsInfo h row.txn row.info) table
+  pub whole : (t : ℕ) → HasEvent h t → Any (λ row. row.txn ≡ t) table
