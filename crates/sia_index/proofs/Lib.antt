@@ -1,2 +1,5 @@
 pub mod Ordered
 pub mod Table
+pub mod Chains
+pub mod Due
+pub mod Writes

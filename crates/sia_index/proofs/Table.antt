@@ -1,7 +1,7 @@
 -- The table of transactions: what a row of it says, and what no row says.
-use Rattle.std.proofs.Common.{◌≡◌, ◌≢◌, ◌⊎◌, inl, inr, ℕ, ◌+◌, ◌<◌, ◌≤◌, List, Option, Some, None, refl, ap, sym, subst, ◌∙◌, arith}
+use Rattle.std.proofs.Common.{◌≡◌, ◌≢◌, ℕ, ◌<◌, List, Option, Some, None, refl, sym, subst, ◌∙◌, arith}
 use Rattle.std.proofs.Common.{length}
-use Rattle.std.specs.Prelude.{◌↔◌, All, Any, Contains, MatchOption, slice_index_or, IsTrue}
+use Rattle.std.specs.Prelude.{◌↔◌, All, Contains, MatchOption, slice_index_or}
 use Rattle.std.proofs.lemmas.List.{get_or_default}
 use Rattle.std.proofs.lemmas.List.Elements.{All-contains}
 use Rattle.sia_events.specs.declared.event.Event.{Event}

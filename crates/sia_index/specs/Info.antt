@@ -1,5 +1,5 @@
 -- What is known of a transaction, and of a committed transaction's version of a key.
-use Rattle.std.specs.Prelude.{◌≡◌, ◌<◌, ◌≤◌, ℕ, List, [], ◌∷◌, Option, Some, None, slice_get, flat_map}
+use Rattle.std.specs.Prelude.{◌≡◌, ◌<◌, ◌≤◌, ℕ, List, [], ◌∷◌, Option, Some, None, slice_index, length, flat_map}
 use Rattle.std.specs.List.{AllZip}
 use Rattle.sia_events.specs.declared.event.Event.{Event}
 use Rattle.sia_events.specs.Lists.{ListsBy, ListsAscending}
@@ -44,7 +44,7 @@ IsFirstWrite h t k p = WritesAt h t k p × ((q : ℕ) → WritesAt h t k q → p
 
 -- k is number i of the written keys, counted from 0
 abbrev pub IsKeyAt : List Event → ℕ → ℕ → Type 0
-IsKeyAt h i k = (keys : List ℕ) × AreWrittenKeys h keys × (slice_get keys i ≡ Some k)
+IsKeyAt h i k = (keys : List ℕ) × AreWrittenKeys h keys × (i < length keys) × (slice_index keys i ≡ k)
 
 -- the versions of each written key, one key after another
 abbrev pub AreAllVersions : List Event → List Made → Type 0

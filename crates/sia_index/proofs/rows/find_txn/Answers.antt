@@ -10,7 +10,7 @@ use Rattle.sia_index.proofs.rows.find_txn.Goals as goal
 pub returns-in-Ok : goal.returns-in-Ok
 returns-in-Ok c =
     let at = found_by (λ (row : TxnRow). row.txn) c.args.table.now c.requires c.args.t (Ok c.in-Ok.i) c.in-Ok.ensures.bound
-        (c.in-Ok.ensures.position (λ row. row.txn) (answers_always _ _ _ (λ f a r g called. search rules))) in
+    (c.in-Ok.ensures.position (λ row. row.txn) (answers_always _ _ _ (λ f a r g called. search rules))) in
     contains_row _ _ _ _ (record { txn = 0; info = record { start = 0; ended = None; fate = Committed } }) at.0 at.1 refl
 
 pub returns-in-Err : goal.returns-in-Err
