@@ -3,3 +3,4 @@ pub mod Table
 pub mod Chains
 pub mod Due
 pub mod Writes
+pub mod Collected

@@ -7,7 +7,7 @@ use Rattle.std.proofs.lemmas.List.Elements.{All-contains}
 use Rattle.sia_events.specs.declared.event.Event.{Event}
 use Rattle.sia_events.specs.declared.event.Event.TheVariants.{Commit}
 use Rattle.sia_events.specs.Refusals.{IsWellFormed}
-use Rattle.sia_events.specs.Transactions.{HasEvent, StartsAt, CommitsAt, StartsBeforeCommit, Overlap}
+use Rattle.sia_events.specs.Transactions.{HasEvent, StartsAt, CommitsAt, StartsBeforeCommit, Overlap, IsCommitted}
 use Rattle.sia_events.proofs.Starts.{one_start}
 use Rattle.sia_events.proofs.WellFormed.{one_commit}
 use Rattle.sia_events.proofs.Endings.{one_end}
@@ -74,3 +74,11 @@ overlap_told h wf t u a b is other = (
   λ both. (starts_before h t u a b is other both.0, starts_before h u t b a other is both.1),
   λ both. (starts_before_told h wf t u a b is other both.0, starts_before_told h wf u t b a other is both.1),
 )
+
+-- what aborted didn't commit
+pub aborted_not_committed : (h : List Event) → IsWellFormed h → (t : ℕ) (info : TxnInfo) → IsInfo h t info → info.fate ≡ Aborted → ¬ IsCommitted h t
+aborted_not_committed h wf t info is aborted done = of_end info.ended (subst (λ f. EndsAs h t f info.ended) aborted is.1)
+  where
+    of_end : (e : Option ℕ) → EndsAs h t Aborted e → ⊥
+    of_end None ends = ends
+    of_end (Some p) ends = one_end h wf t done.0 p done.1 ends

@@ -1,6 +1,7 @@
 //! What an index of a history answers: where a transaction starts and how it ends, and the versions of a key.
 #![tactic(auto)]
 
+mod events;
 mod indexed;
 mod info;
 pub mod make;
