@@ -1,6 +1,9 @@
 pub mod Ordered
 pub mod Table
-pub mod Chains
+pub mod KeyChains
 pub mod Due
 pub mod Writes
 pub mod Collected
+pub mod Runs
+pub mod Spans
+pub mod Offsets

@@ -28,7 +28,7 @@ contains_row table i t info d below same is =
 
 -- what the table says of a transaction is so
 pub told : (h : List Event) (table : List TxnRow) → AreTxns h table → (t : ℕ) (found : Option TxnInfo) → MatchOption found (All (λ row. row.txn ≢ t) table) (λ info. Contains table (record { txn = t; info = info })) → MatchOption found (¬ HasEvent h t) (IsInfo h t)
-told h table are t None none = λ has. let row = are.whole t has in none row.0 row.1 row.2 (subst (λ (r : TxnRow). r.txn ≡ t) (sym row.3) row.4)
+told h table are t None none = λ has. let row = are.whole t has in All-contains (λ (r : TxnRow). r.txn ≢ t) table (record { txn = t; info = row.0 }) none row.1 refl
 told h table are t (Some info) row = All-contains (λ (r : TxnRow). IsInfo h r.txn r.info) table (record { txn = t; info = info }) are.right row
 
 -- what has a start has an event

@@ -1,10 +1,11 @@
 -- The rows of an index's tables: what each says of a history, and the order that they stand in.
-use Rattle.std.specs.Prelude.{◌≡◌, ◌<◌, ◌≤◌, ℕ, List, [], ◌∷◌, All, AllPairs, Any, Contains}
+use Rattle.std.specs.Prelude.{◌<◌, ◌≤◌, ℕ, List, [], ◌∷◌, All, AllPairs, Contains}
 use Rattle.sia_events.specs.declared.event.Event.{Event}
 use Rattle.sia_events.specs.Lists.{ListsBy, Precedes}
 use Rattle.sia_events.specs.Transactions.{ActsAt, HasEvent, WritesAt, Wrote, CommitsAt}
 use Rattle.sia_index.specs.Info.{IsInfo}
 use Rattle.sia_index.specs.declared.info.Made.{Made}
+use Rattle.sia_index.specs.declared.info.TxnInfo.{TxnInfo}
 use Rattle.sia_index.specs.declared.rows.ActRow.{ActRow}
 use Rattle.sia_index.specs.declared.rows.WriteRow.{WriteRow}
 use Rattle.sia_index.specs.declared.rows.VersionRow.{VersionRow}
@@ -13,6 +14,16 @@ use Rattle.sia_index.specs.declared.rows.TxnRow.{TxnRow}
 -- every event, by transaction
 abbrev pub AreActs : List Event → List ActRow → Type 0
 AreActs h acts = ListsBy (λ a. a.txn ∷ a.place ∷ []) (λ a. ActsAt h a.txn a.place) acts
+
+abbrev pub AscendsByAct : List ActRow → Type 0
+AscendsByAct acts = AllPairs (λ x y. Precedes (x.txn ∷ x.place ∷ []) (y.txn ∷ y.place ∷ [])) acts
+
+-- the first event of t stands at place first, and its last at place last
+pub record IsSpan (h : List Event) (t first last : ℕ) : Type 0 where
+  pub starts : ActsAt h t first
+  pub none_before : (p : ℕ) → ActsAt h t p → first ≤ p
+  pub ends : ActsAt h t last
+  pub none_after : (p : ℕ) → ActsAt h t p → p ≤ last
 
 -- every write event, by key and transaction
 abbrev pub AreWrites : List Event → List WriteRow → Type 0
@@ -28,6 +39,9 @@ HasNoWrite writes t k = (q : ℕ) → ¬ Contains writes (record { key = k; txn 
 -- p is the least place in the rows of k and t
 abbrev pub IsFirstRow : List WriteRow → ℕ → ℕ → ℕ → Type 0
 IsFirstRow writes t k p = Contains writes (record { key = k; txn = t; place = p }) × ((q : ℕ) → Contains writes (record { key = k; txn = t; place = q }) → p ≤ q)
+
+abbrev pub AscendsByVersion : List VersionRow → Type 0
+AscendsByVersion rows = AllPairs (λ x y. Precedes (x.key ∷ x.commit ∷ x.txn ∷ []) (y.key ∷ y.commit ∷ y.txn ∷ [])) rows
 
 abbrev pub AscendsByCommit : List Made → Type 0
 AscendsByCommit versions = AllPairs (λ x y. x.commit < y.commit) versions
@@ -48,4 +62,4 @@ AscendsByTxn table = AllPairs (λ x y. x.txn < y.txn) table
 pub record AreTxns (h : List Event) (table : List TxnRow) : Type 0 where
   pub ascending : AscendsByTxn table
   pub right : All (λ row. IsInfo h row.txn row.info) table
-  pub whole : (t : ℕ) → HasEvent h t → Any (λ row. row.txn ≡ t) table
+  pub whole : (t : ℕ) → HasEvent h t → (info : TxnInfo) × Contains table (record { txn = t; info = info })

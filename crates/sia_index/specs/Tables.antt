@@ -1,12 +1,21 @@
 -- What the tables of an index hold of its history.
 use Rattle.std.specs.Prelude.{◌≡◌, ◌<◌, ◌≤◌, ◌+◌, ℕ, List, length, slice_index, slice_range}
+use Rattle.std.specs.List.Sorted.{IsPartitionPoint}
 use Rattle.sia_events.specs.declared.event.Event.{Event}
 use Rattle.sia_events.specs.Refusals.{IsWellFormed}
 use Rattle.sia_index.specs.Info.{AreVersions, AreWrittenKeys}
 use Rattle.sia_index.specs.Rows.{AreTxns, AreWrites}
 use Rattle.sia_index.specs.declared.info.Made.{Made}
+use Rattle.sia_index.specs.declared.rows.VersionRow.{VersionRow}
 use Rattle.sia_index.specs.declared.rows.WriteRow.{WriteRow}
 use Rattle.sia_index.specs.declared.rows.TxnRow.{TxnRow}
+
+-- the offsets of the first n keys' versions among the rows
+pub record AreOffsets (keys : List ℕ) (rows : List VersionRow) (offsets : List ℕ) (n : ℕ) : Type 0 where
+  pub count : length offsets ≡ n + 1
+  pub first : slice_index offsets 0 ≡ 0
+  pub bound : (i : ℕ) → i < n → slice_index offsets i ≤ slice_index offsets (i + 1) × (slice_index offsets (i + 1) ≤ length rows)
+  pub split : (i : ℕ) → i < n → IsPartitionPoint (λ row. row.key ≤ slice_index keys i) (λ row. slice_index keys i < row.key) rows (slice_index offsets (i + 1))
 
 -- the versions of key number i are those from offset i to offset i + 1
 pub record HasChain (h : List Event) (keys offsets : List ℕ) (made : List Made) (i : ℕ) : Type 0 where

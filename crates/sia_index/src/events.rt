@@ -37,11 +37,7 @@ pub fn writes_of(alloc: Global, h: &History) -> Result<Vec<WriteRow>, AllocError
     for before in 0..h.len() {
         let place = before + 1;
         if let Some((txn, key)) = write_at(h, place) {
-            writes.push(WriteRow {
-                key,
-                txn,
-                place,
-            })?;
+            writes.push(WriteRow { key, txn, place })?;
         }
     }
     put_in_order(&mut writes);
@@ -61,11 +57,7 @@ pub fn version_rows_of(
     for before in 0..h.len() {
         if let Some((txn, key)) = write_at(h, before + 1) {
             if let Some(commit) = commit_of(txns, txn) {
-                rows.push(VersionRow {
-                    key,
-                    commit,
-                    txn,
-                })?;
+                rows.push(VersionRow { key, commit, txn })?;
             }
         }
     }

@@ -1,5 +1,5 @@
 -- Each place adds the row of its event, if it is a write.
-use Rattle.std.proofs.Common.{refl, sym, arith}
+use Rattle.std.proofs.Common.{sym, arith}
 use Rattle.sia_index.proofs.Collected.{IsWriteAt, holds_none, write_more, write_same, writes_listed}
 use Rattle.sia_index.proofs.events.writes_of.Goals as goal
 use Rattle.sia_index.proofs.events.writes_of.Goals.{in-Some+in_ok-push, in_default}

@@ -1,7 +1,7 @@
 -- The one list holds the versions of all keys.
 use Rattle.std.proofs.Common.{subst}
 use Rattle.sia_index.specs.Info.{AreAllVersions}
-use Rattle.sia_index.proofs.Chains.{all_chains}
+use Rattle.sia_index.proofs.KeyChains.{all_chains}
 use Rattle.sia_index.proofs.indexed.Index.all_versions.Goals as goal
 
 pub returns : goal.returns

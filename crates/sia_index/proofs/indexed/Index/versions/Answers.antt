@@ -2,7 +2,7 @@
 use Rattle.std.proofs.Common.{Ok, Err, ℕ, sym, subst}
 use Rattle.sia_index.specs.Info.{AreWrittenKeys}
 use Rattle.sia_index.proofs.Ordered.{ascends, found_by}
-use Rattle.sia_index.proofs.Chains.{no_versions}
+use Rattle.sia_index.proofs.KeyChains.{no_versions}
 use Rattle.sia_index.proofs.indexed.Index.versions.Goals as goal
 
 pub versions_at-requires : goal.versions_at-requires

@@ -2,7 +2,7 @@
 use Rattle.std.proofs.Common.{◌+◌, subst, arith}
 use Rattle.std.specs.Prelude.{slice_index, slice_range}
 use Rattle.sia_index.specs.Info.{AreVersions, AreWrittenKeys}
-use Rattle.sia_index.proofs.Chains.{key_number}
+use Rattle.sia_index.proofs.KeyChains.{key_number}
 use Rattle.sia_index.proofs.indexed.Index.versions_at.Goals as goal
 
 pub part_at-requires : goal.part_at-requires
