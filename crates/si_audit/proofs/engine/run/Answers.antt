@@ -1,0 +1,24 @@
+use Rattle.std.proofs.Common.{subst, sym, ◌∙◌}
+use Rattle.std.specs.Io.KnownBytes.{Appends}
+use Rattle.si_audit.specs.Told.{IsTold}
+use Rattle.si_audit.proofs.WhatIsTold.{told_all, told_whole, told_front}
+use Rattle.si_audit.proofs.engine.run.Goals as goal
+
+pub returns-in-Ok-clause-told : goal.returns-in-Ok-clause-told
+returns-in-Ok-clause-told g c =
+    told_all _ _ _ c.in_ok-text.text.items c.in_ok-text.ensures.text c.in_ok-told.told.bytes.items c.in_ok-told.told.outcome
+    (subst (λ t. IsTold t c.in_ok-told.told.bytes.items c.in_ok-told.told.outcome) c.as_slice.ensures.value c.in_ok-told.ensures)
+    (subst (λ bs. Appends (g.W.Sink.taken c.args.writer.now) (g.W.Sink.taken c.write_whole.new.writer) bs) c.as_slice-2.ensures.value c.in-Ok.ensures.ok)
+
+pub returns-clause-front : goal.returns-clause-front
+returns-clause-front g c _ =
+    told_front _ _ _ c.in_ok-text.text.items c.in_ok-text.ensures.text c.in_ok-told.told.bytes.items c.in-Err.ensures.front.0 c.in-Err.ensures.front.1 c.in_ok-told.told.outcome
+    (subst (λ t. IsTold t c.in_ok-told.told.bytes.items c.in_ok-told.told.outcome) c.as_slice.ensures.value c.in_ok-told.ensures)
+    (sym c.as_slice-2.ensures.value ∙ c.in-Err.ensures.front.2)
+    c.in-Err.ensures.front.3
+
+pub returns-clause-whole : goal.returns-clause-whole
+returns-clause-whole g c _ accepted =
+    told_whole _ _ _ c.in_ok-text.text.items c.in_ok-text.ensures.text c.in_ok-told.told.bytes.items c.in_ok-told.told.outcome
+    (subst (λ t. IsTold t c.in_ok-told.told.bytes.items c.in_ok-told.told.outcome) c.as_slice.ensures.value c.in_ok-told.ensures)
+    (subst (λ bs. Appends (g.W.Sink.taken c.args.writer.now) (g.W.Sink.taken c.write_whole.new.writer) bs) c.as_slice-2.ensures.value (c.in-Err.ensures.whole accepted))
