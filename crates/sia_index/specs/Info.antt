@@ -42,6 +42,10 @@ AreWrittenKeys h keys = ListsAscending (λ k. (t : ℕ) × Wrote h t k) keys
 abbrev pub IsFirstWrite : List Event → ℕ → ℕ → ℕ → Type 0
 IsFirstWrite h t k p = WritesAt h t k p × ((q : ℕ) → WritesAt h t k q → p ≤ q)
 
+-- there is a number i of the written keys, counted from 0
+abbrev pub HasKeyAt : List Event → ℕ → Type 0
+HasKeyAt h i = (keys : List ℕ) × AreWrittenKeys h keys × (i < length keys)
+
 -- k is number i of the written keys, counted from 0
 abbrev pub IsKeyAt : List Event → ℕ → ℕ → Type 0
 IsKeyAt h i k = (keys : List ℕ) × AreWrittenKeys h keys × (i < length keys) × (slice_index keys i ≡ k)

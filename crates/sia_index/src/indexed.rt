@@ -2,7 +2,7 @@
 ghost use Rattle.std.specs.Prelude.{◌≡◌, ◌↔◌, ◌≤◌, ◌<◌, ℕ, IsTrue, MatchOption, All, Contains};
 ghost use Rattle.sia_events.specs.Transactions.{HasEvent, Overlap, Wrote, WroteBefore};
 ghost use Rattle.sia_events.specs.Reads.{IsDue};
-ghost use Rattle.sia_index.specs.Info.{IsInfo, AreVersions, AreWrittenKeys, AreAllVersions, IsFirstWrite, IsKeyAt, StartsBefore};
+ghost use Rattle.sia_index.specs.Info.{IsInfo, AreVersions, AreWrittenKeys, AreAllVersions, IsFirstWrite, HasKeyAt, IsKeyAt, StartsBefore};
 ghost use Rattle.sia_index.specs.Rows.{AscendsByCommit, IsLastWithin};
 
 use crate::info::{Fate, Made, TxnInfo};
@@ -65,7 +65,7 @@ impl Index {
 
     /// The versions of number `i` of the written keys, counted from 0: no search is needed.
     pub fn versions_at(&self, i: usize) -> &[Made]
-        requires { (k : ℕ) × IsKeyAt self.now i k }
+        requires { HasKeyAt self.now i }
         ensures { (k : ℕ) → IsKeyAt self.now i k → AreVersions self.now k result.now }
     {
         part_at(&self.made, &self.offsets, i)

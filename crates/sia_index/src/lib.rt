@@ -12,3 +12,6 @@ mod txns;
 
 pub use indexed::Index;
 pub use info::{Fate, Made, TxnInfo};
+
+#[cfg(test)]
+mod tests;

@@ -10,7 +10,7 @@ versions_at-requires c =
     let own = subst (λ h. AreWrittenKeys h c.self.inside.keys.items) c.self.view_is c.self.invariant.keys_are in
     let are = subst (AreWrittenKeys c.args.self.now) (sym c.deref.ensures.value) own in
     let found = found_by (λ (k : ℕ). k) _ (ascends (λ (k : ℕ). k) _ _ are) c.args.k (Ok c.in-Ok.i) c.in-Ok.ensures.bound c.in-Ok.ensures.position in
-    (c.args.k, (c.deref.result.now, are, found.0, found.1 0))
+    (c.deref.result.now, are, found.0)
 
 pub returns-in-Ok : goal.returns-in-Ok
 returns-in-Ok c =

@@ -1,5 +1,5 @@
 -- The offsets of key number i are those of its versions.
-use Rattle.std.proofs.Common.{◌+◌, subst, arith}
+use Rattle.std.proofs.Common.{◌+◌, refl, subst, arith}
 use Rattle.std.specs.Prelude.{slice_index, slice_range}
 use Rattle.sia_index.specs.Info.{AreVersions, AreWrittenKeys}
 use Rattle.sia_index.proofs.KeyChains.{key_number}
@@ -7,7 +7,7 @@ use Rattle.sia_index.proofs.indexed.Index.versions_at.Goals as goal
 
 pub part_at-requires : goal.part_at-requires
 part_at-requires c =
-    let key = key_number _ _ (subst (λ h. AreWrittenKeys h c.self.inside.keys.items) c.self.view_is c.self.invariant.keys_are) _ _ c.requires.1 in
+    let key = key_number _ _ (subst (λ h. AreWrittenKeys h c.self.inside.keys.items) c.self.view_is c.self.invariant.keys_are) _ _ (c.requires.0, c.requires.1, c.requires.2, refl) in
     let below = key.0 in
     let chain = c.self.invariant.chains_are.each c.args.i key.0 in
     rw (c.deref-2.ensures.value, c.deref.ensures.value) (record {
