@@ -1,7 +1,6 @@
 pub mod WorkedLines
 pub mod CommandLines
 pub mod OneReport
-pub mod Scanning
 pub mod Found
 pub mod Sets
 pub mod WhatIsTold

@@ -7,5 +7,4 @@ pub mod Report
 pub mod Outcomes
 pub mod Devices
 pub mod Told
-pub mod Newest
 pub mod ToldOf

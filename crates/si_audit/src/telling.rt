@@ -10,6 +10,7 @@ use crate::counts::{Counts, counted};
 use crate::engine::Outcome;
 use crate::lines::{push_bad_read, push_events, push_isolation, push_refusal};
 use sia_events::{History, NoMemory, TextFault, TextReader};
+use sia_index::make::index;
 use sia_parts::BadRead;
 use std::alloc::{AllocError, Global};
 
@@ -53,7 +54,8 @@ fn told_of_history(alloc: Global, h: &History) -> Result<Told, NoMemory>
     ensures { IfOk result (IsToldOf h.now) }
 {
     let counts = counted(alloc, h)?;
-    let found = bad_reads(alloc, h)?;
+    let ix = index(alloc, h)?;
+    let found = bad_reads(alloc, h, &ix)?;
     let mut bytes = Vec::new(alloc);
     push_told(&mut bytes, &counts, found.as_slice())?;
     Ok(Told {

@@ -4,7 +4,7 @@ use Rattle.std.specs.Ordering.{nat_cmp}
 use Rattle.std.specs.BTreeSet.{BTreeSet, contains, btree_set_len, Updates}
 use Rattle.std.proofs.lemmas.Bool.{both_ways}
 use Rattle.sia_events.specs.Events.{actor}
-use Rattle.si_audit.proofs.Scanning.{place_within}
+use Rattle.sia_events.proofs.TransactionDecisions.{place_within}
 use Rattle.si_audit.proofs.Sets.{HoldsActors, actor_in, actor_out, no_actor}
 use Rattle.si_audit.proofs.counts.others.Goals as goal
 use Rattle.si_audit.proofs.counts.others.Goals.{in-Some+then-not-contains+then-not-contains-2+in_ok-insert, in-Some+else-not-contains, else-not-contains-via-then-not-contains+else-not-contains-2, else-not-contains-via-else-not-contains, in_default}
@@ -57,6 +57,6 @@ pub returns-clause-each : goal.returns-clause-each
 returns-clause-each c t = (
   (λ in_set. let w = (c.loop-before.invariant.each t).0 in_set in ((w.0.0, w.0.2), w.1.0, w.1.1)),
   (λ w.
-      let within : w.0.0 ≤ length c.args.h.now = place_within c.args.h.now w.0.0 w.0.1.0 w.0.1.1 in
+      let within : w.0.0 ≤ length c.args.h.now = (place_within c.args.h.now w.0.0 w.0.1.0 w.0.1.1).1 in
       (c.loop-before.invariant.each t).1 ((w.0.0, omega (arith, c.len-before-end.ensures.len), w.0.1), (w.1, w.2))),
 )
