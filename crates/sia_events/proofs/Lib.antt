@@ -46,4 +46,5 @@ pub mod FirstFaults
 pub mod Pieces
 pub mod Progresses
 pub mod Writing
+pub mod Steps
 pub mod Pairs

@@ -1,6 +1,6 @@
 //! What the reader keeps of the events so far, to judge the next one without going over them.
-ghost use Rattle.std.specs.Prelude.{◌≡◌, ℕ, ◌||◌, not, nat_lt, List, [], ◌∷◌, ◌++◌, OnOk};
-ghost use Rattle.std.specs.List.{list_all};
+ghost use Rattle.std.specs.Prelude.{◌≡◌, ℕ, ◌||◌, not, nat_lt, List, [], ◌∷◌, ◌++◌, drop, true, IsTrue, OnOk};
+ghost use Rattle.std.specs.List.{list_all, AllByRecursion};
 ghost use Rattle.std.specs.BTreeSet.{contains};
 ghost use Rattle.std.specs.Ordering.{nat_cmp};
 ghost use Rattle.sia_events.specs.declared.event.Event.{Event as AnEvent};
@@ -11,6 +11,7 @@ use crate::event::{Event, Key, TxnId, Version};
 use crate::fault::Reason;
 use std::alloc::{AllocError, Global};
 use std::collections::BTreeSet;
+use std::collections::btree_set::Range;
 
 /// Which transactions have an event, which have ended, and who has written which key.
 ///
@@ -47,6 +48,17 @@ fn is_good_list(lo: Key, hi: Key, listed: &[(Key, Version)]) -> bool
         before = Some(*key);
     }
     true
+}
+
+/// Whether this is the next version, which is then passed.
+fn is_next(ahead: &mut Range<'_, (Key, TxnId)>, version: (Key, TxnId)) -> bool
+    ensures found { IsTrue result → ahead.old ≡ version ∷ ahead.new }
+    ensures passed { ahead.new ≡ drop 1 ahead.old }
+{
+    match ahead.next() {
+        Some(next) => *next == version,
+        None => false,
+    }
 }
 
 fn add_begun(begun: &mut BTreeSet<TxnId>, event: &Event) -> Result<(), AllocError>
@@ -135,6 +147,48 @@ impl Tables {
         }
     }
 
+    /// Whether the version of the key is 0 or was written. Only while the versions asked for are in step with those that
+    /// are ahead in the table, is the table not searched.
+    fn is_explained_next(
+        &self,
+        ahead: &mut Range<'_, (Key, TxnId)>,
+        in_step: &mut bool,
+        key: Key,
+        saw: Version,
+    ) -> bool
+        requires { AllByRecursion (λ p. contains pair_cmp self.now.written p ≡ true) ahead.old }
+        ensures explained { (events : List AnEvent) → Knows self.now events → result ≡ is_explained events (key, saw) }
+        ensures found { AllByRecursion (λ p. contains pair_cmp self.now.written p ≡ true) ahead.new }
+    {
+        if saw == 0 {
+            return true;
+        }
+        if *in_step {
+            if is_next(ahead, (key, saw)) {
+                return true;
+            }
+            *in_step = false;
+        }
+        self.is_explained(key, saw)
+    }
+
+    /// Whether each listed version is 0 or was written.
+    fn are_explained(&self, listed: &[(Key, Version)]) -> bool
+        ensures { (events : List AnEvent) → Knows self.now events → result ≡ list_all (is_explained events) listed.now }
+    {
+        let Some(first) = listed.first() else {
+            return true;
+        };
+        let mut ahead = self.written.range(*first..);
+        let mut in_step = true;
+        for (key, saw) in listed {
+            if !self.is_explained_next(&mut ahead, &mut in_step, *key, *saw) {
+                return false;
+            }
+        }
+        true
+    }
+
     #[tactic(auto, unfolding(crate::specs::Known::range_fault))]
     fn range_fault(&self, lo: Key, hi: Key, listed: &[(Key, Version)]) -> Option<Reason>
         ensures { (events : List AnEvent) → Knows self.now events → result ≡ range_fault events lo hi listed.now }
@@ -145,10 +199,8 @@ impl Tables {
         if !is_good_list(lo, hi, listed) {
             return Some(Reason::BadList);
         }
-        for (key, saw) in listed {
-            if !self.is_explained(*key, *saw) {
-                return Some(Reason::NotWritten);
-            }
+        if !self.are_explained(listed) {
+            return Some(Reason::NotWritten);
         }
         None
     }

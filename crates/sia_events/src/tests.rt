@@ -1,45 +1,62 @@
-//! Texts and what they are read as.
+//! Texts and what they are read as, whole and in pieces.
 use super::*;
+use std::alloc::Global;
+use std::process::Abort;
 use std::test::*;
+
+mod pieces;
+mod refusals;
+mod writing;
+
+/// What a reader answers that is fed these two pieces.
+fn read_cut(alloc: Global, front: &[u8], back: &[u8]) -> Result<History, TextFault> {
+    let mut reader = TextReader::new(alloc);
+    if reader.feed(front).is_err() || reader.feed(back).is_err() {
+        return Err(TextFault::NoMemory);
+    }
+    reader.finish()
+}
+
+/// What a reader answers that is fed a text byte by byte.
+fn read_bytes(alloc: Global, text: &[u8]) -> Result<History, TextFault> {
+    let mut reader = TextReader::new(alloc);
+    for at in 0..text.len() {
+        if reader.feed(&text[at..=at]).is_err() {
+            return Err(TextFault::NoMemory);
+        }
+    }
+    reader.finish()
+}
+
+/// The fault of a text, which is the same however the text is cut.
+fn fault<R: Abort + AllocGlobal>(rt: &R, text: &[u8]) -> Option<TextFault> {
+    let whole = read_history(rt.alloc(), text).err();
+    assert_eq!(rt; read_bytes(rt.alloc(), text).err(), whole);
+    for at in 0..=text.len() {
+        let (front, back) = text.split_at(at);
+        assert_eq!(rt; read_cut(rt.alloc(), front, back).err(), whole);
+    }
+    whole
+}
 
 fn refused(token: u32, reason: Reason) -> Option<TextFault> {
     Some(TextFault::Refused { token, reason })
 }
 
-#[test]
-fn refusals(rt: HostRuntime) {
-    let texts: [(&[u8], Option<TextFault>); 16] = [
-        (b"r1[9..3]", refused(1, Reason::EmptyRange)),
-        (b"r1[9..3;1:0]", refused(1, Reason::EmptyRange)),
-        (b"r1[3..9;5:0,5:0]", refused(1, Reason::BadList)),
-        (b"r1[3..9;10:0]", refused(1, Reason::BadList)),
-        (b"r1[3..9;5:2,5:0]", refused(1, Reason::BadList)),
-        (b"r0[1:0]", refused(1, Reason::BadNumber)),
-        (b"c1 r0[9..3]", refused(2, Reason::BadNumber)),
-        (b"r4294967296[1:0]", refused(1, Reason::BadNumber)),
-        (b"r1[1:4294967296]", refused(1, Reason::BadNumber)),
-        (b"r1[18446744073709551616:0]", refused(1, Reason::BadNumber)),
-        (b"r01[1:0]", refused(1, Reason::BadEvent)),
-        (b"r1[1:", refused(1, Reason::BadEvent)),
-        (b"r1[0..5;]", refused(1, Reason::BadEvent)),
-        (b"b1c1", refused(1, Reason::BadEvent)),
-        (b"R1[1:0]", refused(1, Reason::BadEvent)),
-        (b"r1[5:1] w1[5]", refused(1, Reason::NotWritten)),
-    ];
-    for (text, fault) in texts {
-        assert_eq!(rt; read_history(rt.alloc(), text).err(), fault);
-    }
-}
-
-#[test]
-fn events_of_a_text(rt: HostRuntime) -> Result<(), Fail> {
-    let text = b"  r1[3..9;5:0]\n\tw1[4]\r\nc1 ";
+/// The canonical text of what a text is read as, which is the same however the text is cut.
+fn written<R: Abort + AllocGlobal>(rt: &R, text: &[u8]) -> Result<Vec<u8>, Fail> {
     let history = read_history(rt.alloc(), text)
         .ok()
         .ok_or("the text is a history")?;
-    assert_eq!(rt; history.len(), 3);
-    assert!(rt; history.event(0).is_none());
-    assert!(rt; history.event(4).is_none());
-    assert!(rt; matches!(history.event(2), Some(Event::Write { txn: 1, key: 4 })));
-    Ok(())
+    let canonical = write_history(rt.alloc(), &history)
+        .ok()
+        .ok_or("memory is there")?;
+    let by_bytes = read_bytes(rt.alloc(), text)
+        .ok()
+        .ok_or("the bytes are a history")?;
+    let again = write_history(rt.alloc(), &by_bytes)
+        .ok()
+        .ok_or("memory is there")?;
+    assert!(rt; canonical == again);
+    Ok(canonical)
 }
