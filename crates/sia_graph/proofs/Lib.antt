@@ -25,3 +25,4 @@ pub mod LeastEdges
 pub mod PrintedCycle
 pub mod StuckSets
 pub mod NoFirsts
+pub mod InOrder

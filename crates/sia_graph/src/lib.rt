@@ -17,3 +17,6 @@ pub use pivot::Pivot;
 pub use replaying::{Mismatch, ReplayFault};
 pub use settling::{Step, Steps, Verdict, settle};
 pub use txns::Txns;
+
+#[cfg(test)]
+mod tests;
