@@ -1,4 +1,4 @@
-use Rattle.std.proofs.Common.{◌≡◌, ◌<◌, ◌+◌, length, take, drop, sym, ap, ◌∙◌, subst, List, ℕ, arith}
+use Rattle.std.proofs.Common.{◌≡◌, ◌<◌, ◌+◌, length, take, drop, sym, ◌∙◌, subst, List, ℕ, arith}
 use Rattle.std.specs.List.{position_or_len}
 use Rattle.sia_events.specs.Text.{is_separator}
 use Rattle.sia_events.specs.Judging.{IsSplitAfter}
