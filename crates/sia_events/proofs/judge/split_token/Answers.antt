@@ -1,3 +1,4 @@
+-- The bytes before the first separator, and those after it, are all of the text.
 use Rattle.std.proofs.Common.{◌≡◌, ◌<◌, ◌+◌, length, take, drop, sym, ◌∙◌, subst, List, ℕ, arith}
 use Rattle.std.specs.List.{position_or_len}
 use Rattle.sia_events.specs.Text.{is_separator}

@@ -1,3 +1,4 @@
+-- The loop stops at the first separator, or at the end.
 use Rattle.std.proofs.Common.{sym, arith}
 use Rattle.std.proofs.lemmas.List.Sums.{position_or_len_is}
 use Rattle.sia_events.specs.Text.{is_separator}

@@ -1,3 +1,4 @@
+-- The loop stops where the digits end, and keeps their number where 64 bits hold it.
 use Rattle.std.proofs.Common.{◌≡◌, ◌<◌, false, length, take, get_or, sym, arith}
 use Rattle.std.proofs.lemmas.Bool.Decides.{nat_tests}
 use Rattle.sia_events.specs.Parsing.{is_digit, digits_len, digits_value}

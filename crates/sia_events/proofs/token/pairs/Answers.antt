@@ -1,3 +1,4 @@
+-- A pair goes on the list, ends it, or has no form.
 use Rattle.std.proofs.Common.{◌<◌, ◌≤◌, ◌+◌, length, arith}
 use Rattle.std.proofs.lemmas.Result.{err_from_is_err_and}
 use Rattle.sia_events.specs.Parsing.{kept, pairs_at}

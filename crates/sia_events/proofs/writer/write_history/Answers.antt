@@ -1,3 +1,4 @@
+-- One more event, after a space but for the first.
 use Rattle.std.proofs.Common.{◌≡◌, ◌+◌, ◌<◌, ◌++◌, ◌∷◌, [], length, take, sym, ap, ◌∙◌, arith}
 use Rattle.std.proofs.lemmas.List.{take_more, length-take}
 use Rattle.sia_events.specs.declared.event.Event.{Event}

@@ -1,3 +1,4 @@
+-- The unfinished token is judged first, and then those of the piece.
 use Rattle.std.proofs.lemmas.Result.{err_from_is_err_and}
 use Rattle.sia_events.proofs.Pieces.{nothing_taken, taken_after, halts_after, halts_at_first}
 use Rattle.sia_events.proofs.judge.Judge.take_piece.Goals as goal

@@ -1,3 +1,4 @@
+-- A token that is refused stops the events.
 use Rattle.std.proofs.Common.{◌≢◌, length, arith}
 use Rattle.std.proofs.lemmas.Bool.Decides.{nat_tests}
 use Rattle.sia_events.proofs.Pieces.{halts_first}

@@ -1,3 +1,4 @@
+-- After a piece the reader stands for the text so far, whether its tokens are judged, one is refused, or one was.
 use Rattle.std.proofs.Common.{◌≡◌, ◌+◌, ◌≤◌, ◌++◌, ℕ, suc, Option, Some, None, length, refl, sym, subst, arith}
 use Rattle.std.specs.Prelude.{min, IsNone}
 use Rattle.sia_events.specs.declared.fault.Reason.{Reason}

@@ -1,3 +1,4 @@
+-- The end of the text: its last token is judged, or the fault is told.
 use Rattle.std.proofs.Common.{◌≡◌, ℕ, suc, Option, Some, None, List, length, refl, sym, subst, ◌∙◌, arith}
 use Rattle.std.specs.Prelude.{IsNone}
 use Rattle.sia_events.specs.declared.event.Event.{Event}

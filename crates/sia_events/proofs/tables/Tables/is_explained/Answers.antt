@@ -1,3 +1,4 @@
+-- A version other than 0 is one that the table holds.
 use Rattle.std.proofs.Common.{◌≡◌, false, ◌∙◌, arith}
 use Rattle.std.specs.Prelude.{◌==◌}
 use Rattle.std.proofs.lemmas.Bool.Decides.{nat_tests}
