@@ -71,7 +71,7 @@ pub enum Event {
 
 impl Event {
     /// Who acts.
-    pub fn txn(&self) -> TxnId
+    pub(crate) fn txn(&self) -> TxnId
         ensures { result ≡ actor self.now }
     {
         match self {
