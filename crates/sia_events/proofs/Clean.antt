@@ -1,5 +1,5 @@
 -- The tokens of a text judged one after another: the events that come of them, of which none has a reason.
-use Rattle.std.proofs.Common.{◌≡◌, ◌≢◌, ◌⊎◌, inl, inr, ℕ, zero, suc, ◌+◌, ◌-◌, ◌<◌, ◌≤◌, Bool, true, false, cond, List, [], ◌∷◌, ◌++◌, map, length, slice_get, Option, Some, None, Result, Ok, Err, refl, ap, sym, subst, ◌∙◌, arith, append_assoc}
+use Rattle.std.proofs.Common.{◌≡◌, ◌≢◌, ◌⊎◌, inl, inr, ℕ, zero, suc, ◌-◌, ◌<◌, ◌≤◌, Bool, true, false, cond, List, [], ◌∷◌, ◌++◌, map, length, slice_get, Option, Some, None, Result, Ok, Err, refl, ap, sym, subst, ◌∙◌, arith}
 use Rattle.std.specs.Prelude.{◌==◌}
 use Rattle.std.proofs.lemmas.Bool.Decides.{nat_tests}
 use Rattle.std.proofs.lemmas.List.{append-nil, length-append}
@@ -9,7 +9,7 @@ use Rattle.sia_events.specs.declared.fault.Reason.TheVariants.{TooManyEvents, Ba
 use Rattle.sia_events.specs.declared.fault.TextFault.TheVariants.{NoMemory, TextTooLong, Refused}
 use Rattle.sia_events.specs.Places.{at_place}
 use Rattle.sia_events.specs.Text.{spell, tokens, canonical, StandsFor}
-use Rattle.sia_events.specs.Refusals.{IsInRange, HasReason, IsAccepted, IsWellFormed}
+use Rattle.sia_events.specs.Refusals.{HasReason, IsAccepted, IsWellFormed}
 use Rattle.sia_events.specs.Parsing.{◌>>=◌, event_at}
 use Rattle.sia_events.specs.Known.{fault_of}
 use Rattle.sia_events.specs.Judging.{unless, judged, JudgedAll}

@@ -1,19 +1,15 @@
 -- Each event's spelling is read to it, or to a number out of range.
-use Rattle.std.proofs.Common.{◌≡◌, ◌⊎◌, inl, inr, ℕ, zero, suc, ◌+◌, ◌<◌, ◌≤◌, ◌^◌, Bool, true, false, List, [], ◌∷◌, ◌++◌, length, All, Option, Some, None, Result, Ok, Err, refl, ap, sym, subst, ◌∙◌, arith, nat_lt}
-use Rattle.std.specs.Prelude.{◌==◌}
-use Rattle.std.proofs.lemmas.Bool.{eqb-true}
-use Rattle.std.proofs.lemmas.Bool.Decides.{nat_tests}
+use Rattle.std.proofs.Common.{◌≡◌, ◌⊎◌, inl, inr, ℕ, zero, suc, ◌+◌, ◌<◌, ◌≤◌, List, [], ◌∷◌, ◌++◌, length, Option, Some, None, Result, Ok, refl, ap, ◌∙◌, arith}
 use Rattle.std.proofs.lemmas.List.{length-append}
 use Rattle.sia_events.specs.Text.{numeral, spell}
 use Rattle.sia_events.specs.declared.event.Event.{Event}
 use Rattle.sia_events.specs.declared.event.Event.TheVariants.{Begin, Read, Range, Write, Commit, Abort}
 use Rattle.sia_events.specs.declared.fault.Reason.{Reason}
-use Rattle.sia_events.specs.declared.fault.Reason.TheVariants.{BadEvent, BadNumber}
-use Rattle.sia_events.specs.Parsing.{◌>>=◌, narrow, number_at, after_byte, ended, key_of, version_of, txn_of, begin_at, write_at, item_at, pair_from, pair_at, joined, one_pair, begins_with, pairs_within, pairs_at, list_at, list_of, range_at, read_at, commit_at, abort_at, event_at}
-use Rattle.sia_events.proofs.Numerals.{IsDigit, StopsDigits}
-use Rattle.sia_events.proofs.NumberLaws.{BeginsWith, number_cases, number_again}
-use Rattle.sia_events.proofs.Spelling.{pairs_text, list_text, start_text, event_text, regrouped}
-use Rattle.sia_events.proofs.EventLaws.{Lacks, IsReadText, narrow_pair, narrow_list, begin_sound, read_sound, write_sound, commit_sound, abort_sound}
+use Rattle.sia_events.specs.Parsing.{◌>>=◌, narrow, number_at, after_byte, ended, key_of, version_of, txn_of, begin_at, write_at, item_at, pair_at, joined, one_pair, pairs_within, pairs_at, list_at, list_of, range_at, read_at, commit_at, abort_at, event_at}
+use Rattle.sia_events.proofs.Numerals.{IsDigit}
+use Rattle.sia_events.proofs.NumberLaws.{number_again}
+use Rattle.sia_events.proofs.Spelling.{pairs_text, list_text, event_text, regrouped}
+use Rattle.sia_events.proofs.EventLaws.{narrow_pair, narrow_list}
 
 -- the event with each number in its range, or the reason that one isn't
 abbrev pub in_ranges : Event → Result Event Reason

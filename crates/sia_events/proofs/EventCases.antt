@@ -1,5 +1,5 @@
 -- What becomes of a token: it has no form, or it spells an event, whose numbers are in their ranges or not.
-use Rattle.std.proofs.Common.{◌≡◌, ◌≢◌, ◌⊎◌, inl, inr, ℕ, ◌<◌, ◌≤◌, ◌^◌, Bool, true, false, List, [], ◌∷◌, ◌++◌, All, Option, Some, None, Result, Ok, Err, refl, ap, sym, subst, ◌∙◌, arith, nat_lt}
+use Rattle.std.proofs.Common.{◌≡◌, ◌≢◌, ◌⊎◌, inl, inr, ℕ, ◌<◌, ◌^◌, Bool, true, false, List, [], ◌∷◌, ◌++◌, Some, None, Result, Ok, Err, refl, ap, sym, ◌∙◌, arith, nat_lt}
 use Rattle.std.specs.Prelude.{◌==◌}
 use Rattle.std.specs.List.{AllByRecursion}
 use Rattle.std.proofs.lemmas.Bool.{eqb-true, cases_lt}
@@ -11,11 +11,11 @@ use Rattle.sia_events.specs.declared.event.Event.TheVariants.{Begin, Read, Range
 use Rattle.sia_events.specs.declared.fault.Reason.{Reason}
 use Rattle.sia_events.specs.declared.fault.Reason.TheVariants.{BadEvent, BadNumber}
 use Rattle.sia_events.specs.Refusals.{IsTxn, IsKey, IsVersion, IsStart, IsInRange}
-use Rattle.sia_events.specs.Parsing.{◌>>=◌, narrow, number_at, key_of, version_of, txn_of, pair_from, joined, one_pair, list_of, begin_at, write_at, read_at, commit_at, abort_at, event_at}
+use Rattle.sia_events.specs.Parsing.{narrow, key_of, version_of, txn_of, list_of, event_at}
 use Rattle.sia_events.proofs.Spelling.{event_text, regrouped}
 use Rattle.sia_events.proofs.Digits.{narrow_small, narrow_great}
 use Rattle.sia_events.proofs.NumberLaws.{BeginsWith, number_cases}
-use Rattle.sia_events.proofs.EventLaws.{Lacks, IsReadText, narrow_pair, narrow_list, begin_sound, read_sound, write_sound, commit_sound, abort_sound}
+use Rattle.sia_events.proofs.EventLaws.{Lacks, narrow_pair, narrow_list, begin_sound, read_sound, write_sound, commit_sound, abort_sound}
 use Rattle.sia_events.proofs.EventAgain.{in_ranges, event_again}
 
 -- ---- a token that is read has the text of an event

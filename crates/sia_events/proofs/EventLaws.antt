@@ -1,17 +1,13 @@
 -- What a token is read to: a token that is read is spelled so, and each spelling is read.
-use Rattle.std.proofs.Common.{◌≡◌, ◌⊎◌, inl, inr, ℕ, zero, suc, ◌+◌, ◌<◌, ◌≤◌, ◌^◌, Bool, true, false, List, [], ◌∷◌, ◌++◌, length, drop, Option, Some, None, Result, Ok, Err, refl, ap, sym, subst, ◌∙◌, arith}
+use Rattle.std.proofs.Common.{◌≡◌, ◌⊎◌, inl, inr, ℕ, zero, suc, ◌+◌, Bool, true, false, List, [], ◌∷◌, ◌++◌, length, drop, Option, Some, None, Result, Ok, Err, refl, ap, sym, ◌∙◌}
 use Rattle.std.specs.Prelude.{◌==◌}
 use Rattle.std.proofs.lemmas.Bool.{eqb-true}
-use Rattle.std.proofs.lemmas.Bool.Decides.{nat_tests}
-use Rattle.sia_events.specs.Text.{numeral, spell}
-use Rattle.sia_events.specs.declared.event.Event.{Event}
-use Rattle.sia_events.specs.declared.event.Event.TheVariants.{Begin, Read, Range, Write, Commit, Abort}
+use Rattle.sia_events.specs.Text.{numeral}
 use Rattle.sia_events.specs.declared.fault.Reason.{Reason}
-use Rattle.sia_events.specs.declared.fault.Reason.TheVariants.{BadEvent, BadNumber}
-use Rattle.sia_events.specs.Parsing.{◌>>=◌, narrow, number_at, after_byte, ended, key_of, version_of, txn_of, begin_at, write_at, item_at, pair_from, pair_at, joined, one_pair, begins_with, pairs_within, pairs_at, list_at, list_of, range_at, read_at, commit_at, abort_at, event_at}
-use Rattle.sia_events.proofs.Numerals.{IsDigit, StopsDigits}
-use Rattle.sia_events.proofs.NumberLaws.{BeginsWith, number_cases, number_again}
-use Rattle.sia_events.proofs.Spelling.{pairs_text, list_text, start_text, event_text}
+use Rattle.sia_events.specs.declared.fault.Reason.TheVariants.{BadEvent}
+use Rattle.sia_events.specs.Parsing.{narrow, after_byte, ended, begin_at, write_at, item_at, pair_from, pair_at, joined, one_pair, begins_with, pairs_within, pairs_at, list_at, range_at, read_at, commit_at, abort_at}
+use Rattle.sia_events.proofs.NumberLaws.{BeginsWith, number_cases}
+use Rattle.sia_events.proofs.Spelling.{pairs_text, list_text, start_text}
 
 -- ---- a step that has no form, or that goes on
 

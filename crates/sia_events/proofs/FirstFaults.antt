@@ -1,5 +1,5 @@
 -- Where tokens are judged one after another, the first that is refused is the first faulty one, and its reason is its least.
-use Rattle.std.proofs.Common.{◌≡◌, ◌≢◌, ◌⊎◌, inl, inr, ℕ, zero, suc, ◌+◌, ◌-◌, ◌<◌, ◌≤◌, Bool, true, false, cond, List, [], ◌∷◌, ◌++◌, map, length, slice_get, Option, Some, None, Result, Ok, Err, refl, ap, sym, subst, ◌∙◌, append_assoc, arith}
+use Rattle.std.proofs.Common.{◌≡◌, ◌≢◌, ◌⊎◌, inl, inr, ℕ, zero, suc, ◌-◌, ◌<◌, ◌≤◌, Bool, true, false, cond, List, [], ◌∷◌, ◌++◌, map, length, slice_get, Option, Some, None, Result, Err, refl, ap, sym, subst, ◌∙◌, append_assoc, arith}
 use Rattle.std.specs.Prelude.{◌==◌}
 use Rattle.std.proofs.lemmas.Bool.{cases_lt, eqb-true}
 use Rattle.std.proofs.lemmas.Bool.Decides.{nat_tests}
@@ -9,17 +9,17 @@ use Rattle.sia_events.specs.declared.fault.Reason.{Reason}
 use Rattle.sia_events.specs.declared.fault.Reason.TheVariants.{TooManyEvents, BadEvent, BadNumber, AlreadyEnded, AlreadyBegun, EmptyRange, BadList, NotWritten, BadStart}
 use Rattle.sia_events.specs.Places.{at_place}
 use Rattle.sia_events.specs.Text.{spell}
-use Rattle.sia_events.specs.Refusals.{IsInRange, EventHas, IsEarlier, TokenHas, HasReason, reason_number, AnyForm, IsFirstFault}
+use Rattle.sia_events.specs.Refusals.{EventHas, IsEarlier, TokenHas, HasReason, reason_number, AnyForm, IsFirstFault}
 use Rattle.sia_events.specs.Parsing.{◌>>=◌, event_at}
 use Rattle.sia_events.specs.Known.{fault_of}
-use Rattle.sia_events.specs.Judging.{unless, judged, JudgedAll, StopsAt}
+use Rattle.sia_events.specs.Judging.{unless, judged, StopsAt}
 use Rattle.sia_events.proofs.Spelling.{spell_injective}
 use Rattle.sia_events.proofs.WellFormed.{IsBefore, moved}
 use Rattle.sia_events.proofs.Refusing.{place_event, fit_has_none}
 use Rattle.sia_events.proofs.EventCases.{token_cases}
 use Rattle.sia_events.proofs.Faults.{IsAmong}
 use Rattle.sia_events.proofs.EventFaults.{fault_least}
-use Rattle.sia_events.proofs.Clean.{IsClean, IsReadClean, judged_clean}
+use Rattle.sia_events.proofs.Clean.{IsClean, judged_clean}
 
 -- ---- the reasons of the next token
 

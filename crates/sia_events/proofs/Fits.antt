@@ -1,6 +1,6 @@
 -- An event in which the tables find no fault has no reason.
-use Rattle.std.proofs.Common.{◌≡◌, ◌≢◌, ◌⊎◌, inl, inr, ℕ, ◌<◌, ◌≤◌, Bool, true, false, List, Option, Some, None, refl, ap, sym, subst, ◌∙◌, arith, nat_lt}
-use Rattle.std.specs.Prelude.{◌==◌, Contains}
+use Rattle.std.proofs.Common.{◌≡◌, ◌≢◌, inl, inr, ℕ, ◌<◌, ◌≤◌, true, false, List, Some, None, sym, subst, ◌∙◌, arith, nat_lt}
+use Rattle.std.specs.Prelude.{◌==◌}
 use Rattle.std.specs.List.{list_any, list_all}
 use Rattle.std.proofs.lemmas.Bool.Decides.{nat_tests}
 use Rattle.sia_events.specs.declared.event.Event.{Event}
@@ -8,7 +8,7 @@ use Rattle.sia_events.specs.declared.event.Event.TheVariants.{Begin, Read, Range
 use Rattle.sia_events.specs.declared.fault.Reason.TheVariants.{AlreadyEnded, AlreadyBegun, EmptyRange, BadList, NotWritten, BadStart}
 use Rattle.sia_events.specs.Events.{actor, named_start, Saw}
 use Rattle.sia_events.specs.Refusals.{IsInRange, IsBegin, IsEmptyRange, HasBadList}
-use Rattle.sia_events.specs.Known.{acts, ends, is_explained, goes_up, begin_fault, read_fault, range_fault, own_fault, fault_of}
+use Rattle.sia_events.specs.Known.{acts, ends, is_explained, goes_up, read_fault, range_fault, own_fault, fault_of}
 use Rattle.sia_events.proofs.Refusing.{IsFit}
 use Rattle.sia_events.proofs.Faults.{IsAmong, among_any, same_true, true_false, none_of, else_none, explained, all_explained, good_list}
 

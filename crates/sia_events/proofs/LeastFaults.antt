@@ -1,20 +1,20 @@
 -- The fault that the tables find is the least reason of the event.
-use Rattle.std.proofs.Common.{◌≡◌, ◌≢◌, ◌⊎◌, inl, inr, ℕ, zero, suc, ◌+◌, ◌<◌, ◌≤◌, Bool, true, false, cond, List, [], ◌∷◌, length, Option, Some, None, refl, ap, sym, subst, ◌∙◌, arith, nat_lt}
-use Rattle.std.specs.Prelude.{◌==◌, ◌&&◌, ◌||◌, not, map, All, Contains, slice_index, slice_index_or}
+use Rattle.std.proofs.Common.{◌≡◌, ◌≢◌, inl, inr, ℕ, zero, suc, ◌+◌, ◌<◌, ◌≤◌, Bool, true, false, List, [], ◌∷◌, length, Some, refl, sym, subst, arith, nat_lt}
+use Rattle.std.specs.Prelude.{◌==◌, ◌&&◌, ◌||◌, map, Contains, slice_index, slice_index_or}
 use Rattle.std.specs.List.{list_any, list_all, AllByRecursion}
 use Rattle.std.specs.List.Sorted.{IsStrictlyIncreasing}
 use Rattle.std.proofs.lemmas.Bool.{eqb-true}
 use Rattle.std.proofs.lemmas.Bool.Decides.{nat_tests}
-use Rattle.std.proofs.lemmas.List.Elements.{All-from_recursion, recursion_from_All}
+use Rattle.std.proofs.lemmas.List.Elements.{recursion_from_All}
 use Rattle.sia_events.specs.declared.event.Event.{Event}
-use Rattle.sia_events.specs.declared.event.Event.TheVariants.{Begin, Read, Range, Write, Commit, Abort}
+use Rattle.sia_events.specs.declared.event.Event.TheVariants.{Write}
 use Rattle.sia_events.specs.declared.fault.Reason.{Reason}
 use Rattle.sia_events.specs.declared.fault.Reason.TheVariants.{TooManyEvents, BadEvent, BadNumber, AlreadyEnded, AlreadyBegun, EmptyRange, BadList, NotWritten, BadStart}
-use Rattle.sia_events.specs.Events.{actor, named_start, Saw}
-use Rattle.sia_events.specs.Refusals.{IsInRange, IsBegin, IsEmptyRange, HasBadList, IsGoodList, EventHas, reason_number}
-use Rattle.sia_events.specs.Known.{acts, ends, writes, is_explained, goes_up, begin_fault, read_fault, range_fault, own_fault, fault_of}
-use Rattle.sia_events.proofs.Faults.{IsAmong, any_among, among_any, ends_is, writes_is, writes_same, same_true, true_false, good_list}
-use Rattle.sia_events.proofs.Fits.{none_acts, none_ends}
+use Rattle.sia_events.specs.Events.{actor}
+use Rattle.sia_events.specs.Refusals.{IsInRange, IsGoodList, EventHas, reason_number}
+use Rattle.sia_events.specs.Known.{acts, ends, writes, is_explained, goes_up}
+use Rattle.sia_events.proofs.Faults.{IsAmong, any_among, among_any, writes_same, true_false, good_list}
+use Rattle.sia_events.proofs.Fits.{none_ends}
 
 -- ---- keys that go up are found to
 

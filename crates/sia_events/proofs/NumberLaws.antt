@@ -1,16 +1,14 @@
 -- A number that is read is spelled so, and a numeral is read again.
-use Rattle.std.proofs.Common.{◌≡◌, ◌⊎◌, inl, inr, ℕ, zero, suc, ◌+◌, ◌-◌, ◌*◌, ◌/◌, ◌%◌, ◌<◌, ◌≤◌, ◌^◌, Bool, true, false, cond, List, [], ◌∷◌, ◌++◌, length, take, drop, get_or, Option, Some, None, Result, Ok, Err, refl, ap, sym, subst, ◌∙◌, append_assoc, arith, nat_lt, nat_le}
-use Rattle.std.specs.Prelude.{fold, ◌==◌, ◌||◌, ◌&&◌}
-use Rattle.std.specs.List.{prefix_len, AllByRecursion}
+use Rattle.std.proofs.Common.{◌≡◌, ◌⊎◌, inl, inr, ℕ, zero, suc, ◌+◌, ◌-◌, ◌*◌, ◌/◌, ◌%◌, ◌<◌, ◌≤◌, Bool, true, false, List, [], ◌∷◌, ◌++◌, length, take, drop, get_or, Ok, Err, refl, ap, sym, subst, ◌∙◌, append_assoc, arith, nat_lt, nat_le}
+use Rattle.std.specs.Prelude.{◌==◌, ◌&&◌}
 use Rattle.std.proofs.lemmas.List.{append-nil}
 use Rattle.std.proofs.lemmas.List.Sums.{fold-append}
 use Rattle.std.proofs.lemmas.Bool.{cases_lt}
 use Rattle.std.proofs.lemmas.Bool.Decides.{nat_tests}
 use Rattle.sia_events.specs.Text.{numeral}
-use Rattle.sia_events.specs.declared.fault.Reason.{Reason}
 use Rattle.sia_events.specs.declared.fault.Reason.TheVariants.{BadEvent}
-use Rattle.sia_events.specs.Parsing.{is_digit, digits_value, digits_len, lacks_numeral, narrow, number_at}
-use Rattle.sia_events.proofs.Numerals.{IsDigit, AreDigits, AreDigits-append, StopsDigits, value_of, value_of-numeral, numeral-digits}
+use Rattle.sia_events.specs.Parsing.{is_digit, digits_len, lacks_numeral, narrow, number_at}
+use Rattle.sia_events.proofs.Numerals.{IsDigit, AreDigits, StopsDigits, value_of, value_of-numeral, numeral-digits}
 use Rattle.sia_events.proofs.Decimals.{numeral_digit, numeral_step}
 
 digit_passes : (c : ℕ) → IsDigit c → is_digit c ≡ true

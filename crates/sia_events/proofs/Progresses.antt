@@ -1,6 +1,6 @@
 -- What a reader keeps stands for a text: as it opens, after one more piece, and as it ends.
-use Rattle.std.proofs.Common.{◌≡◌, inl, ℕ, zero, suc, ◌+◌, ◌<◌, ◌≤◌, Bool, true, false, List, [], ◌∷◌, ◌++◌, map, length, All, Option, Some, None, refl, ap, sym, subst, ◌∙◌, append_assoc, arith}
-use Rattle.std.specs.Prelude.{min, is_some, IsNone}
+use Rattle.std.proofs.Common.{◌≡◌, inl, ℕ, suc, ◌+◌, ◌<◌, ◌≤◌, Bool, true, false, List, [], ◌++◌, map, length, All, Option, Some, None, refl, ap, sym, subst, ◌∙◌, arith}
+use Rattle.std.specs.Prelude.{min, is_some}
 use Rattle.std.proofs.lemmas.List.{length-append}
 use Rattle.std.proofs.lemmas.List.Elements.{All-nil}
 use Rattle.sia_events.specs.declared.event.Event.{Event}
@@ -8,7 +8,7 @@ use Rattle.sia_events.specs.declared.fault.Reason.{Reason}
 use Rattle.sia_events.specs.declared.fault.TextFault.TheVariants.{TextTooLong, Refused}
 use Rattle.sia_events.specs.Text.{spell, is_separator, tokens, StandsFor}
 use Rattle.sia_events.specs.Refusals.{HasReason, IsFirstFault, IsRefusal, IsAccepted, IsWellFormed}
-use Rattle.sia_events.specs.Streaming.{Progress, IsCutAtLastSeparator, HasJudged, StandsForRead}
+use Rattle.sia_events.specs.Streaming.{Progress, IsCutAtLastSeparator, StandsForRead}
 use Rattle.sia_events.specs.Judging.{JudgedAll, StopsAt, as_token, HasText}
 use Rattle.sia_events.proofs.Cuts.{some_cut, cut_then, tokens_then, tokens_cut}
 use Rattle.sia_events.proofs.Judged.{JudgedAll-append}

@@ -1,4 +1,5 @@
-use Rattle.std.proofs.Common.{◌≡◌, ◌<◌, ◌+◌, length, take, drop, sym, ap, ◌∙◌, subst, List, ℕ, arith}
+-- The bytes before the first separator, and those after it, are all of the text.
+use Rattle.std.proofs.Common.{◌≡◌, ◌<◌, ◌+◌, length, take, drop, sym, ◌∙◌, subst, List, ℕ, arith}
 use Rattle.std.specs.List.{position_or_len}
 use Rattle.sia_events.specs.Text.{is_separator}
 use Rattle.sia_events.specs.Judging.{IsSplitAfter}

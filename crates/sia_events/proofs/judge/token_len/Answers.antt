@@ -1,4 +1,5 @@
-use Rattle.std.proofs.Common.{◌≡◌, ◌<◌, true, length, get_or, sym, ◌∙◌, arith}
+-- The loop stops at the first separator, or at the end.
+use Rattle.std.proofs.Common.{sym, arith}
 use Rattle.std.proofs.lemmas.List.Sums.{position_or_len_is}
 use Rattle.sia_events.specs.Text.{is_separator}
 use Rattle.sia_events.proofs.judge.token_len.Goals as goal

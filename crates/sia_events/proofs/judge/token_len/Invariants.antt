@@ -1,3 +1,4 @@
+-- No separator among the bytes passed.
 use Rattle.std.proofs.Common.{◌≡◌, ℕ, ◌-◌, ◌<◌, ◌≤◌, false, length, get_or}
 use Rattle.sia_events.specs.Text.{is_separator}
 use Rattle.sia_events.proofs.judge.token_len.Given as goal

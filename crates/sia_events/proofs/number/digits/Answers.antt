@@ -1,6 +1,7 @@
-use Rattle.std.proofs.Common.{◌≡◌, ℕ, ◌<◌, ◌≤◌, ◌^◌, false, length, take, get_or, sym, ap, subst, ◌∙◌, arith}
+-- The loop stops where the digits end, and keeps their number where 64 bits hold it.
+use Rattle.std.proofs.Common.{◌≡◌, ◌<◌, false, length, take, get_or, sym, arith}
 use Rattle.std.proofs.lemmas.Bool.Decides.{nat_tests}
-use Rattle.sia_events.specs.Parsing.{is_digit, digits_len, digits_value, narrow}
+use Rattle.sia_events.specs.Parsing.{is_digit, digits_len, digits_value}
 use Rattle.sia_events.proofs.Digits.{digits_end, narrow_small, narrow_great}
 use Rattle.sia_events.proofs.number.digits.Goals as goal
 use Rattle.sia_events.proofs.number.digits.Goals.{then-loop-len-test+else-is_ascii_digit, else-loop-len-test}

@@ -1,3 +1,4 @@
+-- The digits passed so far, and the number that they stand for.
 use Rattle.std.proofs.Common.{◌≡◌, ℕ, ◌-◌, ◌^◌, ◌<◌, ◌≤◌, true, false, length, take, get_or}
 use Rattle.sia_events.specs.Parsing.{is_digit, digits_value}
 use Rattle.sia_events.proofs.number.digits.Given as goal

@@ -1,3 +1,4 @@
+-- One piece is the whole text.
 use Rattle.std.proofs.Common.{[]}
 use Rattle.sia_events.proofs.reader.read_history.Goals as goal
 

@@ -1,3 +1,4 @@
+-- What is left goes up from the last key exactly where the whole list does.
 use Rattle.std.proofs.Common.{◌≡◌, drop}
 use Rattle.sia_events.specs.Known.{least_after, goes_up}
 use Rattle.sia_events.proofs.tables.is_good_list.Given as goal

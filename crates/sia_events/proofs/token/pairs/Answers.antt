@@ -1,7 +1,8 @@
-use Rattle.std.proofs.Common.{◌≡◌, ◌<◌, ◌≤◌, ◌+◌, ℕ, length, sym, subst, ◌∙◌, ap, arith, Option, List}
+-- A pair goes on the list, ends it, or has no form.
+use Rattle.std.proofs.Common.{◌<◌, ◌≤◌, ◌+◌, length, arith}
 use Rattle.std.proofs.lemmas.Result.{err_from_is_err_and}
-use Rattle.sia_events.specs.Parsing.{kept, joined, one_pair, pairs_at, pairs_within}
-use Rattle.sia_events.proofs.Pairs.{with_front, starts, goes_on, is_done, fails}
+use Rattle.sia_events.specs.Parsing.{kept, pairs_at}
+use Rattle.sia_events.proofs.Pairs.{starts, goes_on, is_done, fails}
 use Rattle.sia_events.proofs.token.pairs.Goals as goal
 
 pub loop-found-init : goal.loop-found-init

@@ -1,3 +1,4 @@
+-- The pairs so far, with those that are still read, are the whole list's.
 use Rattle.std.proofs.Common.{◌≡◌, ℕ, ◌<◌, length}
 use Rattle.sia_events.specs.Parsing.{kept, pairs_within, pairs_at}
 use Rattle.sia_events.proofs.Pairs.{with_front}

@@ -1,3 +1,4 @@
+-- One more listed key after its separator.
 use Rattle.std.proofs.Common.{◌≡◌, ◌≢◌, ◌+◌, ◌<◌, ◌++◌, ◌∷◌, [], ℕ, List, length, take, get_or, sym, ap, ◌∙◌, append_assoc, arith}
 use Rattle.std.proofs.lemmas.List.{take_more, length-take}
 use Rattle.sia_events.specs.Text.{spell_pair, spell_list}

@@ -1,3 +1,4 @@
+-- The listed keys so far are spelled.
 use Rattle.std.proofs.Common.{◌≡◌, ◌++◌, take}
 use Rattle.sia_events.specs.Text.{spell_list}
 use Rattle.sia_events.proofs.writer.push_list.Given as goal

@@ -1,4 +1,5 @@
-use Rattle.std.proofs.Common.{◌≡◌, ◌++◌, List, ℕ, sym, ap}
+-- What itoa prints is the numeral.
+use Rattle.std.proofs.Common.{◌++◌, List, ℕ, sym, ap}
 use Rattle.sia_events.proofs.Decimals.{numeral_decimal}
 use Rattle.sia_events.proofs.writer.push_number.Goals as goal
 

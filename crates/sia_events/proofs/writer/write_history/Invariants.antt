@@ -1,3 +1,4 @@
+-- The text so far is the canonical text of the events so far.
 use Rattle.std.proofs.Common.{◌≡◌, take}
 use Rattle.sia_events.specs.Text.{canonical}
 use Rattle.sia_events.proofs.writer.write_history.Given as goal

@@ -1,3 +1,4 @@
+-- The text up to what is left ends at a separator, and its tokens are judged.
 use Rattle.std.proofs.Common.{◌≡◌, ℕ, ◌++◌, List, length}
 use Rattle.sia_events.specs.Text.{tokens}
 use Rattle.sia_events.specs.Known.{Knows}

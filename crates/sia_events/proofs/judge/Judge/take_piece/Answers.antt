@@ -1,8 +1,5 @@
-use Rattle.std.proofs.Common.{◌≡◌, ◌++◌, ℕ, List, sym, ap, subst, ◌∙◌}
+-- The unfinished token is judged first, and then those of the piece.
 use Rattle.std.proofs.lemmas.Result.{err_from_is_err_and}
-use Rattle.sia_events.specs.Text.{tokens}
-use Rattle.sia_events.specs.Streaming.{IsCutAtLastSeparator}
-use Rattle.sia_events.specs.Judging.{JudgedAll}
 use Rattle.sia_events.proofs.Pieces.{nothing_taken, taken_after, halts_after, halts_at_first}
 use Rattle.sia_events.proofs.judge.Judge.take_piece.Goals as goal
 

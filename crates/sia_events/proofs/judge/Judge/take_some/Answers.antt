@@ -1,4 +1,5 @@
-use Rattle.std.proofs.Common.{◌≡◌, ◌≢◌, length, arith}
+-- A token that is refused stops the events.
+use Rattle.std.proofs.Common.{◌≢◌, length, arith}
 use Rattle.std.proofs.lemmas.Bool.Decides.{nat_tests}
 use Rattle.sia_events.proofs.Pieces.{halts_first}
 use Rattle.sia_events.proofs.judge.Judge.take_some.Goals as goal

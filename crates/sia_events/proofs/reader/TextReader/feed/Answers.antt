@@ -1,12 +1,12 @@
-use Rattle.std.proofs.Common.{◌≡◌, ◌+◌, ◌≤◌, ◌++◌, ℕ, suc, false, Option, Some, None, List, length, refl, sym, subst, ◌∙◌, arith}
+-- After a piece the reader stands for the text so far, whether its tokens are judged, one is refused, or one was.
+use Rattle.std.proofs.Common.{◌≡◌, ◌+◌, ◌≤◌, ◌++◌, ℕ, suc, Option, Some, None, length, refl, sym, subst, arith}
 use Rattle.std.specs.Prelude.{min, IsNone}
 use Rattle.sia_events.specs.declared.fault.Reason.{Reason}
 use Rattle.sia_events.specs.declared.fault.Refusal.{Refusal}
 use Rattle.sia_events.specs.Text.{tokens}
 use Rattle.sia_events.specs.Streaming.{Progress, StandsForRead}
-use Rattle.sia_events.specs.Judging.{HaltsIn, HasText}
-use Rattle.sia_events.proofs.Clean.{IsClean}
-use Rattle.sia_events.proofs.Progresses.{none_is, stops_clean, stands_taken, stands_refused, stands_decided, stands_long, text_clean, text_more}
+use Rattle.sia_events.specs.Judging.{HaltsIn}
+use Rattle.sia_events.proofs.Progresses.{none_is, stops_clean, stands_taken, stands_refused, stands_decided, text_clean, text_more}
 use Rattle.sia_events.proofs.reader.TextReader.feed.Goals as goal
 
 pub returns-then-is_some-clause-stands : goal.returns-then-is_some-clause-stands

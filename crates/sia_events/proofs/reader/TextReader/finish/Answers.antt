@@ -1,13 +1,14 @@
-use Rattle.std.proofs.Common.{◌≡◌, ◌≤◌, ℕ, suc, false, Option, Some, None, List, length, refl, sym, subst, ◌∙◌, arith}
+-- The end of the text: its last token is judged, or the fault is told.
+use Rattle.std.proofs.Common.{◌≡◌, ℕ, suc, Option, Some, None, List, length, refl, sym, subst, ◌∙◌, arith}
 use Rattle.std.specs.Prelude.{IsNone}
 use Rattle.sia_events.specs.declared.event.Event.{Event}
 use Rattle.sia_events.specs.declared.fault.Reason.{Reason}
 use Rattle.sia_events.specs.declared.fault.Refusal.{Refusal}
 use Rattle.sia_events.specs.declared.fault.TextFault.TheVariants.{Refused}
 use Rattle.sia_events.specs.Text.{StandsFor}
-use Rattle.sia_events.specs.Refusals.{IsRefusal, IsAccepted, IsWellFormed}
+use Rattle.sia_events.specs.Refusals.{IsRefusal, IsWellFormed}
 use Rattle.sia_events.specs.Streaming.{Progress, StandsForRead}
-use Rattle.sia_events.specs.Judging.{JudgedAll, Halts, as_token, HasText}
+use Rattle.sia_events.specs.Judging.{JudgedAll, Halts, as_token}
 use Rattle.sia_events.proofs.Progresses.{stops_clean, ends_kept, ends_accepted, ends_refused, text_clean, text_history}
 use Rattle.sia_events.proofs.reader.TextReader.finish.Goals as goal
 

@@ -1,3 +1,4 @@
+-- A new reader has read the empty text.
 use Rattle.sia_events.proofs.Progresses.{text_none}
 use Rattle.sia_events.proofs.reader.TextReader.new.Goals as goal
 

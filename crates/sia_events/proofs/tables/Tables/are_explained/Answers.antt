@@ -1,3 +1,4 @@
+-- What a range of the table yields stands in it.
 use Rattle.std.proofs.Common.{refl}
 use Rattle.sia_events.proofs.Steps.{run_found}
 use Rattle.sia_events.proofs.tables.Tables.are_explained.Goals as goal

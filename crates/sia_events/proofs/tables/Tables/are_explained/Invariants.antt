@@ -1,3 +1,4 @@
+-- What is left is explained exactly where the whole list is, and what is ahead stands in the table.
 use Rattle.std.proofs.Common.{◌≡◌, List, drop}
 use Rattle.std.specs.List.{list_all, AllByRecursion}
 use Rattle.sia_events.specs.declared.event.Event.{Event}

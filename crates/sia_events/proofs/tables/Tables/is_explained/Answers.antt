@@ -1,8 +1,7 @@
-use Rattle.std.proofs.Common.{◌≡◌, false, ap, ◌∙◌, arith}
-use Rattle.std.specs.Prelude.{◌==◌, ◌||◌}
-use Rattle.std.specs.List.{list_any}
+-- A version other than 0 is one that the table holds.
+use Rattle.std.proofs.Common.{◌≡◌, false, ◌∙◌, arith}
+use Rattle.std.specs.Prelude.{◌==◌}
 use Rattle.std.proofs.lemmas.Bool.Decides.{nat_tests}
-use Rattle.sia_events.specs.Known.{writes}
 use Rattle.sia_events.proofs.tables.Tables.is_explained.Goals as goal
 
 pub returns-else-saw-eq0 : goal.returns-else-saw-eq0
