@@ -1,5 +1,5 @@
 -- The keys of a well-formed history's entries take 64 bits, and a rank tells the key.
-use Rattle.std.proofs.Common.{◌≡◌, ◌⊎◌, inl, inr, ℕ, ◌<◌, ◌≤◌, ◌^◌, List, [], ◌∷◌, arith}
+use Rattle.std.proofs.Common.{◌≡◌, ℕ, ◌<◌, ◌^◌, List, [], ◌∷◌, arith}
 use Rattle.sia_events.specs.declared.event.Event.{Event}
 use Rattle.sia_events.specs.declared.event.Event.TheVariants.{Begin, Read, Range, Write, Commit, Abort}
 use Rattle.sia_events.specs.Events.{Saw}

@@ -8,3 +8,4 @@ pub mod ManyLists
 pub mod FindingLemmas
 pub mod KeyLemmas
 pub mod FieldLemmas
+pub mod NoEvents

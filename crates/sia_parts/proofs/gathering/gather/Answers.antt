@@ -1,6 +1,4 @@
 -- Each list of the parts can be merged, and all of them are what the definitions name.
-use Rattle.std.proofs.Common.{◌≡◌, List}
-use Rattle.sia_parts.specs.Findings.{AreFindings}
 use Rattle.sia_parts.proofs.FieldLemmas.{bad_reads_can, bad_reads_all, bad_writes_can, bad_writes_all, unexplained_can, unexplained_all, edges_can, edges_all}
 use Rattle.sia_parts.proofs.gathering.gather.Goals as goal
 
