@@ -1,3 +1,11 @@
 pub mod Members
 pub mod StartLemmas
 pub mod PartLemmas
+pub mod Ranks
+pub mod TwoLists
+pub mod MergeSteps
+pub mod ManyLists
+pub mod FindingLemmas
+pub mod KeyLemmas
+pub mod FieldLemmas
+pub mod NoEvents

@@ -1,9 +1,9 @@
 -- The parts that starts give, one after another.
-use Rattle.std.proofs.Common.{◌≡◌, ◌⊎◌, inl, inr, ℕ, zero, suc, ◌+◌, ◌-◌, ◌<◌, ◌≤◌, ◌^◌, List, [], ◌∷◌, length, get_or, drop, slice_get, Option, Some, None, refl, ap, sym, subst, ◌∙◌, arith}
+use Rattle.std.proofs.Common.{◌≡◌, inl, inr, ℕ, zero, suc, ◌+◌, ◌-◌, ◌<◌, ◌≤◌, ◌^◌, List, [], ◌∷◌, length, get_or, drop, slice_get, Option, Some, None, refl, ap, sym, subst, ◌∙◌, arith}
 use Rattle.std.proofs.lemmas.Bool.{cases_lt}
 use Rattle.std.proofs.lemmas.List.{drop_more}
 use Rattle.sia_parts.specs.declared.cutting.Part.{Part}
-use Rattle.sia_parts.specs.Parts.{parts_from, IsInPart, IsInPartAt, IsCutting, OnePartLaw}
+use Rattle.sia_parts.specs.Parts.{parts_from, IsInPartAt, OnePartLaw}
 use Rattle.sia_parts.proofs.Members.{contains_first}
 use Rattle.sia_parts.proofs.StartLemmas.{Rises, Rises-later, first_less, cuts_of}
 

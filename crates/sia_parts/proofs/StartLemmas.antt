@@ -1,5 +1,5 @@
 -- The starts of parts, and the cuts among them.
-use Rattle.std.proofs.Common.{◌≡◌, ◌≢◌, ◌⊎◌, inl, inr, ℕ, zero, suc, ◌+◌, ◌<◌, ◌≤◌, List, [], ◌∷◌, ◌++◌, length, eqb, refl, ap, sym, subst, ◌∙◌, arith}
+use Rattle.std.proofs.Common.{◌≡◌, ◌≢◌, ◌⊎◌, inl, inr, ℕ, ◌+◌, ◌<◌, ◌≤◌, List, [], ◌∷◌, ◌++◌, length, eqb, refl, ap, sym, subst, ◌∙◌, arith}
 use Rattle.std.specs.Prelude.{AllPairs, Contains}
 use Rattle.std.specs.List.{dedup}
 use Rattle.std.specs.List.Sorted.{IsStrictlyIncreasing, IsPermutation, IsSorted}
@@ -11,7 +11,7 @@ use Rattle.std.proofs.lemmas.Map.Keys.{IsStrictlyIncreasing-dedup}
 use Rattle.sia_events.specs.Lists.{Precedes, ListsAscending}
 use Rattle.sia_events.proofs.OneList.{one_list_by}
 use Rattle.sia_parts.specs.Parts.{HasTooManyCuts}
-use Rattle.sia_parts.proofs.Members.{first_or_later, contains_first, contains_later, contains_none, first_before, later_pairs}
+use Rattle.sia_parts.proofs.Members.{first_or_later, contains_later, contains_none, first_before, later_pairs}
 
 -- a part starts at s
 abbrev pub IsStart : List ℕ → ℕ → Type 0

@@ -4,11 +4,15 @@
 mod cutting;
 mod finding;
 mod findings;
+mod gathering;
 mod laws;
+mod merging;
+mod ranked;
 
 pub use cutting::{CutFault, Part, cut};
 pub use finding::{BadRead, BadWrite, Edge, Kind, Unexplained};
 pub use findings::{Findings, PartFindings};
+pub use gathering::gather;
 pub use laws::one_part;
 
 #[cfg(test)]

@@ -1,5 +1,10 @@
 //! Cuts and findings worked out by hand.
+ghost use Rattle.std.specs.Prelude.{◌≡◌, []};
+
 use super::*;
+use crate::merging::merge_all;
+use std::alloc::Global;
+use std::collections::VecDeque;
 use std::test::*;
 
 fn part(lo: u64, hi: u64) -> Part {
@@ -30,5 +35,58 @@ fn most_cuts(rt: HostRuntime) -> Result<(), Fail> {
     assert_eq!(rt; parts.len(), 1024);
     points.push(1024)?;
     assert!(rt; matches!(cut(rt.alloc(), &points), Err(CutFault::TooMany)));
+    Ok(())
+}
+
+fn nothing(alloc: Global) -> PartFindings
+    ensures bad_reads { result.bad_reads.items ≡ [] }
+    ensures bad_writes { result.bad_writes.items ≡ [] }
+    ensures unexplained { result.unexplained.items ≡ [] }
+    ensures edges { result.edges.items ≡ [] }
+{
+    PartFindings {
+        bad_reads: Vec::new(alloc),
+        bad_writes: Vec::new(alloc),
+        unexplained: Vec::new(alloc),
+        edges: Vec::new(alloc),
+    }
+}
+
+#[test]
+fn nothing_in_two_parts(rt: HostRuntime) -> Result<(), Fail> {
+    let mut parts = Vec::new(rt.alloc());
+    parts.push(nothing(rt.alloc()))?;
+    parts.push(nothing(rt.alloc()))?;
+    let found = gather(rt.alloc(), parts).ok().ok_or("no memory")?;
+    assert!(rt; found.bad_reads.is_empty());
+    assert!(rt; found.bad_writes.is_empty());
+    assert!(rt; found.unexplained.is_empty());
+    assert!(rt; found.edges.is_empty());
+    Ok(())
+}
+
+#[test]
+fn edges_of_two_parts(rt: HostRuntime) -> Result<(), Fail> {
+    let early = Edge {
+        src: 2,
+        kind: Kind::Rw,
+        dst: 1,
+        key: 12,
+    };
+    let late = Edge {
+        src: 1,
+        kind: Kind::Rw,
+        dst: 2,
+        key: 15,
+    };
+    let mut first = Vec::new(rt.alloc());
+    first.push(early)?;
+    let mut second = Vec::new(rt.alloc());
+    second.push(late)?;
+    let mut lists = VecDeque::new(rt.alloc());
+    lists.push_back(first)?;
+    lists.push_back(second)?;
+    let merged = merge_all(rt.alloc(), lists).ok().ok_or("no memory")?;
+    assert!(rt; merged.as_slice() == [late, early].as_slice());
     Ok(())
 }
