@@ -12,7 +12,7 @@ use Rattle.sia_events.proofs.Spelling.{pairs_text, list_text, start_text, event_
 abbrev pub HasNoSeparator : List ℕ → Type 0
 HasNoSeparator bs = AllByRecursion (λ c. is_separator c ≡ false) bs
 
-HasNoSeparator-append : (xs ys : List ℕ) → HasNoSeparator xs → HasNoSeparator ys → HasNoSeparator (xs ++ ys)
+pub HasNoSeparator-append : (xs ys : List ℕ) → HasNoSeparator xs → HasNoSeparator ys → HasNoSeparator (xs ++ ys)
 HasNoSeparator-append [] ys p q = q
 HasNoSeparator-append (x ∷ xs) ys p q = (p.0, HasNoSeparator-append xs ys p.1 q)
 

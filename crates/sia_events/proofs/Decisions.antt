@@ -26,6 +26,29 @@ first_below P decide (suc n) = elim (first_below P decide n) [
   ]
 ]
 
+-- the greatest number below n of which P holds, or none
+pub last_below : (P : ℕ → Type 0) → ((i : ℕ) → Decided (P i)) → (n : ℕ) → ((i : ℕ) × (i < n) × P i × ((j : ℕ) → j < n → P j → j ≤ i)) ⊎ ((i : ℕ) → i < n → ¬ P i)
+last_below P decide zero = inr (λ i below p. omega arith)
+last_below P decide (suc n) = elim (decide n) [
+  | inl here ↦ inl (n, omega arith, here, λ j below p. omega arith)
+  | inr not_here ↦ elim (last_below P decide n) [
+    | inl found ↦ inl (
+      found.0,
+      (let below : found.0 < n = found.1 in omega arith),
+      found.2,
+      λ j below p. elim (cases_eq j n) [
+        | inl same ↦ absurd (not_here (subst P same p))
+        | inr other ↦ found.3 j (omega arith) p
+      ],
+    )
+    | inr none ↦ inr (λ i below p. elim (cases_eq i n) [
+      | inl same ↦ not_here (subst P same p)
+      | inr other ↦ none i (omega arith) p
+    ])
+  ]
+]
+
+-- whether two lists, options, pairs or events are one
 pub same_list : {A : Type 0} → ((x y : A) → Decided (x ≡ y)) → (xs ys : List A) → Decided (xs ≡ ys)
 same_list same [] [] = inl refl
 same_list same [] (y ∷ ys) = inr (λ e. cc)

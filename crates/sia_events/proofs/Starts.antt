@@ -1,11 +1,13 @@
 -- A transaction has one first event, and one start.
-use Rattle.std.proofs.Common.{◌≡◌, ℕ, ◌+◌, ◌≤◌, List, Option, Some, None, ap, sym, subst, ◌∙◌, arith}
+use Rattle.std.proofs.Common.{◌≡◌, ℕ, ◌+◌, ◌<◌, ◌≤◌, List, Option, Some, None, ap, sym, subst, ◌∙◌, arith}
 use Rattle.std.specs.Prelude.{MatchOption}
 use Rattle.std.proofs.lemmas.Option.{same_Some}
 use Rattle.sia_events.specs.declared.event.Event.{Event}
+use Rattle.sia_events.specs.declared.event.Event.TheVariants.{Commit}
 use Rattle.sia_events.specs.Places.{at_place}
 use Rattle.sia_events.specs.Events.{named_start}
-use Rattle.sia_events.specs.Transactions.{IsFirstEvent, StartsAt}
+use Rattle.sia_events.specs.Transactions.{IsFirstEvent, StartsAt, Sees}
+use Rattle.sia_events.proofs.TransactionDecisions.{place_within}
 
 -- two events at one place are one
 pub one_event : (h : List Event) (p q : ℕ) (e f : Event) → p ≡ q → at_place h p ≡ Some e → at_place h q ≡ Some f → e ≡ f
@@ -28,3 +30,11 @@ one_start h t s r a b =
     by_name : (o : Option ℕ) (p q : ℕ) → p ≡ q → MatchOption o (s + 1 ≡ p) (λ n. s ≡ n) → MatchOption o (r + 1 ≡ q) (λ n. r ≡ n) → s ≡ r
     by_name None p q e x y = omega arith
     by_name (Some n) p q e x y = x ∙ sym y
+
+-- what starts before every event sees no commit
+pub none_seen_from_zero : (h : List Event) (t u : ℕ) → StartsAt h t 0 → ¬ Sees h t u
+none_seen_from_zero h t u start sees =
+    let zero : sees.0 ≡ 0 = one_start h t sees.0 0 sees.2 start in
+    let above : 0 < sees.1 = (place_within h sees.1 (Commit u) sees.3).0 in
+    let below : sees.1 ≤ sees.0 = sees.4 in
+    omega arith

@@ -1,4 +1,4 @@
--- In a well-formed history each event of a transaction stands after its start, and at or before its end.
+-- In a well-formed history a transaction starts before each of its events, so before its commit or abort.
 use Rattle.std.proofs.Common.{◌≡◌, ℕ, ◌+◌, ◌-◌, ◌<◌, ◌≤◌, List, Option, Some, None, refl, arith}
 use Rattle.std.specs.Prelude.{MatchOption}
 use Rattle.sia_events.specs.declared.event.Event.{Event}

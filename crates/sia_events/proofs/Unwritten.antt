@@ -12,7 +12,7 @@ module _ (h : List Event) (wf : IsWellFormed h) (k : ℕ) (none : (t : ℕ) → 
   -- it is seen at version 0 alone
   pub saw_zero : (p t v : ℕ) → SawAt h p t k v → v ≡ 0
   saw_zero p t v saw = elim (cases_eq v 0) [
-    | inl zero ↦ zero
+    | inl is ↦ is
     | inr other ↦ let w = saw_written h wf p t k v saw other in absurd (none v (w.0, w.2))
   ]
 

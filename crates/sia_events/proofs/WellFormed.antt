@@ -15,7 +15,8 @@ use Rattle.sia_events.specs.Text.{spell, tokens, canonical}
 use Rattle.sia_events.specs.Refusals.{IsTxn, IsStart, IsInRange, reason_number, HasReason, HasReasonIn, TokenHas, EventHas, IsEarlier, IsFirstFaultIn, IsAccepted, IsAcceptedIn, AnyForm, IsWellFormed}
 use Rattle.sia_events.proofs.Spelling.{spell_injective}
 use Rattle.sia_events.proofs.Canonical.{canonical_stands}
-use Rattle.sia_events.proofs.Decisions.{Decided, at_most, first_below, same_option, same_event}
+use Rattle.sia_events.proofs.Decisions.{Decided, at_most}
+use Rattle.sia_events.proofs.TransactionDecisions.{wrote_before_or_not}
 
 numbers_below : (r : Reason) → reason_number r < 11
 numbers_below TooManyEvents = omega arith
@@ -66,7 +67,7 @@ accepted_none text a = accepted_none_in AnyForm text a
 abbrev pub IsBefore : List Event → ℕ → Event → Type 0
 IsBefore h i f = (j : ℕ) × (j < i) × (at_place h j ≡ Some f)
 
-at_place-map : (h : List Event) (j : ℕ) → at_place (map spell h) j ≡ option_map spell (at_place h j)
+pub at_place-map : (h : List Event) (j : ℕ) → at_place (map spell h) j ≡ option_map spell (at_place h j)
 at_place-map h zero = refl
 at_place-map h (suc j) = slice_get-map spell h j
 
@@ -74,14 +75,14 @@ spelled : (o : Option Event) (f : Event) → option_map spell o ≡ Some (spell 
 spelled None f e = cc
 spelled (Some g) f e = ap Some (spell_injective g f (let p : spell g ≡ spell f = cc in p))
 
-earlier_before : (h : List Event) (i : ℕ) (f : Event) → IsEarlier (map spell h) i f → IsBefore h i f
+pub earlier_before : (h : List Event) (i : ℕ) (f : Event) → IsEarlier (map spell h) i f → IsBefore h i f
 earlier_before h i f e = (e.0, e.1, spelled (at_place h e.0) f (sym (at_place-map h e.0) ∙ e.2))
 
-before_earlier : (h : List Event) (i : ℕ) (f : Event) → IsBefore h i f → IsEarlier (map spell h) i f
+pub before_earlier : (h : List Event) (i : ℕ) (f : Event) → IsBefore h i f → IsEarlier (map spell h) i f
 before_earlier h i f b = (b.0, b.1, at_place-map h b.0 ∙ ap (option_map spell) b.2)
 
 -- the reasons of an event go by what is before it
-moved : (n : ℕ) (Earlier Before : Event → Type 0) → ((f : Event) → Before f → Earlier f) → ((f : Event) → Earlier f → Before f) → (e : Event) (r : Reason) → EventHas n Before e r → EventHas n Earlier e r
+pub moved : (n : ℕ) (Earlier Before : Event → Type 0) → ((f : Event) → Before f → Earlier f) → ((f : Event) → Earlier f → Before f) → (e : Event) (r : Reason) → EventHas n Before e r → EventHas n Earlier e r
 moved n Earlier Before to from e TooManyEvents h = absurd h
 moved n Earlier Before to from e BadEvent h = absurd h
 moved n Earlier Before to from e BadNumber h = h
@@ -93,7 +94,7 @@ moved n Earlier Before to from e BadList h = h
 moved n Earlier Before to from e NotWritten h = (h.0, h.1, h.2, h.3, λ w. h.4 (from (Write h.1 h.0) w))
 moved n Earlier Before to from e BadStart h = h
 
-token_has : (ts : List (List ℕ)) (i : ℕ) (e : Event) (r : Reason) → EventHas (i - 1) (IsEarlier ts i) e r → TokenHas AnyForm ts i (spell e) r
+pub token_has : (ts : List (List ℕ)) (i : ℕ) (e : Event) (r : Reason) → EventHas (i - 1) (IsEarlier ts i) e r → TokenHas AnyForm ts i (spell e) r
 token_has ts i e TooManyEvents h = absurd h
 token_has ts i e BadEvent h = absurd h
 token_has ts i e BadNumber h = (e, tt, refl, h)
@@ -143,16 +144,13 @@ few_events h wf = at_most (length h) 100000 (λ more.
     let found = at_index h 100000 more in
     spelled_none h wf 100001 TooManyEvents (spell found.0, place_spelled h 100001 found.0 found.1, refl))
 
--- whether an event stands before a place can be told
-pub before_or_not : (h : List Event) (i : ℕ) (f : Event) → Decided (IsBefore h i f)
-before_or_not h i f = elim (first_below (λ j. at_place h j ≡ Some f) (λ j. same_option same_event (at_place h j) (Some f)) i) [
-  | inl found ↦ inl (found.0, found.1, found.2)
-  | inr none ↦ inr (λ b. none b.0 b.1 b.2)
-]
+-- whether a transaction wrote a key before a place can be told
+pub before_or_not : (h : List Event) (i v k : ℕ) → Decided (IsBefore h i (Write v k))
+before_or_not h i v k = wrote_before_or_not h v k i
 
 -- a version that was seen and isn't 0 was written before
 pub seen_was_written : (h : List Event) → IsWellFormed h → (i k v : ℕ) (e : Event) → at_place h i ≡ Some e → Saw e k v → v ≢ 0 → IsBefore h i (Write v k)
-seen_was_written h wf i k v e at saw v0 = elim (before_or_not h i (Write v k)) [
+seen_was_written h wf i k v e at saw v0 = elim (before_or_not h i v k) [
   | inl b ↦ b
   | inr n ↦ absurd (event_has_none h wf i e at NotWritten (k, v, saw, v0, n))
 ]

@@ -3,8 +3,11 @@ pub mod Lists
 pub mod Text
 pub mod Events
 pub mod Refusals
+pub mod Parsing
+pub mod Known
 pub mod Reading
 pub mod Streaming
+pub mod Judging
 pub mod Transactions
 pub mod Reads
 pub mod Isolation

@@ -75,12 +75,12 @@ impl Event {
         ensures { result ≡ actor self.now }
     {
         match self {
-            Event::Begin { txn, .. } => *txn,
-            Event::Read { txn, .. } => *txn,
-            Event::Range { txn, .. } => *txn,
-            Event::Write { txn, .. } => *txn,
-            Event::Commit { txn } => *txn,
-            Event::Abort { txn } => *txn,
+            Event::Begin { txn, .. }
+            | Event::Read { txn, .. }
+            | Event::Range { txn, .. }
+            | Event::Write { txn, .. }
+            | Event::Commit { txn }
+            | Event::Abort { txn } => *txn,
         }
     }
 

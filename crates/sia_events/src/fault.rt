@@ -1,3 +1,6 @@
+ghost use Rattle.std.specs.Prelude.{◌≡◌};
+ghost use Rattle.sia_events.specs.declared.fault.Refusal.TheVariants as refusals;
+
 use std::alloc::{AllocError, AllocFailed};
 use thiserror::Error;
 
@@ -40,4 +43,27 @@ pub enum TextFault {
     TextTooLong,
     #[error("token {token}: {reason:?}")]
     Refused { token: u32, reason: Reason },
+}
+
+/// Why a token gives no event.
+#[derive(Clone, Copy, Debug)]
+pub(crate) enum Refusal {
+    NoMemory,
+    Bad(Reason),
+}
+
+impl From<AllocError> for Refusal {
+    ghost from_gives = { λ _ e. e ≡ refusals.NoMemory };
+
+    fn from(_fault: AllocError) -> Refusal {
+        Refusal::NoMemory
+    }
+}
+
+impl<T: Drop> From<AllocFailed<T>> for Refusal {
+    ghost from_gives = { λ _ e. e ≡ refusals.NoMemory };
+
+    fn from(_fault: AllocFailed<T>) -> Refusal {
+        Refusal::NoMemory
+    }
 }

@@ -25,6 +25,13 @@ impl Model for History {
 }
 
 impl History {
+    pub(crate) fn new(events: Vec<Event>) -> Self
+        requires { IsWellFormed events.items }
+        ensures { result ≡ events.items }
+    {
+        History { events }
+    }
+
     /// How many events there are.
     pub fn len(&self) -> u32
         ensures len { result ≡ length self.now }
@@ -41,5 +48,11 @@ impl History {
             return None;
         }
         self.events.get(place as usize - 1)
+    }
+
+    pub(crate) fn events(&self) -> &[Event]
+        ensures { result.now ≡ self.now }
+    {
+        &self.events
     }
 }

@@ -19,7 +19,7 @@ pub fn accepted_text_has_a_history()
     ensures { (text : List ℕ) → HasHistory text }
 {}
 
-/// A canonical text stands for its history alone, and no other text of the history is shorter.
+/// A canonical text stands for its history and for no other, and no text of the history is shorter.
 pub fn canonical_law()
     ensures { (h : List Event) → CanonicalLaw h }
 {}
@@ -29,7 +29,8 @@ pub fn unwritten_law()
     ensures { (h : List Event) → IsWellFormed h → UnwrittenLaw h }
 {}
 
-/// What is accepted without named starts is accepted with them, and what is refused is refused alike.
+/// What is accepted without named starts is accepted with them, as the same history. What is refused is refused alike,
+/// unless its faulty token has the form of a named start.
 pub fn named_starts_only_add()
     ensures { (text : List ℕ) → NamedStartsOnlyAdd text }
 {}

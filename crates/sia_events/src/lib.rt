@@ -3,8 +3,15 @@
 
 mod event;
 mod fault;
+mod found;
 mod history;
+mod judge;
 mod laws;
+mod number;
+mod reader;
+mod tables;
+mod token;
+mod writer;
 
 pub use event::{Event, Key, Listed, TxnId, Version};
 pub use fault::{NoMemory, Reason, TextFault};
@@ -13,3 +20,8 @@ pub use laws::{
     accepted_text_has_a_history, canonical_law, named_starts_only_add, one_history, one_refusal,
     unwritten_law,
 };
+pub use reader::{TextReader, read_history};
+pub use writer::write_history;
+
+#[cfg(test)]
+mod tests;

@@ -2,7 +2,7 @@
 use Rattle.std.proofs.Common.{◌≡◌, ◌≢◌, ◌⊎◌, inl, inr, ℕ, ◌+◌, ◌≤◌, List, Some, refl, ap, sym, subst, ◌∙◌, arith}
 use Rattle.std.proofs.lemmas.Bool.{cases_eq}
 use Rattle.sia_events.specs.declared.event.Event.{Event}
-use Rattle.sia_events.specs.declared.event.Event.TheVariants.{Write, Commit}
+use Rattle.sia_events.specs.declared.event.Event.TheVariants.{Commit}
 use Rattle.sia_events.specs.Places.{at_place}
 use Rattle.sia_events.specs.Refusals.{IsWellFormed}
 use Rattle.sia_events.specs.Transactions.{ActsAt, StartsAt, CommitsAt, IsCommitted, Wrote, WroteBefore}
@@ -57,7 +57,7 @@ module _ (h : List Event) (wf : IsWellFormed h) where
 
   -- some version is due
   pub due_exists : (t p k : ℕ) → ActsAt h t p → (v : ℕ) × IsDue h t p k v
-  due_exists t p k acts = elim (before_or_not h p (Write t k)) [
+  due_exists t p k acts = elim (before_or_not h p t k) [
     | inl own ↦ (t, inl (own, refl))
     | inr without ↦
         let s = start_of h wf t p acts in

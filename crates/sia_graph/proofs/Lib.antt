@@ -1,4 +1,4 @@
-pub mod Sample
+pub mod StuckBehindACycle
 pub mod OneVerdict
 pub mod Deciding
 pub mod Facts

@@ -1,8 +1,9 @@
 -- What is known of a transaction, and of a committed transaction's version of a key.
-use Rattle.std.specs.Prelude.{◌≡◌, ℕ, List, [], ◌∷◌, Option, Some, None}
+use Rattle.std.specs.Prelude.{◌≡◌, ◌<◌, ◌≤◌, ℕ, List, [], ◌∷◌, Option, Some, None, slice_index, length, flat_map}
+use Rattle.std.specs.List.{AllZip}
 use Rattle.sia_events.specs.declared.event.Event.{Event}
 use Rattle.sia_events.specs.Lists.{ListsBy, ListsAscending}
-use Rattle.sia_events.specs.Transactions.{StartsAt, CommitsAt, AbortsAt, IsOpen, Wrote}
+use Rattle.sia_events.specs.Transactions.{StartsAt, CommitsAt, AbortsAt, IsOpen, WritesAt, Wrote}
 use Rattle.sia_index.specs.declared.info.Made.{Made}
 use Rattle.sia_index.specs.declared.info.TxnInfo.{TxnInfo}
 use Rattle.sia_index.specs.declared.info.Fate.{Fate}
@@ -21,6 +22,10 @@ EndsAs h t Unfinished (Some p) = ⊥
 abbrev pub IsInfo : List Event → ℕ → TxnInfo → Type 0
 IsInfo h t info = StartsAt h t info.start × EndsAs h t info.fate info.ended
 
+-- of two transactions, of which this is known, the second committed after the first had started
+abbrev pub StartsBefore : TxnInfo → TxnInfo → Type 0
+StartsBefore first second = (c : ℕ) × (second.fate ≡ Committed) × (second.ended ≡ Some c) × (first.start < c)
+
 -- a committed writer of k, with its commit
 abbrev pub IsMade : List Event → ℕ → Made → Type 0
 IsMade h k made = Wrote h made.txn k × CommitsAt h made.txn made.commit
@@ -32,3 +37,20 @@ AreVersions h k versions = ListsBy (λ made. made.commit ∷ []) (IsMade h k) ve
 -- the keys that some write event names, each once, ascending
 abbrev pub AreWrittenKeys : List Event → List ℕ → Type 0
 AreWrittenKeys h keys = ListsAscending (λ k. (t : ℕ) × Wrote h t k) keys
+
+-- p is the place where t wrote key k first
+abbrev pub IsFirstWrite : List Event → ℕ → ℕ → ℕ → Type 0
+IsFirstWrite h t k p = WritesAt h t k p × ((q : ℕ) → WritesAt h t k q → p ≤ q)
+
+-- there is a number i of the written keys, counted from 0
+abbrev pub HasKeyAt : List Event → ℕ → Type 0
+HasKeyAt h i = (keys : List ℕ) × AreWrittenKeys h keys × (i < length keys)
+
+-- k is number i of the written keys, counted from 0
+abbrev pub IsKeyAt : List Event → ℕ → ℕ → Type 0
+IsKeyAt h i k = (keys : List ℕ) × AreWrittenKeys h keys × (i < length keys) × (slice_index keys i ≡ k)
+
+-- the versions of each written key, one key after another
+abbrev pub AreAllVersions : List Event → List Made → Type 0
+AreAllVersions h versions = (keys : List ℕ) × (chains : List (List Made)) × AreWrittenKeys h keys
+    × AllZip (AreVersions h) keys chains × (versions ≡ flat_map (λ chain. chain) chains)

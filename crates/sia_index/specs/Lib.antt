@@ -1,1 +1,3 @@
 pub mod Info
+pub mod Rows
+pub mod Tables

@@ -1,6 +1,17 @@
 //! What an index of a history answers: where a transaction starts and how it ends, and the versions of a key.
 #![tactic(auto)]
 
+mod chains;
+mod events;
+mod indexed;
 mod info;
+pub mod make;
+mod ordering;
+mod rows;
+mod txns;
 
+pub use indexed::Index;
 pub use info::{Fate, Made, TxnInfo};
+
+#[cfg(test)]
+mod tests;

@@ -1,5 +1,6 @@
 -- Parts of the keys: how points cut the keys into intervals. This project's own.
-use Rattle.std.specs.Prelude.{◌≡◌, ◌≢◌, ◌⊎◌, ℕ, ◌-◌, ◌<◌, ◌≤◌, List, [], ◌∷◌, Contains, length}
+use Rattle.std.specs.Prelude.{◌≡◌, ◌≢◌, ◌⊎◌, ℕ, ◌-◌, ◌<◌, ◌≤◌, ◌^◌, List, [], ◌∷◌, Contains, length, Some}
+use Rattle.std.specs.List.{slice_get}
 use Rattle.sia_events.specs.Lists.{ListsAscending}
 use Rattle.sia_parts.specs.declared.cutting.Part.{Part}
 
@@ -20,3 +21,12 @@ HasTooManyCuts points = (cuts : List ℕ) × ListsAscending (λ s. (s ≢ 0) × 
 -- key k is in the part
 abbrev pub IsInPart : Part → ℕ → Type 0
 IsInPart part k = (part.lo ≤ k) × (k ≤ part.hi)
+
+-- key k is in part number i, counted from 0
+abbrev pub IsInPartAt : List Part → ℕ → ℕ → Type 0
+IsInPartAt parts k i = (part : Part) × (slice_get parts i ≡ Some part) × IsInPart part k
+
+-- each key is in exactly one part of a cutting
+abbrev pub OnePartLaw : Type 0
+OnePartLaw = (points : List ℕ) (parts : List Part) → IsCutting points parts → (k : ℕ) → k < 2 ^ 64
+    → (i : ℕ) × IsInPartAt parts k i × ((j : ℕ) → IsInPartAt parts k j → j ≡ i)

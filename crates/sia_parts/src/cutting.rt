@@ -1,4 +1,15 @@
+//! Cutting the keys into parts.
+ghost use Rattle.std.specs.Prelude.{◌≡◌, ◌⊎◌, ◌<◌, ◌≤◌, length, Contains, All, IfOk, OnOk, Err};
+ghost use Rattle.std.specs.List.Sorted.{IsStrictlyIncreasing};
+ghost use Rattle.sia_events.specs.Lists.{ListsAscending};
+ghost use Rattle.sia_parts.specs.Parts.{parts_from, IsCutting, HasTooManyCuts};
+ghost use Rattle.sia_parts.specs.declared.cutting.CutFault.TheVariants as faults;
+
 use sia_events::Key;
+use std::alloc::{AllocError, AllocFailed, Global};
+
+/// The greatest number of parts.
+const MAX_PARTS: usize = 1024;
 
 /// A part of the keys: those from `lo` to `hi`, both included.
 #[derive(Clone, Copy, Debug, PartialEq, Eq)]
@@ -14,4 +25,59 @@ pub enum CutFault {
     NoMemory,
     /// There are more than 1,023 distinct points that aren't 0.
     TooMany,
+}
+
+impl From<AllocError> for CutFault {
+    ghost from_gives = { λ _ fault. fault ≡ faults.NoMemory };
+
+    fn from(_refused: AllocError) -> CutFault {
+        CutFault::NoMemory
+    }
+}
+
+/// The parts of the keys between the points, ascending. The points come in any order, repeats count once, and 0 cuts
+/// nothing.
+pub fn cut(alloc: Global, points: &[Key]) -> Result<Vec<Part>, CutFault>
+    ensures parts { IfOk result (λ parts. IsCutting points.now parts.items) }
+    ensures few { OnOk result (¬ HasTooManyCuts points.now) }
+    ensures too_many { result ≡ Err faults.TooMany → HasTooManyCuts points.now }
+    ensures some { IfOk result (λ parts. 0 < length parts.items) }
+    ensures bound { IfOk result (λ parts. length parts.items ≤ 1024) }
+    ensures ordered { IfOk result (λ parts. All (λ part. part.lo ≤ part.hi) parts.items) }
+{
+    let starts = starts_of(alloc, points)?;
+    if starts.len() > MAX_PARTS {
+        return Err(CutFault::TooMany);
+    }
+    let parts = parts_of(alloc, &starts)?;
+    Ok(parts)
+}
+
+/// Where parts start: at 0 and at the points, ascending.
+fn starts_of(alloc: Global, points: &[Key]) -> Result<Vec<Key>, AllocError>
+    ensures { IfOk result (λ starts. ListsAscending (λ s. (s ≡ 0) ⊎ Contains points.now s) starts.items) }
+{
+    let mut starts = Vec::with_capacity(alloc, points.len() + 1)?;
+    starts.extend_from_slice(points)?;
+    starts.push(0)?;
+    starts.sort_unstable();
+    starts.dedup();
+    Ok(starts)
+}
+
+/// The parts from each start to one below the next.
+fn parts_of(alloc: Global, starts: &[Key]) -> Result<Vec<Part>, AllocError>
+    requires { IsStrictlyIncreasing starts.now }
+    ensures parts { IfOk result (λ parts. parts.items ≡ parts_from starts.now) }
+    ensures ordered { IfOk result (λ parts. All (λ part. part.lo ≤ part.hi) parts.items) }
+{
+    let mut parts = Vec::with_capacity(alloc, starts.len())?;
+    for i in 0..starts.len() {
+        let hi = match starts.get(i + 1) {
+            Some(next) => next - 1,
+            None => Key::MAX,
+        };
+        parts.push(Part { lo: starts[i], hi })?;
+    }
+    Ok(parts)
 }

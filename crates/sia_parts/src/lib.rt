@@ -4,7 +4,12 @@
 mod cutting;
 mod finding;
 mod findings;
+mod laws;
 
-pub use cutting::{CutFault, Part};
+pub use cutting::{CutFault, Part, cut};
 pub use finding::{BadRead, BadWrite, Edge, Kind, Unexplained};
 pub use findings::{Findings, PartFindings};
+pub use laws::one_part;
+
+#[cfg(test)]
+mod tests;

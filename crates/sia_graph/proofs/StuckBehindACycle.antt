@@ -1,4 +1,4 @@
--- A transaction behind a cycle: it is stuck, and isn't printed.
+-- A worked graph: a transaction behind a cycle is stuck, and is no part of the printed cycle.
 use Rattle.std.proofs.Common.{◌≡◌, ◌⊎◌, inl, inr, ℕ, zero, suc, ◌<◌, ◌≤◌, List, [], ◌∷◌, length, refl, ap, sym, subst, ◌∙◌, arith}
 use Rattle.std.specs.Prelude.{Contains, slice_index_or}
 use Rattle.sia_parts.specs.declared.finding.Edge.{Edge}

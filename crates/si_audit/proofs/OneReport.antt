@@ -1,0 +1,81 @@
+-- A text has one report.
+use Rattle.std.proofs.Common.{◌≡◌, inl, inr, ℕ, suc, List, [], ◌∷◌, map, refl, ap, sym, subst, ◌∙◌, arith}
+use Rattle.std.specs.Prelude.{All, ⊤}
+use Rattle.std.specs.Bool.{one_answer}
+use Rattle.sia_events.specs.declared.event.Event.{Event}
+use Rattle.sia_events.specs.Lists.{ListsAscending}
+use Rattle.sia_events.specs.Transactions.{IsCommitted, IsAborted, IsOpen}
+use Rattle.sia_events.specs.Isolation.{IsBadRead, IsBadWrite, IsUnexplained}
+use Rattle.sia_events.specs.DangerousStructures.{IsPivot, IsVulnerable, IsFirst, PassesSsi}
+use Rattle.sia_events.specs.Replay.{IsSerializable}
+use Rattle.sia_events.proofs.Canonical.{spellings_injective}
+use Rattle.sia_events.proofs.OneRefusal.{one_refusal}
+use Rattle.sia_events.proofs.OneList.{one_list_by, one_count}
+use Rattle.sia_parts.specs.Entries.{IsEdge, bad_read_rank, bad_write_rank, unexplained_rank, edge_rank}
+use Rattle.sia_graph.specs.declared.pivot.Pivot.{Pivot}
+use Rattle.sia_graph.specs.Pivots.{ListsNeighbours, ArePivots}
+use Rattle.sia_graph.proofs.OneVerdict.{one_verdict}
+use Rattle.si_audit.specs.Account.{Account}
+use Rattle.si_audit.specs.Accounts.{IsAccount}
+use Rattle.si_audit.specs.Lines.{refusal_line, report_text}
+use Rattle.si_audit.specs.Report.{OneReport}
+
+-- a pivot's transaction tells its neighbours
+one_entry : (h : List Event) (p q : Pivot) → p.txn ≡ q.txn → ListsNeighbours h p → ListsNeighbours h q → p ≡ q
+one_entry h p q e a b =
+    let ins = one_list_by (λ x. x ∷ []) (λ t. IsVulnerable h t p.txn) p.ins q.ins a.ins (subst (λ (u : ℕ). ListsAscending (λ t. IsVulnerable h t u) q.ins) (sym e) b.ins) in
+    let outs = one_list_by (λ x. x ∷ []) (λ t. IsVulnerable h p.txn t) p.outs q.outs a.outs (subst (λ (u : ℕ). ListsAscending (λ t. IsVulnerable h u t) q.outs) (sym e) b.outs) in
+    let firsts = one_list_by (λ x. x ∷ []) (λ t. IsFirst h p.txn t) p.firsts q.firsts a.firsts (subst (λ (u : ℕ). ListsAscending (λ t. IsFirst h u t) q.firsts) (sym e) b.firsts) in
+    λ i. record { txn = e i; ins = ins i; outs = outs i; firsts = firsts i }
+
+entries : (h : List Event) (ps qs : List Pivot) → map (λ p. p.txn) ps ≡ map (λ p. p.txn) qs → All (ListsNeighbours h) ps → All (ListsNeighbours h) qs → ps ≡ qs
+entries h [] [] e a b = refl
+entries h [] (q ∷ qs) e a b = cc
+entries h (p ∷ ps) [] e a b = cc
+entries h (p ∷ ps) (q ∷ qs) e a b =
+    let first : p.txn ≡ q.txn = cc in
+    let rest : map (λ p. p.txn) ps ≡ map (λ p. p.txn) qs = cc in
+    let x = one_entry h p q first (a 0 p (omega arith)) (b 0 q (omega arith)) in
+    let y = entries h ps qs rest (λ k d l. a (suc k) d (omega arith)) (λ k d l. b (suc k) d (omega arith)) in
+    λ i. x i ∷ y i
+
+one_pivots : (h : List Event) (ps qs : List Pivot) → ArePivots h ps → ArePivots h qs → ps ≡ qs
+one_pivots h ps qs a b = entries h ps qs (one_list_by (λ x. x ∷ []) (IsPivot h) (map (λ p. p.txn) ps) (map (λ p. p.txn) qs) a.txns b.txns) a.neighbours b.neighbours
+
+-- a history has one account
+pub one_account : (h : List Event) (a b : Account) → IsAccount h a → IsAccount h b → a ≡ b
+one_account h a b x y =
+    let events : a.events ≡ b.events = x.events ∙ sym y.events in
+    let committed = one_count (IsCommitted h) a.committed b.committed x.committed y.committed in
+    let aborted = one_count (IsAborted h) a.aborted b.aborted x.aborted y.aborted in
+    let unfinished = one_count (IsOpen h) a.unfinished b.unfinished x.unfinished y.unfinished in
+    let bad_reads = one_list_by bad_read_rank (λ r. IsBadRead h r.place r.txn r.key r.saw r.due × ⊤) a.bad_reads b.bad_reads x.bad_reads y.bad_reads in
+    let bad_writes = one_list_by bad_write_rank (λ w. IsBadWrite h w.key w.first w.second × ⊤) a.bad_writes b.bad_writes x.bad_writes y.bad_writes in
+    let unexplained = one_list_by unexplained_rank (λ r. IsUnexplained h r.place r.txn r.key r.saw × ⊤) a.unexplained b.unexplained x.unexplained y.unexplained in
+    let edges = one_list_by edge_rank (λ e. IsEdge h e × ⊤) a.edges b.edges x.edges y.edges in
+    let pivots = one_pivots h a.pivots b.pivots x.pivots y.pivots in
+    let pass : a.pass ≡ b.pass = one_answer {P = PassesSsi h} a.pass b.pass x.pass y.pass in
+    let serializable : a.serializable ≡ b.serializable = one_answer {P = IsSerializable h} a.serializable b.serializable x.serializable y.serializable in
+    let verdict = one_verdict (IsCommitted h) (IsEdge h) a.verdict b.verdict x.verdict y.verdict in
+    λ i. record {
+      events = events i;
+      committed = committed i;
+      aborted = aborted i;
+      unfinished = unfinished i;
+      bad_reads = bad_reads i;
+      bad_writes = bad_writes i;
+      unexplained = unexplained i;
+      edges = edges i;
+      pivots = pivots i;
+      pass = pass i;
+      serializable = serializable i;
+      verdict = verdict i;
+    }
+
+pub one_report_of : (text : List ℕ) → OneReport text
+one_report_of text bytes others (inl p) (inl q) = p.2 ∙ ap refusal_line (one_refusal text p.0 q.0 p.1 q.1) ∙ sym q.2
+one_report_of text bytes others (inl p) (inr q) = absurd (q.2 p.0 p.1)
+one_report_of text bytes others (inr p) (inl q) = absurd (p.2 q.0 q.1)
+one_report_of text bytes others (inr p) (inr q) =
+    let same = spellings_injective p.0 q.0 (sym p.3 ∙ q.3) in
+    p.5 ∙ ap report_text (one_account p.0 p.1 q.1 p.4 (subst (λ h. IsAccount h q.1) (sym same) q.4)) ∙ sym q.5

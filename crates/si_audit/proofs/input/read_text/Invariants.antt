@@ -1,0 +1,16 @@
+use Rattle.std.proofs.Common.{◌≡◌, ◌-◌, List, ℕ, IsFalse, length}
+use Rattle.std.specs.Io.KnownBytes.{Consumes}
+use Rattle.sia_events.specs.Streaming.{StandsForRead}
+use Rattle.si_audit.proofs.input.read_text.Given as goal
+
+abbrev pub invariant-reading : goal.invariant-reading
+invariant-reading g l = record {
+  front : List ℕ;
+  consumed : Consumes (g.R.Source.remaining l.fn.source) (g.R.Source.remaining l.source) front;
+  counted : length front ≡ l.count;
+  stands : StandsForRead l.text front;
+  sound : IsFalse (g.R.Source.has_failed l.source);
+}
+
+abbrev pub decreases-reading : goal.decreases-reading
+decreases-reading g l = 16777217 - l.count

@@ -1,0 +1,10 @@
+pub mod Choices
+pub mod Words
+pub mod Account
+pub mod Accounts
+pub mod Lines
+pub mod Report
+pub mod Outcomes
+pub mod Devices
+pub mod Told
+pub mod ToldOf

@@ -1,0 +1,160 @@
+ghost use Rattle.std.specs.Prelude.{◌≡◌, ◌↔◌, ◌⊎◌, ℕ, ◌<◌, ◌≤◌, List, length, Bool, ◌||◌, Option, Ok, IfOk, OnOk, IsErr, IsTrue, IsFalse};
+ghost use Rattle.std.specs.Io.KnownBytes.{ReadConsumes, WriteAppends, Keeps};
+ghost use Rattle.si_audit.specs.Devices.{device_of, IsSound};
+
+use std::io::{Read, Write};
+
+/// A call on a device failed.
+#[derive(Clone, Copy, Debug, PartialEq, Eq)]
+pub struct Failed;
+
+/// What a text is read from.
+pub trait Source {
+    /// The bytes still to come, where the device tells them.
+    ghost remaining: { Self → Option (List ℕ) };
+    /// Whether a call has failed.
+    ghost has_failed: { Self → Bool };
+
+    /// Reads into the front of `into`, and answers how many bytes it read. A read that gives no byte into room for some is
+    /// the end.
+    fn read(&mut self, into: &mut [u8]) -> Result<usize, Failed>
+        ensures bound { IfOk result (λ n. n ≤ length into.new) }
+        ensures bytes { ReadConsumes (remaining self.old) (remaining self.new) result into.new }
+        ensures failed { IsTrue (has_failed self.new) ↔ (IsTrue (has_failed self.old) ⊎ IsErr result) };
+
+    /// Whether a call has failed. It stays true.
+    fn failed(&self) -> bool
+        ensures { result ≡ has_failed self.now };
+}
+
+/// What a report is written to.
+pub trait Sink {
+    /// The bytes taken, where the device tells them.
+    ghost taken: { Self → Option (List ℕ) };
+    /// Whether a call has failed, or a write has taken nothing of some bytes.
+    ghost has_failed: { Self → Bool };
+    /// Whether a write has failed, or taken nothing of some bytes.
+    ghost has_refused: { Self → Bool };
+    /// Whether a flush has succeeded and no write came after it.
+    ghost is_flushed: { Self → Bool };
+    /// A write that was refused is a failure.
+    ghost refused_fails: { (s : Self) → IsTrue (has_refused s) → IsTrue (has_failed s) };
+
+    /// Takes some bytes from the front of `bytes`, and answers how many.
+    fn write(&mut self, bytes: &[u8]) -> Result<usize, Failed>
+        ensures bound { IfOk result (λ n. n ≤ length bytes.now) }
+        ensures bytes { WriteAppends (taken self.old) (taken self.new) result bytes.now }
+        ensures failed { IsTrue (has_failed self.new)
+            ↔ (IsTrue (has_failed self.old) ⊎ IsErr result ⊎ ((result ≡ Ok 0) × (0 < length bytes.now))) }
+        ensures refused { IsTrue (has_refused self.new)
+            ↔ (IsTrue (has_refused self.old) ⊎ IsErr result ⊎ ((result ≡ Ok 0) × (0 < length bytes.now))) }
+        ensures unflushed { IsFalse (is_flushed self.new) };
+
+    /// Hands on what was taken.
+    fn flush(&mut self) -> Result<(), Failed>
+        ensures bytes { Keeps (taken self.old) (taken self.new) }
+        ensures failed { IsTrue (has_failed self.new) ↔ (IsTrue (has_failed self.old) ⊎ IsErr result) }
+        ensures refused { has_refused self.new ≡ has_refused self.old }
+        ensures flushed { OnOk result (IsTrue (is_flushed self.new)) };
+
+    /// Whether a call has failed, or a write has taken nothing of some bytes. It stays true.
+    fn failed(&self) -> bool
+        ensures { result ≡ has_failed self.now };
+}
+
+/// One of std's readers or writers. Each call is passed on, and any error is a failure, an interrupted call included.
+#[derive(Debug, Drop)]
+pub struct FromStd<D> {
+    device: D,
+    refused: bool,
+    flush_failed: bool,
+    flushed: bool,
+}
+
+impl<D> FromStd<D> {
+    pub fn new(device: D) -> FromStd<D>
+        ensures device { device_of result ≡ device }
+        ensures sound { IsSound result }
+    {
+        FromStd {
+            device,
+            refused: false,
+            flush_failed: false,
+            flushed: false,
+        }
+    }
+
+    /// The reader or writer itself.
+    pub fn into_inner(self) -> D
+        ensures { result ≡ device_of self }
+    {
+        self.device
+    }
+}
+
+impl<D: Read> Source for FromStd<D> {
+    ghost remaining = { λ s. D.remaining s.device };
+
+    ghost has_failed = { λ s. s.refused };
+
+    fn read(&mut self, into: &mut [u8]) -> Result<usize, Failed> {
+        match self.device.read(into) {
+            Ok(n) => Ok(n),
+            Err(_) => {
+                self.refused = true;
+                Err(Failed)
+            }
+        }
+    }
+
+    fn failed(&self) -> bool {
+        self.refused
+    }
+}
+
+impl<D: Write> Sink for FromStd<D> {
+    ghost taken = { λ s. D.contents s.device };
+
+    ghost has_failed = { λ s. s.refused || s.flush_failed };
+
+    ghost has_refused = { λ s. s.refused };
+
+    ghost is_flushed = { λ s. s.flushed };
+
+    ghost use Rattle.si_audit.specs.Devices.{or_first};
+
+    ghost refused_fails = { λ s e. or_first s.refused s.flush_failed e };
+
+    fn write(&mut self, bytes: &[u8]) -> Result<usize, Failed> {
+        self.flushed = false;
+        match self.device.write(bytes) {
+            Ok(n) => {
+                if n == 0 && !bytes.is_empty() {
+                    self.refused = true;
+                }
+                Ok(n)
+            }
+            Err(_) => {
+                self.refused = true;
+                Err(Failed)
+            }
+        }
+    }
+
+    fn flush(&mut self) -> Result<(), Failed> {
+        match self.device.flush() {
+            Ok(()) => {
+                self.flushed = true;
+                Ok(())
+            }
+            Err(_) => {
+                self.flush_failed = true;
+                Err(Failed)
+            }
+        }
+    }
+
+    fn failed(&self) -> bool {
+        self.refused || self.flush_failed
+    }
+}

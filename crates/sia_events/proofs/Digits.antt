@@ -1,0 +1,16 @@
+-- The digits that bytes begin with.
+use Rattle.std.proofs.Common.{◌≡◌, ℕ, ◌+◌, ◌<◌, ◌≤◌, ◌^◌, Bool, true, false, List, [], ◌∷◌, ◌++◌, length, take, drop, get_or, Option, Some, None, refl, ap, sym, ◌∙◌, arith, nat_lt}
+use Rattle.std.specs.List.{prefix_len}
+use Rattle.std.proofs.lemmas.List.Sums.{prefix_len_is}
+use Rattle.std.proofs.lemmas.Bool.Decides.{nat_tests}
+use Rattle.sia_events.specs.Parsing.{is_digit, digits_len, digits_value, narrow}
+
+-- a loop has passed digits, and stops at the end or at another byte
+pub digits_end : (bytes : List ℕ) (len : ℕ) → len ≤ length bytes → ((k : ℕ) → k < len → is_digit (get_or bytes k 0) ≡ true) → (len < length bytes → is_digit (get_or bytes len 0) ≡ false) → digits_len bytes ≡ len
+digits_end bytes len within digits stops = prefix_len_is is_digit bytes len 0 within digits stops
+
+pub narrow_small : (n : ℕ) → n < 2 ^ 64 → narrow n ≡ Some n
+narrow_small n h = let e : nat_lt n (2 ^ 64) ≡ true = grind (arith, nat_tests) in rw e refl
+
+pub narrow_great : (n : ℕ) → 2 ^ 64 ≤ n → narrow n ≡ None
+narrow_great n h = let e : nat_lt n (2 ^ 64) ≡ false = grind (arith, nat_tests) in rw e refl

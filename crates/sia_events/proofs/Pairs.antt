@@ -1,0 +1,57 @@
+-- Reading listed keys one after the other, as a loop does.
+use Rattle.std.proofs.Common.{◌≡◌, ℕ, zero, suc, ◌+◌, ◌<◌, ◌≤◌, Bool, true, false, cond, List, [], ◌∷◌, ◌++◌, length, drop, Option, Some, None, Result, Ok, Err, refl, sym, ap, ◌∙◌, append_assoc, arith}
+use Rattle.std.proofs.lemmas.List.{append-nil}
+use Rattle.sia_events.specs.declared.fault.Reason.{Reason}
+use Rattle.sia_events.specs.declared.fault.Refusal.{Refusal}
+use Rattle.sia_events.specs.declared.fault.Refusal.TheVariants as refusals
+use Rattle.sia_events.specs.Parsing.{◌>>=◌, Fails, kept, joined, one_pair, begins_with, pair_at, pairs_within, pairs_at}
+
+abbrev pub with_front : Option (List (ℕ × ℕ)) → Result (Option (List (ℕ × ℕ)) × List ℕ) Reason → Result (Option (List (ℕ × ℕ)) × List ℕ) Reason
+with_front front read = read >>= λ x. Ok (joined front x.0, x.1)
+
+joined-assoc : (front one others : Option (List (ℕ × ℕ))) → joined front (joined one others) ≡ joined (joined front one) others
+joined-assoc None one others = refl
+joined-assoc (Some ps) None others = refl
+joined-assoc (Some ps) (Some qs) None = refl
+joined-assoc (Some ps) (Some qs) (Some rs) = ap Some (sym (append_assoc ps qs rs))
+
+with_front-with_front : (front one : Option (List (ℕ × ℕ))) (read : Result (Option (List (ℕ × ℕ)) × List ℕ) Reason) → with_front front (with_front one read) ≡ with_front (joined front one) read
+with_front-with_front front one (Ok x) = ap (λ ps. Ok (ps, x.1)) (joined-assoc front one x.0)
+with_front-with_front front one (Err r) = refl
+
+pub starts : (bytes : List ℕ) → with_front (Some []) (pairs_within (length bytes + 1) bytes) ≡ pairs_at bytes
+unfolding pairs_at
+starts bytes = nothing_before (pairs_within (length bytes + 1) bytes)
+  where
+    nothing_before : (read : Result (Option (List (ℕ × ℕ)) × List ℕ) Reason) → with_front (Some []) read ≡ read
+    nothing_before (Ok (None, rest)) = refl
+    nothing_before (Ok (Some ps, rest)) = refl
+    nothing_before (Err r) = refl
+
+-- after a pair and a comma
+pub goes_on : (more : ℕ) (front : Option (List (ℕ × ℕ))) (bytes : List ℕ) (pair : Option (ℕ × ℕ)) (after : List ℕ) (total : Result (Option (List (ℕ × ℕ)) × List ℕ) Reason) → length bytes < more → length (drop 1 after) < length after → length after ≤ length bytes
+    → pair_at bytes ≡ Ok (pair, after) → begins_with 44 after ≡ true → with_front front (pairs_within more bytes) ≡ total
+    → (less : ℕ) × (length (drop 1 after) < less) × (with_front (joined front (one_pair pair)) (pairs_within less (drop 1 after)) ≡ total)
+unfolding pairs_within
+goes_on zero front bytes pair after total low shorter shortened h comma so_far = absurd (omega arith)
+goes_on (suc more) front bytes pair after total low shorter shortened h comma so_far =
+    let one : with_front front (pairs_within (suc more) bytes) ≡ with_front front (with_front (one_pair pair) (pairs_within more (drop 1 after))) = rw (h, comma) refl in
+    (more, omega arith, sym (with_front-with_front front (one_pair pair) (pairs_within more (drop 1 after))) ∙ sym one ∙ so_far)
+
+-- after the last pair
+pub is_done : (more : ℕ) (front : Option (List (ℕ × ℕ))) (bytes : List ℕ) (pair : Option (ℕ × ℕ)) (after : List ℕ) (total : Result (Option (List (ℕ × ℕ)) × List ℕ) Reason) → length bytes < more
+    → pair_at bytes ≡ Ok (pair, after) → begins_with 44 after ≡ false → with_front front (pairs_within more bytes) ≡ total → total ≡ Ok (joined front (one_pair pair), after)
+unfolding pairs_within
+is_done zero front bytes pair after total low h comma so_far = absurd (omega arith)
+is_done (suc more) front bytes pair after total low h comma so_far =
+    let one : with_front front (pairs_within (suc more) bytes) ≡ Ok (joined front (one_pair pair), after) = rw (h, comma) refl in
+    sym so_far ∙ one
+
+-- where a pair has no form
+pub fails : (e : Refusal) (more : ℕ) (front : Option (List (ℕ × ℕ))) (bytes : List ℕ) (total : Result (Option (List (ℕ × ℕ)) × List ℕ) Reason) → length bytes < more → Fails e (pair_at bytes) → with_front front (pairs_within more bytes) ≡ total → Fails e total
+unfolding pairs_within
+fails refusals.NoMemory more front bytes total low h so_far = tt
+fails (refusals.Bad r) zero front bytes total low h so_far = absurd (omega arith)
+fails (refusals.Bad r) (suc more) front bytes total low h so_far =
+    let one : with_front front (pairs_within (suc more) bytes) ≡ Err r = rw h refl in
+    sym so_far ∙ one

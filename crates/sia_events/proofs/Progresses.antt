@@ -1,0 +1,154 @@
+-- What a reader keeps stands for a text: as it opens, after one more piece, and as it ends.
+use Rattle.std.proofs.Common.{◌≡◌, inl, ℕ, zero, suc, ◌+◌, ◌<◌, ◌≤◌, Bool, true, false, List, [], ◌∷◌, ◌++◌, map, length, All, Option, Some, None, refl, ap, sym, subst, ◌∙◌, append_assoc, arith}
+use Rattle.std.specs.Prelude.{min, is_some, IsNone}
+use Rattle.std.proofs.lemmas.List.{length-append}
+use Rattle.std.proofs.lemmas.List.Elements.{All-nil}
+use Rattle.sia_events.specs.declared.event.Event.{Event}
+use Rattle.sia_events.specs.declared.fault.Reason.{Reason}
+use Rattle.sia_events.specs.declared.fault.TextFault.TheVariants.{TextTooLong, Refused}
+use Rattle.sia_events.specs.Text.{spell, is_separator, tokens, StandsFor}
+use Rattle.sia_events.specs.Refusals.{HasReason, IsFirstFault, IsRefusal, IsAccepted, IsWellFormed}
+use Rattle.sia_events.specs.Streaming.{Progress, IsCutAtLastSeparator, HasJudged, StandsForRead}
+use Rattle.sia_events.specs.Judging.{JudgedAll, StopsAt, as_token, HasText}
+use Rattle.sia_events.proofs.Cuts.{some_cut, cut_then, tokens_then, tokens_cut}
+use Rattle.sia_events.proofs.Judged.{JudgedAll-append}
+use Rattle.sia_events.proofs.Clean.{IsClean, clean_none, judged_clean, clean_well_formed, well_formed_accepted, read_as}
+use Rattle.sia_events.proofs.FirstFaults.{clean_no_reason, first_fault_kept, stops_first}
+
+abbrev pub opened : Progress
+opened = record { count = 0; fault = None; events = []; unfinished = []; lost = false }
+
+-- nothing read stands for the empty text
+pub opened_stands : StandsForRead opened []
+opened_stands = record {
+  counted = refl;
+  judged = λ short. ([], [], record { whole = refl; rest_goes_on = All-nil (λ c. is_separator c ≡ false); closed_ends = inl refl }, (clean_no_reason [] clean_none, refl), λ none. refl);
+}
+
+pub none_is : (fault : Option (ℕ × Reason)) → is_some fault ≡ false → fault ≡ None
+none_is None e = refl
+none_is (Some f) e = cc
+
+-- the events before a refused token are clean
+pub stops_clean : (events all : List Event) (ts : List (List ℕ)) (r : Reason) → IsClean events → StopsAt events ts all r → IsClean all
+stops_clean events all ts r clean stops = (judged_clean events stops.before all clean stops.fine).clean
+
+-- ---- one more piece
+
+counted_more : (text piece : List ℕ) (count more : ℕ) → count ≡ min (length text) 16777217 → more ≡ min (count + length piece) 16777217 → more ≡ min (length (text ++ piece)) 16777217
+counted_more text piece count more a b = omega (arith, length-append text piece)
+
+within : (text piece : List ℕ) → length (text ++ piece) ≤ 16777216 → length text ≤ 16777216
+within text piece short = omega (arith, length-append text piece)
+
+module _ (text piece : List ℕ) (count more : ℕ) (counts : more ≡ min (count + length piece) 16777217) where
+  -- its tokens are judged
+  pub stands_taken : (events all : List Event) (unfinished closed left : List ℕ) (lost after : Bool) → StandsForRead (record { count = count; fault = None; events = events; unfinished = unfinished; lost = lost }) text → IsClean events
+      → IsCutAtLastSeparator (unfinished ++ piece) closed left → JudgedAll events (tokens closed) all
+      → StandsForRead (record { count = more; fault = None; events = all; unfinished = left; lost = after }) (text ++ piece)
+  stands_taken events all unfinished closed left lost after stands clean cut fine = record {
+    counted = counted_more text piece count more stands.counted counts;
+    judged = λ short.
+        let j = stands.judged (within text piece short) in
+        let same : unfinished ≡ j.1 = j.4 refl in
+        let here : IsCutAtLastSeparator (j.1 ++ piece) closed left = subst (λ (u : List ℕ). IsCutAtLastSeparator (u ++ piece) closed left) same cut in
+        let read = judged_clean events (tokens closed) all clean fine in
+        let spelled : tokens (j.0 ++ closed) ≡ map spell all = tokens_then j.0 closed j.2.closed_ends ∙ ap (λ (ts : List (List ℕ)). ts ++ tokens closed) j.3.1 ∙ read.spelled in
+        (j.0 ++ closed, left, cut_then text j.0 j.1 piece closed left j.2 here, (subst (λ ts. (i : ℕ) (r : Reason) → ¬ HasReason ts i r) (sym spelled) (clean_no_reason all read.clean), spelled), λ none. refl);
+  }
+
+  -- one of its tokens is refused
+  pub stands_refused : (events all : List Event) (unfinished closed left kept : List ℕ) (lost after : Bool) (r : Reason) → StandsForRead (record { count = count; fault = None; events = events; unfinished = unfinished; lost = lost }) text → IsClean events
+      → IsCutAtLastSeparator (unfinished ++ piece) closed left → StopsAt events (tokens closed) all r
+      → StandsForRead (record { count = more; fault = Some (suc (length all), r); events = all; unfinished = kept; lost = after }) (text ++ piece)
+  stands_refused events all unfinished closed left kept lost after r stands clean cut stops = record {
+    counted = counted_more text piece count more stands.counted counts;
+    judged = λ short.
+        let j = stands.judged (within text piece short) in
+        let same : unfinished ≡ j.1 = j.4 refl in
+        let here : IsCutAtLastSeparator (j.1 ++ piece) closed left = subst (λ (u : List ℕ). IsCutAtLastSeparator (u ++ piece) closed left) same cut in
+        let all_tokens : map spell events ++ tokens closed ≡ tokens (j.0 ++ closed) = sym (tokens_then j.0 closed j.2.closed_ends ∙ ap (λ (ts : List (List ℕ)). ts ++ tokens closed) j.3.1) in
+        (j.0 ++ closed, left, cut_then text j.0 j.1 piece closed left j.2 here, subst (λ ts. IsFirstFault ts (suc (length all)) r) all_tokens (stops_first events (tokens closed) all r clean stops), λ none. absurd cc);
+  }
+
+  -- a token was refused before
+  pub stands_kept : (events : List Event) (unfinished : List ℕ) (lost after : Bool) (i : ℕ) (r : Reason) → StandsForRead (record { count = count; fault = Some (i, r); events = events; unfinished = unfinished; lost = lost }) text
+      → StandsForRead (record { count = more; fault = Some (i, r); events = events; unfinished = unfinished; lost = after }) (text ++ piece)
+  stands_kept events unfinished lost after i r stands = record {
+    counted = counted_more text piece count more stands.counted counts;
+    judged = λ short.
+        let j = stands.judged (within text piece short) in
+        let h = some_cut (j.1 ++ piece) in
+        let all_tokens : tokens j.0 ++ tokens h.0 ≡ tokens (j.0 ++ h.0) = sym (tokens_then j.0 h.0 j.2.closed_ends) in
+        (j.0 ++ h.0, h.1, cut_then text j.0 j.1 piece h.0 h.1 j.2 h.2, subst (λ ts. IsFirstFault ts i r) all_tokens (first_fault_kept (tokens j.0) (tokens h.0) i r j.3), λ none. absurd cc);
+  }
+
+  pub stands_decided : (fault : Option (ℕ × Reason)) (events : List Event) (unfinished : List ℕ) (lost : Bool) → is_some fault ≡ true → StandsForRead (record { count = count; fault = fault; events = events; unfinished = unfinished; lost = lost }) text
+      → StandsForRead (record { count = more; fault = fault; events = events; unfinished = unfinished; lost = lost }) (text ++ piece)
+  stands_decided None events unfinished lost some stands = absurd cc
+  stands_decided (Some f) events unfinished lost some stands = stands_kept events unfinished lost lost f.0 f.1 stands
+
+  -- the text is too long
+  pub stands_long : (fault now : Option (ℕ × Reason)) (events all : List Event) (unfinished kept : List ℕ) (lost after : Bool) → 16777216 < more → StandsForRead (record { count = count; fault = fault; events = events; unfinished = unfinished; lost = lost }) text
+      → StandsForRead (record { count = more; fault = now; events = all; unfinished = kept; lost = after }) (text ++ piece)
+  stands_long fault now events all unfinished kept lost after long stands =
+      let c = counted_more text piece count more stands.counted counts in
+      record { counted = c; judged = λ short. absurd (omega arith) }
+
+-- ---- the end
+
+module _ (text : List ℕ) (count : ℕ) (events all : List Event) (unfinished : List ℕ) (lost : Bool) (stands : StandsForRead (record { count = count; fault = None; events = events; unfinished = unfinished; lost = lost }) text) (few : count ≤ 16777216) (clean : IsClean events) where
+  short_text : length text ≤ 16777216
+  short_text = let c = stands.counted in omega arith
+
+  all_tokens : tokens text ≡ map spell events ++ as_token unfinished
+  all_tokens =
+      let j = stands.judged short_text in
+      tokens_cut text j.0 j.1 j.2 ∙ ap (λ (ts : List (List ℕ)). ts ++ as_token j.1) j.3.1 ∙ ap (λ (u : List ℕ). map spell events ++ as_token u) (sym (j.4 refl))
+
+  pub ends_accepted : JudgedAll events (as_token unfinished) all → IsAccepted text × StandsFor text all
+  ends_accepted fine =
+      let read = judged_clean events (as_token unfinished) all clean fine in
+      let spelled : StandsFor text all = all_tokens ∙ read.spelled in
+      (well_formed_accepted text all short_text spelled (clean_well_formed text all short_text spelled read.clean), spelled)
+
+  pub ends_refused : (r : Reason) → StopsAt events (as_token unfinished) all r → IsRefusal text (Refused (suc (length all)) r)
+  ends_refused r stops = (short_text, subst (λ ts. IsFirstFault ts (suc (length all)) r) (sym all_tokens) (stops_first events (as_token unfinished) all r clean stops))
+
+pub ends_kept : (text : List ℕ) (count : ℕ) (events : List Event) (unfinished : List ℕ) (lost : Bool) (i : ℕ) (r : Reason) → StandsForRead (record { count = count; fault = Some (i, r); events = events; unfinished = unfinished; lost = lost }) text → count ≤ 16777216 → IsRefusal text (Refused i r)
+ends_kept text count events unfinished lost i r stands few =
+    let c = stands.counted in
+    let short : length text ≤ 16777216 = omega arith in
+    let j = stands.judged short in
+    (short, subst (λ ts. IsFirstFault ts i r) (sym (tokens_cut text j.0 j.1 j.2)) (first_fault_kept (tokens j.0) (as_token j.1) i r j.3))
+
+pub ends_long : (text : List ℕ) (r : Progress) → StandsForRead r text → 16777216 < r.count → IsRefusal text TextTooLong
+ends_long text r stands long = let c = stands.counted in omega arith
+
+-- ---- some text is always there
+
+pub text_clean : (count : ℕ) (events : List Event) (unfinished : List ℕ) → HasText count events unfinished → IsClean events
+text_clean count events unfinished h = (judged_clean [] (tokens h.closed) events clean_none h.fine).clean
+
+pub text_unbroken : (count : ℕ) (events : List Event) (unfinished : List ℕ) → HasText count events unfinished → All (λ c. is_separator c ≡ false) unfinished
+text_unbroken count events unfinished h = h.cut.rest_goes_on
+
+pub text_none : HasText 0 [] []
+unfolding JudgedAll
+text_none = record { text = []; closed = []; counted = refl; cut = record { whole = refl; rest_goes_on = All-nil (λ c. is_separator c ≡ false); closed_ends = inl refl }; fine = refl }
+
+pub text_more : (count more : ℕ) (events all : List Event) (unfinished piece closed left : List ℕ) → more ≡ count + length piece → HasText count events unfinished → IsCutAtLastSeparator (unfinished ++ piece) closed left → JudgedAll events (tokens closed) all → HasText more all left
+text_more count more events all unfinished piece closed left counts h cut fine = record {
+  text = h.text ++ piece;
+  closed = h.closed ++ closed;
+  counted = (let c = h.counted in omega (arith, length-append h.text piece));
+  cut = cut_then h.text h.closed unfinished piece closed left h.cut cut;
+  fine = subst (λ ts. JudgedAll [] ts all) (sym (tokens_then h.closed closed h.cut.closed_ends)) (JudgedAll-append [] events all (tokens h.closed) (tokens closed) h.fine fine);
+}
+
+pub text_history : (count : ℕ) (events all : List Event) (unfinished : List ℕ) → HasText count events unfinished → count ≤ 16777216 → JudgedAll events (as_token unfinished) all → IsWellFormed all
+text_history count events all unfinished h few fine =
+    let c = h.counted in
+    let whole : JudgedAll [] (tokens h.text) all =
+    subst (λ ts. JudgedAll [] ts all) (sym (tokens_cut h.text h.closed unfinished h.cut)) (JudgedAll-append [] events all (tokens h.closed) (as_token unfinished) h.fine fine) in
+    (read_as h.text all (omega arith) whole).well_formed

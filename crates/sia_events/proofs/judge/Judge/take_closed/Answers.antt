@@ -1,0 +1,47 @@
+use Rattle.std.proofs.Common.{◌≡◌, ◌++◌, ◌∷◌, [], ℕ, List, inl, refl, sym, ap, ◌∙◌, subst, append_assoc}
+use Rattle.std.proofs.Common.{false}
+use Rattle.std.proofs.lemmas.List.Elements.{All-from_recursion}
+use Rattle.sia_events.specs.Text.{is_separator, tokens}
+use Rattle.sia_events.specs.Judging.{JudgedAll, as_token}
+use Rattle.sia_events.proofs.Tokens.{closes, tokens_more}
+use Rattle.std.proofs.lemmas.Result.{err_from_is_err_and}
+use Rattle.sia_events.proofs.Pieces.{halts_in}
+use Rattle.sia_events.proofs.Judged.{JudgedAll-append, JudgedAll-none}
+use Rattle.sia_events.proofs.judge.Judge.take_closed.Goals as goal
+
+pub loop-token-init : goal.loop-token-init
+loop-token-init c = record {
+  cut = ([], refl, inl refl, JudgedAll-none c.args.self.now.events.items);
+  knows = c.requires;
+}
+
+pub loop-token-preserved : goal.loop-token-preserved
+loop-token-preserved c =
+    let i = c.loop-token.invariant.cut in
+    let closed = i.0 in
+    let s = c.in-Some.ensures.some in
+    let token = c.in-Some.token.now in
+    let after = c.in-Some.after.now in
+    let more = closed ++ (token ++ s.separator ∷ []) in
+    let whole : c.args.text.now ≡ more ++ after =
+    i.1 ∙ ap (λ (bs : List ℕ). closed ++ bs) (s.whole ∙ sym (append_assoc token (s.separator ∷ []) after)) ∙ sym (append_assoc closed (token ++ s.separator ∷ []) after) in
+    let all : JudgedAll c.args.self.now.events.items (tokens more) c.take_some.new.self.events.items =
+    subst (λ (ts : List (List ℕ)). JudgedAll c.args.self.now.events.items ts c.take_some.new.self.events.items) (sym (tokens_more closed token s.separator i.2 s.unbroken s.separates))
+    (JudgedAll-append c.args.self.now.events.items c.loop-token.self.events.items c.take_some.new.self.events.items (tokens closed) (as_token token) i.3 c.in_ok-take_some.ensures.taken) in
+    record {
+      cut = (more, whole, closes closed token s.separator s.separates, all);
+      knows = c.in_ok-take_some.ensures.knows;
+    }
+
+pub returns-clause-taken : goal.returns-clause-taken
+returns-clause-taken c =
+    let i = c.loop-token.invariant.cut in
+    (i.0, record { whole = i.1; rest_goes_on = All-from_recursion (λ b. is_separator b ≡ false) c.loop-token.rest.now c.in_default.ensures.none; closed_ends = i.2 }, i.3)
+
+pub returns-in_err-take_some-clause-refused : goal.returns-in_err-take_some-clause-refused
+returns-in_err-take_some-clause-refused c =
+    let p = err_from_is_err_and c.from_residual.result c.from_residual.ensures.1 in
+    let i = c.loop-token.invariant.cut in
+    let s = c.in-Some.ensures.some in
+    rw (p.1, p.2) (halts_in c.in_err-take_some.field-0.0 c.args.self.now.events.items c.loop-token.self.events.items c.take_some.new.self.events.items c.args.text.now i.0 c.in-Some.token.now c.in-Some.after.now s.separator
+    (i.1 ∙ ap (λ (bs : List ℕ). i.0 ++ bs) s.whole) i.2 s.unbroken s.separates i.3 c.in_err-take_some.ensures.refused)

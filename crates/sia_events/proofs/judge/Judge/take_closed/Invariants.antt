@@ -1,0 +1,15 @@
+use Rattle.std.proofs.Common.{◌≡◌, ℕ, ◌++◌, List, length}
+use Rattle.sia_events.specs.Text.{tokens}
+use Rattle.sia_events.specs.Known.{Knows}
+use Rattle.sia_events.specs.Judging.{JudgedAll}
+use Rattle.sia_events.proofs.Tokens.{IsClosed}
+use Rattle.sia_events.proofs.judge.Judge.take_closed.Given as goal
+
+abbrev pub invariant-loop-token : goal.invariant-loop-token
+invariant-loop-token l = record {
+  cut : (closed : List ℕ) × (l.text ≡ closed ++ l.rest) × IsClosed closed × JudgedAll l.initial.self.events.items (tokens closed) l.self.events.items;
+  knows : Knows l.self.tables l.self.events.items;
+}
+
+abbrev pub decreases-loop-token : goal.decreases-loop-token
+decreases-loop-token l = length l.rest

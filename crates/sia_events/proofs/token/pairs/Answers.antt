@@ -1,0 +1,34 @@
+use Rattle.std.proofs.Common.{◌≡◌, ◌<◌, ◌≤◌, ◌+◌, ℕ, length, sym, subst, ◌∙◌, ap, arith, Option, List}
+use Rattle.std.proofs.lemmas.Result.{err_from_is_err_and}
+use Rattle.sia_events.specs.Parsing.{kept, joined, one_pair, pairs_at, pairs_within}
+use Rattle.sia_events.proofs.Pairs.{with_front, starts, goes_on, is_done, fails}
+use Rattle.sia_events.proofs.token.pairs.Goals as goal
+
+pub loop-found-init : goal.loop-found-init
+loop-found-init c = rw (c.new-found.ensures.none, c.new-found.ensures.in_range) (length c.args.text.now + 1, omega arith, starts c.args.text.now)
+
+pub returns-in_err-next : goal.returns-in_err-next
+returns-in_err-next c =
+    let p = err_from_is_err_and c.from_residual.result c.from_residual.ensures.1 in
+    let i = c.loop-found.invariant in
+    rw (p.1, p.2) (fails c.in_err-next.field-0.0 i.0 (kept c.loop-found.found.in_range c.loop-found.found.pairs.items) c.loop-found.rest.now (pairs_at c.args.text.now) i.1 c.in_err-next.ensures.gives i.2)
+
+pub returns-in-None : goal.returns-in-None
+returns-in-None c =
+    let i = c.loop-found.invariant in
+    let e = is_done i.0 (kept c.loop-found.found.in_range c.loop-found.found.pairs.items) c.loop-found.rest.now c.in_ok-next.next c.in_ok-next.after.now (pairs_at c.args.text.now) i.1 c.in_ok-next.ensures.gives (c.in-None.ensures) i.2 in
+    rw (c.finish.ensures, c.in_ok-add.ensures) e
+
+pub loop-found-smaller : goal.loop-found-smaller
+loop-found-smaller c =
+    let s : length c.in_ok-next.after.now ≤ length c.loop-found.rest.now = c.in_ok-next.ensures.shorter in
+    let t : length c.in-Some.more.now < length c.in_ok-next.after.now = c.in-Some.ensures.2 in
+    let goes_down : length c.in-Some.more.now < length c.loop-found.rest.now = omega arith in
+    goes_down
+
+pub loop-found-preserved : goal.loop-found-preserved
+loop-found-preserved c =
+    let i = c.loop-found.invariant in
+    let s : length c.in_ok-next.after.now ≤ length c.loop-found.rest.now = c.in_ok-next.ensures.shorter in
+    let m = c.in-Some.ensures in
+    rw (m.1, c.in_ok-add.ensures) (goes_on i.0 (kept c.loop-found.found.in_range c.loop-found.found.pairs.items) c.loop-found.rest.now c.in_ok-next.next c.in_ok-next.after.now (pairs_at c.args.text.now) i.1 (rw (← m.1) m.2) s c.in_ok-next.ensures.gives m.0 i.2)

@@ -1,0 +1,21 @@
+use Rattle.std.proofs.Common.{◌≡◌, ◌+◌, ◌<◌, ◌++◌, ◌∷◌, [], ℕ, List, length, take, get_or, sym, ap, ◌∙◌, arith}
+use Rattle.std.proofs.lemmas.List.{take_more, length-take}
+use Rattle.sia_events.specs.declared.event.Event.{Event}
+use Rattle.sia_events.specs.Text.{spell, canonical}
+use Rattle.sia_events.proofs.Writing.{canonical_first, canonical_later}
+use Rattle.sia_events.proofs.writer.write_history.Goals as goal
+use Rattle.sia_events.proofs.writer.write_history.Goals.{then-i-gt0+in_ok-push, else-i-gt0}
+
+pub loop-i-preserved : goal.loop-i-preserved
+loop-i-preserved c =
+    let i = c.loop-i.i in
+    let events = c.events-event-items.result.now in
+    let e = c.event-item.result in
+    let below : i < length events = c.loop-i-test.true in
+    let len : length (take i events) ≡ i = omega (arith, length-take i events) in
+    let more : take (i + 1) events ≡ take i events ++ e ∷ [] = take_more events i e below ∙ ap (λ (f : Event). take i events ++ f ∷ []) (sym c.event-item.is) in
+    let so_far : c.if-i-gt0.out.items ++ spell e ≡ canonical (take i events ++ e ∷ []) = elim c.if-i-gt0.branch [
+      | then-i-gt0+in_ok-push w ↦ rw (w.out-is, w.in_ok-push.ensures.items, c.loop-i.invariant) (sym (canonical_later (take i events) e (omega arith)))
+      | else-i-gt0 w ↦ rw (w.out-is, c.loop-i.invariant) (sym (canonical_first (take i events) e (omega arith)))
+    ] in
+    rw c.in_ok-push_event.ensures (so_far ∙ ap canonical (sym more))

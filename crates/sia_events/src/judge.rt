@@ -1,0 +1,172 @@
+//! The events of a text so far, and the judgement of its next token.
+ghost use Rattle.std.specs.Prelude.{◌≡◌, ◌+◌, ◌≤◌, ℕ, length, List, [], ◌∷◌, ◌++◌, Ok, false, All, OnOk, OnErr, IfOk, IfErr, IfSome, IfNone};
+ghost use Rattle.std.specs.List.{AllByRecursion, position_or_len};
+ghost use Rattle.sia_events.specs.declared.event.Event.{Event as AnEvent};
+ghost use Rattle.sia_events.specs.Parsing.{Fails};
+ghost use Rattle.sia_events.specs.Known.{Knows};
+ghost use Rattle.sia_events.specs.Judging.{judged, JudgedAll, Halts, HaltsIn, as_token, IsSplitAfter};
+ghost use Rattle.sia_events.specs.Text.{is_separator, tokens};
+ghost use Rattle.sia_events.specs.Streaming.{IsCutAtLastSeparator};
+
+use crate::event::Event;
+use crate::fault::{Reason, Refusal};
+use crate::tables::Tables;
+use crate::token::event_of;
+use std::alloc::Global;
+
+/// The greatest number of events.
+pub(crate) const MAX_EVENTS: usize = 100_000;
+
+#[derive(Drop)]
+pub(crate) struct Judge {
+    alloc: Global,
+    events: Vec<Event>,
+    tables: Tables,
+}
+
+impl Judge {
+    pub(crate) fn new(alloc: Global) -> Self
+        ensures none { result.events.items ≡ [] }
+        ensures knows { Knows result.tables result.events.items }
+    {
+        Judge {
+            alloc,
+            events: Vec::new(alloc),
+            tables: Tables::new(alloc),
+        }
+    }
+
+    /// Takes the event of the next token. After `NoMemory` the tables may lack it, or have it without the events.
+    #[tactic(auto, unfolding(crate::specs::Judging::judged))]
+    pub(crate) fn take(&mut self, token: &[u8]) -> Result<(), Refusal>
+        requires { Knows self.old.tables self.old.events.items }
+        ensures taken { OnOk result ((e : AnEvent) × (judged self.old.events.items token.now ≡ Ok e) × (self.new.events.items ≡ self.old.events.items ++ e ∷ [])) }
+        ensures knows { OnOk result (Knows self.new.tables self.new.events.items) }
+        ensures refused { IfErr result (λ fault. Fails fault (judged self.old.events.items token.now)) }
+        ensures kept { OnErr result (self.new.events.items ≡ self.old.events.items) }
+    {
+        if self.events.len() == MAX_EVENTS {
+            return Err(Refusal::Bad(Reason::TooManyEvents));
+        }
+        let event = event_of(self.alloc, token)?;
+        if let Some(reason) = self.tables.fault(&event, self.events.len()) {
+            return Err(Refusal::Bad(reason));
+        }
+        self.tables.add(&event)?;
+        self.events.push(event)?;
+        Ok(())
+    }
+
+    /// Takes the event of the token, if there is one.
+    #[tactic(auto, unfolding(crate::specs::Judging::JudgedAll))]
+    pub(crate) fn take_some(&mut self, token: &[u8]) -> Result<(), Refusal>
+        requires { Knows self.old.tables self.old.events.items }
+        ensures taken { OnOk result (JudgedAll self.old.events.items (as_token token.now) self.new.events.items) }
+        ensures knows { OnOk result (Knows self.new.tables self.new.events.items) }
+        ensures refused { IfErr result (λ fault. Halts fault self.old.events.items (as_token token.now) self.new.events.items) }
+    {
+        if token.is_empty() {
+            return Ok(());
+        }
+        self.take(token)
+    }
+
+    /// Takes the events of all tokens that a separator follows, and answers what comes after the last separator.
+    pub(crate) fn take_closed<'a>(&mut self, text: &'a [u8]) -> Result<&'a [u8], Refusal>
+        requires { Knows self.old.tables self.old.events.items }
+        ensures taken { IfOk result (λ rest. (closed : List ℕ) × IsCutAtLastSeparator text.now closed rest.now × JudgedAll self.old.events.items (tokens closed) self.new.events.items) }
+        ensures knows { OnOk result (Knows self.new.tables self.new.events.items) }
+        ensures refused { IfErr result (λ fault. HaltsIn fault self.old.events.items text.now self.new.events.items) }
+    {
+        let mut rest = text;
+        while let Some((token, after)) = split_token(rest) {
+            self.take_some(token)?;
+            rest = after;
+        }
+        Ok(rest)
+    }
+
+    /// Takes the event of the token that the unfinished bytes and these make, if there is one.
+    fn take_joined(&mut self, unfinished: &mut Vec<u8>, front: &[u8]) -> Result<(), Refusal>
+        requires { Knows self.old.tables self.old.events.items }
+        ensures taken { OnOk result (JudgedAll self.old.events.items (as_token (unfinished.old.items ++ front.now)) self.new.events.items) }
+        ensures knows { OnOk result (Knows self.new.tables self.new.events.items) }
+        ensures cleared { OnOk result (unfinished.new.items ≡ []) }
+        ensures refused { IfErr result (λ fault. Halts fault self.old.events.items (as_token (unfinished.old.items ++ front.now)) self.new.events.items) }
+    {
+        if unfinished.is_empty() {
+            return self.take_some(front);
+        }
+        unfinished.extend_from_slice(front)?;
+        self.take_some(unfinished)?;
+        unfinished.clear();
+        Ok(())
+    }
+
+    /// Takes the events of all tokens of the unfinished bytes and the piece that a separator follows, and leaves as
+    /// unfinished what comes after the last separator.
+    pub(crate) fn take_piece(
+        &mut self,
+        unfinished: &mut Vec<u8>,
+        piece: &[u8],
+    ) -> Result<(), Refusal>
+        requires knows { Knows self.old.tables self.old.events.items }
+        requires unbroken { All (λ c. is_separator c ≡ false) unfinished.old.items }
+        ensures taken { OnOk result ((closed : List ℕ) × IsCutAtLastSeparator (unfinished.old.items ++ piece.now) closed unfinished.new.items × JudgedAll self.old.events.items (tokens closed) self.new.events.items) }
+        ensures knows { OnOk result (Knows self.new.tables self.new.events.items) }
+        ensures refused { IfErr result (λ fault. HaltsIn fault self.old.events.items (unfinished.old.items ++ piece.now) self.new.events.items) }
+    {
+        let Some((front, after)) = split_token(piece) else {
+            unfinished.extend_from_slice(piece)?;
+            return Ok(());
+        };
+        self.take_joined(unfinished, front)?;
+        let rest = self.take_closed(after)?;
+        unfinished.extend_from_slice(rest)?;
+        Ok(())
+    }
+
+    /// The number of the next token.
+    pub(crate) fn next_token(&self) -> u32
+        ensures { length self.now.events.items ≤ 100000 → result ≡ length self.now.events.items + 1 }
+    {
+        self.events.len().min(MAX_EVENTS) as u32 + 1
+    }
+
+    pub(crate) fn finish(self) -> Vec<Event>
+        ensures { result.items ≡ self.events.items }
+    {
+        self.events
+    }
+}
+
+/// Space, tab, CR or LF.
+fn is_separator(byte: u8) -> bool
+    ensures { result ≡ is_separator byte }
+{
+    matches!(byte, b' ' | b'\t' | b'\r' | b'\n')
+}
+
+/// How many bytes come before the first separator, or at all.
+fn token_len(text: &[u8]) -> usize
+    ensures len { result ≡ position_or_len is_separator text.now }
+    ensures within { result ≤ length text.now }
+{
+    let mut len = 0;
+    while len < text.len() && !is_separator(text[len]) {
+        len += 1;
+    }
+    len
+}
+
+/// The bytes before the first separator, and those after it, if there is one.
+fn split_token(text: &[u8]) -> Option<(&[u8], &[u8])>
+    ensures none { IfNone result (AllByRecursion (λ c. is_separator c ≡ false) text.now) }
+    ensures some { IfSome result (λ parts. IsSplitAfter text.now parts.0.now parts.1.now) }
+{
+    let len = token_len(text);
+    if len == text.len() {
+        return None;
+    }
+    Some((&text[..len], &text[len + 1..]))
+}

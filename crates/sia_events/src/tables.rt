@@ -1,0 +1,230 @@
+//! What the reader keeps of the events so far, to judge the next one without going over them.
+ghost use Rattle.std.specs.Prelude.{◌≡◌, ℕ, ◌||◌, not, nat_lt, List, [], ◌∷◌, ◌++◌, drop, true, IsTrue, OnOk};
+ghost use Rattle.std.specs.List.{list_all, AllByRecursion};
+ghost use Rattle.std.specs.BTreeSet.{contains};
+ghost use Rattle.std.specs.Ordering.{nat_cmp};
+ghost use Rattle.sia_events.specs.declared.event.Event.{Event as AnEvent};
+ghost use Rattle.sia_events.specs.Events.{actor};
+ghost use Rattle.sia_events.specs.Known.{Knows, pair_cmp, acts, ends, writes, is_explained, least_after, goes_up, begin_fault, read_fault, range_fault, own_fault, fault_of};
+
+use crate::event::{Event, Key, TxnId, Version};
+use crate::fault::Reason;
+use std::alloc::{AllocError, Global};
+use std::collections::BTreeSet;
+use std::collections::btree_set::Range;
+
+/// Which transactions have an event, which have ended, and who has written which key.
+///
+/// The keys of a text are a stranger's choice, so the tables are trees, whose look-ups no choice of keys slows down.
+#[derive(Drop)]
+pub(crate) struct Tables {
+    begun: BTreeSet<TxnId>,
+    ended: BTreeSet<TxnId>,
+    written: BTreeSet<(Key, TxnId)>,
+}
+
+/// Whether the key may follow in a list of keys from `lo` on.
+fn follows(before: Option<Key>, lo: Key, key: Key) -> bool
+    ensures { result ≡ not (nat_lt key (least_after before lo)) }
+{
+    match before {
+        None => lo <= key,
+        Some(before) => before < key,
+    }
+}
+
+/// Whether the listed keys lie from `lo` to `hi`, each greater than the one before it.
+fn is_good_list(lo: Key, hi: Key, listed: &[(Key, Version)]) -> bool
+    ensures { result ≡ goes_up lo hi listed.now }
+{
+    let mut before: Option<Key> = None;
+    for (key, _) in listed {
+        if !follows(before, lo, *key) {
+            return false;
+        }
+        if hi < *key {
+            return false;
+        }
+        before = Some(*key);
+    }
+    true
+}
+
+/// Whether this is the next version, which is then passed.
+fn is_next(ahead: &mut Range<'_, (Key, TxnId)>, version: (Key, TxnId)) -> bool
+    ensures found { IsTrue result → ahead.old ≡ version ∷ ahead.new }
+    ensures passed { ahead.new ≡ drop 1 ahead.old }
+{
+    match ahead.next() {
+        Some(next) => *next == version,
+        None => false,
+    }
+}
+
+fn add_begun(begun: &mut BTreeSet<TxnId>, event: &Event) -> Result<(), AllocError>
+    ensures { OnOk result ((t : ℕ) → contains nat_cmp begun.new t ≡ (contains nat_cmp begun.old t || acts t event.now)) }
+{
+    begun.insert(event.txn())?;
+    Ok(())
+}
+
+fn add_ended(ended: &mut BTreeSet<TxnId>, event: &Event) -> Result<(), AllocError>
+    ensures { OnOk result ((t : ℕ) → contains nat_cmp ended.new t ≡ (contains nat_cmp ended.old t || ends t event.now)) }
+{
+    match event {
+        Event::Commit { txn } => {
+            ended.insert(*txn)?;
+            Ok(())
+        }
+        Event::Abort { txn } => {
+            ended.insert(*txn)?;
+            Ok(())
+        }
+        _ => Ok(()),
+    }
+}
+
+fn add_written(written: &mut BTreeSet<(Key, TxnId)>, event: &Event) -> Result<(), AllocError>
+    ensures { OnOk result ((p : ℕ × ℕ) → contains pair_cmp written.new p ≡ (contains pair_cmp written.old p || writes p event.now)) }
+{
+    match event {
+        Event::Write { txn, key } => {
+            written.insert((*key, *txn))?;
+            Ok(())
+        }
+        _ => Ok(()),
+    }
+}
+
+impl Tables {
+    pub(crate) fn new(alloc: Global) -> Self
+        ensures { Knows result [] }
+    {
+        Tables {
+            begun: BTreeSet::new(alloc),
+            ended: BTreeSet::new(alloc),
+            written: BTreeSet::new(alloc),
+        }
+    }
+
+    /// Takes in the next event.
+    pub(crate) fn add(&mut self, event: &Event) -> Result<(), AllocError>
+        ensures { (events : List AnEvent) → Knows self.old events → OnOk result (Knows self.new (events ++ event.now ∷ [])) }
+    {
+        add_begun(&mut self.begun, event)?;
+        add_ended(&mut self.ended, event)?;
+        add_written(&mut self.written, event)?;
+        Ok(())
+    }
+
+    /// Whether the version of the key is 0 or was written.
+    fn is_explained(&self, key: Key, saw: Version) -> bool
+        ensures { (events : List AnEvent) → Knows self.now events → result ≡ is_explained events (key, saw) }
+    {
+        saw == 0 || self.written.contains(&(key, saw))
+    }
+
+    fn begin_fault(&self, txn: TxnId, start: Option<u32>, count: usize) -> Option<Reason>
+        ensures { (events : List AnEvent) → Knows self.now events → result ≡ begin_fault events count txn start }
+    {
+        if self.begun.contains(&txn) {
+            return Some(Reason::AlreadyBegun);
+        }
+        match start {
+            Some(start) if count < start as usize => Some(Reason::BadStart),
+            _ => None,
+        }
+    }
+
+    #[tactic(auto, unfolding(crate::specs::Known::read_fault))]
+    fn read_fault(&self, key: Key, saw: Version) -> Option<Reason>
+        ensures { (events : List AnEvent) → Knows self.now events → result ≡ read_fault events key saw }
+    {
+        if self.is_explained(key, saw) {
+            None
+        } else {
+            Some(Reason::NotWritten)
+        }
+    }
+
+    /// Whether the version of the key is 0 or was written. Only while the versions asked for are in step with those that
+    /// are ahead in the table, is the table not searched.
+    fn is_explained_next(
+        &self,
+        ahead: &mut Range<'_, (Key, TxnId)>,
+        in_step: &mut bool,
+        key: Key,
+        saw: Version,
+    ) -> bool
+        requires { AllByRecursion (λ p. contains pair_cmp self.now.written p ≡ true) ahead.old }
+        ensures explained { (events : List AnEvent) → Knows self.now events → result ≡ is_explained events (key, saw) }
+        ensures found { AllByRecursion (λ p. contains pair_cmp self.now.written p ≡ true) ahead.new }
+    {
+        if saw == 0 {
+            return true;
+        }
+        if *in_step {
+            if is_next(ahead, (key, saw)) {
+                return true;
+            }
+            *in_step = false;
+        }
+        self.is_explained(key, saw)
+    }
+
+    /// Whether each listed version is 0 or was written.
+    fn are_explained(&self, listed: &[(Key, Version)]) -> bool
+        ensures { (events : List AnEvent) → Knows self.now events → result ≡ list_all (is_explained events) listed.now }
+    {
+        let Some(first) = listed.first() else {
+            return true;
+        };
+        let mut ahead = self.written.range(*first..);
+        let mut in_step = true;
+        for (key, saw) in listed {
+            if !self.is_explained_next(&mut ahead, &mut in_step, *key, *saw) {
+                return false;
+            }
+        }
+        true
+    }
+
+    #[tactic(auto, unfolding(crate::specs::Known::range_fault))]
+    fn range_fault(&self, lo: Key, hi: Key, listed: &[(Key, Version)]) -> Option<Reason>
+        ensures { (events : List AnEvent) → Knows self.now events → result ≡ range_fault events lo hi listed.now }
+    {
+        if hi < lo {
+            return Some(Reason::EmptyRange);
+        }
+        if !is_good_list(lo, hi, listed) {
+            return Some(Reason::BadList);
+        }
+        if !self.are_explained(listed) {
+            return Some(Reason::NotWritten);
+        }
+        None
+    }
+
+    #[tactic(auto, unfolding(crate::specs::Known::own_fault))]
+    fn own_fault(&self, event: &Event, count: usize) -> Option<Reason>
+        ensures { (events : List AnEvent) → Knows self.now events → result ≡ own_fault events count event.now }
+    {
+        match event {
+            Event::Begin { txn, start } => self.begin_fault(*txn, *start, count),
+            Event::Read { key, saw, .. } => self.read_fault(*key, *saw),
+            Event::Range { lo, hi, listed, .. } => self.range_fault(*lo, *hi, listed.as_slice()),
+            _ => None,
+        }
+    }
+
+    /// The first reason why an event whose numbers are in their ranges can't come after `count` events, if there is one.
+    #[tactic(auto, unfolding(crate::specs::Known::fault_of))]
+    pub(crate) fn fault(&self, event: &Event, count: usize) -> Option<Reason>
+        ensures { (events : List AnEvent) → Knows self.now events → result ≡ fault_of events count event.now }
+    {
+        if self.ended.contains(&event.txn()) {
+            return Some(Reason::AlreadyEnded);
+        }
+        self.own_fault(event, count)
+    }
+}

@@ -1,0 +1,216 @@
+//! One token: the event that it spells.
+ghost use Rattle.std.specs.Prelude.{◌≡◌, ◌<◌, ◌≤◌, IfOk, true, false, length, drop, MatchOption};
+ghost use Rattle.sia_events.specs.Parsing.{Gives, items_of, begins_with, after_byte, ended, begin_at, write_at, item_at, pair_at, pairs_at, list_at, list_of, range_at, read_at, commit_at, abort_at, event_at};
+
+use crate::event::{Event, Key, Listed, Version};
+use crate::fault::{Reason, Refusal};
+use crate::found::Found;
+use crate::number::{Number, key_in, number, txn_in, version_in};
+use std::alloc::Global;
+
+/// What follows one byte.
+#[tactic(auto, unfolding(crate::specs::Parsing::after_byte))]
+fn after(text: &[u8], byte: u8) -> Result<&[u8], Refusal>
+    ensures gives { Gives (λ x. x.now) result (after_byte byte text.now) }
+    ensures shorter { IfOk result (λ rest. length rest.now ≤ length text.now) }
+{
+    match text {
+        [first, rest @ ..] if *first == byte => Ok(rest),
+        _ => Err(Refusal::Bad(Reason::BadEvent)),
+    }
+}
+
+/// The end of the token.
+#[tactic(auto, unfolding(crate::specs::Parsing::ended))]
+fn end(text: &[u8]) -> Result<(), Refusal>
+    ensures { Gives (λ x. x) result (ended text.now) }
+{
+    match text {
+        [] => Ok(()),
+        _ => Err(Refusal::Bad(Reason::BadEvent)),
+    }
+}
+
+#[tactic(auto, unfolding(crate::specs::Parsing::begin_at))]
+fn begin(txn: Number, text: &[u8]) -> Result<Event, Refusal>
+    ensures { Gives (λ x. x) result (begin_at txn text.now) }
+{
+    if text.is_empty() {
+        let txn = txn_in(txn)?;
+        return Ok(Event::Begin { txn, start: None });
+    }
+    let rest = after(text, b'@')?;
+    let (start, rest) = number(rest)?;
+    end(rest)?;
+    let txn = txn_in(txn)?;
+    let start = version_in(start)?;
+    Ok(Event::Begin {
+        txn,
+        start: Some(start),
+    })
+}
+
+#[tactic(auto, unfolding(crate::specs::Parsing::write_at))]
+fn write(txn: Number, text: &[u8]) -> Result<Event, Refusal>
+    ensures { Gives (λ x. x) result (write_at txn text.now) }
+{
+    let rest = after(text, b'[')?;
+    let (key, rest) = number(rest)?;
+    let rest = after(rest, b']')?;
+    end(rest)?;
+    let txn = txn_in(txn)?;
+    let key = key_in(key)?;
+    Ok(Event::Write { txn, key })
+}
+
+#[tactic(auto, unfolding(crate::specs::Parsing::commit_at))]
+fn commit(txn: Number, text: &[u8]) -> Result<Event, Refusal>
+    ensures { Gives (λ x. x) result (commit_at txn text.now) }
+{
+    end(text)?;
+    let txn = txn_in(txn)?;
+    Ok(Event::Commit { txn })
+}
+
+#[tactic(auto, unfolding(crate::specs::Parsing::abort_at))]
+fn abort(txn: Number, text: &[u8]) -> Result<Event, Refusal>
+    ensures { Gives (λ x. x) result (abort_at txn text.now) }
+{
+    end(text)?;
+    let txn = txn_in(txn)?;
+    Ok(Event::Abort { txn })
+}
+
+/// An item read, from its version on.
+#[tactic(auto, unfolding(crate::specs::Parsing::item_at))]
+fn item(txn: Number, key: Number, text: &[u8]) -> Result<Event, Refusal>
+    ensures { Gives (λ x. x) result (item_at txn key text.now) }
+{
+    let (saw, rest) = number(text)?;
+    let rest = after(rest, b']')?;
+    end(rest)?;
+    let txn = txn_in(txn)?;
+    let key = key_in(key)?;
+    let saw = version_in(saw)?;
+    Ok(Event::Read { txn, key, saw })
+}
+
+/// A listed key with its version, or None where one of them is out of its range.
+#[tactic(auto, unfolding(crate::specs::Parsing::pair_at))]
+fn pair(text: &[u8]) -> Result<(Option<(Key, Version)>, &[u8]), Refusal>
+    ensures gives { Gives (λ x. (x.0, x.1.now)) result (pair_at text.now) }
+    ensures shorter { IfOk result (λ x. length x.1.now ≤ length text.now) }
+{
+    let (key, rest) = number(text)?;
+    let rest = after(rest, b':')?;
+    let (saw, rest) = number(rest)?;
+    let pair = match (key, saw) {
+        (Some(key), Some(saw)) if saw <= u64::from(u32::MAX) => Some((key, saw as u32)),
+        _ => None,
+    };
+    Ok((pair, rest))
+}
+
+/// What follows a comma, if there is one.
+fn after_comma(text: &[u8]) -> Option<&[u8]>
+    ensures { MatchOption result (begins_with 44 text.now ≡ false) (λ rest. (begins_with 44 text.now ≡ true) × (rest.now ≡ drop 1 text.now) × (length rest.now < length text.now)) }
+{
+    match text {
+        [b',', rest @ ..] => Some(rest),
+        _ => None,
+    }
+}
+
+/// Listed keys with commas between, or None where a number is out of its range, and what follows the last.
+fn pairs(alloc: Global, text: &[u8]) -> Result<(Option<Vec<(Key, Version)>>, &[u8]), Refusal>
+    ensures { Gives (λ x. (items_of x.0, x.1.now)) result (pairs_at text.now) }
+{
+    let mut found = Found::new(alloc);
+    let mut rest = text;
+    loop {
+        let (next, after) = pair(rest)?;
+        found.add(next)?;
+        match after_comma(after) {
+            Some(more) => rest = more,
+            None => return Ok((found.finish(), after)),
+        }
+    }
+}
+
+/// The listed keys of a range, if there are any.
+#[tactic(auto, unfolding(crate::specs::Parsing::list_at))]
+fn list(alloc: Global, text: &[u8]) -> Result<(Option<Vec<(Key, Version)>>, &[u8]), Refusal>
+    ensures { Gives (λ x. (items_of x.0, x.1.now)) result (list_at text.now) }
+{
+    match text {
+        [b';', rest @ ..] => pairs(alloc, rest),
+        _ => Ok((Some(Vec::new(alloc)), text)),
+    }
+}
+
+#[tactic(auto, unfolding(crate::specs::Parsing::list_of))]
+fn list_in(listed: Option<Vec<(Key, Version)>>) -> Result<Listed, Refusal>
+    ensures { Gives (λ x. x) result (list_of (items_of listed)) }
+{
+    match listed {
+        Some(pairs) => Ok(Listed::new(pairs)),
+        None => Err(Refusal::Bad(Reason::BadNumber)),
+    }
+}
+
+/// A range read, from its upper end on.
+#[tactic(auto, unfolding(crate::specs::Parsing::range_at))]
+fn range(alloc: Global, txn: Number, lo: Number, text: &[u8]) -> Result<Event, Refusal>
+    ensures { Gives (λ x. x) result (range_at txn lo text.now) }
+{
+    let (hi, rest) = number(text)?;
+    let (listed, rest) = list(alloc, rest)?;
+    let rest = after(rest, b']')?;
+    end(rest)?;
+    let txn = txn_in(txn)?;
+    let lo = key_in(lo)?;
+    let hi = key_in(hi)?;
+    let listed = list_in(listed)?;
+    Ok(Event::Range {
+        txn,
+        lo,
+        hi,
+        listed,
+    })
+}
+
+/// A read, from the bracket on.
+#[tactic(auto, unfolding(crate::specs::Parsing::read_at))]
+fn read(alloc: Global, txn: Number, text: &[u8]) -> Result<Event, Refusal>
+    ensures { Gives (λ x. x) result (read_at txn text.now) }
+{
+    let rest = after(text, b'[')?;
+    let (first, rest) = number(rest)?;
+    match rest {
+        [b':', rest @ ..] => item(txn, first, rest),
+        _ => {
+            let rest = after(rest, b'.')?;
+            let rest = after(rest, b'.')?;
+            range(alloc, txn, first, rest)
+        }
+    }
+}
+
+/// The event that the token spells, all of it.
+#[tactic(auto, unfolding(crate::specs::Parsing::event_at))]
+pub(crate) fn event_of(alloc: Global, token: &[u8]) -> Result<Event, Refusal>
+    ensures { Gives (λ x. x) result (event_at token.now) }
+{
+    let [letter, rest @ ..] = token else {
+        return Err(Refusal::Bad(Reason::BadEvent));
+    };
+    let (txn, rest) = number(rest)?;
+    match *letter {
+        b'b' => begin(txn, rest),
+        b'r' => read(alloc, txn, rest),
+        b'w' => write(txn, rest),
+        b'c' => commit(txn, rest),
+        b'a' => abort(txn, rest),
+        _ => Err(Refusal::Bad(Reason::BadEvent)),
+    }
+}

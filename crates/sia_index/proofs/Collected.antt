@@ -1,0 +1,158 @@
+-- Lists that a loop over the places of a history collects.
+use Rattle.std.proofs.Common.{◌≡◌, ◌↔◌, inl, inr, ℕ, ◌+◌, ◌<◌, ◌≤◌, List, [], ◌∷◌, ◌++◌, length, Some, None, refl, ap, sym, subst, ◌∙◌, arith}
+use Rattle.std.specs.Prelude.{Contains}
+use Rattle.std.specs.declared.cmp.Ordering.{Ordering}
+use Rattle.std.specs.declared.cmp.Ordering.TheVariants.{Less}
+use Rattle.std.specs.Ordering.{nat_cmp, ordering_then}
+use Rattle.std.specs.List.Sorted.{IsStrictlySortedBy}
+use Rattle.std.proofs.lemmas.Bool.{cases_lt}
+use Rattle.std.proofs.lemmas.List.Elements.{Contains-append_left, Contains-push, Contains-push_cases}
+use Rattle.sia_events.specs.declared.event.Event.{Event}
+use Rattle.sia_events.specs.declared.event.Event.TheVariants.{Write}
+use Rattle.sia_events.specs.Lists.{Precedes, ListsBy}
+use Rattle.sia_events.specs.Places.{at_place}
+use Rattle.sia_events.specs.Events.{actor}
+use Rattle.sia_events.specs.Refusals.{IsWellFormed}
+use Rattle.sia_events.specs.Transactions.{ActsAt, WritesAt, Wrote, CommitsAt, IsCommitted}
+use Rattle.sia_events.proofs.TransactionDecisions.{place_within}
+use Rattle.sia_events.proofs.WellFormed.{one_commit}
+use Rattle.sia_index.specs.declared.rows.ActRow.{ActRow}
+use Rattle.sia_index.specs.declared.rows.WriteRow.{WriteRow}
+use Rattle.sia_index.specs.declared.rows.VersionRow.{VersionRow}
+use Rattle.sia_index.proofs.Ordered.{lists_sorted, precedes_last, precedes_then}
+use Rattle.sia_index.specs.Rows.{AreActs, AreWrites, AreVersionRows}
+
+-- xs holds what has Q at a place below n, and nothing else
+abbrev pub HoldsBelow : {A : Type 0} → (A → ℕ → Type 0) → ℕ → List A → Type 0
+HoldsBelow {A} Q n xs = (x : A) → Contains xs x ↔ ((q : ℕ) × (q < n) × Q x q)
+
+module _ {A : Type 0} (Q : A → ℕ → Type 0) where
+  -- the empty list, before the first place
+  pub holds_none : ((x : A) → ¬ Q x 0) → HoldsBelow Q 1 []
+  holds_none none x = (
+    (λ c. absurd (let below = c.1 in omega arith)),
+    (λ (q, below, has). absurd (none x (let same : q ≡ 0 = omega arith in subst (Q x) same has))),
+  )
+
+  -- one more, which alone has Q at the next place
+  pub holds_one : (n : ℕ) (xs : List A) (y : A) → HoldsBelow Q n xs → Q y n → ((x : A) → Q x n → y ≡ x) → HoldsBelow Q (n + 1) (xs ++ y ∷ [])
+  holds_one n xs y holds here alone x = (
+    (λ c. elim (Contains-push_cases xs y x c) [
+      | inl before ↦ let found = (holds x).0 before in (found.0, (let less = found.1 in omega arith), found.2)
+      | inr same ↦ (n, omega arith, subst (λ z. Q z n) same here)
+    ]),
+    (λ (q, below, has). elim (cases_lt q n) [
+      | inl less ↦ Contains-append_left xs (y ∷ []) x ((holds x).1 (q, less, has))
+      | inr more ↦ let at : q ≡ n = omega arith in subst (Contains (xs ++ y ∷ [])) (alone x (subst (Q x) at has)) (Contains-push xs y)
+    ]),
+  )
+
+  -- no more, where nothing has Q at the next place
+  pub holds_same : (n : ℕ) (xs : List A) → HoldsBelow Q n xs → ((x : A) → ¬ Q x n) → HoldsBelow Q (n + 1) xs
+  holds_same n xs holds none x = (
+    (λ c. let found = (holds x).0 c in (found.0, (let less = found.1 in omega arith), found.2)),
+    (λ (q, below, has). elim (cases_lt q n) [
+      | inl less ↦ (holds x).1 (q, less, has)
+      | inr more ↦ let at : q ≡ n = omega arith in absurd (none x (subst (Q x) at has))
+    ]),
+  )
+
+-- once put in order, what was collected over all places lists what has Q at some place
+pub collected : {A : Type 0} (Q : A → ℕ → Type 0) (rank : A → List ℕ) (P : A → Type 0) (c : A → A → Ordering) → ((x y : A) → c x y ≡ Less → Precedes (rank x) (rank y)) → (n : ℕ) → ((x : A) → ((q : ℕ) × (q < n) × Q x q) ↔ P x) → (xs ys : List A) → HoldsBelow Q n xs → IsStrictlySortedBy c ys → ((x : A) → Contains xs x → Contains ys x) → ((x : A) → Contains ys x → Contains xs x) → ListsBy rank P ys
+collected Q rank P c before n same xs ys holds sorted keeps adds_none =
+    lists_sorted rank P c before ys sorted (λ x. ((λ has. (same x).0 ((holds x).0 (adds_none x has))), (λ is. keeps x ((holds x).1 ((same x).1 is)))))
+
+-- the row of the event at a place
+abbrev pub IsActAt : List Event → ActRow → ℕ → Type 0
+IsActAt h a q = (a.place ≡ q) × ActsAt h a.txn q
+
+-- the row of the write event at a place
+abbrev pub IsWriteAt : List Event → WriteRow → ℕ → Type 0
+IsWriteAt h w q = (w.place ≡ q) × WritesAt h w.txn w.key q
+
+-- the row of the version that the write event at a place makes
+abbrev pub IsVersionAt : List Event → VersionRow → ℕ → Type 0
+IsVersionAt h v q = WritesAt h v.txn v.key q × CommitsAt h v.txn v.commit
+
+-- the rows of the acts so far, where the next place has an event
+pub act_more : (h : List Event) (n : ℕ) (e : Event) (xs : List ActRow) (a : ActRow) → HoldsBelow (IsActAt h) n xs → Some e ≡ at_place h n → a.txn ≡ actor e → a.place ≡ n → HoldsBelow (IsActAt h) (n + 1) (xs ++ a ∷ [])
+act_more h n e xs a holds at txn place = holds_one (IsActAt h) n xs a holds (place, (e, sym at, sym txn)) (λ x is.
+    let found : at_place h n ≡ Some is.1.0 = is.1.1 in
+    let same : e ≡ is.1.0 = cc in
+    let txn_same : a.txn ≡ x.txn = txn ∙ ap actor same ∙ is.1.2 in
+    let place_same : a.place ≡ x.place = place ∙ sym is.0 in
+    λ i. record { txn = txn_same i; place = place_same i })
+
+-- and where it has none
+pub act_same : (h : List Event) (n : ℕ) (xs : List ActRow) → HoldsBelow (IsActAt h) n xs → None ≡ at_place h n → HoldsBelow (IsActAt h) (n + 1) xs
+act_same h n xs holds at = holds_same (IsActAt h) n xs holds (λ x is.
+    let found : at_place h n ≡ Some is.1.0 = is.1.1 in
+    cc)
+
+-- over all places they are every event's
+pub acts_listed : (h : List Event) (n : ℕ) (xs ys : List ActRow) → length h ≤ n → HoldsBelow (IsActAt h) (n + 1) xs → IsStrictlySortedBy (λ x y. ordering_then (nat_cmp x.txn y.txn) (nat_cmp x.place y.place)) ys → ((x : ActRow) → Contains xs x → Contains ys x) → ((x : ActRow) → Contains ys x → Contains xs x) → AreActs h ys
+acts_listed h n xs ys all holds = collected (IsActAt h) (λ a. a.txn ∷ a.place ∷ []) (λ a. ActsAt h a.txn a.place) (λ x y. ordering_then (nat_cmp x.txn y.txn) (nat_cmp x.place y.place))
+    (λ x y less. precedes_then x.txn y.txn (nat_cmp x.place y.place) (x.place ∷ []) (y.place ∷ []) less (precedes_last x.place y.place))
+    (n + 1)
+    (λ x. (
+      (λ (q, below, is). subst (ActsAt h x.txn) (sym is.0) is.1),
+      (λ acts. (x.place, (let within : x.place ≤ length h = (place_within h x.place acts.0 acts.1).1 in omega arith), (refl, acts))),
+    ))
+    xs ys holds
+
+-- the rows of the writes so far, where the next place has a write event
+pub write_more : (h : List Event) (n t k : ℕ) (xs : List WriteRow) → HoldsBelow (IsWriteAt h) n xs → Some (Write t k) ≡ at_place h n → HoldsBelow (IsWriteAt h) (n + 1) (xs ++ record { key = k; txn = t; place = n } ∷ [])
+write_more h n t k xs holds at = holds_one (IsWriteAt h) n xs (record { key = k; txn = t; place = n }) holds (refl, sym at) (λ x is.
+    let same : Write t k ≡ Write x.txn x.key = cc in
+    let key : k ≡ x.key = cc in
+    let txn : t ≡ x.txn = cc in
+    let place = is.0 in
+    λ i. record { key = key i; txn = txn i; place = sym place i })
+
+-- and where it has none
+pub write_same : (h : List Event) (n : ℕ) (xs : List WriteRow) → HoldsBelow (IsWriteAt h) n xs → ((t k : ℕ) → ¬ (at_place h n ≡ Some (Write t k))) → HoldsBelow (IsWriteAt h) (n + 1) xs
+write_same h n xs holds none = holds_same (IsWriteAt h) n xs holds (λ x is. none x.txn x.key is.1)
+
+-- over all places they are every write event's
+pub writes_listed : (h : List Event) (n : ℕ) (xs ys : List WriteRow) → length h ≤ n → HoldsBelow (IsWriteAt h) (n + 1) xs → IsStrictlySortedBy (λ x y. ordering_then (nat_cmp x.key y.key) (ordering_then (nat_cmp x.txn y.txn) (nat_cmp x.place y.place))) ys → ((x : WriteRow) → Contains xs x → Contains ys x) → ((x : WriteRow) → Contains ys x → Contains xs x) → AreWrites h ys
+writes_listed h n xs ys all holds = collected (IsWriteAt h) (λ w. w.key ∷ w.txn ∷ w.place ∷ []) (λ w. WritesAt h w.txn w.key w.place) (λ x y. ordering_then (nat_cmp x.key y.key) (ordering_then (nat_cmp x.txn y.txn) (nat_cmp x.place y.place)))
+    (λ x y less. precedes_then x.key y.key (ordering_then (nat_cmp x.txn y.txn) (nat_cmp x.place y.place)) (x.txn ∷ x.place ∷ []) (y.txn ∷ y.place ∷ []) less
+    (λ rest. precedes_then x.txn y.txn (nat_cmp x.place y.place) (x.place ∷ []) (y.place ∷ []) rest (precedes_last x.place y.place)))
+    (n + 1)
+    (λ x. (
+      (λ (q, below, is). subst (WritesAt h x.txn x.key) (sym is.0) is.1),
+      (λ writes. (x.place, (let within : x.place ≤ length h = (place_within h x.place (Write x.txn x.key) writes).1 in omega arith), (refl, writes))),
+    ))
+    xs ys holds
+
+-- the rows of the versions so far, where the next place has a write event of a committed transaction
+pub version_more : (h : List Event) → IsWellFormed h → (n t k c : ℕ) (xs : List VersionRow) → HoldsBelow (IsVersionAt h) n xs → Some (Write t k) ≡ at_place h n → CommitsAt h t c → HoldsBelow (IsVersionAt h) (n + 1) (xs ++ record { key = k; commit = c; txn = t } ∷ [])
+version_more h wf n t k c xs holds at commits = holds_one (IsVersionAt h) n xs (record { key = k; commit = c; txn = t }) holds (sym at, commits) (λ x is.
+    let same : Write t k ≡ Write x.txn x.key = cc in
+    let key : k ≡ x.key = cc in
+    let txn : t ≡ x.txn = cc in
+    let commit : c ≡ x.commit = one_commit h wf x.txn c x.commit (subst (λ u. CommitsAt h u c) txn commits) is.1 in
+    λ i. record { key = key i; commit = commit i; txn = txn i })
+
+-- one of a transaction that isn't committed
+pub version_other : (h : List Event) (n t k : ℕ) (xs : List VersionRow) → HoldsBelow (IsVersionAt h) n xs → Some (Write t k) ≡ at_place h n → ¬ IsCommitted h t → HoldsBelow (IsVersionAt h) (n + 1) xs
+version_other h n t k xs holds at none = holds_same (IsVersionAt h) n xs holds (λ x is.
+    let same : Write t k ≡ Write x.txn x.key = cc in
+    let txn : x.txn ≡ t = cc in
+    none (x.commit, subst (λ u. CommitsAt h u x.commit) txn is.1))
+
+-- and where it has none
+pub version_same : (h : List Event) (n : ℕ) (xs : List VersionRow) → HoldsBelow (IsVersionAt h) n xs → ((t k : ℕ) → ¬ (at_place h n ≡ Some (Write t k))) → HoldsBelow (IsVersionAt h) (n + 1) xs
+version_same h n xs holds none = holds_same (IsVersionAt h) n xs holds (λ x is. none x.txn x.key is.0)
+
+-- over all places they are every committed transaction's
+pub versions_listed : (h : List Event) (n : ℕ) (xs ys : List VersionRow) → length h ≤ n → HoldsBelow (IsVersionAt h) (n + 1) xs → IsStrictlySortedBy (λ x y. ordering_then (nat_cmp x.key y.key) (ordering_then (nat_cmp x.commit y.commit) (nat_cmp x.txn y.txn))) ys → ((x : VersionRow) → Contains xs x → Contains ys x) → ((x : VersionRow) → Contains ys x → Contains xs x) → AreVersionRows h ys
+versions_listed h n xs ys all holds = collected (IsVersionAt h) (λ v. v.key ∷ v.commit ∷ v.txn ∷ []) (λ v. Wrote h v.txn v.key × CommitsAt h v.txn v.commit) (λ x y. ordering_then (nat_cmp x.key y.key) (ordering_then (nat_cmp x.commit y.commit) (nat_cmp x.txn y.txn)))
+    (λ x y less. precedes_then x.key y.key (ordering_then (nat_cmp x.commit y.commit) (nat_cmp x.txn y.txn)) (x.commit ∷ x.txn ∷ []) (y.commit ∷ y.txn ∷ []) less
+    (λ rest. precedes_then x.commit y.commit (nat_cmp x.txn y.txn) (x.txn ∷ []) (y.txn ∷ []) rest (precedes_last x.txn y.txn)))
+    (n + 1)
+    (λ x. (
+      (λ (q, below, is). ((q, is.0), is.1)),
+      (λ is. (is.0.0, (let within : is.0.0 ≤ length h = (place_within h is.0.0 (Write x.txn x.key) is.0.1).1 in omega arith), (is.0.1, is.1))),
+    ))
+    xs ys holds

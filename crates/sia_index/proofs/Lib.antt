@@ -1,0 +1,9 @@
+pub mod Ordered
+pub mod Table
+pub mod KeyChains
+pub mod Due
+pub mod Writes
+pub mod Collected
+pub mod Runs
+pub mod Spans
+pub mod Offsets

@@ -1,0 +1,65 @@
+-- The rows of an index's tables: what each says of a history, and the order that they stand in.
+use Rattle.std.specs.Prelude.{◌<◌, ◌≤◌, ℕ, List, [], ◌∷◌, All, AllPairs, Contains}
+use Rattle.sia_events.specs.declared.event.Event.{Event}
+use Rattle.sia_events.specs.Lists.{ListsBy, Precedes}
+use Rattle.sia_events.specs.Transactions.{ActsAt, HasEvent, WritesAt, Wrote, CommitsAt}
+use Rattle.sia_index.specs.Info.{IsInfo}
+use Rattle.sia_index.specs.declared.info.Made.{Made}
+use Rattle.sia_index.specs.declared.info.TxnInfo.{TxnInfo}
+use Rattle.sia_index.specs.declared.rows.ActRow.{ActRow}
+use Rattle.sia_index.specs.declared.rows.WriteRow.{WriteRow}
+use Rattle.sia_index.specs.declared.rows.VersionRow.{VersionRow}
+use Rattle.sia_index.specs.declared.rows.TxnRow.{TxnRow}
+
+-- every event, by transaction
+abbrev pub AreActs : List Event → List ActRow → Type 0
+AreActs h acts = ListsBy (λ a. a.txn ∷ a.place ∷ []) (λ a. ActsAt h a.txn a.place) acts
+
+abbrev pub AscendsByAct : List ActRow → Type 0
+AscendsByAct acts = AllPairs (λ x y. Precedes (x.txn ∷ x.place ∷ []) (y.txn ∷ y.place ∷ [])) acts
+
+-- the first event of t stands at place first, and its last at place last
+pub record IsSpan (h : List Event) (t first last : ℕ) : Type 0 where
+  pub starts : ActsAt h t first
+  pub none_before : (p : ℕ) → ActsAt h t p → first ≤ p
+  pub ends : ActsAt h t last
+  pub none_after : (p : ℕ) → ActsAt h t p → p ≤ last
+
+-- every write event, by key and transaction
+abbrev pub AreWrites : List Event → List WriteRow → Type 0
+AreWrites h writes = ListsBy (λ w. w.key ∷ w.txn ∷ w.place ∷ []) (λ w. WritesAt h w.txn w.key w.place) writes
+
+abbrev pub AscendsByWrite : List WriteRow → Type 0
+AscendsByWrite writes = AllPairs (λ x y. Precedes (x.key ∷ x.txn ∷ x.place ∷ []) (y.key ∷ y.txn ∷ y.place ∷ [])) writes
+
+-- no row is of k and t
+abbrev pub HasNoWrite : List WriteRow → ℕ → ℕ → Type 0
+HasNoWrite writes t k = (q : ℕ) → ¬ Contains writes (record { key = k; txn = t; place = q })
+
+-- p is the least place in the rows of k and t
+abbrev pub IsFirstRow : List WriteRow → ℕ → ℕ → ℕ → Type 0
+IsFirstRow writes t k p = Contains writes (record { key = k; txn = t; place = p }) × ((q : ℕ) → Contains writes (record { key = k; txn = t; place = q }) → p ≤ q)
+
+abbrev pub AscendsByVersion : List VersionRow → Type 0
+AscendsByVersion rows = AllPairs (λ x y. Precedes (x.key ∷ x.commit ∷ x.txn ∷ []) (y.key ∷ y.commit ∷ y.txn ∷ [])) rows
+
+abbrev pub AscendsByCommit : List Made → Type 0
+AscendsByCommit versions = AllPairs (λ x y. x.commit < y.commit) versions
+
+-- of the versions that commit at most at the place, this one commits last
+abbrev pub IsLastWithin : List Made → ℕ → Made → Type 0
+IsLastWithin versions place made = Contains versions made × (made.commit ≤ place)
+    × All (λ other. other.commit ≤ place → other.commit ≤ made.commit) versions
+
+-- every version that a committed transaction made, by key and commit
+abbrev pub AreVersionRows : List Event → List VersionRow → Type 0
+AreVersionRows h rows = ListsBy (λ v. v.key ∷ v.commit ∷ v.txn ∷ []) (λ v. Wrote h v.txn v.key × CommitsAt h v.txn v.commit) rows
+
+abbrev pub AscendsByTxn : List TxnRow → Type 0
+AscendsByTxn table = AllPairs (λ x y. x.txn < y.txn) table
+
+-- every transaction once, ascending, with what is known of it
+pub record AreTxns (h : List Event) (table : List TxnRow) : Type 0 where
+  pub ascending : AscendsByTxn table
+  pub right : All (λ row. IsInfo h row.txn row.info) table
+  pub whole : (t : ℕ) → HasEvent h t → (info : TxnInfo) × Contains table (record { txn = t; info = info })

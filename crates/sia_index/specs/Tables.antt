@@ -1,0 +1,38 @@
+-- What the tables of an index hold of its history.
+use Rattle.std.specs.Prelude.{◌≡◌, ◌<◌, ◌≤◌, ◌+◌, ℕ, List, length, slice_index, slice_range}
+use Rattle.std.specs.List.Sorted.{IsPartitionPoint}
+use Rattle.sia_events.specs.declared.event.Event.{Event}
+use Rattle.sia_events.specs.Refusals.{IsWellFormed}
+use Rattle.sia_index.specs.Info.{AreVersions, AreWrittenKeys}
+use Rattle.sia_index.specs.Rows.{AreTxns, AreWrites}
+use Rattle.sia_index.specs.declared.info.Made.{Made}
+use Rattle.sia_index.specs.declared.rows.VersionRow.{VersionRow}
+use Rattle.sia_index.specs.declared.rows.WriteRow.{WriteRow}
+use Rattle.sia_index.specs.declared.rows.TxnRow.{TxnRow}
+
+-- the offsets of the first n keys' versions among the rows
+pub record AreOffsets (keys : List ℕ) (rows : List VersionRow) (offsets : List ℕ) (n : ℕ) : Type 0 where
+  pub count : length offsets ≡ n + 1
+  pub first : slice_index offsets 0 ≡ 0
+  pub bound : (i : ℕ) → i < n → slice_index offsets i ≤ slice_index offsets (i + 1) × (slice_index offsets (i + 1) ≤ length rows)
+  pub split : (i : ℕ) → i < n → IsPartitionPoint (λ row. row.key ≤ slice_index keys i) (λ row. slice_index keys i < row.key) rows (slice_index offsets (i + 1))
+
+-- the versions of key number i are those from offset i to offset i + 1
+pub record HasChain (h : List Event) (keys offsets : List ℕ) (made : List Made) (i : ℕ) : Type 0 where
+  pub in_order : slice_index offsets i ≤ slice_index offsets (i + 1)
+  pub within : slice_index offsets (i + 1) ≤ length made
+  pub versions : AreVersions h (slice_index keys i) (slice_range made (slice_index offsets i) (slice_index offsets (i + 1)))
+
+-- the versions of every written key, one key after another
+pub record AreChains (h : List Event) (keys offsets : List ℕ) (made : List Made) : Type 0 where
+  pub count : length offsets ≡ length keys + 1
+  pub first : slice_index offsets 0 ≡ 0
+  pub last : slice_index offsets (length keys) ≡ length made
+  pub each : (i : ℕ) → i < length keys → HasChain h keys offsets made i
+
+pub record AreTables (h : List Event) (txns : List TxnRow) (writes : List WriteRow) (keys offsets : List ℕ) (made : List Made) : Type 0 where
+  pub well_formed : IsWellFormed h
+  pub txns_are : AreTxns h txns
+  pub writes_are : AreWrites h writes
+  pub keys_are : AreWrittenKeys h keys
+  pub chains_are : AreChains h keys offsets made

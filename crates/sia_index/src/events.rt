@@ -1,0 +1,94 @@
+//! Rows of tables, collected from a history's events.
+ghost use Rattle.std.specs.Prelude.{IfOk, List, MatchOption, ℕ};
+ghost use Rattle.sia_events.specs.declared.event.Event.{Event};
+ghost use Rattle.sia_events.specs.Refusals.{IsWellFormed};
+ghost use Rattle.sia_events.specs.Transactions.{IsCommitted, CommitsAt, WritesAt};
+ghost use Rattle.sia_index.specs.Rows.{AreActs, AreWrites, AreVersionRows, AreTxns, AscendsByTxn};
+
+use crate::info::Fate;
+use crate::ordering::put_in_order;
+use crate::rows::{ActRow, TxnRow, VersionRow, WriteRow, find_txn};
+use sia_events::{Event, History, Key, TxnId};
+use std::alloc::{AllocError, Global};
+
+/// Every event, by transaction.
+pub fn acts_of(alloc: Global, h: &History) -> Result<Vec<ActRow>, AllocError>
+    ensures { IfOk result (λ acts. AreActs h.now acts.items) }
+{
+    let mut acts = Vec::new(alloc);
+    for before in 0..h.len() {
+        let place = before + 1;
+        if let Some(event) = h.event(place) {
+            acts.push(ActRow {
+                txn: event.txn(),
+                place,
+            })?;
+        }
+    }
+    put_in_order(&mut acts);
+    Ok(acts)
+}
+
+/// Every write event, by key and transaction.
+pub fn writes_of(alloc: Global, h: &History) -> Result<Vec<WriteRow>, AllocError>
+    ensures { IfOk result (λ writes. AreWrites h.now writes.items) }
+{
+    let mut writes = Vec::new(alloc);
+    for before in 0..h.len() {
+        let place = before + 1;
+        if let Some((txn, key)) = write_at(h, place) {
+            writes.push(WriteRow { key, txn, place })?;
+        }
+    }
+    put_in_order(&mut writes);
+    Ok(writes)
+}
+
+/// Every version that a committed transaction made, by key and commit.
+pub fn version_rows_of(
+    alloc: Global,
+    h: &History,
+    txns: &[TxnRow],
+) -> Result<Vec<VersionRow>, AllocError>
+    requires { AreTxns h.now txns.now }
+    ensures { IfOk result (λ rows. AreVersionRows h.now rows.items) }
+{
+    let mut rows = Vec::new(alloc);
+    for before in 0..h.len() {
+        if let Some((txn, key)) = write_at(h, before + 1) {
+            if let Some(commit) = commit_of(txns, txn) {
+                rows.push(VersionRow { key, commit, txn })?;
+            }
+        }
+    }
+    put_in_order(&mut rows);
+    Ok(rows)
+}
+
+// Where the transaction commits, by the table.
+fn commit_of(txns: &[TxnRow], t: TxnId) -> Option<u32>
+    requires { AscendsByTxn txns.now }
+    ensures { (h : List Event) → IsWellFormed h → AreTxns h txns.now → MatchOption result (¬ IsCommitted h t) (CommitsAt h t) }
+{
+    match find_txn(txns, t) {
+        Some(info) => match info.fate {
+            Fate::Committed => info.ended,
+            Fate::Aborted => None,
+            Fate::Unfinished => None,
+        },
+        None => None,
+    }
+}
+
+// The transaction and the key of the write event at the place.
+fn write_at(h: &History, place: u32) -> Option<(TxnId, Key)>
+    ensures { MatchOption result ((t k : ℕ) → ¬ WritesAt h.now t k place) (λ write. WritesAt h.now write.0 write.1 place) }
+{
+    match h.event(place) {
+        Some(event) => match event {
+            Event::Write { txn, key } => Some((*txn, *key)),
+            _ => None,
+        },
+        None => None,
+    }
+}

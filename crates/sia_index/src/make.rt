@@ -1,0 +1,33 @@
+//! How an index is made of a history.
+ghost use Rattle.std.specs.Prelude.{◌≡◌, IfOk};
+
+use crate::chains::{keys_of, made_of, offsets_of};
+use crate::events::{acts_of, version_rows_of, writes_of};
+use crate::indexed::Index;
+use crate::txns::txns_of;
+use sia_events::{History, NoMemory};
+use std::alloc::Global;
+use std::snapshot::Snapshot;
+
+/// An index of the history.
+pub fn index(alloc: Global, h: &History) -> Result<Index, NoMemory>
+    ensures { IfOk result (λ ix. ix ≡ h.now) }
+{
+    // The length tells that the history is well-formed.
+    let _ = h.len();
+    let acts = acts_of(alloc, h)?;
+    let txns = txns_of(alloc, h, &acts)?;
+    let writes = writes_of(alloc, h)?;
+    let rows = version_rows_of(alloc, h, &txns)?;
+    let keys = keys_of(alloc, &writes)?;
+    let offsets = offsets_of(alloc, &keys, &rows)?;
+    let made = made_of(alloc, &rows)?;
+    Ok(Index {
+        of: Snapshot::of(h),
+        txns,
+        writes,
+        keys,
+        offsets,
+        made,
+    })
+}

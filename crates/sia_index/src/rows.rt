@@ -1,0 +1,76 @@
+//! The rows of an index's tables. Each table ascends by the fields of its rows, from the first field on.
+ghost use Rattle.std.specs.Prelude.{◌≡◌, ◌≢◌, ◌+◌, ◌<◌, ◌≤◌, All, Contains, MatchOption, length, slice_index, slice_range};
+ghost use Rattle.sia_index.specs.Rows.{AscendsByTxn, AscendsByWrite, HasNoWrite, IsFirstRow};
+
+use crate::info::{Made, TxnInfo};
+use sia_events::{Key, TxnId};
+
+/// An event of a transaction.
+#[derive(Clone, Copy, PartialEq, Eq, PartialOrd, Ord)]
+pub struct ActRow {
+    pub txn: TxnId,
+    pub place: u32,
+}
+
+/// A write event.
+#[derive(Clone, Copy, PartialEq, Eq, PartialOrd, Ord)]
+pub struct WriteRow {
+    pub key: Key,
+    pub txn: TxnId,
+    pub place: u32,
+}
+
+/// A committed transaction's version of a key.
+#[derive(Clone, Copy, PartialEq, Eq, PartialOrd, Ord)]
+pub struct VersionRow {
+    pub key: Key,
+    pub commit: u32,
+    pub txn: TxnId,
+}
+
+/// A transaction.
+#[derive(Clone, Copy)]
+pub struct TxnRow {
+    pub txn: TxnId,
+    pub info: TxnInfo,
+}
+
+/// What the table says of a transaction.
+pub fn find_txn(table: &[TxnRow], t: TxnId) -> Option<TxnInfo>
+    requires { AscendsByTxn table.now }
+    ensures { MatchOption result (All (λ row. row.txn ≢ t) table.now) (λ info. Contains table.now (record { txn = t; info = info })) }
+{
+    match table.binary_search_by_key(&t, |row| row.txn) {
+        Ok(i) => Some(table[i].info),
+        Err(_) => None,
+    }
+}
+
+/// The place of the first row of a key and a transaction.
+pub fn find_write(writes: &[WriteRow], t: TxnId, k: Key) -> Option<u32>
+    requires { AscendsByWrite writes.now }
+    ensures { MatchOption result (HasNoWrite writes.now t k) (IsFirstRow writes.now t k) }
+{
+    let at = writes.partition_point(|row| row.key < k || row.key == k && row.txn < t);
+    if at == writes.len() {
+        return None;
+    }
+    let row = writes[at];
+    if row.key == k && row.txn == t {
+        Some(row.place)
+    } else {
+        None
+    }
+}
+
+/// What stands from offset `i` to the next one.
+pub fn part_at<'a>(made: &'a [Made], offsets: &[usize], i: usize) -> &'a [Made]
+    requires two { i + 1 < length offsets.now }
+    requires in_order { slice_index offsets.now i ≤ slice_index offsets.now (i + 1) }
+    requires within { slice_index offsets.now (i + 1) ≤ length made.now }
+    ensures { result.now ≡ slice_range made.now (slice_index offsets.now i) (slice_index offsets.now (i + 1)) }
+{
+    let from = offsets[i];
+    let to = offsets[i + 1];
+    &made[from..to]
+}

@@ -1,0 +1,8 @@
+pub mod CoreLemmas
+pub mod RuleLemmas
+pub mod LineLemmas
+pub mod WorkLemmas
+pub mod ThreadLemmas
+pub mod SlotLemmas
+pub mod FinishLemmas
+pub mod DealLemmas

@@ -1,0 +1,12 @@
+pub mod Core
+pub mod View
+pub mod Rule
+pub mod Steps
+pub mod Laws
+pub mod Taker
+pub mod Gate
+pub mod Line
+pub mod Answers
+pub mod Work
+pub mod Threads
+pub mod Slots

@@ -1,0 +1,32 @@
+//! Workers that take the parts of a job from one work-stealing deque.
+//!
+//! `work_off` runs a job once on each part and says who took what. `line_up` gives the takers alone, for a caller with
+//! threads of its own. No contract says that a second thread ran, which taker takes which part, or how long a call takes.
+#![tactic(auto)]
+
+mod fault;
+mod finish;
+mod gate;
+mod job;
+mod laws;
+mod line;
+mod order;
+mod owner;
+mod pool;
+mod rule;
+mod stealer;
+mod taker;
+mod threads;
+mod view;
+mod work;
+
+pub use fault::NoMemory;
+pub use gate::{Gate, OpenGate};
+pub use job::Job;
+pub use laws::{core_law, rule_law};
+pub use line::line_up;
+pub use pool::{Crew, work_off, work_off_with};
+pub use taker::{Taken, Taker};
+
+#[cfg(test)]
+mod tests;

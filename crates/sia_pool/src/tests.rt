@@ -1,0 +1,4 @@
+mod late;
+mod meetings;
+mod rows;
+mod sums;

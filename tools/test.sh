@@ -1,0 +1,7 @@
+#!/bin/sh
+# The whole gate: the kit proves, tests and runs every crate from nothing, and the program that it built runs every example.
+: "${PROGRAM:=crates/si_audit/out/si_audit}"
+sh tools/kit.sh || exit 1
+rt ci || exit 1
+echo "examples:"
+sh tools/examples.sh
