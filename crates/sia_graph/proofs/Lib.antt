@@ -26,3 +26,7 @@ pub mod PrintedCycle
 pub mod StuckSets
 pub mod NoFirsts
 pub mod InOrder
+pub mod RightAt
+pub mod ChainOf
+pub mod MapSteps
+pub mod Replayed

@@ -18,7 +18,7 @@ use Rattle.sia_graph.proofs.Waiting.{none_waits, none_wait_if, some_counted, all
 use Rattle.sia_graph.proofs.Releasing.{removed}
 use Rattle.sia_graph.proofs.EdgeGroups.{one_id}
 
-no_greater : (k q : ℕ) → is_gt (nat_cmp k q) ≡ false → k ≤ q
+pub no_greater : (k q : ℕ) → is_gt (nat_cmp k q) ≡ false → k ≤ q
 no_greater k q e = elim (cases_lt q k) [
   | inr more ↦ more
   | inl less ↦

@@ -122,10 +122,10 @@ module _ (ids : List ℕ) (up : IsStrictlyIncreasing ids) (edges : List Edge) (c
     )
 
 -- sets of numbers after a change
-same_is_at : (k q : ℕ) → k ≡ q → is_at (nat_cmp k) q ≡ true
+pub same_is_at : (k q : ℕ) → k ≡ q → is_at (nat_cmp k) q ≡ true
 same_is_at k q e = let a = le-ltb k q (omega arith) in let b = eq-eqb k q e in rw (a, b)
 
-other_is_at : (k q : ℕ) → k ≢ q → is_at (nat_cmp k) q ≡ false
+pub other_is_at : (k q : ℕ) → k ≢ q → is_at (nat_cmp k) q ≡ false
 other_is_at k q n = elim (cases_lt k q) [
   | inl less ↦ let a = lt-ltb k q less in rw a
   | inr more ↦ let a = le-ltb k q more in let b = ne_eqb k q n in rw (a, b)

@@ -2,10 +2,13 @@
 #![tactic(auto)]
 
 mod adjacency;
+mod chains;
 mod laws;
+mod order;
 mod passing;
 mod pivot;
 mod replaying;
+mod right;
 mod settling;
 mod taking;
 mod txns;
@@ -14,7 +17,7 @@ mod walking;
 pub use laws::{pivot_law, replay_law, ssi_law};
 pub use passing::ssi_pass;
 pub use pivot::Pivot;
-pub use replaying::{Mismatch, ReplayFault};
+pub use replaying::{Mismatch, ReplayFault, replay};
 pub use settling::{Step, Steps, Verdict, settle};
 pub use txns::Txns;
 

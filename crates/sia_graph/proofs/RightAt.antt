@@ -1,0 +1,178 @@
+-- Whether an event of a replay is right at a key.
+use Rattle.std.proofs.Common.{◌≡◌, ◌≢◌, ◌⊎◌, inl, inr, ℕ, zero, suc, ◌+◌, ◌-◌, ◌<◌, ◌≤◌, Bool, true, false, List, [], ◌∷◌, length, get_or, map, Option, Some, None, ltb, eqb, unwrap_or, ap, sym, ◌∙◌, refl, subst, arith}
+use Rattle.std.specs.Prelude.{All, Contains, IsTrue, ◌↔◌, MatchOption}
+use Rattle.std.specs.List.Sorted.{IsStrictlyIncreasing, IsNonDecreasingBy, IsPartitionPoint}
+use Rattle.std.proofs.lemmas.Bool.{cases_lt, cases_eq, cases_order, ltb-true, ltb-false, lt-ltb, le-ltb, eqb-true, eq-eqb}
+use Rattle.std.proofs.lemmas.List.{get_or-map, get_or_default, length-map}
+use Rattle.std.proofs.lemmas.List.Kept.{AllPairs-from_increasing}
+use Rattle.sia_events.specs.declared.event.Event.{Event}
+use Rattle.sia_events.specs.Transactions.{Wrote, CommitsAt, CommitsBefore}
+use Rattle.sia_events.specs.Refusals.{IsWellFormed}
+use Rattle.sia_events.specs.Replay.{MayFollow}
+use Rattle.std.specs.BTreeMap.{BTreeMap, get}
+use Rattle.std.specs.BTreeMap.Range.{IsRangeOf}
+use Rattle.std.specs.declared.ops.Bound.TheVariants.{Included}
+use Rattle.std.specs.Ordering.{nat_cmp, is_gt}
+use Rattle.std.specs.Option.{IsSome, is_some}
+use Rattle.sia_events.specs.declared.event.Event.TheVariants.{Begin, Read, Range, Write, Commit, Abort}
+use Rattle.sia_events.specs.Places.{at_place}
+use Rattle.sia_graph.specs.Replaying.{Agrees, IsRight, IsWrongAt, version_in}
+use Rattle.sia_graph.proofs.OneTaken.{no_greater}
+use Rattle.sia_graph.proofs.Facts.{commits_lt}
+
+module _ (listed : List (ℕ × ℕ)) (up : IsStrictlyIncreasing (map (λ p. p.0) listed)) where
+  pub keys_less : (i j : ℕ) (d : ℕ × ℕ) → i < j → j < length listed → (get_or listed i d).0 < (get_or listed j d).0
+  keys_less i j d l b =
+      let n = length-map listed (λ (p : ℕ × ℕ). p.0) in
+      let e = get_or-map (λ (p : ℕ × ℕ). p.0) listed i d 0 (omega arith) in
+      let f = get_or-map (λ (p : ℕ × ℕ). p.0) listed j d 0 b in
+      let m = AllPairs-from_increasing (map (λ p. p.0) listed) up i j 0 l (omega arith) in
+      omega arith
+
+  pub keys_rise : IsNonDecreasingBy (λ p. p.0) listed
+  keys_rise i j d l b = elim (cases_lt i j) [
+    | inl less ↦ let m = keys_less i j d less b in omega arith
+    | inr more ↦ let e : i ≡ j = omega arith in let f = ap (λ k. (get_or listed k d).0) e in omega arith
+  ]
+
+  -- a listed pair with the key at i is the pair at i
+  pub at_key : (i k v : ℕ) (d : ℕ × ℕ) → i < length listed → (c : Contains listed (k, v)) → (get_or listed i d).0 ≡ k → get_or listed i d ≡ (k, v)
+  at_key i k v d l c e =
+      let j = c.0 in
+      let f : get_or listed j d ≡ (k, v) = get_or_default listed j d (k, v) c.1 ∙ c.2 in
+      let g = ap (λ (p : ℕ × ℕ). p.0) f in
+      elim (cases_order i j) [
+        | inl same ↦ ap (λ n. get_or listed n d) same ∙ f
+        | inr (inl less) ↦ let m = keys_less i j d less c.1 in absurd (omega arith)
+        | inr (inr more) ↦ let m = keys_less j i d more l in absurd (omega arith)
+      ]
+
+  -- a listed pair with a lesser key than the one at i stands before it
+  pub before_key : (i k v : ℕ) (d : ℕ × ℕ) → i < length listed → k < (get_or listed i d).0 → (c : Contains listed (k, v)) → c.0 < i
+  before_key i k v d l less c =
+      let j = c.0 in
+      let f : get_or listed j d ≡ (k, v) = get_or_default listed j d (k, v) c.1 ∙ c.2 in
+      let g = ap (λ (p : ℕ × ℕ). p.0) f in
+      elim (cases_order i j) [
+        | inl same ↦ let h = ap (λ n. (get_or listed n d).0) same in absurd (omega arith)
+        | inr (inl after) ↦ let m = keys_less i j d after c.1 in absurd (omega arith)
+        | inr (inr before) ↦ before
+      ]
+
+  module _ (key i : ℕ) (point : IsPartitionPoint (λ p. ltb p.0 key ≡ true) (λ p. ltb p.0 key ≡ false) listed i) where
+    listed_from : (v : ℕ) → (c : Contains listed (key, v)) → i ≤ c.0
+    listed_from v c = elim (cases_lt c.0 i) [
+      | inr more ↦ more
+      | inl less ↦
+          let f = ap (λ (p : ℕ × ℕ). p.0) c.2 in
+          let l = ltb-true (get_or listed c.0 (key, v)).0 key (point.0 c.0 (key, v) (omega arith) less) in
+          absurd (omega arith)
+    ]
+
+    pub is_listed_at : i < length listed → (d : ℕ × ℕ) → IsTrue (eqb (get_or listed i d).0 key) ↔ ((v : ℕ) × Contains listed (key, v))
+    is_listed_at l d = (
+      λ t.
+          let e = eqb-true (get_or listed i d).0 key t in
+          let v = (get_or listed i d).1 in
+          (v, (i, l, get_or_default listed i (key, v) d l ∙ (λ j. (e j, v)))),
+      λ w.
+          let c = w.1 in
+          let m = listed_from w.0 c in
+          let f : (get_or listed c.0 d).0 ≡ key = ap (λ (p : ℕ × ℕ). p.0) (get_or_default listed c.0 d (key, w.0) c.1 ∙ c.2) in
+          let n = ltb-false (get_or listed i d).0 key (point.1 i d (omega arith) l) in
+          let r = keys_rise i c.0 d m c.1 in
+          eq-eqb (get_or listed i d).0 key (omega arith),
+    )
+
+    pub none_listed : length listed ≤ i → ¬ ((v : ℕ) × Contains listed (key, v))
+    none_listed past w = let m = listed_from w.0 w.1 in let l = w.1.1 in omega arith
+
+-- of two committed writers the one that commits first may be followed by the other
+pub follows_iff : (h : List Event) → IsWellFormed h → (k v t c d : ℕ) → v ≢ 0 → v ≢ t → Wrote h v k → Wrote h t k → CommitsAt h v c → CommitsAt h t d → IsTrue (ltb c d) ↔ MayFollow h k v t
+follows_iff h wf k v t c d some other first second at_c at_d = (
+  λ b. inr (inr (inr (first, second, (c, d, at_c, at_d, ltb-true c d b)))),
+  λ f. elim f [
+    | inl none ↦ absurd (some none)
+    | inr (inl same) ↦ absurd (other same)
+    | inr (inr (inl none)) ↦ absurd (some none.0)
+    | inr (inr (inr before)) ↦ lt-ltb c d (commits_lt h wf v t c d at_c at_d before.2)
+  ],
+)
+
+no_lesser : (k q : ℕ) → k ≤ q → is_gt (nat_cmp k q) ≡ false
+no_lesser k q l = elim (cases_eq k q) [
+  | inl e ↦ let a = le-ltb k q (omega arith) in let b = eq-eqb k q e in rw (a, b)
+  | inr other ↦ elim (cases_lt k q) [ inl less ↦ let a = lt-ltb k q less in rw a | inr more ↦ absurd (other (omega arith)) ]
+]
+
+-- the first entry of a range of a map
+pub range_first : (m : BTreeMap ℕ ℕ) (a b : ℕ) (r : List (ℕ × ℕ)) → IsRangeOf nat_cmp (Included a) (Included b) m r → (k v : ℕ) (t : List (ℕ × ℕ)) → r ≡ (k, v) ∷ t
+    → (a ≤ k) × (k ≤ b) × (v ≡ version_in m k) × ((q : ℕ) → a ≤ q → q < k → version_in m q ≡ 0)
+range_first m a b r range k v t is =
+    let w = subst (λ l. IsRangeOf nat_cmp (Included a) (Included b) m l) is range in
+    let here = w.1 in
+    let low = no_greater a k here.0.0 in
+    let high = no_greater k b here.0.1 in
+    (low, high, ap (λ o. unwrap_or o 0) (sym here.1), λ q l less. by_value q l less (get nat_cmp m q) refl)
+  where
+    by_value : (q : ℕ) → a ≤ q → q < k → (o : Option ℕ) → get nat_cmp m q ≡ o → version_in m q ≡ 0
+    by_value q l less None e = ap (λ o. unwrap_or o 0) e
+    by_value q l less (Some x) e =
+        let w = subst (λ l. IsRangeOf nat_cmp (Included a) (Included b) m l) is range in
+        let high = no_greater k b w.1.0.1 in
+        let some : IsSome (get nat_cmp m q) = ap is_some e in
+        let n = no_greater k q (w.2 q (no_lesser a q l, no_lesser q b (omega arith)) some) in
+        absurd (omega arith)
+
+-- the keys up to one that is right are right
+pub passed_key : (versions : BTreeMap ℕ ℕ) (listed : List (ℕ × ℕ)) (lo from key version : ℕ) → ((k : ℕ) → k < from → lo ≤ k → ((v : ℕ) → ¬ Contains listed (k, v)) → version_in versions k ≡ 0)
+    → ((k : ℕ) → from ≤ k → k < key → version_in versions k ≡ 0) → version ≡ version_in versions key → (version ≡ 0) ⊎ ((v : ℕ) × Contains listed (key, v))
+    → (k : ℕ) → k < key + 1 → lo ≤ k → ((v : ℕ) → ¬ Contains listed (k, v)) → version_in versions k ≡ 0
+passed_key versions listed lo from key version before between is right k l low unlisted = elim (cases_lt k from) [
+  | inl less ↦ before k less low unlisted
+  | inr more ↦ elim (cases_eq k key) [
+    | inr other ↦ between k more (elim (cases_lt k key) [ inl less ↦ less | inr past ↦ absurd (other (omega arith)) ])
+    | inl same ↦ elim right [
+      | inl none ↦ ap (version_in versions) same ∙ sym is ∙ none
+      | inr w ↦ absurd (unlisted w.0 (subst (λ n. Contains listed (n, w.0)) (sym same) w.1))
+    ]
+  ]
+]
+
+module _ (found : ℕ → ℕ) (t lo hi : ℕ) (listed : List (ℕ × ℕ)) where
+  -- a range read is right at k where it is right as to what it lists there, and found nothing else there
+  pub range_agrees : (k : ℕ) → ((v : ℕ) → Contains listed (k, v) → v ≡ found k) → (lo ≤ k → k ≤ hi → ((v : ℕ) → ¬ Contains listed (k, v)) → found k ≡ 0) → Agrees found (Range t lo hi listed) k
+  range_agrees k here nothing v saw = elim (saw.2) [ inl c ↦ here v c | inr w ↦ w.1 ∙ sym (nothing saw.0 saw.1 w.0) ]
+
+  pub listed_wrong : All (λ p. (lo ≤ p.0) × (p.0 ≤ hi)) listed → (key v : ℕ) → Contains listed (key, v) → v ≢ found key → ¬ Agrees found (Range t lo hi listed) key
+  listed_wrong within key v c other agrees =
+      let w = subst (λ (p : ℕ × ℕ). (lo ≤ p.0) × (p.0 ≤ hi)) c.2 (within c.0 (key, v) c.1) in
+      other (agrees v (w.0, w.1, inl c))
+
+  pub unlisted_wrong : (key : ℕ) → lo ≤ key → key ≤ hi → ((v : ℕ) → ¬ Contains listed (key, v)) → found key ≢ 0 → ¬ Agrees found (Range t lo hi listed) key
+  unlisted_wrong key low high none other agrees = other (sym (agrees 0 (low, high, inr (none, refl))))
+
+module _ (h : List Event) (found : ℕ → ℕ) where
+  -- a read or a write is right at every key but its own
+  pub read_right : (t key saw : ℕ) → found key ≡ saw → (k : ℕ) → IsRight h found (Read t key saw) k
+  read_right t key saw e k v s = s.1 ∙ sym e ∙ ap found (sym s.0)
+
+  pub read_wrong : (t key saw : ℕ) → (found key ≡ saw → ⊥) → IsWrongAt h found (Read t key saw) key (found key)
+  read_wrong t key saw n = (λ r. n (sym (r saw (refl, refl))), (λ k l v s. let e = s.0 in absurd (omega arith)), refl)
+
+  pub write_right : (t key : ℕ) → MayFollow h key (found key) t → (k : ℕ) → IsRight h found (Write t key) k
+  write_right t key f k e = subst (λ n. MayFollow h n (found n) t) (sym e) f
+
+  pub write_wrong : (t key : ℕ) → ¬ MayFollow h key (found key) t → IsWrongAt h found (Write t key) key (found key)
+  write_wrong t key n = (λ r. n (r refl), (λ k l e. absurd (omega arith)), refl)
+
+-- where all that is listed is right, the rest decides
+pub none_listed_wrong : (found : ℕ → ℕ) (t lo hi : ℕ) (listed : List (ℕ × ℕ)) (r : Option ℕ) → ((k v : ℕ) → Contains listed (k, v) → v ≡ found k)
+    → MatchOption r ((k : ℕ) → lo ≤ k → k ≤ hi → ((v : ℕ) → ¬ Contains listed (k, v)) → found k ≡ 0)
+    (λ key. (lo ≤ key) × (key ≤ hi) × ((v : ℕ) → ¬ Contains listed (key, v)) × (found key ≢ 0) × ((k : ℕ) → k < key → lo ≤ k → ((v : ℕ) → ¬ Contains listed (k, v)) → found k ≡ 0))
+    → MatchOption r ((k : ℕ) → Agrees found (Range t lo hi listed) k) (λ key. ¬ Agrees found (Range t lo hi listed) key × ((k : ℕ) → k < key → Agrees found (Range t lo hi listed) k))
+none_listed_wrong found t lo hi listed None here nothing = λ k. range_agrees found t lo hi listed k (here k) (nothing k)
+none_listed_wrong found t lo hi listed (Some key) here w = (
+  unlisted_wrong found t lo hi listed key w.0 w.1 w.2 w.3,
+  λ k l. range_agrees found t lo hi listed k (here k) (λ low high none. w.4 k l low none),
+)
