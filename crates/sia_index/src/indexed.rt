@@ -2,6 +2,7 @@
 ghost use Rattle.std.specs.Prelude.{◌≡◌, ◌↔◌, ◌≤◌, ◌<◌, ℕ, IsTrue, MatchOption, All, Contains};
 ghost use Rattle.sia_events.specs.Transactions.{HasEvent, Overlap, Wrote, WroteBefore};
 ghost use Rattle.sia_events.specs.Reads.{IsDue};
+ghost use Rattle.sia_events.specs.Refusals.{IsWellFormed};
 ghost use Rattle.sia_index.specs.Info.{IsInfo, AreVersions, AreWrittenKeys, AreAllVersions, IsFirstWrite, HasKeyAt, IsKeyAt, StartsBefore, AreReadsWithin, AreRangesMeeting, AreWrittenWithin};
 ghost use Rattle.sia_index.specs.Rows.{AscendsByCommit, IsLastWithin};
 
@@ -39,6 +40,13 @@ impl Model for Index {
 }
 
 impl Index {
+    /// A law of every index, and nothing else: its history is well-formed.
+    pub fn law(&self)
+        ensures { IsWellFormed self.now }
+    {
+        let _ = &self.of;
+    }
+
     /// What is known of a transaction.
     pub fn txn(&self, t: TxnId) -> Option<TxnInfo>
         ensures { MatchOption result (¬ HasEvent self.now t) (IsInfo self.now t) }
