@@ -19,6 +19,7 @@ pub mod Ranges
 pub mod Unwritten
 pub mod OneList
 pub mod Histories
+pub mod RoundTrips
 pub mod NamedStarts
 pub mod EventTests
 pub mod Refusing
