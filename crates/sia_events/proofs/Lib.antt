@@ -33,6 +33,7 @@ pub mod WorkedStarts
 pub mod Digits
 pub mod NumberLaws
 pub mod Tokens
+pub mod PlainBytes
 pub mod Judged
 pub mod EventLaws
 pub mod EventAgain

@@ -11,6 +11,7 @@ mod number;
 mod reader;
 mod tables;
 mod token;
+mod txn_set;
 mod writer;
 
 pub use event::{Event, Key, Listed, TxnId, Version};
