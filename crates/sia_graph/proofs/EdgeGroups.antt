@@ -1,4 +1,4 @@
--- Positions of ids, and the edges from one transaction, in sorted lists.
+-- Positions of ids in a sorted list.
 use Rattle.std.proofs.Common.{◌≡◌, ◌≢◌, ◌⊎◌, inl, inr, ℕ, zero, suc, ◌+◌, ◌-◌, ◌<◌, ◌≤◌, Bool, true, false, List, [], ◌∷◌, ◌++◌, length, get_or, take, drop, ltb, leb, ap, sym, ◌∙◌, refl, subst, arith}
 use Rattle.std.specs.Prelude.{Contains, All, AllPairs}
 use Rattle.std.specs.List.{AllWithin}
@@ -48,43 +48,3 @@ module _ (ids : List ℕ) (up : IsStrictlyIncreasing ids) where
             let n = ids_no_less i k more c.1 in
             (l, omega arith)
       ]
-
-precedes_src : (d e : Edge) → Precedes (edge_rank d) (edge_rank e) → d.src ≤ e.src
-precedes_src d e (inl l) = omega arith
-precedes_src d e (inr w) = let s = w.0 in omega arith
-
-pub sources_rise : (edges : List Edge) → AllPairs (λ d e. Precedes (edge_rank d) (edge_rank e)) edges → IsNonDecreasingBy (λ e. e.src) edges
-sources_rise edges sorted i j d l b = elim (cases_lt i j) [
-  | inl less ↦ precedes_src (get_or edges i d) (get_or edges j d) (sorted i j d less b)
-  | inr more ↦ let e : i ≡ j = omega arith in let f = ap (λ k. (get_or edges k d).src) e in omega arith
-]
-
-pub edges_at : (edges rest : List Edge) (t first count : ℕ) → rest ≡ drop first edges
-    → IsPartitionPoint (λ e. ltb e.src t ≡ true) (λ e. ltb e.src t ≡ false) edges first
-    → IsPartitionPoint (λ e. leb e.src t ≡ true) (λ e. leb e.src t ≡ false) rest count
-    → AreEdgesFrom edges t (take count rest)
-edges_at edges rest t first count is a b =
-    let at = λ (k : ℕ) (d : Edge). ap (λ l. get_or l k d) is ∙ get_or-drop first edges k d in
-    let long : length rest ≡ length edges - first = ap (length {A = Edge}) is ∙ length-drop first edges in (
-      take first edges,
-      drop count rest,
-      sym (ap (λ l. take first edges ++ l) (take-append-drop count rest ∙ is) ∙ take-append-drop first edges),
-      λ k d l.
-          let m = length-take first edges in
-          let e = get_or-take first edges k d (omega arith) in
-          let f = ltb-true (get_or edges k d).src t (a.0 k d (omega arith) (omega arith)) in
-          subst (λ (x : Edge). x.src < t) (sym e) f,
-      λ k d l.
-          let m = length-take count rest in
-          let e = get_or-take count rest k d (omega arith) in
-          let f = at k d in
-          let g = leb-true (get_or rest k d).src t (b.0 k d (omega arith) (omega arith)) in
-          let h = ltb-false (get_or edges (first + k) d).src t (a.1 (first + k) d (omega arith) (omega arith)) in
-          let i : (get_or rest k d).src ≡ (get_or edges (first + k) d).src = ap (λ (x : Edge). x.src) f in
-          subst (λ (x : Edge). x.src ≡ t) (sym e) (omega arith),
-      λ k d l.
-          let m = length-drop count rest in
-          let e = get_or-drop count rest k d in
-          let f = leb-false (get_or rest (count + k) d).src t (b.1 (count + k) d (omega arith) (omega arith)) in
-          subst (λ (x : Edge). t < x.src) (sym e) f,
-    )

@@ -30,3 +30,8 @@ pub mod RightAt
 pub mod ChainOf
 pub mod MapSteps
 pub mod Replayed
+pub mod Listed
+pub mod Groups
+pub mod LinkLists
+pub mod Vulnerable
+pub mod PivotLists

@@ -4,6 +4,7 @@ use Rattle.std.specs.Prelude.{◌≡◌, ◌⊎◌, ℕ, ◌<◌, ◌==◌, ◌&
 use Rattle.std.specs.BTreeSet.{BTreeSet, contains}
 use Rattle.std.specs.Ordering.{nat_cmp}
 use Rattle.sia_parts.specs.declared.finding.Edge.{Edge}
+use Rattle.sia_graph.specs.Groups.{IsGroup}
 use Rattle.sia_graph.specs.Orders.{Leads, IsKeepingOrder}
 
 -- t is in the list
@@ -47,8 +48,7 @@ AreWaiting front ids edges counts = (length counts ≡ length ids)
 
 -- these edges are those from t, which stand side by side
 abbrev pub AreEdgesFrom : List Edge → ℕ → List Edge → Type 0
-AreEdgesFrom edges t group = (before : List Edge) × (after : List Edge) × (edges ≡ before ++ (group ++ after))
-    × All (λ e. e.src < t) before × All (λ e. e.src ≡ t) group × All (λ e. t < e.src) after
+AreEdgesFrom edges t group = IsGroup (λ e. e.src) edges t group
 
 -- the last of the edges that lead to t is among these
 abbrev pub IsFreed : List ℕ → List Edge → List ℕ → ℕ → Type 0
