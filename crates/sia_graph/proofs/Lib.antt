@@ -15,7 +15,7 @@ pub mod SsiLaw
 pub mod Positions
 pub mod Fronts
 pub mod Waiting
-pub mod EdgeGroups
+pub mod AscendingIds
 pub mod Releasing
 pub mod OneTaken
 pub mod Walks

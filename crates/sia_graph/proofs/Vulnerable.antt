@@ -1,6 +1,6 @@
 -- Dangerous structures of a well-formed history, told by rw edges, overlaps and commits.
-use Rattle.std.proofs.Common.{◌≡◌, ◌↔◌, ◌⊎◌, inl, inr, ℕ, zero, suc, cond, ◌+◌, ◌<◌, ◌≤◌, List, [], ◌∷◌, Option, Some, None, length, get_or, map, refl, ap, sym, ◌∙◌, subst, arith}
-use Rattle.std.specs.Prelude.{All, Contains, IsTrue, MatchOption, ⊤, unwrap_or}
+use Rattle.std.proofs.Common.{◌≡◌, ◌↔◌, ◌⊎◌, inl, inr, ℕ, cond, ◌+◌, ◌<◌, ◌≤◌, List, [], Option, Some, None, length, get_or, refl, ap, sym, ◌∙◌, subst, arith}
+use Rattle.std.specs.Prelude.{All, Contains, MatchOption, ⊤}
 use Rattle.std.specs.Ordering.{nat_cmp, ord_max, is_lt}
 use Rattle.std.proofs.lemmas.Bool.{cases_lt}
 use Rattle.std.proofs.lemmas.Cmp.{ranked, by_ranked}
@@ -8,21 +8,17 @@ use Rattle.std.proofs.lemmas.List.{get_or_default}
 use Rattle.std.proofs.lemmas.List.Elements.{All-contains}
 use Rattle.sia_events.specs.declared.event.Event.{Event}
 use Rattle.sia_events.specs.declared.event.Event.TheVariants.{Commit}
-use Rattle.sia_events.specs.Places.{at_place}
 use Rattle.sia_events.specs.Refusals.{IsWellFormed}
-use Rattle.sia_events.specs.Transactions.{HasEvent, CommitsAt, IsCommitted, Overlap, CommitsBefore}
-use Rattle.sia_events.specs.Lists.{ListsBy, ListsAscending}
-use Rattle.sia_events.specs.DangerousStructures.{IsVulnerable, IsPivot, IsFirst}
+use Rattle.sia_events.specs.Transactions.{CommitsAt, IsCommitted, Overlap, CommitsBefore}
+use Rattle.sia_events.specs.Lists.{ListsAscending}
+use Rattle.sia_events.specs.DangerousStructures.{IsVulnerable, IsFirst}
 use Rattle.sia_events.proofs.WellFormed.{one_commit}
 use Rattle.sia_events.proofs.Endings.{one_end, one_committer}
-use Rattle.sia_index.specs.declared.info.TxnInfo.{TxnInfo}
-use Rattle.sia_index.specs.declared.info.Fate.{Fate}
 use Rattle.sia_index.specs.declared.info.Fate.TheVariants.{Committed, Aborted, Unfinished}
-use Rattle.sia_index.specs.Info.{IsInfo, EndsAs}
+use Rattle.sia_index.specs.Info.{EndsAs}
 use Rattle.sia_parts.specs.declared.finding.Edge.{Edge}
-use Rattle.sia_parts.specs.declared.finding.Kind.{Kind}
-use Rattle.sia_parts.specs.declared.finding.Kind.TheVariants.{Ww, Wr, Rw}
-use Rattle.sia_parts.specs.Entries.{IsEdge, EdgeOfKind}
+use Rattle.sia_parts.specs.declared.finding.Kind.TheVariants.{Rw}
+use Rattle.sia_parts.specs.Entries.{EdgeOfKind}
 use Rattle.sia_parts.specs.Findings.{ListsEdges}
 use Rattle.sia_graph.specs.Links.{HasRw}
 use Rattle.sia_graph.proofs.Facts.{from_one}
@@ -135,20 +131,31 @@ module _ (h : List Event) (wf : IsWellFormed h) where
       (λ (v, (c, at, early, within)).
           let w : (in_from : ℕ) × IsVulnerable h in_from txn × ((u ≡ in_from) ⊎ CommitsBefore h u in_from) = elim attained [
             | inl none ↦ absurd (let some = from_one h c (Commit u) at in omega arith)
-            | inr w ↦ (w.0, (are_ins.each w.0).0 w.1, elim (cases_lt c last) [
-              | inl less ↦ inr ((before_by u w.0 c last at w.2).1 less)
-              | inr more ↦ let same : c ≡ last = omega arith in inl (one_committer h u w.0 last (subst (CommitsAt h u) same at) w.2)
-            ])
+            | inr w ↦ (
+              w.0,
+              (are_ins.each w.0).0 w.1,
+              elim (cases_lt c last) [
+                | inl less ↦ inr ((before_by u w.0 c last at w.2).1 less)
+                | inr more ↦ let same : c ≡ last = omega arith in inl (one_committer h u w.0 last (subst (CommitsAt h u) same at) w.2)
+              ],
+            )
           ] in
           (v, (before_by u txn c own at own_at).1 early, w.0, w.1, w.2)),
       (λ (v, early, in_from, into, or).
           let at = target_committed h txn u v in
           let d = source_committed h in_from txn into in
-          let below : d.0 ≤ last = All-contains (λ t. (c : ℕ) → CommitsAt h t c → c ≤ last) ins in_from greatest ((are_ins.each in_from).1 into) d.0 d.1 in
-          (v, (at.0, at.1, (before_by u txn at.0 own at.1 own_at).0 early, elim or [
-            | inl same ↦ let e : at.0 ≡ d.0 = one_commit h wf u at.0 d.0 at.1 (subst (λ t. CommitsAt h t d.0) (sym same) d.1) in omega arith
-            | inr less ↦ let l = (before_by u in_from at.0 d.0 at.1 d.1).0 less in omega arith
-          ]))),
+          let below : d.0 ≤ last = All-contains (λ t. (c : ℕ) → CommitsAt h t c → c ≤ last) ins in_from greatest ((are_ins.each in_from).1 into) d.0 d.1 in (
+            v,
+            (
+              at.0,
+              at.1,
+              (before_by u txn at.0 own at.1 own_at).0 early,
+              elim or [
+                | inl same ↦ let e : at.0 ≡ d.0 = one_commit h wf u at.0 d.0 at.1 (subst (λ t. CommitsAt h t d.0) (sym same) d.1) in omega arith
+                | inr less ↦ let l = (before_by u in_from at.0 d.0 at.1 d.1).0 less in omega arith
+              ],
+            ),
+          )),
     )
 
 -- what doesn't commit has no first

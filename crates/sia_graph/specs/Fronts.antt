@@ -1,6 +1,6 @@
 -- What holds while an order is made one transaction at a time: what the front of an order keeps, and how many edges lead to
 -- each transaction from outside the front.
-use Rattle.std.specs.Prelude.{◌≡◌, ◌⊎◌, ℕ, ◌<◌, ◌==◌, ◌&&◌, ◌||◌, Bool, false, not, List, [], ◌∷◌, ◌++◌, All, slice_get, slice_index, length, count_by, Contains, Some, ⊤, IsTrue, ◌↔◌}
+use Rattle.std.specs.Prelude.{◌≡◌, ◌⊎◌, ℕ, ◌<◌, ◌==◌, ◌&&◌, ◌||◌, Bool, false, not, List, [], ◌∷◌, slice_get, slice_index, length, count_by, Contains, Some, ⊤, IsTrue, ◌↔◌}
 use Rattle.std.specs.BTreeSet.{BTreeSet, contains}
 use Rattle.std.specs.Ordering.{nat_cmp}
 use Rattle.sia_parts.specs.declared.finding.Edge.{Edge}

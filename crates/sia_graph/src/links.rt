@@ -53,11 +53,7 @@ fn rw_links(alloc: Global, edges: &[Edge]) -> Result<Vec<Link>, AllocError>
 }
 
 /// The rw edges between overlapping transactions, each as a link at its source.
-pub(crate) fn vulnerable(
-    alloc: Global,
-    edges: &[Edge],
-    ix: &Index,
-) -> Result<Vec<Link>, AllocError>
+pub(crate) fn vulnerable(alloc: Global, edges: &[Edge], ix: &Index) -> Result<Vec<Link>, AllocError>
     requires { ListsEdges ix.now (λ _. ⊤) edges.now }
     ensures { IfOk result (λ links. ListsLinks (IsVulnerable ix.now) links.items) }
 {

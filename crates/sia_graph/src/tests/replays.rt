@@ -103,6 +103,9 @@ fn a_long_replay(rt: HostRuntime) -> Result<(), Fail> {
     assert_eq!(rt; replay(rt.alloc(), &h, &order), Ok(None));
     // Backwards the second write, that of 49,999 at place 2 * 49,999 - 1, comes after a later version.
     order.reverse();
-    assert_eq!(rt; replay(rt.alloc(), &h, &order), Ok(mismatch(99_997, 1, 50_000)));
+    assert_eq!(rt;
+        replay(rt.alloc(), &h, &order),
+        Ok(mismatch(99_997, 1, 50_000))
+    );
     Ok(())
 }

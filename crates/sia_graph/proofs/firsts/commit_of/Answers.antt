@@ -1,4 +1,4 @@
-use Rattle.std.proofs.Common.{ℕ, Option, subst}
+use Rattle.std.proofs.Common.{subst}
 use Rattle.sia_index.specs.declared.info.Fate.{Fate}
 use Rattle.sia_index.specs.Info.{EndsAs}
 use Rattle.sia_graph.proofs.Vulnerable.{aborted_end}

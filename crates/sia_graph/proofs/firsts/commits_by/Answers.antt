@@ -1,5 +1,5 @@
-use Rattle.std.proofs.Common.{leb, ltb, rules, arith}
-use Rattle.std.proofs.lemmas.Bool.{le-leb, leb-true, lt-ltb, ltb-true}
+use Rattle.std.proofs.Common.{arith}
+use Rattle.std.proofs.lemmas.Bool.{le-leb, leb-true, ltb-true}
 use Rattle.sia_graph.proofs.Vulnerable.{within_bounds}
 use Rattle.sia_graph.proofs.firsts.commits_by.Goals as goal
 

@@ -1,4 +1,4 @@
-use Rattle.std.proofs.Common.{List, ◌∷◌, [], ◌++◌, ◌≡◌, ap, map, take, get_or, sym, subst, ◌∙◌, arith}
+use Rattle.std.proofs.Common.{List, ◌∷◌, [], ◌++◌, ap, map, take, sym, subst, ◌∙◌, arith}
 use Rattle.std.specs.Prelude.{All}
 use Rattle.std.proofs.lemmas.List.{map-append, take_more, take_all}
 use Rattle.std.proofs.lemmas.List.Elements.{All-push}
@@ -14,7 +14,7 @@ loop-txn-preserved c =
     let n = c.loop-txn.txn-index in
     let is = c.in_ok-push.ensures.items in (
       ap (map (λ (p : Pivot). p.txn)) is ∙ map-append (λ (p : Pivot). p.txn) found (entry ∷ []) ∙ ap (λ l. l ++ entry.txn ∷ []) c.loop-txn.invariant.0
-      ∙ ap (λ t. take n txns ++ t ∷ []) c.in_ok-pivot.ensures.txn ∙ sym (take_more txns n 0 c.loop-txn-test.true),
+          ∙ ap (λ t. take n txns ++ t ∷ []) c.in_ok-pivot.ensures.txn ∙ sym (take_more txns n 0 c.loop-txn-test.true),
       subst (λ (l : List Pivot). All (ListsNeighbours c.args.ix.now) l) (sym is) (All-push (ListsNeighbours c.args.ix.now) found entry c.loop-txn.invariant.1 c.in_ok-pivot.ensures.neighbours),
     )
 

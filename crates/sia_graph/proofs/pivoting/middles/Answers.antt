@@ -1,6 +1,5 @@
 use Rattle.std.proofs.Common.{◌∷◌, [], ◌↔◌, ℕ, rules, subst}
 use Rattle.std.specs.Prelude.{IsTrue}
-use Rattle.sia_graph.specs.Links.{AreLinked}
 use Rattle.sia_graph.proofs.Listed.{listed_as, retained}
 use Rattle.sia_graph.proofs.LinkLists.{IsLinked}
 use Rattle.sia_graph.proofs.pivoting.middles.Goals as goal

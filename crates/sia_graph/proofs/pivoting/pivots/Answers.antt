@@ -1,7 +1,6 @@
-use Rattle.std.proofs.Common.{◌≡◌, List, sym, ◌∙◌, subst}
+use Rattle.std.proofs.Common.{sym, ◌∙◌, subst}
 use Rattle.sia_events.specs.DangerousStructures.{IsVulnerable}
-use Rattle.sia_graph.specs.declared.links.Link.{Link}
-use Rattle.sia_graph.specs.Links.{ListsLinks, AreLinked}
+use Rattle.sia_graph.specs.Links.{ListsLinks}
 use Rattle.sia_graph.proofs.PivotLists.{into_listed, pivots_listed}
 use Rattle.sia_graph.proofs.pivoting.pivots.Goals as goal
 
