@@ -1,18 +1,15 @@
 -- The chain of a transaction's events, and what a replay along it tells.
-use Rattle.std.proofs.Common.{◌≡◌, ◌≢◌, ◌⊎◌, inl, inr, ℕ, zero, suc, ◌+◌, ◌-◌, ◌<◌, ◌≤◌, Bool, true, false, cond, List, [], ◌∷◌, ◌++◌, length, get_or, set, drop, slice_get, Option, Some, None, eqb, unwrap_or, ap, sym, ◌∙◌, refl, subst, arith, add-one}
-use Rattle.std.specs.BTreeMap.{BTreeMap, get, Updates, IsEmpty}
-use Rattle.std.specs.Ordering.{nat_cmp}
-use Rattle.std.proofs.lemmas.Bool.{cases_Bool, cases_lt, cases_eq, eqb-true, eqb-false, eq-eqb, ne_eqb}
-use Rattle.std.proofs.lemmas.List.{drop_more, drop-drop, length-drop, get_or-set_same, get_or-set_other, length-set}
-use Rattle.std.proofs.lemmas.Option.{same_Some, slice_get_within, slice_get-get_or, get_or_from_slice_get, slice_get_past}
+use Rattle.std.proofs.Common.{◌≡◌, ◌≢◌, ◌⊎◌, inl, inr, ℕ, zero, suc, ◌+◌, ◌-◌, ◌<◌, ◌≤◌, true, false, cond, List, [], ◌∷◌, ◌++◌, length, get_or, drop, slice_get, Option, Some, None, eqb, ap, sym, ◌∙◌, refl, subst, arith, add-one}
+use Rattle.std.specs.BTreeMap.{BTreeMap}
+use Rattle.std.proofs.lemmas.Bool.{cases_Bool, cases_lt, eqb-true, eq-eqb, ne_eqb}
+use Rattle.std.proofs.lemmas.List.{drop_more, drop-drop}
+use Rattle.std.proofs.lemmas.Option.{same_Some, slice_get_within, get_or_from_slice_get}
 use Rattle.sia_events.specs.declared.event.Event.{Event}
-use Rattle.sia_events.specs.declared.event.Event.TheVariants.{Begin, Read, Range, Write, Commit, Abort}
 use Rattle.sia_events.specs.Places.{at_place}
 use Rattle.sia_events.specs.Events.{actor}
-use Rattle.sia_events.specs.Transactions.{Wrote}
-use Rattle.sia_events.specs.Replay.{events_of, is_write_of}
+use Rattle.sia_events.specs.Replay.{events_of}
 use Rattle.sia_graph.specs.declared.replaying.Mismatch.{Mismatch}
-use Rattle.sia_graph.specs.Replaying.{AllRight, AreFirsts, AreNext, AreWritten, IsRight, IsWrongAt, Tells, after, first_at, version_in}
+use Rattle.sia_graph.specs.Replaying.{AreNext, AreWritten, IsRight, IsWrongAt, Tells, after, first_at, version_in}
 use Rattle.sia_graph.proofs.LastWriter.{events_from}
 
 pub drop_at : (h : List Event) (p : ℕ) (e : Event) → slice_get h p ≡ Some e → drop p h ≡ e ∷ drop (p + 1) h

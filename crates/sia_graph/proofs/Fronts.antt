@@ -1,10 +1,10 @@
 -- A front of an order grows by the least transaction that is ready. What is left when none is ready is the stuck set, and
 -- where nothing is left the front is the least order that keeps every edge.
-use Rattle.std.proofs.Common.{◌≡◌, ◌≢◌, ◌⊎◌, inl, inr, ℕ, zero, suc, ◌+◌, ◌<◌, ◌≤◌, List, [], ◌∷◌, ◌++◌, length, slice_get, Some, ap, sym, ◌∙◌, refl, subst, arith, append_assoc}
-use Rattle.std.specs.Prelude.{Contains, ⊤}
+use Rattle.std.proofs.Common.{◌≡◌, ◌⊎◌, inl, inr, ℕ, zero, suc, ◌+◌, ◌<◌, ◌≤◌, List, [], ◌∷◌, ◌++◌, length, slice_get, Some, ap, sym, ◌∙◌, refl, subst, arith}
+use Rattle.std.specs.Prelude.{⊤}
 use Rattle.std.proofs.lemmas.Bool.{cases_lt}
-use Rattle.std.proofs.lemmas.Option.{same_Some, slice_get_within}
-use Rattle.sia_events.specs.Lists.{Precedes, HoldsExactly}
+use Rattle.std.proofs.lemmas.Option.{slice_get_within}
+use Rattle.sia_events.specs.Lists.{Precedes}
 use Rattle.sia_parts.specs.declared.finding.Edge.{Edge}
 use Rattle.sia_graph.specs.Orders.{Leads, IsKeepingOrder, IsLeastOrder}
 use Rattle.sia_graph.specs.Fronts.{IsFront, IsNoLater}

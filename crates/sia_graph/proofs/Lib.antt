@@ -15,7 +15,7 @@ pub mod SsiLaw
 pub mod Positions
 pub mod Fronts
 pub mod Waiting
-pub mod EdgeGroups
+pub mod AscendingIds
 pub mod Releasing
 pub mod OneTaken
 pub mod Walks
@@ -30,3 +30,8 @@ pub mod RightAt
 pub mod ChainOf
 pub mod MapSteps
 pub mod Replayed
+pub mod Listed
+pub mod Groups
+pub mod LinkLists
+pub mod Vulnerable
+pub mod PivotLists

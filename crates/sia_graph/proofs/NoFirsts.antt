@@ -1,7 +1,7 @@
 -- Findings with no bad read, no bad write and no first are those of a history that passes.
-use Rattle.std.proofs.Common.{◌≡◌, ◌↔◌, ◌<◌, ℕ, suc, zero, List, [], ◌∷◌, length, get_or, map, refl, ap, sym, subst, ◌∙◌, Bool, arith}
-use Rattle.std.specs.Prelude.{IsTrue, ⊤, All, Contains}
-use Rattle.std.proofs.lemmas.List.{get_or-map, length-map, get_or_default}
+use Rattle.std.proofs.Common.{◌≡◌, ◌↔◌, ◌<◌, ℕ, List, [], ◌∷◌, length, get_or, refl, sym, subst, ◌∙◌, Bool, arith}
+use Rattle.std.specs.Prelude.{IsTrue, ⊤, All}
+use Rattle.std.proofs.lemmas.List.{get_or-map, length-map}
 use Rattle.sia_events.specs.declared.event.Event.{Event}
 use Rattle.sia_events.specs.Lists.{ListsBy}
 use Rattle.sia_events.specs.DangerousStructures.{IsPivot, IsFirst, NoFirst, PassesSsi}

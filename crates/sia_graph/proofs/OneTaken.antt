@@ -1,22 +1,19 @@
 -- One more transaction is taken: the least that is ready, with what it releases.
-use Rattle.std.proofs.Common.{◌≡◌, ◌≢◌, ◌⊎◌, inl, inr, ℕ, zero, suc, ◌+◌, ◌-◌, ◌<◌, ◌≤◌, Bool, true, false, cond, List, [], ◌∷◌, ◌++◌, length, get_or, set, take, slice_get, Some, None, ltb, eqb, ap, sym, ◌∙◌, refl, subst, arith}
-use Rattle.std.specs.Prelude.{Contains, All, AllPairs, IsTrue, ◌↔◌, not}
+use Rattle.std.proofs.Common.{◌≡◌, ◌≢◌, ◌⊎◌, inl, inr, ℕ, ◌+◌, ◌<◌, ◌≤◌, true, false, List, [], ◌∷◌, ◌++◌, length, get_or, slice_get, Some, ap, sym, ◌∙◌, subst, arith}
+use Rattle.std.specs.Prelude.{Contains, All, IsTrue, ◌↔◌, not}
 use Rattle.std.specs.BTreeSet.{BTreeSet, contains, Updates, IsLowerBound}
 use Rattle.std.specs.Ordering.{nat_cmp, is_gt}
 use Rattle.std.specs.List.Sorted.{IsStrictlyIncreasing}
-use Rattle.std.proofs.lemmas.Bool.{cases_Bool, cases_eq, cases_lt, cases_order, lt-ltb, le-ltb, eq-eqb, ne_eqb, not-true, not_from_false, eqb-true}
+use Rattle.std.proofs.lemmas.Bool.{cases_Bool, cases_lt, le-ltb, ne_eqb, not-true, not_from_false, eqb-true}
 use Rattle.std.proofs.lemmas.List.{get_or_default}
 use Rattle.std.proofs.lemmas.Option.{slice_get-get_or, get_or_from_slice_get, slice_get_within}
-use Rattle.sia_events.specs.Lists.{Precedes}
 use Rattle.sia_parts.specs.declared.finding.Edge.{Edge}
-use Rattle.sia_parts.specs.Entries.{edge_rank}
 use Rattle.sia_graph.specs.Orders.{Leads}
-use Rattle.sia_graph.specs.Fronts.{arriving, waiting, stands, leads_to, AreEdgesFrom, AreWaiting, IsFreed, IsTaking, IsFront, IsLastFront, left_over}
-use Rattle.sia_graph.proofs.Positions.{Stands, contains_stands, stands_contains, stands_true, true_stands, stands_false, false_stands, stands_more, stands_last, stands_cases, get_left, get_right}
-use Rattle.sia_graph.proofs.Fronts.{front_more, front_none}
+use Rattle.sia_graph.specs.Fronts.{arriving, waiting, stands, leads_to, AreEdgesFrom, AreWaiting, IsFreed, IsTaking, IsLastFront, left_over}
+use Rattle.sia_graph.proofs.Positions.{Stands, contains_stands, stands_contains, true_stands, stands_false, false_stands, stands_more, stands_last, stands_cases, get_left, get_right}
+use Rattle.sia_graph.proofs.Fronts.{front_more}
 use Rattle.sia_graph.proofs.Waiting.{none_waits, none_wait_if, some_counted, all_at, released, fewer_left}
 use Rattle.sia_graph.proofs.Releasing.{removed}
-use Rattle.sia_graph.proofs.EdgeGroups.{one_id}
 
 pub no_greater : (k q : ℕ) → is_gt (nat_cmp k q) ≡ false → k ≤ q
 no_greater k q e = elim (cases_lt q k) [

@@ -1,7 +1,7 @@
 -- Elements of lists by their positions.
-use Rattle.std.proofs.Common.{◌≡◌, ◌≢◌, ◌⊎◌, inl, inr, ℕ, zero, suc, ◌+◌, ◌<◌, Bool, true, false, List, [], ◌∷◌, ◌++◌, length, get_or, slice_get, Some, eqb, ap, sym, ◌∙◌, refl, subst, arith}
-use Rattle.std.specs.Prelude.{Contains, AllPairs, ◌||◌}
-use Rattle.std.proofs.lemmas.Bool.{or_cases, or_left, or_right, cases_order, cases_Bool, eqb-true, eq-eqb, cases_lt}
+use Rattle.std.proofs.Common.{◌≡◌, ◌≢◌, ◌⊎◌, inl, inr, ℕ, zero, suc, ◌+◌, ◌<◌, true, false, List, [], ◌∷◌, ◌++◌, length, get_or, slice_get, Some, eqb, ap, sym, ◌∙◌, refl, arith}
+use Rattle.std.specs.Prelude.{Contains, AllPairs}
+use Rattle.std.proofs.lemmas.Bool.{or_cases, or_left, or_right, cases_order, cases_Bool, eqb-true, eq-eqb}
 use Rattle.std.proofs.lemmas.Option.{same_Some, slice_get_within, slice_get-get_or, get_or_from_slice_get}
 use Rattle.sia_graph.specs.Fronts.{stands}
 

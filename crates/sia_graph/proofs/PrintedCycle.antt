@@ -8,7 +8,7 @@ use Rattle.sia_graph.specs.declared.settling.Step.{Step}
 use Rattle.sia_graph.specs.Orders.{Leads}
 use Rattle.sia_graph.specs.Cycles.{IsPrevious, GoesBack, IsStuckSet, IsPrintedCycle}
 use Rattle.sia_graph.specs.Walks.{AreLeft, ArePrevious, GoesRoundFrom, LeadsBack, back}
-use Rattle.sia_graph.proofs.EdgeGroups.{ids_no_less}
+use Rattle.sia_graph.proofs.AscendingIds.{ids_no_less}
 use Rattle.sia_graph.proofs.Walks.{back_more, within_round, round_again}
 
 module _ (ids : List ℕ) (edges : List Edge) (counts previous : List ℕ) (are : ArePrevious ids edges counts previous) where

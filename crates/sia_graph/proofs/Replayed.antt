@@ -1,17 +1,16 @@
 -- What a replay one event at a time tells is said of the serial history.
-use Rattle.std.proofs.Common.{◌≡◌, ◌≢◌, ◌⊎◌, inl, inr, ℕ, zero, suc, ◌+◌, ◌<◌, ◌≤◌, cond, List, [], ◌∷◌, ◌++◌, length, get_or, take, drop, flat_map, slice_get, Option, Some, None, ap, sym, ◌∙◌, refl, subst, arith, append_assoc, append-nil}
+use Rattle.std.proofs.Common.{◌≡◌, inl, inr, ℕ, ◌+◌, ◌<◌, List, [], ◌∷◌, ◌++◌, length, get_or, drop, slice_get, Option, Some, None, ap, sym, ◌∙◌, refl, subst, arith, append_assoc, append-nil}
 use Rattle.std.specs.Prelude.{MatchOption}
 use Rattle.std.proofs.lemmas.Bool.{cases_lt}
 use Rattle.std.proofs.lemmas.List.{take_at, drop_more, length-append}
-use Rattle.std.proofs.lemmas.Option.{same_Some, slice_get_within, some_pair_parts, get_or_from_slice_get}
+use Rattle.std.proofs.lemmas.Option.{same_Some, slice_get_within}
 use Rattle.sia_events.specs.declared.event.Event.{Event}
 use Rattle.sia_events.specs.declared.event.Event.TheVariants.{Begin, Read, Range, Write, Commit, Abort}
-use Rattle.sia_events.specs.Events.{actor, Saw}
-use Rattle.sia_events.specs.Replay.{MayFollow, found_at, is_write_of, events_of, serial, IsRightAt, IsRightBelow, Replays, IsFirstMismatch}
+use Rattle.sia_events.specs.Replay.{MayFollow, found_at, events_of, serial, IsRightAt, IsRightBelow, Replays, IsFirstMismatch}
 use Rattle.sia_graph.specs.declared.replaying.Mismatch.{Mismatch}
-use Rattle.sia_graph.specs.Replaying.{AllRight, IsFirstWrong, IsRight, IsWrongAt, Tells, after}
+use Rattle.sia_graph.specs.Replaying.{AllRight, IsFirstWrong, IsRight, Tells, after}
 use Rattle.sia_graph.proofs.LastWriter.{last_from, last_from-append, found_is_last}
-use Rattle.sia_graph.proofs.Positions.{get_right, get_cases}
+use Rattle.sia_graph.proofs.Positions.{get_right}
 
 -- what is found after these events
 abbrev last_in : List (ℕ × Event) → ℕ → ℕ

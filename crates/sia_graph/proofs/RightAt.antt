@@ -1,12 +1,12 @@
 -- Whether an event of a replay is right at a key.
-use Rattle.std.proofs.Common.{◌≡◌, ◌≢◌, ◌⊎◌, inl, inr, ℕ, zero, suc, ◌+◌, ◌-◌, ◌<◌, ◌≤◌, Bool, true, false, List, [], ◌∷◌, length, get_or, map, Option, Some, None, ltb, eqb, unwrap_or, ap, sym, ◌∙◌, refl, subst, arith}
+use Rattle.std.proofs.Common.{◌≡◌, ◌≢◌, ◌⊎◌, inl, inr, ℕ, ◌+◌, ◌<◌, ◌≤◌, true, false, List, ◌∷◌, length, get_or, map, Option, Some, None, ltb, eqb, unwrap_or, ap, sym, ◌∙◌, refl, subst, arith}
 use Rattle.std.specs.Prelude.{All, Contains, IsTrue, ◌↔◌, MatchOption}
 use Rattle.std.specs.List.Sorted.{IsStrictlyIncreasing, IsNonDecreasingBy, IsPartitionPoint}
 use Rattle.std.proofs.lemmas.Bool.{cases_lt, cases_eq, cases_order, ltb-true, ltb-false, lt-ltb, le-ltb, eqb-true, eq-eqb}
 use Rattle.std.proofs.lemmas.List.{get_or-map, get_or_default, length-map}
 use Rattle.std.proofs.lemmas.List.Kept.{AllPairs-from_increasing}
 use Rattle.sia_events.specs.declared.event.Event.{Event}
-use Rattle.sia_events.specs.Transactions.{Wrote, CommitsAt, CommitsBefore}
+use Rattle.sia_events.specs.Transactions.{Wrote, CommitsAt}
 use Rattle.sia_events.specs.Refusals.{IsWellFormed}
 use Rattle.sia_events.specs.Replay.{MayFollow}
 use Rattle.std.specs.BTreeMap.{BTreeMap, get}
@@ -14,8 +14,7 @@ use Rattle.std.specs.BTreeMap.Range.{IsRangeOf}
 use Rattle.std.specs.declared.ops.Bound.TheVariants.{Included}
 use Rattle.std.specs.Ordering.{nat_cmp, is_gt}
 use Rattle.std.specs.Option.{IsSome, is_some}
-use Rattle.sia_events.specs.declared.event.Event.TheVariants.{Begin, Read, Range, Write, Commit, Abort}
-use Rattle.sia_events.specs.Places.{at_place}
+use Rattle.sia_events.specs.declared.event.Event.TheVariants.{Read, Range, Write}
 use Rattle.sia_graph.specs.Replaying.{Agrees, IsRight, IsWrongAt, version_in}
 use Rattle.sia_graph.proofs.OneTaken.{no_greater}
 use Rattle.sia_graph.proofs.Facts.{commits_lt}

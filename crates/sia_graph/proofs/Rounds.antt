@@ -1,5 +1,5 @@
 -- The steps of a cycle, made from the last to the first by going back from the least transaction on it.
-use Rattle.std.proofs.Common.{◌≡◌, ◌≢◌, ◌⊎◌, inl, inr, ℕ, zero, suc, ◌+◌, ◌-◌, ◌<◌, ◌≤◌, List, [], ◌∷◌, ◌++◌, length, get_or, reverse, ap, sym, ◌∙◌, refl, subst, arith}
+use Rattle.std.proofs.Common.{◌≡◌, ◌≢◌, inl, inr, ℕ, ◌+◌, ◌<◌, ◌≤◌, List, [], ◌∷◌, ◌++◌, length, get_or, reverse, ap, sym, ◌∙◌, refl, subst, arith}
 use Rattle.std.specs.Prelude.{All, Contains}
 use Rattle.std.specs.List.Sorted.{IsStrictlyIncreasing}
 use Rattle.std.proofs.lemmas.Bool.{cases_lt}
@@ -10,7 +10,7 @@ use Rattle.sia_parts.specs.declared.finding.Edge.{Edge}
 use Rattle.sia_graph.specs.declared.settling.Step.{Step}
 use Rattle.sia_graph.specs.Cycles.{IsPrevious, GoesRound, TakesLeastEdge, StartsAtLeast}
 use Rattle.sia_graph.specs.Walks.{back, StaysWithin, LeadsBack, GoesRoundFrom}
-use Rattle.sia_graph.proofs.EdgeGroups.{ids_less}
+use Rattle.sia_graph.proofs.AscendingIds.{ids_less}
 use Rattle.sia_graph.proofs.Walks.{back_next, stays}
 
 -- where the steps start

@@ -1,15 +1,13 @@
 -- Counts of the edges that lead to a transaction from outside a front.
-use Rattle.std.proofs.Common.{◌≡◌, ◌≢◌, ◌⊎◌, inl, inr, ℕ, zero, suc, ◌+◌, ◌<◌, ◌≤◌, Bool, true, false, cond, List, [], ◌∷◌, ◌++◌, length, get_or, take, slice_get, Some, eqb, ap, sym, ◌∙◌, refl, subst, arith}
-use Rattle.std.specs.Prelude.{Contains, All, not, ◌||◌, ◌&&◌}
+use Rattle.std.proofs.Common.{◌≡◌, ◌≢◌, ◌⊎◌, inl, inr, ℕ, zero, suc, ◌+◌, ◌<◌, ◌≤◌, Bool, true, false, cond, List, [], ◌∷◌, ◌++◌, slice_get, Some, eqb, ap, sym, ◌∙◌, refl, subst, arith}
+use Rattle.std.specs.Prelude.{Contains, All, not, ◌&&◌}
 use Rattle.std.specs.List.{count_by}
-use Rattle.std.specs.List.Sorted.{IsStrictlyIncreasing}
-use Rattle.std.proofs.lemmas.Bool.{cases_Bool, cases_eq, cases_lt, and_parts, and_from, and_left, and_right, not-true, not-false, not_from_true, not_from_false, eqb-true, eqb-false, eq-eqb, ne_eqb}
-use Rattle.std.proofs.lemmas.List.Kept.{AllPairs-from_increasing}
-use Rattle.std.proofs.lemmas.List.Sums.{sum_by-append, sum_by-cons, count_by_more_yes, count_by_more_no}
-use Rattle.std.proofs.lemmas.Option.{same_Some, slice_get_within, slice_get-get_or, get_or_from_slice_get}
+use Rattle.std.proofs.lemmas.Bool.{cases_Bool, cases_lt, and_parts, and_from, not-true, not_from_true, not_from_false, eqb-true, eq-eqb}
+use Rattle.std.proofs.lemmas.List.Sums.{sum_by-append, sum_by-cons}
+use Rattle.std.proofs.lemmas.Option.{same_Some, slice_get_within, get_or_from_slice_get}
 use Rattle.sia_parts.specs.declared.finding.Edge.{Edge}
 use Rattle.sia_graph.specs.Orders.{Leads}
-use Rattle.sia_graph.specs.Fronts.{stands, leads_to, arriving, holds_back, waiting, AreEdgesFrom, IsFreed, left_over}
+use Rattle.sia_graph.specs.Fronts.{stands, leads_to, arriving, holds_back, waiting, AreEdgesFrom, left_over}
 use Rattle.sia_graph.proofs.Positions.{Stands, contains_stands, stands_contains, stands_true, true_stands, stands_false, false_stands, stands_more, stands_last, stands_cases}
 
 module _ {A : Type 0} (p : A → Bool) where

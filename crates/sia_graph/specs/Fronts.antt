@@ -1,9 +1,10 @@
 -- What holds while an order is made one transaction at a time: what the front of an order keeps, and how many edges lead to
 -- each transaction from outside the front.
-use Rattle.std.specs.Prelude.{◌≡◌, ◌⊎◌, ℕ, ◌<◌, ◌==◌, ◌&&◌, ◌||◌, Bool, false, not, List, [], ◌∷◌, ◌++◌, All, slice_get, slice_index, length, count_by, Contains, Some, ⊤, IsTrue, ◌↔◌}
+use Rattle.std.specs.Prelude.{◌≡◌, ◌⊎◌, ℕ, ◌<◌, ◌==◌, ◌&&◌, ◌||◌, Bool, false, not, List, [], ◌∷◌, slice_get, slice_index, length, count_by, Contains, Some, ⊤, IsTrue, ◌↔◌}
 use Rattle.std.specs.BTreeSet.{BTreeSet, contains}
 use Rattle.std.specs.Ordering.{nat_cmp}
 use Rattle.sia_parts.specs.declared.finding.Edge.{Edge}
+use Rattle.sia_graph.specs.Groups.{IsGroup}
 use Rattle.sia_graph.specs.Orders.{Leads, IsKeepingOrder}
 
 -- t is in the list
@@ -47,8 +48,7 @@ AreWaiting front ids edges counts = (length counts ≡ length ids)
 
 -- these edges are those from t, which stand side by side
 abbrev pub AreEdgesFrom : List Edge → ℕ → List Edge → Type 0
-AreEdgesFrom edges t group = (before : List Edge) × (after : List Edge) × (edges ≡ before ++ (group ++ after))
-    × All (λ e. e.src < t) before × All (λ e. e.src ≡ t) group × All (λ e. t < e.src) after
+AreEdgesFrom edges t group = IsGroup (λ e. e.src) edges t group
 
 -- the last of the edges that lead to t is among these
 abbrev pub IsFreed : List ℕ → List Edge → List ℕ → ℕ → Type 0

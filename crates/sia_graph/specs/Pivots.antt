@@ -1,5 +1,5 @@
 -- The list of pivots, each with its neighbours. Pivots: Cahill, Roehm and Fekete (2008).
-use Rattle.std.specs.Prelude.{ℕ, List, map, All}
+use Rattle.std.specs.Prelude.{List, map, All}
 use Rattle.sia_events.specs.declared.event.Event.{Event}
 use Rattle.sia_events.specs.Lists.{ListsAscending}
 use Rattle.sia_events.specs.DangerousStructures.{IsPivot, IsVulnerable, IsFirst}

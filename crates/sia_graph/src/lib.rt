@@ -3,10 +3,14 @@
 
 mod adjacency;
 mod chains;
+mod firsts;
 mod laws;
+mod links;
 mod order;
+mod ordering;
 mod passing;
 mod pivot;
+mod pivoting;
 mod replaying;
 mod right;
 mod settling;
@@ -17,6 +21,7 @@ mod walking;
 pub use laws::{pivot_law, replay_law, ssi_law};
 pub use passing::ssi_pass;
 pub use pivot::Pivot;
+pub use pivoting::pivots;
 pub use replaying::{Mismatch, ReplayFault, replay};
 pub use settling::{Step, Steps, Verdict, settle};
 pub use txns::Txns;

@@ -11,6 +11,8 @@ use std::alloc::Global;
 use std::process::Abort;
 use std::test::Fail;
 
+mod replays;
+
 /// Whether the ids ascend without repeats.
 fn ascends(ids: &[TxnId]) -> bool
     ensures { IsTrue result → IsStrictlyIncreasing ids.now }

@@ -1,4 +1,4 @@
-use Rattle.std.proofs.Common.{◌≡◌, ◌+◌, ◌-◌, ◌<◌, ℕ, Option, Some, None, unwrap_or, length, ap, sym, ◌∙◌, subst, arith}
+use Rattle.std.proofs.Common.{◌≡◌, ◌+◌, ◌-◌, ℕ, Option, Some, unwrap_or, ap, sym, ◌∙◌, subst, arith}
 use Rattle.std.specs.BTreeMap.{get, Updates}
 use Rattle.std.specs.Ordering.{nat_cmp}
 use Rattle.sia_graph.specs.Replaying.{AreFirsts, AreNext}

@@ -1,8 +1,8 @@
-use Rattle.std.proofs.Common.{◌≡◌, ◌<◌, ◌+◌, ℕ, Some, None, length, get_or, ap, sym, ◌∙◌, refl, subst, arith}
+use Rattle.std.proofs.Common.{◌<◌, ℕ, get_or, ap, sym, ◌∙◌, subst, arith}
 use Rattle.std.proofs.lemmas.Option.{same_Some}
 use Rattle.std.specs.BTreeMap.{BTreeMap}
 use Rattle.sia_graph.specs.declared.replaying.Mismatch.{Mismatch}
-use Rattle.sia_graph.specs.Replaying.{AreWritten, after, version_in}
+use Rattle.sia_graph.specs.Replaying.{version_in}
 use Rattle.sia_graph.proofs.ChainOf.{IsOnChain, next_event, is_next, place_within, fewer_places, on_chain_more, told_wrong, told_all}
 use Rattle.sia_graph.proofs.chains.replay_txn.Goals as goal
 use Rattle.sia_graph.proofs.chains.replay_txn.Goals.{in-Some+in_default-first_wrong+in_ok-keep_write, in_default}

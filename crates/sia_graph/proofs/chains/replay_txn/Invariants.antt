@@ -1,4 +1,3 @@
-use Rattle.std.proofs.Common.{ℕ}
 use Rattle.sia_graph.specs.Replaying.{version_in}
 use Rattle.sia_graph.proofs.ChainOf.{IsOnChain, places_left}
 use Rattle.sia_graph.proofs.chains.replay_txn.Given as goal

@@ -1,6 +1,5 @@
-use Rattle.std.proofs.Common.{◌≡◌, ◌+◌, Some, sym, subst, arith}
-use Rattle.std.specs.BTreeMap.{BTreeMap, Updates}
-use Rattle.std.specs.Ordering.{nat_cmp}
+use Rattle.std.proofs.Common.{◌+◌, sym, subst, arith}
+use Rattle.std.specs.BTreeMap.{BTreeMap}
 use Rattle.std.proofs.Common.{ℕ}
 use Rattle.sia_graph.proofs.MapSteps.{AreCommitsTo, commits_more, commits_same, all_commits}
 use Rattle.sia_graph.proofs.order.commit_places.Goals as goal

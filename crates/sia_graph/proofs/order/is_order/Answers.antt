@@ -1,4 +1,3 @@
-use Rattle.std.proofs.Common.{◌≡◌, ℕ, Some, None, false, sym, ◌∙◌, subst}
 use Rattle.std.proofs.lemmas.Option.{MatchOption-at_some, MatchOption-at_none}
 use Rattle.sia_graph.proofs.MapSteps.{order_once, order_iff}
 use Rattle.sia_graph.proofs.order.is_order.Goals as goal

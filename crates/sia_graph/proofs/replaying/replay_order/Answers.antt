@@ -1,6 +1,6 @@
-use Rattle.std.proofs.Common.{◌≡◌, ◌+◌, ◌++◌, ℕ, List, Some, drop, get_or, refl, sym, subst}
+use Rattle.std.proofs.Common.{◌+◌, ℕ, List, Some, drop, sym, subst}
 use Rattle.sia_events.specs.declared.event.Event.{Event}
-use Rattle.sia_events.specs.Replay.{serial, events_of}
+use Rattle.sia_events.specs.Replay.{serial}
 use Rattle.sia_graph.specs.Replaying.{Tells, version_in}
 use Rattle.sia_graph.proofs.Replayed.{serial_at}
 use Rattle.sia_graph.proofs.replaying.replay_order.Goals as goal

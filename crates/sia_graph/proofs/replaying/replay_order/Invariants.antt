@@ -1,4 +1,4 @@
-use Rattle.std.proofs.Common.{ℕ, drop, Option}
+use Rattle.std.proofs.Common.{drop, Option}
 use Rattle.sia_events.specs.Replay.{serial}
 use Rattle.sia_graph.specs.declared.replaying.Mismatch.{Mismatch}
 use Rattle.sia_graph.specs.Replaying.{AreWritten, Tells, version_in}

@@ -1,4 +1,4 @@
-use Rattle.std.proofs.Common.{◌≡◌, ◌≤◌, ℕ, Some, ap, sym, subst, ◌∙◌, map}
+use Rattle.std.proofs.Common.{◌≤◌, ℕ, Some, ap, sym, subst, ◌∙◌, map}
 use Rattle.std.proofs.Common.{List}
 use Rattle.std.specs.Prelude.{All}
 use Rattle.sia_events.specs.declared.event.Event.{Event}
@@ -7,7 +7,7 @@ use Rattle.sia_events.specs.Replay.{MayFollow}
 use Rattle.sia_graph.specs.Replaying.{IsRight, IsWrongAt, version_in}
 use Rattle.std.specs.List.Sorted.{IsStrictlyIncreasing}
 use Rattle.sia_events.proofs.Ranges.{bounds_in_order, list_in_order}
-use Rattle.sia_graph.proofs.RightAt.{read_right, read_wrong, write_right, write_wrong}
+use Rattle.sia_graph.proofs.RightAt.{write_right}
 use Rattle.sia_graph.proofs.right.first_wrong.Goals as goal
 
 pub wrong_in_range-requires-clause-forward : goal.wrong_in_range-requires-clause-forward

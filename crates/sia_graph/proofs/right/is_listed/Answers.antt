@@ -1,4 +1,4 @@
-use Rattle.std.proofs.Common.{◌≡◌, ltb, sym, ◌∙◌, rules}
+use Rattle.std.proofs.Common.{ltb, sym, ◌∙◌, rules}
 use Rattle.std.proofs.lemmas.Bool.{le-ltb}
 use Rattle.std.proofs.lemmas.List.Sorted.{IsPartitionPoint-from_clause, IsPartitionedBy-ltb}
 use Rattle.sia_graph.proofs.RightAt.{keys_rise, is_listed_at, none_listed}

@@ -1,4 +1,4 @@
-use Rattle.std.proofs.Common.{◌≡◌, Some, ap, sym, ◌∙◌}
+use Rattle.std.proofs.Common.{sym}
 use Rattle.sia_graph.proofs.RightAt.{follows_iff}
 use Rattle.sia_graph.proofs.right.may_follow.Goals as goal
 

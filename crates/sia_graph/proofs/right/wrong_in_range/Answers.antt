@@ -1,5 +1,4 @@
-use Rattle.std.proofs.Common.{◌≡◌, ℕ, ◌<◌, Option, Some, None, arith}
-use Rattle.std.specs.Prelude.{MatchOption}
+use Rattle.std.proofs.Common.{arith}
 use Rattle.sia_graph.specs.Replaying.{version_in}
 use Rattle.sia_graph.proofs.RightAt.{range_agrees, listed_wrong, unlisted_wrong, none_listed_wrong}
 use Rattle.sia_graph.proofs.right.wrong_in_range.Goals as goal

@@ -1,4 +1,4 @@
-use Rattle.std.proofs.Common.{◌≡◌, ℕ, List, length, sym, subst, arith}
+use Rattle.std.proofs.Common.{ℕ, List, sym, subst, arith}
 use Rattle.std.specs.Prelude.{Contains}
 use Rattle.sia_graph.specs.Orders.{IsLeastOrder}
 use Rattle.sia_graph.proofs.StuckSets.{left_ones, are_left, fed_back, stuck_set, no_order_keeps, whole_order}

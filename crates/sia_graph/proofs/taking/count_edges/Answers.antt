@@ -1,6 +1,5 @@
-use Rattle.std.proofs.Common.{◌≡◌, ℕ, ◌+◌, ◌<◌, ◌≤◌, length, get_or, set, take, Fits, arith, ap, refl, ◌∙◌}
+use Rattle.std.proofs.Common.{◌≡◌, ◌+◌, ◌<◌, length, get_or, arith, ◌∙◌}
 use Rattle.std.proofs.lemmas.List.{length-set, get_or_default}
-use Rattle.sia_graph.specs.Fronts.{arriving}
 use Rattle.sia_graph.proofs.Releasing.{arriving_few, counted_more}
 use Rattle.sia_graph.proofs.taking.count_edges.Goals as goal
 

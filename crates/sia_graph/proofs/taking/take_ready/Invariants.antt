@@ -1,5 +1,3 @@
-use Rattle.std.proofs.Common.{◌≡◌, length}
-use Rattle.std.specs.Prelude.{Contains}
 use Rattle.sia_graph.specs.Fronts.{IsTaking, left_over}
 use Rattle.sia_graph.proofs.taking.take_ready.Given as goal
 

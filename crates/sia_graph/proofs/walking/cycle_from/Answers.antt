@@ -1,6 +1,5 @@
-use Rattle.std.proofs.Common.{◌≡◌, ◌<◌, ◌+◌, ℕ, List, length, get_or, ap, sym, subst, ◌∙◌, arith}
+use Rattle.std.proofs.Common.{◌≡◌, ◌<◌, ◌+◌, ℕ, length, get_or, ap, sym, subst, ◌∙◌, arith}
 use Rattle.std.proofs.lemmas.Result.{IfOk-weaker}
-use Rattle.sia_graph.specs.declared.settling.Step.{Step}
 use Rattle.sia_graph.specs.Walks.{back, ArePrevious, StaysWithin}
 use Rattle.sia_graph.proofs.Walks.{stays, back_more}
 use Rattle.sia_graph.proofs.PrintedCycle.{stays_left, leads_all, printed, round_home, least_home}

@@ -1,8 +1,7 @@
 use Rattle.std.proofs.Common.{◌≡◌, ◌<◌, ◌+◌, ◌-◌, ◌++◌, ℕ, List, length, get_or, take, drop, ap, sym, subst, ◌∙◌, arith}
-use Rattle.std.proofs.lemmas.Bool.{cases_lt}
 use Rattle.std.proofs.lemmas.List.{take_at}
 use Rattle.sia_graph.proofs.OneTaken.{group_all, IsMember, joined_members}
-use Rattle.sia_graph.proofs.LeastSources.{IsLeastFrom, AreLeastFrom, all_passed, all_led_back, least_found, none_from_end}
+use Rattle.sia_graph.proofs.LeastSources.{IsLeastFrom, AreLeastFrom, all_passed, all_led_back, least_found}
 use Rattle.sia_graph.proofs.walking.least_sources.Goals as goal
 
 pub lead_back-requires-clause-members : goal.lead_back-requires-clause-members

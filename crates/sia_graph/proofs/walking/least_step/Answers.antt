@@ -1,4 +1,4 @@
-use Rattle.std.proofs.Common.{ltb, rules}
+use Rattle.std.proofs.Common.{rules}
 use Rattle.std.proofs.lemmas.List.Sorted.{IsPartitionPoint-from_clause}
 use Rattle.sia_graph.proofs.LeastEdges.{is_before, parted, point_within, least_edge}
 use Rattle.sia_graph.proofs.walking.least_step.Goals as goal

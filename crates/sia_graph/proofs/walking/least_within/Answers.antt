@@ -1,4 +1,4 @@
-use Rattle.std.proofs.Common.{◌≡◌, ◌⊎◌, ◌<◌, ◌≤◌, inl, inr, ℕ, get_or, ap, sym, ◌∙◌, refl}
+use Rattle.std.proofs.Common.{◌≡◌, ◌⊎◌, ◌<◌, ◌≤◌, inl, inr, get_or, ap, sym, ◌∙◌, refl}
 use Rattle.sia_graph.proofs.Walks.{least_more, back_next}
 use Rattle.sia_graph.proofs.walking.least_within.Goals as goal
 use Rattle.sia_graph.proofs.walking.least_within.Goals.{then-at-least, else-at-least}

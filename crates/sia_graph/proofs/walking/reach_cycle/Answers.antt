@@ -1,4 +1,4 @@
-use Rattle.std.proofs.Common.{◌≡◌, ◌+◌, ◌-◌, ℕ, List, Option, length, refl, sym, subst, ◌∙◌, arith, rules}
+use Rattle.std.proofs.Common.{ℕ, List, Option, length, refl, sym, subst, ◌∙◌, arith, rules}
 use Rattle.sia_graph.proofs.Walks.{IsNoted, noted_more, round_found, none_noted}
 use Rattle.sia_graph.proofs.walking.reach_cycle.Goals as goal
 

@@ -1,9 +1,9 @@
-use Rattle.std.proofs.Common.{◌≡◌, ◌-◌, List, length, get_or, reverse, sym, subst, ap, ◌∙◌, arith}
+use Rattle.std.proofs.Common.{List, length, get_or, reverse, sym, subst, ap, ◌∙◌}
 use Rattle.std.specs.Prelude.{Contains}
 use Rattle.sia_graph.specs.declared.settling.Step.{Step}
 use Rattle.sia_graph.specs.Orders.{Leads}
 use Rattle.sia_graph.specs.Walks.{GoesRoundFrom}
-use Rattle.sia_graph.proofs.Rounds.{IsPartOfRound, part_more, round_made, none_made}
+use Rattle.sia_graph.proofs.Rounds.{IsPartOfRound, part_more, round_made}
 use Rattle.sia_graph.proofs.walking.steps_round.Goals as goal
 
 pub least_step-requires-clause-leads : goal.least_step-requires-clause-leads

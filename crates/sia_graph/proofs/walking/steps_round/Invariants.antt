@@ -1,6 +1,4 @@
-use Rattle.std.proofs.Common.{◌≡◌, ℕ, ◌<◌, ◌-◌, List, length, get_or, reverse}
-use Rattle.std.specs.Prelude.{All}
-use Rattle.sia_graph.specs.Walks.{back}
+use Rattle.std.proofs.Common.{◌-◌, length}
 use Rattle.sia_graph.proofs.Rounds.{IsPartOfRound}
 use Rattle.sia_graph.proofs.walking.steps_round.Given as goal
 

@@ -1,0 +1,45 @@
+-- Positions of ids in a sorted list.
+use Rattle.std.proofs.Common.{◌≡◌, inl, inr, ℕ, ◌<◌, ◌≤◌, true, false, List, length, get_or, ltb, ap, ◌∙◌, arith}
+use Rattle.std.specs.Prelude.{Contains}
+use Rattle.std.specs.List.Sorted.{IsStrictlyIncreasing, IsNonDecreasingBy, IsPartitionPoint}
+use Rattle.std.proofs.lemmas.Bool.{cases_lt, cases_order, ltb-true, ltb-false}
+use Rattle.std.proofs.lemmas.List.{get_or_default}
+use Rattle.std.proofs.lemmas.List.Kept.{AllPairs-from_increasing}
+
+module _ (ids : List ℕ) (up : IsStrictlyIncreasing ids) where
+  pub ids_less : (i j : ℕ) → i < j → j < length ids → get_or ids i 0 < get_or ids j 0
+  ids_less i j l b = AllPairs-from_increasing ids up i j 0 l b
+
+  pub ids_no_less : (i j : ℕ) → i ≤ j → j < length ids → get_or ids i 0 ≤ get_or ids j 0
+  ids_no_less i j l b = elim (cases_lt i j) [
+    | inl less ↦ let m = ids_less i j less b in omega arith
+    | inr more ↦ let e : i ≡ j = omega arith in let f = ap (λ k. get_or ids k 0) e in omega arith
+  ]
+
+  pub one_id : (i j : ℕ) → i < length ids → j < length ids → get_or ids i 0 ≡ get_or ids j 0 → i ≡ j
+  one_id i j a b e = elim (cases_order i j) [
+    | inl same ↦ same
+    | inr (inl less) ↦ let l = ids_less i j less b in absurd (omega arith)
+    | inr (inr more) ↦ let l = ids_less j i more a in absurd (omega arith)
+  ]
+
+  pub ids_rise : IsNonDecreasingBy (λ x. x) ids
+  ids_rise i j d l b =
+      let e = get_or_default ids i d 0 (omega arith) in
+      let f = get_or_default ids j d 0 b in
+      let m = ids_no_less i j l b in
+      omega arith
+
+  pub found_position : (t i : ℕ) → IsPartitionPoint (λ y. ltb y t ≡ true) (λ y. ltb y t ≡ false) ids i → Contains ids t → (i < length ids) × (get_or ids i 0 ≡ t)
+  found_position t i point c =
+      let k = c.0 in
+      let below = c.1 in
+      let e : get_or ids k 0 ≡ t = get_or_default ids k 0 t c.1 ∙ c.2 in
+      elim (cases_lt k i) [
+        | inl less ↦ let l = ltb-true (get_or ids k 0) t (point.0 k 0 (omega arith) less) in absurd (omega arith)
+        | inr more ↦
+            let l : i < length ids = omega arith in
+            let m = ltb-false (get_or ids i 0) t (point.1 i 0 (omega arith) l) in
+            let n = ids_no_less i k more c.1 in
+            (l, omega arith)
+      ]

@@ -1,0 +1,46 @@
+-- What stands side by side in a list that is in order by ranks: all that have one first number.
+use Rattle.std.proofs.Common.{◌≡◌, inl, inr, ℕ, ◌+◌, ◌-◌, ◌<◌, true, false, List, ◌∷◌, ◌++◌, length, get_or, take, drop, ltb, leb, ap, sym, ◌∙◌, subst, arith}
+use Rattle.std.specs.Prelude.{AllPairs}
+use Rattle.std.specs.List.Sorted.{IsNonDecreasingBy, IsPartitionPoint}
+use Rattle.std.proofs.lemmas.Bool.{cases_lt, ltb-true, ltb-false, leb-true, leb-false}
+use Rattle.std.proofs.lemmas.List.{take-append-drop, get_or-take, get_or-drop, length-take, length-drop}
+use Rattle.sia_events.specs.Lists.{Precedes}
+use Rattle.sia_graph.specs.Groups.{IsGroup}
+
+-- what is in order by ranks doesn't descend by the first number of these
+pub heads_rise : {A : Type 0} (key : A → ℕ) (others : A → List ℕ) (xs : List A) → AllPairs (λ x y. Precedes (key x ∷ others x) (key y ∷ others y)) xs → IsNonDecreasingBy key xs
+heads_rise key others xs up i j d l b = elim (cases_lt i j) [
+  | inl less ↦ elim (up i j d less b) [ inl under ↦ omega arith | inr same ↦ let at = same.0 in omega arith ]
+  | inr more ↦ let e : i ≡ j = omega arith in let f = ap (λ k. key (get_or xs k d)) e in omega arith
+]
+
+-- what two partitions cut out
+pub cut_out : {A : Type 0} (key : A → ℕ) (xs rest : List A) (t first count : ℕ) → rest ≡ drop first xs
+    → IsPartitionPoint (λ x. ltb (key x) t ≡ true) (λ x. ltb (key x) t ≡ false) xs first
+    → IsPartitionPoint (λ x. leb (key x) t ≡ true) (λ x. leb (key x) t ≡ false) rest count
+    → IsGroup key xs t (take count rest)
+cut_out {A} key xs rest t first count is a b =
+    let at = λ (k : ℕ) (d : A). ap (λ l. get_or l k d) is ∙ get_or-drop first xs k d in
+    let long : length rest ≡ length xs - first = ap (length {A = A}) is ∙ length-drop first xs in (
+      take first xs,
+      drop count rest,
+      sym (ap (λ l. take first xs ++ l) (take-append-drop count rest ∙ is) ∙ take-append-drop first xs),
+      λ k d l.
+          let m = length-take first xs in
+          let e = get_or-take first xs k d (omega arith) in
+          let f = ltb-true (key (get_or xs k d)) t (a.0 k d (omega arith) (omega arith)) in
+          subst (λ (x : A). key x < t) (sym e) f,
+      λ k d l.
+          let m = length-take count rest in
+          let e = get_or-take count rest k d (omega arith) in
+          let f = at k d in
+          let g = leb-true (key (get_or rest k d)) t (b.0 k d (omega arith) (omega arith)) in
+          let h = ltb-false (key (get_or xs (first + k) d)) t (a.1 (first + k) d (omega arith) (omega arith)) in
+          let i : key (get_or rest k d) ≡ key (get_or xs (first + k) d) = ap key f in
+          subst (λ (x : A). key x ≡ t) (sym e) (omega arith),
+      λ k d l.
+          let m = length-drop count rest in
+          let e = get_or-drop count rest k d in
+          let f = leb-false (key (get_or rest (count + k) d)) t (b.1 (count + k) d (omega arith) (omega arith)) in
+          subst (λ (x : A). t < key x) (sym e) f,
+    )

@@ -1,0 +1,139 @@
+-- Lists of all that has a property: what a sort makes of a list, and what `retain` leaves of one.
+use Rattle.std.proofs.Common.{◌≡◌, ◌↔◌, inl, inr, ℕ, suc, ◌<◌, Bool, true, false, cond, List, [], ◌∷◌, length, map, refl, ap, sym, ◌∙◌, subst, arith}
+use Rattle.std.specs.Prelude.{All, AllPairs, Contains, IsTrue, slice_index_or}
+use Rattle.std.specs.List.{filter, items_where_true}
+use Rattle.std.specs.List.Retain.{IsFiltered, ReturnsInTurn}
+use Rattle.std.specs.Ordering.{ordering_then, nat_cmp}
+use Rattle.std.specs.declared.cmp.Ordering.{Ordering}
+use Rattle.std.specs.declared.cmp.Ordering.TheVariants.{Less}
+use Rattle.std.specs.List.Sorted.{IsStrictlySortedBy}
+use Rattle.std.proofs.lemmas.Cmp.{ranked, by_ranked}
+use Rattle.std.proofs.lemmas.List.{get_or-map, length-map}
+use Rattle.std.proofs.lemmas.List.Elements.{All-nil, All-cons, All-weaker, All-contains, All-contains_itself, All-filter, filter_passes, Contains-get_or, Contains-append_right}
+use Rattle.std.proofs.lemmas.List.Kept.{AllPairs-cons}
+use Rattle.std.proofs.lemmas.Map.Keys.{Less-from_sorted}
+use Rattle.sia_events.specs.Lists.{Precedes, ListsBy}
+
+-- what is listed, in other words
+pub listed_as : {A : Type 0} (rank : A → List ℕ) (P Q : A → Type 0) → ((x : A) → P x ↔ Q x) → (xs : List A) → ListsBy rank P xs → ListsBy rank Q xs
+listed_as rank P Q same xs l = record {
+  ascending = l.ascending;
+  each = λ x. ((λ c. (same x).0 ((l.each x).0 c)), (λ q. (l.each x).1 ((same x).1 q)));
+}
+
+-- what is less by its last number is before by its rank
+pub precedes_last : (a b : ℕ) → nat_cmp a b ≡ Less → Precedes (a ∷ []) (b ∷ [])
+precedes_last a b less = by_ranked (a < b) (a ≡ b) (b < a) (nat_cmp a b) (ranked a b (nat_cmp a b) refl) (λ is below. inl below) (λ is same. cc) (λ is above. cc)
+
+-- what is less by this number, or where that is the same by the rest, is before by its rank
+pub precedes_then : (a b : ℕ) (o : Ordering) (xs ys : List ℕ) → ordering_then (nat_cmp a b) o ≡ Less → (o ≡ Less → Precedes xs ys) → Precedes (a ∷ xs) (b ∷ ys)
+precedes_then a b o xs ys less rest =
+    by_ranked (a < b) (a ≡ b) (b < a) (nat_cmp a b) (ranked a b (nat_cmp a b) refl)
+    (λ is below. inl below)
+    (λ is same. inr (same, rest (rw is at less)))
+    (λ is above. let no = rw is at less in cc)
+
+-- a list without repeats, in an order that goes with the ranks, that holds what another holds
+pub listed_in_order : {A : Type 0} (rank : A → List ℕ) (c : A → A → Ordering) → ((x y : A) → c x y ≡ Less → Precedes (rank x) (rank y))
+    → (xs ys : List A) → IsStrictlySortedBy c ys → ((x : A) → Contains xs x → Contains ys x) → ((x : A) → Contains ys x → Contains xs x) → ListsBy rank (Contains xs) ys
+listed_in_order rank c before xs ys sorted keeps adds_none = record {
+  ascending = λ i j d less below. before (slice_index_or ys i d) (slice_index_or ys j d) (Less-from_sorted c ys i j d sorted less below);
+  each = λ x. (adds_none x, keeps x);
+}
+
+-- what the mapped list holds
+pub mapped : {A B : Type 0} (f : A → B) (xs : List A) (y : B) → Contains (map f xs) y ↔ ((x : A) × Contains xs x × (f x ≡ y))
+mapped {A} f [] y = ((λ c. absurd (let l = c.1 in omega arith)), (λ w. absurd (let l = w.1.1 in omega arith)))
+mapped {A} f (z ∷ zs) y = (
+  (λ c.
+      let below : c.0 < length (z ∷ zs) = let l = c.1 in omega (arith, length-map (z ∷ zs) f) in
+      (slice_index_or (z ∷ zs) c.0 z, Contains-get_or (z ∷ zs) c.0 z below, sym (get_or-map f (z ∷ zs) c.0 z y below) ∙ c.2)),
+  (λ (x, has, is). (
+    has.0,
+    (let l = has.1 in omega (arith, length-map (z ∷ zs) f)),
+    get_or-map f (z ∷ zs) has.0 x y has.1 ∙ ap f has.2 ∙ is,
+  )),
+)
+
+module _ {A : Type 0} (test : A → Bool) where
+  one_passes : (x : A) (xs : List A) (b : Bool) → test x ≡ b → All (λ y. test y ≡ true → Contains (filter test xs) y) xs
+      → All (λ y. test y ≡ true → Contains (cond b (x ∷ filter test xs) (filter test xs)) y) (x ∷ xs)
+  one_passes x xs true e rest =
+      let kept = filter test xs in
+      All-cons (λ y. test y ≡ true → Contains (x ∷ kept) y) x xs (λ yes. Contains-get_or (x ∷ kept) 0 x (omega arith))
+      (All-weaker (λ y. test y ≡ true → Contains kept y) (λ y. test y ≡ true → Contains (x ∷ kept) y) (λ y w yes. Contains-append_right (x ∷ []) kept y (w yes)) xs rest)
+  one_passes x xs false e rest = All-cons (λ y. test y ≡ true → Contains (filter test xs) y) x xs (λ yes. cc) rest
+
+  passes : (xs : List A) → All (λ y. test y ≡ true → Contains (filter test xs) y) xs
+  passes [] = All-nil (λ y. test y ≡ true → Contains (filter test []) y)
+  passes (x ∷ xs) = one_passes x xs (test x) refl (passes xs)
+
+-- what the filtered list holds
+pub passed : {A : Type 0} (test : A → Bool) (xs : List A) (x : A) → Contains (filter test xs) x ↔ (Contains xs x × (test x ≡ true))
+passed {A} test xs x = (
+  (λ c. (
+    All-contains (Contains xs) (filter test xs) x (All-filter test (Contains xs) xs (All-contains_itself xs)) c,
+    All-contains (λ y. test y ≡ true) (filter test xs) x (filter_passes test xs) c,
+  )),
+  (λ (c, is). All-contains (λ y. test y ≡ true → Contains (filter test xs) y) xs x (passes test xs) c is),
+)
+
+module _ {X F : Type 0} (R : F → X → Bool → F → Type 0) (P : X → Type 0) (f : F) (h : (x : X) (b : Bool) (f' : F) → R f x b f' → (IsTrue b ↔ P x) × (f' ≡ f)) where
+  -- what the closure said true of was there, and has P
+  kept_from : (bs : List Bool) (xs : List X) (q : F) → ReturnsInTurn R f bs xs q → All (λ y. Contains xs y × P y) (items_where_true bs xs)
+  kept_from [] xs q t = All-nil (λ y. Contains xs y × P y)
+  kept_from (b ∷ bs) [] q t = absurd t
+  kept_from (true ∷ bs) (x ∷ xs) q t =
+      let one = h x true t.0 t.1 in
+      let rest = kept_from bs xs q (subst (λ (y : F). ReturnsInTurn R y bs xs q) one.1 t.2) in
+      All-cons (λ y. Contains (x ∷ xs) y × P y) x (items_where_true bs xs) (Contains-get_or (x ∷ xs) 0 x (omega arith), one.0.0 refl)
+      (All-weaker (λ y. Contains xs y × P y) (λ y. Contains (x ∷ xs) y × P y) (λ y w. (Contains-append_right (x ∷ []) xs y w.0, w.1)) (items_where_true bs xs) rest)
+  kept_from (false ∷ bs) (x ∷ xs) q t =
+      let one = h x false t.0 t.1 in
+      let rest = kept_from bs xs q (subst (λ (y : F). ReturnsInTurn R y bs xs q) one.1 t.2) in
+      All-weaker (λ y. Contains xs y × P y) (λ y. Contains (x ∷ xs) y × P y) (λ y w. (Contains-append_right (x ∷ []) xs y w.0, w.1)) (items_where_true bs xs) rest
+
+  -- what was there and has P is kept
+  kept_all : (bs : List Bool) (xs : List X) (q : F) → length bs ≡ length xs → ReturnsInTurn R f bs xs q → All (λ x. P x → Contains (items_where_true bs xs) x) xs
+  kept_all bs [] q e t = All-nil (λ x. P x → Contains (items_where_true bs []) x)
+  kept_all [] (x ∷ xs) q e t = absurd (omega arith)
+  kept_all (true ∷ bs) (x ∷ xs) q e t =
+      let one = h x true t.0 t.1 in
+      let rest = kept_all bs xs q (omega arith) (subst (λ (y : F). ReturnsInTurn R y bs xs q) one.1 t.2) in
+      let kept = items_where_true bs xs in
+      All-cons (λ y. P y → Contains (x ∷ kept) y) x xs (λ p. Contains-get_or (x ∷ kept) 0 x (omega arith))
+      (All-weaker (λ y. P y → Contains kept y) (λ y. P y → Contains (x ∷ kept) y) (λ y w p. Contains-append_right (x ∷ []) kept y (w p)) xs rest)
+  kept_all (false ∷ bs) (x ∷ xs) q e t =
+      let one = h x false t.0 t.1 in
+      let rest = kept_all bs xs q (omega arith) (subst (λ (y : F). ReturnsInTurn R y bs xs q) one.1 t.2) in
+      let kept = items_where_true bs xs in
+      All-cons (λ y. P y → Contains kept y) x xs (λ p. let no = one.0.1 p in cc) rest
+
+  -- and stays in order
+  kept_pairs : (Q : X → X → Type 0) (bs : List Bool) (xs : List X) (q : F) → ReturnsInTurn R f bs xs q → AllPairs Q xs → AllPairs Q (items_where_true bs xs)
+  kept_pairs Q [] xs q t up = λ i j d less below. absurd (omega arith)
+  kept_pairs Q (b ∷ bs) [] q t up = absurd t
+  kept_pairs Q (true ∷ bs) (x ∷ xs) q t up =
+      let one = h x true t.0 t.1 in
+      let turned = subst (λ (y : F). ReturnsInTurn R y bs xs q) one.1 t.2 in
+      let after : All (Q x) xs = λ k d l. up 0 (suc k) d (omega arith) (omega arith) in
+      AllPairs-cons Q x (items_where_true bs xs)
+      (All-weaker (λ y. Contains xs y × P y) (Q x) (λ y w. All-contains (Q x) xs y after w.0) (items_where_true bs xs) (kept_from bs xs q turned))
+      (kept_pairs Q bs xs q turned (λ i j d less below. up (suc i) (suc j) d (omega arith) (omega arith)))
+  kept_pairs Q (false ∷ bs) (x ∷ xs) q t up =
+      let one = h x false t.0 t.1 in
+      kept_pairs Q bs xs q (subst (λ (y : F). ReturnsInTurn R y bs xs q) one.1 t.2) (λ i j d less below. up (suc i) (suc j) d (omega arith) (omega arith))
+
+  -- what `retain` leaves of a list of all that has Q is one of all that has Q and P
+  pub retained : (rank : X → List ℕ) (Q : X → Type 0) (xs ys : List X) → IsFiltered R f xs ys → ListsBy rank Q xs → ListsBy rank (λ x. Q x × P x) ys
+  retained rank Q xs ys k l =
+      let kept = items_where_true k.0 xs in
+      let from = kept_from k.0 xs k.1 k.3 in
+      let all = kept_all k.0 xs k.1 k.2 k.3 in
+      subst (ListsBy rank (λ x. Q x × P x)) (sym k.4) (record {
+        ascending = kept_pairs (λ x y. Precedes (rank x) (rank y)) k.0 xs k.1 k.3 l.ascending;
+        each = λ x. (
+          (λ c. let w = All-contains (λ y. Contains xs y × P y) kept x from c in ((l.each x).0 w.0, w.1)),
+          (λ (q, p). All-contains (λ y. P y → Contains kept y) xs x all ((l.each x).1 q) p),
+        );
+      })

@@ -1,0 +1,84 @@
+//! The pivots among the transactions.
+ghost use Rattle.std.specs.Prelude.{◌≡◌, ℕ, All, AllPairs, IfOk, map};
+ghost use Rattle.sia_events.specs.DangerousStructures.{IsPivot, IsVulnerable};
+ghost use Rattle.sia_events.specs.Lists.{ListsAscending, Precedes};
+ghost use Rattle.sia_parts.specs.Findings.{AreFindings};
+ghost use Rattle.sia_graph.specs.Links.{AreLinked, ListsLinks, link_rank};
+ghost use Rattle.sia_graph.specs.Pivots.{ArePivots, ListsNeighbours};
+
+use crate::firsts::firsts;
+use crate::links::{Link, has_link, linked, links_at, others, turned, vulnerable};
+use crate::pivot::Pivot;
+use crate::txns::Txns;
+use sia_events::{NoMemory, TxnId};
+use sia_index::Index;
+use sia_parts::Findings;
+use std::alloc::{AllocError, Global};
+
+/// The transactions with links of both sorts.
+fn middles(alloc: Global, into: &[Link], out: &[Link]) -> Result<Vec<TxnId>, AllocError>
+    requires { AllPairs (λ k l. Precedes (link_rank k) (link_rank l)) into.now }
+    ensures { IfOk result (λ txns. ListsAscending (λ t. ((u : ℕ) × AreLinked into.now t u) × ((u : ℕ) × AreLinked out.now t u)) txns.items) }
+{
+    let mut txns = linked(alloc, out)?;
+    txns.retain(|txn| has_link(into, *txn));
+    Ok(txns)
+}
+
+/// The entry of a pivot.
+fn pivot(
+    alloc: Global,
+    ix: &Index,
+    txn: TxnId,
+    into: &[Link],
+    out: &[Link],
+) -> Result<Pivot, AllocError>
+    requires into { ListsLinks (λ t u. IsVulnerable ix.now u t) into.now }
+    requires out { ListsLinks (IsVulnerable ix.now) out.now }
+    ensures txn { IfOk result (λ p. p.txn ≡ txn) }
+    ensures neighbours { IfOk result (ListsNeighbours ix.now) }
+{
+    let ins = others(alloc, links_at(into, txn))?;
+    let outs = others(alloc, links_at(out, txn))?;
+    let firsts = firsts(alloc, ix, txn, &ins, &outs)?;
+    Ok(Pivot {
+        txn,
+        ins: Txns::new(ins),
+        outs: Txns::new(outs),
+        firsts: Txns::new(firsts),
+    })
+}
+
+/// The entries of these transactions.
+fn entries(
+    alloc: Global,
+    ix: &Index,
+    txns: &[TxnId],
+    into: &[Link],
+    out: &[Link],
+) -> Result<Vec<Pivot>, AllocError>
+    requires into { ListsLinks (λ t u. IsVulnerable ix.now u t) into.now }
+    requires out { ListsLinks (IsVulnerable ix.now) out.now }
+    ensures txns { IfOk result (λ found. map (λ p. p.txn) found.items ≡ txns.now) }
+    ensures neighbours { IfOk result (λ found. All (ListsNeighbours ix.now) found.items) }
+{
+    let mut found = Vec::new(alloc);
+    for txn in txns {
+        found.push(pivot(alloc, ix, *txn, into, out)?)?;
+    }
+    Ok(found)
+}
+
+/// Every pivot, ascending, with its neighbours. The findings are those of the index's history, at all keys.
+pub fn pivots(alloc: Global, f: &Findings, ix: &Index) -> Result<Vec<Pivot>, NoMemory>
+    requires { AreFindings ix.now f.now }
+    ensures { IfOk result (λ found. ArePivots ix.now found.items) }
+{
+    let leaving = vulnerable(alloc, &f.edges, ix)?;
+    let out = leaving.as_slice();
+    let arriving = turned(alloc, out)?;
+    let into = arriving.as_slice();
+    let txns = middles(alloc, into, out)?;
+    let found = entries(alloc, ix, &txns, into, out)?;
+    Ok(found)
+}
