@@ -167,7 +167,10 @@ fn plain_len(text: &[u8]) -> usize
     ensures passed { (k : ℕ) → k < result → is_separator (slice_index text.now k) ≡ false }
 {
     let mut len = 0;
-    while len + BLOCK <= text.len() && is_plain(&text[len..len + BLOCK]) {
+    while len + BLOCK <= text.len()
+        && !is_separator(text[len])
+        && is_plain(&text[len..len + BLOCK])
+    {
         len += BLOCK;
     }
     len
