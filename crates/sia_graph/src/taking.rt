@@ -1,6 +1,6 @@
 //! The order made by taking ready transactions one at a time, always the least.
-ghost use Rattle.std.specs.Prelude.{[], ◌≡◌, ◌≢◌, ◌↔◌, ◌⊎◌, ℕ, ◌+◌, ◌<◌, ◌≤◌, All, AllPairs, Contains, IfOk, IsTrue, OnOk, length, slice_index, slice_get, Some};
-ghost use Rattle.std.specs.BTreeSet.{contains};
+ghost use Rattle.std.specs.Prelude.{[], ◌≡◌, ◌≢◌, ◌↔◌, ◌⊎◌, ℕ, ◌+◌, ◌<◌, ◌≤◌, All, AllPairs, Contains, IfNone, IfOk, IfSome, IsTrue, OnOk, false, length, slice_index, slice_get, Some};
+ghost use Rattle.std.specs.BTreeSet.{IsLowerBound, Updates, contains};
 ghost use Rattle.std.specs.List.Sorted.{IsStrictlyIncreasing};
 ghost use Rattle.std.specs.Ordering.{nat_cmp};
 ghost use Rattle.sia_events.specs.Lists.{Precedes};
@@ -76,6 +76,16 @@ fn ready_at_first(
     Ok(ready)
 }
 
+/// Takes the least ready transaction.
+fn next_ready(ready: &mut BTreeSet<TxnId>) -> Option<TxnId>
+    ensures empty { IfNone result (ready.old.keys ≡ []) }
+    ensures member { IfSome result (λ t. IsTrue (contains nat_cmp ready.old t)) }
+    ensures least { IfSome result (IsLowerBound nat_cmp ready.old) }
+    ensures updates { IfSome result (λ t. Updates nat_cmp ready.old ready.new t false) }
+{
+    ready.pop_first()
+}
+
 /// Takes the least transaction to which no edge leads from one that is left, again and again, while there is one. Leaves in
 /// `counts` how many edges lead to each transaction from those that are left.
 pub(crate) fn take_ready(
@@ -92,7 +102,7 @@ pub(crate) fn take_ready(
 {
     let mut ready = ready_at_first(alloc, ids, counts)?;
     let mut order = Vec::new(alloc);
-    while let Some(txn) = ready.pop_first() {
+    while let Some(txn) = next_ready(&mut ready) {
         order.push(txn)?;
         release(ids, edges_from(edges, txn), counts, &mut ready)?;
     }

@@ -25,7 +25,7 @@ loop-txn-preserved c =
     let long : length c.release.new.counts ≡ length ids = let a = c.loop-txn.invariant.counted.0 in let b = c.release.auto.counts in omega arith in
     subst (λ l. IsTaking ids edges c.release.new.counts l c.release.new.ready) (sym c.in_ok-push.ensures.items)
     (taken ids edges c.loop-txn.counts c.loop-txn.order.items c.loop-txn.ready c.loop-txn.invariant c.requires.ascending c.requires.joins
-    c.in-Some.txn c.edges_from.result.now c.edges_from.ensures c.pop_first.new.self c.release.new.ready c.release.new.counts long
+    c.in-Some.txn c.edges_from.result.now c.edges_from.ensures c.next_ready.new.ready c.release.new.ready c.release.new.counts long
     c.in-Some.ensures.member c.in-Some.ensures.least c.in-Some.ensures.updates c.in_ok-release.ensures.fewer c.in_ok-release.ensures.ready)
 
 pub returns : goal.returns
