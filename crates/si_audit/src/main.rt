@@ -2,20 +2,26 @@
 //! report to standard output.
 #![tactic(auto)]
 
-mod bad_reads;
+mod answering;
 mod counts;
 mod device;
 mod engine;
+mod findings;
 mod input;
 mod laws;
 mod lines;
+mod longer_lines;
+mod make;
+mod options;
 mod output;
-mod telling;
+mod reporting;
 #[cfg(test)]
 mod tests;
+mod words;
 
 use device::FromStd;
 use engine::{RunFault, run, status};
+use options::Options;
 use std::process::ExitCode;
 
 /// The word of a fault, as standard error has it.
@@ -27,10 +33,16 @@ fn words_of(fault: RunFault) -> &'static str {
     }
 }
 
+/// How many workers there are.
+const WORKERS: u8 = 4;
+
 fn main(rt: HostRuntime) -> ExitCode {
     let mut reader = FromStd::new(rt.stdin());
     let mut writer = FromStd::new(rt.stdout());
-    let result = run(rt.alloc(), &mut reader, &mut writer);
+    let result = match Options::new(rt.alloc(), WORKERS, &[]) {
+        Ok(options) => run(&rt, rt.alloc(), &mut reader, &mut writer, &options),
+        Err(_) => Err(RunFault::NoMemory),
+    };
     if let Err(fault) = &result {
         let _ = eprintln!(&rt; "si_audit: {}", words_of(*fault));
     }
