@@ -9,6 +9,7 @@ mod engine;
 mod input;
 mod laws;
 mod lines;
+mod options;
 mod output;
 mod telling;
 #[cfg(test)]
