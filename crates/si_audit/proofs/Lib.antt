@@ -5,3 +5,5 @@ pub mod Found
 pub mod Sets
 pub mod WhatIsTold
 pub mod ReadSoFar
+mod TakenWords
+mod NumbersGiven

@@ -8,3 +8,4 @@ pub mod Outcomes
 pub mod Devices
 pub mod Told
 pub mod ToldOf
+pub mod LineAnswers

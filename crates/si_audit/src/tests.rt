@@ -1,4 +1,6 @@
 //! What is told of worked histories, worked out by hand from the definitions.
+mod line;
+
 use super::*;
 use crate::engine::Outcome;
 use std::alloc::Global;
