@@ -14,3 +14,5 @@ pub mod Results
 pub mod Chains
 pub mod Clean
 pub mod OfHistory
+mod TakenWords
+mod NumbersGiven

@@ -10,3 +10,4 @@ pub mod Devices
 pub mod Counting
 pub mod Spaced
 pub mod Answering
+pub mod LineAnswers
