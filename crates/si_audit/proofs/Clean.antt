@@ -1,10 +1,10 @@
 -- What an account says of how a run ends, and that it can be printed.
-use Rattle.std.proofs.Common.{◌≡◌, ◌≢◌, ◌↔◌, ℕ, ◌<◌, List, [], ◌∷◌, length, map, get_or, refl, sym, subst, ◌∙◌, arith}
+use Rattle.std.proofs.Common.{◌≡◌, ◌≢◌, ◌↔◌, ℕ, List, [], ◌∷◌, length, map, get_or, subst, arith}
 use Rattle.std.specs.Prelude.{IsTrue, ⊤, All, Contains}
 use Rattle.std.proofs.lemmas.List.{get_or-map, length-map}
 use Rattle.std.proofs.lemmas.List.Elements.{All-contains_itself}
 use Rattle.sia_events.specs.declared.event.Event.{Event}
-use Rattle.sia_events.specs.Isolation.{IsBadRead, IsBadWrite, IsolationKept}
+use Rattle.sia_events.specs.Isolation.{IsBadRead, IsBadWrite}
 use Rattle.sia_events.specs.DangerousStructures.{IsPivot}
 use Rattle.sia_parts.specs.Entries.{bad_read_rank, bad_write_rank}
 use Rattle.sia_parts.proofs.Members.{contains_none}

@@ -1,5 +1,5 @@
 -- What follows from the findings of a history: what is settled, and whether a serial order replays it.
-use Rattle.std.proofs.Common.{◌≡◌, ◌≢◌, ◌↔◌, ◌⊎◌, inl, inr, ℕ, ◌<◌, Bool, List, [], ◌∷◌, length, slice_index_or, refl, subst, arith}
+use Rattle.std.proofs.Common.{◌≡◌, ◌≢◌, ◌↔◌, ◌⊎◌, inl, inr, ℕ, Bool, List, [], ◌∷◌, slice_index_or, refl, subst, arith}
 use Rattle.std.specs.Prelude.{IsTrue, ⊤, All, Contains}
 use Rattle.std.proofs.lemmas.List.Elements.{All-contains_itself}
 use Rattle.sia_events.specs.declared.event.Event.{Event}
@@ -16,7 +16,7 @@ use Rattle.sia_parts.specs.declared.finding.Edge.{Edge}
 use Rattle.sia_parts.specs.declared.finding.Kind.{Kind}
 use Rattle.sia_parts.specs.declared.finding.Kind.TheVariants.{Ww, Wr, Rw}
 use Rattle.sia_parts.specs.declared.finding.Unexplained.{Unexplained}
-use Rattle.sia_parts.specs.Entries.{EdgeOfKind, IsEdge, unexplained_rank, edge_rank}
+use Rattle.sia_parts.specs.Entries.{EdgeOfKind, IsEdge, unexplained_rank}
 use Rattle.sia_parts.specs.Findings.{ListsEdges, ListsUnexplained}
 use Rattle.sia_graph.specs.declared.settling.Verdict.{Verdict}
 use Rattle.sia_graph.specs.declared.settling.Verdict.TheVariants.{Order, Cycle}

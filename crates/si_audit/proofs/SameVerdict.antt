@@ -1,13 +1,11 @@
 -- The verdict of some members and edges is that of others that are the same.
-use Rattle.std.proofs.Common.{◌≡◌, ◌↔◌, ℕ, zero, suc, List, [], ◌∷◌}
-use Rattle.std.specs.Prelude.{Contains}
-use Rattle.sia_events.specs.Lists.{HoldsExactly, Precedes}
-use Rattle.sia_events.specs.Replay.{Keeps}
+use Rattle.std.proofs.Common.{◌↔◌, ℕ, zero, suc, List, [], ◌∷◌}
+use Rattle.sia_events.specs.Lists.{HoldsExactly}
 use Rattle.sia_parts.specs.declared.finding.Edge.{Edge}
 use Rattle.sia_graph.specs.declared.settling.Step.{Step}
 use Rattle.sia_graph.specs.declared.settling.Verdict.{Verdict}
 use Rattle.sia_graph.specs.declared.settling.Verdict.TheVariants.{Order, Cycle}
-use Rattle.sia_graph.specs.Orders.{Leads, IsKeepingOrder, IsLeastOrder}
+use Rattle.sia_graph.specs.Orders.{Leads, IsKeepingOrder}
 use Rattle.sia_graph.specs.Cycles.{IsSelfFed, IsStuckSet, IsPrevious, GoesBack, TakesLeastEdge, GoesRound, IsPrintedCycle, step_edge}
 use Rattle.sia_graph.specs.Verdicts.{IsVerdict}
 

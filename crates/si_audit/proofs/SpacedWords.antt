@@ -7,7 +7,7 @@ use Rattle.sia_events.specs.Text.{numeral}
 use Rattle.sia_graph.specs.declared.pivot.Pivot.{Pivot}
 use Rattle.sia_graph.specs.declared.settling.Step.{Step}
 use Rattle.sia_graph.specs.declared.settling.Verdict.TheVariants.{Order, Cycle}
-use Rattle.si_audit.specs.Lines.{line, first_words, pivot_line, step_words, home_word, verdict_line}
+use Rattle.si_audit.specs.Lines.{first_words, pivot_line, step_words, home_word, verdict_line}
 use Rattle.si_audit.specs.Spaced.{spaced, spaced_numbers}
 
 pub join_spaced : (w : List ℕ) (ws : List (List ℕ)) → join_with_byte 32 (w ∷ ws) ≡ w ++ spaced ws

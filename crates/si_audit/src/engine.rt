@@ -1,4 +1,4 @@
-ghost use Rattle.std.specs.Prelude.{◌≡◌, ◌≢◌, ◌↔◌, ℕ, List, ◌++◌, IfOk, IfErr, IfSome, OnOk, Err, IsTrue, IsFalse};
+ghost use Rattle.std.specs.Prelude.{◌≡◌, ◌≢◌, ◌↔◌, ◌+◌, ◌≤◌, ℕ, List, ◌++◌, IfOk, IfErr, IfSome, OnOk, Err, IsTrue, IsFalse};
 ghost use Rattle.std.specs.Io.KnownBytes.{Appends, Keeps};
 ghost use Rattle.si_audit.specs.Report.{IsReport};
 ghost use Rattle.si_audit.specs.Outcomes.{IsOutcome, status_of};
@@ -79,6 +79,9 @@ pub fn run<T: Threads + Wait + Sync, R: Source, W: Sink>(
     ensures report { IfOk result (λ outcome. IfSome (R.remaining reader.old) (λ text.
         IsOutcome text outcome × (bytes : List ℕ) × IsReport text bytes × Appends (W.taken writer.old) (W.taken writer.new) bytes)) }
     ensures flushed { OnOk result (IsTrue (W.is_flushed writer.new)) }
+
+    // At most so many reads gave bytes.
+    ensures reads { R.reads reader.new ≤ R.reads reader.old + 16777217 }
 
     // Each fault comes exactly where its device failed.
     ensures read { (result ≡ Err RunFault.Read) ↔ IsTrue (R.has_failed reader.new) }

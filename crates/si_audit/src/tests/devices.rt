@@ -9,6 +9,7 @@ pub(crate) struct Breaking<'a> {
     rest: &'a [u8],
     sound_for: usize,
     failed: bool,
+    reads: u64,
 }
 
 impl<'a> Breaking<'a> {
@@ -20,6 +21,7 @@ impl<'a> Breaking<'a> {
             rest: bytes,
             sound_for,
             failed: false,
+            reads: 0,
         }
     }
 }
@@ -28,6 +30,8 @@ impl Source for Breaking<'_> {
     ghost remaining = { λ s. Some s.rest.now };
 
     ghost has_failed = { λ s. s.failed };
+
+    ghost reads = { λ s. s.reads };
 
     fn read(&mut self, into: &mut [u8]) -> Result<usize, Failed> {
         if self.sound_for == 0 {
@@ -38,6 +42,9 @@ impl Source for Breaking<'_> {
         into[..n].copy_from_slice(&self.rest[..n]);
         self.rest = &self.rest[n..];
         self.sound_for -= n;
+        if n > 0 {
+            self.reads = self.reads.saturating_add(1);
+        }
         Ok(n)
     }
 

@@ -7,7 +7,9 @@ use crate::options::Options;
 use crate::tests::devices::Breaking;
 use crate::tests::rows::told;
 use std::alloc::Global;
+use std::sync::Wait;
 use std::test::*;
+use std::thread::Threads;
 
 const LIMIT: usize = 16_777_216;
 
@@ -33,20 +35,50 @@ fn filled(alloc: Global, first: u8, other: u8, times: usize) -> Result<Vec<u8>, 
     Ok(text)
 }
 
+/// What runs by one, two and 64 workers write of the first byte and then so many spaces.
+fn told_of_spaces<T: Threads + Wait + Sync>(
+    rt: &T,
+    alloc: Global,
+    first: u8,
+    times: usize,
+) -> Result<[Vec<u8>; 3], Fail>
+    requires { times ≤ 16777216 }
+{
+    let text = filled(alloc, first, b' ', times)?;
+    let (by_one, _) = told(rt, alloc, text.as_slice(), 1, &[])?;
+    let (by_two, _) = told(rt, alloc, text.as_slice(), 2, &[])?;
+    let (by_many, _) = told(rt, alloc, text.as_slice(), 64, &[])?;
+    Ok([by_one, by_two, by_many])
+}
+
 #[test]
-fn texts_of_so_many_bytes(rt: HostRuntime) -> Result<(), Fail> {
-    let rows: [(u8, usize, &[u8]); 4] = [
-        (b' ', LIMIT, TOO_LONG),
-        (b'x', LIMIT, TOO_LONG),
-        (b'x', LIMIT - 1, BAD_EVENT),
-        (b' ', LIMIT - 1, NO_EVENT),
-    ];
-    for (first, times, line) in rows {
-        let text = filled(rt.alloc(), first, b' ', times)?;
-        for workers in [1, 2, 64] {
-            let (written, _) = told(&rt, rt.alloc(), text.as_slice(), workers, &[])?;
-            assert_eq!(rt; written.as_slice(), line);
-        }
+fn spaces_past_the_limit(rt: HostRuntime) -> Result<(), Fail> {
+    for written in told_of_spaces(&rt, rt.alloc(), b' ', LIMIT)? {
+        assert_eq!(rt; written.as_slice(), TOO_LONG);
+    }
+    Ok(())
+}
+
+#[test]
+fn a_bad_token_past_the_limit(rt: HostRuntime) -> Result<(), Fail> {
+    for written in told_of_spaces(&rt, rt.alloc(), b'x', LIMIT)? {
+        assert_eq!(rt; written.as_slice(), TOO_LONG);
+    }
+    Ok(())
+}
+
+#[test]
+fn a_bad_token_within_the_limit(rt: HostRuntime) -> Result<(), Fail> {
+    for written in told_of_spaces(&rt, rt.alloc(), b'x', LIMIT - 1)? {
+        assert_eq!(rt; written.as_slice(), BAD_EVENT);
+    }
+    Ok(())
+}
+
+#[test]
+fn spaces_within_the_limit(rt: HostRuntime) -> Result<(), Fail> {
+    for written in told_of_spaces(&rt, rt.alloc(), b' ', LIMIT - 1)? {
+        assert_eq!(rt; written.as_slice(), NO_EVENT);
     }
     Ok(())
 }

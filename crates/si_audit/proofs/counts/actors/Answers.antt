@@ -1,4 +1,4 @@
-use Rattle.std.proofs.Common.{◌≡◌, ◌+◌, ◌≤◌, ◌∷◌, [], length, ap, sym, subst, ◌∙◌, arith, length-append}
+use Rattle.std.proofs.Common.{◌+◌, ◌∷◌, [], length, ap, sym, subst, ◌∙◌, arith, length-append}
 use Rattle.std.proofs.lemmas.List.Filters.{dedup_is}
 use Rattle.si_audit.proofs.Actors.{HoldsActors, actor_in, no_actor, actors_of}
 use Rattle.si_audit.proofs.counts.actors.Goals as goal

@@ -1,4 +1,4 @@
-use Rattle.std.proofs.Common.{◌≡◌, List, ℕ, subst, ap, length, arith, rules}
+use Rattle.std.proofs.Common.{subst, ap, length, arith, rules}
 use Rattle.sia_events.specs.Lists.{ListsAscending}
 use Rattle.sia_events.specs.Transactions.{IsCommitted, IsAborted, IsOpen}
 use Rattle.si_audit.proofs.counts.counted.Goals as goal

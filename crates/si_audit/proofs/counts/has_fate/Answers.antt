@@ -1,4 +1,4 @@
-use Rattle.std.proofs.Common.{◌≡◌, subst, sym, ◌∙◌}
+use Rattle.std.proofs.Common.{subst}
 use Rattle.si_audit.specs.Counting.{EndedSo}
 use Rattle.si_audit.proofs.Fates.{ended_so, one_fate}
 use Rattle.si_audit.proofs.counts.has_fate.Goals as goal

@@ -1,4 +1,4 @@
-use Rattle.std.proofs.Common.{◌≡◌, ℕ, subst, sym, ◌∙◌, rules}
+use Rattle.std.proofs.Common.{subst, sym, rules}
 use Rattle.sia_graph.specs.Pivots.{ArePivots}
 use Rattle.si_audit.proofs.Judging.{edges_join, judged_verdict, serializable_where, passed_is_serializable}
 use Rattle.si_audit.proofs.make.judge.Goals as goal

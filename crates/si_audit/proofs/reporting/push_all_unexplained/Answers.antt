@@ -1,4 +1,3 @@
-use Rattle.std.proofs.Common.{arith}
 use Rattle.si_audit.specs.Lines.{unexplained_line}
 use Rattle.si_audit.proofs.Chains.{next_line}
 use Rattle.si_audit.proofs.reporting.push_all_unexplained.Goals as goal

@@ -1,4 +1,4 @@
-use Rattle.std.proofs.Common.{List, ℕ, ◌++◌, flat_map, ap, ◌∙◌}
+use Rattle.std.proofs.Common.{◌++◌, flat_map, ap, ◌∙◌}
 use Rattle.si_audit.specs.Lines.{isolation_line, pivot_line}
 use Rattle.si_audit.proofs.Chains.{then, then_four, report_written}
 use Rattle.si_audit.proofs.reporting.push_report.Goals as goal
