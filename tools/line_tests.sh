@@ -1,0 +1,144 @@
+#!/bin/sh
+# Runs the program on command lines, and with devices that fail or close early. Each test compares its status and what
+# it wrote on standard error with what docs/FORMAT.md says. The last line is 'N passed, M failed'.
+: "${PROGRAM:=crates/si_audit/out/si_audit}"
+mkdir -p out
+history=examples/clean.history
+passed=0
+failed=0
+
+# told NAME STATUS WANTED SAID: the last command ended with WANTED, and out/said holds the one line SAID, or nothing.
+told() {
+    why=
+    if [ -n "$4" ]; then
+        echo "$4" >out/wanted
+    else
+        : >out/wanted
+    fi
+    if [ "$2" != "$3" ]; then
+        why="its status is $2 and not $3"
+    elif ! cmp -s out/wanted out/said; then
+        why="standard error isn't '$4'"
+    fi
+    count "$1" "$why"
+}
+
+# count NAME WHY: the test passed where there is no WHY.
+count() {
+    if [ -z "$2" ]; then
+        passed=$((passed + 1))
+    else
+        failed=$((failed + 1))
+        echo "$1: $2:"
+        cat out/said
+    fi
+}
+
+# same NAME REPORT ARGUMENTS..: the report with these arguments is REPORT, with status 0.
+same() {
+    name=$1
+    report=$2
+    shift 2
+    "$PROGRAM" "$@" <"$history" >out/report 2>out/said
+    told "$name" $? 0 ""
+    count "$name: its report" "$(cmp "$report" out/report 2>&1)"
+}
+
+# usage NAME TEXT ARGUMENTS..: the arguments are refused with status 2, and the first line on standard error is TEXT.
+usage() {
+    name=$1
+    text="error: $2"
+    shift 2
+    "$PROGRAM" "$@" <"$history" >out/report 2>out/said
+    status=$?
+    why=
+    if [ "$status" != 2 ]; then
+        why="its status is $status and not 2"
+    elif [ "$(head -n 1 out/said)" != "$text" ]; then
+        why="standard error doesn't begin with '$text'"
+    elif [ -s out/report ]; then
+        why="it wrote on standard output"
+    fi
+    count "$name" "$why"
+}
+
+# help NAME ARGUMENTS..: the help is printed with status 0.
+help() {
+    name=$1
+    shift
+    "$PROGRAM" "$@" <"$history" >out/report 2>out/said
+    told "$name" $? 0 ""
+    why=
+    for text in "Usage: si_audit [OPTIONS] [CUT]..." "--workers <N>" "[default: 4]" "Exit status:" "Examples:"; do
+        grep -qF -- "$text" out/report || why="the help has no '$text'"
+    done
+    count "$name: its text" "$why"
+}
+
+# A history with many bad reads, whose report is longer than a pipe holds.
+long_history() {
+    awk 'BEGIN { printf "w1[1] c1 b2"; for (i = 0; i < 20000; i++) printf " r2[1:0]"; print "" }'
+}
+
+same "no arguments" examples/clean.report
+same "workers and a cut" examples/clean.report --workers 64 14
+same "a cut first" examples/clean.report 14 --workers=1
+same "the greatest key" examples/clean.report 18446744073709551615 0 0
+same "the most cuts" examples/clean.report $(seq 0 1023) 7
+usage "65 workers" "invalid value '65' for '--workers <N>': 65 is not in 1..=64" --workers 65
+usage "no worker" "invalid value '0' for '--workers <N>': 0 is not in 1..=64" --workers 0
+usage "workers twice" "the argument '--workers <N>' cannot be used multiple times" --workers 4 --workers 4
+usage "a cut that is no number" "invalid value 'x' for '[CUT]...': invalid digit found in string" 14 x
+usage "an unknown option" "unexpected argument '--parts' found" --parts 4
+help "--help" --help
+help "-h after others" --workers 64 14 -h
+
+"$PROGRAM" $(seq 1 1024) <"$history" >out/report 2>out/said
+told "too many cuts" $? 2 "si_audit: too many cuts"
+"$PROGRAM" "$(printf '\377')" <"$history" >out/report 2>out/said
+told "an argument that is not UTF-8" $? 2 "si_audit: an argument is not UTF-8"
+
+"$PROGRAM" <examples >out/report 2>out/said
+told "a directory as input" $? 4 "si_audit: read failed"
+"$PROGRAM" <&- >out/report 2>out/said
+told "no standard input" $? 4 "si_audit: read failed"
+"$PROGRAM" <"$history" 2>out/said >&-
+told "no standard output" $? 4 "si_audit: write failed"
+"$PROGRAM" --help 2>out/said >&-
+told "no standard output for the help" $? 4 "si_audit: write failed"
+"$PROGRAM" <"$history" >out/report 2>&-
+status=$?
+: >out/said
+told "no standard error" $status 0 ""
+"$PROGRAM" --workers 65 <"$history" >out/report 2>&-
+status=$?
+: >out/said
+told "no standard error for the usage" $status 2 ""
+"$PROGRAM" 2>&- <examples >out/report
+status=$?
+: >out/said
+told "no standard error for a fault" $status 4 ""
+if [ -c /dev/full ]; then
+    "$PROGRAM" <"$history" >/dev/full 2>out/said
+    told "a full device" $? 4 "si_audit: write failed"
+    "$PROGRAM" --help >/dev/full 2>out/said
+    told "a full device for the help" $? 4 "si_audit: write failed"
+fi
+
+# Pipes whose reader ends early. The report of the long history is longer than a pipe holds.
+long_history >out/long.history
+{
+    "$PROGRAM" <out/long.history 2>out/said
+    echo $? >out/status
+} | head -n 1 >out/report
+told "a reader that ends early" "$(cat out/status)" 4 "si_audit: write failed"
+count "a reader that ends early: its line" "$(grep -v '^events 20003 committed 1 aborted 0 open 1$' out/report)"
+{
+    sleep 1
+    "$PROGRAM" --help 2>out/said
+    echo $? >out/status
+} | exec true
+told "a reader of the help that ends early" "$(cat out/status)" 4 "si_audit: write failed"
+
+echo "$passed passed, $failed failed"
+[ "$failed" = 0 ]
