@@ -1,20 +1,11 @@
--- Searches over the numbers below a bound, and over the events of a history.
-use Rattle.std.proofs.Common.{◌≡◌, ◌⊎◌, inl, inr, ℕ, zero, suc, ◌<◌, ◌≤◌, List, length, slice_get, Option, Some, None, refl, ap, sym, subst, ◌∙◌, arith}
+-- What can be told of an option, of a list, and of the events of a history.
+use Rattle.std.proofs.Common.{◌≡◌, ◌⊎◌, inl, inr, ℕ, zero, suc, ◌≤◌, List, length, slice_get, Option, Some, None, refl, sym, subst, arith}
 use Rattle.std.proofs.lemmas.Bool.{cases_lt, cases_eq}
 use Rattle.std.proofs.lemmas.Option.{same_Some, slice_get_within}
 use Rattle.sia_events.specs.declared.event.Event.{Event}
-use Rattle.sia_events.specs.declared.event.Event.TheVariants.{Write, Commit}
+use Rattle.sia_events.specs.declared.event.Event.TheVariants.{Write}
 use Rattle.sia_events.specs.Places.{at_place}
-use Rattle.sia_events.specs.Transactions.{IsCommitted, Wrote}
-
--- P holds, or it does not
-abbrev pub Decided : Type 0 → Type 0
-Decided P = P ⊎ ¬ P
-
-pub both_decided : (P Q : Type 0) → Decided P → Decided Q → Decided (P × Q)
-both_decided P Q (inl p) (inl q) = inl (p, q)
-both_decided P Q (inl p) (inr n) = inr (λ w. n w.1)
-both_decided P Q (inr n) d = inr (λ w. n w.0)
+use Rattle.sia_events.proofs.Decisions.{Decided, first_below}
 
 pub three_decided : (P Q R : Type 0) → Decided P → Decided Q → Decided R → Decided (P × Q × R)
 three_decided P Q R (inr n) e f = inr (λ w. n w.0)
@@ -34,35 +25,6 @@ not_decided P (inr n) = inl n
 pub le_decided : (m n : ℕ) → Decided (m ≤ n)
 le_decided m n = elim (cases_lt n m) [ inl less ↦ inr (λ l. omega arith) | inr more ↦ inl more ]
 
-module _ (P : ℕ → Type 0) (decide : (i : ℕ) → Decided (P i)) where
-  at_bound : (n i : ℕ) → ¬ P n → i < suc n → P i → i < n
-  at_bound n i fails l p = elim (cases_lt i n) [
-    | inl less ↦ less
-    | inr more ↦ let e : i ≡ n = omega arith in absurd (fails (subst P e p))
-  ]
-
-  -- the least number below n that has P
-  pub least_below : (n : ℕ) → ((i : ℕ) × (i < n) × P i × ((j : ℕ) → P j → i ≤ j)) ⊎ ((i : ℕ) → i < n → ¬ P i)
-  least_below zero = inr (λ i l p. omega arith)
-  least_below (suc n) = elim (least_below n) [
-    | inl w ↦ inl (w.0, (let l = w.1 in omega arith), w.2, w.3)
-    | inr none ↦ elim (decide n) [
-      | inl p ↦ inl (n, omega arith, p, λ j q. elim (cases_lt j n) [ inl less ↦ absurd (none j less q) | inr more ↦ more ])
-      | inr fails ↦ inr (λ i l p. none i (at_bound n i fails l p) p)
-    ]
-  ]
-
-  -- the greatest number below n that has P
-  pub greatest_below : (n : ℕ) → ((i : ℕ) × (i < n) × P i × ((j : ℕ) → j < n → P j → j ≤ i)) ⊎ ((i : ℕ) → i < n → ¬ P i)
-  greatest_below zero = inr (λ i l p. omega arith)
-  greatest_below (suc n) = elim (decide n) [
-    | inl p ↦ inl (n, omega arith, p, λ j l q. omega arith)
-    | inr fails ↦ elim (greatest_below n) [
-      | inl w ↦ inl (w.0, (let l = w.1 in omega arith), w.2, λ j l q. w.3 j (at_bound n j fails l q) q)
-      | inr none ↦ inr (λ i l p. none i (at_bound n i fails l p) p)
-    ]
-  ]
-
 -- what stands in an option has P
 pub inside_decided : {A : Type 0} (P : A → Type 0) → ((e : A) → Decided (P e)) → (o : Option A) → Decided ((e : A) × (o ≡ Some e) × P e)
 inside_decided P decide None = inr (λ w. let e = w.1 in cc)
@@ -74,7 +36,7 @@ inside_decided P decide (Some e) = elim (decide e) [
 -- an element of a list that has P
 pub element_decided : {A : Type 0} (P : A → Type 0) → ((e : A) → Decided (P e)) → (xs : List A) → Decided ((i : ℕ) × (e : A) × (slice_get xs i ≡ Some e) × P e)
 element_decided {A} P decide xs =
-    elim (least_below (λ i. (e : A) × (slice_get xs i ≡ Some e) × P e) (λ i. inside_decided P decide (slice_get xs i)) (length xs)) [
+    elim (first_below (λ i. (e : A) × (slice_get xs i ≡ Some e) × P e) (λ i. inside_decided P decide (slice_get xs i)) (length xs)) [
       | inl w ↦ inl (w.0, w.2.0, w.2.1, w.2.2)
       | inr none ↦ inr (λ w. none w.0 (slice_get_within xs w.0 w.1 w.2) (w.1, w.2, w.3))
     ]
@@ -90,13 +52,6 @@ event_decided P decide h = elim (element_decided P decide h) [
     nowhere none zero e at has = cc
     nowhere none (suc i) e at has = none (i, e, at, has)
 
-is_commit : (t : ℕ) (e : Event) → Decided (e ≡ Commit t)
-is_commit t (Commit u) = elim (cases_eq u t) [
-  | inl same ↦ inl (ap Commit same)
-  | inr fails ↦ inr (λ p. fails (let q : u ≡ t = cc in q))
-]
-is_commit t e = inr (λ p. cc)
-
 pub is_write : (t k : ℕ) (e : Event) → Decided (e ≡ Write t k)
 is_write t k (Write u j) = elim (cases_eq u t) [
   | inl a ↦ elim (cases_eq j k) [
@@ -106,15 +61,3 @@ is_write t k (Write u j) = elim (cases_eq u t) [
   | inr n ↦ inr (λ p. n (let q : u ≡ t = cc in q))
 ]
 is_write t k e = inr (λ p. cc)
-
-pub committed_decided : (h : List Event) (t : ℕ) → Decided (IsCommitted h t)
-committed_decided h t = elim (event_decided (λ e. e ≡ Commit t) (is_commit t) h) [
-  | inl w ↦ inl (w.0, w.2 ∙ ap Some w.3)
-  | inr none ↦ inr (λ c. none (c.0, Commit t, c.1, refl))
-]
-
-pub wrote_decided : (h : List Event) (t k : ℕ) → Decided (Wrote h t k)
-wrote_decided h t k = elim (event_decided (λ e. e ≡ Write t k) (is_write t k) h) [
-  | inl w ↦ inl (w.0, w.2 ∙ ap Some w.3)
-  | inr none ↦ inr (λ c. none (c.0, Write t k, c.1, refl))
-]

@@ -1,47 +1,22 @@
 -- Facts of well-formed histories: when a transaction starts and commits.
-use Rattle.std.proofs.Common.{◌≡◌, ◌⊎◌, inl, inr, ℕ, zero, suc, ◌+◌, ◌-◌, ◌<◌, ◌≤◌, List, Option, Some, None, MatchOption, refl, ap, sym, subst, ◌∙◌, arith}
-use Rattle.std.proofs.lemmas.Bool.{cases_lt, cases_eq}
-use Rattle.std.proofs.lemmas.Option.{same_Some}
+use Rattle.std.proofs.Common.{◌≡◌, ◌⊎◌, inl, inr, ℕ, zero, suc, ◌<◌, ◌≤◌, List, Some, refl, arith}
+use Rattle.std.proofs.lemmas.Bool.{cases_lt}
 use Rattle.sia_events.specs.declared.event.Event.{Event}
-use Rattle.sia_events.specs.declared.event.Event.TheVariants.{Begin, Read, Range, Write, Commit, Abort}
-use Rattle.sia_events.specs.declared.fault.Reason.TheVariants.{BadStart}
+use Rattle.sia_events.specs.declared.event.Event.TheVariants.{Write, Commit}
 use Rattle.sia_events.specs.Places.{at_place}
-use Rattle.sia_events.specs.Events.{actor, named_start}
-use Rattle.sia_events.specs.Refusals.{IsInRange, IsWellFormed}
+use Rattle.sia_events.specs.Refusals.{IsWellFormed}
 use Rattle.sia_events.specs.Transactions.{ActsAt, StartsAt, CommitsAt, IsCommitted, Wrote, Sees, CommitsBefore}
-use Rattle.sia_events.proofs.WellFormed.{event_has_none, event_in_range, one_commit}
-use Rattle.sia_graph.proofs.Deciding.{Decided, inside_decided, least_below, committed_decided}
-
-positive : (e : Event) → IsInRange e → 0 < actor e
-positive (Begin t start) r = r.0.0
-positive (Read t k v) r = r.0.0
-positive (Range t lo hi listed) r = r.0.0
-positive (Write t k) r = r.0.0
-positive (Commit t) r = r.0
-positive (Abort t) r = r.0
-
-one_event : (h : List Event) (p q : ℕ) (e f : Event) → p ≡ q → at_place h p ≡ Some e → at_place h q ≡ Some f → e ≡ f
-one_event h p q e f same a b = same_Some e f (sym a ∙ ap (at_place h) same ∙ b)
+use Rattle.sia_events.proofs.WellFormed.{one_commit}
+use Rattle.sia_events.proofs.Decisions.{Decided}
+use Rattle.sia_events.proofs.Seen.{actor_is_txn}
+use Rattle.sia_events.proofs.Starts.{one_event, one_start}
+use Rattle.sia_events.proofs.StartsBelow.{start_below}
+use Rattle.sia_events.proofs.TransactionDecisions.{committed_or_not, has_start}
 
 -- no event stands at place 0
 pub from_one : (h : List Event) (p : ℕ) (e : Event) → at_place h p ≡ Some e → 0 < p
 from_one h zero e at = cc
 from_one h (suc p) e at = omega arith
-
-one_choice : (o : Option ℕ) (p s r : ℕ) → MatchOption o (s + 1 ≡ p) (λ n. s ≡ n) → MatchOption o (r + 1 ≡ p) (λ n. r ≡ n) → s ≡ r
-one_choice None p s r a b = omega arith
-one_choice (Some n) p s r a b = omega arith
-
--- a transaction starts once
-pub one_start : (h : List Event) (t s r : ℕ) → StartsAt h t s → StartsAt h t r → s ≡ r
-one_start h t s r a b =
-    let p : a.0 ≤ b.0 = a.2.2 b.0 (b.1, b.2.0, b.2.1) in
-    let q : b.0 ≤ a.0 = b.2.2 a.0 (a.1, a.2.0, a.2.1) in
-    let place : b.0 ≡ a.0 = omega arith in
-    let event : b.1 ≡ a.1 = one_event h b.0 a.0 b.1 a.1 place b.2.0 a.2.0 in
-    one_choice (named_start a.1) a.0 s r a.3
-    (subst (λ x. MatchOption (named_start a.1) (r + 1 ≡ x) (λ n. r ≡ n)) place
-    (subst (λ (f : Event). MatchOption (named_start f) (r + 1 ≡ b.0) (λ n. r ≡ n)) event b.3))
 
 -- a place holds one commit
 pub same_committer : (h : List Event) (t u c d : ℕ) → c ≡ d → CommitsAt h t c → CommitsAt h u d → t ≡ u
@@ -49,37 +24,15 @@ same_committer h t u c d same a b = let e = one_event h c d (Commit t) (Commit u
 
 module _ (h : List Event) (wf : IsWellFormed h) where
   -- 0 is no transaction
-  pub actor_positive : (p : ℕ) (e : Event) → at_place h p ≡ Some e → 0 < actor e
-  actor_positive p e at = positive e (event_in_range h wf p e at)
-
   pub committed_positive : (t : ℕ) → IsCommitted h t → 0 < t
-  committed_positive t c = actor_positive c.0 (Commit t) c.1
+  committed_positive t c = (actor_is_txn h wf t c.0 (Commit t, c.1, refl)).0
 
   pub writer_positive : (t k : ℕ) → Wrote h t k → 0 < t
-  writer_positive t k w = actor_positive w.0 (Write t k) w.1
-
-  first_event : (t p : ℕ) → ActsAt h t p → (q : ℕ) × (q ≤ p) × ActsAt h t q × ((j : ℕ) → ActsAt h t j → q ≤ j)
-  first_event t p acts = elim (least_below (ActsAt h t) (λ i. inside_decided (λ e. actor e ≡ t) (λ e. cases_eq (actor e) t) (at_place h i)) (suc p)) [
-    | inl w ↦ (w.0, (let l = w.1 in omega arith), w.2, w.3)
-    | inr none ↦ absurd (none p (omega arith) acts)
-  ]
-
-  choice : (q : ℕ) (e : Event) → at_place h q ≡ Some e → (o : Option ℕ) → named_start e ≡ o → (s : ℕ) × (s < q) × MatchOption o (s + 1 ≡ q) (λ n. s ≡ n)
-  choice q e at None named = let l = from_one h q e at in (q - 1, omega arith, omega arith)
-  choice q e at (Some n) named =
-      let l = from_one h q e at in
-      (n, elim (cases_lt (q - 1) n) [ inl less ↦ absurd (event_has_none h wf q e at BadStart (n, named, less)) | inr more ↦ omega arith ], refl)
+  writer_positive t k w = (actor_is_txn h wf t w.0 (Write t k, w.1, refl)).0
 
   -- a transaction starts before each of its events
   pub start_of : (t p : ℕ) → ActsAt h t p → (s : ℕ) × (s < p) × StartsAt h t s
-  start_of t p acts =
-      let first = first_event t p acts in
-      let q = first.0 in
-      let e = first.2.0 in
-      let chosen = choice q e first.2.1 (named_start e) refl in
-      let le = first.1 in
-      let lt = chosen.1 in
-      (chosen.0, omega arith, (q, e, (first.2.1, first.2.2, first.3), chosen.2))
+  start_of t p acts = let s = has_start h t (p, acts) in (s.0, start_below h wf t s.0 p s.1 acts, s.1)
 
 -- when a committed transaction starts and commits
 pub record Span (h : List Event) (t : ℕ) : Type 0 where
@@ -110,9 +63,9 @@ module _ (h : List Event) (wf : IsWellFormed h) where
       omega arith
 
   pub commits_before_decided : (t u : ℕ) → Decided (CommitsBefore h t u)
-  commits_before_decided t u = elim (committed_decided h t) [
+  commits_before_decided t u = elim (committed_or_not h t) [
     | inr fails ↦ inr (λ b. fails (b.0, b.2))
-    | inl c ↦ elim (committed_decided h u) [
+    | inl c ↦ elim (committed_or_not h u) [
       | inr fails ↦ inr (λ b. fails (b.1, b.3))
       | inl d ↦ elim (cases_lt c.0 d.0) [
         | inl less ↦ inl (c.0, d.0, c.1, d.1, less)
@@ -130,12 +83,3 @@ module _ (h : List Event) (wf : IsWellFormed h) where
       | inr least ↦ inl (same_committer h t u c.0 d.0 (omega arith) c.1 d.1)
     ]
   ]
-
-  pub not_before_itself : (t : ℕ) → ¬ CommitsBefore h t t
-  not_before_itself t b = let l = commits_lt t t b.0 b.0 b.2 b.2 b in omega arith
-
-  pub before_trans : (t u w : ℕ) → CommitsBefore h t u → CommitsBefore h u w → CommitsBefore h t w
-  before_trans t u w a b =
-      let l = a.4 in
-      let m : a.1 < b.1 = commits_lt u w a.1 b.1 a.3 b.3 b in
-      (a.0, b.1, a.2, b.3, omega arith)

@@ -11,8 +11,11 @@ use Rattle.sia_events.specs.Dependencies.{WwEdge, WrEdge, RwEdge, HasEdge}
 use Rattle.sia_events.specs.DangerousStructures.{IsVulnerable, NoFirst}
 use Rattle.sia_events.specs.Replay.{IsOrder, Keeps}
 use Rattle.sia_events.proofs.WellFormed.{one_commit}
-use Rattle.sia_graph.proofs.Deciding.{Decided, both_decided, either_decided, le_decided, committed_decided}
-use Rattle.sia_graph.proofs.Facts.{one_start, same_committer, committed_positive, Span, span_of, sees_le, commits_lt}
+use Rattle.sia_events.proofs.Decisions.{Decided, both}
+use Rattle.sia_events.proofs.Starts.{one_start}
+use Rattle.sia_events.proofs.TransactionDecisions.{committed_or_not}
+use Rattle.sia_graph.proofs.Deciding.{either_decided, le_decided}
+use Rattle.sia_graph.proofs.Facts.{same_committer, committed_positive, Span, span_of, sees_le, commits_lt}
 use Rattle.sia_graph.proofs.Due.{saw_due}
 use Rattle.sia_graph.proofs.RwDecided.{rw_decided}
 use Rattle.sia_graph.proofs.ReadyOrders.{In, IsFed}
@@ -40,8 +43,8 @@ module _ (h : List Event) (wf : IsWellFormed h) where
 
   vulnerable_decided : (t u : ℕ) → Span h t → Span h u → Decided (IsVulnerable h t u)
   vulnerable_decided t u a b =
-      elim (both_decided (Overlap h t u) ((k : ℕ) × RwEdge h t u k)
-      (both_decided (StartsBeforeCommit h t u) (StartsBeforeCommit h u t) (starts_before_decided t u a b) (starts_before_decided u t b a))
+      elim (both (Overlap h t u) ((k : ℕ) × RwEdge h t u k)
+      (both (StartsBeforeCommit h t u) (StartsBeforeCommit h u t) (starts_before_decided t u a b) (starts_before_decided u t b a))
       (rw_decided h wf t u)) [
         | inl w ↦ inl (w.0, w.1.0, w.1.1)
         | inr fails ↦ inr (λ v. fails (v.0, (v.1, v.2)))
@@ -52,7 +55,7 @@ module _ (h : List Event) (wf : IsWellFormed h) where
   Follows t u = IsCommitted h t × IsCommitted h u × (Sees h u t ⊎ IsVulnerable h t u)
 
   follows_decided : (t u : ℕ) → Decided (Follows t u)
-  follows_decided t u = by_parts (committed_decided h t) (committed_decided h u)
+  follows_decided t u = by_parts (committed_or_not h t) (committed_or_not h u)
     where
       by_parts : Decided (IsCommitted h t) → Decided (IsCommitted h u) → Decided (Follows t u)
       by_parts (inr fails) d = inr (λ f. fails f.0)
@@ -185,7 +188,7 @@ module _ (h : List Event) (wf : IsWellFormed h) where
               let l = newest.1 u sees.1 seen.1 (e.2.0, sees) sees.3 seen.3 in
               elim (e.8) [
                 | inl zero_first ↦ let m = committed_positive h wf e.4 (seen.1, seen.3) in let z = zero_first.0 in omega arith
-                | inr both ↦ let m = commits_lt h wf e.4 u seen.1 sees.1 seen.3 sees.3 both.2 in omega arith
+                | inr later ↦ let m = commits_lt h wf e.4 u seen.1 sees.1 seen.3 sees.3 later.2 in omega arith
               ]
         ]
 

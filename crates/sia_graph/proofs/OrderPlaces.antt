@@ -7,7 +7,7 @@ use Rattle.sia_events.specs.declared.event.Event.TheVariants.{Begin, Read, Range
 use Rattle.sia_events.specs.Replay.{StandsBefore, IsOrder}
 use Rattle.sia_events.specs.Places.{at_place}
 use Rattle.sia_events.specs.Transactions.{IsCommitted}
-use Rattle.sia_graph.proofs.Deciding.{Decided}
+use Rattle.sia_events.proofs.Decisions.{Decided}
 use Rattle.sia_graph.proofs.ReadyOrders.{In, IsAhead, IsOnce, IsFed, order_among}
 
 in_contains : (t : ℕ) (xs : List ℕ) → In t xs → Contains xs t

@@ -2,7 +2,7 @@
 use Rattle.std.proofs.Common.{◌≡◌, ◌≢◌, ◌⊎◌, inl, inr, ℕ, zero, suc, ◌<◌, ◌≤◌, List, [], ◌∷◌, length, refl, sym, subst, ◌∙◌, arith}
 use Rattle.std.specs.Prelude.{⊤}
 use Rattle.std.proofs.lemmas.Bool.{cases_eq}
-use Rattle.sia_graph.proofs.Deciding.{Decided}
+use Rattle.sia_events.proofs.Decisions.{Decided}
 
 -- t is a member of the list
 abbrev pub In : ℕ → List ℕ → Type 0

@@ -14,8 +14,11 @@ use Rattle.sia_events.specs.Dependencies.{IsVersionBefore, WwEdge, WrEdge, RwEdg
 use Rattle.sia_events.specs.Replay.{IsOrder, StandsBefore, Keeps, Replays, MayFollow}
 use Rattle.sia_events.specs.Laws.{ReplayLaw}
 use Rattle.sia_events.proofs.WellFormed.{seen_was_written}
-use Rattle.sia_graph.proofs.Deciding.{least_below, inside_decided, is_write, committed_decided}
-use Rattle.sia_graph.proofs.Facts.{committed_positive, writer_positive, commit_cases, not_before_itself, before_trans}
+use Rattle.sia_events.proofs.Decisions.{first_below}
+use Rattle.sia_events.proofs.TransactionDecisions.{committed_or_not}
+use Rattle.sia_events.proofs.Versions.{commits_not_before_itself, commits_before_both}
+use Rattle.sia_graph.proofs.Deciding.{inside_decided, is_write}
+use Rattle.sia_graph.proofs.Facts.{committed_positive, writer_positive, commit_cases}
 use Rattle.sia_graph.proofs.Found.{IsLastWriter, IsFound, IsRight, replay_right, right_replay}
 
 module _ (h : List Event) (wf : IsWellFormed h) (order : List ℕ) (is_order : IsOrder h order) where
@@ -109,7 +112,7 @@ module _ (h : List Event) (wf : IsWellFormed h) (order : List ℕ) (is_order : I
         let other : v ≢ t = λ e. before.0 (subst (λ x. WroteBefore h x k p) e (seen_written p t k v saw (λ z. omega arith))) in
         elim (cases_eq v 0) [
           | inl unwritten ↦ read_right j t p k v f at saw other (inl unwritten) before.1
-          | inr some_version ↦ elim (committed_decided h v) [
+          | inr some_version ↦ elim (committed_or_not h v) [
             | inl c ↦ read_right j t p k v f at saw other (inr c) before.1
             | inr open_version ↦ absurd (explained p t k v (committed_at t j at, saw, inr (some_version, other, open_version)))
           ]
@@ -164,7 +167,7 @@ module _ (h : List Event) (wf : IsWellFormed h) (order : List ℕ) (is_order : I
 
     -- a writer's first write of a key
     first_write : (u k : ℕ) → Wrote h u k → (p : ℕ) × (at_place h p ≡ Some (Write u k)) × ¬ WroteBefore h u k p
-    first_write u k wrote = elim (least_below (λ p. (e : Event) × (at_place h p ≡ Some e) × (e ≡ Write u k)) (λ p. inside_decided (λ e. e ≡ Write u k) (is_write u k) (at_place h p)) (suc wrote.0)) [
+    first_write u k wrote = elim (first_below (λ p. (e : Event) × (at_place h p ≡ Some e) × (e ≡ Write u k)) (λ p. inside_decided (λ e. e ≡ Write u k) (is_write u k) (at_place h p)) (suc wrote.0)) [
       | inl w ↦ (w.0, w.2.1 ∙ ap Some w.2.2, λ before. let l = w.3 before.0 (Write u k, before.2, refl) in let m = before.1 in omega arith)
       | inr none ↦ absurd (none wrote.0 (omega arith) (Write u k, wrote.1, refl))
     ]
@@ -194,7 +197,7 @@ module _ (h : List Event) (wf : IsWellFormed h) (order : List ℕ) (is_order : I
             let last = found_before k u j f w.0 w.1 w.2 b w.3 follows in
             elim (cases_order i w.0) [
               | inl same ↦ subst (λ x. CommitsBefore h x u) (same_Some f t (sym w.2 ∙ ap (slice_get order) (sym same) ∙ a)) last
-              | inr (inl fewer) ↦ before_trans h wf t f u (rest f w.0 w.1 w.2 w.3 fewer) last
+              | inr (inl fewer) ↦ commits_before_both h wf t f u (rest f w.0 w.1 w.2 w.3 fewer) last
               | inr (inr more) ↦ absurd (w.4 i t more less a wrote_t)
             ]
 
@@ -206,11 +209,11 @@ module _ (h : List Event) (wf : IsWellFormed h) (order : List ℕ) (is_order : I
         elim (cases_order a.0 b.0) [
           | inl same ↦
               let one : t ≡ u = same_Some t u (sym a.1 ∙ ap (slice_get order) same ∙ b.1) in
-              absurd (not_before_itself h wf u (subst (λ x. CommitsBefore h x u) one before))
+              absurd (commits_not_before_itself h wf u (subst (λ x. CommitsBefore h x u) one before))
           | inr (inl less) ↦ (a.0, b.0, less, a.1, b.1)
           | inr (inr more) ↦
               let after = commit_in_turn (suc a.0) k u t b.0 a.0 (omega arith) b.1 a.1 e.1 e.0 more in
-              absurd (not_before_itself h wf t (before_trans h wf t u t before after))
+              absurd (commits_not_before_itself h wf t (commits_before_both h wf t u t before after))
         ]
 
     wr_kept : (k t u : ℕ) → WrEdge h t u k → StandsBefore order t u

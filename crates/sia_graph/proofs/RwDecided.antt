@@ -10,13 +10,15 @@ use Rattle.sia_events.specs.Events.{actor, Saw}
 use Rattle.sia_events.specs.Refusals.{IsWellFormed}
 use Rattle.sia_events.specs.Transactions.{IsCommitted, Wrote, CommitsBefore}
 use Rattle.sia_events.specs.Dependencies.{IsCommittedWriter, IsVersionBefore, RwEdge}
-use Rattle.sia_graph.proofs.Deciding.{Decided, both_decided, three_decided, either_decided, not_decided, le_decided, element_decided, event_decided, committed_decided, wrote_decided}
+use Rattle.sia_events.proofs.Decisions.{Decided, both}
+use Rattle.sia_events.proofs.TransactionDecisions.{committed_or_not, wrote_or_not}
+use Rattle.sia_graph.proofs.Deciding.{three_decided, either_decided, not_decided, le_decided, element_decided, event_decided}
 use Rattle.sia_graph.proofs.Facts.{commits_before_decided}
 
 module _ (Good : ℕ → Type 0) (decide : (v : ℕ) → Decided (Good v)) (k : ℕ) where
   -- k is listed at a good version
   listed_decided : (listed : List (ℕ × ℕ)) → Decided ((v : ℕ) × Contains listed (k, v) × Good v)
-  listed_decided listed = elim (element_decided (λ p. (p.0 ≡ k) × Good p.1) (λ p. both_decided (p.0 ≡ k) (Good p.1) (cases_eq p.0 k) (decide p.1)) listed) [
+  listed_decided listed = elim (element_decided (λ p. (p.0 ≡ k) × Good p.1) (λ p. both (p.0 ≡ k) (Good p.1) (cases_eq p.0 k) (decide p.1)) listed) [
     | inl w ↦
         let p = w.1 in
         let here : p.0 ≡ k = w.3.0 in
@@ -41,7 +43,7 @@ module _ (Good : ℕ → Type 0) (decide : (v : ℕ) → Decided (Good v)) (k : 
   saw_decided (Write t key) = inr (λ w. w.1)
   saw_decided (Commit t) = inr (λ w. w.1)
   saw_decided (Abort t) = inr (λ w. w.1)
-  saw_decided (Read t key saw) = elim (both_decided (k ≡ key) (Good saw) (cases_eq k key) (decide saw)) [
+  saw_decided (Read t key saw) = elim (both (k ≡ key) (Good saw) (cases_eq k key) (decide saw)) [
     | inl w ↦ inl (saw, (w.0, refl), w.1)
     | inr fails ↦ inr (λ w. fails (w.1.0, subst Good w.1.1 w.2))
   ]
@@ -52,8 +54,8 @@ module _ (h : List Event) (wf : IsWellFormed h) where
   pub version_before_decided : (k v w : ℕ) → Decided (IsVersionBefore h k v w)
   version_before_decided k v w =
       either_decided ((v ≡ 0) × IsCommittedWriter h k w) (Wrote h v k × Wrote h w k × CommitsBefore h v w)
-      (both_decided (v ≡ 0) (IsCommittedWriter h k w) (cases_eq v 0) (both_decided (Wrote h w k) (IsCommitted h w) (wrote_decided h w k) (committed_decided h w)))
-      (three_decided (Wrote h v k) (Wrote h w k) (CommitsBefore h v w) (wrote_decided h v k) (wrote_decided h w k) (commits_before_decided h wf v w))
+      (both (v ≡ 0) (IsCommittedWriter h k w) (cases_eq v 0) (both (Wrote h w k) (IsCommitted h w) (wrote_or_not h w k) (committed_or_not h w)))
+      (three_decided (Wrote h v k) (Wrote h w k) (CommitsBefore h v w) (wrote_or_not h v k) (wrote_or_not h w k) (commits_before_decided h wf v w))
 
   module _ (t u : ℕ) where
     -- a version of k before u's that isn't t's own
@@ -63,7 +65,7 @@ module _ (h : List Event) (wf : IsWellFormed h) where
     earlier_decided : (k v : ℕ) → Decided (IsEarlier k v)
     earlier_decided k v =
         three_decided ((v ≡ 0) ⊎ IsCommitted h v) (v ≢ t) (IsVersionBefore h k v u)
-        (either_decided (v ≡ 0) (IsCommitted h v) (cases_eq v 0) (committed_decided h v))
+        (either_decided (v ≡ 0) (IsCommitted h v) (cases_eq v 0) (committed_or_not h v))
         (not_decided (v ≡ t) (cases_eq v t)) (version_before_decided k v u)
 
     -- t saw such a version
@@ -72,13 +74,13 @@ module _ (h : List Event) (wf : IsWellFormed h) where
 
     saw_earlier_decided : (k : ℕ) → Decided (SawEarlier k)
     saw_earlier_decided k = event_decided (λ e. (actor e ≡ t) × ((v : ℕ) × Saw e k v × IsEarlier k v))
-        (λ e. both_decided (actor e ≡ t) ((v : ℕ) × Saw e k v × IsEarlier k v) (cases_eq (actor e) t) (saw_decided (IsEarlier k) (earlier_decided k) k e)) h
+        (λ e. both (actor e ≡ t) ((v : ℕ) × Saw e k v × IsEarlier k v) (cases_eq (actor e) t) (saw_decided (IsEarlier k) (earlier_decided k) k e)) h
 
     abbrev WritesSeen : Event → Type 0
     WritesSeen e = (k : ℕ) × (e ≡ Write u k) × SawEarlier k
 
     writes_seen_decided : (e : Event) → Decided (WritesSeen e)
-    writes_seen_decided (Write w k) = elim (both_decided (w ≡ u) (SawEarlier k) (cases_eq w u) (saw_earlier_decided k)) [
+    writes_seen_decided (Write w k) = elim (both (w ≡ u) (SawEarlier k) (cases_eq w u) (saw_earlier_decided k)) [
       | inl found ↦ inl (k, ap (λ x. Write x k) found.0, found.1)
       | inr fails ↦ inr (λ c. let e = c.1 in let a : w ≡ u = cc in let b : c.0 ≡ k = cc in fails (a, subst SawEarlier b c.2))
     ]
@@ -86,7 +88,7 @@ module _ (h : List Event) (wf : IsWellFormed h) where
 
     pub rw_decided : Decided ((k : ℕ) × RwEdge h t u k)
     rw_decided =
-        by_parts (cases_eq t u) (committed_decided h t) (committed_decided h u) (event_decided WritesSeen writes_seen_decided h)
+        by_parts (cases_eq t u) (committed_or_not h t) (committed_or_not h u) (event_decided WritesSeen writes_seen_decided h)
       where
         by_parts : Decided (t ≡ u) → Decided (IsCommitted h t) → Decided (IsCommitted h u) → Decided ((p : ℕ) × (e : Event) × (at_place h p ≡ Some e) × WritesSeen e) → Decided ((k : ℕ) × RwEdge h t u k)
         by_parts (inl same) c d w = inr (λ r. r.1.0 same)
