@@ -1,5 +1,5 @@
 -- What is found at the keys of the parts of a cutting, all together.
-use Rattle.std.proofs.Common.{◌≡◌, ℕ, zero, suc, ◌<◌, ◌^◌, List, [], ◌∷◌, length, get_or, map, refl, ap, sym, subst, arith}
+use Rattle.std.proofs.Common.{◌≡◌, ℕ, zero, suc, ◌<◌, ◌^◌, List, [], ◌∷◌, ◌++◌, length, get_or, map, refl, ap, sym, subst, arith}
 use Rattle.std.specs.List.{AllZip}
 use Rattle.std.specs.Prelude.{Contains, ⊤}
 use Rattle.std.proofs.lemmas.List.Elements.{Contains-get_or}
@@ -15,6 +15,12 @@ AllZip-map R S f to [] [] z = tt
 AllZip-map R S f to [] (y ∷ ys) z = absurd z
 AllZip-map R S f to (x ∷ xs) [] z = absurd z
 AllZip-map R S f to (x ∷ xs) (y ∷ ys) z = (to x y z.0, AllZip-map R S f to xs ys z.1)
+
+pub AllZip-one_more : {A B : Type 0} (R : A → B → Type 0) (xs : List A) (ys : List B) (x : A) (y : B) → AllZip R xs ys → R x y → AllZip R (xs ++ x ∷ []) (ys ++ y ∷ [])
+AllZip-one_more R [] [] x y z r = (r, tt)
+AllZip-one_more R [] (v ∷ ys) x y z r = absurd z
+AllZip-one_more R (u ∷ xs) [] x y z r = absurd z
+AllZip-one_more R (u ∷ xs) (v ∷ ys) x y z r = (z.0, AllZip-one_more R xs ys x y z.1 r)
 
 length_zip : {A B : Type 0} (R : A → B → Type 0) (xs : List A) (ys : List B) → AllZip R xs ys → length xs ≡ length ys
 length_zip R [] [] z = refl

@@ -1,6 +1,11 @@
 //! Findings of small histories without a cut, worked out by hand from the definitions.
+ghost use Rattle.std.specs.Prelude.{◌≡◌, IfOk};
+ghost use Rattle.std.specs.List.{AllZip};
+ghost use Rattle.sia_parts.specs.Findings.{ArePartFindings};
+
 use crate::*;
-use sia_events::{Key, TxnId, Version, read_history};
+use sia_events::{History, Key, TxnId, Version, read_history};
+use sia_index::Index;
 use sia_index::make::index;
 use std::alloc::Global;
 use std::process::Abort;
@@ -60,18 +65,48 @@ pub fn findings_of(alloc: Global, text: &[u8], points: &[Key]) -> Result<Finding
         .ok()
         .ok_or("the text is a history")?;
     let index = index(alloc, &history).ok().ok_or("memory for an index")?;
-    let parts = cut(alloc, points).ok().ok_or("the points cut")?;
-    let mut found = Vec::new(alloc);
+    let findings = gathered(alloc, &history, &index, points)?;
+    Ok(findings)
+}
+
+// The findings of the history by its index, part by part of the cutting and gathered.
+fn gathered(alloc: Global, h: &History, ix: &Index, points: &[Key]) -> Result<Findings, Fail>
+    requires { ix.now ≡ h.now }
+{
     // The length tells that the history is well-formed.
-    let _ = history.len();
-    for part in &parts {
-        let audit = audit_part(alloc, &history, &index, *part)
-            .ok()
-            .ok_or("memory for a part")?;
-        found.push(audit)?;
-    }
+    let _ = h.len();
+    let parts = cut(alloc, points).ok().ok_or("the points cut")?;
+    let found = audited(alloc, h, ix, &parts)?;
     let findings = gather(alloc, found).ok().ok_or("memory for all parts")?;
     Ok(findings)
+}
+
+// The findings of each part, in order.
+fn audited(
+    alloc: Global,
+    h: &History,
+    ix: &Index,
+    parts: &[Part],
+) -> Result<Vec<PartFindings>, Fail>
+    requires { ix.now ≡ h.now }
+    ensures { IfOk result (λ found. AllZip (ArePartFindings h.now) parts.now found.items) }
+{
+    let mut found = Vec::new(alloc);
+    for part in parts {
+        let audit = audited_part(alloc, h, ix, *part)?;
+        found.push(audit)?;
+    }
+    Ok(found)
+}
+
+fn audited_part(alloc: Global, h: &History, ix: &Index, part: Part) -> Result<PartFindings, Fail>
+    requires { ix.now ≡ h.now }
+    ensures { IfOk result (ArePartFindings h.now part) }
+{
+    match audit_part(alloc, h, ix, part) {
+        Ok(found) => Ok(found),
+        Err(_) => Err(Fail::from("memory for a part")),
+    }
 }
 
 /// That the findings of the history of the text, cut at the points, are those that are wanted.
