@@ -1,5 +1,5 @@
 -- What the reads of a part give: its bad reads, its spans and its unexplained reads.
-use Rattle.std.proofs.Common.{◌≡◌, ◌≢◌, ◌⊎◌, inl, inr, ℕ, ◌<◌, ◌≤◌, List, Some, length, get_or, refl, ap, sym, subst, ◌∙◌, arith}
+use Rattle.std.proofs.Common.{◌≡◌, ◌≢◌, ◌⊎◌, inl, inr, ℕ, ◌<◌, ◌≤◌, List, Some, length, get_or, refl, sym, subst, ◌∙◌, arith}
 use Rattle.std.specs.Prelude.{◌↔◌, Contains}
 use Rattle.std.proofs.lemmas.Bool.{cases_eq}
 use Rattle.std.proofs.lemmas.List.Elements.{Contains-get_or}
@@ -8,14 +8,14 @@ use Rattle.sia_events.specs.declared.event.Event.TheVariants.{Begin, Read, Range
 use Rattle.sia_events.specs.Places.{at_place}
 use Rattle.sia_events.specs.Events.{actor, Saw}
 use Rattle.sia_events.specs.Refusals.{IsWellFormed}
-use Rattle.sia_events.specs.Transactions.{IsCommitted, CommitsAt, HasEvent, Wrote, WroteBefore}
+use Rattle.sia_events.specs.Transactions.{CommitsAt, Wrote}
 use Rattle.sia_events.specs.Reads.{SawAt, IsDue, IsNewestVisible, IsVisible}
 use Rattle.sia_events.specs.Isolation.{IsBadRead, IsUnexplained}
 use Rattle.sia_events.proofs.Due.{has_due}
 use Rattle.sia_events.proofs.Seen.{saw_written}
 use Rattle.sia_index.specs.declared.info.ItemRead.{ItemRead}
 use Rattle.sia_index.specs.declared.info.RangeRead.{RangeRead}
-use Rattle.sia_index.specs.Info.{IsItemRead, AreReadsWithin, AreRangesMeeting}
+use Rattle.sia_index.specs.Info.{AreReadsWithin, AreRangesMeeting}
 use Rattle.sia_parts.specs.declared.cutting.Part.{Part}
 use Rattle.sia_parts.specs.declared.finding.BadRead.{BadRead}
 use Rattle.sia_parts.specs.declared.finding.Unexplained.{Unexplained}
@@ -23,7 +23,7 @@ use Rattle.sia_parts.specs.declared.sights.Sight.{Sight}
 use Rattle.sia_parts.specs.declared.spans.Span.{Span}
 use Rattle.sia_parts.specs.Findings.{ListsBadReads}
 use Rattle.sia_parts.specs.Parts.{IsInPart}
-use Rattle.sia_parts.specs.Sights.{FromSome, FromSight, IsSight, IsRangeSight, IsBadOf, IsSpanOf, Looked, AreSpans, IsInSpan, IsUnexplainedOf, read_sight, bad_sight}
+use Rattle.sia_parts.specs.Sights.{FromSome, FromSight, IsSight, IsRangeSight, IsBadOf, IsSpanOf, Looked, AreSpans, IsUnexplainedOf, read_sight, bad_sight}
 use Rattle.sia_parts.proofs.Saw.{read_is_sight}
 
 module _ (h : List Event) (wf : IsWellFormed h) (part : Part) (reads : List ItemRead) (ranges : List RangeRead) (reads_are : AreReadsWithin h part.lo part.hi reads) (ranges_are : AreRangesMeeting h part.lo part.hi ranges) where

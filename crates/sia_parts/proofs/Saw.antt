@@ -1,34 +1,29 @@
 -- What reads saw of keys: the sights of read events and of range reads.
-use Rattle.std.proofs.Common.{◌≡◌, ◌≢◌, ◌⊎◌, inl, inr, ℕ, ◌<◌, ◌≤◌, List, [], ◌∷◌, length, map, get_or, Option, Some, None, refl, ap, sym, subst, ◌∙◌, arith}
-use Rattle.std.specs.Prelude.{◌↔◌, All, Contains, MatchOption}
+use Rattle.std.proofs.Common.{◌≡◌, ◌≢◌, inl, inr, ℕ, ◌<◌, ◌≤◌, List, length, map, get_or, Option, Some, None, refl, ap, sym, subst, ◌∙◌, arith}
+use Rattle.std.specs.Prelude.{All, Contains, MatchOption}
 use Rattle.std.specs.List.Sorted.{IsStrictlyIncreasing}
 use Rattle.std.proofs.lemmas.List.{get_or-map, get_or_default, length-map}
 use Rattle.std.proofs.lemmas.List.Elements.{All-contains}
 use Rattle.std.proofs.lemmas.List.Kept.{AllPairs-from_increasing}
 use Rattle.sia_events.specs.declared.event.Event.{Event}
-use Rattle.sia_events.specs.declared.event.Event.TheVariants.{Begin, Read, Range, Write, Commit, Abort}
+use Rattle.sia_events.specs.declared.event.Event.TheVariants.{Read, Range}
 use Rattle.sia_events.specs.Places.{at_place}
-use Rattle.sia_events.specs.Events.{actor, Saw}
+use Rattle.sia_events.specs.Events.{Saw}
 use Rattle.sia_events.specs.Refusals.{IsWellFormed}
-use Rattle.sia_events.specs.Transactions.{IsCommitted, CommitsAt, AbortsAt, Wrote}
-use Rattle.sia_events.specs.Reads.{SawAt, IsDue}
-use Rattle.sia_events.specs.Isolation.{IsBadRead, IsUnexplained}
+use Rattle.sia_events.specs.Transactions.{IsCommitted, CommitsAt, Wrote}
+use Rattle.sia_events.specs.Reads.{IsDue}
 use Rattle.sia_events.proofs.Due.{one_due}
-use Rattle.sia_events.proofs.Endings.{one_end}
-use Rattle.sia_events.proofs.Ranges.{one_listed, list_in_order}
-use Rattle.sia_events.proofs.Seen.{saw_written}
+use Rattle.sia_events.proofs.Ranges.{one_listed}
 use Rattle.sia_events.proofs.Starts.{one_event}
 use Rattle.sia_index.specs.declared.info.ItemRead.{ItemRead}
 use Rattle.sia_index.specs.declared.info.RangeRead.{RangeRead}
-use Rattle.sia_index.specs.declared.info.Fate.TheVariants.{Committed, Aborted, Unfinished}
-use Rattle.sia_index.specs.Info.{EndsAs, IsItemRead, IsRangeRead, AreReadsWithin, AreRangesMeeting, AreWrittenWithin}
+use Rattle.sia_index.specs.Info.{IsItemRead, AreWrittenWithin}
 use Rattle.sia_index.proofs.Ordered.{AscendsBy}
 use Rattle.sia_parts.specs.declared.cutting.Part.{Part}
 use Rattle.sia_parts.specs.declared.finding.BadRead.{BadRead}
 use Rattle.sia_parts.specs.declared.sights.Sight.{Sight}
 use Rattle.sia_parts.specs.declared.spans.Span.{Span}
-use Rattle.sia_parts.specs.Parts.{IsInPart}
-use Rattle.sia_parts.specs.Sights.{Adds, FromSome, FromSight, IsSight, IsKeySight, IsRangeSight, IsListed, IsBadOf, IsAsOf, IsSpanOf, Looked, AreSpans, IsInSpan, read_sight, bad_sight}
+use Rattle.sia_parts.specs.Sights.{Adds, FromSome, FromSight, IsSight, IsKeySight, IsRangeSight, IsListed, IsBadOf, IsAsOf, IsSpanOf, read_sight}
 use Rattle.sia_parts.proofs.Adding.{adds_same}
 use Rattle.sia_parts.proofs.Sources.{one_as_of}
 

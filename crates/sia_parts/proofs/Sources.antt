@@ -1,17 +1,13 @@
 -- Where the findings of a part come from: pairs of versions, spans with versions, and sights.
-use Rattle.std.proofs.Common.{◌≡◌, ◌≢◌, ◌⊎◌, inl, inr, ℕ, ◌+◌, ◌<◌, ◌≤◌, ◌^◌, List, [], ◌∷◌, Some, refl, ap, sym, subst, ◌∙◌, arith}
-use Rattle.std.specs.Prelude.{◌↔◌, All, AllPairs, Contains}
-use Rattle.std.proofs.lemmas.Bool.{cases_eq, cases_lt}
-use Rattle.std.proofs.lemmas.List.Elements.{All-contains, Contains-get_or}
+use Rattle.std.proofs.Common.{◌≡◌, ◌≢◌, ◌⊎◌, inl, inr, ℕ, ◌<◌, ◌≤◌, List, refl, ap, sym, subst, ◌∙◌, arith}
+use Rattle.std.specs.Prelude.{◌↔◌, Contains}
+use Rattle.std.proofs.lemmas.Bool.{cases_eq}
 use Rattle.sia_events.specs.declared.event.Event.{Event}
-use Rattle.sia_events.specs.declared.event.Event.TheVariants.{Begin, Read, Range, Write, Commit, Abort}
-use Rattle.sia_events.specs.Places.{at_place}
-use Rattle.sia_events.specs.Events.{actor, Saw}
+use Rattle.sia_events.specs.declared.event.Event.TheVariants.{Commit}
 use Rattle.sia_events.specs.Refusals.{IsWellFormed}
-use Rattle.sia_events.specs.Transactions.{IsCommitted, CommitsAt, StartsAt, Wrote, WroteBefore, CommitsBefore, StartsBeforeCommit, HasEvent}
-use Rattle.sia_events.specs.Reads.{SawAt, IsDue}
-use Rattle.sia_events.specs.Isolation.{IsBadRead, IsBadWrite, IsUnexplained}
-use Rattle.sia_events.specs.Dependencies.{IsCommittedWriter, IsVersionBefore, WwEdge, WrEdge, RwEdge}
+use Rattle.sia_events.specs.Transactions.{IsCommitted, CommitsAt, StartsAt, Wrote, HasEvent}
+use Rattle.sia_events.specs.Isolation.{IsBadWrite}
+use Rattle.sia_events.specs.Dependencies.{IsVersionBefore, WwEdge, WrEdge, RwEdge}
 use Rattle.sia_events.proofs.WellFormed.{one_commit}
 use Rattle.sia_events.proofs.Endings.{one_committer}
 use Rattle.sia_events.proofs.Starts.{one_start}
@@ -19,21 +15,16 @@ use Rattle.sia_events.proofs.Seen.{saw_written, actor_is_txn}
 use Rattle.sia_events.proofs.Versions.{writer_not_zero}
 use Rattle.sia_events.proofs.TransactionDecisions.{place_within}
 use Rattle.sia_index.specs.declared.info.Made.{Made}
-use Rattle.sia_index.specs.declared.info.ItemRead.{ItemRead}
-use Rattle.sia_index.specs.declared.info.RangeRead.{RangeRead}
-use Rattle.sia_index.specs.Info.{IsMade, AreVersions, IsItemRead, IsRangeRead, AreWrittenWithin, AreReadsWithin, AreRangesMeeting}
+use Rattle.sia_index.specs.Info.{IsMade, AreVersions, AreWrittenWithin}
 use Rattle.sia_parts.specs.declared.cutting.Part.{Part}
-use Rattle.sia_parts.specs.declared.finding.BadRead.{BadRead}
 use Rattle.sia_parts.specs.declared.finding.BadWrite.{BadWrite}
-use Rattle.sia_parts.specs.declared.finding.Unexplained.{Unexplained}
 use Rattle.sia_parts.specs.declared.finding.Edge.{Edge}
 use Rattle.sia_parts.specs.declared.finding.Kind.{Kind}
 use Rattle.sia_parts.specs.declared.finding.Kind.TheVariants.{Ww, Wr, Rw}
-use Rattle.sia_parts.specs.declared.sights.Sight.{Sight}
 use Rattle.sia_parts.specs.declared.spans.Span.{Span}
 use Rattle.sia_parts.specs.Entries.{EdgeOfKind, IsEdge}
 use Rattle.sia_parts.specs.Parts.{IsInPart}
-use Rattle.sia_parts.specs.Sights.{Adds, FromSome, FromSight, FromPair, FromMade, KeyPair, IsSight, IsBadOf, IsAsOf, Looked, IsSpanOf, IsInSpan, Widens, IsJoined, IsWrEdge, IsRwEdge, IsSpanEdge, IsPairEdge, IsLateBad, IsPairBad, IsRangeSight, AscendsByCommit, read_sight, AreSpans}
+use Rattle.sia_parts.specs.Sights.{Adds, FromSome, FromPair, FromMade, KeyPair, IsAsOf, Looked, Widens, IsWrEdge, IsRwEdge, IsSpanEdge, IsPairEdge, IsLateBad, IsPairBad, AscendsByCommit, AreSpans}
 use Rattle.sia_parts.proofs.Adding.{adds_same, adds_both, adds_nothing}
 
 -- what pairs of a key's versions give

@@ -1,5 +1,5 @@
 -- How the findings of a part come about: from pairs of a key's versions, and from what reads saw of a key.
-use Rattle.std.specs.Prelude.{◌≡◌, ◌≢◌, ◌⊎◌, ◌↔◌, ℕ, ◌<◌, ◌≤◌, List, [], ◌∷◌, AllPairs, Contains}
+use Rattle.std.specs.Prelude.{◌≡◌, ◌≢◌, ◌⊎◌, ◌↔◌, ℕ, ◌<◌, ◌≤◌, List, AllPairs, Contains}
 use Rattle.sia_events.specs.declared.event.Event.{Event}
 use Rattle.sia_events.specs.Transactions.{IsCommitted, CommitsAt, StartsAt, Wrote}
 use Rattle.sia_events.specs.Reads.{SawAt}

@@ -1,5 +1,5 @@
 -- The list holds the bad writes at the keys of the part, and is put in order.
-use Rattle.std.proofs.Common.{[], subst}
+use Rattle.std.proofs.Common.{subst}
 use Rattle.sia_events.specs.Isolation.{IsBadWrite}
 use Rattle.sia_parts.specs.declared.finding.BadWrite.{BadWrite}
 use Rattle.sia_parts.specs.Entries.{bad_write_rank}

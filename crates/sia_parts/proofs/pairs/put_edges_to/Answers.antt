@@ -1,5 +1,5 @@
 -- Each version adds its edge.
-use Rattle.std.proofs.Common.{refl, sym, arith}
+use Rattle.std.proofs.Common.{refl, sym}
 use Rattle.sia_parts.specs.Sights.{IsPairEdge}
 use Rattle.sia_parts.proofs.Adding.{adds_push, from_none, from_more, from_all}
 use Rattle.sia_parts.proofs.pairs.put_edges_to.Goals as goal

@@ -1,5 +1,4 @@
 -- Version 0 is as of 0, and that of a transaction as of its commit.
-use Rattle.std.proofs.Common.{refl, inl, inr}
 use Rattle.sia_parts.proofs.Saw.{as_of_zero, as_of_commit}
 use Rattle.sia_parts.proofs.sights.as_of.Goals as goal
 

@@ -1,10 +1,6 @@
 -- Each span grows the last one, or is the last one from then on.
-use Rattle.std.proofs.Common.{[], ◌∷◌, ◌≡◌, ◌++◌, sym, subst, ap, rules, arith}
-use Rattle.std.specs.Prelude.{length}
-use Rattle.std.proofs.lemmas.List.Elements.{Contains-get_or}
 use Rattle.sia_parts.specs.declared.spans.Span.{Span}
-use Rattle.sia_parts.specs.Sights.{Widens}
-use Rattle.sia_parts.proofs.Joins.{JoinedSoFar, joins_none, joins_first, joins_grown, joins_next, joins_all, first_of, none_of}
+use Rattle.sia_parts.proofs.Joins.{joins_none, joins_first, joins_grown, joins_next, joins_all, first_of, none_of}
 use Rattle.sia_parts.proofs.spans.join_neighbours.Goals as goal
 use Rattle.sia_parts.proofs.spans.join_neighbours.Goals.{in-Some-join, in-None+in_ok-push-in-None}
 

@@ -1,6 +1,5 @@
 -- The spans so far, joined, of which the last may grow.
-use Rattle.std.proofs.Common.{take, [], ◌∷◌, ◌++◌}
-use Rattle.sia_parts.specs.declared.spans.Span.{Span}
+use Rattle.std.proofs.Common.{[], ◌∷◌, ◌++◌}
 use Rattle.sia_parts.proofs.Joins.{JoinedSoFar}
 use Rattle.sia_parts.proofs.spans.join_neighbours.Given as goal
 

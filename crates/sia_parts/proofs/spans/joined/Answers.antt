@@ -1,6 +1,4 @@
 -- A sort changes the order alone.
-use Rattle.std.proofs.Common.{subst}
-use Rattle.sia_parts.specs.Sights.{Widens}
 use Rattle.sia_parts.proofs.Joins.{joins_sorted}
 use Rattle.sia_parts.proofs.spans.joined.Goals as goal
 
