@@ -1,7 +1,7 @@
 -- The matches of the program's words hold numbers: each text that they have passed its argument's parser.
 use Rattle.std.proofs.Common.{◌≡◌, ◌⊎◌, ◌∙◌, ◌<◌, ◌≤◌, ℕ, Bool, true, false, zero, suc, refl, sym, subst, ap, arith, inl, inr, List, [], ◌∷◌, map, length, Option, Some, None, codes}
 use Rattle.std.specs.List.{All, find, list_all, slice_index_or}
-use Rattle.std.specs.Prelude.{IfSome, IsSomeAnd, option_and_then, option_map, slice_get}
+use Rattle.std.specs.Prelude.{IfSome, IsSomeAnd, option_map, slice_get}
 use Rattle.std.specs.Str.{bytes_eq}
 use Rattle.std.specs.Borrow.{Bor}
 use Rattle.std.proofs.lemmas.List.{length-map}
@@ -11,12 +11,11 @@ use Rattle.clap.specs.Facts.{Entry, EntryPasses, HasIn, IsParsed, PassesArg, arg
 use Rattle.clap.specs.Built.{IsAuto, IsParsedFrom, SameRules}
 use Rattle.clap.specs.Matches.{first_value, found_of, has_subcommand, matched_of, raw_values}
 use Rattle.clap.specs.Values.{Accepts, IsUnsignedIn}
-use Rattle.clap.specs.Walk.{Rule, Text, all_of, first_of, rows_of, rule_of, texts}
+use Rattle.clap.specs.Walk.{Rule, Text, rows_of, rule_of}
 use Rattle.clap.specs.Simple.{App, IsSimple, app_of, is_ready, is_ready_leaf}
 use Rattle.clap.specs.declared.builder.action.ArgAction.TheVariants.{Count, Set}
 use Rattle.clap.specs.declared.builder.arg.Arg.{Arg}
 use Rattle.clap.specs.declared.builder.command.Command.{Command}
-use Rattle.clap.specs.declared.builder.command.Command.TheViews.{out-Command}
 use Rattle.clap.specs.declared.builder.range.ValueRange.{ValueRange}
 use Rattle.clap.specs.declared.builder.value_parser.ValueParser.{ValueParser}
 use Rattle.clap.specs.declared.builder.value_parser.ValueParser.TheVariants as vp

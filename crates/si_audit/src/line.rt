@@ -10,7 +10,7 @@ use clap::builder::ValueParser;
 use clap::error::ErrorKind;
 use clap::{Arg, ArgAction, ArgMatches, Command, Error, value_parser};
 use sia_events::Key;
-use std::alloc::{AllocError, AllocFailed, Global};
+use std::alloc::{AllocError, Global};
 
 const ABOUT: &str = "Audits a history that a multiversion store recorded. Was snapshot isolation
 kept, and does a serial order explain the committed transactions? The history

@@ -117,7 +117,8 @@ fn refused_words(rt: HostRuntime) -> Result<(), Fail> {
         ),
     ];
     for (line, said) in lines {
-        match from(rt.alloc(), line) {
+        let answer = from(rt.alloc(), line);
+        match &answer {
             Err(LineFault::Usage(text)) => {
                 assert!(rt; text.as_str().starts_with("error: "), "{text}");
                 assert!(rt; text.as_str().contains(said), "{text}");
@@ -136,7 +137,8 @@ fn words_that_ask_for_help(rt: HostRuntime) -> Result<(), Fail> {
         &["si_audit", "--workers", "64", "14", "--help", "x"],
     ];
     for line in lines {
-        match from(rt.alloc(), line) {
+        let answer = from(rt.alloc(), line);
+        match &answer {
             Err(LineFault::Help(text)) => {
                 assert!(rt;
                     text.as_str().contains("Usage: si_audit [OPTIONS] [CUT]..."),

@@ -1,12 +1,12 @@
 -- The texts of the cuts, where the matches have some, are numbers of 64 bits.
-use Rattle.std.proofs.Common.{◌≡◌, ◌∙◌, ◌<◌, refl, sym, subst, ap, arith, zero, suc, map, length, ℕ, List, [], ◌∷◌, Option, Some, None, codes, IfOk, Bor}
+use Rattle.std.proofs.Common.{◌≡◌, ◌∙◌, refl, sym, subst, ap, arith, zero, suc, map, ℕ, List, [], ◌∷◌, Option, Some, None, codes, Bor}
 use Rattle.std.specs.List.{All}
 use Rattle.std.specs.Prelude.{IfSome, option_map, unwrap_or}
 use Rattle.std.proofs.lemmas.Result.{IfOk-weaker}
 use Rattle.clap.specs.Words.{IsUnsignedIn, Text, all_of, found_of, matched_of, raw_values, rows_of}
 use Rattle.clap.specs.declared.parser.matches.Found.{Found}
 use Rattle.clap.proofs.WalkLemmas.{raw_values-rows}
-use Rattle.si_audit.specs.LineAnswers.{HasNumbers, cuts_among}
+use Rattle.si_audit.specs.LineAnswers.{cuts_among}
 use Rattle.si_audit.specs.Words.{number_in}
 use Rattle.si_audit.proofs.line.cuts_in.Goals as goal
 

@@ -1,10 +1,10 @@
 -- The matches have the text of the workers, and it is a number from 1 to 64.
-use Rattle.std.proofs.Common.{◌≡◌, ◌∙◌, ◌<◌, ◌≤◌, sym, subst, ap, arith, Option, Some, None, codes}
+use Rattle.std.proofs.Common.{◌≡◌, ◌∙◌, ◌≤◌, sym, subst, ap, arith, Option, Some, None, codes}
 use Rattle.std.specs.Prelude.{IsSomeAnd, unwrap_or, []}
 use Rattle.clap.specs.Words.{IsUnsignedIn, Text, first_of, first_value, found_of, rows_of}
 use Rattle.clap.specs.declared.parser.matches.Found.{Found}
 use Rattle.clap.proofs.WalkLemmas.{first_value-rows}
-use Rattle.si_audit.specs.LineAnswers.{HasNumbers, workers_among}
+use Rattle.si_audit.specs.LineAnswers.{HasNumbers}
 use Rattle.si_audit.specs.Words.{number_in}
 use Rattle.si_audit.proofs.line.workers_in.Goals as goal
 
