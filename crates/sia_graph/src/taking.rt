@@ -17,6 +17,7 @@ use std::collections::BTreeSet;
 pub(crate) fn count_edges(
     alloc: Global,
     ids: &[TxnId],
+    guesses: &[usize],
     edges: &[Edge],
 ) -> Result<Vec<usize>, NoMemory>
     requires ascending { IsStrictlyIncreasing ids.now }
@@ -25,7 +26,7 @@ pub(crate) fn count_edges(
 {
     let mut counts = vec![in alloc; 0usize; ids.len()]?;
     for e in edges {
-        let i = position_of(ids, e.dst);
+        let i = position_of(ids, guesses, e.dst);
         counts[i] += 1;
     }
     Ok(counts)
@@ -34,6 +35,7 @@ pub(crate) fn count_edges(
 /// Takes edges that leave from the counts, and adds what becomes ready.
 fn release(
     ids: &[TxnId],
+    guesses: &[usize],
     leaving: &[Edge],
     counts: &mut [usize],
     ready: &mut BTreeSet<TxnId>,
@@ -48,7 +50,7 @@ fn release(
         ↔ (IsTrue (contains nat_cmp ready.old t) ⊎ IsFreed ids.now leaving.now counts.new t)) }
 {
     for e in leaving {
-        let i = position_of(ids, e.dst);
+        let i = position_of(ids, guesses, e.dst);
         counts[i] -= 1;
         if counts[i] == 0 {
             ready.insert(e.dst)?;
@@ -91,6 +93,7 @@ fn next_ready(ready: &mut BTreeSet<TxnId>) -> Option<TxnId>
 pub(crate) fn take_ready(
     alloc: Global,
     ids: &[TxnId],
+    guesses: &[usize],
     edges: &[Edge],
     counts: &mut [usize],
 ) -> Result<Vec<TxnId>, NoMemory>
@@ -104,7 +107,7 @@ pub(crate) fn take_ready(
     let mut order = Vec::new(alloc);
     while let Some(txn) = next_ready(&mut ready) {
         order.push(txn)?;
-        release(ids, edges_from(edges, txn), counts, &mut ready)?;
+        release(ids, guesses, edges_from(edges, txn), counts, &mut ready)?;
     }
     Ok(order)
 }

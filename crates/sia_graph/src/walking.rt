@@ -15,7 +15,13 @@ use sia_parts::Edge;
 use std::alloc::Global;
 
 /// Lets the targets of edges from the transaction at `source` lead back to it.
-fn lead_back(ids: &[TxnId], leaving: &[Edge], source: usize, previous: &mut [usize])
+fn lead_back(
+    ids: &[TxnId],
+    guesses: &[usize],
+    leaving: &[Edge],
+    source: usize,
+    previous: &mut [usize],
+)
     requires ascending { IsStrictlyIncreasing ids.now }
     requires members { All (λ e. Contains ids.now e.dst) leaving.now }
     requires long { length previous.old ≡ length ids.now }
@@ -23,7 +29,7 @@ fn lead_back(ids: &[TxnId], leaving: &[Edge], source: usize, previous: &mut [usi
     ensures kept { (i : ℕ) → i < length ids.now → arriving leaving.now (slice_index ids.now i) ≡ 0 → slice_index previous.new i ≡ slice_index previous.old i }
 {
     for e in leaving {
-        let i = position_of(ids, e.dst);
+        let i = position_of(ids, guesses, e.dst);
         previous[i] = source;
     }
 }
@@ -32,6 +38,7 @@ fn lead_back(ids: &[TxnId], leaving: &[Edge], source: usize, previous: &mut [usi
 pub(crate) fn least_sources(
     alloc: Global,
     ids: &[TxnId],
+    guesses: &[usize],
     edges: &[Edge],
     counts: &[usize],
 ) -> Result<Vec<usize>, NoMemory>
@@ -47,7 +54,7 @@ pub(crate) fn least_sources(
     let mut previous = vec![in alloc; 0usize; ids.len()]?;
     for i in (0..ids.len()).rev() {
         if counts[i] > 0 {
-            lead_back(ids, edges_from(edges, ids[i]), i, &mut previous);
+            lead_back(ids, guesses, edges_from(edges, ids[i]), i, &mut previous);
         }
     }
     Ok(previous)
@@ -152,6 +159,7 @@ fn steps_round(
 pub(crate) fn cycle_from(
     alloc: Global,
     ids: &[TxnId],
+    guesses: &[usize],
     edges: &[Edge],
     counts: &[usize],
     start: usize,
@@ -165,7 +173,7 @@ pub(crate) fn cycle_from(
     ensures { IfOk result (λ steps. (stuck : List ℕ) → AreLeft ids.now counts.now stuck → IsStuckSet (Contains ids.now) (Contains edges.now) stuck
         → IsPrintedCycle (Contains ids.now) (Contains edges.now) steps.items) }
 {
-    let previous = least_sources(alloc, ids, edges, counts)?;
+    let previous = least_sources(alloc, ids, guesses, edges, counts)?;
     let sources = previous.as_slice();
     let (place, period) = reach_cycle(alloc, sources, start)?;
     let home = least_within(sources, place, period);

@@ -8,7 +8,7 @@ ghost use Rattle.sia_index.specs.Rows.{AscendsByCommit, IsLastWithin};
 
 use crate::info::{Fate, ItemRead, Made, RangeRead, TxnInfo};
 use crate::reads::{keys_between, ranges_meeting, reads_between};
-use crate::rows::{TxnRow, WriteRow, find_txn, find_write, part_at};
+use crate::rows::{TxnRow, WriteRow, find_key, find_write, guess_txn, part_at};
 use sia_events::{History, Key, TxnId, Version};
 use std::marker::Model;
 use std::snapshot::Snapshot;
@@ -25,6 +25,8 @@ pub struct Index {
     pub(crate) reads: Vec<ItemRead>,
     pub(crate) ranges: Vec<RangeRead>,
     pub(crate) reaches: Vec<Key>,
+    pub(crate) txn_guesses: Vec<u32>,
+    pub(crate) key_guesses: Vec<u32>,
 }
 
 impl Model for Index {
@@ -51,7 +53,7 @@ impl Index {
     pub fn txn(&self, t: TxnId) -> Option<TxnInfo>
         ensures { MatchOption result (¬ HasEvent self.now t) (IsInfo self.now t) }
     {
-        find_txn(&self.txns, t)
+        guess_txn(&self.txns, &self.txn_guesses, t)
     }
 
     /// Whether both committed, and each started before the other committed.
@@ -69,9 +71,9 @@ impl Index {
     pub fn versions(&self, k: Key) -> &[Made]
         ensures { AreVersions self.now k result.now }
     {
-        match self.keys.binary_search(&k) {
-            Ok(i) => self.versions_at(i),
-            Err(_) => &[],
+        match find_key(&self.keys, &self.key_guesses, k) {
+            Some(i) => self.versions_at(i),
+            None => &[],
         }
     }
 

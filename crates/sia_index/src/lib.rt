@@ -3,6 +3,7 @@
 
 mod chains;
 mod events;
+mod guesses;
 mod indexed;
 mod info;
 pub mod make;

@@ -3,8 +3,10 @@ ghost use Rattle.std.specs.Prelude.{◌≡◌, IfOk};
 
 use crate::chains::{keys_of, made_of, offsets_of};
 use crate::events::{acts_of, version_rows_of, writes_of};
+use crate::guesses::guesses_of;
 use crate::indexed::Index;
 use crate::reads::{ranges_of, reaches_of, reads_of};
+use crate::rows::numbers_of;
 use crate::txns::txns_of;
 use sia_events::{History, NoMemory};
 use std::alloc::Global;
@@ -26,6 +28,9 @@ pub fn index(alloc: Global, h: &History) -> Result<Index, NoMemory>
     let reads = reads_of(alloc, h)?;
     let ranges = ranges_of(alloc, h)?;
     let reaches = reaches_of(alloc, &ranges)?;
+    let numbers = numbers_of(alloc, txns.as_slice())?;
+    let txn_guesses = guesses_of(alloc, numbers.as_slice())?;
+    let key_guesses = guesses_of(alloc, keys.as_slice())?;
     Ok(Index {
         of: Snapshot::of(h),
         txns,
@@ -36,5 +41,7 @@ pub fn index(alloc: Global, h: &History) -> Result<Index, NoMemory>
         reads,
         ranges,
         reaches,
+        txn_guesses,
+        key_guesses,
     })
 }

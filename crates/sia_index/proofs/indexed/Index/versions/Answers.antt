@@ -1,26 +1,30 @@
--- What the search found among the written keys.
-use Rattle.std.proofs.Common.{Ok, Err, ℕ, sym, subst}
+-- What was found among the written keys.
+use Rattle.std.proofs.Common.{ℕ, sym, subst}
 use Rattle.sia_index.specs.Info.{AreWrittenKeys}
-use Rattle.sia_index.proofs.Ordered.{ascends, found_by}
+use Rattle.sia_index.proofs.Ordered.{ascends}
 use Rattle.sia_index.proofs.KeyChains.{no_versions}
 use Rattle.sia_index.proofs.indexed.Index.versions.Goals as goal
+
+pub find_key-requires : goal.find_key-requires
+find_key-requires c =
+    let own = subst (λ h. AreWrittenKeys h c.self.inside.keys.items) c.self.view_is c.self.invariant.keys_are in
+    let are = subst (AreWrittenKeys c.args.self.now) (sym c.deref.ensures.value) own in
+    ascends (λ (k : ℕ). k) _ _ are
 
 pub versions_at-requires : goal.versions_at-requires
 versions_at-requires c =
     let own = subst (λ h. AreWrittenKeys h c.self.inside.keys.items) c.self.view_is c.self.invariant.keys_are in
     let are = subst (AreWrittenKeys c.args.self.now) (sym c.deref.ensures.value) own in
-    let found = found_by (λ (k : ℕ). k) _ (ascends (λ (k : ℕ). k) _ _ are) c.args.k (Ok c.in-Ok.i) c.in-Ok.ensures.bound c.in-Ok.ensures.position in
-    (c.deref.result.now, are, found.0)
+    (c.deref.result.now, are, c.in-Some.ensures.0)
 
-pub returns-in-Ok : goal.returns-in-Ok
-returns-in-Ok c =
+pub returns-in-Some : goal.returns-in-Some
+returns-in-Some c =
     let own = subst (λ h. AreWrittenKeys h c.self.inside.keys.items) c.self.view_is c.self.invariant.keys_are in
     let are = subst (AreWrittenKeys c.args.self.now) (sym c.deref.ensures.value) own in
-    let found = found_by (λ (k : ℕ). k) _ (ascends (λ (k : ℕ). k) _ _ are) c.args.k (Ok c.in-Ok.i) c.in-Ok.ensures.bound c.in-Ok.ensures.position in
-    c.versions_at.ensures c.args.k (c.deref.result.now, are, found.0, found.1 0)
+    c.versions_at.ensures c.args.k (c.deref.result.now, are, c.in-Some.ensures.0, c.in-Some.ensures.1)
 
-pub returns-in-Err : goal.returns-in-Err
-returns-in-Err c =
+pub returns-in-None : goal.returns-in-None
+returns-in-None c =
     let own = subst (λ h. AreWrittenKeys h c.self.inside.keys.items) c.self.view_is c.self.invariant.keys_are in
     let are = subst (AreWrittenKeys c.args.self.now) (sym c.deref.ensures.value) own in
-    no_versions _ _ are c.args.k (found_by (λ (k : ℕ). k) _ (ascends (λ (k : ℕ). k) _ _ are) c.args.k (Err c.in-Err.field-0) c.in-Err.ensures.bound c.in-Err.ensures.position)
+    no_versions _ _ are c.args.k c.in-None.ensures
