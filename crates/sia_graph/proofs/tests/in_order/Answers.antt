@@ -1,4 +1,4 @@
-use Rattle.std.proofs.Common.{ℕ, refl, arith}
+use Rattle.std.proofs.Common.{refl, arith}
 use Rattle.sia_parts.specs.Entries.{edge_rank}
 use Rattle.sia_graph.proofs.InOrder.{pairs_from_next, next_more}
 use Rattle.sia_graph.proofs.tests.in_order.Goals as goal

@@ -1,4 +1,4 @@
-use Rattle.std.proofs.Common.{◌≢◌, ℕ, refl, arith}
+use Rattle.std.proofs.Common.{◌≢◌, refl, arith}
 use Rattle.std.specs.Prelude.{Contains}
 use Rattle.sia_parts.specs.declared.finding.Edge.{Edge}
 use Rattle.sia_graph.proofs.InOrder.{all_more}
