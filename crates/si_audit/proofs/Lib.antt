@@ -1,7 +1,18 @@
 pub mod WorkedLines
 pub mod CommandLines
 pub mod OneReport
-pub mod Found
-pub mod Sets
-pub mod WhatIsTold
 pub mod ReadSoFar
+pub mod OfSource
+pub mod SpacedWords
+pub mod SameVerdict
+pub mod Judging
+pub mod Actors
+pub mod Fates
+pub mod Owed
+pub mod KeptTransactions
+pub mod Results
+pub mod Chains
+pub mod Clean
+pub mod OfHistory
+mod TakenWords
+mod NumbersGiven

@@ -2,9 +2,12 @@ pub mod Choices
 pub mod Words
 pub mod Account
 pub mod Accounts
+pub mod Audits
 pub mod Lines
 pub mod Report
 pub mod Outcomes
 pub mod Devices
-pub mod Told
-pub mod ToldOf
+pub mod Counting
+pub mod Spaced
+pub mod Answering
+pub mod LineAnswers

@@ -1,85 +1,88 @@
-// How many events there are, and how many transactions committed, aborted, or are open.
-ghost use Rattle.std.specs.Prelude.{◌≡◌, ◌↔◌, ℕ, ◌≤◌, length, false, IfOk, IsTrue};
-ghost use Rattle.std.specs.Ordering.{nat_cmp};
-ghost use Rattle.std.specs.BTreeSet.{contains, btree_set_len};
-ghost use Rattle.sia_events.specs.Transactions.{HasEvent, IsCommitted, IsAborted};
-ghost use Rattle.si_audit.specs.Told.{AreCounts};
+// How many events there are, and which transactions committed, aborted, or are open.
+ghost use Rattle.std.specs.Prelude.{◌≡◌, ◌↔◌, ◌≤◌, length, IfOk, IsTrue};
+ghost use Rattle.sia_events.specs.Lists.{ListsAscending};
+ghost use Rattle.sia_events.specs.Refusals.{IsWellFormed};
+ghost use Rattle.sia_events.specs.Transactions.{HasEvent};
+ghost use Rattle.si_audit.specs.Counting.{EndedSo, AreCounts};
 
-use sia_events::{Event, History, NoMemory, TxnId};
+use sia_events::{History, NoMemory, TxnId};
+use sia_index::{Fate, Index};
 use std::alloc::Global;
-use std::collections::BTreeSet;
 
-/// The numbers of the report's first line.
-#[derive(Clone, Copy, Debug, PartialEq, Eq)]
+/// The numbers of the report's first line, and the committed transactions themselves.
+#[derive(Debug, Drop)]
 pub(crate) struct Counts {
     pub(crate) events: u32,
-    pub(crate) committed: u32,
+    /// The committed transactions, ascending.
+    pub(crate) committed: Vec<TxnId>,
     pub(crate) aborted: u32,
     /// How many transactions are open.
     pub(crate) unfinished: u32,
 }
 
-/// The transactions that committed.
-fn committed(alloc: Global, h: &History) -> Result<BTreeSet<TxnId>, NoMemory>
-    ensures each { IfOk result (λ s. (t : ℕ) → IsTrue (contains nat_cmp s t) ↔ IsCommitted h.now t) }
-    ensures few { IfOk result (λ s. btree_set_len s ≤ length h.now) }
+/// The transactions that have an event, ascending.
+fn actors(alloc: Global, h: &History) -> Result<Vec<TxnId>, NoMemory>
+    ensures each { IfOk result (λ txns. ListsAscending (HasEvent h.now) txns.items) }
+    ensures few { IfOk result (λ txns. length txns.items ≤ length h.now) }
 {
-    let mut committed = BTreeSet::new(alloc);
-    for before in 0..h.len() {
-        if let Some(Event::Commit { txn }) = h.event(before + 1) {
-            committed.insert(*txn)?;
-        }
-    }
-    Ok(committed)
-}
-
-/// The transactions that aborted.
-fn aborted(alloc: Global, h: &History) -> Result<BTreeSet<TxnId>, NoMemory>
-    ensures each { IfOk result (λ s. (t : ℕ) → IsTrue (contains nat_cmp s t) ↔ IsAborted h.now t) }
-    ensures few { IfOk result (λ s. btree_set_len s ≤ length h.now) }
-{
-    let mut aborted = BTreeSet::new(alloc);
-    for before in 0..h.len() {
-        if let Some(Event::Abort { txn }) = h.event(before + 1) {
-            aborted.insert(*txn)?;
-        }
-    }
-    Ok(aborted)
-}
-
-/// The transactions that have events and are in neither set.
-fn others(
-    alloc: Global,
-    h: &History,
-    committed: &BTreeSet<TxnId>,
-    aborted: &BTreeSet<TxnId>,
-) -> Result<BTreeSet<TxnId>, NoMemory>
-    ensures each { IfOk result (λ s. (t : ℕ) → IsTrue (contains nat_cmp s t)
-        ↔ (HasEvent h.now t × (contains nat_cmp committed.now t ≡ false) × (contains nat_cmp aborted.now t ≡ false))) }
-    ensures few { IfOk result (λ s. btree_set_len s ≤ length h.now) }
-{
-    let mut others = BTreeSet::new(alloc);
+    let mut txns = Vec::with_capacity(alloc, h.len() as usize)?;
     for before in 0..h.len() {
         if let Some(event) = h.event(before + 1) {
-            let txn = event.txn();
-            if !committed.contains(&txn) && !aborted.contains(&txn) {
-                others.insert(txn)?;
-            }
+            txns.push(event.txn())?;
         }
     }
-    Ok(others)
+    txns.sort_unstable();
+    txns.dedup();
+    Ok(txns)
+}
+
+/// Those of the transactions that ended so.
+fn with_fate(alloc: Global, ix: &Index, txns: &[TxnId], fate: Fate) -> Result<Vec<TxnId>, NoMemory>
+    requires well_formed { IsWellFormed ix.now }
+    requires txns { ListsAscending (HasEvent ix.now) txns.now }
+    ensures each { IfOk result (λ found. ListsAscending (EndedSo ix.now fate) found.items) }
+    ensures few { IfOk result (λ found. length found.items ≤ length txns.now) }
+{
+    let mut found = Vec::new(alloc);
+    for txn in txns {
+        if has_fate(ix, *txn, fate) {
+            found.push(*txn)?;
+        }
+    }
+    Ok(found)
+}
+
+/// Whether the transaction ended so.
+fn has_fate(ix: &Index, txn: TxnId, fate: Fate) -> bool
+    requires { IsWellFormed ix.now }
+    ensures { IsTrue result ↔ EndedSo ix.now fate txn }
+{
+    match ix.txn(txn) {
+        Some(info) => is_same(info.fate, fate),
+        None => false,
+    }
+}
+
+fn is_same(a: Fate, b: Fate) -> bool
+    ensures { IsTrue result ↔ (a ≡ b) }
+{
+    a == b
 }
 
 /// The counts of a history.
-pub(crate) fn counted(alloc: Global, h: &History) -> Result<Counts, NoMemory>
+pub(crate) fn counted(alloc: Global, h: &History, ix: &Index) -> Result<Counts, NoMemory>
+    requires index { ix.now ≡ h.now }
+    requires well_formed { IsWellFormed h.now }
     ensures { IfOk result (AreCounts h.now) }
 {
-    let committed = committed(alloc, h)?;
-    let aborted = aborted(alloc, h)?;
-    let unfinished = others(alloc, h, &committed, &aborted)?;
+    let actors = actors(alloc, h)?;
+    let txns = actors.as_slice();
+    let committed = with_fate(alloc, ix, txns, Fate::Committed)?;
+    let aborted = with_fate(alloc, ix, txns, Fate::Aborted)?;
+    let unfinished = with_fate(alloc, ix, txns, Fate::Unfinished)?;
     Ok(Counts {
         events: h.len(),
-        committed: committed.len() as u32,
+        committed,
         aborted: aborted.len() as u32,
         unfinished: unfinished.len() as u32,
     })

@@ -1,6 +1,6 @@
 ghost use Rattle.std.specs.Prelude.{◌≡◌, ◌↔◌, ◌⊎◌, ℕ, ◌<◌, ◌≤◌, List, length, Bool, ◌||◌, Option, Ok, IfOk, OnOk, IsErr, IsTrue, IsFalse};
 ghost use Rattle.std.specs.Io.KnownBytes.{ReadConsumes, WriteAppends, Keeps};
-ghost use Rattle.si_audit.specs.Devices.{device_of, IsSound};
+ghost use Rattle.si_audit.specs.Devices.{device_of, given_of, IsSound, reads_after};
 
 use std::io::{Read, Write};
 
@@ -14,13 +14,16 @@ pub trait Source {
     ghost remaining: { Self → Option (List ℕ) };
     /// Whether a call has failed.
     ghost has_failed: { Self → Bool };
+    /// How many reads gave bytes, which is counted up to 2^64 - 1.
+    ghost reads: { Self → ℕ };
 
     /// Reads into the front of `into`, and answers how many bytes it read. A read that gives no byte into room for some is
     /// the end.
     fn read(&mut self, into: &mut [u8]) -> Result<usize, Failed>
         ensures bound { IfOk result (λ n. n ≤ length into.new) }
         ensures bytes { ReadConsumes (remaining self.old) (remaining self.new) result into.new }
-        ensures failed { IsTrue (has_failed self.new) ↔ (IsTrue (has_failed self.old) ⊎ IsErr result) };
+        ensures failed { IsTrue (has_failed self.new) ↔ (IsTrue (has_failed self.old) ⊎ IsErr result) }
+        ensures counted { reads self.new ≡ reads_after (reads self.old) result };
 
     /// Whether a call has failed. It stays true.
     fn failed(&self) -> bool
@@ -69,18 +72,21 @@ pub struct FromStd<D> {
     refused: bool,
     flush_failed: bool,
     flushed: bool,
+    reads: u64,
 }
 
 impl<D> FromStd<D> {
     pub fn new(device: D) -> FromStd<D>
         ensures device { device_of result ≡ device }
         ensures sound { IsSound result }
+        ensures given { given_of result ≡ 0 }
     {
         FromStd {
             device,
             refused: false,
             flush_failed: false,
             flushed: false,
+            reads: 0,
         }
     }
 
@@ -97,9 +103,16 @@ impl<D: Read> Source for FromStd<D> {
 
     ghost has_failed = { λ s. s.refused };
 
+    ghost reads = { λ s. s.reads };
+
     fn read(&mut self, into: &mut [u8]) -> Result<usize, Failed> {
         match self.device.read(into) {
-            Ok(n) => Ok(n),
+            Ok(n) => {
+                if n > 0 {
+                    self.reads = self.reads.saturating_add(1);
+                }
+                Ok(n)
+            }
             Err(_) => {
                 self.refused = true;
                 Err(Failed)

@@ -1,15 +1,17 @@
-ghost use Rattle.std.specs.Prelude.{◌≡◌, ◌≢◌, ◌↔◌, ℕ, List, ◌++◌, IfOk, IfErr, IfSome, OnOk, Err, IsTrue, IsFalse};
+ghost use Rattle.std.specs.Prelude.{◌≡◌, ◌≢◌, ◌↔◌, ◌+◌, ◌≤◌, ℕ, List, ◌++◌, IfOk, IfErr, IfSome, OnOk, Err, IsTrue, IsFalse};
 ghost use Rattle.std.specs.Io.KnownBytes.{Appends, Keeps};
-ghost use Rattle.si_audit.specs.Outcomes.{status_of};
-ghost use Rattle.si_audit.specs.Told.{IsTold};
-ghost use Rattle.si_audit.specs.declared.engine.Outcome.{Outcome};
+ghost use Rattle.si_audit.specs.Report.{IsReport};
+ghost use Rattle.si_audit.specs.Outcomes.{IsOutcome, status_of};
 
+use crate::answering::answer_to_text;
 use crate::device::{Failed, Sink, Source};
 use crate::input::read_text;
+use crate::options::Options;
 use crate::output::write_whole;
-use crate::telling::tell;
 use sia_events::NoMemory;
 use std::alloc::{AllocError, AllocFailed, Global};
+use std::sync::Wait;
+use std::thread::Threads;
 
 /// How a run ended that met no fault.
 #[derive(Clone, Copy, Debug, PartialEq, Eq)]
@@ -60,37 +62,42 @@ impl From<NoMemory> for RunFault {
     }
 }
 
-/// Reads a text to its end, or past the limit of 16,777,216 bytes, and writes what is told of it, and flushes once.
+/// Reads a history's text to its end, or past the limit of 16,777,216 bytes, writes its report, and flushes once.
 ///
-/// All that is written is made in memory before the first byte is written. Neither device may have failed before.
-pub fn run<R: Source, W: Sink>(
+/// The whole report is made in memory before the first byte is written. Neither device may have failed before. The call
+/// joins its workers and may wait for them.
+pub fn run<T: Threads + Wait + Sync, R: Source, W: Sink>(
+    rt: &T,
     alloc: Global,
     reader: &mut R,
     writer: &mut W,
+    o: &Options,
 ) -> Result<Outcome, RunFault>
     requires reader { IsFalse (R.has_failed reader.old) }
     requires writer { IsFalse (W.has_failed writer.old) }
-    ensures told { IfOk result (λ outcome. IfSome (R.remaining reader.old) (λ text.
-        (bytes : List ℕ) × IsTold text bytes outcome × Appends (W.taken writer.old) (W.taken writer.new) bytes)) }
+    // What is written is the report of the text that the reader gives, and not a byte more.
+    ensures report { IfOk result (λ outcome. IfSome (R.remaining reader.old) (λ text.
+        IsOutcome text outcome × (bytes : List ℕ) × IsReport text bytes × Appends (W.taken writer.old) (W.taken writer.new) bytes)) }
     ensures flushed { OnOk result (IsTrue (W.is_flushed writer.new)) }
+
+    // At most so many reads gave bytes.
+    ensures reads { R.reads reader.new ≤ R.reads reader.old + 16777217 }
 
     // Each fault comes exactly where its device failed.
     ensures read { (result ≡ Err RunFault.Read) ↔ IsTrue (R.has_failed reader.new) }
     ensures write { (result ≡ Err RunFault.Write) ↔ IsTrue (W.has_failed writer.new) }
 
-    // What was written before a fault: nothing, or a front of what is told, which is whole where no write was refused.
+    // What was written before a fault: nothing, or a front of the report, which is whole where no write was refused.
     ensures nothing { IfErr result (λ e. e ≢ RunFault.Write → Keeps (W.taken writer.old) (W.taken writer.new)) }
     ensures front { result ≡ Err RunFault.Write → IfSome (R.remaining reader.old) (λ text.
-        (outcome : Outcome) × (bytes : List ℕ) × (rest : List ℕ) × IsTold text (bytes ++ rest) outcome
-        × Appends (W.taken writer.old) (W.taken writer.new) bytes) }
+        (bytes : List ℕ) × (rest : List ℕ) × IsReport text (bytes ++ rest) × Appends (W.taken writer.old) (W.taken writer.new) bytes) }
     ensures whole { result ≡ Err RunFault.Write → IsFalse (W.has_refused writer.new) → IfSome (R.remaining reader.old) (λ text.
-        (outcome : Outcome) × (bytes : List ℕ) × IsTold text bytes outcome
-        × Appends (W.taken writer.old) (W.taken writer.new) bytes) }
+        (bytes : List ℕ) × IsReport text bytes × Appends (W.taken writer.old) (W.taken writer.new) bytes) }
 {
     let text = read_text(alloc, reader)?;
-    let told = tell(alloc, text)?;
-    match write_whole(writer, told.bytes.as_slice()) {
-        Ok(()) => Ok(told.outcome),
+    let answer = answer_to_text(rt, alloc, text, o)?;
+    match write_whole(writer, answer.bytes.as_slice()) {
+        Ok(()) => Ok(answer.outcome),
         Err(Failed) => Err(RunFault::Write),
     }
 }

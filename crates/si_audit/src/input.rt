@@ -1,5 +1,5 @@
 // A text is read to its end, or past the limit.
-ghost use Rattle.std.specs.Prelude.{◌≡◌, ◌↔◌, IfOk, IfSome, Err, IsTrue, IsFalse};
+ghost use Rattle.std.specs.Prelude.{◌≡◌, ◌↔◌, ◌+◌, ◌≤◌, IfOk, IfSome, Err, IsTrue, IsFalse};
 ghost use Rattle.sia_events.specs.Streaming.{StandsForRead};
 
 use crate::device::Source;
@@ -18,6 +18,7 @@ pub(crate) fn read_text<R: Source>(alloc: Global, source: &mut R) -> Result<Text
     requires { IsFalse (R.has_failed source.old) }
     ensures text { IfOk result (λ reader. IfSome (R.remaining source.old) (StandsForRead reader)) }
     ensures failed { (result ≡ Err RunFault.Read) ↔ IsTrue (R.has_failed source.new) }
+    ensures reads { R.reads source.new ≤ R.reads source.old + 16777217 }
     ensures no_write { result ≡ Err RunFault.Write → ⊥ }
 {
     let mut text = TextReader::new(alloc);

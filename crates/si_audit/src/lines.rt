@@ -1,41 +1,44 @@
 // The lines of a report.
-ghost use Rattle.std.specs.Prelude.{◌≡◌, ℕ, ◌++◌, ◌<◌, OnOk, IfOk};
-ghost use Rattle.sia_events.specs.Text.{numeral};
+ghost use Rattle.std.specs.Prelude.{◌≡◌, ◌++◌, OnOk};
 ghost use Rattle.si_audit.specs.Lines as lines;
 
-use crate::counts::Counts;
-use itoa::Buffer;
-use sia_events::{Reason, TextFault};
-use sia_parts::BadRead;
+use crate::findings::Audit;
+use crate::words::{kind_word, push_key, push_number, push_numbers, reason_words, spaced_kind};
+use sia_events::TextFault;
+use sia_parts::{BadRead, BadWrite, Edge, Unexplained};
 use std::alloc::AllocError;
 
-fn push_key(out: &mut Vec<u8>, n: u64) -> Result<(), AllocError>
-    ensures { OnOk result (out.new.items ≡ out.old.items ++ numeral n) }
+/// The line of a refused text. Want of memory has none.
+pub(crate) fn push_refusal(out: &mut Vec<u8>, fault: &TextFault) -> Result<(), AllocError>
+    ensures { OnOk result (out.new.items ≡ out.old.items ++ lines.refusal_line fault.now) }
 {
-    let mut buffer = Buffer::new();
-    out.extend_from_slice(buffer.format(n).as_bytes())?;
-    Ok(())
-}
-
-fn push_number(out: &mut Vec<u8>, n: u32) -> Result<(), AllocError>
-    ensures { OnOk result (out.new.items ≡ out.old.items ++ numeral n) }
-{
-    push_key(out, u64::from(n))
+    match fault {
+        TextFault::NoMemory => Ok(()),
+        TextFault::TextTooLong => out.extend_from_slice(b"refused: text too long\n"),
+        TextFault::Refused { token, reason } => {
+            out.extend_from_slice(b"refused: token ")?;
+            push_number(out, *token)?;
+            out.extend_from_slice(b": ")?;
+            out.extend_from_slice(reason_words(*reason))?;
+            out.extend_from_slice(b"\n")?;
+            Ok(())
+        }
+    }
 }
 
 /// The numbers of events, and of committed, aborted and open transactions.
-pub(crate) fn push_events(out: &mut Vec<u8>, counts: &Counts) -> Result<(), AllocError>
+pub(crate) fn push_events(out: &mut Vec<u8>, a: &Audit) -> Result<(), AllocError>
     ensures { OnOk result (out.new.items ≡ out.old.items
-        ++ lines.events_line counts.now.events counts.now.committed counts.now.aborted counts.now.unfinished) }
+        ++ lines.events_line a.now.events a.now.committed a.now.aborted a.now.unfinished) }
 {
     out.extend_from_slice(b"events ")?;
-    push_number(out, counts.events)?;
+    push_number(out, a.events)?;
     out.extend_from_slice(b" committed ")?;
-    push_number(out, counts.committed)?;
+    push_number(out, a.committed)?;
     out.extend_from_slice(b" aborted ")?;
-    push_number(out, counts.aborted)?;
+    push_number(out, a.aborted)?;
     out.extend_from_slice(b" open ")?;
-    push_number(out, counts.unfinished)?;
+    push_number(out, a.unfinished)?;
     out.extend_from_slice(b"\n")?;
     Ok(())
 }
@@ -48,6 +51,28 @@ pub(crate) fn push_isolation(out: &mut Vec<u8>, kept: bool) -> Result<(), AllocE
         out.extend_from_slice(b"isolation kept\n")
     } else {
         out.extend_from_slice(b"isolation broken\n")
+    }
+}
+
+/// Whether the test of serializable snapshot isolation is passed.
+pub(crate) fn push_ssi(out: &mut Vec<u8>, pass: bool) -> Result<(), AllocError>
+    ensures { OnOk result (out.new.items ≡ out.old.items ++ lines.ssi_line pass) }
+{
+    if pass {
+        out.extend_from_slice(b"ssi pass\n")
+    } else {
+        out.extend_from_slice(b"ssi fail\n")
+    }
+}
+
+/// Whether the history is serializable.
+pub(crate) fn push_serializable(out: &mut Vec<u8>, serializable: bool) -> Result<(), AllocError>
+    ensures { OnOk result (out.new.items ≡ out.old.items ++ lines.serializable_line serializable) }
+{
+    if serializable {
+        out.extend_from_slice(b"serializable yes\n")
+    } else {
+        out.extend_from_slice(b"serializable no\n")
     }
 }
 
@@ -69,37 +94,46 @@ pub(crate) fn push_bad_read(out: &mut Vec<u8>, b: &BadRead) -> Result<(), AllocE
     Ok(())
 }
 
-/// The words for a reason, as they stand in a refusal's line.
-fn words_of(reason: Reason) -> &'static [u8]
-    ensures { result.now ≡ lines.reason_words reason }
+/// One bad write.
+pub(crate) fn push_bad_write(out: &mut Vec<u8>, b: &BadWrite) -> Result<(), AllocError>
+    ensures { OnOk result (out.new.items ≡ out.old.items ++ lines.bad_write_line b.now) }
 {
-    match reason {
-        Reason::TooManyEvents => b"too many events",
-        Reason::BadEvent => b"bad event",
-        Reason::BadNumber => b"number out of range",
-        Reason::AlreadyEnded => b"transaction already ended",
-        Reason::AlreadyBegun => b"transaction already begun",
-        Reason::EmptyRange => b"empty range",
-        Reason::BadList => b"bad list",
-        Reason::NotWritten => b"version not written",
-        Reason::BadStart => b"start too late",
-    }
+    out.extend_from_slice(b"bad-write ")?;
+    push_key(out, b.key)?;
+    out.extend_from_slice(b" ")?;
+    push_number(out, b.first)?;
+    out.extend_from_slice(b" ")?;
+    push_number(out, b.second)?;
+    out.extend_from_slice(b"\n")?;
+    Ok(())
 }
 
-/// The line of a refused text. Want of memory has none.
-pub(crate) fn push_refusal(out: &mut Vec<u8>, fault: &TextFault) -> Result<(), AllocError>
-    ensures { OnOk result (out.new.items ≡ out.old.items ++ lines.refusal_line fault.now) }
+/// One unexplained read.
+pub(crate) fn push_unexplained(out: &mut Vec<u8>, b: &Unexplained) -> Result<(), AllocError>
+    ensures { OnOk result (out.new.items ≡ out.old.items ++ lines.unexplained_line b.now) }
 {
-    match fault {
-        TextFault::NoMemory => Ok(()),
-        TextFault::TextTooLong => out.extend_from_slice(b"refused: text too long\n"),
-        TextFault::Refused { token, reason } => {
-            out.extend_from_slice(b"refused: token ")?;
-            push_number(out, *token)?;
-            out.extend_from_slice(b": ")?;
-            out.extend_from_slice(words_of(*reason))?;
-            out.extend_from_slice(b"\n")?;
-            Ok(())
-        }
-    }
+    out.extend_from_slice(b"unexplained ")?;
+    push_number(out, b.place)?;
+    out.extend_from_slice(b" ")?;
+    push_number(out, b.txn)?;
+    out.extend_from_slice(b" ")?;
+    push_key(out, b.key)?;
+    out.extend_from_slice(b" ")?;
+    push_number(out, b.saw)?;
+    out.extend_from_slice(b"\n")?;
+    Ok(())
+}
+
+/// One edge.
+pub(crate) fn push_edge(out: &mut Vec<u8>, e: &Edge) -> Result<(), AllocError>
+    ensures { OnOk result (out.new.items ≡ out.old.items ++ lines.edge_line e.now) }
+{
+    out.extend_from_slice(b"edge ")?;
+    push_number(out, e.src)?;
+    out.extend_from_slice(spaced_kind(e.kind))?;
+    push_number(out, e.dst)?;
+    out.extend_from_slice(b" ")?;
+    push_key(out, e.key)?;
+    out.extend_from_slice(b"\n")?;
+    Ok(())
 }

@@ -2,21 +2,41 @@
 //! report to standard output.
 #![tactic(auto)]
 
-mod bad_reads;
+mod answering;
 mod counts;
 mod device;
 mod engine;
+mod findings;
 mod input;
 mod laws;
+mod line;
 mod lines;
+mod longer_lines;
+mod make;
+mod options;
 mod output;
-mod telling;
+mod reporting;
 #[cfg(test)]
 mod tests;
+mod words;
 
 use device::FromStd;
 use engine::{RunFault, run, status};
+use line::{LineFault, options_from};
+use options::Options;
+use std::alloc::Global;
+use std::env::Env;
+use std::io::{self, ErrorKind};
 use std::process::ExitCode;
+
+/// The status where help was asked for.
+const HELPED: u8 = 0;
+
+/// The status where the command line was refused.
+const LINE_REFUSED: u8 = 2;
+
+/// The status where a device failed or memory ran out.
+const NOT_DONE: u8 = 4;
 
 /// The word of a fault, as standard error has it.
 fn words_of(fault: RunFault) -> &'static str {
@@ -27,12 +47,56 @@ fn words_of(fault: RunFault) -> &'static str {
     }
 }
 
+/// Says a line on standard error, and answers the status. Where the line can't be written the status alone tells.
+fn say<R: Eprint>(rt: &R, line: &str, status: u8) -> u8 {
+    let _ = eprintln!(rt; "si_audit: {line}");
+    status
+}
+
+/// Tells why the words give no options, and answers the status.
+fn tell<R: Print + Eprint>(rt: &R, fault: LineFault) -> u8 {
+    match fault {
+        LineFault::Help(text) => match rt.print(text) {
+            Ok(()) => HELPED,
+            Err(_) => say(rt, words_of(RunFault::Write), NOT_DONE),
+        },
+        LineFault::Usage(text) => {
+            let _ = rt.eprint(text);
+            LINE_REFUSED
+        }
+        LineFault::TooManyCuts => say(rt, "too many cuts", LINE_REFUSED),
+        LineFault::NoMemory => say(rt, words_of(RunFault::NoMemory), NOT_DONE),
+    }
+}
+
+/// The program's words, its name first.
+fn words_given<R: Env + Alloc<A = Global>>(rt: &R) -> io::Result<Vec<String>> {
+    let words = std::env::args(rt)?.collect(rt.alloc())?;
+    Ok(words)
+}
+
+/// The options that the program's words give, or the status where they give none, which is told.
+fn options_given<R: Env + Alloc<A = Global> + Print + Eprint>(rt: &R) -> Result<Options, u8> {
+    match words_given(rt) {
+        Ok(words) => options_from(rt.alloc(), words.as_slice()).map_err(|fault| tell(rt, fault)),
+        Err(error) if error.kind() == ErrorKind::InvalidData => {
+            Err(say(rt, "an argument is not UTF-8", LINE_REFUSED))
+        }
+        Err(_) => Err(say(rt, words_of(RunFault::NoMemory), NOT_DONE)),
+    }
+}
+
 fn main(rt: HostRuntime) -> ExitCode {
+    let options = match options_given(&rt) {
+        Ok(options) => options,
+        Err(status) => return ExitCode::from(status),
+    };
     let mut reader = FromStd::new(rt.stdin());
     let mut writer = FromStd::new(rt.stdout());
-    let result = run(rt.alloc(), &mut reader, &mut writer);
+    let result = run(&rt, rt.alloc(), &mut reader, &mut writer, &options);
+    let status = status(&result);
     if let Err(fault) = &result {
-        let _ = eprintln!(&rt; "si_audit: {}", words_of(*fault));
+        say(&rt, words_of(*fault), status);
     }
-    ExitCode::from(status(&result))
+    ExitCode::from(status)
 }

@@ -19,6 +19,7 @@ pub mod Ranges
 pub mod Unwritten
 pub mod OneList
 pub mod Histories
+pub mod RoundTrips
 pub mod NamedStarts
 pub mod EventTests
 pub mod Refusing
@@ -32,6 +33,7 @@ pub mod WorkedStarts
 pub mod Digits
 pub mod NumberLaws
 pub mod Tokens
+pub mod PlainBytes
 pub mod Judged
 pub mod EventLaws
 pub mod EventAgain

@@ -10,6 +10,7 @@ use Rattle.sia_events.specs.declared.fault.Reason.{Reason}
 use Rattle.sia_events.specs.declared.fault.Reason.TheVariants.{AlreadyEnded, AlreadyBegun, EmptyRange, BadList, NotWritten, BadStart}
 use Rattle.sia_events.specs.declared.tables.Tables.{Tables}
 use Rattle.sia_events.specs.Events.{actor}
+use Rattle.sia_events.specs.TxnSets.{has}
 
 abbrev pub pair_cmp : ℕ × ℕ → ℕ × ℕ → Ordering
 pair_cmp p q = ordering_then (nat_cmp p.0 q.0) (nat_cmp p.1 q.1)
@@ -38,8 +39,8 @@ writes p (Abort u) = false
 
 -- the tables hold what these events are
 pub record Knows (tables : Tables) (events : List Event) : Type 0 where
-  pub begun : (t : ℕ) → contains nat_cmp tables.begun t ≡ list_any (acts t) events
-  pub ended : (t : ℕ) → contains nat_cmp tables.ended t ≡ list_any (ends t) events
+  pub begun : (t : ℕ) → has tables.begun t ≡ list_any (acts t) events
+  pub ended : (t : ℕ) → has tables.ended t ≡ list_any (ends t) events
   pub written : (p : ℕ × ℕ) → contains pair_cmp tables.written p ≡ list_any (writes p) events
 
 -- the version of that key is 0 or was written

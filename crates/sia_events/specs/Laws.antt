@@ -1,13 +1,14 @@
 -- The laws of histories, as statements.
-use Rattle.std.specs.Prelude.{◌≡◌, ◌⊎◌, ◌↔◌, ℕ, ◌+◌, ◌≤◌, List, length, Some, None}
+use Rattle.std.specs.Prelude.{◌≡◌, ◌⊎◌, ◌↔◌, ℕ, ◌+◌, ◌≤◌, List, length, Some, None, Result, Ok, Err}
 use Rattle.sia_events.specs.declared.event.Event.{Event}
 use Rattle.sia_events.specs.declared.fault.Reason.TheVariants.{BadEvent}
 use Rattle.sia_events.specs.declared.fault.TextFault.{TextFault}
-use Rattle.sia_events.specs.declared.fault.TextFault.TheVariants.{Refused}
+use Rattle.sia_events.specs.declared.fault.TextFault.TheVariants.{NoMemory, Refused}
 use Rattle.sia_events.specs.Places.{at_place}
 use Rattle.sia_events.specs.Events.{named_start}
 use Rattle.sia_events.specs.Text.{spell, tokens, canonical, StandsFor}
 use Rattle.sia_events.specs.Refusals.{IsRefusal, IsRefusalIn, IsAccepted, IsAcceptedIn, IsWellFormed}
+use Rattle.sia_events.specs.Reading.{ReadsAs}
 use Rattle.sia_events.specs.Transactions.{Wrote, StartsAt, IsFirstEvent}
 use Rattle.sia_events.specs.Isolation.{IsolationKept, IsBadRead, IsBadWrite, IsUnexplained, NoneUnexplained}
 use Rattle.sia_events.specs.Dependencies.{WwEdge, WrEdge, RwEdge, HasEdge}
@@ -49,6 +50,11 @@ pub record CanonicalLaw (h : List Event) : Type 0 where
   pub stands : StandsFor (canonical h) h
   pub shortest : (text : List ℕ) → StandsFor text h → length (canonical h) ≤ length text
   pub one : (others : List Event) → canonical h ≡ canonical others → h ≡ others
+
+-- reading what was written gives the history back: what may be read from the canonical text is this history, want of memory
+-- aside
+abbrev pub RoundTrip : List Event → Type 0
+RoundTrip h = (answer : Result (List Event) TextFault) → ReadsAs (canonical h) answer → (answer ≡ Ok h) ⊎ (answer ≡ Err NoMemory)
 
 -- a key that no write event names has no bad read, no bad write, no edge and no unexplained read
 pub record HasNoEntry (h : List Event) (k : ℕ) : Type 0 where

@@ -4,6 +4,7 @@ pub mod Text
 pub mod Events
 pub mod Refusals
 pub mod Parsing
+pub mod TxnSets
 pub mod Known
 pub mod Reading
 pub mod Streaming

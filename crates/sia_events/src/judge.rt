@@ -1,5 +1,5 @@
 //! The events of a text so far, and the judgement of its next token.
-ghost use Rattle.std.specs.Prelude.{◌≡◌, ◌+◌, ◌≤◌, ℕ, length, List, [], ◌∷◌, ◌++◌, Ok, false, All, OnOk, OnErr, IfOk, IfErr, IfSome, IfNone};
+ghost use Rattle.std.specs.Prelude.{◌≡◌, ◌+◌, ◌≤◌, ℕ, ◌<◌, length, List, [], ◌∷◌, ◌++◌, Ok, false, All, IsTrue, slice_index, OnOk, OnErr, IfOk, IfErr, IfSome, IfNone};
 ghost use Rattle.std.specs.List.{AllByRecursion, position_or_len};
 ghost use Rattle.sia_events.specs.declared.event.Event.{Event as AnEvent};
 ghost use Rattle.sia_events.specs.Parsing.{Fails};
@@ -147,12 +147,41 @@ fn is_separator(byte: u8) -> bool
     matches!(byte, b' ' | b'\t' | b'\r' | b'\n')
 }
 
+/// How many bytes are looked at together.
+const BLOCK: usize = 32;
+
+/// Whether each byte is greater than every separator.
+fn is_plain(block: &[u8]) -> bool
+    ensures { IsTrue result → All (λ c. 32 < c) block.now }
+{
+    let mut least = u8::MAX;
+    for byte in block {
+        least = least.min(*byte);
+    }
+    b' ' < least
+}
+
+/// How many bytes are passed in blocks that hold no separator.
+fn plain_len(text: &[u8]) -> usize
+    ensures within { result ≤ length text.now }
+    ensures passed { (k : ℕ) → k < result → is_separator (slice_index text.now k) ≡ false }
+{
+    let mut len = 0;
+    while len + BLOCK <= text.len()
+        && !is_separator(text[len])
+        && is_plain(&text[len..len + BLOCK])
+    {
+        len += BLOCK;
+    }
+    len
+}
+
 /// How many bytes come before the first separator, or at all.
 fn token_len(text: &[u8]) -> usize
     ensures len { result ≡ position_or_len is_separator text.now }
     ensures within { result ≤ length text.now }
 {
-    let mut len = 0;
+    let mut len = plain_len(text);
     while len < text.len() && !is_separator(text[len]) {
         len += 1;
     }

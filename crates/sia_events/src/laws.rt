@@ -2,7 +2,7 @@
 ghost use Rattle.std.specs.Prelude.{List, ℕ};
 ghost use Rattle.sia_events.specs.declared.event.Event.{Event};
 ghost use Rattle.sia_events.specs.Refusals.{IsWellFormed};
-ghost use Rattle.sia_events.specs.Laws.{CanonicalLaw, HasHistory, NamedStartsOnlyAdd, OneHistory, OneRefusal, UnwrittenLaw};
+ghost use Rattle.sia_events.specs.Laws.{CanonicalLaw, HasHistory, NamedStartsOnlyAdd, OneHistory, OneRefusal, RoundTrip, UnwrittenLaw};
 
 /// A text has one refusal at most.
 pub fn one_refusal()
@@ -22,6 +22,11 @@ pub fn accepted_text_has_a_history()
 /// A canonical text stands for its history and for no other, and no text of the history is shorter.
 pub fn canonical_law()
     ensures { (h : List Event) → CanonicalLaw h }
+{}
+
+/// What is read from the canonical text of a well-formed history is that history.
+pub fn round_trip()
+    ensures { (h : List Event) → IsWellFormed h → RoundTrip h }
 {}
 
 /// A key that no write event names has no entry in a verdict.

@@ -11,6 +11,7 @@ mod number;
 mod reader;
 mod tables;
 mod token;
+mod txn_set;
 mod writer;
 
 pub use event::{Event, Key, Listed, TxnId, Version};
@@ -18,7 +19,7 @@ pub use fault::{NoMemory, Reason, TextFault};
 pub use history::History;
 pub use laws::{
     accepted_text_has_a_history, canonical_law, named_starts_only_add, one_history, one_refusal,
-    unwritten_law,
+    round_trip, unwritten_law,
 };
 pub use reader::{TextReader, read_history};
 pub use writer::write_history;

@@ -8,6 +8,9 @@ use crate::fault::{Reason, Refusal};
 /// A number that was read: its value, or None where it takes more than 64 bits.
 pub(crate) type Number = Option<u64>;
 
+/// A number below this has room for one more digit in 64 bits.
+const HAS_ROOM: u64 = 1_844_674_407_370_955_161;
+
 /// How many digits the bytes begin with, and the number that they stand for.
 fn digits(text: &[u8]) -> (usize, Number)
     ensures len { result.0 ≡ digits_len text.now }
@@ -19,12 +22,16 @@ fn digits(text: &[u8]) -> (usize, Number)
     let mut len = 0;
     while len < text.len() && text[len].is_ascii_digit() {
         let digit = u64::from(text[len] - b'0');
-        match value
-            .checked_mul(10)
-            .and_then(|tens| tens.checked_add(digit))
-        {
-            Some(more) => value = more,
-            None => fits = false,
+        if value < HAS_ROOM {
+            value = value * 10 + digit;
+        } else {
+            match value
+                .checked_mul(10)
+                .and_then(|tens| tens.checked_add(digit))
+            {
+                Some(more) => value = more,
+                None => fits = false,
+            }
         }
         len += 1;
     }

@@ -5,10 +5,12 @@ ghost use Rattle.std.specs.BTreeSet.{contains};
 ghost use Rattle.std.specs.Ordering.{nat_cmp};
 ghost use Rattle.sia_events.specs.declared.event.Event.{Event as AnEvent};
 ghost use Rattle.sia_events.specs.Events.{actor};
+ghost use Rattle.sia_events.specs.TxnSets.{has};
 ghost use Rattle.sia_events.specs.Known.{Knows, pair_cmp, acts, ends, writes, is_explained, least_after, goes_up, begin_fault, read_fault, range_fault, own_fault, fault_of};
 
 use crate::event::{Event, Key, TxnId, Version};
 use crate::fault::Reason;
+use crate::txn_set::TxnSet;
 use std::alloc::{AllocError, Global};
 use std::collections::BTreeSet;
 use std::collections::btree_set::Range;
@@ -18,8 +20,8 @@ use std::collections::btree_set::Range;
 /// The keys of a text are a stranger's choice, so the tables are trees, whose look-ups no choice of keys slows down.
 #[derive(Drop)]
 pub(crate) struct Tables {
-    begun: BTreeSet<TxnId>,
-    ended: BTreeSet<TxnId>,
+    begun: TxnSet,
+    ended: TxnSet,
     written: BTreeSet<(Key, TxnId)>,
 }
 
@@ -61,15 +63,15 @@ fn is_next(ahead: &mut Range<'_, (Key, TxnId)>, version: (Key, TxnId)) -> bool
     }
 }
 
-fn add_begun(begun: &mut BTreeSet<TxnId>, event: &Event) -> Result<(), AllocError>
-    ensures { OnOk result ((t : ℕ) → contains nat_cmp begun.new t ≡ (contains nat_cmp begun.old t || acts t event.now)) }
+fn add_begun(begun: &mut TxnSet, event: &Event) -> Result<(), AllocError>
+    ensures { OnOk result ((t : ℕ) → has begun.new t ≡ (has begun.old t || acts t event.now)) }
 {
     begun.insert(event.txn())?;
     Ok(())
 }
 
-fn add_ended(ended: &mut BTreeSet<TxnId>, event: &Event) -> Result<(), AllocError>
-    ensures { OnOk result ((t : ℕ) → contains nat_cmp ended.new t ≡ (contains nat_cmp ended.old t || ends t event.now)) }
+fn add_ended(ended: &mut TxnSet, event: &Event) -> Result<(), AllocError>
+    ensures { OnOk result ((t : ℕ) → has ended.new t ≡ (has ended.old t || ends t event.now)) }
 {
     match event {
         Event::Commit { txn } => {
@@ -101,8 +103,8 @@ impl Tables {
         ensures { Knows result [] }
     {
         Tables {
-            begun: BTreeSet::new(alloc),
-            ended: BTreeSet::new(alloc),
+            begun: TxnSet::new(alloc),
+            ended: TxnSet::new(alloc),
             written: BTreeSet::new(alloc),
         }
     }
@@ -127,7 +129,7 @@ impl Tables {
     fn begin_fault(&self, txn: TxnId, start: Option<u32>, count: usize) -> Option<Reason>
         ensures { (events : List AnEvent) → Knows self.now events → result ≡ begin_fault events count txn start }
     {
-        if self.begun.contains(&txn) {
+        if self.begun.contains(txn) {
             return Some(Reason::AlreadyBegun);
         }
         match start {
@@ -222,7 +224,7 @@ impl Tables {
     pub(crate) fn fault(&self, event: &Event, count: usize) -> Option<Reason>
         ensures { (events : List AnEvent) → Knows self.now events → result ≡ fault_of events count event.now }
     {
-        if self.ended.contains(&event.txn()) {
+        if self.ended.contains(event.txn()) {
             return Some(Reason::AlreadyEnded);
         }
         self.own_fault(event, count)

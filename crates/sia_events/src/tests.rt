@@ -8,11 +8,13 @@ mod pieces;
 mod refusals;
 mod writing;
 
-/// What a reader answers that is fed these two pieces.
+/// What a reader answers that is fed these two pieces with an empty one between them.
 fn read_cut(alloc: Global, front: &[u8], back: &[u8]) -> Result<History, TextFault> {
     let mut reader = TextReader::new(alloc);
-    if reader.feed(front).is_err() || reader.feed(back).is_err() {
-        return Err(TextFault::NoMemory);
+    for piece in [front, b"", back] {
+        if reader.feed(piece).is_err() {
+            return Err(TextFault::NoMemory);
+        }
     }
     reader.finish()
 }
@@ -58,5 +60,15 @@ fn written<R: Abort + AllocGlobal>(rt: &R, text: &[u8]) -> Result<Vec<u8>, Fail>
         .ok()
         .ok_or("memory is there")?;
     assert!(rt; canonical == again);
+    for at in 0..=text.len() {
+        let (front, back) = text.split_at(at);
+        let cut = read_cut(rt.alloc(), front, back)
+            .ok()
+            .ok_or("the pieces are a history")?;
+        let again = write_history(rt.alloc(), &cut)
+            .ok()
+            .ok_or("memory is there")?;
+        assert!(rt; canonical == again);
+    }
     Ok(canonical)
 }

@@ -7,3 +7,4 @@ pub mod Collected
 pub mod Runs
 pub mod Spans
 pub mod Offsets
+pub mod ReadTables

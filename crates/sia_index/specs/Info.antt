@@ -1,10 +1,14 @@
 -- What is known of a transaction, and of a committed transaction's version of a key.
-use Rattle.std.specs.Prelude.{◌≡◌, ◌<◌, ◌≤◌, ℕ, List, [], ◌∷◌, Option, Some, None, slice_index, length, flat_map}
+use Rattle.std.specs.Prelude.{◌≡◌, ◌<◌, ◌≤◌, ℕ, List, [], ◌∷◌, Option, Some, None, slice_index, length, flat_map, All, Contains}
 use Rattle.std.specs.List.{AllZip}
 use Rattle.sia_events.specs.declared.event.Event.{Event}
+use Rattle.sia_events.specs.declared.event.Event.TheVariants.{Read, Range}
+use Rattle.sia_events.specs.Places.{at_place}
 use Rattle.sia_events.specs.Lists.{ListsBy, ListsAscending}
 use Rattle.sia_events.specs.Transactions.{StartsAt, CommitsAt, AbortsAt, IsOpen, WritesAt, Wrote}
 use Rattle.sia_index.specs.declared.info.Made.{Made}
+use Rattle.sia_index.specs.declared.info.ItemRead.{ItemRead}
+use Rattle.sia_index.specs.declared.info.RangeRead.{RangeRead}
 use Rattle.sia_index.specs.declared.info.TxnInfo.{TxnInfo}
 use Rattle.sia_index.specs.declared.info.Fate.{Fate}
 use Rattle.sia_index.specs.declared.info.Fate.TheVariants.{Committed, Aborted, Unfinished}
@@ -38,6 +42,10 @@ AreVersions h k versions = ListsBy (λ made. made.commit ∷ []) (IsMade h k) ve
 abbrev pub AreWrittenKeys : List Event → List ℕ → Type 0
 AreWrittenKeys h keys = ListsAscending (λ k. (t : ℕ) × Wrote h t k) keys
 
+-- of these the keys from lo to hi
+abbrev pub AreWrittenWithin : List Event → ℕ → ℕ → List ℕ → Type 0
+AreWrittenWithin h lo hi keys = ListsAscending (λ k. ((t : ℕ) × Wrote h t k) × (lo ≤ k) × (k ≤ hi)) keys
+
 -- p is the place where t wrote key k first
 abbrev pub IsFirstWrite : List Event → ℕ → ℕ → ℕ → Type 0
 IsFirstWrite h t k p = WritesAt h t k p × ((q : ℕ) → WritesAt h t k q → p ≤ q)
@@ -54,3 +62,20 @@ IsKeyAt h i k = (keys : List ℕ) × AreWrittenKeys h keys × (i < length keys) 
 abbrev pub AreAllVersions : List Event → List Made → Type 0
 AreAllVersions h versions = (keys : List ℕ) × (chains : List (List Made)) × AreWrittenKeys h keys
     × AllZip (AreVersions h) keys chains × (versions ≡ flat_map (λ chain. chain) chains)
+
+-- the read event stands in the history
+abbrev pub IsItemRead : List Event → ItemRead → Type 0
+IsItemRead h read = at_place h read.place ≡ Some (Read read.txn read.key read.saw)
+
+-- the range read event stands in the history, with some listed keys
+abbrev pub IsRangeRead : List Event → RangeRead → Type 0
+IsRangeRead h read = (listed : List (ℕ × ℕ)) × (at_place h read.place ≡ Some (Range read.txn read.lo read.hi listed))
+
+-- every read event of a key from lo to hi, by key, transaction and place
+abbrev pub AreReadsWithin : List Event → ℕ → ℕ → List ItemRead → Type 0
+AreReadsWithin h lo hi reads = ListsBy (λ read. read.key ∷ read.txn ∷ read.place ∷ read.saw ∷ []) (λ read. IsItemRead h read × (lo ≤ read.key) × (read.key ≤ hi)) reads
+
+-- range read events, and among them each that shares a key with those from lo to hi
+pub record AreRangesMeeting (h : List Event) (lo hi : ℕ) (ranges : List RangeRead) : Type 0 where
+  pub right : All (IsRangeRead h) ranges
+  pub whole : (read : RangeRead) → IsRangeRead h read → read.lo ≤ hi → lo ≤ read.hi → Contains ranges read

@@ -1,10 +1,12 @@
 -- The rows of an index's tables: what each says of a history, and the order that they stand in.
-use Rattle.std.specs.Prelude.{◌<◌, ◌≤◌, ℕ, List, [], ◌∷◌, All, AllPairs, Contains}
+use Rattle.std.specs.Prelude.{◌≡◌, ◌<◌, ◌≤◌, ℕ, List, [], ◌∷◌, All, AllPairs, Contains, length, slice_index, slice_index_or}
 use Rattle.sia_events.specs.declared.event.Event.{Event}
 use Rattle.sia_events.specs.Lists.{ListsBy, Precedes}
 use Rattle.sia_events.specs.Transactions.{ActsAt, HasEvent, WritesAt, Wrote, CommitsAt}
-use Rattle.sia_index.specs.Info.{IsInfo}
+use Rattle.sia_index.specs.Info.{IsInfo, IsItemRead, IsRangeRead}
 use Rattle.sia_index.specs.declared.info.Made.{Made}
+use Rattle.sia_index.specs.declared.info.ItemRead.{ItemRead}
+use Rattle.sia_index.specs.declared.info.RangeRead.{RangeRead}
 use Rattle.sia_index.specs.declared.info.TxnInfo.{TxnInfo}
 use Rattle.sia_index.specs.declared.rows.ActRow.{ActRow}
 use Rattle.sia_index.specs.declared.rows.WriteRow.{WriteRow}
@@ -63,3 +65,23 @@ pub record AreTxns (h : List Event) (table : List TxnRow) : Type 0 where
   pub ascending : AscendsByTxn table
   pub right : All (λ row. IsInfo h row.txn row.info) table
   pub whole : (t : ℕ) → HasEvent h t → (info : TxnInfo) × Contains table (record { txn = t; info = info })
+
+-- every read event, by key
+abbrev pub AreReads : List Event → List ItemRead → Type 0
+AreReads h reads = ListsBy (λ read. read.key ∷ read.txn ∷ read.place ∷ read.saw ∷ []) (IsItemRead h) reads
+
+abbrev pub AscendsByRead : List ItemRead → Type 0
+AscendsByRead reads = AllPairs (λ x y. Precedes (x.key ∷ x.txn ∷ x.place ∷ x.saw ∷ []) (y.key ∷ y.txn ∷ y.place ∷ y.saw ∷ [])) reads
+
+-- every range read event, by its first key
+abbrev pub AreRanges : List Event → List RangeRead → Type 0
+AreRanges h ranges = ListsBy (λ read. read.lo ∷ read.hi ∷ read.txn ∷ read.place ∷ []) (IsRangeRead h) ranges
+
+abbrev pub AscendsByRange : List RangeRead → Type 0
+AscendsByRange ranges = AllPairs (λ x y. Precedes (x.lo ∷ x.hi ∷ x.txn ∷ x.place ∷ []) (y.lo ∷ y.hi ∷ y.txn ∷ y.place ∷ [])) ranges
+
+-- how far the ranges reach, each with those before it: never back, and at least as far as each goes
+pub record AreReaches (ranges : List RangeRead) (reaches : List ℕ) : Type 0 where
+  pub count : length reaches ≡ length ranges
+  pub forward : AllPairs (λ x y. x ≤ y) reaches
+  pub far : (i : ℕ) (d : RangeRead) → i < length ranges → (slice_index_or ranges i d).hi ≤ slice_index reaches i

@@ -4,8 +4,10 @@ use Rattle.std.specs.List.Sorted.{IsPartitionPoint}
 use Rattle.sia_events.specs.declared.event.Event.{Event}
 use Rattle.sia_events.specs.Refusals.{IsWellFormed}
 use Rattle.sia_index.specs.Info.{AreVersions, AreWrittenKeys}
-use Rattle.sia_index.specs.Rows.{AreTxns, AreWrites}
+use Rattle.sia_index.specs.Rows.{AreTxns, AreWrites, AreReads, AreRanges, AreReaches}
 use Rattle.sia_index.specs.declared.info.Made.{Made}
+use Rattle.sia_index.specs.declared.info.ItemRead.{ItemRead}
+use Rattle.sia_index.specs.declared.info.RangeRead.{RangeRead}
 use Rattle.sia_index.specs.declared.rows.VersionRow.{VersionRow}
 use Rattle.sia_index.specs.declared.rows.WriteRow.{WriteRow}
 use Rattle.sia_index.specs.declared.rows.TxnRow.{TxnRow}
@@ -30,9 +32,12 @@ pub record AreChains (h : List Event) (keys offsets : List ℕ) (made : List Mad
   pub last : slice_index offsets (length keys) ≡ length made
   pub each : (i : ℕ) → i < length keys → HasChain h keys offsets made i
 
-pub record AreTables (h : List Event) (txns : List TxnRow) (writes : List WriteRow) (keys offsets : List ℕ) (made : List Made) : Type 0 where
+pub record AreTables (h : List Event) (txns : List TxnRow) (writes : List WriteRow) (keys offsets : List ℕ) (made : List Made) (reads : List ItemRead) (ranges : List RangeRead) (reaches : List ℕ) : Type 0 where
   pub well_formed : IsWellFormed h
   pub txns_are : AreTxns h txns
   pub writes_are : AreWrites h writes
   pub keys_are : AreWrittenKeys h keys
   pub chains_are : AreChains h keys offsets made
+  pub reads_are : AreReads h reads
+  pub ranges_are : AreRanges h ranges
+  pub reaches_are : AreReaches ranges reaches

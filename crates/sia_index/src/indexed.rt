@@ -3,10 +3,11 @@ ghost use Rattle.std.specs.Prelude.{◌≡◌, ◌↔◌, ◌≤◌, ◌<◌, �
 ghost use Rattle.sia_events.specs.Transactions.{HasEvent, Overlap, Wrote, WroteBefore};
 ghost use Rattle.sia_events.specs.Reads.{IsDue};
 ghost use Rattle.sia_events.specs.Refusals.{IsWellFormed};
-ghost use Rattle.sia_index.specs.Info.{IsInfo, AreVersions, AreWrittenKeys, AreAllVersions, IsFirstWrite, HasKeyAt, IsKeyAt, StartsBefore};
+ghost use Rattle.sia_index.specs.Info.{IsInfo, AreVersions, AreWrittenKeys, AreAllVersions, IsFirstWrite, HasKeyAt, IsKeyAt, StartsBefore, AreReadsWithin, AreRangesMeeting, AreWrittenWithin};
 ghost use Rattle.sia_index.specs.Rows.{AscendsByCommit, IsLastWithin};
 
-use crate::info::{Fate, Made, TxnInfo};
+use crate::info::{Fate, ItemRead, Made, RangeRead, TxnInfo};
+use crate::reads::{keys_between, ranges_meeting, reads_between};
 use crate::rows::{TxnRow, WriteRow, find_txn, find_write, part_at};
 use sia_events::{History, Key, TxnId, Version};
 use std::marker::Model;
@@ -21,6 +22,9 @@ pub struct Index {
     pub(crate) keys: Vec<Key>,
     pub(crate) offsets: Vec<usize>,
     pub(crate) made: Vec<Made>,
+    pub(crate) reads: Vec<ItemRead>,
+    pub(crate) ranges: Vec<RangeRead>,
+    pub(crate) reaches: Vec<Key>,
 }
 
 impl Model for Index {
@@ -32,7 +36,7 @@ impl Model for Index {
 
     ghost view = { λ ix. ix.of.value };
 
-    ghost invariant = { λ ix. AreTables ix.of.value ix.txns.items ix.writes.items ix.keys.items ix.offsets.items ix.made.items };
+    ghost invariant = { λ ix. AreTables ix.of.value ix.txns.items ix.writes.items ix.keys.items ix.offsets.items ix.made.items ix.reads.items ix.ranges.items ix.reaches.items };
 }
 
 impl Index {
@@ -126,6 +130,28 @@ impl Index {
         ensures { AreWrittenKeys self.now result.now }
     {
         &self.keys
+    }
+
+    /// The written keys from `lo` to `hi`, ascending, found by two searches.
+    pub fn written_within(&self, lo: Key, hi: Key) -> &[Key]
+        ensures { AreWrittenWithin self.now lo hi result.now }
+    {
+        keys_between(&self.keys, lo, hi)
+    }
+
+    /// The read events of the keys from `lo` to `hi`, found by two searches. For the audit of a part of the keys.
+    pub fn reads_within(&self, lo: Key, hi: Key) -> &[ItemRead]
+        ensures { AreReadsWithin self.now lo hi result.now }
+    {
+        reads_between(&self.reads, lo, hi)
+    }
+
+    /// The range read events that may share a key with those from `lo` to `hi`, found by two searches. For the audit of a
+    /// part of the keys. Those that start above `hi` aren't among them, nor are the first ones that all end below `lo`.
+    pub fn ranges_meeting(&self, lo: Key, hi: Key) -> &[RangeRead]
+        ensures { AreRangesMeeting self.now lo hi result.now }
+    {
+        ranges_meeting(&self.ranges, &self.reaches, lo, hi)
     }
 }
 

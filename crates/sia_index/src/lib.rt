@@ -7,11 +7,12 @@ mod indexed;
 mod info;
 pub mod make;
 mod ordering;
+mod reads;
 mod rows;
 mod txns;
 
 pub use indexed::Index;
-pub use info::{Fate, Made, TxnInfo};
+pub use info::{Fate, ItemRead, Made, RangeRead, TxnInfo};
 
 #[cfg(test)]
 mod tests;

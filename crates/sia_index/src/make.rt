@@ -4,6 +4,7 @@ ghost use Rattle.std.specs.Prelude.{◌≡◌, IfOk};
 use crate::chains::{keys_of, made_of, offsets_of};
 use crate::events::{acts_of, version_rows_of, writes_of};
 use crate::indexed::Index;
+use crate::reads::{ranges_of, reaches_of, reads_of};
 use crate::txns::txns_of;
 use sia_events::{History, NoMemory};
 use std::alloc::Global;
@@ -22,6 +23,9 @@ pub fn index(alloc: Global, h: &History) -> Result<Index, NoMemory>
     let keys = keys_of(alloc, &writes)?;
     let offsets = offsets_of(alloc, &keys, &rows)?;
     let made = made_of(alloc, &rows)?;
+    let reads = reads_of(alloc, h)?;
+    let ranges = ranges_of(alloc, h)?;
+    let reaches = reaches_of(alloc, &ranges)?;
     Ok(Index {
         of: Snapshot::of(h),
         txns,
@@ -29,5 +33,8 @@ pub fn index(alloc: Global, h: &History) -> Result<Index, NoMemory>
         keys,
         offsets,
         made,
+        reads,
+        ranges,
+        reaches,
     })
 }

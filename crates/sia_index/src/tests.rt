@@ -124,3 +124,63 @@ fn no_event(rt: HostRuntime) -> Result<(), Fail> {
     assert_eq!(rt; index.txn(1), None);
     Ok(())
 }
+
+const fn range(lo: Key, hi: Key, txn: TxnId, place: u32) -> RangeRead {
+    RangeRead { lo, hi, txn, place }
+}
+
+// The reads of some keys go by key, then by transaction and place; a range read isn't one of them.
+#[test]
+fn reads_by_key(rt: HostRuntime) -> Result<(), Fail> {
+    let index = index_of(
+        &rt,
+        b"w1[3] r2[9:0] r1[3:1] r2[3:0] r1[3:1] r3[0..9] r3[4:0]",
+    )?;
+    let first = ItemRead {
+        key: 3,
+        txn: 1,
+        place: 3,
+        saw: 1,
+    };
+    let again = ItemRead {
+        key: 3,
+        txn: 1,
+        place: 5,
+        saw: 1,
+    };
+    let other = ItemRead {
+        key: 3,
+        txn: 2,
+        place: 4,
+        saw: 0,
+    };
+    let next = ItemRead {
+        key: 4,
+        txn: 3,
+        place: 7,
+        saw: 0,
+    };
+    assert_eq!(rt; index.reads_within(3, 3), [first, again, other].as_slice());
+    assert_eq!(rt;
+        index.reads_within(0, 8),
+        [first, again, other, next].as_slice()
+    );
+    assert!(rt; index.reads_within(5, 8).is_empty());
+    assert!(rt; index.reads_within(9, 3).is_empty());
+    Ok(())
+}
+
+// A range read is found from the part of its first key, its last key and each between; one that lies elsewhere isn't.
+#[test]
+fn ranges_by_key(rt: HostRuntime) -> Result<(), Fail> {
+    let index = index_of(&rt, b"r1[5..20] r2[1..2] r3[15..18446744073709551615]")?;
+    let low = range(1, 2, 2, 2);
+    let middle = range(5, 20, 1, 1);
+    let high = range(15, Key::MAX, 3, 3);
+    assert_eq!(rt; index.ranges_meeting(0, 4), [low].as_slice());
+    assert_eq!(rt; index.ranges_meeting(3, 5), [middle].as_slice());
+    assert_eq!(rt; index.ranges_meeting(7, 9), [middle].as_slice());
+    assert_eq!(rt; index.ranges_meeting(20, 20), [middle, high].as_slice());
+    assert_eq!(rt; index.ranges_meeting(21, Key::MAX), [high].as_slice());
+    Ok(())
+}

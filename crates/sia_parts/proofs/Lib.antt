@@ -9,3 +9,9 @@ pub mod FindingLemmas
 pub mod KeyLemmas
 pub mod FieldLemmas
 pub mod NoEvents
+pub mod Adding
+pub mod Sources
+pub mod Listing
+pub mod Joins
+pub mod Saw
+pub mod PartReads

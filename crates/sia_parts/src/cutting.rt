@@ -6,7 +6,7 @@ ghost use Rattle.sia_parts.specs.Parts.{parts_from, IsCutting, HasTooManyCuts};
 ghost use Rattle.sia_parts.specs.declared.cutting.CutFault.TheVariants as faults;
 
 use sia_events::Key;
-use std::alloc::{AllocError, AllocFailed, Global};
+use std::alloc::{AllocError, Global};
 
 /// The greatest number of parts.
 const MAX_PARTS: usize = 1024;

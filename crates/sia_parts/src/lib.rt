@@ -1,14 +1,21 @@
 //! Parts of the keys, and what is found in a history at the keys of a part.
 #![tactic(auto)]
 
+mod auditing;
 mod cutting;
+mod edges;
 mod finding;
 mod findings;
 mod gathering;
 mod laws;
 mod merging;
+mod ordering;
+mod pairs;
 mod ranked;
+mod sights;
+mod spans;
 
+pub use auditing::audit_part;
 pub use cutting::{CutFault, Part, cut};
 pub use finding::{BadRead, BadWrite, Edge, Kind, Unexplained};
 pub use findings::{Findings, PartFindings};

@@ -7,6 +7,9 @@ use std::alloc::Global;
 use std::collections::VecDeque;
 use std::test::*;
 
+mod cuts;
+mod worked;
+
 fn part(lo: u64, hi: u64) -> Part {
     Part { lo, hi }
 }

@@ -1,4 +1,4 @@
-use Rattle.std.proofs.Common.{◌≡◌, ◌-◌, List, ℕ, IsFalse, length}
+use Rattle.std.proofs.Common.{◌≡◌, ◌+◌, ◌-◌, ◌≤◌, List, ℕ, IsFalse, length}
 use Rattle.std.specs.Io.KnownBytes.{Consumes}
 use Rattle.sia_events.specs.Streaming.{StandsForRead}
 use Rattle.si_audit.proofs.input.read_text.Given as goal
@@ -9,6 +9,8 @@ invariant-reading g l = record {
   consumed : Consumes (g.R.Source.remaining l.fn.source) (g.R.Source.remaining l.source) front;
   counted : length front ≡ l.count;
   stands : StandsForRead l.text front;
+  given : g.R.Source.reads l.source ≤ g.R.Source.reads l.fn.source + l.count;
+  given_few : g.R.Source.reads l.source ≤ g.R.Source.reads l.fn.source + 16777217;
   sound : IsFalse (g.R.Source.has_failed l.source);
 }
 

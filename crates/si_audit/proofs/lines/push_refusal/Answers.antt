@@ -8,7 +8,7 @@ returns-in_ok-extend_from_slice-in-Refused-4 c =
       c.in-Refused.is,
       c.in_ok-extend_from_slice-in-Refused-4.ensures.items,
       c.in_ok-extend_from_slice-in-Refused-3.ensures.items,
-      c.words_of.ensures,
+      c.reason_words.ensures,
       c.in_ok-extend_from_slice-in-Refused-2.ensures.items,
       c.in_ok-push_number-in-Refused.ensures,
       c.in_ok-extend_from_slice-in-Refused.ensures.items,

@@ -1,0 +1,67 @@
+-- What an account says of how a run ends, and that it can be printed.
+use Rattle.std.proofs.Common.{◌≡◌, ◌≢◌, ◌↔◌, ℕ, List, [], ◌∷◌, length, map, get_or, subst, arith}
+use Rattle.std.specs.Prelude.{IsTrue, ⊤, All, Contains}
+use Rattle.std.proofs.lemmas.List.{get_or-map, length-map}
+use Rattle.std.proofs.lemmas.List.Elements.{All-contains_itself}
+use Rattle.sia_events.specs.declared.event.Event.{Event}
+use Rattle.sia_events.specs.Isolation.{IsBadRead, IsBadWrite}
+use Rattle.sia_events.specs.DangerousStructures.{IsPivot}
+use Rattle.sia_parts.specs.Entries.{bad_read_rank, bad_write_rank}
+use Rattle.sia_parts.proofs.Members.{contains_none}
+use Rattle.sia_graph.specs.declared.pivot.Pivot.{Pivot}
+use Rattle.sia_graph.specs.declared.settling.Verdict.{Verdict}
+use Rattle.sia_graph.specs.declared.settling.Verdict.TheVariants.{Order, Cycle}
+use Rattle.sia_graph.specs.Pivots.{ArePivots}
+use Rattle.sia_graph.specs.Verdicts.{IsVerdict}
+use Rattle.si_audit.specs.Account.{Account}
+use Rattle.si_audit.specs.Accounts.{IsAccount}
+use Rattle.si_audit.specs.Outcomes.{IsClean}
+use Rattle.si_audit.specs.Report.{HasStep, CanBePrinted}
+use Rattle.si_audit.proofs.Judging.{none_listed, empty_list}
+
+has_step : (M : ℕ → Type 0) (E : _ → Type 0) (v : Verdict) → IsVerdict M E v → HasStep v
+has_step M E (Order order) is = tt
+has_step M E (Cycle []) is = absurd is.1
+has_step M E (Cycle (s ∷ steps)) is = λ none. cc
+
+contains_some : (xs : List ℕ) (x : ℕ) → Contains xs x → xs ≢ []
+contains_some xs x c none = contains_none x (subst (λ ys. Contains ys x) none c)
+
+has_neighbours : (h : List Event) (ps : List Pivot) → ArePivots h ps → All (λ p. (p.ins ≢ []) × (p.outs ≢ [])) ps
+has_neighbours h ps pivots k d below =
+    let p = get_or ps k d in
+    let txns = map (λ (q : Pivot). q.txn) ps in
+    let len : length txns ≡ length ps = length-map ps (λ (q : Pivot). q.txn) in
+    let at : get_or txns k p.txn ≡ p.txn = get_or-map (λ (q : Pivot). q.txn) ps k d p.txn below in
+    let is : IsPivot h p.txn = subst (IsPivot h) at ((pivots.txns.each (get_or txns k p.txn)).0 (All-contains_itself txns k p.txn (omega arith))) in
+    let lists = pivots.neighbours k d below in (
+      contains_some p.ins is.0.0 ((lists.ins.each is.0.0).1 is.0.1),
+      contains_some p.outs is.1.0 ((lists.outs.each is.1.0).1 is.1.1),
+    )
+
+-- the account of a history can be printed
+pub can_be_printed : (h : List Event) (a : Account) → IsAccount h a → CanBePrinted a
+can_be_printed h a is = record {
+  steps = has_step _ _ a.verdict is.verdict;
+  neighbours = has_neighbours h a.pivots is.pivots;
+}
+
+-- a history is clean exactly where its account has no bad read and no bad write, and a serial order replays it
+pub clean_where : (h : List Event) (a : Account) → IsAccount h a → ((a.bad_reads ≡ []) × (a.bad_writes ≡ []) × IsTrue a.serializable) ↔ IsClean h
+clean_where h a is = (to, from)
+  where
+    to : (a.bad_reads ≡ []) × (a.bad_writes ≡ []) × IsTrue a.serializable → IsClean h
+    to e = (
+      record {
+        reads = λ p t k saw due bad. none_listed bad_read_rank (λ b. IsBadRead h b.place b.txn b.key b.saw b.due × ⊤) a.bad_reads is.bad_reads e.0 (record { place = p; txn = t; key = k; saw = saw; due = due }) (bad, tt);
+        writes = λ k first second bad. none_listed bad_write_rank (λ b. IsBadWrite h b.key b.first b.second × ⊤) a.bad_writes is.bad_writes e.1 (record { key = k; first = first; second = second }) (bad, tt);
+      },
+      is.serializable.0 e.2,
+    )
+
+    from : IsClean h → (a.bad_reads ≡ []) × (a.bad_writes ≡ []) × IsTrue a.serializable
+    from e = (
+      empty_list bad_read_rank (λ b. IsBadRead h b.place b.txn b.key b.saw b.due × ⊤) a.bad_reads is.bad_reads (λ b bad. e.0.reads b.place b.txn b.key b.saw b.due bad.0),
+      empty_list bad_write_rank (λ b. IsBadWrite h b.key b.first b.second × ⊤) a.bad_writes is.bad_writes (λ b bad. e.0.writes b.key b.first b.second bad.0),
+      is.serializable.1 e.1,
+    )

@@ -1,0 +1,258 @@
+-- Words at which a command without subcommands finds no fault are taken.
+use Rattle.std.proofs.Common.{◌≡◌, ◌∙◌, ◌<◌, ◌≤◌, ◌&&◌, ◌||◌, ◌==◌, ℕ, Bool, true, false, not, zero, suc, refl, sym, ap, arith, List, [], ◌∷◌, length, Option, Some, None, is_some, nat_lt, nat_le, drop}
+use Rattle.std.specs.Prelude.{if◌then◌else◌, codes, encode_utf8, slice_get}
+use Rattle.std.specs.List.{list_all}
+use Rattle.std.specs.Option.{option_map_or}
+use Rattle.std.specs.Str.{bytes_eq, chars}
+use Rattle.std.proofs.lemmas.Bool.{eqb-true, le-leb, ltb-false}
+use Rattle.clap.specs.Values.{refused_kind}
+use Rattle.clap.specs.ValueTests.{accepts}
+use Rattle.clap.specs.Facts.{parser_of_value, unwrap_or_range}
+use Rattle.clap.specs.Matches.{count_text}
+use Rattle.clap.specs.Lexer.{long_of, short_of}
+use Rattle.clap.specs.Walk.{next, trailing, subcommand, value, Held, Names, Row, Rule, Step, Text, Waiting, Walk, action_of, arg_by_id, arg_by_index, arg_by_long, arg_by_short, attached_value, count_of, finished, has_row, is_pending, most_values, nothing_held, reacted, settled, subcommand_met, takes_several, takes_values, values_or_missing, walk, walk_from, walked, word_met}
+use Rattle.clap.specs.Simple.{App, Shape, argument_words, built, is_simple}
+use Rattle.clap.specs.Kinds.{Kinds, or_else, range_kinds, value_kinds, values_kinds}
+use Rattle.clap.specs.Faults.{action_fault, bundle_fault, bundle_step_fault, fault_of, flag_word_fault, flags_fault, level_fault, long_fault, option_fault, other_fault, positional_fault, react_fault, settle_fault, short_fault, step_fault, stray_fault, turn_fault, use_fault, walk_fault, word_fault}
+use Rattle.clap.specs.Takes.{action_passes, bundle_passes, bundle_step_passes, default_passes, flag_word_passes, flags_pass, is_valid, level_passes, long_passes, option_passes, other_passes, positional_passes, react_passes, settle_passes, short_passes, step_passes, takes, turn_passes, use_passes, values_pass, walk_passes, word_passes}
+use Rattle.clap.specs.declared.builder.action.ArgAction.{ArgAction}
+use Rattle.clap.specs.declared.builder.action.ArgAction.TheVariants as action
+use Rattle.clap.specs.declared.builder.value_parser.ValueParser.{ValueParser}
+use Rattle.clap.specs.declared.error.kind.ErrorKind.{ErrorKind}
+use Rattle.clap.specs.declared.error.kind.ErrorKind.TheVariants as kind
+use Rattle.clap.proofs.TakesLemmas.{leaf_takes}
+use Rattle.clap.proofs.FaultLemmas.{leaf_fault}
+use Rattle.si_audit.specs.Words.{program}
+
+-- ---- kinds and tests
+
+-- two steps have no kind, if neither has
+neither : (a b : Kinds) → or_else a b ≡ [] → (a ≡ []) × (b ≡ [])
+neither [] b e = (refl, e)
+neither (k ∷ ks) b e = cc
+
+all_pass : (a b : Bool) → a ≡ true → b ≡ true → (a && b) ≡ true
+all_pass a b p q = rw (p, q) refl
+
+-- a test that makes a kind has failed
+not_met : (b : Bool) (k : ErrorKind) (rest : Kinds) → (if b then k ∷ [] else rest) ≡ [] → (b ≡ false) × (rest ≡ [])
+not_met true k rest e = cc
+not_met false k rest e = (refl, e)
+
+-- a test without which there is a kind has passed
+met : (b : Bool) (k : ErrorKind) → (if b then [] else k ∷ []) ≡ [] → b ≡ true
+met true k e = refl
+met false k e = cc
+
+-- ---- values
+
+value_taken : (i : Bool) (p : ValueParser) (t : Text) → value_kinds i p t ≡ [] → accepts i p t ≡ true
+value_taken i p t e = met (accepts i p t) (refused_kind p) e
+
+values_taken : (i : Bool) (p : ValueParser) (ts : List Text) → values_kinds i p ts ≡ [] → list_all (accepts i p) ts ≡ true
+values_taken i p [] e = refl
+values_taken i p (t ∷ ts) e =
+    let parts = neither (value_kinds i p t) (values_kinds i p ts) e in
+    all_pass _ _ (value_taken i p t parts.0) (values_taken i p ts parts.1)
+
+range_taken : (least most n : ℕ) → range_kinds least most n ≡ [] → (nat_le least n ≡ true) × (nat_le n most ≡ true)
+range_taken least most n e = go (least == most) refl (not_met (nat_lt 0 least && n == 0) kind.InvalidValue _ e).1
+  where
+    go : (b : Bool) → (least == most) ≡ b
+        → (if b then (if least == n then [] else kind.WrongNumberOfValues ∷ [])
+        else (if nat_lt n least then kind.TooFewValues ∷ [] else (if nat_lt most n then kind.TooManyValues ∷ [] else []))) ≡ []
+        → (nat_le least n ≡ true) × (nat_le n most ≡ true)
+    go true same rest =
+        let one = eqb-true least most same in
+        let other = eqb-true least n (met (least == n) kind.WrongNumberOfValues rest) in
+        (le-leb least n (omega arith), le-leb n most (omega arith))
+    go false same rest =
+        let low = not_met (nat_lt n least) kind.TooFewValues _ rest in
+        let high = not_met (nat_lt most n) kind.TooManyValues [] low.1 in
+        (le-leb least n (ltb-false n least low.0), le-leb n most (ltb-false most n high.0))
+
+-- ---- one use of an argument
+
+repeat_taken : (h again : Bool) → (if h && not again then kind.ArgumentConflict ∷ [] else []) ≡ [] → (not h || again) ≡ true
+repeat_taken true true e = refl
+repeat_taken true false e = cc
+repeat_taken false again e = refl
+
+set_taken : (again : Bool) (a : Rule) (values : List Text) (rows : List Row) → action_fault action.Set again a values rows ≡ [] → action_passes action.Set again a values rows ≡ true
+set_taken again a values rows e =
+    let parts = neither _ _ e in
+    all_pass _ _ (repeat_taken (has_row a.id rows) again parts.0) (values_taken a.ignore_case (parser_of_value a.parser) values parts.1)
+
+action_taken : (x : ArgAction) (again : Bool) (a : Rule) (values : List Text) (rows : List Row) → action_fault x again a values rows ≡ [] → action_passes x again a values rows ≡ true
+action_taken action.Set again a values rows e = set_taken again a values rows e
+action_taken action.SetTrue again a values rows e = set_taken again a values rows e
+action_taken action.SetFalse again a values rows e = set_taken again a values rows e
+action_taken action.Append again a values rows e = values_taken a.ignore_case (parser_of_value a.parser) values e
+action_taken action.Count again a [] rows e = value_taken a.ignore_case (parser_of_value a.parser) _ e
+action_taken action.Count again a (v ∷ vs) rows e = values_taken a.ignore_case (parser_of_value a.parser) (v ∷ vs) e
+action_taken action.Help again a values rows e = cc
+action_taken action.HelpShort again a values rows e = cc
+action_taken action.HelpLong again a values rows e = cc
+action_taken action.Version again a values rows e = cc
+
+use_taken : (again : Bool) (a : Rule) (values : List Text) (rows : List Row) → use_fault again a values rows ≡ [] → use_passes again a values rows ≡ true
+use_taken again a values rows e =
+    let parts = neither (range_kinds (unwrap_or_range a.range).start_inclusive (most_values a) (length values)) _ e in
+    let range = range_taken (unwrap_or_range a.range).start_inclusive (most_values a) (length values) parts.0 in
+    all_pass _ _ range.0 (all_pass _ _ range.1 (action_taken (action_of a) again a (values_or_missing a values) rows parts.1))
+
+module _ (c : List Rule) (again : Bool) where
+  settle_taken : (h : Held) → settle_fault c again h ≡ [] → settle_passes c again h ≡ true
+  settle_taken h e = go h.pending e
+    where
+      used : (p : Text × List Text) (o : Option Rule) → option_map_or (λ a. use_fault again a p.1 h.rows) o [] ≡ []
+          → option_map_or (λ a. use_passes again a p.1 h.rows) o true ≡ true
+      used p None e = refl
+      used p (Some a) e = use_taken again a p.1 h.rows e
+
+      go : (o : Option (Text × List Text)) → option_map_or (λ p. option_map_or (λ a. use_fault again a p.1 h.rows) (arg_by_id c p.0) []) o [] ≡ []
+          → option_map_or (λ p. option_map_or (λ a. use_passes again a p.1 h.rows) (arg_by_id c p.0) true) o true ≡ true
+      go None e = refl
+      go (Some p) e = used p (arg_by_id c p.0) e
+
+  react_taken : (a : Rule) (values : List Text) (h : Held) → react_fault c again a values h ≡ [] → react_passes c again a values h ≡ true
+  react_taken a values h e =
+      let parts = neither (settle_fault c again h) _ e in
+      all_pass _ _ (settle_taken h parts.0) (use_taken again a values (settled c h).rows parts.1)
+
+  option_taken : (a : Rule) (v : Option Text) (h : Held) → option_fault c again a v h ≡ [] → option_passes c again a v h ≡ true
+  option_taken a None h e = settle_taken h e
+  option_taken a (Some v) h e = react_taken a (v ∷ []) h e
+
+  long_taken : (found : Option Rule) (v : Option Text) (h : Held) → long_fault c again found v h ≡ [] → long_passes c again found v h ≡ true
+  long_taken None v h e = cc
+  long_taken (Some a) v h e = go (takes_values a) v e
+    where
+      go : (b : Bool) (w : Option Text)
+          → (if b then option_fault c again a w h else (if is_some w then kind.TooManyValues ∷ [] else react_fault c again a [] h)) ≡ []
+          → (if b then option_passes c again a w h else (not (is_some w) && react_passes c again a [] h)) ≡ true
+      go true w e = option_taken a w h e
+      go false None e = react_taken a [] h e
+      go false (Some w) e = cc
+
+  short_taken : (found : Option Rule) (rest : Text) (h : Held) (kinds : Held → Kinds) (passes : Held → Bool)
+      → ((g : Held) → kinds g ≡ [] → passes g ≡ true) → short_fault c again found rest h kinds ≡ [] → short_passes c again found rest h passes ≡ true
+  short_taken None rest h kinds passes after e = cc
+  short_taken (Some a) rest h kinds passes after e = go (takes_values a) e
+    where
+      go : (b : Bool) → (if b then option_fault c again a (attached_value rest) h else or_else (react_fault c again a [] h) (kinds (reacted c a [] h))) ≡ []
+          → (if b then option_passes c again a (attached_value rest) h else (react_passes c again a [] h && passes (reacted c a [] h))) ≡ true
+      go true e = option_taken a (attached_value rest) h e
+      go false e =
+          let parts = neither (react_fault c again a [] h) _ e in
+          all_pass _ _ (react_taken a [] h parts.0) (after (reacted c a [] h) parts.1)
+
+  bundle_step_taken : (x : Option ℕ) (flags : Text) (skip : ℕ) (h : Held) (kinds : Text → ℕ → Held → Kinds) (passes : Text → ℕ → Held → Bool)
+      → ((f : Text) (s : ℕ) (g : Held) → kinds f s g ≡ [] → passes f s g ≡ true)
+      → bundle_step_fault c again x flags skip h kinds ≡ [] → bundle_step_passes c again x flags skip h passes ≡ true
+  bundle_step_taken None flags skip h kinds passes after e = refl
+  bundle_step_taken (Some x) flags zero h kinds passes after e =
+      let rest = drop (length (encode_utf8 x)) flags in
+      short_taken (arg_by_short c x) rest h (kinds rest 0) (passes rest 0) (after rest 0) e
+  bundle_step_taken (Some x) flags (suc skip) h kinds passes after e = after (drop (length (encode_utf8 x)) flags) skip h e
+
+  flags_taken : (k : ℕ) (flags : Text) (skip : ℕ) (h : Held) → flags_fault c again k flags skip h ≡ [] → flags_pass c again k flags skip h ≡ true
+  unfolding flags_fault flags_pass
+  flags_taken zero flags skip h e = refl
+  flags_taken (suc k) flags skip h e =
+      bundle_step_taken (slice_get (chars flags) 0) flags skip h (flags_fault c again k) (flags_pass c again k) (flags_taken k) e
+
+  flag_word_taken : (o : Option (Text × Option Text)) (word : Text) (h : Held) → flag_word_fault c again o word h ≡ [] → flag_word_passes c again o word h ≡ true
+  flag_word_taken (Some p) word h e = long_taken (arg_by_long c p.0) p.1 h e
+  flag_word_taken None word h e = go (short_of word) e
+    where
+      go : (o : Option Text) → option_map_or (λ flags. bundle_fault c again flags h) o [] ≡ [] → option_map_or (λ flags. bundle_passes c again flags h) o true ≡ true
+      go None e = refl
+      go (Some flags) e = flags_taken (length flags) flags h.skip (record h { skip = 0 }) e
+
+  positional_taken : (a : Rule) (h : Held) → positional_fault c again a h ≡ [] → positional_passes c again a h ≡ true
+  positional_taken a h e = go (is_pending a h.pending && takes_several a) e
+    where
+      go : (b : Bool) → (if b then [] else settle_fault c again h) ≡ [] → (b || settle_passes c again h) ≡ true
+      go true e = refl
+      go false e = settle_taken h e
+
+-- ---- the walk
+
+stray_refused : (s : Shape) → stray_fault s ≡ [] → ⊥
+stray_refused s e = go s.is_leaf e
+  where
+    go : (b : Bool) → (if b then kind.UnknownArgument ∷ [] else kind.UnknownArgument ∷ kind.InvalidSubcommand ∷ []) ≡ [] → ⊥
+    go true e = cc
+    go false e = cc
+
+module _ (s : Shape) where
+  other_taken : (o : Option Text) (word : Text) (h : Held) → other_fault s o word h ≡ [] → other_passes s o word h ≡ true
+  other_taken (Some name) word h e = go (bytes_eq name (codes "help")) s.disable_help_subcommand e
+    where
+      go : (b d : Bool) → (if b && not d then kind.DisplayHelp ∷ kind.InvalidSubcommand ∷ [] else []) ≡ [] → (not b || d) ≡ true
+      go true true e = refl
+      go true false e = cc
+      go false d e = refl
+  other_taken None word h e = go (bytes_eq word (45 ∷ 45 ∷ [])) e
+    where
+      go : (b : Bool) → (if b then [] else flag_word_fault s.rules s.args_override_self (long_of word) word h) ≡ []
+          → (b || flag_word_passes s.rules s.args_override_self (long_of word) word h) ≡ true
+      go true e = refl
+      go false e = flag_word_taken s.rules s.args_override_self (long_of word) word h e
+
+  step_taken : (position : ℕ) (h : Held) (x : Step) → step_fault s position h x ≡ [] → step_passes s position h x ≡ true
+  step_taken position h (next waiting) e = refl
+  step_taken position h (trailing p) e = refl
+  step_taken position h (subcommand name) e = refl
+  step_taken position h value e = go (arg_by_index s.rules position) e
+    where
+      go : (o : Option Rule) → option_map_or (λ a. positional_fault s.rules s.args_override_self a h) o (stray_fault s) ≡ []
+          → option_map_or (λ a. positional_passes s.rules s.args_override_self a h) o false ≡ true
+      go None e = absurd (stray_refused s e)
+      go (Some a) e = positional_taken s.rules s.args_override_self a h e
+
+  word_taken : (names : Names) (is_trailing : Bool) (waiting : Waiting) (word : Text) (h : Held)
+      → word_fault s names is_trailing waiting word h ≡ [] → word_passes s names is_trailing waiting word h ≡ true
+  word_taken names true waiting word h e = refl
+  word_taken names false waiting word h e = other_taken (subcommand_met names waiting word) word h e
+
+  turn_taken : (names : Names) (w : Walk) (word : Text) → turn_fault s names w word ≡ [] → turn_passes s names w word ≡ true
+  turn_taken names w word e = go (is_some w.stopped) (word_met s.rules names w.is_trailing w.waiting w.position word w.held) e
+    where
+      go : (b : Bool) (known : Held × Step)
+          → (if b then [] else or_else (word_fault s names w.is_trailing w.waiting word w.held) (step_fault s w.position known.0 known.1)) ≡ []
+          → (b || (word_passes s names w.is_trailing w.waiting word w.held && step_passes s w.position known.0 known.1)) ≡ true
+      go true known e = refl
+      go false known e =
+          let parts = neither (word_fault s names w.is_trailing w.waiting word w.held) _ e in
+          all_pass _ _ (word_taken names w.is_trailing w.waiting word w.held parts.0) (step_taken w.position known.0 known.1 parts.1)
+
+  walk_taken : (names : Names) (w : Walk) (words : List Text) → walk_fault s names w words ≡ [] → walk_passes s names w words ≡ true
+  unfolding walk_fault walk_passes
+  walk_taken names w [] e = refl
+  walk_taken names w (word ∷ rest) e =
+      let parts = neither (turn_fault s names w word) _ e in
+      all_pass _ _ (turn_taken names w word parts.0) (walk_taken names (walked s.rules names w word) rest parts.1)
+
+  -- where each default passes and nothing more is asked of the matches
+  level_taken : (h : Held) (words : List Text) → list_all default_passes s.rules ≡ true → ((rows : List Row) → is_valid s rows false ≡ true)
+      → level_fault s [] h words false [] ≡ [] → level_passes s [] h words false ≡ true
+  level_taken h words defaults valid e =
+      let end = (walk s.rules [] h words).held in
+      let walked_on = neither (walk_fault s [] (walk_from h) words) _ e in
+      let settled_on = neither (settle_fault s.rules s.args_override_self end) _ walked_on.1 in
+      all_pass _ _ (walk_taken [] (walk_from h) words walked_on.0)
+      (all_pass _ _ (settle_taken s.rules s.args_override_self end settled_on.0) (all_pass _ _ defaults (valid (finished s.rules end))))
+
+-- a simple command without subcommands takes the words at which it finds no fault
+pub no_fault_taken : (a : App) (words : List Text) → is_simple a ≡ true → (built a).subs ≡ [] → list_all default_passes (built a).top.rules ≡ true
+    → ((rows : List Row) → is_valid (built a).top rows false ≡ true) → fault_of a words ≡ [] → takes a words ≡ true
+no_fault_taken a words simple none defaults valid e =
+    let level = sym (leaf_fault (built a) nothing_held (argument_words a words) none) ∙ e in
+    all_pass _ _ simple
+    (leaf_takes (built a) nothing_held (argument_words a words) none (level_taken (built a).top nothing_held (argument_words a words) defaults valid level))
+
+-- the program's command is such a one
+pub program_takes : (words : List Text) → fault_of program words ≡ [] → takes program words ≡ true
+program_takes words e = no_fault_taken program words refl refl refl (λ rows. refl) e

@@ -1,0 +1,39 @@
+-- What the command line's answers owe, and what they are read from: the rows of the words' matches.
+use Rattle.std.specs.Prelude.{◌≡◌, ⊤, ℕ, false, List, [], map, codes, All, IfSome, IsSomeAnd, unwrap_or}
+use Rattle.clap.specs.Words.{IsUnsignedIn, Row, Text, all_of, first_of, takes}
+use Rattle.sia_parts.specs.Parts.{IsCutting, HasTooManyCuts}
+use Rattle.si_audit.specs.Choices.{Choices}
+use Rattle.si_audit.specs.Words.{ChooseTooManyCuts, number_in, program}
+use Rattle.si_audit.specs.declared.line.LineFault.{LineFault}
+use Rattle.si_audit.specs.declared.line.LineFault.TheVariants.{NoMemory, TooManyCuts, Help, Usage}
+
+-- help and usage are told only of words that the command doesn't take. Memory may run out
+abbrev pub IsOwed : List Text → LineFault → Type 0
+IsOwed words NoMemory = ⊤
+IsOwed words TooManyCuts = ChooseTooManyCuts words
+IsOwed words (Help text) = takes program words ≡ false
+IsOwed words (Usage text) = takes program words ≡ false
+
+abbrev pub workers_among : List Row → ℕ
+workers_among rows = number_in (unwrap_or (first_of (codes "workers") rows) [])
+
+abbrev pub cuts_among : List Row → List ℕ
+cuts_among rows = map number_in (unwrap_or (all_of (codes "cut") rows) [])
+
+-- each text that the matches hold is a number in its bounds, and there is a number of workers
+pub record HasNumbers (rows : List Row) : Type 0 where
+  pub workers : IsSomeAnd (first_of (codes "workers") rows) (IsUnsignedIn 1 64)
+  pub cuts : IfSome (all_of (codes "cut") rows) (All (IsUnsignedIn 0 18446744073709551615))
+
+-- the options are those of the matches
+pub record GivesOptions (rows : List Row) (choices : Choices) : Type 0 where
+  pub workers : choices.workers ≡ workers_among rows
+  pub parts : IsCutting (cuts_among rows) choices.parts
+  pub few : ¬ HasTooManyCuts (cuts_among rows)
+
+-- only too many cuts, and want of memory, stand in the way of options
+abbrev pub OwesTooManyCuts : List Row → LineFault → Type 0
+OwesTooManyCuts rows NoMemory = ⊤
+OwesTooManyCuts rows TooManyCuts = HasTooManyCuts (cuts_among rows)
+OwesTooManyCuts rows (Help text) = ⊥
+OwesTooManyCuts rows (Usage text) = ⊥

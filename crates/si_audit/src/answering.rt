@@ -1,0 +1,81 @@
+// What is written of a text, and how its run ends.
+ghost use Rattle.std.specs.Prelude.{◌≡◌, ◌↔◌, ℕ, List, [], IfOk, IsTrue};
+ghost use Rattle.sia_events.specs.Streaming.{StandsForRead};
+ghost use Rattle.si_audit.specs.Lines.{refusal_line};
+ghost use Rattle.si_audit.specs.Report.{IsReport};
+ghost use Rattle.si_audit.specs.Outcomes.{IsOutcome};
+ghost use Rattle.si_audit.specs.Answering.{IsReportOf, IsOutcomeOf};
+
+use crate::engine::Outcome;
+use crate::findings::Audit;
+use crate::lines::push_refusal;
+use crate::make::audit;
+use crate::options::Options;
+use crate::reporting::report;
+use sia_events::{History, NoMemory, TextFault, TextReader};
+use std::alloc::Global;
+use std::sync::Wait;
+use std::thread::Threads;
+
+/// What is written of a text, and how its run ends.
+#[derive(Drop)]
+pub(crate) struct Answer {
+    pub(crate) bytes: Vec<u8>,
+    pub(crate) outcome: Outcome,
+}
+
+/// Whether isolation was kept and some serial order replays the history.
+fn is_clean(a: &Audit) -> bool
+    ensures { IsTrue result ↔ ((a.now.findings.bad_reads.items ≡ []) × (a.now.findings.bad_writes.items ≡ []) × IsTrue a.now.serializable) }
+{
+    a.findings.bad_reads.is_empty() && a.findings.bad_writes.is_empty() && a.serializable
+}
+
+/// The answer to a history.
+fn answer_to_history<T: Threads + Wait + Sync>(
+    rt: &T,
+    alloc: Global,
+    h: &History,
+    o: &Options,
+) -> Result<Answer, NoMemory>
+    ensures report { IfOk result (λ answer. IsReportOf h.now answer.bytes.items) }
+    ensures outcome { IfOk result (λ answer. IsOutcomeOf h.now answer.outcome) }
+{
+    let audit = audit(rt, alloc, h, o)?;
+    let bytes = report(alloc, &audit)?;
+    let outcome = if is_clean(&audit) {
+        Outcome::Clean
+    } else {
+        Outcome::Faulty
+    };
+    Ok(Answer { bytes, outcome })
+}
+
+/// The answer to a refused text.
+fn answer_to_refusal(alloc: Global, fault: &TextFault) -> Result<Answer, NoMemory>
+    ensures { IfOk result (λ answer. (answer.bytes.items ≡ refusal_line fault.now) × (answer.outcome ≡ Outcome.Refused)) }
+{
+    let mut bytes = Vec::new(alloc);
+    push_refusal(&mut bytes, fault)?;
+    Ok(Answer {
+        bytes,
+        outcome: Outcome::Refused,
+    })
+}
+
+/// The answer to the text that was read.
+pub(crate) fn answer_to_text<T: Threads + Wait + Sync>(
+    rt: &T,
+    alloc: Global,
+    text: TextReader,
+    o: &Options,
+) -> Result<Answer, NoMemory>
+    ensures report { (bytes : List ℕ) → StandsForRead text bytes → IfOk result (λ answer. IsReport bytes answer.bytes.items) }
+    ensures outcome { (bytes : List ℕ) → StandsForRead text bytes → IfOk result (λ answer. IsOutcome bytes answer.outcome) }
+{
+    match text.finish() {
+        Ok(h) => answer_to_history(rt, alloc, &h, o),
+        Err(TextFault::NoMemory) => Err(NoMemory),
+        Err(fault) => answer_to_refusal(alloc, &fault),
+    }
+}

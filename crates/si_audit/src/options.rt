@@ -1,0 +1,82 @@
+// How many workers audit which parts of the keys.
+ghost use Rattle.std.specs.Prelude.{◌≡◌, ◌↔◌, ◌⊎◌, ℕ, ◌<◌, ◌≤◌, List, length, IfOk, OnOk, Err};
+ghost use Rattle.sia_parts.specs.Parts.{IsCutting, HasTooManyCuts};
+
+use sia_events::Key;
+use sia_parts::{CutFault, Part, cut};
+use std::alloc::Global;
+use std::marker::Model;
+
+/// The greatest number of workers.
+const MAX_WORKERS: u8 = 64;
+
+/// How many workers audit which parts. The report of a text doesn't depend on it.
+#[derive(Debug, Drop)]
+pub struct Options {
+    workers: u8,
+    parts: Vec<Part>,
+}
+
+impl Model for Options {
+    ghost use Rattle.std.specs.Prelude.{ℕ, List, ◌<◌, ◌≤◌, length};
+    ghost use Rattle.sia_parts.specs.Parts.{IsCutting};
+    ghost use Rattle.si_audit.specs.Choices.{Choices};
+
+    ghost Value = { Choices };
+
+    ghost view = { λ o. record { workers = o.workers; parts = o.parts.items } };
+
+    ghost invariant = { λ o. record {
+      some_workers : 0 < o.workers;
+      few_workers : o.workers ≤ 64;
+      cutting : (points : List ℕ) × IsCutting points o.parts.items;
+      few_parts : length o.parts.items ≤ 1024;
+    } };
+}
+
+/// Why there are no such options.
+#[derive(Clone, Copy, Debug, PartialEq, Eq)]
+pub enum OptionsFault {
+    /// No worker, or more than 64.
+    Workers,
+    /// More than 1,023 distinct cuts that aren't 0.
+    TooManyCuts,
+    /// A growth was refused.
+    NoMemory,
+}
+
+impl Options {
+    /// So many workers, and the parts between the cuts. The number of workers is judged before the cuts, and takes no memory.
+    pub fn new(alloc: Global, workers: u8, cuts: &[Key]) -> Result<Options, OptionsFault>
+        ensures made { IfOk result (λ o. (o.workers ≡ workers) × IsCutting cuts.now o.parts) }
+        ensures few { OnOk result (¬ HasTooManyCuts cuts.now) }
+        ensures workers { (result ≡ Err OptionsFault.Workers) ↔ ((workers ≡ 0) ⊎ (64 < workers)) }
+        ensures too_many { result ≡ Err OptionsFault.TooManyCuts → HasTooManyCuts cuts.now }
+    {
+        if workers == 0 || workers > MAX_WORKERS {
+            return Err(OptionsFault::Workers);
+        }
+        match cut(alloc, cuts) {
+            Ok(parts) => Ok(Options { workers, parts }),
+            Err(CutFault::TooMany) => Err(OptionsFault::TooManyCuts),
+            Err(CutFault::NoMemory) => Err(OptionsFault::NoMemory),
+        }
+    }
+
+    /// How many workers there are.
+    pub fn workers(&self) -> u8
+        ensures workers { result ≡ self.now.workers }
+        ensures bounds { (0 < result) × (result ≤ 64) }
+    {
+        self.workers
+    }
+
+    /// The parts of the keys, ascending.
+    pub fn parts(&self) -> &[Part]
+        ensures parts { result.now ≡ self.now.parts }
+        ensures cutting { (points : List ℕ) × IsCutting points result.now }
+        ensures few { length result.now ≤ 1024 }
+    {
+        self.parts.as_slice()
+    }
+}

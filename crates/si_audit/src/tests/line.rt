@@ -1,0 +1,161 @@
+//! Command lines: what the program's words give, worked out by hand.
+use crate::line::{LineFault, options_from};
+use crate::options::Options;
+use sia_events::Key;
+use sia_parts::Part;
+use std::alloc::{AllocError, Global};
+use std::test::*;
+
+/// The program's words, its name first.
+fn words(alloc: Global, line: &[&str]) -> Result<Vec<String>, AllocError> {
+    let mut words = Vec::new(alloc);
+    for word in line {
+        words.push(String::from_str(alloc, word)?)?;
+    }
+    Ok(words)
+}
+
+fn from(alloc: Global, line: &[&str]) -> Result<Options, LineFault> {
+    options_from(alloc, words(alloc, line)?.as_slice())
+}
+
+/// The program with cuts 1 to `last`.
+fn with_cuts(alloc: Global, last: Key) -> Result<Result<Options, LineFault>, AllocError> {
+    let mut line = words(alloc, &["si_audit"])?;
+    for cut in 1..=last {
+        line.push(format!(in alloc; "{cut}")?)?;
+    }
+    Ok(options_from(alloc, line.as_slice()))
+}
+
+#[test]
+fn without_words(rt: HostRuntime) -> Result<(), Fail> {
+    let options = from(rt.alloc(), &["si_audit"]).expect(&rt, "options");
+    assert_eq!(rt; options.workers(), 4);
+    let parts = [Part {
+        lo: 0,
+        hi: Key::MAX,
+    }];
+    assert_eq!(rt; options.parts(), parts.as_slice());
+    Ok(())
+}
+
+#[test]
+fn workers_and_a_cut(rt: HostRuntime) -> Result<(), Fail> {
+    let parts = [
+        Part { lo: 0, hi: 13 },
+        Part {
+            lo: 14,
+            hi: Key::MAX,
+        },
+    ];
+    let lines: [&[&str]; 5] = [
+        &["si_audit", "--workers", "64", "14"],
+        &["si_audit", "14", "--workers=64"],
+        &["si_audit", "--workers", "+64", "--", "+014", "0", "14"],
+        &["", "0", "14", "--workers", "64", "14"],
+        &["si_audit", "--workers", "0064", "00014"],
+    ];
+    for line in lines {
+        let options = from(rt.alloc(), line).expect(&rt, "options");
+        assert_eq!(rt; options.workers(), 64);
+        assert_eq!(rt; options.parts(), parts.as_slice());
+    }
+    Ok(())
+}
+
+#[test]
+fn the_ends_of_the_keys(rt: HostRuntime) -> Result<(), Fail> {
+    let line = ["si_audit", "18446744073709551615", "0"];
+    let options = from(rt.alloc(), line.as_slice()).expect(&rt, "options");
+    let parts = [
+        Part {
+            lo: 0,
+            hi: Key::MAX - 1,
+        },
+        Part {
+            lo: Key::MAX,
+            hi: Key::MAX,
+        },
+    ];
+    assert_eq!(rt; options.parts(), parts.as_slice());
+    Ok(())
+}
+
+#[test]
+fn refused_words(rt: HostRuntime) -> Result<(), Fail> {
+    let lines: [(&[&str], &str); 12] = [
+        (&["si_audit", "--workers", "65"], "65 is not in 1..=64"),
+        (&["si_audit", "--workers", "0"], "0 is not in 1..=64"),
+        (
+            &["si_audit", "--workers", "four"],
+            "'four' for '--workers <N>'",
+        ),
+        (
+            &["si_audit", "--workers"],
+            "a value is required for '--workers <N>'",
+        ),
+        (
+            &["si_audit", "--workers", "4", "--workers", "4"],
+            "cannot be used multiple times",
+        ),
+        (&["si_audit", "14", "x"], "'x' for '[CUT]...'"),
+        (
+            &["si_audit", "18446744073709551616"],
+            "'18446744073709551616' for '[CUT]...'",
+        ),
+        (&["si_audit", ""], "'' for '[CUT]...'"),
+        (&["si_audit", "-1"], "unexpected argument '-1'"),
+        (&["si_audit", "--", "-1"], "'-1' for '[CUT]...'"),
+        (
+            &["si_audit", "--worker", "4"],
+            "unexpected argument '--worker'",
+        ),
+        (
+            &["si_audit", "--version"],
+            "unexpected argument '--version'",
+        ),
+    ];
+    for (line, said) in lines {
+        match from(rt.alloc(), line) {
+            Err(LineFault::Usage(text)) => {
+                assert!(rt; text.as_str().starts_with("error: "), "{text}");
+                assert!(rt; text.as_str().contains(said), "{text}");
+            }
+            _ => assert!(rt; false, "{said}"),
+        }
+    }
+    Ok(())
+}
+
+#[test]
+fn words_that_ask_for_help(rt: HostRuntime) -> Result<(), Fail> {
+    let lines: [&[&str]; 3] = [
+        &["si_audit", "--help"],
+        &["si_audit", "-h"],
+        &["si_audit", "--workers", "64", "14", "--help", "x"],
+    ];
+    for line in lines {
+        match from(rt.alloc(), line) {
+            Err(LineFault::Help(text)) => {
+                assert!(rt;
+                    text.as_str().contains("Usage: si_audit [OPTIONS] [CUT]..."),
+                    "{text}"
+                );
+                assert!(rt; text.as_str().contains("--workers <N>"), "{text}");
+                assert!(rt; text.as_str().contains("[default: 4]"), "{text}");
+            }
+            _ => assert!(rt; false),
+        }
+    }
+    Ok(())
+}
+
+#[test]
+fn the_most_cuts(rt: HostRuntime) -> Result<(), Fail> {
+    let options = with_cuts(rt.alloc(), 1023)?.expect(&rt, "options");
+    assert_eq!(rt; options.workers(), 4);
+    assert_eq!(rt; options.parts().len(), 1024);
+    assert!(rt; matches!(with_cuts(rt.alloc(), 1024)?, Err(LineFault::TooManyCuts)));
+    Ok(())
+}

@@ -1,0 +1,5 @@
+use Rattle.sia_events.proofs.RoundTrips.{round_trip}
+use Rattle.sia_events.proofs.laws.round_trip.Goals as goal
+
+pub returns : goal.returns
+returns c = round_trip

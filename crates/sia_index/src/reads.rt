@@ -1,0 +1,125 @@
+//! Tables of the reads of a history, and what is found in them by key.
+ghost use Rattle.std.specs.Prelude.{◌≡◌, ◌<◌, List, IfOk, MatchOption, AllPairs};
+ghost use Rattle.sia_events.specs.declared.event.Event.{Event};
+ghost use Rattle.sia_index.specs.declared.info.ItemRead.{ItemRead};
+ghost use Rattle.sia_index.specs.declared.info.RangeRead.{RangeRead};
+ghost use Rattle.sia_index.specs.Info.{IsItemRead, IsRangeRead, AreReadsWithin, AreRangesMeeting, AreWrittenKeys, AreWrittenWithin};
+ghost use Rattle.sia_index.specs.Rows.{AreReads, AreRanges, AreReaches, AscendsByRead, AscendsByRange};
+
+use crate::info::{ItemRead, RangeRead};
+use crate::ordering::put_in_order;
+use sia_events::{Event, History, Key};
+use std::alloc::{AllocError, Global};
+
+/// Every read event, by key.
+pub fn reads_of(alloc: Global, h: &History) -> Result<Vec<ItemRead>, AllocError>
+    ensures { IfOk result (λ reads. AreReads h.now reads.items) }
+{
+    let mut reads = Vec::new(alloc);
+    for before in 0..h.len() {
+        if let Some(read) = read_at(h, before + 1) {
+            reads.push(read)?;
+        }
+    }
+    put_in_order(&mut reads);
+    Ok(reads)
+}
+
+/// Every range read event, by its first key.
+pub fn ranges_of(alloc: Global, h: &History) -> Result<Vec<RangeRead>, AllocError>
+    ensures { IfOk result (λ ranges. AreRanges h.now ranges.items) }
+{
+    let mut ranges = Vec::new(alloc);
+    for before in 0..h.len() {
+        if let Some(range) = range_at(h, before + 1) {
+            ranges.push(range)?;
+        }
+    }
+    put_in_order(&mut ranges);
+    Ok(ranges)
+}
+
+// The read event at the place.
+fn read_at(h: &History, place: u32) -> Option<ItemRead>
+    ensures { MatchOption result ((read : ItemRead) → read.place ≡ place → ¬ IsItemRead h.now read) (λ read. (read.place ≡ place) × IsItemRead h.now read) }
+{
+    match h.event(place) {
+        Some(event) => match event {
+            Event::Read { txn, key, saw } => Some(ItemRead {
+                key: *key,
+                txn: *txn,
+                place,
+                saw: *saw,
+            }),
+            _ => None,
+        },
+        None => None,
+    }
+}
+
+// The range read event at the place.
+fn range_at(h: &History, place: u32) -> Option<RangeRead>
+    ensures { MatchOption result ((read : RangeRead) → read.place ≡ place → ¬ IsRangeRead h.now read) (λ read. (read.place ≡ place) × IsRangeRead h.now read) }
+{
+    match h.event(place) {
+        Some(event) => match event {
+            Event::Range { txn, lo, hi, .. } => Some(RangeRead {
+                lo: *lo,
+                hi: *hi,
+                txn: *txn,
+                place,
+            }),
+            _ => None,
+        },
+        None => None,
+    }
+}
+
+/// How far each range and those before it reach.
+pub fn reaches_of(alloc: Global, ranges: &[RangeRead]) -> Result<Vec<Key>, AllocError>
+    ensures { IfOk result (λ reaches. AreReaches ranges.now reaches.items) }
+{
+    let mut reaches = Vec::with_capacity(alloc, ranges.len())?;
+    let mut reach: Key = 0;
+    for range in ranges {
+        reach = reach.max(range.hi);
+        reaches.push(reach)?;
+    }
+    Ok(reaches)
+}
+
+/// The reads of the keys from `lo` to `hi`.
+pub fn reads_between(reads: &[ItemRead], lo: Key, hi: Key) -> &[ItemRead]
+    requires { AscendsByRead reads.now }
+    ensures { (h : List Event) → AreReads h reads.now → AreReadsWithin h lo hi result.now }
+{
+    let from = reads.partition_point(|read| read.key < lo);
+    let to = reads.partition_point(|read| read.key <= hi);
+    &reads[from..to.max(from)]
+}
+
+/// The keys from `lo` to `hi`.
+pub fn keys_between(keys: &[Key], lo: Key, hi: Key) -> &[Key]
+    requires { AllPairs (λ x y. x < y) keys.now }
+    ensures { (h : List Event) → AreWrittenKeys h keys.now → AreWrittenWithin h lo hi result.now }
+{
+    let from = keys.partition_point(|key| *key < lo);
+    let to = keys.partition_point(|key| *key <= hi);
+    &keys[from..to.max(from)]
+}
+
+/// The ranges that start at `hi` or below, without the first ones that all end below `lo`.
+pub fn ranges_meeting<'a>(
+    ranges: &'a [RangeRead],
+    reaches: &[Key],
+    lo: Key,
+    hi: Key,
+) -> &'a [RangeRead]
+    requires ascending { AscendsByRange ranges.now }
+    requires reaches_are { AreReaches ranges.now reaches.now }
+    ensures { (h : List Event) → AreRanges h ranges.now → AreRangesMeeting h lo hi result.now }
+{
+    let from = reaches.partition_point(|reach| *reach < lo);
+    let to = ranges.partition_point(|range| range.lo <= hi);
+    &ranges[from..to.max(from)]
+}

@@ -1,0 +1,260 @@
+-- Where the findings of a part come from: pairs of versions, spans with versions, and sights.
+use Rattle.std.proofs.Common.{◌≡◌, ◌≢◌, ◌⊎◌, inl, inr, ℕ, ◌+◌, ◌<◌, ◌≤◌, ◌^◌, List, [], ◌∷◌, Some, refl, ap, sym, subst, ◌∙◌, arith}
+use Rattle.std.specs.Prelude.{◌↔◌, All, AllPairs, Contains}
+use Rattle.std.proofs.lemmas.Bool.{cases_eq, cases_lt}
+use Rattle.std.proofs.lemmas.List.Elements.{All-contains, Contains-get_or}
+use Rattle.sia_events.specs.declared.event.Event.{Event}
+use Rattle.sia_events.specs.declared.event.Event.TheVariants.{Begin, Read, Range, Write, Commit, Abort}
+use Rattle.sia_events.specs.Places.{at_place}
+use Rattle.sia_events.specs.Events.{actor, Saw}
+use Rattle.sia_events.specs.Refusals.{IsWellFormed}
+use Rattle.sia_events.specs.Transactions.{IsCommitted, CommitsAt, StartsAt, Wrote, WroteBefore, CommitsBefore, StartsBeforeCommit, HasEvent}
+use Rattle.sia_events.specs.Reads.{SawAt, IsDue}
+use Rattle.sia_events.specs.Isolation.{IsBadRead, IsBadWrite, IsUnexplained}
+use Rattle.sia_events.specs.Dependencies.{IsCommittedWriter, IsVersionBefore, WwEdge, WrEdge, RwEdge}
+use Rattle.sia_events.proofs.WellFormed.{one_commit}
+use Rattle.sia_events.proofs.Endings.{one_committer}
+use Rattle.sia_events.proofs.Starts.{one_start}
+use Rattle.sia_events.proofs.Seen.{saw_written, actor_is_txn}
+use Rattle.sia_events.proofs.Versions.{writer_not_zero}
+use Rattle.sia_events.proofs.TransactionDecisions.{place_within}
+use Rattle.sia_index.specs.declared.info.Made.{Made}
+use Rattle.sia_index.specs.declared.info.ItemRead.{ItemRead}
+use Rattle.sia_index.specs.declared.info.RangeRead.{RangeRead}
+use Rattle.sia_index.specs.Info.{IsMade, AreVersions, IsItemRead, IsRangeRead, AreWrittenWithin, AreReadsWithin, AreRangesMeeting}
+use Rattle.sia_parts.specs.declared.cutting.Part.{Part}
+use Rattle.sia_parts.specs.declared.finding.BadRead.{BadRead}
+use Rattle.sia_parts.specs.declared.finding.BadWrite.{BadWrite}
+use Rattle.sia_parts.specs.declared.finding.Unexplained.{Unexplained}
+use Rattle.sia_parts.specs.declared.finding.Edge.{Edge}
+use Rattle.sia_parts.specs.declared.finding.Kind.{Kind}
+use Rattle.sia_parts.specs.declared.finding.Kind.TheVariants.{Ww, Wr, Rw}
+use Rattle.sia_parts.specs.declared.sights.Sight.{Sight}
+use Rattle.sia_parts.specs.declared.spans.Span.{Span}
+use Rattle.sia_parts.specs.Entries.{EdgeOfKind, IsEdge}
+use Rattle.sia_parts.specs.Parts.{IsInPart}
+use Rattle.sia_parts.specs.Sights.{Adds, FromSome, FromSight, FromPair, FromMade, KeyPair, IsSight, IsBadOf, IsAsOf, Looked, IsSpanOf, IsInSpan, Widens, IsJoined, IsWrEdge, IsRwEdge, IsSpanEdge, IsPairEdge, IsLateBad, IsPairBad, IsRangeSight, AscendsByCommit, read_sight, AreSpans}
+use Rattle.sia_parts.proofs.Adding.{adds_same, adds_both, adds_nothing}
+
+-- what pairs of a key's versions give
+pub key_pairs : {B : Type 0} (h : List Event) (P : ℕ → Made → Made → B → Type 0) (k : ℕ) (versions : List Made) → AreVersions h k versions → (old new : List B) → Adds (FromPair (P k) versions) old new → Adds (KeyPair h P k) old new
+key_pairs h P k versions are old new adds = adds_same (FromPair (P k) versions) (KeyPair h P k) old new
+    (λ b f. (f.0, f.1, (are.each f.0).0 f.2, (are.each f.1).0 f.3, f.4, f.5))
+    (λ b f. (f.0, f.1, (are.each f.0).1 f.2, (are.each f.1).1 f.3, f.4, f.5))
+    adds
+
+-- the two edges of a span with a version that isn't the reader's
+pub both_edges : (span : Span) (made : Made) → made.txn ≢ span.txn → (old mid new : List Edge) → Adds (IsWrEdge span made) old mid → Adds (IsRwEdge span made) mid new → Adds (IsSpanEdge span made) old new
+both_edges span made other old mid new wr rw_edge = adds_same (λ e. IsWrEdge span made e ⊎ IsRwEdge span made e) (IsSpanEdge span made) old new
+    (λ e either. (other, either))
+    (λ e is. is.1)
+    (adds_both (IsWrEdge span made) (IsRwEdge span made) old mid new wr rw_edge)
+
+-- versions ascend by commit
+pub versions_ascend : (h : List Event) (k : ℕ) (versions : List Made) → AreVersions h k versions → AscendsByCommit versions
+versions_ascend h k versions are i j d less below = elim (are.ascending i j d less below) [ inl under ↦ under | inr same ↦ absurd same.1 ]
+
+-- what a span gives with the versions of its key
+pub span_made : (h : List Event) (span : Span) (versions : List Made) → AreVersions h span.key versions → (old new : List Edge) → Adds (FromSome (IsSpanEdge span) versions) old new → Adds (FromMade h span) old new
+span_made h span versions are old new adds = adds_same (FromSome (IsSpanEdge span) versions) (FromMade h span) old new
+    (λ e f. (f.0, (are.each f.0).0 f.1, f.2))
+    (λ e f. (f.0, (are.each f.0).1 f.1, f.2))
+    adds
+
+-- the place is the start, so what is late by it is a bad pair
+pub late_bad : (h : List Event) (k s : ℕ) (second : Made) (earlier : List Made) → StartsAt h second.txn s → (old new : List BadWrite) → Adds (FromSome (IsLateBad s k second) earlier) old new → Adds (FromSome (IsPairBad h k second) earlier) old new
+late_bad h k s second earlier start old new adds = adds_same (FromSome (IsLateBad s k second) earlier) (FromSome (IsPairBad h k second) earlier) old new
+    (λ b f. (f.0, f.1, (s, start, f.2)))
+    (λ b f. (f.0, f.1, subst (λ r. IsLateBad r k second f.0 b) (one_start h second.txn f.2.0 s f.2.1 start) f.2.2))
+    adds
+
+-- what has no event has no start
+pub no_late_bad : (h : List Event) (k : ℕ) (second : Made) (earlier : List Made) → ¬ HasEvent h second.txn → (old : List BadWrite) → Adds (FromSome (IsPairBad h k second) earlier) old old
+no_late_bad h k second earlier none old = adds_nothing (FromSome (IsPairBad h k second) earlier) old (λ b f. let start = f.2.1 in none (start.0, (start.1, start.2.0, start.2.1)))
+
+module _ (h : List Event) (wf : IsWellFormed h) where
+  commit_positive : (t c : ℕ) → CommitsAt h t c → 0 < c
+  commit_positive t c at = (place_within h c (Commit t) at).0
+
+  -- a pair of committed writers is a ww edge
+  pub pair_is_edge : (k : ℕ) (e : Edge) → KeyPair h IsPairEdge k e → (e.kind ≡ Ww) × (e.key ≡ k) × IsEdge h e
+  pair_is_edge k e f =
+      let edge : WwEdge h f.0.txn f.1.txn k = (f.2.0, f.3.0, (f.0.commit, f.1.commit, f.2.1, f.3.1, f.4)) in
+      (ap (λ (x : Edge). x.kind) f.5, ap (λ (x : Edge). x.key) f.5, subst (IsEdge h) (sym f.5) edge)
+
+  pub edge_is_pair : (t u k : ℕ) → WwEdge h t u k → KeyPair h IsPairEdge k (record { src = t; dst = u; kind = Ww; key = k })
+  edge_is_pair t u k edge = (
+    record { txn = t; commit = edge.2.0 },
+    record { txn = u; commit = edge.2.1 },
+    (edge.0, edge.2.2),
+    (edge.1, edge.2.3),
+    edge.2.4,
+    refl,
+  )
+
+  -- a pair of committed writers of which the first committed late is a bad write
+  pub pair_is_bad : (k : ℕ) (b : BadWrite) → KeyPair h (IsPairBad h) k b → (b.key ≡ k) × IsBadWrite h b.key b.first b.second
+  pair_is_bad k b f =
+      let is = f.5.2.1 in
+      let bad : IsBadWrite h k f.0.txn f.1.txn = (f.2.0, f.3.0, (f.5.0, f.0.commit, f.5.1, f.2.1, f.5.2.0), (f.0.commit, f.1.commit, f.2.1, f.3.1, f.4)) in
+      (ap (λ (x : BadWrite). x.key) is, subst (λ (x : BadWrite). IsBadWrite h x.key x.first x.second) (sym is) bad)
+
+  pub bad_is_pair : (k t u : ℕ) → IsBadWrite h k t u → KeyPair h (IsPairBad h) k (record { key = k; first = t; second = u })
+  bad_is_pair k t u bad =
+      let same : bad.2.1 ≡ bad.3.0 = one_commit h wf t bad.2.1 bad.3.0 bad.2.3 bad.3.2 in
+      let late : bad.2.0 < bad.2.1 = bad.2.4 in (
+        record { txn = t; commit = bad.3.0 },
+        record { txn = u; commit = bad.3.1 },
+        (bad.0, bad.3.2),
+        (bad.1, bad.3.3),
+        bad.3.4,
+        (bad.2.0, bad.2.2, ((let less : bad.2.0 < bad.3.0 = omega arith in less), refl)),
+      )
+
+  zero_commits_not : (c : ℕ) → ¬ CommitsAt h 0 c
+  zero_commits_not c at = let positive : 0 < 0 = (actor_is_txn h wf 0 c (Commit 0, at, refl)).0 in omega arith
+
+  -- a version is as of one place
+  pub one_as_of : (v c d : ℕ) → IsAsOf h v c → IsAsOf h v d → c ≡ d
+  one_as_of v c d (inl a) (inl b) = a.1 ∙ sym b.1
+  one_as_of v c d (inl a) (inr b) = absurd (zero_commits_not d (subst (λ u. CommitsAt h u d) a.0 b))
+  one_as_of v c d (inr a) (inl b) = absurd (zero_commits_not c (subst (λ u. CommitsAt h u c) b.0 a))
+  one_as_of v c d (inr a) (inr b) = one_commit h wf v c d a b
+
+  -- a committed transaction's sight of a key as of place c is a wr edge from each other writer up to there
+  pub wr_from_look : (k : ℕ) (t u c d : ℕ) → t ≢ u → Wrote h t k → CommitsAt h t d → Looked h u k c → d ≤ c → WrEdge h t u k
+  wr_from_look k t u c d other wrote at look le = of_version look.5
+    where
+      of_version : IsAsOf h look.2 c → WrEdge h t u k
+      of_version (inl none) = absurd (let positive = commit_positive t d at in let zero = none.1 in omega arith)
+      of_version (inr commits) = (
+        other,
+        (wrote, (d, at)),
+        look.0,
+        look.1,
+        look.2,
+        look.3,
+        (c, commits),
+        look.4,
+        elim (cases_eq d c) [
+          | inl same ↦ inl (one_committer h t look.2 c (subst (CommitsAt h t) same at) commits)
+          | inr differ ↦
+              let seen = saw_written h wf look.1 u k look.2 look.3 (λ zero. zero_commits_not c (subst (λ v. CommitsAt h v c) zero commits)) in
+              inr (inr (wrote, (seen.0, seen.2), (d, c, at, commits, (let less : d < c = omega arith in less))))
+        ],
+      )
+
+  -- and each wr edge is so
+  pub look_of_wr : (k t u : ℕ) → WrEdge h t u k → (c : ℕ) × (d : ℕ) × CommitsAt h t d × Looked h u k c × (d ≤ c)
+  look_of_wr k t u edge = (edge.6.0, edge.1.1.0, edge.1.1.1, (edge.2, edge.3, edge.4, edge.5, edge.7, inr edge.6.1), of_before edge.8)
+    where
+      of_before : (t ≡ edge.4) ⊎ IsVersionBefore h k t edge.4 → edge.1.1.0 ≤ edge.6.0
+      of_before (inl same) = let one : edge.1.1.0 ≡ edge.6.0 = one_commit h wf edge.4 edge.1.1.0 edge.6.0 (subst (λ v. CommitsAt h v edge.1.1.0) same edge.1.1.1) edge.6.1 in omega arith
+      of_before (inr (inl none)) = absurd (writer_not_zero h wf t k edge.1.0 none.0)
+      of_before (inr (inr both)) =
+          let own : both.2.0 ≡ edge.1.1.0 = one_commit h wf t both.2.0 edge.1.1.0 both.2.2 edge.1.1.1 in
+          let seen : both.2.1 ≡ edge.6.0 = one_commit h wf edge.4 both.2.1 edge.6.0 both.2.3 edge.6.1 in
+          let less : both.2.0 < both.2.1 = both.2.4 in
+          omega arith
+
+  -- a committed transaction's sight of a key as of place c is a rw edge to each other writer after it
+  pub rw_from_look : (k t u c d : ℕ) → t ≢ u → Wrote h u k → CommitsAt h u d → Looked h t k c → c < d → RwEdge h t u k
+  rw_from_look k t u c d other wrote at look less = of_version look.5
+    where
+      of_version : IsAsOf h look.2 c → RwEdge h t u k
+      of_version (inl none) = (other, look.0, (wrote, (d, at)), look.1, look.2, look.3, inl none.0, look.4, inl (none.0, (wrote, (d, at))))
+      of_version (inr commits) =
+          let seen = saw_written h wf look.1 t k look.2 look.3 (λ zero. zero_commits_not c (subst (λ v. CommitsAt h v c) zero commits)) in
+          (other, look.0, (wrote, (d, at)), look.1, look.2, look.3, inr (c, commits), look.4, inr ((seen.0, seen.2), wrote, (c, d, commits, at, less)))
+
+  -- and each rw edge is so
+  pub look_of_rw : (k t u : ℕ) → RwEdge h t u k → (c : ℕ) × (d : ℕ) × CommitsAt h u d × Looked h t k c × (c < d)
+  look_of_rw k t u edge = of_version edge.6
+    where
+      of_version : (edge.4 ≡ 0) ⊎ IsCommitted h edge.4 → (c : ℕ) × (d : ℕ) × CommitsAt h u d × Looked h t k c × (c < d)
+      of_version (inl zero) = (0, edge.2.1.0, edge.2.1.1, (edge.1, edge.3, edge.4, edge.5, edge.7, inl (zero, refl)), commit_positive u edge.2.1.0 edge.2.1.1)
+      of_version (inr commits) = (commits.0, edge.2.1.0, edge.2.1.1, (edge.1, edge.3, edge.4, edge.5, edge.7, inr commits.1), of_before edge.8)
+        where
+          of_before : IsVersionBefore h k edge.4 u → commits.0 < edge.2.1.0
+          of_before (inl none) = absurd (zero_commits_not commits.0 (subst (λ v. CommitsAt h v commits.0) none.0 commits.1))
+          of_before (inr both) =
+              let own : both.2.1 ≡ edge.2.1.0 = one_commit h wf u both.2.1 edge.2.1.0 both.2.3 edge.2.1.1 in
+              let seen : both.2.0 ≡ commits.0 = one_commit h wf edge.4 both.2.0 commits.0 both.2.2 commits.1 in
+              let less : both.2.0 < both.2.1 = both.2.4 in
+              omega arith
+
+  module _ (part : Part) (keys : List ℕ) (within : AreWrittenWithin h part.lo part.hi keys) where
+    -- what the keys of the part give of bad writes
+    pub bad_writes_are : (b : BadWrite) → FromSome (KeyPair h (IsPairBad h)) keys b ↔ (IsBadWrite h b.key b.first b.second × IsInPart part b.key)
+    bad_writes_are b = (
+      (λ f.
+          let bad = pair_is_bad f.0 b f.2 in
+          (bad.1, subst (IsInPart part) (sym bad.0) (let at = (within.each f.0).0 f.1 in (at.1, at.2)))),
+      (λ bad. (b.key, (within.each b.key).1 ((b.first, bad.0.0), bad.1.0, bad.1.1), bad_is_pair b.key b.first b.second bad.0)),
+    )
+
+    module _ (spans : List Span) (are : AreSpans h part spans) where
+      -- what the keys and the spans of the part give of edges
+      span_is_edge : (span : Span) → Contains spans span → (made : Made) → IsMade h span.key made → (e : Edge) → made.txn ≢ span.txn → IsWrEdge span made e ⊎ IsRwEdge span made e → IsEdge h e × IsInPart part e.key
+      span_is_edge span c made is e other (inl wr) =
+          let edge = wr_from_look span.key made.txn span.txn span.high made.commit other is.0 is.1 (are.high span c) wr.0 in
+          subst (λ (x : Edge). IsEdge h x × IsInPart part x.key) (sym wr.1) (edge, are.within span c)
+      span_is_edge span c made is e other (inr rw_edge) =
+          let edge = rw_from_look span.key span.txn made.txn span.low made.commit (λ same. other (sym same)) is.0 is.1 (are.low span c) rw_edge.0 in
+          subst (λ (x : Edge). IsEdge h x × IsInPart part x.key) (sym rw_edge.1) (edge, are.within span c)
+
+      edge_found : (kind : Kind) (t u k : ℕ) → EdgeOfKind h kind t u k → IsInPart part k → FromSome (KeyPair h IsPairEdge) keys (record { src = t; dst = u; kind = kind; key = k }) ⊎ FromSome (FromMade h) spans (record { src = t; dst = u; kind = kind; key = k })
+      edge_found Ww t u k edge in_part = inl (k, (within.each k).1 ((t, edge.0), in_part.0, in_part.1), edge_is_pair t u k edge)
+      edge_found Wr t u k edge in_part =
+          let look = look_of_wr k t u edge in
+          let found = are.whole u k look.0 look.3 in_part (t, edge.1.0) in
+          let span = found.0 in
+          let txn = found.2.0 in
+          let key = found.2.1 in
+          inr (
+            span,
+            found.1,
+            (
+              record { txn = t; commit = look.1 },
+              (subst (Wrote h t) (sym key) edge.1.0, look.2),
+              ((λ same. edge.0 (same ∙ txn)), inl ((let le = look.4 in let more = found.2.3 in omega arith), (λ i. record { src = t; dst = sym txn i; kind = Wr; key = sym key i }))),
+            ),
+          )
+      edge_found Rw t u k edge in_part =
+          let look = look_of_rw k t u edge in
+          let found = are.whole t k look.0 look.3 in_part (u, edge.2.0) in
+          let span = found.0 in
+          let txn = found.2.0 in
+          let key = found.2.1 in
+          inr (
+            span,
+            found.1,
+            (
+              record { txn = u; commit = look.1 },
+              (subst (Wrote h u) (sym key) edge.2.0, look.2),
+              ((λ same. edge.0 (sym txn ∙ sym same)), inr ((let le = look.4 in let more = found.2.2 in omega arith), (λ i. record { src = sym txn i; dst = u; kind = Rw; key = sym key i }))),
+            ),
+          )
+
+      pub edges_are : (e : Edge) → (FromSome (KeyPair h IsPairEdge) keys e ⊎ FromSome (FromMade h) spans e) ↔ (IsEdge h e × IsInPart part e.key)
+      edges_are e = (
+        (λ f. elim f [
+          | inl pair ↦
+              let edge = pair_is_edge pair.0 e pair.2 in
+              (edge.2, subst (IsInPart part) (sym edge.1) (let at = (within.each pair.0).0 pair.1 in (at.1, at.2)))
+          | inr made ↦ span_is_edge made.0 made.1 made.2.0 made.2.1 e made.2.2.0 made.2.2.1
+        ]),
+        (λ edge. edge_found e.kind e.src e.dst e.key edge.0 edge.1),
+      )
+
+-- the spans of a part, joined, are spans of the part
+pub joined_are : (h : List Event) (part : Part) (narrow wide : List Span) → AreSpans h part narrow → Widens narrow wide → AreSpans h part wide
+joined_are h part narrow wide are joins = record {
+  low = λ s c. let n = joins.low s c in subst (λ t. Looked h t s.key s.low) n.2 (subst (λ k. Looked h n.0.txn k s.low) n.3 (subst (Looked h n.0.txn n.0.key) n.4 (are.low n.0 n.1)));
+  high = λ s c. let n = joins.high s c in subst (λ t. Looked h t s.key s.high) n.2 (subst (λ k. Looked h n.0.txn k s.high) n.3 (subst (Looked h n.0.txn n.0.key) n.4 (are.high n.0 n.1)));
+  within = λ s c. let n = joins.low s c in subst (IsInPart part) n.3 (are.within n.0 n.1);
+  whole = λ t k c look in_part wrote.
+      let found = are.whole t k c look in_part wrote in
+      let wider = joins.each found.0 found.1 in
+      (wider.0, wider.1, (wider.2 ∙ found.2.0, wider.3 ∙ found.2.1, (let a = wider.4 in let b = found.2.2 in omega arith), (let a = wider.5 in let b = found.2.3 in omega arith)));
+}

@@ -1,0 +1,8 @@
+-- The spans so far, joined, of which the last may grow.
+use Rattle.std.proofs.Common.{take, [], ◌∷◌, ◌++◌}
+use Rattle.sia_parts.specs.declared.spans.Span.{Span}
+use Rattle.sia_parts.proofs.Joins.{JoinedSoFar}
+use Rattle.sia_parts.proofs.spans.join_neighbours.Given as goal
+
+abbrev pub invariant-loop-span : goal.invariant-loop-span
+invariant-loop-span l = JoinedSoFar l.spans l.span-index (l.wide.items ++ l.last ∷ [])

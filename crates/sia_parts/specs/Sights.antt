@@ -1,0 +1,140 @@
+-- How the findings of a part come about: from pairs of a key's versions, and from what reads saw of a key.
+use Rattle.std.specs.Prelude.{◌≡◌, ◌≢◌, ◌⊎◌, ◌↔◌, ℕ, ◌<◌, ◌≤◌, List, [], ◌∷◌, AllPairs, Contains}
+use Rattle.sia_events.specs.declared.event.Event.{Event}
+use Rattle.sia_events.specs.Transactions.{IsCommitted, CommitsAt, StartsAt, Wrote}
+use Rattle.sia_events.specs.Reads.{SawAt}
+use Rattle.sia_events.specs.Isolation.{IsBadRead, IsUnexplained}
+use Rattle.sia_index.specs.declared.info.Made.{Made}
+use Rattle.sia_index.specs.declared.info.ItemRead.{ItemRead}
+use Rattle.sia_index.specs.declared.info.RangeRead.{RangeRead}
+use Rattle.sia_index.specs.Info.{IsMade}
+use Rattle.sia_parts.specs.declared.cutting.Part.{Part}
+use Rattle.sia_parts.specs.declared.finding.BadRead.{BadRead}
+use Rattle.sia_parts.specs.declared.finding.BadWrite.{BadWrite}
+use Rattle.sia_parts.specs.declared.finding.Unexplained.{Unexplained}
+use Rattle.sia_parts.specs.declared.finding.Edge.{Edge}
+use Rattle.sia_parts.specs.declared.finding.Kind.TheVariants.{Ww, Wr, Rw}
+use Rattle.sia_parts.specs.declared.sights.Sight.{Sight}
+use Rattle.sia_parts.specs.declared.spans.Span.{Span}
+use Rattle.sia_parts.specs.Parts.{IsInPart}
+
+-- new holds what old held, and what has P, and nothing else
+abbrev pub Adds : {A : Type 0} → (A → Type 0) → List A → List A → Type 0
+Adds {A} P old new = (x : A) → Contains new x ↔ (Contains old x ⊎ P x)
+
+-- some x of the list gives y
+abbrev pub FromSome : {A B : Type 0} → (A → B → Type 0) → List A → B → Type 0
+FromSome {A} P xs y = (x : A) × Contains xs x × P x y
+
+abbrev pub AscendsByCommit : List Made → Type 0
+AscendsByCommit versions = AllPairs (λ x y. x.commit < y.commit) versions
+
+-- at its place the transaction saw this version of the key
+abbrev pub IsSight : List Event → Sight → Type 0
+IsSight h s = SawAt h s.place s.txn s.key s.saw
+
+-- what a read event saw
+abbrev pub read_sight : ItemRead → Sight
+read_sight read = record { place = read.place; txn = read.txn; key = read.key; saw = read.saw }
+
+-- a range read that listed these keys saw k at version v, if it covers k
+abbrev pub IsListed : List (ℕ × ℕ) → ℕ → ℕ → Type 0
+IsListed listed k v = Contains listed (k, v) ⊎ (((u : ℕ) → ¬ Contains listed (k, u)) × (v ≡ 0))
+
+-- what a range read that listed these keys saw of key k
+abbrev pub IsKeySight : RangeRead → List (ℕ × ℕ) → ℕ → Sight → Type 0
+IsKeySight range listed k s = (s.place ≡ range.place) × (s.txn ≡ range.txn) × (s.key ≡ k) × IsListed listed k s.saw
+
+-- what a range read saw of some written key of the part
+abbrev pub IsRangeSight : List Event → Part → RangeRead → Sight → Type 0
+IsRangeSight h part range s = (s.place ≡ range.place) × (s.txn ≡ range.txn) × IsSight h s × IsInPart part s.key × ((t : ℕ) × Wrote h t s.key)
+
+-- what a bad read saw
+abbrev pub bad_sight : BadRead → Sight
+bad_sight b = record { place = b.place; txn = b.txn; key = b.key; saw = b.saw }
+
+-- the bad read of a sight
+abbrev pub IsBadOf : List Event → Sight → BadRead → Type 0
+IsBadOf h s b = (bad_sight b ≡ s) × IsBadRead h b.place b.txn b.key b.saw b.due
+
+-- the unexplained read that a bad read is
+abbrev pub IsUnexplainedOf : List Event → BadRead → Unexplained → Type 0
+IsUnexplainedOf h b u = IsUnexplained h b.place b.txn b.key b.saw × (u ≡ record { place = b.place; txn = b.txn; key = b.key; saw = b.saw })
+
+-- version v as of place c: 0 as of 0, and that of a committed transaction as of its commit
+abbrev pub IsAsOf : List Event → ℕ → ℕ → Type 0
+IsAsOf h v c = ((v ≡ 0) × (c ≡ 0)) ⊎ CommitsAt h v c
+
+-- the committed t saw a version of k that isn't its own, as of place c
+abbrev pub Looked : List Event → ℕ → ℕ → ℕ → Type 0
+Looked h t k c = IsCommitted h t × (p : ℕ) × (v : ℕ) × SawAt h p t k v × (v ≢ t) × IsAsOf h v c
+
+-- the span of one sight
+abbrev pub IsSpanOf : List Event → Sight → Span → Type 0
+IsSpanOf h s span = (span.txn ≡ s.txn) × (span.key ≡ s.key) × (span.low ≡ span.high) × IsCommitted h s.txn × (s.saw ≢ s.txn) × IsAsOf h s.saw span.low
+
+-- some sight that has P gives y
+abbrev pub FromSight : {B : Type 0} → (Sight → Type 0) → (Sight → B → Type 0) → B → Type 0
+FromSight P Q y = (s : Sight) × P s × Q s y
+
+-- t, k and c lie in the span
+abbrev pub IsInSpan : Span → ℕ → ℕ → ℕ → Type 0
+IsInSpan span t k c = (span.txn ≡ t) × (span.key ≡ k) × (span.low ≤ c) × (c ≤ span.high)
+
+-- the ends of each wide span are in narrow ones, and each narrow span lies in a wide one
+pub record Widens (narrow wide : List Span) : Type 0 where
+  pub low : (s : Span) → Contains wide s → (n : Span) × Contains narrow n × (n.txn ≡ s.txn) × (n.key ≡ s.key) × (n.low ≡ s.low)
+  pub high : (s : Span) → Contains wide s → (n : Span) × Contains narrow n × (n.txn ≡ s.txn) × (n.key ≡ s.key) × (n.high ≡ s.high)
+  pub each : (n : Span) → Contains narrow n → (s : Span) × Contains wide s × (s.txn ≡ n.txn) × (s.key ≡ n.key) × (s.low ≤ n.low) × (n.high ≤ s.high)
+
+-- the span of both
+pub record IsJoined (last next both : Span) : Type 0 where
+  pub txn : (both.txn ≡ last.txn) × (both.txn ≡ next.txn)
+  pub key : (both.key ≡ last.key) × (both.key ≡ next.key)
+  pub low : (both.low ≡ last.low) ⊎ (both.low ≡ next.low)
+  pub high : (both.high ≡ last.high) ⊎ (both.high ≡ next.high)
+  pub lowest : (both.low ≤ last.low) × (both.low ≤ next.low)
+  pub highest : (last.high ≤ both.high) × (next.high ≤ both.high)
+
+-- the edge by which the reader of the span follows the version
+abbrev pub IsWrEdge : Span → Made → Edge → Type 0
+IsWrEdge span made e = (made.commit ≤ span.high) × (e ≡ record { src = made.txn; dst = span.txn; kind = Wr; key = span.key })
+
+-- the edge by which the version follows the reader of the span
+abbrev pub IsRwEdge : Span → Made → Edge → Type 0
+IsRwEdge span made e = (span.low < made.commit) × (e ≡ record { src = span.txn; dst = made.txn; kind = Rw; key = span.key })
+
+-- either of them, with a version that isn't the reader's
+abbrev pub IsSpanEdge : Span → Made → Edge → Type 0
+IsSpanEdge span made e = (made.txn ≢ span.txn) × (IsWrEdge span made e ⊎ IsRwEdge span made e)
+
+-- the edge from the first version to the second
+abbrev pub IsPairEdge : ℕ → Made → Made → Edge → Type 0
+IsPairEdge k second first e = e ≡ record { src = first.txn; dst = second.txn; kind = Ww; key = k }
+
+-- the bad write of two versions, where the first committed after place s
+abbrev pub IsLateBad : ℕ → ℕ → Made → Made → BadWrite → Type 0
+IsLateBad s k second first b = (s < first.commit) × (b ≡ record { key = k; first = first.txn; second = second.txn })
+
+-- the bad write of two versions, where the first committed after the start of the second's transaction
+abbrev pub IsPairBad : List Event → ℕ → Made → Made → BadWrite → Type 0
+IsPairBad h k second first b = (s : ℕ) × StartsAt h second.txn s × IsLateBad s k second first b
+
+-- two versions of the list, the first committed before the second, give it
+abbrev pub FromPair : {B : Type 0} → (Made → Made → B → Type 0) → List Made → B → Type 0
+FromPair {B} P versions b = (first : Made) × (second : Made) × Contains versions first × Contains versions second × (first.commit < second.commit) × P second first b
+
+-- of two committed writers of k, the first committed before the second, what they give
+abbrev pub KeyPair : {B : Type 0} → List Event → (ℕ → Made → Made → B → Type 0) → ℕ → B → Type 0
+KeyPair {B} h P k b = (first : Made) × (second : Made) × IsMade h k first × IsMade h k second × (first.commit < second.commit) × P k second first b
+
+-- the edge of a span with some committed writer of its key
+abbrev pub FromMade : List Event → Span → Edge → Type 0
+FromMade h span e = (made : Made) × IsMade h span.key made × IsSpanEdge span made e
+
+-- spans of the part's keys: their ends are looks, and each look at a written key lies in one
+pub record AreSpans (h : List Event) (part : Part) (spans : List Span) : Type 0 where
+  pub low : (s : Span) → Contains spans s → Looked h s.txn s.key s.low
+  pub high : (s : Span) → Contains spans s → Looked h s.txn s.key s.high
+  pub within : (s : Span) → Contains spans s → IsInPart part s.key
+  pub whole : (t k c : ℕ) → Looked h t k c → IsInPart part k → ((u : ℕ) × Wrote h u k) → (s : Span) × Contains spans s × IsInSpan s t k c

@@ -1,0 +1,139 @@
+//! The audit of a part of the keys.
+ghost use Rattle.std.specs.Prelude.{◌≡◌, ◌↔◌, All, IfOk, IsTrue};
+ghost use Rattle.sia_events.specs.Refusals.{IsWellFormed};
+ghost use Rattle.sia_events.specs.Isolation.{IsBadRead, IsUnexplained};
+ghost use Rattle.sia_events.specs.Transactions.{WroteBefore};
+ghost use Rattle.sia_events.specs.Reads.{SawAt};
+ghost use Rattle.sia_parts.specs.Findings.{ArePartFindings, ListsBadReads, ListsBadWrites, ListsUnexplained};
+ghost use Rattle.sia_parts.specs.Parts.{IsInPart};
+ghost use Rattle.sia_parts.specs.Sights.{AreSpans};
+
+use crate::cutting::Part;
+use crate::edges::edges_of;
+use crate::finding::{BadRead, BadWrite, Unexplained};
+use crate::findings::PartFindings;
+use crate::ordering::put_in_order;
+use crate::pairs::put_bad_writes;
+use crate::sights::{is_committed, put_item_reads, put_range_reads};
+use crate::spans::{Span, joined};
+use sia_events::{History, Key, NoMemory, TxnId};
+use sia_index::Index;
+use std::alloc::Global;
+
+/// What reads saw at the keys of a part.
+#[derive(Drop)]
+struct Seen {
+    bad_reads: Vec<BadRead>,
+    spans: Vec<Span>,
+}
+
+/// The findings at the keys of the part, by an index of the history.
+pub fn audit_part(
+    alloc: Global,
+    h: &History,
+    ix: &Index,
+    part: Part,
+) -> Result<PartFindings, NoMemory>
+    requires { ix.now ≡ h.now }
+    ensures { IfOk result (λ found. ArePartFindings h.now part found) }
+{
+    // The length tells that the history is well-formed.
+    let _ = h.len();
+    let seen = seen_of(alloc, h, ix, part)?;
+    let bad_writes = bad_writes_of(alloc, ix, part)?;
+    let unexplained = unexplained_of(alloc, h, ix, part, &seen.bad_reads)?;
+    let edges = edges_of(alloc, ix, part, &seen.spans)?;
+    Ok(PartFindings {
+        bad_reads: seen.bad_reads,
+        bad_writes,
+        unexplained,
+        edges,
+    })
+}
+
+// The bad reads at the keys of the part, and the spans of these.
+fn seen_of(alloc: Global, h: &History, ix: &Index, part: Part) -> Result<Seen, NoMemory>
+    requires { ix.now ≡ h.now }
+    ensures bad_reads { IfOk result (λ seen. ListsBadReads ix.now (IsInPart part) seen.bad_reads.items) }
+    ensures spans { IfOk result (λ seen. AreSpans ix.now part seen.spans.items) }
+{
+    // The length tells that the history is well-formed.
+    let _ = h.len();
+    let mut bad_reads = Vec::new(alloc);
+    let mut spans = Vec::new(alloc);
+    let reads = ix.reads_within(part.lo, part.hi);
+    put_item_reads(ix, reads, &mut bad_reads, &mut spans)?;
+    let ranges = ix.ranges_meeting(part.lo, part.hi);
+    put_range_reads(h, ix, part, ranges, &mut bad_reads, &mut spans)?;
+    put_in_order(&mut bad_reads);
+    let spans = joined(alloc, spans)?;
+    Ok(Seen { bad_reads, spans })
+}
+
+// The bad writes at the keys of the part.
+fn bad_writes_of(alloc: Global, ix: &Index, part: Part) -> Result<Vec<BadWrite>, NoMemory>
+    requires { IsWellFormed ix.now }
+    ensures { IfOk result (λ bad. ListsBadWrites ix.now (IsInPart part) bad.items) }
+{
+    let mut bad = Vec::new(alloc);
+    put_bad_writes(ix, ix.written_within(part.lo, part.hi), &mut bad)?;
+    put_in_order(&mut bad);
+    Ok(bad)
+}
+
+// The unexplained reads at the keys of the part: each is a bad read too.
+fn unexplained_of(
+    alloc: Global,
+    h: &History,
+    ix: &Index,
+    part: Part,
+    bad: &[BadRead],
+) -> Result<Vec<Unexplained>, NoMemory>
+    requires of { ix.now ≡ h.now }
+    requires bad { ListsBadReads ix.now (IsInPart part) bad.now }
+    ensures { IfOk result (λ found. ListsUnexplained ix.now (IsInPart part) found.items) }
+{
+    // The length tells that the history is well-formed.
+    let _ = h.len();
+    let mut found = Vec::new(alloc);
+    for read in bad {
+        if is_unexplained(ix, *read) {
+            found.push(Unexplained {
+                place: read.place,
+                txn: read.txn,
+                key: read.key,
+                saw: read.saw,
+            })?;
+        }
+    }
+    put_in_order(&mut found);
+    Ok(found)
+}
+
+// Whether a read of this kind is unexplained.
+fn is_unexplained(ix: &Index, read: BadRead) -> bool
+    requires well_formed { IsWellFormed ix.now }
+    requires read { SawAt ix.now read.place read.txn read.key read.saw }
+    ensures { IsTrue result ↔ IsUnexplained ix.now read.place read.txn read.key read.saw }
+{
+    if !is_committed(ix, read.txn) {
+        return false;
+    }
+    if read.saw == read.txn {
+        return false;
+    }
+    if wrote_before(ix, read.txn, read.place, read.key) {
+        return true;
+    }
+    read.saw != 0 && !is_committed(ix, read.saw)
+}
+
+// Whether the transaction wrote the key before the place.
+fn wrote_before(ix: &Index, t: TxnId, place: u32, k: Key) -> bool
+    ensures { IsTrue result ↔ WroteBefore ix.now t k place }
+{
+    match ix.first_write(t, k) {
+        Some(first) => first < place,
+        None => false,
+    }
+}

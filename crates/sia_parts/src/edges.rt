@@ -1,0 +1,86 @@
+//! The edges of a part.
+ghost use Rattle.std.specs.Prelude.{◌≡◌, ◌≢◌, ◌⊎◌, ◌<◌, ◌≤◌, IfOk, OnOk};
+ghost use Rattle.sia_events.specs.Refusals.{IsWellFormed};
+ghost use Rattle.sia_parts.specs.Findings.{ListsEdges};
+ghost use Rattle.sia_parts.specs.Parts.{IsInPart};
+ghost use Rattle.sia_parts.specs.Sights.{Adds, FromSome, FromMade, IsSpanEdge, IsWrEdge, IsRwEdge, AreSpans};
+
+use crate::cutting::Part;
+use crate::finding::{Edge, Kind};
+use crate::ordering::put_in_order;
+use crate::pairs::put_ww_edges;
+use crate::spans::Span;
+use sia_events::NoMemory;
+use sia_index::{Index, Made};
+use std::alloc::Global;
+
+/// The edges at the keys of the part, of the spans of these.
+pub(crate) fn edges_of(
+    alloc: Global,
+    ix: &Index,
+    part: Part,
+    spans: &[Span],
+) -> Result<Vec<Edge>, NoMemory>
+    requires well_formed { IsWellFormed ix.now }
+    requires spans { AreSpans ix.now part spans.now }
+    ensures { IfOk result (λ edges. ListsEdges ix.now (IsInPart part) edges.items) }
+{
+    let mut edges = Vec::new(alloc);
+    put_ww_edges(ix, ix.written_within(part.lo, part.hi), &mut edges)?;
+    put_span_edges(ix, spans, &mut edges)?;
+    put_in_order(&mut edges);
+    Ok(edges)
+}
+
+// Adds the wr and rw edges of the spans.
+fn put_span_edges(ix: &Index, spans: &[Span], edges: &mut Vec<Edge>) -> Result<(), NoMemory>
+    ensures { OnOk result (Adds (FromSome (FromMade ix.now) spans.now) edges.old.items edges.new.items) }
+{
+    for span in spans {
+        put_edges_with(*span, ix.versions(span.key), edges)?;
+    }
+    Ok(())
+}
+
+// Adds the edges of a span with the versions of its key.
+fn put_edges_with(span: Span, versions: &[Made], edges: &mut Vec<Edge>) -> Result<(), NoMemory>
+    ensures { OnOk result (Adds (FromSome (IsSpanEdge span) versions.now) edges.old.items edges.new.items) }
+{
+    for made in versions {
+        if made.txn != span.txn {
+            put_wr(span, *made, edges)?;
+            put_rw(span, *made, edges)?;
+        }
+    }
+    Ok(())
+}
+
+// Adds the wr edge of a version that the span's transaction saw, or a later one of the key.
+fn put_wr(span: Span, made: Made, edges: &mut Vec<Edge>) -> Result<(), NoMemory>
+    ensures { OnOk result (Adds (IsWrEdge span made) edges.old.items edges.new.items) }
+{
+    if made.commit <= span.high {
+        edges.push(Edge {
+            src: made.txn,
+            dst: span.txn,
+            kind: Kind::Wr,
+            key: span.key,
+        })?;
+    }
+    Ok(())
+}
+
+// Adds the rw edge to a version after one that the span's transaction saw.
+fn put_rw(span: Span, made: Made, edges: &mut Vec<Edge>) -> Result<(), NoMemory>
+    ensures { OnOk result (Adds (IsRwEdge span made) edges.old.items edges.new.items) }
+{
+    if span.low < made.commit {
+        edges.push(Edge {
+            src: span.txn,
+            dst: made.txn,
+            kind: Kind::Rw,
+            key: span.key,
+        })?;
+    }
+    Ok(())
+}

@@ -1,0 +1,117 @@
+//! Pairs of a key's versions: bad writes and ww edges.
+ghost use Rattle.std.specs.Prelude.{◌≡◌, ◌<◌, ◌≤◌, IfOk, OnOk, Contains};
+ghost use Rattle.sia_index.specs.Info.{AreVersions};
+ghost use Rattle.sia_parts.specs.Sights.{Adds, FromSome, FromPair, IsPairEdge, IsPairBad, IsLateBad, AscendsByCommit, KeyPair};
+
+use crate::finding::{BadWrite, Edge, Kind};
+use sia_events::{Key, NoMemory};
+use sia_index::{Index, Made};
+
+/// Adds the ww edges of the keys.
+pub(crate) fn put_ww_edges(ix: &Index, keys: &[Key], edges: &mut Vec<Edge>) -> Result<(), NoMemory>
+    ensures { OnOk result (Adds (FromSome (KeyPair ix.now IsPairEdge) keys.now) edges.old.items edges.new.items) }
+{
+    for key in keys {
+        put_key_edges(*key, ix.versions(*key), edges)?;
+    }
+    Ok(())
+}
+
+// Adds the ww edges of a key's versions.
+fn put_key_edges(key: Key, versions: &[Made], edges: &mut Vec<Edge>) -> Result<(), NoMemory>
+    requires { AscendsByCommit versions.now }
+    ensures { OnOk result (Adds (FromPair (IsPairEdge key) versions.now) edges.old.items edges.new.items) }
+{
+    for at in 0..versions.len() {
+        put_edges_to(key, versions[at], &versions[..at], edges)?;
+    }
+    Ok(())
+}
+
+// Adds the ww edges from the earlier versions to this one.
+fn put_edges_to(
+    key: Key,
+    second: Made,
+    earlier: &[Made],
+    edges: &mut Vec<Edge>,
+) -> Result<(), NoMemory>
+    ensures { OnOk result (Adds (FromSome (IsPairEdge key second) earlier.now) edges.old.items edges.new.items) }
+{
+    for first in earlier {
+        edges.push(Edge {
+            src: first.txn,
+            dst: second.txn,
+            kind: Kind::Ww,
+            key,
+        })?;
+    }
+    Ok(())
+}
+
+/// Adds the bad writes of the keys.
+pub(crate) fn put_bad_writes(
+    ix: &Index,
+    keys: &[Key],
+    bad: &mut Vec<BadWrite>,
+) -> Result<(), NoMemory>
+    ensures { OnOk result (Adds (FromSome (KeyPair ix.now (IsPairBad ix.now)) keys.now) bad.old.items bad.new.items) }
+{
+    for key in keys {
+        put_key_bad(ix, *key, ix.versions(*key), bad)?;
+    }
+    Ok(())
+}
+
+// Adds the bad writes of a key's versions.
+fn put_key_bad(
+    ix: &Index,
+    key: Key,
+    versions: &[Made],
+    bad: &mut Vec<BadWrite>,
+) -> Result<(), NoMemory>
+    requires { AscendsByCommit versions.now }
+    ensures { OnOk result (Adds (FromPair (IsPairBad ix.now key) versions.now) bad.old.items bad.new.items) }
+{
+    for at in 0..versions.len() {
+        put_bad_with(ix, key, versions[at], &versions[..at], bad)?;
+    }
+    Ok(())
+}
+
+// Adds the bad writes of this version with the earlier ones.
+fn put_bad_with(
+    ix: &Index,
+    key: Key,
+    second: Made,
+    earlier: &[Made],
+    bad: &mut Vec<BadWrite>,
+) -> Result<(), NoMemory>
+    ensures { OnOk result (Adds (FromSome (IsPairBad ix.now key second) earlier.now) bad.old.items bad.new.items) }
+{
+    let Some(info) = ix.txn(second.txn) else {
+        return Ok(());
+    };
+    put_bad_after(info.start, key, second, earlier, bad)
+}
+
+// Adds the bad writes of this version, whose transaction started at the place, with the earlier ones.
+fn put_bad_after(
+    start: u32,
+    key: Key,
+    second: Made,
+    earlier: &[Made],
+    bad: &mut Vec<BadWrite>,
+) -> Result<(), NoMemory>
+    ensures { OnOk result (Adds (FromSome (IsLateBad start key second) earlier.now) bad.old.items bad.new.items) }
+{
+    for first in earlier {
+        if start < first.commit {
+            bad.push(BadWrite {
+                key,
+                first: first.txn,
+                second: second.txn,
+            })?;
+        }
+    }
+    Ok(())
+}

@@ -1,0 +1,286 @@
+//! Findings of small histories without a cut, worked out by hand from the definitions.
+use crate::*;
+use sia_events::{Key, TxnId, Version, read_history};
+use sia_index::make::index;
+use std::alloc::Global;
+use std::process::Abort;
+use std::test::*;
+
+/// The findings that a history is to have.
+#[derive(Clone, Copy)]
+pub struct Wanted<'a> {
+    pub bad_reads: &'a [BadRead],
+    pub bad_writes: &'a [BadWrite],
+    pub unexplained: &'a [Unexplained],
+    pub edges: &'a [Edge],
+}
+
+pub const NOTHING: Wanted<'static> = Wanted {
+    bad_reads: &[],
+    bad_writes: &[],
+    unexplained: &[],
+    edges: &[],
+};
+
+pub const fn bad_read(place: u32, txn: TxnId, key: Key, saw: Version, due: Version) -> BadRead {
+    BadRead {
+        place,
+        txn,
+        key,
+        saw,
+        due,
+    }
+}
+
+const fn bad_write(key: Key, first: TxnId, second: TxnId) -> BadWrite {
+    BadWrite { key, first, second }
+}
+
+const fn unexplained(place: u32, txn: TxnId, key: Key, saw: Version) -> Unexplained {
+    Unexplained {
+        place,
+        txn,
+        key,
+        saw,
+    }
+}
+
+pub const fn edge(src: TxnId, kind: Kind, dst: TxnId, key: Key) -> Edge {
+    Edge {
+        src,
+        dst,
+        kind,
+        key,
+    }
+}
+
+/// The findings of the history of the text, part by part of the cutting and gathered.
+pub fn findings_of(alloc: Global, text: &[u8], points: &[Key]) -> Result<Findings, Fail> {
+    let history = read_history(alloc, text)
+        .ok()
+        .ok_or("the text is a history")?;
+    let index = index(alloc, &history).ok().ok_or("memory for an index")?;
+    let parts = cut(alloc, points).ok().ok_or("the points cut")?;
+    let mut found = Vec::new(alloc);
+    // The length tells that the history is well-formed.
+    let _ = history.len();
+    for part in &parts {
+        let audit = audit_part(alloc, &history, &index, *part)
+            .ok()
+            .ok_or("memory for a part")?;
+        found.push(audit)?;
+    }
+    let findings = gather(alloc, found).ok().ok_or("memory for all parts")?;
+    Ok(findings)
+}
+
+/// That the findings of the history of the text, cut at the points, are those that are wanted.
+pub fn expect<R: Abort + AllocGlobal>(
+    rt: &R,
+    text: &[u8],
+    points: &[Key],
+    wanted: Wanted,
+) -> Result<(), Fail> {
+    let found = findings_of(rt.alloc(), text, points)?;
+    assert_eq!(rt; found.bad_reads.as_slice(), wanted.bad_reads);
+    assert_eq!(rt; found.bad_writes.as_slice(), wanted.bad_writes);
+    assert_eq!(rt; found.unexplained.as_slice(), wanted.unexplained);
+    assert_eq!(rt; found.edges.as_slice(), wanted.edges);
+    Ok(())
+}
+
+// No event, and a transaction that only commits.
+#[test]
+fn nothing_to_find(rt: HostRuntime) -> Result<(), Fail> {
+    expect(&rt, b"", &[], NOTHING)?;
+    expect(&rt, b"c7", &[], NOTHING)?;
+    Ok(())
+}
+
+// Edges lead between all pairs of versions and of a read's version, and not only between neighbours: 4 saw 2's version, so
+// 1's is before it too, and 3's is due.
+#[test]
+fn stale_read(rt: HostRuntime) -> Result<(), Fail> {
+    let wanted = Wanted {
+        bad_reads: &[bad_read(7, 4, 1, 2, 3)],
+        edges: &[
+            edge(1, Kind::Ww, 2, 1),
+            edge(1, Kind::Ww, 3, 1),
+            edge(1, Kind::Wr, 4, 1),
+            edge(2, Kind::Ww, 3, 1),
+            edge(2, Kind::Wr, 4, 1),
+            edge(4, Kind::Rw, 3, 1),
+        ],
+        ..NOTHING
+    };
+    expect(&rt, b"w1[1] c1 w2[1] c2 w3[1] c3 r4[1:2] c4", &[], wanted)?;
+    Ok(())
+}
+
+// A version that aborts gives a bad and unexplained read, and no edge.
+#[test]
+fn aborted_version(rt: HostRuntime) -> Result<(), Fail> {
+    let wanted = Wanted {
+        bad_reads: &[bad_read(2, 2, 1, 1, 0)],
+        unexplained: &[unexplained(2, 2, 1, 1)],
+        ..NOTHING
+    };
+    expect(&rt, b"w1[1] r2[1:1] c2 a1", &[], wanted)?;
+    // nor does one that stays open
+    expect(&rt, b"w1[1] r2[1:1] c2", &[], wanted)?;
+    // one that commits later gives an edge, and is explained
+    let later = Wanted {
+        bad_reads: &[bad_read(2, 2, 1, 1, 0)],
+        edges: &[edge(1, Kind::Wr, 2, 1)],
+        ..NOTHING
+    };
+    expect(&rt, b"w1[1] r2[1:1] c2 c1", &[], later)?;
+    // and in a range that lists it, read by an aborted transaction, it is a bad read alone
+    let listed = Wanted {
+        bad_reads: &[bad_read(3, 2, 5, 1, 0)],
+        ..NOTHING
+    };
+    expect(&rt, b"w1[5] a1 r2[0..9;5:1] a2", &[], listed)?;
+    Ok(())
+}
+
+// An own write that a later read misses is due. Own versions give no edge.
+#[test]
+fn own_writes(rt: HostRuntime) -> Result<(), Fail> {
+    let missed = Wanted {
+        bad_reads: &[bad_read(2, 1, 1, 0, 1)],
+        unexplained: &[unexplained(2, 1, 1, 0)],
+        ..NOTHING
+    };
+    expect(&rt, b"w1[1] r1[1:0] c1", &[], missed)?;
+    let missed_in_range = Wanted {
+        bad_reads: &[bad_read(2, 1, 3, 0, 1)],
+        ..NOTHING
+    };
+    expect(&rt, b"w1[3] r1[0..9]", &[], missed_in_range)?;
+    let seen = Wanted {
+        edges: &[edge(1, Kind::Ww, 2, 1)],
+        ..NOTHING
+    };
+    expect(&rt, b"w1[1] c1 w2[1] r2[1:2] r2[0..5;1:2] c2", &[], seen)?;
+    Ok(())
+}
+
+// 1 read key 4 before it wrote it: 2's version is after what it saw, and it isn't its own successor. 2 committed after 1 had
+// started.
+#[test]
+fn read_before_own_write(rt: HostRuntime) -> Result<(), Fail> {
+    let wanted = Wanted {
+        bad_writes: &[bad_write(4, 2, 1)],
+        edges: &[edge(1, Kind::Rw, 2, 4), edge(2, Kind::Ww, 1, 4)],
+        ..NOTHING
+    };
+    expect(&rt, b"r1[4:0] w2[4] c2 w1[4] c1", &[], wanted)?;
+    Ok(())
+}
+
+// Two reads of one key by one transaction give an edge once, and each of their edges.
+#[test]
+fn read_twice(rt: HostRuntime) -> Result<(), Fail> {
+    let covered_twice = Wanted {
+        edges: &[edge(1, Kind::Rw, 2, 1)],
+        ..NOTHING
+    };
+    expect(&rt, b"r1[1:0] r1[0..5] w2[1] c2 c1", &[], covered_twice)?;
+    // 3 saw 1's version and then 2's: both are before what it saw, and 2's is also after it
+    let two_versions = Wanted {
+        bad_reads: &[bad_read(6, 3, 1, 2, 1)],
+        edges: &[
+            edge(1, Kind::Ww, 2, 1),
+            edge(1, Kind::Wr, 3, 1),
+            edge(2, Kind::Wr, 3, 1),
+            edge(3, Kind::Rw, 2, 1),
+        ],
+        ..NOTHING
+    };
+    expect(
+        &rt,
+        b"w1[1] c1 r3[1:1] w2[1] c2 r3[1:2] c3",
+        &[],
+        two_versions,
+    )?;
+    Ok(())
+}
+
+// A read is judged as of its transaction's start, and not of its own place.
+#[test]
+fn start_counts(rt: HostRuntime) -> Result<(), Fail> {
+    let wanted = Wanted {
+        bad_reads: &[bad_read(4, 1, 1, 2, 0)],
+        edges: &[edge(2, Kind::Wr, 1, 1)],
+        ..NOTHING
+    };
+    expect(&rt, b"r1[2:0] w2[1] c2 r1[1:2] c1", &[], wanted)?;
+    // the bad reads of open transactions count
+    let open = Wanted {
+        bad_reads: &[bad_read(3, 3, 1, 2, 0)],
+        ..NOTHING
+    };
+    expect(&rt, b"r1[1:0] w2[1] r3[1:2]", &[], open)?;
+    Ok(())
+}
+
+// A range lists key 3 and leaves out key 7, both written before: 3 is right, 7 was to be seen.
+#[test]
+fn key_left_out(rt: HostRuntime) -> Result<(), Fail> {
+    let wanted = Wanted {
+        bad_reads: &[bad_read(4, 2, 7, 0, 1)],
+        edges: &[edge(1, Kind::Wr, 2, 3), edge(2, Kind::Rw, 1, 7)],
+        ..NOTHING
+    };
+    expect(&rt, b"w1[3] w1[7] c1 r2[0..9;3:1] c2", &[], wanted)?;
+    // listed keys that nobody wrote are nothing
+    expect(&rt, b"r1[0..9;4:0] c1", &[], NOTHING)?;
+    Ok(())
+}
+
+// Each of three overlapping writers of a key had to give way to those that committed before it.
+#[test]
+fn three_writers(rt: HostRuntime) -> Result<(), Fail> {
+    let wanted = Wanted {
+        bad_writes: &[bad_write(1, 1, 2), bad_write(1, 1, 3), bad_write(1, 2, 3)],
+        edges: &[
+            edge(1, Kind::Ww, 2, 1),
+            edge(1, Kind::Ww, 3, 1),
+            edge(2, Kind::Ww, 3, 1),
+        ],
+        ..NOTHING
+    };
+    expect(&rt, b"w1[1] w2[1] w3[1] c1 c2 c3", &[], wanted)?;
+    Ok(())
+}
+
+// The start that a begin names counts for reads and for writes.
+#[test]
+fn named_starts(rt: HostRuntime) -> Result<(), Fail> {
+    let rw = [edge(2, Kind::Rw, 1, 1)];
+    let early = Wanted {
+        edges: &rw,
+        ..NOTHING
+    };
+    expect(&rt, b"w1[1] c1 b2@0 r2[1:0] c2", &[], early)?;
+    let late = Wanted {
+        bad_reads: &[bad_read(4, 2, 1, 0, 1)],
+        edges: &rw,
+        ..NOTHING
+    };
+    expect(&rt, b"w1[1] c1 b2 r2[1:0] c2", &[], late)?;
+    let ww = [edge(1, Kind::Ww, 2, 1)];
+    let overlapping = Wanted {
+        bad_writes: &[bad_write(1, 1, 2)],
+        edges: &ww,
+        ..NOTHING
+    };
+    expect(&rt, b"w1[1] c1 b2@1 w2[1] c2", &[], overlapping)?;
+    let apart = Wanted {
+        edges: &ww,
+        ..NOTHING
+    };
+    expect(&rt, b"w1[1] c1 b2@2 w2[1] c2", &[], apart)?;
+    Ok(())
+}
