@@ -12,6 +12,7 @@ use std::process::Abort;
 use std::test::Fail;
 
 mod replays;
+mod structures;
 
 /// Whether the ids ascend without repeats.
 fn ascends(ids: &[TxnId]) -> bool
