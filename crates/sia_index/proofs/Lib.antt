@@ -8,3 +8,5 @@ pub mod Runs
 pub mod Spans
 pub mod Offsets
 pub mod ReadTables
+pub mod NextKeys
+pub mod DueWithin

@@ -38,6 +38,7 @@ pub fn index(alloc: Global, h: &History) -> Result<Index, NoMemory>
         keys,
         offsets,
         made,
+        versions: rows,
         reads,
         ranges,
         reaches,

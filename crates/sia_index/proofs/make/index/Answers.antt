@@ -20,6 +20,7 @@ invariant_of-result c =
       writes_are = c.in_ok-writes.ensures;
       keys_are = keys;
       chains_are = chains_are _ _ keys _ c.in_ok-rows.ensures _ offsets _ made;
+      versions_are = c.in_ok-rows.ensures;
       reads_are = c.in_ok-reads.ensures;
       ranges_are = c.in_ok-ranges.ensures;
       reaches_are = rw c.deref-7.ensures.value at c.in_ok-reaches.ensures;

@@ -4,7 +4,7 @@ use Rattle.std.proofs.Math.Dec.{leb}
 use Rattle.std.proofs.lemmas.List.Sorted.{IsPartitionPoint-from_clause}
 use Rattle.sia_index.specs.declared.info.Made.{Made}
 use Rattle.sia_index.proofs.Ordered.{partitioned, above, last_of}
-use Rattle.sia_index.proofs.indexed.last_within.Goals as goal
+use Rattle.sia_index.proofs.readers.last_within.Goals as goal
 
 pub returns-then-within-eq0 : goal.returns-then-within-eq0
 returns-then-within-eq0 c =
