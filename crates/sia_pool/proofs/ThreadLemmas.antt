@@ -1,6 +1,6 @@
 -- Views and answers that are put together.
 use Rattle.std.proofs.Common.{◌≡◌, ℕ, suc, ◌+◌, ◌<◌, List, [], ◌∷◌, ◌++◌, length, sym, refl, ap, ◌∙◌, subst, arith, append_assoc, length-append}
-use Rattle.std.specs.Prelude.{Result, Ok, Err, IfOk, IsPermutation}
+use Rattle.std.specs.Prelude.{Result, Ok, Err, IfOk, IsOkAnd, IsPermutation}
 use Rattle.std.specs.List.{AllByRecursion, concat}
 use Rattle.std.proofs.lemmas.List.{append-nil}
 use Rattle.std.proofs.lemmas.List.Folds.{concat-append}
@@ -16,7 +16,7 @@ use Rattle.sia_pool.specs.Taker.{taker_view, taker_deque}
 use Rattle.sia_pool.specs.Line.{IsLine}
 use Rattle.sia_pool.specs.Answers.{lists_of, parts_of, Owed}
 use Rattle.sia_pool.specs.Work.{HasWorked}
-use Rattle.sia_pool.specs.Threads.{IsReady, IsDone, AllDone}
+use Rattle.sia_pool.specs.Threads.{IsReady, IsDone, ComesBack, AllDone}
 
 pub length-lists_of : (vs : List (Vec ℕ)) → length (lists_of vs) ≡ length vs
 length-lists_of [] = refl
@@ -74,14 +74,14 @@ ready_count count workers (u ∷ ts) t h = ap (λ (m : View). m.count) (line_las
 
 module _ {Out : Type 0} where
   pub crew_step : (owes : ℕ → Out → Type 0) (count workers : ℕ) (ts : List Taker) (t w : Taker) (ys : List (ℕ × Out)) (o : Owner) (later : List (Vec ℕ)) (xs : List (ℕ × Out))
-      → IsReady count workers (ts ++ t ∷ []) → HasWorked owes (taker_deque t) (taker_view t) [] w ys → AllDone owes count workers ts o later xs
-      → IsDone owes (taker_deque w) count workers o later xs × (taker_view w ≡ stealer_view (suc (length later)) count workers (parts_of ys))
+      → IsReady count workers (ts ++ t ∷ []) → HasWorked owes (taker_deque t) (taker_view t) [] w ys → AllDone owes count workers ts o later xs → ComesBack owes count workers o later xs w ys
   crew_step owes count workers [] t w ys o later xs h f d = absurd d
   crew_step owes count workers (u ∷ ts) t w ys o later xs h f d =
       let l = line_last (taker_deque u) count workers 1 ts t h.1 in
       let n : 1 + length ts ≡ suc (length later) = omega (arith, d.1) in (
         subst (λ q. IsDone owes q count workers o later xs) (sym (f.same ∙ l.1)) d.0,
         f.view ∙ ap (λ (m : View). with_share m (m.share ++ f.more)) l.2 ∙ ap (λ k. stealer_view k count workers f.more) n ∙ ap (stealer_view (suc (length later)) count workers) (sym f.parts),
+        f.owed,
       )
 
   pub crew_end : (owes : ℕ → Out → Type 0) (count workers : ℕ) (ts : List Taker) (t w : Taker) (ys : List (ℕ × Out)) (o p : Owner) (later last : List (Vec ℕ)) (xs zs : List (ℕ × Out))
@@ -92,6 +92,23 @@ module _ {Out : Type 0} where
       let l = line_last (taker_deque u) count workers 1 ts t h.1 in
       (subst (λ q. IsDone owes q count workers p last zs) (f.same ∙ l.1) e, omega (arith, n, d.1, length-append ts (t ∷ [])))
 
-pub ok_both : {A E : Type 0} (P Q S : A → Type 0) (r : Result A E) → ((x : A) → P x → Q x → S x) → IfOk r P → IfOk r Q → IfOk r S
-ok_both P Q S (Ok x) f a b = f x a b
-ok_both P Q S (Err e) f a b = tt
+-- where both answers are, so is what follows from them
+pub ok_pair : {A B E F : Type 0} (P : A → Type 0) (Q : B → Type 0) (R : A → B → Type 0) (a : Result A E) (b : Result B F) → ((x : A) (y : B) → P x → Q y → R x y) → IfOk a P → IfOk b Q → IfOk a (λ x. IfOk b (λ y. R x y))
+ok_pair P Q R (Ok x) (Ok y) f p q = f x y p q
+ok_pair P Q R (Ok x) (Err e) f p q = tt
+ok_pair P Q R (Err e) b f p q = tt
+
+pub ok_end : {A B C E F G : Type 0} (P : A → Type 0) (Q : B → Type 0) (S : A → B → C → Type 0) (T : C → Type 0) (a : Result A E) (b : Result B F) (r : Result C G)
+    → ((x : A) (y : B) (z : C) → P x → Q y → S x y z → T z) → IfOk a P → IfOk b Q → IfOk r (λ z. IsOkAnd a (λ x. IsOkAnd b (λ y. S x y z))) → IfOk r T
+ok_end P Q S T a b (Err e) f p q s = tt
+ok_end P Q S T (Err e) b (Ok z) f p q s = absurd s
+ok_end P Q S T (Ok x) (Err e) (Ok z) f p q s = absurd s
+ok_end P Q S T (Ok x) (Ok y) (Ok z) f p q s = f x y z p q s
+
+pub ok_these : {A B C E F G : Type 0} (S : A → B → C → Type 0) (a : Result A E) (b : Result B F) (r : Result C G) (x : A) (y : B) → a ≡ Ok x → b ≡ Ok y → IfOk r (S x y) → IfOk r (λ z. IsOkAnd a (λ u. IsOkAnd b (λ v. S u v z)))
+ok_these S a b (Err e) x y d e' h = tt
+ok_these S a b (Ok z) x y d e' h = subst (λ c. IsOkAnd c (λ u. IsOkAnd b (λ v. S u v z))) (sym d) (subst (λ c. IsOkAnd c (λ v. S x v z)) (sym e') h)
+
+pub ok_join : {C G : Type 0} (P Q : C → Type 0) (r : Result C G) → IfOk r P → IfOk r Q → IfOk r (λ z. P z × Q z)
+ok_join P Q (Ok z) p q = (p, q)
+ok_join P Q (Err e) p q = tt

@@ -1,11 +1,11 @@
 // The workers, each in a thread, and the views that come back.
-ghost use Rattle.std.specs.Prelude.{◌≡◌, ℕ, suc, ◌-◌, ◌<◌, [], ◌∷◌, ◌++◌, length, IfOk};
+ghost use Rattle.std.specs.Prelude.{◌≡◌, ℕ, suc, ◌-◌, ◌<◌, [], ◌∷◌, ◌++◌, length, IfOk, IsOkAnd};
 ghost use denote.Param.Send.{IsSync, IsSend};
 ghost use Rattle.sia_pool.specs.View.{owner_view, stealer_view};
 ghost use Rattle.sia_pool.specs.Taker.{taker_view, taker_deque};
 ghost use Rattle.sia_pool.specs.Answers.{lists_of, parts_of, Owed};
 ghost use Rattle.sia_pool.specs.Work.{HasWorked};
-ghost use Rattle.sia_pool.specs.Threads.{IsReady, IsDone, AllDone};
+ghost use Rattle.sia_pool.specs.Threads.{IsReady, IsDone, ComesBack, AllDone};
 
 use crate::fault::NoMemory;
 use crate::gate::Gate;
@@ -53,6 +53,26 @@ where
     }
 }
 
+/// The owner works where no other worker is left to start.
+fn owner_alone<J: Job, G: Gate, R: Wait>(
+    rt: &R,
+    alloc: Global,
+    count: u32,
+    workers: u32,
+    taker: Taker,
+    job: &J,
+    gate: &G,
+) -> Result<Done<J::Out>, NoMemory>
+where
+    J::Out: Drop,
+    requires ready { IsReady count workers (taker ∷ []) }
+    requires takes { (p : ℕ) → p < count → J.takes job.now p }
+    ensures { IfOk result (λ r. AllDone (J.owes job.now) count workers (taker ∷ []) r.owner r.later.items r.answers.items) }
+{
+    let worked = work(rt, taker, Vec::new(alloc), job, gate)?;
+    Ok(owner_done(alloc, job, count, workers, worked))
+}
+
 /// One more worker has ended, or never ran: the owner takes its view back.
 pub(crate) fn with_worker<J: Job>(
     job: &J,
@@ -93,6 +113,24 @@ where
             })
         }
     }
+}
+
+/// The last stealer and all workers before it have ended, and no answer was looked at before. So a refusal is answered when
+/// no worker runs any more.
+fn with_last<J: Job>(
+    job: &J,
+    count: u32,
+    workers: u32,
+    done: Result<Done<J::Out>, NoMemory>,
+    worked: Result<Worked<J::Out>, NoMemory>,
+) -> Result<Done<J::Out>, NoMemory>
+where
+    J::Out: Drop,
+    requires { IfOk done (λ d. IfOk worked (λ w. ComesBack (J.owes job.now) count workers d.owner d.later.items d.answers.items w.taker w.answers.items)) }
+    ensures { IfOk result (λ r. IsOkAnd done (λ d. IsOkAnd worked (λ w. IsDone (J.owes job.now) (taker_deque w.taker) count workers r.owner r.later.items r.answers.items
+        × (length r.later.items ≡ suc (length d.later.items))))) }
+{
+    with_worker(job, count, workers, done?, worked?)
 }
 
 /// `work` of a stealer, which takes nothing once the workers before it have ended.
@@ -144,8 +182,7 @@ pub(crate) fn run_all<
         unreachable!()
     };
     if takers.is_empty() {
-        let worked = work(rt, last, Vec::new(alloc), job, gate)?;
-        return Ok(owner_done(alloc, job, count, workers, worked));
+        return owner_alone(rt, alloc, count, workers, last, job, gate);
     }
     let flag = AtomicBool::new(false);
     let ended = &flag;
@@ -161,7 +198,6 @@ pub(crate) fn run_all<
         ended.store(true, Ordering::SeqCst);
         done
     };
-    // Both have ended before either answer is looked at, so a refusal is answered when no worker runs any more.
     let (worked, done) = thread::join(rt, there, here);
-    with_worker(job, count, workers, done?, worked?)
+    with_last(job, count, workers, done, worked)
 }
