@@ -17,10 +17,7 @@ fn sort_by_part<Out>(answers: &mut Vec<(u32, Out)>)
 }
 
 /// Answers without their parts.
-fn without_parts<Out: Drop>(
-    alloc: Global,
-    answers: Vec<(u32, Out)>,
-) -> Result<Vec<Out>, AllocError>
+fn without_parts<Out: Drop>(alloc: Global, answers: Vec<(u32, Out)>) -> Result<Vec<Out>, AllocError>
     ensures { IfOk result (λ outs. outs.items ≡ map (λ a. a.1) answers.items) }
 {
     answers.into_iter().map(|(_, out)| out).collect(alloc)

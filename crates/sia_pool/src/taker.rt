@@ -1,5 +1,6 @@
 // One who takes parts: the owner of the deque, which pops, or a stealer.
-ghost use Rattle.std.specs.Prelude.{◌≡◌};
+ghost use Rattle.std.specs.Prelude.{◌≡◌, ◌<◌};
+ghost use Rattle.crossbeam_deque.specs.Handles.{view, worker_view, worker_deque, stealer_deque};
 ghost use Rattle.sia_pool.specs.Steps.{Stepped};
 ghost use Rattle.sia_pool.specs.Taker.{taker_view, taker_deque};
 
@@ -51,6 +52,57 @@ impl Taker {
         match &self.side {
             Side::Owner(owner) => owner.share.as_slice(),
             Side::Stealer(stealer) => stealer.share.as_slice(),
+        }
+    }
+
+    /// The same parts, of a taker that takes no more.
+    pub(crate) fn into_share(self) -> Vec<u32>
+        ensures { result.items ≡ (taker_view self).share }
+    {
+        let Taker { side } = self;
+        match side {
+            Side::Owner(owner) => {
+                let Owner { end, share } = owner;
+                drop(end);
+                share
+            }
+            Side::Stealer(stealer) => {
+                let Stealer {
+                    end,
+                    pass,
+                    share,
+                    ..
+                } = stealer;
+                drop(end);
+                drop(pass);
+                share
+            }
+        }
+    }
+
+    // The first taker as what it is.
+    pub(crate) fn into_owner(self) -> Owner
+        requires { (taker_view self).number ≡ 0 }
+        ensures view { worker_view result.end ≡ taker_view self }
+        ensures deque { worker_deque result.end ≡ taker_deque self }
+    {
+        let Taker { side } = self;
+        match side {
+            Side::Owner(owner) => owner,
+            Side::Stealer(_) => unreachable!(),
+        }
+    }
+
+    // Any other taker as what it is.
+    pub(crate) fn into_stealer(self) -> Stealer
+        requires { 0 < (taker_view self).number }
+        ensures view { view result.pass ≡ taker_view self }
+        ensures deque { stealer_deque result.end ≡ taker_deque self }
+    {
+        let Taker { side } = self;
+        match side {
+            Side::Owner(_) => unreachable!(),
+            Side::Stealer(stealer) => stealer,
         }
     }
 

@@ -1,5 +1,5 @@
 // What one worker does.
-ghost use Rattle.std.specs.Prelude.{ℕ, ◌<◌, IfOk, OnOk};
+ghost use Rattle.std.specs.Prelude.{ℕ, ◌<◌, OnOk};
 ghost use Rattle.sia_pool.specs.Taker.{taker_view, taker_deque};
 ghost use Rattle.sia_pool.specs.Gate.{EndsWith};
 ghost use Rattle.sia_pool.specs.Answers.{Owed};
@@ -42,22 +42,22 @@ where
 /// Takes parts until nothing is left, and adds an answer for each.
 pub(crate) fn work<J: Job, G: Gate, R: Wait>(
     rt: &R,
-    mut taker: Taker,
-    mut answers: Vec<(u32, J::Out)>,
+    taker: &mut Taker,
+    answers: &mut Vec<(u32, J::Out)>,
     job: &J,
     gate: &G,
-) -> Result<Worked<J::Out>, NoMemory>
+) -> Result<(), NoMemory>
 where
     J::Out: Drop,
-    requires takes { (p : ℕ) → p < (taker_view taker).count → J.takes job.now p }
-    requires owed { Owed (J.owes job.now) answers.items }
-    ensures { IfOk result (λ w. WorkedOff (J.owes job.now) (taker_deque taker) (taker_view taker) answers.items w.taker w.answers.items) }
+    requires takes { (p : ℕ) → p < (taker_view taker.old).count → J.takes job.now p }
+    requires owed { Owed (J.owes job.now) answers.old.items }
+    ensures { OnOk result (WorkedOff (J.owes job.now) (taker_deque taker.old) (taker_view taker.old) answers.old.items taker.new answers.new.items) }
 {
     let number = taker.number();
     'taking: for _ in rt.forever() {
         match taker.next_part() {
-            Taken::Part(part) => answer_part(number, part, &taker, &mut answers, job, gate)?,
-            Taken::Nothing => return Ok(Worked { taker, answers }),
+            Taken::Part(part) => answer_part(number, part, taker, answers, job, gate)?,
+            Taken::Nothing => return Ok(()),
             // A race was lost, and something may be left. How often is not bounded, as with any wait for other threads.
             Taken::Lost => {}
         }
