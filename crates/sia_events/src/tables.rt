@@ -52,6 +52,9 @@ fn is_good_list(lo: Key, hi: Key, listed: &[(Key, Version)]) -> bool
     true
 }
 
+/// So many versions ahead are looked at before the table is searched.
+const NEAR: u32 = 8;
+
 /// Whether this is the next version, which is then passed.
 fn is_next(ahead: &mut Range<'_, (Key, TxnId)>, version: (Key, TxnId)) -> bool
     ensures found { IsTrue result → ahead.old ≡ version ∷ ahead.new }
@@ -149,12 +152,31 @@ impl Tables {
         }
     }
 
-    /// Whether the version of the key is 0 or was written. Only while the versions asked for are in step with those that
-    /// are ahead in the table, is the table not searched.
-    fn is_explained_next(
-        &self,
-        ahead: &mut Range<'_, (Key, TxnId)>,
-        in_step: &mut bool,
+    /// Whether the version stands near ahead in the table. What comes before it is passed.
+    fn is_near(&self, ahead: &mut Range<'_, (Key, TxnId)>, version: (Key, TxnId)) -> bool
+        requires { AllByRecursion (λ p. contains pair_cmp self.now.written p ≡ true) ahead.old }
+        ensures written { IsTrue result → contains pair_cmp self.now.written version ≡ true }
+        ensures found { AllByRecursion (λ p. contains pair_cmp self.now.written p ≡ true) ahead.new }
+    {
+        'near: for _ in 0..NEAR {
+            let Some(next) = ahead.next() else {
+                return false;
+            };
+            if *next == version {
+                return true;
+            }
+            if version < *next {
+                return false;
+            }
+        }
+        false
+    }
+
+    /// Whether the version of the key is 0 or was written. A version that isn't near ahead of the last one is searched for,
+    /// and those after it are ahead from then on.
+    fn is_explained_next<'a>(
+        &'a self,
+        ahead: &mut Range<'a, (Key, TxnId)>,
         key: Key,
         saw: Version,
     ) -> bool
@@ -165,11 +187,12 @@ impl Tables {
         if saw == 0 {
             return true;
         }
-        if *in_step {
-            if is_next(ahead, (key, saw)) {
-                return true;
-            }
-            *in_step = false;
+        if self.is_near(ahead, (key, saw)) {
+            return true;
+        }
+        *ahead = self.written.range((key, saw)..);
+        if is_next(ahead, (key, saw)) {
+            return true;
         }
         self.is_explained(key, saw)
     }
@@ -182,9 +205,8 @@ impl Tables {
             return true;
         };
         let mut ahead = self.written.range(*first..);
-        let mut in_step = true;
         for (key, saw) in listed {
-            if !self.is_explained_next(&mut ahead, &mut in_step, *key, *saw) {
+            if !self.is_explained_next(&mut ahead, *key, *saw) {
                 return false;
             }
         }

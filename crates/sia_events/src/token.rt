@@ -121,11 +121,35 @@ fn after_comma(text: &[u8]) -> Option<&[u8]>
     }
 }
 
+/// The bytes of the shortest listed key with its comma.
+const LEAST_PAIR: usize = 4;
+
+/// How many bytes are counted together: few enough for a count of 8 bits.
+const BLOCK: usize = 128;
+
+/// How many commas a block holds.
+fn commas_in(block: &[u8]) -> u8 {
+    let mut count: u8 = 0;
+    for byte in block {
+        count = count.wrapping_add(u8::from(*byte == b','));
+    }
+    count
+}
+
+/// A room that no list of the token outgrows. It saves growing, and nothing else rests on it.
+fn room_for(text: &[u8]) -> usize {
+    let mut count: usize = 1;
+    for block in text.chunks(BLOCK) {
+        count = count.saturating_add(usize::from(commas_in(block)));
+    }
+    count.min(text.len() / LEAST_PAIR + 1)
+}
+
 /// Listed keys with commas between, or None where a number is out of its range, and what follows the last.
 fn pairs(alloc: Global, text: &[u8]) -> Result<(Option<Vec<(Key, Version)>>, &[u8]), Refusal>
     ensures { Gives (λ x. (items_of x.0, x.1.now)) result (pairs_at text.now) }
 {
-    let mut found = Found::new(alloc);
+    let mut found = Found::with_room(alloc, room_for(text))?;
     let mut rest = text;
     loop {
         let (next, after) = pair(rest)?;
