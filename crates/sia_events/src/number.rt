@@ -1,5 +1,5 @@
 //! Numbers of a token, of any size.
-ghost use Rattle.std.specs.Prelude.{◌≡◌, ◌<◌, ◌≤◌, length, take, IfOk};
+ghost use Rattle.std.specs.Prelude.{◌≡◌, ◌<◌, ◌≤◌, length, take, Ok, Some, IfOk, IfSome};
 ghost use Rattle.sia_events.specs.Parsing.{Gives, digits_len, digits_value, narrow, number_at, key_of, version_of, txn_of};
 
 use crate::event::{Key, TxnId, Version};
@@ -24,10 +24,23 @@ fn short_digits(text: &[u8]) -> (usize, u64)
     let mut value: u64 = 0;
     let mut len = 0;
     while len < most && text[len].is_ascii_digit() {
-        value = value * 10 + u64::from(text[len] - b'0');
+        value = value * 10 + u64::from(text[len]) - u64::from(b'0');
         len += 1;
     }
     (len, value)
+}
+
+/// The number that the bytes begin with, where it is one of few digits, and what follows its last digit.
+#[tactic(auto, unfolding(crate::specs::Parsing::number_at))]
+pub(crate) fn short_number(text: &[u8]) -> Option<(u64, &[u8])>
+    ensures gives { IfSome result (λ x. number_at text.now ≡ Ok (Some x.0, x.1.now)) }
+    ensures shorter { IfSome result (λ x. length x.1.now ≤ length text.now) }
+{
+    let (len, value) = short_digits(text);
+    if len == 0 || SHORT <= len || (len > 1 && text[0] == b'0') {
+        return None;
+    }
+    Some((value, &text[len..]))
 }
 
 /// How many digits the bytes begin with, and the number that they stand for.

@@ -197,6 +197,28 @@ impl Tables {
         self.is_explained(key, saw)
     }
 
+    /// What is left of a list after versions that are those ahead, one by one.
+    fn past_step<'a>(
+        &self,
+        ahead: &mut Range<'_, (Key, TxnId)>,
+        listed: &'a [(Key, Version)],
+    ) -> &'a [(Key, Version)]
+        requires { AllByRecursion (λ p. contains pair_cmp self.now.written p ≡ true) ahead.old }
+        ensures explained { (events : List AnEvent) → Knows self.now events → list_all (is_explained events) result.now ≡ list_all (is_explained events) listed.now }
+        ensures found { AllByRecursion (λ p. contains pair_cmp self.now.written p ≡ true) ahead.new }
+    {
+        let mut rest = listed;
+        'step: loop {
+            let [first, more @ ..] = rest else {
+                return rest;
+            };
+            if !is_next(ahead, *first) {
+                return rest;
+            }
+            rest = more;
+        }
+    }
+
     /// Whether each listed version is 0 or was written.
     fn are_explained(&self, listed: &[(Key, Version)]) -> bool
         ensures { (events : List AnEvent) → Knows self.now events → result ≡ list_all (is_explained events) listed.now }
@@ -205,7 +227,8 @@ impl Tables {
             return true;
         };
         let mut ahead = self.written.range(*first..);
-        for (key, saw) in listed {
+        let rest = self.past_step(&mut ahead, listed);
+        for (key, saw) in rest {
             if !self.is_explained_next(&mut ahead, *key, *saw) {
                 return false;
             }
