@@ -52,8 +52,8 @@ fn is_good_list(lo: Key, hi: Key, listed: &[(Key, Version)]) -> bool
     true
 }
 
-/// So many versions ahead are looked at before the table is searched.
-const NEAR: u32 = 8;
+/// So many versions ahead are looked at before the table is searched: passing them costs about as much as a search.
+const NEAR: u32 = 24;
 
 /// Whether this is the next version, which is then passed.
 fn is_next(ahead: &mut Range<'_, (Key, TxnId)>, version: (Key, TxnId)) -> bool
@@ -172,11 +172,11 @@ impl Tables {
         false
     }
 
-    /// Whether the version of the key is 0 or was written. A version that isn't near ahead of the last one is searched for,
-    /// and those after it are ahead from then on.
-    fn is_explained_next<'a>(
-        &'a self,
-        ahead: &mut Range<'a, (Key, TxnId)>,
+    /// Whether the version of the key is 0 or was written. Once a version wasn't near ahead, the table is searched for each.
+    fn is_explained_next(
+        &self,
+        ahead: &mut Range<'_, (Key, TxnId)>,
+        in_step: &mut bool,
         key: Key,
         saw: Version,
     ) -> bool
@@ -187,12 +187,11 @@ impl Tables {
         if saw == 0 {
             return true;
         }
-        if self.is_near(ahead, (key, saw)) {
-            return true;
-        }
-        *ahead = self.written.range((key, saw)..);
-        if is_next(ahead, (key, saw)) {
-            return true;
+        if *in_step {
+            if self.is_near(ahead, (key, saw)) {
+                return true;
+            }
+            *in_step = false;
         }
         self.is_explained(key, saw)
     }
@@ -228,8 +227,9 @@ impl Tables {
         };
         let mut ahead = self.written.range(*first..);
         let rest = self.past_step(&mut ahead, listed);
+        let mut in_step = true;
         for (key, saw) in rest {
-            if !self.is_explained_next(&mut ahead, *key, *saw) {
+            if !self.is_explained_next(&mut ahead, &mut in_step, *key, *saw) {
                 return false;
             }
         }
