@@ -158,8 +158,10 @@ fn past_separators(text: &[u8]) -> &[u8]
     &text[len..]
 }
 
-/// How many bytes are looked at together.
-const BLOCK: usize = 32;
+/// How many bytes are looked at together, in long tokens and in short ones.
+const WIDE: usize = 32;
+
+const NARROW: usize = 8;
 
 /// Whether each byte is greater than every separator.
 fn is_plain(block: &[u8]) -> bool
@@ -178,11 +180,11 @@ fn plain_len(text: &[u8]) -> usize
     ensures passed { (k : ℕ) → k < result → is_separator (slice_index text.now k) ≡ false }
 {
     let mut len = 0;
-    while len + BLOCK <= text.len()
-        && !is_separator(text[len])
-        && is_plain(&text[len..len + BLOCK])
-    {
-        len += BLOCK;
+    'wide: while len + WIDE <= text.len() && is_plain(&text[len..len + WIDE]) {
+        len += WIDE;
+    }
+    'narrow: while len + NARROW <= text.len() && is_plain(&text[len..len + NARROW]) {
+        len += NARROW;
     }
     len
 }
