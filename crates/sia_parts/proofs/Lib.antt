@@ -15,3 +15,4 @@ pub mod Listing
 pub mod Joins
 pub mod Saw
 pub mod PartReads
+pub mod PackedEdges

@@ -10,6 +10,7 @@ mod gathering;
 mod laws;
 mod merging;
 mod ordering;
+mod packing;
 mod pairs;
 mod ranked;
 mod sights;
