@@ -10,3 +10,4 @@ pub mod Offsets
 pub mod ReadTables
 pub mod NextKeys
 pub mod DueWithin
+pub mod TxnNumbers

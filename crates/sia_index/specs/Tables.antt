@@ -2,7 +2,9 @@
 use Rattle.std.specs.Prelude.{◌≡◌, ◌<◌, ◌≤◌, ◌+◌, ℕ, List, length, slice_index, slice_range}
 use Rattle.std.specs.List.Sorted.{IsPartitionPoint}
 use Rattle.sia_events.specs.declared.event.Event.{Event}
+use Rattle.sia_events.specs.Lists.{ListsAscending}
 use Rattle.sia_events.specs.Refusals.{IsWellFormed}
+use Rattle.sia_events.specs.Transactions.{HasEvent}
 use Rattle.sia_index.specs.Info.{AreVersions, AreWrittenKeys}
 use Rattle.sia_index.specs.Rows.{AreTxns, AreWrites, AreVersionRows, AreReads, AreRanges, AreReaches}
 use Rattle.sia_index.specs.declared.info.Made.{Made}
@@ -32,7 +34,7 @@ pub record AreChains (h : List Event) (keys offsets : List ℕ) (made : List Mad
   pub last : slice_index offsets (length keys) ≡ length made
   pub each : (i : ℕ) → i < length keys → HasChain h keys offsets made i
 
-pub record AreTables (h : List Event) (txns : List TxnRow) (writes : List WriteRow) (keys offsets : List ℕ) (made : List Made) (versions : List KeyVersion) (reads : List ItemRead) (ranges : List RangeRead) (reaches : List ℕ) : Type 0 where
+pub record AreTables (h : List Event) (txns : List TxnRow) (writes : List WriteRow) (keys offsets : List ℕ) (made : List Made) (versions : List KeyVersion) (reads : List ItemRead) (ranges : List RangeRead) (reaches ids : List ℕ) : Type 0 where
   pub well_formed : IsWellFormed h
   pub txns_are : AreTxns h txns
   pub writes_are : AreWrites h writes
@@ -42,3 +44,4 @@ pub record AreTables (h : List Event) (txns : List TxnRow) (writes : List WriteR
   pub reads_are : AreReads h reads
   pub ranges_are : AreRanges h ranges
   pub reaches_are : AreReaches ranges reaches
+  pub ids_are : ListsAscending (HasEvent h) ids

@@ -24,6 +24,7 @@ pub struct Index {
     pub(crate) reads: Vec<ItemRead>,
     pub(crate) ranges: Vec<RangeRead>,
     pub(crate) reaches: Vec<Key>,
+    pub(crate) ids: Vec<TxnId>,
     pub(crate) txn_guesses: Vec<u32>,
     pub(crate) key_guesses: Vec<u32>,
 }
@@ -37,7 +38,7 @@ impl Model for Index {
 
     ghost view = { λ ix. ix.of.value };
 
-    ghost invariant = { λ ix. AreTables ix.of.value ix.txns.items ix.writes.items ix.keys.items ix.offsets.items ix.made.items ix.versions.items ix.reads.items ix.ranges.items ix.reaches.items };
+    ghost invariant = { λ ix. AreTables ix.of.value ix.txns.items ix.writes.items ix.keys.items ix.offsets.items ix.made.items ix.versions.items ix.reads.items ix.ranges.items ix.reaches.items ix.ids.items };
 }
 
 impl Index {

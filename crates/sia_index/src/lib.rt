@@ -7,6 +7,7 @@ mod guesses;
 mod indexed;
 mod info;
 pub mod make;
+mod numbers;
 mod ordering;
 mod readers;
 mod reads;

@@ -18,3 +18,4 @@ pub mod Spreading
 pub mod GapLemmas
 pub mod RangeSights
 pub mod PartReads
+pub mod PackedEdges

@@ -9,7 +9,7 @@ ghost use Rattle.sia_parts.specs.Sights.{Adds, FromSome, FromMade, IsSpanEdge, I
 use crate::cutting::Part;
 use crate::finding::{Edge, Kind};
 use crate::gaps::Gap;
-use crate::ordering::put_in_order;
+use crate::packing::put_edges_in_order;
 use crate::pairs::put_ww_edges;
 use crate::spans::Span;
 use sia_events::NoMemory;
@@ -32,7 +32,7 @@ pub(crate) fn edges_of(
     put_ww_edges(ix, ix.written_within(part.lo, part.hi), &mut edges)?;
     put_span_edges(ix, spans, &mut edges)?;
     put_gap_edges(ix, gaps, &mut edges)?;
-    put_in_order(&mut edges);
+    put_edges_in_order(alloc, ix, &mut edges)?;
     Ok(edges)
 }
 

@@ -11,6 +11,7 @@ mod gathering;
 mod laws;
 mod merging;
 mod ordering;
+mod packing;
 mod pairs;
 mod ranges;
 mod ranked;

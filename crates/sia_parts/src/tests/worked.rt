@@ -152,6 +152,31 @@ fn stale_read(rt: HostRuntime) -> Result<(), Fail> {
     Ok(())
 }
 
+// Edges go by source, target, kind and key, also where transactions and keys lie far apart.
+#[test]
+fn far_numbers(rt: HostRuntime) -> Result<(), Fail> {
+    let wanted = Wanted {
+        edges: &[
+            edge(5, Kind::Ww, 4_000_000_000, 3),
+            edge(5, Kind::Ww, 4_000_000_000, Key::MAX),
+            edge(5, Kind::Wr, 4_000_000_000, 3),
+            edge(5, Kind::Wr, 4_000_000_000, Key::MAX),
+            edge(1_000_000, Kind::Rw, 5, 3),
+            edge(1_000_000, Kind::Rw, 4_000_000_000, 3),
+        ],
+        ..NOTHING
+    };
+    expect(
+        &rt,
+        b"r1000000[3:0] w5[18446744073709551615] w5[3] c5 \
+          r4000000000[3:5] r4000000000[18446744073709551615:5] \
+          w4000000000[18446744073709551615] w4000000000[3] c4000000000 c1000000",
+        &[],
+        wanted,
+    )?;
+    Ok(())
+}
+
 // A version that aborts gives a bad and unexplained read, and no edge.
 #[test]
 fn aborted_version(rt: HostRuntime) -> Result<(), Fail> {
