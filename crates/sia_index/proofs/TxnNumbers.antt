@@ -1,13 +1,12 @@
 -- The transactions of the table are those of the history, and each has its number among them.
-use Rattle.std.proofs.Common.{◌≡◌, ◌≢◌, ℕ, ◌<◌, List, Option, Some, None, length, map, inl, inr, refl, ap, sym, subst, ◌∙◌, arith}
-use Rattle.std.specs.Prelude.{All, Contains, MatchOption, slice_index, slice_index_or}
+use Rattle.std.proofs.Common.{◌≡◌, ◌≢◌, ℕ, ◌<◌, List, Option, Some, None, length, map, inl, refl, ap, sym, subst, ◌∙◌, arith}
+use Rattle.std.specs.Prelude.{All, MatchOption, slice_index, slice_index_or}
 use Rattle.std.proofs.lemmas.List.{get_or-map, length-map}
-use Rattle.std.proofs.lemmas.List.Elements.{All-contains, Contains-get_or}
+use Rattle.std.proofs.lemmas.List.Elements.{All-contains}
 use Rattle.sia_events.specs.declared.event.Event.{Event}
 use Rattle.sia_events.specs.Lists.{ListsAscending}
 use Rattle.sia_events.specs.Transactions.{HasEvent, Wrote}
 use Rattle.sia_index.specs.declared.info.Fate.TheVariants.{Committed}
-use Rattle.sia_index.specs.declared.info.TxnInfo.{TxnInfo}
 use Rattle.sia_index.specs.declared.rows.TxnRow.{TxnRow}
 use Rattle.sia_index.specs.Info.{IsInfo, AreWrittenKeys, IsKeyAt}
 use Rattle.sia_index.specs.Numbers.{IsTxnAt}
