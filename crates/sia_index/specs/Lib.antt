@@ -1,3 +1,4 @@
 pub mod Info
+pub mod Lows
 pub mod Rows
 pub mod Tables
