@@ -1,3 +1,4 @@
 pub mod Info
 pub mod Rows
 pub mod Tables
+pub mod Numbers

@@ -10,7 +10,7 @@ use Rattle.sia_index.specs.declared.info.RangeRead.{RangeRead}
 use Rattle.sia_index.specs.declared.info.TxnInfo.{TxnInfo}
 use Rattle.sia_index.specs.declared.rows.ActRow.{ActRow}
 use Rattle.sia_index.specs.declared.rows.WriteRow.{WriteRow}
-use Rattle.sia_index.specs.declared.rows.VersionRow.{VersionRow}
+use Rattle.sia_index.specs.declared.info.KeyVersion.{KeyVersion}
 use Rattle.sia_index.specs.declared.rows.TxnRow.{TxnRow}
 
 -- every event, by transaction
@@ -42,7 +42,7 @@ HasNoWrite writes t k = (q : ℕ) → ¬ Contains writes (record { key = k; txn 
 abbrev pub IsFirstRow : List WriteRow → ℕ → ℕ → ℕ → Type 0
 IsFirstRow writes t k p = Contains writes (record { key = k; txn = t; place = p }) × ((q : ℕ) → Contains writes (record { key = k; txn = t; place = q }) → p ≤ q)
 
-abbrev pub AscendsByVersion : List VersionRow → Type 0
+abbrev pub AscendsByVersion : List KeyVersion → Type 0
 AscendsByVersion rows = AllPairs (λ x y. Precedes (x.key ∷ x.commit ∷ x.txn ∷ []) (y.key ∷ y.commit ∷ y.txn ∷ [])) rows
 
 abbrev pub AscendsByCommit : List Made → Type 0
@@ -54,7 +54,7 @@ IsLastWithin versions place made = Contains versions made × (made.commit ≤ pl
     × All (λ other. other.commit ≤ place → other.commit ≤ made.commit) versions
 
 -- every version that a committed transaction made, by key and commit
-abbrev pub AreVersionRows : List Event → List VersionRow → Type 0
+abbrev pub AreVersionRows : List Event → List KeyVersion → Type 0
 AreVersionRows h rows = ListsBy (λ v. v.key ∷ v.commit ∷ v.txn ∷ []) (λ v. Wrote h v.txn v.key × CommitsAt h v.txn v.commit) rows
 
 abbrev pub AscendsByTxn : List TxnRow → Type 0

@@ -2,18 +2,20 @@
 use Rattle.std.specs.Prelude.{◌≡◌, ◌<◌, ◌≤◌, ◌+◌, ℕ, List, length, slice_index, slice_range}
 use Rattle.std.specs.List.Sorted.{IsPartitionPoint}
 use Rattle.sia_events.specs.declared.event.Event.{Event}
+use Rattle.sia_events.specs.Lists.{ListsAscending}
 use Rattle.sia_events.specs.Refusals.{IsWellFormed}
+use Rattle.sia_events.specs.Transactions.{HasEvent}
 use Rattle.sia_index.specs.Info.{AreVersions, AreWrittenKeys}
-use Rattle.sia_index.specs.Rows.{AreTxns, AreWrites, AreReads, AreRanges, AreReaches}
+use Rattle.sia_index.specs.Rows.{AreTxns, AreWrites, AreVersionRows, AreReads, AreRanges, AreReaches}
 use Rattle.sia_index.specs.declared.info.Made.{Made}
 use Rattle.sia_index.specs.declared.info.ItemRead.{ItemRead}
 use Rattle.sia_index.specs.declared.info.RangeRead.{RangeRead}
-use Rattle.sia_index.specs.declared.rows.VersionRow.{VersionRow}
+use Rattle.sia_index.specs.declared.info.KeyVersion.{KeyVersion}
 use Rattle.sia_index.specs.declared.rows.WriteRow.{WriteRow}
 use Rattle.sia_index.specs.declared.rows.TxnRow.{TxnRow}
 
 -- the offsets of the first n keys' versions among the rows
-pub record AreOffsets (keys : List ℕ) (rows : List VersionRow) (offsets : List ℕ) (n : ℕ) : Type 0 where
+pub record AreOffsets (keys : List ℕ) (rows : List KeyVersion) (offsets : List ℕ) (n : ℕ) : Type 0 where
   pub count : length offsets ≡ n + 1
   pub first : slice_index offsets 0 ≡ 0
   pub bound : (i : ℕ) → i < n → slice_index offsets i ≤ slice_index offsets (i + 1) × (slice_index offsets (i + 1) ≤ length rows)
@@ -32,12 +34,14 @@ pub record AreChains (h : List Event) (keys offsets : List ℕ) (made : List Mad
   pub last : slice_index offsets (length keys) ≡ length made
   pub each : (i : ℕ) → i < length keys → HasChain h keys offsets made i
 
-pub record AreTables (h : List Event) (txns : List TxnRow) (writes : List WriteRow) (keys offsets : List ℕ) (made : List Made) (reads : List ItemRead) (ranges : List RangeRead) (reaches : List ℕ) : Type 0 where
+pub record AreTables (h : List Event) (txns : List TxnRow) (writes : List WriteRow) (keys offsets : List ℕ) (made : List Made) (versions : List KeyVersion) (reads : List ItemRead) (ranges : List RangeRead) (reaches ids : List ℕ) : Type 0 where
   pub well_formed : IsWellFormed h
   pub txns_are : AreTxns h txns
   pub writes_are : AreWrites h writes
   pub keys_are : AreWrittenKeys h keys
   pub chains_are : AreChains h keys offsets made
+  pub versions_are : AreVersionRows h versions
   pub reads_are : AreReads h reads
   pub ranges_are : AreRanges h ranges
   pub reaches_are : AreReaches ranges reaches
+  pub ids_are : ListsAscending (HasEvent h) ids

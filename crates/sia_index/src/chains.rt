@@ -7,9 +7,9 @@ ghost use Rattle.sia_index.specs.Info.{AreWrittenKeys};
 ghost use Rattle.sia_index.specs.Rows.{AreWrites, AscendsByVersion};
 ghost use Rattle.sia_index.specs.Tables.{AreOffsets};
 
-use crate::info::Made;
+use crate::info::{KeyVersion, Made};
 use crate::ordering::put_in_order;
-use crate::rows::{VersionRow, WriteRow};
+use crate::rows::WriteRow;
 use sia_events::Key;
 use std::alloc::{AllocError, Global};
 
@@ -30,7 +30,7 @@ fn keys_in(alloc: Global, writes: &[WriteRow]) -> Result<Vec<Key>, AllocError>
 }
 
 /// The versions of all rows.
-pub fn made_of(alloc: Global, rows: &[VersionRow]) -> Result<Vec<Made>, AllocError>
+pub fn made_of(alloc: Global, rows: &[KeyVersion]) -> Result<Vec<Made>, AllocError>
     ensures { IfOk result (λ made. made.items ≡ map (λ row. record { txn = row.txn; commit = row.commit }) rows.now) }
 {
     rows.iter()
@@ -45,7 +45,7 @@ pub fn made_of(alloc: Global, rows: &[VersionRow]) -> Result<Vec<Made>, AllocErr
 pub fn offsets_of(
     alloc: Global,
     keys: &[Key],
-    rows: &[VersionRow],
+    rows: &[KeyVersion],
 ) -> Result<Vec<usize>, AllocError>
     requires keys_ascend { AllPairs (λ x y. x < y) keys.now }
     requires rows_ascend { AscendsByVersion rows.now }
@@ -62,7 +62,7 @@ pub fn offsets_of(
 }
 
 // Where the rows of this key, and of those before it, end. Those before `from` are known to be of these.
-fn key_end(rows: &[VersionRow], from: usize, key: Key) -> usize
+fn key_end(rows: &[KeyVersion], from: usize, key: Key) -> usize
     requires ascending { AscendsByVersion rows.now }
     requires within { from ≤ length rows.now }
     requires before { AllWithin (λ row. row.key ≤ key) rows.now 0 from }

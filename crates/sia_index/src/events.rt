@@ -5,9 +5,9 @@ ghost use Rattle.sia_events.specs.Refusals.{IsWellFormed};
 ghost use Rattle.sia_events.specs.Transactions.{IsCommitted, CommitsAt, WritesAt};
 ghost use Rattle.sia_index.specs.Rows.{AreActs, AreWrites, AreVersionRows, AreTxns, AscendsByTxn};
 
-use crate::info::Fate;
+use crate::info::{Fate, KeyVersion};
 use crate::ordering::put_in_order;
-use crate::rows::{ActRow, TxnRow, VersionRow, WriteRow, find_txn};
+use crate::rows::{ActRow, TxnRow, WriteRow, find_txn};
 use sia_events::{Event, History, Key, TxnId};
 use std::alloc::{AllocError, Global};
 
@@ -49,7 +49,7 @@ pub fn version_rows_of(
     alloc: Global,
     h: &History,
     txns: &[TxnRow],
-) -> Result<Vec<VersionRow>, AllocError>
+) -> Result<Vec<KeyVersion>, AllocError>
     requires { AreTxns h.now txns.now }
     ensures { IfOk result (λ rows. AreVersionRows h.now rows.items) }
 {
@@ -57,7 +57,7 @@ pub fn version_rows_of(
     for before in 0..h.len() {
         if let Some((txn, key)) = write_at(h, before + 1) {
             if let Some(commit) = commit_of(txns, txn) {
-                rows.push(VersionRow { key, commit, txn })?;
+                rows.push(KeyVersion { key, commit, txn })?;
             }
         }
     }

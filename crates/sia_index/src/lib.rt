@@ -7,13 +7,15 @@ mod guesses;
 mod indexed;
 mod info;
 pub mod make;
+mod numbers;
 mod ordering;
+mod readers;
 mod reads;
 mod rows;
 mod txns;
 
 pub use indexed::Index;
-pub use info::{Fate, ItemRead, Made, RangeRead, TxnInfo};
+pub use info::{DueAt, Fate, ItemRead, KeyVersion, Made, RangeRead, Reader, TxnInfo};
 
 #[cfg(test)]
 mod tests;

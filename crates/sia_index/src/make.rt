@@ -5,6 +5,7 @@ use crate::chains::{keys_of, made_of, offsets_of};
 use crate::events::{acts_of, version_rows_of, writes_of};
 use crate::guesses::guesses_of;
 use crate::indexed::Index;
+use crate::numbers::ids_of;
 use crate::reads::{ranges_of, reaches_of, reads_of};
 use crate::rows::numbers_of;
 use crate::txns::txns_of;
@@ -28,6 +29,7 @@ pub fn index(alloc: Global, h: &History) -> Result<Index, NoMemory>
     let reads = reads_of(alloc, h)?;
     let ranges = ranges_of(alloc, h)?;
     let reaches = reaches_of(alloc, &ranges)?;
+    let ids = ids_of(alloc, txns.as_slice())?;
     let numbers = numbers_of(alloc, txns.as_slice())?;
     let txn_guesses = guesses_of(alloc, numbers.as_slice())?;
     let key_guesses = guesses_of(alloc, keys.as_slice())?;
@@ -38,9 +40,11 @@ pub fn index(alloc: Global, h: &History) -> Result<Index, NoMemory>
         keys,
         offsets,
         made,
+        versions: rows,
         reads,
         ranges,
         reaches,
+        ids,
         txn_guesses,
         key_guesses,
     })

@@ -1,12 +1,13 @@
 //! Tables of the reads of a history, and what is found in them by key.
-ghost use Rattle.std.specs.Prelude.{◌≡◌, ◌<◌, List, IfOk, MatchOption, AllPairs};
+ghost use Rattle.std.specs.Prelude.{◌≡◌, ◌<◌, ◌≤◌, ℕ, List, IfOk, MatchOption, AllPairs};
 ghost use Rattle.sia_events.specs.declared.event.Event.{Event};
 ghost use Rattle.sia_index.specs.declared.info.ItemRead.{ItemRead};
 ghost use Rattle.sia_index.specs.declared.info.RangeRead.{RangeRead};
-ghost use Rattle.sia_index.specs.Info.{IsItemRead, IsRangeRead, AreReadsWithin, AreRangesMeeting, AreWrittenKeys, AreWrittenWithin};
-ghost use Rattle.sia_index.specs.Rows.{AreReads, AreRanges, AreReaches, AscendsByRead, AscendsByRange};
+ghost use Rattle.sia_events.specs.Transactions.{Wrote};
+ghost use Rattle.sia_index.specs.Info.{IsItemRead, IsRangeRead, AreReadsWithin, AreRangesMeeting, AreWrittenKeys, AreWrittenWithin, IsNextWritten, AreVersionsWithin};
+ghost use Rattle.sia_index.specs.Rows.{AreReads, AreRanges, AreReaches, AscendsByRead, AscendsByRange, AreVersionRows, AscendsByVersion};
 
-use crate::info::{ItemRead, RangeRead};
+use crate::info::{ItemRead, KeyVersion, RangeRead};
 use crate::ordering::put_in_order;
 use sia_events::{Event, History, Key};
 use std::alloc::{AllocError, Global};
@@ -106,6 +107,29 @@ pub fn keys_between(keys: &[Key], lo: Key, hi: Key) -> &[Key]
     let from = keys.partition_point(|key| *key < lo);
     let to = keys.partition_point(|key| *key <= hi);
     &keys[from..to.max(from)]
+}
+
+/// The least key that is at least `from`.
+pub fn key_from(keys: &[Key], from: Key) -> Option<Key>
+    requires { AllPairs (λ x y. x < y) keys.now }
+    ensures { (h : List Event) → AreWrittenKeys h keys.now → MatchOption result ((k t : ℕ) → from ≤ k → ¬ Wrote h t k) (IsNextWritten h from) }
+{
+    let at = keys.partition_point(|key| *key < from);
+    if at < keys.len() {
+        Some(keys[at])
+    } else {
+        None
+    }
+}
+
+/// The versions of the keys from `lo` to `hi`.
+pub fn versions_between(versions: &[KeyVersion], lo: Key, hi: Key) -> &[KeyVersion]
+    requires { AscendsByVersion versions.now }
+    ensures { (h : List Event) → AreVersionRows h versions.now → AreVersionsWithin h lo hi result.now }
+{
+    let from = versions.partition_point(|version| version.key < lo);
+    let to = versions.partition_point(|version| version.key <= hi);
+    &versions[from..to.max(from)]
 }
 
 /// The ranges that start at `hi` or below, without the first ones that all end below `lo`.

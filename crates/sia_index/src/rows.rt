@@ -22,14 +22,6 @@ pub struct WriteRow {
     pub place: u32,
 }
 
-/// A committed transaction's version of a key.
-#[derive(Clone, Copy, PartialEq, Eq, PartialOrd, Ord)]
-pub struct VersionRow {
-    pub key: Key,
-    pub commit: u32,
-    pub txn: TxnId,
-}
-
 /// A transaction.
 #[derive(Clone, Copy)]
 pub struct TxnRow {

@@ -2,6 +2,7 @@
 use Rattle.std.proofs.Common.{ℕ}
 use Rattle.sia_index.proofs.Ordered.{ascends}
 use Rattle.sia_index.proofs.Offsets.{chains_are}
+use Rattle.sia_index.proofs.TxnNumbers.{table_lists}
 use Rattle.sia_index.proofs.make.index.Goals as goal
 
 pub offsets_of-requires-clause-keys_ascend : goal.offsets_of-requires-clause-keys_ascend
@@ -20,7 +21,9 @@ invariant_of-result c =
       writes_are = c.in_ok-writes.ensures;
       keys_are = keys;
       chains_are = chains_are _ _ keys _ c.in_ok-rows.ensures _ offsets _ made;
+      versions_are = c.in_ok-rows.ensures;
       reads_are = c.in_ok-reads.ensures;
       ranges_are = c.in_ok-ranges.ensures;
       reaches_are = rw c.deref-7.ensures.value at c.in_ok-reaches.ensures;
+      ids_are = table_lists _ _ _ c.in_ok-txns.ensures (rw c.as_slice.ensures.value at c.in_ok-ids.ensures);
     })
