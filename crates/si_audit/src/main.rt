@@ -5,6 +5,7 @@
 mod answering;
 mod counts;
 mod device;
+mod edge_lines;
 mod engine;
 mod findings;
 mod input;

@@ -4,15 +4,16 @@ ghost use Rattle.si_audit.specs.Audits.{account_of};
 ghost use Rattle.si_audit.specs.Lines as lines;
 ghost use Rattle.si_audit.specs.Report.{CanBePrinted};
 
+use crate::edge_lines::push_edges;
 use crate::findings::Audit;
 use crate::lines::{
-    push_bad_read, push_bad_write, push_edge, push_events, push_isolation, push_serializable,
-    push_ssi, push_unexplained,
+    push_bad_read, push_bad_write, push_events, push_isolation, push_serializable, push_ssi,
+    push_unexplained,
 };
 use crate::longer_lines::{push_pivot, push_verdict};
 use sia_events::NoMemory;
 use sia_graph::Pivot;
-use sia_parts::{BadRead, BadWrite, Edge, Findings, Unexplained};
+use sia_parts::{BadRead, BadWrite, Findings, Unexplained};
 use std::alloc::{AllocError, Global};
 
 /// How many bytes a line of the report mostly needs.
@@ -41,15 +42,6 @@ fn push_all_unexplained(out: &mut Vec<u8>, found: &[Unexplained]) -> Result<(), 
 {
     for b in found {
         push_unexplained(out, b)?;
-    }
-    Ok(())
-}
-
-fn push_edges(out: &mut Vec<u8>, edges: &[Edge]) -> Result<(), AllocError>
-    ensures { OnOk result (out.new.items ≡ out.old.items ++ flat_map lines.edge_line edges.now) }
-{
-    for e in edges {
-        push_edge(out, e)?;
     }
     Ok(())
 }

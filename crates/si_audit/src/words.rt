@@ -1,5 +1,5 @@
 // The words and numbers of the lines of a report.
-ghost use Rattle.std.specs.Prelude.{◌≡◌, ℕ, [], ◌∷◌, ◌++◌, OnOk};
+ghost use Rattle.std.specs.Prelude.{◌≡◌, ℕ, ◌∷◌, ◌++◌, OnOk};
 ghost use Rattle.sia_events.specs.Text.{numeral};
 ghost use Rattle.si_audit.specs.Lines as lines;
 ghost use Rattle.si_audit.specs.Spaced.{spaced_numbers};
@@ -49,17 +49,6 @@ pub(crate) fn kind_word(kind: Kind) -> &'static [u8]
         Kind::Ww => b"ww",
         Kind::Wr => b"wr",
         Kind::Rw => b"rw",
-    }
-}
-
-/// The word of a kind of edge with the spaces around it.
-pub(crate) fn spaced_kind(kind: Kind) -> &'static [u8]
-    ensures { result.now ≡ 32 ∷ (lines.kind_word kind ++ 32 ∷ []) }
-{
-    match kind {
-        Kind::Ww => b" ww ",
-        Kind::Wr => b" wr ",
-        Kind::Rw => b" rw ",
     }
 }
 

@@ -1,0 +1,17 @@
+use Rattle.std.proofs.Common.{append_assoc, arith}
+use Rattle.std.proofs.lemmas.List.{drop_all}
+use Rattle.si_audit.proofs.edge_lines.put_edge.Goals as goal
+
+-- from the first word to the last
+pub returns-clause-bytes : goal.returns-clause-bytes
+returns-clause-bytes c =
+    rw (
+      c.put_head.ensures.bytes,
+      c.put_number-end-2.ensures.bytes,
+      c.put_kind-end.ensures.bytes,
+      c.put_number-end.ensures.bytes,
+      c.put_byte-end-2.ensures.bytes,
+      c.put_key-end.ensures.bytes,
+      c.put_byte-end.ensures.bytes,
+      drop_all 64 c.args.line.now (omega arith),
+    ) (simp append_assoc)
