@@ -1,7 +1,6 @@
 -- Reading what was written gives the history back.
-use Rattle.std.proofs.Common.{◌≡◌, inl, inr, List, Result, Ok, Err, refl, ap}
+use Rattle.std.proofs.Common.{inl, inr, List, Ok, Err, refl, ap}
 use Rattle.sia_events.specs.declared.event.Event.{Event}
-use Rattle.sia_events.specs.declared.fault.TextFault.{TextFault}
 use Rattle.sia_events.specs.declared.fault.TextFault.TheVariants.{NoMemory, TextTooLong, Refused}
 use Rattle.sia_events.specs.Text.{canonical}
 use Rattle.sia_events.specs.Refusals.{IsWellFormed}

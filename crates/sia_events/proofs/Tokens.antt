@@ -1,5 +1,5 @@
 -- The tokens of a text that is read from left to right.
-use Rattle.std.proofs.Common.{◌≡◌, ◌⊎◌, inl, inr, ℕ, ◌+◌, ◌<◌, Bool, true, false, cond, List, [], ◌∷◌, ◌++◌, length, take, drop, get_or, suc, refl, ap, sym, subst, ◌∙◌, append_assoc, arith}
+use Rattle.std.proofs.Common.{◌≡◌, ◌⊎◌, inl, inr, ℕ, ◌+◌, ◌<◌, Bool, true, false, cond, List, [], ◌∷◌, ◌++◌, length, take, drop, get_or, zero, suc, ◌≤◌, append-nil, refl, ap, sym, subst, ◌∙◌, append_assoc, arith}
 use Rattle.std.specs.List.{position_or_len}
 use Rattle.std.proofs.lemmas.List.Sums.{split_at_first, passes_at_first}
 use Rattle.sia_events.specs.Text.{is_separator, goes_on, onto_first, with_byte, tokens}
@@ -127,3 +127,16 @@ splits_after text some = record {
   unbroken = unbroken_front text;
   separates = passes_at_first is_separator text 0 some;
 }
+
+-- a text of the same tokens, which goes on with these bytes
+abbrev pub GoesOn : List ℕ → List ℕ → List (List ℕ) → Type 0
+GoesOn text rest ts = (closed : List ℕ) × (text ≡ closed ++ rest) × IsClosed closed × (tokens closed ≡ ts)
+
+-- separators after a closed text make no token
+pub past_gap : (closed text : List ℕ) (n : ℕ) → n ≤ length text → ((k : ℕ) → k < n → is_separator (get_or text k 0) ≡ true) → IsClosed closed → GoesOn (closed ++ text) (drop n text) (tokens closed)
+past_gap closed text zero within gap ends = (closed, refl, ends, refl)
+past_gap closed [] (suc n) within gap ends = absurd (omega arith)
+past_gap closed (c ∷ text) (suc n) within gap ends =
+    let separates : is_separator c ≡ true = gap 0 (omega arith) in
+    let more = past_gap (closed ++ c ∷ []) text n (omega arith) (λ k below. gap (suc k) (omega arith)) (closes closed [] c separates) in
+    (more.0, sym (append_assoc closed (c ∷ []) text) ∙ more.1, more.2, more.3 ∙ tokens_more closed [] c ends tt separates ∙ append-nil (tokens closed))

@@ -1,5 +1,5 @@
 //! The listed keys of a token, as far as they have been read.
-ghost use Rattle.std.specs.Prelude.{◌≡◌, [], true, OnOk};
+ghost use Rattle.std.specs.Prelude.{◌≡◌, [], true, IfOk, OnOk};
 ghost use Rattle.sia_events.specs.Parsing.{items_of, kept, joined, one_pair};
 
 use crate::event::{Key, Version};
@@ -13,14 +13,15 @@ pub(crate) struct Found {
 }
 
 impl Found {
-    pub(crate) fn new(alloc: Global) -> Self
-        ensures none { result.pairs.items ≡ [] }
-        ensures in_range { result.in_range ≡ true }
+    /// None yet, with room for so many.
+    pub(crate) fn with_room(alloc: Global, room: usize) -> Result<Self, AllocError>
+        ensures none { IfOk result (λ found. found.pairs.items ≡ []) }
+        ensures in_range { IfOk result (λ found. found.in_range ≡ true) }
     {
-        Found {
-            pairs: Vec::new(alloc),
+        Ok(Found {
+            pairs: Vec::with_capacity(alloc, room)?,
             in_range: true,
-        }
+        })
     }
 
     /// Takes the next pair, or None for one with a number out of its range.

@@ -1,5 +1,5 @@
 //! The events of a text so far, and the judgement of its next token.
-ghost use Rattle.std.specs.Prelude.{◌≡◌, ◌+◌, ◌≤◌, ℕ, ◌<◌, length, List, [], ◌∷◌, ◌++◌, Ok, false, All, IsTrue, slice_index, OnOk, OnErr, IfOk, IfErr, IfSome, IfNone};
+ghost use Rattle.std.specs.Prelude.{◌≡◌, ◌+◌, ◌≤◌, ℕ, ◌<◌, length, List, [], ◌∷◌, ◌++◌, Ok, true, false, drop, All, IsTrue, slice_index, OnOk, OnErr, IfOk, IfErr, IfSome, IfNone};
 ghost use Rattle.std.specs.List.{AllByRecursion, position_or_len};
 ghost use Rattle.sia_events.specs.declared.event.Event.{Event as AnEvent};
 ghost use Rattle.sia_events.specs.Parsing.{Fails};
@@ -81,7 +81,7 @@ impl Judge {
         let mut rest = text;
         while let Some((token, after)) = split_token(rest) {
             self.take_some(token)?;
-            rest = after;
+            rest = past_separators(after);
         }
         Ok(rest)
     }
@@ -147,8 +147,21 @@ fn is_separator(byte: u8) -> bool
     matches!(byte, b' ' | b'\t' | b'\r' | b'\n')
 }
 
-/// How many bytes are looked at together.
-const BLOCK: usize = 32;
+/// What follows the separators that the bytes begin with.
+fn past_separators(text: &[u8]) -> &[u8]
+    ensures { (n : ℕ) × (n ≤ length text.now) × (result.now ≡ drop n text.now) × ((k : ℕ) → k < n → is_separator (slice_index text.now k) ≡ true) }
+{
+    let mut len = 0;
+    while len < text.len() && is_separator(text[len]) {
+        len += 1;
+    }
+    &text[len..]
+}
+
+/// How many bytes are looked at together, in long tokens and in short ones.
+const WIDE: usize = 32;
+
+const NARROW: usize = 8;
 
 /// Whether each byte is greater than every separator.
 fn is_plain(block: &[u8]) -> bool
@@ -167,11 +180,11 @@ fn plain_len(text: &[u8]) -> usize
     ensures passed { (k : ℕ) → k < result → is_separator (slice_index text.now k) ≡ false }
 {
     let mut len = 0;
-    while len + BLOCK <= text.len()
-        && !is_separator(text[len])
-        && is_plain(&text[len..len + BLOCK])
-    {
-        len += BLOCK;
+    'wide: while len + WIDE <= text.len() && is_plain(&text[len..len + WIDE]) {
+        len += WIDE;
+    }
+    'narrow: while len + NARROW <= text.len() && is_plain(&text[len..len + NARROW]) {
+        len += NARROW;
     }
     len
 }

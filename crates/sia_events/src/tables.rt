@@ -52,6 +52,9 @@ fn is_good_list(lo: Key, hi: Key, listed: &[(Key, Version)]) -> bool
     true
 }
 
+/// So many versions ahead are looked at before the table is searched: passing them costs about as much as a search.
+const NEAR: u32 = 24;
+
 /// Whether this is the next version, which is then passed.
 fn is_next(ahead: &mut Range<'_, (Key, TxnId)>, version: (Key, TxnId)) -> bool
     ensures found { IsTrue result → ahead.old ≡ version ∷ ahead.new }
@@ -149,8 +152,27 @@ impl Tables {
         }
     }
 
-    /// Whether the version of the key is 0 or was written. Only while the versions asked for are in step with those that
-    /// are ahead in the table, is the table not searched.
+    /// Whether the version stands near ahead in the table. What comes before it is passed.
+    fn is_near(&self, ahead: &mut Range<'_, (Key, TxnId)>, version: (Key, TxnId)) -> bool
+        requires { AllByRecursion (λ p. contains pair_cmp self.now.written p ≡ true) ahead.old }
+        ensures written { IsTrue result → contains pair_cmp self.now.written version ≡ true }
+        ensures found { AllByRecursion (λ p. contains pair_cmp self.now.written p ≡ true) ahead.new }
+    {
+        'near: for _ in 0..NEAR {
+            let Some(next) = ahead.next() else {
+                return false;
+            };
+            if *next == version {
+                return true;
+            }
+            if version < *next {
+                return false;
+            }
+        }
+        false
+    }
+
+    /// Whether the version of the key is 0 or was written. Once a version wasn't near ahead, the table is searched for each.
     fn is_explained_next(
         &self,
         ahead: &mut Range<'_, (Key, TxnId)>,
@@ -166,12 +188,34 @@ impl Tables {
             return true;
         }
         if *in_step {
-            if is_next(ahead, (key, saw)) {
+            if self.is_near(ahead, (key, saw)) {
                 return true;
             }
             *in_step = false;
         }
         self.is_explained(key, saw)
+    }
+
+    /// What is left of a list after versions that are those ahead, one by one.
+    fn past_step<'a>(
+        &self,
+        ahead: &mut Range<'_, (Key, TxnId)>,
+        listed: &'a [(Key, Version)],
+    ) -> &'a [(Key, Version)]
+        requires { AllByRecursion (λ p. contains pair_cmp self.now.written p ≡ true) ahead.old }
+        ensures explained { (events : List AnEvent) → Knows self.now events → list_all (is_explained events) result.now ≡ list_all (is_explained events) listed.now }
+        ensures found { AllByRecursion (λ p. contains pair_cmp self.now.written p ≡ true) ahead.new }
+    {
+        let mut rest = listed;
+        'step: loop {
+            let [first, more @ ..] = rest else {
+                return rest;
+            };
+            if !is_next(ahead, *first) {
+                return rest;
+            }
+            rest = more;
+        }
     }
 
     /// Whether each listed version is 0 or was written.
@@ -182,8 +226,9 @@ impl Tables {
             return true;
         };
         let mut ahead = self.written.range(*first..);
+        let rest = self.past_step(&mut ahead, listed);
         let mut in_step = true;
-        for (key, saw) in listed {
+        for (key, saw) in rest {
             if !self.is_explained_next(&mut ahead, &mut in_step, *key, *saw) {
                 return false;
             }

@@ -1,11 +1,11 @@
 //! One token: the event that it spells.
-ghost use Rattle.std.specs.Prelude.{◌≡◌, ◌<◌, ◌≤◌, IfOk, true, false, length, drop, MatchOption};
+ghost use Rattle.std.specs.Prelude.{◌≡◌, ◌<◌, ◌≤◌, Ok, Some, IfOk, IfSome, true, false, length, drop, MatchOption};
 ghost use Rattle.sia_events.specs.Parsing.{Gives, items_of, begins_with, after_byte, ended, begin_at, write_at, item_at, pair_at, pairs_at, list_at, list_of, range_at, read_at, commit_at, abort_at, event_at};
 
 use crate::event::{Event, Key, Listed, Version};
 use crate::fault::{Reason, Refusal};
 use crate::found::Found;
-use crate::number::{Number, key_in, number, txn_in, version_in};
+use crate::number::{Number, key_in, number, short_number, txn_in, version_in};
 use std::alloc::Global;
 
 /// What follows one byte.
@@ -95,12 +95,33 @@ fn item(txn: Number, key: Number, text: &[u8]) -> Result<Event, Refusal>
     Ok(Event::Read { txn, key, saw })
 }
 
+/// A listed key with its version, where both are numbers of few digits in their ranges.
+#[tactic(auto, unfolding(crate::specs::Parsing::pair_at))]
+fn short_pair(text: &[u8]) -> Option<((Key, Version), &[u8])>
+    ensures gives { IfSome result (λ x. pair_at text.now ≡ Ok (Some x.0, x.1.now)) }
+    ensures shorter { IfSome result (λ x. length x.1.now ≤ length text.now) }
+{
+    let (key, rest) = short_number(text)?;
+    let Ok(rest) = after(rest, b':') else {
+        return None;
+    };
+    let (saw, rest) = short_number(rest)?;
+    if saw > u64::from(u32::MAX) {
+        return None;
+    }
+    Some(((key, saw as u32), rest))
+}
+
 /// A listed key with its version, or None where one of them is out of its range.
 #[tactic(auto, unfolding(crate::specs::Parsing::pair_at))]
 fn pair(text: &[u8]) -> Result<(Option<(Key, Version)>, &[u8]), Refusal>
     ensures gives { Gives (λ x. (x.0, x.1.now)) result (pair_at text.now) }
     ensures shorter { IfOk result (λ x. length x.1.now ≤ length text.now) }
 {
+    // Most pairs are short.
+    if let Some((pair, rest)) = short_pair(text) {
+        return Ok((Some(pair), rest));
+    }
     let (key, rest) = number(text)?;
     let rest = after(rest, b':')?;
     let (saw, rest) = number(rest)?;
@@ -121,11 +142,35 @@ fn after_comma(text: &[u8]) -> Option<&[u8]>
     }
 }
 
+/// The bytes of the shortest listed key with its comma.
+const LEAST_PAIR: usize = 4;
+
+/// How many bytes are counted together: few enough for a count of 8 bits.
+const BLOCK: usize = 128;
+
+/// How many commas a block holds.
+fn commas_in(block: &[u8]) -> u8 {
+    let mut count: u8 = 0;
+    for byte in block {
+        count = count.wrapping_add(u8::from(*byte == b','));
+    }
+    count
+}
+
+/// A room that no list of the token outgrows. It saves growing, and nothing else rests on it.
+fn room_for(text: &[u8]) -> usize {
+    let mut count: usize = 1;
+    for block in text.chunks(BLOCK) {
+        count = count.saturating_add(usize::from(commas_in(block)));
+    }
+    count.min(text.len() / LEAST_PAIR + 1)
+}
+
 /// Listed keys with commas between, or None where a number is out of its range, and what follows the last.
 fn pairs(alloc: Global, text: &[u8]) -> Result<(Option<Vec<(Key, Version)>>, &[u8]), Refusal>
     ensures { Gives (λ x. (items_of x.0, x.1.now)) result (pairs_at text.now) }
 {
-    let mut found = Found::new(alloc);
+    let mut found = Found::with_room(alloc, room_for(text))?;
     let mut rest = text;
     loop {
         let (next, after) = pair(rest)?;

@@ -118,7 +118,7 @@ const fn step(txn: TxnId, kind: Kind, key: Key) -> Step {
 #[test]
 fn least_orders(rt: HostRuntime) -> Result<(), Fail> {
     use Kind::{Rw, Wr, Ww};
-    let cases: [(&[TxnId], &[Edge], &[TxnId]); 9] = [
+    let cases: [(&[TxnId], &[Edge], &[TxnId]); 10] = [
         // No transaction.
         (&[], &[], &[]),
         // Without edges the ids ascend.
@@ -161,6 +161,18 @@ fn least_orders(rt: HostRuntime) -> Result<(), Fail> {
             &[1, 4294967295],
             &[edge(4294967295, Rw, 1, 18446744073709551615)],
             &[4294967295, 1],
+        ),
+        // More far ones than a table of guesses keeps, since all of them share a slot: 1 waits for 1590, and 1519 for 1.
+        (
+            &[
+                1, 152, 223, 294, 365, 436, 507, 578, 649, 800, 871, 942, 1013, 1084, 1155, 1226,
+                1297, 1368, 1519, 1590,
+            ],
+            &[edge(1, Ww, 1519, 0), edge(1590, Wr, 1, 0)],
+            &[
+                152, 223, 294, 365, 436, 507, 578, 649, 800, 871, 942, 1013, 1084, 1155, 1226,
+                1297, 1368, 1590, 1, 1519,
+            ],
         ),
     ];
     for (ids, edges, order) in cases {

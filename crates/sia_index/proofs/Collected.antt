@@ -18,7 +18,7 @@ use Rattle.sia_events.proofs.TransactionDecisions.{place_within}
 use Rattle.sia_events.proofs.WellFormed.{one_commit}
 use Rattle.sia_index.specs.declared.rows.ActRow.{ActRow}
 use Rattle.sia_index.specs.declared.rows.WriteRow.{WriteRow}
-use Rattle.sia_index.specs.declared.rows.VersionRow.{VersionRow}
+use Rattle.sia_index.specs.declared.info.KeyVersion.{KeyVersion}
 use Rattle.sia_index.proofs.Ordered.{lists_sorted, precedes_last, precedes_then}
 use Rattle.sia_index.specs.Rows.{AreActs, AreWrites, AreVersionRows}
 
@@ -71,7 +71,7 @@ abbrev pub IsWriteAt : List Event → WriteRow → ℕ → Type 0
 IsWriteAt h w q = (w.place ≡ q) × WritesAt h w.txn w.key q
 
 -- the row of the version that the write event at a place makes
-abbrev pub IsVersionAt : List Event → VersionRow → ℕ → Type 0
+abbrev pub IsVersionAt : List Event → KeyVersion → ℕ → Type 0
 IsVersionAt h v q = WritesAt h v.txn v.key q × CommitsAt h v.txn v.commit
 
 -- the rows of the acts so far, where the next place has an event
@@ -114,10 +114,10 @@ pub write_same : (h : List Event) (n : ℕ) (xs : List WriteRow) → HoldsBelow 
 write_same h n xs holds none = holds_same (IsWriteAt h) n xs holds (λ x is. none x.txn x.key is.1)
 
 -- over all places they are every write event's
-pub writes_listed : (h : List Event) (n : ℕ) (xs ys : List WriteRow) → length h ≤ n → HoldsBelow (IsWriteAt h) (n + 1) xs → IsStrictlySortedBy (λ x y. ordering_then (nat_cmp x.key y.key) (ordering_then (nat_cmp x.txn y.txn) (nat_cmp x.place y.place))) ys → ((x : WriteRow) → Contains xs x → Contains ys x) → ((x : WriteRow) → Contains ys x → Contains xs x) → AreWrites h ys
-writes_listed h n xs ys all holds = collected (IsWriteAt h) (λ w. w.key ∷ w.txn ∷ w.place ∷ []) (λ w. WritesAt h w.txn w.key w.place) (λ x y. ordering_then (nat_cmp x.key y.key) (ordering_then (nat_cmp x.txn y.txn) (nat_cmp x.place y.place)))
-    (λ x y less. precedes_then x.key y.key (ordering_then (nat_cmp x.txn y.txn) (nat_cmp x.place y.place)) (x.txn ∷ x.place ∷ []) (y.txn ∷ y.place ∷ []) less
-    (λ rest. precedes_then x.txn y.txn (nat_cmp x.place y.place) (x.place ∷ []) (y.place ∷ []) rest (precedes_last x.place y.place)))
+pub writes_listed : (h : List Event) (n : ℕ) (xs ys : List WriteRow) → length h ≤ n → HoldsBelow (IsWriteAt h) (n + 1) xs → IsStrictlySortedBy (λ x y. ordering_then (nat_cmp x.txn y.txn) (ordering_then (nat_cmp x.key y.key) (nat_cmp x.place y.place))) ys → ((x : WriteRow) → Contains xs x → Contains ys x) → ((x : WriteRow) → Contains ys x → Contains xs x) → AreWrites h ys
+writes_listed h n xs ys all holds = collected (IsWriteAt h) (λ w. w.txn ∷ w.key ∷ w.place ∷ []) (λ w. WritesAt h w.txn w.key w.place) (λ x y. ordering_then (nat_cmp x.txn y.txn) (ordering_then (nat_cmp x.key y.key) (nat_cmp x.place y.place)))
+    (λ x y less. precedes_then x.txn y.txn (ordering_then (nat_cmp x.key y.key) (nat_cmp x.place y.place)) (x.key ∷ x.place ∷ []) (y.key ∷ y.place ∷ []) less
+    (λ rest. precedes_then x.key y.key (nat_cmp x.place y.place) (x.place ∷ []) (y.place ∷ []) rest (precedes_last x.place y.place)))
     (n + 1)
     (λ x. (
       (λ (q, below, is). subst (WritesAt h x.txn x.key) (sym is.0) is.1),
@@ -126,7 +126,7 @@ writes_listed h n xs ys all holds = collected (IsWriteAt h) (λ w. w.key ∷ w.t
     xs ys holds
 
 -- the rows of the versions so far, where the next place has a write event of a committed transaction
-pub version_more : (h : List Event) → IsWellFormed h → (n t k c : ℕ) (xs : List VersionRow) → HoldsBelow (IsVersionAt h) n xs → Some (Write t k) ≡ at_place h n → CommitsAt h t c → HoldsBelow (IsVersionAt h) (n + 1) (xs ++ record { key = k; commit = c; txn = t } ∷ [])
+pub version_more : (h : List Event) → IsWellFormed h → (n t k c : ℕ) (xs : List KeyVersion) → HoldsBelow (IsVersionAt h) n xs → Some (Write t k) ≡ at_place h n → CommitsAt h t c → HoldsBelow (IsVersionAt h) (n + 1) (xs ++ record { key = k; commit = c; txn = t } ∷ [])
 version_more h wf n t k c xs holds at commits = holds_one (IsVersionAt h) n xs (record { key = k; commit = c; txn = t }) holds (sym at, commits) (λ x is.
     let same : Write t k ≡ Write x.txn x.key = cc in
     let key : k ≡ x.key = cc in
@@ -135,18 +135,18 @@ version_more h wf n t k c xs holds at commits = holds_one (IsVersionAt h) n xs (
     λ i. record { key = key i; commit = commit i; txn = txn i })
 
 -- one of a transaction that isn't committed
-pub version_other : (h : List Event) (n t k : ℕ) (xs : List VersionRow) → HoldsBelow (IsVersionAt h) n xs → Some (Write t k) ≡ at_place h n → ¬ IsCommitted h t → HoldsBelow (IsVersionAt h) (n + 1) xs
+pub version_other : (h : List Event) (n t k : ℕ) (xs : List KeyVersion) → HoldsBelow (IsVersionAt h) n xs → Some (Write t k) ≡ at_place h n → ¬ IsCommitted h t → HoldsBelow (IsVersionAt h) (n + 1) xs
 version_other h n t k xs holds at none = holds_same (IsVersionAt h) n xs holds (λ x is.
     let same : Write t k ≡ Write x.txn x.key = cc in
     let txn : x.txn ≡ t = cc in
     none (x.commit, subst (λ u. CommitsAt h u x.commit) txn is.1))
 
 -- and where it has none
-pub version_same : (h : List Event) (n : ℕ) (xs : List VersionRow) → HoldsBelow (IsVersionAt h) n xs → ((t k : ℕ) → ¬ (at_place h n ≡ Some (Write t k))) → HoldsBelow (IsVersionAt h) (n + 1) xs
+pub version_same : (h : List Event) (n : ℕ) (xs : List KeyVersion) → HoldsBelow (IsVersionAt h) n xs → ((t k : ℕ) → ¬ (at_place h n ≡ Some (Write t k))) → HoldsBelow (IsVersionAt h) (n + 1) xs
 version_same h n xs holds none = holds_same (IsVersionAt h) n xs holds (λ x is. none x.txn x.key is.0)
 
 -- over all places they are every committed transaction's
-pub versions_listed : (h : List Event) (n : ℕ) (xs ys : List VersionRow) → length h ≤ n → HoldsBelow (IsVersionAt h) (n + 1) xs → IsStrictlySortedBy (λ x y. ordering_then (nat_cmp x.key y.key) (ordering_then (nat_cmp x.commit y.commit) (nat_cmp x.txn y.txn))) ys → ((x : VersionRow) → Contains xs x → Contains ys x) → ((x : VersionRow) → Contains ys x → Contains xs x) → AreVersionRows h ys
+pub versions_listed : (h : List Event) (n : ℕ) (xs ys : List KeyVersion) → length h ≤ n → HoldsBelow (IsVersionAt h) (n + 1) xs → IsStrictlySortedBy (λ x y. ordering_then (nat_cmp x.key y.key) (ordering_then (nat_cmp x.commit y.commit) (nat_cmp x.txn y.txn))) ys → ((x : KeyVersion) → Contains xs x → Contains ys x) → ((x : KeyVersion) → Contains ys x → Contains xs x) → AreVersionRows h ys
 versions_listed h n xs ys all holds = collected (IsVersionAt h) (λ v. v.key ∷ v.commit ∷ v.txn ∷ []) (λ v. Wrote h v.txn v.key × CommitsAt h v.txn v.commit) (λ x y. ordering_then (nat_cmp x.key y.key) (ordering_then (nat_cmp x.commit y.commit) (nat_cmp x.txn y.txn)))
     (λ x y less. precedes_then x.key y.key (ordering_then (nat_cmp x.commit y.commit) (nat_cmp x.txn y.txn)) (x.commit ∷ x.txn ∷ []) (y.commit ∷ y.txn ∷ []) less
     (λ rest. precedes_then x.commit y.commit (nat_cmp x.txn y.txn) (x.txn ∷ []) (y.txn ∷ []) rest (precedes_last x.txn y.txn)))

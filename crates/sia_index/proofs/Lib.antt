@@ -8,3 +8,6 @@ pub mod Runs
 pub mod Spans
 pub mod Offsets
 pub mod ReadTables
+pub mod NextKeys
+pub mod DueWithin
+pub mod TxnNumbers

@@ -1,14 +1,18 @@
 -- What is known of a transaction, and of a committed transaction's version of a key.
-use Rattle.std.specs.Prelude.{◌≡◌, ◌<◌, ◌≤◌, ℕ, List, [], ◌∷◌, Option, Some, None, slice_index, length, flat_map, All, Contains}
+use Rattle.std.specs.Prelude.{◌≡◌, ◌≢◌, ◌↔◌, ◌<◌, ◌≤◌, ℕ, true, false, IsTrue, List, [], ◌∷◌, Option, Some, None, slice_index, length, flat_map, All, Contains}
 use Rattle.std.specs.List.{AllZip}
 use Rattle.sia_events.specs.declared.event.Event.{Event}
 use Rattle.sia_events.specs.declared.event.Event.TheVariants.{Read, Range}
 use Rattle.sia_events.specs.Places.{at_place}
 use Rattle.sia_events.specs.Lists.{ListsBy, ListsAscending}
-use Rattle.sia_events.specs.Transactions.{StartsAt, CommitsAt, AbortsAt, IsOpen, WritesAt, Wrote}
+use Rattle.sia_events.specs.Reads.{IsDue}
+use Rattle.sia_events.specs.Transactions.{StartsAt, CommitsAt, AbortsAt, IsCommitted, IsOpen, WritesAt, Wrote}
+use Rattle.sia_index.specs.declared.info.DueAt.{DueAt}
+use Rattle.sia_index.specs.declared.info.KeyVersion.{KeyVersion}
 use Rattle.sia_index.specs.declared.info.Made.{Made}
 use Rattle.sia_index.specs.declared.info.ItemRead.{ItemRead}
 use Rattle.sia_index.specs.declared.info.RangeRead.{RangeRead}
+use Rattle.sia_index.specs.declared.info.Reader.{Reader}
 use Rattle.sia_index.specs.declared.info.TxnInfo.{TxnInfo}
 use Rattle.sia_index.specs.declared.info.Fate.{Fate}
 use Rattle.sia_index.specs.declared.info.Fate.TheVariants.{Committed, Aborted, Unfinished}
@@ -79,3 +83,28 @@ AreReadsWithin h lo hi reads = ListsBy (λ read. read.key ∷ read.txn ∷ read.
 pub record AreRangesMeeting (h : List Event) (lo hi : ℕ) (ranges : List RangeRead) : Type 0 where
   pub right : All (IsRangeRead h) ranges
   pub whole : (read : RangeRead) → IsRangeRead h read → read.lo ≤ hi → lo ≤ read.hi → Contains ranges read
+
+-- what is known of t, which reads at place p: where it starts, whether it committed, and whether it wrote at all
+pub record IsReader (h : List Event) (t p : ℕ) (r : Reader) : Type 0 where
+  pub txn_is : r.txn ≡ t
+  pub place_is : r.place ≡ p
+  pub starts : StartsAt h t r.start
+  pub committed : IsTrue r.committed ↔ IsCommitted h t
+  pub wrote_none : r.has_written ≡ false → (k : ℕ) → ¬ Wrote h t k
+  pub wrote_some : r.has_written ≡ true → (k : ℕ) × Wrote h t k
+
+-- version 0 is due to t at place p on every key from lo to hi
+abbrev pub NoneDue : List Event → ℕ → ℕ → ℕ → ℕ → Type 0
+NoneDue h t p lo hi = (k : ℕ) → lo ≤ k → k ≤ hi → IsDue h t p k 0
+
+-- of the keys from lo to hi the least at which another version than 0 is due to t at place p, and that version
+abbrev pub IsNextDue : List Event → ℕ → ℕ → ℕ → ℕ → DueAt → Type 0
+IsNextDue h t p lo hi d = (lo ≤ d.key) × (d.key ≤ hi) × (d.due ≢ 0) × IsDue h t p d.key d.due × ((j : ℕ) → lo ≤ j → j < d.key → IsDue h t p j 0)
+
+-- the least written key that is at least from
+abbrev pub IsNextWritten : List Event → ℕ → ℕ → Type 0
+IsNextWritten h from k = (from ≤ k) × ((t : ℕ) × Wrote h t k) × ((j : ℕ) → from ≤ j → j < k → (t : ℕ) → ¬ Wrote h t j)
+
+-- the versions that committed transactions made of the keys from lo to hi, by key and commit
+abbrev pub AreVersionsWithin : List Event → ℕ → ℕ → List KeyVersion → Type 0
+AreVersionsWithin h lo hi versions = ListsBy (λ v. v.key ∷ v.commit ∷ v.txn ∷ []) (λ v. Wrote h v.txn v.key × CommitsAt h v.txn v.commit × (lo ≤ v.key) × (v.key ≤ hi)) versions

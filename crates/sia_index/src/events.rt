@@ -5,9 +5,9 @@ ghost use Rattle.sia_events.specs.Refusals.{IsWellFormed};
 ghost use Rattle.sia_events.specs.Transactions.{IsCommitted, CommitsAt, WritesAt};
 ghost use Rattle.sia_index.specs.Rows.{AreActs, AreWrites, AreVersionRows, AreTxns, AscendsByTxn};
 
-use crate::info::Fate;
+use crate::info::{Fate, KeyVersion};
 use crate::ordering::put_in_order;
-use crate::rows::{ActRow, TxnRow, VersionRow, WriteRow, find_txn};
+use crate::rows::{ActRow, TxnRow, WriteRow, find_txn};
 use sia_events::{Event, History, Key, TxnId};
 use std::alloc::{AllocError, Global};
 
@@ -29,7 +29,7 @@ pub fn acts_of(alloc: Global, h: &History) -> Result<Vec<ActRow>, AllocError>
     Ok(acts)
 }
 
-/// Every write event, by key and transaction.
+/// Every write event, by transaction and key.
 pub fn writes_of(alloc: Global, h: &History) -> Result<Vec<WriteRow>, AllocError>
     ensures { IfOk result (λ writes. AreWrites h.now writes.items) }
 {
@@ -37,7 +37,7 @@ pub fn writes_of(alloc: Global, h: &History) -> Result<Vec<WriteRow>, AllocError
     for before in 0..h.len() {
         let place = before + 1;
         if let Some((txn, key)) = write_at(h, place) {
-            writes.push(WriteRow { key, txn, place })?;
+            writes.push(WriteRow { txn, key, place })?;
         }
     }
     put_in_order(&mut writes);
@@ -49,7 +49,7 @@ pub fn version_rows_of(
     alloc: Global,
     h: &History,
     txns: &[TxnRow],
-) -> Result<Vec<VersionRow>, AllocError>
+) -> Result<Vec<KeyVersion>, AllocError>
     requires { AreTxns h.now txns.now }
     ensures { IfOk result (λ rows. AreVersionRows h.now rows.items) }
 {
@@ -57,7 +57,7 @@ pub fn version_rows_of(
     for before in 0..h.len() {
         if let Some((txn, key)) = write_at(h, before + 1) {
             if let Some(commit) = commit_of(txns, txn) {
-                rows.push(VersionRow { key, commit, txn })?;
+                rows.push(KeyVersion { key, commit, txn })?;
             }
         }
     }

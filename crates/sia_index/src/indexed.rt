@@ -1,15 +1,14 @@
 //! An index of a history, and what it answers.
 ghost use Rattle.std.specs.Prelude.{◌≡◌, ◌↔◌, ◌≤◌, ◌<◌, ℕ, IsTrue, MatchOption, All, Contains};
-ghost use Rattle.sia_events.specs.Transactions.{HasEvent, Overlap, Wrote, WroteBefore};
-ghost use Rattle.sia_events.specs.Reads.{IsDue};
+ghost use Rattle.sia_events.specs.Transactions.{HasEvent, Overlap, Wrote};
 ghost use Rattle.sia_events.specs.Refusals.{IsWellFormed};
-ghost use Rattle.sia_index.specs.Info.{IsInfo, AreVersions, AreWrittenKeys, AreAllVersions, IsFirstWrite, HasKeyAt, IsKeyAt, StartsBefore, AreReadsWithin, AreRangesMeeting, AreWrittenWithin};
-ghost use Rattle.sia_index.specs.Rows.{AscendsByCommit, IsLastWithin};
+ghost use Rattle.sia_index.specs.Info.{IsInfo, AreVersions, AreWrittenKeys, AreAllVersions, IsFirstWrite, HasKeyAt, IsKeyAt, StartsBefore, AreReadsWithin, AreRangesMeeting, AreWrittenWithin, IsNextWritten, AreVersionsWithin};
 
-use crate::info::{Fate, ItemRead, Made, RangeRead, TxnInfo};
-use crate::reads::{keys_between, ranges_meeting, reads_between};
-use crate::rows::{TxnRow, WriteRow, find_key, find_write, guess_txn, part_at};
-use sia_events::{History, Key, TxnId, Version};
+use crate::info::{Fate, ItemRead, KeyVersion, Made, RangeRead, TxnInfo};
+use crate::own::WriteTable;
+use crate::reads::{key_from, keys_between, ranges_meeting, reads_between, versions_between};
+use crate::rows::{TxnRow, find_key, guess_txn, guessed_row, part_at};
+use sia_events::{History, Key, TxnId};
 use std::marker::Model;
 use std::snapshot::Snapshot;
 
@@ -18,13 +17,17 @@ use std::snapshot::Snapshot;
 pub struct Index {
     pub(crate) of: Snapshot<History>,
     pub(crate) txns: Vec<TxnRow>,
-    pub(crate) writes: Vec<WriteRow>,
+    pub(crate) writes: WriteTable,
     pub(crate) keys: Vec<Key>,
     pub(crate) offsets: Vec<usize>,
     pub(crate) made: Vec<Made>,
+    pub(crate) firsts: Vec<u32>,
+    pub(crate) first_lows: Vec<u32>,
+    pub(crate) versions: Vec<KeyVersion>,
     pub(crate) reads: Vec<ItemRead>,
     pub(crate) ranges: Vec<RangeRead>,
     pub(crate) reaches: Vec<Key>,
+    pub(crate) ids: Vec<TxnId>,
     pub(crate) txn_guesses: Vec<u32>,
     pub(crate) key_guesses: Vec<u32>,
 }
@@ -38,7 +41,7 @@ impl Model for Index {
 
     ghost view = { λ ix. ix.of.value };
 
-    ghost invariant = { λ ix. AreTables ix.of.value ix.txns.items ix.writes.items ix.keys.items ix.offsets.items ix.made.items ix.reads.items ix.ranges.items ix.reaches.items };
+    ghost invariant = { λ ix. AreTables ix.of.value ix.txns.items ix.writes ix.keys.items ix.offsets.items ix.made.items ix.firsts.items ix.first_lows.items ix.versions.items ix.reads.items ix.ranges.items ix.reaches.items ix.ids.items };
 }
 
 impl Index {
@@ -96,35 +99,12 @@ impl Index {
     pub fn first_write(&self, t: TxnId, k: Key) -> Option<u32>
         ensures { MatchOption result (¬ Wrote self.now t k) (IsFirstWrite self.now t k) }
     {
-        find_write(&self.writes, t, k)
+        self.writes.first(self.number_of(t), t, k)
     }
 
-    /// The version due to a read of the key by the transaction at the place.
-    pub fn due(&self, t: TxnId, place: u32, k: Key) -> Version
-        requires { HasEvent self.now t }
-        ensures { IsDue self.now t place k result }
-    {
-        let _ = &self.of;
-        if self.wrote_before(t, place, k) {
-            return t;
-        }
-        let Some(info) = self.txn(t) else {
-            return 0;
-        };
-        match last_within(self.versions(k), info.start) {
-            Some(made) => made.txn,
-            None => 0,
-        }
-    }
-
-    // Whether the transaction wrote the key before the place.
-    fn wrote_before(&self, t: TxnId, place: u32, k: Key) -> bool
-        ensures { IsTrue result ↔ WroteBefore self.now t k place }
-    {
-        match self.first_write(t, k) {
-            Some(first) => first < place,
-            None => false,
-        }
+    // Where the transaction may stand among all.
+    pub(crate) fn number_of(&self, t: TxnId) -> usize {
+        guessed_row(&self.txns, &self.txn_guesses, t)
     }
 
     /// Each key that some write event names, committed or not, ascending.
@@ -139,6 +119,20 @@ impl Index {
         ensures { AreWrittenWithin self.now lo hi result.now }
     {
         keys_between(&self.keys, lo, hi)
+    }
+
+    /// The least written key that is at least `from`.
+    pub fn next_written(&self, from: Key) -> Option<Key>
+        ensures { MatchOption result ((k t : ℕ) → from ≤ k → ¬ Wrote self.now t k) (IsNextWritten self.now from) }
+    {
+        key_from(&self.keys, &self.key_guesses, from)
+    }
+
+    /// The versions that committed transactions made of the keys from `lo` to `hi`, by key and commit, found by two searches.
+    pub fn versions_within(&self, lo: Key, hi: Key) -> &[KeyVersion]
+        ensures { AreVersionsWithin self.now lo hi result.now }
+    {
+        versions_between(&self.versions, lo, hi)
     }
 
     /// The read events of the keys from `lo` to `hi`, found by two searches. For the audit of a part of the keys.
@@ -165,16 +159,4 @@ fn starts_before_commit(a: TxnInfo, b: TxnInfo) -> bool
         (Fate::Committed, Some(commit)) => a.start < commit,
         _ => false,
     }
-}
-
-// Of versions by commit the last that commits at most at the place.
-fn last_within(versions: &[Made], place: u32) -> Option<Made>
-    requires { AscendsByCommit versions.now }
-    ensures { MatchOption result (All (λ made. place < made.commit) versions.now) (IsLastWithin versions.now place) }
-{
-    let within = versions.partition_point(|made| made.commit <= place);
-    if within == 0 {
-        return None;
-    }
-    Some(versions[within - 1])
 }

@@ -6,14 +6,18 @@ mod events;
 mod guesses;
 mod indexed;
 mod info;
+mod lows;
 pub mod make;
+mod numbers;
 mod ordering;
+mod own;
+mod readers;
 mod reads;
 mod rows;
 mod txns;
 
 pub use indexed::Index;
-pub use info::{Fate, ItemRead, Made, RangeRead, TxnInfo};
+pub use info::{DueAt, Fate, ItemRead, KeyVersion, Made, RangeRead, Reader, TxnInfo};
 
 #[cfg(test)]
 mod tests;

@@ -63,6 +63,30 @@ fn read_only_anomaly(rt: HostRuntime) -> Result<(), Fail> {
     Ok(())
 }
 
+// Transactions and written keys have numbers, near and far, and what isn't one of them has none.
+#[test]
+fn numbers(rt: HostRuntime) -> Result<(), Fail> {
+    let near = index_of(&rt, b"w5[8] r3[9:0] c5 r7[8:5] w7[6] a7")?;
+    assert_eq!(rt; near.txns(), [3, 5, 7].as_slice());
+    assert_eq!(rt; near.txn_number(3), Some(0));
+    assert_eq!(rt; near.txn_number(7), Some(2));
+    assert_eq!(rt; near.txn_number(4), None);
+    assert_eq!(rt; near.key_number(8), Some(1));
+    assert_eq!(rt; near.key_number(9), None);
+
+    let far = index_of(&rt, b"w4294967295[18446744073709551615] w2[0] r1[7:0]")?;
+    assert_eq!(rt; far.txns(), [1, 2, TxnId::MAX].as_slice());
+    assert_eq!(rt; far.txn_number(TxnId::MAX), Some(2));
+    assert_eq!(rt; far.txn_number(1000), None);
+    assert_eq!(rt; far.key_number(Key::MAX), Some(1));
+    assert_eq!(rt; far.key_number(7), None);
+
+    let empty = index_of(&rt, b"")?;
+    assert!(rt; empty.txns().is_empty());
+    assert_eq!(rt; empty.txn_number(1), None);
+    Ok(())
+}
+
 // A key that open transactions alone wrote is a written key without versions.
 #[test]
 fn no_transaction_committed(rt: HostRuntime) -> Result<(), Fail> {

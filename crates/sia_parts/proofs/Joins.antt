@@ -114,16 +114,16 @@ joins_sorted xs ys wide p w = record {
 }
 
 -- what stands first is in the list, and where nothing does the list is empty
-pub first_of : (xs : List Span) (x : Span) → Some x ≡ slice_get xs 0 → Contains xs x
-first_of [] x is = absurd (no_some x is)
+pub first_of : {A : Type 0} (xs : List A) (x : A) → Some x ≡ slice_get xs 0 → Contains xs x
+first_of {A} [] x is = absurd (no_some x is)
   where
-    no_some : (x : Span) → Some x ≡ None → ⊥
+    no_some : (x : A) → Some x ≡ None → ⊥
     no_some x e = cc
 first_of (y ∷ xs) x is = (0, omega arith, sym (same_Some x y is))
 
-pub none_of : (xs : List Span) → None ≡ slice_get xs 0 → xs ≡ []
+pub none_of : {A : Type 0} (xs : List A) → None ≡ slice_get xs 0 → xs ≡ []
 none_of [] is = refl
-none_of (y ∷ xs) is = absurd (no_some y is)
+none_of {A} (y ∷ xs) is = absurd (no_some y is)
   where
-    no_some : (x : Span) → None ≡ Some x → ⊥
+    no_some : (x : A) → None ≡ Some x → ⊥
     no_some x e = cc

@@ -14,4 +14,8 @@ pub mod Sources
 pub mod Listing
 pub mod Joins
 pub mod Saw
+pub mod Spreading
+pub mod GapLemmas
+pub mod RangeSights
 pub mod PartReads
+pub mod PackedEdges

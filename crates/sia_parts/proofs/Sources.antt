@@ -14,17 +14,20 @@ use Rattle.sia_events.proofs.Starts.{one_start}
 use Rattle.sia_events.proofs.Seen.{saw_written, actor_is_txn}
 use Rattle.sia_events.proofs.Versions.{writer_not_zero}
 use Rattle.sia_events.proofs.TransactionDecisions.{place_within}
+use Rattle.sia_index.specs.declared.info.KeyVersion.{KeyVersion}
 use Rattle.sia_index.specs.declared.info.Made.{Made}
-use Rattle.sia_index.specs.Info.{IsMade, AreVersions, AreWrittenWithin}
+use Rattle.sia_index.specs.Info.{IsMade, AreVersions, AreVersionsWithin, AreWrittenWithin}
 use Rattle.sia_parts.specs.declared.cutting.Part.{Part}
 use Rattle.sia_parts.specs.declared.finding.BadWrite.{BadWrite}
 use Rattle.sia_parts.specs.declared.finding.Edge.{Edge}
 use Rattle.sia_parts.specs.declared.finding.Kind.{Kind}
 use Rattle.sia_parts.specs.declared.finding.Kind.TheVariants.{Ww, Wr, Rw}
+use Rattle.sia_parts.specs.declared.gaps.Gap.{Gap}
 use Rattle.sia_parts.specs.declared.spans.Span.{Span}
 use Rattle.sia_parts.specs.Entries.{EdgeOfKind, IsEdge}
 use Rattle.sia_parts.specs.Parts.{IsInPart}
 use Rattle.sia_parts.specs.Sights.{Adds, FromSome, FromPair, FromMade, KeyPair, IsAsOf, Looked, Widens, IsWrEdge, IsRwEdge, IsSpanEdge, IsPairEdge, IsLateBad, IsPairBad, AscendsByCommit, AreSpans}
+use Rattle.sia_parts.specs.Gaps.{CoversSame, FromGap, IsGapEdge}
 use Rattle.sia_parts.proofs.Adding.{adds_same, adds_both, adds_nothing}
 
 -- what pairs of a key's versions give
@@ -50,6 +53,13 @@ pub span_made : (h : List Event) (span : Span) (versions : List Made) → AreVer
 span_made h span versions are old new adds = adds_same (FromSome (IsSpanEdge span) versions) (FromMade h span) old new
     (λ e f. (f.0, (are.each f.0).0 f.1, f.2))
     (λ e f. (f.0, (are.each f.0).1 f.1, f.2))
+    adds
+
+-- what a gap gives with the versions of its keys
+pub gap_made : (h : List Event) (gap : Gap) (versions : List KeyVersion) → AreVersionsWithin h gap.lo gap.hi versions → (old new : List Edge) → Adds (FromSome (IsGapEdge gap) versions) old new → Adds (FromGap h gap) old new
+gap_made h gap versions are old new adds = adds_same (FromSome (IsGapEdge gap) versions) (FromGap h gap) old new
+    (λ e f. let is = (are.each f.0).0 f.1 in (f.0, is.0, is.1, is.2, is.3, f.2))
+    (λ e f. (f.0, (are.each f.0).1 (f.1, f.2, f.3, f.4), f.5))
     adds
 
 -- the place is the start, so what is late by it is a bad pair
@@ -184,7 +194,7 @@ module _ (h : List Event) (wf : IsWellFormed h) where
       (λ bad. (b.key, (within.each b.key).1 ((b.first, bad.0.0), bad.1.0, bad.1.1), bad_is_pair b.key b.first b.second bad.0)),
     )
 
-    module _ (spans : List Span) (are : AreSpans h part spans) where
+    module _ (spans : List Span) (gaps : List Gap) (are : AreSpans h part spans gaps) where
       -- what the keys and the spans of the part give of edges
       span_is_edge : (span : Span) → Contains spans span → (made : Made) → IsMade h span.key made → (e : Edge) → made.txn ≢ span.txn → IsWrEdge span made e ⊎ IsRwEdge span made e → IsEdge h e × IsInPart part e.key
       span_is_edge span c made is e other (inl wr) =
@@ -194,58 +204,85 @@ module _ (h : List Event) (wf : IsWellFormed h) where
           let edge = rw_from_look span.key span.txn made.txn span.low made.commit (λ same. other (sym same)) is.0 is.1 (are.low span c) rw_edge.0 in
           subst (λ (x : Edge). IsEdge h x × IsInPart part x.key) (sym rw_edge.1) (edge, are.within span c)
 
-      edge_found : (kind : Kind) (t u k : ℕ) → EdgeOfKind h kind t u k → IsInPart part k → FromSome (KeyPair h IsPairEdge) keys (record { src = t; dst = u; kind = kind; key = k }) ⊎ FromSome (FromMade h) spans (record { src = t; dst = u; kind = kind; key = k })
-      edge_found Ww t u k edge in_part = inl (k, (within.each k).1 ((t, edge.0), in_part.0, in_part.1), edge_is_pair t u k edge)
+      -- the edge of a gap
+      gap_is_edge : (gap : Gap) → Contains gaps gap → (e : Edge) → FromGap h gap e → IsEdge h e × IsInPart part e.key
+      gap_is_edge gap c e f =
+          let made = f.0 in
+          let looked = are.unlisted (gap.txn, made.key) made.txn f.1 (gap, c, (refl, f.3, f.4)) in
+          let edge = rw_from_look made.key gap.txn made.txn 0 made.commit (λ same. f.5.0 (sym same)) f.1 f.2 looked.0 (commit_positive made.txn made.commit f.2) in
+          subst (λ (x : Edge). IsEdge h x × IsInPart part x.key) (sym f.5.1) (edge, looked.1)
+
+      -- an edge of the part is of one of the three
+      abbrev IsFound : Edge → Type 0
+      IsFound e = (FromSome (KeyPair h IsPairEdge) keys e ⊎ FromSome (FromMade h) spans e) ⊎ FromSome (FromGap h) gaps e
+
+      edge_found : (kind : Kind) (t u k : ℕ) → EdgeOfKind h kind t u k → IsInPart part k → IsFound (record { src = t; dst = u; kind = kind; key = k })
+      edge_found Ww t u k edge in_part = inl (inl (k, (within.each k).1 ((t, edge.0), in_part.0, in_part.1), edge_is_pair t u k edge))
       edge_found Wr t u k edge in_part =
           let look = look_of_wr k t u edge in
-          let found = are.whole u k look.0 look.3 in_part (t, edge.1.0) in
-          let span = found.0 in
-          let txn = found.2.0 in
-          let key = found.2.1 in
-          inr (
-            span,
-            found.1,
-            (
-              record { txn = t; commit = look.1 },
-              (subst (Wrote h t) (sym key) edge.1.0, look.2),
-              ((λ same. edge.0 (same ∙ txn)), inl ((let le = look.4 in let more = found.2.3 in omega arith), (λ i. record { src = t; dst = sym txn i; kind = Wr; key = sym key i }))),
-            ),
-          )
+          elim (are.whole u k look.0 t look.3 in_part edge.1.0) [
+            | inl found ↦
+                let span = found.0 in
+                let txn = found.2.0 in
+                let key = found.2.1 in
+                inl (inr (
+                  span,
+                  found.1,
+                  (
+                    record { txn = t; commit = look.1 },
+                    (subst (Wrote h t) (sym key) edge.1.0, look.2),
+                    ((λ same. edge.0 (same ∙ txn)), inl ((let le = look.4 in let more = found.2.3 in omega arith), (λ i. record { src = t; dst = sym txn i; kind = Wr; key = sym key i }))),
+                  ),
+                ))
+            | inr gap ↦ absurd (let le = look.4 in let positive = commit_positive t look.1 look.2 in let zero = gap.0 in omega arith)
+          ]
       edge_found Rw t u k edge in_part =
           let look = look_of_rw k t u edge in
-          let found = are.whole t k look.0 look.3 in_part (u, edge.2.0) in
-          let span = found.0 in
-          let txn = found.2.0 in
-          let key = found.2.1 in
-          inr (
-            span,
-            found.1,
-            (
-              record { txn = u; commit = look.1 },
-              (subst (Wrote h u) (sym key) edge.2.0, look.2),
-              ((λ same. edge.0 (sym txn ∙ sym same)), inr ((let le = look.4 in let more = found.2.2 in omega arith), (λ i. record { src = sym txn i; dst = u; kind = Rw; key = sym key i }))),
-            ),
-          )
+          elim (are.whole t k look.0 u look.3 in_part edge.2.0) [
+            | inl found ↦
+                let span = found.0 in
+                let txn = found.2.0 in
+                let key = found.2.1 in
+                inl (inr (
+                  span,
+                  found.1,
+                  (
+                    record { txn = u; commit = look.1 },
+                    (subst (Wrote h u) (sym key) edge.2.0, look.2),
+                    ((λ same. edge.0 (sym txn ∙ sym same)), inr ((let le = look.4 in let more = found.2.2 in omega arith), (λ i. record { src = sym txn i; dst = u; kind = Rw; key = sym key i }))),
+                  ),
+                ))
+            | inr found ↦
+                let gap = found.1.0 in
+                let txn = found.1.2.0 in
+                inr (gap, found.1.1, (record { key = k; commit = look.1; txn = u }, edge.2.0, look.2, found.1.2.1, found.1.2.2, ((λ same. edge.0 (sym txn ∙ sym same)), (λ i. record { src = sym txn i; dst = u; kind = Rw; key = k }))))
+          ]
 
-      pub edges_are : (e : Edge) → (FromSome (KeyPair h IsPairEdge) keys e ⊎ FromSome (FromMade h) spans e) ↔ (IsEdge h e × IsInPart part e.key)
+      pub edges_are : (e : Edge) → ((FromSome (KeyPair h IsPairEdge) keys e ⊎ FromSome (FromMade h) spans e) ⊎ FromSome (FromGap h) gaps e) ↔ (IsEdge h e × IsInPart part e.key)
       edges_are e = (
         (λ f. elim f [
-          | inl pair ↦
-              let edge = pair_is_edge pair.0 e pair.2 in
-              (edge.2, subst (IsInPart part) (sym edge.1) (let at = (within.each pair.0).0 pair.1 in (at.1, at.2)))
-          | inr made ↦ span_is_edge made.0 made.1 made.2.0 made.2.1 e made.2.2.0 made.2.2.1
+          | inl first ↦ elim first [
+            | inl pair ↦
+                let edge = pair_is_edge pair.0 e pair.2 in
+                (edge.2, subst (IsInPart part) (sym edge.1) (let at = (within.each pair.0).0 pair.1 in (at.1, at.2)))
+            | inr made ↦ span_is_edge made.0 made.1 made.2.0 made.2.1 e made.2.2.0 made.2.2.1
+          ]
+          | inr gap ↦ gap_is_edge gap.0 gap.1 e gap.2
         ]),
         (λ edge. edge_found e.kind e.src e.dst e.key edge.0 edge.1),
       )
 
--- the spans of a part, joined, are spans of the part
-pub joined_are : (h : List Event) (part : Part) (narrow wide : List Span) → AreSpans h part narrow → Widens narrow wide → AreSpans h part wide
-joined_are h part narrow wide are joins = record {
+-- the spans and the gaps of a part, joined, are spans and gaps of the part
+pub joined_are : (h : List Event) (part : Part) (narrow wide : List Span) (gaps joint : List Gap) → AreSpans h part narrow gaps → Widens narrow wide → CoversSame gaps joint → AreSpans h part wide joint
+joined_are h part narrow wide gaps joint are joins covers = record {
   low = λ s c. let n = joins.low s c in subst (λ t. Looked h t s.key s.low) n.2 (subst (λ k. Looked h n.0.txn k s.low) n.3 (subst (Looked h n.0.txn n.0.key) n.4 (are.low n.0 n.1)));
   high = λ s c. let n = joins.high s c in subst (λ t. Looked h t s.key s.high) n.2 (subst (λ k. Looked h n.0.txn k s.high) n.3 (subst (Looked h n.0.txn n.0.key) n.4 (are.high n.0 n.1)));
   within = λ s c. let n = joins.low s c in subst (IsInPart part) n.3 (are.within n.0 n.1);
-  whole = λ t k c look in_part wrote.
-      let found = are.whole t k c look in_part wrote in
-      let wider = joins.each found.0 found.1 in
-      (wider.0, wider.1, (wider.2 ∙ found.2.0, wider.3 ∙ found.2.1, (let a = wider.4 in let b = found.2.2 in omega arith), (let a = wider.5 in let b = found.2.3 in omega arith)));
+  unlisted = λ look u wrote f. are.unlisted look u wrote ((covers look).0 f);
+  whole = λ t k c u look in_part wrote. elim (are.whole t k c u look in_part wrote) [
+    | inl found ↦
+        let wider = joins.each found.0 found.1 in
+        inl (wider.0, wider.1, (wider.2 ∙ found.2.0, wider.3 ∙ found.2.1, (let a = wider.4 in let b = found.2.2 in omega arith), (let a = wider.5 in let b = found.2.3 in omega arith)))
+    | inr gap ↦ inr (gap.0, (covers (t, k)).1 gap.1)
+  ];
 }

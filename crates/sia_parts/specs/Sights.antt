@@ -1,12 +1,15 @@
 -- How the findings of a part come about: from pairs of a key's versions, and from what reads saw of a key.
-use Rattle.std.specs.Prelude.{◌≡◌, ◌≢◌, ◌⊎◌, ◌↔◌, ℕ, ◌<◌, ◌≤◌, List, AllPairs, Contains}
+use Rattle.std.specs.Prelude.{◌≡◌, ◌≢◌, ◌⊎◌, ◌↔◌, ℕ, ◌<◌, ◌≤◌, List, AllPairs, Contains, Some}
 use Rattle.sia_events.specs.declared.event.Event.{Event}
+use Rattle.sia_events.specs.declared.event.Event.TheVariants.{Range}
+use Rattle.sia_events.specs.Places.{at_place}
 use Rattle.sia_events.specs.Transactions.{IsCommitted, CommitsAt, StartsAt, Wrote}
 use Rattle.sia_events.specs.Reads.{SawAt}
 use Rattle.sia_events.specs.Isolation.{IsBadRead, IsUnexplained}
 use Rattle.sia_index.specs.declared.info.Made.{Made}
 use Rattle.sia_index.specs.declared.info.ItemRead.{ItemRead}
 use Rattle.sia_index.specs.declared.info.RangeRead.{RangeRead}
+use Rattle.sia_index.specs.declared.info.Reader.{Reader}
 use Rattle.sia_index.specs.Info.{IsMade}
 use Rattle.sia_parts.specs.declared.cutting.Part.{Part}
 use Rattle.sia_parts.specs.declared.finding.BadRead.{BadRead}
@@ -15,7 +18,9 @@ use Rattle.sia_parts.specs.declared.finding.Unexplained.{Unexplained}
 use Rattle.sia_parts.specs.declared.finding.Edge.{Edge}
 use Rattle.sia_parts.specs.declared.finding.Kind.TheVariants.{Ww, Wr, Rw}
 use Rattle.sia_parts.specs.declared.sights.Sight.{Sight}
+use Rattle.sia_parts.specs.declared.gaps.Gap.{Gap}
 use Rattle.sia_parts.specs.declared.spans.Span.{Span}
+use Rattle.sia_parts.specs.Gaps.{InSomeGap}
 use Rattle.sia_parts.specs.Parts.{IsInPart}
 
 -- new holds what old held, and what has P, and nothing else
@@ -37,17 +42,26 @@ IsSight h s = SawAt h s.place s.txn s.key s.saw
 abbrev pub read_sight : ItemRead → Sight
 read_sight read = record { place = read.place; txn = read.txn; key = read.key; saw = read.saw }
 
--- a range read that listed these keys saw k at version v, if it covers k
-abbrev pub IsListed : List (ℕ × ℕ) → ℕ → ℕ → Type 0
-IsListed listed k v = Contains listed (k, v) ⊎ (((u : ℕ) → ¬ Contains listed (k, u)) × (v ≡ 0))
+-- listed keys, each greater than those before it
+abbrev pub AscendsByKey : List (ℕ × ℕ) → Type 0
+AscendsByKey listed = AllPairs (λ p q. p.0 < q.0) listed
 
--- what a range read that listed these keys saw of key k
-abbrev pub IsKeySight : RangeRead → List (ℕ × ℕ) → ℕ → Sight → Type 0
-IsKeySight range listed k s = (s.place ≡ range.place) × (s.txn ≡ range.txn) × (s.key ≡ k) × IsListed listed k s.saw
+-- what a range read saw of a key that it listed
+abbrev pub listed_sight : RangeRead → ℕ × ℕ → Sight
+listed_sight range pair = record { place = range.place; txn = range.txn; key = pair.0; saw = pair.1 }
 
--- what a range read saw of some written key of the part
+-- what a range read saw of a key that it covered and didn't list
+abbrev pub unlisted_sight : Reader → ℕ → Sight
+unlisted_sight reader k = record { place = reader.place; txn = reader.txn; key = k; saw = 0 }
+
+-- what a range read saw of some key of the part
 abbrev pub IsRangeSight : List Event → Part → RangeRead → Sight → Type 0
-IsRangeSight h part range s = (s.place ≡ range.place) × (s.txn ≡ range.txn) × IsSight h s × IsInPart part s.key × ((t : ℕ) × Wrote h t s.key)
+IsRangeSight h part range s = (s.place ≡ range.place) × (s.txn ≡ range.txn) × IsSight h s × IsInPart part s.key
+
+-- what a range read saw of some key of the part that it listed
+abbrev pub IsListedSight : List Event → Part → RangeRead → Sight → Type 0
+IsListedSight h part range s = (s.place ≡ range.place) × (s.txn ≡ range.txn) × IsInPart part s.key
+    × (listed : List (ℕ × ℕ)) × (at_place h range.place ≡ Some (Range range.txn range.lo range.hi listed)) × Contains listed (s.key, s.saw)
 
 -- what a bad read saw
 abbrev pub bad_sight : BadRead → Sight
@@ -132,9 +146,11 @@ KeyPair {B} h P k b = (first : Made) × (second : Made) × IsMade h k first × I
 abbrev pub FromMade : List Event → Span → Edge → Type 0
 FromMade h span e = (made : Made) × IsMade h span.key made × IsSpanEdge span made e
 
--- spans of the part's keys: their ends are looks, and each look at a written key lies in one
-pub record AreSpans (h : List Event) (part : Part) (spans : List Span) : Type 0 where
+-- spans and gaps of the part's keys: the ends of spans are looks, at written keys gaps are looks at version 0, and each
+-- look at a written key lies in a span or in a gap
+pub record AreSpans (h : List Event) (part : Part) (spans : List Span) (gaps : List Gap) : Type 0 where
   pub low : (s : Span) → Contains spans s → Looked h s.txn s.key s.low
   pub high : (s : Span) → Contains spans s → Looked h s.txn s.key s.high
   pub within : (s : Span) → Contains spans s → IsInPart part s.key
-  pub whole : (t k c : ℕ) → Looked h t k c → IsInPart part k → ((u : ℕ) × Wrote h u k) → (s : Span) × Contains spans s × IsInSpan s t k c
+  pub unlisted : (look : ℕ × ℕ) (u : ℕ) → Wrote h u look.1 → InSomeGap gaps look → Looked h look.0 look.1 0 × IsInPart part look.1
+  pub whole : (t k c u : ℕ) → Looked h t k c → IsInPart part k → Wrote h u k → ((s : Span) × Contains spans s × IsInSpan s t k c) ⊎ ((c ≡ 0) × InSomeGap gaps (t, k))

@@ -12,9 +12,11 @@ use crate::cutting::Part;
 use crate::edges::edges_of;
 use crate::finding::{BadRead, BadWrite, Unexplained};
 use crate::findings::PartFindings;
+use crate::gaps::{Gap, joined_gaps};
 use crate::ordering::put_in_order;
 use crate::pairs::put_bad_writes;
-use crate::sights::{is_committed, put_item_reads, put_range_reads};
+use crate::ranges::put_range_reads;
+use crate::sights::{is_committed, put_item_reads};
 use crate::spans::{Span, joined};
 use sia_events::{History, Key, NoMemory, TxnId};
 use sia_index::Index;
@@ -25,6 +27,7 @@ use std::alloc::Global;
 struct Seen {
     bad_reads: Vec<BadRead>,
     spans: Vec<Span>,
+    gaps: Vec<Gap>,
 }
 
 /// The findings at the keys of the part, by an index of the history.
@@ -42,7 +45,7 @@ pub fn audit_part(
     let seen = seen_of(alloc, h, ix, part)?;
     let bad_writes = bad_writes_of(alloc, ix, part)?;
     let unexplained = unexplained_of(alloc, h, ix, part, &seen.bad_reads)?;
-    let edges = edges_of(alloc, ix, part, &seen.spans)?;
+    let edges = edges_of(alloc, ix, part, &seen.spans, &seen.gaps)?;
     Ok(PartFindings {
         bad_reads: seen.bad_reads,
         bad_writes,
@@ -51,23 +54,29 @@ pub fn audit_part(
     })
 }
 
-// The bad reads at the keys of the part, and the spans of these.
+// The bad reads at the keys of the part, and the spans and the gaps of these.
 fn seen_of(alloc: Global, h: &History, ix: &Index, part: Part) -> Result<Seen, NoMemory>
     requires { ix.now ≡ h.now }
     ensures bad_reads { IfOk result (λ seen. ListsBadReads ix.now (IsInPart part) seen.bad_reads.items) }
-    ensures spans { IfOk result (λ seen. AreSpans ix.now part seen.spans.items) }
+    ensures spans { IfOk result (λ seen. AreSpans ix.now part seen.spans.items seen.gaps.items) }
 {
     // The length tells that the history is well-formed.
     let _ = h.len();
     let mut bad_reads = Vec::new(alloc);
     let mut spans = Vec::new(alloc);
+    let mut gaps = Vec::new(alloc);
     let reads = ix.reads_within(part.lo, part.hi);
     put_item_reads(ix, reads, &mut bad_reads, &mut spans)?;
     let ranges = ix.ranges_meeting(part.lo, part.hi);
-    put_range_reads(h, ix, part, ranges, &mut bad_reads, &mut spans)?;
+    put_range_reads(h, ix, part, ranges, &mut bad_reads, &mut spans, &mut gaps)?;
     put_in_order(&mut bad_reads);
     let spans = joined(alloc, spans)?;
-    Ok(Seen { bad_reads, spans })
+    let gaps = joined_gaps(alloc, gaps)?;
+    Ok(Seen {
+        bad_reads,
+        spans,
+        gaps,
+    })
 }
 
 // The bad writes at the keys of the part.

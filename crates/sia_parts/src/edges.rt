@@ -2,34 +2,65 @@
 ghost use Rattle.std.specs.Prelude.{◌≡◌, ◌≢◌, ◌⊎◌, ◌<◌, ◌≤◌, IfOk, OnOk};
 ghost use Rattle.sia_events.specs.Refusals.{IsWellFormed};
 ghost use Rattle.sia_parts.specs.Findings.{ListsEdges};
+ghost use Rattle.sia_parts.specs.Gaps.{FromGap, IsGapEdge};
 ghost use Rattle.sia_parts.specs.Parts.{IsInPart};
 ghost use Rattle.sia_parts.specs.Sights.{Adds, FromSome, FromMade, IsSpanEdge, IsWrEdge, IsRwEdge, AreSpans};
 
 use crate::cutting::Part;
 use crate::finding::{Edge, Kind};
-use crate::ordering::put_in_order;
+use crate::gaps::Gap;
+use crate::packing::put_edges_in_order;
 use crate::pairs::put_ww_edges;
 use crate::spans::Span;
 use sia_events::NoMemory;
-use sia_index::{Index, Made};
+use sia_index::{Index, KeyVersion, Made};
 use std::alloc::Global;
 
-/// The edges at the keys of the part, of the spans of these.
+/// The edges at the keys of the part, of the spans and the gaps of these.
 pub(crate) fn edges_of(
     alloc: Global,
     ix: &Index,
     part: Part,
     spans: &[Span],
+    gaps: &[Gap],
 ) -> Result<Vec<Edge>, NoMemory>
     requires well_formed { IsWellFormed ix.now }
-    requires spans { AreSpans ix.now part spans.now }
+    requires spans { AreSpans ix.now part spans.now gaps.now }
     ensures { IfOk result (λ edges. ListsEdges ix.now (IsInPart part) edges.items) }
 {
     let mut edges = Vec::new(alloc);
     put_ww_edges(ix, ix.written_within(part.lo, part.hi), &mut edges)?;
     put_span_edges(ix, spans, &mut edges)?;
-    put_in_order(&mut edges);
+    put_gap_edges(ix, gaps, &mut edges)?;
+    put_edges_in_order(alloc, ix, &mut edges)?;
     Ok(edges)
+}
+
+// Adds the rw edges of the gaps.
+fn put_gap_edges(ix: &Index, gaps: &[Gap], edges: &mut Vec<Edge>) -> Result<(), NoMemory>
+    ensures { OnOk result (Adds (FromSome (FromGap ix.now) gaps.now) edges.old.items edges.new.items) }
+{
+    for gap in gaps {
+        put_edges_after(*gap, ix.versions_within(gap.lo, gap.hi), edges)?;
+    }
+    Ok(())
+}
+
+// Adds the rw edges of a gap to the versions of its keys.
+fn put_edges_after(gap: Gap, versions: &[KeyVersion], edges: &mut Vec<Edge>) -> Result<(), NoMemory>
+    ensures { OnOk result (Adds (FromSome (IsGapEdge gap) versions.now) edges.old.items edges.new.items) }
+{
+    for made in versions {
+        if made.txn != gap.txn {
+            edges.push(Edge {
+                src: gap.txn,
+                dst: made.txn,
+                kind: Kind::Rw,
+                key: made.key,
+            })?;
+        }
+    }
+    Ok(())
 }
 
 // Adds the wr and rw edges of the spans.

@@ -52,7 +52,7 @@ impl Ranked for Edge {
 }
 
 /// The place of a kind among the kinds.
-fn number_of(kind: Kind) -> u8
+pub(crate) fn number_of(kind: Kind) -> u8
     ensures { result ≡ kind_number kind }
 {
     match kind {

@@ -1,21 +1,16 @@
 //! What reads saw of the keys of a part: bad reads, and the spans that give edges.
-ghost use Rattle.std.specs.Prelude.{◌≡◌, ◌↔◌, ℕ, All, Contains, List, IsTrue, OnOk, MatchOption, map};
-ghost use Rattle.std.specs.List.Sorted.{IsStrictlyIncreasing};
-ghost use Rattle.sia_events.specs.declared.event.Event.{Event};
-ghost use Rattle.sia_events.specs.declared.event.Event.TheVariants as events;
-ghost use Rattle.sia_events.specs.Places.{at_place};
+ghost use Rattle.std.specs.Prelude.{◌≡◌, ◌↔◌, ℕ, All, IsTrue, OnOk, MatchOption};
 ghost use Rattle.sia_events.specs.Transactions.{IsCommitted, CommitsAt};
+ghost use Rattle.sia_events.specs.Reads.{IsDue};
 ghost use Rattle.sia_events.specs.Refusals.{IsWellFormed};
-ghost use Rattle.sia_index.specs.Info.{IsItemRead, IsRangeRead};
+ghost use Rattle.sia_index.specs.Info.{IsItemRead, IsReader};
 ghost use Rattle.sia_parts.specs.declared.spans.Span.{Span};
-ghost use Rattle.sia_parts.specs.declared.sights.Sight.{Sight};
-ghost use Rattle.sia_parts.specs.Sights.{Adds, FromSome, FromSight, IsSight, IsKeySight, IsRangeSight, IsListed, IsBadOf, IsAsOf, IsSpanOf, read_sight};
+ghost use Rattle.sia_parts.specs.Sights.{Adds, FromSome, IsSight, IsBadOf, IsAsOf, IsSpanOf, read_sight};
 
-use crate::cutting::Part;
 use crate::finding::BadRead;
 use crate::spans::Span;
-use sia_events::{Event, History, Key, NoMemory, TxnId, Version};
-use sia_index::{Fate, Index, ItemRead, RangeRead};
+use sia_events::{Key, NoMemory, TxnId, Version};
+use sia_index::{Fate, Index, ItemRead, Reader};
 
 /// A version of a key that a transaction saw at a place.
 #[derive(Clone, Copy)]
@@ -45,128 +40,43 @@ pub(crate) fn put_item_reads(
             key: read.key,
             saw: read.saw,
         };
-        put_sight(ix, sight, bad, spans)?;
+        let reader = ix.reader(read.txn, read.place);
+        put_sight(ix, reader, sight, bad, spans)?;
     }
     Ok(())
 }
 
-/// Adds the bad reads and the spans of range reads, at the written keys of the part.
-pub(crate) fn put_range_reads(
-    h: &History,
+/// Adds the bad read of a sight, if it is one, and its span, if it has one.
+pub(crate) fn put_sight(
     ix: &Index,
-    part: Part,
-    ranges: &[RangeRead],
-    bad: &mut Vec<BadRead>,
-    spans: &mut Vec<Span>,
-) -> Result<(), NoMemory>
-    requires of { ix.now ≡ h.now }
-    requires ranges { All (IsRangeRead ix.now) ranges.now }
-    ensures bad { OnOk result (Adds (FromSome (λ range. FromSight (IsRangeSight ix.now part range) (IsBadOf ix.now)) ranges.now) bad.old.items bad.new.items) }
-    ensures spans { OnOk result (Adds (FromSome (λ range. FromSight (IsRangeSight ix.now part range) (IsSpanOf ix.now)) ranges.now) spans.old.items spans.new.items) }
-{
-    for range in ranges {
-        put_range_read(h, ix, part, *range, bad, spans)?;
-    }
-    Ok(())
-}
-
-// Adds the bad reads and the spans of a range read, at the written keys of the part.
-fn put_range_read(
-    h: &History,
-    ix: &Index,
-    part: Part,
-    range: RangeRead,
-    bad: &mut Vec<BadRead>,
-    spans: &mut Vec<Span>,
-) -> Result<(), NoMemory>
-    requires of { ix.now ≡ h.now }
-    requires range { IsRangeRead ix.now range }
-    ensures bad { OnOk result (Adds (FromSight (IsRangeSight ix.now part range) (IsBadOf ix.now)) bad.old.items bad.new.items) }
-    ensures spans { OnOk result (Adds (FromSight (IsRangeSight ix.now part range) (IsSpanOf ix.now)) spans.old.items spans.new.items) }
-{
-    // The length tells that the history is well-formed.
-    let _ = h.len();
-    let listed = listed_at(h, range.place);
-    let lo = part.lo.max(range.lo);
-    let hi = part.hi.min(range.hi);
-    put_keys(ix, range, listed, ix.written_within(lo, hi), bad, spans)?;
-    Ok(())
-}
-
-// Adds the bad reads and the spans of a range read that listed these keys, at some of the keys that it covers.
-fn put_keys(
-    ix: &Index,
-    range: RangeRead,
-    listed: &[(Key, Version)],
-    keys: &[Key],
-    bad: &mut Vec<BadRead>,
-    spans: &mut Vec<Span>,
-) -> Result<(), NoMemory>
-    requires well_formed { IsWellFormed ix.now }
-    requires listed { IsStrictlyIncreasing (map (λ p. p.0) listed.now) }
-    requires covered { (k : ℕ) (s : Sight) → Contains keys.now k → IsKeySight range listed.now k s → IsSight ix.now s }
-    ensures bad { OnOk result (Adds (FromSome (λ k. FromSight (IsKeySight range listed.now k) (IsBadOf ix.now)) keys.now) bad.old.items bad.new.items) }
-    ensures spans { OnOk result (Adds (FromSome (λ k. FromSight (IsKeySight range listed.now k) (IsSpanOf ix.now)) keys.now) spans.old.items spans.new.items) }
-{
-    for key in keys {
-        let sight = Sight {
-            place: range.place,
-            txn: range.txn,
-            key: *key,
-            saw: saw_in(listed, *key),
-        };
-        put_sight(ix, sight, bad, spans)?;
-    }
-    Ok(())
-}
-
-// The keys that the range read at the place listed.
-fn listed_at(h: &History, place: u32) -> &[(Key, Version)]
-    ensures { (t lo hi : ℕ) (listed : List (ℕ × ℕ)) → at_place h.now place ≡ Some (events.Range t lo hi listed) → result.now ≡ listed }
-{
-    match h.event(place) {
-        Some(event) => match event {
-            Event::Range { listed, .. } => listed.as_slice(),
-            _ => &[],
-        },
-        None => &[],
-    }
-}
-
-// The version at which a range read that listed these keys saw the key.
-fn saw_in(listed: &[(Key, Version)], key: Key) -> Version
-    requires { IsStrictlyIncreasing (map (λ p. p.0) listed.now) }
-    ensures { IsListed listed.now key result }
-{
-    match listed.binary_search_by_key(&key, |pair| pair.0) {
-        Ok(i) => listed[i].1,
-        Err(_) => 0,
-    }
-}
-
-// Adds the bad read of a sight, if it is one, and its span, if it has one.
-fn put_sight(
-    ix: &Index,
+    reader: Reader,
     sight: Sight,
     bad: &mut Vec<BadRead>,
     spans: &mut Vec<Span>,
 ) -> Result<(), NoMemory>
     requires well_formed { IsWellFormed ix.now }
+    requires reader { IsReader ix.now sight.txn sight.place reader }
     requires sight { IsSight ix.now sight }
     ensures bad { OnOk result (Adds (IsBadOf ix.now sight) bad.old.items bad.new.items) }
     ensures spans { OnOk result (Adds (IsSpanOf ix.now sight) spans.old.items spans.new.items) }
 {
-    put_bad_read(ix, sight, bad)?;
-    put_span(ix, sight, spans)?;
+    put_bad_read(ix, reader, sight, bad)?;
+    put_span(ix, reader, sight, spans)?;
     Ok(())
 }
 
 // Adds the bad read of a sight, if it is one.
-fn put_bad_read(ix: &Index, sight: Sight, bad: &mut Vec<BadRead>) -> Result<(), NoMemory>
-    requires { IsSight ix.now sight }
+fn put_bad_read(
+    ix: &Index,
+    reader: Reader,
+    sight: Sight,
+    bad: &mut Vec<BadRead>,
+) -> Result<(), NoMemory>
+    requires reader { IsReader ix.now sight.txn sight.place reader }
+    requires sight { IsSight ix.now sight }
     ensures { OnOk result (Adds (IsBadOf ix.now sight) bad.old.items bad.new.items) }
 {
-    let due = ix.due(sight.txn, sight.place, sight.key);
+    let due = due_at(ix, reader, sight);
     if due != sight.saw {
         bad.push(BadRead {
             place: sight.place,
@@ -179,26 +89,36 @@ fn put_bad_read(ix: &Index, sight: Sight, bad: &mut Vec<BadRead>) -> Result<(), 
     Ok(())
 }
 
+// The version due at a sight.
+fn due_at(ix: &Index, reader: Reader, sight: Sight) -> Version
+    requires { IsReader ix.now sight.txn sight.place reader }
+    ensures { IsDue ix.now sight.txn sight.place sight.key result }
+{
+    ix.due_to(reader, sight.key)
+}
+
 // Adds the span of a sight, if it has one.
-fn put_span(ix: &Index, sight: Sight, spans: &mut Vec<Span>) -> Result<(), NoMemory>
-    requires { IsWellFormed ix.now }
+fn put_span(ix: &Index, reader: Reader, sight: Sight, spans: &mut Vec<Span>) -> Result<(), NoMemory>
+    requires well_formed { IsWellFormed ix.now }
+    requires reader { IsReader ix.now sight.txn sight.place reader }
     ensures { OnOk result (Adds (IsSpanOf ix.now sight) spans.old.items spans.new.items) }
 {
-    if let Some(span) = span_of(ix, sight) {
+    if let Some(span) = span_of(ix, reader, sight) {
         spans.push(span)?;
     }
     Ok(())
 }
 
 // The span of a sight by a committed transaction of a version that isn't its own and that 0 or a committed one made.
-fn span_of(ix: &Index, sight: Sight) -> Option<Span>
-    requires { IsWellFormed ix.now }
+fn span_of(ix: &Index, reader: Reader, sight: Sight) -> Option<Span>
+    requires well_formed { IsWellFormed ix.now }
+    requires reader { IsReader ix.now sight.txn sight.place reader }
     ensures { MatchOption result ((span : Span) → ¬ IsSpanOf ix.now sight span) (λ span. IsSpanOf ix.now sight span × ((other : Span) → IsSpanOf ix.now sight other → span ≡ other)) }
 {
     if sight.saw == sight.txn {
         return None;
     }
-    if !is_committed(ix, sight.txn) {
+    if !reader.committed {
         return None;
     }
     let at = as_of(ix, sight.saw)?;

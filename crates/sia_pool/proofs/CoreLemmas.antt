@@ -1,5 +1,5 @@
 -- What holds of each state that the core reaches, and the states that one event more or one worker more reaches.
-use Rattle.std.proofs.Common.{◌≡◌, ℕ, zero, suc, ◌+◌, ◌-◌, ◌<◌, List, [], ◌∷◌, ◌++◌, length, sym, refl, ap, ◌∙◌, subst, arith, append_assoc, length-append}
+use Rattle.std.proofs.Common.{◌≡◌, ℕ, zero, suc, ◌+◌, ◌-◌, ◌<◌, ◌≤◌, List, [], ◌∷◌, ◌++◌, length, sym, refl, ap, ◌∙◌, subst, arith, append_assoc, length-append}
 use Rattle.std.specs.Prelude.{replicate, slice_index, IsPermutation}
 use Rattle.std.specs.List.{AllByRecursion, range_with_len, concat}
 use Rattle.std.specs.List.Sorted.{IsStrictlyIncreasing}
@@ -41,6 +41,10 @@ each_map P Q (x ∷ xs) f h = (f x h.0, each_map P Q xs f h.1)
 pub each_push : {X : Type 0} (P : X → Type 0) (xs : List X) (x : X) → AllByRecursion P xs → P x → AllByRecursion P (xs ++ x ∷ [])
 each_push P [] x h p = (p, tt)
 each_push P (y ∷ xs) x h p = (h.0, each_push P xs x h.1 p)
+
+pub each_true : (s : List ℕ) → AllByRecursion (λ y. 0 ≤ y) s
+each_true [] = tt
+each_true (x ∷ s) = (omega arith, each_true s)
 
 -- each number is below all later ones
 abbrev pub Ascends : List ℕ → Type 0

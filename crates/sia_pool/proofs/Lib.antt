@@ -3,6 +3,6 @@ pub mod RuleLemmas
 pub mod LineLemmas
 pub mod WorkLemmas
 pub mod ThreadLemmas
-pub mod SlotLemmas
+pub mod OrderLemmas
 pub mod FinishLemmas
 pub mod DealLemmas

@@ -15,7 +15,7 @@ use Rattle.sia_pool.specs.Core.{with_part, Reached}
 use Rattle.sia_pool.specs.View.{owner_view, stealer_view, spent_view, with_share, line_size}
 use Rattle.sia_pool.specs.Rule.{shares_by, HoldsAt, Holds}
 use Rattle.sia_pool.specs.Steps.{Took, NothingLeft}
-use Rattle.sia_pool.proofs.CoreLemmas.{dealt, range_push, reached_take, reached_opening, reached_padded, each_map, Ascends, Low}
+use Rattle.sia_pool.proofs.CoreLemmas.{dealt, range_push, reached_take, reached_opening, reached_padded, each_map, each_true, Ascends, Low}
 
 pub length-shares_by : (back : List (List ℕ)) (ts : List View) (n : ℕ) → length (shares_by back ts n) ≡ length ts + n
 length-shares_by [] [] n = let e : length (replicate {A = List ℕ} n []) ≡ n = length-replicate {A = List ℕ} n [] in omega (arith, e)
@@ -55,10 +55,6 @@ few_parts [] a c h r f b = omega arith
 few_parts (x ∷ s) a c h r f b =
     let k = few_parts s (suc x) c (omega (arith, b.0)) r.1 (each_map (λ y. x < y) (λ y. suc x ≤ y) s (λ y p. omega arith) r.0) b.1 in
     omega (arith, f.0, k)
-
-each_true : (s : List ℕ) → AllByRecursion (λ y. 0 ≤ y) s
-each_true [] = tt
-each_true (x ∷ s) = (omega arith, each_true s)
 
 -- while a part is left, each share has fewer parts than there are
 pub room : (count workers x : ℕ) (left : List ℕ) (shares : List (List ℕ)) (j : ℕ) (s : List ℕ) → Reached count workers (x ∷ left) shares → get_elem? shares j ≡ some s → length s < count

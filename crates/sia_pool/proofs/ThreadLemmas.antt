@@ -1,6 +1,6 @@
 -- Views and answers that are put together.
 use Rattle.std.proofs.Common.{◌≡◌, ℕ, suc, ◌+◌, ◌<◌, List, [], ◌∷◌, ◌++◌, length, sym, refl, ap, ◌∙◌, subst, arith, append_assoc, length-append}
-use Rattle.std.specs.Prelude.{Result, Ok, Err, IfOk, IsPermutation}
+use Rattle.std.specs.Prelude.{Result, Ok, Err, IfOk, IsOkAnd, IsPermutation}
 use Rattle.std.specs.List.{AllByRecursion, concat}
 use Rattle.std.proofs.lemmas.List.{append-nil}
 use Rattle.std.proofs.lemmas.List.Folds.{concat-append}
@@ -16,7 +16,7 @@ use Rattle.sia_pool.specs.Taker.{taker_view, taker_deque}
 use Rattle.sia_pool.specs.Line.{IsLine}
 use Rattle.sia_pool.specs.Answers.{lists_of, parts_of, Owed}
 use Rattle.sia_pool.specs.Work.{HasWorked}
-use Rattle.sia_pool.specs.Threads.{IsReady, IsDone, AllDone}
+use Rattle.sia_pool.specs.Threads.{IsReady, IsDone, ComesBack, AllDone}
 
 pub length-lists_of : (vs : List (Vec ℕ)) → length (lists_of vs) ≡ length vs
 length-lists_of [] = refl
@@ -64,6 +64,22 @@ line_last : (d : RowsId × Global) (c n j : ℕ) (ts : List Taker) (t : Taker) �
 line_last d c n j [] t h = let z : j ≡ j + 0 = omega arith in (tt, h.0, h.1 ∙ ap (λ i. stealer_view i c n []) z)
 line_last d c n j (u ∷ ts) t h = let z : suc j + length ts ≡ j + suc (length ts) = omega arith in let r = line_last d c n (suc j) ts t h.2 in ((h.0, h.1, r.0), r.1, r.2 ∙ ap (λ i. stealer_view i c n []) z)
 
+module _ {Out : Type 0} where
+  pub alone_done : (owes : ℕ → Out → Type 0) (count workers : ℕ) (t w : Taker) (o : Owner) (later : List (Vec ℕ)) (ys : List (ℕ × Out))
+      → IsReady count workers (t ∷ []) → HasWorked owes (taker_deque t) (taker_view t) [] w ys → worker_view o.end ≡ taker_view w → worker_deque o.end ≡ taker_deque w → later ≡ [] → AllDone owes count workers (t ∷ []) o later ys
+  alone_done owes count workers t w o later ys h f a b e =
+      let seen = a ∙ f.view ∙ ap (λ (m : View). with_share m (m.share ++ f.more)) h.0 in (
+        record {
+          same = b ∙ f.same;
+          counted = ap (λ (m : View). m.count) seen;
+          sized = ap (λ (m : View). m.workers) seen;
+          back = ap (λ (m : View). m.back) seen ∙ sym (ap (λ l. lists_of l) e);
+          parts = subst (λ l. IsPermutation l (parts_of ys)) (sym (ap (λ (m : View). concat (m.share ∷ m.back)) seen ∙ append-nil f.more ∙ sym f.parts)) (IsPermutation-refl (parts_of ys));
+          owed = f.owed;
+        },
+        ap length e,
+      )
+
 pub ready_front : (count workers : ℕ) (ts : List Taker) (t : Taker) → 0 < length ts → IsReady count workers (ts ++ t ∷ []) → IsReady count workers ts
 ready_front count workers [] t l h = absurd (omega arith)
 ready_front count workers (u ∷ ts) t l h = (h.0, (line_last (taker_deque u) count workers 1 ts t h.1).0)
@@ -73,18 +89,18 @@ ready_count count workers [] t h = ap (λ (m : View). m.count) h.0
 ready_count count workers (u ∷ ts) t h = ap (λ (m : View). m.count) (line_last (taker_deque u) count workers 1 ts t h.1).2
 
 module _ {Out : Type 0} where
-  pub crew_step : (owes : ℕ → Out → Type 0) (count workers : ℕ) (ts : List Taker) (t w : Taker) (ys : List (ℕ × Out)) (o : Owner) (later : List (Vec ℕ)) (xs : List (ℕ × Out))
-      → IsReady count workers (ts ++ t ∷ []) → HasWorked owes (taker_deque t) (taker_view t) [] w ys → AllDone owes count workers ts o later xs
-      → IsDone owes (taker_deque w) count workers o later xs × (taker_view w ≡ stealer_view (suc (length later)) count workers (parts_of ys))
+  crew_step : (owes : ℕ → Out → Type 0) (count workers : ℕ) (ts : List Taker) (t w : Taker) (ys : List (ℕ × Out)) (o : Owner) (later : List (Vec ℕ)) (xs : List (ℕ × Out))
+      → IsReady count workers (ts ++ t ∷ []) → HasWorked owes (taker_deque t) (taker_view t) [] w ys → AllDone owes count workers ts o later xs → ComesBack owes count workers o later xs w ys
   crew_step owes count workers [] t w ys o later xs h f d = absurd d
   crew_step owes count workers (u ∷ ts) t w ys o later xs h f d =
       let l = line_last (taker_deque u) count workers 1 ts t h.1 in
       let n : 1 + length ts ≡ suc (length later) = omega (arith, d.1) in (
         subst (λ q. IsDone owes q count workers o later xs) (sym (f.same ∙ l.1)) d.0,
         f.view ∙ ap (λ (m : View). with_share m (m.share ++ f.more)) l.2 ∙ ap (λ k. stealer_view k count workers f.more) n ∙ ap (stealer_view (suc (length later)) count workers) (sym f.parts),
+        f.owed,
       )
 
-  pub crew_end : (owes : ℕ → Out → Type 0) (count workers : ℕ) (ts : List Taker) (t w : Taker) (ys : List (ℕ × Out)) (o p : Owner) (later last : List (Vec ℕ)) (xs zs : List (ℕ × Out))
+  crew_end : (owes : ℕ → Out → Type 0) (count workers : ℕ) (ts : List Taker) (t w : Taker) (ys : List (ℕ × Out)) (o p : Owner) (later last : List (Vec ℕ)) (xs zs : List (ℕ × Out))
       → IsReady count workers (ts ++ t ∷ []) → HasWorked owes (taker_deque t) (taker_view t) [] w ys → AllDone owes count workers ts o later xs
       → IsDone owes (taker_deque w) count workers p last zs → length last ≡ suc (length later) → AllDone owes count workers (ts ++ t ∷ []) p last zs
   crew_end owes count workers [] t w ys o p later last xs zs h f d e n = absurd d
@@ -92,6 +108,32 @@ module _ {Out : Type 0} where
       let l = line_last (taker_deque u) count workers 1 ts t h.1 in
       (subst (λ q. IsDone owes q count workers p last zs) (f.same ∙ l.1) e, omega (arith, n, d.1, length-append ts (t ∷ [])))
 
-pub ok_both : {A E : Type 0} (P Q S : A → Type 0) (r : Result A E) → ((x : A) → P x → Q x → S x) → IfOk r P → IfOk r Q → IfOk r S
-ok_both P Q S (Ok x) f a b = f x a b
-ok_both P Q S (Err e) f a b = tt
+module _ {Out : Type 0} (owes : ℕ → Out → Type 0) (count workers : ℕ) (all ts : List Taker) (t : Taker) (is : all ≡ ts ++ t ∷ []) (ready : IsReady count workers all) where
+  pub last_back : (w : Taker) (ys : List (ℕ × Out)) (o : Owner) (later : List (Vec ℕ)) (xs : List (ℕ × Out))
+      → HasWorked owes (taker_deque t) (taker_view t) [] w ys → AllDone owes count workers ts o later xs → ComesBack owes count workers o later xs w ys
+  last_back w ys o later xs f d = crew_step owes count workers ts t w ys o later xs (subst (IsReady count workers) is ready) f d
+
+  pub all_ended : (w : Taker) (ys : List (ℕ × Out)) (o p : Owner) (later last : List (Vec ℕ)) (xs zs : List (ℕ × Out)) → HasWorked owes (taker_deque t) (taker_view t) [] w ys → AllDone owes count workers ts o later xs
+      → IsDone owes (taker_deque w) count workers p last zs → length last ≡ suc (length later) → AllDone owes count workers all p last zs
+  all_ended w ys o p later last xs zs f d e n = subst (λ l. AllDone owes count workers l p last zs) (sym is) (crew_end owes count workers ts t w ys o p later last xs zs (subst (IsReady count workers) is ready) f d e n)
+
+-- where both answers are, so is what follows from them
+pub ok_pair : {A B E F : Type 0} (P : A → Type 0) (Q : B → Type 0) (R : A → B → Type 0) (a : Result A E) (b : Result B F) → ((x : A) (y : B) → P x → Q y → R x y) → IfOk a P → IfOk b Q → IfOk a (λ x. IfOk b (λ y. R x y))
+ok_pair P Q R (Ok x) (Ok y) f p q = f x y p q
+ok_pair P Q R (Ok x) (Err e) f p q = tt
+ok_pair P Q R (Err e) b f p q = tt
+
+pub ok_end : {A B C E F G : Type 0} (P : A → Type 0) (Q : B → Type 0) (S : A → B → C → Type 0) (T : C → Type 0) (a : Result A E) (b : Result B F) (r : Result C G)
+    → ((x : A) (y : B) (z : C) → P x → Q y → S x y z → T z) → IfOk a P → IfOk b Q → IfOk r (λ z. IsOkAnd a (λ x. IsOkAnd b (λ y. S x y z))) → IfOk r T
+ok_end P Q S T a b (Err e) f p q s = tt
+ok_end P Q S T (Err e) b (Ok z) f p q s = absurd s
+ok_end P Q S T (Ok x) (Err e) (Ok z) f p q s = absurd s
+ok_end P Q S T (Ok x) (Ok y) (Ok z) f p q s = f x y z p q s
+
+pub ok_these : {A B C E F G : Type 0} (S : A → B → C → Type 0) (a : Result A E) (b : Result B F) (r : Result C G) (x : A) (y : B) → a ≡ Ok x → b ≡ Ok y → IfOk r (S x y) → IfOk r (λ z. IsOkAnd a (λ u. IsOkAnd b (λ v. S u v z)))
+ok_these S a b (Err e) x y d e' h = tt
+ok_these S a b (Ok z) x y d e' h = subst (λ c. IsOkAnd c (λ u. IsOkAnd b (λ v. S u v z))) (sym d) (subst (λ c. IsOkAnd c (λ v. S x v z)) (sym e') h)
+
+pub ok_join : {C G : Type 0} (P Q : C → Type 0) (r : Result C G) → IfOk r P → IfOk r Q → IfOk r (λ z. P z × Q z)
+ok_join P Q (Ok z) p q = (p, q)
+ok_join P Q (Err e) p q = tt

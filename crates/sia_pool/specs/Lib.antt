@@ -9,4 +9,3 @@ pub mod Line
 pub mod Answers
 pub mod Work
 pub mod Threads
-pub mod Slots

@@ -1,12 +1,12 @@
 -- What is known once some workers have ended and the owner has their views back.
-use Rattle.std.specs.Prelude.{◌≡◌, ℕ, ◌-◌, List, [], ◌∷◌, length, IsPermutation}
+use Rattle.std.specs.Prelude.{◌≡◌, ℕ, suc, ◌-◌, List, [], ◌∷◌, length, IsPermutation}
 use Rattle.std.specs.List.{concat}
 use Rattle.atomic_blocks.specs.Lent.{RowsId}
 use Rattle.std.specs.Global.{Global, Vec}
 use Rattle.crossbeam_deque.specs.Handles.{worker_view, worker_deque}
 use Rattle.sia_pool.specs.declared.owner.Owner.{Owner}
 use Rattle.sia_pool.specs.declared.taker.Taker.{Taker}
-use Rattle.sia_pool.specs.View.{owner_view}
+use Rattle.sia_pool.specs.View.{owner_view, stealer_view}
 use Rattle.sia_pool.specs.Taker.{taker_view, taker_deque}
 use Rattle.sia_pool.specs.Line.{IsLine}
 use Rattle.sia_pool.specs.Answers.{lists_of, parts_of, Owed}
@@ -25,6 +25,11 @@ module _ {Out : Type 0} where
     pub back : (worker_view o.end).back ≡ lists_of later
     pub parts : IsPermutation (concat ((worker_view o.end).share ∷ (worker_view o.end).back)) (parts_of answers)
     pub owed : Owed owes answers
+
+  -- and this stealer, whose view is the next to come back, has an answer to each part of its share
+  abbrev pub ComesBack : (ℕ → Out → Type 0) → ℕ → ℕ → Owner → List (Vec ℕ) → List (ℕ × Out) → Taker → List (ℕ × Out) → Type 0
+  ComesBack owes count workers o later answers taker more =
+      IsDone owes (taker_deque taker) count workers o later answers × (taker_view taker ≡ stealer_view (suc (length later)) count workers (parts_of more)) × Owed owes more
 
   -- all of these takers have ended
   abbrev pub AllDone : (ℕ → Out → Type 0) → ℕ → ℕ → List Taker → Owner → List (Vec ℕ) → List (ℕ × Out) → Type 0

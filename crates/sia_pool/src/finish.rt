@@ -10,7 +10,6 @@ use crate::fault::NoMemory;
 use crate::gate::Gate;
 use crate::job::Job;
 use crate::order::in_order;
-use crate::owner::Owner;
 use crate::pool::Crew;
 use crate::taker::{Side, Taker};
 use crate::threads::{Done, with_worker};
@@ -67,24 +66,17 @@ where
     let Done {
         owner,
         mut later,
-        answers,
+        mut answers,
     } = done;
-    let taker = Taker {
+    let mut taker = Taker {
         side: Side::Owner(owner),
     };
-    let Worked { taker, answers } = work(rt, taker, answers, job, gate)?;
+    work(rt, &mut taker, &mut answers, job, gate)?;
+    let share = taker.into_share();
+    later.insert(0, share)?;
     let outs = in_order(alloc, job, count, answers)?;
-    let Taker { side } = taker;
-    match side {
-        Side::Owner(owner) => {
-            let Owner { end, share } = owner;
-            drop(end);
-            later.insert(0, share)?;
-            Ok(Crew {
-                outs,
-                shares: later,
-            })
-        }
-        Side::Stealer(_) => unreachable!(),
-    }
+    Ok(Crew {
+        outs,
+        shares: later,
+    })
 }

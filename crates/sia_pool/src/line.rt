@@ -46,8 +46,8 @@ fn new_stealer<K: LineSize>(
     ensures view { IfOk result (λ t. worker_view end.new ≡ owner_view count workers [] ((worker_view end.old).given + 1) []) }
     ensures taker { IfOk result (λ t. (taker_deque t ≡ worker_deque end.old) × (taker_view t ≡ stealer_view ((worker_view end.old).given + 1) count workers [])) }
 {
-    let steals_from = end.stealer()?;
     let share = Vec::with_capacity(alloc, count as usize)?;
+    let steals_from = end.stealer()?;
     let pass = end.another::<ViewGiven<K>>();
     Ok(Taker {
         side: Side::Stealer(Stealer {

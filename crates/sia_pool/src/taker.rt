@@ -1,10 +1,12 @@
 // One who takes parts: the owner of the deque, which pops, or a stealer.
-ghost use Rattle.std.specs.Prelude.{◌≡◌};
+ghost use Rattle.std.specs.Prelude.{◌≡◌, ◌<◌};
+ghost use Rattle.crossbeam_deque.specs.Handles.{view, worker_view, worker_deque, stealer_deque};
 ghost use Rattle.sia_pool.specs.Steps.{Stepped};
 ghost use Rattle.sia_pool.specs.Taker.{taker_view, taker_deque};
 
 use crate::owner::Owner;
 use crate::stealer::Stealer;
+use std::fmt;
 
 /// The answer of one pop or one steal.
 #[derive(Clone, Copy, PartialEq, Eq, Debug)]
@@ -31,6 +33,15 @@ pub struct Taker {
     pub(crate) side: Side,
 }
 
+impl fmt::Debug for Taker {
+    // What it took. The deque is shared, and what else it holds may change at any moment.
+    fn fmt<W: fmt::Write>(&self, f: &mut fmt::Formatter<W>) -> fmt::Result {
+        f.debug_struct("Taker")
+            .field("share", &self.share())
+            .finish_non_exhaustive()
+    }
+}
+
 impl Taker {
     /// One pop of the owner, or one steal of another taker. It waits for nobody and does not try again: at `Lost` it is the
     /// caller who does. The owner never answers `Lost`.
@@ -51,6 +62,57 @@ impl Taker {
         match &self.side {
             Side::Owner(owner) => owner.share.as_slice(),
             Side::Stealer(stealer) => stealer.share.as_slice(),
+        }
+    }
+
+    /// The same parts, of a taker that takes no more.
+    pub(crate) fn into_share(self) -> Vec<u32>
+        ensures { result.items ≡ (taker_view self).share }
+    {
+        let Taker { side } = self;
+        match side {
+            Side::Owner(owner) => {
+                let Owner { end, share } = owner;
+                drop(end);
+                share
+            }
+            Side::Stealer(stealer) => {
+                let Stealer {
+                    end,
+                    pass,
+                    share,
+                    ..
+                } = stealer;
+                drop(end);
+                drop(pass);
+                share
+            }
+        }
+    }
+
+    // The first taker as what it is.
+    pub(crate) fn into_owner(self) -> Owner
+        requires { (taker_view self).number ≡ 0 }
+        ensures view { worker_view result.end ≡ taker_view self }
+        ensures deque { worker_deque result.end ≡ taker_deque self }
+    {
+        let Taker { side } = self;
+        match side {
+            Side::Owner(owner) => owner,
+            Side::Stealer(_) => unreachable!(),
+        }
+    }
+
+    // Any other taker as what it is.
+    pub(crate) fn into_stealer(self) -> Stealer
+        requires { 0 < (taker_view self).number }
+        ensures view { view result.pass ≡ taker_view self }
+        ensures deque { stealer_deque result.end ≡ taker_deque self }
+    {
+        let Taker { side } = self;
+        match side {
+            Side::Owner(_) => unreachable!(),
+            Side::Stealer(stealer) => stealer,
         }
     }
 

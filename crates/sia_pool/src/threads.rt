@@ -1,17 +1,17 @@
 // The workers, each in a thread, and the views that come back.
-ghost use Rattle.std.specs.Prelude.{◌≡◌, ℕ, suc, ◌-◌, ◌<◌, [], ◌∷◌, ◌++◌, length, IfOk};
+ghost use Rattle.std.specs.Prelude.{◌≡◌, ℕ, suc, ◌<◌, [], ◌∷◌, ◌++◌, length, IfOk, IsOkAnd};
 ghost use denote.Param.Send.{IsSync, IsSend};
-ghost use Rattle.sia_pool.specs.View.{owner_view, stealer_view};
+ghost use Rattle.sia_pool.specs.View.{stealer_view};
 ghost use Rattle.sia_pool.specs.Taker.{taker_view, taker_deque};
 ghost use Rattle.sia_pool.specs.Answers.{lists_of, parts_of, Owed};
 ghost use Rattle.sia_pool.specs.Work.{HasWorked};
-ghost use Rattle.sia_pool.specs.Threads.{IsReady, IsDone, AllDone};
+ghost use Rattle.sia_pool.specs.Threads.{IsReady, IsDone, ComesBack, AllDone};
 
 use crate::fault::NoMemory;
 use crate::gate::Gate;
 use crate::job::Job;
 use crate::owner::Owner;
-use crate::taker::{Side, Taker};
+use crate::taker::Taker;
 use crate::work::{Worked, work};
 use std::alloc::Global;
 use std::sync::Wait;
@@ -27,30 +27,30 @@ pub(crate) struct Done<Out> {
     pub(crate) answers: Vec<(u32, Out)>,
 }
 
-/// The owner has ended, and no other worker yet.
-fn owner_done<J: Job>(
+/// The owner works where no other worker is left to start.
+fn owner_alone<J: Job, G: Gate, R: Wait>(
+    rt: &R,
     alloc: Global,
-    job: &J,
     count: u32,
     workers: u32,
-    worked: Worked<J::Out>,
-) -> Done<J::Out>
+    taker: Taker,
+    job: &J,
+    gate: &G,
+) -> Result<Done<J::Out>, NoMemory>
 where
     J::Out: Drop,
-    requires view { taker_view worked.taker ≡ owner_view count workers (parts_of worked.answers.items) (workers - 1) [] }
-    requires owed { Owed (J.owes job.now) worked.answers.items }
-    ensures { IsDone (J.owes job.now) (taker_deque worked.taker) count workers result.owner result.later.items result.answers.items × (length result.later.items ≡ 0) }
+    requires ready { IsReady count workers (taker ∷ []) }
+    requires takes { (p : ℕ) → p < count → J.takes job.now p }
+    ensures { IfOk result (λ r. AllDone (J.owes job.now) count workers (taker ∷ []) r.owner r.later.items r.answers.items) }
 {
-    let Worked { taker, answers } = worked;
-    let Taker { side } = taker;
-    match side {
-        Side::Owner(owner) => Done {
-            owner,
-            later: Vec::new(alloc),
-            answers,
-        },
-        Side::Stealer(_) => unreachable!(),
-    }
+    let mut taker = taker;
+    let mut answers = Vec::new(alloc);
+    work(rt, &mut taker, &mut answers, job, gate)?;
+    Ok(Done {
+        owner: taker.into_owner(),
+        later: Vec::new(alloc),
+        answers,
+    })
 }
 
 /// One more worker has ended, or never ran: the owner takes its view back.
@@ -70,29 +70,34 @@ where
     ensures len { IfOk result (λ r. length r.later.items ≡ suc (length done.later.items)) }
     ensures later { IfOk result (λ r. lists_of r.later.items ≡ lists_of done.later.items ++ parts_of worked.answers.items ∷ []) }
 {
+    let mut done = done;
     let Worked {
         taker,
         answers: mut more,
     } = worked;
-    let Taker { side } = taker;
-    let Done {
-        mut owner,
-        mut later,
-        mut answers,
-    } = done;
-    match side {
-        Side::Owner(_) => unreachable!(),
-        Side::Stealer(stealer) => {
-            let share = owner.take_back(stealer);
-            later.push(share)?;
-            answers.append(&mut more)?;
-            Ok(Done {
-                owner,
-                later,
-                answers,
-            })
-        }
-    }
+    let stealer = taker.into_stealer();
+    let share = done.owner.take_back(stealer);
+    done.later.push(share)?;
+    done.answers.append(&mut more)?;
+    Ok(done)
+}
+
+/// The last stealer and all workers before it have ended, and no answer was looked at before. So a refusal is answered when
+/// no worker runs any more.
+fn with_last<J: Job>(
+    job: &J,
+    count: u32,
+    workers: u32,
+    done: Result<Done<J::Out>, NoMemory>,
+    worked: Result<Worked<J::Out>, NoMemory>,
+) -> Result<Done<J::Out>, NoMemory>
+where
+    J::Out: Drop,
+    requires { IfOk done (λ d. IfOk worked (λ w. ComesBack (J.owes job.now) count workers d.owner d.later.items d.answers.items w.taker w.answers.items)) }
+    ensures { IfOk result (λ r. IsOkAnd done (λ d. IsOkAnd worked (λ w. IsDone (J.owes job.now) (taker_deque w.taker) count workers r.owner r.later.items r.answers.items
+        × (length r.later.items ≡ suc (length d.later.items))))) }
+{
+    with_worker(job, count, workers, done?, worked?)
 }
 
 /// `work` of a stealer, which takes nothing once the workers before it have ended.
@@ -112,11 +117,13 @@ where
     requires takes { (p : ℕ) → p < (taker_view taker).count → J.takes job.now p }
     ensures { IfOk result (λ w. HasWorked (J.owes job.now) (taker_deque taker) (taker_view taker) [] w.taker w.answers.items) }
 {
-    let answers = Vec::new(alloc);
+    let mut taker = taker;
+    let mut answers = Vec::new(alloc);
     if ended.load(Ordering::SeqCst) {
         return Ok(Worked { taker, answers });
     }
-    work(rt, taker, answers, job, gate)
+    work(rt, &mut taker, &mut answers, job, gate)?;
+    Ok(Worked { taker, answers })
 }
 
 /// Runs each stealer in a thread of its own and the owner in this one, and takes the views back. The last taker's thread
@@ -144,8 +151,7 @@ pub(crate) fn run_all<
         unreachable!()
     };
     if takers.is_empty() {
-        let worked = work(rt, last, Vec::new(alloc), job, gate)?;
-        return Ok(owner_done(alloc, job, count, workers, worked));
+        return owner_alone(rt, alloc, count, workers, last, job, gate);
     }
     let flag = AtomicBool::new(false);
     let ended = &flag;
@@ -161,7 +167,6 @@ pub(crate) fn run_all<
         ended.store(true, Ordering::SeqCst);
         done
     };
-    // Both have ended before either answer is looked at, so a refusal is answered when no worker runs any more.
     let (worked, done) = thread::join(rt, there, here);
-    with_worker(job, count, workers, done?, worked?)
+    with_last(job, count, workers, done, worked)
 }

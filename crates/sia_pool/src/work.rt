@@ -1,8 +1,9 @@
 // What one worker does.
-ghost use Rattle.std.specs.Prelude.{ℕ, ◌<◌, IfOk};
+ghost use Rattle.std.specs.Prelude.{ℕ, ◌<◌, OnOk};
 ghost use Rattle.sia_pool.specs.Taker.{taker_view, taker_deque};
+ghost use Rattle.sia_pool.specs.Gate.{EndsWith};
 ghost use Rattle.sia_pool.specs.Answers.{Owed};
-ghost use Rattle.sia_pool.specs.Work.{WorkedOff};
+ghost use Rattle.sia_pool.specs.Work.{HasAnswered, WorkedOff};
 
 use crate::fault::NoMemory;
 use crate::gate::Gate;
@@ -17,29 +18,46 @@ pub(crate) struct Worked<Out> {
     pub(crate) answers: Vec<(u32, Out)>,
 }
 
+/// Runs a part that was just taken, and adds its answer.
+fn answer_part<J: Job, G: Gate>(
+    number: u32,
+    part: u32,
+    taker: &Taker,
+    answers: &mut Vec<(u32, J::Out)>,
+    job: &J,
+    gate: &G,
+) -> Result<(), NoMemory>
+where
+    J::Out: Drop,
+    requires taken { EndsWith (taker_view taker.now).share part }
+    requires takes { J.takes job.now part }
+    ensures { OnOk result (HasAnswered (J.owes job.now) part answers.old.items answers.new.items) }
+{
+    gate.pass(number, part, taker);
+    let out = job.run(part)?;
+    answers.push((part, out))?;
+    Ok(())
+}
+
 /// Takes parts until nothing is left, and adds an answer for each.
 pub(crate) fn work<J: Job, G: Gate, R: Wait>(
     rt: &R,
-    mut taker: Taker,
-    mut answers: Vec<(u32, J::Out)>,
+    taker: &mut Taker,
+    answers: &mut Vec<(u32, J::Out)>,
     job: &J,
     gate: &G,
-) -> Result<Worked<J::Out>, NoMemory>
+) -> Result<(), NoMemory>
 where
     J::Out: Drop,
-    requires takes { (p : ℕ) → p < (taker_view taker).count → J.takes job.now p }
-    requires owed { Owed (J.owes job.now) answers.items }
-    ensures { IfOk result (λ w. WorkedOff (J.owes job.now) (taker_deque taker) (taker_view taker) answers.items w.taker w.answers.items) }
+    requires takes { (p : ℕ) → p < (taker_view taker.old).count → J.takes job.now p }
+    requires owed { Owed (J.owes job.now) answers.old.items }
+    ensures { OnOk result (WorkedOff (J.owes job.now) (taker_deque taker.old) (taker_view taker.old) answers.old.items taker.new answers.new.items) }
 {
     let number = taker.number();
     'taking: for _ in rt.forever() {
         match taker.next_part() {
-            Taken::Part(part) => {
-                gate.pass(number, part, &taker);
-                let out = job.run(part)?;
-                answers.push((part, out))?;
-            }
-            Taken::Nothing => return Ok(Worked { taker, answers }),
+            Taken::Part(part) => answer_part(number, part, taker, answers, job, gate)?,
+            Taken::Nothing => return Ok(()),
             // A race was lost, and something may be left. How often is not bounded, as with any wait for other threads.
             Taken::Lost => {}
         }

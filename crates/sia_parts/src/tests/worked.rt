@@ -152,6 +152,31 @@ fn stale_read(rt: HostRuntime) -> Result<(), Fail> {
     Ok(())
 }
 
+// Edges go by source, target, kind and key, also where transactions and keys lie far apart.
+#[test]
+fn far_numbers(rt: HostRuntime) -> Result<(), Fail> {
+    let wanted = Wanted {
+        edges: &[
+            edge(5, Kind::Ww, 4_000_000_000, 3),
+            edge(5, Kind::Ww, 4_000_000_000, Key::MAX),
+            edge(5, Kind::Wr, 4_000_000_000, 3),
+            edge(5, Kind::Wr, 4_000_000_000, Key::MAX),
+            edge(1_000_000, Kind::Rw, 5, 3),
+            edge(1_000_000, Kind::Rw, 4_000_000_000, 3),
+        ],
+        ..NOTHING
+    };
+    expect(
+        &rt,
+        b"r1000000[3:0] w5[18446744073709551615] w5[3] c5 \
+          r4000000000[3:5] r4000000000[18446744073709551615:5] \
+          w4000000000[18446744073709551615] w4000000000[3] c4000000000 c1000000",
+        &[],
+        wanted,
+    )?;
+    Ok(())
+}
+
 // A version that aborts gives a bad and unexplained read, and no edge.
 #[test]
 fn aborted_version(rt: HostRuntime) -> Result<(), Fail> {
@@ -317,5 +342,48 @@ fn named_starts(rt: HostRuntime) -> Result<(), Fail> {
         ..NOTHING
     };
     expect(&rt, b"w1[1] c1 b2@2 w2[1] c2", &[], apart)?;
+    Ok(())
+}
+
+// 2 started when 1 had committed. Both of its ranges miss 1's versions where they list nothing, and 3's, which came later.
+#[test]
+fn ranges_that_miss_keys(rt: HostRuntime) -> Result<(), Fail> {
+    let wanted = Wanted {
+        bad_reads: &[
+            bad_read(5, 2, 2, 0, 1),
+            bad_read(5, 2, 6, 0, 1),
+            bad_read(6, 2, 6, 0, 1),
+        ],
+        edges: &[
+            edge(1, Kind::Wr, 2, 4),
+            edge(2, Kind::Rw, 1, 2),
+            edge(2, Kind::Rw, 1, 6),
+            edge(2, Kind::Rw, 3, 8),
+        ],
+        ..NOTHING
+    };
+    let text = b"w1[2] w1[4] w1[6] c1 r2[0..9;4:1] r2[5..12] w3[8] c3 c2";
+    expect(&rt, text, &[], wanted)?;
+    expect(&rt, text, &[3, 6, 7], wanted)?;
+    Ok(())
+}
+
+// The greatest key of all, missed and listed.
+#[test]
+fn greatest_key_in_a_range(rt: HostRuntime) -> Result<(), Fail> {
+    let missed = Wanted {
+        bad_reads: &[bad_read(3, 2, Key::MAX, 0, 1)],
+        edges: &[edge(2, Kind::Rw, 1, Key::MAX)],
+        ..NOTHING
+    };
+    let all = b"w1[18446744073709551615] c1 r2[0..18446744073709551615] c2";
+    expect(&rt, all, &[], missed)?;
+    let seen = Wanted {
+        edges: &[edge(1, Kind::Wr, 2, Key::MAX)],
+        ..NOTHING
+    };
+    let listed =
+        b"w1[18446744073709551615] c1 r2[7..18446744073709551615;18446744073709551615:1] c2";
+    expect(&rt, listed, &[], seen)?;
     Ok(())
 }

@@ -6,11 +6,11 @@ use Rattle.sia_events.proofs.Pairs.{starts, goes_on, is_done, fails}
 use Rattle.sia_events.proofs.token.pairs.Goals as goal
 
 pub loop-found-init : goal.loop-found-init
-loop-found-init c = rw (c.new-found.ensures.none, c.new-found.ensures.in_range) (length c.args.text.now + 1, omega arith, starts c.args.text.now)
+loop-found-init c = rw (c.in_ok-found.ensures.none, c.in_ok-found.ensures.in_range) (length c.args.text.now + 1, omega arith, starts c.args.text.now)
 
 pub returns-in_err-next : goal.returns-in_err-next
 returns-in_err-next c =
-    let p = err_from_is_err_and c.from_residual.result c.from_residual.ensures.1 in
+    let p = err_from_is_err_and c.from_residual-in_err-next.result c.from_residual-in_err-next.ensures.1 in
     let i = c.loop-found.invariant in
     rw (p.1, p.2) (fails c.in_err-next.field-0.0 i.0 (kept c.loop-found.found.in_range c.loop-found.found.pairs.items) c.loop-found.rest.now (pairs_at c.args.text.now) i.1 c.in_err-next.ensures.gives i.2)
 

@@ -6,7 +6,8 @@ use Rattle.sia_events.specs.Refusals.{IsWellFormed}
 use Rattle.sia_parts.specs.declared.finding.BadRead.{BadRead}
 use Rattle.sia_parts.specs.Entries.{bad_read_rank}
 use Rattle.sia_parts.specs.Parts.{IsInPart}
-use Rattle.sia_parts.specs.Sights.{Adds, FromSome, FromSight, IsRangeSight, IsBadOf, IsSpanOf, read_sight}
+use Rattle.sia_parts.specs.Sights.{Adds, FromSome, FromSight, IsRangeSight, IsListedSight, IsBadOf, IsSpanOf, read_sight}
+use Rattle.sia_parts.specs.Gaps.{Spreads, IsUnlistedBy}
 use Rattle.sia_parts.proofs.Adding.{adds_both, added_to_none, added_are}
 use Rattle.sia_parts.proofs.Listing.{put_listed, bad_read_before}
 use Rattle.sia_parts.proofs.PartReads.{bad_reads_are, spans_are}
@@ -41,6 +42,8 @@ returns-clause-spans c =
     let h = c.args.ix.now in
     let wf = subst IsWellFormed (sym c.requires) c.len.ensures.well_formed in
     let reads = FromSome (λ read. IsSpanOf h (read_sight read)) c.reads_within-reads.result.now in
-    let ranges = FromSome (λ range. FromSight (IsRangeSight h c.args.part range) (IsSpanOf h)) c.ranges_meeting-ranges.result.now in
+    let ranges = FromSome (λ range. FromSight (IsListedSight h c.args.part range) (IsSpanOf h)) c.ranges_meeting-ranges.result.now in
+    let missed = FromSome (IsUnlistedBy h c.args.part) c.ranges_meeting-ranges.result.now in
     let adds = adds_both reads ranges [] _ _ (subst (λ old. Adds reads old c.put_item_reads.new.spans.items) c.new-spans.ensures.items c.in_ok-put_item_reads.ensures.spans) c.in_ok-put_range_reads.ensures.spans in
-    joined_are h c.args.part _ _ (spans_are h wf c.args.part _ _ c.reads_within-reads.ensures c.ranges_meeting-ranges.ensures _ (added_to_none (λ s. reads s ⊎ ranges s) _ adds)) c.in_ok-spans.ensures
+    let spread = subst (λ old. Spreads h missed old c.put_range_reads.new.gaps.items) c.new-gaps.ensures.items c.in_ok-put_range_reads.ensures.gaps in
+    joined_are h c.args.part _ _ _ _ (spans_are h wf c.args.part _ _ c.reads_within-reads.ensures c.ranges_meeting-ranges.ensures _ (added_to_none (λ s. reads s ⊎ ranges s) _ adds) _ spread) c.in_ok-spans.ensures c.in_ok-gaps.ensures

@@ -4,8 +4,9 @@ use Rattle.sia_parts.specs.declared.finding.Edge.{Edge}
 use Rattle.sia_parts.specs.Entries.{IsEdge, edge_rank}
 use Rattle.sia_parts.specs.Parts.{IsInPart}
 use Rattle.sia_parts.specs.Sights.{Adds, FromSome, FromMade, KeyPair, IsPairEdge}
+use Rattle.sia_parts.specs.Gaps.{FromGap}
 use Rattle.sia_parts.proofs.Adding.{adds_both, added_are}
-use Rattle.sia_parts.proofs.Listing.{put_listed, edge_before}
+use Rattle.sia_parts.proofs.PackedEdges.{ranked_listed}
 use Rattle.sia_parts.proofs.Sources.{edges_are}
 use Rattle.sia_parts.proofs.edges.edges_of.Goals as goal
 
@@ -15,7 +16,9 @@ returns c =
     let keys = c.written_within.result.now in
     let pairs = FromSome (KeyPair h IsPairEdge) keys in
     let made = FromSome (FromMade h) c.args.spans.now in
-    let adds = adds_both pairs made [] _ _ (subst (λ old. Adds pairs old c.put_ww_edges.new.edges.items) c.new-edges.ensures.items c.in_ok-put_ww_edges.ensures) c.in_ok-put_span_edges.ensures in
-    put_listed edge_rank (λ (e : Edge). IsEdge h e × IsInPart c.args.part e.key) _ (λ x y is other less. edge_before x y less)
-    _ _ (added_are (λ (e : Edge). pairs e ⊎ made e) (λ (e : Edge). IsEdge h e × IsInPart c.args.part e.key) _ adds (edges_are h c.requires.well_formed c.args.part keys c.written_within.ensures c.args.spans.now c.requires.spans))
-    c.put_in_order.ensures.sorted c.put_in_order.ensures.keeps c.put_in_order.ensures.adds_none
+    let missed = FromSome (FromGap h) c.args.gaps.now in
+    let first = adds_both pairs made [] _ _ (subst (λ old. Adds pairs old c.put_ww_edges.new.edges.items) c.new-edges.ensures.items c.in_ok-put_ww_edges.ensures) c.in_ok-put_span_edges.ensures in
+    let adds = adds_both (λ (e : Edge). pairs e ⊎ made e) missed [] _ _ first c.in_ok-put_gap_edges.ensures in
+    ranked_listed edge_rank (λ (e : Edge). IsEdge h e × IsInPart c.args.part e.key) _ _
+    (added_are (λ (e : Edge). (pairs e ⊎ made e) ⊎ missed e) (λ (e : Edge). IsEdge h e × IsInPart c.args.part e.key) _ adds (edges_are h c.requires.well_formed c.args.part keys c.written_within.ensures c.args.spans.now c.args.gaps.now c.requires.spans))
+    c.in_ok-put_edges_in_order.ensures.sorted c.in_ok-put_edges_in_order.ensures.keeps c.in_ok-put_edges_in_order.ensures.adds_none

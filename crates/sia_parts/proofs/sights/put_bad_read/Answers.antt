@@ -7,8 +7,8 @@ use Rattle.sia_parts.proofs.sights.put_bad_read.Goals as goal
 
 pub returns-in_ok-push : goal.returns-in_ok-push
 returns-in_ok-push c =
-    let due = c.due-due.ensures in
-    rw c.in_ok-push.ensures.items (adds_push (IsBadOf c.args.ix.now c.args.sight) _ _ (refl, (c.requires, due, (λ same. c.if-due-sight.true (sym same)))) (bad_alone _ _ _ due))
+    let due = c.due_at-due.ensures in
+    rw c.in_ok-push.ensures.items (adds_push (IsBadOf c.args.ix.now c.args.sight) _ _ (refl, (c.requires.sight, due, (λ same. c.if-due-sight.true (sym same)))) (bad_alone _ _ _ due))
 
 pub returns-else-due-sight : goal.returns-else-due-sight
-returns-else-due-sight c = adds_nothing (IsBadOf c.args.ix.now c.args.sight) _ (bad_none _ _ _ c.due-due.ensures c.if-due-sight.false)
+returns-else-due-sight c = adds_nothing (IsBadOf c.args.ix.now c.args.sight) _ (bad_none _ _ _ c.due_at-due.ensures c.if-due-sight.false)

@@ -12,6 +12,7 @@ none = record { key = 0; txn = 0; place = 0; saw = 0 }
 pub put_sight-requires : goal.put_sight-requires
 put_sight-requires c = record {
   well_formed = c.requires.well_formed;
+  reader = c.reader-reader.ensures;
   sight = read_is_sight c.args.ix.now (get_or c.args.reads.now c.loop-read.read-index none) (c.requires.reads c.loop-read.read-index none c.loop-read-test.true);
 }
 

@@ -9,4 +9,4 @@ returns-in_err-at c = rw c.from_residual.ensures (λ span is. c.in_err-at.ensure
 pub returns : goal.returns
 returns c =
     let at = c.in_ok-at.ensures.0 in
-    ((refl, refl, refl, c.is_committed.ensures.0 (search rules), c.if-sight.false, at), one_span _ c.requires c.args.sight c.in_ok-at.at at)
+    ((refl, refl, refl, c.requires.reader.committed.0 (search rules), c.if-sight.false, at), one_span _ c.requires.well_formed c.args.sight c.in_ok-at.at at)

@@ -1,6 +1,5 @@
-use Rattle.sia_pool.specs.Answers.{parts_of}
-use Rattle.sia_pool.proofs.SlotLemmas.{below_count}
+use Rattle.sia_pool.proofs.OrderLemmas.{in_order}
 use Rattle.sia_pool.proofs.order.in_order.Goals as goal
 
-pub filled-requires-clause-below : goal.filled-requires-clause-below
-filled-requires-clause-below g c = below_count c.args.count (parts_of c.args.answers.items) c.requires.once
+pub returns : goal.returns
+returns g c = in_order (g.J.Job.owes c.args.job.now) c.args.count c.args.answers.items c.sort_by_part.new.answers.items _ c.requires.owed c.requires.once c.sort_by_part.ensures.same c.sort_by_part.ensures.sorted c.in_ok-without_parts.ensures

@@ -10,7 +10,7 @@ use Rattle.sia_pool.specs.Answers.{lists_of, OwedFrom, AnswersEach}
 use Rattle.sia_pool.proofs.CoreLemmas.{all_dealt}
 use Rattle.sia_pool.proofs.ThreadLemmas.{length-lists_of}
 use Rattle.sia_pool.proofs.FinishLemmas.{ok_map, ready_take, idle_drop, line_long, full_after, idle_after}
-use Rattle.sia_pool.proofs.SlotLemmas.{owed_each}
+use Rattle.sia_pool.proofs.OrderLemmas.{owed_each}
 use Rattle.sia_pool.proofs.pool.work_off_with.Goals as goal
 
 pub run_all-requires-clause-ready : goal.run_all-requires-clause-ready

@@ -3,4 +3,4 @@ use Rattle.sia_pool.specs.Work.{HasWorked}
 use Rattle.sia_pool.proofs.work.work.Given as goal
 
 abbrev pub invariant-taking : goal.invariant-taking
-invariant-taking g l = HasWorked (g.J.Job.owes l.job) (taker_deque l.fn.taker) (taker_view l.fn.taker) l.fn.answers.items l.taker l.answers.items
+invariant-taking g l = HasWorked (g.J.Job.owes l.job) (taker_deque l.initial.taker) (taker_view l.initial.taker) l.initial.answers.items l.taker l.answers.items

@@ -4,7 +4,7 @@ use Rattle.std.proofs.Common.{false}
 use Rattle.std.proofs.lemmas.List.Elements.{All-from_recursion}
 use Rattle.sia_events.specs.Text.{is_separator, tokens}
 use Rattle.sia_events.specs.Judging.{JudgedAll, as_token}
-use Rattle.sia_events.proofs.Tokens.{closes, tokens_more}
+use Rattle.sia_events.proofs.Tokens.{closes, tokens_more, past_gap}
 use Rattle.std.proofs.lemmas.Result.{err_from_is_err_and}
 use Rattle.sia_events.proofs.Pieces.{halts_in}
 use Rattle.sia_events.proofs.Judged.{JudgedAll-append, JudgedAll-none}
@@ -29,8 +29,15 @@ loop-token-preserved c =
     let all : JudgedAll c.args.self.now.events.items (tokens more) c.take_some.new.self.events.items =
     subst (λ (ts : List (List ℕ)). JudgedAll c.args.self.now.events.items ts c.take_some.new.self.events.items) (sym (tokens_more closed token s.separator i.2 s.unbroken s.separates))
     (JudgedAll-append c.args.self.now.events.items c.loop-token.self.events.items c.take_some.new.self.events.items (tokens closed) (as_token token) i.3 c.in_ok-take_some.ensures.taken) in
+    let gap = c.past_separators-rest.ensures in
+    let past = past_gap more after gap.0 gap.1 gap.3 (closes closed token s.separator s.separates) in
     record {
-      cut = (more, whole, closes closed token s.separator s.separates, all);
+      cut = (
+        past.0,
+        whole ∙ past.1 ∙ ap (λ (rest : List ℕ). past.0 ++ rest) (sym gap.2),
+        past.2,
+        subst (λ (ts : List (List ℕ)). JudgedAll c.args.self.now.events.items ts c.take_some.new.self.events.items) (sym past.3) all,
+      );
       knows = c.in_ok-take_some.ensures.knows;
     }
 

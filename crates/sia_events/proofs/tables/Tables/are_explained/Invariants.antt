@@ -8,6 +8,6 @@ use Rattle.sia_events.proofs.tables.Tables.are_explained.Given as goal
 
 abbrev pub invariant-loop-key : goal.invariant-loop-key
 invariant-loop-key l = record {
-  so_far : (events : List Event) → Knows l.self events → list_all (is_explained events) (drop l.key-index l.listed) ≡ list_all (is_explained events) l.listed;
+  so_far : (events : List Event) → Knows l.self events → list_all (is_explained events) (drop l.key-index l.rest) ≡ list_all (is_explained events) l.listed;
   found : AllByRecursion (IsKeyOf l.self.written.keys) l.ahead;
 }

@@ -1,0 +1,13 @@
+-- Only separators among the bytes passed.
+use Rattle.std.proofs.Common.{◌≡◌, ℕ, ◌-◌, ◌<◌, ◌≤◌, true, length, get_or}
+use Rattle.sia_events.specs.Text.{is_separator}
+use Rattle.sia_events.proofs.judge.past_separators.Given as goal
+
+abbrev pub invariant-loop-len : goal.invariant-loop-len
+invariant-loop-len l = record {
+  within : l.len ≤ length l.text;
+  passed : (k : ℕ) → k < l.len → is_separator (get_or l.text k 0) ≡ true;
+}
+
+abbrev pub decreases-loop-len : goal.decreases-loop-len
+decreases-loop-len l = length l.text - l.len

@@ -1,0 +1,16 @@
+-- The digits passed so far, and the number that they stand for.
+use Rattle.std.proofs.Common.{◌≡◌, ℕ, ◌-◌, ◌^◌, ◌<◌, ◌≤◌, true, false, length, take, get_or}
+use Rattle.sia_events.specs.Parsing.{is_digit, digits_value}
+use Rattle.sia_events.proofs.number.long_digits.Given as goal
+
+abbrev pub invariant-loop-len : goal.invariant-loop-len
+invariant-loop-len l = record {
+  within : l.len ≤ length l.text;
+  digits : (k : ℕ) → k < l.len → is_digit (get_or l.text k 0) ≡ true;
+  small : l.value < 2 ^ 64;
+  kept : l.fits ≡ true → l.value ≡ digits_value (take l.len l.text);
+  lost : l.fits ≡ false → 2 ^ 64 ≤ digits_value (take l.len l.text);
+}
+
+abbrev pub decreases-loop-len : goal.decreases-loop-len
+decreases-loop-len l = length l.text - l.len

@@ -1,0 +1,9 @@
+-- The numbers of transactions: the place of each in the ascending list of all.
+use Rattle.std.specs.Prelude.{◌≡◌, ◌<◌, ℕ, List, slice_index, length}
+use Rattle.sia_events.specs.declared.event.Event.{Event}
+use Rattle.sia_events.specs.Lists.{ListsAscending}
+use Rattle.sia_events.specs.Transactions.{HasEvent}
+
+-- t is number i of the transactions that have an event, counted from 0
+abbrev pub IsTxnAt : List Event → ℕ → ℕ → Type 0
+IsTxnAt h i t = (txns : List ℕ) × ListsAscending (HasEvent h) txns × (i < length txns) × (slice_index txns i ≡ t)

@@ -1,0 +1,73 @@
+//! The number of a transaction among all of them, and of a key among the written ones.
+ghost use Rattle.std.specs.Prelude.{◌≡◌, ◌≢◌, ◌<◌, ℕ, All, AllPairs, IfOk, MatchOption, length, map, slice_index};
+ghost use Rattle.sia_events.specs.Lists.{ListsAscending};
+ghost use Rattle.sia_events.specs.Transactions.{HasEvent, Wrote};
+ghost use Rattle.sia_index.specs.Info.{IsKeyAt};
+ghost use Rattle.sia_index.specs.Numbers.{IsTxnAt};
+
+use crate::guesses::guess;
+use crate::indexed::Index;
+use crate::rows::{TxnRow, find_key};
+use sia_events::{Key, TxnId};
+use std::alloc::{AllocError, Global};
+
+impl Index {
+    /// Each transaction that has an event, ascending.
+    pub fn txns(&self) -> &[TxnId]
+        ensures { ListsAscending (HasEvent self.now) result.now }
+    {
+        &self.ids
+    }
+
+    /// The number of a transaction among all of them, counted from 0.
+    pub fn txn_number(&self, t: TxnId) -> Option<usize>
+        ensures { MatchOption result (¬ HasEvent self.now t) (λ i. IsTxnAt self.now i t) }
+    {
+        find_id(&self.ids, &self.txn_guesses, t)
+    }
+
+    /// The number of a key among the written ones, counted from 0.
+    pub fn key_number(&self, k: Key) -> Option<usize>
+        ensures { MatchOption result ((t : ℕ) → ¬ Wrote self.now t k) (λ i. IsKeyAt self.now i k) }
+    {
+        find_key(&self.keys, &self.key_guesses, k)
+    }
+}
+
+/// The transactions of the table.
+pub fn ids_of(alloc: Global, table: &[TxnRow]) -> Result<Vec<TxnId>, AllocError>
+    ensures { IfOk result (λ ids. ids.items ≡ map (λ row. row.txn) table.now) }
+{
+    table.iter().map(|row| row.txn).collect(alloc)
+}
+
+// The number of the transaction among these, counted from 0, or None where it isn't one of them.
+fn find_id(ids: &[TxnId], guesses: &[u32], t: TxnId) -> Option<usize>
+    requires { AllPairs (λ x y. x < y) ids.now }
+    ensures { MatchOption result (All (λ id. id ≢ t) ids.now) (λ i. (i < length ids.now) × (slice_index ids.now i ≡ t)) }
+{
+    let i = guessed_id(ids, guesses, t);
+    if i < ids.len() && ids[i] == t {
+        return Some(i);
+    }
+    search_id(ids, t)
+}
+
+// The number where the transaction may stand.
+fn guessed_id(ids: &[TxnId], guesses: &[u32], t: TxnId) -> usize {
+    match ids.first() {
+        Some(first) => guess(guesses, u64::from(*first), u64::from(t)),
+        None => 0,
+    }
+}
+
+// The same, by a search.
+fn search_id(ids: &[TxnId], t: TxnId) -> Option<usize>
+    requires { AllPairs (λ x y. x < y) ids.now }
+    ensures { MatchOption result (All (λ id. id ≢ t) ids.now) (λ i. (i < length ids.now) × (slice_index ids.now i ≡ t)) }
+{
+    match ids.binary_search(&t) {
+        Ok(i) => Some(i),
+        Err(_) => None,
+    }
+}

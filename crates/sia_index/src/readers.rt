@@ -1,0 +1,174 @@
+//! What is due to a transaction that reads, at one key and over a range of keys.
+ghost use Rattle.std.specs.Prelude.{◌≡◌, ◌↔◌, ◌≤◌, ◌<◌, ℕ, List, IsTrue, MatchOption, All};
+ghost use Rattle.sia_events.specs.declared.event.Event.{Event};
+ghost use Rattle.sia_events.specs.Transactions.{HasEvent, Wrote, WroteBefore};
+ghost use Rattle.sia_events.specs.Reads.{IsVisible, IsDue};
+ghost use Rattle.sia_index.specs.declared.info.Fate.TheVariants.{Committed};
+ghost use Rattle.sia_index.specs.Info.{IsReader, NoneDue, IsNextDue};
+ghost use Rattle.sia_index.specs.Rows.{AscendsByCommit, IsLastWithin, PassesNone, HasDue};
+
+use crate::chains::next_first;
+use crate::indexed::Index;
+use crate::info::{DueAt, Fate, Made, Reader};
+use sia_events::{Key, TxnId, Version};
+
+impl Index {
+    /// What is known of a transaction that reads at the place.
+    pub fn reader(&self, t: TxnId, place: u32) -> Reader
+        requires { HasEvent self.now t }
+        ensures { IsReader self.now t place result }
+    {
+        let _ = &self.of;
+        let has_written = self.has_written(t);
+        let (start, committed) = match self.txn(t) {
+            Some(info) => (info.start, is_committed(info.fate)),
+            None => (0, false),
+        };
+        Reader {
+            txn: t,
+            place,
+            start,
+            committed,
+            has_written,
+        }
+    }
+
+    // Whether the transaction wrote any key.
+    fn has_written(&self, t: TxnId) -> bool
+        ensures { IsTrue result ↔ ((k : ℕ) × Wrote self.now t k) }
+    {
+        self.writes.has_any(self.number_of(t), t)
+    }
+
+    /// The version due to a read of the key by the transaction at the place.
+    pub fn due(&self, t: TxnId, place: u32, k: Key) -> Version
+        requires { HasEvent self.now t }
+        ensures { IsDue self.now t place k result }
+    {
+        self.due_to(self.reader(t, place), k)
+    }
+
+    /// The version due to the reader at the key.
+    pub fn due_to(&self, reader: Reader, k: Key) -> Version
+        requires { IsReader self.now reader.txn reader.place reader }
+        ensures { IsDue self.now reader.txn reader.place k result }
+    {
+        let _ = &self.of;
+        if self.wrote_before(reader, k) {
+            return reader.txn;
+        }
+        match last_within(self.versions(k), reader.start) {
+            Some(made) => made.txn,
+            None => 0,
+        }
+    }
+
+    // Whether the reader wrote the key before its place.
+    fn wrote_before(&self, reader: Reader, k: Key) -> bool
+        requires { IsReader self.now reader.txn reader.place reader }
+        ensures { IsTrue result ↔ WroteBefore self.now reader.txn k reader.place }
+    {
+        if reader.has_written {
+            match self.first_write(reader.txn, k) {
+                Some(first) => first < reader.place,
+                None => false,
+            }
+        } else {
+            false
+        }
+    }
+
+    /// Of the keys from `lo` to `hi` the least at which another version than 0 is due to the reader.
+    pub fn next_due(&self, reader: Reader, lo: Key, hi: Key) -> Option<DueAt>
+        requires { IsReader self.now reader.txn reader.place reader }
+        ensures { MatchOption result (NoneDue self.now reader.txn reader.place lo hi) (IsNextDue self.now reader.txn reader.place lo hi) }
+    {
+        let mut from = lo;
+        while let Some(key) = self.next_key(reader, from, hi) {
+            let due = self.due_to(reader, key);
+            if due != 0 {
+                return Some(DueAt { key, due });
+            }
+            // No table promises that this is never reached, only that no key is passed.
+            if key == hi {
+                return None;
+            }
+            from = key + 1;
+        }
+        None
+    }
+
+    // The least key from `lo` to `hi` at which another version than 0 may be due to the reader.
+    fn next_key(&self, reader: Reader, lo: Key, hi: Key) -> Option<Key>
+        requires { IsReader self.now reader.txn reader.place reader }
+        ensures { PassesNone (HasDue self.now reader.txn reader.place) lo hi result }
+    {
+        lesser(
+            self.next_own(reader, lo, hi),
+            self.next_seen(reader, lo, hi),
+        )
+    }
+
+    // The least key from `lo` to `hi` that the reader wrote before its place.
+    fn next_own(&self, reader: Reader, lo: Key, hi: Key) -> Option<Key>
+        requires { IsReader self.now reader.txn reader.place reader }
+        ensures { PassesNone (λ k. WroteBefore self.now reader.txn k reader.place) lo hi result }
+    {
+        if reader.has_written {
+            let number = self.number_of(reader.txn);
+            self.writes.next(number, reader, lo, hi)
+        } else {
+            None
+        }
+    }
+
+    // The least key from `lo` to `hi` with a version that the reader sees.
+    fn next_seen(&self, reader: Reader, lo: Key, hi: Key) -> Option<Key>
+        requires { IsReader self.now reader.txn reader.place reader }
+        ensures { PassesNone (λ k. (u : ℕ) × IsVisible self.now reader.txn k u) lo hi result }
+    {
+        next_first(
+            &self.keys,
+            &self.firsts,
+            &self.first_lows,
+            lo,
+            hi,
+            reader.start,
+        )
+    }
+}
+
+// The lesser of two keys, where there are two.
+fn lesser(own: Option<Key>, seen: Option<Key>) -> Option<Key>
+    ensures { (h : List Event) (t p lo hi : ℕ) → PassesNone (λ k. WroteBefore h t k p) lo hi own → PassesNone (λ k. (u : ℕ) × IsVisible h t k u) lo hi seen → PassesNone (HasDue h t p) lo hi result }
+{
+    match (own, seen) {
+        (Some(a), Some(b)) => Some(a.min(b)),
+        (Some(a), None) => Some(a),
+        (None, Some(b)) => Some(b),
+        (None, None) => None,
+    }
+}
+
+// Whether the transaction with this end committed.
+fn is_committed(fate: Fate) -> bool
+    ensures { IsTrue result ↔ (fate ≡ Committed) }
+{
+    match fate {
+        Fate::Committed => true,
+        Fate::Aborted => false,
+        Fate::Unfinished => false,
+    }
+}
+
+// Of versions by commit the last that commits at most at the place.
+fn last_within(versions: &[Made], place: u32) -> Option<Made>
+    requires { AscendsByCommit versions.now }
+    ensures { MatchOption result (All (λ made. place < made.commit) versions.now) (IsLastWithin versions.now place) }
+{
+    let within = versions.partition_point(|made| made.commit <= place);
+    if within == 0 {
+        return None;
+    }
+    Some(versions[within - 1])
+}

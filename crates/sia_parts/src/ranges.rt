@@ -1,0 +1,120 @@
+//! What range reads saw of the keys of a part: the keys that they listed, and the keys between these.
+ghost use Rattle.std.specs.Prelude.{◌≡◌, ◌↔◌, ◌≤◌, ℕ, All, Contains, List, OnOk, map};
+ghost use Rattle.std.specs.List.Sorted.{IsStrictlyIncreasing};
+ghost use Rattle.sia_events.specs.declared.event.Event.TheVariants as events;
+ghost use Rattle.sia_events.specs.Places.{at_place};
+ghost use Rattle.sia_events.specs.Refusals.{IsWellFormed};
+ghost use Rattle.sia_index.specs.Info.{IsRangeRead, IsReader};
+ghost use Rattle.sia_parts.specs.Sights.{Adds, FromSome, FromSight, IsSight, IsRangeSight, IsListedSight, IsBadOf, IsSpanOf, listed_sight, AscendsByKey};
+ghost use Rattle.sia_parts.specs.Gaps.{Spreads, IsUnlistedBy};
+
+use crate::cutting::Part;
+use crate::finding::BadRead;
+use crate::gaps::{Gap, put_unlisted};
+use crate::sights::{Sight, put_sight};
+use crate::spans::Span;
+use sia_events::{Event, History, Key, NoMemory, Version};
+use sia_index::{Index, RangeRead, Reader};
+
+/// Adds the bad reads, the spans and the gaps of range reads, at the keys of the part.
+pub(crate) fn put_range_reads(
+    h: &History,
+    ix: &Index,
+    part: Part,
+    ranges: &[RangeRead],
+    bad: &mut Vec<BadRead>,
+    spans: &mut Vec<Span>,
+    gaps: &mut Vec<Gap>,
+) -> Result<(), NoMemory>
+    requires of { ix.now ≡ h.now }
+    requires ranges { All (IsRangeRead ix.now) ranges.now }
+    ensures bad { OnOk result (Adds (FromSome (λ range. FromSight (IsRangeSight ix.now part range) (IsBadOf ix.now)) ranges.now) bad.old.items bad.new.items) }
+    ensures spans { OnOk result (Adds (FromSome (λ range. FromSight (IsListedSight ix.now part range) (IsSpanOf ix.now)) ranges.now) spans.old.items spans.new.items) }
+    ensures gaps { OnOk result (Spreads ix.now (FromSome (IsUnlistedBy ix.now part) ranges.now) gaps.old.items gaps.new.items) }
+{
+    for range in ranges {
+        put_range_read(h, ix, part, *range, bad, spans, gaps)?;
+    }
+    Ok(())
+}
+
+// Adds the bad reads, the spans and the gaps of a range read, at the keys of the part.
+fn put_range_read(
+    h: &History,
+    ix: &Index,
+    part: Part,
+    range: RangeRead,
+    bad: &mut Vec<BadRead>,
+    spans: &mut Vec<Span>,
+    gaps: &mut Vec<Gap>,
+) -> Result<(), NoMemory>
+    requires of { ix.now ≡ h.now }
+    requires range { IsRangeRead ix.now range }
+    ensures bad { OnOk result (Adds (FromSight (IsRangeSight ix.now part range) (IsBadOf ix.now)) bad.old.items bad.new.items) }
+    ensures spans { OnOk result (Adds (FromSight (IsListedSight ix.now part range) (IsSpanOf ix.now)) spans.old.items spans.new.items) }
+    ensures gaps { OnOk result (Spreads ix.now (IsUnlistedBy ix.now part range) gaps.old.items gaps.new.items) }
+{
+    // The length tells that the history is well-formed.
+    let _ = h.len();
+    let lo = part.lo.max(range.lo);
+    let hi = part.hi.min(range.hi);
+    if lo > hi {
+        return Ok(());
+    }
+    let listed = listed_within(listed_at(h, range.place), lo, hi);
+    let reader = ix.reader(range.txn, range.place);
+    put_listed_keys(ix, reader, range, listed, bad, spans)?;
+    put_unlisted(ix, reader, listed, lo, hi, bad, gaps)?;
+    Ok(())
+}
+
+// Adds the bad reads and the spans of keys that a range read listed.
+fn put_listed_keys(
+    ix: &Index,
+    reader: Reader,
+    range: RangeRead,
+    listed: &[(Key, Version)],
+    bad: &mut Vec<BadRead>,
+    spans: &mut Vec<Span>,
+) -> Result<(), NoMemory>
+    requires well_formed { IsWellFormed ix.now }
+    requires reader { IsReader ix.now range.txn range.place reader }
+    requires sights { All (λ pair. IsSight ix.now (listed_sight range pair)) listed.now }
+    ensures bad { OnOk result (Adds (FromSome (λ pair. IsBadOf ix.now (listed_sight range pair)) listed.now) bad.old.items bad.new.items) }
+    ensures spans { OnOk result (Adds (FromSome (λ pair. IsSpanOf ix.now (listed_sight range pair)) listed.now) spans.old.items spans.new.items) }
+{
+    for pair in listed {
+        let sight = Sight {
+            place: range.place,
+            txn: range.txn,
+            key: pair.0,
+            saw: pair.1,
+        };
+        put_sight(ix, reader, sight, bad, spans)?;
+    }
+    Ok(())
+}
+
+// The keys that the range read at the place listed.
+fn listed_at(h: &History, place: u32) -> &[(Key, Version)]
+    ensures { (t lo hi : ℕ) (listed : List (ℕ × ℕ)) → at_place h.now place ≡ Some (events.Range t lo hi listed) → result.now ≡ listed }
+{
+    match h.event(place) {
+        Some(event) => match event {
+            Event::Range { listed, .. } => listed.as_slice(),
+            _ => &[],
+        },
+        None => &[],
+    }
+}
+
+// Of listed keys those from `lo` to `hi`.
+fn listed_within(listed: &[(Key, Version)], lo: Key, hi: Key) -> &[(Key, Version)]
+    requires { IsStrictlyIncreasing (map (λ p. p.0) listed.now) }
+    ensures ascending { AscendsByKey result.now }
+    ensures each { (p : ℕ × ℕ) → Contains result.now p ↔ (Contains listed.now p × (lo ≤ p.0) × (p.0 ≤ hi)) }
+{
+    let from = listed.partition_point(|pair| pair.0 < lo);
+    let to = listed.partition_point(|pair| pair.0 <= hi);
+    &listed[from..to.max(from)]
+}
