@@ -1,6 +1,7 @@
 //! The command line: how many workers share the parts of the keys, and where the keys are cut.
-ghost use Rattle.std.specs.Prelude.{◌≡◌, ◌≢◌, ◌<◌, ◌≤◌, false, All, Err, IfErr, IfOk, map, string_bytes};
+ghost use Rattle.std.specs.Prelude.{◌≡◌, ◌≢◌, ◌<◌, ◌≤◌, false, All, Err, IfErr, IfOk, codes, map, string_bytes};
 ghost use Rattle.clap.specs.Words.{IsUnsignedIn, app_of, found_of, kind_of, rows_of, rule_of};
+ghost use Rattle.clap.specs.declared.builder.value_parser.ValueParser.TheVariants.{Unsigned};
 ghost use Rattle.clap.specs.declared.error.kind.ErrorKind.TheVariants.{OutOfMemory};
 ghost use Rattle.si_audit.specs.LineAnswers.{HasNumbers, IsOwed, GivesOptions, OwesTooManyCuts, cuts_among, workers_among};
 ghost use Rattle.si_audit.specs.Words.{AreChosen, ChooseTooManyCuts, cuts_rule, number_in, program, workers_rule};
@@ -95,9 +96,23 @@ fn workers_option<'a>(alloc: Global) -> Arg<'a>
         .long("workers")
         .value_name("N")
         .action(ArgAction::Set)
-        .value_parser(ValueParser::Unsigned(1, 64))
-        .default_value("4")
+        .value_parser(numbers_of_workers())
+        .default_value(workers_by_default())
         .help(WORKERS_HELP)
+}
+
+/// How many workers there may be.
+fn numbers_of_workers<'a>() -> ValueParser<'a>
+    ensures { result ≡ Unsigned 1 64 }
+{
+    ValueParser::Unsigned(1, 64)
+}
+
+/// How many workers there are where the words don't say.
+fn workers_by_default() -> &'static str
+    ensures { result.now ≡ codes "4" }
+{
+    "4"
 }
 
 /// The argument that takes the cuts.

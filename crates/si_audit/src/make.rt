@@ -1,5 +1,5 @@
 // How a history is audited: workers find what is at the keys of each part, and the rest is made of that.
-ghost use Rattle.std.specs.Prelude.{◌≡◌, ◌↔◌, ◌<◌, [], length, IfOk, IfSome, IsTrue};
+ghost use Rattle.std.specs.Prelude.{◌≡◌, ◌↔◌, ◌<◌, ◌≤◌, [], length, IfOk, IfSome, IsTrue};
 ghost use Rattle.std.specs.List.{slice_get};
 ghost use Rattle.sia_events.specs.Refusals.{IsWellFormed};
 ghost use Rattle.sia_parts.specs.Findings.{AreFindings, ArePartFindings};
@@ -44,6 +44,14 @@ impl Job for Auditing<'_> {
     }
 }
 
+/// How many parts there are.
+fn count_of(parts: &[Part]) -> u32
+    requires { length parts.now ≤ 1024 }
+    ensures { result ≡ length parts.now }
+{
+    parts.len() as u32
+}
+
 /// What is found at all keys.
 fn find<R: Threads + Wait + Sync>(
     rt: &R,
@@ -63,7 +71,7 @@ fn find<R: Threads + Wait + Sync>(
         index: ix,
         parts,
     };
-    let count = parts.len() as u32;
+    let count = count_of(parts);
     match work_off(rt, alloc, count, u32::from(o.workers()), &job, &OpenGate) {
         Ok(crew) => gather(alloc, crew.outs),
         Err(_) => Err(NoMemory),

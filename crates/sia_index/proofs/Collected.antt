@@ -114,10 +114,10 @@ pub write_same : (h : List Event) (n : ℕ) (xs : List WriteRow) → HoldsBelow 
 write_same h n xs holds none = holds_same (IsWriteAt h) n xs holds (λ x is. none x.txn x.key is.1)
 
 -- over all places they are every write event's
-pub writes_listed : (h : List Event) (n : ℕ) (xs ys : List WriteRow) → length h ≤ n → HoldsBelow (IsWriteAt h) (n + 1) xs → IsStrictlySortedBy (λ x y. ordering_then (nat_cmp x.key y.key) (ordering_then (nat_cmp x.txn y.txn) (nat_cmp x.place y.place))) ys → ((x : WriteRow) → Contains xs x → Contains ys x) → ((x : WriteRow) → Contains ys x → Contains xs x) → AreWrites h ys
-writes_listed h n xs ys all holds = collected (IsWriteAt h) (λ w. w.key ∷ w.txn ∷ w.place ∷ []) (λ w. WritesAt h w.txn w.key w.place) (λ x y. ordering_then (nat_cmp x.key y.key) (ordering_then (nat_cmp x.txn y.txn) (nat_cmp x.place y.place)))
-    (λ x y less. precedes_then x.key y.key (ordering_then (nat_cmp x.txn y.txn) (nat_cmp x.place y.place)) (x.txn ∷ x.place ∷ []) (y.txn ∷ y.place ∷ []) less
-    (λ rest. precedes_then x.txn y.txn (nat_cmp x.place y.place) (x.place ∷ []) (y.place ∷ []) rest (precedes_last x.place y.place)))
+pub writes_listed : (h : List Event) (n : ℕ) (xs ys : List WriteRow) → length h ≤ n → HoldsBelow (IsWriteAt h) (n + 1) xs → IsStrictlySortedBy (λ x y. ordering_then (nat_cmp x.txn y.txn) (ordering_then (nat_cmp x.key y.key) (nat_cmp x.place y.place))) ys → ((x : WriteRow) → Contains xs x → Contains ys x) → ((x : WriteRow) → Contains ys x → Contains xs x) → AreWrites h ys
+writes_listed h n xs ys all holds = collected (IsWriteAt h) (λ w. w.txn ∷ w.key ∷ w.place ∷ []) (λ w. WritesAt h w.txn w.key w.place) (λ x y. ordering_then (nat_cmp x.txn y.txn) (ordering_then (nat_cmp x.key y.key) (nat_cmp x.place y.place)))
+    (λ x y less. precedes_then x.txn y.txn (ordering_then (nat_cmp x.key y.key) (nat_cmp x.place y.place)) (x.key ∷ x.place ∷ []) (y.key ∷ y.place ∷ []) less
+    (λ rest. precedes_then x.key y.key (nat_cmp x.place y.place) (x.place ∷ []) (y.place ∷ []) rest (precedes_last x.place y.place)))
     (n + 1)
     (λ x. (
       (λ (q, below, is). subst (WritesAt h x.txn x.key) (sym is.0) is.1),

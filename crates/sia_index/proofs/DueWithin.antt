@@ -1,10 +1,6 @@
 -- What is known of a reader, and what is due to it over a range of keys.
-use Rattle.std.proofs.Common.{◌≡◌, ◌≢◌, ◌↔◌, ◌⊎◌, inl, inr, ℕ, zero, suc, ◌+◌, ◌<◌, ◌≤◌, List, [], ◌∷◌, length, true, false, Option, Some, None, refl, sym, subst, ◌∙◌, arith}
-use Rattle.std.specs.Prelude.{Contains, slice_index, slice_index_or}
-use Rattle.std.specs.List.{AllWithin}
-use Rattle.std.proofs.lemmas.Bool.{cases_lt, cases_eq}
-use Rattle.std.proofs.lemmas.List.{get_or_default}
-use Rattle.std.proofs.lemmas.List.Elements.{Contains-get_or}
+use Rattle.std.proofs.Common.{◌≡◌, ◌↔◌, inl, inr, ℕ, ◌+◌, ◌<◌, ◌≤◌, List, true, false, Option, Some, None, refl, sym, subst, arith}
+use Rattle.std.proofs.lemmas.Bool.{cases_lt}
 use Rattle.sia_events.specs.declared.event.Event.{Event}
 use Rattle.sia_events.specs.Refusals.{IsWellFormed}
 use Rattle.sia_events.specs.Reads.{IsDue}
@@ -13,8 +9,8 @@ use Rattle.sia_index.specs.declared.info.Fate.{Fate}
 use Rattle.sia_index.specs.declared.info.Fate.TheVariants.{Committed, Aborted, Unfinished}
 use Rattle.sia_index.specs.declared.info.Reader.{Reader}
 use Rattle.sia_index.specs.declared.info.TxnInfo.{TxnInfo}
-use Rattle.sia_index.specs.Info.{EndsAs, IsInfo, IsReader, AreWrittenWithin, NoneDue, IsNextDue}
-use Rattle.sia_index.proofs.Ordered.{ascends, rises}
+use Rattle.sia_index.specs.Info.{EndsAs, IsInfo, IsReader, NoneDue}
+use Rattle.sia_index.specs.Rows.{HasDue}
 use Rattle.sia_index.proofs.Table.{aborted_not_committed}
 
 -- what is known of t at a place is known of the transaction and the place that it names
@@ -24,6 +20,7 @@ own_reader h t p r is = record {
   place_is = refl;
   starts = subst (λ u. StartsAt h u r.start) (sym is.txn_is) is.starts;
   committed = subst (λ u. r.committed ≡ true ↔ IsCommitted h u) (sym is.txn_is) is.committed;
+  wrote_some = subst (λ u. r.has_written ≡ true → (k : ℕ) × Wrote h u k) (sym is.txn_is) is.wrote_some;
   wrote_none = subst (λ u. r.has_written ≡ false → (k : ℕ) → ¬ Wrote h u k) (sym is.txn_is) is.wrote_none;
 }
 
@@ -49,59 +46,28 @@ committed_told h wf t info is = (
     by_fate Aborted same done = absurd (aborted_not_committed h wf t info is same done)
     by_fate Unfinished same done = absurd (open_not info.ended (subst (λ f. EndsAs h t f info.ended) same is.1) done)
 
--- 0 is due on a key that nothing wrote
-pub unwritten_due : (h : List Event) (t p k : ℕ) → ((u : ℕ) → ¬ Wrote h u k) → IsDue h t p k 0
-unwritten_due h t p k none = inr ((λ before. none t (before.0, before.2)), inr ((λ u visible. none u visible.0), refl))
+-- 0 is due where nothing else is
+pub zero_due : (h : List Event) (t p k : ℕ) → ¬ HasDue h t p k → IsDue h t p k 0
+zero_due h t p k none = inr ((λ before. none (inl before)), inr ((λ u visible. none (inr (u, visible))), refl))
 
--- whether a list holds a number
-holds_or_not : (xs : List ℕ) (k : ℕ) → Contains xs k ⊎ (¬ Contains xs k)
-holds_or_not [] k = inr (λ c. absurd (let below = c.1 in omega arith))
-holds_or_not (x ∷ xs) k = elim (cases_eq x k) [
-  | inl same ↦ inl (0, omega arith, same)
-  | inr other ↦ elim (holds_or_not xs k) [
-    | inl c ↦ inl (suc c.0, (let below = c.1 in omega arith), c.2)
-    | inr none ↦ inr (λ c. of_place c.0 c.1 c.2 other none)
-  ]
-]
-  where
-    of_place : (i : ℕ) → i < length (x ∷ xs) → slice_index_or (x ∷ xs) i k ≡ k → x ≢ k → ¬ Contains xs k → ⊥
-    of_place zero below at other none = other at
-    of_place (suc i) below at other none = none (i, omega arith, at)
-
-module _ (h : List Event) (t p lo hi : ℕ) (keys : List ℕ) (are : AreWrittenWithin h lo hi keys) where
-  -- 0 is due on a key, where it is due on the first n of the written ones and the key is no later one
-  zero_due : (n : ℕ) → AllWithin (λ k. IsDue h t p k 0) keys 0 n → (j : ℕ) → lo ≤ j → j ≤ hi → ((c : Contains keys j) → c.0 < n) → IsDue h t p j 0
-  zero_due n none j low high before = elim (holds_or_not keys j) [
-    | inl c ↦ subst (λ k. IsDue h t p k 0) c.2 (none c.0 j (omega arith) (before c))
-    | inr not ↦ unwritten_due h t p j (λ u wrote. not ((are.each j).1 ((u, wrote), low, high)))
+module _ (h : List Event) (t p lo from : ℕ) (passed : (j : ℕ) → lo ≤ j → j < from → IsDue h t p j 0) where
+  -- 0 is due below a key, where it is due below an earlier one and nothing else is between
+  pub due_below : (key : ℕ) → ((j : ℕ) → from ≤ j → j < key → ¬ HasDue h t p j) → (j : ℕ) → lo ≤ j → j < key → IsDue h t p j 0
+  due_below key none j low less = elim (cases_lt j from) [
+    | inl before ↦ passed j low before
+    | inr after ↦ zero_due h t p j (none j after less)
   ]
 
-  -- on one more of the written ones
-  pub due_more : (n : ℕ) → n < length keys → AllWithin (λ k. IsDue h t p k 0) keys 0 n → IsDue h t p (slice_index keys n) 0 → AllWithin (λ k. IsDue h t p k 0) keys 0 (n + 1)
-  due_more n below none due k d low high = elim (cases_lt k n) [
-    | inl before ↦ none k d low before
-    | inr after ↦
-        let same : n ≡ k = omega arith in
-        subst (λ m. IsDue h t p (slice_index_or keys m d) 0) same (subst (λ j. IsDue h t p j 0) (get_or_default keys n 0 d below) due)
+  -- so up to the key, where it is due there
+  pub due_within : (key : ℕ) → ((j : ℕ) → from ≤ j → j < key → ¬ HasDue h t p j) → IsDue h t p key 0 → (j : ℕ) → lo ≤ j → j < key + 1 → IsDue h t p j 0
+  due_within key none at j low most = elim (cases_lt j key) [
+    | inl before ↦ due_below key none j low before
+    | inr after ↦ let same : key ≡ j = omega arith in subst (λ k. IsDue h t p k 0) same at
   ]
 
-  -- so over all keys, where it is due on all written ones
-  pub none_due_within : AllWithin (λ k. IsDue h t p k 0) keys 0 (length keys) → NoneDue h t p lo hi
-  none_due_within none j low high = zero_due (length keys) none j low high (λ c. c.1)
-
-  -- the first of the written keys at which another is due is the least
-  pub next_due_within : (n : ℕ) → n < length keys → AllWithin (λ k. IsDue h t p k 0) keys 0 n → (v : ℕ) → v ≢ 0 → IsDue h t p (slice_index keys n) v → IsNextDue h t p lo hi (record { key = slice_index keys n; due = v })
-  next_due_within n below none v other due =
-      let within = (are.each (slice_index keys n)).0 (Contains-get_or keys n 0 below) in (
-        within.1,
-        within.2,
-        other,
-        due,
-        λ j low less. zero_due n none j low (let high = within.2 in omega arith) (λ c. elim (cases_lt c.0 n) [
-          | inl before ↦ before
-          | inr after ↦
-              let up = rises (λ (k : ℕ). k) keys (ascends (λ (k : ℕ). k) _ keys are) n c.0 0 after c.1 in
-              let at : slice_index keys c.0 ≡ j = get_or_default keys c.0 0 j c.1 ∙ c.2 in
-              absurd (omega arith)
-        ]),
-      )
+  -- and over the whole range, where no key of it is left at which another is
+  pub none_due_from : (hi : ℕ) → ((j : ℕ) → from ≤ j → j ≤ hi → ¬ HasDue h t p j) → NoneDue h t p lo hi
+  none_due_from hi none j low high = elim (cases_lt j from) [
+    | inl before ↦ passed j low before
+    | inr after ↦ zero_due h t p j (none j after high)
+  ]

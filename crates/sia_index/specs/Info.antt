@@ -1,5 +1,5 @@
 -- What is known of a transaction, and of a committed transaction's version of a key.
-use Rattle.std.specs.Prelude.{◌≡◌, ◌≢◌, ◌↔◌, ◌<◌, ◌≤◌, ℕ, false, IsTrue, List, [], ◌∷◌, Option, Some, None, slice_index, length, flat_map, All, Contains}
+use Rattle.std.specs.Prelude.{◌≡◌, ◌≢◌, ◌↔◌, ◌<◌, ◌≤◌, ℕ, true, false, IsTrue, List, [], ◌∷◌, Option, Some, None, slice_index, length, flat_map, All, Contains}
 use Rattle.std.specs.List.{AllZip}
 use Rattle.sia_events.specs.declared.event.Event.{Event}
 use Rattle.sia_events.specs.declared.event.Event.TheVariants.{Read, Range}
@@ -91,6 +91,7 @@ pub record IsReader (h : List Event) (t p : ℕ) (r : Reader) : Type 0 where
   pub starts : StartsAt h t r.start
   pub committed : IsTrue r.committed ↔ IsCommitted h t
   pub wrote_none : r.has_written ≡ false → (k : ℕ) → ¬ Wrote h t k
+  pub wrote_some : r.has_written ≡ true → (k : ℕ) × Wrote h t k
 
 -- version 0 is due to t at place p on every key from lo to hi
 abbrev pub NoneDue : List Event → ℕ → ℕ → ℕ → ℕ → Type 0

@@ -1,4 +1,5 @@
 pub mod Info
+pub mod Lows
 pub mod Rows
 pub mod Tables
 pub mod Numbers

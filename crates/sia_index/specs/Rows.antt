@@ -1,8 +1,9 @@
 -- The rows of an index's tables: what each says of a history, and the order that they stand in.
-use Rattle.std.specs.Prelude.{◌≡◌, ◌<◌, ◌≤◌, ℕ, List, [], ◌∷◌, All, AllPairs, Contains, length, slice_index, slice_index_or}
+use Rattle.std.specs.Prelude.{◌≡◌, ◌⊎◌, ◌<◌, ◌≤◌, ℕ, Option, MatchOption, List, [], ◌∷◌, All, AllPairs, Contains, length, slice_index, slice_index_or}
 use Rattle.sia_events.specs.declared.event.Event.{Event}
 use Rattle.sia_events.specs.Lists.{ListsBy, Precedes}
-use Rattle.sia_events.specs.Transactions.{ActsAt, HasEvent, WritesAt, Wrote, CommitsAt}
+use Rattle.sia_events.specs.Transactions.{ActsAt, HasEvent, WritesAt, Wrote, WroteBefore, CommitsAt}
+use Rattle.sia_events.specs.Reads.{IsVisible}
 use Rattle.sia_index.specs.Info.{IsInfo, IsItemRead, IsRangeRead}
 use Rattle.sia_index.specs.declared.info.Made.{Made}
 use Rattle.sia_index.specs.declared.info.ItemRead.{ItemRead}
@@ -27,12 +28,12 @@ pub record IsSpan (h : List Event) (t first last : ℕ) : Type 0 where
   pub ends : ActsAt h t last
   pub none_after : (p : ℕ) → ActsAt h t p → p ≤ last
 
--- every write event, by key and transaction
+-- every write event, by transaction and key
 abbrev pub AreWrites : List Event → List WriteRow → Type 0
-AreWrites h writes = ListsBy (λ w. w.key ∷ w.txn ∷ w.place ∷ []) (λ w. WritesAt h w.txn w.key w.place) writes
+AreWrites h writes = ListsBy (λ w. w.txn ∷ w.key ∷ w.place ∷ []) (λ w. WritesAt h w.txn w.key w.place) writes
 
 abbrev pub AscendsByWrite : List WriteRow → Type 0
-AscendsByWrite writes = AllPairs (λ x y. Precedes (x.key ∷ x.txn ∷ x.place ∷ []) (y.key ∷ y.txn ∷ y.place ∷ [])) writes
+AscendsByWrite writes = AllPairs (λ x y. Precedes (x.txn ∷ x.key ∷ x.place ∷ []) (y.txn ∷ y.key ∷ y.place ∷ [])) writes
 
 -- no row is of k and t
 abbrev pub HasNoWrite : List WriteRow → ℕ → ℕ → Type 0
@@ -41,6 +42,38 @@ HasNoWrite writes t k = (q : ℕ) → ¬ Contains writes (record { key = k; txn 
 -- p is the least place in the rows of k and t
 abbrev pub IsFirstRow : List WriteRow → ℕ → ℕ → ℕ → Type 0
 IsFirstRow writes t k p = Contains writes (record { key = k; txn = t; place = p }) × ((q : ℕ) → Contains writes (record { key = k; txn = t; place = q }) → p ≤ q)
+
+-- the place parts what is below from in the list from the rest
+pub record IsPlaceFrom (keys : List ℕ) (from at : ℕ) : Type 0 where
+  pub bound : at ≤ length keys
+  pub below : (i : ℕ) → i < at → slice_index keys i < from
+  pub above : (i : ℕ) → at ≤ i → i < length keys → from ≤ slice_index keys i
+
+-- the rows from one place to below another are those of t
+pub record IsStretch (rows : List WriteRow) (t from to : ℕ) : Type 0 where
+  pub le : from ≤ to
+  pub bound : to ≤ length rows
+  pub own : (i : ℕ) (d : WriteRow) → from ≤ i → i < to → (slice_index_or rows i d).txn ≡ t
+  pub whole : (i : ℕ) (d : WriteRow) → i < length rows → (slice_index_or rows i d).txn ≡ t → (from ≤ i) × (i < to)
+
+-- a place from one to another that parts the rows between by their keys
+pub record IsKeyPoint (before after : ℕ → Type 0) (rows : List WriteRow) (from to at : ℕ) : Type 0 where
+  pub first : from ≤ at
+  pub last : at ≤ to
+  pub below : (i : ℕ) (d : WriteRow) → from ≤ i → i < at → before (slice_index_or rows i d).key
+  pub above : (i : ℕ) (d : WriteRow) → at ≤ i → i < to → after (slice_index_or rows i d).key
+
+-- no number from lo to hi has P, or none below the one that was found
+abbrev pub PassesNone : (ℕ → Type 0) → ℕ → ℕ → Option ℕ → Type 0
+PassesNone P lo hi found = MatchOption found ((k : ℕ) → lo ≤ k → k ≤ hi → ¬ P k) (λ k. (lo ≤ k) × (k ≤ hi) × ((j : ℕ) → lo ≤ j → j < k → ¬ P j))
+
+-- the same of the keys that t wrote before place p, by the rows
+abbrev pub NextRow : List WriteRow → ℕ → ℕ → ℕ → ℕ → Option ℕ → Type 0
+NextRow rows t p lo hi found = PassesNone (λ k. (q : ℕ) × (q < p) × Contains rows (record { key = k; txn = t; place = q })) lo hi found
+
+-- another version than 0 is due to t at place p on k: t wrote it before, or sees a writer of it
+abbrev pub HasDue : List Event → ℕ → ℕ → ℕ → Type 0
+HasDue h t p k = WroteBefore h t k p ⊎ ((u : ℕ) × IsVisible h t k u)
 
 abbrev pub AscendsByVersion : List KeyVersion → Type 0
 AscendsByVersion rows = AllPairs (λ x y. Precedes (x.key ∷ x.commit ∷ x.txn ∷ []) (y.key ∷ y.commit ∷ y.txn ∷ [])) rows

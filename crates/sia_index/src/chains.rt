@@ -1,15 +1,19 @@
 //! The written keys and the versions of each, made of the rows of writes and versions.
-ghost use Rattle.std.specs.Prelude.{◌≡◌, ◌≤◌, ◌<◌, List, AllPairs, IfOk, length, map};
+ghost use Rattle.std.specs.Prelude.{◌≡◌, ◌≤◌, ◌<◌, ◌+◌, ℕ, List, All, AllPairs, IfOk, length, map};
 ghost use Rattle.std.specs.List.{AllWithin};
 ghost use Rattle.std.specs.List.Sorted.{IsPartitionPoint};
 ghost use Rattle.sia_events.specs.declared.event.Event.{Event};
+ghost use Rattle.sia_events.specs.Reads.{IsVisible};
+ghost use Rattle.sia_events.specs.Transactions.{StartsAt};
 ghost use Rattle.sia_index.specs.Info.{AreWrittenKeys};
-ghost use Rattle.sia_index.specs.Rows.{AreWrites, AscendsByVersion};
-ghost use Rattle.sia_index.specs.Tables.{AreOffsets};
+ghost use Rattle.sia_index.specs.Lows.{AreLows};
+ghost use Rattle.sia_index.specs.Rows.{AreWrites, AscendsByVersion, AscendsByCommit, PassesNone};
+ghost use Rattle.sia_index.specs.Tables.{AreOffsets, AreChains, AreFirsts, FirstsSoFar};
 
 use crate::info::{KeyVersion, Made};
+use crate::lows::next_at_most;
 use crate::ordering::put_in_order;
-use crate::rows::WriteRow;
+use crate::rows::{WriteRow, part_at};
 use sia_events::Key;
 use std::alloc::{AllocError, Global};
 
@@ -75,4 +79,55 @@ fn key_end(rows: &[KeyVersion], from: usize, key: Key) -> usize
         to += 1;
     }
     to
+}
+
+/// The commit of the first version of each key, and the greatest number where it has none.
+pub fn firsts_of(
+    alloc: Global,
+    offsets: &[usize],
+    made: &[Made],
+    count: usize,
+) -> Result<Vec<u32>, AllocError>
+    requires { (h : List Event) × (keys : List ℕ) × (length keys ≡ count) × AreChains h keys offsets.now made.now }
+    ensures { IfOk result (λ firsts. FirstsSoFar offsets.now made.now firsts.items count) }
+{
+    let mut firsts = Vec::new(alloc);
+    for i in 0..count {
+        firsts.push(first_commit(part_at(made, offsets, i)))?;
+    }
+    Ok(firsts)
+}
+
+// The commit of the first of some versions by commit.
+fn first_commit(versions: &[Made]) -> u32
+    requires { AscendsByCommit versions.now }
+    ensures { All (λ made. result ≤ made.commit) versions.now }
+{
+    if versions.is_empty() {
+        u32::MAX
+    } else {
+        versions[0].commit
+    }
+}
+
+/// Of the keys from `lo` to `hi` the least whose first version commits at most at the start.
+pub fn next_first(
+    keys: &[Key],
+    firsts: &[u32],
+    lows: &[u32],
+    lo: Key,
+    hi: Key,
+    start: u32,
+) -> Option<Key>
+    requires ascending { AllPairs (λ x y. x < y) keys.now }
+    requires count { length firsts.now ≡ length keys.now }
+    requires lows_are { AreLows firsts.now lows.now }
+    ensures { (h : List Event) (t : ℕ) → AreWrittenKeys h keys.now → AreFirsts h keys.now firsts.now → StartsAt h t start → PassesNone (λ k. (u : ℕ) × IsVisible h t k u) lo hi result }
+{
+    let from = keys.partition_point(|key| *key < lo);
+    let to = keys.partition_point(|key| *key <= hi);
+    match next_at_most(firsts, lows, from, to, start) {
+        Some(i) => Some(keys[i]),
+        None => None,
+    }
 }

@@ -29,7 +29,7 @@ pub fn acts_of(alloc: Global, h: &History) -> Result<Vec<ActRow>, AllocError>
     Ok(acts)
 }
 
-/// Every write event, by key and transaction.
+/// Every write event, by transaction and key.
 pub fn writes_of(alloc: Global, h: &History) -> Result<Vec<WriteRow>, AllocError>
     ensures { IfOk result (λ writes. AreWrites h.now writes.items) }
 {
@@ -37,7 +37,7 @@ pub fn writes_of(alloc: Global, h: &History) -> Result<Vec<WriteRow>, AllocError
     for before in 0..h.len() {
         let place = before + 1;
         if let Some((txn, key)) = write_at(h, place) {
-            writes.push(WriteRow { key, txn, place })?;
+            writes.push(WriteRow { txn, key, place })?;
         }
     }
     put_in_order(&mut writes);

@@ -5,8 +5,9 @@ ghost use Rattle.sia_events.specs.Refusals.{IsWellFormed};
 ghost use Rattle.sia_index.specs.Info.{IsInfo, AreVersions, AreWrittenKeys, AreAllVersions, IsFirstWrite, HasKeyAt, IsKeyAt, StartsBefore, AreReadsWithin, AreRangesMeeting, AreWrittenWithin, IsNextWritten, AreVersionsWithin};
 
 use crate::info::{Fate, ItemRead, KeyVersion, Made, RangeRead, TxnInfo};
+use crate::own::WriteTable;
 use crate::reads::{key_from, keys_between, ranges_meeting, reads_between, versions_between};
-use crate::rows::{TxnRow, WriteRow, find_key, find_write, guess_txn, part_at};
+use crate::rows::{TxnRow, find_key, guess_txn, guessed_row, part_at};
 use sia_events::{History, Key, TxnId};
 use std::marker::Model;
 use std::snapshot::Snapshot;
@@ -16,10 +17,12 @@ use std::snapshot::Snapshot;
 pub struct Index {
     pub(crate) of: Snapshot<History>,
     pub(crate) txns: Vec<TxnRow>,
-    pub(crate) writes: Vec<WriteRow>,
+    pub(crate) writes: WriteTable,
     pub(crate) keys: Vec<Key>,
     pub(crate) offsets: Vec<usize>,
     pub(crate) made: Vec<Made>,
+    pub(crate) firsts: Vec<u32>,
+    pub(crate) first_lows: Vec<u32>,
     pub(crate) versions: Vec<KeyVersion>,
     pub(crate) reads: Vec<ItemRead>,
     pub(crate) ranges: Vec<RangeRead>,
@@ -38,7 +41,7 @@ impl Model for Index {
 
     ghost view = { λ ix. ix.of.value };
 
-    ghost invariant = { λ ix. AreTables ix.of.value ix.txns.items ix.writes.items ix.keys.items ix.offsets.items ix.made.items ix.versions.items ix.reads.items ix.ranges.items ix.reaches.items ix.ids.items };
+    ghost invariant = { λ ix. AreTables ix.of.value ix.txns.items ix.writes ix.keys.items ix.offsets.items ix.made.items ix.firsts.items ix.first_lows.items ix.versions.items ix.reads.items ix.ranges.items ix.reaches.items ix.ids.items };
 }
 
 impl Index {
@@ -96,7 +99,12 @@ impl Index {
     pub fn first_write(&self, t: TxnId, k: Key) -> Option<u32>
         ensures { MatchOption result (¬ Wrote self.now t k) (IsFirstWrite self.now t k) }
     {
-        find_write(&self.writes, t, k)
+        self.writes.first(self.number_of(t), t, k)
+    }
+
+    // Where the transaction may stand among all.
+    pub(crate) fn number_of(&self, t: TxnId) -> usize {
+        guessed_row(&self.txns, &self.txn_guesses, t)
     }
 
     /// Each key that some write event names, committed or not, ascending.
@@ -117,7 +125,7 @@ impl Index {
     pub fn next_written(&self, from: Key) -> Option<Key>
         ensures { MatchOption result ((k t : ℕ) → from ≤ k → ¬ Wrote self.now t k) (IsNextWritten self.now from) }
     {
-        key_from(&self.keys, from)
+        key_from(&self.keys, &self.key_guesses, from)
     }
 
     /// The versions that committed transactions made of the keys from `lo` to `hi`, by key and commit, found by two searches.

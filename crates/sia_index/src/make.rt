@@ -1,11 +1,13 @@
 //! How an index is made of a history.
 ghost use Rattle.std.specs.Prelude.{◌≡◌, IfOk};
 
-use crate::chains::{keys_of, made_of, offsets_of};
+use crate::chains::{firsts_of, keys_of, made_of, offsets_of};
 use crate::events::{acts_of, version_rows_of, writes_of};
 use crate::guesses::guesses_of;
 use crate::indexed::Index;
+use crate::lows::lows_of;
 use crate::numbers::ids_of;
+use crate::own::{WriteTable, places_of, starts_of};
 use crate::reads::{ranges_of, reaches_of, reads_of};
 use crate::rows::numbers_of;
 use crate::txns::txns_of;
@@ -26,6 +28,11 @@ pub fn index(alloc: Global, h: &History) -> Result<Index, NoMemory>
     let keys = keys_of(alloc, &writes)?;
     let offsets = offsets_of(alloc, &keys, &rows)?;
     let made = made_of(alloc, &rows)?;
+    let firsts = firsts_of(alloc, &offsets, &made, keys.len())?;
+    let first_lows = lows_of(alloc, &firsts)?;
+    let places = places_of(alloc, &writes)?;
+    let lows = lows_of(alloc, &places)?;
+    let starts = starts_of(alloc, &txns, &writes)?;
     let reads = reads_of(alloc, h)?;
     let ranges = ranges_of(alloc, h)?;
     let reaches = reaches_of(alloc, &ranges)?;
@@ -36,10 +43,17 @@ pub fn index(alloc: Global, h: &History) -> Result<Index, NoMemory>
     Ok(Index {
         of: Snapshot::of(h),
         txns,
-        writes,
+        writes: WriteTable {
+            rows: writes,
+            places,
+            lows,
+            starts,
+        },
         keys,
         offsets,
         made,
+        firsts,
+        first_lows,
         versions: rows,
         reads,
         ranges,

@@ -1,11 +1,13 @@
 //! What is due to a transaction that reads, at one key and over a range of keys.
-ghost use Rattle.std.specs.Prelude.{◌≡◌, ◌↔◌, ◌≤◌, ◌<◌, ℕ, IsTrue, MatchOption, All};
-ghost use Rattle.sia_events.specs.Transactions.{HasEvent, WroteBefore};
-ghost use Rattle.sia_events.specs.Reads.{IsDue};
+ghost use Rattle.std.specs.Prelude.{◌≡◌, ◌↔◌, ◌≤◌, ◌<◌, ℕ, List, IsTrue, MatchOption, All};
+ghost use Rattle.sia_events.specs.declared.event.Event.{Event};
+ghost use Rattle.sia_events.specs.Transactions.{HasEvent, Wrote, WroteBefore};
+ghost use Rattle.sia_events.specs.Reads.{IsVisible, IsDue};
 ghost use Rattle.sia_index.specs.declared.info.Fate.TheVariants.{Committed};
 ghost use Rattle.sia_index.specs.Info.{IsReader, NoneDue, IsNextDue};
-ghost use Rattle.sia_index.specs.Rows.{AscendsByCommit, IsLastWithin};
+ghost use Rattle.sia_index.specs.Rows.{AscendsByCommit, IsLastWithin, PassesNone, HasDue};
 
+use crate::chains::next_first;
 use crate::indexed::Index;
 use crate::info::{DueAt, Fate, Made, Reader};
 use sia_events::{Key, TxnId, Version};
@@ -17,6 +19,7 @@ impl Index {
         ensures { IsReader self.now t place result }
     {
         let _ = &self.of;
+        let has_written = self.has_written(t);
         let (start, committed) = match self.txn(t) {
             Some(info) => (info.start, is_committed(info.fate)),
             None => (0, false),
@@ -26,8 +29,15 @@ impl Index {
             place,
             start,
             committed,
-            has_written: true,
+            has_written,
         }
+    }
+
+    // Whether the transaction wrote any key.
+    fn has_written(&self, t: TxnId) -> bool
+        ensures { IsTrue result ↔ ((k : ℕ) × Wrote self.now t k) }
+    {
+        self.writes.has_any(self.number_of(t), t)
     }
 
     /// The version due to a read of the key by the transaction at the place.
@@ -73,13 +83,70 @@ impl Index {
         requires { IsReader self.now reader.txn reader.place reader }
         ensures { MatchOption result (NoneDue self.now reader.txn reader.place lo hi) (IsNextDue self.now reader.txn reader.place lo hi) }
     {
-        for key in self.written_within(lo, hi) {
-            let due = self.due_to(reader, *key);
+        let mut from = lo;
+        while let Some(key) = self.next_key(reader, from, hi) {
+            let due = self.due_to(reader, key);
             if due != 0 {
-                return Some(DueAt { key: *key, due });
+                return Some(DueAt { key, due });
             }
+            // No table promises that this is never reached, only that no key is passed.
+            if key == hi {
+                return None;
+            }
+            from = key + 1;
         }
         None
+    }
+
+    // The least key from `lo` to `hi` at which another version than 0 may be due to the reader.
+    fn next_key(&self, reader: Reader, lo: Key, hi: Key) -> Option<Key>
+        requires { IsReader self.now reader.txn reader.place reader }
+        ensures { PassesNone (HasDue self.now reader.txn reader.place) lo hi result }
+    {
+        lesser(
+            self.next_own(reader, lo, hi),
+            self.next_seen(reader, lo, hi),
+        )
+    }
+
+    // The least key from `lo` to `hi` that the reader wrote before its place.
+    fn next_own(&self, reader: Reader, lo: Key, hi: Key) -> Option<Key>
+        requires { IsReader self.now reader.txn reader.place reader }
+        ensures { PassesNone (λ k. WroteBefore self.now reader.txn k reader.place) lo hi result }
+    {
+        if reader.has_written {
+            let number = self.number_of(reader.txn);
+            self.writes.next(number, reader, lo, hi)
+        } else {
+            None
+        }
+    }
+
+    // The least key from `lo` to `hi` with a version that the reader sees.
+    fn next_seen(&self, reader: Reader, lo: Key, hi: Key) -> Option<Key>
+        requires { IsReader self.now reader.txn reader.place reader }
+        ensures { PassesNone (λ k. (u : ℕ) × IsVisible self.now reader.txn k u) lo hi result }
+    {
+        next_first(
+            &self.keys,
+            &self.firsts,
+            &self.first_lows,
+            lo,
+            hi,
+            reader.start,
+        )
+    }
+}
+
+// The lesser of two keys, where there are two.
+fn lesser(own: Option<Key>, seen: Option<Key>) -> Option<Key>
+    ensures { (h : List Event) (t p lo hi : ℕ) → PassesNone (λ k. WroteBefore h t k p) lo hi own → PassesNone (λ k. (u : ℕ) × IsVisible h t k u) lo hi seen → PassesNone (HasDue h t p) lo hi result }
+{
+    match (own, seen) {
+        (Some(a), Some(b)) => Some(a.min(b)),
+        (Some(a), None) => Some(a),
+        (None, Some(b)) => Some(b),
+        (None, None) => None,
     }
 }
 

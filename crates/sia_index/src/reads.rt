@@ -1,14 +1,15 @@
 //! Tables of the reads of a history, and what is found in them by key.
-ghost use Rattle.std.specs.Prelude.{◌≡◌, ◌<◌, ◌≤◌, ℕ, List, IfOk, MatchOption, AllPairs};
+ghost use Rattle.std.specs.Prelude.{◌≡◌, ◌<◌, ◌≤◌, ℕ, List, IfOk, IsTrue, MatchOption, AllPairs};
 ghost use Rattle.sia_events.specs.declared.event.Event.{Event};
 ghost use Rattle.sia_index.specs.declared.info.ItemRead.{ItemRead};
 ghost use Rattle.sia_index.specs.declared.info.RangeRead.{RangeRead};
 ghost use Rattle.sia_events.specs.Transactions.{Wrote};
 ghost use Rattle.sia_index.specs.Info.{IsItemRead, IsRangeRead, AreReadsWithin, AreRangesMeeting, AreWrittenKeys, AreWrittenWithin, IsNextWritten, AreVersionsWithin};
-ghost use Rattle.sia_index.specs.Rows.{AreReads, AreRanges, AreReaches, AscendsByRead, AscendsByRange, AreVersionRows, AscendsByVersion};
+ghost use Rattle.sia_index.specs.Rows.{AreReads, AreRanges, AreReaches, AscendsByRead, AscendsByRange, AreVersionRows, AscendsByVersion, IsPlaceFrom};
 
 use crate::info::{ItemRead, KeyVersion, RangeRead};
 use crate::ordering::put_in_order;
+use crate::rows::guessed_key;
 use sia_events::{Event, History, Key};
 use std::alloc::{AllocError, Global};
 
@@ -110,15 +111,40 @@ pub fn keys_between(keys: &[Key], lo: Key, hi: Key) -> &[Key]
 }
 
 /// The least key that is at least `from`.
-pub fn key_from(keys: &[Key], from: Key) -> Option<Key>
+pub fn key_from(keys: &[Key], guesses: &[u32], from: Key) -> Option<Key>
     requires { AllPairs (λ x y. x < y) keys.now }
     ensures { (h : List Event) → AreWrittenKeys h keys.now → MatchOption result ((k t : ℕ) → from ≤ k → ¬ Wrote h t k) (IsNextWritten h from) }
 {
-    let at = keys.partition_point(|key| *key < from);
+    let at = place_from(keys, guesses, from);
     if at < keys.len() {
         Some(keys[at])
     } else {
         None
+    }
+}
+
+// The first place of a key that is at least `from`: where the key below stands among the keys, it is the next one.
+fn place_from(keys: &[Key], guesses: &[u32], from: Key) -> usize
+    requires { AllPairs (λ x y. x < y) keys.now }
+    ensures { IsPlaceFrom keys.now from result }
+{
+    let at = guessed_key(keys, guesses, from.saturating_sub(1)).saturating_add(1);
+    if is_place_from(keys, at, from) {
+        at
+    } else {
+        keys.partition_point(|key| *key < from)
+    }
+}
+
+// Whether the key at the place is at least `from`, and the one before it is less.
+fn is_place_from(keys: &[Key], at: usize, from: Key) -> bool
+    requires { AllPairs (λ x y. x < y) keys.now }
+    ensures { IsTrue result → IsPlaceFrom keys.now from at }
+{
+    if 0 < at && at < keys.len() {
+        keys[at - 1] < from && from <= keys[at]
+    } else {
+        false
     }
 }
 

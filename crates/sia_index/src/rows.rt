@@ -1,6 +1,6 @@
 //! The rows of an index's tables. Each table ascends by the fields of its rows, from the first field on.
 ghost use Rattle.std.specs.Prelude.{◌≡◌, ◌≢◌, ◌+◌, ◌<◌, ◌≤◌, All, AllPairs, Contains, MatchOption, length, slice_index, slice_range};
-ghost use Rattle.sia_index.specs.Rows.{AscendsByTxn, AscendsByWrite, HasNoWrite, IsFirstRow};
+ghost use Rattle.sia_index.specs.Rows.{AscendsByTxn};
 
 use crate::guesses::guess;
 use crate::info::{Made, TxnInfo};
@@ -17,8 +17,8 @@ pub struct ActRow {
 /// A write event.
 #[derive(Clone, Copy, PartialEq, Eq, PartialOrd, Ord)]
 pub struct WriteRow {
-    pub key: Key,
     pub txn: TxnId,
+    pub key: Key,
     pub place: u32,
 }
 
@@ -52,7 +52,7 @@ pub fn guess_txn(table: &[TxnRow], guesses: &[u32], t: TxnId) -> Option<TxnInfo>
 }
 
 /// The row where the transaction may stand.
-fn guessed_row(table: &[TxnRow], guesses: &[u32], t: TxnId) -> usize {
+pub fn guessed_row(table: &[TxnRow], guesses: &[u32], t: TxnId) -> usize {
     match table.first() {
         Some(row) => guess(guesses, u64::from(row.txn), u64::from(t)),
         None => 0,
@@ -81,7 +81,7 @@ pub fn find_key(keys: &[Key], guesses: &[u32], k: Key) -> Option<usize>
 }
 
 /// The number where the key may stand.
-fn guessed_key(keys: &[Key], guesses: &[u32], k: Key) -> usize {
+pub fn guessed_key(keys: &[Key], guesses: &[u32], k: Key) -> usize {
     match keys.first() {
         Some(first) => guess(guesses, *first, k),
         None => 0,
@@ -96,23 +96,6 @@ fn search_key(keys: &[Key], k: Key) -> Option<usize>
     match keys.binary_search(&k) {
         Ok(i) => Some(i),
         Err(_) => None,
-    }
-}
-
-/// The place of the first row of a key and a transaction.
-pub fn find_write(writes: &[WriteRow], t: TxnId, k: Key) -> Option<u32>
-    requires { AscendsByWrite writes.now }
-    ensures { MatchOption result (HasNoWrite writes.now t k) (IsFirstRow writes.now t k) }
-{
-    let at = writes.partition_point(|row| row.key < k || row.key == k && row.txn < t);
-    if at == writes.len() {
-        return None;
-    }
-    let row = writes[at];
-    if row.key == k && row.txn == t {
-        Some(row.place)
-    } else {
-        None
     }
 }
 

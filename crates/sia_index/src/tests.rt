@@ -3,6 +3,8 @@ use super::*;
 use sia_events::{Key, TxnId, Version, read_history};
 use std::test::*;
 
+mod readers;
+
 // An index of the history that the text stands for.
 fn index_of(rt: &HostRuntime, text: &[u8]) -> Result<Index, Fail> {
     let history = read_history(rt.alloc(), text)

@@ -4,7 +4,9 @@ use Rattle.sia_index.specs.Rows.{AreWrites}
 use Rattle.sia_index.proofs.Due.{written}
 use Rattle.sia_index.proofs.indexed.Index.first_write.Goals as goal
 
+pub first-requires : goal.first-requires
+first-requires c = c.self.invariant.writes_are.rows_are.ascending
+
 pub returns : goal.returns
 returns c =
-    written _ _ (subst (λ h. AreWrites h c.self.inside.writes.items) c.self.view_is c.self.invariant.writes_are) _ _ _
-    (rw c.deref.ensures.value at c.find_write.ensures)
+    written _ _ (subst (λ h. AreWrites h c.self.inside.writes.rows.items) c.self.view_is c.self.invariant.writes_are.rows_are) _ _ _ c.first.ensures

@@ -14,5 +14,6 @@ returns-in-Some c =
       place_is = refl;
       starts = c.in-Some.ensures.0;
       committed = ((λ yes. told.0 (is.0 yes)), (λ done. is.1 (told.1 done)));
-      wrote_none = λ none k wrote. cc;
+      wrote_none = λ none k wrote. let some = c.has_written-has_written.ensures.1 (k, wrote) in cc;
+      wrote_some = c.has_written-has_written.ensures.0;
     }
