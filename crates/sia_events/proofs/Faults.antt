@@ -83,6 +83,7 @@ else_none true r rest e = (refl, e)
 else_none false r rest e = absurd cc
 
 pub explained : (events : List Event) (k v : ℕ) → is_explained events (k, v) ≡ true → v ≢ 0 → IsAmong events (Write v k)
+unfolding is_explained
 explained events k v p other =
     let zero : (v == 0) ≡ false = grind (arith, nat_tests) in
     let found = any_among (writes (k, v)) events (subst (λ b. (b || list_any (writes (k, v)) events) ≡ true) zero p) in

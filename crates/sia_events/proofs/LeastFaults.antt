@@ -77,6 +77,7 @@ pub acts_among : (events : List Event) (t : ℕ) → list_any (acts t) events �
 acts_among events t p = let a = any_among (acts t) events p in (a.0, a.1, sym (eqb-true t (actor a.0) a.2))
 
 pub unwritten : (events : List Event) (k v : ℕ) → is_explained events (k, v) ≡ false → (v ≢ 0) × ¬ IsAmong events (Write v k)
+unfolding is_explained
 unwritten events k v p = by_zero (v == 0) refl p
   where
     by_zero : (b : Bool) → (v == 0) ≡ b → (b || list_any (writes (k, v)) events) ≡ false → (v ≢ 0) × ¬ IsAmong events (Write v k)

@@ -5,7 +5,7 @@ use Rattle.std.specs.List.{list_any, AllByRecursion}
 use Rattle.std.specs.BTreeMap.{is_at}
 use Rattle.std.specs.BTreeSet.{BTreeSet, IsRun}
 use Rattle.std.proofs.lemmas.Bool.Decides.{nat_tests}
-use Rattle.sia_events.specs.Known.{pair_cmp}
+use Rattle.sia_events.specs.WriteSets.{pair_cmp}
 
 -- a search finds the key
 abbrev pub IsKeyOf : List (ℕ × ℕ) → ℕ × ℕ → Type 0

@@ -1,9 +1,6 @@
 -- What the reader knows of the events so far, and the reasons of the next event by it.
 use Rattle.std.specs.Prelude.{◌≡◌, ℕ, ◌+◌, Bool, true, false, ◌&&◌, ◌||◌, not, List, [], ◌∷◌, ◌==◌, nat_lt, Option, Some, None, if◌then◌else◌}
 use Rattle.std.specs.List.{list_any, list_all}
-use Rattle.std.specs.declared.cmp.Ordering.{Ordering}
-use Rattle.std.specs.Ordering.{nat_cmp, ordering_then}
-use Rattle.std.specs.BTreeSet.{contains}
 use Rattle.sia_events.specs.declared.event.Event.{Event}
 use Rattle.sia_events.specs.declared.event.Event.TheVariants.{Begin, Read, Range, Write, Commit, Abort}
 use Rattle.sia_events.specs.declared.fault.Reason.{Reason}
@@ -11,9 +8,7 @@ use Rattle.sia_events.specs.declared.fault.Reason.TheVariants.{AlreadyEnded, Alr
 use Rattle.sia_events.specs.declared.tables.Tables.{Tables}
 use Rattle.sia_events.specs.Events.{actor}
 use Rattle.sia_events.specs.TxnSets.{has}
-
-abbrev pub pair_cmp : ℕ × ℕ → ℕ × ℕ → Ordering
-pair_cmp p q = ordering_then (nat_cmp p.0 q.0) (nat_cmp p.1 q.1)
+use Rattle.sia_events.specs.WriteSets.{wrote, IsSound}
 
 -- the event is one of t
 abbrev pub acts : ℕ → Event → Bool
@@ -41,10 +36,11 @@ writes p (Abort u) = false
 pub record Knows (tables : Tables) (events : List Event) : Type 0 where
   pub begun : (t : ℕ) → has tables.begun t ≡ list_any (acts t) events
   pub ended : (t : ℕ) → has tables.ended t ≡ list_any (ends t) events
-  pub written : (p : ℕ × ℕ) → contains pair_cmp tables.written p ≡ list_any (writes p) events
+  pub written : (p : ℕ × ℕ) → wrote tables.written p ≡ list_any (writes p) events
+  pub sound : IsSound tables.written
 
 -- the version of that key is 0 or was written
-abbrev pub is_explained : List Event → ℕ × ℕ → Bool
+unfoldable pub is_explained : List Event → ℕ × ℕ → Bool
 is_explained events p = (p.1 == 0) || list_any (writes p) events
 
 -- the least key that may follow in a list of keys from lo on

@@ -5,6 +5,7 @@ pub mod Events
 pub mod Refusals
 pub mod Parsing
 pub mod TxnSets
+pub mod WriteSets
 pub mod Known
 pub mod Reading
 pub mod Streaming

@@ -4,6 +4,7 @@
 mod event;
 mod fault;
 mod found;
+mod guesses;
 mod history;
 mod judge;
 mod laws;
@@ -12,6 +13,7 @@ mod reader;
 mod tables;
 mod token;
 mod txn_set;
+mod write_set;
 mod writer;
 
 pub use event::{Event, Key, Listed, TxnId, Version};

@@ -2,27 +2,25 @@
 ghost use Rattle.std.specs.Prelude.{◌≡◌, ℕ, ◌||◌, not, nat_lt, List, [], ◌∷◌, ◌++◌, drop, true, IsTrue, OnOk};
 ghost use Rattle.std.specs.List.{list_all, AllByRecursion};
 ghost use Rattle.std.specs.BTreeSet.{contains};
-ghost use Rattle.std.specs.Ordering.{nat_cmp};
 ghost use Rattle.sia_events.specs.declared.event.Event.{Event as AnEvent};
 ghost use Rattle.sia_events.specs.Events.{actor};
 ghost use Rattle.sia_events.specs.TxnSets.{has};
-ghost use Rattle.sia_events.specs.Known.{Knows, pair_cmp, acts, ends, writes, is_explained, least_after, goes_up, begin_fault, read_fault, range_fault, own_fault, fault_of};
+ghost use Rattle.sia_events.specs.WriteSets.{wrote, IsSound, pair_cmp};
+ghost use Rattle.sia_events.specs.Known.{Knows, acts, ends, writes, is_explained, least_after, goes_up, begin_fault, read_fault, range_fault, own_fault, fault_of};
 
 use crate::event::{Event, Key, TxnId, Version};
 use crate::fault::Reason;
 use crate::txn_set::TxnSet;
+use crate::write_set::WriteSet;
 use std::alloc::{AllocError, Global};
-use std::collections::BTreeSet;
 use std::collections::btree_set::Range;
 
 /// Which transactions have an event, which have ended, and who has written which key.
-///
-/// The keys of a text are a stranger's choice, so the tables are trees, whose look-ups no choice of keys slows down.
 #[derive(Drop)]
 pub(crate) struct Tables {
     begun: TxnSet,
     ended: TxnSet,
-    written: BTreeSet<(Key, TxnId)>,
+    written: WriteSet,
 }
 
 /// Whether the key may follow in a list of keys from `lo` on.
@@ -51,9 +49,6 @@ fn is_good_list(lo: Key, hi: Key, listed: &[(Key, Version)]) -> bool
     }
     true
 }
-
-/// So many versions ahead are looked at before the table is searched: passing them costs about as much as a search.
-const NEAR: u32 = 24;
 
 /// Whether this is the next version, which is then passed.
 fn is_next(ahead: &mut Range<'_, (Key, TxnId)>, version: (Key, TxnId)) -> bool
@@ -89,14 +84,14 @@ fn add_ended(ended: &mut TxnSet, event: &Event) -> Result<(), AllocError>
     }
 }
 
-fn add_written(written: &mut BTreeSet<(Key, TxnId)>, event: &Event) -> Result<(), AllocError>
-    ensures { OnOk result ((p : ℕ × ℕ) → contains pair_cmp written.new p ≡ (contains pair_cmp written.old p || writes p event.now)) }
+/// A list is looked up in the order of the writes, so they are put in order for the lists that follow one.
+fn add_written(written: &mut WriteSet, event: &Event) -> Result<(), AllocError>
+    ensures written { OnOk result ((p : ℕ × ℕ) → wrote written.new p ≡ (wrote written.old p || writes p event.now)) }
+    ensures sound { IsSound written.old → OnOk result (IsSound written.new) }
 {
     match event {
-        Event::Write { txn, key } => {
-            written.insert((*key, *txn))?;
-            Ok(())
-        }
+        Event::Write { txn, key } => written.insert((*key, *txn)),
+        Event::Range { listed, .. } if !listed.as_slice().is_empty() => written.order(),
         _ => Ok(()),
     }
 }
@@ -108,7 +103,7 @@ impl Tables {
         Tables {
             begun: TxnSet::new(alloc),
             ended: TxnSet::new(alloc),
-            written: BTreeSet::new(alloc),
+            written: WriteSet::new(alloc),
         }
     }
 
@@ -123,10 +118,11 @@ impl Tables {
     }
 
     /// Whether the version of the key is 0 or was written.
+    #[tactic(auto, unfolding(crate::specs::Known::is_explained))]
     fn is_explained(&self, key: Key, saw: Version) -> bool
         ensures { (events : List AnEvent) → Knows self.now events → result ≡ is_explained events (key, saw) }
     {
-        saw == 0 || self.written.contains(&(key, saw))
+        saw == 0 || self.written.contains((key, saw))
     }
 
     fn begin_fault(&self, txn: TxnId, start: Option<u32>, count: usize) -> Option<Reason>
@@ -152,59 +148,16 @@ impl Tables {
         }
     }
 
-    /// Whether the version stands near ahead in the table. What comes before it is passed.
-    fn is_near(&self, ahead: &mut Range<'_, (Key, TxnId)>, version: (Key, TxnId)) -> bool
-        requires { AllByRecursion (λ p. contains pair_cmp self.now.written p ≡ true) ahead.old }
-        ensures written { IsTrue result → contains pair_cmp self.now.written version ≡ true }
-        ensures found { AllByRecursion (λ p. contains pair_cmp self.now.written p ≡ true) ahead.new }
-    {
-        'near: for _ in 0..NEAR {
-            let Some(next) = ahead.next() else {
-                return false;
-            };
-            if *next == version {
-                return true;
-            }
-            if version < *next {
-                return false;
-            }
-        }
-        false
-    }
-
-    /// Whether the version of the key is 0 or was written. Once a version wasn't near ahead, the table is searched for each.
-    fn is_explained_next(
-        &self,
-        ahead: &mut Range<'_, (Key, TxnId)>,
-        in_step: &mut bool,
-        key: Key,
-        saw: Version,
-    ) -> bool
-        requires { AllByRecursion (λ p. contains pair_cmp self.now.written p ≡ true) ahead.old }
-        ensures explained { (events : List AnEvent) → Knows self.now events → result ≡ is_explained events (key, saw) }
-        ensures found { AllByRecursion (λ p. contains pair_cmp self.now.written p ≡ true) ahead.new }
-    {
-        if saw == 0 {
-            return true;
-        }
-        if *in_step {
-            if self.is_near(ahead, (key, saw)) {
-                return true;
-            }
-            *in_step = false;
-        }
-        self.is_explained(key, saw)
-    }
-
     /// What is left of a list after versions that are those ahead, one by one.
+    #[tactic(auto, unfolding(crate::specs::WriteSets::IsSound, crate::specs::Known::is_explained))]
     fn past_step<'a>(
         &self,
         ahead: &mut Range<'_, (Key, TxnId)>,
         listed: &'a [(Key, Version)],
     ) -> &'a [(Key, Version)]
-        requires { AllByRecursion (λ p. contains pair_cmp self.now.written p ≡ true) ahead.old }
+        requires { AllByRecursion (λ p. contains pair_cmp self.now.written.tree p ≡ true) ahead.old }
         ensures explained { (events : List AnEvent) → Knows self.now events → list_all (is_explained events) result.now ≡ list_all (is_explained events) listed.now }
-        ensures found { AllByRecursion (λ p. contains pair_cmp self.now.written p ≡ true) ahead.new }
+        ensures found { AllByRecursion (λ p. contains pair_cmp self.now.written.tree p ≡ true) ahead.new }
     {
         let mut rest = listed;
         'step: loop {
@@ -225,11 +178,10 @@ impl Tables {
         let Some(first) = listed.first() else {
             return true;
         };
-        let mut ahead = self.written.range(*first..);
+        let mut ahead = self.written.ahead(*first);
         let rest = self.past_step(&mut ahead, listed);
-        let mut in_step = true;
         for (key, saw) in rest {
-            if !self.is_explained_next(&mut ahead, &mut in_step, *key, *saw) {
+            if !self.is_explained(*key, *saw) {
                 return false;
             }
         }

@@ -9,7 +9,7 @@ use Rattle.sia_events.proofs.tables.Tables.past_step.Given as goal
 abbrev pub invariant-step : goal.invariant-step
 invariant-step l = record {
   so_far : (events : List Event) → Knows l.self events → list_all (is_explained events) l.rest ≡ list_all (is_explained events) l.listed;
-  found : AllByRecursion (IsKeyOf l.self.written.keys) l.ahead;
+  found : AllByRecursion (IsKeyOf l.self.written.tree.keys) l.ahead;
 }
 
 abbrev pub decreases-step : goal.decreases-step

@@ -1,0 +1,159 @@
+//! Who has written which key.
+ghost use Rattle.std.specs.Prelude.{◌≡◌, ℕ, ◌||◌, false, true, IsTrue, OnOk, List};
+ghost use Rattle.std.specs.List.{list_any, AllByRecursion};
+ghost use Rattle.std.specs.BTreeSet.{contains};
+ghost use Rattle.sia_events.specs.WriteSets.{pair_cmp, same, wrote, IsSound};
+
+use crate::event::{Key, TxnId};
+use crate::guesses::Guesses;
+use std::alloc::{AllocError, Global};
+use std::collections::BTreeSet;
+use std::collections::btree_set::Range;
+
+/// The writes, each once, in the order in which they came.
+///
+/// A table guesses where a write stands. The writes for which it has no guess are in a tree, whose look-ups no choice of
+/// keys slows down. Lists of versions are compared with the tree in its order, so it takes in all writes once there is a
+/// list. No fact rests on what the tree lacks: a write that neither has is looked for among all of them.
+#[derive(Drop)]
+pub(crate) struct WriteSet {
+    writes: Vec<(Key, TxnId)>,
+    guesses: Guesses,
+    tree: BTreeSet<(Key, TxnId)>,
+    ordered: usize,
+}
+
+/// Whether the write is one of these.
+fn is_among(writes: &[(Key, TxnId)], write: (Key, TxnId)) -> bool
+    ensures { result ≡ list_any (same write) writes.now }
+{
+    for other in writes {
+        if *other == write {
+            return true;
+        }
+    }
+    false
+}
+
+/// Whether the write stands there.
+fn is_at(writes: &[(Key, TxnId)], position: usize, write: (Key, TxnId)) -> bool
+    ensures { IsTrue result → list_any (same write) writes.now ≡ true }
+{
+    match writes.get(position) {
+        Some(other) => *other == write,
+        None => false,
+    }
+}
+
+impl WriteSet {
+    #[tactic(auto, unfolding(crate::specs::WriteSets::IsSound))]
+    pub(crate) fn new(alloc: Global) -> Self
+        ensures none { (p : ℕ × ℕ) → wrote result p ≡ false }
+        ensures sound { IsSound result }
+    {
+        WriteSet {
+            writes: Vec::new(alloc),
+            guesses: Guesses::new(alloc),
+            tree: BTreeSet::new(alloc),
+            ordered: 0,
+        }
+    }
+
+    /// Whether the write is one, and the guess says where it stands.
+    pub(crate) fn is_guessed(&self, write: (Key, TxnId)) -> bool
+        ensures { IsTrue result → wrote self.now write ≡ true }
+    {
+        is_at(&self.writes, self.guesses.guess(&self.writes, write), write)
+    }
+
+    #[tactic(auto, unfolding(crate::specs::WriteSets::IsSound))]
+    pub(crate) fn contains(&self, write: (Key, TxnId)) -> bool
+        ensures { IsSound self.now → result ≡ wrote self.now write }
+    {
+        if self.is_guessed(write) {
+            return true;
+        }
+        if self.tree.contains(&write) {
+            return true;
+        }
+        is_among(&self.writes, write)
+    }
+
+    /// The writes of the tree from this one on.
+    pub(crate) fn ahead(&self, first: (Key, TxnId)) -> Range<'_, (Key, TxnId)>
+        ensures { AllByRecursion (λ p. contains pair_cmp self.now.tree p ≡ true) result }
+    {
+        self.tree.range(first..)
+    }
+
+    /// Takes the write at the position into the tree.
+    #[tactic(auto, unfolding(crate::specs::WriteSets::IsSound))]
+    fn order_one(&mut self, position: usize) -> Result<(), AllocError>
+        ensures same { OnOk result (self.new.writes.items ≡ self.old.writes.items) }
+        ensures sound { IsSound self.old → OnOk result (IsSound self.new) }
+    {
+        if let Some(write) = self.writes.get(position) {
+            self.tree.insert(*write)?;
+        }
+        Ok(())
+    }
+
+    /// Makes a guess of the write at the position, or takes it into the tree.
+    #[tactic(auto, unfolding(crate::specs::WriteSets::IsSound))]
+    fn place(&mut self, position: usize) -> Result<(), AllocError>
+        ensures same { OnOk result (self.new.writes.items ≡ self.old.writes.items) }
+        ensures sound { IsSound self.old → OnOk result (IsSound self.new) }
+    {
+        if self.guesses.put(&self.writes, position) {
+            return Ok(());
+        }
+        self.order_one(position)
+    }
+
+    /// Whether guesses are to be made anew.
+    fn is_crowded(&self) -> bool {
+        self.guesses.is_crowded(self.writes.len())
+    }
+
+    /// Makes the guesses anew.
+    #[tactic(auto, unfolding(crate::specs::WriteSets::IsSound))]
+    fn guess_again(&mut self) -> Result<(), AllocError>
+        ensures same { OnOk result (self.new.writes.items ≡ self.old.writes.items) }
+        ensures sound { IsSound self.old → OnOk result (IsSound self.new) }
+    {
+        self.guesses.restart(&self.writes)?;
+        for position in 0..self.writes.len() {
+            self.place(position)?;
+        }
+        Ok(())
+    }
+
+    #[tactic(auto, unfolding(crate::specs::WriteSets::IsSound))]
+    pub(crate) fn insert(&mut self, write: (Key, TxnId)) -> Result<(), AllocError>
+        ensures wrote { OnOk result ((p : ℕ × ℕ) → wrote self.new p ≡ (wrote self.old p || same p write)) }
+        ensures sound { IsSound self.old → OnOk result (IsSound self.new) }
+    {
+        if self.is_guessed(write) {
+            return Ok(());
+        }
+        self.writes.push(write)?;
+        if self.is_crowded() {
+            return self.guess_again();
+        }
+        let last = self.writes.len() - 1;
+        self.place(last)
+    }
+
+    /// Takes all writes into the tree.
+    #[tactic(auto, unfolding(crate::specs::WriteSets::IsSound))]
+    pub(crate) fn order(&mut self) -> Result<(), AllocError>
+        ensures same { OnOk result (self.new.writes.items ≡ self.old.writes.items) }
+        ensures sound { IsSound self.old → OnOk result (IsSound self.new) }
+    {
+        for position in self.ordered..self.writes.len() {
+            self.order_one(position)?;
+        }
+        self.ordered = self.writes.len();
+        Ok(())
+    }
+}
