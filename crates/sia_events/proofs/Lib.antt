@@ -48,5 +48,4 @@ pub mod FirstFaults
 pub mod Pieces
 pub mod Progresses
 pub mod Writing
-pub mod Steps
 pub mod Pairs

@@ -6,11 +6,19 @@ use std::alloc::{AllocError, Global};
 /// What a slot holds in which no guess is.
 const EMPTY: u32 = u32::MAX;
 
-/// How many slots are tried for a write.
-const TRIED: usize = 16;
+/// So many slots stand together in a bucket.
+const WAYS: usize = 4;
+
+/// How many buckets are tried for a write.
+const TRIED: usize = 4;
 
 /// How many slots the least table has. Each table has a power of two of them.
 const LEAST_SLOTS: usize = 1024;
+
+/// A slot holds a position below this, and a tag above it. A history has fewer events.
+const POSITIONS: u32 = 131_072;
+
+const LAST_POSITION: usize = 131_071;
 
 /// So many writes may find no slot before all are spread anew, beside one in `LOST_SHARE` of all.
 const LEAST_LOST: usize = 64;
@@ -49,6 +57,25 @@ fn seed_of(writes: &[(Key, TxnId)]) -> u64 {
     seed
 }
 
+/// The tag of a write, where a slot has it.
+fn tag_of(mixed: u64) -> u32 {
+    (mixed >> 49) as u32 * POSITIONS
+}
+
+/// The position in the slot of the bucket that has the tag. No test of one slot waits for that of another.
+fn position_in(bucket: &[u32], tag: u32) -> u32 {
+    let mut found = EMPTY;
+    for slot in bucket {
+        let position = *slot ^ tag;
+        found = if position < POSITIONS {
+            position
+        } else {
+            found
+        };
+    }
+    found
+}
+
 impl Guesses {
     pub(crate) fn new(alloc: Global) -> Self {
         Guesses {
@@ -59,35 +86,61 @@ impl Guesses {
         }
     }
 
-    /// The slot of a write that is tried after so many others.
-    fn slot(&self, write: (Key, TxnId), tried: usize) -> usize {
-        let first = (mixed(self.seed, write) >> 32) as usize;
-        first.wrapping_add(tried) & self.slots.len().wrapping_sub(1)
+    /// Where the bucket starts that is tried after so many others.
+    fn bucket(&self, mixed: u64, tried: usize) -> usize {
+        let first = (mixed >> 22) as usize;
+        first.wrapping_add(tried.wrapping_mul(WAYS)) & self.slots.len().wrapping_sub(WAYS)
+    }
+
+    /// The position in the bucket's slot that has the tag.
+    fn found(&self, start: usize, tag: u32) -> u32 {
+        match self.slots.get(start..start.saturating_add(WAYS)) {
+            Some(bucket) => position_in(bucket, tag),
+            None => EMPTY,
+        }
     }
 
     /// Where among the writes this one may stand.
-    pub(crate) fn guess(&self, writes: &[(Key, TxnId)], write: (Key, TxnId)) -> usize {
+    pub(crate) fn guess(&self, write: (Key, TxnId)) -> usize {
+        let mixed = mixed(self.seed, write);
+        let tag = tag_of(mixed);
         for tried in 0..TRIED {
-            let Some(guess) = self.slots.get(self.slot(write, tried)) else {
+            let start = self.bucket(mixed, tried);
+            let found = self.found(start, tag);
+            if found != EMPTY {
+                return found as usize;
+            }
+            if self.slots.get(start.wrapping_add(WAYS - 1)) == Some(&EMPTY) {
                 return usize::MAX;
-            };
-            match writes.get(*guess as usize) {
-                Some(other) if *other != write => {}
-                _ => return *guess as usize,
             }
         }
         usize::MAX
     }
 
+    /// Takes the entry into the first empty slot of the bucket, if there is one.
+    fn put_into(&mut self, start: usize, entry: u32) -> bool {
+        for way in 0..WAYS {
+            let at = start.wrapping_add(way);
+            if at < self.slots.len() && self.slots[at] == EMPTY {
+                self.slots[at] = entry;
+                return true;
+            }
+        }
+        false
+    }
+
     /// Takes in the position of one of the writes, and answers whether it found a slot.
-    pub(crate) fn put(&mut self, writes: &[(Key, TxnId)], position: usize) -> bool {
-        let Some(write) = writes.get(position) else {
-            return false;
-        };
+    pub(crate) fn put(&mut self, write: (Key, TxnId), position: usize) -> bool {
+        let mixed = mixed(self.seed, write);
+        let tag = tag_of(mixed);
+        let entry = tag | position.min(LAST_POSITION) as u32;
         for tried in 0..TRIED {
-            let slot = self.slot(*write, tried);
-            if slot < self.slots.len() && self.slots[slot] == EMPTY {
-                self.slots[slot] = position.min(EMPTY as usize) as u32;
+            let start = self.bucket(mixed, tried);
+            // A second slot with the tag would never be found.
+            if self.found(start, tag) != EMPTY {
+                break;
+            }
+            if self.put_into(start, entry) {
                 return true;
             }
         }

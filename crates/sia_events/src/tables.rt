@@ -13,7 +13,6 @@ use crate::fault::Reason;
 use crate::txn_set::TxnSet;
 use crate::write_set::WriteSet;
 use std::alloc::{AllocError, Global};
-use std::collections::btree_set::Range;
 
 /// Which transactions have an event, which have ended, and who has written which key.
 #[derive(Drop)]
@@ -50,17 +49,6 @@ fn is_good_list(lo: Key, hi: Key, listed: &[(Key, Version)]) -> bool
     true
 }
 
-/// Whether this is the next version, which is then passed.
-fn is_next(ahead: &mut Range<'_, (Key, TxnId)>, version: (Key, TxnId)) -> bool
-    ensures found { IsTrue result → ahead.old ≡ version ∷ ahead.new }
-    ensures passed { ahead.new ≡ drop 1 ahead.old }
-{
-    match ahead.next() {
-        Some(next) => *next == version,
-        None => false,
-    }
-}
-
 fn add_begun(begun: &mut TxnSet, event: &Event) -> Result<(), AllocError>
     ensures { OnOk result ((t : ℕ) → has begun.new t ≡ (has begun.old t || acts t event.now)) }
 {
@@ -84,14 +72,12 @@ fn add_ended(ended: &mut TxnSet, event: &Event) -> Result<(), AllocError>
     }
 }
 
-/// A list is looked up in the order of the writes, so they are put in order for the lists that follow one.
 fn add_written(written: &mut WriteSet, event: &Event) -> Result<(), AllocError>
     ensures written { OnOk result ((p : ℕ × ℕ) → wrote written.new p ≡ (wrote written.old p || writes p event.now)) }
     ensures sound { IsSound written.old → OnOk result (IsSound written.new) }
 {
     match event {
         Event::Write { txn, key } => written.insert((*key, *txn)),
-        Event::Range { listed, .. } if !listed.as_slice().is_empty() => written.order(),
         _ => Ok(()),
     }
 }
@@ -148,40 +134,21 @@ impl Tables {
         }
     }
 
-    /// What is left of a list after versions that are those ahead, one by one.
-    #[tactic(auto, unfolding(crate::specs::WriteSets::IsSound, crate::specs::Known::is_explained))]
-    fn past_step<'a>(
-        &self,
-        ahead: &mut Range<'_, (Key, TxnId)>,
-        listed: &'a [(Key, Version)],
-    ) -> &'a [(Key, Version)]
-        requires { AllByRecursion (λ p. contains pair_cmp self.now.written.tree p ≡ true) ahead.old }
-        ensures explained { (events : List AnEvent) → Knows self.now events → list_all (is_explained events) result.now ≡ list_all (is_explained events) listed.now }
-        ensures found { AllByRecursion (λ p. contains pair_cmp self.now.written.tree p ≡ true) ahead.new }
+    /// The same, where the version may well be that of the write at the position.
+    #[tactic(auto, unfolding(crate::specs::Known::is_explained))]
+    fn is_explained_next(&self, position: &mut usize, key: Key, saw: Version) -> bool
+        ensures { (events : List AnEvent) → Knows self.now events → result ≡ is_explained events (key, saw) }
     {
-        let mut rest = listed;
-        'step: loop {
-            let [first, more @ ..] = rest else {
-                return rest;
-            };
-            if !is_next(ahead, *first) {
-                return rest;
-            }
-            rest = more;
-        }
+        saw == 0 || self.written.contains_next(position, (key, saw))
     }
 
-    /// Whether each listed version is 0 or was written.
+    /// Whether each listed version is 0 or was written. Most lists go on as the writes did.
     fn are_explained(&self, listed: &[(Key, Version)]) -> bool
         ensures { (events : List AnEvent) → Knows self.now events → result ≡ list_all (is_explained events) listed.now }
     {
-        let Some(first) = listed.first() else {
-            return true;
-        };
-        let mut ahead = self.written.ahead(*first);
-        let rest = self.past_step(&mut ahead, listed);
-        for (key, saw) in rest {
-            if !self.is_explained(*key, *saw) {
+        let mut position = usize::MAX;
+        for (key, saw) in listed {
+            if !self.is_explained_next(&mut position, *key, *saw) {
                 return false;
             }
         }

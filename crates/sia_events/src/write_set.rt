@@ -1,6 +1,6 @@
 //! Who has written which key.
 ghost use Rattle.std.specs.Prelude.{◌≡◌, ℕ, ◌||◌, false, true, IsTrue, OnOk, List};
-ghost use Rattle.std.specs.List.{list_any, AllByRecursion};
+ghost use Rattle.std.specs.List.{list_any};
 ghost use Rattle.std.specs.BTreeSet.{contains};
 ghost use Rattle.sia_events.specs.WriteSets.{pair_cmp, same, wrote, IsSound};
 
@@ -8,19 +8,16 @@ use crate::event::{Key, TxnId};
 use crate::guesses::Guesses;
 use std::alloc::{AllocError, Global};
 use std::collections::BTreeSet;
-use std::collections::btree_set::Range;
 
 /// The writes, each once, in the order in which they came.
 ///
-/// A table guesses where a write stands. The writes for which it has no guess are in a tree, whose look-ups no choice of
-/// keys slows down. Lists of versions are compared with the tree in its order, so it takes in all writes once there is a
-/// list. No fact rests on what the tree lacks: a write that neither has is looked for among all of them.
+/// A table guesses where a write stands. The writes for which it has no slot are in a tree, whose look-ups no choice of
+/// keys slows down. No fact rests on what both lack: such a write is looked for among all of them.
 #[derive(Drop)]
 pub(crate) struct WriteSet {
     writes: Vec<(Key, TxnId)>,
     guesses: Guesses,
     tree: BTreeSet<(Key, TxnId)>,
-    ordered: usize,
 }
 
 /// Whether the write is one of these.
@@ -55,35 +52,48 @@ impl WriteSet {
             writes: Vec::new(alloc),
             guesses: Guesses::new(alloc),
             tree: BTreeSet::new(alloc),
-            ordered: 0,
         }
     }
 
     /// Whether the write is one, and the guess says where it stands.
-    pub(crate) fn is_guessed(&self, write: (Key, TxnId)) -> bool
+    fn is_guessed(&self, write: (Key, TxnId)) -> bool
         ensures { IsTrue result → wrote self.now write ≡ true }
     {
-        is_at(&self.writes, self.guesses.guess(&self.writes, write), write)
+        is_at(&self.writes, self.guesses.guess(write), write)
     }
 
+    /// The same of a write for which there is no slot.
     #[tactic(auto, unfolding(crate::specs::WriteSets::IsSound))]
-    pub(crate) fn contains(&self, write: (Key, TxnId)) -> bool
+    fn is_rare(&self, write: (Key, TxnId)) -> bool
         ensures { IsSound self.now → result ≡ wrote self.now write }
     {
-        if self.is_guessed(write) {
-            return true;
-        }
         if self.tree.contains(&write) {
             return true;
         }
         is_among(&self.writes, write)
     }
 
-    /// The writes of the tree from this one on.
-    pub(crate) fn ahead(&self, first: (Key, TxnId)) -> Range<'_, (Key, TxnId)>
-        ensures { AllByRecursion (λ p. contains pair_cmp self.now.tree p ≡ true) result }
+    pub(crate) fn contains(&self, write: (Key, TxnId)) -> bool
+        ensures { IsSound self.now → result ≡ wrote self.now write }
     {
-        self.tree.range(first..)
+        if self.is_guessed(write) {
+            return true;
+        }
+        self.is_rare(write)
+    }
+
+    /// The same, where the write may well be the one at the position. The position behind it is left there.
+    pub(crate) fn contains_next(&self, position: &mut usize, write: (Key, TxnId)) -> bool
+        ensures { IsSound self.now → result ≡ wrote self.now write }
+    {
+        if !is_at(&self.writes, *position, write) {
+            *position = self.guesses.guess(write);
+            if !is_at(&self.writes, *position, write) {
+                return self.is_rare(write);
+            }
+        }
+        *position = position.saturating_add(1);
+        true
     }
 
     /// Takes the write at the position into the tree.
@@ -98,13 +108,24 @@ impl WriteSet {
         Ok(())
     }
 
+    /// Makes a guess of the write at the position, and answers whether there was a slot for it.
+    fn guess_one(&mut self, position: usize) -> bool
+        ensures writes { self.new.writes ≡ self.old.writes }
+        ensures tree { self.new.tree ≡ self.old.tree }
+    {
+        match self.writes.get(position) {
+            Some(write) => self.guesses.put(*write, position),
+            None => true,
+        }
+    }
+
     /// Makes a guess of the write at the position, or takes it into the tree.
     #[tactic(auto, unfolding(crate::specs::WriteSets::IsSound))]
     fn place(&mut self, position: usize) -> Result<(), AllocError>
         ensures same { OnOk result (self.new.writes.items ≡ self.old.writes.items) }
         ensures sound { IsSound self.old → OnOk result (IsSound self.new) }
     {
-        if self.guesses.put(&self.writes, position) {
+        if self.guess_one(position) {
             return Ok(());
         }
         self.order_one(position)
@@ -142,18 +163,5 @@ impl WriteSet {
         }
         let last = self.writes.len() - 1;
         self.place(last)
-    }
-
-    /// Takes all writes into the tree.
-    #[tactic(auto, unfolding(crate::specs::WriteSets::IsSound))]
-    pub(crate) fn order(&mut self) -> Result<(), AllocError>
-        ensures same { OnOk result (self.new.writes.items ≡ self.old.writes.items) }
-        ensures sound { IsSound self.old → OnOk result (IsSound self.new) }
-    {
-        for position in self.ordered..self.writes.len() {
-            self.order_one(position)?;
-        }
-        self.ordered = self.writes.len();
-        Ok(())
     }
 }
