@@ -23,7 +23,7 @@ const LAST_POSITION: usize = 131_071;
 /// So many writes may find no slot before all are spread anew, beside one in `LOST_SHARE` of all.
 const LEAST_LOST: usize = 64;
 
-const LOST_SHARE: usize = 8;
+const LOST_SHARE: usize = 32;
 
 /// Odd numbers that spread bits: 2^64 by the golden ratio, and one of the usual mixers.
 const SPREAD: u64 = 11_400_714_819_323_198_485;
