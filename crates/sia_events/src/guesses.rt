@@ -9,8 +9,8 @@ const EMPTY: u32 = u32::MAX;
 /// So many slots stand together in a bucket.
 const WAYS: usize = 4;
 
-/// How many buckets are tried for a write.
-const TRIED: usize = 4;
+/// How many buckets are tried for a write by its first hash, and as many by its second.
+const TRIED: usize = 2;
 
 /// How many slots the least table has. Each table has a power of two of them.
 const LEAST_SLOTS: usize = 1024;
@@ -33,7 +33,7 @@ const MIX: u64 = 14_029_467_366_897_019_727;
 /// A hash table of positions in a list of writes. Nothing rests on it: who asks it looks where it points, and compares.
 ///
 /// Where too many writes share their slots, as writes that were chosen to do so, all are spread anew by a seed that is made
-/// of all of them.
+/// of all of them. So whoever chooses keys must choose them all before knowing their slots.
 #[derive(Drop)]
 pub(crate) struct Guesses {
     alloc: Global,
@@ -100,21 +100,28 @@ impl Guesses {
         }
     }
 
-    /// Where among the writes this one may stand.
-    pub(crate) fn guess(&self, write: (Key, TxnId)) -> usize {
-        let mixed = mixed(self.seed, write);
+    /// What the buckets of a hash say: a position, or `EMPTY` where there is room and none is found. Nothing where they are
+    /// full of others.
+    fn look(&self, mixed: u64) -> Option<u32> {
         let tag = tag_of(mixed);
         for tried in 0..TRIED {
             let start = self.bucket(mixed, tried);
             let found = self.found(start, tag);
-            if found != EMPTY {
-                return found as usize;
-            }
-            if self.slots.get(start.wrapping_add(WAYS - 1)) == Some(&EMPTY) {
-                return usize::MAX;
+            if found != EMPTY || self.slots.get(start.wrapping_add(WAYS - 1)) == Some(&EMPTY) {
+                return Some(found);
             }
         }
-        usize::MAX
+        None
+    }
+
+    /// Where among the writes this one may stand.
+    pub(crate) fn guess(&self, write: (Key, TxnId)) -> usize {
+        match self.look(mixed(self.seed, write)) {
+            Some(found) => found as usize,
+            None => self
+                .look(mixed(self.seed.wrapping_mul(MIX), write))
+                .unwrap_or(EMPTY) as usize,
+        }
     }
 
     /// Takes the entry into the first empty slot of the bucket, if there is one.
@@ -129,23 +136,34 @@ impl Guesses {
         false
     }
 
-    /// Takes in the position of one of the writes, and answers whether it found a slot.
-    pub(crate) fn put(&mut self, write: (Key, TxnId), position: usize) -> bool {
-        let mixed = mixed(self.seed, write);
+    /// Takes in a position by a hash, and answers whether it found a slot. Nothing where the buckets are full of others.
+    fn put_by(&mut self, mixed: u64, position: usize) -> Option<bool> {
         let tag = tag_of(mixed);
-        let entry = tag | position.min(LAST_POSITION) as u32;
         for tried in 0..TRIED {
             let start = self.bucket(mixed, tried);
             // A second slot with the tag would never be found.
             if self.found(start, tag) != EMPTY {
-                break;
+                return Some(false);
             }
-            if self.put_into(start, entry) {
-                return true;
+            if self.put_into(start, tag | position.min(LAST_POSITION) as u32) {
+                return Some(true);
             }
         }
-        self.lost = self.lost.saturating_add(1);
-        false
+        None
+    }
+
+    /// Takes in the position of one of the writes, and answers whether it found a slot.
+    pub(crate) fn put(&mut self, write: (Key, TxnId), position: usize) -> bool {
+        let first = mixed(self.seed, write);
+        let second = mixed(self.seed.wrapping_mul(MIX), write);
+        let has_slot = match self.put_by(first, position) {
+            Some(has_slot) => has_slot,
+            None => self.put_by(second, position) == Some(true),
+        };
+        if !has_slot {
+            self.lost = self.lost.saturating_add(1);
+        }
+        has_slot
     }
 
     /// Whether so many writes need a greater table, or another seed.
