@@ -108,7 +108,10 @@ impl Tables {
     fn is_explained(&self, key: Key, saw: Version) -> bool
         ensures { (events : List AnEvent) → Knows self.now events → result ≡ is_explained events (key, saw) }
     {
-        saw == 0 || self.written.contains((key, saw))
+        if saw == 0 {
+            return true;
+        }
+        self.written.contains((key, saw))
     }
 
     fn begin_fault(&self, txn: TxnId, start: Option<u32>, count: usize) -> Option<Reason>
@@ -139,7 +142,10 @@ impl Tables {
     fn is_explained_next(&self, position: &mut usize, key: Key, saw: Version) -> bool
         ensures { (events : List AnEvent) → Knows self.now events → result ≡ is_explained events (key, saw) }
     {
-        saw == 0 || self.written.contains_next(position, (key, saw))
+        if saw == 0 {
+            return true;
+        }
+        self.written.contains_next(position, (key, saw))
     }
 
     /// Whether each listed version is 0 or was written. Most lists go on as the writes did.

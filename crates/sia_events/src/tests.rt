@@ -6,6 +6,7 @@ use std::test::*;
 
 mod pieces;
 mod refusals;
+mod writes;
 mod writing;
 
 /// What a reader answers that is fed these two pieces with an empty one between them.
