@@ -28,7 +28,8 @@ fn single_tokens(rt: HostRuntime) {
     }
 }
 
-const LATER_TOKENS: [(&[u8], u32, Reason); 8] = [
+// The last four have transactions with great numbers that share their slots.
+const LATER_TOKENS: [(&[u8], u32, Reason); 12] = [
     (b"r1[5:2] w2[5]", 1, Reason::NotWritten),
     (b"r1[1:0] c1 b1", 3, Reason::AlreadyEnded),
     (b"r1[1:0] b1", 2, Reason::AlreadyBegun),
@@ -37,6 +38,26 @@ const LATER_TOKENS: [(&[u8], u32, Reason); 8] = [
     (b"\xff", 1, Reason::BadEvent),
     (b"c1\x0bc2", 1, Reason::BadEvent),
     (b"r1[3..9;5:0", 1, Reason::BadEvent),
+    (
+        b"c3612770304 c3953343625 c3612770304",
+        3,
+        Reason::AlreadyEnded,
+    ),
+    (
+        b"c3612770304 c3953343625 c4293916946 c3953343625",
+        4,
+        Reason::AlreadyEnded,
+    ),
+    (
+        b"c3612770304 c3953343625 c4293916946 b4293916946",
+        4,
+        Reason::AlreadyEnded,
+    ),
+    (
+        b"b3612770304 b3953343625 b4293916946 c339522971 b4293916946",
+        5,
+        Reason::AlreadyBegun,
+    ),
 ];
 
 #[test]
