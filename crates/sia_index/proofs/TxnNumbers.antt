@@ -6,6 +6,7 @@ use Rattle.std.proofs.lemmas.List.Elements.{All-contains}
 use Rattle.sia_events.specs.declared.event.Event.{Event}
 use Rattle.sia_events.specs.Lists.{ListsAscending}
 use Rattle.sia_events.specs.Transactions.{HasEvent, Wrote}
+use Rattle.sia_events.proofs.OneList.{one_list_by}
 use Rattle.sia_index.specs.declared.info.Fate.TheVariants.{Committed}
 use Rattle.sia_index.specs.declared.rows.TxnRow.{TxnRow}
 use Rattle.sia_index.specs.Info.{IsInfo, AreWrittenKeys, IsKeyAt}
@@ -13,7 +14,7 @@ use Rattle.sia_index.specs.Numbers.{IsTxnAt}
 use Rattle.sia_index.specs.Rows.{AreTxns}
 use Rattle.sia_index.proofs.Table.{start_has_event}
 
-none : TxnRow
+pub none : TxnRow
 none = record { txn = 0; info = record { start = 0; ended = None; fate = Committed } }
 
 -- the transactions of the table are all that have an event
@@ -42,6 +43,15 @@ table_lists h table ids are is = subst (ListsAscending (HasEvent h)) (sym is) (r
         )),
   );
 })
+
+-- transaction number i stands in row i of the table
+pub row_at : (h : List Event) (table : List TxnRow) → AreTxns h table → (i t : ℕ) → IsTxnAt h i t → (i < length table) × ((d : TxnRow) → IsInfo h t (slice_index_or table i d).info)
+row_at h table are i t at =
+    let own = table_lists h table (map (λ row. row.txn) table) are refl in
+    let same = one_list_by _ _ at.0 (map (λ row. row.txn) table) at.1 own in
+    let inside : i < length table = (let b = subst (λ ts. i < length ts) same at.2 in omega (arith, length-map table (λ (r : TxnRow). r.txn))) in
+    let here : slice_index (map (λ row. row.txn) table) i ≡ t = subst (λ ts. slice_index ts i ≡ t) same at.3 in
+    (inside, λ d. subst (λ u. IsInfo h u (slice_index_or table i d).info) (sym (get_or-map (λ (r : TxnRow). r.txn) table i d 0 inside) ∙ here) (are.right i d inside))
 
 -- what was found among them is the transaction's number, and what was not has no event
 pub txn_numbered : (h : List Event) (ids : List ℕ) → ListsAscending (HasEvent h) ids → (t : ℕ) (found : Option ℕ) → MatchOption found (All (λ id. id ≢ t) ids) (λ i. (i < length ids) × (slice_index ids i ≡ t)) → MatchOption found (¬ HasEvent h t) (λ i. IsTxnAt h i t)

@@ -7,3 +7,7 @@ use Rattle.sia_events.specs.Transactions.{HasEvent}
 -- t is number i of the transactions that have an event, counted from 0
 abbrev pub IsTxnAt : List Event → ℕ → ℕ → Type 0
 IsTxnAt h i t = (txns : List ℕ) × ListsAscending (HasEvent h) txns × (i < length txns) × (slice_index txns i ≡ t)
+
+-- there is a number i of the transactions that have an event, counted from 0
+abbrev pub HasTxnAt : List Event → ℕ → Type 0
+HasTxnAt h i = (txns : List ℕ) × ListsAscending (HasEvent h) txns × (i < length txns)

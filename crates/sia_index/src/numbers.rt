@@ -1,12 +1,14 @@
 //! The number of a transaction among all of them, and of a key among the written ones.
-ghost use Rattle.std.specs.Prelude.{◌≡◌, ◌≢◌, ◌<◌, ℕ, All, AllPairs, IfOk, MatchOption, length, map, slice_index};
+ghost use Rattle.std.specs.Prelude.{◌≡◌, ◌≢◌, ◌<◌, ℕ, All, AllPairs, IfOk, MatchOption, length, map, slice_index, slice_index_or};
 ghost use Rattle.sia_events.specs.Lists.{ListsAscending};
 ghost use Rattle.sia_events.specs.Transactions.{HasEvent, Wrote};
-ghost use Rattle.sia_index.specs.Info.{IsKeyAt};
-ghost use Rattle.sia_index.specs.Numbers.{IsTxnAt};
+ghost use Rattle.sia_index.specs.Info.{IsInfo, IsKeyAt};
+ghost use Rattle.sia_index.specs.declared.rows.TxnRow.{TxnRow};
+ghost use Rattle.sia_index.specs.Numbers.{HasTxnAt, IsTxnAt};
 
 use crate::guesses::guess;
 use crate::indexed::Index;
+use crate::info::TxnInfo;
 use crate::rows::{TxnRow, find_key};
 use sia_events::{Key, TxnId};
 use std::alloc::{AllocError, Global};
@@ -26,6 +28,14 @@ impl Index {
         find_id(&self.ids, &self.txn_guesses, t)
     }
 
+    /// What is known of transaction number `i`, counted from 0: no search is needed.
+    pub fn txn_at(&self, i: usize) -> TxnInfo
+        requires { HasTxnAt self.now i }
+        ensures { (t : ℕ) → IsTxnAt self.now i t → IsInfo self.now t result }
+    {
+        info_at(&self.txns, i)
+    }
+
     /// The number of a key among the written ones, counted from 0.
     pub fn key_number(&self, k: Key) -> Option<usize>
         ensures { MatchOption result ((t : ℕ) → ¬ Wrote self.now t k) (λ i. IsKeyAt self.now i k) }
@@ -39,6 +49,14 @@ pub fn ids_of(alloc: Global, table: &[TxnRow]) -> Result<Vec<TxnId>, AllocError>
     ensures { IfOk result (λ ids. ids.items ≡ map (λ row. row.txn) table.now) }
 {
     table.iter().map(|row| row.txn).collect(alloc)
+}
+
+// What the row says of its transaction.
+fn info_at(table: &[TxnRow], i: usize) -> TxnInfo
+    requires { i < length table.now }
+    ensures { (d : TxnRow) → result ≡ (slice_index_or table.now i d).info }
+{
+    table[i].info
 }
 
 // The number of the transaction among these, counted from 0, or None where it isn't one of them.
