@@ -6,7 +6,7 @@ pub mod OfSource
 pub mod SpacedWords
 pub mod SameVerdict
 pub mod Judging
-pub mod Actors
+pub mod Tallies
 pub mod Fates
 pub mod Owed
 pub mod KeptTransactions

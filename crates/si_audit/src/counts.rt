@@ -1,5 +1,5 @@
 // How many events there are, and which transactions committed, aborted, or are open.
-ghost use Rattle.std.specs.Prelude.{◌≡◌, ◌↔◌, ◌≤◌, length, IfOk, IsTrue};
+ghost use Rattle.std.specs.Prelude.{◌≡◌, ◌<◌, length, slice_index, IfOk};
 ghost use Rattle.sia_events.specs.Lists.{ListsAscending};
 ghost use Rattle.sia_events.specs.Refusals.{IsWellFormed};
 ghost use Rattle.sia_events.specs.Transactions.{HasEvent};
@@ -20,70 +20,39 @@ pub(crate) struct Counts {
     pub(crate) unfinished: u32,
 }
 
-/// The transactions that have an event, ascending.
-fn actors(alloc: Global, h: &History) -> Result<Vec<TxnId>, NoMemory>
-    ensures each { IfOk result (λ txns. ListsAscending (HasEvent h.now) txns.items) }
-    ensures few { IfOk result (λ txns. length txns.items ≤ length h.now) }
-{
-    let mut txns = Vec::with_capacity(alloc, h.len() as usize)?;
-    for before in 0..h.len() {
-        if let Some(event) = h.event(before + 1) {
-            txns.push(event.txn())?;
-        }
-    }
-    txns.sort_unstable();
-    txns.dedup();
-    Ok(txns)
-}
-
-/// Those of the transactions that ended so.
-fn with_fate(alloc: Global, ix: &Index, txns: &[TxnId], fate: Fate) -> Result<Vec<TxnId>, NoMemory>
-    requires well_formed { IsWellFormed ix.now }
-    requires txns { ListsAscending (HasEvent ix.now) txns.now }
-    ensures each { IfOk result (λ found. ListsAscending (EndedSo ix.now fate) found.items) }
-    ensures few { IfOk result (λ found. length found.items ≤ length txns.now) }
-{
-    let mut found = Vec::new(alloc);
-    for txn in txns {
-        if has_fate(ix, *txn, fate) {
-            found.push(*txn)?;
-        }
-    }
-    Ok(found)
-}
-
-/// Whether the transaction ended so.
-fn has_fate(ix: &Index, txn: TxnId, fate: Fate) -> bool
-    requires { IsWellFormed ix.now }
-    ensures { IsTrue result ↔ EndedSo ix.now fate txn }
-{
-    match ix.txn(txn) {
-        Some(info) => is_same(info.fate, fate),
-        None => false,
-    }
-}
-
-fn is_same(a: Fate, b: Fate) -> bool
-    ensures { IsTrue result ↔ (a ≡ b) }
-{
-    a == b
-}
-
 /// The counts of a history.
 pub(crate) fn counted(alloc: Global, h: &History, ix: &Index) -> Result<Counts, NoMemory>
     requires index { ix.now ≡ h.now }
     requires well_formed { IsWellFormed h.now }
     ensures { IfOk result (AreCounts h.now) }
 {
-    let actors = actors(alloc, h)?;
-    let txns = actors.as_slice();
-    let committed = with_fate(alloc, ix, txns, Fate::Committed)?;
-    let aborted = with_fate(alloc, ix, txns, Fate::Aborted)?;
-    let unfinished = with_fate(alloc, ix, txns, Fate::Unfinished)?;
+    let events = h.len();
+    let txns = ix.txns();
+    let mut committed = Vec::with_capacity(alloc, txns.len())?;
+    let mut aborted: u32 = 0;
+    let mut unfinished: u32 = 0;
+    for i in 0..txns.len() {
+        match fate_at(ix, txns, i) {
+            Fate::Committed => committed.push(txns[i])?,
+            Fate::Aborted => aborted += 1,
+            Fate::Unfinished => unfinished += 1,
+        }
+    }
     Ok(Counts {
-        events: h.len(),
+        events,
         committed,
-        aborted: aborted.len() as u32,
-        unfinished: unfinished.len() as u32,
+        aborted,
+        unfinished,
     })
+}
+
+/// How transaction number `i` ended, counted from 0.
+fn fate_at(ix: &Index, txns: &[TxnId], i: usize) -> Fate
+    requires well_formed { IsWellFormed ix.now }
+    requires txns { ListsAscending (HasEvent ix.now) txns.now }
+    requires within { i < length txns.now }
+    ensures { EndedSo ix.now result (slice_index txns.now i) }
+{
+    let _ = txns;
+    ix.txn_at(i).fate
 }
