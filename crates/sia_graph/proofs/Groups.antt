@@ -1,9 +1,10 @@
 -- What stands side by side in a list that is in order by ranks: all that have one first number.
-use Rattle.std.proofs.Common.{◌≡◌, inl, inr, ℕ, ◌+◌, ◌-◌, ◌<◌, true, false, List, ◌∷◌, ◌++◌, length, get_or, take, drop, ltb, leb, ap, sym, ◌∙◌, subst, arith}
+use Rattle.std.proofs.Common.{◌≡◌, ◌⊎◌, inl, inr, ℕ, ◌+◌, ◌-◌, ◌<◌, ◌≤◌, true, false, List, ◌∷◌, ◌++◌, length, get_or, take, drop, ltb, leb, refl, ap, sym, ◌∙◌, subst, arith}
 use Rattle.std.specs.Prelude.{AllPairs}
+use Rattle.std.specs.List.{AllWithin}
 use Rattle.std.specs.List.Sorted.{IsNonDecreasingBy, IsPartitionPoint}
-use Rattle.std.proofs.lemmas.Bool.{cases_lt, ltb-true, ltb-false, leb-true, leb-false}
-use Rattle.std.proofs.lemmas.List.{take-append-drop, get_or-take, get_or-drop, length-take, length-drop}
+use Rattle.std.proofs.lemmas.Bool.{cases_lt, lt-ltb, le-ltb, le-leb, lt-leb, ltb-true, ltb-false, leb-true, leb-false}
+use Rattle.std.proofs.lemmas.List.{take-append-drop, get_or-take, get_or-drop, get_or_default, length-take, length-drop}
 use Rattle.sia_events.specs.Lists.{Precedes}
 use Rattle.sia_graph.specs.Groups.{IsGroup}
 
@@ -44,3 +45,45 @@ cut_out {A} key xs rest t first count is a b =
           let f = leb-false (key (get_or rest (count + k) d)) t (b.1 (count + k) d (omega arith) (omega arith)) in
           subst (λ (x : A). t < key x) (sym e) f,
     )
+
+-- what stands between two places, where what is before is less, and what is after greater
+pub between : {A : Type 0} (key : A → ℕ) (xs : List A) (t first end : ℕ) → first ≤ end → end ≤ length xs
+    → AllWithin (λ x. key x < t) xs 0 first → AllWithin (λ x. key x ≡ t) xs first end → AllWithin (λ x. t < key x) xs end (length xs)
+    → IsGroup key xs t (take (end - first) (drop first xs))
+between {A} key xs t first end l m below at above =
+    let no_less = λ (k : ℕ) (d : A) (a : first ≤ k) (b : k < length xs). no_less_at k d a b (cases_lt k end) in
+    let long = length-drop first xs in
+    let same = λ (k : ℕ) (d : A). ap key (get_or-drop first xs k d) in
+    cut_out key xs (drop first xs) t first (end - first) refl
+    ((λ k d a b. lt-ltb (key (get_or xs k d)) t (below k d a b)), (λ k d a b. le-ltb (key (get_or xs k d)) t (no_less k d a b))) (
+      (λ k d a b. le-leb (key (get_or (drop first xs) k d)) t (let e = same k d in let f = at (first + k) d (omega arith) (omega arith) in omega arith)),
+      (λ k d a b. lt-leb (key (get_or (drop first xs) k d)) t (let e = same k d in let f = above (first + k) d (omega arith) (omega arith) in omega arith)),
+    )
+  where
+    no_less_at : (k : ℕ) (d : A) → first ≤ k → k < length xs → (k < end) ⊎ (end ≤ k) → t ≤ key (get_or xs k d)
+    no_less_at k d a b (inl less) = let e = at k d a less in omega arith
+    no_less_at k d a b (inr more) = let e = above k d more b in omega arith
+
+module _ {A : Type 0} (key : A → ℕ) (xs : List A) (rise : IsNonDecreasingBy key xs) (t : ℕ) (e : A) where
+  -- one that is less has none before it that isn't
+  pub less_before : (first : ℕ) → 0 < first → first ≤ length xs → key (get_or xs (first - 1) e) < t → AllWithin (λ x. key x < t) xs 0 first
+  less_before first some within less k d a b =
+      let up = rise k (first - 1) d (omega arith) (omega arith) in
+      let same = ap key (get_or_default xs (first - 1) e d (omega arith)) in
+      omega arith
+
+  -- one that is greater has none after it that isn't
+  pub greater_after : (end : ℕ) → end < length xs → t < key (get_or xs end e) → AllWithin (λ x. t < key x) xs end (length xs)
+  greater_after end within more k d a b =
+      let up = rise end k d a b in
+      let same = ap key (get_or_default xs end e d within) in
+      omega arith
+
+  -- what is between two that are the same is the same
+  pub same_between : (first end : ℕ) → first < end → end ≤ length xs → key (get_or xs first e) ≡ t → key (get_or xs (end - 1) e) ≡ t → AllWithin (λ x. key x ≡ t) xs first end
+  same_between first end less within front back k d a b =
+      let up = rise first k d a (omega arith) in
+      let down = rise k (end - 1) d (omega arith) (omega arith) in
+      let same = ap key (get_or_default xs first e d (omega arith)) in
+      let other = ap key (get_or_default xs (end - 1) e d (omega arith)) in
+      omega arith

@@ -1,5 +1,5 @@
 -- One more transaction is taken: the least that is ready, with what it releases.
-use Rattle.std.proofs.Common.{◌≡◌, ◌≢◌, ◌⊎◌, inl, inr, ℕ, ◌+◌, ◌<◌, ◌≤◌, true, false, List, [], ◌∷◌, ◌++◌, length, get_or, slice_get, Some, ap, sym, ◌∙◌, subst, arith}
+use Rattle.std.proofs.Common.{◌≡◌, ◌≢◌, ◌⊎◌, inl, inr, ℕ, ◌+◌, ◌<◌, ◌≤◌, true, false, List, [], ◌∷◌, ◌++◌, length, get_or, slice_get, Some, refl, ap, sym, ◌∙◌, subst, arith}
 use Rattle.std.specs.Prelude.{Contains, All, IsTrue, ◌↔◌, not}
 use Rattle.std.specs.BTreeSet.{BTreeSet, contains, Updates, IsLowerBound}
 use Rattle.std.specs.Ordering.{nat_cmp, is_gt}
@@ -11,7 +11,7 @@ use Rattle.sia_parts.specs.declared.finding.Edge.{Edge}
 use Rattle.sia_graph.specs.Orders.{Leads}
 use Rattle.sia_graph.specs.Fronts.{arriving, waiting, stands, leads_to, AreEdgesFrom, AreWaiting, IsFreed, IsTaking, IsLastFront, left_over}
 use Rattle.sia_graph.proofs.Positions.{Stands, contains_stands, stands_contains, true_stands, stands_false, false_stands, stands_more, stands_last, stands_cases, get_left, get_right}
-use Rattle.sia_graph.proofs.Fronts.{front_more}
+use Rattle.sia_graph.proofs.Fronts.{front_more, front_none}
 use Rattle.sia_graph.proofs.Waiting.{none_waits, none_wait_if, some_counted, all_at, released, fewer_left}
 use Rattle.sia_graph.proofs.Releasing.{removed}
 
@@ -163,3 +163,25 @@ IsMember ids e = Contains ids e.dst
 
 pub joined_members : (ids : List ℕ) (edges : List Edge) → Joins ids edges → All (IsMember ids) edges
 joined_members ids edges joins k d l = (joins k d l).1
+
+-- nothing is taken yet
+pub taking_none : (ids : List ℕ) (edges : List Edge) (counts : List ℕ) (ready : BTreeSet ℕ) → AreWaiting [] ids edges counts
+    → ((t : ℕ) → IsTrue (contains nat_cmp ready t) ↔ ((i : ℕ) × (i < length ids) × (get_or ids i 0 ≡ t) × (get_or counts i 0 ≡ 0))) → IsTaking ids edges counts [] ready
+taking_none ids edges counts ready counted is = record {
+  is_front = front_none (Contains ids) (Contains edges);
+  counted = counted;
+  is_ready = λ t. (
+    (λ c.
+        let w = (is t).0 c in
+        let e = counted.1 w.0 w.1 in
+        let z = w.3 in
+        ((w.0, w.1, get_or_default ids w.0 t 0 w.1 ∙ w.2), refl, subst (λ u. waiting [] edges u ≡ 0) w.2 (omega arith))),
+    (λ w.
+        let at = w.0 in
+        let same : get_or ids at.0 0 ≡ t = get_or_default ids at.0 0 t at.1 ∙ at.2 in
+        let e = counted.1 at.0 at.1 in
+        let f = ap (λ u. waiting [] edges u) same in
+        let z = w.2 in
+        (is t).1 (at.0, at.1, same, omega arith)),
+  );
+}

@@ -4,6 +4,7 @@
 mod adjacency;
 mod chains;
 mod firsts;
+mod guesses;
 mod laws;
 mod links;
 mod order;

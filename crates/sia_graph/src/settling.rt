@@ -5,7 +5,7 @@ ghost use Rattle.sia_events.specs.Lists.{Precedes};
 ghost use Rattle.sia_parts.specs.Entries.{edge_rank};
 ghost use Rattle.sia_graph.specs.Verdicts.{IsVerdict};
 
-use crate::adjacency::guesses_of;
+use crate::guesses::Guesses;
 use crate::taking::{count_edges, take_ready};
 use crate::txns::Txns;
 use crate::walking::cycle_from;
@@ -69,15 +69,14 @@ pub fn settle(alloc: Global, ids: &[TxnId], edges: &[Edge]) -> Result<Verdict, N
     requires sorted { AllPairs (λ d e. Precedes (edge_rank d) (edge_rank e)) edges.now }
     ensures { IfOk result (IsVerdict (Contains ids.now) (Contains edges.now)) }
 {
-    let guesses = guesses_of(alloc, ids)?;
-    let guesses = guesses.as_slice();
-    let mut counted = count_edges(alloc, ids, guesses, edges)?;
+    let mut guesses = Guesses::of(alloc, ids, edges.len())?;
+    let mut counted = count_edges(alloc, ids, &mut guesses, edges)?;
     let counts = counted.as_mut_slice();
-    let order = take_ready(alloc, ids, guesses, edges, counts)?;
+    let order = take_ready(alloc, ids, &guesses, edges, counts)?;
     match first_left(counts) {
         None => Ok(Verdict::Order(Txns::new(order))),
         Some(start) => {
-            let steps = cycle_from(alloc, ids, guesses, edges, counts, start)?;
+            let steps = cycle_from(alloc, ids, &guesses, edges, counts, start)?;
             Ok(Verdict::Cycle(Steps { steps }))
         }
     }

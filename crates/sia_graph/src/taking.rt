@@ -8,16 +8,17 @@ ghost use Rattle.sia_parts.specs.Entries.{edge_rank};
 ghost use Rattle.sia_graph.specs.Fronts.{AreWaiting, IsFreed, IsFront, IsLastFront, arriving};
 
 use crate::adjacency::{edges_from, position_of};
+use crate::guesses::Guesses;
 use sia_events::{NoMemory, TxnId};
 use sia_parts::Edge;
 use std::alloc::Global;
 use std::collections::BTreeSet;
 
-/// For each id how many edges lead to it.
+/// For each id how many edges lead to it. Notes where the edges from each id start.
 pub(crate) fn count_edges(
     alloc: Global,
     ids: &[TxnId],
-    guesses: &[usize],
+    guesses: &mut Guesses,
     edges: &[Edge],
 ) -> Result<Vec<usize>, NoMemory>
     requires ascending { IsStrictlyIncreasing ids.now }
@@ -25,7 +26,11 @@ pub(crate) fn count_edges(
     ensures { IfOk result (λ counts. AreWaiting [] ids.now edges.now counts.items) }
 {
     let mut counts = vec![in alloc; 0usize; ids.len()]?;
+    let mut source = 0usize;
+    let mut at = 0usize;
     for e in edges {
+        source = guesses.note_start(ids, source, e.src, at);
+        at = at.wrapping_add(1);
         let i = position_of(ids, guesses, e.dst);
         counts[i] += 1;
     }
@@ -35,7 +40,7 @@ pub(crate) fn count_edges(
 /// Takes edges that leave from the counts, and adds what becomes ready.
 fn release(
     ids: &[TxnId],
-    guesses: &[usize],
+    guesses: &Guesses,
     leaving: &[Edge],
     counts: &mut [usize],
     ready: &mut BTreeSet<TxnId>,
@@ -93,7 +98,7 @@ fn next_ready(ready: &mut BTreeSet<TxnId>) -> Option<TxnId>
 pub(crate) fn take_ready(
     alloc: Global,
     ids: &[TxnId],
-    guesses: &[usize],
+    guesses: &Guesses,
     edges: &[Edge],
     counts: &mut [usize],
 ) -> Result<Vec<TxnId>, NoMemory>
@@ -107,7 +112,8 @@ pub(crate) fn take_ready(
     let mut order = Vec::new(alloc);
     while let Some(txn) = next_ready(&mut ready) {
         order.push(txn)?;
-        release(ids, guesses, edges_from(edges, txn), counts, &mut ready)?;
+        let leaving = edges_from(edges, guesses, guesses.place(ids, txn), txn);
+        release(ids, guesses, leaving, counts, &mut ready)?;
     }
     Ok(order)
 }

@@ -9,6 +9,7 @@ ghost use Rattle.sia_graph.specs.Orders.{Leads};
 ghost use Rattle.sia_graph.specs.Walks.{AreLeft, ArePrevious, GoesRoundFrom, IsFedBack, LeadsBack, StaysWithin, back};
 
 use crate::adjacency::{edges_from, position_of};
+use crate::guesses::Guesses;
 use crate::settling::Step;
 use sia_events::{NoMemory, TxnId};
 use sia_parts::Edge;
@@ -17,7 +18,7 @@ use std::alloc::Global;
 /// Lets the targets of edges from the transaction at `source` lead back to it.
 fn lead_back(
     ids: &[TxnId],
-    guesses: &[usize],
+    guesses: &Guesses,
     leaving: &[Edge],
     source: usize,
     previous: &mut [usize],
@@ -38,7 +39,7 @@ fn lead_back(
 pub(crate) fn least_sources(
     alloc: Global,
     ids: &[TxnId],
-    guesses: &[usize],
+    guesses: &Guesses,
     edges: &[Edge],
     counts: &[usize],
 ) -> Result<Vec<usize>, NoMemory>
@@ -54,7 +55,8 @@ pub(crate) fn least_sources(
     let mut previous = vec![in alloc; 0usize; ids.len()]?;
     for i in (0..ids.len()).rev() {
         if counts[i] > 0 {
-            lead_back(ids, guesses, edges_from(edges, ids[i]), i, &mut previous);
+            let leaving = edges_from(edges, guesses, i, ids[i]);
+            lead_back(ids, guesses, leaving, i, &mut previous);
         }
     }
     Ok(previous)
@@ -159,7 +161,7 @@ fn steps_round(
 pub(crate) fn cycle_from(
     alloc: Global,
     ids: &[TxnId],
-    guesses: &[usize],
+    guesses: &Guesses,
     edges: &[Edge],
     counts: &[usize],
     start: usize,

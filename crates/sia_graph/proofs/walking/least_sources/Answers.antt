@@ -5,7 +5,7 @@ use Rattle.sia_graph.proofs.LeastSources.{IsLeastFrom, AreLeastFrom, all_passed,
 use Rattle.sia_graph.proofs.walking.least_sources.Goals as goal
 
 pub lead_back-requires-clause-members : goal.lead_back-requires-clause-members
-lead_back-requires-clause-members c = group_all (IsMember c.args.ids.now) c.args.edges.now _ _ c.edges_from.ensures (joined_members c.args.ids.now c.args.edges.now c.requires.joins)
+lead_back-requires-clause-members c = group_all (IsMember c.args.ids.now) c.args.edges.now _ _ c.edges_from-leaving.ensures (joined_members c.args.ids.now c.args.edges.now c.requires.joins)
 
 pub loop-i-preserved-then-counts-i-gt0 : goal.loop-i-preserved-then-counts-i-gt0
 loop-i-preserved-then-counts-i-gt0 c =
@@ -18,7 +18,7 @@ loop-i-preserved-then-counts-i-gt0 c =
     let back : i + 1 ≡ c.loop-i.i = let b = c.loop-i-test.true in omega arith in
     let is : take c.loop-i.previous.len (new ++ drop (length new) old) ≡ new = take_at new (drop (length new) old) c.loop-i.previous.len same in
     subst (λ (l : List ℕ). AreLeastFrom c.args.ids.now c.args.edges.now c.args.counts.now i l) (sym is)
-    (all_led_back c.args.ids.now c.args.edges.now c.args.counts.now i c.edges_from.result.now below c.if-counts-i-gt0.true c.edges_from.ensures old new long
+    (all_led_back c.args.ids.now c.args.edges.now c.args.counts.now i c.edges_from-leaving.result.now below c.if-counts-i-gt0.true c.edges_from-leaving.ensures old new long
     c.lead_back.ensures.led (λ j l z. c.lead_back.ensures.kept j l z ∙ ap (λ xs. get_or xs j 0) c.deref_mut.ensures.value)
     (subst (λ n. AreLeastFrom c.args.ids.now c.args.edges.now c.args.counts.now n old) (sym back) c.loop-i.invariant))
 
