@@ -1,21 +1,21 @@
 -- Lists of links: those at one transaction, and the transactions at their ends.
-use Rattle.std.proofs.Common.{◌≡◌, ◌↔◌, inl, inr, ℕ, ◌+◌, ◌<◌, ◌==◌, Bool, true, false, not, List, [], ◌∷◌, ◌++◌, length, get_or, map, refl, ap, sym, ◌∙◌, subst, arith}
+use Rattle.std.proofs.Common.{◌≡◌, ◌↔◌, inl, inr, ℕ, ◌+◌, ◌<◌, ◌==◌, Bool, true, false, not, List, [], ◌∷◌, ◌++◌, length, get_or, map, take, refl, ap, sym, ◌∙◌, subst, arith}
 use Rattle.std.specs.Prelude.{All, AllPairs, Contains, IsTrue}
-use Rattle.std.specs.List.{filter}
 use Rattle.std.specs.List.Sorted.{IsStrictlySortedBy}
 use Rattle.std.specs.Ordering.{ordering_then, nat_cmp}
 use Rattle.std.specs.declared.cmp.Ordering.{Ordering}
 use Rattle.std.specs.declared.cmp.Ordering.TheVariants.{Less}
 use Rattle.std.proofs.lemmas.Bool.{ne_eqb}
-use Rattle.std.proofs.lemmas.List.{get_or-map, length-map, length-append, get_or-append-add, get_or_append_left}
+use Rattle.std.proofs.lemmas.List.{take_more, get_or-map, length-map, length-append, get_or-append-add, get_or_append_left}
 use Rattle.std.proofs.lemmas.List.Elements.{All-contains, Contains-append_left, Contains-append_right, Contains-append_cases}
 use Rattle.sia_events.specs.Lists.{Precedes, ListsAscending}
 use Rattle.sia_graph.specs.declared.links.Link.{Link}
 use Rattle.sia_parts.specs.declared.finding.Edge.{Edge}
 use Rattle.sia_parts.specs.declared.finding.Kind.{Kind}
 use Rattle.sia_parts.specs.declared.finding.Kind.TheVariants.{Ww, Wr, Rw}
-use Rattle.sia_graph.specs.Links.{ListsLinks, AreLinksAt, AreLinked, HasRw, is_rw, link_rank}
-use Rattle.sia_graph.proofs.Listed.{listed_as, listed_in_order, mapped, passed, precedes_last, precedes_then}
+use Rattle.sia_graph.specs.Links.{ListsLinks, AreEnds, AreLinksAt, AreLinked, HasRw, is_rw, link_rank}
+use Rattle.sia_graph.proofs.Positions.{contains_stands, only_one}
+use Rattle.sia_graph.proofs.Listed.{listed_as, listed_in_order, mapped, precedes_last, precedes_then}
 
 module _ (R : ℕ → ℕ → Type 0) (links : List Link) (l : ListsLinks R links) (t : ℕ) (group : List Link) (at : AreLinksAt links t group) where
   abbrev before : List Link
@@ -136,24 +136,66 @@ rw_kind Ww e = cc
 rw_kind Wr e = cc
 rw_kind Rw e = refl
 
-abbrev ends_of : Edge → Link
+only_one_in : {A : Type 0} (x y : A) → Contains (x ∷ []) y → x ≡ y
+only_one_in x y c = let s = contains_stands (x ∷ []) y c in (only_one y x s.0 s.1).1
+
+abbrev pub ends_of : Edge → Link
 ends_of e = record { at = e.src; other = e.dst }
 
--- the ends of the rw edges, put in order
-pub rw_listed : (edges : List Edge) (others found : List Link) → others ≡ map ends_of (filter (λ e. is_rw e.kind) edges) → IsStrictlySortedBy by_link found
-    → ((l : Link) → Contains others l → Contains found l) → ((l : Link) → Contains found l → Contains others l) → ListsLinks (HasRw edges) found
-rw_listed edges others found is sorted keeps adds_none =
-    listed_as link_rank (Contains others) (λ l. HasRw edges l.at l.other) (λ l. (
-      (λ c.
-          let w = (mapped ends_of (filter (λ e. is_rw e.kind) edges) l).0 (subst (λ xs. Contains xs l) is c) in
-          let e : Edge = w.0 in
-          let k = (passed (λ (e : Edge). is_rw e.kind) edges e).0 w.1 in
-          (e, k.0, rw_kind e.kind k.1, ap (λ (k : Link). k.at) w.2, ap (λ (k : Link). k.other) w.2)),
-      (λ (e, c, kind, src, dst).
-          let kept = (passed (λ (e : Edge). is_rw e.kind) edges e).1 (c, ap is_rw kind) in
-          let same : ends_of e ≡ l = λ i. record { at = src i; other = dst i } in
-          subst (λ xs. Contains xs l) (sym is) ((mapped ends_of (filter (λ e. is_rw e.kind) edges) l).1 (e, kept, same))),
-    )) found (listed_in_order link_rank by_link link_before others found sorted keeps adds_none)
+module _ (R : ℕ → ℕ → Type 0) where
+  pub ends_none : AreEnds R [] []
+  ends_none l = ((λ c. absurd (let below = c.1 in omega arith)), (λ w. absurd (let below = w.0.1.1 in omega arith)))
+
+  module _ (edges : List Edge) (links : List Link) (are : AreEnds R edges links) (e : Edge) where
+    -- one edge more, of the kind rw and with R
+    pub ends_more : (e.kind ≡ Rw) × R e.src e.dst → AreEnds R (edges ++ e ∷ []) (links ++ ends_of e ∷ [])
+    ends_more (kind, has) l = (
+      (λ c. elim (Contains-append_cases links (ends_of e ∷ []) l c) [
+        | inl old ↦ let w = (are l).0 old in ((w.0.0, Contains-append_left edges (e ∷ []) w.0.0 w.0.1, w.0.2, w.0.3, w.0.4), w.1)
+        | inr new ↦
+            let same = only_one_in (ends_of e) l new in (
+              (e, Contains-append_right edges (e ∷ []) e (0, omega arith, refl), kind, ap (λ (k : Link). k.at) same, ap (λ (k : Link). k.other) same),
+              subst (λ (k : Link). R k.at k.other) same has,
+            )
+      ]),
+      (λ ((d, c, rw_kind, src, dst), over). elim (Contains-append_cases edges (e ∷ []) d c) [
+        | inl old ↦ Contains-append_left links (ends_of e ∷ []) l ((are l).1 ((d, old, rw_kind, src, dst), over))
+        | inr new ↦
+            let same : e ≡ d = only_one_in e d new in
+            let is : ends_of e ≡ l = λ i. record { at = (ap (λ (x : Edge). x.src) same ∙ src) i; other = (ap (λ (x : Edge). x.dst) same ∙ dst) i } in
+            subst (Contains (links ++ ends_of e ∷ [])) is (Contains-append_right links (ends_of e ∷ []) (ends_of e) (0, omega arith, refl))
+      ]),
+    )
+
+    -- one edge more that isn't so
+    pub ends_same : ¬ ((e.kind ≡ Rw) × R e.src e.dst) → AreEnds R (edges ++ e ∷ []) links
+    ends_same other l = (
+      (λ c. let w = (are l).0 c in ((w.0.0, Contains-append_left edges (e ∷ []) w.0.0 w.0.1, w.0.2, w.0.3, w.0.4), w.1)),
+      (λ ((d, c, rw_kind, src, dst), over). elim (Contains-append_cases edges (e ∷ []) d c) [
+        | inl old ↦ (are l).1 ((d, old, rw_kind, src, dst), over)
+        | inr new ↦
+            let same : e ≡ d = only_one_in e d new in
+            absurd (other (ap (λ (x : Edge). x.kind) same ∙ rw_kind, subst (λ (n : ℕ). R n e.dst) (sym (ap (λ (x : Edge). x.src) same ∙ src)) (subst (R l.at) (sym (ap (λ (x : Edge). x.dst) same ∙ dst)) over)))
+      ]),
+    )
+
+  -- the same of the first edges of a list
+  module _ (edges : List Edge) (n : ℕ) (d : Edge) (within : n < length edges) (links now : List Link) (are : AreEnds R (take n edges) links) where
+    pub next_more : ((get_or edges n d).kind ≡ Rw) × R (get_or edges n d).src (get_or edges n d).dst → now ≡ links ++ ends_of (get_or edges n d) ∷ [] → AreEnds R (take (n + 1) edges) now
+    next_more has is =
+        subst (λ xs. AreEnds R xs now) (sym (take_more edges n d within))
+        (subst (AreEnds R (take n edges ++ get_or edges n d ∷ [])) (sym is) (ends_more (take n edges) links are (get_or edges n d) has))
+
+    pub next_same : ¬ (((get_or edges n d).kind ≡ Rw) × R (get_or edges n d).src (get_or edges n d).dst) → now ≡ links → AreEnds R (take (n + 1) edges) now
+    next_same other is =
+        subst (λ xs. AreEnds R xs now) (sym (take_more edges n d within))
+        (subst (AreEnds R (take n edges ++ get_or edges n d ∷ [])) (sym is) (ends_same (take n edges) links are (get_or edges n d) other))
+
+  -- these ends, put in order
+  pub ends_in_order : (edges : List Edge) (others found : List Link) → AreEnds R edges others → IsStrictlySortedBy by_link found
+      → ((l : Link) → Contains others l → Contains found l) → ((l : Link) → Contains found l → Contains others l) → ListsLinks (λ t u. HasRw edges t u × R t u) found
+  ends_in_order edges others found are sorted keeps adds_none =
+      listed_as link_rank (Contains others) (λ l. HasRw edges l.at l.other × R l.at l.other) are found (listed_in_order link_rank by_link link_before others found sorted keeps adds_none)
 
 abbrev pub IsLinked : List Link → ℕ → Type 0
 IsLinked links t = (u : ℕ) × AreLinked links t u

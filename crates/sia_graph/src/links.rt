@@ -1,12 +1,13 @@
 //! The overlapping transactions between which an rw edge leads, in lists that are searched by one end.
 ghost use Rattle.std.specs.Prelude.{◌≡◌, ◌↔◌, ℕ, ⊤, AllPairs, IfOk, IsTrue, map};
-ghost use Rattle.std.specs.List.{filter};
 ghost use Rattle.sia_events.specs.DangerousStructures.{IsVulnerable};
 ghost use Rattle.sia_events.specs.Lists.{ListsAscending, Precedes};
+ghost use Rattle.sia_events.specs.Transactions.{Overlap};
+ghost use Rattle.sia_parts.specs.declared.finding.Kind.TheVariants.{Rw};
 ghost use Rattle.sia_parts.specs.Findings.{ListsEdges};
-ghost use Rattle.sia_graph.specs.Links.{AreLinked, AreLinksAt, HasRw, ListsLinks, is_rw, link_rank};
+ghost use Rattle.sia_graph.specs.Links.{AreEnds, AreLinked, AreLinksAt, ListsLinks, is_rw, link_rank};
 
-use crate::ordering::put_in_order;
+use crate::ordering::{merge_in_order, put_in_order};
 use sia_events::TxnId;
 use sia_index::Index;
 use sia_parts::{Edge, Kind};
@@ -29,26 +30,26 @@ fn leads_rw(e: &Edge) -> bool
     }
 }
 
-/// The ends of each edge of the kind rw.
-fn ends_of_rw(alloc: Global, edges: &[Edge]) -> Result<Vec<Link>, AllocError>
-    ensures { IfOk result (λ links. links.items ≡ map (λ e. record { at = e.src; other = e.dst }) (filter (λ e. is_rw e.kind) edges.now)) }
+/// Whether an edge is of the kind rw, and its ends overlap.
+fn is_vulnerable(ix: &Index, e: &Edge) -> bool
+    ensures { IsTrue result ↔ ((e.now.kind ≡ Rw) × Overlap ix.now e.now.src e.now.dst) }
 {
-    edges
-        .iter()
-        .filter(|e| leads_rw(e))
-        .map(|e| Link {
-            at: e.src,
-            other: e.dst,
-        })
-        .collect(alloc)
+    leads_rw(e) && ix.overlap(e.src, e.dst)
 }
 
-/// The same in order, once each.
-fn rw_links(alloc: Global, edges: &[Edge]) -> Result<Vec<Link>, AllocError>
-    ensures { IfOk result (λ links. ListsLinks (HasRw edges.now) links.items) }
+/// The ends of each such edge.
+fn ends_of_vulnerable(alloc: Global, edges: &[Edge], ix: &Index) -> Result<Vec<Link>, AllocError>
+    ensures { IfOk result (λ links. AreEnds (Overlap ix.now) edges.now links.items) }
 {
-    let mut links = ends_of_rw(alloc, edges)?;
-    put_in_order(&mut links);
+    let mut links = Vec::new(alloc);
+    for e in edges {
+        if is_vulnerable(ix, e) {
+            links.push(Link {
+                at: e.src,
+                other: e.dst,
+            })?;
+        }
+    }
     Ok(links)
 }
 
@@ -57,8 +58,8 @@ pub(crate) fn vulnerable(alloc: Global, edges: &[Edge], ix: &Index) -> Result<Ve
     requires { ListsEdges ix.now (λ _. ⊤) edges.now }
     ensures { IfOk result (λ links. ListsLinks (IsVulnerable ix.now) links.items) }
 {
-    let mut links = rw_links(alloc, edges)?;
-    links.retain(|l| ix.overlap(l.at, l.other));
+    let mut links = ends_of_vulnerable(alloc, edges, ix)?;
+    put_in_order(&mut links);
     Ok(links)
 }
 
@@ -80,7 +81,7 @@ pub(crate) fn turned(alloc: Global, links: &[Link]) -> Result<Vec<Link>, AllocEr
     ensures { IfOk result (λ turned. ListsLinks (λ t u. AreLinked links.now u t) turned.items) }
 {
     let mut turned = reversed(alloc, links)?;
-    put_in_order(&mut turned);
+    merge_in_order(&mut turned)?;
     Ok(turned)
 }
 

@@ -1,9 +1,8 @@
-use Rattle.std.proofs.Common.{◌↔◌, rules, subst}
-use Rattle.std.specs.Prelude.{IsTrue}
 use Rattle.sia_events.specs.Transactions.{Overlap}
 use Rattle.sia_graph.specs.declared.links.Link.{Link}
-use Rattle.sia_graph.specs.Links.{HasRw, link_rank}
-use Rattle.sia_graph.proofs.Listed.{listed_as, retained}
+use Rattle.sia_graph.specs.Links.{link_rank}
+use Rattle.sia_graph.proofs.Listed.{listed_as}
+use Rattle.sia_graph.proofs.LinkLists.{ends_in_order}
 use Rattle.sia_graph.proofs.Vulnerable.{vulnerable_by}
 use Rattle.sia_graph.proofs.links.vulnerable.Goals as goal
 
@@ -12,4 +11,4 @@ returns c =
     let h = c.args.ix.now in
     let edges = c.args.edges.now in
     listed_as link_rank _ _ (λ (l : Link). vulnerable_by h edges c.requires l.at l.other) _
-    (retained _ (λ (l : Link). Overlap h l.at l.other) _ (λ x b f k. (subst (λ (l : Link). IsTrue b ↔ Overlap h l.at l.other) k.shows (search rules), search rules)) link_rank (λ (l : Link). HasRw edges l.at l.other) _ _ c.retain.ensures.filtered c.in_ok-links.ensures)
+    (ends_in_order (Overlap h) edges c.in_ok-links.links.items c.put_in_order.new.list.items c.in_ok-links.ensures c.put_in_order.ensures.sorted c.put_in_order.ensures.keeps c.put_in_order.ensures.adds_none)
