@@ -23,6 +23,7 @@ pub mod LeastSources
 pub mod Rounds
 pub mod LeastEdges
 pub mod PrintedCycle
+pub mod Ascending
 pub mod StuckSets
 pub mod NoFirsts
 pub mod InOrder

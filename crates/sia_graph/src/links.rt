@@ -38,6 +38,7 @@ fn is_vulnerable(ix: &Index, e: &Edge) -> bool
 }
 
 /// The ends of each such edge.
+#[inline(never)]
 fn ends_of_vulnerable(alloc: Global, edges: &[Edge], ix: &Index) -> Result<Vec<Link>, AllocError>
     ensures { IfOk result (λ links. AreEnds (Overlap ix.now) edges.now links.items) }
 {

@@ -15,6 +15,7 @@ use std::alloc::Global;
 use std::collections::BTreeSet;
 
 /// For each id how many edges lead to it. Notes where the edges from each id start.
+#[inline(never)]
 pub(crate) fn count_edges(
     alloc: Global,
     ids: &[TxnId],
@@ -38,6 +39,7 @@ pub(crate) fn count_edges(
 }
 
 /// Takes edges that leave from the counts, and adds what becomes ready.
+#[inline(never)]
 fn release(
     ids: &[TxnId],
     guesses: &Guesses,

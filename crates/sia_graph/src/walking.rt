@@ -16,6 +16,7 @@ use sia_parts::Edge;
 use std::alloc::Global;
 
 /// Lets the targets of edges from the transaction at `source` lead back to it.
+#[inline(never)]
 fn lead_back(
     ids: &[TxnId],
     guesses: &Guesses,
