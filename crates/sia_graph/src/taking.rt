@@ -28,9 +28,13 @@ pub(crate) fn count_edges(
 {
     let mut counts = vec![in alloc; 0usize; ids.len()]?;
     let mut source = 0usize;
+    let mut last = 0;
     let mut at = 0usize;
     for e in edges {
-        source = guesses.note_start(ids, source, e.src, at);
+        if e.src != last {
+            last = e.src;
+            source = guesses.note_start(ids, source, last, at);
+        }
         at = at.wrapping_add(1);
         let i = position_of(ids, guesses, e.dst);
         counts[i] += 1;
