@@ -7,7 +7,7 @@ ghost use Rattle.sia_graph.specs.Links.{AreLinked, ListsLinks, link_rank};
 ghost use Rattle.sia_graph.specs.Pivots.{ArePivots, ListsNeighbours};
 
 use crate::firsts::firsts;
-use crate::links::{Link, has_link, linked, links_at, others, turned, vulnerable};
+use crate::links::{Link, first_from, has_link, linked, links_at, others, turned, vulnerable};
 use crate::pivot::Pivot;
 use crate::txns::Txns;
 use sia_events::{NoMemory, TxnId};
@@ -25,21 +25,22 @@ fn middles(alloc: Global, into: &[Link], out: &[Link]) -> Result<Vec<TxnId>, All
     Ok(txns)
 }
 
-/// The entry of a pivot.
+/// The entry of a pivot, whose links may start at these two places.
 fn pivot(
     alloc: Global,
     ix: &Index,
     txn: TxnId,
     into: &[Link],
     out: &[Link],
+    near: (usize, usize),
 ) -> Result<Pivot, AllocError>
     requires into { ListsLinks (λ t u. IsVulnerable ix.now u t) into.now }
     requires out { ListsLinks (IsVulnerable ix.now) out.now }
     ensures txn { IfOk result (λ p. p.txn ≡ txn) }
     ensures neighbours { IfOk result (ListsNeighbours ix.now) }
 {
-    let ins = others(alloc, links_at(into, txn))?;
-    let outs = others(alloc, links_at(out, txn))?;
+    let ins = others(alloc, links_at(into, near.0, txn))?;
+    let outs = others(alloc, links_at(out, near.1, txn))?;
     let firsts = firsts(alloc, ix, txn, &ins, &outs)?;
     Ok(Pivot {
         txn,
@@ -62,9 +63,13 @@ fn entries(
     ensures txns { IfOk result (λ found. map (λ p. p.txn) found.items ≡ txns.now) }
     ensures neighbours { IfOk result (λ found. All (ListsNeighbours ix.now) found.items) }
 {
-    let mut found = Vec::new(alloc);
+    let mut found = Vec::with_capacity(alloc, txns.len())?;
+    let mut first_in = 0usize;
+    let mut first_out = 0usize;
     for txn in txns {
-        found.push(pivot(alloc, ix, *txn, into, out)?)?;
+        first_in = first_from(into, first_in, *txn);
+        first_out = first_from(out, first_out, *txn);
+        found.push(pivot(alloc, ix, *txn, into, out, (first_in, first_out))?)?;
     }
     Ok(found)
 }

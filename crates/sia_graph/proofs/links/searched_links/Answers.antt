@@ -4,7 +4,7 @@ use Rattle.std.proofs.lemmas.List.{take_rest}
 use Rattle.std.proofs.lemmas.List.Sorted.{IsPartitionPoint-from_clause, IsPartitionedBy-ltb, IsPartitionedBy-leb, IsNonDecreasingBy-drop}
 use Rattle.sia_graph.specs.declared.links.Link.{Link}
 use Rattle.sia_graph.proofs.Groups.{heads_rise, cut_out}
-use Rattle.sia_graph.proofs.links.links_at.Goals as goal
+use Rattle.sia_graph.proofs.links.searched_links.Goals as goal
 
 pub returns : goal.returns
 returns c =
