@@ -1,5 +1,4 @@
-use Rattle.std.proofs.Common.{append_assoc, arith}
-use Rattle.std.proofs.lemmas.List.{drop_all}
+use Rattle.std.proofs.Common.{append_assoc}
 use Rattle.si_audit.proofs.edge_lines.put_edge.Goals as goal
 
 -- from the first word to the last
@@ -13,5 +12,4 @@ returns-clause-bytes c =
       c.put_byte-end-2.ensures.bytes,
       c.put_key-end.ensures.bytes,
       c.put_byte-end.ensures.bytes,
-      drop_all 64 c.args.line.now (omega arith),
     ) (simp append_assoc)
