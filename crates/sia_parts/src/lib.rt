@@ -1,11 +1,13 @@
 //! Parts of the keys, and what is found in a history at the keys of a part.
 #![tactic(auto)]
 
+mod at_once;
 mod auditing;
 mod cutting;
 mod edges;
 mod finding;
 mod findings;
+mod fronts;
 mod gaps;
 mod gathering;
 mod laws;

@@ -11,6 +11,10 @@ pub(crate) trait Ranked: Copy {
 
     fn precedes(&self, other: &Self) -> bool
         ensures { result ≡ is_before (rank self.now) (rank other.now) };
+
+    /// What tells the entry from most others: never greater than that of an entry that comes after it. A guess rests on
+    /// it, and no clause.
+    fn lead(&self) -> u64;
 }
 
 impl Ranked for BadRead {
@@ -18,6 +22,10 @@ impl Ranked for BadRead {
 
     fn precedes(&self, other: &Self) -> bool {
         self.place < other.place || (self.place == other.place && self.key < other.key)
+    }
+
+    fn lead(&self) -> u64 {
+        u64::from(self.place)
     }
 }
 
@@ -30,6 +38,10 @@ impl Ranked for BadWrite {
                 && (self.first < other.first
                     || (self.first == other.first && self.second < other.second)))
     }
+
+    fn lead(&self) -> u64 {
+        self.key
+    }
 }
 
 impl Ranked for Unexplained {
@@ -37,6 +49,10 @@ impl Ranked for Unexplained {
 
     fn precedes(&self, other: &Self) -> bool {
         self.place < other.place || (self.place == other.place && self.key < other.key)
+    }
+
+    fn lead(&self) -> u64 {
+        u64::from(self.place)
     }
 }
 
@@ -48,6 +64,10 @@ impl Ranked for Edge {
             || (self.src == other.src
                 && (self.dst < other.dst
                     || (self.dst == other.dst && precedes_within(self, other))))
+    }
+
+    fn lead(&self) -> u64 {
+        (u64::from(self.src) << 32) | u64::from(self.dst)
     }
 }
 
