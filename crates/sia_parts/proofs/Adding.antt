@@ -55,6 +55,10 @@ module _ {A : Type 0} (P : A → Type 0) where
 pub added_are : {A : Type 0} (P Q : A → Type 0) (ys : List A) → Adds P [] ys → ((x : A) → P x ↔ Q x) → (x : A) → Contains ys x ↔ Q x
 added_are P Q ys adds same x = ((λ c. (same x).0 ((added_to_none P ys adds x).0 c)), (λ q. (added_to_none P ys adds x).1 ((same x).1 q)))
 
+-- what some member gives, where another list has all members
+pub from_members : {A B : Type 0} (P : A → B → Type 0) (xs ys : List A) → ((x : A) → Contains xs x → Contains ys x) → (y : B) → FromSome P xs y → FromSome P ys y
+from_members P xs ys to y f = (f.0, to f.0 f.1, f.2)
+
 -- some of the first n things gives y
 abbrev pub FromFirst : {A B : Type 0} → (A → B → Type 0) → List A → ℕ → B → Type 0
 FromFirst P xs n = FromSome P (take n xs)

@@ -20,3 +20,4 @@ pub mod GapLemmas
 pub mod RangeSights
 pub mod PartReads
 pub mod PackedEdges
+pub mod Widening

@@ -23,7 +23,7 @@ use Rattle.sia_parts.specs.declared.sights.Sight.{Sight}
 use Rattle.sia_parts.specs.declared.spans.Span.{Span}
 use Rattle.sia_parts.specs.Findings.{ListsBadReads}
 use Rattle.sia_parts.specs.Parts.{IsInPart}
-use Rattle.sia_parts.specs.Sights.{FromSome, FromSight, IsSight, IsRangeSight, IsListedSight, IsBadOf, IsSpanOf, IsInSpan, Looked, AreSpans, IsUnexplainedOf, read_sight, bad_sight}
+use Rattle.sia_parts.specs.Sights.{FromSome, FromSight, IsSight, IsRangeSight, IsListedSight, IsBadOf, IsSpanOf, IsInSpan, Looked, WidensAll, AreSpans, IsUnexplainedOf, read_sight, bad_sight}
 use Rattle.sia_parts.specs.Gaps.{InSomeGap, Spreads, IsUnlistedBy}
 use Rattle.sia_parts.proofs.RangeSights.{covered_listed, listed_inside}
 use Rattle.sia_parts.proofs.Saw.{read_is_sight}
@@ -87,12 +87,16 @@ module _ (h : List Event) (wf : IsWellFormed h) (part : Part) (reads : List Item
       let sight = covered_listed h wf part range is.3 is.4 s.key s.saw inside.0 inside.1 is.5 in
       (s, subst (IsSight h) (λ i. record { place = sym is.0 i; txn = sym is.1 i; key = s.key; saw = s.saw }) sight, is.2, f.2.2)
 
-  module _ (spans : List Span) (each : (s : Span) → Contains spans s ↔ FromListed s) (gaps : List Gap) (spread : Spreads h (FromSome (IsUnlistedBy h part) ranges) [] gaps) where
+  module _ (spans : List Span) (wide : WidensAll FromListed spans) (gaps : List Gap) (spread : Spreads h (FromSome (IsUnlistedBy h part) ranges) [] gaps) where
     looked_low : (span : Span) → ((s : Sight) × IsSight h s × IsInPart part s.key × IsSpanOf h s span) → Looked h span.txn span.key span.low
     looked_low span f =
         let s = f.0 in
         let is = f.3 in
         subst (λ t. Looked h t span.key span.low) (sym is.0) (subst (λ k. Looked h s.txn k span.low) (sym is.1) (is.3, s.place, s.saw, f.1, is.4, is.5))
+
+    -- a look of one span is one of another with its transaction, key and end
+    moved : (n s : Span) {c : ℕ} → n.txn ≡ s.txn → n.key ≡ s.key → n.low ≡ c → Looked h n.txn n.key n.low → Looked h s.txn s.key c
+    moved n s {c} txn key end look = subst (λ t. Looked h t s.key c) txn (subst (λ k. Looked h n.txn k c) key (subst (Looked h n.txn n.key) end look))
 
     -- what lies in a gap was seen at version 0
     gap_looked : (look : ℕ × ℕ) (u : ℕ) → Wrote h u look.1 → InSomeGap gaps look → Looked h look.0 look.1 0 × IsInPart part look.1
@@ -117,7 +121,7 @@ module _ (h : List Event) (wf : IsWellFormed h) (part : Part) (reads : List Item
         span = record { txn = t; key = k; low = c; high = c }
 
         one : FromListed span → (x : Span) × Contains spans x × IsInSpan x t k c
-        one f = (span, (each span).1 f, (refl, refl, omega arith, omega arith))
+        one f = let wider = wide.each span f in (wider.0, wider.1, (wider.2, wider.3, wider.4, wider.5))
 
         of_event : (e : Event) → at_place h look.1 ≡ Some e → actor e ≡ t → Saw e k look.2 → ((x : Span) × Contains spans x × IsInSpan x t k c) ⊎ ((c ≡ 0) × InSomeGap gaps (t, k))
         of_event (Begin a start) at act saw = absurd saw
@@ -137,9 +141,17 @@ module _ (h : List Event) (wf : IsWellFormed h) (part : Part) (reads : List Item
 
     pub spans_are : AreSpans h part spans gaps
     spans_are = record {
-      low = λ s c. looked_low s (listed_taken s ((each s).0 c));
-      high = λ s c. let f = listed_taken s ((each s).0 c) in subst (Looked h s.txn s.key) f.3.2 (looked_low s f);
-      within = λ s c. let f = listed_taken s ((each s).0 c) in subst (IsInPart part) (sym f.3.1) f.2;
+      low = λ s c.
+          let n = wide.low s c in
+          moved n.0 s n.2 n.3 n.4 (looked_low n.0 (listed_taken n.0 n.1));
+      high = λ s c.
+          let n = wide.high s c in
+          let f = listed_taken n.0 n.1 in
+          moved n.0 s n.2 n.3 (f.3.2 ∙ n.4) (looked_low n.0 f);
+      within = λ s c.
+          let n = wide.low s c in
+          let f = listed_taken n.0 n.1 in
+          subst (IsInPart part) (sym f.3.1 ∙ n.3) f.2;
       unlisted = gap_looked;
       whole = look_found;
     }

@@ -16,10 +16,12 @@ use Rattle.sia_index.specs.Info.{IsReader}
 use Rattle.sia_parts.specs.declared.cutting.Part.{Part}
 use Rattle.sia_parts.specs.declared.gaps.Gap.{Gap}
 use Rattle.sia_parts.specs.declared.sights.Sight.{Sight}
-use Rattle.sia_parts.specs.Sights.{Adds, FromSome, FromSight, IsSight, IsRangeSight, IsListedSight, listed_sight, unlisted_sight}
+use Rattle.sia_parts.specs.declared.spans.Span.{Span}
+use Rattle.sia_parts.specs.Sights.{Adds, JoinsTo, FromSome, FromSight, IsSight, IsRangeSight, IsListedSight, listed_sight, unlisted_sight}
 use Rattle.sia_parts.specs.Gaps.{Spreads, FromKeys, IsGapOf, IsUnlisted, IsUnlistedBy}
 use Rattle.sia_parts.proofs.Adding.{adds_nothing, adds_same, adds_both}
 use Rattle.sia_parts.proofs.Spreading.{spreads_nothing, spreads_same}
+use Rattle.sia_parts.proofs.Widening.{joins_nothing, joins_same}
 
 -- the list of a range read
 listed_of : (t lo hi u from to : ℕ) (a b : List (ℕ × ℕ)) → Range t lo hi a ≡ Range u from to b → a ≡ b
@@ -57,8 +59,8 @@ module _ (h : List Event) (wf : IsWellFormed h) (part : Part) (range : RangeRead
     pub apart_sights : {B : Type 0} (Q : Sight → B → Type 0) (old : List B) → Adds (FromSight (IsRangeSight h part range) Q) old old
     apart_sights Q old = adds_nothing (FromSight (IsRangeSight h part range) Q) old (λ y f. let saw = saw_of f.0 f.1 in apart f.0.key f.1.3.0 f.1.3.1 saw.0 saw.1)
 
-    pub apart_listed : {B : Type 0} (Q : Sight → B → Type 0) (old : List B) → Adds (FromSight (IsListedSight h part range) Q) old old
-    apart_listed Q old = adds_nothing (FromSight (IsListedSight h part range) Q) old
+    pub apart_listed : (Q : Sight → Span → Type 0) (old : List Span) → JoinsTo (FromSight (IsListedSight h part range) Q) old old
+    apart_listed Q old = joins_nothing (FromSight (IsListedSight h part range) Q) old
         (λ y f.
         let is = f.1 in
         let inside = listed_inside f.0.key f.0.saw (subst (λ l. Contains l (f.0.key, f.0.saw)) (own_list is.3 is.4) is.5) in
@@ -81,8 +83,8 @@ module _ (h : List Event) (wf : IsWellFormed h) (part : Part) (range : RangeRead
     pub unlisted_here_sight : (reader : Reader) → IsReader h range.txn range.place reader → (k : ℕ) → IsUnlisted here lo hi k → IsSight h (unlisted_sight reader k)
     unlisted_here_sight reader is k un = covered_unlisted reader is k (let a = un.0 in omega arith) (let a = un.1 in omega arith) (not_here k un)
 
-    pub listed_here : {B : Type 0} (Q : Sight → B → Type 0) (old new : List B) → Adds (FromSome (λ p. Q (listed_sight range p)) here) old new → Adds (FromSight (IsListedSight h part range) Q) old new
-    listed_here Q old new adds = adds_same (FromSome (λ p. Q (listed_sight range p)) here) (FromSight (IsListedSight h part range) Q) old new
+    pub listed_here : (Q : Sight → Span → Type 0) (old new : List Span) → JoinsTo (FromSome (λ p. Q (listed_sight range p)) here) old new → JoinsTo (FromSight (IsListedSight h part range) Q) old new
+    listed_here Q old new joins = joins_same (FromSome (λ p. Q (listed_sight range p)) here) (FromSight (IsListedSight h part range) Q) old new
         (λ y f.
         let own = (cut f.0).0 f.1 in
         let first = own.1 in
@@ -97,7 +99,7 @@ module _ (h : List Event) (wf : IsWellFormed h) (part : Part) (range : RangeRead
           (cut (s.key, s.saw)).1 (c, both_low s.key is.2.0 inside.0, both_high s.key is.2.1 inside.1),
           subst (λ (x : Sight). Q x y) (λ i. record { place = is.0 i; txn = is.1 i; key = s.key; saw = s.saw }) f.2,
         ))
-        adds
+        joins
 
     module _ (reader : Reader) (reads : IsReader h range.txn range.place reader) where
       pub sights_here : {B : Type 0} (Q : Sight → B → Type 0) (old mid new : List B) → Adds (FromSome (λ p. Q (listed_sight range p)) here) old mid → Adds (FromKeys (IsUnlisted here lo hi) (λ k. Q (unlisted_sight reader k))) mid new → Adds (FromSight (IsRangeSight h part range) Q) old new

@@ -95,11 +95,19 @@ FromSight P Q y = (s : Sight) × P s × Q s y
 abbrev pub IsInSpan : Span → ℕ → ℕ → ℕ → Type 0
 IsInSpan span t k c = (span.txn ≡ t) × (span.key ≡ k) × (span.low ≤ c) × (c ≤ span.high)
 
--- the ends of each wide span are in narrow ones, and each narrow span lies in a wide one
-pub record Widens (narrow wide : List Span) : Type 0 where
-  pub low : (s : Span) → Contains wide s → (n : Span) × Contains narrow n × (n.txn ≡ s.txn) × (n.key ≡ s.key) × (n.low ≡ s.low)
-  pub high : (s : Span) → Contains wide s → (n : Span) × Contains narrow n × (n.txn ≡ s.txn) × (n.key ≡ s.key) × (n.high ≡ s.high)
-  pub each : (n : Span) → Contains narrow n → (s : Span) × Contains wide s × (s.txn ≡ n.txn) × (s.key ≡ n.key) × (s.low ≤ n.low) × (n.high ≤ s.high)
+-- the ends of each wide span are those of spans with P, and each span with P lies in a wide one
+pub record WidensAll (P : Span → Type 0) (wide : List Span) : Type 0 where
+  pub low : (s : Span) → Contains wide s → (n : Span) × P n × (n.txn ≡ s.txn) × (n.key ≡ s.key) × (n.low ≡ s.low)
+  pub high : (s : Span) → Contains wide s → (n : Span) × P n × (n.txn ≡ s.txn) × (n.key ≡ s.key) × (n.high ≡ s.high)
+  pub each : (n : Span) → P n → (s : Span) × Contains wide s × (s.txn ≡ n.txn) × (s.key ≡ n.key) × (s.low ≤ n.low) × (n.high ≤ s.high)
+
+-- the same of the spans of a list
+abbrev pub Widens : List Span → List Span → Type 0
+Widens narrow wide = WidensAll (Contains narrow) wide
+
+-- the new spans are the old ones and those with P, of which some may be joined
+abbrev pub JoinsTo : (Span → Type 0) → List Span → List Span → Type 0
+JoinsTo P old new = WidensAll (λ n. Contains old n ⊎ P n) new
 
 -- the span of both
 pub record IsJoined (last next both : Span) : Type 0 where

@@ -65,10 +65,19 @@ fn seen_of(alloc: Global, h: &History, ix: &Index, part: Part) -> Result<Seen, N
     let mut bad_reads = Vec::new(alloc);
     let mut spans = Vec::new(alloc);
     let mut gaps = Vec::new(alloc);
+    let ranges = ix.ranges_meeting(part.lo, part.hi);
+    put_range_reads(
+        alloc,
+        h,
+        ix,
+        part,
+        ranges,
+        &mut bad_reads,
+        &mut spans,
+        &mut gaps,
+    )?;
     let reads = ix.reads_within(part.lo, part.hi);
     put_item_reads(ix, reads, &mut bad_reads, &mut spans)?;
-    let ranges = ix.ranges_meeting(part.lo, part.hi);
-    put_range_reads(h, ix, part, ranges, &mut bad_reads, &mut spans, &mut gaps)?;
     put_in_order(&mut bad_reads);
     let spans = joined(alloc, spans)?;
     let gaps = joined_gaps(alloc, gaps)?;

@@ -12,6 +12,7 @@ mod gaps;
 mod gathering;
 mod laws;
 mod merging;
+mod nearby;
 mod ordering;
 mod packing;
 mod pairs;

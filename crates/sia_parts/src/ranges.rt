@@ -1,23 +1,27 @@
 //! What range reads saw of the keys of a part: the keys that they listed, and the keys between these.
-ghost use Rattle.std.specs.Prelude.{◌≡◌, ◌↔◌, ◌≤◌, ℕ, All, Contains, List, OnOk, map};
+ghost use Rattle.std.specs.Prelude.{◌≡◌, ◌↔◌, ◌≤◌, ℕ, All, Contains, List, IfOk, OnOk, map};
 ghost use Rattle.std.specs.List.Sorted.{IsStrictlyIncreasing};
 ghost use Rattle.sia_events.specs.declared.event.Event.TheVariants as events;
 ghost use Rattle.sia_events.specs.Places.{at_place};
 ghost use Rattle.sia_events.specs.Refusals.{IsWellFormed};
+ghost use Rattle.sia_index.specs.declared.info.RangeRead.{RangeRead};
 ghost use Rattle.sia_index.specs.Info.{IsRangeRead, IsReader};
-ghost use Rattle.sia_parts.specs.Sights.{Adds, FromSome, FromSight, IsSight, IsRangeSight, IsListedSight, IsBadOf, IsSpanOf, listed_sight, AscendsByKey};
+ghost use Rattle.sia_parts.specs.Sights.{Adds, JoinsTo, FromSome, FromSight, IsSight, IsRangeSight, IsListedSight, IsBadOf, IsSpanOf, listed_sight, AscendsByKey};
 ghost use Rattle.sia_parts.specs.Gaps.{Spreads, IsUnlistedBy};
 
 use crate::cutting::Part;
 use crate::finding::BadRead;
 use crate::gaps::{Gap, put_unlisted};
+use crate::nearby::{first_near, next_near};
 use crate::sights::{Sight, put_sight};
 use crate::spans::Span;
 use sia_events::{Event, History, Key, NoMemory, Version};
 use sia_index::{Index, RangeRead, Reader};
+use std::alloc::Global;
 
 /// Adds the bad reads, the spans and the gaps of range reads, at the keys of the part.
 pub(crate) fn put_range_reads(
+    alloc: Global,
     h: &History,
     ix: &Index,
     part: Part,
@@ -29,7 +33,38 @@ pub(crate) fn put_range_reads(
     requires of { ix.now ≡ h.now }
     requires ranges { All (IsRangeRead ix.now) ranges.now }
     ensures bad { OnOk result (Adds (FromSome (λ range. FromSight (IsRangeSight ix.now part range) (IsBadOf ix.now)) ranges.now) bad.old.items bad.new.items) }
-    ensures spans { OnOk result (Adds (FromSome (λ range. FromSight (IsListedSight ix.now part range) (IsSpanOf ix.now)) ranges.now) spans.old.items spans.new.items) }
+    ensures spans { OnOk result (JoinsTo (FromSome (λ range. FromSight (IsListedSight ix.now part range) (IsSpanOf ix.now)) ranges.now) spans.old.items spans.new.items) }
+    ensures gaps { OnOk result (Spreads ix.now (FromSome (IsUnlistedBy ix.now part) ranges.now) gaps.old.items gaps.new.items) }
+{
+    let turns = by_txn(alloc, ranges)?;
+    put_in_turn(h, ix, part, &turns, bad, spans, gaps)?;
+    Ok(())
+}
+
+// The range reads by transaction and first key: so those of one transaction, which lie close together in the history, come
+// one after another, and what they saw comes almost in order.
+fn by_txn(alloc: Global, ranges: &[RangeRead]) -> Result<Vec<RangeRead>, NoMemory>
+    ensures { IfOk result (λ turns. (x : RangeRead) → Contains turns.items x ↔ Contains ranges.now x) }
+{
+    let mut turns = ranges.to_vec(alloc)?;
+    turns.sort_unstable_by_key(|range| (range.txn, range.lo));
+    Ok(turns)
+}
+
+// Adds the bad reads, the spans and the gaps of range reads, one after another.
+fn put_in_turn(
+    h: &History,
+    ix: &Index,
+    part: Part,
+    ranges: &[RangeRead],
+    bad: &mut Vec<BadRead>,
+    spans: &mut Vec<Span>,
+    gaps: &mut Vec<Gap>,
+) -> Result<(), NoMemory>
+    requires of { ix.now ≡ h.now }
+    requires ranges { All (IsRangeRead ix.now) ranges.now }
+    ensures bad { OnOk result (Adds (FromSome (λ range. FromSight (IsRangeSight ix.now part range) (IsBadOf ix.now)) ranges.now) bad.old.items bad.new.items) }
+    ensures spans { OnOk result (JoinsTo (FromSome (λ range. FromSight (IsListedSight ix.now part range) (IsSpanOf ix.now)) ranges.now) spans.old.items spans.new.items) }
     ensures gaps { OnOk result (Spreads ix.now (FromSome (IsUnlistedBy ix.now part) ranges.now) gaps.old.items gaps.new.items) }
 {
     for range in ranges {
@@ -51,7 +86,7 @@ fn put_range_read(
     requires of { ix.now ≡ h.now }
     requires range { IsRangeRead ix.now range }
     ensures bad { OnOk result (Adds (FromSight (IsRangeSight ix.now part range) (IsBadOf ix.now)) bad.old.items bad.new.items) }
-    ensures spans { OnOk result (Adds (FromSight (IsListedSight ix.now part range) (IsSpanOf ix.now)) spans.old.items spans.new.items) }
+    ensures spans { OnOk result (JoinsTo (FromSight (IsListedSight ix.now part range) (IsSpanOf ix.now)) spans.old.items spans.new.items) }
     ensures gaps { OnOk result (Spreads ix.now (IsUnlistedBy ix.now part range) gaps.old.items gaps.new.items) }
 {
     // The length tells that the history is well-formed.
@@ -81,16 +116,19 @@ fn put_listed_keys(
     requires reader { IsReader ix.now range.txn range.place reader }
     requires sights { All (λ pair. IsSight ix.now (listed_sight range pair)) listed.now }
     ensures bad { OnOk result (Adds (FromSome (λ pair. IsBadOf ix.now (listed_sight range pair)) listed.now) bad.old.items bad.new.items) }
-    ensures spans { OnOk result (Adds (FromSome (λ pair. IsSpanOf ix.now (listed_sight range pair)) listed.now) spans.old.items spans.new.items) }
+    ensures spans { OnOk result (JoinsTo (FromSome (λ pair. IsSpanOf ix.now (listed_sight range pair)) listed.now) spans.old.items spans.new.items) }
 {
+    let mut near = first_near(spans, range.txn, range.lo);
+    let end = spans.len();
     for pair in listed {
+        near = next_near(spans, near, end, pair.0);
         let sight = Sight {
             place: range.place,
             txn: range.txn,
             key: pair.0,
             saw: pair.1,
         };
-        put_sight(ix, reader, sight, bad, spans)?;
+        put_sight(ix, reader, sight, near, bad, spans)?;
     }
     Ok(())
 }

@@ -5,10 +5,10 @@ ghost use Rattle.sia_events.specs.Reads.{IsDue};
 ghost use Rattle.sia_events.specs.Refusals.{IsWellFormed};
 ghost use Rattle.sia_index.specs.Info.{IsItemRead, IsReader};
 ghost use Rattle.sia_parts.specs.declared.spans.Span.{Span};
-ghost use Rattle.sia_parts.specs.Sights.{Adds, FromSome, IsSight, IsBadOf, IsAsOf, IsSpanOf, read_sight};
+ghost use Rattle.sia_parts.specs.Sights.{Adds, JoinsTo, FromSome, IsSight, IsBadOf, IsAsOf, IsSpanOf, read_sight};
 
 use crate::finding::BadRead;
-use crate::spans::Span;
+use crate::spans::{Span, put_joined};
 use sia_events::{Key, NoMemory, TxnId, Version};
 use sia_index::{Fate, Index, ItemRead, Reader};
 
@@ -31,7 +31,7 @@ pub(crate) fn put_item_reads(
     requires well_formed { IsWellFormed ix.now }
     requires reads { All (IsItemRead ix.now) reads.now }
     ensures bad { OnOk result (Adds (FromSome (λ read. IsBadOf ix.now (read_sight read)) reads.now) bad.old.items bad.new.items) }
-    ensures spans { OnOk result (Adds (FromSome (λ read. IsSpanOf ix.now (read_sight read)) reads.now) spans.old.items spans.new.items) }
+    ensures spans { OnOk result (JoinsTo (FromSome (λ read. IsSpanOf ix.now (read_sight read)) reads.now) spans.old.items spans.new.items) }
 {
     for read in reads {
         let sight = Sight {
@@ -41,16 +41,20 @@ pub(crate) fn put_item_reads(
             saw: read.saw,
         };
         let reader = ix.reader(read.txn, read.place);
-        put_sight(ix, reader, sight, bad, spans)?;
+        // Reads of one transaction and key stand side by side.
+        let near = spans.len().saturating_sub(1);
+        put_sight(ix, reader, sight, near, bad, spans)?;
     }
     Ok(())
 }
 
-/// Adds the bad read of a sight, if it is one, and its span, if it has one.
+/// Adds the bad read of a sight, if it is one, and its span, if it has one, joined with the one at the place `near`, if
+/// that is of its transaction and key.
 pub(crate) fn put_sight(
     ix: &Index,
     reader: Reader,
     sight: Sight,
+    near: usize,
     bad: &mut Vec<BadRead>,
     spans: &mut Vec<Span>,
 ) -> Result<(), NoMemory>
@@ -58,10 +62,10 @@ pub(crate) fn put_sight(
     requires reader { IsReader ix.now sight.txn sight.place reader }
     requires sight { IsSight ix.now sight }
     ensures bad { OnOk result (Adds (IsBadOf ix.now sight) bad.old.items bad.new.items) }
-    ensures spans { OnOk result (Adds (IsSpanOf ix.now sight) spans.old.items spans.new.items) }
+    ensures spans { OnOk result (JoinsTo (IsSpanOf ix.now sight) spans.old.items spans.new.items) }
 {
     put_bad_read(ix, reader, sight, bad)?;
-    put_span(ix, reader, sight, spans)?;
+    put_span(ix, reader, sight, near, spans)?;
     Ok(())
 }
 
@@ -98,13 +102,19 @@ fn due_at(ix: &Index, reader: Reader, sight: Sight) -> Version
 }
 
 // Adds the span of a sight, if it has one.
-fn put_span(ix: &Index, reader: Reader, sight: Sight, spans: &mut Vec<Span>) -> Result<(), NoMemory>
+fn put_span(
+    ix: &Index,
+    reader: Reader,
+    sight: Sight,
+    near: usize,
+    spans: &mut Vec<Span>,
+) -> Result<(), NoMemory>
     requires well_formed { IsWellFormed ix.now }
     requires reader { IsReader ix.now sight.txn sight.place reader }
-    ensures { OnOk result (Adds (IsSpanOf ix.now sight) spans.old.items spans.new.items) }
+    ensures { OnOk result (JoinsTo (IsSpanOf ix.now sight) spans.old.items spans.new.items) }
 {
     if let Some(span) = span_of(ix, reader, sight) {
-        spans.push(span)?;
+        put_joined(spans, span, near)?;
     }
     Ok(())
 }

@@ -1,7 +1,8 @@
 //! Spans: what a transaction saw of a key, from the oldest version to the newest.
-ghost use Rattle.std.specs.Prelude.{IfOk, MatchOption, ⊤};
-ghost use Rattle.sia_parts.specs.Sights.{Widens, IsJoined};
+ghost use Rattle.std.specs.Prelude.{◌≡◌, ◌<◌, IfOk, OnOk, MatchOption, length, slice_index_or, ⊤};
+ghost use Rattle.sia_parts.specs.Sights.{JoinsTo, Widens, IsJoined};
 
+use crate::nearby::are_apart;
 use sia_events::{Key, NoMemory, TxnId};
 use std::alloc::Global;
 
@@ -14,10 +15,35 @@ pub(crate) struct Span {
     pub(crate) high: u32,
 }
 
+/// Adds the span, or joins it with the one at the place, if that is of its transaction and key.
+pub(crate) fn put_joined(spans: &mut Vec<Span>, span: Span, at: usize) -> Result<(), NoMemory>
+    ensures { OnOk result (JoinsTo (λ x. span ≡ x) spans.old.items spans.new.items) }
+{
+    match joined_at(spans, span, at) {
+        Some(both) => spans[at] = both,
+        None => spans.push(span)?,
+    }
+    Ok(())
+}
+
+// The span joined with the one at the place, if that is of its transaction and key.
+fn joined_at(spans: &[Span], span: Span, at: usize) -> Option<Span>
+    ensures { MatchOption result ⊤ (λ both. (at < length spans.now) × IsJoined (slice_index_or spans.now at span) span both) }
+{
+    if at < spans.len() {
+        join(spans[at], span)
+    } else {
+        None
+    }
+}
+
 /// The spans with those of one transaction and key joined.
 pub(crate) fn joined(alloc: Global, mut spans: Vec<Span>) -> Result<Vec<Span>, NoMemory>
     ensures { IfOk result (λ wide. Widens spans.items wide.items) }
 {
+    if are_apart(&spans) {
+        return Ok(spans);
+    }
     spans.sort_unstable();
     let wide = join_neighbours(alloc, &spans)?;
     Ok(wide)
@@ -27,7 +53,7 @@ pub(crate) fn joined(alloc: Global, mut spans: Vec<Span>) -> Result<Vec<Span>, N
 fn join_neighbours(alloc: Global, spans: &[Span]) -> Result<Vec<Span>, NoMemory>
     ensures { IfOk result (λ wide. Widens spans.now wide.items) }
 {
-    let mut wide = Vec::new(alloc);
+    let mut wide = Vec::with_capacity(alloc, spans.len())?;
     let Some(first) = spans.first() else {
         return Ok(wide);
     };

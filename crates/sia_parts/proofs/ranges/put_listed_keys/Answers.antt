@@ -1,6 +1,7 @@
 -- Each listed key adds what it gives.
 use Rattle.sia_parts.specs.Sights.{IsBadOf, IsSpanOf, listed_sight}
 use Rattle.sia_parts.proofs.Adding.{from_none, from_more, from_all}
+use Rattle.sia_parts.proofs.Widening.{join_none, join_more, join_all}
 use Rattle.sia_parts.proofs.ranges.put_listed_keys.Goals as goal
 
 pub put_sight-requires : goal.put_sight-requires
@@ -13,17 +14,17 @@ put_sight-requires c = record {
 pub loop-pair-init : goal.loop-pair-init
 loop-pair-init c = record {
   bad = from_none (λ pair. IsBadOf c.args.ix.now (listed_sight c.args.range pair)) c.args.listed.now _;
-  spans = from_none (λ pair. IsSpanOf c.args.ix.now (listed_sight c.args.range pair)) c.args.listed.now _;
+  spans = join_none (λ pair. IsSpanOf c.args.ix.now (listed_sight c.args.range pair)) c.args.listed.now _;
 }
 
 pub loop-pair-preserved : goal.loop-pair-preserved
 loop-pair-preserved c = record {
   bad = from_more (λ pair. IsBadOf c.args.ix.now (listed_sight c.args.range pair)) c.args.listed.now c.loop-pair.pair-index (0, 0) _ _ _ c.loop-pair-test.true c.loop-pair.invariant.bad c.in_ok-put_sight.ensures.bad;
-  spans = from_more (λ pair. IsSpanOf c.args.ix.now (listed_sight c.args.range pair)) c.args.listed.now c.loop-pair.pair-index (0, 0) _ _ _ c.loop-pair-test.true c.loop-pair.invariant.spans c.in_ok-put_sight.ensures.spans;
+  spans = join_more (λ pair. IsSpanOf c.args.ix.now (listed_sight c.args.range pair)) c.args.listed.now c.loop-pair.pair-index (0, 0) _ _ _ c.loop-pair-test.true c.loop-pair.invariant.spans c.in_ok-put_sight.ensures.spans;
 }
 
 pub returns : goal.returns
 returns c = record {
   bad = from_all (λ pair. IsBadOf c.args.ix.now (listed_sight c.args.range pair)) c.args.listed.now c.loop-pair.pair-index _ _ c.loop-pair-test.false c.loop-pair.invariant.bad;
-  spans = from_all (λ pair. IsSpanOf c.args.ix.now (listed_sight c.args.range pair)) c.args.listed.now c.loop-pair.pair-index _ _ c.loop-pair-test.false c.loop-pair.invariant.spans;
+  spans = join_all (λ pair. IsSpanOf c.args.ix.now (listed_sight c.args.range pair)) c.args.listed.now c.loop-pair.pair-index _ _ c.loop-pair-test.false c.loop-pair.invariant.spans;
 }

@@ -1,37 +1,33 @@
--- Each range read adds what it gives.
+-- The same range reads, in another order.
+use Rattle.std.proofs.lemmas.List.Elements.{All-contains, Contains-get_or}
 use Rattle.sia_index.specs.declared.info.RangeRead.{RangeRead}
-use Rattle.sia_parts.specs.Sights.{FromSight, IsRangeSight, IsListedSight, IsBadOf, IsSpanOf}
+use Rattle.sia_index.specs.Info.{IsRangeRead}
+use Rattle.sia_parts.specs.declared.finding.BadRead.{BadRead}
+use Rattle.sia_parts.specs.declared.spans.Span.{Span}
+use Rattle.sia_parts.specs.Sights.{FromSome, FromSight, IsRangeSight, IsListedSight, IsBadOf, IsSpanOf}
 use Rattle.sia_parts.specs.Gaps.{IsUnlistedBy}
-use Rattle.sia_parts.proofs.Adding.{from_none, from_more, from_all}
-use Rattle.sia_parts.proofs.Spreading.{spread_none, spread_more, spread_all}
+use Rattle.sia_parts.proofs.Adding.{adds_same, from_members}
+use Rattle.sia_parts.proofs.Spreading.{spreads_same}
+use Rattle.sia_parts.proofs.Widening.{joins_same}
 use Rattle.sia_parts.proofs.ranges.put_range_reads.Goals as goal
 
-abbrev none : RangeRead
-none = record { lo = 0; hi = 0; txn = 0; place = 0 }
+pub put_in_turn-requires-clause-ranges : goal.put_in_turn-requires-clause-ranges
+put_in_turn-requires-clause-ranges c k d below = All-contains (IsRangeRead c.args.ix.now) c.args.ranges.now _ c.requires.ranges (((rw (← c.deref.ensures.value) at c.in_ok-turns.ensures) _).0 (Contains-get_or c.deref.result.now k d below))
 
-pub put_range_read-requires : goal.put_range_read-requires
-put_range_read-requires c = record {
-  of = c.requires.of;
-  range = c.requires.ranges c.loop-range.range-index none c.loop-range-test.true;
-}
+pub returns-clause-bad : goal.returns-clause-bad
+returns-clause-bad c =
+    let P : RangeRead → BadRead → Type 0 = λ range. FromSight (IsRangeSight c.args.ix.now c.args.part range) (IsBadOf c.args.ix.now) in
+    let same = rw (← c.deref.ensures.value) at c.in_ok-turns.ensures in
+    adds_same _ (FromSome P c.args.ranges.now) _ _ (λ y. from_members P _ _ (λ x. (same x).0) y) (λ y. from_members P _ _ (λ x. (same x).1) y) c.in_ok-put_in_turn.ensures.bad
 
-pub loop-range-init : goal.loop-range-init
-loop-range-init c = record {
-  bad = from_none (λ range. FromSight (IsRangeSight c.args.ix.now c.args.part range) (IsBadOf c.args.ix.now)) c.args.ranges.now _;
-  spans = from_none (λ range. FromSight (IsListedSight c.args.ix.now c.args.part range) (IsSpanOf c.args.ix.now)) c.args.ranges.now _;
-  gaps = spread_none c.args.ix.now (IsUnlistedBy c.args.ix.now c.args.part) c.args.ranges.now _;
-}
+pub returns-clause-spans : goal.returns-clause-spans
+returns-clause-spans c =
+    let P : RangeRead → Span → Type 0 = λ range. FromSight (IsListedSight c.args.ix.now c.args.part range) (IsSpanOf c.args.ix.now) in
+    let same = rw (← c.deref.ensures.value) at c.in_ok-turns.ensures in
+    joins_same _ (FromSome P c.args.ranges.now) _ _ (λ y. from_members P _ _ (λ x. (same x).0) y) (λ y. from_members P _ _ (λ x. (same x).1) y) c.in_ok-put_in_turn.ensures.spans
 
-pub loop-range-preserved : goal.loop-range-preserved
-loop-range-preserved c = record {
-  bad = from_more (λ range. FromSight (IsRangeSight c.args.ix.now c.args.part range) (IsBadOf c.args.ix.now)) c.args.ranges.now c.loop-range.range-index none _ _ _ c.loop-range-test.true c.loop-range.invariant.bad c.in_ok-put_range_read.ensures.bad;
-  spans = from_more (λ range. FromSight (IsListedSight c.args.ix.now c.args.part range) (IsSpanOf c.args.ix.now)) c.args.ranges.now c.loop-range.range-index none _ _ _ c.loop-range-test.true c.loop-range.invariant.spans c.in_ok-put_range_read.ensures.spans;
-  gaps = spread_more c.args.ix.now (IsUnlistedBy c.args.ix.now c.args.part) c.args.ranges.now c.loop-range.range-index none _ _ _ c.loop-range-test.true c.loop-range.invariant.gaps c.in_ok-put_range_read.ensures.gaps;
-}
-
-pub returns : goal.returns
-returns c = record {
-  bad = from_all (λ range. FromSight (IsRangeSight c.args.ix.now c.args.part range) (IsBadOf c.args.ix.now)) c.args.ranges.now c.loop-range.range-index _ _ c.loop-range-test.false c.loop-range.invariant.bad;
-  spans = from_all (λ range. FromSight (IsListedSight c.args.ix.now c.args.part range) (IsSpanOf c.args.ix.now)) c.args.ranges.now c.loop-range.range-index _ _ c.loop-range-test.false c.loop-range.invariant.spans;
-  gaps = spread_all c.args.ix.now (IsUnlistedBy c.args.ix.now c.args.part) c.args.ranges.now c.loop-range.range-index _ _ c.loop-range-test.false c.loop-range.invariant.gaps;
-}
+pub returns-clause-gaps : goal.returns-clause-gaps
+returns-clause-gaps c =
+    let P = IsUnlistedBy c.args.ix.now c.args.part in
+    let same = rw (← c.deref.ensures.value) at c.in_ok-turns.ensures in
+    spreads_same c.args.ix.now _ (FromSome P c.args.ranges.now) _ _ (λ y. from_members P _ _ (λ x. (same x).0) y) (λ y. from_members P _ _ (λ x. (same x).1) y) c.in_ok-put_in_turn.ensures.gaps

@@ -3,6 +3,7 @@ use Rattle.std.proofs.Common.{get_or}
 use Rattle.sia_index.specs.declared.info.ItemRead.{ItemRead}
 use Rattle.sia_parts.specs.Sights.{IsBadOf, IsSpanOf, read_sight}
 use Rattle.sia_parts.proofs.Adding.{from_none, from_more, from_all}
+use Rattle.sia_parts.proofs.Widening.{join_none, join_more, join_all}
 use Rattle.sia_parts.proofs.Saw.{read_is_sight}
 use Rattle.sia_parts.proofs.sights.put_item_reads.Goals as goal
 
@@ -19,17 +20,17 @@ put_sight-requires c = record {
 pub loop-read-init : goal.loop-read-init
 loop-read-init c = record {
   bad = from_none (λ read. IsBadOf c.args.ix.now (read_sight read)) c.args.reads.now _;
-  spans = from_none (λ read. IsSpanOf c.args.ix.now (read_sight read)) c.args.reads.now _;
+  spans = join_none (λ read. IsSpanOf c.args.ix.now (read_sight read)) c.args.reads.now _;
 }
 
 pub loop-read-preserved : goal.loop-read-preserved
 loop-read-preserved c = record {
   bad = from_more (λ read. IsBadOf c.args.ix.now (read_sight read)) c.args.reads.now c.loop-read.read-index none _ _ _ c.loop-read-test.true c.loop-read.invariant.bad c.in_ok-put_sight.ensures.bad;
-  spans = from_more (λ read. IsSpanOf c.args.ix.now (read_sight read)) c.args.reads.now c.loop-read.read-index none _ _ _ c.loop-read-test.true c.loop-read.invariant.spans c.in_ok-put_sight.ensures.spans;
+  spans = join_more (λ read. IsSpanOf c.args.ix.now (read_sight read)) c.args.reads.now c.loop-read.read-index none _ _ _ c.loop-read-test.true c.loop-read.invariant.spans c.in_ok-put_sight.ensures.spans;
 }
 
 pub returns : goal.returns
 returns c = record {
   bad = from_all (λ read. IsBadOf c.args.ix.now (read_sight read)) c.args.reads.now c.loop-read.read-index _ _ c.loop-read-test.false c.loop-read.invariant.bad;
-  spans = from_all (λ read. IsSpanOf c.args.ix.now (read_sight read)) c.args.reads.now c.loop-read.read-index _ _ c.loop-read-test.false c.loop-read.invariant.spans;
+  spans = join_all (λ read. IsSpanOf c.args.ix.now (read_sight read)) c.args.reads.now c.loop-read.read-index _ _ c.loop-read-test.false c.loop-read.invariant.spans;
 }

@@ -8,7 +8,7 @@ abbrev none : Span
 none = record { txn = 0; key = 0; low = 0; high = 0 }
 
 pub loop-span-init : goal.loop-span-init
-loop-span-init c = rw c.new-wide.ensures.items (joins_first c.args.spans.now c.in-Some.first.now (first_of _ _ c.in-Some.ensures.value))
+loop-span-init c = rw c.in_ok-wide.ensures.items (joins_first c.args.spans.now c.in-Some.first.now (first_of _ _ c.in-Some.ensures.value))
 
 pub loop-span-preserved : goal.loop-span-preserved
 loop-span-preserved c = elim c.match-join.branch [
@@ -17,7 +17,7 @@ loop-span-preserved c = elim c.match-join.branch [
 ]
 
 pub returns-in_default : goal.returns-in_default
-returns-in_default c = rw (c.new-wide.ensures.items, none_of _ c.in_default.ensures.value) joins_none
+returns-in_default c = rw (c.in_ok-wide.ensures.items, none_of _ c.in_default.ensures.value) joins_none
 
 pub returns : goal.returns
 returns c = rw c.in_ok-push.ensures.items (joins_all c.args.spans.now c.loop-span.span-index _ c.loop-span-test.false c.loop-span.invariant)
