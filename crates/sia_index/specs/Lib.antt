@@ -3,3 +3,4 @@ pub mod Lows
 pub mod Rows
 pub mod Tables
 pub mod Numbers
+pub mod Seen

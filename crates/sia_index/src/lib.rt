@@ -14,10 +14,12 @@ mod own;
 mod readers;
 mod reads;
 mod rows;
+mod seen;
 mod txns;
 
 pub use indexed::Index;
 pub use info::{DueAt, Fate, ItemRead, KeyVersion, Made, RangeRead, Reader, TxnInfo};
+pub use seen::Seen;
 
 #[cfg(test)]
 mod tests;

@@ -110,7 +110,7 @@ impl Index {
     }
 
     // The least key from `lo` to `hi` that the reader wrote before its place.
-    fn next_own(&self, reader: Reader, lo: Key, hi: Key) -> Option<Key>
+    pub(crate) fn next_own(&self, reader: Reader, lo: Key, hi: Key) -> Option<Key>
         requires { IsReader self.now reader.txn reader.place reader }
         ensures { PassesNone (λ k. WroteBefore self.now reader.txn k reader.place) lo hi result }
     {
@@ -162,7 +162,7 @@ fn is_committed(fate: Fate) -> bool
 }
 
 // Of versions by commit the last that commits at most at the place.
-fn last_within(versions: &[Made], place: u32) -> Option<Made>
+pub(crate) fn last_within(versions: &[Made], place: u32) -> Option<Made>
     requires { AscendsByCommit versions.now }
     ensures { MatchOption result (All (λ made. place < made.commit) versions.now) (IsLastWithin versions.now place) }
 {
