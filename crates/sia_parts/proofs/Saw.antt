@@ -13,7 +13,9 @@ use Rattle.sia_events.specs.Reads.{IsDue}
 use Rattle.sia_events.proofs.Due.{one_due}
 use Rattle.sia_index.specs.declared.info.ItemRead.{ItemRead}
 use Rattle.sia_index.specs.declared.info.Reader.{Reader}
+use Rattle.sia_index.specs.declared.seen.Seen.{Seen}
 use Rattle.sia_index.specs.Info.{IsItemRead, IsReader}
+use Rattle.sia_index.specs.Seen.{IsSeen}
 use Rattle.sia_parts.specs.declared.finding.BadRead.{BadRead}
 use Rattle.sia_parts.specs.declared.sights.Sight.{Sight}
 use Rattle.sia_parts.specs.declared.spans.Span.{Span}
@@ -28,8 +30,8 @@ read_is_sight h read is = (Read read.txn read.key read.saw, is, refl, (refl, ref
 pub own_reader : (h : List Event) (t p : ℕ) (r : Reader) → IsReader h t p r → IsReader h r.txn r.place r
 own_reader h t p r is = subst (λ u. IsReader h u r.place r) (sym is.txn_is) (subst (λ q. IsReader h t q r) (sym is.place_is) is)
 
-pub own_due : (h : List Event) (t p : ℕ) (r : Reader) → IsReader h t p r → (k v : ℕ) → IsDue h r.txn r.place k v → IsDue h t p k v
-own_due h t p r is k v due = subst (λ u. IsDue h u p k v) is.txn_is (subst (λ q. IsDue h r.txn q k v) is.place_is due)
+pub own_seen : (h : List Event) (t p : ℕ) (r : Reader) → IsReader h t p r → (k : ℕ) (s : Seen) → IsSeen h r.txn r.place k s → IsSeen h t p k s
+own_seen h t p r is k s seen = subst (λ u. IsSeen h u p k s) is.txn_is (subst (λ q. IsSeen h r.txn q k s) is.place_is seen)
 
 -- the bad read of a sight has the version due
 pub bad_alone : (h : List Event) (s : Sight) (due : ℕ) → IsDue h s.txn s.place s.key due → (x : BadRead) → IsBadOf h s x → ◌≡◌ {A = BadRead} (record { place = s.place; txn = s.txn; key = s.key; saw = s.saw; due = due }) x

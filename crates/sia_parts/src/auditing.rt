@@ -2,7 +2,6 @@
 ghost use Rattle.std.specs.Prelude.{◌≡◌, ◌↔◌, All, IfOk, IsTrue};
 ghost use Rattle.sia_events.specs.Refusals.{IsWellFormed};
 ghost use Rattle.sia_events.specs.Isolation.{IsBadRead, IsUnexplained};
-ghost use Rattle.sia_events.specs.Transactions.{WroteBefore};
 ghost use Rattle.sia_events.specs.Reads.{SawAt};
 ghost use Rattle.sia_parts.specs.Findings.{ArePartFindings, ListsBadReads, ListsBadWrites, ListsUnexplained};
 ghost use Rattle.sia_parts.specs.Parts.{IsInPart};
@@ -16,9 +15,9 @@ use crate::gaps::{Gap, joined_gaps};
 use crate::ordering::put_in_order;
 use crate::pairs::put_bad_writes;
 use crate::ranges::put_range_reads;
-use crate::sights::{is_committed, put_item_reads};
+use crate::sights::{is_committed, put_item_reads, wrote_before};
 use crate::spans::{Span, joined};
-use sia_events::{History, Key, NoMemory, TxnId};
+use sia_events::{History, NoMemory};
 use sia_index::Index;
 use std::alloc::Global;
 
@@ -144,14 +143,4 @@ fn is_unexplained(ix: &Index, read: BadRead) -> bool
         return true;
     }
     read.saw != 0 && !is_committed(ix, read.saw)
-}
-
-// Whether the transaction wrote the key before the place.
-fn wrote_before(ix: &Index, t: TxnId, place: u32, k: Key) -> bool
-    ensures { IsTrue result ↔ WroteBefore ix.now t k place }
-{
-    match ix.first_write(t, k) {
-        Some(first) => first < place,
-        None => false,
-    }
 }

@@ -38,24 +38,29 @@ pub(crate) fn put_unlisted(
     ensures gaps { OnOk result (Spreads ix.now (IsGapOf reader (IsUnlisted listed.now lo hi)) gaps.old.items gaps.new.items) }
 {
     let mut from = lo;
+    let mut near = 0;
     for pair in listed {
         let key = pair.0;
-        put_below(ix, reader, from, key, bad, gaps)?;
+        near = ix.number_near(key, near);
+        put_below(ix, reader, from, key, near, bad, gaps)?;
         if key >= hi {
             return Ok(());
         }
         from = key + 1;
+        near = near.saturating_add(1);
     }
-    put_stretch(ix, reader, from, hi, bad, gaps)?;
+    put_stretch(ix, reader, from, hi, near, bad, gaps)?;
     Ok(())
 }
 
-// The same for the keys from `from` to below `key`, none of which the range read listed.
+// The same for the keys from `from` to below `key`, none of which the range read listed. The first written key from `from`
+// on may have number `near` among the written keys.
 fn put_below(
     ix: &Index,
     reader: Reader,
     from: Key,
     key: Key,
+    near: usize,
     bad: &mut Vec<BadRead>,
     gaps: &mut Vec<Gap>,
 ) -> Result<(), NoMemory>
@@ -65,7 +70,7 @@ fn put_below(
     ensures gaps { OnOk result (Spreads ix.now (IsGapOf reader (IsBelow from key)) gaps.old.items gaps.new.items) }
 {
     if from < key {
-        put_stretch(ix, reader, from, key - 1, bad, gaps)?;
+        put_stretch(ix, reader, from, key - 1, near, bad, gaps)?;
     }
     Ok(())
 }
@@ -76,6 +81,7 @@ fn put_stretch(
     reader: Reader,
     lo: Key,
     hi: Key,
+    near: usize,
     bad: &mut Vec<BadRead>,
     gaps: &mut Vec<Gap>,
 ) -> Result<(), NoMemory>
@@ -84,17 +90,20 @@ fn put_stretch(
     ensures bad { OnOk result (Adds (FromKeys (IsBetween lo hi) (λ k. IsBadOf ix.now (unlisted_sight reader k))) bad.old.items bad.new.items) }
     ensures gaps { OnOk result (Spreads ix.now (IsGapOf reader (IsBetween lo hi)) gaps.old.items gaps.new.items) }
 {
-    if is_written_between(ix, lo, hi) {
+    if is_written_between(ix, lo, hi, near) {
         put_due(ix, reader, lo, hi, bad)?;
         put_gap(reader, lo, hi, gaps)?;
     }
     Ok(())
 }
 
-// Whether some key from `lo` to `hi` is written.
-fn is_written_between(ix: &Index, lo: Key, hi: Key) -> bool
+// Whether some key from `lo` to `hi` is written. The first written key from `lo` on may have number `near` among all.
+fn is_written_between(ix: &Index, lo: Key, hi: Key, near: usize) -> bool
     ensures { result ≡ false → (k u : ℕ) → IsBetween lo hi k → ¬ Wrote ix.now u k }
 {
+    if ix.is_unwritten_near(lo, hi, near) {
+        return false;
+    }
     match ix.next_written(lo) {
         Some(key) => key <= hi,
         None => false,

@@ -1,7 +1,14 @@
-//! Where spans may stand that are of one transaction and key. A place only saves a search, and a look only a sort, so that
-//! nothing rests on them.
+//! Where keys and spans may stand that are looked for. A place only saves a search, and a look only a sort, so that nothing
+//! rests on them.
 use crate::spans::Span;
 use sia_events::{Key, TxnId};
+
+/// The number that a key may have among the written keys, and the place where a span of it may stand among the spans.
+#[derive(Clone, Copy)]
+pub(crate) struct Near {
+    pub(crate) number: usize,
+    pub(crate) place: usize,
+}
 
 /// Whether a look shows that no two spans are of one transaction and key, since they ascend by both.
 pub(crate) fn are_apart(spans: &[Span]) -> bool {

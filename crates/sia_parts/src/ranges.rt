@@ -1,9 +1,10 @@
 //! What range reads saw of the keys of a part: the keys that they listed, and the keys between these.
-ghost use Rattle.std.specs.Prelude.{◌≡◌, ◌↔◌, ◌≤◌, ℕ, All, Contains, List, IfOk, OnOk, map};
+ghost use Rattle.std.specs.Prelude.{◌≡◌, ◌↔◌, ◌≤◌, ℕ, All, Contains, List, false, IfOk, OnOk, map};
 ghost use Rattle.std.specs.List.Sorted.{IsStrictlyIncreasing};
 ghost use Rattle.sia_events.specs.declared.event.Event.TheVariants as events;
 ghost use Rattle.sia_events.specs.Places.{at_place};
 ghost use Rattle.sia_events.specs.Refusals.{IsWellFormed};
+ghost use Rattle.sia_events.specs.Transactions.{WroteBefore};
 ghost use Rattle.sia_index.specs.declared.info.RangeRead.{RangeRead};
 ghost use Rattle.sia_index.specs.Info.{IsRangeRead, IsReader};
 ghost use Rattle.sia_parts.specs.Sights.{Adds, JoinsTo, FromSome, FromSight, IsSight, IsRangeSight, IsListedSight, IsBadOf, IsSpanOf, listed_sight, AscendsByKey};
@@ -12,7 +13,7 @@ ghost use Rattle.sia_parts.specs.Gaps.{Spreads, IsUnlistedBy};
 use crate::cutting::Part;
 use crate::finding::BadRead;
 use crate::gaps::{Gap, put_unlisted};
-use crate::nearby::{first_near, next_near};
+use crate::nearby::{Near, first_near, next_near};
 use crate::sights::{Sight, put_sight};
 use crate::spans::Span;
 use sia_events::{Event, History, Key, NoMemory, Version};
@@ -98,37 +99,45 @@ fn put_range_read(
     }
     let listed = listed_within(listed_at(h, range.place), lo, hi);
     let reader = ix.reader(range.txn, range.place);
-    put_listed_keys(ix, reader, range, listed, bad, spans)?;
+    let own = ix.may_own(reader, lo, hi);
+    put_listed_keys(ix, reader, range, listed, own, bad, spans)?;
     put_unlisted(ix, reader, listed, lo, hi, bad, gaps)?;
     Ok(())
 }
 
-// Adds the bad reads and the spans of keys that a range read listed.
+// Adds the bad reads and the spans of keys that a range read listed. Where `own` isn't true, its transaction is known not to
+// have written them before.
 fn put_listed_keys(
     ix: &Index,
     reader: Reader,
     range: RangeRead,
     listed: &[(Key, Version)],
+    own: bool,
     bad: &mut Vec<BadRead>,
     spans: &mut Vec<Span>,
 ) -> Result<(), NoMemory>
     requires well_formed { IsWellFormed ix.now }
     requires reader { IsReader ix.now range.txn range.place reader }
     requires sights { All (λ pair. IsSight ix.now (listed_sight range pair)) listed.now }
+    requires own { own ≡ false → All (λ pair. ¬ WroteBefore ix.now range.txn pair.0 range.place) listed.now }
     ensures bad { OnOk result (Adds (FromSome (λ pair. IsBadOf ix.now (listed_sight range pair)) listed.now) bad.old.items bad.new.items) }
     ensures spans { OnOk result (JoinsTo (FromSome (λ pair. IsSpanOf ix.now (listed_sight range pair)) listed.now) spans.old.items spans.new.items) }
 {
-    let mut near = first_near(spans, range.txn, range.lo);
+    let mut number = 0;
+    let mut place = first_near(spans, range.txn, range.lo);
     let end = spans.len();
     for pair in listed {
-        near = next_near(spans, near, end, pair.0);
+        number = ix.number_near(pair.0, number);
+        place = next_near(spans, place, end, pair.0);
         let sight = Sight {
             place: range.place,
             txn: range.txn,
             key: pair.0,
             saw: pair.1,
         };
-        put_sight(ix, reader, sight, near, bad, spans)?;
+        let near = Near { number, place };
+        put_sight(ix, reader, sight, own, near, bad, spans)?;
+        number = number.saturating_add(1);
     }
     Ok(())
 }

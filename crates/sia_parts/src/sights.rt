@@ -1,16 +1,19 @@
 //! What reads saw of the keys of a part: bad reads, and the spans that give edges.
-ghost use Rattle.std.specs.Prelude.{◌≡◌, ◌↔◌, ℕ, All, IsTrue, OnOk, MatchOption};
-ghost use Rattle.sia_events.specs.Transactions.{IsCommitted, CommitsAt};
+ghost use Rattle.std.specs.Prelude.{◌≡◌, ◌↔◌, ℕ, All, List, false, IsTrue, OnOk, MatchOption};
+ghost use Rattle.sia_events.specs.declared.event.Event.{Event};
+ghost use Rattle.sia_events.specs.Transactions.{IsCommitted, CommitsAt, WroteBefore};
 ghost use Rattle.sia_events.specs.Reads.{IsDue};
 ghost use Rattle.sia_events.specs.Refusals.{IsWellFormed};
 ghost use Rattle.sia_index.specs.Info.{IsItemRead, IsReader};
+ghost use Rattle.sia_index.specs.Seen.{IsSeen};
 ghost use Rattle.sia_parts.specs.declared.spans.Span.{Span};
 ghost use Rattle.sia_parts.specs.Sights.{Adds, JoinsTo, FromSome, IsSight, IsBadOf, IsAsOf, IsSpanOf, read_sight};
 
 use crate::finding::BadRead;
+use crate::nearby::Near;
 use crate::spans::{Span, put_joined};
 use sia_events::{Key, NoMemory, TxnId, Version};
-use sia_index::{Fate, Index, ItemRead, Reader};
+use sia_index::{Fate, Index, ItemRead, Reader, Seen};
 
 /// A version of a key that a transaction saw at a place.
 #[derive(Clone, Copy)]
@@ -33,6 +36,7 @@ pub(crate) fn put_item_reads(
     ensures bad { OnOk result (Adds (FromSome (λ read. IsBadOf ix.now (read_sight read)) reads.now) bad.old.items bad.new.items) }
     ensures spans { OnOk result (JoinsTo (FromSome (λ read. IsSpanOf ix.now (read_sight read)) reads.now) spans.old.items spans.new.items) }
 {
+    let mut number = 0;
     for read in reads {
         let sight = Sight {
             place: read.place,
@@ -41,46 +45,89 @@ pub(crate) fn put_item_reads(
             saw: read.saw,
         };
         let reader = ix.reader(read.txn, read.place);
+        number = ix.number_near(read.key, number);
         // Reads of one transaction and key stand side by side.
-        let near = spans.len().saturating_sub(1);
-        put_sight(ix, reader, sight, near, bad, spans)?;
+        let near = Near {
+            number,
+            place: spans.len().saturating_sub(1),
+        };
+        put_sight(ix, reader, sight, reader.has_written, near, bad, spans)?;
     }
     Ok(())
 }
 
-/// Adds the bad read of a sight, if it is one, and its span, if it has one, joined with the one at the place `near`, if
-/// that is of its transaction and key.
+/// Adds the bad read of a sight, if it is one, and its span, if it has one, joined with one that stands near, if that is
+/// of its transaction and key. Where `own` isn't true, the transaction is known not to have written the key before.
 pub(crate) fn put_sight(
     ix: &Index,
     reader: Reader,
     sight: Sight,
-    near: usize,
+    own: bool,
+    near: Near,
     bad: &mut Vec<BadRead>,
     spans: &mut Vec<Span>,
 ) -> Result<(), NoMemory>
     requires well_formed { IsWellFormed ix.now }
     requires reader { IsReader ix.now sight.txn sight.place reader }
     requires sight { IsSight ix.now sight }
+    requires own { own ≡ false → ¬ WroteBefore ix.now sight.txn sight.key sight.place }
     ensures bad { OnOk result (Adds (IsBadOf ix.now sight) bad.old.items bad.new.items) }
     ensures spans { OnOk result (JoinsTo (IsSpanOf ix.now sight) spans.old.items spans.new.items) }
 {
-    put_bad_read(ix, reader, sight, bad)?;
-    put_span(ix, reader, sight, near, spans)?;
+    let seen = seen_at(ix, reader, sight, near.number);
+    let due = due_at(ix, sight, own, seen);
+    put_bad_read(sight, due, bad)?;
+    put_span(ix, reader, sight, seen, near.place, spans)?;
     Ok(())
 }
 
-// Adds the bad read of a sight, if it is one.
-fn put_bad_read(
-    ix: &Index,
-    reader: Reader,
-    sight: Sight,
-    bad: &mut Vec<BadRead>,
-) -> Result<(), NoMemory>
-    requires reader { IsReader ix.now sight.txn sight.place reader }
-    requires sight { IsSight ix.now sight }
-    ensures { OnOk result (Adds (IsBadOf ix.now sight) bad.old.items bad.new.items) }
+// What the transaction of a sight sees of its key. The key may have this number among the written keys.
+fn seen_at(ix: &Index, reader: Reader, sight: Sight, number: usize) -> Seen
+    requires { IsReader ix.now sight.txn sight.place reader }
+    ensures { IsSeen ix.now sight.txn sight.place sight.key result }
 {
-    let due = due_at(ix, reader, sight);
+    ix.seen_near(reader, sight.key, number)
+}
+
+// The version due at a sight.
+fn due_at(ix: &Index, sight: Sight, own: bool, seen: Seen) -> Version
+    requires own { own ≡ false → ¬ WroteBefore ix.now sight.txn sight.key sight.place }
+    requires seen { IsSeen ix.now sight.txn sight.place sight.key seen }
+    ensures { IsDue ix.now sight.txn sight.place sight.key result }
+{
+    if is_own(ix, sight, own) {
+        sight.txn
+    } else {
+        seen.version
+    }
+}
+
+// Whether the transaction of a sight wrote the key before.
+fn is_own(ix: &Index, sight: Sight, own: bool) -> bool
+    requires { own ≡ false → ¬ WroteBefore ix.now sight.txn sight.key sight.place }
+    ensures { IsTrue result ↔ WroteBefore ix.now sight.txn sight.key sight.place }
+{
+    if own {
+        wrote_before(ix, sight.txn, sight.place, sight.key)
+    } else {
+        false
+    }
+}
+
+/// Whether the transaction wrote the key before the place.
+pub(crate) fn wrote_before(ix: &Index, t: TxnId, place: u32, k: Key) -> bool
+    ensures { IsTrue result ↔ WroteBefore ix.now t k place }
+{
+    match ix.first_write(t, k) {
+        Some(first) => first < place,
+        None => false,
+    }
+}
+
+// Adds the bad read of a sight at which this version is due, if it is one.
+fn put_bad_read(sight: Sight, due: Version, bad: &mut Vec<BadRead>) -> Result<(), NoMemory>
+    ensures { (h : List Event) → IsSight h sight → IsDue h sight.txn sight.place sight.key due → OnOk result (Adds (IsBadOf h sight) bad.old.items bad.new.items) }
+{
     if due != sight.saw {
         bad.push(BadRead {
             place: sight.place,
@@ -93,36 +140,31 @@ fn put_bad_read(
     Ok(())
 }
 
-// The version due at a sight.
-fn due_at(ix: &Index, reader: Reader, sight: Sight) -> Version
-    requires { IsReader ix.now sight.txn sight.place reader }
-    ensures { IsDue ix.now sight.txn sight.place sight.key result }
-{
-    ix.due_to(reader, sight.key)
-}
-
 // Adds the span of a sight, if it has one.
 fn put_span(
     ix: &Index,
     reader: Reader,
     sight: Sight,
-    near: usize,
+    seen: Seen,
+    place: usize,
     spans: &mut Vec<Span>,
 ) -> Result<(), NoMemory>
     requires well_formed { IsWellFormed ix.now }
     requires reader { IsReader ix.now sight.txn sight.place reader }
+    requires seen { IsSeen ix.now sight.txn sight.place sight.key seen }
     ensures { OnOk result (JoinsTo (IsSpanOf ix.now sight) spans.old.items spans.new.items) }
 {
-    if let Some(span) = span_of(ix, reader, sight) {
-        put_joined(spans, span, near)?;
+    if let Some(span) = span_of(ix, reader, sight, seen) {
+        put_joined(spans, span, place)?;
     }
     Ok(())
 }
 
 // The span of a sight by a committed transaction of a version that isn't its own and that 0 or a committed one made.
-fn span_of(ix: &Index, reader: Reader, sight: Sight) -> Option<Span>
+fn span_of(ix: &Index, reader: Reader, sight: Sight, seen: Seen) -> Option<Span>
     requires well_formed { IsWellFormed ix.now }
     requires reader { IsReader ix.now sight.txn sight.place reader }
+    requires seen { IsSeen ix.now sight.txn sight.place sight.key seen }
     ensures { MatchOption result ((span : Span) → ¬ IsSpanOf ix.now sight span) (λ span. IsSpanOf ix.now sight span × ((other : Span) → IsSpanOf ix.now sight other → span ≡ other)) }
 {
     if sight.saw == sight.txn {
@@ -131,13 +173,25 @@ fn span_of(ix: &Index, reader: Reader, sight: Sight) -> Option<Span>
     if !reader.committed {
         return None;
     }
-    let at = as_of(ix, sight.saw)?;
+    let at = as_of_seen(ix, sight.saw, seen)?;
     Some(Span {
         txn: sight.txn,
         key: sight.key,
         low: at,
         high: at,
     })
+}
+
+// The place as of which the version is, which is known of the one that is seen.
+fn as_of_seen(ix: &Index, v: Version, seen: Seen) -> Option<u32>
+    requires well_formed { IsWellFormed ix.now }
+    requires seen { IsAsOf ix.now seen.version seen.commit }
+    ensures { MatchOption result ((c : ℕ) → ¬ IsAsOf ix.now v c) (λ c. IsAsOf ix.now v c × ((d : ℕ) → IsAsOf ix.now v d → c ≡ d)) }
+{
+    if v == seen.version {
+        return Some(seen.commit);
+    }
+    as_of(ix, v)
 }
 
 // The place as of which the version is.

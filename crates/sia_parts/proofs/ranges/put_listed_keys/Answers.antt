@@ -9,6 +9,7 @@ put_sight-requires c = record {
   well_formed = c.requires.well_formed;
   reader = c.requires.reader;
   sight = c.requires.sights c.loop-pair.pair-index (0, 0) c.loop-pair-test.true;
+  own = λ none. c.requires.own none c.loop-pair.pair-index (0, 0) c.loop-pair-test.true;
 }
 
 pub loop-pair-init : goal.loop-pair-init

@@ -4,6 +4,7 @@ use Rattle.std.proofs.lemmas.List.Elements.{Contains-get_or}
 use Rattle.sia_events.specs.declared.event.Event.TheVariants.{Range}
 use Rattle.sia_events.specs.Places.{at_place}
 use Rattle.sia_events.specs.Refusals.{IsWellFormed}
+use Rattle.sia_events.specs.Transactions.{WroteBefore}
 use Rattle.sia_events.proofs.Ranges.{list_in_order}
 use Rattle.sia_parts.specs.Sights.{IsBadOf, IsSpanOf}
 use Rattle.sia_parts.proofs.RangeSights.{apart_sights, apart_listed, apart_gaps, here_sight, unlisted_here_sight, listed_here, sights_here, gaps_here}
@@ -50,6 +51,14 @@ put_listed_keys-requires-clause-sights c k d below =
     let to_part : c.min-hi.result ≤ c.args.part.hi = omega (arith, c.min-hi.ensures) in
     let to_range : c.min-hi.result ≤ r.hi = omega (arith, c.min-hi.ensures) in
     here_sight h wf c.args.part r c.listed_at.result.now at c.max-lo.result c.min-hi.result from_part from_range to_part to_range (λ k a b. omega (arith, c.max-lo.ensures)) (λ k a b. omega (arith, c.min-hi.ensures)) c.listed_within-listed.result.now c.listed_within-listed.ensures.each (get_or c.listed_within-listed.result.now k d) (Contains-get_or c.listed_within-listed.result.now k d below)
+
+pub put_listed_keys-requires-clause-own : goal.put_listed_keys-requires-clause-own
+put_listed_keys-requires-clause-own c nothing k d below before =
+    let h = c.args.ix.now in
+    let reader = c.reader-reader.ensures in
+    let key = (get_or c.listed_within-listed.result.now k d).0 in
+    let own = (c.listed_within-listed.ensures.each (get_or c.listed_within-listed.result.now k d)).0 (Contains-get_or c.listed_within-listed.result.now k d below) in
+    c.may_own-own.ensures nothing key own.1 own.2 (subst (λ t. WroteBefore h t key c.reader-reader.result.place) (sym reader.txn_is) (subst (λ p. WroteBefore h c.args.range.txn key p) (sym reader.place_is) before))
 
 pub put_unlisted-requires-clause-within : goal.put_unlisted-requires-clause-within
 put_unlisted-requires-clause-within c k d below =

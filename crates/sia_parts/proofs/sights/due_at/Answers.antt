@@ -1,9 +1,9 @@
--- What is known of the reader is known of the sight's transaction at its place.
-use Rattle.sia_parts.proofs.Saw.{own_reader, own_due}
+-- A key's own write comes first.
+use Rattle.std.proofs.Common.{inl, refl}
 use Rattle.sia_parts.proofs.sights.due_at.Goals as goal
 
-pub due_to-requires : goal.due_to-requires
-due_to-requires c = own_reader c.args.ix.now c.args.sight.txn c.args.sight.place c.args.reader c.requires
+pub returns-then-is_own : goal.returns-then-is_own
+returns-then-is_own c = inl (c.is_own.ensures.0 c.if-is_own.true, refl)
 
-pub returns : goal.returns
-returns c = own_due c.args.ix.now c.args.sight.txn c.args.sight.place c.args.reader c.requires c.args.sight.key _ c.due_to.ensures
+pub returns-else-is_own : goal.returns-else-is_own
+returns-else-is_own c = c.requires.seen.due (λ wrote. let found = c.is_own.ensures.1 wrote in let other = c.if-is_own.false in cc)

@@ -6,9 +6,7 @@ use Rattle.sia_parts.proofs.Saw.{bad_alone, bad_none}
 use Rattle.sia_parts.proofs.sights.put_bad_read.Goals as goal
 
 pub returns-in_ok-push : goal.returns-in_ok-push
-returns-in_ok-push c =
-    let due = c.due_at-due.ensures in
-    rw c.in_ok-push.ensures.items (adds_push (IsBadOf c.args.ix.now c.args.sight) _ _ (refl, (c.requires.sight, due, (λ same. c.if-due-sight.true (sym same)))) (bad_alone _ _ _ due))
+returns-in_ok-push c h sight due = rw c.in_ok-push.ensures.items (adds_push (IsBadOf h c.args.sight) _ _ (refl, (sight, due, (λ same. c.if-due-sight.true (sym same)))) (bad_alone _ _ _ due))
 
 pub returns-else-due-sight : goal.returns-else-due-sight
-returns-else-due-sight c = adds_nothing (IsBadOf c.args.ix.now c.args.sight) _ (bad_none _ _ _ c.due_at-due.ensures c.if-due-sight.false)
+returns-else-due-sight c h sight due = adds_nothing (IsBadOf h c.args.sight) _ (bad_none _ _ _ due c.if-due-sight.false)

@@ -15,6 +15,7 @@ put_sight-requires c = record {
   well_formed = c.requires.well_formed;
   reader = c.reader-reader.ensures;
   sight = read_is_sight c.args.ix.now (get_or c.args.reads.now c.loop-read.read-index none) (c.requires.reads c.loop-read.read-index none c.loop-read-test.true);
+  own = λ nothing before. c.reader-reader.ensures.wrote_none nothing _ (before.0, before.2);
 }
 
 pub loop-read-init : goal.loop-read-init
