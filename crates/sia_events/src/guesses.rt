@@ -179,7 +179,12 @@ impl Guesses {
         }
         self.slots = vec![in self.alloc; EMPTY; slots]?;
         self.seed = seed_of(writes);
-        self.lost = 0;
         Ok(())
+    }
+
+    /// Counts from now on how many find no slot. So many must come before the next restart, however many found none in the
+    /// last one.
+    pub(crate) fn count_lost(&mut self) {
+        self.lost = 0;
     }
 }

@@ -73,7 +73,7 @@ fn add_ended(ended: &mut TxnSet, event: &Event) -> Result<(), AllocError>
 }
 
 fn add_written(written: &mut WriteSet, event: &Event) -> Result<(), AllocError>
-    ensures written { OnOk result ((p : ℕ × ℕ) → wrote written.new p ≡ (wrote written.old p || writes p event.now)) }
+    ensures written { IsSound written.old → OnOk result ((p : ℕ × ℕ) → wrote written.new p ≡ (wrote written.old p || writes p event.now)) }
     ensures sound { IsSound written.old → OnOk result (IsSound written.new) }
 {
     match event {

@@ -62,7 +62,18 @@ impl WriteSet {
         is_at(&self.writes, self.guesses.guess(write), write)
     }
 
-    /// The same of a write for which there is no slot.
+    /// Whether the write is one that has a slot or stands in the tree, as each has.
+    #[tactic(auto, unfolding(crate::specs::WriteSets::IsSound))]
+    fn is_found(&self, write: (Key, TxnId)) -> bool
+        ensures { IsSound self.now → IsTrue result → wrote self.now write ≡ true }
+    {
+        if self.is_guessed(write) {
+            return true;
+        }
+        self.tree.contains(&write)
+    }
+
+    /// Whether the write is one, where no guess leads to it.
     #[tactic(auto, unfolding(crate::specs::WriteSets::IsSound))]
     fn is_rare(&self, write: (Key, TxnId)) -> bool
         ensures { IsSound self.now → result ≡ wrote self.now write }
@@ -146,15 +157,16 @@ impl WriteSet {
         for position in 0..self.writes.len() {
             self.place(position)?;
         }
+        self.guesses.count_lost();
         Ok(())
     }
 
     #[tactic(auto, unfolding(crate::specs::WriteSets::IsSound))]
     pub(crate) fn insert(&mut self, write: (Key, TxnId)) -> Result<(), AllocError>
-        ensures wrote { OnOk result ((p : ℕ × ℕ) → wrote self.new p ≡ (wrote self.old p || same p write)) }
+        ensures wrote { IsSound self.old → OnOk result ((p : ℕ × ℕ) → wrote self.new p ≡ (wrote self.old p || same p write)) }
         ensures sound { IsSound self.old → OnOk result (IsSound self.new) }
     {
-        if self.is_guessed(write) {
+        if self.is_found(write) {
             return Ok(());
         }
         self.writes.push(write)?;
