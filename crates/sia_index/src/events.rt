@@ -5,9 +5,10 @@ ghost use Rattle.sia_events.specs.Refusals.{IsWellFormed};
 ghost use Rattle.sia_events.specs.Transactions.{IsCommitted, CommitsAt, WritesAt};
 ghost use Rattle.sia_index.specs.Rows.{AreActs, AreWrites, AreVersionRows, AreTxns, AscendsByTxn};
 
+use crate::guesses::Guesses;
 use crate::info::{Fate, KeyVersion};
 use crate::ordering::put_in_order;
-use crate::rows::{ActRow, TxnRow, WriteRow, find_txn};
+use crate::rows::{ActRow, TxnRow, WriteRow, guess_txn};
 use sia_events::{Event, History, Key, TxnId};
 use std::alloc::{AllocError, Global};
 
@@ -15,7 +16,7 @@ use std::alloc::{AllocError, Global};
 pub fn acts_of(alloc: Global, h: &History) -> Result<Vec<ActRow>, AllocError>
     ensures { IfOk result (λ acts. AreActs h.now acts.items) }
 {
-    let mut acts = Vec::new(alloc);
+    let mut acts = Vec::with_capacity(alloc, h.len() as usize)?;
     for before in 0..h.len() {
         let place = before + 1;
         if let Some(event) = h.event(place) {
@@ -33,7 +34,7 @@ pub fn acts_of(alloc: Global, h: &History) -> Result<Vec<ActRow>, AllocError>
 pub fn writes_of(alloc: Global, h: &History) -> Result<Vec<WriteRow>, AllocError>
     ensures { IfOk result (λ writes. AreWrites h.now writes.items) }
 {
-    let mut writes = Vec::new(alloc);
+    let mut writes = Vec::with_capacity(alloc, h.len() as usize)?;
     for before in 0..h.len() {
         let place = before + 1;
         if let Some((txn, key)) = write_at(h, place) {
@@ -49,14 +50,16 @@ pub fn version_rows_of(
     alloc: Global,
     h: &History,
     txns: &[TxnRow],
+    ids: &[TxnId],
+    guesses: &Guesses,
 ) -> Result<Vec<KeyVersion>, AllocError>
     requires { AreTxns h.now txns.now }
     ensures { IfOk result (λ rows. AreVersionRows h.now rows.items) }
 {
-    let mut rows = Vec::new(alloc);
+    let mut rows = Vec::with_capacity(alloc, h.len() as usize)?;
     for before in 0..h.len() {
         if let Some((txn, key)) = write_at(h, before + 1) {
-            if let Some(commit) = commit_of(txns, txn) {
+            if let Some(commit) = commit_of(txns, guesses.place(ids, txn), txn) {
                 rows.push(KeyVersion { key, commit, txn })?;
             }
         }
@@ -65,12 +68,12 @@ pub fn version_rows_of(
     Ok(rows)
 }
 
-// Where the transaction commits, by the table.
-fn commit_of(txns: &[TxnRow], t: TxnId) -> Option<u32>
+// Where the transaction commits, by the table. It may stand in the row that is guessed.
+fn commit_of(txns: &[TxnRow], guess: usize, t: TxnId) -> Option<u32>
     requires { AscendsByTxn txns.now }
     ensures { (h : List Event) → IsWellFormed h → AreTxns h txns.now → MatchOption result (¬ IsCommitted h t) (CommitsAt h t) }
 {
-    match find_txn(txns, t) {
+    match guess_txn(txns, guess, t) {
         Some(info) => match info.fate {
             Fate::Committed => info.ended,
             Fate::Aborted => None,

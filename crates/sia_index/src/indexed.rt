@@ -4,10 +4,11 @@ ghost use Rattle.sia_events.specs.Transactions.{HasEvent, Overlap, Wrote};
 ghost use Rattle.sia_events.specs.Refusals.{IsWellFormed};
 ghost use Rattle.sia_index.specs.Info.{IsInfo, AreVersions, AreWrittenKeys, AreAllVersions, IsFirstWrite, HasKeyAt, IsKeyAt, StartsBefore, AreReadsWithin, AreRangesMeeting, AreWrittenWithin, IsNextWritten, AreVersionsWithin};
 
+use crate::guesses::Guesses;
 use crate::info::{Fate, ItemRead, KeyVersion, Made, RangeRead, TxnInfo};
 use crate::own::WriteTable;
 use crate::reads::{key_from, keys_between, ranges_meeting, reads_between, versions_between};
-use crate::rows::{TxnRow, find_key, guess_txn, guessed_row, part_at};
+use crate::rows::{TxnRow, find_key, guess_txn, part_at};
 use sia_events::{History, Key, TxnId};
 use std::marker::Model;
 use std::snapshot::Snapshot;
@@ -28,8 +29,8 @@ pub struct Index {
     pub(crate) ranges: Vec<RangeRead>,
     pub(crate) reaches: Vec<Key>,
     pub(crate) ids: Vec<TxnId>,
-    pub(crate) txn_guesses: Vec<u32>,
-    pub(crate) key_guesses: Vec<u32>,
+    pub(crate) txn_guesses: Guesses,
+    pub(crate) key_guesses: Guesses,
 }
 
 impl Model for Index {
@@ -56,7 +57,7 @@ impl Index {
     pub fn txn(&self, t: TxnId) -> Option<TxnInfo>
         ensures { MatchOption result (¬ HasEvent self.now t) (IsInfo self.now t) }
     {
-        guess_txn(&self.txns, &self.txn_guesses, t)
+        guess_txn(&self.txns, self.number_of(t), t)
     }
 
     /// Whether both committed, and each started before the other committed.
@@ -104,7 +105,7 @@ impl Index {
 
     // Where the transaction may stand among all.
     pub(crate) fn number_of(&self, t: TxnId) -> usize {
-        guessed_row(&self.txns, &self.txn_guesses, t)
+        self.txn_guesses.place(&self.ids, t)
     }
 
     /// Each key that some write event names, committed or not, ascending.

@@ -12,7 +12,7 @@ const BLOCK: usize = 64;
 pub fn lows_of(alloc: Global, numbers: &[u32]) -> Result<Vec<u32>, AllocError>
     ensures { IfOk result (λ lows. AreLows numbers.now lows.items) }
 {
-    let mut lows = Vec::new(alloc);
+    let mut lows = Vec::with_capacity(alloc, numbers.len() / BLOCK + 1)?;
     let mut from = 0;
     while from < numbers.len() {
         lows.push(low_from(numbers, from))?;

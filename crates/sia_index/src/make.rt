@@ -2,15 +2,14 @@
 ghost use Rattle.std.specs.Prelude.{◌≡◌, IfOk};
 
 use crate::chains::{firsts_of, keys_of, made_of, offsets_of};
-use crate::events::{acts_of, version_rows_of, writes_of};
-use crate::guesses::guesses_of;
+use crate::events::{version_rows_of, writes_of};
+use crate::guesses::Guesses;
 use crate::indexed::Index;
 use crate::lows::lows_of;
 use crate::numbers::ids_of;
 use crate::own::{WriteTable, places_of, starts_of};
 use crate::reads::{ranges_of, reaches_of, reads_of};
-use crate::rows::numbers_of;
-use crate::txns::txns_of;
+use crate::txns::table_of;
 use sia_events::{History, NoMemory};
 use std::alloc::Global;
 use std::snapshot::Snapshot;
@@ -21,10 +20,11 @@ pub fn index(alloc: Global, h: &History) -> Result<Index, NoMemory>
 {
     // The length tells that the history is well-formed.
     let _ = h.len();
-    let acts = acts_of(alloc, h)?;
-    let txns = txns_of(alloc, h, &acts)?;
+    let txns = table_of(alloc, h)?;
+    let ids = ids_of(alloc, txns.as_slice())?;
+    let txn_guesses = Guesses::over(alloc, ids.as_slice())?;
     let writes = writes_of(alloc, h)?;
-    let rows = version_rows_of(alloc, h, &txns)?;
+    let rows = version_rows_of(alloc, h, &txns, ids.as_slice(), &txn_guesses)?;
     let keys = keys_of(alloc, &writes)?;
     let offsets = offsets_of(alloc, &keys, &rows)?;
     let made = made_of(alloc, &rows)?;
@@ -36,10 +36,7 @@ pub fn index(alloc: Global, h: &History) -> Result<Index, NoMemory>
     let reads = reads_of(alloc, h)?;
     let ranges = ranges_of(alloc, h)?;
     let reaches = reaches_of(alloc, &ranges)?;
-    let ids = ids_of(alloc, txns.as_slice())?;
-    let numbers = numbers_of(alloc, txns.as_slice())?;
-    let txn_guesses = guesses_of(alloc, numbers.as_slice())?;
-    let key_guesses = guesses_of(alloc, keys.as_slice())?;
+    let key_guesses = Guesses::over(alloc, keys.as_slice())?;
     Ok(Index {
         of: Snapshot::of(h),
         txns,

@@ -6,7 +6,7 @@ ghost use Rattle.sia_index.specs.Info.{IsInfo, IsKeyAt};
 ghost use Rattle.sia_index.specs.declared.rows.TxnRow.{TxnRow};
 ghost use Rattle.sia_index.specs.Numbers.{HasTxnAt, IsTxnAt};
 
-use crate::guesses::guess;
+use crate::guesses::Guesses;
 use crate::indexed::Index;
 use crate::info::TxnInfo;
 use crate::rows::{TxnRow, find_key};
@@ -60,23 +60,15 @@ fn info_at(table: &[TxnRow], i: usize) -> TxnInfo
 }
 
 // The number of the transaction among these, counted from 0, or None where it isn't one of them.
-fn find_id(ids: &[TxnId], guesses: &[u32], t: TxnId) -> Option<usize>
+fn find_id(ids: &[TxnId], guesses: &Guesses, t: TxnId) -> Option<usize>
     requires { AllPairs (λ x y. x < y) ids.now }
     ensures { MatchOption result (All (λ id. id ≢ t) ids.now) (λ i. (i < length ids.now) × (slice_index ids.now i ≡ t)) }
 {
-    let i = guessed_id(ids, guesses, t);
+    let i = guesses.place(ids, t);
     if i < ids.len() && ids[i] == t {
         return Some(i);
     }
     search_id(ids, t)
-}
-
-// The number where the transaction may stand.
-fn guessed_id(ids: &[TxnId], guesses: &[u32], t: TxnId) -> usize {
-    match ids.first() {
-        Some(first) => guess(guesses, u64::from(*first), u64::from(t)),
-        None => 0,
-    }
 }
 
 // The same, by a search.

@@ -35,7 +35,7 @@ pub fn starts_of(
     txns: &[TxnRow],
     rows: &[WriteRow],
 ) -> Result<Vec<u32>, AllocError> {
-    let mut starts = Vec::new(alloc);
+    let mut starts = Vec::with_capacity(alloc, txns.len().saturating_add(1))?;
     let mut at = 0;
     for row in txns {
         at = start_from(rows, at, row.txn);

@@ -7,9 +7,9 @@ ghost use Rattle.sia_events.specs.Transactions.{Wrote};
 ghost use Rattle.sia_index.specs.Info.{IsItemRead, IsRangeRead, AreReadsWithin, AreRangesMeeting, AreWrittenKeys, AreWrittenWithin, IsNextWritten, AreVersionsWithin};
 ghost use Rattle.sia_index.specs.Rows.{AreReads, AreRanges, AreReaches, AscendsByRead, AscendsByRange, AreVersionRows, AscendsByVersion, IsPlaceFrom};
 
+use crate::guesses::Guesses;
 use crate::info::{ItemRead, KeyVersion, RangeRead};
 use crate::ordering::put_in_order;
-use crate::rows::guessed_key;
 use sia_events::{Event, History, Key};
 use std::alloc::{AllocError, Global};
 
@@ -111,7 +111,7 @@ pub fn keys_between(keys: &[Key], lo: Key, hi: Key) -> &[Key]
 }
 
 /// The least key that is at least `from`.
-pub fn key_from(keys: &[Key], guesses: &[u32], from: Key) -> Option<Key>
+pub fn key_from(keys: &[Key], guesses: &Guesses, from: Key) -> Option<Key>
     requires { AllPairs (λ x y. x < y) keys.now }
     ensures { (h : List Event) → AreWrittenKeys h keys.now → MatchOption result ((k t : ℕ) → from ≤ k → ¬ Wrote h t k) (IsNextWritten h from) }
 {
@@ -124,11 +124,13 @@ pub fn key_from(keys: &[Key], guesses: &[u32], from: Key) -> Option<Key>
 }
 
 // The first place of a key that is at least `from`: where the key below stands among the keys, it is the next one.
-fn place_from(keys: &[Key], guesses: &[u32], from: Key) -> usize
+fn place_from(keys: &[Key], guesses: &Guesses, from: Key) -> usize
     requires { AllPairs (λ x y. x < y) keys.now }
     ensures { IsPlaceFrom keys.now from result }
 {
-    let at = guessed_key(keys, guesses, from.saturating_sub(1)).saturating_add(1);
+    let at = guesses
+        .place(keys, from.saturating_sub(1))
+        .saturating_add(1);
     if is_place_from(keys, at, from) {
         at
     } else {

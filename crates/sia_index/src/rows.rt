@@ -2,10 +2,9 @@
 ghost use Rattle.std.specs.Prelude.{◌≡◌, ◌≢◌, ◌+◌, ◌<◌, ◌≤◌, All, AllPairs, Contains, MatchOption, length, slice_index, slice_range};
 ghost use Rattle.sia_index.specs.Rows.{AscendsByTxn};
 
-use crate::guesses::guess;
+use crate::guesses::Guesses;
 use crate::info::{Made, TxnInfo};
 use sia_events::{Key, TxnId};
-use std::alloc::{AllocError, Global};
 
 /// An event of a transaction.
 #[derive(Clone, Copy, PartialEq, Eq, PartialOrd, Ord)]
@@ -40,52 +39,27 @@ pub fn find_txn(table: &[TxnRow], t: TxnId) -> Option<TxnInfo>
     }
 }
 
-/// The same, where a guess may save the search.
-pub fn guess_txn(table: &[TxnRow], guesses: &[u32], t: TxnId) -> Option<TxnInfo>
+/// The same, where a guess of the row may save the search.
+pub fn guess_txn(table: &[TxnRow], guess: usize, t: TxnId) -> Option<TxnInfo>
     requires { AscendsByTxn table.now }
     ensures { MatchOption result (All (λ row. row.txn ≢ t) table.now) (λ info. Contains table.now (record { txn = t; info = info })) }
 {
-    match table.get(guessed_row(table, guesses, t)) {
+    match table.get(guess) {
         Some(row) if row.txn == t => Some(row.info),
         _ => find_txn(table, t),
     }
 }
 
-/// The row where the transaction may stand.
-pub fn guessed_row(table: &[TxnRow], guesses: &[u32], t: TxnId) -> usize {
-    match table.first() {
-        Some(row) => guess(guesses, u64::from(row.txn), u64::from(t)),
-        None => 0,
-    }
-}
-
-/// The number of each transaction.
-pub fn numbers_of(alloc: Global, table: &[TxnRow]) -> Result<Vec<u64>, AllocError> {
-    let mut numbers = Vec::with_capacity(alloc, table.len())?;
-    for row in table {
-        numbers.push(u64::from(row.txn))?;
-    }
-    Ok(numbers)
-}
-
 /// The number of the key among the keys, counted from 0, or None where it isn't one of them.
-pub fn find_key(keys: &[Key], guesses: &[u32], k: Key) -> Option<usize>
+pub fn find_key(keys: &[Key], guesses: &Guesses, k: Key) -> Option<usize>
     requires { AllPairs (λ x y. x < y) keys.now }
     ensures { MatchOption result (All (λ key. key ≢ k) keys.now) (λ i. (i < length keys.now) × (slice_index keys.now i ≡ k)) }
 {
-    let i = guessed_key(keys, guesses, k);
+    let i = guesses.place(keys, k);
     if i < keys.len() && keys[i] == k {
         return Some(i);
     }
     search_key(keys, k)
-}
-
-/// The number where the key may stand.
-pub fn guessed_key(keys: &[Key], guesses: &[u32], k: Key) -> usize {
-    match keys.first() {
-        Some(first) => guess(guesses, *first, k),
-        None => 0,
-    }
 }
 
 /// The same, by a search.

@@ -8,18 +8,28 @@ ghost use Rattle.sia_events.specs.Transactions.{IsFirstEvent, StartsAt};
 ghost use Rattle.sia_index.specs.Info.{IsInfo};
 ghost use Rattle.sia_index.specs.Rows.{AreActs, AreTxns, IsSpan, AscendsByAct};
 
+use crate::events::acts_of;
 use crate::info::{Fate, TxnInfo};
 use crate::rows::{ActRow, TxnRow};
 use sia_events::{Event, History, TxnId};
 use std::alloc::{AllocError, Global};
 
 /// Every transaction, with what is known of it.
-pub fn txns_of(alloc: Global, h: &History, acts: &[ActRow]) -> Result<Vec<TxnRow>, AllocError>
+pub fn table_of(alloc: Global, h: &History) -> Result<Vec<TxnRow>, AllocError>
+    requires { IsWellFormed h.now }
+    ensures { IfOk result (λ table. AreTxns h.now table.items) }
+{
+    let acts = acts_of(alloc, h)?;
+    txns_of(alloc, h, &acts)
+}
+
+// The same, made of the rows of all events.
+fn txns_of(alloc: Global, h: &History, acts: &[ActRow]) -> Result<Vec<TxnRow>, AllocError>
     requires well_formed { IsWellFormed h.now }
     requires acts_are { AreActs h.now acts.now }
     ensures { IfOk result (λ table. AreTxns h.now table.items) }
 {
-    let mut table = Vec::new(alloc);
+    let mut table = Vec::with_capacity(alloc, acts.len())?;
     let mut from = 0;
     while from < acts.len() {
         let txn = acts[from].txn;

@@ -5,7 +5,7 @@ use Rattle.sia_index.proofs.events.version_rows_of.Goals as goal
 use Rattle.sia_index.proofs.events.version_rows_of.Goals.{in-Some+in-Some-commit_of+in_ok-push, in-Some+in_default-commit_of, in_default}
 
 pub loop-before-init : goal.loop-before-init
-loop-before-init c = rw c.new-rows.ensures.items (holds_none (IsVersionAt c.args.h.now) (λ w is. let none = is.0 in cc))
+loop-before-init c = rw c.in_ok-rows.ensures.items (holds_none (IsVersionAt c.args.h.now) (λ w is. let none = is.0 in cc))
 
 pub loop-before-preserved : goal.loop-before-preserved
 loop-before-preserved c =

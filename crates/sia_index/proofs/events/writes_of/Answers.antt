@@ -5,7 +5,7 @@ use Rattle.sia_index.proofs.events.writes_of.Goals as goal
 use Rattle.sia_index.proofs.events.writes_of.Goals.{in-Some+in_ok-push, in_default}
 
 pub loop-before-init : goal.loop-before-init
-loop-before-init c = rw c.new-writes.ensures.items (holds_none (IsWriteAt c.args.h.now) (λ w is. let none = is.1 in cc))
+loop-before-init c = rw c.in_ok-writes.ensures.items (holds_none (IsWriteAt c.args.h.now) (λ w is. let none = is.1 in cc))
 
 pub loop-before-preserved : goal.loop-before-preserved
 loop-before-preserved c = elim c.match-write_at.branch [

@@ -6,7 +6,7 @@ use Rattle.sia_index.proofs.Runs.{rows_none, rows_all, rows_more, span}
 use Rattle.sia_index.proofs.txns.txns_of.Goals as goal
 
 pub loop-from-init : goal.loop-from-init
-loop-from-init c = rw c.new-table.ensures.items (rows_none _ _ c.requires.acts_are)
+loop-from-init c = rw c.in_ok-table.ensures.items (rows_none _ _ c.requires.acts_are)
 
 pub info_of-info-requires-clause-spans : goal.info_of-info-requires-clause-spans
 info_of-info-requires-clause-spans c =
