@@ -98,7 +98,18 @@ impl Guesses {
     pub fn place<T: Copy + Into<u64>>(&self, list: &[T], number: T) -> usize {
         let wanted: u64 = number.into();
         let slot = self.slot_of(wanted);
-        for tried in 0..TRIED {
+        let Some(guess) = self.slots.get(slot) else {
+            return list.len();
+        };
+        match list.get(*guess as usize) {
+            Some(other) if (*other).into() != wanted => self.place_behind(list, slot, wanted),
+            _ => *guess as usize,
+        }
+    }
+
+    // The same, by the slots behind the first one.
+    fn place_behind<T: Copy + Into<u64>>(&self, list: &[T], slot: usize, wanted: u64) -> usize {
+        for tried in 1..TRIED {
             let Some(guess) = self.slots.get(slot.wrapping_add(tried)) else {
                 return list.len();
             };

@@ -57,7 +57,14 @@ impl Index {
     pub fn txn(&self, t: TxnId) -> Option<TxnInfo>
         ensures { MatchOption result (¬ HasEvent self.now t) (IsInfo self.now t) }
     {
-        guess_txn(&self.txns, self.number_of(t), t)
+        self.guessed_txn(self.number_of(t), t)
+    }
+
+    // The same. It may stand at `number` among the transactions.
+    pub(crate) fn guessed_txn(&self, number: usize, t: TxnId) -> Option<TxnInfo>
+        ensures { MatchOption result (¬ HasEvent self.now t) (IsInfo self.now t) }
+    {
+        guess_txn(&self.txns, number, t)
     }
 
     /// Whether both committed, and each started before the other committed.

@@ -19,8 +19,9 @@ impl Index {
         ensures { IsReader self.now t place result }
     {
         let _ = &self.of;
-        let has_written = self.has_written(t);
-        let (start, committed) = match self.txn(t) {
+        let number = self.number_of(t);
+        let has_written = self.has_written(number, t);
+        let (start, committed) = match self.guessed_txn(number, t) {
             Some(info) => (info.start, is_committed(info.fate)),
             None => (0, false),
         };
@@ -33,11 +34,11 @@ impl Index {
         }
     }
 
-    // Whether the transaction wrote any key.
-    fn has_written(&self, t: TxnId) -> bool
+    // Whether the transaction wrote any key. It may stand at `number` among the transactions.
+    fn has_written(&self, number: usize, t: TxnId) -> bool
         ensures { IsTrue result ↔ ((k : ℕ) × Wrote self.now t k) }
     {
-        self.writes.has_any(self.number_of(t), t)
+        self.writes.has_any(number, t)
     }
 
     /// The version due to a read of the key by the transaction at the place.

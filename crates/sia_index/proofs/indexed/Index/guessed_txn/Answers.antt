@@ -2,7 +2,7 @@
 use Rattle.std.proofs.Common.{subst}
 use Rattle.sia_index.specs.Rows.{AreTxns}
 use Rattle.sia_index.proofs.Table.{told}
-use Rattle.sia_index.proofs.indexed.Index.txn.Goals as goal
+use Rattle.sia_index.proofs.indexed.Index.guessed_txn.Goals as goal
 
 pub returns : goal.returns
 returns c =
