@@ -1,6 +1,6 @@
 -- Going back from a transaction to the least one with an edge to it, among those that are left. Transactions are told by their
 -- positions among ids, and those that are left by a count that isn't 0.
-use Rattle.std.specs.Prelude.{◌≡◌, ◌↔◌, ℕ, zero, suc, ◌<◌, ◌≤◌, List, [], ◌∷◌, length, slice_index, Contains}
+use Rattle.std.specs.Prelude.{◌≡◌, ◌↔◌, ℕ, zero, suc, ◌<◌, ◌≤◌, ◌==◌, ◌||◌, ◌&&◌, Bool, List, [], ◌∷◌, length, slice_index, nat_lt, Contains}
 use Rattle.sia_parts.specs.declared.finding.Edge.{Edge}
 use Rattle.sia_graph.specs.declared.settling.Step.{Step}
 use Rattle.sia_graph.specs.Orders.{Leads}
@@ -43,3 +43,7 @@ LeadsBack stuck ids edges previous home = (n : ℕ)
 -- the list holds those that are left
 abbrev pub AreLeft : List ℕ → List ℕ → List ℕ → Type 0
 AreLeft ids counts stuck = (t : ℕ) → Contains stuck t ↔ ((i : ℕ) × (i < length ids) × (slice_index ids i ≡ t) × (0 < slice_index counts i))
+
+-- the edge stands before those from s to t
+abbrev pub is_before : ℕ → ℕ → Edge → Bool
+is_before s t e = nat_lt e.src s || e.src == s && nat_lt e.dst t

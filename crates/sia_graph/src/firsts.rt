@@ -47,6 +47,18 @@ fn commits_by(ix: &Index, txn: TxnId, before: u32, latest: u32) -> bool
     }
 }
 
+/// Whether none of the transactions commits before one place and no later than another.
+fn none_commits(ix: &Index, txns: &[TxnId], before: u32, latest: u32) -> bool
+    ensures { IsTrue result → All (λ t. (c : ℕ) → CommitsAt ix.now t c → c < before → ¬ (c ≤ latest)) txns.now }
+{
+    for txn in txns {
+        if commits_by(ix, *txn, before, latest) {
+            return false;
+        }
+    }
+    true
+}
+
 /// Of the transactions to which `txn` has a vulnerable edge, those that commit before it and no later than some transaction
 /// that has one to `txn`.
 pub(crate) fn firsts(
@@ -65,6 +77,9 @@ pub(crate) fn firsts(
         return Ok(Vec::new(alloc));
     };
     let last = last_commit(ix, ins);
+    if none_commits(ix, outs, own, last) {
+        return Ok(Vec::new(alloc));
+    }
     let mut firsts = Vec::from_slice(alloc, outs)?;
     firsts.retain(|out| commits_by(ix, *out, own, last));
     Ok(firsts)

@@ -1,12 +1,12 @@
 //! The cycle that going back from the least transaction that is left reaches.
-ghost use Rattle.std.specs.Prelude.{◌≡◌, ◌≢◌, ℕ, ◌+◌, ◌<◌, ◌≤◌, All, AllPairs, Contains, IfOk, List, length, slice_index};
-ghost use Rattle.std.specs.List.Sorted.{IsStrictlyIncreasing};
+ghost use Rattle.std.specs.Prelude.{◌≡◌, ◌≢◌, ℕ, ◌+◌, ◌<◌, ◌≤◌, All, AllPairs, Contains, IfOk, IsTrue, List, false, length, slice_index, true};
+ghost use Rattle.std.specs.List.Sorted.{IsPartitionPoint, IsStrictlyIncreasing};
 ghost use Rattle.sia_events.specs.Lists.{Precedes};
 ghost use Rattle.sia_parts.specs.Entries.{edge_rank};
 ghost use Rattle.sia_graph.specs.Cycles.{IsPrintedCycle, IsStuckSet, TakesLeastEdge};
 ghost use Rattle.sia_graph.specs.Fronts.{arriving};
 ghost use Rattle.sia_graph.specs.Orders.{Leads};
-ghost use Rattle.sia_graph.specs.Walks.{AreLeft, ArePrevious, GoesRoundFrom, IsFedBack, LeadsBack, StaysWithin, back};
+ghost use Rattle.sia_graph.specs.Walks.{AreLeft, ArePrevious, GoesRoundFrom, IsFedBack, LeadsBack, StaysWithin, back, is_before};
 
 use crate::adjacency::{edges_from, position_of};
 use crate::guesses::Guesses;
@@ -107,14 +107,46 @@ pub(crate) fn least_within(previous: &[usize], start: usize, count: usize) -> us
     least
 }
 
-/// The step by the least edge from one transaction to another.
-fn least_step(edges: &[Edge], src: TxnId, dst: TxnId) -> Step
+/// Whether an edge stands before those from one transaction to another.
+fn stands_before(e: &Edge, src: TxnId, dst: TxnId) -> bool
+    ensures { result ≡ is_before src dst e.now }
+{
+    e.src < src || e.src == src && e.dst < dst
+}
+
+/// Whether the edges before `point` are those that stand before the ones from `src` to `dst`.
+fn is_point(edges: &[Edge], point: usize, src: TxnId, dst: TxnId) -> bool
+    requires within { point ≤ length edges.now }
+    requires sorted { AllPairs (λ d e. Precedes (edge_rank d) (edge_rank e)) edges.now }
+    ensures { IsTrue result → IsPartitionPoint (λ e. is_before src dst e ≡ true) (λ e. is_before src dst e ≡ false) edges.now point }
+{
+    if point > 0 && !stands_before(&edges[point - 1], src, dst) {
+        return false;
+    }
+    point == edges.len() || !stands_before(&edges[point], src, dst)
+}
+
+/// Where the edges from one transaction to another stand, perhaps at `near`. This saves a search, and is not relied on.
+fn point_of(edges: &[Edge], near: usize, src: TxnId, dst: TxnId) -> usize
+    requires { AllPairs (λ d e. Precedes (edge_rank d) (edge_rank e)) edges.now }
+    ensures { IsPartitionPoint (λ e. is_before src dst e ≡ true) (λ e. is_before src dst e ≡ false) edges.now result }
+{
+    if near <= edges.len() {
+        if is_point(edges, near, src, dst) {
+            return near;
+        }
+    }
+    edges.partition_point(|e| stands_before(e, src, dst))
+}
+
+/// The step by the least edge from one transaction to another. It may stand at `near`.
+fn least_step(edges: &[Edge], near: usize, src: TxnId, dst: TxnId) -> Step
     requires sorted { AllPairs (λ d e. Precedes (edge_rank d) (edge_rank e)) edges.now }
     requires leads { Leads (Contains edges.now) src dst }
     ensures from { result.txn ≡ src }
     ensures least { TakesLeastEdge (Contains edges.now) result dst }
 {
-    let i = edges.partition_point(|e| e.src < src || e.src == src && e.dst < dst);
+    let i = point_of(edges, near, src, dst);
     let e = &edges[i];
     Step {
         txn: src,
@@ -127,6 +159,7 @@ fn least_step(edges: &[Edge], src: TxnId, dst: TxnId) -> Step
 fn steps_round(
     alloc: Global,
     ids: &[TxnId],
+    guesses: &Guesses,
     edges: &[Edge],
     previous: &[usize],
     home: usize,
@@ -148,7 +181,8 @@ fn steps_round(
     let mut at = home;
     'walk: loop {
         let before = previous[at];
-        steps.push(least_step(edges, ids[before], ids[at]))?;
+        let near = guesses.edges_of(before).0;
+        steps.push(least_step(edges, near, ids[before], ids[at]))?;
         if before == home {
             break;
         }
@@ -180,5 +214,5 @@ pub(crate) fn cycle_from(
     let sources = previous.as_slice();
     let (place, period) = reach_cycle(alloc, sources, start)?;
     let home = least_within(sources, place, period);
-    steps_round(alloc, ids, edges, sources, home, period)
+    steps_round(alloc, ids, guesses, edges, sources, home, period)
 }

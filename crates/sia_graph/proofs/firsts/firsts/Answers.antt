@@ -3,7 +3,7 @@ use Rattle.std.specs.Prelude.{IsTrue}
 use Rattle.sia_events.specs.Lists.{ListsAscending}
 use Rattle.sia_events.specs.DangerousStructures.{IsVulnerable, IsFirst}
 use Rattle.sia_graph.proofs.Listed.{listed_as, retained}
-use Rattle.sia_graph.proofs.Vulnerable.{CommitsBy, first_by, none_first}
+use Rattle.sia_graph.proofs.Vulnerable.{CommitsBy, first_by, none_by, none_first}
 use Rattle.sia_graph.proofs.firsts.firsts.Goals as goal
 
 pub returns : goal.returns
@@ -18,3 +18,10 @@ returns c =
 
 pub returns-in_default : goal.returns-in_default
 returns-in_default c = subst (ListsAscending (IsFirst c.args.ix.now c.args.txn)) (sym c.new.ensures.items) (none_first c.args.ix.now c.args.txn c.in_default.ensures)
+
+pub returns-then-none_commits : goal.returns-then-none_commits
+returns-then-none_commits c =
+    let h = c.args.ix.now in
+    subst (ListsAscending (IsFirst h c.args.txn)) (sym c.new-then-none_commits.ensures.items)
+    (none_by h c.law.ensures c.args.txn c.in-Some.own c.last_commit-last.result c.args.ins.now c.in-Some.ensures c.requires.ins c.last_commit-last.ensures.greatest c.last_commit-last.ensures.attained
+    c.args.outs.now c.requires.outs (c.none_commits.ensures c.if-none_commits.true))
