@@ -1,6 +1,6 @@
 -- Going back from a transaction to the least one with an edge to it, among those that are left. Transactions are told by their
 -- positions among ids, and those that are left by a count that isn't 0.
-use Rattle.std.specs.Prelude.{◌≡◌, ◌↔◌, ℕ, zero, suc, ◌<◌, ◌≤◌, ◌==◌, ◌||◌, ◌&&◌, Bool, List, [], ◌∷◌, length, slice_index, nat_lt, Contains}
+use Rattle.std.specs.Prelude.{◌≡◌, ◌↔◌, ◌⊎◌, ℕ, zero, suc, ◌<◌, ◌≤◌, ◌==◌, ◌||◌, ◌&&◌, Bool, List, [], ◌∷◌, length, slice_index, nat_lt, Contains}
 use Rattle.sia_parts.specs.declared.finding.Edge.{Edge}
 use Rattle.sia_graph.specs.declared.settling.Step.{Step}
 use Rattle.sia_graph.specs.Orders.{Leads}
@@ -17,9 +17,13 @@ IsLeastSource ids edges counts i p = IsSource ids edges counts i p × ((q : ℕ)
 abbrev pub IsFedBack : List ℕ → List Edge → List ℕ → Type 0
 IsFedBack ids edges counts = (i : ℕ) → i < length ids → 0 < slice_index counts i → (p : ℕ) × IsSource ids edges counts i p
 
--- the least source of each that is left
-abbrev pub ArePrevious : List ℕ → List Edge → List ℕ → List ℕ → Type 0
-ArePrevious ids edges counts previous = (i : ℕ) → i < length ids → 0 < slice_index counts i → IsLeastSource ids edges counts i (slice_index previous i)
+-- p is the least source of i; or it is i, and no source of i is below limit
+abbrev pub IsLeastBelow : List ℕ → List Edge → List ℕ → ℕ → ℕ → ℕ → Type 0
+IsLeastBelow ids edges counts limit i p = IsLeastSource ids edges counts i p ⊎ ((p ≡ i) × ((q : ℕ) → q < limit → ¬ IsSource ids edges counts i q))
+
+-- that of each position
+abbrev pub AreLeastBelow : List ℕ → List Edge → List ℕ → ℕ → List ℕ → Type 0
+AreLeastBelow ids edges counts limit previous = (i : ℕ) → i < length ids → IsLeastBelow ids edges counts limit i (slice_index previous i)
 
 -- each position leads back to one
 abbrev pub StaysWithin : List ℕ → Type 0
@@ -29,6 +33,10 @@ StaysWithin previous = (i : ℕ) → i < length previous → slice_index previou
 abbrev pub back : List ℕ → ℕ → ℕ → ℕ
 back previous zero i = i
 back previous (suc n) i = back previous n (slice_index previous i)
+
+-- all that going back from start reaches lead back to their least sources
+abbrev pub ArePreviousFrom : List ℕ → List Edge → List ℕ → List ℕ → ℕ → Type 0
+ArePreviousFrom ids edges counts previous start = (n : ℕ) → IsLeastSource ids edges counts (back previous n start) (slice_index previous (back previous n start))
 
 -- one goes round from home by these steps, and home is the least on the way
 abbrev pub GoesRoundFrom : List ℕ → List Edge → ℕ → List Step → Type 0

@@ -1,12 +1,12 @@
 //! The cycle that going back from the least transaction that is left reaches.
-ghost use Rattle.std.specs.Prelude.{◌≡◌, ◌≢◌, ℕ, ◌+◌, ◌<◌, ◌≤◌, All, AllPairs, Contains, IfOk, IsTrue, List, false, length, slice_index, true};
+ghost use Rattle.std.specs.Prelude.{◌≡◌, ◌≢◌, ◌↔◌, ℕ, ◌+◌, ◌<◌, ◌≤◌, All, AllPairs, Contains, IfOk, IsTrue, List, false, length, slice_index, true};
 ghost use Rattle.std.specs.List.Sorted.{IsPartitionPoint, IsStrictlyIncreasing};
 ghost use Rattle.sia_events.specs.Lists.{Precedes};
 ghost use Rattle.sia_parts.specs.Entries.{edge_rank};
 ghost use Rattle.sia_graph.specs.Cycles.{IsPrintedCycle, IsStuckSet, TakesLeastEdge};
 ghost use Rattle.sia_graph.specs.Fronts.{arriving};
 ghost use Rattle.sia_graph.specs.Orders.{Leads};
-ghost use Rattle.sia_graph.specs.Walks.{AreLeft, ArePrevious, GoesRoundFrom, IsFedBack, LeadsBack, StaysWithin, back, is_before};
+ghost use Rattle.sia_graph.specs.Walks.{AreLeastBelow, AreLeft, ArePreviousFrom, GoesRoundFrom, IsFedBack, LeadsBack, StaysWithin, back, is_before};
 
 use crate::adjacency::{edges_from, position_of};
 use crate::guesses::Guesses;
@@ -14,6 +14,15 @@ use crate::settling::Step;
 use sia_events::{NoMemory, TxnId};
 use sia_parts::Edge;
 use std::alloc::Global;
+
+/// How many transactions after the first that is left are looked at first.
+const NEAR: usize = 64;
+
+/// How many times as many are looked at the next time.
+const MORE: usize = 8;
+
+/// How often some of them are looked at, before all are.
+const ATTEMPTS: usize = 4;
 
 /// Lets the targets of edges from the transaction at `source` lead back to it.
 #[inline(never)]
@@ -36,25 +45,38 @@ fn lead_back(
     }
 }
 
-/// For each transaction that is left the least one that is left and has an edge to it.
+/// So many positions, each of which leads to itself.
+fn themselves(alloc: Global, count: usize) -> Result<Vec<usize>, NoMemory>
+    ensures long { IfOk result (λ positions. length positions.items ≡ count) }
+    ensures each { IfOk result (λ positions. (i : ℕ) → i < count → slice_index positions.items i ≡ i) }
+{
+    let mut positions = Vec::with_capacity(alloc, count)?;
+    for i in 0..count {
+        positions.push(i)?;
+    }
+    Ok(positions)
+}
+
+/// For each transaction the least one below `limit` that is left and has an edge to it. What has none there leads to itself.
 pub(crate) fn least_sources(
     alloc: Global,
     ids: &[TxnId],
     guesses: &Guesses,
     edges: &[Edge],
     counts: &[usize],
+    limit: usize,
 ) -> Result<Vec<usize>, NoMemory>
     requires ascending { IsStrictlyIncreasing ids.now }
     requires joins { All (λ e. Contains ids.now e.src × Contains ids.now e.dst × (e.src ≢ e.dst)) edges.now }
     requires sorted { AllPairs (λ d e. Precedes (edge_rank d) (edge_rank e)) edges.now }
     requires long { length counts.now ≡ length ids.now }
-    requires fed { IsFedBack ids.now edges.now counts.now }
+    requires limit { limit ≤ length ids.now }
     ensures long { IfOk result (λ previous. length previous.items ≡ length ids.now) }
     ensures within { IfOk result (λ previous. StaysWithin previous.items) }
-    ensures least { IfOk result (λ previous. ArePrevious ids.now edges.now counts.now previous.items) }
+    ensures least { IfOk result (λ previous. AreLeastBelow ids.now edges.now counts.now limit previous.items) }
 {
-    let mut previous = vec![in alloc; 0usize; ids.len()]?;
-    for i in (0..ids.len()).rev() {
+    let mut previous = themselves(alloc, ids.len())?;
+    for i in (0..limit).rev() {
         if counts[i] > 0 {
             let leaving = edges_from(edges, guesses, i, ids[i]);
             lead_back(ids, guesses, leaving, i, &mut previous);
@@ -87,6 +109,58 @@ pub(crate) fn reach_cycle(
             }
         }
     }
+}
+
+/// Whether a position leads to itself.
+fn is_alone(previous: &[usize], place: usize) -> bool
+    requires { place < length previous.now }
+    ensures { IsTrue result ↔ (slice_index previous.now place ≡ place) }
+{
+    previous[place] == place
+}
+
+/// Whether nothing that going back from `start` reaches leads to itself.
+fn goes_round(alloc: Global, previous: &[usize], start: usize) -> Result<bool, NoMemory>
+    requires within { StaysWithin previous.now }
+    requires start { start < length previous.now }
+    ensures { IfOk result (λ r. IsTrue r → (n : ℕ) → slice_index previous.now (back previous.now n start) ≢ back previous.now n start) }
+{
+    let (place, _period) = reach_cycle(alloc, previous, start)?;
+    Ok(!is_alone(previous, place))
+}
+
+/// For each transaction that going back from `start` reaches the least one that is left and has an edge to it.
+///
+/// The sources near `start` are looked at first, and more of them only where these don't lead round.
+fn sources_from(
+    alloc: Global,
+    ids: &[TxnId],
+    guesses: &Guesses,
+    edges: &[Edge],
+    counts: &[usize],
+    start: usize,
+) -> Result<Vec<usize>, NoMemory>
+    requires ascending { IsStrictlyIncreasing ids.now }
+    requires joins { All (λ e. Contains ids.now e.src × Contains ids.now e.dst × (e.src ≢ e.dst)) edges.now }
+    requires sorted { AllPairs (λ d e. Precedes (edge_rank d) (edge_rank e)) edges.now }
+    requires long { length counts.now ≡ length ids.now }
+    requires fed { IsFedBack ids.now edges.now counts.now }
+    requires start { (start < length ids.now) × (0 < slice_index counts.now start) }
+    ensures long { IfOk result (λ previous. length previous.items ≡ length ids.now) }
+    ensures within { IfOk result (λ previous. StaysWithin previous.items) }
+    ensures from { IfOk result (λ previous. ArePreviousFrom ids.now edges.now counts.now previous.items start) }
+{
+    let mut limit = start.saturating_add(NEAR);
+    for _attempt in 0..ATTEMPTS {
+        if limit < ids.len() {
+            let previous = least_sources(alloc, ids, guesses, edges, counts, limit)?;
+            if goes_round(alloc, previous.as_slice(), start)? {
+                return Ok(previous);
+            }
+        }
+        limit = limit.saturating_mul(MORE);
+    }
+    least_sources(alloc, ids, guesses, edges, counts, ids.len())
 }
 
 /// The least position that some number of steps back reach, up to `count`.
@@ -210,7 +284,7 @@ pub(crate) fn cycle_from(
     ensures { IfOk result (λ steps. (stuck : List ℕ) → AreLeft ids.now counts.now stuck → IsStuckSet (Contains ids.now) (Contains edges.now) stuck
         → IsPrintedCycle (Contains ids.now) (Contains edges.now) steps.items) }
 {
-    let previous = least_sources(alloc, ids, guesses, edges, counts)?;
+    let previous = sources_from(alloc, ids, guesses, edges, counts, start)?;
     let sources = previous.as_slice();
     let (place, period) = reach_cycle(alloc, sources, start)?;
     let home = least_within(sources, place, period);

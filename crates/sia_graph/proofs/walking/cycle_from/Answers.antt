@@ -1,8 +1,8 @@
-use Rattle.std.proofs.Common.{◌≡◌, ◌<◌, ◌+◌, ℕ, length, get_or, ap, sym, subst, ◌∙◌, arith}
+use Rattle.std.proofs.Common.{◌≡◌, ◌<◌, ◌+◌, ℕ, length, ap, sym, subst, ◌∙◌, arith}
 use Rattle.std.proofs.lemmas.Result.{IfOk-weaker}
-use Rattle.sia_graph.specs.Walks.{back, ArePrevious, StaysWithin}
+use Rattle.sia_graph.specs.Walks.{back, ArePreviousFrom, StaysWithin}
 use Rattle.sia_graph.proofs.Walks.{stays, back_more}
-use Rattle.sia_graph.proofs.PrintedCycle.{stays_left, leads_all, printed, round_home, least_home}
+use Rattle.sia_graph.proofs.PrintedCycle.{shifted, leads_all, printed, round_home, least_home}
 use Rattle.sia_graph.proofs.walking.cycle_from.Goals as goal
 
 pub least_within-home-requires-clause-start : goal.least_within-home-requires-clause-start
@@ -37,26 +37,26 @@ steps_round-requires-clause-least c =
 pub steps_round-requires-clause-leads : goal.steps_round-requires-clause-leads
 steps_round-requires-clause-leads c =
     let ids = c.args.ids.now in
+    let edges = c.args.edges.now in
     let counts = c.args.counts.now in
     let sources = c.as_slice-sources.result.now in
-    let are = subst (λ l. ArePrevious ids c.args.edges.now counts l) (sym c.as_slice-sources.ensures.value) c.in_ok-previous.ensures.least in
+    let are = subst (λ l. ArePreviousFrom ids edges counts l c.args.start) (sym c.as_slice-sources.ensures.value) c.in_ok-previous.ensures.from in
     let w = c.in_ok-place.ensures.reached in
     let v = c.least_within-home.ensures.reached in
     let way : back sources (w.0 + v.0) c.args.start ≡ c.least_within-home.result = back_more sources w.0 v.0 c.args.start ∙ ap (back sources v.0) w.1 ∙ v.2 in
-    let left = stays_left ids c.args.edges.now counts sources are (w.0 + v.0) c.args.start c.requires.start.0 c.requires.start.1 in
-    let h = subst (λ i. (i < length ids) × (0 < get_or counts i 0)) way left in
-    leads_all ids c.args.edges.now counts sources are c.least_within-home.result h.0 h.1
+    leads_all ids edges counts sources c.least_within-home.result (subst (ArePreviousFrom ids edges counts sources) way (shifted ids edges counts sources (w.0 + v.0) c.args.start are))
 
 pub returns : goal.returns
 returns c =
     let ids = c.args.ids.now in
+    let edges = c.args.edges.now in
     let counts = c.args.counts.now in
     let sources = c.as_slice-sources.result.now in
-    let are = subst (λ l. ArePrevious ids c.args.edges.now counts l) (sym c.as_slice-sources.ensures.value) c.in_ok-previous.ensures.least in
+    let are = subst (λ l. ArePreviousFrom ids edges counts l c.args.start) (sym c.as_slice-sources.ensures.value) c.in_ok-previous.ensures.from in
     let w = c.in_ok-place.ensures.reached in
     let v = c.least_within-home.ensures.reached in
     let way : back sources (w.0 + v.0) c.args.start ≡ c.least_within-home.result = back_more sources w.0 v.0 c.args.start ∙ ap (back sources v.0) w.1 ∙ v.2 in
     IfOk-weaker c.steps_round.result _ _
-    (λ steps made stuck left set. printed ids c.args.edges.now counts sources are c.requires.ascending stuck left c.args.start (w.0 + v.0) c.least_within-home.result steps.items
-    c.requires.start.0 c.requires.start.1 c.requires.start.2 way (made stuck) set)
+    (λ steps made stuck left set. printed ids edges counts sources c.requires.ascending stuck left c.args.start (w.0 + v.0) c.least_within-home.result steps.items
+    are c.requires.start.0 c.requires.start.1 c.requires.start.2 way (made stuck) set)
     c.steps_round.ensures
