@@ -2,6 +2,7 @@
 ghost use Rattle.std.specs.Prelude.{◌≡◌, []};
 
 use super::*;
+use crate::at_once::merge_at_once;
 use crate::merging::merge_all;
 use std::alloc::Global;
 use std::collections::VecDeque;
@@ -91,5 +92,30 @@ fn edges_of_two_parts(rt: HostRuntime) -> Result<(), Fail> {
     lists.push_back(second)?;
     let merged = merge_all(rt.alloc(), lists).ok().ok_or("no memory")?;
     assert!(rt; merged.as_slice() == [late, early].as_slice());
+    Ok(())
+}
+
+// Of the edges from 1 to 2, that of the greater key comes first, since its kind does.
+#[test]
+fn edges_of_three_parts(rt: HostRuntime) -> Result<(), Fail> {
+    let edge = |src, kind, dst, key| Edge {
+        src,
+        kind,
+        dst,
+        key,
+    };
+    let first = [edge(1, Kind::Rw, 2, 5), edge(3, Kind::Wr, 4, 6)];
+    let second = [edge(1, Kind::Ww, 2, 12), edge(1, Kind::Ww, 3, 12)];
+    let third = [edge(2, Kind::Wr, 1, 15)];
+    let mut lists = Vec::new(rt.alloc());
+    lists.push(Vec::from_slice(rt.alloc(), &first)?)?;
+    lists.push(Vec::from_slice(rt.alloc(), &second)?)?;
+    lists.push(Vec::from_slice(rt.alloc(), &third)?)?;
+    let merged = merge_at_once(rt.alloc(), lists.as_slice())
+        .ok()
+        .ok_or("no memory")?
+        .ok_or("a wrong guess")?;
+    let wanted = [second[0], first[0], second[1], third[0], first[1]];
+    assert!(rt; merged.as_slice() == wanted.as_slice());
     Ok(())
 }
