@@ -35,6 +35,19 @@ module _ (One Other Both : ℕ → Type 0) (to : (k : ℕ) → Both k → One k 
       (λ look f. elim (to look.1 f.2) [ inl a ↦ inl (f.0, f.1, a) | inr b ↦ inr (f.0, f.1, b) ])
       (spreads_both h (IsGapOf reader One) (IsGapOf reader Other) old mid new first second)
 
+-- the keys of the third are those of the first two
+pub record Splits (One Other Both : ℕ → Type 0) : Type 0 where
+  pub to : (k : ℕ) → Both k → One k ⊎ Other k
+  pub one : (k : ℕ) → One k → Both k
+  pub other : (k : ℕ) → Other k → Both k
+
+module _ {One Other Both : ℕ → Type 0} (split : Splits One Other Both) where
+  pub keys_split : {B : Type 0} (P : ℕ → B → Type 0) (old mid new : List B) → Adds (FromKeys One P) old mid → Adds (FromKeys Other P) mid new → Adds (FromKeys Both P) old new
+  keys_split P old mid new first second = keys_of_both One Other Both split.to split.one split.other P old mid new first second
+
+  pub gap_split : (h : List Event) (reader : Reader) (old mid new : List Gap) → Spreads h (IsGapOf reader One) old mid → Spreads h (IsGapOf reader Other) mid new → Spreads h (IsGapOf reader Both) old new
+  gap_split h reader old mid new first second = gap_of_both One Other Both split.to split.one split.other h reader old mid new first second
+
 -- where there is no key there is nothing to add
 pub keys_of_none : {B : Type 0} (Within : ℕ → Type 0) → ((k : ℕ) → ¬ Within k) → (P : ℕ → B → Type 0) (old : List B) → Adds (FromKeys Within P) old old
 keys_of_none Within none P old = adds_nothing (FromKeys Within P) old (λ y f. none f.0 f.1)
@@ -95,7 +108,7 @@ module _ (listed : List (ℕ × ℕ)) (up : AscendsByKey listed) (lo hi : ℕ) (
         ]
       ]
 
-      pub passed_to : (k : ℕ) → IsPassed listed lo ((get_or listed n d).0 + 1) k → IsPassed listed lo from k ⊎ IsBelow from (get_or listed n d).0 k
+      passed_to : (k : ℕ) → IsPassed listed lo ((get_or listed n d).0 + 1) k → IsPassed listed lo from k ⊎ IsBelow from (get_or listed n d).0 k
       passed_to k is = elim (cases_lt k from) [
         | inl before ↦ inl (is.0, before, is.2)
         | inr after ↦ inr (
@@ -107,10 +120,10 @@ module _ (listed : List (ℕ × ℕ)) (up : AscendsByKey listed) (lo hi : ℕ) (
         )
       ]
 
-      pub passed_old : (k : ℕ) → IsPassed listed lo from k → IsPassed listed lo ((get_or listed n d).0 + 1) k
+      passed_old : (k : ℕ) → IsPassed listed lo from k → IsPassed listed lo ((get_or listed n d).0 + 1) k
       passed_old k is = (is.0, (let less = is.1 in let more = so.ahead n d (omega arith) below in omega arith), is.2)
 
-      pub passed_new : (k : ℕ) → IsBelow from (get_or listed n d).0 k → IsPassed listed lo ((get_or listed n d).0 + 1) k
+      passed_new : (k : ℕ) → IsBelow from (get_or listed n d).0 k → IsPassed listed lo ((get_or listed n d).0 + 1) k
       passed_new k is = ((let a = so.low in let b = is.0 in omega arith), (let less = is.1 in omega arith), none_before k is.0 is.1)
 
       pub passed_more : (get_or listed n d).0 < hi → HasPassed listed lo hi (n + 1) ((get_or listed n d).0 + 1)
@@ -125,10 +138,10 @@ module _ (listed : List (ℕ × ℕ)) (up : AscendsByKey listed) (lo hi : ℕ) (
       }
 
       -- where the next key is the last of all, what was passed are all unlisted keys
-      pub last_to : hi ≤ (get_or listed n d).0 → (k : ℕ) → IsUnlisted listed lo hi k → IsPassed listed lo from k ⊎ IsBelow from (get_or listed n d).0 k
+      last_to : hi ≤ (get_or listed n d).0 → (k : ℕ) → IsUnlisted listed lo hi k → IsPassed listed lo from k ⊎ IsBelow from (get_or listed n d).0 k
       last_to end k is = passed_to k (is.0, (let a = is.1 in omega arith), is.2)
 
-      pub last_old : (k : ℕ) → IsPassed listed lo from k → IsUnlisted listed lo hi k
+      last_old : (k : ℕ) → IsPassed listed lo from k → IsUnlisted listed lo hi k
       last_old k is = (is.0, (let a = is.1 in let b = so.high in omega arith), is.2)
 
       pub last_new : (k : ℕ) → IsBelow from (get_or listed n d).0 k → IsUnlisted listed lo hi k
@@ -136,22 +149,32 @@ module _ (listed : List (ℕ × ℕ)) (up : AscendsByKey listed) (lo hi : ℕ) (
           let own = passed_new k is in
           (own.0, (let a = is.1 in let b = (within n d below).1 in omega arith), own.2)
 
-    -- behind the last listed key
+      -- behind the last listed key
+
+      pub passed_split : Splits (IsPassed listed lo from) (IsBelow from (get_or listed n d).0) (IsPassed listed lo ((get_or listed n d).0 + 1))
+      passed_split = record { to = passed_to; one = passed_old; other = passed_new }
+
+      pub last_split : hi ≤ (get_or listed n d).0 → Splits (IsPassed listed lo from) (IsBelow from (get_or listed n d).0) (IsUnlisted listed lo hi)
+      last_split end = record { to = last_to end; one = last_old; other = last_new }
+
     module _ (all : length listed ≤ n) where
       pub none_behind : (k : ℕ) → from ≤ k → (v : ℕ) → ¬ Contains listed (k, v)
       none_behind k after v c = let less = so.behind c.0 (k, v) (let inside = c.1 in omega arith) c.1 in let at = ap (λ (p : ℕ × ℕ). p.0) c.2 in absurd (omega arith)
 
-      pub rest_to : (k : ℕ) → IsUnlisted listed lo hi k → IsPassed listed lo from k ⊎ IsBetween from hi k
+      rest_to : (k : ℕ) → IsUnlisted listed lo hi k → IsPassed listed lo from k ⊎ IsBetween from hi k
       rest_to k is = elim (cases_lt k from) [
         | inl before ↦ inl (is.0, before, is.2)
         | inr after ↦ inr (omega arith, is.1)
       ]
 
-      pub rest_old : (k : ℕ) → IsPassed listed lo from k → IsUnlisted listed lo hi k
+      rest_old : (k : ℕ) → IsPassed listed lo from k → IsUnlisted listed lo hi k
       rest_old k is = (is.0, (let a = is.1 in let b = so.high in omega arith), is.2)
 
       pub rest_new : (k : ℕ) → IsBetween from hi k → IsUnlisted listed lo hi k
       rest_new k is = ((let a = so.low in let b = is.0 in omega arith), is.1, none_behind k is.0)
+
+      pub rest_split : Splits (IsPassed listed lo from) (IsBetween from hi) (IsUnlisted listed lo hi)
+      rest_split = record { to = rest_to; one = rest_old; other = rest_new }
 
 -- a version other than 0 is due only at a written key
 pub due_is_written : (h : List Event) (t p k v : ℕ) → IsDue h t p k v → v ≢ 0 → (u : ℕ) × Wrote h u k

@@ -1,5 +1,5 @@
 -- What a range read saw of the keys of a part: the listed ones, and the others.
-use Rattle.std.proofs.Common.{◌≡◌, ◌⊎◌, inl, inr, ℕ, ◌≤◌, List, Some, refl, sym, subst, ◌∙◌, arith}
+use Rattle.std.proofs.Common.{◌≡◌, ◌⊎◌, inl, inr, ℕ, ◌<◌, ◌≤◌, max, min, List, Some, refl, sym, subst, ◌∙◌, arith}
 use Rattle.std.specs.Prelude.{◌↔◌, Contains}
 use Rattle.std.proofs.lemmas.List.Elements.{All-contains}
 use Rattle.sia_events.specs.declared.event.Event.{Event}
@@ -12,7 +12,7 @@ use Rattle.sia_events.proofs.Ranges.{list_in_order}
 use Rattle.sia_events.proofs.Starts.{one_event}
 use Rattle.sia_index.specs.declared.info.RangeRead.{RangeRead}
 use Rattle.sia_index.specs.declared.info.Reader.{Reader}
-use Rattle.sia_index.specs.Info.{IsReader}
+use Rattle.sia_index.specs.Info.{IsRangeRead, IsReader}
 use Rattle.sia_parts.specs.declared.cutting.Part.{Part}
 use Rattle.sia_parts.specs.declared.gaps.Gap.{Gap}
 use Rattle.sia_parts.specs.declared.sights.Sight.{Sight}
@@ -26,6 +26,14 @@ use Rattle.sia_parts.proofs.Widening.{joins_nothing, joins_same}
 -- the list of a range read
 listed_of : (t lo hi u from to : ℕ) (a b : List (ℕ × ℕ)) → Range t lo hi a ≡ Range u from to b → a ≡ b
 listed_of t lo hi u from to a b same = cc
+
+-- what is known of the same history
+pub own_history : (h now : List Event) → h ≡ now → IsWellFormed now → IsWellFormed h
+own_history h now same wf = subst IsWellFormed (sym same) wf
+
+-- the list that stands in the event of a range read
+pub list_at : (h now : List Event) → h ≡ now → (range : RangeRead) → IsRangeRead h range → (listed : List (ℕ × ℕ)) → ((t lo hi : ℕ) (l : List (ℕ × ℕ)) → at_place now range.place ≡ Some (Range t lo hi l) → listed ≡ l) → at_place h range.place ≡ Some (Range range.txn range.lo range.hi listed)
+list_at h now same range is listed own = subst (λ (l : List (ℕ × ℕ)). at_place h range.place ≡ Some (Range range.txn range.lo range.hi l)) (sym (own range.txn range.lo range.hi is.0 (subst (λ e. at_place e range.place ≡ Some (Range range.txn range.lo range.hi is.0)) same is.1))) is.1
 
 module _ (h : List Event) (wf : IsWellFormed h) (part : Part) (range : RangeRead) (listed : List (ℕ × ℕ)) (at : at_place h range.place ≡ Some (Range range.txn range.lo range.hi listed)) where
   -- a key that it covers and lists, and one that it covers and doesn't list
@@ -55,7 +63,10 @@ module _ (h : List Event) (wf : IsWellFormed h) (part : Part) (range : RangeRead
   listed_inside k v c = All-contains (λ (p : ℕ × ℕ). (range.lo ≤ p.0) × (p.0 ≤ range.hi)) listed (k, v) (list_in_order h wf range.place range.txn range.lo range.hi listed at).0 c
 
   -- where the part and the range share no key
-  module _ (apart : (k : ℕ) → part.lo ≤ k → k ≤ part.hi → range.lo ≤ k → k ≤ range.hi → ⊥) where
+  module _ (lo hi : ℕ) (lo_is : lo ≡ max part.lo range.lo) (hi_is : hi ≡ min part.hi range.hi) (none : hi < lo) where
+    apart : (k : ℕ) → part.lo ≤ k → k ≤ part.hi → range.lo ≤ k → k ≤ range.hi → ⊥
+    apart k a b c d = omega arith
+
     pub apart_sights : {B : Type 0} (Q : Sight → B → Type 0) (old : List B) → Adds (FromSight (IsRangeSight h part range) Q) old old
     apart_sights Q old = adds_nothing (FromSight (IsRangeSight h part range) Q) old (λ y f. let saw = saw_of f.0 f.1 in apart f.0.key f.1.3.0 f.1.3.1 saw.0 saw.1)
 
@@ -70,7 +81,25 @@ module _ (h : List Event) (wf : IsWellFormed h) (part : Part) (range : RangeRead
     apart_gaps old = spreads_nothing h (IsUnlistedBy h part range) old (λ look u wrote is. apart look.1 is.2.0 is.2.1 is.5.0 is.5.1)
 
   -- of the keys of both, some are listed
-  module _ (lo hi : ℕ) (from_part : part.lo ≤ lo) (from_range : range.lo ≤ lo) (to_part : hi ≤ part.hi) (to_range : hi ≤ range.hi) (both_low : (k : ℕ) → part.lo ≤ k → range.lo ≤ k → lo ≤ k) (both_high : (k : ℕ) → k ≤ part.hi → k ≤ range.hi → k ≤ hi) (here : List (ℕ × ℕ)) (cut : (p : ℕ × ℕ) → Contains here p ↔ (Contains listed p × (lo ≤ p.0) × (p.0 ≤ hi))) where
+  module _ (lo hi : ℕ) (lo_is : lo ≡ max part.lo range.lo) (hi_is : hi ≡ min part.hi range.hi) (here : List (ℕ × ℕ)) (cut : (p : ℕ × ℕ) → Contains here p ↔ (Contains listed p × (lo ≤ p.0) × (p.0 ≤ hi))) where
+    from_part : part.lo ≤ lo
+    from_part = omega arith
+
+    from_range : range.lo ≤ lo
+    from_range = omega arith
+
+    to_part : hi ≤ part.hi
+    to_part = omega arith
+
+    to_range : hi ≤ range.hi
+    to_range = omega arith
+
+    both_low : (k : ℕ) → part.lo ≤ k → range.lo ≤ k → lo ≤ k
+    both_low k a b = omega arith
+
+    both_high : (k : ℕ) → k ≤ part.hi → k ≤ range.hi → k ≤ hi
+    both_high k a b = omega arith
+
     -- not listed here, so not at all
     pub not_here : (k : ℕ) → IsUnlisted here lo hi k → (v : ℕ) → ¬ Contains listed (k, v)
     not_here k is v c = is.2 v ((cut (k, v)).1 (c, is.0, is.1))
