@@ -12,6 +12,7 @@ use crate::edges::edges_of;
 use crate::finding::{BadRead, BadWrite, Unexplained};
 use crate::findings::PartFindings;
 use crate::gaps::{Gap, joined_gaps};
+use crate::nearby::are_apart;
 use crate::ordering::put_in_order;
 use crate::pairs::put_bad_writes;
 use crate::ranges::put_range_reads;
@@ -65,7 +66,7 @@ fn seen_of(alloc: Global, h: &History, ix: &Index, part: Part) -> Result<Seen, N
     let mut spans = Vec::new(alloc);
     let mut gaps = Vec::new(alloc);
     let ranges = ix.ranges_meeting(part.lo, part.hi);
-    put_range_reads(
+    let ascend = put_range_reads(
         alloc,
         h,
         ix,
@@ -75,10 +76,12 @@ fn seen_of(alloc: Global, h: &History, ix: &Index, part: Part) -> Result<Seen, N
         &mut spans,
         &mut gaps,
     )?;
+    let end = spans.len();
     let reads = ix.reads_within(part.lo, part.hi);
     put_item_reads(ix, reads, &mut bad_reads, &mut spans)?;
     put_in_order(&mut bad_reads);
-    let spans = joined(alloc, spans)?;
+    let apart = are_apart(ascend, &spans, end);
+    let spans = joined(alloc, spans, apart)?;
     let gaps = joined_gaps(alloc, gaps)?;
     Ok(Seen {
         bad_reads,

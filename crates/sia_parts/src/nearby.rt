@@ -10,39 +10,23 @@ pub(crate) struct Near {
     pub(crate) place: usize,
 }
 
-/// Whether a look shows that no two spans are of one transaction and key, since they ascend by both.
-pub(crate) fn are_apart(spans: &[Span]) -> bool {
-    ascend_by_txn(spans) || ascend_by_key(spans)
+/// Whether the spans still ascend by transaction and key, where they did up to `end`, and those from there on do.
+pub(crate) fn still_ascend(ascend: bool, spans: &[Span], end: usize) -> bool {
+    if !ascend || end == 0 {
+        return ascend;
+    }
+    match (spans.get(end - 1), spans.get(end)) {
+        (Some(last), Some(next)) => {
+            last.txn < next.txn || (last.txn == next.txn && last.key < next.key)
+        }
+        _ => true,
+    }
 }
 
-fn ascend_by_txn(spans: &[Span]) -> bool {
-    let Some(first) = spans.first() else {
-        return true;
-    };
-    let mut last = *first;
-    for i in 1..spans.len() {
-        let next = spans[i];
-        if next.txn < last.txn || (next.txn == last.txn && next.key <= last.key) {
-            return false;
-        }
-        last = next;
-    }
-    true
-}
-
-fn ascend_by_key(spans: &[Span]) -> bool {
-    let Some(first) = spans.first() else {
-        return true;
-    };
-    let mut last = *first;
-    for i in 1..spans.len() {
-        let next = spans[i];
-        if next.key < last.key || (next.key == last.key && next.txn <= last.txn) {
-            return false;
-        }
-        last = next;
-    }
-    true
+/// Whether it is plain that no two of the spans are of one transaction and key: where all are of range reads, which stand up
+/// to `end`, and ascend, or all of read events, which come by key and transaction.
+pub(crate) fn are_apart(ascend: bool, spans: &[Span], end: usize) -> bool {
+    end == 0 || (ascend && end == spans.len())
 }
 
 /// The first of the spans that a transaction's sights from this key on may be joined with, where the spans ascend by

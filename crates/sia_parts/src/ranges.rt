@@ -13,14 +13,15 @@ ghost use Rattle.sia_parts.specs.Gaps.{Spreads, IsUnlistedBy};
 use crate::cutting::Part;
 use crate::finding::BadRead;
 use crate::gaps::{Gap, put_unlisted};
-use crate::nearby::{Near, first_near, next_near};
+use crate::nearby::{Near, first_near, next_near, still_ascend};
 use crate::sights::{Sight, put_sight};
 use crate::spans::Span;
 use sia_events::{Event, History, Key, NoMemory, Version};
 use sia_index::{Index, RangeRead, Reader};
 use std::alloc::Global;
 
-/// Adds the bad reads, the spans and the gaps of range reads, at the keys of the part.
+/// Adds the bad reads, the spans and the gaps of range reads, at the keys of the part. Says whether the spans, of which there
+/// were none before, ascend by transaction and key.
 pub(crate) fn put_range_reads(
     alloc: Global,
     h: &History,
@@ -30,7 +31,7 @@ pub(crate) fn put_range_reads(
     bad: &mut Vec<BadRead>,
     spans: &mut Vec<Span>,
     gaps: &mut Vec<Gap>,
-) -> Result<(), NoMemory>
+) -> Result<bool, NoMemory>
     requires of { ix.now ≡ h.now }
     requires ranges { All (IsRangeRead ix.now) ranges.now }
     ensures bad { OnOk result (Adds (FromSome (λ range. FromSight (IsRangeSight ix.now part range) (IsBadOf ix.now)) ranges.now) bad.old.items bad.new.items) }
@@ -38,8 +39,8 @@ pub(crate) fn put_range_reads(
     ensures gaps { OnOk result (Spreads ix.now (FromSome (IsUnlistedBy ix.now part) ranges.now) gaps.old.items gaps.new.items) }
 {
     let turns = by_txn(alloc, ranges)?;
-    put_in_turn(h, ix, part, &turns, bad, spans, gaps)?;
-    Ok(())
+    let ascend = put_in_turn(h, ix, part, &turns, bad, spans, gaps)?;
+    Ok(ascend)
 }
 
 // The range reads by transaction and first key: so those of one transaction, which lie close together in the history, come
@@ -52,7 +53,7 @@ fn by_txn(alloc: Global, ranges: &[RangeRead]) -> Result<Vec<RangeRead>, NoMemor
     Ok(turns)
 }
 
-// Adds the bad reads, the spans and the gaps of range reads, one after another.
+// Adds the bad reads, the spans and the gaps of range reads, one after another. Says whether the spans ascend.
 fn put_in_turn(
     h: &History,
     ix: &Index,
@@ -61,17 +62,20 @@ fn put_in_turn(
     bad: &mut Vec<BadRead>,
     spans: &mut Vec<Span>,
     gaps: &mut Vec<Gap>,
-) -> Result<(), NoMemory>
+) -> Result<bool, NoMemory>
     requires of { ix.now ≡ h.now }
     requires ranges { All (IsRangeRead ix.now) ranges.now }
     ensures bad { OnOk result (Adds (FromSome (λ range. FromSight (IsRangeSight ix.now part range) (IsBadOf ix.now)) ranges.now) bad.old.items bad.new.items) }
     ensures spans { OnOk result (JoinsTo (FromSome (λ range. FromSight (IsListedSight ix.now part range) (IsSpanOf ix.now)) ranges.now) spans.old.items spans.new.items) }
     ensures gaps { OnOk result (Spreads ix.now (FromSome (IsUnlistedBy ix.now part) ranges.now) gaps.old.items gaps.new.items) }
 {
+    let mut ascend = true;
     for range in ranges {
+        let end = spans.len();
         put_range_read(h, ix, part, *range, bad, spans, gaps)?;
+        ascend = still_ascend(ascend, spans, end);
     }
-    Ok(())
+    Ok(ascend)
 }
 
 // Adds the bad reads, the spans and the gaps of a range read, at the keys of the part.

@@ -2,7 +2,6 @@
 ghost use Rattle.std.specs.Prelude.{◌≡◌, ◌<◌, IfOk, OnOk, MatchOption, length, slice_index_or, ⊤};
 ghost use Rattle.sia_parts.specs.Sights.{JoinsTo, Widens, IsJoined};
 
-use crate::nearby::are_apart;
 use sia_events::{Key, NoMemory, TxnId};
 use std::alloc::Global;
 
@@ -37,11 +36,15 @@ fn joined_at(spans: &[Span], span: Span, at: usize) -> Option<Span>
     }
 }
 
-/// The spans with those of one transaction and key joined.
-pub(crate) fn joined(alloc: Global, mut spans: Vec<Span>) -> Result<Vec<Span>, NoMemory>
+/// The spans with those of one transaction and key joined. Where `apart` is true, there are no two of these.
+pub(crate) fn joined(
+    alloc: Global,
+    mut spans: Vec<Span>,
+    apart: bool,
+) -> Result<Vec<Span>, NoMemory>
     ensures { IfOk result (λ wide. Widens spans.items wide.items) }
 {
-    if are_apart(&spans) {
+    if apart {
         return Ok(spans);
     }
     spans.sort_unstable();

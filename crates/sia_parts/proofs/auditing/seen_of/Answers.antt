@@ -41,7 +41,7 @@ returns-clause-bad_reads c =
     let wf = subst IsWellFormed (sym c.requires) c.len.ensures.well_formed in
     let reads = FromSome (λ read. IsBadOf h (read_sight read)) c.reads_within-reads.result.now in
     let ranges = FromSome (λ range. FromSight (IsRangeSight h c.args.part range) (IsBadOf h)) c.ranges_meeting-ranges.result.now in
-    let adds = adds_both ranges reads [] _ _ (subst (λ old. Adds ranges old c.put_range_reads.new.bad.items) c.new-bad_reads.ensures.items c.in_ok-put_range_reads.ensures.bad) c.in_ok-put_item_reads.ensures.bad in
+    let adds = adds_both ranges reads [] _ _ (subst (λ old. Adds ranges old c.put_range_reads.new.bad.items) c.new-bad_reads.ensures.items c.in_ok-ascend.ensures.bad) c.in_ok-put_item_reads.ensures.bad in
     put_listed bad_read_rank (λ (b : BadRead). IsBadRead h b.place b.txn b.key b.saw b.due × IsInPart c.args.part b.key) _ (λ x y is other less. bad_read_before h wf x y is.0 other.0 less)
     _ _ (added_are (λ b. ranges b ⊎ reads b) (λ (b : BadRead). IsBadRead h b.place b.txn b.key b.saw b.due × IsInPart c.args.part b.key) _ adds (λ b. or_turned ((bad_reads_are h wf c.args.part _ _ c.reads_within-reads.ensures c.ranges_meeting-ranges.ensures) b)))
     c.put_in_order.ensures.sorted c.put_in_order.ensures.keeps c.put_in_order.ensures.adds_none
@@ -53,7 +53,7 @@ returns-clause-spans c =
     let reads = FromSome (λ read. IsSpanOf h (read_sight read)) c.reads_within-reads.result.now in
     let ranges = FromSome (λ range. FromSight (IsListedSight h c.args.part range) (IsSpanOf h)) c.ranges_meeting-ranges.result.now in
     let missed = FromSome (IsUnlistedBy h c.args.part) c.ranges_meeting-ranges.result.now in
-    let joins = joins_both ranges reads [] _ _ (subst (λ old. JoinsTo ranges old c.put_range_reads.new.spans.items) c.new-spans.ensures.items c.in_ok-put_range_reads.ensures.spans) c.in_ok-put_item_reads.ensures.spans in
+    let joins = joins_both ranges reads [] _ _ (subst (λ old. JoinsTo ranges old c.put_range_reads.new.spans.items) c.new-spans.ensures.items c.in_ok-ascend.ensures.spans) c.in_ok-put_item_reads.ensures.spans in
     let turned = joins_same (λ s. ranges s ⊎ reads s) (λ s. reads s ⊎ ranges s) [] _ (λ s. or_turn) (λ s. or_turn) joins in
-    let spread = subst (λ old. Spreads h missed old c.put_range_reads.new.gaps.items) c.new-gaps.ensures.items c.in_ok-put_range_reads.ensures.gaps in
+    let spread = subst (λ old. Spreads h missed old c.put_range_reads.new.gaps.items) c.new-gaps.ensures.items c.in_ok-ascend.ensures.gaps in
     joined_are h c.args.part _ _ _ _ (spans_are h wf c.args.part _ _ c.reads_within-reads.ensures c.ranges_meeting-ranges.ensures _ (joined_to_none (λ s. reads s ⊎ ranges s) _ turned) _ spread) c.in_ok-spans.ensures c.in_ok-gaps.ensures

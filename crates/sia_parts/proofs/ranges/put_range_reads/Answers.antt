@@ -18,16 +18,16 @@ pub returns-clause-bad : goal.returns-clause-bad
 returns-clause-bad c =
     let P : RangeRead → BadRead → Type 0 = λ range. FromSight (IsRangeSight c.args.ix.now c.args.part range) (IsBadOf c.args.ix.now) in
     let same = rw (← c.deref.ensures.value) at c.in_ok-turns.ensures in
-    adds_same _ (FromSome P c.args.ranges.now) _ _ (λ y. from_members P _ _ (λ x. (same x).0) y) (λ y. from_members P _ _ (λ x. (same x).1) y) c.in_ok-put_in_turn.ensures.bad
+    adds_same _ (FromSome P c.args.ranges.now) _ _ (λ y. from_members P _ _ (λ x. (same x).0) y) (λ y. from_members P _ _ (λ x. (same x).1) y) c.in_ok-ascend.ensures.bad
 
 pub returns-clause-spans : goal.returns-clause-spans
 returns-clause-spans c =
     let P : RangeRead → Span → Type 0 = λ range. FromSight (IsListedSight c.args.ix.now c.args.part range) (IsSpanOf c.args.ix.now) in
     let same = rw (← c.deref.ensures.value) at c.in_ok-turns.ensures in
-    joins_same _ (FromSome P c.args.ranges.now) _ _ (λ y. from_members P _ _ (λ x. (same x).0) y) (λ y. from_members P _ _ (λ x. (same x).1) y) c.in_ok-put_in_turn.ensures.spans
+    joins_same _ (FromSome P c.args.ranges.now) _ _ (λ y. from_members P _ _ (λ x. (same x).0) y) (λ y. from_members P _ _ (λ x. (same x).1) y) c.in_ok-ascend.ensures.spans
 
 pub returns-clause-gaps : goal.returns-clause-gaps
 returns-clause-gaps c =
     let P = IsUnlistedBy c.args.ix.now c.args.part in
     let same = rw (← c.deref.ensures.value) at c.in_ok-turns.ensures in
-    spreads_same c.args.ix.now _ (FromSome P c.args.ranges.now) _ _ (λ y. from_members P _ _ (λ x. (same x).0) y) (λ y. from_members P _ _ (λ x. (same x).1) y) c.in_ok-put_in_turn.ensures.gaps
+    spreads_same c.args.ix.now _ (FromSome P c.args.ranges.now) _ _ (λ y. from_members P _ _ (λ x. (same x).0) y) (λ y. from_members P _ _ (λ x. (same x).1) y) c.in_ok-ascend.ensures.gaps
