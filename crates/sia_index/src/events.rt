@@ -7,7 +7,7 @@ ghost use Rattle.sia_index.specs.Rows.{AreActs, AreWrites, AreVersionRows, AreTx
 
 use crate::guesses::Guesses;
 use crate::info::{Fate, KeyVersion};
-use crate::ordering::put_in_order;
+use crate::ordering::put_rows_in_order;
 use crate::rows::{ActRow, TxnRow, WriteRow, guess_txn};
 use sia_events::{Event, History, Key, TxnId};
 use std::alloc::{AllocError, Global};
@@ -26,7 +26,7 @@ pub fn acts_of(alloc: Global, h: &History) -> Result<Vec<ActRow>, AllocError>
             })?;
         }
     }
-    put_in_order(&mut acts);
+    put_rows_in_order(alloc, &mut acts);
     Ok(acts)
 }
 
@@ -41,7 +41,7 @@ pub fn writes_of(alloc: Global, h: &History) -> Result<Vec<WriteRow>, AllocError
             writes.push(WriteRow { txn, key, place })?;
         }
     }
-    put_in_order(&mut writes);
+    put_rows_in_order(alloc, &mut writes);
     Ok(writes)
 }
 
@@ -64,7 +64,7 @@ pub fn version_rows_of(
             }
         }
     }
-    put_in_order(&mut rows);
+    put_rows_in_order(alloc, &mut rows);
     Ok(rows)
 }
 

@@ -3,6 +3,7 @@
 
 mod chains;
 mod events;
+mod grouping;
 mod guesses;
 mod indexed;
 mod info;

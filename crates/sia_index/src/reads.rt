@@ -9,7 +9,7 @@ ghost use Rattle.sia_index.specs.Rows.{AreReads, AreRanges, AreReaches, AscendsB
 
 use crate::guesses::Guesses;
 use crate::info::{ItemRead, KeyVersion, RangeRead};
-use crate::ordering::put_in_order;
+use crate::ordering::{put_in_order, put_rows_in_order};
 use sia_events::{Event, History, Key};
 use std::alloc::{AllocError, Global};
 
@@ -17,13 +17,13 @@ use std::alloc::{AllocError, Global};
 pub fn reads_of(alloc: Global, h: &History) -> Result<Vec<ItemRead>, AllocError>
     ensures { IfOk result (λ reads. AreReads h.now reads.items) }
 {
-    let mut reads = Vec::new(alloc);
+    let mut reads = Vec::with_capacity(alloc, h.len() as usize)?;
     for before in 0..h.len() {
         if let Some(read) = read_at(h, before + 1) {
             reads.push(read)?;
         }
     }
-    put_in_order(&mut reads);
+    put_rows_in_order(alloc, &mut reads);
     Ok(reads)
 }
 

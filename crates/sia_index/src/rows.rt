@@ -2,8 +2,9 @@
 ghost use Rattle.std.specs.Prelude.{◌≡◌, ◌≢◌, ◌+◌, ◌<◌, ◌≤◌, All, AllPairs, Contains, MatchOption, length, slice_index, slice_range};
 ghost use Rattle.sia_index.specs.Rows.{AscendsByTxn};
 
+use crate::grouping::Grouped;
 use crate::guesses::Guesses;
-use crate::info::{Made, TxnInfo};
+use crate::info::{ItemRead, KeyVersion, Made, TxnInfo};
 use sia_events::{Key, TxnId};
 
 /// An event of a transaction.
@@ -13,12 +14,36 @@ pub struct ActRow {
     pub place: u32,
 }
 
+impl Grouped for ActRow {
+    fn group(&self) -> u64 {
+        u64::from(self.txn)
+    }
+}
+
 /// A write event.
 #[derive(Clone, Copy, PartialEq, Eq, PartialOrd, Ord)]
 pub struct WriteRow {
     pub txn: TxnId,
     pub key: Key,
     pub place: u32,
+}
+
+impl Grouped for WriteRow {
+    fn group(&self) -> u64 {
+        u64::from(self.txn)
+    }
+}
+
+impl Grouped for KeyVersion {
+    fn group(&self) -> u64 {
+        self.key
+    }
+}
+
+impl Grouped for ItemRead {
+    fn group(&self) -> u64 {
+        self.key
+    }
 }
 
 /// A transaction.

@@ -6,7 +6,7 @@ use Rattle.sia_index.proofs.reads.reads_of.Goals as goal
 use Rattle.sia_index.proofs.reads.reads_of.Goals.{in-Some+in_ok-push, in_default}
 
 pub loop-before-init : goal.loop-before-init
-loop-before-init c = rw c.new-reads.ensures.items (holds_none (IsReadAt c.args.h.now) (λ r is. let place = is.0 in let at = is.1 in let none = rw place at at in cc))
+loop-before-init c = rw c.in_ok-reads.ensures.items (holds_none (IsReadAt c.args.h.now) (λ r is. let place = is.0 in let at = is.1 in let none = rw place at at in cc))
 
 pub loop-before-preserved : goal.loop-before-preserved
 loop-before-preserved c = elim c.match-read_at.branch [
@@ -17,4 +17,4 @@ loop-before-preserved c = elim c.match-read_at.branch [
 
 pub returns : goal.returns
 returns c =
-    reads_listed _ c.loop-before.before _ _ (omega (arith, c.len-before-end.ensures.len)) c.loop-before.invariant c.put_in_order.ensures.sorted c.put_in_order.ensures.keeps c.put_in_order.ensures.adds_none
+    reads_listed _ c.loop-before.before _ _ (omega (arith, c.len-before-end.ensures.len)) c.loop-before.invariant c.put_rows_in_order.ensures.sorted c.put_rows_in_order.ensures.keeps c.put_rows_in_order.ensures.adds_none
