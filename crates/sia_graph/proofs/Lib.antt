@@ -32,6 +32,7 @@ pub mod ChainOf
 pub mod MapSteps
 pub mod Replayed
 pub mod Listed
+pub mod Picked
 pub mod Groups
 pub mod LinkLists
 pub mod Vulnerable

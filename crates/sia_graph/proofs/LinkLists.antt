@@ -14,7 +14,7 @@ use Rattle.sia_parts.specs.declared.finding.Edge.{Edge}
 use Rattle.sia_parts.specs.declared.finding.Kind.{Kind}
 use Rattle.sia_parts.specs.declared.finding.Kind.TheVariants.{Ww, Wr, Rw}
 use Rattle.sia_graph.specs.Links.{ListsLinks, AreEnds, AreLinksAt, AreLinked, HasRw, is_rw, link_rank}
-use Rattle.sia_graph.proofs.Positions.{contains_stands, only_one}
+use Rattle.sia_graph.proofs.Positions.{only_one_in}
 use Rattle.sia_graph.proofs.Listed.{listed_as, listed_in_order, mapped, precedes_last, precedes_then}
 
 module _ (R : ℕ → ℕ → Type 0) (links : List Link) (l : ListsLinks R links) (t : ℕ) (group : List Link) (at : AreLinksAt links t group) where
@@ -135,9 +135,6 @@ rw_kind : (k : Kind) → is_rw k ≡ true → k ≡ Rw
 rw_kind Ww e = cc
 rw_kind Wr e = cc
 rw_kind Rw e = refl
-
-only_one_in : {A : Type 0} (x y : A) → Contains (x ∷ []) y → x ≡ y
-only_one_in x y c = let s = contains_stands (x ∷ []) y c in (only_one y x s.0 s.1).1
 
 abbrev pub ends_of : Edge → Link
 ends_of e = record { at = e.src; other = e.dst }

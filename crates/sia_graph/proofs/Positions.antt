@@ -43,6 +43,9 @@ module _ {A : Type 0} where
   only_one x y zero e = (refl, same_Some y x e)
   only_one x y (suc j) e = cc
 
+  pub only_one_in : (x y : A) → Contains (x ∷ []) y → x ≡ y
+  only_one_in x y c = let s = contains_stands (x ∷ []) y c in (only_one y x s.0 s.1).1
+
 -- each number has one position
 pub one_position : (xs : List ℕ) → AllPairs (λ x y. x ≢ y) xs → (t i j : ℕ) → slice_get xs i ≡ Some t → slice_get xs j ≡ Some t → i ≡ j
 one_position xs once t i j a b = elim (cases_order i j) [

@@ -176,12 +176,12 @@ fn searched_links(links: &[Link], txn: TxnId) -> &[Link]
     &rest[..count]
 }
 
-/// Whether there is a link at a transaction.
-pub(crate) fn has_link(links: &[Link], txn: TxnId) -> bool
+/// Whether there is a link at a transaction, perhaps at `near`.
+pub(crate) fn has_link(links: &[Link], near: usize, txn: TxnId) -> bool
     requires { AllPairs (λ k l. Precedes (link_rank k) (link_rank l)) links.now }
     ensures { IsTrue result ↔ ((u : ℕ) × AreLinked links.now txn u) }
 {
-    !searched_links(links, txn).is_empty()
+    !links_at(links, near, txn).is_empty()
 }
 
 /// The transactions at the other ends.

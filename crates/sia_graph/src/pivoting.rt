@@ -20,8 +20,15 @@ fn middles(alloc: Global, into: &[Link], out: &[Link]) -> Result<Vec<TxnId>, All
     requires { AllPairs (λ k l. Precedes (link_rank k) (link_rank l)) into.now }
     ensures { IfOk result (λ txns. ListsAscending (λ t. ((u : ℕ) × AreLinked into.now t u) × ((u : ℕ) × AreLinked out.now t u)) txns.items) }
 {
-    let mut txns = linked(alloc, out)?;
-    txns.retain(|txn| has_link(into, *txn));
+    let linked = linked(alloc, out)?;
+    let mut txns = Vec::new(alloc);
+    let mut first = 0usize;
+    for txn in linked.as_slice() {
+        first = first_from(into, first, *txn);
+        if has_link(into, first, *txn) {
+            txns.push(*txn)?;
+        }
+    }
     Ok(txns)
 }
 
