@@ -81,7 +81,7 @@ pub(crate) fn least_of(fronts: &[Front]) -> Option<usize> {
     }
 }
 
-/// The first front goes on to the next entry of its list, if there is one.
+/// The first front goes on to the next entry of its list, if there is one. Mostly it stays the least.
 #[inline]
 pub(crate) fn go_on<T: Ranked>(lists: &[Vec<T>], places: &[usize], fronts: &mut Vec<Front>) {
     if fronts.is_empty() {
@@ -90,9 +90,10 @@ pub(crate) fn go_on<T: Ranked>(lists: &[Vec<T>], places: &[usize], fronts: &mut 
     let list = fronts[0].list;
     match entry_at(lists, places, list) {
         Some(entry) => {
-            fronts[0] = Front {
-                lead: entry.lead(),
-                list,
+            let lead = entry.lead();
+            fronts[0] = Front { lead, list };
+            if fronts.len() > 2 && lead < fronts[1].lead && lead < fronts[2].lead {
+                return;
             }
         }
         None => {
