@@ -1,8 +1,9 @@
 -- What reads saw of keys: the sights of read events, and what comes of a sight.
-use Rattle.std.proofs.Common.{◌≡◌, ◌≢◌, inl, inr, ℕ, ◌<◌, List, [], ◌∷◌, length, map, Option, Some, None, refl, ap, sym, subst, ◌∙◌, arith}
-use Rattle.std.specs.Prelude.{Contains, MatchOption}
+use Rattle.std.proofs.Common.{◌≡◌, ◌≢◌, ◌⊎◌, inl, inr, ℕ, ◌-◌, ◌<◌, ◌≤◌, List, [], ◌∷◌, length, get_or, map, Option, Some, None, refl, ap, sym, subst, ◌∙◌, arith}
+use Rattle.std.specs.Prelude.{All, Contains, MatchOption}
+use Rattle.std.proofs.lemmas.Bool.{cases_eq}
 use Rattle.std.specs.List.Sorted.{IsStrictlyIncreasing}
-use Rattle.std.proofs.lemmas.List.{get_or-map, length-map}
+use Rattle.std.proofs.lemmas.List.{get_or-map, get_or_default, length-map}
 use Rattle.std.proofs.lemmas.List.Kept.{AllPairs-from_increasing}
 use Rattle.sia_events.specs.declared.event.Event.{Event}
 use Rattle.sia_events.specs.declared.event.Event.TheVariants.{Read}
@@ -77,3 +78,27 @@ listed_by_key listed up = record {
 
 pub ascends_by_key : (P : ℕ × ℕ → Type 0) (listed : List (ℕ × ℕ)) → ListsBy (λ (p : ℕ × ℕ). p.0 ∷ []) P listed → AscendsByKey listed
 ascends_by_key P listed are i j d less below = elim (are.ascending i j d less below) [ inl under ↦ under | inr same ↦ absurd same.1 ]
+
+-- where the first and the last key are within, all are
+pub within_ends : (listed : List (ℕ × ℕ)) → AscendsByKey listed → (lo hi : ℕ) (d e : ℕ × ℕ) → lo ≤ (get_or listed 0 d).0 → (get_or listed (length listed - 1) e).0 ≤ hi → All (λ p. (lo ≤ p.0) × (p.0 ≤ hi)) listed
+within_ends listed up lo hi d e low high k f below = (of_first (cases_eq k 0), of_last (cases_eq k (length listed - 1)))
+  where
+    of_first : (k ≡ 0) ⊎ (k ≢ 0) → lo ≤ (get_or listed k f).0
+    of_first (inl here) =
+        let same = ap (λ i. (get_or listed i f).0) here in
+        let own = ap (λ (p : ℕ × ℕ). p.0) (get_or_default listed 0 d f (omega arith)) in
+        omega arith
+    of_first (inr later) =
+        let less = up 0 k f (omega arith) below in
+        let own = ap (λ (p : ℕ × ℕ). p.0) (get_or_default listed 0 d f (omega arith)) in
+        omega arith
+
+    of_last : (k ≡ length listed - 1) ⊎ (k ≢ length listed - 1) → (get_or listed k f).0 ≤ hi
+    of_last (inl here) =
+        let same = ap (λ i. (get_or listed i f).0) here in
+        let own = ap (λ (p : ℕ × ℕ). p.0) (get_or_default listed (length listed - 1) e f (omega arith)) in
+        omega arith
+    of_last (inr before) =
+        let less = up k (length listed - 1) f (omega arith) (omega arith) in
+        let own = ap (λ (p : ℕ × ℕ). p.0) (get_or_default listed (length listed - 1) e f (omega arith)) in
+        omega arith

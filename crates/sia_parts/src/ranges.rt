@@ -1,5 +1,5 @@
 //! What range reads saw of the keys of a part: the keys that they listed, and the keys between these.
-ghost use Rattle.std.specs.Prelude.{◌≡◌, ◌↔◌, ◌≤◌, ℕ, All, Contains, List, false, IfOk, OnOk, map};
+ghost use Rattle.std.specs.Prelude.{◌≡◌, ◌↔◌, ◌≤◌, ℕ, All, Contains, List, false, IfOk, IsTrue, OnOk, map};
 ghost use Rattle.std.specs.List.Sorted.{IsStrictlyIncreasing};
 ghost use Rattle.sia_events.specs.declared.event.Event.TheVariants as events;
 ghost use Rattle.sia_events.specs.Places.{at_place};
@@ -165,7 +165,21 @@ fn listed_within(listed: &[(Key, Version)], lo: Key, hi: Key) -> &[(Key, Version
     ensures ascending { AscendsByKey result.now }
     ensures each { (p : ℕ × ℕ) → Contains result.now p ↔ (Contains listed.now p × (lo ≤ p.0) × (p.0 ≤ hi)) }
 {
+    if are_within(listed, lo, hi) {
+        return listed;
+    }
     let from = listed.partition_point(|pair| pair.0 < lo);
     let to = listed.partition_point(|pair| pair.0 <= hi);
     &listed[from..to.max(from)]
+}
+
+// Whether the first and the last of the listed keys show that all are from `lo` to `hi`.
+fn are_within(listed: &[(Key, Version)], lo: Key, hi: Key) -> bool
+    requires { AscendsByKey listed.now }
+    ensures { IsTrue result → All (λ p. (lo ≤ p.0) × (p.0 ≤ hi)) listed.now }
+{
+    if listed.is_empty() {
+        return true;
+    }
+    lo <= listed[0].0 && listed[listed.len() - 1].0 <= hi
 }

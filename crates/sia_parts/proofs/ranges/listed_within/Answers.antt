@@ -1,11 +1,24 @@
 -- What stands between the two points.
-use Rattle.std.proofs.Common.{ℕ, rules, arith}
+use Rattle.std.proofs.Common.{ℕ, ◌≤◌, rules, arith}
+use Rattle.std.proofs.lemmas.List.Elements.{All-contains}
 use Rattle.std.proofs.Math.Dec.{leb, ltb}
 use Rattle.std.proofs.lemmas.List.Sorted.{IsPartitionPoint-from_clause, IsPartitionedBy-leb, IsPartitionedBy-ltb}
 use Rattle.sia_index.proofs.Ordered.{rises}
 use Rattle.sia_index.proofs.ReadTables.{found_within}
 use Rattle.sia_parts.proofs.Saw.{listed_ascend, listed_by_key, ascends_by_key}
 use Rattle.sia_parts.proofs.ranges.listed_within.Goals as goal
+
+pub are_within-requires : goal.are_within-requires
+are_within-requires c = listed_ascend c.args.listed.now c.requires
+
+pub returns-then-are_within-clause-ascending : goal.returns-then-are_within-clause-ascending
+returns-then-are_within-clause-ascending c = listed_ascend c.args.listed.now c.requires
+
+pub returns-then-are_within-clause-each : goal.returns-then-are_within-clause-each
+returns-then-are_within-clause-each c p = (
+  (λ in_list. let own = All-contains (λ (q : ℕ × ℕ). (c.args.lo ≤ q.0) × (q.0 ≤ c.args.hi)) c.args.listed.now p (c.are_within.ensures c.if-are_within.true) in_list in (in_list, own.0, own.1)),
+  (λ found. found.0),
+)
 
 pub returns-clause-ascending : goal.returns-clause-ascending
 returns-clause-ascending c =
