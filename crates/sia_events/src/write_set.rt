@@ -109,7 +109,7 @@ impl WriteSet {
 
     /// Takes the write at the position into the tree.
     #[tactic(auto, unfolding(crate::specs::WriteSets::IsSound))]
-    fn order_one(&mut self, position: usize) -> Result<(), AllocError>
+    fn add_to_tree(&mut self, position: usize) -> Result<(), AllocError>
         ensures same { OnOk result (self.new.writes.items ≡ self.old.writes.items) }
         ensures sound { IsSound self.old → OnOk result (IsSound self.new) }
     {
@@ -139,7 +139,7 @@ impl WriteSet {
         if self.guess_one(position) {
             return Ok(());
         }
-        self.order_one(position)
+        self.add_to_tree(position)
     }
 
     /// Whether guesses are to be made anew.
