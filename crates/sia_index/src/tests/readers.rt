@@ -1,6 +1,6 @@
 //! What is due to readers, over ranges of keys.
 use super::index_of;
-use crate::{DueAt, Index, KeyVersion, Reader};
+use crate::{DueAt, Index, KeyVersion, Reader, Seen};
 use sia_events::{Key, TxnId, Version};
 use std::test::*;
 
@@ -14,6 +14,18 @@ fn reader(index: &Index, t: TxnId, place: u32) -> Option<Reader> {
 fn due_to(index: &Index, t: TxnId, place: u32, k: Key) -> Option<Version> {
     index.txn(t)?;
     Some(index.due_to(index.reader(t, place), k))
+}
+
+// What a reader sees of a key.
+fn seen(index: &Index, t: TxnId, place: u32, k: Key, near: usize) -> Option<Seen> {
+    index.txn(t)?;
+    Some(index.seen_near(index.reader(t, place), k, near))
+}
+
+// Whether a transaction that has an event may have written a key from `lo` to `hi`.
+fn may_own(index: &Index, t: TxnId, place: u32, lo: Key, hi: Key) -> Option<bool> {
+    index.txn(t)?;
+    Some(index.may_own(index.reader(t, place), lo, hi))
 }
 
 // What is due next to a transaction that has an event.
@@ -61,6 +73,33 @@ fn known_of_readers(rt: HostRuntime) -> Result<(), Fail> {
     assert_eq!(rt; due_to(&index, 4, 7, 2), Some(1));
     assert_eq!(rt; due_to(&index, 4, 7, 4), Some(0));
     assert_eq!(rt; due_to(&index, 2, 7, 4), Some(2));
+    Ok(())
+}
+
+// What is seen of one key after another, whichever number is passed on.
+#[test]
+fn seen_of_neighbours(rt: HostRuntime) -> Result<(), Fail> {
+    let index = index_of(&rt, b"w1[2] w1[5] c1 b2 w2[4] w3[9] r4[2:1] c2 a3")?;
+    let of_one = Some(Seen {
+        version: 1,
+        commit: 3,
+    });
+    let nothing = Some(Seen {
+        version: 0,
+        commit: 0,
+    });
+    assert_eq!(rt; seen(&index, 4, 7, 2, 0), of_one);
+    assert_eq!(rt; seen(&index, 4, 7, 5, 9), of_one);
+    assert_eq!(rt; seen(&index, 4, 7, 4, 1), nothing);
+    assert_eq!(rt; seen(&index, 4, 7, 7, 0), nothing);
+    assert_eq!(rt; index.number_near(5, 2), 2);
+    assert_eq!(rt; index.number_near(5, 0), 2);
+    assert_eq!(rt; may_own(&index, 2, 7, 3, 4), Some(true));
+    assert_eq!(rt; may_own(&index, 2, 7, 5, Key::MAX), Some(false));
+    assert_eq!(rt; may_own(&index, 4, 7, 0, Key::MAX), Some(false));
+    assert!(rt; index.is_unwritten_near(6, 8, 3));
+    assert!(rt; !index.is_unwritten_near(6, 9, 3));
+    assert!(rt; !index.is_unwritten_near(5, 8, 3));
     Ok(())
 }
 
