@@ -21,3 +21,8 @@ pub mod RangeSights
 pub mod PartReads
 pub mod PackedEdges
 pub mod Widening
+pub mod FewNumbers
+pub mod EndLemmas
+pub mod Giving
+pub mod FanEdges
+pub mod FoundEdges

@@ -26,7 +26,7 @@ use Rattle.sia_parts.specs.declared.gaps.Gap.{Gap}
 use Rattle.sia_parts.specs.declared.spans.Span.{Span}
 use Rattle.sia_parts.specs.Entries.{EdgeOfKind, IsEdge}
 use Rattle.sia_parts.specs.Parts.{IsInPart}
-use Rattle.sia_parts.specs.Sights.{Adds, FromSome, FromPair, FromMade, KeyPair, IsAsOf, Looked, Widens, IsWrEdge, IsRwEdge, IsSpanEdge, IsPairEdge, IsLateBad, IsPairBad, AscendsByCommit, AreSpans}
+use Rattle.sia_parts.specs.Sights.{Adds, FromSome, FromPair, FromMade, KeyPair, IsAsOf, Looked, Widens, IsWrEdge, IsRwEdge, IsSpanEdge, PartPair, IsPairEdge, IsLateBad, IsPairBad, AscendsByCommit, AreSpans}
 use Rattle.sia_parts.specs.Gaps.{CoversSame, FromGap, IsGapEdge}
 use Rattle.sia_parts.proofs.Adding.{adds_same, adds_both, adds_nothing}
 
@@ -184,18 +184,25 @@ module _ (h : List Event) (wf : IsWellFormed h) where
               let less : both.2.0 < both.2.1 = both.2.4 in
               omega arith
 
-  module _ (part : Part) (keys : List ℕ) (within : AreWrittenWithin h part.lo part.hi keys) where
+  module _ (part : Part) where
     -- what the keys of the part give of bad writes
-    pub bad_writes_are : (b : BadWrite) → FromSome (KeyPair h (IsPairBad h)) keys b ↔ (IsBadWrite h b.key b.first b.second × IsInPart part b.key)
-    bad_writes_are b = (
+    pub bad_writes_are : (keys : List ℕ) → AreWrittenWithin h part.lo part.hi keys → (b : BadWrite) → FromSome (KeyPair h (IsPairBad h)) keys b ↔ (IsBadWrite h b.key b.first b.second × IsInPart part b.key)
+    bad_writes_are keys within b = (
       (λ f.
           let bad = pair_is_bad f.0 b f.2 in
           (bad.1, subst (IsInPart part) (sym bad.0) (let at = (within.each f.0).0 f.1 in (at.1, at.2)))),
       (λ bad. (b.key, (within.each b.key).1 ((b.first, bad.0.0), bad.1.0, bad.1.1), bad_is_pair b.key b.first b.second bad.0)),
     )
 
+    -- and of ww edges
+    pub part_pairs : (keys : List ℕ) → AreWrittenWithin h part.lo part.hi keys → (e : Edge) → FromSome (KeyPair h IsPairEdge) keys e ↔ PartPair h part e
+    part_pairs keys within e = (
+      (λ f. let at = (within.each f.0).0 f.1 in (f.0, (at.1, at.2), f.2)),
+      (λ pair. (pair.0, (within.each pair.0).1 ((pair.2.0.txn, pair.2.2.0), pair.1.0, pair.1.1), pair.2)),
+    )
+
     module _ (spans : List Span) (gaps : List Gap) (are : AreSpans h part spans gaps) where
-      -- what the keys and the spans of the part give of edges
+      -- what the spans of the part give of edges
       span_is_edge : (span : Span) → Contains spans span → (made : Made) → IsMade h span.key made → (e : Edge) → made.txn ≢ span.txn → IsWrEdge span made e ⊎ IsRwEdge span made e → IsEdge h e × IsInPart part e.key
       span_is_edge span c made is e other (inl wr) =
           let edge = wr_from_look span.key made.txn span.txn span.high made.commit other is.0 is.1 (are.high span c) wr.0 in
@@ -214,10 +221,10 @@ module _ (h : List Event) (wf : IsWellFormed h) where
 
       -- an edge of the part is of one of the three
       abbrev IsFound : Edge → Type 0
-      IsFound e = (FromSome (KeyPair h IsPairEdge) keys e ⊎ FromSome (FromMade h) spans e) ⊎ FromSome (FromGap h) gaps e
+      IsFound e = (PartPair h part e ⊎ FromSome (FromMade h) spans e) ⊎ FromSome (FromGap h) gaps e
 
       edge_found : (kind : Kind) (t u k : ℕ) → EdgeOfKind h kind t u k → IsInPart part k → IsFound (record { src = t; dst = u; kind = kind; key = k })
-      edge_found Ww t u k edge in_part = inl (inl (k, (within.each k).1 ((t, edge.0), in_part.0, in_part.1), edge_is_pair t u k edge))
+      edge_found Ww t u k edge in_part = inl (inl (k, in_part, edge_is_pair t u k edge))
       edge_found Wr t u k edge in_part =
           let look = look_of_wr k t u edge in
           elim (are.whole u k look.0 t look.3 in_part edge.1.0) [
@@ -258,13 +265,13 @@ module _ (h : List Event) (wf : IsWellFormed h) where
                 inr (gap, found.1.1, (record { key = k; commit = look.1; txn = u }, edge.2.0, look.2, found.1.2.1, found.1.2.2, ((λ same. edge.0 (sym txn ∙ sym same)), (λ i. record { src = sym txn i; dst = u; kind = Rw; key = k }))))
           ]
 
-      pub edges_are : (e : Edge) → ((FromSome (KeyPair h IsPairEdge) keys e ⊎ FromSome (FromMade h) spans e) ⊎ FromSome (FromGap h) gaps e) ↔ (IsEdge h e × IsInPart part e.key)
+      pub edges_are : (e : Edge) → ((PartPair h part e ⊎ FromSome (FromMade h) spans e) ⊎ FromSome (FromGap h) gaps e) ↔ (IsEdge h e × IsInPart part e.key)
       edges_are e = (
         (λ f. elim f [
           | inl first ↦ elim first [
             | inl pair ↦
                 let edge = pair_is_edge pair.0 e pair.2 in
-                (edge.2, subst (IsInPart part) (sym edge.1) (let at = (within.each pair.0).0 pair.1 in (at.1, at.2)))
+                (edge.2, subst (IsInPart part) (sym edge.1) pair.1)
             | inr made ↦ span_is_edge made.0 made.1 made.2.0 made.2.1 e made.2.2.0 made.2.2.1
           ]
           | inr gap ↦ gap_is_edge gap.0 gap.1 e gap.2

@@ -150,6 +150,10 @@ FromPair {B} P versions b = (first : Made) × (second : Made) × Contains versio
 abbrev pub KeyPair : {B : Type 0} → List Event → (ℕ → Made → Made → B → Type 0) → ℕ → B → Type 0
 KeyPair {B} h P k b = (first : Made) × (second : Made) × IsMade h k first × IsMade h k second × (first.commit < second.commit) × P k second first b
 
+-- the edge of two committed writers of a key of the part
+abbrev pub PartPair : List Event → Part → Edge → Type 0
+PartPair h part e = (k : ℕ) × IsInPart part k × KeyPair h IsPairEdge k e
+
 -- the edge of a span with some committed writer of its key
 abbrev pub FromMade : List Event → Span → Edge → Type 0
 FromMade h span e = (made : Made) × IsMade h span.key made × IsSpanEdge span made e

@@ -7,6 +7,9 @@ ghost use Rattle.sia_parts.specs.Parts.{IsInPart};
 ghost use Rattle.sia_parts.specs.Sights.{Adds, FromSome, FromMade, IsSpanEdge, IsWrEdge, IsRwEdge, AreSpans};
 
 use crate::cutting::Part;
+use crate::ends::{makers_of, readers_of};
+use crate::fanning::edges_of_fans;
+use crate::fans::fans_of;
 use crate::finding::{Edge, Kind};
 use crate::gaps::Gap;
 use crate::packing::put_edges_in_order;
@@ -18,6 +21,48 @@ use std::alloc::Global;
 
 /// The edges at the keys of the part, of the spans and the gaps of these.
 pub(crate) fn edges_of(
+    alloc: Global,
+    ix: &Index,
+    part: Part,
+    spans: &[Span],
+    gaps: &[Gap],
+) -> Result<Vec<Edge>, NoMemory>
+    requires well_formed { IsWellFormed ix.now }
+    requires spans { AreSpans ix.now part spans.now gaps.now }
+    ensures { IfOk result (λ edges. ListsEdges ix.now (IsInPart part) edges.items) }
+{
+    let versions = ix.versions_within(part.lo, part.hi);
+    // With many more spans than versions, as wide range reads give, a span has few edges, and no order of spans saves time.
+    if spans.len() / 2 > versions.len() {
+        edges_by_spans(alloc, ix, part, spans, gaps)
+    } else {
+        edges_by_sources(alloc, ix, part, spans, gaps)
+    }
+}
+
+// The same, made source by source.
+fn edges_by_sources(
+    alloc: Global,
+    ix: &Index,
+    part: Part,
+    spans: &[Span],
+    gaps: &[Gap],
+) -> Result<Vec<Edge>, NoMemory>
+    requires well_formed { IsWellFormed ix.now }
+    requires spans { AreSpans ix.now part spans.now gaps.now }
+    ensures { IfOk result (λ edges. ListsEdges ix.now (IsInPart part) edges.items) }
+{
+    let txns = ix.txns();
+    let keys = ix.written_keys();
+    let makers = makers_of(alloc, ix, ix.versions_within(part.lo, part.hi))?;
+    let readers = readers_of(alloc, ix, spans)?;
+    let fans = fans_of(alloc, ix, &makers, &readers, gaps)?;
+    let edges = edges_of_fans(alloc, txns, keys, &makers, &readers, &fans)?;
+    Ok(edges)
+}
+
+// The same, made key by key, span by span and gap by gap, and then put in order.
+fn edges_by_spans(
     alloc: Global,
     ix: &Index,
     part: Part,

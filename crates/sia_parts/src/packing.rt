@@ -16,7 +16,7 @@ use std::alloc::Global;
 
 /// The number that follows the greatest digit for a transaction or a key. A history has at most 100,000 events, so its
 /// transactions and keys have lesser numbers; were it not so, the edges would be sorted as they are.
-const BASE: u64 = 1_048_576;
+pub(crate) const BASE: u64 = 1_048_576;
 
 /// Sorts the edges by source, target, kind and key, and drops repeats.
 pub(crate) fn put_edges_in_order(
@@ -84,7 +84,17 @@ fn digits(src: u64, dst: u64, kind: Kind, key: u64) -> Option<u64>
     if key >= BASE {
         return None;
     }
-    Some(((src * BASE + dst) * 4 + u64::from(number_of(kind))) * BASE + key)
+    Some(number(src, dst, kind, key))
+}
+
+/// The number with these digits.
+pub(crate) fn number(src: u64, dst: u64, kind: Kind, key: u64) -> u64
+    requires source { src < 1048576 }
+    requires target { dst < 1048576 }
+    requires key { key < 1048576 }
+    ensures { AreDigits src dst kind key result }
+{
+    ((src * BASE + dst) * 4 + u64::from(number_of(kind))) * BASE + key
 }
 
 // Puts for the edges those of the numbers, in order, each once.
@@ -108,7 +118,7 @@ fn put_sorted(
 }
 
 // Adds the edges of the numbers.
-fn put_unpacked(
+pub(crate) fn put_unpacked(
     txns: &[TxnId],
     keys: &[Key],
     numbers: &[u64],
@@ -123,7 +133,7 @@ fn put_unpacked(
 }
 
 // The edge that the number stands for.
-fn unpack(txns: &[TxnId], keys: &[Key], n: u64) -> Edge
+pub(crate) fn unpack(txns: &[TxnId], keys: &[Key], n: u64) -> Edge
     ensures { result ≡ unpacked txns.now keys.now n }
 {
     let rest = n / BASE;

@@ -1,0 +1,15 @@
+-- Each span adds its end.
+use Rattle.sia_parts.specs.Ends.{IsEndOf}
+use Rattle.sia_parts.proofs.Adding.{from_none, from_more, from_all}
+use Rattle.sia_parts.proofs.ends.put_readers.Goals as goal
+
+pub loop-span-init : goal.loop-span-init
+loop-span-init c = from_none (IsEndOf c.args.ix.now) c.args.spans.now _
+
+pub loop-span-preserved : goal.loop-span-preserved
+loop-span-preserved c =
+    from_more (IsEndOf c.args.ix.now) c.args.spans.now c.loop-span.span-index (record { txn = 0; key = 0; low = 0; high = 0 }) _ _ _ c.loop-span-test.true c.loop-span.invariant
+    c.in_ok-put_end.ensures
+
+pub returns : goal.returns
+returns c = from_all (IsEndOf c.args.ix.now) c.args.spans.now c.loop-span.span-index _ _ c.loop-span-test.false c.loop-span.invariant

@@ -1,0 +1,22 @@
+-- The gap's transaction has one number, or no event.
+use Rattle.std.proofs.Common.{ℕ, ◌+◌, subst}
+use Rattle.sia_parts.specs.declared.finding.Kind.TheVariants.{Rw}
+use Rattle.sia_parts.specs.Ends.{IsNumberWithin, rank_of}
+use Rattle.sia_parts.specs.Fans.{IsGapNumber}
+use Rattle.sia_parts.proofs.EndLemmas.{one_txn_number, at_has_event}
+use Rattle.sia_parts.proofs.Giving.{gives_nothing, gives_same}
+use Rattle.sia_parts.proofs.fans.put_fan_of_gap.Goals as goal
+
+pub returns-in_ok-put_fan : goal.returns-in_ok-put_fan
+returns-in_ok-put_fan c =
+    let makers = c.args.makers.now in
+    let gap = c.args.gap in
+    let src = c.in-Some.src in
+    let P : ℕ → ℕ → Type 0 = λ s. IsNumberWithin makers (rank_of gap.lo 0) (rank_of (gap.hi + 1) 0) s Rw in
+    gives_same makers c.args.readers.now (P src) (IsGapNumber c.args.ix.now makers gap) _ _
+    (λ n is. (src, c.in-Some.ensures.0, is))
+    (λ n is. subst (λ s. P s n) (one_txn_number c.args.ix.now is.0 src gap.txn is.1 c.in-Some.ensures.0) is.2)
+    (rw (c.rank-from.ensures, c.rank_above-to.ensures) at c.in_ok-put_fan.ensures)
+
+pub returns-in_default : goal.returns-in_default
+returns-in_default c = gives_nothing c.args.makers.now c.args.readers.now (IsGapNumber c.args.ix.now c.args.makers.now c.args.gap) _ (λ n is. c.in_default.ensures (at_has_event _ _ _ is.1))
