@@ -1,7 +1,7 @@
 // The lines of edges, of which a report can have millions. A few at a time are put together in a small block, from its end
 // to its start, so that nothing is counted before, and appended at once: a line that is read again while it is still being
 // stored makes the processor wait, and the last of a few seldom is.
-ghost use Rattle.std.specs.Prelude.{◌≡◌, ◌+◌, ◌*◌, ◌≤◌, [], ◌∷◌, ◌++◌, length, drop, flat_map, codes, OnOk};
+ghost use Rattle.std.specs.Prelude.{◌≡◌, ◌+◌, ◌≤◌, [], ◌∷◌, ◌++◌, length, drop, flat_map, codes, OnOk};
 ghost use Rattle.sia_events.specs.Text.{numeral};
 ghost use Rattle.si_audit.specs.Lines as lines;
 
