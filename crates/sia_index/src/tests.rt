@@ -31,6 +31,15 @@ fn numbered(index: &Index, i: usize) -> Option<&[Made]> {
     }
 }
 
+// What is known of a transaction by its number, if there are so many.
+fn known(index: &Index, i: usize) -> Option<TxnInfo> {
+    if i < index.txns().len() {
+        Some(index.txn_at(i))
+    } else {
+        None
+    }
+}
+
 const fn committed(start: u32, ended: u32) -> Option<TxnInfo> {
     Some(TxnInfo {
         start,
@@ -73,6 +82,9 @@ fn numbers(rt: HostRuntime) -> Result<(), Fail> {
     assert_eq!(rt; near.txn_number(3), Some(0));
     assert_eq!(rt; near.txn_number(7), Some(2));
     assert_eq!(rt; near.txn_number(4), None);
+    assert_eq!(rt; known(&near, 1), committed(0, 3));
+    assert_eq!(rt; known(&near, 2), near.txn(7));
+    assert_eq!(rt; known(&near, 3), None);
     assert_eq!(rt; near.key_number(8), Some(1));
     assert_eq!(rt; near.key_number(9), None);
 
@@ -80,6 +92,7 @@ fn numbers(rt: HostRuntime) -> Result<(), Fail> {
     assert_eq!(rt; far.txns(), [1, 2, TxnId::MAX].as_slice());
     assert_eq!(rt; far.txn_number(TxnId::MAX), Some(2));
     assert_eq!(rt; far.txn_number(1000), None);
+    assert_eq!(rt; known(&far, 2), far.txn(TxnId::MAX));
     assert_eq!(rt; far.key_number(Key::MAX), Some(1));
     assert_eq!(rt; far.key_number(7), None);
 
