@@ -15,9 +15,12 @@ use crate::gaps::Gap;
 use crate::packing::put_edges_in_order;
 use crate::pairs::put_ww_edges;
 use crate::spans::Span;
-use sia_events::NoMemory;
+use sia_events::{Key, NoMemory};
 use sia_index::{Index, KeyVersion, Made};
 use std::alloc::Global;
+
+/// How many versions of its key a version has beside it, on average, where there are many.
+const MANY: usize = 16;
 
 /// The edges at the keys of the part, of the spans and the gaps of these.
 pub(crate) fn edges_of(
@@ -31,13 +34,24 @@ pub(crate) fn edges_of(
     requires spans { AreSpans ix.now part spans.now gaps.now }
     ensures { IfOk result (λ edges. ListsEdges ix.now (IsInPart part) edges.items) }
 {
-    let versions = ix.versions_within(part.lo, part.hi);
-    // With many more spans than versions, as wide range reads give, a span has few edges, and no order of spans saves time.
-    if spans.len() / 2 > versions.len() {
-        edges_by_spans(alloc, ix, part, spans, gaps)
-    } else {
+    if has_many_versions(ix, ix.written_within(part.lo, part.hi)) {
         edges_by_sources(alloc, ix, part, spans, gaps)
+    } else {
+        edges_by_spans(alloc, ix, part, spans, gaps)
     }
+}
+
+// Whether a version has many others of its key beside it, on average. If so there are many more edges than versions and
+// spans, and else an order of these by their sources would cost more than it saves.
+fn has_many_versions(ix: &Index, keys: &[Key]) -> bool {
+    let mut versions: usize = 0;
+    let mut pairs: usize = 0;
+    for key in keys {
+        let count = ix.versions(*key).len();
+        versions = versions.saturating_add(count);
+        pairs = pairs.saturating_add(count.saturating_mul(count));
+    }
+    pairs / MANY >= versions
 }
 
 // The same, made source by source.
