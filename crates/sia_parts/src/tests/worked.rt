@@ -387,3 +387,24 @@ fn greatest_key_in_a_range(rt: HostRuntime) -> Result<(), Fail> {
     expect(&rt, listed, &[], seen)?;
     Ok(())
 }
+
+// Sixteen versions of one key, one who saw the last of them, and two who saw version 0, one of them by a range read. So many
+// edges are made source by source.
+#[test]
+fn many_versions(rt: HostRuntime) -> Result<(), Fail> {
+    let text =
+        b"b17 b19 w1[3] c1 w2[3] c2 w3[3] c3 w4[3] c4 w5[3] c5 w6[3] c6 w7[3] c7 w8[3] c8 w9[3] c9 w10[3] c10 w11[3] c11 w12[3] c12 w13[3] c13 w14[3] c14 w15[3] c15 w16[3] c16 r17[3:0] c17 r18[3:16] c18 r19[2..4] c19";
+    let found = findings_of(rt.alloc(), text, &[])?;
+    assert!(rt; found.bad_reads.is_empty());
+    let edges = found.edges.as_slice();
+    let ww = edges.iter().filter(|edge| edge.kind == Kind::Ww).count();
+    let wr = edges.iter().filter(|edge| edge.kind == Kind::Wr).count();
+    assert_eq!(rt; edges.len(), 168);
+    assert_eq!(rt; ww, 120);
+    assert_eq!(rt; wr, 16);
+    assert_eq!(rt; edges.first(), Some(&edge(1, Kind::Ww, 2, 3)));
+    assert_eq!(rt; edges.get(15), Some(&edge(1, Kind::Wr, 18, 3)));
+    assert_eq!(rt; edges.get(16), Some(&edge(2, Kind::Ww, 3, 3)));
+    assert_eq!(rt; edges.last(), Some(&edge(19, Kind::Rw, 16, 3)));
+    Ok(())
+}
