@@ -1,26 +1,30 @@
 //! Texts that read what many have written.
 use super::*;
 
-/// So many writes of keys in an order of their own: a key for each number, and a transaction for each.
-fn writes(alloc: Global, count: u64) -> Result<Vec<u8>, Fail> {
+/// 1,200 writes of keys in an order of their own: a key for each number, and a transaction for each.
+fn writes(alloc: Global) -> Result<Vec<u8>, Fail> {
     let mut text = Vec::new(alloc);
-    for i in 0..count {
-        let key = i * 37 % count;
+    for i in 0u64..1200 {
+        let key = i * 37 % 1200;
         let txn = key % 7 + 1;
         text.extend_from_slice(format!(in alloc; "w{txn}[{key}] ")?.as_bytes())?;
     }
     Ok(text)
 }
 
-/// Adds a range read of each key of so many that is so far from the one before it, and answers how the last key ends.
-fn push_list(alloc: Global, text: &mut Vec<u8>, count: u64, step: u64) -> Result<(), Fail> {
-    text.extend_from_slice(format!(in alloc; "r9[0..{count}")?.as_bytes())?;
+/// Adds a range read of the keys from 0 on, of which each is so far from the one before it.
+fn push_list(alloc: Global, text: &mut Vec<u8>, step: u64) -> Result<(), Fail> {
+    text.extend_from_slice(b"r9[0..1200")?;
     let mut before = ";";
-    for i in 0..count / step {
-        let key = i * step;
-        let txn = key % 7 + 1;
-        text.extend_from_slice(format!(in alloc; "{before}{key}:{txn}")?.as_bytes())?;
-        before = ",";
+    let mut left: u64 = 0;
+    for key in 0u64..1200 {
+        if left == 0 {
+            let txn = key % 7 + 1;
+            text.extend_from_slice(format!(in alloc; "{before}{key}:{txn}")?.as_bytes())?;
+            before = ",";
+            left = step;
+        }
+        left = left.saturating_sub(1);
     }
     text.extend_from_slice(b"] ")?;
     Ok(())
@@ -28,9 +32,9 @@ fn push_list(alloc: Global, text: &mut Vec<u8>, count: u64, step: u64) -> Result
 
 #[test]
 fn lists_that_jump(rt: HostRuntime) -> Result<(), Fail> {
-    let mut text = writes(rt.alloc(), 1200)?;
+    let mut text = writes(rt.alloc())?;
     for step in [1, 2, 12, 1000] {
-        push_list(rt.alloc(), &mut text, 1200, step)?;
+        push_list(rt.alloc(), &mut text, step)?;
     }
     let history = read_history(rt.alloc(), &text)
         .ok()
@@ -51,7 +55,7 @@ fn many_writers_of_a_key(rt: HostRuntime) -> Result<(), Fail> {
         text.extend_from_slice(format!(in rt.alloc(); "w{txn}[5] w{txn}[6] ")?.as_bytes())?;
     }
     for txn in 1..100 {
-        let other = 100 - txn;
+        let other = 100u32.saturating_sub(txn);
         let list = format!(in rt.alloc(); "r200[5..6;5:{txn},6:{other}] r200[5:{txn}] ")?;
         text.extend_from_slice(list.as_bytes())?;
     }
