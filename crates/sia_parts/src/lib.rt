@@ -3,6 +3,7 @@
 
 mod at_once;
 mod auditing;
+mod committed;
 mod cutting;
 mod edges;
 mod ends;
@@ -16,6 +17,8 @@ mod gathering;
 mod laws;
 mod merging;
 mod nearby;
+mod numbered;
+mod numbers;
 mod ordering;
 mod packing;
 mod pairs;
@@ -25,11 +28,14 @@ mod sights;
 mod spans;
 
 pub use auditing::audit_part;
+pub use committed::Committed;
 pub use cutting::{CutFault, Part, cut};
 pub use finding::{BadRead, BadWrite, Edge, Kind, Unexplained};
-pub use findings::{Findings, PartFindings};
+pub use findings::{Findings, Found, PartFindings};
 pub use gathering::gather;
 pub use laws::one_part;
+pub use numbered::{find_in_part, gather_found};
+pub use numbers::{EdgeNumber, edge_of, edges_of_numbers, key_of, kind_in, source_of, target_of};
 
 #[cfg(test)]
 mod tests;

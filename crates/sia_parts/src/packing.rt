@@ -164,7 +164,7 @@ fn key_at(keys: &[Key], i: u64) -> Key
     }
 }
 
-fn kind_of(digit: u64) -> Kind
+pub(crate) fn kind_of(digit: u64) -> Kind
     ensures { result ≡ kind_at digit }
 {
     if digit == 0 {

@@ -1,0 +1,31 @@
+-- The edges of a history as single numbers, by the places of committed transactions and of written keys in their lists.
+use Rattle.std.specs.Prelude.{◌≡◌, ◌<◌, ℕ, List, All, AllPairs, length, map, slice_index}
+use Rattle.sia_events.specs.declared.event.Event.{Event}
+use Rattle.sia_events.specs.Lists.{ListsAscending}
+use Rattle.sia_events.specs.Transactions.{IsCommitted}
+use Rattle.sia_index.specs.Info.{AreWrittenKeys}
+use Rattle.sia_parts.specs.declared.findings.Found.{Found}
+use Rattle.sia_parts.specs.Findings.{ListsBadReads, ListsBadWrites, ListsUnexplained, ListsEdges}
+use Rattle.sia_parts.specs.Packing.{IsPacked, unpacked}
+
+-- the committed transactions and the written keys, each once, ascending
+pub record AreEdgeTables (h : List Event) (txns keys : List ℕ) : Type 0 where
+  pub txns_are : ListsAscending (IsCommitted h) txns
+  pub keys_are : AreWrittenKeys h keys
+
+-- t is number i of the committed transactions, counted from 0
+abbrev pub IsCommittedAt : List Event → ℕ → ℕ → Type 0
+IsCommittedAt h i t = (txns : List ℕ) × ListsAscending (IsCommitted h) txns × (i < length txns) × (slice_index txns i ≡ t)
+
+-- the numbers stand for the edges at these keys, each once, in the order of the edges
+pub record AreEdgeNumbers (h : List Event) (txns keys : List ℕ) (Within : ℕ → Type 0) (numbers : List ℕ) : Type 0 where
+  pub each : All (IsPacked txns keys) numbers
+  pub ascending : AllPairs (λ m n. m < n) numbers
+  pub edges : ListsEdges h Within (map (unpacked txns keys) numbers)
+
+-- what is found at these keys
+pub record IsFound (h : List Event) (txns keys : List ℕ) (Within : ℕ → Type 0) (found : Found) : Type 0 where
+  pub bad_reads : ListsBadReads h Within found.bad_reads.items
+  pub bad_writes : ListsBadWrites h Within found.bad_writes.items
+  pub unexplained : ListsUnexplained h Within found.unexplained.items
+  pub edges : AreEdgeNumbers h txns keys Within found.edges.items
