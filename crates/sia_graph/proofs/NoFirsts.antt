@@ -7,8 +7,9 @@ use Rattle.sia_events.specs.Lists.{ListsBy}
 use Rattle.sia_events.specs.DangerousStructures.{IsPivot, IsFirst, NoFirst, PassesSsi}
 use Rattle.sia_events.specs.Isolation.{IsBadRead, IsBadWrite}
 use Rattle.sia_parts.specs.Entries.{bad_read_rank, bad_write_rank}
-use Rattle.sia_parts.specs.declared.findings.Findings.{Findings}
-use Rattle.sia_parts.specs.Findings.{AreFindings}
+use Rattle.sia_parts.specs.declared.finding.BadRead.{BadRead}
+use Rattle.sia_parts.specs.declared.finding.BadWrite.{BadWrite}
+use Rattle.sia_parts.specs.Findings.{ListsBadReads, ListsBadWrites}
 use Rattle.sia_graph.specs.declared.pivot.Pivot.{Pivot}
 use Rattle.sia_graph.specs.Pivots.{ArePivots}
 
@@ -48,22 +49,22 @@ module _ (h : List Event) (ps : List Pivot) (pivots : ArePivots h ps) where
       let p = get_or ps k d in
       empty (λ x. x ∷ []) (λ x. IsFirst h p.txn x) p.firsts (pivots.neighbours k d l).firsts (λ u. none p.txn u)
 
-pub passes_by : (b : Bool) (h : List Event) (f : Findings) (ps : List Pivot) → (IsTrue b ↔ ((f.bad_reads.items ≡ []) × (f.bad_writes.items ≡ []) × All (λ p. p.firsts ≡ []) ps))
-    → AreFindings h f → ArePivots h ps → IsTrue b ↔ PassesSsi h
-passes_by b h f ps e found pivots = (λ t. to (e.0 t), λ q. e.1 (from q))
+pub passes_by : (b : Bool) (h : List Event) (reads : List BadRead) (writes : List BadWrite) (ps : List Pivot) → (IsTrue b ↔ ((reads ≡ []) × (writes ≡ []) × All (λ p. p.firsts ≡ []) ps))
+    → ListsBadReads h (λ _. ⊤) reads → ListsBadWrites h (λ _. ⊤) writes → ArePivots h ps → IsTrue b ↔ PassesSsi h
+passes_by b h reads writes ps e found_reads found_writes pivots = (λ t. to (e.0 t), λ q. e.1 (from q))
   where
-    to : (f.bad_reads.items ≡ []) × (f.bad_writes.items ≡ []) × All (λ p. p.firsts ≡ []) ps → PassesSsi h
+    to : (reads ≡ []) × (writes ≡ []) × All (λ p. p.firsts ≡ []) ps → PassesSsi h
     to e = (
       record {
-        reads = λ p t k saw due bad. nothing bad_read_rank (λ b. IsBadRead h b.place b.txn b.key b.saw b.due × ⊤) f.bad_reads.items found.bad_reads e.0 (record { place = p; txn = t; key = k; saw = saw; due = due }) (bad, tt);
-        writes = λ k first second bad. nothing bad_write_rank (λ b. IsBadWrite h b.key b.first b.second × ⊤) f.bad_writes.items found.bad_writes e.1 (record { key = k; first = first; second = second }) (bad, tt);
+        reads = λ p t k saw due bad. nothing bad_read_rank (λ b. IsBadRead h b.place b.txn b.key b.saw b.due × ⊤) reads found_reads e.0 (record { place = p; txn = t; key = k; saw = saw; due = due }) (bad, tt);
+        writes = λ k first second bad. nothing bad_write_rank (λ b. IsBadWrite h b.key b.first b.second × ⊤) writes found_writes e.1 (record { key = k; first = first; second = second }) (bad, tt);
       },
       no_first h ps pivots e.2,
     )
 
-    from : PassesSsi h → (f.bad_reads.items ≡ []) × (f.bad_writes.items ≡ []) × All (λ p. p.firsts ≡ []) ps
+    from : PassesSsi h → (reads ≡ []) × (writes ≡ []) × All (λ p. p.firsts ≡ []) ps
     from e = (
-      empty bad_read_rank (λ b. IsBadRead h b.place b.txn b.key b.saw b.due × ⊤) f.bad_reads.items found.bad_reads (λ b bad. e.0.reads b.place b.txn b.key b.saw b.due bad.0),
-      empty bad_write_rank (λ b. IsBadWrite h b.key b.first b.second × ⊤) f.bad_writes.items found.bad_writes (λ b bad. e.0.writes b.key b.first b.second bad.0),
+      empty bad_read_rank (λ b. IsBadRead h b.place b.txn b.key b.saw b.due × ⊤) reads found_reads (λ b bad. e.0.reads b.place b.txn b.key b.saw b.due bad.0),
+      empty bad_write_rank (λ b. IsBadWrite h b.key b.first b.second × ⊤) writes found_writes (λ b bad. e.0.writes b.key b.first b.second bad.0),
       none_first h ps pivots e.1,
     )

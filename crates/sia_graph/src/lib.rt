@@ -12,19 +12,23 @@ mod ordering;
 mod passing;
 mod pivot;
 mod pivoting;
+mod pivoting_numbers;
 mod replaying;
 mod right;
 mod settling;
+mod settling_numbers;
 mod taking;
 mod txns;
 mod walking;
 
 pub use laws::{pivot_law, replay_law, ssi_law};
-pub use passing::ssi_pass;
+pub use passing::{passes, ssi_pass};
 pub use pivot::Pivot;
 pub use pivoting::pivots;
+pub use pivoting_numbers::pivots_of_numbers;
 pub use replaying::{Mismatch, ReplayFault, replay};
 pub use settling::{Step, Steps, Verdict, settle};
+pub use settling_numbers::settle_numbers;
 pub use txns::Txns;
 
 #[cfg(test)]
