@@ -1,4 +1,11 @@
 -- Lists that are written one after another.
+use Rattle.std.specs.Prelude.{Bool, ◌&&◌}
+use Rattle.sia_parts.specs.declared.finding.BadRead.{BadRead}
+use Rattle.sia_parts.specs.declared.finding.BadWrite.{BadWrite}
+use Rattle.sia_parts.specs.declared.finding.Unexplained.{Unexplained}
+use Rattle.sia_parts.specs.declared.finding.Edge.{Edge}
+use Rattle.sia_graph.specs.declared.pivot.Pivot.{Pivot}
+use Rattle.si_audit.specs.Lines.{is_empty, isolation_line, bad_read_line, bad_write_line, unexplained_line, edge_line, pivot_line}
 use Rattle.std.proofs.Common.{◌≡◌, ℕ, ◌+◌, ◌<◌, List, ◌++◌, length, take, flat_map, get_or, ap, sym, ◌∙◌, append_assoc}
 use Rattle.std.proofs.lemmas.List.{take_more, flat_map_more}
 
@@ -18,6 +25,19 @@ then_four o m n a b c d step before = step ∙ ap (λ (xs : List ℕ). xs ++ a +
 
 pub report_written : (o a b c d e f g s z v : List ℕ) → o ++ a ++ b ++ c ++ d ++ e ++ f ++ g ++ s ++ z ++ v ≡ o ++ (a ++ b ++ c ++ d ++ e ++ f ++ g ++ s ++ z ++ v)
 report_written o a b c d e f g s z v = simp append_assoc
+
+-- what stands before the edges, these, and what stands behind them, where the lists go by other names
+module _ (o m n r a s z v : List ℕ) (reads read : List BadRead) (writes written : List BadWrite) (odd odds : List Unexplained) (edges es : List Edge) (pivots ps : List Pivot)
+    (same_reads : reads ≡ read) (same_writes : writes ≡ written) (same_odd : odd ≡ odds) (same_edges : edges ≡ es) (same_pivots : pivots ≡ ps) where
+  pub report_of_pieces : m ≡ o ++ a ++ isolation_line (is_empty reads && is_empty writes) ++ flat_map bad_read_line reads ++ flat_map bad_write_line writes ++ flat_map unexplained_line odd
+      → n ≡ m ++ flat_map edge_line edges
+      → r ≡ n ++ flat_map pivot_line pivots ++ s ++ z ++ v
+      → r ≡ o ++ (a ++ isolation_line (is_empty read && is_empty written) ++ flat_map bad_read_line read ++ flat_map bad_write_line written ++ flat_map unexplained_line odds
+      ++ flat_map edge_line es ++ flat_map pivot_line ps ++ s ++ z ++ v)
+  report_of_pieces front middle back =
+      rw (sym same_reads, sym same_writes, sym same_odd, sym same_edges, sym same_pivots)
+      (back ∙ ap (λ (xs : List ℕ). xs ++ flat_map pivot_line pivots ++ s ++ z ++ v) (middle ∙ ap (λ (xs : List ℕ). xs ++ flat_map edge_line edges) front)
+        ∙ report_written o a (isolation_line (is_empty reads && is_empty writes)) (flat_map bad_read_line reads) (flat_map bad_write_line writes) (flat_map unexplained_line odd) (flat_map edge_line edges) (flat_map pivot_line pivots) s z v)
 
 -- the line of the next thing in a list
 pub next_line : {X : Type 0} (f : X → List ℕ) (o m n : List ℕ) (xs : List X) (i : ℕ) (d : X) → i < length xs → n ≡ m ++ f (get_or xs i d) → m ≡ o ++ flat_map f (take i xs) → n ≡ o ++ flat_map f (take (i + 1) xs)

@@ -24,8 +24,8 @@ abbrev pub HasTally : List Event → List ℕ → Fate → ℕ → ℕ → Type 
 HasTally h txns fate n count = (found : List ℕ) × AreKept (EndedSo h fate) txns n found × (length found ≡ count)
 
 -- the first n transactions by how they ended
-pub record AreTallies (h : List Event) (txns : List ℕ) (n : ℕ) (committed : List ℕ) (aborted unfinished : ℕ) : Type 0 where
-  pub committed_are : AreKept (EndedSo h Committed) txns n committed
+pub record AreTallies (h : List Event) (txns : List ℕ) (n committed aborted unfinished : ℕ) : Type 0 where
+  pub committed_are : HasTally h txns Committed n committed
   pub aborted_are : HasTally h txns Aborted n aborted
   pub unfinished_are : HasTally h txns Unfinished n unfinished
 
@@ -42,31 +42,31 @@ module _ (h : List Event) (wf : IsWellFormed h) (txns : List ℕ) (rises : Rises
       let was = w.2 in
       (w.0 ++ x ∷ [], kept_next (EndedSo h fate) txns rises n x d inside here w.0 w.1 ended, omega arith)
 
-  module _ (committed : List ℕ) (aborted unfinished : ℕ) (are : AreTallies h txns n committed aborted unfinished) where
-    pub next_committed : EndedSo h Committed x → AreTallies h txns (n + 1) (committed ++ x ∷ []) aborted unfinished
+  module _ (committed aborted unfinished : ℕ) (are : AreTallies h txns n committed aborted unfinished) where
+    pub next_committed : EndedSo h Committed x → AreTallies h txns (n + 1) (committed + 1) aborted unfinished
     next_committed ended = record {
-      committed_are = kept_next (EndedSo h Committed) txns rises n x d inside here committed are.committed_are ended;
+      committed_are = one_more Committed ended committed are.committed_are;
       aborted_are = unmoved Aborted Committed ended (λ e. cc) aborted are.aborted_are;
       unfinished_are = unmoved Unfinished Committed ended (λ e. cc) unfinished are.unfinished_are;
     }
 
     pub next_aborted : EndedSo h Aborted x → AreTallies h txns (n + 1) committed (aborted + 1) unfinished
     next_aborted ended = record {
-      committed_are = other Committed Aborted ended (λ e. cc) committed are.committed_are;
+      committed_are = unmoved Committed Aborted ended (λ e. cc) committed are.committed_are;
       aborted_are = one_more Aborted ended aborted are.aborted_are;
       unfinished_are = unmoved Unfinished Aborted ended (λ e. cc) unfinished are.unfinished_are;
     }
 
     pub next_unfinished : EndedSo h Unfinished x → AreTallies h txns (n + 1) committed aborted (unfinished + 1)
     next_unfinished ended = record {
-      committed_are = other Committed Unfinished ended (λ e. cc) committed are.committed_are;
+      committed_are = unmoved Committed Unfinished ended (λ e. cc) committed are.committed_are;
       aborted_are = unmoved Aborted Unfinished ended (λ e. cc) aborted are.aborted_are;
       unfinished_are = one_more Unfinished ended unfinished are.unfinished_are;
     }
 
 -- none is counted so far
-pub no_tallies : (h : List Event) (txns : List ℕ) → AreTallies h txns 0 [] 0 0
-no_tallies h txns = record { committed_are = none Committed; aborted_are = ([], none Aborted, refl); unfinished_are = ([], none Unfinished, refl) }
+pub no_tallies : (h : List Event) (txns : List ℕ) → AreTallies h txns 0 0 0 0
+no_tallies h txns = record { committed_are = ([], none Committed, refl); aborted_are = ([], none Aborted, refl); unfinished_are = ([], none Unfinished, refl) }
   where
     none : (fate : Fate) → AreKept (EndedSo h fate) txns 0 []
     none fate = record {

@@ -11,3 +11,4 @@ pub mod Counting
 pub mod Spaced
 pub mod Answering
 pub mod LineAnswers
+pub mod Judgements

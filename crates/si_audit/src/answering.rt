@@ -7,12 +7,12 @@ ghost use Rattle.si_audit.specs.Outcomes.{IsOutcome};
 ghost use Rattle.si_audit.specs.Answering.{IsReportOf, IsOutcomeOf};
 
 use crate::engine::Outcome;
-use crate::findings::Audit;
+use crate::judgement::{Judgement, judged};
 use crate::lines::push_refusal;
-use crate::make::audit;
 use crate::options::Options;
-use crate::reporting::report;
+use crate::reporting::report_of;
 use sia_events::{History, NoMemory, TextFault, TextReader};
+use sia_index::make::index;
 use std::alloc::Global;
 use std::sync::Wait;
 use std::thread::Threads;
@@ -25,10 +25,10 @@ pub(crate) struct Answer {
 }
 
 /// Whether isolation was kept and some serial order replays the history.
-fn is_clean(a: &Audit) -> bool
-    ensures { IsTrue result ↔ ((a.now.findings.bad_reads.items ≡ []) × (a.now.findings.bad_writes.items ≡ []) × IsTrue a.now.serializable) }
+fn is_clean(j: &Judgement) -> bool
+    ensures { IsTrue result ↔ ((j.now.found.bad_reads.items ≡ []) × (j.now.found.bad_writes.items ≡ []) × IsTrue j.now.serializable) }
 {
-    a.findings.bad_reads.is_empty() && a.findings.bad_writes.is_empty() && a.serializable
+    j.found.bad_reads.is_empty() && j.found.bad_writes.is_empty() && j.serializable
 }
 
 /// The answer to a history.
@@ -41,9 +41,12 @@ fn answer_to_history<T: Threads + Wait + Sync>(
     ensures report { IfOk result (λ answer. IsReportOf h.now answer.bytes.items) }
     ensures outcome { IfOk result (λ answer. IsOutcomeOf h.now answer.outcome) }
 {
-    let audit = audit(rt, alloc, h, o)?;
-    let bytes = report(alloc, &audit)?;
-    let outcome = if is_clean(&audit) {
+    // The length tells that the history is well-formed.
+    let _ = h.len();
+    let ix = index(alloc, h)?;
+    let judged = judged(rt, alloc, h, &ix, o)?;
+    let bytes = report_of(alloc, &judged, ix.written_keys())?;
+    let outcome = if is_clean(&judged) {
         Outcome::Clean
     } else {
         Outcome::Faulty

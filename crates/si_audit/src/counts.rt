@@ -1,49 +1,47 @@
-// How many events there are, and which transactions committed, aborted, or are open.
-ghost use Rattle.std.specs.Prelude.{◌≡◌, ◌<◌, length, slice_index, IfOk};
+// How many events there are, and how many transactions committed, aborted, or are open.
+ghost use Rattle.std.specs.Prelude.{◌≡◌, ◌<◌, length, slice_index};
 ghost use Rattle.sia_events.specs.Lists.{ListsAscending};
 ghost use Rattle.sia_events.specs.Refusals.{IsWellFormed};
 ghost use Rattle.sia_events.specs.Transactions.{HasEvent};
 ghost use Rattle.si_audit.specs.Counting.{EndedSo, AreCounts};
 
-use sia_events::{History, NoMemory, TxnId};
+use sia_events::{History, TxnId};
 use sia_index::{Fate, Index};
-use std::alloc::Global;
 
-/// The numbers of the report's first line, and the committed transactions themselves.
-#[derive(Debug, Drop)]
-pub(crate) struct Counts {
-    pub(crate) events: u32,
-    /// The committed transactions, ascending.
-    pub(crate) committed: Vec<TxnId>,
-    pub(crate) aborted: u32,
+/// The numbers of the report's first line.
+#[derive(Clone, Copy, Debug)]
+pub struct Counts {
+    pub events: u32,
+    pub committed: u32,
+    pub aborted: u32,
     /// How many transactions are open.
-    pub(crate) unfinished: u32,
+    pub unfinished: u32,
 }
 
 /// The counts of a history.
-pub(crate) fn counted(alloc: Global, h: &History, ix: &Index) -> Result<Counts, NoMemory>
+pub(crate) fn counted(h: &History, ix: &Index) -> Counts
     requires index { ix.now ≡ h.now }
     requires well_formed { IsWellFormed h.now }
-    ensures { IfOk result (AreCounts h.now) }
+    ensures { AreCounts h.now result }
 {
     let events = h.len();
     let txns = ix.txns();
-    let mut committed = Vec::with_capacity(alloc, txns.len())?;
+    let mut committed: u32 = 0;
     let mut aborted: u32 = 0;
     let mut unfinished: u32 = 0;
     for i in 0..txns.len() {
         match fate_at(ix, txns, i) {
-            Fate::Committed => committed.push(txns[i])?,
+            Fate::Committed => committed += 1,
             Fate::Aborted => aborted += 1,
             Fate::Unfinished => unfinished += 1,
         }
     }
-    Ok(Counts {
+    Counts {
         events,
         committed,
         aborted,
         unfinished,
-    })
+    }
 }
 
 /// How transaction number `i` ended, counted from 0.

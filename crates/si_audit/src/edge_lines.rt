@@ -1,12 +1,14 @@
 // The lines of edges, of which a report can have millions. A few at a time are put together in a small block, from its end
 // to its start, so that nothing is counted before, and appended at once: a line that is read again while it is still being
 // stored makes the processor wait, and the last of a few seldom is.
-ghost use Rattle.std.specs.Prelude.{◌≡◌, ◌+◌, ◌≤◌, [], ◌∷◌, ◌++◌, length, drop, flat_map, codes, OnOk};
+ghost use Rattle.std.specs.Prelude.{◌≡◌, ◌+◌, ◌≤◌, [], ◌∷◌, ◌++◌, length, drop, flat_map, map, codes, OnOk};
 ghost use Rattle.sia_events.specs.Text.{numeral};
+ghost use Rattle.sia_parts.specs.Packing.{unpacked};
 ghost use Rattle.si_audit.specs.Lines as lines;
 
 use itoa::write_digits;
-use sia_parts::{Edge, Kind};
+use sia_events::{Key, TxnId};
+use sia_parts::{Edge, EdgeNumber, Kind, edge_of};
 use std::alloc::AllocError;
 
 /// How many lines are put together before they are appended.
@@ -138,4 +140,59 @@ pub(crate) fn push_edges(out: &mut Vec<u8>, edges: &[Edge]) -> Result<(), AllocE
         rest = &rest[LINES..];
     }
     push_block(out, &mut block, rest)
+}
+
+/// Puts the lines of the edges of a few numbers at the end of the block. Answers where they start.
+#[inline]
+fn put_numbers(
+    block: &mut [u8; ROOM],
+    txns: &[TxnId],
+    keys: &[Key],
+    numbers: &[EdgeNumber],
+) -> usize
+    requires { length numbers.now ≤ 4 }
+    ensures room { result ≤ 256 }
+    ensures bytes { drop result block.new ≡ flat_map lines.edge_line (map (unpacked txns.now keys.now) numbers.now) }
+{
+    let mut end = ROOM;
+    let mut left = numbers.len();
+    while left > 0 {
+        left -= 1;
+        end = put_edge(block, &edge_of(txns, keys, numbers[left]), end);
+    }
+    end
+}
+
+/// The edges of a few numbers, by way of the block.
+#[inline]
+fn push_numbers_block(
+    out: &mut Vec<u8>,
+    block: &mut [u8; ROOM],
+    txns: &[TxnId],
+    keys: &[Key],
+    numbers: &[EdgeNumber],
+) -> Result<(), AllocError>
+    requires { length numbers.now ≤ 4 }
+    ensures { OnOk result (out.new.items ≡ out.old.items ++ flat_map lines.edge_line (map (unpacked txns.now keys.now) numbers.now)) }
+{
+    let start = put_numbers(block, txns, keys, numbers);
+    out.extend_from_slice(&block[start..])
+}
+
+/// The edges of all numbers, each on a line.
+pub(crate) fn push_numbers(
+    out: &mut Vec<u8>,
+    txns: &[TxnId],
+    keys: &[Key],
+    numbers: &[EdgeNumber],
+) -> Result<(), AllocError>
+    ensures { OnOk result (out.new.items ≡ out.old.items ++ flat_map lines.edge_line (map (unpacked txns.now keys.now) numbers.now)) }
+{
+    let mut block = [0; ROOM];
+    let mut rest = numbers;
+    while rest.len() > LINES {
+        push_numbers_block(out, &mut block, txns, keys, &rest[..LINES])?;
+        rest = &rest[LINES..];
+    }
+    push_numbers_block(out, &mut block, txns, keys, rest)
 }

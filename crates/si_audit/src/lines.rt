@@ -2,7 +2,7 @@
 ghost use Rattle.std.specs.Prelude.{◌≡◌, ◌++◌, OnOk};
 ghost use Rattle.si_audit.specs.Lines as lines;
 
-use crate::findings::Audit;
+use crate::counts::Counts;
 use crate::words::{push_key, push_number, reason_words};
 use sia_events::TextFault;
 use sia_parts::{BadRead, BadWrite, Unexplained};
@@ -27,18 +27,18 @@ pub(crate) fn push_refusal(out: &mut Vec<u8>, fault: &TextFault) -> Result<(), A
 }
 
 /// The numbers of events, and of committed, aborted and open transactions.
-pub(crate) fn push_events(out: &mut Vec<u8>, a: &Audit) -> Result<(), AllocError>
+pub(crate) fn push_events(out: &mut Vec<u8>, n: &Counts) -> Result<(), AllocError>
     ensures { OnOk result (out.new.items ≡ out.old.items
-        ++ lines.events_line a.now.events a.now.committed a.now.aborted a.now.unfinished) }
+        ++ lines.events_line n.now.events n.now.committed n.now.aborted n.now.unfinished) }
 {
     out.extend_from_slice(b"events ")?;
-    push_number(out, a.events)?;
+    push_number(out, n.events)?;
     out.extend_from_slice(b" committed ")?;
-    push_number(out, a.committed)?;
+    push_number(out, n.committed)?;
     out.extend_from_slice(b" aborted ")?;
-    push_number(out, a.aborted)?;
+    push_number(out, n.aborted)?;
     out.extend_from_slice(b" open ")?;
-    push_number(out, a.unfinished)?;
+    push_number(out, n.unfinished)?;
     out.extend_from_slice(b"\n")?;
     Ok(())
 }

@@ -1,19 +1,22 @@
 // The report of an audit: all its lines, in one buffer.
-ghost use Rattle.std.specs.Prelude.{◌≡◌, ◌++◌, ◌&&◌, flat_map, IfOk, OnOk};
+ghost use Rattle.std.specs.Prelude.{◌≡◌, ◌++◌, ◌&&◌, [], flat_map, IfOk, OnOk};
 ghost use Rattle.si_audit.specs.Audits.{account_of};
+ghost use Rattle.si_audit.specs.Judgements.{account_by};
 ghost use Rattle.si_audit.specs.Lines as lines;
 ghost use Rattle.si_audit.specs.Report.{CanBePrinted};
 
-use crate::edge_lines::push_edges;
+use crate::counts::Counts;
+use crate::edge_lines::{push_edges, push_numbers};
 use crate::findings::Audit;
+use crate::judgement::Judgement;
 use crate::lines::{
     push_bad_read, push_bad_write, push_events, push_isolation, push_serializable, push_ssi,
     push_unexplained,
 };
 use crate::longer_lines::{push_pivot, push_verdict};
-use sia_events::NoMemory;
-use sia_graph::Pivot;
-use sia_parts::{BadRead, BadWrite, Findings, Unexplained};
+use sia_events::{Key, NoMemory};
+use sia_graph::{Pivot, Verdict};
+use sia_parts::{BadRead, BadWrite, Unexplained};
 use std::alloc::{AllocError, Global};
 
 /// How many bytes a line of the report mostly needs.
@@ -55,40 +58,96 @@ fn push_pivots(out: &mut Vec<u8>, pivots: &[Pivot]) -> Result<(), AllocError>
     Ok(())
 }
 
-/// Whether there is no bad read and no bad write.
-fn is_kept(f: &Findings) -> bool
-    ensures { result ≡ (lines.is_empty f.now.bad_reads.items && lines.is_empty f.now.bad_writes.items) }
-{
-    f.bad_reads.is_empty() && f.bad_writes.is_empty()
-}
-
-/// The lines of what was found at the keys.
-fn push_findings(out: &mut Vec<u8>, f: &Findings) -> Result<(), AllocError>
+/// The lines before those of the edges.
+fn push_front(
+    out: &mut Vec<u8>,
+    counts: &Counts,
+    bad_reads: &[BadRead],
+    bad_writes: &[BadWrite],
+    unexplained: &[Unexplained],
+) -> Result<(), AllocError>
     ensures { OnOk result (out.new.items ≡ out.old.items
-        ++ flat_map lines.bad_read_line f.now.bad_reads.items
-        ++ flat_map lines.bad_write_line f.now.bad_writes.items
-        ++ flat_map lines.unexplained_line f.now.unexplained.items
-        ++ flat_map lines.edge_line f.now.edges.items) }
+        ++ lines.events_line counts.now.events counts.now.committed counts.now.aborted counts.now.unfinished
+        ++ lines.isolation_line (lines.is_empty bad_reads.now && lines.is_empty bad_writes.now)
+        ++ flat_map lines.bad_read_line bad_reads.now
+        ++ flat_map lines.bad_write_line bad_writes.now
+        ++ flat_map lines.unexplained_line unexplained.now) }
 {
-    push_bad_reads(out, f.bad_reads.as_slice())?;
-    push_bad_writes(out, f.bad_writes.as_slice())?;
-    push_all_unexplained(out, f.unexplained.as_slice())?;
-    push_edges(out, f.edges.as_slice())?;
+    push_events(out, counts)?;
+    push_isolation(out, bad_reads.is_empty() && bad_writes.is_empty())?;
+    push_bad_reads(out, bad_reads)?;
+    push_bad_writes(out, bad_writes)?;
+    push_all_unexplained(out, unexplained)?;
     Ok(())
 }
 
-/// All lines.
+/// The lines behind those of the edges.
+fn push_back(
+    out: &mut Vec<u8>,
+    pivots: &[Pivot],
+    pass: bool,
+    serializable: bool,
+    verdict: &Verdict,
+) -> Result<(), AllocError>
+    ensures { OnOk result (out.new.items ≡ out.old.items
+        ++ flat_map lines.pivot_line pivots.now
+        ++ lines.ssi_line pass
+        ++ lines.serializable_line serializable
+        ++ lines.verdict_line verdict.now) }
+{
+    push_pivots(out, pivots)?;
+    push_ssi(out, pass)?;
+    push_serializable(out, serializable)?;
+    push_verdict(out, verdict)?;
+    Ok(())
+}
+
+/// All lines of an audit.
 fn push_report(out: &mut Vec<u8>, a: &Audit) -> Result<(), AllocError>
     ensures { OnOk result (out.new.items ≡ out.old.items ++ lines.report_text (account_of a.now)) }
 {
-    push_events(out, a)?;
-    push_isolation(out, is_kept(&a.findings))?;
-    push_findings(out, &a.findings)?;
-    push_pivots(out, a.pivots.as_slice())?;
-    push_ssi(out, a.pass)?;
-    push_serializable(out, a.serializable)?;
-    push_verdict(out, &a.verdict)?;
+    let counts = Counts {
+        events: a.events,
+        committed: a.committed,
+        aborted: a.aborted,
+        unfinished: a.unfinished,
+    };
+    let found = &a.findings;
+    push_front(
+        out,
+        &counts,
+        &found.bad_reads,
+        &found.bad_writes,
+        &found.unexplained,
+    )?;
+    push_edges(out, &found.edges)?;
+    push_back(out, &a.pivots, a.pass, a.serializable, &a.verdict)?;
     Ok(())
+}
+
+/// All lines of a judgement, whose edges are numbers.
+fn push_judgement(out: &mut Vec<u8>, j: &Judgement, keys: &[Key]) -> Result<(), AllocError>
+    ensures { OnOk result (out.new.items ≡ out.old.items ++ lines.report_text (account_by keys.now j.now)) }
+{
+    let found = &j.found;
+    push_front(
+        out,
+        &j.counts,
+        &found.bad_reads,
+        &found.bad_writes,
+        &found.unexplained,
+    )?;
+    push_numbers(out, j.committed.ids(), keys, &found.edges)?;
+    push_back(out, &j.pivots, j.pass, j.serializable, &j.verdict)?;
+    Ok(())
+}
+
+/// A buffer with room for most reports with so many edges and bad reads.
+fn buffer(alloc: Global, edges: usize, bad_reads: usize) -> Result<Vec<u8>, AllocError>
+    ensures { IfOk result (λ bytes. bytes.items ≡ []) }
+{
+    let lines = edges.saturating_add(bad_reads);
+    Vec::with_capacity(alloc, lines.saturating_mul(LINE))
 }
 
 /// The lines of the report.
@@ -96,12 +155,18 @@ pub fn report(alloc: Global, a: &Audit) -> Result<Vec<u8>, NoMemory>
     requires { CanBePrinted (account_of a.now) }
     ensures { IfOk result (λ bytes. bytes.items ≡ lines.report_text (account_of a.now)) }
 {
-    let lines = a
-        .findings
-        .edges
-        .len()
-        .saturating_add(a.findings.bad_reads.len());
-    let mut out = Vec::with_capacity(alloc, lines.saturating_mul(LINE))?;
+    let found = &a.findings;
+    let mut out = buffer(alloc, found.edges.len(), found.bad_reads.len())?;
     push_report(&mut out, a)?;
+    Ok(out)
+}
+
+/// The same of a judgement, by the written keys.
+pub(crate) fn report_of(alloc: Global, j: &Judgement, keys: &[Key]) -> Result<Vec<u8>, NoMemory>
+    ensures { IfOk result (λ bytes. bytes.items ≡ lines.report_text (account_by keys.now j.now)) }
+{
+    let found = &j.found;
+    let mut out = buffer(alloc, found.edges.len(), found.bad_reads.len())?;
+    push_judgement(&mut out, j, keys)?;
     Ok(out)
 }

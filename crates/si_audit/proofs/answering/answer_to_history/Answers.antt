@@ -1,17 +1,23 @@
 use Rattle.std.proofs.Common.{sym, subst}
 use Rattle.std.proofs.lemmas.Bool.{both_ways}
-use Rattle.si_audit.specs.Audits.{account_of}
+use Rattle.sia_index.specs.Info.{AreWrittenKeys}
 use Rattle.si_audit.specs.Answering.{IsOutcomeOf}
-use Rattle.si_audit.proofs.Clean.{can_be_printed, clean_where}
+use Rattle.si_audit.specs.Judgements.{account_by}
+use Rattle.si_audit.proofs.Clean.{clean_where}
 use Rattle.si_audit.proofs.answering.answer_to_history.Goals as goal
 use Rattle.si_audit.proofs.answering.answer_to_history.Goals.{then-is_clean, else-is_clean}
 
-pub report-requires : goal.report-requires
-report-requires g c = can_be_printed c.args.h.now (account_of c.in_ok-audit.audit) c.in_ok-audit.ensures.exact
+pub returns-clause-report : goal.returns-clause-report
+returns-clause-report g c =
+    let keys = c.written_keys.result.now in
+    let written = subst (λ x. AreWrittenKeys x keys) c.in_ok-ix.ensures c.written_keys.ensures in
+    (account_by keys c.in_ok-judged.judged, c.in_ok-judged.ensures.exact keys written, c.in_ok-bytes.ensures)
 
 pub returns-clause-outcome : goal.returns-clause-outcome
 returns-clause-outcome g c =
-    let clean = clean_where c.args.h.now (account_of c.in_ok-audit.audit) c.in_ok-audit.ensures.exact in
+    let keys = c.written_keys.result.now in
+    let written = subst (λ x. AreWrittenKeys x keys) c.in_ok-ix.ensures c.written_keys.ensures in
+    let clean = clean_where c.args.h.now (account_by keys c.in_ok-judged.judged) (c.in_ok-judged.ensures.exact keys written) in
     elim c.if-is_clean.branch [
       | then-is_clean w ↦ subst (IsOutcomeOf c.args.h.now) (sym w.outcome-is) (clean.0 (c.is_clean.ensures.0 w.if-is_clean.true))
       | else-is_clean w ↦ subst (IsOutcomeOf c.args.h.now) (sym w.outcome-is) (λ is. both_ways _ w.if-is_clean.false (c.is_clean.ensures.1 (clean.1 is)))

@@ -1,14 +1,23 @@
 use Rattle.std.proofs.Common.{length, ap, sym, subst, refl, ◌∙◌, arith}
 use Rattle.std.specs.Prelude.{slice_index}
 use Rattle.std.proofs.lemmas.List.{take_all}
-use Rattle.sia_events.specs.Lists.{ListsAscending, CountsAll}
+use Rattle.sia_events.specs.Lists.{CountsAll}
 use Rattle.sia_events.specs.Refusals.{IsWellFormed}
 use Rattle.sia_events.specs.Transactions.{IsCommitted, IsAborted, IsOpen}
 use Rattle.sia_index.specs.declared.info.Fate.TheVariants.{Committed, Aborted, Unfinished}
 use Rattle.si_audit.specs.Counting.{EndedSo}
-use Rattle.si_audit.proofs.Tallies.{next_committed, next_aborted, next_unfinished, all_kept, all_counted, few_transactions}
+use Rattle.si_audit.proofs.Tallies.{next_committed, next_aborted, next_unfinished, all_counted, few_transactions}
 use Rattle.si_audit.proofs.counts.counted.Goals as goal
-use Rattle.si_audit.proofs.counts.counted.Goals.{in-Committed+in_ok-push-in-Committed, in-Aborted, in-Unfinished}
+use Rattle.si_audit.proofs.counts.counted.Goals.{in-Committed, in-Aborted, in-Unfinished}
+
+pub overflow_add-committed : goal.overflow_add-committed
+overflow_add-committed c =
+    let so = c.loop-i.invariant.committed_are in
+    let kept = so.1.few in
+    let count = so.2 in
+    let few = few_transactions c.args.ix.now c.txns-txns.result.now c.txns-txns.ensures in
+    let same = ap length c.requires.index in
+    omega (arith, c.len-events.ensures.len)
 
 pub overflow_add-aborted : goal.overflow_add-aborted
 overflow_add-aborted c =
@@ -34,9 +43,9 @@ loop-i-preserved c =
     let txns = c.txns-txns.result.now in
     let x = slice_index txns c.loop-i.i in
     elim c.match-fate_at.branch [
-      | in-Committed+in_ok-push-in-Committed w ↦
+      | in-Committed w ↦
           let ended = subst (λ f. EndedSo c.args.ix.now f x) w.in-Committed.is c.fate_at.ensures in
-          rw (ap (λ v. v.items) w.committed-is ∙ w.in_ok-push-in-Committed.ensures.items, w.aborted-is, w.unfinished-is)
+          rw (w.committed-is, w.aborted-is, w.unfinished-is)
           (next_committed c.args.ix.now wf txns c.txns-txns.ensures.ascending c.loop-i.i x 0 c.loop-i-test.true refl _ _ _ c.loop-i.invariant ended)
       | in-Aborted w ↦
           let ended = subst (λ f. EndedSo c.args.ix.now f x) w.in-Aborted.is c.fate_at.ensures in
@@ -52,14 +61,10 @@ pub returns : goal.returns
 returns c =
     let txns = c.txns-txns.result.now in
     let whole = take_all c.loop-i.i txns (omega (arith, c.loop-i-test.false)) in
-    let few = few_transactions c.args.ix.now txns c.txns-txns.ensures in
-    let kept = c.loop-i.invariant.committed_are.few in
-    let same = ap length c.requires.index in
-    let committed = all_kept c.args.ix.now txns c.txns-txns.ensures c.loop-i.i whole Committed _ c.loop-i.invariant.committed_are in
+    let all = all_counted c.args.ix.now txns c.txns-txns.ensures c.loop-i.i whole in
     record {
       events = c.len-events.ensures.len;
-      committed = subst (λ h. ListsAscending (IsCommitted h) c.loop-i.committed.items) c.requires.index committed;
-      few = omega (arith, c.loop-i.auto.i-end);
-      aborted = subst (λ h. CountsAll (IsAborted h) c.loop-i.aborted) c.requires.index (all_counted c.args.ix.now txns c.txns-txns.ensures c.loop-i.i whole Aborted _ c.loop-i.invariant.aborted_are);
-      unfinished = subst (λ h. CountsAll (IsOpen h) c.loop-i.unfinished) c.requires.index (all_counted c.args.ix.now txns c.txns-txns.ensures c.loop-i.i whole Unfinished _ c.loop-i.invariant.unfinished_are);
+      committed = subst (λ h. CountsAll (IsCommitted h) c.loop-i.committed) c.requires.index (all Committed _ c.loop-i.invariant.committed_are);
+      aborted = subst (λ h. CountsAll (IsAborted h) c.loop-i.aborted) c.requires.index (all Aborted _ c.loop-i.invariant.aborted_are);
+      unfinished = subst (λ h. CountsAll (IsOpen h) c.loop-i.unfinished) c.requires.index (all Unfinished _ c.loop-i.invariant.unfinished_are);
     }
