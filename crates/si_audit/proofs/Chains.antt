@@ -1,5 +1,5 @@
 -- Lists that are written one after another.
-use Rattle.std.specs.Prelude.{Bool, ◌&&◌}
+use Rattle.std.specs.Prelude.{◌&&◌}
 use Rattle.sia_parts.specs.declared.finding.BadRead.{BadRead}
 use Rattle.sia_parts.specs.declared.finding.BadWrite.{BadWrite}
 use Rattle.sia_parts.specs.declared.finding.Unexplained.{Unexplained}
@@ -37,7 +37,7 @@ module _ (o m n r a s z v : List ℕ) (reads read : List BadRead) (writes writte
   report_of_pieces front middle back =
       rw (sym same_reads, sym same_writes, sym same_odd, sym same_edges, sym same_pivots)
       (back ∙ ap (λ (xs : List ℕ). xs ++ flat_map pivot_line pivots ++ s ++ z ++ v) (middle ∙ ap (λ (xs : List ℕ). xs ++ flat_map edge_line edges) front)
-        ∙ report_written o a (isolation_line (is_empty reads && is_empty writes)) (flat_map bad_read_line reads) (flat_map bad_write_line writes) (flat_map unexplained_line odd) (flat_map edge_line edges) (flat_map pivot_line pivots) s z v)
+      ∙ report_written o a (isolation_line (is_empty reads && is_empty writes)) (flat_map bad_read_line reads) (flat_map bad_write_line writes) (flat_map unexplained_line odd) (flat_map edge_line edges) (flat_map pivot_line pivots) s z v)
 
 -- the line of the next thing in a list
 pub next_line : {X : Type 0} (f : X → List ℕ) (o m n : List ℕ) (xs : List X) (i : ℕ) (d : X) → i < length xs → n ≡ m ++ f (get_or xs i d) → m ≡ o ++ flat_map f (take i xs) → n ≡ o ++ flat_map f (take (i + 1) xs)

@@ -1,6 +1,5 @@
 -- What is judged of a history before its edges are unpacked.
-use Rattle.std.specs.Prelude.{◌≡◌, ℕ, List, map}
-use Rattle.sia_events.specs.declared.event.Event.{Event}
+use Rattle.std.specs.Prelude.{ℕ, List, map}
 use Rattle.sia_parts.specs.Packing.{unpacked}
 use Rattle.si_audit.specs.declared.judgement.Judgement.{Judgement}
 use Rattle.si_audit.specs.Account.{Account}

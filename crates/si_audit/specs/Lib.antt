@@ -12,3 +12,4 @@ pub mod Spaced
 pub mod Answering
 pub mod LineAnswers
 pub mod Judgements
+pub mod Heads

@@ -3,9 +3,9 @@ ghost use Rattle.std.specs.Prelude.{◌≡◌, ◌++◌, OnOk};
 ghost use Rattle.si_audit.specs.Lines as lines;
 
 use crate::counts::Counts;
-use crate::words::{push_key, push_number, reason_words};
+use crate::words::{kind_word, push_key, push_number, reason_words};
 use sia_events::TextFault;
-use sia_parts::{BadRead, BadWrite, Unexplained};
+use sia_parts::{BadRead, BadWrite, Edge, Unexplained};
 use std::alloc::AllocError;
 
 /// The line of a refused text. Want of memory has none.
@@ -120,6 +120,22 @@ pub(crate) fn push_unexplained(out: &mut Vec<u8>, b: &Unexplained) -> Result<(),
     push_key(out, b.key)?;
     out.extend_from_slice(b" ")?;
     push_number(out, b.saw)?;
+    out.extend_from_slice(b"\n")?;
+    Ok(())
+}
+
+/// One edge.
+pub(crate) fn push_edge(out: &mut Vec<u8>, e: &Edge) -> Result<(), AllocError>
+    ensures { OnOk result (out.new.items ≡ out.old.items ++ lines.edge_line e.now) }
+{
+    out.extend_from_slice(b"edge ")?;
+    push_number(out, e.src)?;
+    out.extend_from_slice(b" ")?;
+    out.extend_from_slice(kind_word(e.kind))?;
+    out.extend_from_slice(b" ")?;
+    push_number(out, e.dst)?;
+    out.extend_from_slice(b" ")?;
+    push_key(out, e.key)?;
     out.extend_from_slice(b"\n")?;
     Ok(())
 }

@@ -5,7 +5,6 @@
 mod answering;
 mod counts;
 mod device;
-mod edge_lines;
 mod engine;
 mod finding;
 mod findings;
@@ -16,6 +15,7 @@ mod line;
 mod lines;
 mod longer_lines;
 mod make;
+mod number_lines;
 mod options;
 mod output;
 mod reporting;

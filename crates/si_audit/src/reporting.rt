@@ -6,17 +6,17 @@ ghost use Rattle.si_audit.specs.Lines as lines;
 ghost use Rattle.si_audit.specs.Report.{CanBePrinted};
 
 use crate::counts::Counts;
-use crate::edge_lines::{push_edges, push_numbers};
 use crate::findings::Audit;
 use crate::judgement::Judgement;
 use crate::lines::{
-    push_bad_read, push_bad_write, push_events, push_isolation, push_serializable, push_ssi,
-    push_unexplained,
+    push_bad_read, push_bad_write, push_edge, push_events, push_isolation, push_serializable,
+    push_ssi, push_unexplained,
 };
 use crate::longer_lines::{push_pivot, push_verdict};
+use crate::number_lines::push_numbers;
 use sia_events::{Key, NoMemory};
 use sia_graph::{Pivot, Verdict};
-use sia_parts::{BadRead, BadWrite, Unexplained};
+use sia_parts::{BadRead, BadWrite, Edge, Unexplained};
 use std::alloc::{AllocError, Global};
 
 /// How many bytes a line of the report mostly needs.
@@ -45,6 +45,15 @@ fn push_all_unexplained(out: &mut Vec<u8>, found: &[Unexplained]) -> Result<(), 
 {
     for b in found {
         push_unexplained(out, b)?;
+    }
+    Ok(())
+}
+
+fn push_edges(out: &mut Vec<u8>, edges: &[Edge]) -> Result<(), AllocError>
+    ensures { OnOk result (out.new.items ≡ out.old.items ++ flat_map lines.edge_line edges.now) }
+{
+    for e in edges {
+        push_edge(out, e)?;
     }
     Ok(())
 }

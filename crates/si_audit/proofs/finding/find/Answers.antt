@@ -1,6 +1,5 @@
 use Rattle.std.proofs.Common.{ℕ, List, sym, subst, rules}
 use Rattle.std.specs.Prelude.{⊤}
-use Rattle.std.specs.List.{AllZip}
 use Rattle.sia_index.specs.Info.{AreWrittenKeys}
 use Rattle.sia_parts.specs.declared.cutting.Part.{Part}
 use Rattle.sia_parts.specs.declared.findings.Found.{Found}
@@ -35,7 +34,7 @@ returns-in-Ok g c =
     let owed = each_owed (λ (part : Part) (found : Found). (ks : List ℕ) → AreWrittenKeys h ks → IsFound h txns ks (IsInPart part) found) c.parts-parts.result.now c.in-Ok.crew.outs.items (search rules) (search rules) in
     ok_map _ (λ found. (keys : List ℕ) → AreWrittenKeys h keys → IsFound h txns keys (λ _. ⊤) found) c.gather_found.result
     (λ found f keys written. f h txns keys c.parts-parts.ensures.cutting.0 c.parts-parts.result.now c.requires.well_formed
-      (record { txns_are = rw (sym c.requires.index) c.requires.committed; keys_are = written })
-      c.parts-parts.ensures.cutting.1
-      (owed_too _ (λ (part : Part) (found : Found). IsFound h txns keys (IsInPart part) found) _ _ (λ part found is. is keys written) owed))
+    (record { txns_are = rw (sym c.requires.index) c.requires.committed; keys_are = written })
+    c.parts-parts.ensures.cutting.1
+    (owed_too _ (λ (part : Part) (found : Found). IsFound h txns keys (IsInPart part) found) _ _ (λ part found is. is keys written) owed))
     c.gather_found.ensures

@@ -1,4 +1,4 @@
-use Rattle.std.proofs.Common.{List, ℕ, map, refl, subst, sym}
+use Rattle.std.proofs.Common.{map, refl, subst, sym}
 use Rattle.sia_index.specs.Info.{AreWrittenKeys}
 use Rattle.sia_parts.specs.Packing.{unpacked}
 use Rattle.sia_graph.specs.Pivots.{ArePivots}

@@ -1,7 +1,7 @@
 use Rattle.std.proofs.Common.{ℕ, List, ◌++◌, drop, decimal, ap, sym, ◌∙◌, arith, rules}
 use Rattle.std.proofs.lemmas.Fmt.{length-decimal-le}
 use Rattle.sia_events.proofs.Decimals.{numeral_decimal}
-use Rattle.si_audit.proofs.edge_lines.put_number.Goals as goal
+use Rattle.si_audit.proofs.number_lines.put_number.Goals as goal
 
 pub write_digits-requires : goal.write_digits-requires
 write_digits-requires c = (omega (arith, length-decimal-le 10 c.from.result (omega arith) (omega arith) (omega arith)), search rules)
@@ -12,5 +12,5 @@ returns-clause-room c = let short = length-decimal-le 10 c.from.result (omega ar
 pub returns-clause-bytes : goal.returns-clause-bytes
 returns-clause-bytes c =
     c.write_digits.ensures.written
-    ∙ ap (λ (m : ℕ). decimal m ++ drop c.args.end c.args.line.now) c.from.ensures
-    ∙ ap (λ (bs : List ℕ). bs ++ drop c.args.end c.args.line.now) (sym (numeral_decimal c.args.n (omega arith)))
+    ∙ ap (λ (m : ℕ). decimal m ++ drop c.args.end c.args.block.now) c.from.ensures
+    ∙ ap (λ (bs : List ℕ). bs ++ drop c.args.end c.args.block.now) (sym (numeral_decimal c.args.n (omega arith)))

@@ -1,0 +1,22 @@
+use Rattle.std.proofs.Common.{◌≡◌, ◌++◌, ◌-◌, ℕ, List, flat_map, map, length, take, drop, ap, sym, ◌∙◌, append_assoc, take-append-drop}
+use Rattle.std.proofs.lemmas.List.{take_rest, map-append}
+use Rattle.std.proofs.lemmas.Grind.{flat_map-append}
+use Rattle.sia_parts.specs.Packing.{unpacked}
+use Rattle.si_audit.specs.Lines.{edge_line}
+use Rattle.si_audit.proofs.number_lines.push_numbers.Goals as goal
+
+-- the lines of the first numbers, and those of the rest
+pub loop-rest-preserved : goal.loop-rest-preserved
+loop-rest-preserved c =
+    let f = unpacked c.args.txns.now c.args.keys.now in
+    let rest = c.loop-rest.rest.now in
+    let front = flat_map edge_line (map f (take 16 rest)) in
+    let both : front ++ flat_map edge_line (map f (take (length rest - 16) (drop 16 rest))) ≡ flat_map edge_line (map f rest) =
+    ap (λ (es : List ℕ). front ++ flat_map edge_line (map f es)) (take_rest rest 16)
+    ∙ sym (flat_map-append edge_line (map f (take 16 rest)) (map f (drop 16 rest)))
+    ∙ ap (flat_map edge_line) (sym (map-append f (take 16 rest) (drop 16 rest)))
+    ∙ ap (λ (es : List ℕ). flat_map edge_line (map f es)) (take-append-drop 16 rest) in
+    ap (λ bs. bs ++ flat_map edge_line (map f (take (length rest - 16) (drop 16 rest)))) c.in_ok-push_block.ensures
+    ∙ append_assoc c.loop-rest.out.items front (flat_map edge_line (map f (take (length rest - 16) (drop 16 rest))))
+    ∙ ap (λ bs. c.loop-rest.out.items ++ bs) both
+    ∙ c.loop-rest.invariant

@@ -1,0 +1,236 @@
+// The lines of edges that are numbers. Many lines one after another have the same source, so that their first two words are
+// made once.
+ghost use Rattle.std.specs.Prelude.{◌≡◌, ◌+◌, ◌≤◌, ◌∷◌, ◌++◌, [], length, drop, flat_map, map, codes, OnOk, slice_index};
+ghost use Rattle.sia_events.specs.Text.{numeral};
+ghost use Rattle.sia_parts.specs.Packing.{source_number, unpacked};
+ghost use Rattle.si_audit.specs.Lines as lines;
+ghost use Rattle.si_audit.specs.Heads.{IsHead};
+
+use itoa::write_digits;
+use sia_events::{Key, TxnId};
+use sia_parts::{Edge, EdgeNumber, Kind, edge_of, source_of};
+use std::alloc::AllocError;
+
+/// How many lines are put together before they are appended.
+const LINES: usize = 16;
+
+/// Room for so many lines, of which the longest has less than 64 bytes.
+const ROOM: usize = 1024;
+
+/// Room for the first two words of a line, of which the longest have 15 bytes.
+const HEAD: usize = 16;
+
+/// The first two words of a line: they stand at the end of the bytes, from `start` on.
+#[derive(Clone, Copy)]
+pub struct Head {
+    pub source: usize,
+    pub start: usize,
+    pub bytes: [u8; HEAD],
+}
+
+/// The first two words of lines whose edges have this source.
+fn head_of(txns: &[TxnId], source: usize) -> Head
+    ensures head { IsHead txns.now result }
+    ensures source { result.source ≡ source }
+{
+    let mut bytes = [0; HEAD];
+    let digits = put_source(&mut bytes, txn_at(txns, source));
+    let start = put_edge_word(&mut bytes, digits);
+    Head {
+        source,
+        start,
+        bytes,
+    }
+}
+
+/// Puts the number at the end of the bytes. Answers where it starts.
+fn put_source(bytes: &mut [u8; HEAD], txn: TxnId) -> usize
+    ensures room { (result ≤ 16) × (16 ≤ result + 10) }
+    ensures bytes { drop result bytes.new ≡ numeral txn }
+{
+    write_digits(u64::from(txn), bytes, HEAD)
+}
+
+/// Puts the word and the space behind it right before `end`.
+fn put_edge_word(bytes: &mut [u8; HEAD], end: usize) -> usize
+    requires { (5 ≤ end) × (end ≤ 16) }
+    ensures room { result + 5 ≡ end }
+    ensures bytes { drop result bytes.new ≡ codes "edge " ++ drop end bytes.old }
+{
+    let start = end - 5;
+    bytes[start..end].copy_from_slice(b"edge ");
+    start
+}
+
+/// The transaction at the place.
+fn txn_at(txns: &[TxnId], place: usize) -> TxnId
+    ensures { result ≡ slice_index txns.now place }
+{
+    match txns.get(place) {
+        Some(txn) => *txn,
+        None => 0,
+    }
+}
+
+/// Puts the bytes right before `end`. Answers where they start.
+#[inline]
+fn put_slot(block: &mut [u8; ROOM], bytes: &[u8; HEAD], end: usize) -> usize
+    requires { (16 ≤ end) × (end ≤ 1024) }
+    ensures room { result + 16 ≡ end }
+    ensures bytes { drop result block.new ≡ bytes.now ++ drop end block.old }
+{
+    let start = end - HEAD;
+    block[start..end].copy_from_slice(bytes);
+    start
+}
+
+/// Puts the first two words right before `end`. Answers where they start.
+#[inline]
+fn put_head(block: &mut [u8; ROOM], head: &Head, end: usize) -> usize
+    requires end { (16 ≤ end) × (end ≤ 1024) }
+    requires start { head.now.start ≤ 16 }
+    ensures room { (result ≤ end) × (end ≤ result + 16) }
+    ensures bytes { drop result block.new ≡ drop head.now.start head.now.bytes ++ drop end block.old }
+{
+    let slot = put_slot(block, &head.bytes, end);
+    slot + head.start
+}
+
+/// The word of a kind of edge, with the spaces around it.
+fn word(kind: Kind) -> [u8; 4]
+    ensures { result ≡ 32 ∷ (lines.kind_word kind ++ 32 ∷ []) }
+{
+    match kind {
+        Kind::Ww => *b" ww ",
+        Kind::Wr => *b" wr ",
+        Kind::Rw => *b" rw ",
+    }
+}
+
+/// Puts the word of the kind of edge, with the spaces around it, right before `end`.
+#[inline]
+fn put_word(block: &mut [u8; ROOM], kind: Kind, end: usize) -> usize
+    requires { (4 ≤ end) × (end ≤ 1024) }
+    ensures room { result + 4 ≡ end }
+    ensures bytes { drop result block.new ≡ 32 ∷ (lines.kind_word kind ++ 32 ∷ drop end block.old) }
+{
+    let start = end - 4;
+    block[start..end].copy_from_slice(&word(kind));
+    start
+}
+
+/// Puts the byte right before `end`. Answers where it stands.
+#[inline]
+fn put_byte(block: &mut [u8; ROOM], byte: u8, end: usize) -> usize
+    requires { (1 ≤ end) × (end ≤ 1024) }
+    ensures room { result + 1 ≡ end }
+    ensures bytes { drop result block.new ≡ byte ∷ drop end block.old }
+{
+    block[end - 1] = byte;
+    end - 1
+}
+
+/// Puts the number right before `end`. Answers where it starts.
+#[inline]
+fn put_key(block: &mut [u8; ROOM], n: u64, end: usize) -> usize
+    requires { (20 ≤ end) × (end ≤ 1024) }
+    ensures room { (result ≤ end) × (end ≤ result + 20) }
+    ensures bytes { drop result block.new ≡ numeral n ++ drop end block.old }
+{
+    write_digits(n, block, end)
+}
+
+/// The same of a number with at most ten digits.
+#[inline]
+fn put_number(block: &mut [u8; ROOM], n: u32, end: usize) -> usize
+    requires { (10 ≤ end) × (end ≤ 1024) }
+    ensures room { (result ≤ end) × (end ≤ result + 10) }
+    ensures bytes { drop result block.new ≡ numeral n ++ drop end block.old }
+{
+    write_digits(u64::from(n), block, end)
+}
+
+/// Puts the whole line of the edge right before `end`. Answers where it starts.
+#[inline]
+fn put_line(block: &mut [u8; ROOM], txns: &[TxnId], e: Edge, head: &Head, end: usize) -> usize
+    requires end { (64 ≤ end) × (end ≤ 1024) }
+    requires head { IsHead txns.now head.now }
+    requires source { e.src ≡ slice_index txns.now head.now.source }
+    ensures room { (result ≤ end) × (end ≤ result + 64) }
+    ensures bytes { drop result block.new ≡ lines.edge_line e ++ drop end block.old }
+{
+    let end = put_byte(block, b'\n', end);
+    let end = put_key(block, e.key, end);
+    let end = put_byte(block, b' ', end);
+    let end = put_number(block, e.dst, end);
+    let end = put_word(block, e.kind, end);
+    put_head(block, head, end)
+}
+
+/// The head of the number's line: the one at hand, where it has the number's source.
+#[inline]
+fn head_for(txns: &[TxnId], n: EdgeNumber, head: Head) -> Head
+    requires { IsHead txns.now head }
+    ensures head { IsHead txns.now result }
+    ensures source { result.source ≡ source_number n }
+{
+    let source = source_of(n);
+    if head.source == source {
+        head
+    } else {
+        head_of(txns, source)
+    }
+}
+
+/// Puts the lines of the edges of some numbers at the end of the block. Answers where they start.
+#[inline]
+fn put_lines(block: &mut [u8; ROOM], txns: &[TxnId], keys: &[Key], numbers: &[EdgeNumber]) -> usize
+    requires { length numbers.now ≤ 16 }
+    ensures room { result ≤ 1024 }
+    ensures bytes { drop result block.new ≡ flat_map lines.edge_line (map (unpacked txns.now keys.now) numbers.now) }
+{
+    let mut head = head_of(txns, 0);
+    let mut end = ROOM;
+    let mut left = numbers.len();
+    while left > 0 {
+        left -= 1;
+        let n = numbers[left];
+        head = head_for(txns, n, head);
+        end = put_line(block, txns, edge_of(txns, keys, n), &head, end);
+    }
+    end
+}
+
+/// The edges of some numbers, by way of the block.
+#[inline]
+fn push_block(
+    out: &mut Vec<u8>,
+    block: &mut [u8; ROOM],
+    txns: &[TxnId],
+    keys: &[Key],
+    numbers: &[EdgeNumber],
+) -> Result<(), AllocError>
+    requires { length numbers.now ≤ 16 }
+    ensures { OnOk result (out.new.items ≡ out.old.items ++ flat_map lines.edge_line (map (unpacked txns.now keys.now) numbers.now)) }
+{
+    let start = put_lines(block, txns, keys, numbers);
+    out.extend_from_slice(&block[start..])
+}
+
+/// The edges of all numbers, each on a line.
+pub(crate) fn push_numbers(
+    out: &mut Vec<u8>,
+    txns: &[TxnId],
+    keys: &[Key],
+    numbers: &[EdgeNumber],
+) -> Result<(), AllocError>
+    ensures { OnOk result (out.new.items ≡ out.old.items ++ flat_map lines.edge_line (map (unpacked txns.now keys.now) numbers.now)) }
+{
+    let mut block = [0; ROOM];
+    let mut rest = numbers;
+    while rest.len() > LINES {
+        push_block(out, &mut block, txns, keys, &rest[..LINES])?;
+        rest = &rest[LINES..];
+    }
+    push_block(out, &mut block, txns, keys, rest)
+}
