@@ -167,36 +167,41 @@ fn put_line(block: &mut [u8; ROOM], txns: &[TxnId], e: Edge, head: &Head, end: u
     put_head(block, head, end)
 }
 
-/// The head of the number's line: the one at hand, where it has the number's source.
+/// Makes the head that of the number's line, where it isn't yet.
 #[inline]
-fn head_for(txns: &[TxnId], n: EdgeNumber, head: Head) -> Head
-    requires { IsHead txns.now head }
-    ensures head { IsHead txns.now result }
-    ensures source { result.source ≡ source_number n }
+fn renew(head: &mut Head, txns: &[TxnId], n: EdgeNumber)
+    requires { IsHead txns.now head.old }
+    ensures head { IsHead txns.now head.new }
+    ensures source { head.new.source ≡ source_number n }
 {
     let source = source_of(n);
-    if head.source == source {
-        head
-    } else {
-        head_of(txns, source)
+    if head.source != source {
+        *head = head_of(txns, source);
     }
 }
 
 /// Puts the lines of the edges of some numbers at the end of the block. Answers where they start.
 #[inline]
-fn put_lines(block: &mut [u8; ROOM], txns: &[TxnId], keys: &[Key], numbers: &[EdgeNumber]) -> usize
-    requires { length numbers.now ≤ 16 }
+fn put_lines(
+    block: &mut [u8; ROOM],
+    head: &mut Head,
+    txns: &[TxnId],
+    keys: &[Key],
+    numbers: &[EdgeNumber],
+) -> usize
+    requires few { length numbers.now ≤ 16 }
+    requires head { IsHead txns.now head.old }
+    ensures head { IsHead txns.now head.new }
     ensures room { result ≤ 1024 }
     ensures bytes { drop result block.new ≡ flat_map lines.edge_line (map (unpacked txns.now keys.now) numbers.now) }
 {
-    let mut head = head_of(txns, 0);
     let mut end = ROOM;
     let mut left = numbers.len();
     while left > 0 {
         left -= 1;
         let n = numbers[left];
-        head = head_for(txns, n, head);
-        end = put_line(block, txns, edge_of(txns, keys, n), &head, end);
+        renew(head, txns, n);
+        end = put_line(block, txns, edge_of(txns, keys, n), head, end);
     }
     end
 }
@@ -206,14 +211,17 @@ fn put_lines(block: &mut [u8; ROOM], txns: &[TxnId], keys: &[Key], numbers: &[Ed
 fn push_block(
     out: &mut Vec<u8>,
     block: &mut [u8; ROOM],
+    head: &mut Head,
     txns: &[TxnId],
     keys: &[Key],
     numbers: &[EdgeNumber],
 ) -> Result<(), AllocError>
-    requires { length numbers.now ≤ 16 }
-    ensures { OnOk result (out.new.items ≡ out.old.items ++ flat_map lines.edge_line (map (unpacked txns.now keys.now) numbers.now)) }
+    requires few { length numbers.now ≤ 16 }
+    requires head { IsHead txns.now head.old }
+    ensures head { IsHead txns.now head.new }
+    ensures pushed { OnOk result (out.new.items ≡ out.old.items ++ flat_map lines.edge_line (map (unpacked txns.now keys.now) numbers.now)) }
 {
-    let start = put_lines(block, txns, keys, numbers);
+    let start = put_lines(block, head, txns, keys, numbers);
     out.extend_from_slice(&block[start..])
 }
 
@@ -227,10 +235,11 @@ pub(crate) fn push_numbers(
     ensures { OnOk result (out.new.items ≡ out.old.items ++ flat_map lines.edge_line (map (unpacked txns.now keys.now) numbers.now)) }
 {
     let mut block = [0; ROOM];
+    let mut head = head_of(txns, 0);
     let mut rest = numbers;
     while rest.len() > LINES {
-        push_block(out, &mut block, txns, keys, &rest[..LINES])?;
+        push_block(out, &mut block, &mut head, txns, keys, &rest[..LINES])?;
         rest = &rest[LINES..];
     }
-    push_block(out, &mut block, txns, keys, rest)
+    push_block(out, &mut block, &mut head, txns, keys, rest)
 }

@@ -15,8 +15,10 @@ loop-rest-preserved c =
     ap (λ (es : List ℕ). front ++ flat_map edge_line (map f es)) (take_rest rest 16)
     ∙ sym (flat_map-append edge_line (map f (take 16 rest)) (map f (drop 16 rest)))
     ∙ ap (flat_map edge_line) (sym (map-append f (take 16 rest) (drop 16 rest)))
-    ∙ ap (λ (es : List ℕ). flat_map edge_line (map f es)) (take-append-drop 16 rest) in
-    ap (λ bs. bs ++ flat_map edge_line (map f (take (length rest - 16) (drop 16 rest)))) c.in_ok-push_block.ensures
-    ∙ append_assoc c.loop-rest.out.items front (flat_map edge_line (map f (take (length rest - 16) (drop 16 rest))))
-    ∙ ap (λ bs. c.loop-rest.out.items ++ bs) both
-    ∙ c.loop-rest.invariant
+    ∙ ap (λ (es : List ℕ). flat_map edge_line (map f es)) (take-append-drop 16 rest) in (
+      c.in_ok-push_block.ensures.head,
+      ap (λ bs. bs ++ flat_map edge_line (map f (take (length rest - 16) (drop 16 rest)))) c.in_ok-push_block.ensures.pushed
+          ∙ append_assoc c.loop-rest.out.items front (flat_map edge_line (map f (take (length rest - 16) (drop 16 rest))))
+          ∙ ap (λ bs. c.loop-rest.out.items ++ bs) both
+          ∙ c.loop-rest.invariant.1,
+    )
