@@ -12,10 +12,11 @@ use Rattle.sia_events.specs.Events.{actor}
 use Rattle.sia_events.specs.Lists.{ListsAscending}
 use Rattle.sia_events.specs.Places.{at_place}
 use Rattle.sia_events.specs.Refusals.{IsWellFormed}
-use Rattle.sia_events.specs.Transactions.{HasEvent, Wrote}
+use Rattle.sia_events.specs.Transactions.{HasEvent, IsCommitted, Wrote}
 use Rattle.sia_events.proofs.WellFormed.{few_events}
 use Rattle.sia_index.specs.Info.{IsKeyAt}
 use Rattle.sia_index.specs.Numbers.{IsTxnAt}
+use Rattle.sia_parts.specs.EdgeNumbers.{IsCommittedAt}
 use Rattle.sia_parts.proofs.Members.{contains_first, contains_later}
 
 equal_laws : IsEquivalence eqb
@@ -51,6 +52,13 @@ ascends P xs are i j d less below = elim (are.ascending i j d less below) [ inl 
 pub few_txns : (h : List Event) → IsWellFormed h → (i t : ℕ) → IsTxnAt h i t → i < 1048576
 few_txns h wf i t at =
     let le : length at.0 ≤ length h = few h actor at.0 (ascends (HasEvent h) at.0 at.1) (λ x c. let is = (at.1.each x).0 c in (is.0, is.1.0, is.1.1, is.1.2)) in
+    let most = few_events h wf in
+    let below = at.2 in
+    omega arith
+
+pub few_committed : (h : List Event) → IsWellFormed h → (i t : ℕ) → IsCommittedAt h i t → i < 1048576
+few_committed h wf i t at =
+    let le : length at.0 ≤ length h = few h actor at.0 (ascends (IsCommitted h) at.0 at.1) (λ x c. let is = (at.1.each x).0 c in (is.0, Commit x, is.1, refl)) in
     let most = few_events h wf in
     let below = at.2 in
     omega arith

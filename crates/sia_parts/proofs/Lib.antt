@@ -22,6 +22,7 @@ pub mod PartReads
 pub mod PackedEdges
 pub mod Widening
 pub mod FewNumbers
+pub mod Committing
 pub mod EndLemmas
 pub mod Giving
 pub mod FanEdges

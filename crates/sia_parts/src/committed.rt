@@ -1,8 +1,9 @@
 //! The committed transactions of a history, and the number of each among them.
-ghost use Rattle.std.specs.Prelude.{◌≡◌, ◌<◌, ℕ, IfOk, MatchOption, length, slice_index};
+ghost use Rattle.std.specs.Prelude.{◌≡◌, ◌≢◌, ◌↔◌, ◌<◌, ℕ, All, AllPairs, IfOk, IsTrue, MatchOption, length, slice_index};
 ghost use Rattle.sia_events.specs.Lists.{ListsAscending};
 ghost use Rattle.sia_events.specs.Refusals.{IsWellFormed};
 ghost use Rattle.sia_events.specs.Transactions.{HasEvent, IsCommitted};
+ghost use Rattle.sia_parts.specs.EdgeNumbers.{IsCommittedAt};
 
 use sia_events::{NoMemory, TxnId};
 use sia_index::{Fate, Index};
@@ -31,7 +32,16 @@ impl Committed {
         requires { IsWellFormed ix.now }
         ensures { IfOk result (λ committed. ListsAscending (IsCommitted ix.now) committed) }
     {
-        Err(NoMemory)
+        let txns = ix.txns();
+        let mut ids = Vec::with_capacity(alloc, txns.len())?;
+        let mut places = Vec::with_capacity(alloc, txns.len())?;
+        for i in 0..txns.len() {
+            places.push(u32::try_from(ids.len()).unwrap_or(u32::MAX))?;
+            if has_committed(ix, txns, i) {
+                ids.push(txns[i])?;
+            }
+        }
+        Ok(Committed { ids, places })
     }
 
     /// These transactions.
@@ -39,5 +49,64 @@ impl Committed {
         ensures { result.now ≡ self.now }
     {
         self.ids.as_slice()
+    }
+    /// The number of a transaction, if it committed.
+    pub(crate) fn number(&self, ix: &Index, t: TxnId) -> Option<u32>
+        requires well_formed { IsWellFormed ix.now }
+        requires committed { ListsAscending (IsCommitted ix.now) self.now }
+        ensures { MatchOption result (¬ IsCommitted ix.now t) (λ i. IsCommittedAt ix.now i t × (i < 1048576)) }
+    {
+        match find(self.ids.as_slice(), self.guess(ix, t), t) {
+            Some(i) => Some(i as u32),
+            None => None,
+        }
+    }
+
+    // Where it may stand.
+    fn guess(&self, ix: &Index, t: TxnId) -> usize {
+        match ix.txn_number(t) {
+            Some(number) => match self.places.get(number) {
+                Some(place) => *place as usize,
+                None => 0,
+            },
+            None => 0,
+        }
+    }
+}
+
+// Whether number `i` of all transactions, counted from 0, committed.
+fn has_committed(ix: &Index, txns: &[TxnId], i: usize) -> bool
+    requires well_formed { IsWellFormed ix.now }
+    requires txns { ListsAscending (HasEvent ix.now) txns.now }
+    requires within { i < length txns.now }
+    ensures { IsTrue result ↔ IsCommitted ix.now (slice_index txns.now i) }
+{
+    let _ = txns;
+    match ix.txn_at(i).fate {
+        Fate::Committed => true,
+        Fate::Aborted => false,
+        Fate::Unfinished => false,
+    }
+}
+
+// Where the transaction stands among these. It may be at this place.
+fn find(ids: &[TxnId], at: usize, t: TxnId) -> Option<usize>
+    requires { AllPairs (λ x y. x < y) ids.now }
+    ensures { MatchOption result (All (λ id. id ≢ t) ids.now) (λ i. (i < length ids.now) × (slice_index ids.now i ≡ t)) }
+{
+    if at < ids.len() && ids[at] == t {
+        return Some(at);
+    }
+    search(ids, t)
+}
+
+// The same, by a search.
+fn search(ids: &[TxnId], t: TxnId) -> Option<usize>
+    requires { AllPairs (λ x y. x < y) ids.now }
+    ensures { MatchOption result (All (λ id. id ≢ t) ids.now) (λ i. (i < length ids.now) × (slice_index ids.now i ≡ t)) }
+{
+    match ids.binary_search(&t) {
+        Ok(i) => Some(i),
+        Err(_) => None,
     }
 }
