@@ -9,22 +9,18 @@ use Rattle.std.proofs.lemmas.List.Elements.{Contains-get_or}
 use Rattle.std.proofs.lemmas.Map.Keys.{Less-from_sorted}
 use Rattle.sia_events.specs.declared.event.Event.{Event}
 use Rattle.sia_events.specs.Lists.{Precedes}
-use Rattle.sia_events.specs.Transactions.{HasEvent, Wrote}
+use Rattle.sia_events.specs.Transactions.{IsCommitted, Wrote}
 use Rattle.sia_index.specs.Info.{IsKeyAt}
-use Rattle.sia_index.specs.Numbers.{IsTxnAt}
+use Rattle.sia_parts.specs.EdgeNumbers.{IsCommittedAt}
 use Rattle.sia_index.proofs.Ordered.{ascends, precedes_last, precedes_then}
 use Rattle.sia_index.proofs.KeyChains.{key_number}
 use Rattle.sia_index.proofs.ReadTables.{PointBelow, point_below, point_from, part_has, part_gives}
 use Rattle.sia_parts.specs.declared.ends.End.{End}
 use Rattle.sia_parts.specs.declared.spans.Span.{Span}
 use Rattle.sia_parts.specs.Ends.{IsEndOf, RisesByRank, IsRankPlace, end_rank}
-use Rattle.sia_parts.proofs.PackedEdges.{txn_number}
+use Rattle.sia_parts.proofs.Committing.{committed_number}
 
--- a transaction with a number has an event
-pub at_has_event : (h : List Event) (i t : ℕ) → IsTxnAt h i t → HasEvent h t
-at_has_event h i t at = subst (HasEvent h) at.3 ((at.1.each (slice_index at.0 i)).0 (Contains-get_or at.0 i 0 at.2))
-
--- and a key with one is written
+-- a key with a number is written
 pub at_is_written : (h : List Event) (i k : ℕ) → IsKeyAt h i k → (t : ℕ) × Wrote h t k
 at_is_written h i k at = subst (λ k. (t : ℕ) × Wrote h t k) at.3 ((at.1.each (slice_index at.0 i)).0 (Contains-get_or at.0 i 0 at.2))
 
@@ -39,10 +35,10 @@ one_place xs up i j t below first under second = elim (cases_lt i j) [
 ]
 
 -- so each transaction and each key has one number
-pub one_txn_number : (h : List Event) (i j t : ℕ) → IsTxnAt h i t → IsTxnAt h j t → i ≡ j
-one_txn_number h i j t at other =
-    let there = txn_number h at.0 at.1 j t other in
-    one_place at.0 (ascends (λ (x : ℕ). x) (HasEvent h) at.0 at.1) i j t at.2 at.3 there.0 there.1
+pub one_committed_number : (h : List Event) (i j t : ℕ) → IsCommittedAt h i t → IsCommittedAt h j t → i ≡ j
+one_committed_number h i j t at other =
+    let there = committed_number h at.0 at.1 j t other in
+    one_place at.0 (ascends (λ (x : ℕ). x) (IsCommitted h) at.0 at.1) i j t at.2 at.3 there.0 there.1
 
 pub one_key_number : (h : List Event) (i j k : ℕ) → IsKeyAt h i k → IsKeyAt h j k → i ≡ j
 one_key_number h i j k at other =
@@ -55,7 +51,7 @@ one_end h span x y is other =
     let key = is.key_is ∙ sym other.key_is in
     let high = is.high_is ∙ sym other.high_is in
     let low = is.low_is ∙ sym other.low_is in
-    let txn = one_txn_number h x.txn y.txn span.txn is.txn_at other.txn_at in
+    let txn = one_committed_number h x.txn y.txn span.txn is.txn_at other.txn_at in
     let number = one_key_number h x.number y.number span.key is.number_at other.number_at in
     λ i. record { key = key i; high = high i; low = low i; txn = txn i; number = number i }
 

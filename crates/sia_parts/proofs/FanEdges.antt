@@ -1,18 +1,17 @@
--- The edges of fans: run by run, each in order, and each behind those before it.
-use Rattle.std.proofs.Common.{◌≡◌, ◌⊎◌, inl, inr, ℕ, ◌+◌, ◌-◌, ◌<◌, ◌≤◌, List, [], ◌++◌, length, map, take, length-append, length-take, ap, sym, subst, ◌∙◌, arith}
-use Rattle.std.specs.Prelude.{◌↔◌, Contains, slice_range, slice_index_or}
+-- The numbers of fans: run by run, each in order, and each behind those before it.
+use Rattle.std.proofs.Common.{◌≡◌, ◌⊎◌, inl, inr, ℕ, ◌+◌, ◌-◌, ◌<◌, ◌≤◌, List, [], ◌∷◌, ◌++◌, length, map, take, length-append, length-take, ap, sym, subst, ◌∙◌, arith}
+use Rattle.std.specs.Prelude.{◌↔◌, AllPairs, Contains, slice_range, slice_index_or}
+use Rattle.std.specs.Ordering.{nat_cmp}
+use Rattle.std.specs.List.Sorted.{IsStrictlySortedBy}
+use Rattle.std.proofs.lemmas.Map.Keys.{Less-from_sorted}
+use Rattle.sia_index.proofs.Ordered.{precedes_last}
 use Rattle.std.proofs.lemmas.Bool.{cases_lt}
 use Rattle.std.proofs.lemmas.List.{get_or_append_left, get_or-append-add, get_or-map, length-map, get_or-take}
 use Rattle.std.proofs.lemmas.List.Elements.{Contains-get_or, Contains-append_left, Contains-append_right, Contains-append_cases}
 use Rattle.sia_events.specs.Lists.{Precedes}
 use Rattle.sia_index.proofs.ReadTables.{part_has, part_gives}
-use Rattle.sia_parts.specs.declared.ends.End.{End}
-use Rattle.sia_parts.specs.declared.fans.Fan.{Fan}
-use Rattle.sia_parts.specs.declared.finding.Edge.{Edge}
 use Rattle.sia_parts.specs.Merging.{IsAscending}
-use Rattle.sia_parts.specs.Packing.{unpacked}
 use Rattle.sia_parts.specs.Sights.{Adds, FromSome}
-use Rattle.sia_parts.specs.Fans.{IsFanNumber, IsFanEdge}
 use Rattle.sia_parts.proofs.Adding.{FromFirst, adds_same, adds_both}
 use Rattle.sia_parts.proofs.Ranks.{Precedes-trans}
 
@@ -50,9 +49,27 @@ module _ {A : Type 0} (rank : A → List ℕ) (xs ys : List A) (up : IsAscending
         ]
   ]
 
--- as an empty list does
-pub none_ascend : {A : Type 0} (rank : A → List ℕ) → IsAscending rank []
-none_ascend rank i j d less below = absurd (omega arith)
+-- numbers that rise, sorted or none
+pub sorted_rise : (xs : List ℕ) → IsStrictlySortedBy nat_cmp xs → AllPairs (λ m n. m < n) xs
+sorted_rise xs sorted i j d less below = elim (precedes_last (slice_index_or xs i d) (slice_index_or xs j d) (Less-from_sorted nat_cmp xs i j d sorted less below)) [ inl under ↦ under | inr never ↦ absurd never.1 ]
+
+pub none_rise : AllPairs (λ (m n : ℕ). m < n) []
+none_rise i j d less below = absurd (omega arith)
+
+-- and numbers that rise behind others
+pub joined_rise : (xs ys : List ℕ) → AllPairs (λ m n. m < n) xs → AllPairs (λ m n. m < n) ys → ((d e : ℕ) → 0 < length xs → 0 < length ys → slice_index_or xs (length xs - 1) d < slice_index_or ys 0 e) → AllPairs (λ m n. m < n) (xs ++ ys)
+joined_rise xs ys up more next i j d less below =
+    elim (joined_ascend (λ (n : ℕ). n ∷ []) xs ys (λ a b e l u. inl (up a b e l u)) (λ a b e l u. inl (more a b e l u)) (λ a b s t. inl (next a b s t)) i j d less below) [ inl under ↦ under | inr never ↦ absurd never.1 ]
+
+-- a run's numbers, put behind those before
+pub run_adds : (P : ℕ → Type 0) (run old : List ℕ) → ((n : ℕ) → Contains run n ↔ P n) → Adds P old (old ++ run)
+run_adds P run old are n = (
+  (λ c. elim (Contains-append_cases old run n c) [ inl before ↦ inl before | inr here ↦ inr ((are n).0 here) ]),
+  (λ either. elim either [
+    | inl before ↦ Contains-append_left old run n before
+    | inr is ↦ Contains-append_right old run n ((are n).1 is)
+  ]),
+)
 
 -- what a list's numbers stand for
 module _ {A B : Type 0} (f : A → B) (ns : List A) where
@@ -63,23 +80,6 @@ module _ {A B : Type 0} (f : A → B) (ns : List A) where
 
   pub map_in : (n : A) (e : B) → Contains ns n → f n ≡ e → Contains (map f ns) e
   map_in n e c is = (c.0, (let b = c.1 in omega (arith, length-map ns f)), get_or-map f ns c.0 n e c.1 ∙ ap f c.2 ∙ is)
-
-module _ (txns keys : List ℕ) (makers readers : List End) where
-  -- the edges of a run's numbers, put behind those before
-  pub run_adds : (fans : List Fan) (numbers : List ℕ) (old : List Edge) → ((n : ℕ) → Contains numbers n ↔ FromSome (IsFanNumber makers readers) fans n) → Adds (FromSome (IsFanEdge txns keys makers readers) fans) old (old ++ map (unpacked txns keys) numbers)
-  run_adds fans numbers old are e = (
-    (λ c. elim (Contains-append_cases old (map (unpacked txns keys) numbers) e c) [
-      | inl before ↦ inl before
-      | inr here ↦
-          let at = in_map (unpacked txns keys) numbers e 0 here in
-          let of = (are at.0).0 at.1 in
-          inr (of.0, of.1, (at.0, of.2, at.2))
-    ]),
-    (λ either. elim either [
-      | inl before ↦ Contains-append_left old (map (unpacked txns keys) numbers) e before
-      | inr f ↦ Contains-append_right old (map (unpacked txns keys) numbers) e (map_in (unpacked txns keys) numbers f.2.0 e ((are f.2.0).1 (f.0, f.1, f.2.1)) f.2.2)
-    ]),
-  )
 
 -- what the first things give, and what a stretch of the next ones gives
 module _ {A B : Type 0} (P : A → B → Type 0) (xs : List A) (from to : ℕ) (le : from ≤ to) (bound : to ≤ length xs) where
@@ -103,7 +103,3 @@ module _ {A B : Type 0} (P : A → B → Type 0) (xs : List A) (from to : ℕ) (
         | inr more ↦ inr (f.0, part_has xs from to le bound at.0 f.0 more at.1 at.2, f.2)
       ])
       (adds_both (FromFirst P xs from) (FromSome P (slice_range xs from to)) old mid new before here)
-
-  -- what a stretch gives, the whole gives
-  pub of_run : (y : B) → FromSome P (slice_range xs from to) y → FromSome P xs y
-  of_run y f = let at = part_gives xs from to le bound f.0 f.1 in (f.0, (at.0, (let less = at.2 in omega arith), at.3), f.2)

@@ -1,19 +1,19 @@
 -- The numbers of the fans stand for the edges of the part.
 use Rattle.std.proofs.Common.{◌≡◌, ◌≢◌, ◌⊎◌, inl, inr, ℕ, ◌+◌, ◌*◌, ◌<◌, ◌≤◌, List, refl, ap, sym, subst, ◌∙◌, arith}
-use Rattle.std.specs.Prelude.{◌↔◌, All, Contains, slice_index, slice_index_or}
+use Rattle.std.specs.Prelude.{◌↔◌, All, AllPairs, Contains, slice_index, slice_index_or}
 use Rattle.std.proofs.lemmas.List.{get_or_default}
 use Rattle.std.proofs.lemmas.List.Elements.{Contains-get_or}
 use Rattle.sia_events.specs.declared.event.Event.{Event}
 use Rattle.sia_events.specs.declared.event.Event.TheVariants.{Commit}
 use Rattle.sia_events.specs.Lists.{ListsAscending}
 use Rattle.sia_events.specs.Refusals.{IsWellFormed}
-use Rattle.sia_events.specs.Transactions.{HasEvent, CommitsAt, Wrote}
+use Rattle.sia_events.specs.Transactions.{IsCommitted, CommitsAt, Wrote}
 use Rattle.sia_events.proofs.TransactionDecisions.{place_within}
 use Rattle.sia_events.proofs.WellFormed.{few_events, one_commit}
 use Rattle.sia_index.specs.declared.info.KeyVersion.{KeyVersion}
 use Rattle.sia_index.specs.Info.{AreVersionsWithin, AreWrittenKeys, IsKeyAt}
-use Rattle.sia_index.specs.Numbers.{IsTxnAt}
 use Rattle.sia_index.proofs.KeyChains.{key_number}
+use Rattle.sia_index.proofs.Ordered.{ascends}
 use Rattle.sia_parts.specs.declared.cutting.Part.{Part}
 use Rattle.sia_parts.specs.declared.ends.End.{End}
 use Rattle.sia_parts.specs.declared.finding.Edge.{Edge}
@@ -21,6 +21,7 @@ use Rattle.sia_parts.specs.declared.finding.Kind.{Kind}
 use Rattle.sia_parts.specs.declared.finding.Kind.TheVariants.{Ww, Wr, Rw}
 use Rattle.sia_parts.specs.declared.gaps.Gap.{Gap}
 use Rattle.sia_parts.specs.declared.spans.Span.{Span}
+use Rattle.sia_parts.specs.EdgeNumbers.{IsCommittedAt, AreEdgeNumbers}
 use Rattle.sia_parts.specs.Entries.{IsEdge, kind_number}
 use Rattle.sia_parts.specs.Gaps.{FromGap}
 use Rattle.sia_parts.specs.Packing.{IsPacked, Packs, unpacked}
@@ -28,9 +29,11 @@ use Rattle.sia_parts.specs.Parts.{IsInPart}
 use Rattle.sia_parts.specs.Sights.{AreSpans, FromSome, FromMade, IsAsOf, IsWrEdge, IsRwEdge, PartPair}
 use Rattle.sia_parts.specs.Ends.{HasDigits, IsEndOf, IsEndOfVersion, IsNumberTo, IsNumberWithin, end_rank, rank_of}
 use Rattle.sia_parts.specs.Fans.{IsFound, IsReaderNumber, IsGapNumber}
-use Rattle.sia_parts.proofs.EndLemmas.{one_txn_number}
-use Rattle.sia_parts.proofs.FewNumbers.{few_txns, few_keys}
-use Rattle.sia_parts.proofs.PackedEdges.{txn_number, packs}
+use Rattle.sia_parts.proofs.EndLemmas.{one_committed_number}
+use Rattle.sia_parts.proofs.FewNumbers.{few_committed, few_keys}
+use Rattle.sia_parts.proofs.Committing.{committed_number}
+use Rattle.sia_parts.proofs.PackedEdges.{packs, unpacked_ascend}
+use Rattle.sia_parts.proofs.FanEdges.{in_map, map_in}
 use Rattle.sia_parts.proofs.Sources.{edges_are}
 
 -- the span of a version
@@ -42,8 +45,8 @@ pub same_key : (key from : ℕ) (x : End) → rank_of key from ≤ end_rank x �
 same_key key from x low high fits = omega arith
 
 module _ (h : List Event) (wf : IsWellFormed h) where
-  commit_has : (t c : ℕ) → CommitsAt h t c → HasEvent h t
-  commit_has t c at = (c, (Commit t, at, refl))
+  commit_has : (t c : ℕ) → CommitsAt h t c → IsCommitted h t
+  commit_has t c at = (c, at)
 
   commit_fits : (t c : ℕ) → CommitsAt h t c → c < 4294967296
   commit_fits t c at = let within = (place_within h c (Commit t) at).1 in let few = few_events h wf in omega arith
@@ -53,16 +56,19 @@ module _ (h : List Event) (wf : IsWellFormed h) where
   as_of_fits v c (inr at) = commit_fits v c at
 
   pub has_digits : (span : Span) (end : End) → IsEndOf h span end → HasDigits end
-  has_digits span end is = (few_txns h wf end.txn span.txn is.txn_at, few_keys h wf end.number span.key is.number_at)
+  has_digits span end is = (few_committed h wf end.txn span.txn is.txn_at, few_keys h wf end.number span.key is.number_at)
 
-  module _ (txns keys : List ℕ) (txns_are : ListsAscending (HasEvent h) txns) (keys_are : AreWrittenKeys h keys) where
-    numbered_txn : (t : ℕ) → HasEvent h t → (i : ℕ) × IsTxnAt h i t
+  pub digits_of : (ends : List End) → ((end : End) → Contains ends end → (span : Span) × IsEndOf h span end) → All HasDigits ends
+  digits_of ends are k d below = let of = are (slice_index_or ends k d) (Contains-get_or ends k d below) in has_digits of.0 (slice_index_or ends k d) of.1
+
+  module _ (txns keys : List ℕ) (txns_are : ListsAscending (IsCommitted h) txns) (keys_are : AreWrittenKeys h keys) where
+    numbered_txn : (t : ℕ) → IsCommitted h t → (i : ℕ) × IsCommittedAt h i t
     numbered_txn t has = let c = (txns_are.each t).1 has in (c.0, (txns, txns_are, c.1, get_or_default txns c.0 0 t c.1 ∙ c.2))
 
     numbered_key : (k t : ℕ) → Wrote h t k → (i : ℕ) × IsKeyAt h i k
     numbered_key k t wrote = let c = (keys_are.each k).1 (t, wrote) in (c.0, (keys, keys_are, c.1, get_or_default keys c.0 0 k c.1 ∙ c.2))
 
-    end_of_span : (span : Span) (t : ℕ) → HasEvent h span.txn → Wrote h t span.key → span.high < 4294967296 → (end : End) × IsEndOf h span end
+    end_of_span : (span : Span) (t : ℕ) → IsCommitted h span.txn → Wrote h t span.key → span.high < 4294967296 → (end : End) × IsEndOf h span end
     end_of_span span t has wrote fits =
         let i = numbered_txn span.txn has in
         let j = numbered_key span.key t wrote in (
@@ -71,38 +77,26 @@ module _ (h : List Event) (wf : IsWellFormed h) where
         )
 
     -- the number of an edge to an end stands for the edge
-    number_packs : (src t : ℕ) (kind : Kind) (span : Span) (end : End) (n : ℕ) → IsTxnAt h src t → IsEndOf h span end → IsNumberTo src kind end n → Packs txns keys (record { src = t; dst = span.txn; kind = kind; key = span.key }) n
+    number_packs : (src t : ℕ) (kind : Kind) (span : Span) (end : End) (n : ℕ) → IsCommittedAt h src t → IsEndOf h span end → IsNumberTo src kind end n → Packs txns keys (record { src = t; dst = span.txn; kind = kind; key = span.key }) n
     number_packs src t kind span end n at is number =
         packs txns keys (record { src = t; dst = span.txn; kind = kind; key = span.key }) src end.txn end.number n
-        (txn_number h txns txns_are src t at) (txn_number h txns txns_are end.txn span.txn is.txn_at) (key_number h keys keys_are end.number span.key is.number_at) number.1
+        (committed_number h txns txns_are src t at) (committed_number h txns txns_are end.txn span.txn is.txn_at) (key_number h keys keys_are end.number span.key is.number_at) number.1
 
     -- and each edge to an end has one
-    number_of : (src t : ℕ) (kind : Kind) (span : Span) (end : End) → IsTxnAt h src t → IsEndOf h span end → span.txn ≢ t → (n : ℕ) × IsNumberTo src kind end n
+    number_of : (src t : ℕ) (kind : Kind) (span : Span) (end : End) → IsCommittedAt h src t → IsEndOf h span end → span.txn ≢ t → (n : ℕ) × IsNumberTo src kind end n
     number_of src t kind span end at is other =
         let few = has_digits span end is in (
           ((src * 1048576 + end.txn) * 4 + kind_number kind) * 1048576 + end.number,
           (
             (λ same. other (sym (at_txn end.txn span.txn is.txn_at) ∙ ap (slice_index txns) same ∙ at_txn src t at)),
-            record { source = few_txns h wf src t at; target = few.0; key_below = few.1; sum = refl },
+            record { source = few_committed h wf src t at; target = few.0; key_below = few.1; sum = refl },
           ),
         )
       where
-        at_txn : (i u : ℕ) → IsTxnAt h i u → slice_index txns i ≡ u
-        at_txn i u at = (txn_number h txns txns_are i u at).1
+        at_txn : (i u : ℕ) → IsCommittedAt h i u → slice_index txns i ≡ u
+        at_txn i u at = (committed_number h txns txns_are i u at).1
 
     module _ (part : Part) (versions : List KeyVersion) (spans : List Span) (gaps : List Gap) (versions_are : AreVersionsWithin h part.lo part.hi versions) (spans_are : AreSpans h part spans gaps) (makers readers : List End) (makers_are : (end : End) → Contains makers end ↔ FromSome (IsEndOfVersion h) versions end) (readers_are : (end : End) → Contains readers end ↔ FromSome (IsEndOf h) spans end) where
-      pub makers_digits : All HasDigits makers
-      makers_digits k d below =
-          let end = slice_index_or makers k d in
-          let of = (makers_are end).0 (Contains-get_or makers k d below) in
-          has_digits (as_span of.0) end of.2
-
-      pub readers_digits : All HasDigits readers
-      readers_digits k d below =
-          let end = slice_index_or readers k d in
-          let of = (readers_are end).0 (Contains-get_or readers k d below) in
-          has_digits of.0 end of.2
-
       -- the edges that the numbers stand for
       abbrev pub IsNamed : Edge → Type 0
       IsNamed e = (PartPair h part e ⊎ FromSome (FromMade h) spans e) ⊎ FromSome (FromGap h) gaps e
@@ -163,7 +157,7 @@ module _ (h : List Event) (wf : IsWellFormed h) where
                 record { txn = v.txn; commit = v.commit },
                 (subst (Wrote h v.txn) same first.2, first.3),
                 (
-                  (λ one. w.4.0 (one_txn_number h w.0.txn end.txn span.txn second.2.txn_at (subst (IsTxnAt h end.txn) one first.1.txn_at))),
+                  (λ one. w.4.0 (one_committed_number h w.0.txn end.txn span.txn second.2.txn_at (subst (IsCommittedAt h end.txn) one first.1.txn_at))),
                   inl ((let le : v.commit ≤ span.high = omega arith in le), refl),
                 ),
               ),
@@ -190,7 +184,7 @@ module _ (h : List Event) (wf : IsWellFormed h) where
                 record { txn = v.txn; commit = v.commit },
                 (subst (Wrote h v.txn) same second.2, second.3),
                 (
-                  (λ one. w.4.0 (one_txn_number h w.0.txn end.txn span.txn (subst (IsTxnAt h w.0.txn) one second.1.txn_at) first.2.txn_at)),
+                  (λ one. w.4.0 (one_committed_number h w.0.txn end.txn span.txn (subst (IsCommittedAt h w.0.txn) one second.1.txn_at) first.2.txn_at)),
                   inr ((let less : span.low < v.commit = omega arith in less), (λ i. record { src = span.txn; dst = v.txn; kind = Rw; key = same i })),
                 ),
               ),
@@ -216,7 +210,7 @@ module _ (h : List Event) (wf : IsWellFormed h) where
                 second.3,
                 (let le : gap.lo ≤ v.key = omega arith in le),
                 (let le : v.key ≤ gap.hi = omega arith in le),
-                ((λ one. w.4.0 (one_txn_number h w.0.txn src gap.txn (subst (IsTxnAt h w.0.txn) one second.1.txn_at) at)), refl),
+                ((λ one. w.4.0 (one_committed_number h w.0.txn src gap.txn (subst (IsCommittedAt h w.0.txn) one second.1.txn_at) at)), refl),
               ),
             ),
           )
@@ -326,3 +320,20 @@ module _ (h : List Event) (wf : IsWellFormed h) where
           | inr gap ↦ gap_met e gap
         ]),
       )
+
+      -- so numbers that rise, and are those found, stand for the edges
+      pub numbers_stand : (numbers : List ℕ) → AllPairs (λ m n. m < n) numbers → ((n : ℕ) → Contains numbers n ↔ IsFound h makers readers gaps n) → AreEdgeNumbers h txns keys (IsInPart part) numbers
+      numbers_stand numbers rise are = record {
+        each = packed;
+        ascending = rise;
+        edges = record {
+          ascending = unpacked_ascend txns keys (ascends (λ (t : ℕ). t) (IsCommitted h) txns txns_are) (ascends (λ (k : ℕ). k) (λ k. (t : ℕ) × Wrote h t k) keys keys_are) numbers packed rise;
+          each = λ e. (
+            (λ c. let at = in_map (unpacked txns keys) numbers e 0 c in (edges_met e).0 (at.0, (are at.0).0 at.1, at.2)),
+            (λ edge. let m = (edges_met e).1 edge in map_in (unpacked txns keys) numbers m.0 e ((are m.0).1 m.1) m.2),
+          );
+        };
+      }
+        where
+          packed : All (IsPacked txns keys) numbers
+          packed k d below = found_packed (slice_index_or numbers k d) ((are (slice_index_or numbers k d)).0 (Contains-get_or numbers k d below))

@@ -137,15 +137,15 @@ module _ (txns keys : List ℕ) (txns_up : AllPairs (λ x y. x < y) txns) (keys_
             )
       ]
 
-  -- so sorted numbers stand for edges in order
-  pub unpacked_ascend : (numbers : List ℕ) → All (IsPacked txns keys) numbers → IsStrictlySortedBy nat_cmp numbers → IsAscending edge_rank (map (unpacked txns keys) numbers)
-  unpacked_ascend numbers each sorted i j d less below =
+  -- so numbers that rise stand for edges in order
+  pub unpacked_ascend : (numbers : List ℕ) → All (IsPacked txns keys) numbers → AllPairs (λ m n. m < n) numbers → IsAscending edge_rank (map (unpacked txns keys) numbers)
+  unpacked_ascend numbers each rise i j d less below =
       let in_numbers : j < length numbers = omega (arith, length-map numbers (unpacked txns keys)) in
       let n = slice_index_or numbers i 0 in
       let m = slice_index_or numbers j 0 in
       let first = get_or-map (unpacked txns keys) numbers i 0 d (omega arith) in
       let second = get_or-map (unpacked txns keys) numbers j 0 d in_numbers in
-      let under : n < m = elim (precedes_last n m (Less-from_sorted nat_cmp numbers i j 0 sorted less in_numbers)) [ inl l ↦ l | inr same ↦ absurd same.1 ] in
+      let under : n < m = rise i j 0 less in_numbers in
       let before = unpacked_before n m (each i 0 (omega arith)) (each j 0 in_numbers) under in
       subst (λ e. Precedes (edge_rank e) (edge_rank (slice_index_or (map (unpacked txns keys) numbers) j d))) (sym first) (subst (λ e. Precedes (edge_rank (unpacked txns keys n)) (edge_rank e)) (sym second) before)
 

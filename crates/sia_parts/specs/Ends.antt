@@ -2,16 +2,16 @@
 use Rattle.std.specs.Prelude.{◌≡◌, ◌≢◌, ℕ, ◌+◌, ◌*◌, ◌<◌, ◌≤◌, List, Contains, length, slice_index_or}
 use Rattle.sia_events.specs.declared.event.Event.{Event}
 use Rattle.sia_index.specs.Info.{IsKeyAt}
-use Rattle.sia_index.specs.Numbers.{IsTxnAt}
 use Rattle.sia_parts.specs.declared.ends.End.{End}
 use Rattle.sia_parts.specs.declared.finding.Kind.{Kind}
 use Rattle.sia_parts.specs.declared.spans.Span.{Span}
 use Rattle.sia_index.specs.declared.info.KeyVersion.{KeyVersion}
+use Rattle.sia_parts.specs.EdgeNumbers.{IsCommittedAt}
 use Rattle.sia_parts.specs.Packing.{AreDigits}
 
 -- the end of a span
 pub record IsEndOf (h : List Event) (span : Span) (end : End) : Type 0 where
-  pub txn_at : IsTxnAt h end.txn span.txn
+  pub txn_at : IsCommittedAt h end.txn span.txn
   pub number_at : IsKeyAt h end.number span.key
   pub key_is : end.key ≡ span.key
   pub high_is : end.high ≡ span.high

@@ -1,15 +1,13 @@
 -- Fans: edges of one kind from one transaction, as stretches of ends.
 use Rattle.std.specs.Prelude.{◌≡◌, ◌⊎◌, ◌↔◌, ℕ, ◌+◌, ◌≤◌, List, length, slice_range}
 use Rattle.sia_events.specs.declared.event.Event.{Event}
-use Rattle.sia_index.specs.Numbers.{IsTxnAt}
 use Rattle.sia_parts.specs.declared.ends.End.{End}
 use Rattle.sia_parts.specs.declared.fans.Fan.{Fan}
-use Rattle.sia_parts.specs.declared.finding.Edge.{Edge}
 use Rattle.sia_parts.specs.declared.finding.Kind.{Kind}
 use Rattle.sia_parts.specs.declared.finding.Kind.TheVariants.{Ww, Wr, Rw}
 use Rattle.sia_parts.specs.declared.gaps.Gap.{Gap}
+use Rattle.sia_parts.specs.EdgeNumbers.{IsCommittedAt}
 use Rattle.sia_parts.specs.Ends.{IsNumberTo, IsNumberWithin, end_rank, rank_of}
-use Rattle.sia_parts.specs.Packing.{unpacked}
 use Rattle.sia_parts.specs.Sights.{FromSome}
 
 -- the ends that edges of the kind lead to
@@ -22,10 +20,6 @@ ends_for makers readers Rw = makers
 abbrev pub IsFanNumber : List End → List End → Fan → ℕ → Type 0
 IsFanNumber makers readers fan n = (fan.from ≤ fan.to) × (fan.to ≤ length (ends_for makers readers fan.kind))
     × FromSome (IsNumberTo fan.src fan.kind) (slice_range (ends_for makers readers fan.kind) fan.from fan.to) n
-
--- e is an edge of the fan
-abbrev pub IsFanEdge : List ℕ → List ℕ → List End → List End → Fan → Edge → Type 0
-IsFanEdge txns keys makers readers fan e = (n : ℕ) × IsFanNumber makers readers fan n × (unpacked txns keys n ≡ e)
 
 -- the new fans have the numbers of the old ones, and those that have P, and no others
 abbrev pub Gives : List End → List End → (ℕ → Type 0) → List Fan → List Fan → Type 0
@@ -42,7 +36,7 @@ IsReaderNumber makers end n = IsNumberWithin makers (rank_of end.key end.low + 1
 
 -- an edge of a gap: to a version of one of its keys
 abbrev pub IsGapNumber : List Event → List End → Gap → ℕ → Type 0
-IsGapNumber h makers gap n = (src : ℕ) × IsTxnAt h src gap.txn × IsNumberWithin makers (rank_of gap.lo 0) (rank_of (gap.hi + 1) 0) src Rw n
+IsGapNumber h makers gap n = (src : ℕ) × IsCommittedAt h src gap.txn × IsNumberWithin makers (rank_of gap.lo 0) (rank_of (gap.hi + 1) 0) src Rw n
 
 -- any of these
 abbrev pub IsFound : List Event → List End → List End → List Gap → ℕ → Type 0

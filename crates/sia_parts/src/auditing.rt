@@ -7,12 +7,14 @@ ghost use Rattle.sia_parts.specs.Findings.{ArePartFindings, ListsBadReads, Lists
 ghost use Rattle.sia_parts.specs.Parts.{IsInPart};
 ghost use Rattle.sia_parts.specs.Sights.{AreSpans};
 
+use crate::committed::Committed;
 use crate::cutting::Part;
-use crate::edges::edges_of;
 use crate::finding::{BadRead, BadWrite, Unexplained};
 use crate::findings::PartFindings;
 use crate::gaps::{Gap, joined_gaps};
 use crate::nearby::are_apart;
+use crate::numbered::find_in_part;
+use crate::numbers::edges_of_numbers;
 use crate::ordering::put_in_order;
 use crate::pairs::put_bad_writes;
 use crate::ranges::put_range_reads;
@@ -24,10 +26,10 @@ use std::alloc::Global;
 
 /// What reads saw at the keys of a part.
 #[derive(Drop)]
-struct Seen {
-    bad_reads: Vec<BadRead>,
-    spans: Vec<Span>,
-    gaps: Vec<Gap>,
+pub(crate) struct Seen {
+    pub(crate) bad_reads: Vec<BadRead>,
+    pub(crate) spans: Vec<Span>,
+    pub(crate) gaps: Vec<Gap>,
 }
 
 /// The findings at the keys of the part, by an index of the history.
@@ -42,20 +44,29 @@ pub fn audit_part(
 {
     // The length tells that the history is well-formed.
     let _ = h.len();
-    let seen = seen_of(alloc, h, ix, part)?;
-    let bad_writes = bad_writes_of(alloc, ix, part)?;
-    let unexplained = unexplained_of(alloc, h, ix, part, &seen.bad_reads)?;
-    let edges = edges_of(alloc, ix, part, &seen.spans, &seen.gaps)?;
+    let committed = Committed::of(alloc, ix)?;
+    let found = find_in_part(alloc, h, ix, &committed, part)?;
+    let edges = edges_of_numbers(
+        alloc,
+        committed.ids(),
+        ix.written_keys(),
+        found.edges.as_slice(),
+    )?;
     Ok(PartFindings {
-        bad_reads: seen.bad_reads,
-        bad_writes,
-        unexplained,
+        bad_reads: found.bad_reads,
+        bad_writes: found.bad_writes,
+        unexplained: found.unexplained,
         edges,
     })
 }
 
-// The bad reads at the keys of the part, and the spans and the gaps of these.
-fn seen_of(alloc: Global, h: &History, ix: &Index, part: Part) -> Result<Seen, NoMemory>
+/// The bad reads at the keys of the part, and the spans and the gaps of these.
+pub(crate) fn seen_of(
+    alloc: Global,
+    h: &History,
+    ix: &Index,
+    part: Part,
+) -> Result<Seen, NoMemory>
     requires { ix.now ≡ h.now }
     ensures bad_reads { IfOk result (λ seen. ListsBadReads ix.now (IsInPart part) seen.bad_reads.items) }
     ensures spans { IfOk result (λ seen. AreSpans ix.now part seen.spans.items seen.gaps.items) }
@@ -90,8 +101,12 @@ fn seen_of(alloc: Global, h: &History, ix: &Index, part: Part) -> Result<Seen, N
     })
 }
 
-// The bad writes at the keys of the part.
-fn bad_writes_of(alloc: Global, ix: &Index, part: Part) -> Result<Vec<BadWrite>, NoMemory>
+/// The bad writes at the keys of the part.
+pub(crate) fn bad_writes_of(
+    alloc: Global,
+    ix: &Index,
+    part: Part,
+) -> Result<Vec<BadWrite>, NoMemory>
     requires { IsWellFormed ix.now }
     ensures { IfOk result (λ bad. ListsBadWrites ix.now (IsInPart part) bad.items) }
 {
@@ -101,8 +116,8 @@ fn bad_writes_of(alloc: Global, ix: &Index, part: Part) -> Result<Vec<BadWrite>,
     Ok(bad)
 }
 
-// The unexplained reads at the keys of the part: each is a bad read too.
-fn unexplained_of(
+/// The unexplained reads at the keys of the part: each is a bad read too.
+pub(crate) fn unexplained_of(
     alloc: Global,
     h: &History,
     ix: &Index,

@@ -1,15 +1,16 @@
 //! Ends of edges: transactions that made or saw versions of keys, with their numbers.
 ghost use Rattle.std.specs.Prelude.{◌≡◌, ◌↔◌, ◌≤◌, ◌<◌, ℕ, All, Contains, IfOk, OnOk, ◌+◌, ◌-◌, IsTrue, MatchOption, length, slice_index_or, slice_range};
 ghost use Rattle.sia_events.specs.Refusals.{IsWellFormed};
-ghost use Rattle.sia_events.specs.Transactions.{HasEvent, Wrote};
+ghost use Rattle.sia_events.specs.Lists.{ListsAscending};
+ghost use Rattle.sia_events.specs.Transactions.{IsCommitted, Wrote};
 ghost use Rattle.sia_index.specs.Info.{AreVersionsWithin, IsKeyAt};
-ghost use Rattle.sia_index.specs.Numbers.{IsTxnAt};
 ghost use Rattle.sia_parts.specs.Sights.{Adds, FromSome};
 ghost use Rattle.sia_parts.specs.Ends.{HasDigits, IsEndOf, IsEndOfVersion, IsRankPlace, RisesByRank, end_rank, rank_of};
 
+use crate::committed::Committed;
 use crate::ordering::put_in_order;
 use crate::spans::Span;
-use sia_events::{Key, NoMemory, TxnId};
+use sia_events::{Key, NoMemory};
 use sia_index::{Index, KeyVersion};
 use std::alloc::Global;
 
@@ -21,7 +22,7 @@ pub(crate) struct End {
     pub(crate) high: u32,
     /// The commit of the version, or the least commit of those that it saw.
     pub(crate) low: u32,
-    /// The number of the transaction.
+    /// The number of the transaction among the committed ones.
     pub(crate) txn: u32,
     /// The number of the key.
     pub(crate) number: u32,
@@ -31,24 +32,32 @@ pub(crate) struct End {
 pub(crate) fn makers_of(
     alloc: Global,
     ix: &Index,
+    committed: &Committed,
     versions: &[KeyVersion],
 ) -> Result<Vec<End>, NoMemory>
-    requires { IsWellFormed ix.now }
+    requires well_formed { IsWellFormed ix.now }
+    requires committed { ListsAscending (IsCommitted ix.now) committed.now }
     ensures ends { IfOk result (λ ends. (end : End) → Contains ends.items end ↔ FromSome (IsEndOfVersion ix.now) versions.now end) }
     ensures rises { IfOk result (λ ends. RisesByRank ends.items) }
 {
     let mut ends = Vec::with_capacity(alloc, versions.len())?;
-    put_makers(ix, versions, &mut ends)?;
+    put_makers(ix, committed, versions, &mut ends)?;
     put_in_order(&mut ends);
     Ok(ends)
 }
 
-fn put_makers(ix: &Index, versions: &[KeyVersion], ends: &mut Vec<End>) -> Result<(), NoMemory>
-    requires { IsWellFormed ix.now }
+fn put_makers(
+    ix: &Index,
+    committed: &Committed,
+    versions: &[KeyVersion],
+    ends: &mut Vec<End>,
+) -> Result<(), NoMemory>
+    requires well_formed { IsWellFormed ix.now }
+    requires committed { ListsAscending (IsCommitted ix.now) committed.now }
     ensures { OnOk result (Adds (FromSome (IsEndOfVersion ix.now) versions.now) ends.old.items ends.new.items) }
 {
     for made in versions {
-        put_end(ix, span_of(*made), ends)?;
+        put_end(ix, committed, span_of(*made), ends)?;
     }
     Ok(())
 }
@@ -66,47 +75,66 @@ fn span_of(made: KeyVersion) -> Span
 }
 
 /// The readers of the spans at written keys, by key and greatest commit.
-pub(crate) fn readers_of(alloc: Global, ix: &Index, spans: &[Span]) -> Result<Vec<End>, NoMemory>
-    requires { IsWellFormed ix.now }
+pub(crate) fn readers_of(
+    alloc: Global,
+    ix: &Index,
+    committed: &Committed,
+    spans: &[Span],
+) -> Result<Vec<End>, NoMemory>
+    requires well_formed { IsWellFormed ix.now }
+    requires committed { ListsAscending (IsCommitted ix.now) committed.now }
     ensures ends { IfOk result (λ ends. (end : End) → Contains ends.items end ↔ FromSome (IsEndOf ix.now) spans.now end) }
     ensures rises { IfOk result (λ ends. RisesByRank ends.items) }
 {
     let mut ends = Vec::with_capacity(alloc, spans.len())?;
-    put_readers(ix, spans, &mut ends)?;
+    put_readers(ix, committed, spans, &mut ends)?;
     put_in_order(&mut ends);
     Ok(ends)
 }
 
-fn put_readers(ix: &Index, spans: &[Span], ends: &mut Vec<End>) -> Result<(), NoMemory>
-    requires { IsWellFormed ix.now }
+fn put_readers(
+    ix: &Index,
+    committed: &Committed,
+    spans: &[Span],
+    ends: &mut Vec<End>,
+) -> Result<(), NoMemory>
+    requires well_formed { IsWellFormed ix.now }
+    requires committed { ListsAscending (IsCommitted ix.now) committed.now }
     ensures { OnOk result (Adds (FromSome (IsEndOf ix.now) spans.now) ends.old.items ends.new.items) }
 {
     for span in spans {
-        put_end(ix, *span, ends)?;
+        put_end(ix, committed, *span, ends)?;
     }
     Ok(())
 }
 
 // Adds the end of the span, if its key is written.
-fn put_end(ix: &Index, span: Span, ends: &mut Vec<End>) -> Result<(), NoMemory>
-    requires { IsWellFormed ix.now }
+fn put_end(
+    ix: &Index,
+    committed: &Committed,
+    span: Span,
+    ends: &mut Vec<End>,
+) -> Result<(), NoMemory>
+    requires well_formed { IsWellFormed ix.now }
+    requires committed { ListsAscending (IsCommitted ix.now) committed.now }
     ensures { OnOk result (Adds (IsEndOf ix.now span) ends.old.items ends.new.items) }
 {
-    if let Some(end) = end_of(ix, span) {
+    if let Some(end) = end_of(ix, committed, span) {
         ends.push(end)?;
     }
     Ok(())
 }
 
 // The end of the span, if its key is written.
-fn end_of(ix: &Index, span: Span) -> Option<End>
-    requires { IsWellFormed ix.now }
+fn end_of(ix: &Index, committed: &Committed, span: Span) -> Option<End>
+    requires well_formed { IsWellFormed ix.now }
+    requires committed { ListsAscending (IsCommitted ix.now) committed.now }
     ensures { MatchOption result ((end : End) → ¬ IsEndOf ix.now span end) (IsEndOf ix.now span) }
 {
     let Some(number) = key_digit(ix, span.key) else {
         return None;
     };
-    let Some(txn) = txn_digit(ix, span.txn) else {
+    let Some(txn) = committed.number(ix, span.txn) else {
         return None;
     };
     Some(End {
@@ -116,17 +144,6 @@ fn end_of(ix: &Index, span: Span) -> Option<End>
         txn,
         number,
     })
-}
-
-/// The number of the transaction.
-pub(crate) fn txn_digit(ix: &Index, t: TxnId) -> Option<u32>
-    requires { IsWellFormed ix.now }
-    ensures { MatchOption result (¬ HasEvent ix.now t) (λ i. IsTxnAt ix.now i t × (i < 1048576)) }
-{
-    match ix.txn_number(t) {
-        Some(i) => Some(i as u32),
-        None => None,
-    }
 }
 
 // The number of the key, if it is written.

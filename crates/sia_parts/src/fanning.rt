@@ -1,45 +1,36 @@
-//! The edges of fans, one source after another: a source's numbers are few enough to be sorted at once.
+//! The numbers of fans' edges, one source after another: a source's numbers are few enough to be sorted at once.
 ghost use Rattle.std.specs.Prelude.{◌≡◌, ◌↔◌, ◌<◌, ◌≤◌, ◌-◌, ℕ, All, AllPairs, Contains, IfOk, OnOk, IsTrue, length, slice_index_or};
-ghost use Rattle.sia_events.specs.Lists.{Precedes};
-ghost use Rattle.sia_parts.specs.Entries.{edge_rank};
-ghost use Rattle.sia_parts.specs.Merging.{IsAscending};
-ghost use Rattle.sia_parts.specs.Packing.{unpacked, AreDigits, IsPacked};
+ghost use Rattle.sia_parts.specs.Packing.{AreDigits};
 ghost use Rattle.sia_parts.specs.Sights.{Adds, FromSome};
 ghost use Rattle.sia_parts.specs.Ends.{HasDigits, IsNumberTo};
-ghost use Rattle.sia_parts.specs.Fans.{IsFanNumber, IsFanEdge};
+ghost use Rattle.sia_parts.specs.Fans.{IsFanNumber};
 
 use crate::ends::End;
 use crate::fans::{Fan, ends_for};
-use crate::finding::{Edge, Kind};
+use crate::finding::Kind;
 use crate::ordering::put_in_order;
-use crate::packing::{BASE, number, put_unpacked, unpack};
-use crate::ranked::Ranked;
-use sia_events::{Key, NoMemory, TxnId};
+use crate::packing::{BASE, number};
+use sia_events::NoMemory;
 use std::alloc::Global;
 
-/// The edges of the fans, in order.
-pub(crate) fn edges_of_fans(
+/// The numbers of the fans' edges, ascending.
+pub(crate) fn numbers_of_fans(
     alloc: Global,
-    txns: &[TxnId],
-    keys: &[Key],
     makers: &[End],
     readers: &[End],
     fans: &[Fan],
-) -> Result<Vec<Edge>, NoMemory>
-    requires txns { AllPairs (λ x y. x < y) txns.now }
-    requires keys { AllPairs (λ x y. x < y) keys.now }
+) -> Result<Vec<u64>, NoMemory>
     requires makers { All HasDigits makers.now }
     requires readers { All HasDigits readers.now }
-    requires packed { (n : ℕ) → FromSome (IsFanNumber makers.now readers.now) fans.now n → IsPacked txns.now keys.now n }
-    ensures sorted { IfOk result (λ edges. IsAscending edge_rank edges.items) }
-    ensures each { IfOk result (λ edges. (e : Edge) → Contains edges.items e ↔ FromSome (IsFanEdge txns.now keys.now makers.now readers.now) fans.now e) }
+    ensures sorted { IfOk result (λ numbers. AllPairs (λ m n. m < n) numbers.items) }
+    ensures each { IfOk result (λ numbers. (n : ℕ) → Contains numbers.items n ↔ FromSome (IsFanNumber makers.now readers.now) fans.now n) }
 {
-    let mut edges = Vec::with_capacity(alloc, count(fans))?;
-    let ordered = put_runs(alloc, txns, keys, makers, readers, fans, &mut edges)?;
+    let mut numbers = Vec::with_capacity(alloc, count(fans))?;
+    let ordered = put_runs(alloc, makers, readers, fans, &mut numbers)?;
     if !ordered {
-        put_in_order(&mut edges);
+        put_in_order(&mut numbers);
     }
-    Ok(edges)
+    Ok(numbers)
 }
 
 // How many edges the fans have at most.
@@ -51,31 +42,25 @@ fn count(fans: &[Fan]) -> usize {
     count
 }
 
-// Adds the edges of the fans, run by run, and tells whether those of each run follow those before.
+// Adds the numbers of the fans, run by run, and tells whether those of each run follow those before.
 fn put_runs(
     alloc: Global,
-    txns: &[TxnId],
-    keys: &[Key],
     makers: &[End],
     readers: &[End],
     fans: &[Fan],
-    edges: &mut Vec<Edge>,
+    numbers: &mut Vec<u64>,
 ) -> Result<bool, NoMemory>
-    requires txns { AllPairs (λ x y. x < y) txns.now }
-    requires keys { AllPairs (λ x y. x < y) keys.now }
     requires makers { All HasDigits makers.now }
     requires readers { All HasDigits readers.now }
-    requires packed { (n : ℕ) → FromSome (IsFanNumber makers.now readers.now) fans.now n → IsPacked txns.now keys.now n }
-    ensures adds { OnOk result (Adds (FromSome (IsFanEdge txns.now keys.now makers.now readers.now) fans.now) edges.old.items edges.new.items) }
-    ensures ascends { IfOk result (λ ordered. IsTrue ordered → IsAscending edge_rank edges.old.items → IsAscending edge_rank edges.new.items) }
+    ensures adds { OnOk result (Adds (FromSome (IsFanNumber makers.now readers.now) fans.now) numbers.old.items numbers.new.items) }
+    ensures ascends { IfOk result (λ ordered. IsTrue ordered → AllPairs (λ m n. m < n) numbers.old.items → AllPairs (λ m n. m < n) numbers.new.items) }
 {
-    let mut numbers = Vec::new(alloc);
+    let mut run = Vec::new(alloc);
     let mut ordered = true;
     let mut from = 0;
     while from < fans.len() {
         let to = run_end(fans, from);
-        let run = &fans[from..to];
-        let follows = put_run(txns, keys, makers, readers, run, &mut numbers, edges)?;
+        let follows = put_run(makers, readers, &fans[from..to], &mut run, numbers)?;
         ordered = both(ordered, follows);
         from = to;
     }
@@ -104,44 +89,38 @@ fn run_end(fans: &[Fan], from: usize) -> usize
     to
 }
 
-// Adds the edges of these fans in order, and tells whether they follow those before.
+// Adds the numbers of these fans in order, and tells whether they follow those before. The run is room for them.
 fn put_run(
-    txns: &[TxnId],
-    keys: &[Key],
     makers: &[End],
     readers: &[End],
     fans: &[Fan],
+    run: &mut Vec<u64>,
     numbers: &mut Vec<u64>,
-    edges: &mut Vec<Edge>,
 ) -> Result<bool, NoMemory>
-    requires txns { AllPairs (λ x y. x < y) txns.now }
-    requires keys { AllPairs (λ x y. x < y) keys.now }
     requires makers { All HasDigits makers.now }
     requires readers { All HasDigits readers.now }
-    requires packed { (n : ℕ) → FromSome (IsFanNumber makers.now readers.now) fans.now n → IsPacked txns.now keys.now n }
-    ensures adds { OnOk result (Adds (FromSome (IsFanEdge txns.now keys.now makers.now readers.now) fans.now) edges.old.items edges.new.items) }
-    ensures ascends { IfOk result (λ follows. IsTrue follows → IsAscending edge_rank edges.old.items → IsAscending edge_rank edges.new.items) }
+    ensures adds { OnOk result (Adds (FromSome (IsFanNumber makers.now readers.now) fans.now) numbers.old.items numbers.new.items) }
+    ensures ascends { IfOk result (λ follows. IsTrue follows → AllPairs (λ m n. m < n) numbers.old.items → AllPairs (λ m n. m < n) numbers.new.items) }
 {
-    numbers.clear();
-    put_numbers(makers, readers, fans, numbers)?;
-    put_in_order(numbers);
-    let follows = follows(txns, keys, edges.as_slice(), numbers.as_slice());
-    put_unpacked(txns, keys, numbers.as_slice(), edges)?;
+    run.clear();
+    put_numbers(makers, readers, fans, run)?;
+    put_in_order(run);
+    let follows = follows(numbers.as_slice(), run.as_slice());
+    numbers.extend_from_slice(run.as_slice())?;
     Ok(follows)
 }
 
-// Whether the edge of the first number comes after the last edge.
-fn follows(txns: &[TxnId], keys: &[Key], edges: &[Edge], numbers: &[u64]) -> bool
-    ensures { IsTrue result → (d : Edge) (m : ℕ) → 0 < length edges.now → 0 < length numbers.now → Precedes (edge_rank (slice_index_or edges.now (length edges.now - 1) d)) (edge_rank (unpacked txns.now keys.now (slice_index_or numbers.now 0 m))) }
+// Whether the first number of the run is greater than the last of those before.
+fn follows(numbers: &[u64], run: &[u64]) -> bool
+    ensures { IsTrue result → (d e : ℕ) → 0 < length numbers.now → 0 < length run.now → slice_index_or numbers.now (length numbers.now - 1) d < slice_index_or run.now 0 e }
 {
-    if edges.is_empty() {
-        return true;
-    }
     if numbers.is_empty() {
         return true;
     }
-    let first = unpack(txns, keys, numbers[0]);
-    edges[edges.len() - 1].precedes(&first)
+    if run.is_empty() {
+        return true;
+    }
+    numbers[numbers.len() - 1] < run[0]
 }
 
 // Adds the numbers of the fans.

@@ -1,11 +1,14 @@
 //! Fans: the edges of one kind from one transaction, as stretches of ends.
 ghost use Rattle.std.specs.Prelude.{◌≡◌, ◌↔◌, ℕ, OnOk, IfOk};
+ghost use Rattle.sia_events.specs.Lists.{ListsAscending};
 ghost use Rattle.sia_events.specs.Refusals.{IsWellFormed};
+ghost use Rattle.sia_events.specs.Transactions.{IsCommitted};
 ghost use Rattle.sia_parts.specs.Sights.{FromSome};
 ghost use Rattle.sia_parts.specs.Ends.{IsNumberWithin, RisesByRank};
 ghost use Rattle.sia_parts.specs.Fans.{ends_for, Gives, IsFanNumber, IsMakerNumber, IsReaderNumber, IsGapNumber, IsFound};
 
-use crate::ends::{End, places, rank, rank_above, starts_of, txn_digit};
+use crate::committed::Committed;
+use crate::ends::{End, places, rank, rank_above, starts_of};
 use crate::finding::Kind;
 use crate::gaps::Gap;
 use sia_events::NoMemory;
@@ -82,11 +85,13 @@ pub(crate) fn ends_for<'a>(makers: &'a [End], readers: &'a [End], kind: Kind) ->
 pub(crate) fn fans_of(
     alloc: Global,
     ix: &Index,
+    committed: &Committed,
     makers: &[End],
     readers: &[End],
     gaps: &[Gap],
 ) -> Result<Vec<Fan>, NoMemory>
     requires well_formed { IsWellFormed ix.now }
+    requires committed { ListsAscending (IsCommitted ix.now) committed.now }
     requires makers { RisesByRank makers.now }
     requires readers { RisesByRank readers.now }
     ensures { IfOk result (λ fans. (n : ℕ) → FromSome (IsFanNumber makers.now readers.now) fans.items n ↔ IsFound ix.now makers.now readers.now gaps.now n) }
@@ -99,7 +104,7 @@ pub(crate) fn fans_of(
     };
     put_maker_fans(makers, readers, &starts, &mut fans)?;
     put_reader_fans(makers, readers, &starts, &mut fans)?;
-    put_gap_fans(ix, makers, readers, gaps, &starts, &mut fans)?;
+    put_gap_fans(ix, committed, makers, readers, gaps, &starts, &mut fans)?;
     fans.sort_unstable();
     Ok(fans)
 }
@@ -172,6 +177,7 @@ fn put_reader_fans(
 // Adds the fans of the gaps: to the versions of their keys.
 fn put_gap_fans(
     ix: &Index,
+    committed: &Committed,
     makers: &[End],
     readers: &[End],
     gaps: &[Gap],
@@ -179,18 +185,20 @@ fn put_gap_fans(
     fans: &mut Vec<Fan>,
 ) -> Result<(), NoMemory>
     requires well_formed { IsWellFormed ix.now }
+    requires committed { ListsAscending (IsCommitted ix.now) committed.now }
     requires makers { RisesByRank makers.now }
     requires readers { RisesByRank readers.now }
     ensures { OnOk result (Gives makers.now readers.now (FromSome (IsGapNumber ix.now makers.now) gaps.now) fans.old.items fans.new.items) }
 {
     for gap in gaps {
-        put_fan_of_gap(ix, makers, readers, *gap, starts, fans)?;
+        put_fan_of_gap(ix, committed, makers, readers, *gap, starts, fans)?;
     }
     Ok(())
 }
 
 fn put_fan_of_gap(
     ix: &Index,
+    committed: &Committed,
     makers: &[End],
     readers: &[End],
     gap: Gap,
@@ -198,11 +206,12 @@ fn put_fan_of_gap(
     fans: &mut Vec<Fan>,
 ) -> Result<(), NoMemory>
     requires well_formed { IsWellFormed ix.now }
+    requires committed { ListsAscending (IsCommitted ix.now) committed.now }
     requires makers { RisesByRank makers.now }
     requires readers { RisesByRank readers.now }
     ensures { OnOk result (Gives makers.now readers.now (IsGapNumber ix.now makers.now gap) fans.old.items fans.new.items) }
 {
-    if let Some(src) = txn_digit(ix, gap.txn) {
+    if let Some(src) = committed.number(ix, gap.txn) {
         let from = rank(gap.lo, 0);
         let to = rank_above(gap.hi);
         put_fan(makers, readers, starts.far(), Kind::Rw, src, from, to, fans)?;

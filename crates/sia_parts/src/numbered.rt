@@ -10,8 +10,10 @@ ghost use Rattle.sia_parts.specs.declared.cutting.Part.{Part};
 ghost use Rattle.sia_parts.specs.EdgeNumbers.{AreEdgeTables, IsFound};
 ghost use Rattle.sia_parts.specs.Parts.{IsCutting, IsInPart};
 
+use crate::auditing::{bad_writes_of, seen_of, unexplained_of};
 use crate::committed::Committed;
 use crate::cutting::Part;
+use crate::edges::numbers_of;
 use crate::findings::Found;
 use sia_events::{History, NoMemory};
 use sia_index::Index;
@@ -29,7 +31,18 @@ pub fn find_in_part(
     requires committed { ListsAscending (IsCommitted ix.now) committed.now }
     ensures { IfOk result (λ found. (keys : List ℕ) → AreWrittenKeys h.now keys → IsFound h.now committed.now keys (IsInPart part) found) }
 {
-    Err(NoMemory)
+    // The length tells that the history is well-formed.
+    let _ = h.len();
+    let seen = seen_of(alloc, h, ix, part)?;
+    let bad_writes = bad_writes_of(alloc, ix, part)?;
+    let unexplained = unexplained_of(alloc, h, ix, part, &seen.bad_reads)?;
+    let edges = numbers_of(alloc, ix, committed, part, &seen.spans, &seen.gaps)?;
+    Ok(Found {
+        bad_reads: seen.bad_reads,
+        bad_writes,
+        unexplained,
+        edges,
+    })
 }
 
 /// The findings at all keys, of those of the parts in order.

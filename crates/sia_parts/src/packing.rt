@@ -18,75 +18,6 @@ use std::alloc::Global;
 /// transactions and keys have lesser numbers; were it not so, the edges would be sorted as they are.
 pub(crate) const BASE: u64 = 1_048_576;
 
-/// Sorts the edges by source, target, kind and key, and drops repeats.
-pub(crate) fn put_edges_in_order(
-    alloc: Global,
-    ix: &Index,
-    edges: &mut Vec<Edge>,
-) -> Result<(), NoMemory>
-    ensures sorted { OnOk result (IsAscending edge_rank edges.new.items) }
-    ensures keeps { OnOk result ((e : Edge) → Contains edges.old.items e → Contains edges.new.items e) }
-    ensures adds_none { OnOk result ((e : Edge) → Contains edges.new.items e → Contains edges.old.items e) }
-{
-    let txns = ix.txns();
-    let keys = ix.written_keys();
-    match packed(alloc, ix, txns, keys, edges.as_slice())? {
-        Some(numbers) => put_sorted(txns, keys, numbers, edges)?,
-        None => put_in_order(edges),
-    }
-    Ok(())
-}
-
-// The numbers that stand for the edges, or nothing where some edge has none.
-fn packed(
-    alloc: Global,
-    ix: &Index,
-    txns: &[TxnId],
-    keys: &[Key],
-    edges: &[Edge],
-) -> Result<Option<Vec<u64>>, NoMemory>
-    requires txns { ListsAscending (HasEvent ix.now) txns.now }
-    requires keys { AreWrittenKeys ix.now keys.now }
-    ensures { IfOk result (λ found. MatchOption found ⊤ (λ numbers. ArePacked txns.now keys.now edges.now numbers.items)) }
-{
-    let mut numbers = Vec::with_capacity(alloc, edges.len())?;
-    for edge in edges {
-        match pack(ix, txns, keys, *edge) {
-            Some(n) => numbers.push(n)?,
-            None => return Ok(None),
-        }
-    }
-    Ok(Some(numbers))
-}
-
-// The number that stands for the edge, if it has one.
-fn pack(ix: &Index, txns: &[TxnId], keys: &[Key], edge: Edge) -> Option<u64>
-    requires txns { ListsAscending (HasEvent ix.now) txns.now }
-    requires keys { AreWrittenKeys ix.now keys.now }
-    ensures { MatchOption result ⊤ (Packs txns.now keys.now edge) }
-{
-    let src = ix.txn_number(edge.src)?;
-    let dst = ix.txn_number(edge.dst)?;
-    let key = ix.key_number(edge.key)?;
-    digits(src as u64, dst as u64, edge.kind, key as u64)
-}
-
-// The number with these digits, if they are below the base.
-fn digits(src: u64, dst: u64, kind: Kind, key: u64) -> Option<u64>
-    ensures { MatchOption result ⊤ (AreDigits src dst kind key) }
-{
-    if src >= BASE {
-        return None;
-    }
-    if dst >= BASE {
-        return None;
-    }
-    if key >= BASE {
-        return None;
-    }
-    Some(number(src, dst, kind, key))
-}
-
 /// The number with these digits.
 pub(crate) fn number(src: u64, dst: u64, kind: Kind, key: u64) -> u64
     requires source { src < 1048576 }
@@ -95,26 +26,6 @@ pub(crate) fn number(src: u64, dst: u64, kind: Kind, key: u64) -> u64
     ensures { AreDigits src dst kind key result }
 {
     ((src * BASE + dst) * 4 + u64::from(number_of(kind))) * BASE + key
-}
-
-// Puts for the edges those of the numbers, in order, each once.
-fn put_sorted(
-    txns: &[TxnId],
-    keys: &[Key],
-    mut numbers: Vec<u64>,
-    edges: &mut Vec<Edge>,
-) -> Result<(), NoMemory>
-    requires txns { AllPairs (λ x y. x < y) txns.now }
-    requires keys { AllPairs (λ x y. x < y) keys.now }
-    requires packed { ArePacked txns.now keys.now edges.old.items numbers.items }
-    ensures sorted { OnOk result (IsAscending edge_rank edges.new.items) }
-    ensures keeps { OnOk result ((e : Edge) → Contains edges.old.items e → Contains edges.new.items e) }
-    ensures adds_none { OnOk result ((e : Edge) → Contains edges.new.items e → Contains edges.old.items e) }
-{
-    put_in_order(&mut numbers);
-    edges.clear();
-    put_unpacked(txns, keys, numbers.as_slice(), edges)?;
-    Ok(())
 }
 
 // Adds the edges of the numbers.

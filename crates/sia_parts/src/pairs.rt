@@ -7,47 +7,6 @@ use crate::finding::{BadWrite, Edge, Kind};
 use sia_events::{Key, NoMemory};
 use sia_index::{Index, Made};
 
-/// Adds the ww edges of the keys.
-pub(crate) fn put_ww_edges(ix: &Index, keys: &[Key], edges: &mut Vec<Edge>) -> Result<(), NoMemory>
-    ensures { OnOk result (Adds (FromSome (KeyPair ix.now IsPairEdge) keys.now) edges.old.items edges.new.items) }
-{
-    for key in keys {
-        put_key_edges(*key, ix.versions(*key), edges)?;
-    }
-    Ok(())
-}
-
-// Adds the ww edges of a key's versions.
-fn put_key_edges(key: Key, versions: &[Made], edges: &mut Vec<Edge>) -> Result<(), NoMemory>
-    requires { AscendsByCommit versions.now }
-    ensures { OnOk result (Adds (FromPair (IsPairEdge key) versions.now) edges.old.items edges.new.items) }
-{
-    for at in 0..versions.len() {
-        put_edges_to(key, versions[at], &versions[..at], edges)?;
-    }
-    Ok(())
-}
-
-// Adds the ww edges from the earlier versions to this one.
-fn put_edges_to(
-    key: Key,
-    second: Made,
-    earlier: &[Made],
-    edges: &mut Vec<Edge>,
-) -> Result<(), NoMemory>
-    ensures { OnOk result (Adds (FromSome (IsPairEdge key second) earlier.now) edges.old.items edges.new.items) }
-{
-    for first in earlier {
-        edges.push(Edge {
-            src: first.txn,
-            dst: second.txn,
-            kind: Kind::Ww,
-            key,
-        })?;
-    }
-    Ok(())
-}
-
 /// Adds the bad writes of the keys.
 pub(crate) fn put_bad_writes(
     ix: &Index,

@@ -1,23 +1,19 @@
--- Each run adds its edges.
+-- Each run adds its numbers.
 use Rattle.std.proofs.Common.{arith}
-use Rattle.sia_parts.specs.Fans.{IsFanNumber, IsFanEdge}
+use Rattle.sia_parts.specs.Fans.{IsFanNumber}
 use Rattle.sia_parts.proofs.Adding.{from_none, from_all}
-use Rattle.sia_parts.proofs.FanEdges.{first_run, of_run}
+use Rattle.sia_parts.proofs.FanEdges.{first_run}
 use Rattle.sia_parts.proofs.fanning.put_runs.Goals as goal
 
 pub loop-from-init : goal.loop-from-init
-loop-from-init c = (omega arith, from_none (IsFanEdge c.args.txns.now c.args.keys.now c.args.makers.now c.args.readers.now) c.args.fans.now _, λ so up. up)
-
-pub put_run-requires-clause-packed : goal.put_run-requires-clause-packed
-put_run-requires-clause-packed c n f =
-    c.requires.packed n (of_run (IsFanNumber c.args.makers.now c.args.readers.now) c.args.fans.now _ _ (omega (arith, c.run_end-to.ensures.forward)) c.run_end-to.ensures.bound n f)
+loop-from-init c = (omega arith, from_none (IsFanNumber c.args.makers.now c.args.readers.now) c.args.fans.now _, λ so up. up)
 
 pub loop-from-preserved : goal.loop-from-preserved
 loop-from-preserved c = (
   c.run_end-to.ensures.bound,
-  first_run (IsFanEdge c.args.txns.now c.args.keys.now c.args.makers.now c.args.readers.now) c.args.fans.now _ _ (omega (arith, c.run_end-to.ensures.forward)) c.run_end-to.ensures.bound _ _ _ c.loop-from.invariant.1 c.in_ok-follows.ensures.adds,
+  first_run (IsFanNumber c.args.makers.now c.args.readers.now) c.args.fans.now _ _ (omega (arith, c.run_end-to.ensures.forward)) c.run_end-to.ensures.bound _ _ _ c.loop-from.invariant.1 c.in_ok-follows.ensures.adds,
   λ so up. c.in_ok-follows.ensures.ascends (c.both-ordered.ensures.second so) (c.loop-from.invariant.2 (c.both-ordered.ensures.first so) up),
 )
 
 pub returns-clause-adds : goal.returns-clause-adds
-returns-clause-adds c = from_all (IsFanEdge c.args.txns.now c.args.keys.now c.args.makers.now c.args.readers.now) c.args.fans.now _ _ _ c.loop-from-test.false c.loop-from.invariant.1
+returns-clause-adds c = from_all (IsFanNumber c.args.makers.now c.args.readers.now) c.args.fans.now _ _ _ c.loop-from-test.false c.loop-from.invariant.1

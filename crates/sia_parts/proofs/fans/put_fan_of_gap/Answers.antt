@@ -3,7 +3,8 @@ use Rattle.std.proofs.Common.{ℕ, ◌+◌, subst}
 use Rattle.sia_parts.specs.declared.finding.Kind.TheVariants.{Rw}
 use Rattle.sia_parts.specs.Ends.{IsNumberWithin, rank_of}
 use Rattle.sia_parts.specs.Fans.{IsGapNumber}
-use Rattle.sia_parts.proofs.EndLemmas.{one_txn_number, at_has_event}
+use Rattle.sia_parts.proofs.Committing.{at_is_committed}
+use Rattle.sia_parts.proofs.EndLemmas.{one_committed_number}
 use Rattle.sia_parts.proofs.Giving.{gives_nothing, gives_same}
 use Rattle.sia_parts.proofs.fans.put_fan_of_gap.Goals as goal
 
@@ -15,8 +16,8 @@ returns-in_ok-put_fan c =
     let P : ℕ → ℕ → Type 0 = λ s. IsNumberWithin makers (rank_of gap.lo 0) (rank_of (gap.hi + 1) 0) s Rw in
     gives_same makers c.args.readers.now (P src) (IsGapNumber c.args.ix.now makers gap) _ _
     (λ n is. (src, c.in-Some.ensures.0, is))
-    (λ n is. subst (λ s. P s n) (one_txn_number c.args.ix.now is.0 src gap.txn is.1 c.in-Some.ensures.0) is.2)
+    (λ n is. subst (λ s. P s n) (one_committed_number c.args.ix.now is.0 src gap.txn is.1 c.in-Some.ensures.0) is.2)
     (rw (c.rank-from.ensures, c.rank_above-to.ensures) at c.in_ok-put_fan.ensures)
 
 pub returns-in_default : goal.returns-in_default
-returns-in_default c = gives_nothing c.args.makers.now c.args.readers.now (IsGapNumber c.args.ix.now c.args.makers.now c.args.gap) _ (λ n is. c.in_default.ensures (at_has_event _ _ _ is.1))
+returns-in_default c = gives_nothing c.args.makers.now c.args.readers.now (IsGapNumber c.args.ix.now c.args.makers.now c.args.gap) _ (λ n is. c.in_default.ensures (at_is_committed _ _ _ is.1))
