@@ -22,13 +22,13 @@ AllZip-one_more R [] (v ∷ ys) x y z r = absurd z
 AllZip-one_more R (u ∷ xs) [] x y z r = absurd z
 AllZip-one_more R (u ∷ xs) (v ∷ ys) x y z r = (z.0, AllZip-one_more R xs ys x y z.1 r)
 
-length_zip : {A B : Type 0} (R : A → B → Type 0) (xs : List A) (ys : List B) → AllZip R xs ys → length xs ≡ length ys
+pub length_zip : {A B : Type 0} (R : A → B → Type 0) (xs : List A) (ys : List B) → AllZip R xs ys → length xs ≡ length ys
 length_zip R [] [] z = refl
 length_zip R [] (y ∷ ys) z = absurd z
 length_zip R (x ∷ xs) [] z = absurd z
 length_zip R (x ∷ xs) (y ∷ ys) z = ap suc (length_zip R xs ys z.1)
 
-zip_at : {A B : Type 0} (R : A → B → Type 0) (xs : List A) (ys : List B) (i : ℕ) (d : A) (e : B) → AllZip R xs ys → i < length xs → R (get_or xs i d) (get_or ys i e)
+pub zip_at : {A B : Type 0} (R : A → B → Type 0) (xs : List A) (ys : List B) (i : ℕ) (d : A) (e : B) → AllZip R xs ys → i < length xs → R (get_or xs i d) (get_or ys i e)
 zip_at R [] [] i d e z below = absurd (omega arith)
 zip_at R [] (y ∷ ys) i d e z below = absurd z
 zip_at R (x ∷ xs) [] i d e z below = absurd z

@@ -23,6 +23,8 @@ pub mod PackedEdges
 pub mod Widening
 pub mod FewNumbers
 pub mod Committing
+pub mod NumberLists
+pub mod FoundFields
 pub mod EndLemmas
 pub mod Giving
 pub mod FanEdges

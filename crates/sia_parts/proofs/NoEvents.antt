@@ -8,12 +8,15 @@ use Rattle.sia_events.specs.Transactions.{Wrote}
 use Rattle.sia_events.specs.Reads.{SawAt}
 use Rattle.sia_events.specs.Lists.{Precedes, ListsBy}
 use Rattle.sia_parts.specs.declared.cutting.Part.{Part}
+use Rattle.sia_parts.specs.declared.findings.Found.{Found}
 use Rattle.sia_parts.specs.declared.findings.PartFindings.{PartFindings}
 use Rattle.sia_parts.specs.declared.finding.Kind.{Kind}
 use Rattle.sia_parts.specs.declared.finding.Kind.TheVariants.{Ww, Wr, Rw}
+use Rattle.sia_parts.specs.EdgeNumbers.{AreEdgeTables, AreEdgeNumbers, IsFound}
 use Rattle.sia_parts.specs.Entries.{EdgeOfKind}
 use Rattle.sia_parts.specs.Findings.{ArePartFindings}
-use Rattle.sia_parts.specs.Parts.{parts_from, IsCutting}
+use Rattle.sia_parts.specs.Packing.{IsPacked}
+use Rattle.sia_parts.specs.Parts.{parts_from, IsCutting, IsInPart}
 use Rattle.sia_parts.proofs.Members.{contains_none, contains_first, contains_later, first_or_later}
 use Rattle.std.proofs.lemmas.List.Elements.{All-nil, All-cons}
 use Rattle.std.proofs.lemmas.List.Kept.{AllPairs-cons}
@@ -57,6 +60,34 @@ none_found part found empty = record {
   bad_writes = lists_none _ _ (λ b f. no_write b.first b.key f.0.0) found.bad_writes.items empty.bad_writes;
   unexplained = lists_none _ _ (λ b f. no_read b.place b.txn b.key b.saw f.0.1) found.unexplained.items empty.unexplained;
   edges = lists_none _ _ (λ e f. no_edge e.kind e.src e.dst e.key f.0) found.edges.items empty.edges;
+}
+
+-- the same with edges as numbers
+pub record HasNone (found : Found) : Type 0 where
+  pub bad_reads : found.bad_reads.items ≡ []
+  pub bad_writes : found.bad_writes.items ≡ []
+  pub unexplained : found.unexplained.items ≡ []
+  pub edges : found.edges.items ≡ []
+
+no_number : (part : Part) (numbers : List ℕ) → numbers ≡ [] → AreEdgeNumbers [] [] [] (IsInPart part) numbers
+no_number part numbers is = rw is (record {
+  each = All-nil (IsPacked [] []);
+  ascending = λ i j d less below. absurd (omega arith);
+  edges = lists_none _ _ (λ e f. no_edge e.kind e.src e.dst e.key f.0) [] refl;
+})
+
+pub none_at : (part : Part) (found : Found) → HasNone found → IsFound [] [] [] (IsInPart part) found
+none_at part found none = record {
+  bad_reads = lists_none _ _ (λ b f. no_read b.place b.txn b.key b.saw f.0.0) found.bad_reads.items none.bad_reads;
+  bad_writes = lists_none _ _ (λ b f. no_write b.first b.key f.0.0) found.bad_writes.items none.bad_writes;
+  unexplained = lists_none _ _ (λ b f. no_read b.place b.txn b.key b.saw f.0.1) found.unexplained.items none.unexplained;
+  edges = no_number part found.edges.items none.edges;
+}
+
+pub empty_tables : AreEdgeTables [] [] []
+empty_tables = record {
+  txns_are = lists_none _ _ (λ t f. no_place f.0 _ f.1) [] refl;
+  keys_are = lists_none _ _ (λ k f. no_write f.0 k f.1) [] refl;
 }
 
 Before : ℕ → ℕ → Type 0

@@ -14,6 +14,7 @@ mod findings;
 mod fronts;
 mod gaps;
 mod gathering;
+mod gathering_numbers;
 mod laws;
 mod merging;
 mod nearby;
@@ -33,8 +34,9 @@ pub use cutting::{CutFault, Part, cut};
 pub use finding::{BadRead, BadWrite, Edge, Kind, Unexplained};
 pub use findings::{Findings, Found, PartFindings};
 pub use gathering::gather;
+pub use gathering_numbers::gather_found;
 pub use laws::one_part;
-pub use numbered::{find_in_part, gather_found};
+pub use numbered::find_in_part;
 pub use numbers::{EdgeNumber, edge_of, edges_of_numbers, key_of, kind_in, source_of, target_of};
 
 #[cfg(test)]

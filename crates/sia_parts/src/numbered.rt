@@ -1,14 +1,10 @@
-//! What is found at the keys of a part, and of all parts together, with each edge as a single number.
-ghost use Rattle.std.specs.Prelude.{◌≡◌, ℕ, List, ⊤, IfOk};
-ghost use Rattle.std.specs.List.{AllZip};
-ghost use Rattle.sia_events.specs.declared.event.Event.{Event};
+//! What is found at the keys of a part, with each edge as a single number.
+ghost use Rattle.std.specs.Prelude.{◌≡◌, ℕ, List, IfOk};
 ghost use Rattle.sia_events.specs.Lists.{ListsAscending};
-ghost use Rattle.sia_events.specs.Refusals.{IsWellFormed};
 ghost use Rattle.sia_events.specs.Transactions.{IsCommitted};
 ghost use Rattle.sia_index.specs.Info.{AreWrittenKeys};
-ghost use Rattle.sia_parts.specs.declared.cutting.Part.{Part};
-ghost use Rattle.sia_parts.specs.EdgeNumbers.{AreEdgeTables, IsFound};
-ghost use Rattle.sia_parts.specs.Parts.{IsCutting, IsInPart};
+ghost use Rattle.sia_parts.specs.EdgeNumbers.{IsFound};
+ghost use Rattle.sia_parts.specs.Parts.{IsInPart};
 
 use crate::auditing::{bad_writes_of, seen_of, unexplained_of};
 use crate::committed::Committed;
@@ -43,17 +39,4 @@ pub fn find_in_part(
         unexplained,
         edges,
     })
-}
-
-/// The findings at all keys, of those of the parts in order.
-pub fn gather_found(alloc: Global, parts: Vec<Found>) -> Result<Found, NoMemory>
-    requires { (h : List Event) × (txns : List ℕ) × (keys : List ℕ) × (points : List ℕ) × (cutting : List Part)
-        × IsWellFormed h × AreEdgeTables h txns keys × IsCutting points cutting
-        × AllZip (λ part found. IsFound h txns keys (IsInPart part) found) cutting parts.items }
-    ensures { IfOk result (λ found. (h : List Event) (txns keys points : List ℕ) (cutting : List Part)
-        → IsWellFormed h → AreEdgeTables h txns keys → IsCutting points cutting
-        → AllZip (λ part found. IsFound h txns keys (IsInPart part) found) cutting parts.items
-        → IsFound h txns keys (λ _. ⊤) found) }
-{
-    Err(NoMemory)
 }

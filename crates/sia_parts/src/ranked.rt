@@ -1,9 +1,10 @@
 //! Entries by their ranks.
 ghost use Rattle.std.specs.Prelude.{◌≡◌, ℕ, List, [], ◌∷◌};
-ghost use Rattle.sia_parts.specs.Entries.{kind_number, bad_read_rank, bad_write_rank, unexplained_rank, edge_rank};
+ghost use Rattle.sia_parts.specs.Entries.{kind_number, bad_read_rank, bad_write_rank, unexplained_rank, edge_rank, number_rank};
 ghost use Rattle.sia_parts.specs.Merging.{is_before};
 
 use crate::finding::{BadRead, BadWrite, Edge, Kind, Unexplained};
+use crate::numbers::EdgeNumber;
 
 /// An entry that is listed by its rank.
 pub(crate) trait Ranked: Copy {
@@ -68,6 +69,19 @@ impl Ranked for Edge {
 
     fn lead(&self) -> u64 {
         (u64::from(self.src) << 32) | u64::from(self.dst)
+    }
+}
+
+impl Ranked for EdgeNumber {
+    ghost rank = { number_rank };
+
+    #[inline(always)]
+    fn precedes(&self, other: &Self) -> bool {
+        *self < *other
+    }
+
+    fn lead(&self) -> u64 {
+        *self
     }
 }
 

@@ -3,7 +3,7 @@ ghost use Rattle.std.specs.Prelude.{◌≡◌, []};
 
 use super::*;
 use crate::at_once::merge_at_once;
-use crate::merging::merge_all;
+use crate::merging::{merge_all, merge_by_twos};
 use std::alloc::Global;
 use std::collections::VecDeque;
 use std::test::*;
@@ -66,6 +66,46 @@ fn nothing_in_two_parts(rt: HostRuntime) -> Result<(), Fail> {
     assert!(rt; found.bad_writes.is_empty());
     assert!(rt; found.unexplained.is_empty());
     assert!(rt; found.edges.is_empty());
+    Ok(())
+}
+
+fn none_found(alloc: Global) -> Found
+    ensures bad_reads { result.bad_reads.items ≡ [] }
+    ensures bad_writes { result.bad_writes.items ≡ [] }
+    ensures unexplained { result.unexplained.items ≡ [] }
+    ensures edges { result.edges.items ≡ [] }
+{
+    Found {
+        bad_reads: Vec::new(alloc),
+        bad_writes: Vec::new(alloc),
+        unexplained: Vec::new(alloc),
+        edges: Vec::new(alloc),
+    }
+}
+
+#[test]
+fn none_found_in_two_parts(rt: HostRuntime) -> Result<(), Fail> {
+    let mut parts = Vec::new(rt.alloc());
+    parts.push(none_found(rt.alloc()))?;
+    parts.push(none_found(rt.alloc()))?;
+    let found = gather_found(rt.alloc(), parts).ok().ok_or("no memory")?;
+    assert!(rt; found.bad_reads.is_empty());
+    assert!(rt; found.bad_writes.is_empty());
+    assert!(rt; found.unexplained.is_empty());
+    assert!(rt; found.edges.is_empty());
+    Ok(())
+}
+
+// Each number once, the least first: also beside a part that has none, and where one part's come behind the other's.
+#[test]
+fn numbers_of_four_parts(rt: HostRuntime) -> Result<(), Fail> {
+    let mut lists = VecDeque::new(rt.alloc());
+    lists.push_back(Vec::from_slice(rt.alloc(), &[3, 7, 40])?)?;
+    lists.push_back(Vec::new(rt.alloc()))?;
+    lists.push_back(Vec::from_slice(rt.alloc(), &[1, 8, 9])?)?;
+    lists.push_back(Vec::from_slice(rt.alloc(), &[50, 60])?)?;
+    let merged = merge_by_twos(rt.alloc(), lists).ok().ok_or("no memory")?;
+    assert!(rt; merged.as_slice() == [1, 3, 7, 8, 9, 40, 50, 60].as_slice());
     Ok(())
 }
 
