@@ -17,6 +17,7 @@ pub mod Joins
 pub mod Saw
 pub mod Spreading
 pub mod GapLemmas
+pub mod Unsighted
 pub mod RangeSights
 pub mod PartReads
 pub mod PackedEdges

@@ -97,8 +97,8 @@ fn put_stretch(
     Ok(())
 }
 
-// Whether some key from `lo` to `hi` is written. The first written key from `lo` on may have number `near` among all.
-fn is_written_between(ix: &Index, lo: Key, hi: Key, near: usize) -> bool
+/// Whether some key from `lo` to `hi` is written. The first written key from `lo` on may have number `near` among all.
+pub(crate) fn is_written_between(ix: &Index, lo: Key, hi: Key, near: usize) -> bool
     ensures { result ≡ false → (k u : ℕ) → IsBetween lo hi k → ¬ Wrote ix.now u k }
 {
     if ix.is_unwritten_near(lo, hi, near) {
@@ -139,8 +139,8 @@ fn put_due(
     Ok(())
 }
 
-// Adds the gap of the keys from `lo` to `hi`, if the reader committed.
-fn put_gap(reader: Reader, lo: Key, hi: Key, gaps: &mut Vec<Gap>) -> Result<(), NoMemory>
+/// Adds the gap of the keys from `lo` to `hi`, if the reader committed.
+pub(crate) fn put_gap(reader: Reader, lo: Key, hi: Key, gaps: &mut Vec<Gap>) -> Result<(), NoMemory>
     ensures { (h : List Event) → OnOk result (Spreads h (IsGapOf reader (IsBetween lo hi)) gaps.old.items gaps.new.items) }
 {
     if reader.committed {

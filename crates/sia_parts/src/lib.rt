@@ -27,6 +27,7 @@ mod ranges;
 mod ranked;
 mod sights;
 mod spans;
+mod unseen;
 
 pub use auditing::audit_part;
 pub use committed::Committed;

@@ -2,12 +2,25 @@
 //! rests on them.
 use crate::spans::Span;
 use sia_events::{Key, TxnId};
+use sia_index::RangeRead;
 
 /// The number that a key may have among the written keys, and the place where a span of it may stand among the spans.
 #[derive(Clone, Copy)]
 pub(crate) struct Near {
     pub(crate) number: usize,
     pub(crate) place: usize,
+}
+
+/// Whether the range reads come by transaction and first key.
+pub(crate) fn are_in_turn(ranges: &[RangeRead]) -> bool {
+    for i in 1..ranges.len() {
+        let last = ranges[i - 1];
+        let next = ranges[i];
+        if next.txn < last.txn || (next.txn == last.txn && next.lo < last.lo) {
+            return false;
+        }
+    }
+    true
 }
 
 /// Whether the spans still ascend by transaction and key, where they did up to `end`, and those from there on do.

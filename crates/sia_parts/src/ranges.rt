@@ -9,13 +9,15 @@ ghost use Rattle.sia_index.specs.declared.info.RangeRead.{RangeRead};
 ghost use Rattle.sia_index.specs.Info.{IsRangeRead, IsReader};
 ghost use Rattle.sia_parts.specs.Sights.{Adds, JoinsTo, FromSome, FromSight, IsSight, IsRangeSight, IsListedSight, IsBadOf, IsSpanOf, listed_sight, AscendsByKey};
 ghost use Rattle.sia_parts.specs.Gaps.{Spreads, IsUnlistedBy};
+ghost use Rattle.sia_parts.specs.Unseen.{CommitsFrom, IsLastReader};
 
 use crate::cutting::Part;
 use crate::finding::BadRead;
 use crate::gaps::{Gap, put_unlisted};
-use crate::nearby::{Near, first_near, next_near, still_ascend};
+use crate::nearby::{Near, are_in_turn, first_near, next_near, still_ascend};
 use crate::sights::{Sight, put_sight};
 use crate::spans::Span;
+use crate::unseen::{first_commit, put_unseen, reader_after, sees_none};
 use sia_events::{Event, History, Key, NoMemory, Version};
 use sia_index::{Index, RangeRead, Reader};
 use std::alloc::Global;
@@ -38,8 +40,12 @@ pub(crate) fn put_range_reads(
     ensures spans { OnOk result (JoinsTo (FromSome (λ range. FromSight (IsListedSight ix.now part range) (IsSpanOf ix.now)) ranges.now) spans.old.items spans.new.items) }
     ensures gaps { OnOk result (Spreads ix.now (FromSome (IsUnlistedBy ix.now part) ranges.now) gaps.old.items gaps.new.items) }
 {
+    let first = first_commit(ix, part);
+    if are_in_turn(ranges) {
+        return put_in_turn(h, ix, part, first, ranges, bad, spans, gaps);
+    }
     let turns = by_txn(alloc, ranges)?;
-    let ascend = put_in_turn(h, ix, part, &turns, bad, spans, gaps)?;
+    let ascend = put_in_turn(h, ix, part, first, &turns, bad, spans, gaps)?;
     Ok(ascend)
 }
 
@@ -53,43 +59,52 @@ fn by_txn(alloc: Global, ranges: &[RangeRead]) -> Result<Vec<RangeRead>, NoMemor
     Ok(turns)
 }
 
-// Adds the bad reads, the spans and the gaps of range reads, one after another. Says whether the spans ascend.
+// Adds the bad reads, the spans and the gaps of range reads, one after another. Says whether the spans ascend. No version of a
+// key of the part was committed before the place `first`.
 fn put_in_turn(
     h: &History,
     ix: &Index,
     part: Part,
+    first: u32,
     ranges: &[RangeRead],
     bad: &mut Vec<BadRead>,
     spans: &mut Vec<Span>,
     gaps: &mut Vec<Gap>,
 ) -> Result<bool, NoMemory>
     requires of { ix.now ≡ h.now }
+    requires first { CommitsFrom ix.now part first }
     requires ranges { All (IsRangeRead ix.now) ranges.now }
     ensures bad { OnOk result (Adds (FromSome (λ range. FromSight (IsRangeSight ix.now part range) (IsBadOf ix.now)) ranges.now) bad.old.items bad.new.items) }
     ensures spans { OnOk result (JoinsTo (FromSome (λ range. FromSight (IsListedSight ix.now part range) (IsSpanOf ix.now)) ranges.now) spans.old.items spans.new.items) }
     ensures gaps { OnOk result (Spreads ix.now (FromSome (IsUnlistedBy ix.now part) ranges.now) gaps.old.items gaps.new.items) }
 {
     let mut ascend = true;
+    let mut last = None;
     for range in ranges {
         let end = spans.len();
-        put_range_read(h, ix, part, *range, bad, spans, gaps)?;
+        last = put_range_read(h, ix, part, first, last, *range, bad, spans, gaps)?;
         ascend = still_ascend(ascend, spans, end);
     }
     Ok(ascend)
 }
 
-// Adds the bad reads, the spans and the gaps of a range read, at the keys of the part.
+// Adds the bad reads, the spans and the gaps of a range read, at the keys of the part. Passes on who read last.
 fn put_range_read(
     h: &History,
     ix: &Index,
     part: Part,
+    first: u32,
+    last: Option<Reader>,
     range: RangeRead,
     bad: &mut Vec<BadRead>,
     spans: &mut Vec<Span>,
     gaps: &mut Vec<Gap>,
-) -> Result<(), NoMemory>
+) -> Result<Option<Reader>, NoMemory>
     requires of { ix.now ≡ h.now }
+    requires first { CommitsFrom ix.now part first }
+    requires last { IsLastReader ix.now last }
     requires range { IsRangeRead ix.now range }
+    ensures last { IfOk result (λ next. IsLastReader ix.now next) }
     ensures bad { OnOk result (Adds (FromSight (IsRangeSight ix.now part range) (IsBadOf ix.now)) bad.old.items bad.new.items) }
     ensures spans { OnOk result (JoinsTo (FromSight (IsListedSight ix.now part range) (IsSpanOf ix.now)) spans.old.items spans.new.items) }
     ensures gaps { OnOk result (Spreads ix.now (IsUnlistedBy ix.now part range) gaps.old.items gaps.new.items) }
@@ -99,14 +114,20 @@ fn put_range_read(
     let lo = part.lo.max(range.lo);
     let hi = part.hi.min(range.hi);
     if lo > hi {
-        return Ok(());
+        return Ok(last);
     }
     let listed = listed_within(listed_at(h, range.place), lo, hi);
-    let reader = ix.reader(range.txn, range.place);
+    let reader = reader_after(ix, last, range.txn, range.place);
+    if listed.is_empty() {
+        if sees_none(reader, first) {
+            put_unseen(ix, reader, lo, hi, gaps)?;
+            return Ok(Some(reader));
+        }
+    }
     let own = ix.may_own(reader, lo, hi);
     put_listed_keys(ix, reader, range, listed, own, bad, spans)?;
     put_unlisted(ix, reader, listed, lo, hi, bad, gaps)?;
-    Ok(())
+    Ok(Some(reader))
 }
 
 // Adds the bad reads and the spans of keys that a range read listed. Where `own` isn't true, its transaction is known not to

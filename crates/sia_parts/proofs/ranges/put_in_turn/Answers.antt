@@ -13,11 +13,14 @@ none = record { lo = 0; hi = 0; txn = 0; place = 0 }
 pub put_range_read-requires : goal.put_range_read-requires
 put_range_read-requires c = record {
   of = c.requires.of;
+  first = c.requires.first;
+  last = c.loop-range.invariant.last;
   range = c.requires.ranges c.loop-range.range-index none c.loop-range-test.true;
 }
 
 pub loop-range-init : goal.loop-range-init
 loop-range-init c = record {
+  last = tt;
   bad = from_none (λ range. FromSight (IsRangeSight c.args.ix.now c.args.part range) (IsBadOf c.args.ix.now)) c.args.ranges.now _;
   spans = join_none (λ range. FromSight (IsListedSight c.args.ix.now c.args.part range) (IsSpanOf c.args.ix.now)) c.args.ranges.now _;
   gaps = spread_none c.args.ix.now (IsUnlistedBy c.args.ix.now c.args.part) c.args.ranges.now _;
@@ -25,9 +28,10 @@ loop-range-init c = record {
 
 pub loop-range-preserved : goal.loop-range-preserved
 loop-range-preserved c = record {
-  bad = from_more (λ range. FromSight (IsRangeSight c.args.ix.now c.args.part range) (IsBadOf c.args.ix.now)) c.args.ranges.now c.loop-range.range-index none _ _ _ c.loop-range-test.true c.loop-range.invariant.bad c.in_ok-put_range_read.ensures.bad;
-  spans = join_more (λ range. FromSight (IsListedSight c.args.ix.now c.args.part range) (IsSpanOf c.args.ix.now)) c.args.ranges.now c.loop-range.range-index none _ _ _ c.loop-range-test.true c.loop-range.invariant.spans c.in_ok-put_range_read.ensures.spans;
-  gaps = spread_more c.args.ix.now (IsUnlistedBy c.args.ix.now c.args.part) c.args.ranges.now c.loop-range.range-index none _ _ _ c.loop-range-test.true c.loop-range.invariant.gaps c.in_ok-put_range_read.ensures.gaps;
+  last = c.in_ok-last.ensures.last;
+  bad = from_more (λ range. FromSight (IsRangeSight c.args.ix.now c.args.part range) (IsBadOf c.args.ix.now)) c.args.ranges.now c.loop-range.range-index none _ _ _ c.loop-range-test.true c.loop-range.invariant.bad c.in_ok-last.ensures.bad;
+  spans = join_more (λ range. FromSight (IsListedSight c.args.ix.now c.args.part range) (IsSpanOf c.args.ix.now)) c.args.ranges.now c.loop-range.range-index none _ _ _ c.loop-range-test.true c.loop-range.invariant.spans c.in_ok-last.ensures.spans;
+  gaps = spread_more c.args.ix.now (IsUnlistedBy c.args.ix.now c.args.part) c.args.ranges.now c.loop-range.range-index none _ _ _ c.loop-range-test.true c.loop-range.invariant.gaps c.in_ok-last.ensures.gaps;
 }
 
 pub returns : goal.returns

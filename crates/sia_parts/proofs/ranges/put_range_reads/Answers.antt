@@ -11,8 +11,8 @@ use Rattle.sia_parts.proofs.Spreading.{spreads_same}
 use Rattle.sia_parts.proofs.Widening.{joins_same}
 use Rattle.sia_parts.proofs.ranges.put_range_reads.Goals as goal
 
-pub put_in_turn-requires-clause-ranges : goal.put_in_turn-requires-clause-ranges
-put_in_turn-requires-clause-ranges c k d below = All-contains (IsRangeRead c.args.ix.now) c.args.ranges.now _ c.requires.ranges (((rw (← c.deref.ensures.value) at c.in_ok-turns.ensures) _).0 (Contains-get_or c.deref.result.now k d below))
+pub put_in_turn-requires-2-clause-ranges : goal.put_in_turn-requires-2-clause-ranges
+put_in_turn-requires-2-clause-ranges c k d below = All-contains (IsRangeRead c.args.ix.now) c.args.ranges.now _ c.requires.ranges (((rw (← c.deref.ensures.value) at c.in_ok-turns.ensures) _).0 (Contains-get_or c.deref.result.now k d below))
 
 pub returns-clause-bad : goal.returns-clause-bad
 returns-clause-bad c =
