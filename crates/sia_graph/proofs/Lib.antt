@@ -37,3 +37,4 @@ pub mod Groups
 pub mod LinkLists
 pub mod Vulnerable
 pub mod PivotLists
+pub mod Places

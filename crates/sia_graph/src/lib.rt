@@ -7,6 +7,7 @@ mod firsts;
 mod guesses;
 mod laws;
 mod links;
+mod numbered;
 mod order;
 mod ordering;
 mod passing;
@@ -18,6 +19,7 @@ mod right;
 mod settling;
 mod settling_numbers;
 mod taking;
+mod taking_numbers;
 mod txns;
 mod walking;
 
