@@ -38,3 +38,4 @@ pub mod LinkLists
 pub mod Vulnerable
 pub mod PivotLists
 pub mod Places
+pub mod Arrivals

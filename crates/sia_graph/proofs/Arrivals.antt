@@ -1,0 +1,131 @@
+-- Steps of the counts of numbers by the places that they lead to, and of the set of places that are ready.
+use Rattle.std.proofs.Common.{◌≡◌, ◌≢◌, ◌⊎◌, inl, inr, ℕ, ◌+◌, ◌-◌, ◌<◌, ◌≤◌, cond, List, length, get_or, set, take, sym, ap, ◌∙◌, refl, subst, arith}
+use Rattle.std.specs.Prelude.{IsTrue, ◌↔◌}
+use Rattle.std.specs.BTreeSet.{BTreeSet, contains}
+use Rattle.std.specs.Ordering.{nat_cmp}
+use Rattle.std.proofs.lemmas.Bool.{cases_eq, eq-eqb, ne_eqb}
+use Rattle.std.proofs.lemmas.List.{get_or-set_same, get_or-set_other, get_or_default, length-take}
+use Rattle.std.proofs.lemmas.List.Sums.{count_by_more_yes, count_by_more_no, count_by-le-length, sum_by-take-le}
+use Rattle.sia_parts.specs.Packing.{target_number}
+use Rattle.sia_graph.specs.Places.{aims_at, arriving_at, IsFreedAt}
+
+-- the count of the first numbers is at most how many they are, and at most that of all
+pub arriving_few : (numbers : List ℕ) (k i : ℕ) → arriving_at (take k numbers) i ≤ k
+arriving_few numbers k i = let a = count_by-le-length (aims_at i) (take k numbers) in let b = length-take k numbers in omega arith
+
+arriving_part : (numbers : List ℕ) (k i : ℕ) → arriving_at (take k numbers) i ≤ arriving_at numbers i
+arriving_part numbers k i = sum_by-take-le (λ n. cond (aims_at i n) 1 0) numbers k
+
+-- one number more, which leads to the place j
+module _ (numbers : List ℕ) (k d : ℕ) (within : k < length numbers) (j : ℕ) (at : target_number (get_or numbers k d) ≡ j) where
+  one_more : arriving_at (take (k + 1) numbers) j ≡ arriving_at (take k numbers) j + 1
+  one_more = count_by_more_yes (aims_at j) numbers k d within (eq-eqb (target_number (get_or numbers k d)) j at)
+
+  none_more : (i : ℕ) → i ≢ j → arriving_at (take (k + 1) numbers) i ≡ arriving_at (take k numbers) i
+  none_more i other = count_by_more_no (aims_at i) numbers k d within (ne_eqb (target_number (get_or numbers k d)) i (λ e. other (sym e ∙ at)))
+
+  module _ (counts : List ℕ) (below : j < length counts) where
+    pub counted_more : (places : ℕ) → length counts ≡ places → (v : ℕ) → v ≡ get_or counts j v → ((i : ℕ) → i < places → get_or counts i 0 ≡ arriving_at (take k numbers) i)
+        → (i : ℕ) → i < places → get_or (set counts j (v + 1)) i 0 ≡ arriving_at (take (k + 1) numbers) i
+    counted_more places long v is counted i l = elim (cases_eq i j) [
+      | inl same ↦
+          let a = get_or-set_same counts j (v + 1) 0 below in
+          let b = get_or_default counts j v 0 below in
+          let c = counted j (omega arith) in
+          let e = one_more in
+          let f : get_or (set counts j (v + 1)) j 0 ≡ arriving_at (take (k + 1) numbers) j = omega arith in
+          subst (λ n. get_or (set counts j (v + 1)) n 0 ≡ arriving_at (take (k + 1) numbers) n) (sym same) f
+      | inr other ↦ get_or-set_other counts j i (v + 1) 0 other ∙ counted i l ∙ sym (none_more i other)
+    ]
+
+    -- led back
+    pub led_more : (source : ℕ) (was : List ℕ)
+        → ((i : ℕ) → i < length counts → (0 < arriving_at (take k numbers) i → get_or counts i 0 ≡ source) × (arriving_at (take k numbers) i ≡ 0 → get_or counts i 0 ≡ get_or was i 0))
+        → (i : ℕ) → i < length counts
+        → (0 < arriving_at (take (k + 1) numbers) i → get_or (set counts j source) i 0 ≡ source) × (arriving_at (take (k + 1) numbers) i ≡ 0 → get_or (set counts j source) i 0 ≡ get_or was i 0)
+    led_more source was before i l = elim (cases_eq i j) [
+      | inl same ↦
+          let a = get_or-set_same counts j source 0 below in
+          let b = one_more in
+          let c = ap (λ n. arriving_at (take (k + 1) numbers) n) same in
+          (λ some. ap (λ n. get_or (set counts j source) n 0) same ∙ a, λ none. absurd (omega arith))
+      | inr other ↦
+          let a = get_or-set_other counts j i source 0 other in
+          let b = none_more i other in
+          let w = before i l in
+          (λ some. a ∙ w.0 (omega arith), λ none. a ∙ w.1 (omega arith))
+    ]
+
+    module _ (old : List ℕ) (kept : (i : ℕ) → i < length counts → get_or counts i 0 + arriving_at (take k numbers) i ≡ get_or old i 0) where
+      -- the count at a number's target isn't 0 yet
+      pub some_left : ((i : ℕ) → i < length counts → arriving_at numbers i ≤ get_or old i 0) → 1 ≤ get_or counts j 0
+      some_left enough =
+          let a = kept j below in
+          let b = enough j below in
+          let c = one_more in
+          let e = arriving_part numbers (k + 1) j in
+          omega arith
+
+      pub released_more : 1 ≤ get_or counts j 0 → (i : ℕ) → i < length counts → get_or (set counts j (get_or counts j 0 - 1)) i 0 + arriving_at (take (k + 1) numbers) i ≡ get_or old i 0
+      released_more some i l = elim (cases_eq i j) [
+        | inl same ↦
+            let v = get_or counts j 0 in
+            let a = get_or-set_same counts j (v - 1) 0 below in
+            let b = kept j below in
+            let c = one_more in
+            let f : get_or (set counts j (v - 1)) j 0 + arriving_at (take (k + 1) numbers) j ≡ get_or old j 0 = omega arith in
+            subst (λ n. get_or (set counts j (v - 1)) n 0 + arriving_at (take (k + 1) numbers) n ≡ get_or old n 0) (sym same) f
+        | inr other ↦
+            let a = get_or-set_other counts j i (get_or counts j 0 - 1) 0 other in
+            let b = kept i l in
+            let c = none_more i other in
+            omega arith
+      ]
+
+    -- what one number more frees
+    still_freed : (i v : ℕ) → 1 ≤ get_or counts j 0 → IsFreedAt (take k numbers) counts i → IsFreedAt (take (k + 1) numbers) (set counts j v) i
+    still_freed i v some f =
+        let other : i ≢ j = λ e. let a = f.1 in let b = ap (λ n. get_or counts n 0) e in omega arith in
+        let more = none_more i other in
+        ((let a = f.0 in omega arith), get_or-set_other counts j i v 0 other ∙ f.1)
+
+    now_freed : (v : ℕ) → v ≡ 0 → IsFreedAt (take (k + 1) numbers) (set counts j v) j
+    now_freed v none = ((let a = one_more in omega arith), get_or-set_same counts j v 0 below ∙ none)
+
+    freed_cases : (i v : ℕ) → IsFreedAt (take (k + 1) numbers) (set counts j v) i → IsFreedAt (take k numbers) counts i ⊎ ((v ≡ 0) × (j ≡ i))
+    freed_cases i v f = elim (cases_eq i j) [
+      | inl same ↦
+          let a = get_or-set_same counts j v 0 below in
+          let b = ap (λ n. get_or (set counts j v) n 0) same in
+          let e = f.1 in
+          inr (omega arith, sym same)
+      | inr other ↦
+          let more = none_more i other in
+          inl ((let a = f.0 in omega arith), sym (get_or-set_other counts j i v 0 other) ∙ f.1)
+    ]
+
+    -- the set of what is ready, where the count falls to 0 and where it doesn't
+    module _ (was ready now : BTreeSet ℕ) (v : ℕ) (some : 1 ≤ get_or counts j 0)
+        (before : (i : ℕ) → IsTrue (contains nat_cmp ready i) ↔ (IsTrue (contains nat_cmp was i) ⊎ IsFreedAt (take k numbers) counts i)) where
+      pub ready_more : v ≡ 0 → ((i : ℕ) → IsTrue (contains nat_cmp now i) ↔ (IsTrue (contains nat_cmp ready i) ⊎ (j ≡ i)))
+          → (i : ℕ) → IsTrue (contains nat_cmp now i) ↔ (IsTrue (contains nat_cmp was i) ⊎ IsFreedAt (take (k + 1) numbers) (set counts j v) i)
+      ready_more none added i = (
+        λ c. elim ((added i).0 c) [ inl r ↦ still ((before i).0 r) | inr e ↦ inr (subst (λ u. IsFreedAt (take (k + 1) numbers) (set counts j v) u) e (now_freed v none)) ],
+        λ c. elim c [
+          | inl w ↦ (added i).1 (inl ((before i).1 (inl w)))
+          | inr f ↦ elim (freed_cases i v f) [ inl g ↦ (added i).1 (inl ((before i).1 (inr g))) | inr z ↦ (added i).1 (inr z.1) ]
+        ],
+      )
+        where
+          still : IsTrue (contains nat_cmp was i) ⊎ IsFreedAt (take k numbers) counts i → IsTrue (contains nat_cmp was i) ⊎ IsFreedAt (take (k + 1) numbers) (set counts j v) i
+          still (inl w) = inl w
+          still (inr f) = inr (still_freed i v some f)
+
+      pub ready_same : v ≢ 0 → now ≡ ready → (i : ℕ) → IsTrue (contains nat_cmp now i) ↔ (IsTrue (contains nat_cmp was i) ⊎ IsFreedAt (take (k + 1) numbers) (set counts j v) i)
+      ready_same more same i = (
+        λ c. elim ((before i).0 (subst (λ (s : BTreeSet ℕ). IsTrue (contains nat_cmp s i)) same c)) [ inl w ↦ inl w | inr f ↦ inr (still_freed i v some f) ],
+        λ c. subst (λ (s : BTreeSet ℕ). IsTrue (contains nat_cmp s i)) (sym same) ((before i).1 (elim c [
+          | inl w ↦ inl w
+          | inr f ↦ elim (freed_cases i v f) [ inl g ↦ inr g | inr z ↦ absurd (more z.0) ]
+        ])),
+      )
