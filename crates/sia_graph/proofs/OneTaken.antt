@@ -25,6 +25,13 @@ no_greater k q e = elim (cases_lt q k) [
       absurd (let g = sym f ∙ e in cc)
 ]
 
+-- t is in the set
+abbrev pub IsIn : BTreeSet ℕ → ℕ → Type 0
+IsIn s t = IsTrue (contains nat_cmp s t)
+
+pub none_in : (s : BTreeSet ℕ) → s.keys ≡ [] → (t : ℕ) → ¬ IsIn s t
+none_in s none t r = let e = rw none at r in cc
+
 -- what holds of each edge holds of those from t
 pub group_all : (P : Edge → Type 0) (edges group : List Edge) (t : ℕ) → AreEdgesFrom edges t group → All P edges → All P group
 group_all P edges group t from all k d l =
@@ -51,24 +58,24 @@ Joins ids edges = All (λ e. Contains ids e.src × Contains ids e.dst × (e.src 
 pub edge_joins : (ids : List ℕ) (edges : List Edge) → Joins ids edges → (e : Edge) → Contains edges e → Contains ids e.src × Contains ids e.dst × (e.src ≢ e.dst)
 edge_joins ids edges joins e c = subst (λ (x : Edge). Contains ids x.src × Contains ids x.dst × (x.src ≢ x.dst)) c.2 (joins c.0 e c.1)
 
-module _ (ids : List ℕ) (edges : List Edge) (counts front : List ℕ) (ready : BTreeSet ℕ) (taking : IsTaking ids edges counts front ready) where
-  taken_out : (t : ℕ) → IsTrue (contains nat_cmp ready t) → ¬ Stands front t
+module _ (ids : List ℕ) (edges : List Edge) (counts front : List ℕ) (Ready : ℕ → Type 0) (taking : IsTaking ids edges counts front Ready) where
+  taken_out : (t : ℕ) → Ready t → ¬ Stands front t
   taken_out t c = false_stands front t (not-true (stands front t) ((taking.is_ready t).0 c).1)
 
-  pub taken_in : (t : ℕ) → IsTrue (contains nat_cmp ready t) → Stands ids t
+  pub taken_in : (t : ℕ) → Ready t → Stands ids t
   taken_in t c = contains_stands ids t ((taking.is_ready t).0 c).0
 
-  pub smaller : (t : ℕ) → IsTrue (contains nat_cmp ready t) → left_over ids (front ++ t ∷ []) < left_over ids front
+  pub smaller : (t : ℕ) → Ready t → left_over ids (front ++ t ∷ []) < left_over ids front
   smaller t c = fewer_left ids front t (taken_in t c) (taken_out t c)
 
   -- the counts have room for the edges from t
-  pub group_fits : (t : ℕ) (group : List Edge) → IsTrue (contains nat_cmp ready t) → AreEdgesFrom edges t group → (i : ℕ) → i < length ids → arriving group (get_or ids i 0) ≤ get_or counts i 0
+  pub group_fits : (t : ℕ) (group : List Edge) → Ready t → AreEdgesFrom edges t group → (i : ℕ) → i < length ids → arriving group (get_or ids i 0) ≤ get_or counts i 0
   group_fits t group c from i l =
       let a = taking.counted.1 i l in
       let b = released front edges group t (get_or ids i 0) from (taken_out t c) in
       omega arith
 
-  pub none_left : ready.keys ≡ [] → IsLastFront ids edges counts front
+  pub none_left : ((t : ℕ) → ¬ Ready t) → IsLastFront ids edges counts front
   none_left none = record {
     is_front = taking.is_front;
     counted = taking.counted;
@@ -76,15 +83,15 @@ module _ (ids : List ℕ) (edges : List Edge) (counts front : List ℕ) (ready :
       | inl in' ↦ true_stands front t in'
       | inr out ↦
           let r = (taking.is_ready t).1 (c, not_from_false (stands front t) out, z) in
-          absurd (let e = rw none at r in cc)
+          absurd (none t r)
     ];
   }
 
   module _ (up : IsStrictlyIncreasing ids) (joins : Joins ids edges) (t : ℕ) (group : List Edge) (from : AreEdgesFrom edges t group)
-      (next after : BTreeSet ℕ) (less : List ℕ) (same_length : length less ≡ length ids)
-      (had : IsTrue (contains nat_cmp ready t)) (least : IsLowerBound nat_cmp ready t) (popped : Updates nat_cmp ready next t false)
+      (Next After : ℕ → Type 0) (less : List ℕ) (same_length : length less ≡ length ids)
+      (had : Ready t) (least : (u : ℕ) → Ready u → t ≤ u) (popped : (u : ℕ) → Next u ↔ (Ready u × (t ≢ u)))
       (fewer : (i : ℕ) → i < length ids → get_or less i 0 + arriving group (get_or ids i 0) ≡ get_or counts i 0)
-      (freed : (u : ℕ) → IsTrue (contains nat_cmp after u) ↔ (IsTrue (contains nat_cmp next u) ⊎ IsFreed ids group less u)) where
+      (freed : (u : ℕ) → After u ↔ (Next u ⊎ IsFreed ids group less u)) where
     more : List ℕ
     more = front ++ t ∷ []
 
@@ -109,12 +116,12 @@ module _ (ids : List ℕ) (edges : List Edge) (counts front : List ℕ) (ready :
           | inr e ↦ (edge_joins ids edges joins leads.0 leads.1).2 (leads.2 ∙ e ∙ sym leads.3)
         ]
 
-    now_ready : (u : ℕ) → IsTrue (contains nat_cmp after u) ↔ (Contains ids u × IsTrue (not (stands more u)) × (waiting more edges u ≡ 0))
+    now_ready : (u : ℕ) → After u ↔ (Contains ids u × IsTrue (not (stands more u)) × (waiting more edges u ≡ 0))
     unfolding more
     now_ready u = (
       λ c. elim ((freed u).0 c) [
         | inl n ↦
-            let r = (removed ready next t popped u).0 n in
+            let r = (popped u).0 n in
             let w = (taking.is_ready u).0 r.0 in
             let b = released front edges group t u from (taken_out t had) in
             let z = w.2 in (
@@ -137,8 +144,8 @@ module _ (ids : List ℕ) (edges : List Edge) (counts front : List ℕ) (ready :
           let z = w.2 in
           elim (cases_lt 0 (arriving group u)) [
             | inr none ↦
-                let r : IsTrue (contains nat_cmp ready u) = (taking.is_ready u).1 (w.0, not_from_false (stands front u) (stands_false front u (λ s. out (stands_more front t u s))), omega arith) in
-                (freed u).1 (inl ((removed ready next t popped u).1 (r, λ e. out (subst (λ x. Stands more x) e (stands_last front t)))))
+                let r : Ready u = (taking.is_ready u).1 (w.0, not_from_false (stands front u) (stands_false front u (λ s. out (stands_more front t u s))), omega arith) in
+                (freed u).1 (inl ((popped u).1 (r, λ e. out (subst (λ x. Stands more x) e (stands_last front t)))))
             | inl some ↦
                 let i = w.0.0 in
                 let e : get_or ids i 0 ≡ u = get_or_default ids i 0 u w.0.1 ∙ w.0.2 in
@@ -148,12 +155,12 @@ module _ (ids : List ℕ) (edges : List Edge) (counts front : List ℕ) (ready :
           ],
     )
 
-    pub taken : IsTaking ids edges less (front ++ t ∷ []) after
+    pub taken : IsTaking ids edges less (front ++ t ∷ []) After
     unfolding more
     taken = record {
       is_front = front_more (Contains ids) (Contains edges) front t taking.is_front
           (((taking.is_ready t).0 had).0, taken_out t had, none_waits front edges t ((taking.is_ready t).0 had).2)
-          (λ u r. no_greater t u (least u ((taking.is_ready u).1 (r.0, not_from_false (stands front u) (stands_false front u r.1), none_wait_if front edges u r.2))));
+          (λ u r. least u ((taking.is_ready u).1 (r.0, not_from_false (stands front u) (stands_false front u r.1), none_wait_if front edges u r.2)));
       counted = now_counted;
       is_ready = now_ready;
     }
@@ -165,9 +172,9 @@ pub joined_members : (ids : List ℕ) (edges : List Edge) → Joins ids edges �
 joined_members ids edges joins k d l = (joins k d l).1
 
 -- nothing is taken yet
-pub taking_none : (ids : List ℕ) (edges : List Edge) (counts : List ℕ) (ready : BTreeSet ℕ) → AreWaiting [] ids edges counts
-    → ((t : ℕ) → IsTrue (contains nat_cmp ready t) ↔ ((i : ℕ) × (i < length ids) × (get_or ids i 0 ≡ t) × (get_or counts i 0 ≡ 0))) → IsTaking ids edges counts [] ready
-taking_none ids edges counts ready counted is = record {
+pub taking_none : (ids : List ℕ) (edges : List Edge) (counts : List ℕ) (Ready : ℕ → Type 0) → AreWaiting [] ids edges counts
+    → ((t : ℕ) → Ready t ↔ ((i : ℕ) × (i < length ids) × (get_or ids i 0 ≡ t) × (get_or counts i 0 ≡ 0))) → IsTaking ids edges counts [] Ready
+taking_none ids edges counts Ready counted is = record {
   is_front = front_none (Contains ids) (Contains edges);
   counted = counted;
   is_ready = λ t. (

@@ -1,8 +1,6 @@
 -- What holds while an order is made one transaction at a time: what the front of an order keeps, and how many edges lead to
 -- each transaction from outside the front.
 use Rattle.std.specs.Prelude.{◌≡◌, ◌⊎◌, ℕ, ◌<◌, ◌==◌, ◌&&◌, ◌||◌, Bool, false, not, List, [], ◌∷◌, slice_get, slice_index, length, count_by, Contains, Some, ⊤, IsTrue, ◌↔◌}
-use Rattle.std.specs.BTreeSet.{BTreeSet, contains}
-use Rattle.std.specs.Ordering.{nat_cmp}
 use Rattle.sia_parts.specs.declared.finding.Edge.{Edge}
 use Rattle.sia_graph.specs.Groups.{IsGroup}
 use Rattle.sia_graph.specs.Orders.{Leads, IsKeepingOrder}
@@ -65,7 +63,7 @@ pub record IsLastFront (ids : List ℕ) (edges : List Edge) (counts front : List
   pub none_ready : (t : ℕ) → Contains ids t → waiting front edges t ≡ 0 → (i : ℕ) × (slice_get front i ≡ Some t)
 
 -- a front with the counts and the ready ones of what is left
-pub record IsTaking (ids : List ℕ) (edges : List Edge) (counts front : List ℕ) (ready : BTreeSet ℕ) : Type 0 where
+pub record IsTaking (ids : List ℕ) (edges : List Edge) (counts front : List ℕ) (IsReady : ℕ → Type 0) : Type 0 where
   pub is_front : IsFront (Contains ids) (Contains edges) front
   pub counted : AreWaiting front ids edges counts
-  pub is_ready : (t : ℕ) → IsTrue (contains nat_cmp ready t) ↔ (Contains ids t × IsTrue (not (stands front t)) × (waiting front edges t ≡ 0))
+  pub is_ready : (t : ℕ) → IsReady t ↔ (Contains ids t × IsTrue (not (stands front t)) × (waiting front edges t ≡ 0))
