@@ -39,3 +39,4 @@ pub mod Vulnerable
 pub mod PivotLists
 pub mod Places
 pub mod Arrivals
+pub mod TakenPlaces
