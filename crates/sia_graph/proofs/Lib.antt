@@ -40,3 +40,4 @@ pub mod PivotLists
 pub mod Places
 pub mod Arrivals
 pub mod TakenPlaces
+pub mod LeastNumbers

@@ -22,7 +22,7 @@ use Rattle.sia_graph.proofs.OneTaken.{Joins}
 use Rattle.sia_graph.proofs.Positions.{get_left, get_right}
 
 -- a greater number has no lesser quotient
-div_rises : (k n m : ℕ) → 0 < k → n ≤ m → n / k ≤ m / k
+pub div_rises : (k n m : ℕ) → 0 < k → n ≤ m → n / k ≤ m / k
 div_rises k n m some l = le-div (n / k) m k some (let a = div-mul-le_self n k in omega arith)
 
 source_rises : (n m : ℕ) → n ≤ m → source_number n ≤ source_number m
@@ -59,8 +59,7 @@ module _ (ids keys numbers : List ℕ) (are : AreNumbered ids keys numbers) wher
   all_join k d l =
       let at = edge_at k d l in
       let n = get_or numbers k 0 in
-      let is = are.packed k 0 at.0 in
-      (
+      let is = are.packed k 0 at.0 in (
         subst (λ (e : Edge). Contains ids e.src) (sym at.1) (source_number n, is.source, get_or_default ids (source_number n) (get_or ids (source_number n) 0) 0 is.source),
         subst (λ (e : Edge). Contains ids e.dst) (sym at.1) (target_number n, is.target, get_or_default ids (target_number n) (get_or ids (target_number n) 0) 0 is.target),
         are.joins k d l,

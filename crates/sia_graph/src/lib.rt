@@ -22,6 +22,7 @@ mod taking;
 mod taking_numbers;
 mod txns;
 mod walking;
+mod walking_numbers;
 
 pub use laws::{pivot_law, replay_law, ssi_law};
 pub use passing::{passes, ssi_pass};

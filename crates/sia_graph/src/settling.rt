@@ -38,6 +38,12 @@ impl Model for Steps {
 }
 
 impl Steps {
+    pub(crate) fn new(steps: Vec<Step>) -> Self
+        ensures { result ≡ steps.items }
+    {
+        Steps { steps }
+    }
+
     pub fn as_slice(&self) -> &[Step]
         ensures { result.now ≡ self.now }
     {
@@ -55,7 +61,7 @@ pub enum Verdict {
 }
 
 /// The first position with a count that isn't 0.
-fn first_left(counts: &[usize]) -> Option<usize>
+pub(crate) fn first_left(counts: &[usize]) -> Option<usize>
     ensures { MatchOption result ((i : ℕ) → i < length counts.now → slice_index counts.now i ≡ 0)
         (λ start. (start < length counts.now) × (0 < slice_index counts.now start) × ((i : ℕ) → i < start → slice_index counts.now i ≡ 0)) }
 {

@@ -1,13 +1,25 @@
 //! The least order, or a cycle, of edges that are kept as numbers.
-ghost use Rattle.std.specs.Prelude.{◌≢◌, ◌<◌, All, AllPairs, Contains, IfOk, map};
+ghost use Rattle.std.specs.Prelude.{◌≢◌, ◌<◌, All, AllPairs, Contains, IfOk, IsTrue, map};
 ghost use Rattle.std.specs.List.Sorted.{IsStrictlyIncreasing};
-ghost use Rattle.sia_parts.specs.Packing.{IsPacked, unpacked};
+ghost use Rattle.sia_parts.specs.Packing.{IsPacked, source_number, target_number, unpacked};
+ghost use Rattle.sia_graph.specs.Places.{AreNumbered, edges_at};
 ghost use Rattle.sia_graph.specs.Verdicts.{IsVerdict};
 
-use crate::settling::Verdict;
+use crate::numbered::Numbered;
+use crate::settling::{Steps, Verdict, first_left};
+use crate::taking_numbers::{count_numbers, take_numbered};
+use crate::txns::Txns;
+use crate::walking_numbers::numbered_cycle;
 use sia_events::{Key, NoMemory, TxnId};
-use sia_parts::EdgeNumber;
+use sia_parts::{EdgeNumber, source_of, target_of};
 use std::alloc::Global;
+
+/// Whether each number leads to a greater place.
+fn all_rise(numbers: &[EdgeNumber]) -> bool
+    ensures { IsTrue result → All (λ n. source_number n < target_number n) numbers.now }
+{
+    numbers.iter().all(|n| source_of(*n) < target_of(*n))
+}
 
 /// The least order of the ids that keeps the edges, or where none does the cycle that is printed, as `settle` tells it of
 /// edges that aren't packed. The numbers are of these ids and keys.
@@ -24,5 +36,28 @@ pub fn settle_numbers(
     requires joins { All (λ e. e.src ≢ e.dst) (map (unpacked ids.now keys.now) numbers.now) }
     ensures { IfOk result (IsVerdict (Contains ids.now) (Contains (map (unpacked ids.now keys.now) numbers.now))) }
 {
-    Err(NoMemory)
+    if all_rise(numbers) {
+        let order = Vec::from_slice(alloc, ids)?;
+        return Ok(Verdict::Order(Txns::new(order)));
+    }
+    settle_numbered(alloc, &Numbered { ids, keys, numbers })
+}
+
+/// The same, by taking one transaction after another.
+fn settle_numbered(alloc: Global, edges: &Numbered) -> Result<Verdict, NoMemory>
+    requires { AreNumbered edges.now.ids.now edges.now.keys.now edges.now.numbers.now }
+    ensures { IfOk result (IsVerdict (Contains edges.now.ids.now) (Contains (edges_at edges.now.ids.now edges.now.keys.now edges.now.numbers.now))) }
+{
+    let places = edges.ids.len();
+    let mut starts = vec![in alloc; edges.numbers.len(); places.saturating_add(1)]?;
+    let mut counted = count_numbers(alloc, places, edges.numbers, &mut starts)?;
+    let counts = counted.as_mut_slice();
+    let order = take_numbered(alloc, edges, &starts, counts)?;
+    match first_left(counts) {
+        None => Ok(Verdict::Order(Txns::new(order))),
+        Some(start) => {
+            let steps = numbered_cycle(alloc, edges, &starts, counts, start)?;
+            Ok(Verdict::Cycle(Steps::new(steps)))
+        }
+    }
 }

@@ -46,7 +46,7 @@ fn lead_back(
 }
 
 /// So many positions, each of which leads to itself.
-fn themselves(alloc: Global, count: usize) -> Result<Vec<usize>, NoMemory>
+pub(crate) fn themselves(alloc: Global, count: usize) -> Result<Vec<usize>, NoMemory>
     ensures long { IfOk result (λ positions. length positions.items ≡ count) }
     ensures each { IfOk result (λ positions. (i : ℕ) → i < count → slice_index positions.items i ≡ i) }
 {
@@ -120,7 +120,7 @@ fn is_alone(previous: &[usize], place: usize) -> bool
 }
 
 /// Whether nothing that going back from `start` reaches leads to itself.
-fn goes_round(alloc: Global, previous: &[usize], start: usize) -> Result<bool, NoMemory>
+pub(crate) fn goes_round(alloc: Global, previous: &[usize], start: usize) -> Result<bool, NoMemory>
     requires within { StaysWithin previous.now }
     requires start { start < length previous.now }
     ensures { IfOk result (λ r. IsTrue r → (n : ℕ) → slice_index previous.now (back previous.now n start) ≢ back previous.now n start) }

@@ -16,8 +16,8 @@ loop-place-init c =
     let ready = c.in_ok-ready.ready in
     let long = c.requires.counted.0 in (
       subst (λ l. IsTaking e.ids.now (edges_at e.ids.now e.keys.now e.numbers.now) counts l (StandsWhere e.ids.now (IsIn ready))) (sym c.new-order.ensures.items)
-      (no_place_taken e.ids.now e.keys.now e.numbers.now c.requires.numbered counts (IsIn ready) c.requires.counted
-      (λ i l. ((λ r. ((c.in_ok-ready.ensures i).0 r).1), (λ z. (c.in_ok-ready.ensures i).1 (omega arith, z))))),
+          (no_place_taken e.ids.now e.keys.now e.numbers.now c.requires.numbered counts (IsIn ready) c.requires.counted
+          (λ i l. ((λ r. ((c.in_ok-ready.ensures i).0 r).1), (λ z. (c.in_ok-ready.ensures i).1 (omega arith, z))))),
       (λ i r. let a = ((c.in_ok-ready.ensures i).0 r).0 in omega arith),
     )
 
@@ -60,10 +60,10 @@ loop-place-preserved c =
     let long : length c.release.new.counts ≡ length ids = let b = c.release.auto.counts in omega arith in
     let popped = removed c.loop-place.ready c.next_ready.new.ready p c.in-Some.ensures.updates in (
       subst (λ l. IsTaking ids (edges_at ids keys numbers) c.release.new.counts l (StandsWhere ids (IsIn c.release.new.ready))) (sym c.in_ok-push.ensures.items)
-      (taken_place ids keys numbers c.requires.numbered c.loop-place.counts c.loop-place.order.items (IsIn c.loop-place.ready) c.loop-place.invariant.0
-      p below c.in-Some.ensures.member group from (IsIn c.next_ready.new.ready) (IsIn c.release.new.ready) c.release.new.counts long
-      (λ q r. no_greater p q (c.in-Some.ensures.least q r)) (λ q l. popped q)
-      (λ i l. c.in_ok-release.ensures.fewer i (omega arith)) (λ i l. c.in_ok-release.ensures.ready i)),
+          (taken_place ids keys numbers c.requires.numbered c.loop-place.counts c.loop-place.order.items (IsIn c.loop-place.ready) c.loop-place.invariant.0
+          p below c.in-Some.ensures.member group from (IsIn c.next_ready.new.ready) (IsIn c.release.new.ready) c.release.new.counts long
+          (λ q r. no_greater p q (c.in-Some.ensures.least q r)) (λ q l. popped q)
+          (λ i l. c.in_ok-release.ensures.fewer i (omega arith)) (λ i l. c.in_ok-release.ensures.ready i)),
       (λ i r. elim ((c.in_ok-release.ensures.ready i).0 r) [
         | inl n ↦ c.loop-place.invariant.1 i ((popped i).0 n).0
         | inr f ↦ freed_within ids keys group c.release.new.counts (group_packed ids keys numbers c.requires.numbered p group from) i f
