@@ -1,7 +1,7 @@
 -- One more transaction is taken: the least that is ready, with what it releases.
 use Rattle.std.proofs.Common.{◌≡◌, ◌≢◌, ◌⊎◌, inl, inr, ℕ, ◌+◌, ◌<◌, ◌≤◌, true, false, List, [], ◌∷◌, ◌++◌, length, get_or, slice_get, Some, refl, ap, sym, ◌∙◌, subst, arith}
 use Rattle.std.specs.Prelude.{Contains, All, IsTrue, ◌↔◌, not}
-use Rattle.std.specs.BTreeSet.{BTreeSet, contains, Updates, IsLowerBound}
+use Rattle.std.specs.BTreeSet.{BTreeSet, contains}
 use Rattle.std.specs.Ordering.{nat_cmp, is_gt}
 use Rattle.std.specs.List.Sorted.{IsStrictlyIncreasing}
 use Rattle.std.proofs.lemmas.Bool.{cases_Bool, cases_lt, le-ltb, ne_eqb, not-true, not_from_false, eqb-true}
@@ -13,7 +13,6 @@ use Rattle.sia_graph.specs.Fronts.{arriving, waiting, stands, leads_to, AreEdges
 use Rattle.sia_graph.proofs.Positions.{Stands, contains_stands, stands_contains, true_stands, stands_false, false_stands, stands_more, stands_last, stands_cases, get_left, get_right}
 use Rattle.sia_graph.proofs.Fronts.{front_more, front_none}
 use Rattle.sia_graph.proofs.Waiting.{none_waits, none_wait_if, some_counted, all_at, released, fewer_left}
-use Rattle.sia_graph.proofs.Releasing.{removed}
 
 pub no_greater : (k q : ℕ) → is_gt (nat_cmp k q) ≡ false → k ≤ q
 no_greater k q e = elim (cases_lt q k) [

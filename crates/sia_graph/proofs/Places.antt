@@ -15,8 +15,8 @@ use Rattle.sia_parts.specs.declared.finding.Edge.{Edge}
 use Rattle.sia_parts.specs.Entries.{edge_rank}
 use Rattle.sia_parts.specs.Packing.{IsPacked, unpacked, source_number, target_number}
 use Rattle.sia_parts.proofs.PackedEdges.{unpacked_before}
-use Rattle.sia_graph.specs.Fronts.{AreEdgesFrom, arriving, leads_to}
-use Rattle.sia_graph.specs.Places.{AreNumbered, AreNumbersFrom, aims_at, arriving_at, edges_at}
+use Rattle.sia_graph.specs.Fronts.{AreEdgesFrom, AreWaiting, arriving, leads_to}
+use Rattle.sia_graph.specs.Places.{AreArriving, AreNumbered, AreNumbersFrom, aims_at, arriving_at, edges_at}
 use Rattle.sia_graph.proofs.AscendingIds.{ids_less, one_id}
 use Rattle.sia_graph.proofs.OneTaken.{Joins}
 use Rattle.sia_graph.proofs.Positions.{get_left, get_right}
@@ -104,3 +104,11 @@ module _ (ids keys numbers : List ℕ) (are : AreNumbered ids keys numbers) wher
       sum_by-cons (λ e. cond (leads_to t e) 1 0) (unpacked ids keys n) (edges_at ids keys group)
       ∙ (λ j. cond (same_test (target_number n) i (packed 0 n (omega arith)).target l j) 1 0 + same_arriving i l group (λ k d m. packed (suc k) d (omega arith)) j)
       ∙ sym (sum_by-cons (λ m. cond (aims_at i m) 1 0) n group)
+
+  -- as many edges wait at first as numbers lead there
+  pub counted_first : (counts : List ℕ) → AreArriving (length ids) numbers counts → AreWaiting [] ids edges counts
+  counted_first counts made = (made.0, λ i l. made.1 i l ∙ sym (same_arriving i l numbers are.packed))
+
+  -- where each number leads to a greater place, each edge leads to a greater transaction
+  pub all_ascend : All (λ n. source_number n < target_number n) numbers → All (λ e. e.src < e.dst) edges
+  all_ascend rise = All-map (λ e. e.src < e.dst) (unpacked ids keys) numbers (λ k d l. ids_less ids are.ids_up (source_number (get_or numbers k d)) (target_number (get_or numbers k d)) (rise k d l) (are.packed k d l).target)

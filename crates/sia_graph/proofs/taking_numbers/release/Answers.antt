@@ -1,8 +1,7 @@
-use Rattle.std.proofs.Common.{◌≡◌, ℕ, ◌-◌, ◌<◌, ◌≤◌, true, length, get_or, sym, ◌∙◌, subst, arith}
+use Rattle.std.proofs.Common.{◌≡◌, ℕ, ◌-◌, ◌<◌, true, length, get_or, sym, ◌∙◌, subst, arith}
 use Rattle.std.specs.BTreeSet.{BTreeSet, Updates}
 use Rattle.std.specs.Ordering.{nat_cmp}
 use Rattle.std.proofs.lemmas.List.{get_or-set_same, length-set}
-use Rattle.sia_graph.specs.Places.{arriving_at}
 use Rattle.sia_graph.proofs.Arrivals.{some_left, released_more, ready_more, ready_same}
 use Rattle.sia_graph.proofs.Releasing.{inserted}
 use Rattle.sia_graph.proofs.taking_numbers.release.Goals as goal

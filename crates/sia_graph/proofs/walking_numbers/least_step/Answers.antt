@@ -1,7 +1,7 @@
-use Rattle.std.proofs.Common.{◌<◌, length, get_or, ltb, ap, sym, ◌∙◌, refl, subst, rules, arith}
+use Rattle.std.proofs.Common.{◌<◌, length, get_or, ltb, sym, refl, subst, rules}
 use Rattle.std.specs.Prelude.{Contains}
 use Rattle.std.proofs.lemmas.List.Sorted.{IsPartitionPoint-from_clause, IsPartitionedBy-ltb}
-use Rattle.sia_parts.specs.Packing.{target_number, kind_at, kind_digit, key_number}
+use Rattle.sia_parts.specs.Packing.{target_number}
 use Rattle.sia_graph.specs.declared.settling.Step.{Step}
 use Rattle.sia_graph.specs.Cycles.{TakesLeastEdge}
 use Rattle.sia_graph.specs.Places.{edges_at}
