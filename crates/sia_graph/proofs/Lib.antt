@@ -35,6 +35,7 @@ pub mod Listed
 pub mod Picked
 pub mod Groups
 pub mod LinkLists
+pub mod SpanTables
 pub mod Vulnerable
 pub mod PivotLists
 pub mod Places

@@ -18,9 +18,11 @@ mod replaying;
 mod right;
 mod settling;
 mod settling_numbers;
+mod spans;
 mod taking;
 mod taking_numbers;
 mod txns;
+mod vulnerable_numbers;
 mod walking;
 mod walking_numbers;
 

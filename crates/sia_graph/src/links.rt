@@ -21,10 +21,10 @@ pub struct Link {
     pub other: TxnId,
 }
 
-fn leads_rw(e: &Edge) -> bool
-    ensures { result ≡ is_rw e.now.kind }
+pub(crate) fn leads_rw(kind: Kind) -> bool
+    ensures { result ≡ is_rw kind }
 {
-    match e.kind {
+    match kind {
         Kind::Ww => false,
         Kind::Wr => false,
         Kind::Rw => true,
@@ -35,7 +35,7 @@ fn leads_rw(e: &Edge) -> bool
 fn is_vulnerable(ix: &Index, e: &Edge) -> bool
     ensures { IsTrue result ↔ ((e.now.kind ≡ Rw) × Overlap ix.now e.now.src e.now.dst) }
 {
-    leads_rw(e) && ix.overlap(e.src, e.dst)
+    leads_rw(e.kind) && ix.overlap(e.src, e.dst)
 }
 
 /// The ends of each such edge.

@@ -87,7 +87,19 @@ pub fn pivots(alloc: Global, f: &Findings, ix: &Index) -> Result<Vec<Pivot>, NoM
     ensures { IfOk result (λ found. ArePivots ix.now found.items) }
 {
     let leaving = vulnerable(alloc, &f.edges, ix)?;
-    let out = leaving.as_slice();
+    let found = pivots_of_links(alloc, ix, &leaving)?;
+    Ok(found)
+}
+
+/// The same, of the vulnerable edges, each as a link at its source.
+pub(crate) fn pivots_of_links(
+    alloc: Global,
+    ix: &Index,
+    out: &[Link],
+) -> Result<Vec<Pivot>, AllocError>
+    requires { ListsLinks (IsVulnerable ix.now) out.now }
+    ensures { IfOk result (λ found. ArePivots ix.now found.items) }
+{
     let arriving = turned(alloc, out)?;
     let into = arriving.as_slice();
     let txns = middles(alloc, into, out)?;

@@ -6,6 +6,8 @@ ghost use Rattle.sia_parts.specs.EdgeNumbers.{AreEdgeNumbers};
 ghost use Rattle.sia_graph.specs.Pivots.{ArePivots};
 
 use crate::pivot::Pivot;
+use crate::pivoting::pivots_of_links;
+use crate::vulnerable_numbers::vulnerable_of_numbers;
 use sia_events::{NoMemory, TxnId};
 use sia_index::Index;
 use sia_parts::EdgeNumber;
@@ -23,5 +25,7 @@ pub fn pivots_of_numbers(
     requires numbers { (keys : List ℕ) × AreEdgeNumbers ix.now txns.now keys (λ _. ⊤) numbers.now }
     ensures { IfOk result (λ found. ArePivots ix.now found.items) }
 {
-    Err(NoMemory)
+    let leaving = vulnerable_of_numbers(alloc, ix, txns, numbers)?;
+    let found = pivots_of_links(alloc, ix, &leaving)?;
+    Ok(found)
 }

@@ -1,0 +1,80 @@
+//! The rw edges between overlapping transactions, of edges that are kept as numbers.
+ghost use Rattle.std.specs.Prelude.{◌≡◌, ◌↔◌, ℕ, List, ⊤, All, IfOk, IsTrue, map, slice_index};
+ghost use Rattle.sia_events.specs.DangerousStructures.{IsVulnerable};
+ghost use Rattle.sia_events.specs.Lists.{ListsAscending};
+ghost use Rattle.sia_events.specs.Transactions.{IsCommitted, Overlap};
+ghost use Rattle.sia_parts.specs.declared.finding.Kind.TheVariants.{Rw};
+ghost use Rattle.sia_parts.specs.EdgeNumbers.{AreEdgeNumbers};
+ghost use Rattle.sia_parts.specs.Packing.{IsPacked, kind_at, kind_digit, source_number, target_number, unpacked};
+ghost use Rattle.sia_graph.specs.Links.{AreEnds, ListsLinks};
+ghost use Rattle.sia_graph.specs.Spans.{AreSpans};
+
+use crate::links::{Link, leads_rw};
+use crate::ordering::put_in_order;
+use crate::spans::{Span, overlap, spans_of};
+use sia_events::TxnId;
+use sia_index::Index;
+use sia_parts::{EdgeNumber, kind_in, source_of, target_of};
+use std::alloc::{AllocError, Global};
+
+/// Whether the edge is of the kind rw, and its ends overlap.
+#[inline(always)]
+fn is_vulnerable(ix: &Index, txns: &[TxnId], spans: &[Span], n: EdgeNumber) -> bool
+    requires spans { AreSpans ix.now txns.now spans.now }
+    requires packed { (keys : List ℕ) × IsPacked txns.now keys n }
+    ensures { IsTrue result ↔ ((kind_at (kind_digit n) ≡ Rw) × Overlap ix.now (slice_index txns.now (source_number n)) (slice_index txns.now (target_number n))) }
+{
+    ix.law();
+    leads_rw(kind_in(n)) && overlap(spans[source_of(n)], spans[target_of(n)])
+}
+
+/// The link between the edge's ends.
+#[inline(always)]
+fn link_of(txns: &[TxnId], n: EdgeNumber) -> Link
+    requires { (keys : List ℕ) × IsPacked txns.now keys n }
+    ensures { result ≡ record { at = slice_index txns.now (source_number n); other = slice_index txns.now (target_number n) } }
+{
+    Link {
+        at: txns[source_of(n)],
+        other: txns[target_of(n)],
+    }
+}
+
+/// The ends of each such edge.
+#[inline(never)]
+fn ends_of_numbers(
+    alloc: Global,
+    ix: &Index,
+    txns: &[TxnId],
+    spans: &[Span],
+    numbers: &[EdgeNumber],
+) -> Result<Vec<Link>, AllocError>
+    requires spans { AreSpans ix.now txns.now spans.now }
+    requires packed { (keys : List ℕ) × All (IsPacked txns.now keys) numbers.now }
+    ensures { IfOk result (λ links. (keys : List ℕ) → AreEnds (Overlap ix.now) (map (unpacked txns.now keys) numbers.now) links.items) }
+{
+    let mut links = Vec::new(alloc);
+    for n in numbers {
+        if is_vulnerable(ix, txns, spans, *n) {
+            links.push(link_of(txns, *n))?;
+        }
+    }
+    Ok(links)
+}
+
+/// Each such edge as a link at its source. The numbers are those of all edges.
+pub(crate) fn vulnerable_of_numbers(
+    alloc: Global,
+    ix: &Index,
+    txns: &[TxnId],
+    numbers: &[EdgeNumber],
+) -> Result<Vec<Link>, AllocError>
+    requires txns { ListsAscending (IsCommitted ix.now) txns.now }
+    requires numbers { (keys : List ℕ) × AreEdgeNumbers ix.now txns.now keys (λ _. ⊤) numbers.now }
+    ensures { IfOk result (λ links. ListsLinks (IsVulnerable ix.now) links.items) }
+{
+    let spans = spans_of(alloc, ix, txns)?;
+    let mut links = ends_of_numbers(alloc, ix, txns, &spans, numbers)?;
+    put_in_order(&mut links);
+    Ok(links)
+}
