@@ -9,7 +9,7 @@ use sia_index::{Fate, Index};
 use std::alloc::{AllocError, Global};
 
 /// Where a transaction commits.
-fn commit_of(ix: &Index, txn: TxnId) -> Option<u32>
+pub(crate) fn commit_of(ix: &Index, txn: TxnId) -> Option<u32>
     ensures { MatchOption result (¬ IsCommitted ix.now txn) (CommitsAt ix.now txn) }
 {
     ix.law();

@@ -12,7 +12,7 @@ use std::alloc::{AllocError, Global};
 use std::test::Fail;
 
 /// What is found at all keys.
-fn findings(alloc: Global, h: &History, ix: &Index) -> Result<Findings, NoMemory>
+pub(super) fn findings(alloc: Global, h: &History, ix: &Index) -> Result<Findings, NoMemory>
     requires { ix.now ≡ h.now }
     ensures { IfOk result (AreFindings ix.now) }
 {
@@ -37,7 +37,7 @@ fn judged(alloc: Global, h: &History) -> Result<(Vec<Pivot>, bool), NoMemory> {
 }
 
 /// Each pivot with its ins, outs and firsts.
-fn shown(alloc: Global, found: &[Pivot]) -> Result<String, AllocError> {
+pub(super) fn shown(alloc: Global, found: &[Pivot]) -> Result<String, AllocError> {
     let mut text = String::new(alloc);
     for pivot in found {
         let txn = pivot.txn;

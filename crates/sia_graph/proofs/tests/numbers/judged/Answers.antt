@@ -1,0 +1,16 @@
+use Rattle.std.proofs.Common.{List, ℕ, refl, sym, subst, ◌∙◌}
+use Rattle.std.specs.Prelude.{⊤}
+use Rattle.sia_parts.specs.EdgeNumbers.{AreEdgeNumbers}
+use Rattle.sia_parts.specs.declared.finding.Edge.{Edge}
+use Rattle.sia_parts.specs.Findings.{ListsEdges}
+use Rattle.sia_graph.proofs.tests.numbers.judged.Goals as goal
+
+pub pivots_of_numbers-requires-clause-numbers : goal.pivots_of_numbers-requires-clause-numbers
+pivots_of_numbers-requires-clause-numbers c =
+    let h = c.in_ok-ix.ix in
+    let keys = c.written_keys-keys.result.now in
+    let edges = subst (λ (l : List Edge). ListsEdges h (λ _. ⊤) l) (sym c.as_slice.ensures.value) c.in_ok-f.ensures.edges in
+    let told = c.in_ok-stand_for.ensures c.if-not-branch.false h edges in (
+      keys,
+      subst (λ (l : List ℕ). AreEdgeNumbers h l keys (λ _. ⊤) c.args.numbers.now) (c.deref.ensures.value ∙ sym c.deref-2.ensures.value) told,
+    )
