@@ -1,5 +1,5 @@
 -- Lists that a loop over the places of a history collects.
-use Rattle.std.proofs.Common.{◌≡◌, ◌↔◌, inl, inr, ℕ, ◌+◌, ◌<◌, ◌≤◌, List, [], ◌∷◌, ◌++◌, length, Some, None, refl, ap, sym, subst, ◌∙◌, arith}
+use Rattle.std.proofs.Common.{◌≡◌, ◌↔◌, inl, inr, ℕ, ◌+◌, ◌<◌, ◌≤◌, List, [], ◌∷◌, ◌++◌, length, Some, refl, sym, subst, arith}
 use Rattle.std.specs.Prelude.{Contains}
 use Rattle.std.specs.declared.cmp.Ordering.{Ordering}
 use Rattle.std.specs.declared.cmp.Ordering.TheVariants.{Less}
@@ -11,16 +11,14 @@ use Rattle.sia_events.specs.declared.event.Event.{Event}
 use Rattle.sia_events.specs.declared.event.Event.TheVariants.{Write}
 use Rattle.sia_events.specs.Lists.{Precedes, ListsBy}
 use Rattle.sia_events.specs.Places.{at_place}
-use Rattle.sia_events.specs.Events.{actor}
 use Rattle.sia_events.specs.Refusals.{IsWellFormed}
-use Rattle.sia_events.specs.Transactions.{ActsAt, WritesAt, Wrote, CommitsAt, IsCommitted}
+use Rattle.sia_events.specs.Transactions.{WritesAt, Wrote, CommitsAt, IsCommitted}
 use Rattle.sia_events.proofs.TransactionDecisions.{place_within}
 use Rattle.sia_events.proofs.WellFormed.{one_commit}
-use Rattle.sia_index.specs.declared.rows.ActRow.{ActRow}
 use Rattle.sia_index.specs.declared.rows.WriteRow.{WriteRow}
 use Rattle.sia_index.specs.declared.info.KeyVersion.{KeyVersion}
 use Rattle.sia_index.proofs.Ordered.{lists_sorted, precedes_last, precedes_then}
-use Rattle.sia_index.specs.Rows.{AreActs, AreWrites, AreVersionRows}
+use Rattle.sia_index.specs.Rows.{AreWrites, AreVersionRows}
 
 -- xs holds what has Q at a place below n, and nothing else
 abbrev pub HoldsBelow : {A : Type 0} → (A → ℕ → Type 0) → ℕ → List A → Type 0
@@ -62,10 +60,6 @@ pub collected : {A : Type 0} (Q : A → ℕ → Type 0) (rank : A → List ℕ) 
 collected Q rank P c before n same xs ys holds sorted keeps adds_none =
     lists_sorted rank P c before ys sorted (λ x. ((λ has. (same x).0 ((holds x).0 (adds_none x has))), (λ is. keeps x ((holds x).1 ((same x).1 is)))))
 
--- the row of the event at a place
-abbrev pub IsActAt : List Event → ActRow → ℕ → Type 0
-IsActAt h a q = (a.place ≡ q) × ActsAt h a.txn q
-
 -- the row of the write event at a place
 abbrev pub IsWriteAt : List Event → WriteRow → ℕ → Type 0
 IsWriteAt h w q = (w.place ≡ q) × WritesAt h w.txn w.key q
@@ -73,32 +67,6 @@ IsWriteAt h w q = (w.place ≡ q) × WritesAt h w.txn w.key q
 -- the row of the version that the write event at a place makes
 abbrev pub IsVersionAt : List Event → KeyVersion → ℕ → Type 0
 IsVersionAt h v q = WritesAt h v.txn v.key q × CommitsAt h v.txn v.commit
-
--- the rows of the acts so far, where the next place has an event
-pub act_more : (h : List Event) (n : ℕ) (e : Event) (xs : List ActRow) (a : ActRow) → HoldsBelow (IsActAt h) n xs → Some e ≡ at_place h n → a.txn ≡ actor e → a.place ≡ n → HoldsBelow (IsActAt h) (n + 1) (xs ++ a ∷ [])
-act_more h n e xs a holds at txn place = holds_one (IsActAt h) n xs a holds (place, (e, sym at, sym txn)) (λ x is.
-    let found : at_place h n ≡ Some is.1.0 = is.1.1 in
-    let same : e ≡ is.1.0 = cc in
-    let txn_same : a.txn ≡ x.txn = txn ∙ ap actor same ∙ is.1.2 in
-    let place_same : a.place ≡ x.place = place ∙ sym is.0 in
-    λ i. record { txn = txn_same i; place = place_same i })
-
--- and where it has none
-pub act_same : (h : List Event) (n : ℕ) (xs : List ActRow) → HoldsBelow (IsActAt h) n xs → None ≡ at_place h n → HoldsBelow (IsActAt h) (n + 1) xs
-act_same h n xs holds at = holds_same (IsActAt h) n xs holds (λ x is.
-    let found : at_place h n ≡ Some is.1.0 = is.1.1 in
-    cc)
-
--- over all places they are every event's
-pub acts_listed : (h : List Event) (n : ℕ) (xs ys : List ActRow) → length h ≤ n → HoldsBelow (IsActAt h) (n + 1) xs → IsStrictlySortedBy (λ x y. ordering_then (nat_cmp x.txn y.txn) (nat_cmp x.place y.place)) ys → ((x : ActRow) → Contains xs x → Contains ys x) → ((x : ActRow) → Contains ys x → Contains xs x) → AreActs h ys
-acts_listed h n xs ys all holds = collected (IsActAt h) (λ a. a.txn ∷ a.place ∷ []) (λ a. ActsAt h a.txn a.place) (λ x y. ordering_then (nat_cmp x.txn y.txn) (nat_cmp x.place y.place))
-    (λ x y less. precedes_then x.txn y.txn (nat_cmp x.place y.place) (x.place ∷ []) (y.place ∷ []) less (precedes_last x.place y.place))
-    (n + 1)
-    (λ x. (
-      (λ (q, below, is). subst (ActsAt h x.txn) (sym is.0) is.1),
-      (λ acts. (x.place, (let within : x.place ≤ length h = (place_within h x.place acts.0 acts.1).1 in omega arith), (refl, acts))),
-    ))
-    xs ys holds
 
 -- the rows of the writes so far, where the next place has a write event
 pub write_more : (h : List Event) (n t k : ℕ) (xs : List WriteRow) → HoldsBelow (IsWriteAt h) n xs → Some (Write t k) ≡ at_place h n → HoldsBelow (IsWriteAt h) (n + 1) (xs ++ record { key = k; txn = t; place = n } ∷ [])

@@ -1,5 +1,5 @@
 -- The rows of an index's tables: what each says of a history, and the order that they stand in.
-use Rattle.std.specs.Prelude.{◌≡◌, ◌⊎◌, ◌<◌, ◌≤◌, ℕ, Option, MatchOption, List, [], ◌∷◌, All, AllPairs, Contains, length, slice_index, slice_index_or}
+use Rattle.std.specs.Prelude.{◌≡◌, ◌⊎◌, ◌<◌, ◌≤◌, ℕ, Option, MatchOption, List, [], ◌∷◌, All, AllPairs, Contains, length, slice_index, slice_index_or, slice_set}
 use Rattle.sia_events.specs.declared.event.Event.{Event}
 use Rattle.sia_events.specs.Lists.{ListsBy, Precedes}
 use Rattle.sia_events.specs.Transactions.{ActsAt, HasEvent, WritesAt, Wrote, WroteBefore, CommitsAt}
@@ -9,17 +9,31 @@ use Rattle.sia_index.specs.declared.info.Made.{Made}
 use Rattle.sia_index.specs.declared.info.ItemRead.{ItemRead}
 use Rattle.sia_index.specs.declared.info.RangeRead.{RangeRead}
 use Rattle.sia_index.specs.declared.info.TxnInfo.{TxnInfo}
-use Rattle.sia_index.specs.declared.rows.ActRow.{ActRow}
+use Rattle.sia_index.specs.declared.rows.SpanRow.{SpanRow}
 use Rattle.sia_index.specs.declared.rows.WriteRow.{WriteRow}
 use Rattle.sia_index.specs.declared.info.KeyVersion.{KeyVersion}
 use Rattle.sia_index.specs.declared.rows.TxnRow.{TxnRow}
 
--- every event, by transaction
-abbrev pub AreActs : List Event → List ActRow → Type 0
-AreActs h acts = ListsBy (λ a. a.txn ∷ a.place ∷ []) (λ a. ActsAt h a.txn a.place) acts
+abbrev pub AscendsBySpan : List SpanRow → Type 0
+AscendsBySpan spans = AllPairs (λ x y. Precedes (x.txn ∷ x.first ∷ x.last ∷ []) (y.txn ∷ y.first ∷ y.last ∷ [])) spans
 
-abbrev pub AscendsByAct : List ActRow → Type 0
-AscendsByAct acts = AllPairs (λ x y. Precedes (x.txn ∷ x.place ∷ []) (y.txn ∷ y.place ∷ [])) acts
+-- the row goes from one event of its transaction to another
+abbrev pub IsSpanRow : List Event → SpanRow → Type 0
+IsSpanRow h s = ActsAt h s.txn s.first × ActsAt h s.txn s.last
+
+-- some row of t spans place p
+abbrev pub IsSpanned : List SpanRow → ℕ → ℕ → Type 0
+IsSpanned spans t p = (s : SpanRow) × Contains spans s × (s.txn ≡ t) × (s.first ≤ p) × (p ≤ s.last)
+
+-- every event stands in a row of its transaction, by transaction
+pub record AreSpans (h : List Event) (spans : List SpanRow) : Type 0 where
+  pub ascending : AscendsBySpan spans
+  pub right : All (IsSpanRow h) spans
+  pub whole : (t p : ℕ) → ActsAt h t p → IsSpanned spans t p
+
+-- one row of t now reaches to place p
+abbrev pub IsLonger : List SpanRow → ℕ → ℕ → List SpanRow → Type 0
+IsLonger old t p new = (i : ℕ) × (i < length old) × ((d : SpanRow) → ((slice_index_or old i d).txn ≡ t) × (new ≡ slice_set old i (record { txn = t; first = (slice_index_or old i d).first; last = p })))
 
 -- the first event of t stands at place first, and its last at place last
 pub record IsSpan (h : List Event) (t first last : ℕ) : Type 0 where

@@ -12,7 +12,7 @@ ghost use Rattle.sia_index.specs.Tables.{AreOffsets, AreChains, AreFirsts, First
 
 use crate::info::{KeyVersion, Made};
 use crate::lows::next_at_most;
-use crate::ordering::put_in_order;
+use crate::ordering::put_rows_in_order;
 use crate::rows::{WriteRow, part_at};
 use sia_events::Key;
 use std::alloc::{AllocError, Global};
@@ -22,7 +22,7 @@ pub fn keys_of(alloc: Global, writes: &[WriteRow]) -> Result<Vec<Key>, AllocErro
     ensures { IfOk result (λ keys. (h : List Event) → AreWrites h writes.now → AreWrittenKeys h keys.items) }
 {
     let mut keys = keys_in(alloc, writes)?;
-    put_in_order(&mut keys);
+    put_rows_in_order(alloc, &mut keys);
     Ok(keys)
 }
 

@@ -3,32 +3,14 @@ ghost use Rattle.std.specs.Prelude.{IfOk, List, MatchOption, ℕ};
 ghost use Rattle.sia_events.specs.declared.event.Event.{Event};
 ghost use Rattle.sia_events.specs.Refusals.{IsWellFormed};
 ghost use Rattle.sia_events.specs.Transactions.{IsCommitted, CommitsAt, WritesAt};
-ghost use Rattle.sia_index.specs.Rows.{AreActs, AreWrites, AreVersionRows, AreTxns, AscendsByTxn};
+ghost use Rattle.sia_index.specs.Rows.{AreWrites, AreVersionRows, AreTxns, AscendsByTxn};
 
 use crate::guesses::Guesses;
 use crate::info::{Fate, KeyVersion};
 use crate::ordering::put_rows_in_order;
-use crate::rows::{ActRow, TxnRow, WriteRow, guess_txn};
+use crate::rows::{TxnRow, WriteRow, guess_txn};
 use sia_events::{Event, History, Key, TxnId};
 use std::alloc::{AllocError, Global};
-
-/// Every event, by transaction.
-pub fn acts_of(alloc: Global, h: &History) -> Result<Vec<ActRow>, AllocError>
-    ensures { IfOk result (λ acts. AreActs h.now acts.items) }
-{
-    let mut acts = Vec::with_capacity(alloc, h.len() as usize)?;
-    for before in 0..h.len() {
-        let place = before + 1;
-        if let Some(event) = h.event(place) {
-            acts.push(ActRow {
-                txn: event.txn(),
-                place,
-            })?;
-        }
-    }
-    put_rows_in_order(alloc, &mut acts);
-    Ok(acts)
-}
 
 /// Every write event, by transaction and key.
 pub fn writes_of(alloc: Global, h: &History) -> Result<Vec<WriteRow>, AllocError>

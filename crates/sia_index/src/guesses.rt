@@ -101,6 +101,10 @@ impl Guesses {
         let Some(guess) = self.slots.get(slot) else {
             return list.len();
         };
+        // Where the numbers lie close together no other has the slot.
+        if self.shift.is_none() {
+            return *guess as usize;
+        }
         match list.get(*guess as usize) {
             Some(other) if (*other).into() != wanted => self.place_behind(list, slot, wanted),
             _ => *guess as usize,

@@ -16,6 +16,8 @@ mod readers;
 mod reads;
 mod rows;
 mod seen;
+mod slots;
+mod spanning;
 mod txns;
 
 pub use indexed::Index;

@@ -9,7 +9,7 @@ ghost use Rattle.sia_index.specs.Rows.{AreReads, AreRanges, AreReaches, AscendsB
 
 use crate::guesses::Guesses;
 use crate::info::{ItemRead, KeyVersion, RangeRead};
-use crate::ordering::{put_in_order, put_rows_in_order};
+use crate::ordering::put_rows_in_order;
 use sia_events::{Event, History, Key};
 use std::alloc::{AllocError, Global};
 
@@ -37,7 +37,7 @@ pub fn ranges_of(alloc: Global, h: &History) -> Result<Vec<RangeRead>, AllocErro
             ranges.push(range)?;
         }
     }
-    put_in_order(&mut ranges);
+    put_rows_in_order(alloc, &mut ranges);
     Ok(ranges)
 }
 

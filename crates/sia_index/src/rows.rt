@@ -4,17 +4,18 @@ ghost use Rattle.sia_index.specs.Rows.{AscendsByTxn};
 
 use crate::grouping::Grouped;
 use crate::guesses::Guesses;
-use crate::info::{ItemRead, KeyVersion, Made, TxnInfo};
+use crate::info::{ItemRead, KeyVersion, Made, RangeRead, TxnInfo};
 use sia_events::{Key, TxnId};
 
-/// An event of a transaction.
+/// The places of two events of a transaction, which may be one. The row stands for those in between too.
 #[derive(Clone, Copy, PartialEq, Eq, PartialOrd, Ord)]
-pub struct ActRow {
+pub struct SpanRow {
     pub txn: TxnId,
-    pub place: u32,
+    pub first: u32,
+    pub last: u32,
 }
 
-impl Grouped for ActRow {
+impl Grouped for SpanRow {
     fn group(&self) -> u64 {
         u64::from(self.txn)
     }
@@ -43,6 +44,18 @@ impl Grouped for KeyVersion {
 impl Grouped for ItemRead {
     fn group(&self) -> u64 {
         self.key
+    }
+}
+
+impl Grouped for RangeRead {
+    fn group(&self) -> u64 {
+        self.lo
+    }
+}
+
+impl Grouped for Key {
+    fn group(&self) -> u64 {
+        *self
     }
 }
 

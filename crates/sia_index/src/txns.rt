@@ -1,16 +1,17 @@
-//! The table of transactions, made of the rows of all events.
-ghost use Rattle.std.specs.Prelude.{◌≤◌, ◌<◌, ℕ, IfOk, length};
+//! The table of transactions, made of rows that span their events.
+ghost use Rattle.std.specs.Prelude.{◌≡◌, ◌≤◌, ◌<◌, ℕ, IfOk, length, slice_index_or};
 ghost use Rattle.std.specs.List.{AllWithin};
 ghost use Rattle.std.specs.List.Sorted.{IsPartitionPoint};
 ghost use Rattle.sia_events.specs.declared.event.Event.{Event};
 ghost use Rattle.sia_events.specs.Refusals.{IsWellFormed};
 ghost use Rattle.sia_events.specs.Transactions.{IsFirstEvent, StartsAt};
 ghost use Rattle.sia_index.specs.Info.{IsInfo};
-ghost use Rattle.sia_index.specs.Rows.{AreActs, AreTxns, IsSpan, AscendsByAct};
+ghost use Rattle.sia_index.specs.declared.rows.SpanRow.{SpanRow};
+ghost use Rattle.sia_index.specs.Rows.{AreSpans, AreTxns, IsSpan, AscendsBySpan};
 
-use crate::events::acts_of;
 use crate::info::{Fate, TxnInfo};
-use crate::rows::{ActRow, TxnRow};
+use crate::rows::{SpanRow, TxnRow};
+use crate::spanning::spans_of;
 use sia_events::{Event, History, TxnId};
 use std::alloc::{AllocError, Global};
 
@@ -19,22 +20,23 @@ pub fn table_of(alloc: Global, h: &History) -> Result<Vec<TxnRow>, AllocError>
     requires { IsWellFormed h.now }
     ensures { IfOk result (λ table. AreTxns h.now table.items) }
 {
-    let acts = acts_of(alloc, h)?;
-    txns_of(alloc, h, &acts)
+    let spans = spans_of(alloc, h)?;
+    txns_of(alloc, h, &spans)
 }
 
-// The same, made of the rows of all events.
-fn txns_of(alloc: Global, h: &History, acts: &[ActRow]) -> Result<Vec<TxnRow>, AllocError>
+// The same, made of the rows that span the events.
+fn txns_of(alloc: Global, h: &History, spans: &[SpanRow]) -> Result<Vec<TxnRow>, AllocError>
     requires well_formed { IsWellFormed h.now }
-    requires acts_are { AreActs h.now acts.now }
+    requires spans_are { AreSpans h.now spans.now }
     ensures { IfOk result (λ table. AreTxns h.now table.items) }
 {
-    let mut table = Vec::with_capacity(alloc, acts.len())?;
+    let mut table = Vec::with_capacity(alloc, spans.len())?;
     let mut from = 0;
-    while from < acts.len() {
-        let txn = acts[from].txn;
-        let to = run_end(acts, from, txn);
-        let info = info_of(h, acts[from].place, acts[to - 1].place);
+    while from < spans.len() {
+        let txn = spans[from].txn;
+        let to = run_end(spans, from, txn);
+        let last = last_of(spans, from, to);
+        let info = info_of(h, spans[from].first, last);
         table.push(TxnRow { txn, info })?;
         from = to;
     }
@@ -42,18 +44,32 @@ fn txns_of(alloc: Global, h: &History, acts: &[ActRow]) -> Result<Vec<TxnRow>, A
 }
 
 // Where the rows of this transaction, and of those before it, end. Those before `from` are known to be of these.
-fn run_end(acts: &[ActRow], from: usize, t: TxnId) -> usize
-    requires ascending { AscendsByAct acts.now }
-    requires within { from ≤ length acts.now }
-    requires before { AllWithin (λ act. act.txn ≤ t) acts.now 0 from }
-    ensures bound { result ≤ length acts.now }
-    ensures end { IsPartitionPoint (λ act. act.txn ≤ t) (λ act. t < act.txn) acts.now result }
+fn run_end(spans: &[SpanRow], from: usize, t: TxnId) -> usize
+    requires ascending { AscendsBySpan spans.now }
+    requires within { from ≤ length spans.now }
+    requires before { AllWithin (λ span. span.txn ≤ t) spans.now 0 from }
+    ensures bound { result ≤ length spans.now }
+    ensures end { IsPartitionPoint (λ span. span.txn ≤ t) (λ span. t < span.txn) spans.now result }
 {
     let mut to = from;
-    while to < acts.len() && acts[to].txn <= t {
+    while to < spans.len() && spans[to].txn <= t {
         to += 1;
     }
     to
+}
+
+// The greatest of the last places of the rows from one to below another.
+fn last_of(spans: &[SpanRow], from: usize, to: usize) -> u32
+    requires some { from < to }
+    requires bound { to ≤ length spans.now }
+    ensures one { (i : ℕ) × (from ≤ i) × (i < to) × ((d : SpanRow) → (slice_index_or spans.now i d).last ≡ result) }
+    ensures greatest { AllWithin (λ span. span.last ≤ result) spans.now from to }
+{
+    let mut last = spans[from].last;
+    for i in from..to {
+        last = last.max(spans[i].last);
+    }
+    last
 }
 
 // What is known of the transaction whose first event and whose last stand at these places.

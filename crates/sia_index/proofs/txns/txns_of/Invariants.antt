@@ -4,7 +4,7 @@ use Rattle.sia_index.proofs.Runs.{RowsSoFar}
 use Rattle.sia_index.proofs.txns.txns_of.Given as goal
 
 abbrev pub invariant-loop-from : goal.invariant-loop-from
-invariant-loop-from l = RowsSoFar l.h l.acts l.from l.table.items
+invariant-loop-from l = RowsSoFar l.h l.spans l.from l.table.items
 
 abbrev pub decreases-loop-from : goal.decreases-loop-from
-decreases-loop-from l = length l.acts - l.from
+decreases-loop-from l = length l.spans - l.from
