@@ -1,12 +1,13 @@
 -- Lists that a loop over the places of a history collects.
-use Rattle.std.proofs.Common.{◌≡◌, ◌↔◌, inl, inr, ℕ, ◌+◌, ◌<◌, ◌≤◌, List, [], ◌∷◌, ◌++◌, length, Some, refl, sym, subst, arith}
-use Rattle.std.specs.Prelude.{Contains}
+use Rattle.std.proofs.Common.{◌≡◌, ◌↔◌, inl, inr, ℕ, ◌+◌, ◌<◌, ◌≤◌, List, [], ◌∷◌, ◌++◌, length, Some, refl, sym, subst, ap, ◌∙◌, arith}
+use Rattle.std.specs.Prelude.{Contains, slice_index_or}
 use Rattle.std.specs.declared.cmp.Ordering.{Ordering}
 use Rattle.std.specs.declared.cmp.Ordering.TheVariants.{Less}
 use Rattle.std.specs.Ordering.{nat_cmp, ordering_then}
 use Rattle.std.specs.List.Sorted.{IsStrictlySortedBy}
 use Rattle.std.proofs.lemmas.Bool.{cases_lt}
-use Rattle.std.proofs.lemmas.List.Elements.{Contains-append_left, Contains-push, Contains-push_cases}
+use Rattle.std.proofs.lemmas.List.{get_or_default}
+use Rattle.std.proofs.lemmas.List.Elements.{Contains-get_or, Contains-append_left, Contains-push, Contains-push_cases}
 use Rattle.sia_events.specs.declared.event.Event.{Event}
 use Rattle.sia_events.specs.declared.event.Event.TheVariants.{Write}
 use Rattle.sia_events.specs.Lists.{Precedes, ListsBy}
@@ -31,6 +32,10 @@ module _ {A : Type 0} (Q : A → ℕ → Type 0) where
     (λ c. absurd (let below = c.1 in omega arith)),
     (λ (q, below, has). absurd (none x (let same : q ≡ 0 = omega arith in subst (Q x) same has))),
   )
+
+  -- the same, before place 0
+  pub holds_nothing : HoldsBelow Q 0 []
+  holds_nothing x = ((λ c. absurd (let below = c.1 in omega arith)), (λ (q, below, has). absurd (omega arith)))
 
   -- one more, which alone has Q at the next place
   pub holds_one : (n : ℕ) (xs : List A) (y : A) → HoldsBelow Q n xs → Q y n → ((x : A) → Q x n → y ≡ x) → HoldsBelow Q (n + 1) (xs ++ y ∷ [])
@@ -60,13 +65,16 @@ pub collected : {A : Type 0} (Q : A → ℕ → Type 0) (rank : A → List ℕ) 
 collected Q rank P c before n same xs ys holds sorted keeps adds_none =
     lists_sorted rank P c before ys sorted (λ x. ((λ has. (same x).0 ((holds x).0 (adds_none x has))), (λ is. keeps x ((holds x).1 ((same x).1 is)))))
 
+abbrev pub no_write : WriteRow
+no_write = record { key = 0; txn = 0; place = 0 }
+
 -- the row of the write event at a place
 abbrev pub IsWriteAt : List Event → WriteRow → ℕ → Type 0
 IsWriteAt h w q = (w.place ≡ q) × WritesAt h w.txn w.key q
 
--- the row of the version that the write event at a place makes
-abbrev pub IsVersionAt : List Event → KeyVersion → ℕ → Type 0
-IsVersionAt h v q = WritesAt h v.txn v.key q × CommitsAt h v.txn v.commit
+-- the row of the version that the write of a number in the list makes
+abbrev pub IsVersionOf : List Event → List WriteRow → KeyVersion → ℕ → Type 0
+IsVersionOf h ws v q = (q < length ws) × ((slice_index_or ws q no_write).key ≡ v.key) × ((slice_index_or ws q no_write).txn ≡ v.txn) × CommitsAt h v.txn v.commit
 
 -- the rows of the writes so far, where the next place has a write event
 pub write_more : (h : List Event) (n t k : ℕ) (xs : List WriteRow) → HoldsBelow (IsWriteAt h) n xs → Some (Write t k) ≡ at_place h n → HoldsBelow (IsWriteAt h) (n + 1) (xs ++ record { key = k; txn = t; place = n } ∷ [])
@@ -93,34 +101,32 @@ writes_listed h n xs ys all holds = collected (IsWriteAt h) (λ w. w.txn ∷ w.k
     ))
     xs ys holds
 
--- the rows of the versions so far, where the next place has a write event of a committed transaction
-pub version_more : (h : List Event) → IsWellFormed h → (n t k c : ℕ) (xs : List KeyVersion) → HoldsBelow (IsVersionAt h) n xs → Some (Write t k) ≡ at_place h n → CommitsAt h t c → HoldsBelow (IsVersionAt h) (n + 1) (xs ++ record { key = k; commit = c; txn = t } ∷ [])
-version_more h wf n t k c xs holds at commits = holds_one (IsVersionAt h) n xs (record { key = k; commit = c; txn = t }) holds (sym at, commits) (λ x is.
-    let same : Write t k ≡ Write x.txn x.key = cc in
-    let key : k ≡ x.key = cc in
-    let txn : t ≡ x.txn = cc in
-    let commit : c ≡ x.commit = one_commit h wf x.txn c x.commit (subst (λ u. CommitsAt h u c) txn commits) is.1 in
+-- the rows of the versions so far, where the next write is of a committed transaction
+pub version_more : (h : List Event) → IsWellFormed h → (ws : List WriteRow) (n c : ℕ) (xs : List KeyVersion) → HoldsBelow (IsVersionOf h ws) n xs → n < length ws → CommitsAt h (slice_index_or ws n no_write).txn c → HoldsBelow (IsVersionOf h ws) (n + 1) (xs ++ record { key = (slice_index_or ws n no_write).key; commit = c; txn = (slice_index_or ws n no_write).txn } ∷ [])
+version_more h wf ws n c xs holds within commits = holds_one (IsVersionOf h ws) n xs (record { key = (slice_index_or ws n no_write).key; commit = c; txn = (slice_index_or ws n no_write).txn }) holds (within, refl, refl, commits) (λ x is.
+    let key = is.1 in
+    let txn = is.2 in
+    let commit : c ≡ x.commit = one_commit h wf x.txn c x.commit (subst (λ u. CommitsAt h u c) txn commits) is.3 in
     λ i. record { key = key i; commit = commit i; txn = txn i })
 
--- one of a transaction that isn't committed
-pub version_other : (h : List Event) (n t k : ℕ) (xs : List KeyVersion) → HoldsBelow (IsVersionAt h) n xs → Some (Write t k) ≡ at_place h n → ¬ IsCommitted h t → HoldsBelow (IsVersionAt h) (n + 1) xs
-version_other h n t k xs holds at none = holds_same (IsVersionAt h) n xs holds (λ x is.
-    let same : Write t k ≡ Write x.txn x.key = cc in
-    let txn : x.txn ≡ t = cc in
-    none (x.commit, subst (λ u. CommitsAt h u x.commit) txn is.1))
+-- and where it is of another
+pub version_other : (h : List Event) (ws : List WriteRow) (n : ℕ) (xs : List KeyVersion) → HoldsBelow (IsVersionOf h ws) n xs → ¬ IsCommitted h (slice_index_or ws n no_write).txn → HoldsBelow (IsVersionOf h ws) (n + 1) xs
+version_other h ws n xs holds none = holds_same (IsVersionOf h ws) n xs holds (λ x is. none (x.commit, subst (λ u. CommitsAt h u x.commit) (sym is.2) is.3))
 
--- and where it has none
-pub version_same : (h : List Event) (n : ℕ) (xs : List KeyVersion) → HoldsBelow (IsVersionAt h) n xs → ((t k : ℕ) → ¬ (at_place h n ≡ Some (Write t k))) → HoldsBelow (IsVersionAt h) (n + 1) xs
-version_same h n xs holds none = holds_same (IsVersionAt h) n xs holds (λ x is. none x.txn x.key is.0)
-
--- over all places they are every committed transaction's
-pub versions_listed : (h : List Event) (n : ℕ) (xs ys : List KeyVersion) → length h ≤ n → HoldsBelow (IsVersionAt h) (n + 1) xs → IsStrictlySortedBy (λ x y. ordering_then (nat_cmp x.key y.key) (ordering_then (nat_cmp x.commit y.commit) (nat_cmp x.txn y.txn))) ys → ((x : KeyVersion) → Contains xs x → Contains ys x) → ((x : KeyVersion) → Contains ys x → Contains xs x) → AreVersionRows h ys
-versions_listed h n xs ys all holds = collected (IsVersionAt h) (λ v. v.key ∷ v.commit ∷ v.txn ∷ []) (λ v. Wrote h v.txn v.key × CommitsAt h v.txn v.commit) (λ x y. ordering_then (nat_cmp x.key y.key) (ordering_then (nat_cmp x.commit y.commit) (nat_cmp x.txn y.txn)))
+-- over all writes they are every committed transaction's
+pub versions_listed : (h : List Event) (ws : List WriteRow) → AreWrites h ws → (n : ℕ) (xs ys : List KeyVersion) → length ws ≡ n → HoldsBelow (IsVersionOf h ws) n xs → IsStrictlySortedBy (λ x y. ordering_then (nat_cmp x.key y.key) (ordering_then (nat_cmp x.commit y.commit) (nat_cmp x.txn y.txn))) ys → ((x : KeyVersion) → Contains xs x → Contains ys x) → ((x : KeyVersion) → Contains ys x → Contains xs x) → AreVersionRows h ys
+versions_listed h ws are n xs ys all holds = collected (IsVersionOf h ws) (λ v. v.key ∷ v.commit ∷ v.txn ∷ []) (λ v. Wrote h v.txn v.key × CommitsAt h v.txn v.commit) (λ x y. ordering_then (nat_cmp x.key y.key) (ordering_then (nat_cmp x.commit y.commit) (nat_cmp x.txn y.txn)))
     (λ x y less. precedes_then x.key y.key (ordering_then (nat_cmp x.commit y.commit) (nat_cmp x.txn y.txn)) (x.commit ∷ x.txn ∷ []) (y.commit ∷ y.txn ∷ []) less
     (λ rest. precedes_then x.commit y.commit (nat_cmp x.txn y.txn) (x.txn ∷ []) (y.txn ∷ []) rest (precedes_last x.txn y.txn)))
-    (n + 1)
+    n
     (λ x. (
-      (λ (q, below, is). ((q, is.0), is.1)),
-      (λ is. (is.0.0, (let within : is.0.0 ≤ length h = (place_within h is.0.0 (Write x.txn x.key) is.0.1).1 in omega arith), (is.0.1, is.1))),
+      (λ (q, below, (within, key, txn, commits)).
+          let written = (are.each (slice_index_or ws q no_write)).0 (Contains-get_or ws q no_write within) in
+          (((slice_index_or ws q no_write).place, subst (λ k. WritesAt h x.txn k (slice_index_or ws q no_write).place) key (subst (λ u. WritesAt h u (slice_index_or ws q no_write).key (slice_index_or ws q no_write).place) txn written)), commits)),
+      (λ (wrote, commits).
+          let row : WriteRow = record { key = x.key; txn = x.txn; place = wrote.0 } in
+          let c : Contains ws row = (are.each row).1 wrote.1 in
+          let is : slice_index_or ws c.0 no_write ≡ row = get_or_default ws c.0 no_write row c.1 ∙ c.2 in
+          (c.0, (let below = c.1 in omega arith), (c.1, ap (λ (w : WriteRow). w.key) is, ap (λ (w : WriteRow). w.txn) is, commits))),
     ))
     xs ys holds

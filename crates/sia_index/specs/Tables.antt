@@ -12,6 +12,7 @@ use Rattle.sia_index.specs.declared.info.Made.{Made}
 use Rattle.sia_index.specs.declared.info.ItemRead.{ItemRead}
 use Rattle.sia_index.specs.declared.info.RangeRead.{RangeRead}
 use Rattle.sia_index.specs.declared.info.KeyVersion.{KeyVersion}
+use Rattle.sia_index.specs.declared.lows.BlockLows.{BlockLows}
 use Rattle.sia_index.specs.declared.own.WriteTable.{WriteTable}
 use Rattle.sia_index.specs.declared.rows.TxnRow.{TxnRow}
 
@@ -39,7 +40,7 @@ pub record AreChains (h : List Event) (keys offsets : List ℕ) (made : List Mad
 pub record AreWriteTables (h : List Event) (writes : WriteTable) : Type 0 where
   pub rows_are : AreWrites h writes.rows.items
   pub places_are : writes.places.items ≡ map (λ row. row.place) writes.rows.items
-  pub lows_are : AreLows writes.places.items writes.lows.items
+  pub lows_are : AreLows writes.places.items writes.lows
 
 -- a number for each written key, at most the commit of each of its versions
 pub record AreFirsts (h : List Event) (keys firsts : List ℕ) : Type 0 where
@@ -51,7 +52,7 @@ pub record FirstsSoFar (offsets : List ℕ) (made : List Made) (firsts : List �
   pub count : length firsts ≡ n
   pub early : (i : ℕ) → i < n → All (λ m. slice_index firsts i ≤ m.commit) (slice_range made (slice_index offsets i) (slice_index offsets (i + 1)))
 
-pub record AreTables (h : List Event) (txns : List TxnRow) (writes : WriteTable) (keys offsets : List ℕ) (made : List Made) (firsts first_lows : List ℕ) (versions : List KeyVersion) (reads : List ItemRead) (ranges : List RangeRead) (reaches ids : List ℕ) : Type 0 where
+pub record AreTables (h : List Event) (txns : List TxnRow) (writes : WriteTable) (keys offsets : List ℕ) (made : List Made) (firsts : List ℕ) (first_lows : BlockLows) (versions : List KeyVersion) (reads : List ItemRead) (ranges : List RangeRead) (reaches ids : List ℕ) : Type 0 where
   pub well_formed : IsWellFormed h
   pub txns_are : AreTxns h txns
   pub writes_are : AreWriteTables h writes

@@ -11,7 +11,7 @@ ghost use Rattle.sia_index.specs.Rows.{AreWrites, AscendsByVersion, AscendsByCom
 ghost use Rattle.sia_index.specs.Tables.{AreOffsets, AreChains, AreFirsts, FirstsSoFar};
 
 use crate::info::{KeyVersion, Made};
-use crate::lows::next_at_most;
+use crate::lows::{BlockLows, next_at_most};
 use crate::ordering::put_rows_in_order;
 use crate::rows::{WriteRow, part_at};
 use sia_events::Key;
@@ -114,7 +114,7 @@ fn first_commit(versions: &[Made]) -> u32
 pub fn next_first(
     keys: &[Key],
     firsts: &[u32],
-    lows: &[u32],
+    lows: &BlockLows,
     lo: Key,
     hi: Key,
     start: u32,

@@ -27,44 +27,6 @@ pub fn writes_of(alloc: Global, h: &History) -> Result<Vec<WriteRow>, AllocError
     Ok(writes)
 }
 
-/// Every version that a committed transaction made, by key and commit.
-pub fn version_rows_of(
-    alloc: Global,
-    h: &History,
-    txns: &[TxnRow],
-    ids: &[TxnId],
-    guesses: &Guesses,
-) -> Result<Vec<KeyVersion>, AllocError>
-    requires { AreTxns h.now txns.now }
-    ensures { IfOk result (λ rows. AreVersionRows h.now rows.items) }
-{
-    let mut rows = Vec::with_capacity(alloc, h.len() as usize)?;
-    for before in 0..h.len() {
-        if let Some((txn, key)) = write_at(h, before + 1) {
-            if let Some(commit) = commit_of(txns, guesses.place(ids, txn), txn) {
-                rows.push(KeyVersion { key, commit, txn })?;
-            }
-        }
-    }
-    put_rows_in_order(alloc, &mut rows);
-    Ok(rows)
-}
-
-// Where the transaction commits, by the table. It may stand in the row that is guessed.
-fn commit_of(txns: &[TxnRow], guess: usize, t: TxnId) -> Option<u32>
-    requires { AscendsByTxn txns.now }
-    ensures { (h : List Event) → IsWellFormed h → AreTxns h txns.now → MatchOption result (¬ IsCommitted h t) (CommitsAt h t) }
-{
-    match guess_txn(txns, guess, t) {
-        Some(info) => match info.fate {
-            Fate::Committed => info.ended,
-            Fate::Aborted => None,
-            Fate::Unfinished => None,
-        },
-        None => None,
-    }
-}
-
 // The transaction and the key of the write event at the place.
 fn write_at(h: &History, place: u32) -> Option<(TxnId, Key)>
     ensures { MatchOption result ((t k : ℕ) → ¬ WritesAt h.now t k place) (λ write. WritesAt h.now write.0 write.1 place) }

@@ -6,6 +6,7 @@ ghost use Rattle.sia_index.specs.Info.{IsInfo, AreVersions, AreWrittenKeys, AreA
 
 use crate::guesses::Guesses;
 use crate::info::{Fate, ItemRead, KeyVersion, Made, RangeRead, TxnInfo};
+use crate::lows::BlockLows;
 use crate::own::WriteTable;
 use crate::reads::{key_from, keys_between, ranges_meeting, reads_between, versions_between};
 use crate::rows::{TxnRow, find_key, guess_txn, part_at};
@@ -23,7 +24,7 @@ pub struct Index {
     pub(crate) offsets: Vec<usize>,
     pub(crate) made: Vec<Made>,
     pub(crate) firsts: Vec<u32>,
-    pub(crate) first_lows: Vec<u32>,
+    pub(crate) first_lows: BlockLows,
     pub(crate) versions: Vec<KeyVersion>,
     pub(crate) reads: Vec<ItemRead>,
     pub(crate) ranges: Vec<RangeRead>,
@@ -42,7 +43,7 @@ impl Model for Index {
 
     ghost view = { λ ix. ix.of.value };
 
-    ghost invariant = { λ ix. AreTables ix.of.value ix.txns.items ix.writes ix.keys.items ix.offsets.items ix.made.items ix.firsts.items ix.first_lows.items ix.versions.items ix.reads.items ix.ranges.items ix.reaches.items ix.ids.items };
+    ghost invariant = { λ ix. AreTables ix.of.value ix.txns.items ix.writes ix.keys.items ix.offsets.items ix.made.items ix.firsts.items ix.first_lows ix.versions.items ix.reads.items ix.ranges.items ix.reaches.items ix.ids.items };
 }
 
 impl Index {

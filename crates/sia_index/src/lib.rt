@@ -19,6 +19,7 @@ mod seen;
 mod slots;
 mod spanning;
 mod txns;
+mod versions;
 
 pub use indexed::Index;
 pub use info::{DueAt, Fate, ItemRead, KeyVersion, Made, RangeRead, Reader, TxnInfo};

@@ -2,7 +2,7 @@
 ghost use Rattle.std.specs.Prelude.{◌≡◌, IfOk};
 
 use crate::chains::{firsts_of, keys_of, made_of, offsets_of};
-use crate::events::{version_rows_of, writes_of};
+use crate::events::writes_of;
 use crate::guesses::Guesses;
 use crate::indexed::Index;
 use crate::lows::lows_of;
@@ -10,6 +10,7 @@ use crate::numbers::ids_of;
 use crate::own::{WriteTable, places_of, starts_of};
 use crate::reads::{ranges_of, reaches_of, reads_of};
 use crate::txns::table_of;
+use crate::versions::version_rows_of;
 use sia_events::{History, NoMemory};
 use std::alloc::Global;
 use std::snapshot::Snapshot;
@@ -24,7 +25,7 @@ pub fn index(alloc: Global, h: &History) -> Result<Index, NoMemory>
     let ids = ids_of(alloc, txns.as_slice())?;
     let txn_guesses = Guesses::over(alloc, ids.as_slice())?;
     let writes = writes_of(alloc, h)?;
-    let rows = version_rows_of(alloc, h, &txns, ids.as_slice(), &txn_guesses)?;
+    let rows = version_rows_of(alloc, h, &txns, &writes)?;
     let keys = keys_of(alloc, &writes)?;
     let offsets = offsets_of(alloc, &keys, &rows)?;
     let made = made_of(alloc, &rows)?;

@@ -5,7 +5,7 @@ ghost use Rattle.sia_index.specs.Lows.{AreLows};
 ghost use Rattle.sia_index.specs.Rows.{AscendsByWrite, HasNoWrite, IsFirstRow, IsStretch, IsKeyPoint, NextRow};
 
 use crate::info::Reader;
-use crate::lows::next_at_most;
+use crate::lows::{BlockLows, next_at_most};
 use crate::rows::{TxnRow, WriteRow};
 use sia_events::{Key, TxnId};
 use std::alloc::{AllocError, Global};
@@ -17,7 +17,7 @@ pub struct WriteTable {
     /// The place of each row.
     pub(crate) places: Vec<u32>,
     /// The least of each block of places.
-    pub(crate) lows: Vec<u32>,
+    pub(crate) lows: BlockLows,
     /// Where the rows of each transaction may start, by its number among the transactions. Each is checked where it is used.
     pub(crate) starts: Vec<u32>,
 }
@@ -73,7 +73,7 @@ impl WriteTable {
     pub(crate) fn next(&self, number: usize, reader: Reader, lo: Key, hi: Key) -> Option<Key>
         requires ascending { AscendsByWrite self.now.rows.items }
         requires places_are { self.now.places.items ≡ map (λ row. row.place) self.now.rows.items }
-        requires lows_are { AreLows self.now.places.items self.now.lows.items }
+        requires lows_are { AreLows self.now.places.items self.now.lows }
         ensures { NextRow self.now.rows.items reader.txn reader.place lo hi result }
     {
         if reader.place == 0 {
