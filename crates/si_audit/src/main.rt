@@ -16,6 +16,7 @@ mod lines;
 mod longer_lines;
 mod make;
 mod number_lines;
+mod numerals;
 mod options;
 mod output;
 mod reporting;

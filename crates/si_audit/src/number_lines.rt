@@ -1,15 +1,17 @@
-// The lines of edges that are numbers. Many lines one after another have the same source, so that their first two words are
-// made once.
+// The lines of edges that are numbers, of which a report can have millions. Many lines one after another have the same source,
+// so that their first two words are made once. Some lines at a time are put together in a block, from its end to its start, so
+// that nothing is counted before, and appended at once.
 ghost use Rattle.std.specs.Prelude.{◌≡◌, ◌+◌, ◌≤◌, ◌∷◌, ◌++◌, [], length, drop, flat_map, map, codes, OnOk, slice_index};
 ghost use Rattle.sia_events.specs.Text.{numeral};
-ghost use Rattle.sia_parts.specs.Packing.{source_number, unpacked};
+ghost use Rattle.sia_parts.specs.Packing.{key_number, source_number, target_number, unpacked};
 ghost use Rattle.si_audit.specs.Lines as lines;
-ghost use Rattle.si_audit.specs.Heads.{IsHead};
+ghost use Rattle.si_audit.specs.Heads.{AreLongNumerals, AreNumerals, IsHead};
 
+use crate::numerals::{LONG, LongNumeral, Numeral, Numerals, SHORT, numerals_of};
 use itoa::write_digits;
 use sia_events::{Key, TxnId};
-use sia_parts::{Edge, EdgeNumber, Kind, edge_of, source_of};
-use std::alloc::AllocError;
+use sia_parts::{EdgeNumber, Kind, key_of, kind_in, source_of, target_of};
+use std::alloc::{AllocError, Global};
 
 /// How many lines are put together before they are appended.
 const LINES: usize = 16;
@@ -150,20 +152,128 @@ fn put_number(block: &mut [u8; ROOM], n: u32, end: usize) -> usize
     write_digits(u64::from(n), block, end)
 }
 
-/// Puts the whole line of the edge right before `end`. Answers where it starts.
+/// Puts the bytes right before `end`. Answers where they start.
 #[inline]
-fn put_line(block: &mut [u8; ROOM], txns: &[TxnId], e: Edge, head: &Head, end: usize) -> usize
+fn put_short(block: &mut [u8; ROOM], bytes: &[u8; SHORT], end: usize) -> usize
+    requires { (12 ≤ end) × (end ≤ 1024) }
+    ensures room { result + 12 ≡ end }
+    ensures bytes { drop result block.new ≡ bytes.now ++ drop end block.old }
+{
+    let start = end - SHORT;
+    block[start..end].copy_from_slice(bytes);
+    start
+}
+
+#[inline]
+fn put_long(block: &mut [u8; ROOM], bytes: &[u8; LONG], end: usize) -> usize
+    requires { (20 ≤ end) × (end ≤ 1024) }
+    ensures room { result + 20 ≡ end }
+    ensures bytes { drop result block.new ≡ bytes.now ++ drop end block.old }
+{
+    let start = end - LONG;
+    block[start..end].copy_from_slice(bytes);
+    start
+}
+
+/// Puts the digits right before `end`. Answers where they start.
+#[inline]
+fn put_numeral(block: &mut [u8; ROOM], word: &Numeral, end: usize) -> usize
+    requires end { (12 ≤ end) × (end ≤ 1024) }
+    requires start { word.now.start ≤ 12 }
+    ensures room { (result ≤ end) × (end ≤ result + 12) }
+    ensures bytes { drop result block.new ≡ drop word.now.start word.now.bytes ++ drop end block.old }
+{
+    let slot = put_short(block, &word.bytes, end);
+    slot + word.start as usize
+}
+
+#[inline]
+fn put_long_numeral(block: &mut [u8; ROOM], word: &LongNumeral, end: usize) -> usize
+    requires end { (20 ≤ end) × (end ≤ 1024) }
+    requires start { word.now.start ≤ 20 }
+    ensures room { (result ≤ end) × (end ≤ result + 20) }
+    ensures bytes { drop result block.new ≡ drop word.now.start word.now.bytes ++ drop end block.old }
+{
+    let slot = put_long(block, &word.bytes, end);
+    slot + word.start as usize
+}
+
+/// Puts the digits of the number's target right before `end`. Answers where they start.
+#[inline]
+fn put_target(
+    block: &mut [u8; ROOM],
+    words: &[Numeral],
+    txns: &[TxnId],
+    n: EdgeNumber,
+    end: usize,
+) -> usize
+    requires end { (12 ≤ end) × (end ≤ 1024) }
+    requires words { AreNumerals txns.now words.now }
+    ensures room { (result ≤ end) × (end ≤ result + 12) }
+    ensures bytes { drop result block.new ≡ numeral (slice_index txns.now (target_number n)) ++ drop end block.old }
+{
+    let place = target_of(n);
+    match words.get(place) {
+        Some(word) => put_numeral(block, word, end),
+        None => put_number(block, txn_at(txns, place), end),
+    }
+}
+
+/// Puts the digits of the number's key right before `end`. Answers where they start.
+#[inline]
+fn put_key_of(
+    block: &mut [u8; ROOM],
+    words: &[LongNumeral],
+    keys: &[Key],
+    n: EdgeNumber,
+    end: usize,
+) -> usize
+    requires end { (20 ≤ end) × (end ≤ 1024) }
+    requires words { AreLongNumerals keys.now words.now }
+    ensures room { (result ≤ end) × (end ≤ result + 20) }
+    ensures bytes { drop result block.new ≡ numeral (slice_index keys.now (key_number n)) ++ drop end block.old }
+{
+    let place = key_of(n);
+    match words.get(place) {
+        Some(word) => put_long_numeral(block, word, end),
+        None => put_key(block, key_at(keys, place), end),
+    }
+}
+
+/// The key at the place.
+fn key_at(keys: &[Key], place: usize) -> Key
+    ensures { result ≡ slice_index keys.now place }
+{
+    match keys.get(place) {
+        Some(key) => *key,
+        None => 0,
+    }
+}
+
+/// Puts the whole line of the number's edge right before `end`. Answers where it starts.
+#[inline]
+fn put_line(
+    block: &mut [u8; ROOM],
+    words: &Numerals,
+    txns: &[TxnId],
+    keys: &[Key],
+    n: EdgeNumber,
+    head: &Head,
+    end: usize,
+) -> usize
     requires end { (64 ≤ end) × (end ≤ 1024) }
+    requires targets { AreNumerals txns.now words.now.txns.items }
+    requires of_keys { AreLongNumerals keys.now words.now.keys.items }
     requires head { IsHead txns.now head.now }
-    requires source { e.src ≡ slice_index txns.now head.now.source }
+    requires source { head.now.source ≡ source_number n }
     ensures room { (result ≤ end) × (end ≤ result + 64) }
-    ensures bytes { drop result block.new ≡ lines.edge_line e ++ drop end block.old }
+    ensures bytes { drop result block.new ≡ lines.edge_line (unpacked txns.now keys.now n) ++ drop end block.old }
 {
     let end = put_byte(block, b'\n', end);
-    let end = put_key(block, e.key, end);
+    let end = put_key_of(block, &words.keys, keys, n, end);
     let end = put_byte(block, b' ', end);
-    let end = put_number(block, e.dst, end);
-    let end = put_word(block, e.kind, end);
+    let end = put_target(block, &words.txns, txns, n, end);
+    let end = put_word(block, kind_in(n), end);
     put_head(block, head, end)
 }
 
@@ -185,11 +295,14 @@ fn renew(head: &mut Head, txns: &[TxnId], n: EdgeNumber)
 fn put_lines(
     block: &mut [u8; ROOM],
     head: &mut Head,
+    words: &Numerals,
     txns: &[TxnId],
     keys: &[Key],
     numbers: &[EdgeNumber],
 ) -> usize
     requires few { length numbers.now ≤ 16 }
+    requires targets { AreNumerals txns.now words.now.txns.items }
+    requires of_keys { AreLongNumerals keys.now words.now.keys.items }
     requires head { IsHead txns.now head.old }
     ensures head { IsHead txns.now head.new }
     ensures room { result ≤ 1024 }
@@ -201,7 +314,7 @@ fn put_lines(
         left -= 1;
         let n = numbers[left];
         renew(head, txns, n);
-        end = put_line(block, txns, edge_of(txns, keys, n), head, end);
+        end = put_line(block, words, txns, keys, n, head, end);
     }
     end
 }
@@ -212,21 +325,25 @@ fn push_block(
     out: &mut Vec<u8>,
     block: &mut [u8; ROOM],
     head: &mut Head,
+    words: &Numerals,
     txns: &[TxnId],
     keys: &[Key],
     numbers: &[EdgeNumber],
 ) -> Result<(), AllocError>
     requires few { length numbers.now ≤ 16 }
+    requires targets { AreNumerals txns.now words.now.txns.items }
+    requires of_keys { AreLongNumerals keys.now words.now.keys.items }
     requires head { IsHead txns.now head.old }
     ensures head { IsHead txns.now head.new }
     ensures pushed { OnOk result (out.new.items ≡ out.old.items ++ flat_map lines.edge_line (map (unpacked txns.now keys.now) numbers.now)) }
 {
-    let start = put_lines(block, head, txns, keys, numbers);
+    let start = put_lines(block, head, words, txns, keys, numbers);
     out.extend_from_slice(&block[start..])
 }
 
 /// The edges of all numbers, each on a line.
 pub(crate) fn push_numbers(
+    alloc: Global,
     out: &mut Vec<u8>,
     txns: &[TxnId],
     keys: &[Key],
@@ -234,12 +351,21 @@ pub(crate) fn push_numbers(
 ) -> Result<(), AllocError>
     ensures { OnOk result (out.new.items ≡ out.old.items ++ flat_map lines.edge_line (map (unpacked txns.now keys.now) numbers.now)) }
 {
+    let words = numerals_of(alloc, txns, keys, numbers.len())?;
     let mut block = [0; ROOM];
     let mut head = head_of(txns, 0);
     let mut rest = numbers;
     while rest.len() > LINES {
-        push_block(out, &mut block, &mut head, txns, keys, &rest[..LINES])?;
+        push_block(
+            out,
+            &mut block,
+            &mut head,
+            &words,
+            txns,
+            keys,
+            &rest[..LINES],
+        )?;
         rest = &rest[LINES..];
     }
-    push_block(out, &mut block, &mut head, txns, keys, rest)
+    push_block(out, &mut block, &mut head, &words, txns, keys, rest)
 }

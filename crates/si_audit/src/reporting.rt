@@ -135,7 +135,12 @@ fn push_report(out: &mut Vec<u8>, a: &Audit) -> Result<(), AllocError>
 }
 
 /// All lines of a judgement, whose edges are numbers.
-fn push_judgement(out: &mut Vec<u8>, j: &Judgement, keys: &[Key]) -> Result<(), AllocError>
+fn push_judgement(
+    alloc: Global,
+    out: &mut Vec<u8>,
+    j: &Judgement,
+    keys: &[Key],
+) -> Result<(), AllocError>
     ensures { OnOk result (out.new.items ≡ out.old.items ++ lines.report_text (account_by keys.now j.now)) }
 {
     let found = &j.found;
@@ -146,7 +151,7 @@ fn push_judgement(out: &mut Vec<u8>, j: &Judgement, keys: &[Key]) -> Result<(), 
         &found.bad_writes,
         &found.unexplained,
     )?;
-    push_numbers(out, j.committed.ids(), keys, &found.edges)?;
+    push_numbers(alloc, out, j.committed.ids(), keys, &found.edges)?;
     push_back(out, &j.pivots, j.pass, j.serializable, &j.verdict)?;
     Ok(())
 }
@@ -176,6 +181,6 @@ pub(crate) fn report_of(alloc: Global, j: &Judgement, keys: &[Key]) -> Result<Ve
 {
     let found = &j.found;
     let mut out = buffer(alloc, found.edges.len(), found.bad_reads.len())?;
-    push_judgement(&mut out, j, keys)?;
+    push_judgement(alloc, &mut out, j, keys)?;
     Ok(out)
 }

@@ -1,8 +1,10 @@
 // The reports of worked histories, by one, two and 64 workers.
 use crate::device::FromStd;
 use crate::engine::{Outcome, run};
+use crate::make::audit;
 use crate::options::Options;
-use sia_events::Key;
+use crate::reporting::report;
+use sia_events::{Key, read_history};
 use std::alloc::Global;
 use std::sync::Wait;
 use std::test::*;
@@ -21,6 +23,20 @@ pub(crate) fn told<T: Threads + Wait + Sync>(
     let mut writer = FromStd::new(Vec::with_capacity(alloc, 65536)?);
     let outcome = run(rt, alloc, &mut reader, &mut writer, &options)?;
     Ok((writer.into_inner(), outcome))
+}
+
+// The report of the history's audit, whose edges are no numbers.
+fn audited<T: Threads + Wait + Sync>(
+    rt: &T,
+    alloc: Global,
+    text: &[u8],
+    cuts: &[Key],
+) -> Result<Vec<u8>, Fail> {
+    let h = read_history(alloc, text)?;
+    let options = Options::new(alloc, 2, cuts)?;
+    let a = audit(rt, alloc, &h, &options)?;
+    let bytes = report(alloc, &a)?;
+    Ok(bytes)
 }
 
 #[test]
@@ -111,6 +127,8 @@ fn clean_histories(rt: HostRuntime) -> Result<(), Fail> {
             assert_eq!(rt; written.as_slice(), report);
             assert_eq!(rt; ended, Outcome::Clean);
         }
+        let bytes = audited(&rt, rt.alloc(), text, cuts)?;
+        assert_eq!(rt; bytes.as_slice(), report);
     }
     Ok(())
 }
@@ -227,6 +245,8 @@ fn faulty_histories(rt: HostRuntime) -> Result<(), Fail> {
             assert_eq!(rt; written.as_slice(), report);
             assert_eq!(rt; ended, Outcome::Faulty);
         }
+        let bytes = audited(&rt, rt.alloc(), text, cuts)?;
+        assert_eq!(rt; bytes.as_slice(), report);
     }
     Ok(())
 }
