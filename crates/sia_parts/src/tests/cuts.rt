@@ -1,6 +1,6 @@
 //! Findings of histories that are cut into parts: the same as without a cut.
 use super::part;
-use super::worked::{NOTHING, Wanted, edge, expect, findings_of};
+use super::worked::{NOTHING, Wanted, bad_read, edge, expect, findings_of, unexplained};
 use crate::*;
 use sia_events::{Key, read_history};
 use sia_index::make::index;
@@ -91,5 +91,35 @@ fn range_over_many_keys(rt: HostRuntime) -> Result<(), Fail> {
             assert!(&rt; found.edges.contains(&edge(1, Kind::Rw, i, Key::from(i))));
         }
     }
+    Ok(())
+}
+
+// Wide ranges that are read again: by 1 before any version was committed, by 3 after that, and by 4 after its own write.
+#[test]
+fn wide_ranges(rt: HostRuntime) -> Result<(), Fail> {
+    let text =
+        b"r1[0..99] r1[1..98] w2[10] w2[50] c2 r3[0..99] r1[0..99] c1 c3 w4[70] r4[0..99;10:2,50:2] c4";
+    let wanted = Wanted {
+        bad_reads: &[
+            bad_read(6, 3, 10, 0, 2),
+            bad_read(6, 3, 50, 0, 2),
+            bad_read(11, 4, 70, 0, 4),
+        ],
+        unexplained: &[unexplained(11, 4, 70, 0)],
+        edges: &[
+            edge(1, Kind::Rw, 2, 10),
+            edge(1, Kind::Rw, 2, 50),
+            edge(1, Kind::Rw, 4, 70),
+            edge(2, Kind::Wr, 4, 10),
+            edge(2, Kind::Wr, 4, 50),
+            edge(3, Kind::Rw, 2, 10),
+            edge(3, Kind::Rw, 2, 50),
+            edge(3, Kind::Rw, 4, 70),
+        ],
+        ..NOTHING
+    };
+    expect(&rt, text, &[], wanted)?;
+    expect(&rt, text, &[20, 60], wanted)?;
+    expect(&rt, text, &[10, 11, 50, 51, 70, 71], wanted)?;
     Ok(())
 }

@@ -41,7 +41,7 @@ const fn bad_write(key: Key, first: TxnId, second: TxnId) -> BadWrite {
     BadWrite { key, first, second }
 }
 
-const fn unexplained(place: u32, txn: TxnId, key: Key, saw: Version) -> Unexplained {
+pub const fn unexplained(place: u32, txn: TxnId, key: Key, saw: Version) -> Unexplained {
     Unexplained {
         place,
         txn,
