@@ -1,10 +1,11 @@
 -- A reader who started before any version of a part's keys was committed, and wrote none, sees none of them.
-use Rattle.std.proofs.Common.{◌≡◌, inl, inr, ℕ, ◌+◌, ◌<◌, ◌≤◌, false, List, [], length, get_or, refl, sym, subst, arith}
+use Rattle.std.proofs.Common.{◌≡◌, inl, inr, ℕ, ◌+◌, ◌<◌, ◌≤◌, List, [], length, get_or, refl, sym, subst, arith}
 use Rattle.std.specs.Prelude.{All, Contains}
 use Rattle.std.proofs.lemmas.Bool.{cases_eq}
 use Rattle.std.proofs.lemmas.List.{get_or_default}
 use Rattle.std.proofs.lemmas.List.Elements.{All-contains}
 use Rattle.sia_events.specs.declared.event.Event.{Event}
+use Rattle.sia_events.specs.Transactions.{StartsAt, WroteBefore}
 use Rattle.sia_events.specs.Reads.{IsDue, IsVisible}
 use Rattle.sia_events.proofs.Starts.{one_start}
 use Rattle.sia_index.specs.declared.info.KeyVersion.{KeyVersion}
@@ -34,15 +35,13 @@ reader_at h t p q r same is = subst (λ u. IsReader h u p (record { txn = u; pla
     (record { txn_is = refl; place_is = refl; starts = is.starts; committed = is.committed; wrote_none = is.wrote_none; wrote_some = is.wrote_some })
 
 -- so version 0 is due there
-pub unseen_due : (h : List Event) (part : Part) (first : ℕ) → CommitsFrom h part first → (t p : ℕ) (r : Reader) → IsReader h t p r → r.has_written ≡ false → r.start < first → (k : ℕ) → IsInPart part k → IsDue h r.txn r.place k 0
-unseen_due h part first from t p r is none early k within =
-    subst (λ u. IsDue h u r.place k 0) (sym is.txn_is)
-    (inr ((λ before. is.wrote_none none k (before.0, before.2)), inr (not_seen, refl)))
+pub unseen_due : (h : List Event) (part : Part) (first : ℕ) → CommitsFrom h part first → (t p : ℕ) (r : Reader) → IsReader h t p r → r.start < first → (k : ℕ) → IsInPart part k → ¬ WroteBefore h r.txn k r.place → IsDue h r.txn r.place k 0
+unseen_due h part first from t p r is early k within not_own = inr (not_own, inr (not_seen, refl))
   where
-    not_seen : (u : ℕ) → ¬ IsVisible h t k u
+    not_seen : (u : ℕ) → ¬ IsVisible h r.txn k u
     not_seen u v =
         let sees = v.1 in
-        let same : sees.0 ≡ r.start = one_start h t sees.0 r.start sees.2 is.starts in
+        let same : sees.0 ≡ r.start = one_start h r.txn sees.0 r.start sees.2 (subst (λ w. StartsAt h w r.start) (sym is.txn_is) is.starts) in
         let late : first ≤ sees.1 = from k u sees.1 within v.0 sees.3 in
         let seen : sees.1 ≤ sees.0 = sees.4 in
         absurd (omega arith)

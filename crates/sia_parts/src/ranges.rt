@@ -118,13 +118,13 @@ fn put_range_read(
     }
     let listed = listed_within(listed_at(h, range.place), lo, hi);
     let reader = reader_after(ix, last, range.txn, range.place);
+    let own = ix.may_own(reader, lo, hi);
     if listed.is_empty() {
-        if sees_none(reader, first) {
+        if sees_none(reader, own, first) {
             put_unseen(ix, reader, lo, hi, gaps)?;
             return Ok(Some(reader));
         }
     }
-    let own = ix.may_own(reader, lo, hi);
     put_listed_keys(ix, reader, range, listed, own, bad, spans)?;
     put_unlisted(ix, reader, listed, lo, hi, bad, gaps)?;
     Ok(Some(reader))

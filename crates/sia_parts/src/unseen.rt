@@ -29,13 +29,14 @@ fn least_commit(versions: &[KeyVersion]) -> u32
     least
 }
 
-/// Whether it is plain that the reader sees no version of a key of a part, by the place of the first commit there.
+/// Whether it is plain that the reader sees no version of some keys of a part, by the place of the first commit there. Where
+/// `own` isn't true, it is known not to have written them before.
 #[inline(always)]
-pub(crate) fn sees_none(reader: Reader, first: u32) -> bool
-    ensures wrote_none { IsTrue result → reader.has_written ≡ false }
+pub(crate) fn sees_none(reader: Reader, own: bool, first: u32) -> bool
+    ensures none_own { IsTrue result → own ≡ false }
     ensures starts { IsTrue result → reader.start < first }
 {
-    if reader.has_written {
+    if own {
         return false;
     }
     reader.start < first

@@ -41,7 +41,7 @@ returns-then-sees_none-clause-bad c =
     (due_none h r _ (IsUnlisted here c.max-lo.result c.min-hi.result) (λ k un.
     let low : c.args.part.lo ≤ k = let a = un.0 in omega (arith, c.max-lo.ensures) in
     let high : k ≤ c.args.part.hi = let a = un.1 in omega (arith, c.min-hi.ensures) in
-    unseen_due h c.args.part c.args.first c.requires.first c.args.range.txn c.args.range.place r c.reader_after-reader.ensures (c.sees_none.ensures.wrote_none c.if-sees_none.true) (c.sees_none.ensures.starts c.if-sees_none.true) k (low, high)))
+    unseen_due h c.args.part c.args.first c.requires.first c.args.range.txn c.args.range.place r c.reader_after-reader.ensures (c.sees_none.ensures.starts c.if-sees_none.true) k (low, high) (c.may_own-own.ensures (c.sees_none.ensures.none_own c.if-sees_none.true) k un.0 un.1)))
 
 pub returns-then-sees_none-clause-spans : goal.returns-then-sees_none-clause-spans
 returns-then-sees_none-clause-spans c =
