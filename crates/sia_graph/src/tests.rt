@@ -5,6 +5,7 @@ ghost use Rattle.sia_events.specs.Lists.{Precedes};
 ghost use Rattle.sia_parts.specs.Entries.{edge_rank, kind_number};
 
 use crate::settling::{Step, Verdict, settle};
+use numbered::verdict_of_numbers;
 use sia_events::{Key, NoMemory, TxnId};
 use sia_parts::{Edge, Kind};
 use std::alloc::Global;
@@ -12,6 +13,7 @@ use std::process::Abort;
 use std::test::Fail;
 
 mod numbers;
+mod numbered;
 mod replays;
 mod structures;
 
@@ -90,17 +92,19 @@ fn in_order(edges: &[Edge]) -> bool
     true
 }
 
-/// The verdict, where the ids and the edges are as `settle` wants them.
-fn verdict(
+/// The verdict, where the ids and the edges are as `settle` wants them, and that of the edges as numbers.
+fn verdicts(
     rt: &impl Abort,
     alloc: Global,
     ids: &[TxnId],
     edges: &[Edge],
-) -> Result<Verdict, NoMemory> {
+) -> Result<[Verdict; 2], NoMemory> {
     assert!(rt; ascends(ids));
     assert!(rt; joins(ids, edges));
     assert!(rt; in_order(edges));
-    settle(alloc, ids, edges)
+    let settled = settle(alloc, ids, edges)?;
+    let numbered = verdict_of_numbers(rt, alloc, ids, edges)?;
+    Ok([settled, numbered])
 }
 
 const fn edge(src: TxnId, kind: Kind, dst: TxnId, key: Key) -> Edge {
@@ -177,9 +181,11 @@ fn least_orders(rt: HostRuntime) -> Result<(), Fail> {
         ),
     ];
     for (ids, edges, order) in cases {
-        match verdict(&rt, rt.alloc(), ids, edges)? {
-            Verdict::Order(found) => assert_eq!(rt; found.as_slice(), order),
-            Verdict::Cycle(_) => assert!(rt; false, "a cycle where {order:?} keeps every edge"),
+        for verdict in verdicts(&rt, rt.alloc(), ids, edges)? {
+            match verdict {
+                Verdict::Order(found) => assert_eq!(rt; found.as_slice(), order),
+                Verdict::Cycle(_) => assert!(rt; false, "a cycle where {order:?} keeps every edge"),
+            }
         }
     }
     Ok(())
@@ -264,9 +270,11 @@ fn printed_cycles(rt: HostRuntime) -> Result<(), Fail> {
         ),
     ];
     for (ids, edges, steps) in cases {
-        match verdict(&rt, rt.alloc(), ids, edges)? {
-            Verdict::Order(_) => assert!(rt; false, "an order beside {steps:?}"),
-            Verdict::Cycle(found) => assert_eq!(rt; found.as_slice(), steps),
+        for verdict in verdicts(&rt, rt.alloc(), ids, edges)? {
+            match verdict {
+                Verdict::Order(_) => assert!(rt; false, "an order beside {steps:?}"),
+                Verdict::Cycle(found) => assert_eq!(rt; found.as_slice(), steps),
+            }
         }
     }
     Ok(())
@@ -282,13 +290,15 @@ fn a_long_cycle(rt: HostRuntime) -> Result<(), Fail> {
         let next = if txn == 25_000 { 1 } else { txn + 1 };
         edges.push(edge(txn, Kind::Ww, next, 1))?;
     }
-    match verdict(&rt, rt.alloc(), &ids, &edges)? {
-        Verdict::Order(_) => assert!(rt; false, "an order of a cycle"),
-        Verdict::Cycle(found) => {
-            let steps = found.as_slice();
-            assert_eq!(rt; steps.len(), 25_000);
-            assert_eq!(rt; steps.first(), Some(&step(1, Kind::Ww, 1)));
-            assert_eq!(rt; steps.last(), Some(&step(25_000, Kind::Ww, 1)));
+    for verdict in verdicts(&rt, rt.alloc(), &ids, &edges)? {
+        match verdict {
+            Verdict::Order(_) => assert!(rt; false, "an order of a cycle"),
+            Verdict::Cycle(found) => {
+                let steps = found.as_slice();
+                assert_eq!(rt; steps.len(), 25_000);
+                assert_eq!(rt; steps.first(), Some(&step(1, Kind::Ww, 1)));
+                assert_eq!(rt; steps.last(), Some(&step(25_000, Kind::Ww, 1)));
+            }
         }
     }
     Ok(())
@@ -306,14 +316,16 @@ fn a_long_order(rt: HostRuntime) -> Result<(), Fail> {
             edges.push(edge(txn, Kind::Rw, earlier, 7))?;
         }
     }
-    match verdict(&rt, rt.alloc(), &ids, &edges)? {
-        Verdict::Order(found) => {
-            let order = found.as_slice();
-            assert_eq!(rt; order.len(), 100_000);
-            assert_eq!(rt; order.first(), Some(&100_000));
-            assert_eq!(rt; order.last(), Some(&1));
+    for verdict in verdicts(&rt, rt.alloc(), &ids, &edges)? {
+        match verdict {
+            Verdict::Order(found) => {
+                let order = found.as_slice();
+                assert_eq!(rt; order.len(), 100_000);
+                assert_eq!(rt; order.first(), Some(&100_000));
+                assert_eq!(rt; order.last(), Some(&1));
+            }
+            Verdict::Cycle(_) => assert!(rt; false, "a cycle in a chain"),
         }
-        Verdict::Cycle(_) => assert!(rt; false, "a cycle in a chain"),
     }
     Ok(())
 }
