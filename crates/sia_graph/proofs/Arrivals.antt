@@ -1,8 +1,6 @@
--- Steps of the counts of numbers by the places that they lead to, and of the set of places that are ready.
+-- Steps of the counts of numbers by the places that they lead to, and of the places that are freed.
 use Rattle.std.proofs.Common.{◌≡◌, ◌≢◌, ◌⊎◌, inl, inr, ℕ, ◌+◌, ◌-◌, ◌<◌, ◌≤◌, cond, List, length, get_or, set, take, sym, ap, ◌∙◌, subst, arith}
-use Rattle.std.specs.Prelude.{IsTrue, ◌↔◌}
-use Rattle.std.specs.BTreeSet.{BTreeSet, contains}
-use Rattle.std.specs.Ordering.{nat_cmp}
+use Rattle.std.specs.Prelude.{◌↔◌}
 use Rattle.std.proofs.lemmas.Bool.{cases_eq, eq-eqb, ne_eqb}
 use Rattle.std.proofs.lemmas.List.{get_or-set_same, get_or-set_other, get_or_default, length-take}
 use Rattle.std.proofs.lemmas.List.Sums.{count_by_more_yes, count_by_more_no, count_by-le-length, sum_by-take-le}
@@ -104,28 +102,25 @@ module _ (numbers : List ℕ) (k d : ℕ) (within : k < length numbers) (j : ℕ
           inl ((let a = f.0 in omega arith), sym (get_or-set_other counts j i v 0 other) ∙ f.1)
     ]
 
-    -- the set of what is ready, where the count falls to 0 and where it doesn't
-    module _ (was ready now : BTreeSet ℕ) (v : ℕ) (some : 1 ≤ get_or counts j 0)
-        (before : (i : ℕ) → IsTrue (contains nat_cmp ready i) ↔ (IsTrue (contains nat_cmp was i) ⊎ IsFreedAt (take k numbers) counts i)) where
-      pub ready_more : v ≡ 0 → ((i : ℕ) → IsTrue (contains nat_cmp now i) ↔ (IsTrue (contains nat_cmp ready i) ⊎ (j ≡ i)))
-          → (i : ℕ) → IsTrue (contains nat_cmp now i) ↔ (IsTrue (contains nat_cmp was i) ⊎ IsFreedAt (take (k + 1) numbers) (set counts j v) i)
-      ready_more none added i = (
-        λ c. elim ((added i).0 c) [ inl r ↦ still ((before i).0 r) | inr e ↦ inr (subst (λ u. IsFreedAt (take (k + 1) numbers) (set counts j v) u) e (now_freed v none)) ],
-        λ c. elim c [
-          | inl w ↦ (added i).1 (inl ((before i).1 (inl w)))
-          | inr f ↦ elim (freed_cases i v f) [ inl g ↦ (added i).1 (inl ((before i).1 (inr g))) | inr z ↦ (added i).1 (inr z.1) ]
-        ],
-      )
-        where
-          still : IsTrue (contains nat_cmp was i) ⊎ IsFreedAt (take k numbers) counts i → IsTrue (contains nat_cmp was i) ⊎ IsFreedAt (take (k + 1) numbers) (set counts j v) i
-          still (inl w) = inl w
-          still (inr f) = inr (still_freed i v some f)
-
-      pub ready_same : v ≢ 0 → now ≡ ready → (i : ℕ) → IsTrue (contains nat_cmp now i) ↔ (IsTrue (contains nat_cmp was i) ⊎ IsFreedAt (take (k + 1) numbers) (set counts j v) i)
-      ready_same more same i = (
-        λ c. elim ((before i).0 (subst (λ (s : BTreeSet ℕ). IsTrue (contains nat_cmp s i)) same c)) [ inl w ↦ inl w | inr f ↦ inr (still_freed i v some f) ],
-        λ c. subst (λ (s : BTreeSet ℕ). IsTrue (contains nat_cmp s i)) (sym same) ((before i).1 (elim c [
-          | inl w ↦ inl w
-          | inr f ↦ elim (freed_cases i v f) [ inl g ↦ inr g | inr z ↦ absurd (more z.0) ]
-        ])),
-      )
+    -- what is ready behind the end, once the number's place is noted where its count fell to 0
+    pub freed_more : (Was Ready Now : ℕ → Type 0) (end v : ℕ) → 1 ≤ get_or counts j 0
+        → ((i : ℕ) → Ready i ↔ (Was i ⊎ ((i < end) × IsFreedAt (take k numbers) counts i)))
+        → ((i : ℕ) → Now i ↔ (Ready i ⊎ ((j ≡ i) × (j < end) × (v ≡ 0))))
+        → (i : ℕ) → Now i ↔ (Was i ⊎ ((i < end) × IsFreedAt (take (k + 1) numbers) (set counts j v) i))
+    freed_more Was Ready Now end v some before noted i = (
+      λ c. elim ((noted i).0 c) [
+        | inl r ↦ still ((before i).0 r)
+        | inr f ↦ inr (subst (λ u. u < end) f.0 f.1, subst (λ u. IsFreedAt (take (k + 1) numbers) (set counts j v) u) f.0 (now_freed v f.2))
+      ],
+      λ c. elim c [
+        | inl w ↦ (noted i).1 (inl ((before i).1 (inl w)))
+        | inr f ↦ elim (freed_cases i v f.1) [
+          | inl g ↦ (noted i).1 (inl ((before i).1 (inr (f.0, g))))
+          | inr z ↦ (noted i).1 (inr (z.1, subst (λ u. u < end) (sym z.1) f.0, z.0))
+        ]
+      ],
+    )
+      where
+        still : Was i ⊎ ((i < end) × IsFreedAt (take k numbers) counts i) → Was i ⊎ ((i < end) × IsFreedAt (take (k + 1) numbers) (set counts j v) i)
+        still (inl w) = inl w
+        still (inr f) = inr (f.0, still_freed i v some f.1)

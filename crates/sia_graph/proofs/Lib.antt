@@ -42,3 +42,4 @@ pub mod Places
 pub mod Arrivals
 pub mod TakenPlaces
 pub mod LeastNumbers
+pub mod ReadyPlaces

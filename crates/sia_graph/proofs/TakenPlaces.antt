@@ -1,14 +1,11 @@
 -- One more transaction is taken, told by its place: the least that is ready, with what its numbers release.
 use Rattle.std.proofs.Common.{◌≡◌, ◌≢◌, ◌⊎◌, inl, inr, ℕ, ◌+◌, ◌<◌, ◌≤◌, List, [], ◌∷◌, ◌++◌, length, get_or, ap, sym, ◌∙◌, refl, subst, arith}
-use Rattle.std.specs.Prelude.{All, ◌↔◌}
-use Rattle.std.proofs.lemmas.Bool.{eqb-true}
+use Rattle.std.specs.Prelude.{◌↔◌}
 use Rattle.sia_parts.specs.declared.finding.Edge.{Edge}
-use Rattle.sia_parts.specs.Packing.{IsPacked, target_number}
 use Rattle.sia_graph.specs.Fronts.{AreWaiting, IsFreed, IsTaking, arriving}
-use Rattle.sia_graph.specs.Places.{AreNumbered, AreNumbersFrom, IsFreedAt, StandsWhere, aims_at, arriving_at, edges_at}
+use Rattle.sia_graph.specs.Places.{AreNumbered, AreNumbersFrom, IsFreedAt, StandsWhere, arriving_at, edges_at}
 use Rattle.sia_graph.proofs.AscendingIds.{ids_no_less, one_id}
 use Rattle.sia_graph.proofs.OneTaken.{group_fits, taken, taking_none}
-use Rattle.sia_graph.proofs.Waiting.{all_at, some_counted}
 use Rattle.sia_graph.proofs.Places.{all_join, edges_from_place, group_packed, same_arriving}
 
 module _ (ids keys numbers : List ℕ) (are : AreNumbered ids keys numbers) where
@@ -77,10 +74,3 @@ module _ (ids keys numbers : List ℕ) (are : AreNumbered ids keys numbers) wher
           taken ids edges counts front (StandsWhere ids Ready) taking are.ids_up (all_join ids keys numbers are) (get_or ids p 0) (edges_at ids keys group)
           (edges_from_place ids keys numbers are p group below from) (StandsWhere ids Next) (StandsWhere ids After) less same_length
           (p, below, refl, had) least_id popped_id (λ i l. let a = fewer i l in let b = same i l in omega arith) freed_id
-
--- a place to which one of the numbers leads is within
-pub freed_within : (ids keys group counts : List ℕ) → All (IsPacked ids keys) group → (i : ℕ) → IsFreedAt group counts i → i < length ids
-freed_within ids keys group counts packed i f =
-    let w = some_counted (aims_at i) group f.0 in
-    let is = all_at (IsPacked ids keys) group packed w.0 w.1 w.2 in
-    subst (λ k. k < length ids) (eqb-true (target_number w.1) i w.3) is.target

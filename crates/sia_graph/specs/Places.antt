@@ -1,5 +1,5 @@
 -- Edges as numbers: transactions are told by their places among ids, and keys by theirs among keys.
-use Rattle.std.specs.Prelude.{◌≡◌, ◌≢◌, ℕ, ◌<◌, ◌==◌, Bool, List, All, AllPairs, count_by, length, map, slice_index}
+use Rattle.std.specs.Prelude.{◌≡◌, ◌≢◌, ◌⊎◌, ℕ, ◌<◌, ◌≤◌, ◌==◌, Bool, List, All, AllPairs, count_by, length, map, slice_index}
 use Rattle.std.specs.List.Sorted.{IsStrictlyIncreasing}
 use Rattle.sia_parts.specs.declared.finding.Edge.{Edge}
 use Rattle.sia_parts.specs.Packing.{IsPacked, unpacked, source_number, target_number}
@@ -40,3 +40,7 @@ IsFreedAt leaving counts i = (0 < arriving_at leaving i) × (slice_index counts 
 -- t stands at a place that has P
 abbrev pub StandsWhere : List ℕ → (ℕ → Type 0) → ℕ → Type 0
 StandsWhere ids P t = (i : ℕ) × (i < length ids) × (slice_index ids i ≡ t) × P i
+
+-- i is ready: it is one of those behind the end, or it stands from the end on and no number leads to it
+abbrev pub IsReadyAt : (ℕ → Type 0) → ℕ → List ℕ → ℕ → Type 0
+IsReadyAt IsBehind end counts i = IsBehind i ⊎ ((end ≤ i) × (i < length counts) × (slice_index counts i ≡ 0))

@@ -1,11 +1,9 @@
-use Rattle.std.proofs.Common.{◌≡◌, ℕ, ◌-◌, ◌<◌, true, length, get_or, sym, ◌∙◌, subst, arith}
-use Rattle.std.specs.BTreeSet.{BTreeSet, Updates}
-use Rattle.std.specs.Ordering.{nat_cmp}
+use Rattle.std.proofs.Common.{◌≡◌, ◌⊎◌, ℕ, ◌-◌, ◌<◌, true, length, get_or, sym, ◌∙◌, subst, arith}
+use Rattle.std.specs.Prelude.{◌↔◌}
 use Rattle.std.proofs.lemmas.List.{get_or-set_same, length-set}
-use Rattle.sia_graph.proofs.Arrivals.{some_left, released_more, ready_more, ready_same}
-use Rattle.sia_graph.proofs.Releasing.{inserted}
+use Rattle.sia_graph.proofs.Arrivals.{some_left, released_more, freed_more}
+use Rattle.sia_graph.proofs.OneTaken.{IsIn}
 use Rattle.sia_graph.proofs.taking_numbers.release.Goals as goal
-use Rattle.sia_graph.proofs.taking_numbers.release.Goals.{then-counts-i-eq0+in_ok-insert, else-counts-i-eq0}
 
 pub overflow_sub-counts : goal.overflow_sub-counts
 overflow_sub-counts c =
@@ -29,14 +27,6 @@ loop-n-preserved c =
     let set_at = get_or-set_same counts j v 0 below in
     let same = length-set counts j v in (
       (λ i l. released_more leaving c.loop-n.n-index 0 c.loop-n-test.true j at counts below c.args.counts.now c.loop-n.invariant.0 some i (omega arith)),
-      elim c.if-counts-i-eq0.branch [
-        | then-counts-i-eq0+in_ok-insert w ↦
-            ready_more leaving c.loop-n.n-index 0 c.loop-n-test.true j at counts below c.args.ready.now c.loop-n.ready c.if-counts-i-eq0.ready v some c.loop-n.invariant.1
-            (let z = w.if-counts-i-eq0.true in omega arith)
-            (inserted c.loop-n.ready c.if-counts-i-eq0.ready _ (subst (λ (s : BTreeSet ℕ). Updates nat_cmp c.loop-n.ready s _ true) (sym w.ready-is) w.in_ok-insert.ensures.updates))
-        | else-counts-i-eq0 w ↦
-            ready_same leaving c.loop-n.n-index 0 c.loop-n-test.true j at counts below c.args.ready.now c.loop-n.ready c.if-counts-i-eq0.ready v some c.loop-n.invariant.1
-            (λ e. w.if-counts-i-eq0.false (set_at ∙ e))
-            w.ready-is
-      ],
+      freed_more leaving c.loop-n.n-index 0 c.loop-n-test.true j at counts below (IsIn c.args.behind.now) (IsIn c.loop-n.behind) (IsIn c.note_freed.new.behind) c.args.end v some c.loop-n.invariant.1
+          (λ i. subst (λ u. IsIn c.note_freed.new.behind i ↔ (IsIn c.loop-n.behind i ⊎ ((j ≡ i) × (j < c.args.end) × (u ≡ 0)))) set_at (c.in_ok-note_freed.ensures i)),
     )

@@ -7,4 +7,4 @@ use Rattle.sia_graph.proofs.taking_numbers.release.Given as goal
 
 abbrev pub invariant-loop-n : goal.invariant-loop-n
 invariant-loop-n l = ((i : ℕ) → i < length l.counts → get_or l.counts i 0 + arriving_at (take l.n-index l.leaving) i ≡ get_or l.initial.counts i 0)
-    × ((i : ℕ) → IsTrue (contains nat_cmp l.ready i) ↔ (IsTrue (contains nat_cmp l.initial.ready i) ⊎ IsFreedAt (take l.n-index l.leaving) l.counts i))
+    × ((i : ℕ) → IsTrue (contains nat_cmp l.behind i) ↔ (IsTrue (contains nat_cmp l.initial.behind i) ⊎ ((i < l.end) × IsFreedAt (take l.n-index l.leaving) l.counts i)))
