@@ -8,6 +8,7 @@ ghost use Rattle.sia_parts.specs.Findings.{ListsEdges};
 ghost use Rattle.sia_parts.specs.Packing.{IsPacked};
 
 use crate::firsts::commit_of;
+use crate::passing::passes;
 use crate::pivot::Pivot;
 use crate::pivoting_numbers::pivots_of_numbers;
 use crate::tests::structures::{findings, shown};
@@ -89,8 +90,8 @@ fn stand_for(
     Ok(same)
 }
 
-/// The pivots of the history, where these are the numbers of its edges.
-fn judged(alloc: Global, text: &[u8], numbers: &[EdgeNumber]) -> Result<Vec<Pivot>, Fail> {
+/// The pivots of the history, and whether it passes, where these are the numbers of its edges.
+fn judged(alloc: Global, text: &[u8], numbers: &[EdgeNumber]) -> Result<(Vec<Pivot>, bool), Fail> {
     let h = read_history(alloc, text).ok().ok_or("a history")?;
     let ix = make::index(alloc, &h)?;
     let f = findings(alloc, &h, &ix)?;
@@ -100,7 +101,8 @@ fn judged(alloc: Global, text: &[u8], numbers: &[EdgeNumber]) -> Result<Vec<Pivo
         return Err(Fail::from("the numbers of the edges"));
     }
     let found = pivots_of_numbers(alloc, &ix, &txns, numbers)?;
-    Ok(found)
+    let passed = passes(&f.bad_reads, &f.bad_writes, &found);
+    Ok((found, passed))
 }
 
 /// The number of the edge between the transactions at these places, of a kind and of a key at its place.
@@ -113,18 +115,20 @@ const fn number(source: u8, target: u8, kind: u8, key: u8) -> EdgeNumber {
 
 #[test]
 fn pivots_by_numbers(rt: HostRuntime) -> Result<(), Fail> {
-    let cases: [(&[u8], &[EdgeNumber], &str); 5] = [
+    let cases: [(&[u8], &[EdgeNumber], &str, bool); 6] = [
         // Write skew: each has an edge to the other.
         (
             b"r1[1:0] r1[2:0] r2[1:0] r2[2:0] w1[2] w2[1] c1 c2",
             &[number(0, 1, 2, 0), number(1, 0, 2, 1)],
             "1 [2] [2] [] 2 [1] [1] [1] ",
+            false,
         ),
         // The edge from 3 to 1 is of the kind wr.
         (
             b"r2[1:0] r2[2:0] r3[1:0] r3[2:0] w2[2] w3[1] c2 c3 r1[1:3] c1",
             &[number(1, 2, 2, 0), number(2, 0, 1, 0), number(2, 1, 2, 1)],
             "2 [3] [3] [] 3 [2] [2] [2] ",
+            false,
         ),
         // Both edges of the kind rw stand at two keys.
         (
@@ -138,12 +142,21 @@ fn pivots_by_numbers(rt: HostRuntime) -> Result<(), Fail> {
                 number(1, 0, 2, 1),
             ],
             "1 [2] [2] [] 2 [1] [1] [1] ",
+            false,
+        ),
+        // 3 commits before 2, but after 1.
+        (
+            b"r1[1:0] r2[2:0] w2[1] w3[2] c1 c3 c2",
+            &[number(0, 1, 2, 0), number(1, 2, 2, 1)],
+            "2 [1] [3] [] ",
+            true,
         ),
         // The edge from 2 to 3 is between transactions that don't overlap.
         (
             b"w3[1] c3 r2[1:0] r1[2:0] w2[2] c2 c1",
             &[number(0, 1, 2, 1), number(1, 2, 2, 0)],
             "",
+            false,
         ),
         // Two on each side.
         (
@@ -155,10 +168,12 @@ fn pivots_by_numbers(rt: HostRuntime) -> Result<(), Fail> {
                 number(4, 1, 2, 0),
             ],
             "2 [1, 4294967295] [3, 4] [3, 4] ",
+            false,
         ),
     ];
-    for (text, numbers, entries) in cases {
-        let found = judged(rt.alloc(), text, numbers)?;
+    for (text, numbers, entries, is_passing) in cases {
+        let (found, passed) = judged(rt.alloc(), text, numbers)?;
+        assert_eq!(rt; passed, is_passing);
         assert_eq!(rt; shown(rt.alloc(), &found)?.as_str(), entries);
     }
     Ok(())
