@@ -77,13 +77,15 @@ abbrev pub IsVersionOf : List Event → List WriteRow → KeyVersion → ℕ →
 IsVersionOf h ws v q = (q < length ws) × ((slice_index_or ws q no_write).key ≡ v.key) × ((slice_index_or ws q no_write).txn ≡ v.txn) × CommitsAt h v.txn v.commit
 
 -- the rows of the writes so far, where the next place has a write event
-pub write_more : (h : List Event) (n t k : ℕ) (xs : List WriteRow) → HoldsBelow (IsWriteAt h) n xs → Some (Write t k) ≡ at_place h n → HoldsBelow (IsWriteAt h) (n + 1) (xs ++ record { key = k; txn = t; place = n } ∷ [])
-write_more h n t k xs holds at = holds_one (IsWriteAt h) n xs (record { key = k; txn = t; place = n }) holds (refl, sym at) (λ x is.
-    let same : Write t k ≡ Write x.txn x.key = cc in
-    let key : k ≡ x.key = cc in
-    let txn : t ≡ x.txn = cc in
-    let place = is.0 in
-    λ i. record { key = key i; txn = txn i; place = sym place i })
+pub write_more : (h : List Event) (n : ℕ) (w : WriteRow) (xs : List WriteRow) → HoldsBelow (IsWriteAt h) n xs → IsWriteAt h w n → HoldsBelow (IsWriteAt h) (n + 1) (xs ++ w ∷ [])
+write_more h n w xs holds here = holds_one (IsWriteAt h) n xs w holds here (λ x is.
+    let at : at_place h n ≡ Some (Write w.txn w.key) = here.1 in
+    let there : at_place h n ≡ Some (Write x.txn x.key) = is.1 in
+    let same : Write w.txn w.key ≡ Write x.txn x.key = cc in
+    let key : w.key ≡ x.key = cc in
+    let txn : w.txn ≡ x.txn = cc in
+    let place : w.place ≡ x.place = here.0 ∙ sym is.0 in
+    λ i. record { key = key i; txn = txn i; place = place i })
 
 -- and where it has none
 pub write_same : (h : List Event) (n : ℕ) (xs : List WriteRow) → HoldsBelow (IsWriteAt h) n xs → ((t k : ℕ) → ¬ (at_place h n ≡ Some (Write t k))) → HoldsBelow (IsWriteAt h) (n + 1) xs

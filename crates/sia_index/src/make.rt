@@ -2,13 +2,13 @@
 ghost use Rattle.std.specs.Prelude.{◌≡◌, IfOk};
 
 use crate::chains::{firsts_of, keys_of, made_of, offsets_of};
-use crate::events::writes_of;
+use crate::events::{EventRows, rows_of};
 use crate::guesses::Guesses;
 use crate::indexed::Index;
 use crate::lows::lows_of;
 use crate::numbers::ids_of;
 use crate::own::{WriteTable, places_of, starts_of};
-use crate::reads::{ranges_of, reaches_of, reads_of};
+use crate::reads::reaches_of;
 use crate::txns::table_of;
 use crate::versions::version_rows_of;
 use sia_events::{History, NoMemory};
@@ -24,7 +24,11 @@ pub fn index(alloc: Global, h: &History) -> Result<Index, NoMemory>
     let txns = table_of(alloc, h)?;
     let ids = ids_of(alloc, txns.as_slice())?;
     let txn_guesses = Guesses::over(alloc, ids.as_slice())?;
-    let writes = writes_of(alloc, h)?;
+    let EventRows {
+        writes,
+        reads,
+        ranges,
+    } = rows_of(alloc, h)?;
     let rows = version_rows_of(alloc, h, &txns, &writes)?;
     let keys = keys_of(alloc, &writes)?;
     let offsets = offsets_of(alloc, &keys, &rows)?;
@@ -34,8 +38,6 @@ pub fn index(alloc: Global, h: &History) -> Result<Index, NoMemory>
     let places = places_of(alloc, &writes)?;
     let lows = lows_of(alloc, &places)?;
     let starts = starts_of(alloc, &txns, &writes)?;
-    let reads = reads_of(alloc, h)?;
-    let ranges = ranges_of(alloc, h)?;
     let reaches = reaches_of(alloc, &ranges)?;
     let key_guesses = Guesses::over(alloc, keys.as_slice())?;
     Ok(Index {

@@ -1,81 +1,14 @@
 //! Tables of the reads of a history, and what is found in them by key.
 ghost use Rattle.std.specs.Prelude.{◌≡◌, ◌<◌, ◌≤◌, ℕ, List, IfOk, IsTrue, MatchOption, AllPairs};
 ghost use Rattle.sia_events.specs.declared.event.Event.{Event};
-ghost use Rattle.sia_index.specs.declared.info.ItemRead.{ItemRead};
-ghost use Rattle.sia_index.specs.declared.info.RangeRead.{RangeRead};
 ghost use Rattle.sia_events.specs.Transactions.{Wrote};
-ghost use Rattle.sia_index.specs.Info.{IsItemRead, IsRangeRead, AreReadsWithin, AreRangesMeeting, AreWrittenKeys, AreWrittenWithin, IsNextWritten, AreVersionsWithin};
+ghost use Rattle.sia_index.specs.Info.{AreReadsWithin, AreRangesMeeting, AreWrittenKeys, AreWrittenWithin, IsNextWritten, AreVersionsWithin};
 ghost use Rattle.sia_index.specs.Rows.{AreReads, AreRanges, AreReaches, AscendsByRead, AscendsByRange, AreVersionRows, AscendsByVersion, IsPlaceFrom};
 
 use crate::guesses::Guesses;
 use crate::info::{ItemRead, KeyVersion, RangeRead};
-use crate::ordering::put_rows_in_order;
-use sia_events::{Event, History, Key};
+use sia_events::Key;
 use std::alloc::{AllocError, Global};
-
-/// Every read event, by key.
-pub fn reads_of(alloc: Global, h: &History) -> Result<Vec<ItemRead>, AllocError>
-    ensures { IfOk result (λ reads. AreReads h.now reads.items) }
-{
-    let mut reads = Vec::with_capacity(alloc, h.len() as usize)?;
-    for before in 0..h.len() {
-        if let Some(read) = read_at(h, before + 1) {
-            reads.push(read)?;
-        }
-    }
-    put_rows_in_order(alloc, &mut reads);
-    Ok(reads)
-}
-
-/// Every range read event, by its first key.
-pub fn ranges_of(alloc: Global, h: &History) -> Result<Vec<RangeRead>, AllocError>
-    ensures { IfOk result (λ ranges. AreRanges h.now ranges.items) }
-{
-    let mut ranges = Vec::new(alloc);
-    for before in 0..h.len() {
-        if let Some(range) = range_at(h, before + 1) {
-            ranges.push(range)?;
-        }
-    }
-    put_rows_in_order(alloc, &mut ranges);
-    Ok(ranges)
-}
-
-// The read event at the place.
-fn read_at(h: &History, place: u32) -> Option<ItemRead>
-    ensures { MatchOption result ((read : ItemRead) → read.place ≡ place → ¬ IsItemRead h.now read) (λ read. (read.place ≡ place) × IsItemRead h.now read) }
-{
-    match h.event(place) {
-        Some(event) => match event {
-            Event::Read { txn, key, saw } => Some(ItemRead {
-                key: *key,
-                txn: *txn,
-                place,
-                saw: *saw,
-            }),
-            _ => None,
-        },
-        None => None,
-    }
-}
-
-// The range read event at the place.
-fn range_at(h: &History, place: u32) -> Option<RangeRead>
-    ensures { MatchOption result ((read : RangeRead) → read.place ≡ place → ¬ IsRangeRead h.now read) (λ read. (read.place ≡ place) × IsRangeRead h.now read) }
-{
-    match h.event(place) {
-        Some(event) => match event {
-            Event::Range { txn, lo, hi, .. } => Some(RangeRead {
-                lo: *lo,
-                hi: *hi,
-                txn: *txn,
-                place,
-            }),
-            _ => None,
-        },
-        None => None,
-    }
-}
 
 /// How far each range and those before it reach.
 pub fn reaches_of(alloc: Global, ranges: &[RangeRead]) -> Result<Vec<Key>, AllocError>

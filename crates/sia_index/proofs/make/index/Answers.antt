@@ -8,12 +8,12 @@ use Rattle.sia_index.proofs.make.index.Goals as goal
 
 pub offsets_of-requires-clause-keys_ascend : goal.offsets_of-requires-clause-keys_ascend
 offsets_of-requires-clause-keys_ascend c =
-    let keys = c.in_ok-keys.ensures c.args.h.now (rw c.deref-3.ensures.value c.in_ok-writes.ensures) in
+    let keys = c.in_ok-keys.ensures c.args.h.now (rw c.deref-3.ensures.value c.in_ok-writes.ensures.writes) in
     rw c.deref-4.ensures.value (ascends (λ (k : ℕ). k) _ _ keys)
 
 pub firsts_of-requires : goal.firsts_of-requires
 firsts_of-requires c =
-    let keys = c.in_ok-keys.ensures c.args.h.now (rw c.deref-3.ensures.value c.in_ok-writes.ensures) in
+    let keys = c.in_ok-keys.ensures c.args.h.now (rw c.deref-3.ensures.value c.in_ok-writes.ensures.writes) in
     let offsets = rw (c.deref-4.ensures.value, c.deref-5.ensures.value) at c.in_ok-offsets.ensures in
     let made = rw c.deref-6.ensures.value at c.in_ok-made.ensures in
     let count : length c.in_ok-keys.keys.items ≡ c.len-2.result = search rules in
@@ -21,7 +21,7 @@ firsts_of-requires c =
 
 pub invariant_of-result : goal.invariant_of-result
 invariant_of-result c =
-    let keys = c.in_ok-keys.ensures c.args.h.now (rw c.deref-3.ensures.value c.in_ok-writes.ensures) in
+    let keys = c.in_ok-keys.ensures c.args.h.now (rw c.deref-3.ensures.value c.in_ok-writes.ensures.writes) in
     let offsets = rw (c.deref-4.ensures.value, c.deref-5.ensures.value) at c.in_ok-offsets.ensures in
     let made = rw c.deref-6.ensures.value at c.in_ok-made.ensures in
     let chains = chains_are _ _ keys _ c.in_ok-rows.ensures _ offsets _ made in
@@ -32,7 +32,7 @@ invariant_of-result c =
       well_formed = c.len.ensures.well_formed;
       txns_are = c.in_ok-txns.ensures;
       writes_are = record {
-        rows_are = c.in_ok-writes.ensures;
+        rows_are = c.in_ok-writes.ensures.writes;
         places_are = rw c.deref-10.ensures.value at c.in_ok-places.ensures;
         lows_are = rw c.deref-11.ensures.value at c.in_ok-lows.ensures;
       };
@@ -41,8 +41,8 @@ invariant_of-result c =
       firsts_are = firsts;
       first_lows_are = rw c.deref-9.ensures.value at c.in_ok-first_lows.ensures;
       versions_are = c.in_ok-rows.ensures;
-      reads_are = c.in_ok-reads.ensures;
-      ranges_are = c.in_ok-ranges.ensures;
+      reads_are = c.in_ok-writes.ensures.reads;
+      ranges_are = c.in_ok-writes.ensures.ranges;
       reaches_are = rw c.deref-14.ensures.value at c.in_ok-reaches.ensures;
       ids_are = table_lists _ _ _ c.in_ok-txns.ensures (rw c.as_slice.ensures.value at c.in_ok-ids.ensures);
     })

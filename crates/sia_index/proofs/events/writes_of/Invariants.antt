@@ -1,7 +1,0 @@
--- The rows so far are those of the write events at the places so far.
-use Rattle.std.proofs.Common.{◌+◌}
-use Rattle.sia_index.proofs.Collected.{HoldsBelow, IsWriteAt}
-use Rattle.sia_index.proofs.events.writes_of.Given as goal
-
-abbrev pub invariant-loop-before : goal.invariant-loop-before
-invariant-loop-before l = HoldsBelow (IsWriteAt l.h) (l.before + 1) l.writes.items
