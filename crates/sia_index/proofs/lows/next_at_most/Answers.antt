@@ -21,16 +21,20 @@ loop-i-preserved-then-is_stretch_above c =
 
 pub returns-then-numbers-i : goal.returns-then-numbers-i
 returns-then-numbers-i c =
-    let (from, passed) = c.loop-i.invariant in
-    (from, c.loop-i-test.true, (omega (arith, c.if-numbers-i.true)), λ k d low high.
-        let above : c.args.bound < slice_index c.args.numbers.now k = passed k low high (omega (arith, c.loop-i-test.true)) in
-        let same = get_or_default c.args.numbers.now k d 0 (omega (arith, c.requires.within, c.loop-i-test.true)) in
-        omega (arith, above, same))
+    let (from, passed) = c.loop-i.invariant in (
+      from,
+      c.loop-i-test.true,
+      (omega (arith, c.if-numbers-i.true)),
+      λ k d low high.
+          let above : c.args.bound < slice_index c.args.numbers.now k = passed k low high (omega (arith, c.loop-i-test.true)) in
+          let same = get_or_default c.args.numbers.now k d 0 (omega (arith, c.requires.within, c.loop-i-test.true)) in
+          omega (arith, above, same),
+    )
 
 pub returns : goal.returns
 returns c =
     let (from, passed) = c.loop-i.invariant in
     λ k d low high.
-        let above : c.args.bound < slice_index c.args.numbers.now k = passed k low (omega (arith, c.loop-i-test.false)) high in
-        let same = get_or_default c.args.numbers.now k d 0 (omega (arith, c.requires.within)) in
-        omega (arith, above, same)
+    let above : c.args.bound < slice_index c.args.numbers.now k = passed k low (omega (arith, c.loop-i-test.false)) high in
+    let same = get_or_default c.args.numbers.now k d 0 (omega (arith, c.requires.within)) in
+    omega (arith, above, same)
