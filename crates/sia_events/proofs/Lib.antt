@@ -49,3 +49,4 @@ pub mod Pieces
 pub mod Progresses
 pub mod Writing
 pub mod Pairs
+pub mod Fronts

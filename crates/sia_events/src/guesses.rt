@@ -7,13 +7,16 @@ use std::alloc::{AllocError, Global};
 const EMPTY: u32 = u32::MAX;
 
 /// So many slots stand together in a bucket.
-const WAYS: usize = 4;
+const WAYS: usize = 8;
 
 /// How many buckets are tried for a write by its first hash, and as many by its second.
 const TRIED: usize = 2;
 
 /// How many slots the least table has. Each table has a power of two of them.
 const LEAST_SLOTS: usize = 1024;
+
+/// So many guesses are made together. More or fewer would do: their looks are only to be under way at the same time.
+pub(crate) const TOGETHER: usize = 16;
 
 /// A slot holds a position below this, and a tag above it. A history has fewer events.
 const POSITIONS: u32 = 131_072;
@@ -32,8 +35,9 @@ const MIX: u64 = 14_029_467_366_897_019_727;
 
 /// A hash table of positions in a list of writes. Nothing rests on it: who asks it looks where it points, and compares.
 ///
-/// Where too many writes share their slots, as writes that were chosen to do so, all are spread anew by a seed that is made
-/// of all of them. So whoever chooses keys must choose them all before knowing their slots.
+/// Where too many writes share their slots, all are spread anew by a seed that is made of all of them. Whoever computes the
+/// seed along can still choose keys, one after another, that share theirs. Of such keys a few have slots, and the others
+/// are found by a search, in the logarithm of their number: a hostile text is slower by so much at most.
 #[derive(Drop)]
 pub(crate) struct Guesses {
     alloc: Global,
@@ -62,18 +66,14 @@ fn tag_of(mixed: u64) -> u32 {
     (mixed >> 49) as u32 * POSITIONS
 }
 
-/// The position in the slot of the bucket that has the tag. No test of one slot waits for that of another.
+/// The position in the slot of the bucket that has the tag, or `POSITIONS` and more where none has it. No test of one slot
+/// waits for that of another.
 fn position_in(bucket: &[u32], tag: u32) -> u32 {
-    let mut found = EMPTY;
+    let mut least = EMPTY;
     for slot in bucket {
-        let position = *slot ^ tag;
-        found = if position < POSITIONS {
-            position
-        } else {
-            found
-        };
+        least = least.min(*slot ^ tag);
     }
-    found
+    least
 }
 
 impl Guesses {
@@ -92,7 +92,7 @@ impl Guesses {
         first.wrapping_add(tried.wrapping_mul(WAYS)) & self.slots.len().wrapping_sub(WAYS)
     }
 
-    /// The position in the bucket's slot that has the tag.
+    /// The position in the bucket's slot that has the tag, or `POSITIONS` and more.
     fn found(&self, start: usize, tag: u32) -> u32 {
         match self.slots.get(start..start.saturating_add(WAYS)) {
             Some(bucket) => position_in(bucket, tag),
@@ -100,14 +100,14 @@ impl Guesses {
         }
     }
 
-    /// What the buckets of a hash say: a position, or `EMPTY` where there is room and none is found. Nothing where they are
-    /// full of others.
+    /// What the buckets of a hash say: a position, or `POSITIONS` and more where there is room and none is found. Nothing
+    /// where they are full of others.
     fn look(&self, mixed: u64) -> Option<u32> {
         let tag = tag_of(mixed);
         for tried in 0..TRIED {
             let start = self.bucket(mixed, tried);
             let found = self.found(start, tag);
-            if found != EMPTY || self.slots.get(start.wrapping_add(WAYS - 1)) == Some(&EMPTY) {
+            if found < POSITIONS || self.slots.get(start.wrapping_add(WAYS - 1)) == Some(&EMPTY) {
                 return Some(found);
             }
         }
@@ -122,6 +122,16 @@ impl Guesses {
                 .look(mixed(self.seed.wrapping_mul(MIX), write))
                 .unwrap_or(EMPTY) as usize,
         }
+    }
+
+    /// Where each of the first writes may stand, by one bucket alone. No look waits for another.
+    pub(crate) fn guess_each(&self, writes: &[(Key, TxnId)]) -> [u32; TOGETHER] {
+        let mut guesses = [EMPTY; TOGETHER];
+        for at in 0..writes.len().min(TOGETHER) {
+            let mixed = mixed(self.seed, writes[at]);
+            guesses[at] = self.found(self.bucket(mixed, 0), tag_of(mixed));
+        }
+        guesses
     }
 
     /// Takes the entry into the first empty slot of the bucket, if there is one.
@@ -142,7 +152,7 @@ impl Guesses {
         for tried in 0..TRIED {
             let start = self.bucket(mixed, tried);
             // A second slot with the tag would never be found.
-            if self.found(start, tag) != EMPTY {
+            if self.found(start, tag) < POSITIONS {
                 return Some(false);
             }
             if self.put_into(start, tag | position.min(LAST_POSITION) as u32) {
@@ -168,13 +178,13 @@ impl Guesses {
 
     /// Whether so many writes need a greater table, or another seed.
     pub(crate) fn is_crowded(&self, count: usize) -> bool {
-        self.slots.len() / 2 < count || count / LOST_SHARE + LEAST_LOST < self.lost
+        self.slots.len() / 8 * 5 < count || count / LOST_SHARE + LEAST_LOST < self.lost
     }
 
     /// An empty table with room for these writes, and another seed.
     pub(crate) fn restart(&mut self, writes: &[(Key, TxnId)]) -> Result<(), AllocError> {
         let mut slots = self.slots.len().max(LEAST_SLOTS);
-        if slots / 2 < writes.len() {
+        if slots / 8 * 5 < writes.len() {
             slots = slots.saturating_mul(2);
         }
         self.slots = vec![in self.alloc; EMPTY; slots]?;

@@ -1,5 +1,5 @@
 //! What the reader keeps of the events so far, to judge the next one without going over them.
-ghost use Rattle.std.specs.Prelude.{◌≡◌, ℕ, ◌||◌, not, nat_lt, List, [], ◌∷◌, ◌++◌, drop, true, IsTrue, OnOk};
+ghost use Rattle.std.specs.Prelude.{◌≡◌, ℕ, ◌||◌, not, nat_lt, List, [], ◌∷◌, ◌++◌, ◌<◌, ◌≤◌, length, drop, true, IsTrue, OnOk};
 ghost use Rattle.std.specs.List.{list_all, AllByRecursion};
 ghost use Rattle.std.specs.BTreeSet.{contains};
 ghost use Rattle.sia_events.specs.declared.event.Event.{Event as AnEvent};
@@ -10,6 +10,7 @@ ghost use Rattle.sia_events.specs.Known.{Knows, acts, ends, writes, is_explained
 
 use crate::event::{Event, Key, TxnId, Version};
 use crate::fault::Reason;
+use crate::guesses::TOGETHER;
 use crate::txn_set::TxnSet;
 use crate::write_set::WriteSet;
 use std::alloc::{AllocError, Global};
@@ -47,6 +48,21 @@ fn is_good_list(lo: Key, hi: Key, listed: &[(Key, Version)]) -> bool
         before = Some(*key);
     }
     true
+}
+
+/// The guess of that number.
+fn guess_at(guesses: &[u32], at: usize) -> usize {
+    match guesses.get(at) {
+        Some(guess) => *guess as usize,
+        None => usize::MAX,
+    }
+}
+
+/// How many listed keys are looked up together after a run of that length: where there was a run, there may be another.
+fn count_after(run: usize) -> usize
+    ensures { 0 < result }
+{
+    if run == 0 { TOGETHER } else { 1 }
 }
 
 fn add_begun(begun: &mut TxnSet, event: &Event) -> Result<(), AllocError>
@@ -137,26 +153,69 @@ impl Tables {
         }
     }
 
-    /// The same, where the version may well be that of the write at the position.
+    /// Whether the listed version is 0 or was written, where its write may well stand at the position.
     #[tactic(auto, unfolding(crate::specs::Known::is_explained))]
-    fn is_explained_next(&self, position: &mut usize, key: Key, saw: Version) -> bool
+    fn is_explained_near(&self, position: usize, key: Key, saw: Version) -> bool
         ensures { (events : List AnEvent) → Knows self.now events → result ≡ is_explained events (key, saw) }
     {
         if saw == 0 {
             return true;
         }
-        self.written.contains_next(position, (key, saw))
+        self.written.contains_near(position, (key, saw))
+    }
+
+    /// Whether each version of a few listed keys is 0 or was written. It leaves the position where the next one may stand.
+    fn are_few_explained(&self, few: &[(Key, Version)], position: &mut usize) -> bool
+        ensures { (events : List AnEvent) → Knows self.now events → result ≡ list_all (is_explained events) few.now }
+    {
+        let guesses = self.written.guess_each(few);
+        *position = guess_at(&guesses, few.len().saturating_sub(1)).saturating_add(1);
+        for at in 0..few.len() {
+            let (key, saw) = few[at];
+            if !self.is_explained_near(guess_at(&guesses, at), key, saw) {
+                return false;
+            }
+        }
+        true
+    }
+
+    /// Whether the listed version is that of the write at the position.
+    #[tactic(auto, unfolding(crate::specs::Known::is_explained))]
+    fn is_written_at(&self, position: usize, key: Key, saw: Version) -> bool
+        ensures { (events : List AnEvent) → Knows self.now events → IsTrue result → is_explained events (key, saw) ≡ true }
+    {
+        self.written.has_at(position, (key, saw))
+    }
+
+    /// How many of the first listed versions are those of the writes from the position on.
+    fn run_len(&self, position: usize, listed: &[(Key, Version)]) -> usize
+        ensures within { result ≤ length listed.now }
+        ensures passed { (events : List AnEvent) → Knows self.now events → list_all (is_explained events) (drop result listed.now) ≡ list_all (is_explained events) listed.now }
+    {
+        for len in 0..listed.len() {
+            let (key, saw) = listed[len];
+            if !self.is_written_at(position.saturating_add(len), key, saw) {
+                return len;
+            }
+        }
+        listed.len()
     }
 
     /// Whether each listed version is 0 or was written. Most lists go on as the writes did.
     fn are_explained(&self, listed: &[(Key, Version)]) -> bool
         ensures { (events : List AnEvent) → Knows self.now events → result ≡ list_all (is_explained events) listed.now }
     {
-        let mut position = usize::MAX;
-        for (key, saw) in listed {
-            if !self.is_explained_next(&mut position, *key, *saw) {
+        let mut rest = listed;
+        let mut count = 1;
+        'rest: while !rest.is_empty() {
+            let (few, after) = rest.split_at(count.min(rest.len()));
+            let mut position = usize::MAX;
+            if !self.are_few_explained(few, &mut position) {
                 return false;
             }
+            let run = self.run_len(position, after);
+            count = count_after(run);
+            rest = &after[run..];
         }
         true
     }

@@ -5,7 +5,7 @@ ghost use Rattle.std.specs.BTreeSet.{contains};
 ghost use Rattle.sia_events.specs.WriteSets.{pair_cmp, same, wrote, IsSound};
 
 use crate::event::{Key, TxnId};
-use crate::guesses::Guesses;
+use crate::guesses::{Guesses, TOGETHER};
 use std::alloc::{AllocError, Global};
 use std::collections::BTreeSet;
 
@@ -93,18 +93,26 @@ impl WriteSet {
         self.is_rare(write)
     }
 
-    /// The same, where the write may well be the one at the position. The position behind it is left there.
-    pub(crate) fn contains_next(&self, position: &mut usize, write: (Key, TxnId)) -> bool
+    /// Where each of the first writes may stand.
+    pub(crate) fn guess_each(&self, writes: &[(Key, TxnId)]) -> [u32; TOGETHER] {
+        self.guesses.guess_each(writes)
+    }
+
+    /// Whether the write is the one at the position.
+    pub(crate) fn has_at(&self, position: usize, write: (Key, TxnId)) -> bool
+        ensures { IsTrue result → wrote self.now write ≡ true }
+    {
+        is_at(&self.writes, position, write)
+    }
+
+    /// Whether the write is one, which may well stand at the position.
+    pub(crate) fn contains_near(&self, position: usize, write: (Key, TxnId)) -> bool
         ensures { IsSound self.now → result ≡ wrote self.now write }
     {
-        if !is_at(&self.writes, *position, write) {
-            *position = self.guesses.guess(write);
-            if !is_at(&self.writes, *position, write) {
-                return self.is_rare(write);
-            }
+        if self.has_at(position, write) {
+            return true;
         }
-        *position = position.saturating_add(1);
-        true
+        self.contains(write)
     }
 
     /// Takes the write at the position into the tree.
