@@ -185,11 +185,13 @@ fn pairs(alloc: Global, text: &[u8]) -> Result<(Option<Vec<(Key, Version)>>, &[u
 {
     let mut found = Found::with_room(alloc, room_for(text))?;
     let mut rest = text;
-    // A guess, until a version is longer.
-    let mut brief = true;
+    // The next version may well be brief where the last two were.
+    let mut brief = false;
+    let mut was_brief = false;
     loop {
         let (next, after) = pair(rest, brief)?;
-        brief = brief && is_brief(next);
+        brief = was_brief & is_brief(next);
+        was_brief = is_brief(next);
         found.add(next)?;
         match after_comma(after) {
             Some(more) => rest = more,
