@@ -63,8 +63,10 @@ fn brief_digits(text: &[u8]) -> (usize, u64)
     }
 }
 
-/// The same as `short_number`, faster where numbers of one digit and of two are mixed.
+/// The same as `short_number`, faster where numbers of one digit and of two are mixed. It stays a call, so that loops over
+/// longer numbers are no larger for it.
 #[tactic(auto, unfolding(crate::specs::Parsing::number_at))]
+#[inline(never)]
 pub(crate) fn brief_number(text: &[u8]) -> Option<(u64, &[u8])>
     ensures gives { IfSome result (λ x. number_at text.now ≡ Ok (Some x.0, x.1.now)) }
     ensures shorter { IfSome result (λ x. length x.1.now ≤ length text.now) }
