@@ -29,4 +29,5 @@ pub mod FoundFields
 pub mod EndLemmas
 pub mod Giving
 pub mod FanEdges
+pub mod ReaderNumbers
 pub mod FoundEdges

@@ -1,5 +1,5 @@
 -- Fans: edges of one kind from one transaction, as stretches of ends.
-use Rattle.std.specs.Prelude.{◌≡◌, ◌⊎◌, ◌↔◌, ℕ, ◌+◌, ◌≤◌, List, length, slice_range}
+use Rattle.std.specs.Prelude.{◌≡◌, ◌⊎◌, ◌↔◌, ℕ, ◌+◌, ◌<◌, ◌≤◌, List, length, slice_range}
 use Rattle.sia_events.specs.declared.event.Event.{Event}
 use Rattle.sia_parts.specs.declared.ends.End.{End}
 use Rattle.sia_parts.specs.declared.fans.Fan.{Fan}
@@ -25,9 +25,13 @@ IsFanNumber makers readers fan n = (fan.from ≤ fan.to) × (fan.to ≤ length (
 abbrev pub Gives : List End → List End → (ℕ → Type 0) → List Fan → List Fan → Type 0
 Gives makers readers P old new = (n : ℕ) → FromSome (IsFanNumber makers readers) new n ↔ (FromSome (IsFanNumber makers readers) old n ⊎ P n)
 
--- an edge of a version: to a later one of its key, or to one who saw it or a later one
+-- an edge of a version: to a later one of its key
+abbrev pub IsLaterNumber : List End → End → ℕ → Type 0
+IsLaterNumber makers end n = IsNumberWithin makers (end_rank end + 1) (rank_of (end.key + 1) 0) end.txn Ww n
+
+-- the same, or to one who saw it or a later one
 abbrev pub IsMakerNumber : List End → List End → End → ℕ → Type 0
-IsMakerNumber makers readers end n = IsNumberWithin makers (end_rank end + 1) (rank_of (end.key + 1) 0) end.txn Ww n
+IsMakerNumber makers readers end n = IsLaterNumber makers end n
     ⊎ IsNumberWithin readers (end_rank end) (rank_of (end.key + 1) 0) end.txn Wr n
 
 -- an edge of a reader: to a version after one that it saw
@@ -41,3 +45,23 @@ IsGapNumber h makers gap n = (src : ℕ) × IsCommittedAt h src gap.txn × IsNum
 -- any of these
 abbrev pub IsFound : List Event → List End → List End → List Gap → ℕ → Type 0
 IsFound h makers readers gaps n = (FromSome (IsMakerNumber makers readers) makers n ⊎ FromSome (IsReaderNumber makers) readers n) ⊎ FromSome (IsGapNumber h makers) gaps n
+
+-- an edge of a reader and a version of the same key: from the version, if the reader saw it or a later one
+abbrev pub IsSeenNumber : End → End → ℕ → Type 0
+IsSeenNumber reader maker n = (end_rank maker ≤ end_rank reader) × (end_rank reader < rank_of (maker.key + 1) 0) × IsNumberTo maker.txn Wr reader n
+
+-- or to the version, if the reader saw an earlier one
+abbrev pub IsMissedNumber : End → End → ℕ → Type 0
+IsMissedNumber reader maker n = (rank_of reader.key reader.low + 1 ≤ end_rank maker) × (end_rank maker < rank_of (reader.key + 1) 0) × IsNumberTo reader.txn Rw maker n
+
+-- either of them
+abbrev pub IsSightNumber : End → End → ℕ → Type 0
+IsSightNumber reader maker n = IsSeenNumber reader maker n ⊎ IsMissedNumber reader maker n
+
+-- either of them, with some version
+abbrev pub IsSightOf : List End → End → ℕ → Type 0
+IsSightOf makers reader n = FromSome (IsSightNumber reader) makers n
+
+-- by its rank the maker is of the reader's key
+abbrev pub IsAtKey : End → End → Type 0
+IsAtKey reader maker = (rank_of reader.key 0 ≤ end_rank maker) × (end_rank maker < rank_of (reader.key + 1) 0)

@@ -74,7 +74,7 @@ fn span_of(made: KeyVersion) -> Span
     }
 }
 
-/// The readers of the spans at written keys, by key and greatest commit.
+/// The readers of the spans at written keys, in the order of the spans.
 pub(crate) fn readers_of(
     alloc: Global,
     ix: &Index,
@@ -83,13 +83,20 @@ pub(crate) fn readers_of(
 ) -> Result<Vec<End>, NoMemory>
     requires well_formed { IsWellFormed ix.now }
     requires committed { ListsAscending (IsCommitted ix.now) committed.now }
-    ensures ends { IfOk result (λ ends. (end : End) → Contains ends.items end ↔ FromSome (IsEndOf ix.now) spans.now end) }
-    ensures rises { IfOk result (λ ends. RisesByRank ends.items) }
+    ensures { IfOk result (λ ends. (end : End) → Contains ends.items end ↔ FromSome (IsEndOf ix.now) spans.now end) }
 {
     let mut ends = Vec::with_capacity(alloc, spans.len())?;
     put_readers(ix, committed, spans, &mut ends)?;
-    put_in_order(&mut ends);
     Ok(ends)
+}
+
+/// Puts the ends in order, by key and greatest commit.
+pub(crate) fn put_by_rank(ends: &mut Vec<End>)
+    requires { (end : End) → Contains ends.old.items end → end.high < 4294967296 }
+    ensures ends { (end : End) → Contains ends.new.items end ↔ Contains ends.old.items end }
+    ensures rises { RisesByRank ends.new.items }
+{
+    put_in_order(ends);
 }
 
 fn put_readers(

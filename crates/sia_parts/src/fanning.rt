@@ -123,8 +123,8 @@ fn follows(numbers: &[u64], run: &[u64]) -> bool
     numbers[numbers.len() - 1] < run[0]
 }
 
-// Adds the numbers of the fans.
-fn put_numbers(
+/// Adds the numbers of the fans.
+pub(crate) fn put_numbers(
     makers: &[End],
     readers: &[End],
     fans: &[Fan],
@@ -180,8 +180,8 @@ fn put_numbers_to(
     Ok(())
 }
 
-// The number of the edge to the end.
-fn number_to(src: u32, kind: Kind, end: End) -> u64
+/// The number of the edge to the end.
+pub(crate) fn number_to(src: u32, kind: Kind, end: End) -> u64
     requires source { src < 1048576 }
     requires end { HasDigits end }
     ensures { AreDigits src end.txn kind end.number result }

@@ -1,11 +1,11 @@
 //! Fans: the edges of one kind from one transaction, as stretches of ends.
-ghost use Rattle.std.specs.Prelude.{◌≡◌, ◌↔◌, ℕ, OnOk, IfOk};
+ghost use Rattle.std.specs.Prelude.{◌≡◌, ◌↔◌, ◌⊎◌, ℕ, [], OnOk, IfOk};
 ghost use Rattle.sia_events.specs.Lists.{ListsAscending};
 ghost use Rattle.sia_events.specs.Refusals.{IsWellFormed};
 ghost use Rattle.sia_events.specs.Transactions.{IsCommitted};
 ghost use Rattle.sia_parts.specs.Sights.{FromSome};
 ghost use Rattle.sia_parts.specs.Ends.{IsNumberWithin, RisesByRank};
-ghost use Rattle.sia_parts.specs.Fans.{ends_for, Gives, IsFanNumber, IsMakerNumber, IsReaderNumber, IsGapNumber, IsFound};
+ghost use Rattle.sia_parts.specs.Fans.{ends_for, Gives, IsFanNumber, IsLaterNumber, IsMakerNumber, IsReaderNumber, IsGapNumber, IsFound};
 
 use crate::committed::Committed;
 use crate::ends::{End, places, rank, rank_above, starts_of};
@@ -107,6 +107,63 @@ pub(crate) fn fans_of(
     put_gap_fans(ix, committed, makers, readers, gaps, &starts, &mut fans)?;
     fans.sort_unstable();
     Ok(fans)
+}
+
+/// The fans of the versions to later ones, and those of the gaps.
+pub(crate) fn unread_fans_of(
+    alloc: Global,
+    ix: &Index,
+    committed: &Committed,
+    makers: &[End],
+    gaps: &[Gap],
+) -> Result<Vec<Fan>, NoMemory>
+    requires well_formed { IsWellFormed ix.now }
+    requires committed { ListsAscending (IsCommitted ix.now) committed.now }
+    requires makers { RisesByRank makers.now }
+    ensures { IfOk result (λ fans. (n : ℕ) → FromSome (IsFanNumber makers.now []) fans.items n ↔ (FromSome (IsLaterNumber makers.now) makers.now n ⊎ FromSome (IsGapNumber ix.now makers.now) gaps.now n)) }
+{
+    let mut fans = Vec::new(alloc);
+    let starts = Starts {
+        makers: starts_of(alloc, makers, ix.written_keys().len())?,
+        readers: Vec::new(alloc),
+    };
+    put_later_fans(makers, &[], &starts, &mut fans)?;
+    put_gap_fans(ix, committed, makers, &[], gaps, &starts, &mut fans)?;
+    Ok(fans)
+}
+
+// Adds the fans of the versions to later ones of the same key.
+fn put_later_fans(
+    makers: &[End],
+    readers: &[End],
+    starts: &Starts,
+    fans: &mut Vec<Fan>,
+) -> Result<(), NoMemory>
+    requires makers { RisesByRank makers.now }
+    requires readers { RisesByRank readers.now }
+    ensures { OnOk result (Gives makers.now readers.now (FromSome (IsLaterNumber makers.now) makers.now) fans.old.items fans.new.items) }
+{
+    for end in makers {
+        put_later_fan(makers, readers, starts, *end, fans)?;
+    }
+    Ok(())
+}
+
+fn put_later_fan(
+    makers: &[End],
+    readers: &[End],
+    starts: &Starts,
+    end: End,
+    fans: &mut Vec<Fan>,
+) -> Result<(), NoMemory>
+    requires makers { RisesByRank makers.now }
+    requires readers { RisesByRank readers.now }
+    ensures { OnOk result (Gives makers.now readers.now (IsLaterNumber makers.now end) fans.old.items fans.new.items) }
+{
+    let from = rank(end.key, end.high) + 1;
+    let above = rank_above(end.key);
+    let near = starts.near(end);
+    put_fan(makers, readers, near, Kind::Ww, end.txn, from, above, fans)
 }
 
 // Adds the fans of the versions: to later ones of the same key, and to readers of it who saw it or a later one.

@@ -16,6 +16,7 @@ mod gaps;
 mod gathering;
 mod gathering_numbers;
 mod laws;
+mod looking;
 mod merging;
 mod nearby;
 mod numbered;
