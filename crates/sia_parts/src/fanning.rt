@@ -8,7 +8,7 @@ ghost use Rattle.sia_parts.specs.Fans.{IsFanNumber};
 use crate::ends::End;
 use crate::fans::{Fan, ends_for};
 use crate::finding::Kind;
-use crate::ordering::put_in_order;
+use crate::ordering::{merge_in_order, put_in_order};
 use crate::packing::{BASE, number};
 use sia_events::NoMemory;
 use std::alloc::Global;
@@ -33,8 +33,8 @@ pub(crate) fn numbers_of_fans(
     Ok(numbers)
 }
 
-// How many edges the fans have at most.
-fn count(fans: &[Fan]) -> usize {
+/// How many edges the fans have at most.
+pub(crate) fn count(fans: &[Fan]) -> usize {
     let mut count: usize = 0;
     for fan in fans {
         count = count.saturating_add(fan.to.saturating_sub(fan.from));
@@ -104,7 +104,7 @@ fn put_run(
 {
     run.clear();
     put_numbers(makers, readers, fans, run)?;
-    put_in_order(run);
+    merge_in_order(run)?;
     let follows = follows(numbers.as_slice(), run.as_slice());
     numbers.extend_from_slice(run.as_slice())?;
     Ok(follows)

@@ -9,7 +9,7 @@ ghost use Rattle.sia_parts.specs.Fans.{IsFound, IsAtKey, IsSeenNumber, IsMissedN
 
 use crate::committed::Committed;
 use crate::ends::{End, places, rank, rank_above, starts_of};
-use crate::fanning::{number_to, put_numbers};
+use crate::fanning::{count, number_to, put_numbers};
 use crate::fans::unread_fans_of;
 use crate::finding::Kind;
 use crate::gaps::Gap;
@@ -37,11 +37,24 @@ pub(crate) fn numbers_by_readers(
 {
     let fans = unread_fans_of(alloc, ix, committed, makers, gaps)?;
     let starts = starts_of(alloc, makers, ix.written_keys().len())?;
-    let mut numbers = Vec::new(alloc);
+    let most = count(&fans).saturating_add(count_sights(&starts, readers));
+    let mut numbers = Vec::with_capacity(alloc, most)?;
     put_numbers(makers, &[], &fans, &mut numbers)?;
     put_sights(makers, &starts, readers, &mut numbers)?;
     put_in_order(&mut numbers);
     Ok(numbers)
+}
+
+// How many edges the readers have at most, where few see versions on both sides of one.
+fn count_sights(starts: &[usize], readers: &[End]) -> usize {
+    let mut count: usize = 0;
+    for reader in readers {
+        let number = reader.number as usize;
+        if let (Some(start), Some(stop)) = (starts.get(number), starts.get(number + 1)) {
+            count = count.saturating_add(stop.saturating_sub(*start));
+        }
+    }
+    count
 }
 
 // Adds the numbers of the readers' edges.

@@ -17,9 +17,9 @@ returns-clause-each c n =
     let found = found_by_readers c.args.ix.now makers readers c.args.gaps.now n in
     let unread = FromSome (IsFanNumber makers []) c.in_ok-fans.fans.items in
     let seen = FromSome (IsSightOf makers) readers in
-    let first = rw c.deref.ensures.value at c.in_ok-put_numbers.ensures in
+    let first = rw c.deref-3.ensures.value at c.in_ok-put_numbers.ensures in
     let second = c.in_ok-put_sights.ensures in
-    let added = added_to_none (λ n. unread n ⊎ seen n) _ (adds_both unread seen [] _ _ (subst (λ old. Adds unread old c.put_numbers.new.numbers.items) c.new-numbers.ensures.items first) second) n in (
+    let added = added_to_none (λ n. unread n ⊎ seen n) _ (adds_both unread seen [] _ _ (subst (λ old. Adds unread old c.put_numbers.new.numbers.items) c.in_ok-numbers.ensures.items first) second) n in (
       (λ has. found.0 (elim (added.0 (c.put_in_order.ensures.adds_none n has)) [ inl f ↦ inl ((c.in_ok-fans.ensures n).0 f) | inr s ↦ inr s ])),
       (λ is. c.put_in_order.ensures.keeps n (added.1 (elim (found.1 is) [ inl f ↦ inl ((c.in_ok-fans.ensures n).1 f) | inr s ↦ inr s ]))),
     )
