@@ -49,13 +49,6 @@ few h f xs up each =
 ascends : (P : ℕ → Type 0) (xs : List ℕ) → ListsAscending P xs → AllPairs (λ x y. (x < y)) xs
 ascends P xs are i j d less below = elim (are.ascending i j d less below) [ inl under ↦ under | inr same ↦ absurd same.1 ]
 
-pub few_txns : (h : List Event) → IsWellFormed h → (i t : ℕ) → IsTxnAt h i t → i < 1048576
-few_txns h wf i t at =
-    let le : length at.0 ≤ length h = few h actor at.0 (ascends (HasEvent h) at.0 at.1) (λ x c. let is = (at.1.each x).0 c in (is.0, is.1.0, is.1.1, is.1.2)) in
-    let most = few_events h wf in
-    let below = at.2 in
-    omega arith
-
 pub few_committed : (h : List Event) → IsWellFormed h → (i t : ℕ) → IsCommittedAt h i t → i < 1048576
 few_committed h wf i t at =
     let le : length at.0 ≤ length h = few h actor at.0 (ascends (IsCommitted h) at.0 at.1) (λ x c. let is = (at.1.each x).0 c in (is.0, Commit x, is.1, refl)) in

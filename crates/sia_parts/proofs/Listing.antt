@@ -76,26 +76,6 @@ module _ (h : List Event) (wf : IsWellFormed h) where
       of_fields (inr (place, inr (txn, inr (key, inl below)))) = absurd (let same = same_saw h wf x.place y.place x.txn y.txn x.key y.key x.saw y.saw place key a.1 b.1 in omega arith)
       of_fields (inr (place, inr (txn, inr (key, inr last)))) = absurd last.1
 
--- the order that is derived for kinds
-abbrev pub kind_cmp : Kind → Kind → Ordering
-kind_cmp = cmp-value.it
-
-kind_then : (a b : Kind) (o : Ordering) (xs ys : List ℕ) → ordering_then (kind_cmp a b) o ≡ Less → (o ≡ Less → Precedes xs ys) → Precedes (kind_number a ∷ xs) (kind_number b ∷ ys)
-kind_then Ww Ww o xs ys less rest = inr (refl, rest less)
-kind_then Ww Wr o xs ys less rest = inl (omega arith)
-kind_then Ww Rw o xs ys less rest = inl (omega arith)
-kind_then Wr Ww o xs ys less rest = cc
-kind_then Wr Wr o xs ys less rest = inr (refl, rest less)
-kind_then Wr Rw o xs ys less rest = inl (omega arith)
-kind_then Rw Ww o xs ys less rest = cc
-kind_then Rw Wr o xs ys less rest = cc
-kind_then Rw Rw o xs ys less rest = inr (refl, rest less)
-
-pub edge_before : (x y : Edge) → ordering_then (nat_cmp x.src y.src) (ordering_then (nat_cmp x.dst y.dst) (ordering_then (kind_cmp x.kind y.kind) (nat_cmp x.key y.key))) ≡ Less → Precedes (edge_rank x) (edge_rank y)
-edge_before x y less = precedes_then x.src y.src (ordering_then (nat_cmp x.dst y.dst) (ordering_then (kind_cmp x.kind y.kind) (nat_cmp x.key y.key))) (x.dst ∷ kind_number x.kind ∷ x.key ∷ []) (y.dst ∷ kind_number y.kind ∷ y.key ∷ []) less
-    (λ l. precedes_then x.dst y.dst (ordering_then (kind_cmp x.kind y.kind) (nat_cmp x.key y.key)) (kind_number x.kind ∷ x.key ∷ []) (kind_number y.kind ∷ y.key ∷ []) l
-    (λ m. kind_then x.kind y.kind (nat_cmp x.key y.key) (x.key ∷ []) (y.key ∷ []) m (precedes_last x.key y.key)))
-
 pub bad_write_before : (x y : BadWrite) → ordering_then (nat_cmp x.key y.key) (ordering_then (nat_cmp x.first y.first) (nat_cmp x.second y.second)) ≡ Less → Precedes (bad_write_rank x) (bad_write_rank y)
 bad_write_before x y less = precedes_then x.key y.key (ordering_then (nat_cmp x.first y.first) (nat_cmp x.second y.second)) (x.first ∷ x.second ∷ []) (y.first ∷ y.second ∷ []) less
     (λ l. precedes_then x.first y.first (nat_cmp x.second y.second) (x.second ∷ []) (y.second ∷ []) l (precedes_last x.second y.second))

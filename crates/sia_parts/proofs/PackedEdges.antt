@@ -20,13 +20,7 @@ use Rattle.sia_parts.specs.declared.finding.Kind.{Kind}
 use Rattle.sia_parts.specs.declared.finding.Kind.TheVariants.{Ww, Wr, Rw}
 use Rattle.sia_parts.specs.Entries.{kind_number, edge_rank}
 use Rattle.sia_parts.specs.Merging.{IsAscending}
-use Rattle.sia_parts.specs.Packing.{source_number, target_number, kind_digit, key_number, kind_at, unpacked, IsPacked, AreDigits, Packs, ArePacked}
-
--- a transaction has one number in a list of all
-pub txn_number : (h : List Event) (txns : List ℕ) → ListsAscending (HasEvent h) txns → (i t : ℕ) → IsTxnAt h i t → (i < length txns) × (slice_index txns i ≡ t)
-txn_number h txns are i t at =
-    let same = one_list_by _ _ at.0 txns at.1 are in
-    (subst (λ ts. i < length ts) same at.2, subst (λ ts. slice_index ts i ≡ t) same at.3)
+use Rattle.sia_parts.specs.Packing.{source_number, target_number, kind_digit, key_number, kind_at, unpacked, IsPacked, AreDigits, Packs}
 
 kind_again : (k : Kind) → kind_at (kind_number k) ≡ k
 kind_again Ww = refl
@@ -149,44 +143,8 @@ module _ (txns keys : List ℕ) (txns_up : AllPairs (λ x y. x < y) txns) (keys_
       let before = unpacked_before n m (each i 0 (omega arith)) (each j 0 in_numbers) under in
       subst (λ e. Precedes (edge_rank e) (edge_rank (slice_index_or (map (unpacked txns keys) numbers) j d))) (sym first) (subst (λ e. Precedes (edge_rank (unpacked txns keys n)) (edge_rank e)) (sym second) before)
 
--- what all have that a list holds, all have of a list that holds no others
-pub all_of : {A : Type 0} (P : A → Type 0) (xs ys : List A) → All P xs → ((x : A) → Contains ys x → Contains xs x) → All P ys
-all_of P xs ys each within k d below = All-contains P xs (slice_index_or ys k d) each (within (slice_index_or ys k d) (Contains-get_or ys k d below))
-
--- what is made of the one list's numbers is made of the other's, where the other holds them
-pub map_within : (f : ℕ → Edge) (xs ys : List ℕ) → ((n : ℕ) → Contains xs n → Contains ys n) → (e : Edge) → Contains (map f xs) e → Contains (map f ys) e
-map_within f xs ys within e c =
-    let below : c.0 < length xs = let b = c.1 in omega (arith, length-map xs f) in
-    let n = slice_index_or xs c.0 0 in
-    let is : f n ≡ e = sym (get_or-map f xs c.0 0 e below) ∙ c.2 in
-    let there = within n (Contains-get_or xs c.0 0 below) in (
-      there.0,
-      (let b = there.1 in omega (arith, length-map ys f)),
-      get_or-map f ys there.0 n e there.1 ∙ ap f there.2 ∙ is,
-    )
-
--- one more edge and its number
-pub packed_more : (txns keys : List ℕ) (edges : List Edge) (n : ℕ) (d : Edge) (numbers : List ℕ) (number : ℕ) → n < length edges → ArePacked txns keys (take n edges) numbers → Packs txns keys (get_or edges n d) number → ArePacked txns keys (take (n + 1) edges) (numbers ++ number ∷ [])
-packed_more txns keys edges n d numbers number below before is = record {
-  each = All-push (IsPacked txns keys) numbers number before.each is.0;
-  are = map-append (unpacked txns keys) numbers (number ∷ []) ∙ ap (λ es. es ++ unpacked txns keys number ∷ []) before.are
-      ∙ ap (λ e. take n edges ++ e ∷ []) is.1 ∙ sym (take_more edges n d below);
-}
-
 -- one more number and its edge
 pub unpacked_more : (f : ℕ → Edge) (numbers : List ℕ) (n d : ℕ) (old : List Edge) → n < length numbers → (old ++ map f (take n numbers)) ++ f (get_or numbers n d) ∷ [] ≡ old ++ map f (take (n + 1) numbers)
 unpacked_more f numbers n d old below =
     append_assoc old (map f (take n numbers)) (f (get_or numbers n d) ∷ [])
     ∙ ap (λ es. old ++ es) (sym (ap (map f) (take_more numbers n d below) ∙ map-append f (take n numbers) (get_or numbers n d ∷ [])))
-
--- a list that ascends by rank, and holds what has P, lists it
-pub ranked_listed : {A : Type 0} (rank : A → List ℕ) (P : A → Type 0) (xs ys : List A) → ((x : A) → Contains xs x ↔ P x) → IsAscending rank ys → ((x : A) → Contains xs x → Contains ys x) → ((x : A) → Contains ys x → Contains xs x) → ListsBy rank P ys
-ranked_listed rank P xs ys each up keeps adds_none = record {
-  ascending = up;
-  each = λ x. ((λ c. (each x).0 (adds_none x c)), (λ is. keeps x ((each x).1 is)));
-}
-
--- the number with those digits, where there is one, stands for the edge
-pub may_pack : (txns keys : List ℕ) (e : Edge) (src dst key : ℕ) → (src < length txns) × (slice_index txns src ≡ e.src) → (dst < length txns) × (slice_index txns dst ≡ e.dst) → (key < length keys) × (slice_index keys key ≡ e.key) → (found : Option ℕ) → MatchOption found ⊤ (AreDigits src dst e.kind key) → MatchOption found ⊤ (Packs txns keys e)
-may_pack txns keys e src dst key source target of_key None d = tt
-may_pack txns keys e src dst key source target of_key (Some n) d = packs txns keys e src dst key n source target of_key d

@@ -37,30 +37,9 @@ key_pairs h P k versions are old new adds = adds_same (FromPair (P k) versions) 
     (λ b f. (f.0, f.1, (are.each f.0).1 f.2, (are.each f.1).1 f.3, f.4, f.5))
     adds
 
--- the two edges of a span with a version that isn't the reader's
-pub both_edges : (span : Span) (made : Made) → made.txn ≢ span.txn → (old mid new : List Edge) → Adds (IsWrEdge span made) old mid → Adds (IsRwEdge span made) mid new → Adds (IsSpanEdge span made) old new
-both_edges span made other old mid new wr rw_edge = adds_same (λ e. IsWrEdge span made e ⊎ IsRwEdge span made e) (IsSpanEdge span made) old new
-    (λ e either. (other, either))
-    (λ e is. is.1)
-    (adds_both (IsWrEdge span made) (IsRwEdge span made) old mid new wr rw_edge)
-
 -- versions ascend by commit
 pub versions_ascend : (h : List Event) (k : ℕ) (versions : List Made) → AreVersions h k versions → AscendsByCommit versions
 versions_ascend h k versions are i j d less below = elim (are.ascending i j d less below) [ inl under ↦ under | inr same ↦ absurd same.1 ]
-
--- what a span gives with the versions of its key
-pub span_made : (h : List Event) (span : Span) (versions : List Made) → AreVersions h span.key versions → (old new : List Edge) → Adds (FromSome (IsSpanEdge span) versions) old new → Adds (FromMade h span) old new
-span_made h span versions are old new adds = adds_same (FromSome (IsSpanEdge span) versions) (FromMade h span) old new
-    (λ e f. (f.0, (are.each f.0).0 f.1, f.2))
-    (λ e f. (f.0, (are.each f.0).1 f.1, f.2))
-    adds
-
--- what a gap gives with the versions of its keys
-pub gap_made : (h : List Event) (gap : Gap) (versions : List KeyVersion) → AreVersionsWithin h gap.lo gap.hi versions → (old new : List Edge) → Adds (FromSome (IsGapEdge gap) versions) old new → Adds (FromGap h gap) old new
-gap_made h gap versions are old new adds = adds_same (FromSome (IsGapEdge gap) versions) (FromGap h gap) old new
-    (λ e f. let is = (are.each f.0).0 f.1 in (f.0, is.0, is.1, is.2, is.3, f.2))
-    (λ e f. (f.0, (are.each f.0).1 (f.1, f.2, f.3, f.4), f.5))
-    adds
 
 -- the place is the start, so what is late by it is a bad pair
 pub late_bad : (h : List Event) (k s : ℕ) (second : Made) (earlier : List Made) → StartsAt h second.txn s → (old new : List BadWrite) → Adds (FromSome (IsLateBad s k second) earlier) old new → Adds (FromSome (IsPairBad h k second) earlier) old new
@@ -192,13 +171,6 @@ module _ (h : List Event) (wf : IsWellFormed h) where
           let bad = pair_is_bad f.0 b f.2 in
           (bad.1, subst (IsInPart part) (sym bad.0) (let at = (within.each f.0).0 f.1 in (at.1, at.2)))),
       (λ bad. (b.key, (within.each b.key).1 ((b.first, bad.0.0), bad.1.0, bad.1.1), bad_is_pair b.key b.first b.second bad.0)),
-    )
-
-    -- and of ww edges
-    pub part_pairs : (keys : List ℕ) → AreWrittenWithin h part.lo part.hi keys → (e : Edge) → FromSome (KeyPair h IsPairEdge) keys e ↔ PartPair h part e
-    part_pairs keys within e = (
-      (λ f. let at = (within.each f.0).0 f.1 in (f.0, (at.1, at.2), f.2)),
-      (λ pair. (pair.0, (within.each pair.0).1 ((pair.2.0.txn, pair.2.2.0), pair.1.0, pair.1.1), pair.2)),
     )
 
     module _ (spans : List Span) (gaps : List Gap) (are : AreSpans h part spans gaps) where

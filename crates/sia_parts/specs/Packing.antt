@@ -47,8 +47,3 @@ pub record AreDigits (src dst : ℕ) (kind : Kind) (key n : ℕ) : Type 0 where
 -- n stands for e
 abbrev pub Packs : List ℕ → List ℕ → Edge → ℕ → Type 0
 Packs txns keys e n = IsPacked txns keys n × (unpacked txns keys n ≡ e)
-
--- the numbers stand for the edges, in their order
-pub record ArePacked (txns keys : List ℕ) (edges : List Edge) (numbers : List ℕ) : Type 0 where
-  pub each : All (IsPacked txns keys) numbers
-  pub are : map (unpacked txns keys) numbers ≡ edges

@@ -1,21 +1,13 @@
-//! Edges put in order as single numbers, which are sorted much faster than edges.
-ghost use Rattle.std.specs.Prelude.{◌≡◌, ◌<◌, ◌++◌, true, Contains, AllPairs, IfOk, OnOk, MatchOption, map, slice_index, ⊤};
-ghost use Rattle.sia_index.specs.Info.{AreWrittenKeys};
-ghost use Rattle.sia_events.specs.Lists.{ListsAscending};
-ghost use Rattle.sia_events.specs.Transactions.{HasEvent};
-ghost use Rattle.sia_parts.specs.Entries.{edge_rank, kind_number};
-ghost use Rattle.sia_parts.specs.Merging.{IsAscending};
-ghost use Rattle.sia_parts.specs.Packing.{unpacked, kind_at, AreDigits, Packs, ArePacked};
+//! The digits of edges' numbers.
+ghost use Rattle.std.specs.Prelude.{◌≡◌, ◌<◌, ◌++◌, OnOk, map, slice_index};
+ghost use Rattle.sia_parts.specs.Packing.{unpacked, kind_at, AreDigits};
 
 use crate::finding::{Edge, Kind};
-use crate::ordering::put_in_order;
 use crate::ranked::number_of;
 use sia_events::{Key, NoMemory, TxnId};
-use sia_index::Index;
-use std::alloc::Global;
 
 /// The number that follows the greatest digit for a transaction or a key. A history has at most 100,000 events, so its
-/// transactions and keys have lesser numbers; were it not so, the edges would be sorted as they are.
+/// transactions and keys have lesser numbers.
 pub(crate) const BASE: u64 = 1_048_576;
 
 /// The number with these digits.
