@@ -61,12 +61,7 @@ pub fn audit_part(
 }
 
 /// The bad reads at the keys of the part, and the spans and the gaps of these.
-pub(crate) fn seen_of(
-    alloc: Global,
-    h: &History,
-    ix: &Index,
-    part: Part,
-) -> Result<Seen, NoMemory>
+pub(crate) fn seen_of(alloc: Global, h: &History, ix: &Index, part: Part) -> Result<Seen, NoMemory>
     requires { ix.now ≡ h.now }
     ensures bad_reads { IfOk result (λ seen. ListsBadReads ix.now (IsInPart part) seen.bad_reads.items) }
     ensures spans { IfOk result (λ seen. AreSpans ix.now part seen.spans.items seen.gaps.items) }

@@ -4,6 +4,10 @@ ghost use Rattle.std.specs.Prelude.{◌≡◌, []};
 use super::*;
 use crate::at_once::merge_at_once;
 use crate::merging::{merge_all, merge_by_twos};
+use crate::merging::merge_all;
+use sia_events::{History, read_history};
+use sia_index::Index;
+use sia_index::make::index;
 use std::alloc::Global;
 use std::collections::VecDeque;
 use std::test::*;
@@ -157,5 +161,58 @@ fn edges_of_three_parts(rt: HostRuntime) -> Result<(), Fail> {
         .ok_or("a wrong guess")?;
     let wanted = [second[0], first[0], second[1], third[0], first[1]];
     assert!(rt; merged.as_slice() == wanted.as_slice());
+    Ok(())
+}
+
+// The committed transactions of the history of the text.
+fn committed_of(alloc: Global, text: &[u8]) -> Result<Committed, Fail> {
+    let history = read_history(alloc, text)
+        .ok()
+        .ok_or("the text is a history")?;
+    let index = index(alloc, &history).ok().ok_or("memory for an index")?;
+    index.law();
+    let committed = Committed::of(alloc, &index)
+        .ok()
+        .ok_or("memory for the list")?;
+    Ok(committed)
+}
+
+// 1 aborted, 3 is open, and the greatest comes first.
+#[test]
+fn committed_among_others(rt: HostRuntime) -> Result<(), Fail> {
+    let none = committed_of(rt.alloc(), b"")?;
+    assert!(rt; none.ids().is_empty());
+    let some = committed_of(rt.alloc(), b"c9 w1[7] w2[7] r3[7:0] a1 c2")?;
+    assert_eq!(rt; some.ids(), [2, 9].as_slice());
+    Ok(())
+}
+
+// The numbers of the edges of the history, without a cut.
+fn numbers_in(alloc: Global, h: &History, ix: &Index) -> Result<Vec<EdgeNumber>, Fail>
+    requires { ix.now ≡ h.now }
+{
+    ix.law();
+    let Ok(committed) = Committed::of(alloc, ix) else {
+        return Err(Fail::from("memory for the list"));
+    };
+    let found = find_in_part(alloc, h, ix, &committed, part(0, u64::MAX))
+        .ok()
+        .ok_or("memory for a part")?;
+    Ok(found.edges)
+}
+
+// Of the committed 2 and 5 the first is number 0, though 1 comes before it, and the second is number 1: the edge from 2 to
+// 5, of the second kind, at the only key.
+#[test]
+fn number_of_an_edge(rt: HostRuntime) -> Result<(), Fail> {
+    let text = b"w1[7] w2[7] a1 c2 r3[7:2] r5[7:2] c5";
+    let history = read_history(rt.alloc(), text)
+        .ok()
+        .ok_or("the text is a history")?;
+    let index = index(rt.alloc(), &history)
+        .ok()
+        .ok_or("memory for an index")?;
+    let numbers = numbers_in(rt.alloc(), &history, &index)?;
+    assert!(rt; numbers.as_slice() == [5 * 1_048_576].as_slice());
     Ok(())
 }
