@@ -1,5 +1,5 @@
 -- The committed transactions, put one after another, and the number of each.
-use Rattle.std.proofs.Common.{◌≡◌, ◌⊎◌, inl, inr, ℕ, ◌+◌, ◌-◌, ◌<◌, ◌≤◌, List, [], ◌∷◌, ◌++◌, Option, Some, None, length, take, slice_index_or, refl, ap, sym, subst, ◌∙◌, arith, length-append}
+use Rattle.std.proofs.Common.{◌≡◌, ◌⊎◌, inl, inr, ℕ, ◌+◌, ◌<◌, ◌≤◌, List, [], ◌∷◌, ◌++◌, Option, Some, None, length, take, slice_index_or, refl, ap, sym, subst, ◌∙◌, arith, length-append}
 use Rattle.std.specs.Prelude.{◌↔◌, ◌≢◌, All, AllPairs, Contains, slice_index}
 use Rattle.std.proofs.lemmas.Bool.{cases_lt}
 use Rattle.std.proofs.lemmas.List.{get_or_append_left, get_or-append-add, take_more, take_all, get_or-take, length-take, get_or_default}
@@ -8,7 +8,7 @@ use Rattle.sia_events.specs.declared.event.Event.{Event}
 use Rattle.sia_events.specs.declared.event.Event.TheVariants.{Commit}
 use Rattle.sia_events.specs.Lists.{Precedes, ListsAscending}
 use Rattle.sia_events.specs.Refusals.{IsWellFormed}
-use Rattle.sia_events.specs.Transactions.{HasEvent, IsCommitted, IsAborted}
+use Rattle.sia_events.specs.Transactions.{HasEvent, IsCommitted}
 use Rattle.sia_events.proofs.Endings.{one_end}
 use Rattle.sia_events.proofs.OneList.{one_list_by}
 use Rattle.sia_index.specs.declared.info.Fate.{Fate}

@@ -12,10 +12,9 @@ use Rattle.sia_events.specs.Events.{actor}
 use Rattle.sia_events.specs.Lists.{ListsAscending}
 use Rattle.sia_events.specs.Places.{at_place}
 use Rattle.sia_events.specs.Refusals.{IsWellFormed}
-use Rattle.sia_events.specs.Transactions.{HasEvent, IsCommitted, Wrote}
+use Rattle.sia_events.specs.Transactions.{IsCommitted, Wrote}
 use Rattle.sia_events.proofs.WellFormed.{few_events}
 use Rattle.sia_index.specs.Info.{IsKeyAt}
-use Rattle.sia_index.specs.Numbers.{IsTxnAt}
 use Rattle.sia_parts.specs.EdgeNumbers.{IsCommittedAt}
 use Rattle.sia_parts.proofs.Members.{contains_first, contains_later}
 

@@ -1,5 +1,5 @@
 -- Lists put in order, by the ranks of their entries.
-use Rattle.std.proofs.Common.{◌≡◌, ◌↔◌, inl, inr, ℕ, ◌<◌, List, [], ◌∷◌, length, refl, ap, sym, subst, ◌∙◌, arith}
+use Rattle.std.proofs.Common.{◌≡◌, ◌↔◌, inl, inr, ℕ, ◌<◌, List, [], ◌∷◌, length, ap, sym, subst, ◌∙◌, arith}
 use Rattle.std.specs.Prelude.{Contains, slice_index_or}
 use Rattle.std.specs.Ordering.{nat_cmp, ordering_then}
 use Rattle.std.specs.declared.cmp.Ordering.{Ordering}
@@ -20,11 +20,7 @@ use Rattle.sia_index.proofs.Ordered.{precedes_last, precedes_then}
 use Rattle.sia_parts.specs.declared.finding.BadRead.{BadRead}
 use Rattle.sia_parts.specs.declared.finding.BadWrite.{BadWrite}
 use Rattle.sia_parts.specs.declared.finding.Unexplained.{Unexplained}
-use Rattle.sia_parts.specs.declared.finding.Edge.{Edge}
-use Rattle.sia_parts.specs.declared.finding.Kind.{Kind}
-use Rattle.sia_parts.specs.declared.finding.Kind.TheVariants.{Ww, Wr, Rw}
-use Rattle.sia_parts.specs.contracts.finding.KindOrd.TheImpl.{cmp-value}
-use Rattle.sia_parts.specs.Entries.{kind_number, bad_write_rank, edge_rank}
+use Rattle.sia_parts.specs.Entries.{bad_write_rank}
 
 -- what was put in order lists what has P by a rank that goes with the order of these
 pub put_listed : {A : Type 0} (rank : A → List ℕ) (P : A → Type 0) (c : A → A → Ordering) → ((x y : A) → P x → P y → c x y ≡ Less → Precedes (rank x) (rank y)) → (xs ys : List A) → ((x : A) → Contains xs x ↔ P x) → IsStrictlySortedBy c ys → ((x : A) → Contains xs x → Contains ys x) → ((x : A) → Contains ys x → Contains xs x) → ListsBy rank P ys

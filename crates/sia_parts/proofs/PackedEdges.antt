@@ -1,20 +1,11 @@
 -- Edges as numbers: a number stands for one edge, and of two numbers the lesser stands for the edge that is listed first.
-use Rattle.std.proofs.Common.{◌≡◌, ◌⊎◌, inl, inr, ℕ, zero, suc, Option, Some, None, ◌+◌, ◌*◌, ◌/◌, ◌%◌, ◌<◌, List, [], ◌∷◌, ◌++◌, length, map, take, get_or, append_assoc, refl, ap, sym, subst, ◌∙◌, arith}
-use Rattle.std.specs.Prelude.{◌↔◌, ⊤, All, AllPairs, Contains, MatchOption, slice_index, slice_index_or}
-use Rattle.std.specs.Ordering.{nat_cmp}
-use Rattle.std.specs.List.Sorted.{IsStrictlySortedBy}
+use Rattle.std.proofs.Common.{◌≡◌, ◌⊎◌, inl, inr, ℕ, zero, suc, ◌+◌, ◌*◌, ◌/◌, ◌%◌, ◌<◌, List, [], ◌∷◌, ◌++◌, length, map, take, get_or, append_assoc, refl, ap, sym, subst, ◌∙◌, arith}
+use Rattle.std.specs.Prelude.{All, AllPairs, slice_index, slice_index_or}
 use Rattle.std.proofs.Math.Arith.{digits_div, digits_mod}
 use Rattle.std.proofs.lemmas.Bool.{cases_lt}
 use Rattle.std.proofs.lemmas.List.{get_or-map, length-map, map-append, take_more}
-use Rattle.std.proofs.lemmas.List.Elements.{All-contains, All-push, Contains-get_or}
-use Rattle.std.proofs.lemmas.Map.Keys.{Less-from_sorted}
 use Rattle.std.proofs.lemmas.Nat.{div-add-mod', mod_below}
-use Rattle.sia_events.specs.declared.event.Event.{Event}
-use Rattle.sia_events.specs.Lists.{ListsAscending, ListsBy, Precedes}
-use Rattle.sia_events.specs.Transactions.{HasEvent}
-use Rattle.sia_events.proofs.OneList.{one_list_by}
-use Rattle.sia_index.specs.Numbers.{IsTxnAt}
-use Rattle.sia_index.proofs.Ordered.{precedes_last}
+use Rattle.sia_events.specs.Lists.{Precedes}
 use Rattle.sia_parts.specs.declared.finding.Edge.{Edge}
 use Rattle.sia_parts.specs.declared.finding.Kind.{Kind}
 use Rattle.sia_parts.specs.declared.finding.Kind.TheVariants.{Ww, Wr, Rw}

@@ -14,9 +14,8 @@ use Rattle.sia_events.proofs.Starts.{one_start}
 use Rattle.sia_events.proofs.Seen.{saw_written, actor_is_txn}
 use Rattle.sia_events.proofs.Versions.{writer_not_zero}
 use Rattle.sia_events.proofs.TransactionDecisions.{place_within}
-use Rattle.sia_index.specs.declared.info.KeyVersion.{KeyVersion}
 use Rattle.sia_index.specs.declared.info.Made.{Made}
-use Rattle.sia_index.specs.Info.{IsMade, AreVersions, AreVersionsWithin, AreWrittenWithin}
+use Rattle.sia_index.specs.Info.{IsMade, AreVersions, AreWrittenWithin}
 use Rattle.sia_parts.specs.declared.cutting.Part.{Part}
 use Rattle.sia_parts.specs.declared.finding.BadWrite.{BadWrite}
 use Rattle.sia_parts.specs.declared.finding.Edge.{Edge}
@@ -26,9 +25,9 @@ use Rattle.sia_parts.specs.declared.gaps.Gap.{Gap}
 use Rattle.sia_parts.specs.declared.spans.Span.{Span}
 use Rattle.sia_parts.specs.Entries.{EdgeOfKind, IsEdge}
 use Rattle.sia_parts.specs.Parts.{IsInPart}
-use Rattle.sia_parts.specs.Sights.{Adds, FromSome, FromPair, FromMade, KeyPair, IsAsOf, Looked, Widens, IsWrEdge, IsRwEdge, IsSpanEdge, PartPair, IsPairEdge, IsLateBad, IsPairBad, AscendsByCommit, AreSpans}
-use Rattle.sia_parts.specs.Gaps.{CoversSame, FromGap, IsGapEdge}
-use Rattle.sia_parts.proofs.Adding.{adds_same, adds_both, adds_nothing}
+use Rattle.sia_parts.specs.Sights.{Adds, FromSome, FromPair, FromMade, KeyPair, IsAsOf, Looked, Widens, IsWrEdge, IsRwEdge, PartPair, IsPairEdge, IsLateBad, IsPairBad, AscendsByCommit, AreSpans}
+use Rattle.sia_parts.specs.Gaps.{CoversSame, FromGap}
+use Rattle.sia_parts.proofs.Adding.{adds_same, adds_nothing}
 
 -- what pairs of a key's versions give
 pub key_pairs : {B : Type 0} (h : List Event) (P : ℕ → Made → Made → B → Type 0) (k : ℕ) (versions : List Made) → AreVersions h k versions → (old new : List B) → Adds (FromPair (P k) versions) old new → Adds (KeyPair h P k) old new

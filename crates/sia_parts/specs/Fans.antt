@@ -1,5 +1,5 @@
 -- Fans: edges of one kind from one transaction, as stretches of ends.
-use Rattle.std.specs.Prelude.{◌≡◌, ◌⊎◌, ◌↔◌, ℕ, ◌+◌, ◌<◌, ◌≤◌, List, length, slice_range}
+use Rattle.std.specs.Prelude.{◌⊎◌, ◌↔◌, ℕ, ◌+◌, ◌<◌, ◌≤◌, List, length, slice_range}
 use Rattle.sia_events.specs.declared.event.Event.{Event}
 use Rattle.sia_parts.specs.declared.ends.End.{End}
 use Rattle.sia_parts.specs.declared.fans.Fan.{Fan}

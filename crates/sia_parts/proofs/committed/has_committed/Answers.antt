@@ -1,8 +1,6 @@
 -- How the transaction ended is known by its number.
-use Rattle.std.proofs.Common.{refl, ◌≡◌, ◌∙◌, sym}
-use Rattle.std.specs.Prelude.{◌↔◌, slice_index}
-use Rattle.sia_events.specs.Transactions.{IsCommitted}
-use Rattle.sia_index.specs.declared.info.Fate.TheVariants.{Committed}
+use Rattle.std.proofs.Common.{refl}
+use Rattle.std.specs.Prelude.{slice_index}
 use Rattle.sia_parts.proofs.Committing.{told}
 use Rattle.sia_parts.proofs.committed.has_committed.Goals as goal
 

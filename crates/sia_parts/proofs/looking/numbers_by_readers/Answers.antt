@@ -1,8 +1,8 @@
 -- Those of the versions and gaps, and those of the readers, put in order.
-use Rattle.std.proofs.Common.{ℕ, [], ◌⊎◌, inl, inr, subst}
+use Rattle.std.proofs.Common.{[], ◌⊎◌, inl, inr, subst}
 use Rattle.sia_parts.specs.Sights.{Adds, FromSome}
 use Rattle.sia_parts.specs.Fans.{IsFanNumber, IsSightOf}
-use Rattle.sia_parts.proofs.Adding.{adds_both, adds_same, added_to_none}
+use Rattle.sia_parts.proofs.Adding.{adds_both, added_to_none}
 use Rattle.sia_parts.proofs.FanEdges.{sorted_rise}
 use Rattle.sia_parts.proofs.ReaderNumbers.{found_by_readers}
 use Rattle.sia_parts.proofs.looking.numbers_by_readers.Goals as goal

@@ -1,5 +1,5 @@
 -- Where a transaction stands in the list, of which committed transactions are few.
-use Rattle.std.proofs.Common.{subst, sym, arith, ◌∙◌, ap}
+use Rattle.std.proofs.Common.{arith}
 use Rattle.sia_parts.proofs.Committing.{number_here, no_number}
 use Rattle.sia_parts.proofs.FewNumbers.{few_committed}
 use Rattle.sia_parts.proofs.committed.Committed.number.Goals as goal

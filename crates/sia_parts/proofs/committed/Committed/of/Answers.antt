@@ -1,6 +1,6 @@
 -- Each transaction that committed is put behind those before it.
 use Rattle.std.proofs.Common.{arith}
-use Rattle.sia_parts.proofs.Committing.{first_none, first_more, first_same, first_all}
+use Rattle.sia_parts.proofs.Committing.{first_more, first_same, first_all}
 use Rattle.sia_parts.proofs.committed.Committed.of.Goals as goal
 use Rattle.sia_parts.proofs.committed.Committed.of.Goals.{then-has_committed+in_ok-push-2, else-has_committed}
 
