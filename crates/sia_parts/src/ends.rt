@@ -219,6 +219,36 @@ pub(crate) fn places(
     (start, stop.max(start))
 }
 
+/// The same of all ends of the key of that number, which mostly stand between what is noted for it and for the next.
+pub(crate) fn places_of_key(
+    ends: &[End],
+    starts: &[usize],
+    number: usize,
+    from: u128,
+    to: u128,
+) -> (usize, usize)
+    requires { RisesByRank ends.now }
+    ensures forward { result.0 ≤ result.1 }
+    ensures bound { result.1 ≤ length ends.now }
+    ensures between { (end : End) → Contains (slice_range ends.now result.0 result.1) end ↔ (Contains ends.now end × (from ≤ end_rank end) × (end_rank end < to)) }
+{
+    let start = noted(ends, hint(starts, number, 0), from);
+    let stop = noted(ends, hint(starts, number.saturating_add(1), 0), to);
+    (start, stop.max(start))
+}
+
+// Where the ends of at least this rank begin. It is mostly this place.
+fn noted(ends: &[End], at: usize, from: u128) -> usize
+    requires { RisesByRank ends.now }
+    ensures { IsRankPlace ends.now from result }
+{
+    if is_place(ends, at, from) {
+        at
+    } else {
+        search(ends, from)
+    }
+}
+
 // What is noted for the key, or else this place.
 fn hint(starts: &[usize], number: usize, otherwise: usize) -> usize {
     match starts.get(number) {
@@ -232,12 +262,7 @@ fn point(ends: &[End], first: usize, last: usize, from: u128) -> usize
     requires { RisesByRank ends.now }
     ensures { IsRankPlace ends.now from result }
 {
-    let at = guess(ends, first, last, from);
-    if is_place(ends, at, from) {
-        at
-    } else {
-        search(ends, from)
-    }
+    noted(ends, guess(ends, first, last, from), from)
 }
 
 // The same by a search.

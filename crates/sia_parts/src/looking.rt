@@ -8,7 +8,7 @@ ghost use Rattle.sia_parts.specs.Ends.{HasDigits, RisesByRank};
 ghost use Rattle.sia_parts.specs.Fans.{IsFound, IsAtKey, IsSeenNumber, IsMissedNumber, IsSightNumber, IsSightOf};
 
 use crate::committed::Committed;
-use crate::ends::{End, places, rank, rank_above, starts_of};
+use crate::ends::{End, places_of_key, rank, rank_above, starts_of};
 use crate::fanning::{count, number_to, put_numbers};
 use crate::fans::unread_fans_of;
 use crate::finding::Kind;
@@ -89,7 +89,7 @@ fn put_sights_of(
 {
     let from = rank(reader.key, 0);
     let above = rank_above(reader.key);
-    let (start, stop) = places(makers, starts, reader.number as usize, from, above);
+    let (start, stop) = places_of_key(makers, starts, reader.number as usize, from, above);
     put_with(reader, &makers[start..stop], numbers)?;
     Ok(())
 }
