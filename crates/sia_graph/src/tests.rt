@@ -12,8 +12,8 @@ use std::alloc::Global;
 use std::process::Abort;
 use std::test::Fail;
 
-mod numbers;
 mod numbered;
+mod numbers;
 mod replays;
 mod structures;
 
