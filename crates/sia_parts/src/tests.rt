@@ -3,7 +3,7 @@ ghost use Rattle.std.specs.Prelude.{◌≡◌, []};
 
 use super::*;
 use crate::at_once::merge_at_once;
-use crate::merging::{merge_all, merge_all, merge_by_twos};
+use crate::merging::{merge_all, merge_by_twos};
 use sia_events::{History, read_history};
 use sia_index::Index;
 use sia_index::make::index;
