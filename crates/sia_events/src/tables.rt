@@ -1,5 +1,5 @@
 //! What the reader keeps of the events so far, to judge the next one without going over them.
-ghost use Rattle.std.specs.Prelude.{◌≡◌, ℕ, ◌||◌, not, nat_lt, List, [], ◌∷◌, ◌++◌, ◌<◌, ◌≤◌, length, drop, true, IsTrue, OnOk};
+ghost use Rattle.std.specs.Prelude.{◌≡◌, ℕ, ◌||◌, ◌&&◌, not, nat_lt, List, [], ◌∷◌, ◌++◌, ◌<◌, ◌≤◌, length, take, drop, true, IsTrue, OnOk};
 ghost use Rattle.std.specs.List.{list_all, AllByRecursion};
 ghost use Rattle.std.specs.BTreeSet.{contains};
 ghost use Rattle.sia_events.specs.declared.event.Event.{Event as AnEvent};
@@ -60,9 +60,44 @@ fn guess_at(guesses: &[u32], at: usize) -> usize {
 
 /// How many listed keys are looked up together after a run of that length: where there was a run, there may be another.
 fn count_after(run: usize) -> usize
-    ensures { 0 < result }
+    ensures { (0 < result) × (result ≤ 16) }
 {
     if run == 0 { TOGETHER } else { 1 }
+}
+
+/// Puts the first listed versions that aren't 0 into the room, `most` of them at most. Answers how many of the listed versions
+/// were passed, and how many were put. A version 0 needs no look, and a list may have many of them in no order, so that a
+/// branch on each would mostly be taken wrong.
+fn put_few(
+    listed: &[(Key, Version)],
+    most: usize,
+    few: &mut [(Key, Version); TOGETHER],
+) -> (usize, usize)
+    requires { (0 < most) × (most ≤ 16) }
+    ensures passed { result.0 ≤ length listed.now }
+    ensures put { result.1 ≤ 16 }
+    ensures forward { 0 < length listed.now → 0 < result.0 }
+    ensures explained { (events : List AnEvent) → list_all (is_explained events) listed.now
+        ≡ (list_all (is_explained events) (take result.1 few.new) && list_all (is_explained events) (drop result.0 listed.now)) }
+{
+    let mut passed = 0;
+    let mut put = 0;
+    while passed < listed.len() && put < most {
+        few[put] = listed[passed];
+        put += counted(listed[passed].1);
+        passed += 1;
+    }
+    (passed, put)
+}
+
+/// 1 for a version that isn't 0.
+#[inline]
+fn counted(saw: Version) -> usize
+    ensures none { saw ≡ 0 → result ≡ 0 }
+    ensures one { 0 < saw → result ≡ 1 }
+    ensures bound { result ≤ 1 }
+{
+    usize::from(saw != 0)
 }
 
 fn add_begun(begun: &mut TxnSet, event: &Event) -> Result<(), AllocError>
@@ -205,16 +240,18 @@ impl Tables {
     fn are_explained(&self, listed: &[(Key, Version)]) -> bool
         ensures { (events : List AnEvent) → Knows self.now events → result ≡ list_all (is_explained events) listed.now }
     {
+        let mut few = [(0, 0); TOGETHER];
         let mut rest = listed;
-        let mut count = 1;
+        let mut most = 1;
         'rest: while !rest.is_empty() {
-            let (few, after) = rest.split_at(count.min(rest.len()));
+            let (passed, put) = put_few(rest, most, &mut few);
             let mut position = usize::MAX;
-            if !self.are_few_explained(few, &mut position) {
+            if !self.are_few_explained(&few[..put], &mut position) {
                 return false;
             }
+            let (_, after) = rest.split_at(passed);
             let run = self.run_len(position, after);
-            count = count_after(run);
+            most = count_after(run);
             rest = &after[run..];
         }
         true
