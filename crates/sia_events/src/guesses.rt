@@ -36,8 +36,8 @@ const MIX: u64 = 14_029_467_366_897_019_727;
 /// A hash table of positions in a list of writes. Nothing rests on it: who asks it looks where it points, and compares.
 ///
 /// Where too many writes share their slots, all are spread anew by a seed that is made of all of them. Whoever computes the
-/// seed along can still choose keys, one after another, that share theirs. Of such keys a few have slots, and the others
-/// are found by a search, in the logarithm of their number: a hostile text is slower by so much at most.
+/// seed along can still choose keys, one after another, that share theirs. Of such keys a few have slots. Each of the others
+/// costs a search in a tree of those alone, and now and then all writes are spread anew for them.
 #[derive(Drop)]
 pub(crate) struct Guesses {
     alloc: Global,

@@ -50,6 +50,7 @@ impl Committed {
     {
         self.ids.as_slice()
     }
+
     /// The number of a transaction, if it committed.
     pub(crate) fn number(&self, ix: &Index, t: TxnId) -> Option<u32>
         requires well_formed { IsWellFormed ix.now }
