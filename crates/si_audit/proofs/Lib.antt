@@ -16,3 +16,6 @@ pub mod Clean
 pub mod OfHistory
 mod TakenWords
 mod NumbersGiven
+pub mod OnSheets
+pub mod Stretched
+pub mod OfParts

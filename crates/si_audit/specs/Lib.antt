@@ -13,3 +13,5 @@ pub mod Answering
 pub mod LineAnswers
 pub mod Judgements
 pub mod Heads
+pub mod Sheets
+pub mod Products

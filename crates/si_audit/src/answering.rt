@@ -5,12 +5,14 @@ ghost use Rattle.si_audit.specs.Lines.{refusal_line};
 ghost use Rattle.si_audit.specs.Report.{IsReport};
 ghost use Rattle.si_audit.specs.Outcomes.{IsOutcome};
 ghost use Rattle.si_audit.specs.Answering.{IsReportOf, IsOutcomeOf};
+ghost use Rattle.si_audit.specs.Sheets.{text_of};
 
 use crate::engine::Outcome;
 use crate::judgement::{Judgement, judged};
 use crate::lines::push_refusal;
 use crate::options::Options;
 use crate::reporting::report_of;
+use crate::stretches::STRETCH;
 use sia_events::{History, NoMemory, TextFault, TextReader};
 use sia_index::make::index;
 use std::alloc::Global;
@@ -20,7 +22,8 @@ use std::thread::Threads;
 /// What is written of a text, and how its run ends.
 #[derive(Drop)]
 pub(crate) struct Answer {
-    pub(crate) bytes: Vec<u8>,
+    /// What is written, on one sheet after another.
+    pub(crate) sheets: Vec<Vec<u8>>,
     pub(crate) outcome: Outcome,
 }
 
@@ -31,37 +34,41 @@ fn is_clean(j: &Judgement) -> bool
     j.found.bad_reads.is_empty() && j.found.bad_writes.is_empty() && j.serializable
 }
 
-/// The answer to a history.
-fn answer_to_history<T: Threads + Wait + Sync>(
+/// The answer to a history. The lines of at least so many edges stand on one sheet.
+pub(crate) fn answer_to_history<T: Threads + Wait + Sync>(
     rt: &T,
     alloc: Global,
     h: &History,
     o: &Options,
+    least: usize,
 ) -> Result<Answer, NoMemory>
-    ensures report { IfOk result (λ answer. IsReportOf h.now answer.bytes.items) }
+    ensures report { IfOk result (λ answer. IsReportOf h.now (text_of answer.sheets.items)) }
     ensures outcome { IfOk result (λ answer. IsOutcomeOf h.now answer.outcome) }
 {
     // The length tells that the history is well-formed.
     let _ = h.len();
     let ix = index(alloc, h)?;
-    let judged = judged(rt, alloc, h, &ix, o)?;
-    let bytes = report_of(alloc, &judged, ix.written_keys())?;
-    let outcome = if is_clean(&judged) {
+    let judged = judged(rt, alloc, h, &ix, o, Some(least))?;
+    let judgement = judged.judgement;
+    let sheets = report_of(alloc, &judgement, judged.sheets)?;
+    let outcome = if is_clean(&judgement) {
         Outcome::Clean
     } else {
         Outcome::Faulty
     };
-    Ok(Answer { bytes, outcome })
+    Ok(Answer { sheets, outcome })
 }
 
 /// The answer to a refused text.
 fn answer_to_refusal(alloc: Global, fault: &TextFault) -> Result<Answer, NoMemory>
-    ensures { IfOk result (λ answer. (answer.bytes.items ≡ refusal_line fault.now) × (answer.outcome ≡ Outcome.Refused)) }
+    ensures { IfOk result (λ answer. (text_of answer.sheets.items ≡ refusal_line fault.now) × (answer.outcome ≡ Outcome.Refused)) }
 {
-    let mut bytes = Vec::new(alloc);
-    push_refusal(&mut bytes, fault)?;
+    let mut sheet = Vec::new(alloc);
+    push_refusal(&mut sheet, fault)?;
+    let mut sheets = Vec::new(alloc);
+    sheets.push(sheet)?;
     Ok(Answer {
-        bytes,
+        sheets,
         outcome: Outcome::Refused,
     })
 }
@@ -73,11 +80,11 @@ pub(crate) fn answer_to_text<T: Threads + Wait + Sync>(
     text: TextReader,
     o: &Options,
 ) -> Result<Answer, NoMemory>
-    ensures report { (bytes : List ℕ) → StandsForRead text bytes → IfOk result (λ answer. IsReport bytes answer.bytes.items) }
+    ensures report { (bytes : List ℕ) → StandsForRead text bytes → IfOk result (λ answer. IsReport bytes (text_of answer.sheets.items)) }
     ensures outcome { (bytes : List ℕ) → StandsForRead text bytes → IfOk result (λ answer. IsOutcome bytes answer.outcome) }
 {
     match text.finish() {
-        Ok(h) => answer_to_history(rt, alloc, &h, o),
+        Ok(h) => answer_to_history(rt, alloc, &h, o, STRETCH),
         Err(TextFault::NoMemory) => Err(NoMemory),
         Err(fault) => answer_to_refusal(alloc, &fault),
     }

@@ -96,7 +96,7 @@ pub fn run<T: Threads + Wait + Sync, R: Source, W: Sink>(
 {
     let text = read_text(alloc, reader)?;
     let answer = answer_to_text(rt, alloc, text, o)?;
-    match write_whole(writer, answer.bytes.as_slice()) {
+    match write_whole(writer, answer.sheets.as_slice()) {
         Ok(()) => Ok(answer.outcome),
         Err(Failed) => Err(RunFault::Write),
     }

@@ -52,6 +52,13 @@ fn count_of(parts: &[Part]) -> u32
     parts.len() as u32
 }
 
+/// For how many workers there are parts.
+fn crew_of(o: &Options, count: u32) -> u32
+    ensures { (0 < result) × (result ≤ 64) }
+{
+    u32::from(o.workers()).min(count.max(1))
+}
+
 /// What is found at all keys.
 pub(crate) fn find<R: Threads + Wait + Sync>(
     rt: &R,
@@ -77,7 +84,7 @@ pub(crate) fn find<R: Threads + Wait + Sync>(
         parts,
     };
     let count = count_of(parts);
-    match work_off(rt, alloc, count, u32::from(o.workers()), &job, &OpenGate) {
+    match work_off(rt, alloc, count, crew_of(o, count), &job, &OpenGate) {
         Ok(crew) => gather_found(alloc, crew.outs),
         Err(_) => Err(NoMemory),
     }

@@ -1,19 +1,25 @@
 // What follows from what was found in a history.
-ghost use Rattle.std.specs.Prelude.{◌≡◌, ◌↔◌, ℕ, List, [], ⊤, IfOk, IsTrue};
+ghost use Rattle.std.specs.Prelude.{◌≡◌, ◌↔◌, ℕ, List, [], ⊤, IfOk, IsSome, IsTrue};
 ghost use Rattle.sia_events.specs.Lists.{ListsAscending};
 ghost use Rattle.sia_events.specs.Refusals.{IsWellFormed};
 ghost use Rattle.sia_events.specs.Transactions.{IsCommitted};
 ghost use Rattle.sia_index.specs.Info.{AreWrittenKeys};
 ghost use Rattle.sia_parts.specs.EdgeNumbers.{IsFound};
+ghost use Rattle.sia_parts.specs.Entries.{IsEdge};
+ghost use Rattle.sia_graph.specs.Pivots.{ArePivots};
+ghost use Rattle.sia_graph.specs.Verdicts.{IsVerdict};
 ghost use Rattle.si_audit.specs.Accounts.{IsAccount};
 ghost use Rattle.si_audit.specs.Audits.{IsOrderVerdict};
 ghost use Rattle.si_audit.specs.Judgements.{account_by};
+ghost use Rattle.si_audit.specs.Sheets.{number_lines, text_of};
 
 use crate::counts::{Counts, counted};
 use crate::finding::find;
 use crate::options::Options;
+use crate::products::{AllEdges, Products, produce};
+use crate::stretches::Stretches;
 use sia_events::{History, NoMemory};
-use sia_graph::{Pivot, Verdict, passes, pivots_of_numbers, replay_law, settle_numbers, ssi_law};
+use sia_graph::{Pivot, Verdict, passes, replay_law, ssi_law};
 use sia_index::Index;
 use sia_parts::{Committed, Found, Unexplained};
 use std::alloc::Global;
@@ -43,31 +49,41 @@ fn is_serializable(verdict: &Verdict, unexplained: &[Unexplained]) -> bool
     }
 }
 
+/// A judgement, and the lines of its edges.
+#[derive(Drop)]
+pub(crate) struct JudgedHistory {
+    pub(crate) judgement: Judgement,
+    pub(crate) sheets: Vec<Vec<u8>>,
+}
+
 /// What follows from what was found.
 fn judge(
-    alloc: Global,
     h: &History,
     ix: &Index,
     committed: Committed,
     found: Found,
-) -> Result<Judgement, NoMemory>
+    verdict: Verdict,
+    pivots: Vec<Pivot>,
+) -> Judgement
     requires index { ix.now ≡ h.now }
     requires well_formed { IsWellFormed h.now }
     requires committed { ListsAscending (IsCommitted h.now) committed }
     requires found { (keys : List ℕ) → AreWrittenKeys h.now keys → IsFound h.now committed keys (λ _. ⊤) found }
-    ensures exact { IfOk result (λ j. (keys : List ℕ) → AreWrittenKeys h.now keys → IsAccount h.now (account_by keys j)) }
-    ensures pass { IfOk result (λ j. IsTrue j.pass → IsTrue j.serializable × IsOrderVerdict j.verdict) }
+    requires verdict { IsVerdict (IsCommitted h.now) (IsEdge h.now) verdict }
+    requires pivots { ArePivots h.now pivots.items }
+    ensures exact { (keys : List ℕ) → AreWrittenKeys h.now keys → IsAccount h.now (account_by keys result) }
+    ensures pass { IsTrue result.pass → IsTrue result.serializable × IsOrderVerdict result.verdict }
+    ensures committed { result.committed ≡ committed }
+    ensures edges { result.found.edges.items ≡ found.edges.items }
 {
+    // There is a list of the written keys, by which what was found is of one kind.
+    let _ = ix.written_keys();
     let counts = counted(h, ix);
-    let txns = committed.ids();
-    let numbers = found.edges.as_slice();
-    let verdict = settle_numbers(alloc, txns, ix.written_keys(), numbers)?;
-    let pivots = pivots_of_numbers(alloc, ix, txns, numbers)?;
     let pass = passes(&found.bad_reads, &found.bad_writes, &pivots);
     let serializable = is_serializable(&verdict, &found.unexplained);
     replay_law();
     ssi_law();
-    Ok(Judgement {
+    Judgement {
         counts,
         committed,
         found,
@@ -75,23 +91,40 @@ fn judge(
         pass,
         serializable,
         verdict,
-    })
+    }
 }
 
-/// Audits a history by its index and by workers, and waits for them.
+/// Audits a history by its index and by workers, and waits for them. Where a length is given, the lines of its edges are made
+/// too, those of at least so many on one sheet.
 pub(crate) fn judged<R: Threads + Wait + Sync>(
     rt: &R,
     alloc: Global,
     h: &History,
     ix: &Index,
     o: &Options,
-) -> Result<Judgement, NoMemory>
+    least: Option<usize>,
+) -> Result<JudgedHistory, NoMemory>
     requires index { ix.now ≡ h.now }
     requires well_formed { IsWellFormed h.now }
-    ensures exact { IfOk result (λ j. (keys : List ℕ) → AreWrittenKeys h.now keys → IsAccount h.now (account_by keys j)) }
-    ensures pass { IfOk result (λ j. IsTrue j.pass → IsTrue j.serializable × IsOrderVerdict j.verdict) }
+    ensures exact { IfOk result (λ j. (keys : List ℕ) → AreWrittenKeys h.now keys → IsAccount h.now (account_by keys j.judgement)) }
+    ensures pass { IfOk result (λ j. IsTrue j.judgement.pass → IsTrue j.judgement.serializable × IsOrderVerdict j.judgement.verdict) }
+    ensures lines { IsSome least → IfOk result (λ j. (keys : List ℕ) × AreWrittenKeys h.now keys
+        × (text_of j.sheets.items ≡ number_lines j.judgement.committed keys j.judgement.found.edges.items)) }
 {
     let committed = Committed::of(alloc, ix)?;
     let found = find(rt, alloc, h, ix, &committed, o)?;
-    judge(alloc, h, ix, committed, found)
+    let edges = AllEdges {
+        index: ix,
+        txns: committed.ids(),
+        keys: ix.written_keys(),
+        numbers: &found.edges,
+    };
+    let stretches = Stretches::of(edges.numbers.len(), least);
+    let Products {
+        verdict,
+        pivots,
+        sheets,
+    } = produce(rt, alloc, &edges, stretches, o)?;
+    let judgement = judge(h, ix, committed, found, verdict, pivots);
+    Ok(JudgedHistory { judgement, sheets })
 }

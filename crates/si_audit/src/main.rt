@@ -19,7 +19,9 @@ mod number_lines;
 mod numerals;
 mod options;
 mod output;
+mod products;
 mod reporting;
+mod stretches;
 #[cfg(test)]
 mod tests;
 mod words;

@@ -1,13 +1,14 @@
 // The lines of edges that are numbers, of which a report can have millions. Many lines one after another have the same source,
 // so that their first two words are made once. Some lines at a time are put together in a block, from its end to its start, so
 // that nothing is counted before, and appended at once.
-ghost use Rattle.std.specs.Prelude.{◌≡◌, ◌+◌, ◌≤◌, ◌∷◌, ◌++◌, [], length, drop, flat_map, map, codes, OnOk, slice_index};
+ghost use Rattle.std.specs.Prelude.{◌≡◌, ◌+◌, ◌≤◌, ◌∷◌, ◌++◌, [], length, drop, flat_map, map, codes, IfOk, OnOk, slice_index};
 ghost use Rattle.sia_events.specs.Text.{numeral};
 ghost use Rattle.sia_parts.specs.Packing.{key_number, source_number, target_number, unpacked};
 ghost use Rattle.si_audit.specs.Lines as lines;
 ghost use Rattle.si_audit.specs.Heads.{AreLongNumerals, AreNumerals, IsHead};
+ghost use Rattle.si_audit.specs.Sheets.{number_lines};
 
-use crate::numerals::{LONG, LongNumeral, Numeral, Numerals, SHORT, numerals_of};
+use crate::numerals::{LONG, LongNumeral, Numeral, Numerals, SHORT, digits_of};
 use itoa::write_digits;
 use sia_events::{Key, TxnId};
 use sia_parts::{EdgeNumber, Kind, key_of, kind_in, source_of, target_of};
@@ -18,6 +19,9 @@ const LINES: usize = 16;
 
 /// Room for so many lines, of which the longest has less than 64 bytes.
 const ROOM: usize = 1024;
+
+/// How many bytes of a line are no digits: its two words, three spaces and LF.
+const WORDS: usize = 11;
 
 /// Room for the first two words of a line, of which the longest have 15 bytes.
 const HEAD: usize = 16;
@@ -341,17 +345,18 @@ fn push_block(
     out.extend_from_slice(&block[start..])
 }
 
-/// The edges of all numbers, each on a line.
-pub(crate) fn push_numbers(
-    alloc: Global,
+/// The edges of all these numbers, each on a line.
+fn push_numbers(
     out: &mut Vec<u8>,
+    words: &Numerals,
     txns: &[TxnId],
     keys: &[Key],
     numbers: &[EdgeNumber],
 ) -> Result<(), AllocError>
+    requires targets { AreNumerals txns.now words.now.txns.items }
+    requires of_keys { AreLongNumerals keys.now words.now.keys.items }
     ensures { OnOk result (out.new.items ≡ out.old.items ++ flat_map lines.edge_line (map (unpacked txns.now keys.now) numbers.now)) }
 {
-    let words = numerals_of(alloc, txns, keys, numbers.len())?;
     let mut block = [0; ROOM];
     let mut head = head_of(txns, 0);
     let mut rest = numbers;
@@ -360,12 +365,38 @@ pub(crate) fn push_numbers(
             out,
             &mut block,
             &mut head,
-            &words,
+            words,
             txns,
             keys,
             &rest[..LINES],
         )?;
         rest = &rest[LINES..];
     }
-    push_block(out, &mut block, &mut head, &words, txns, keys, rest)
+    push_block(out, &mut block, &mut head, words, txns, keys, rest)
+}
+
+/// How many bytes a line has at most: those of the words, the digits of two transactions, and of a key. Both lists ascend, so
+/// that no digits are more than those of the last.
+fn longest_line(txns: &[TxnId], keys: &[Key]) -> usize {
+    let txn = txns.last().map_or(0, |last| digits_of(Key::from(*last)));
+    let key = keys.last().map_or(0, |last| digits_of(*last));
+    WORDS + 2 * txn + key
+}
+
+/// The lines of the edges of these numbers, on a sheet of their own. It has the room for them from the start.
+pub(crate) fn sheet_of_numbers(
+    alloc: Global,
+    words: &Numerals,
+    txns: &[TxnId],
+    keys: &[Key],
+    numbers: &[EdgeNumber],
+) -> Result<Vec<u8>, AllocError>
+    requires targets { AreNumerals txns.now words.now.txns.items }
+    requires of_keys { AreLongNumerals keys.now words.now.keys.items }
+    ensures { IfOk result (λ sheet. sheet.items ≡ number_lines txns.now keys.now numbers.now) }
+{
+    let room = numbers.len().saturating_mul(longest_line(txns, keys));
+    let mut sheet = Vec::with_capacity(alloc, room)?;
+    push_numbers(&mut sheet, words, txns, keys, numbers)?;
+    Ok(sheet)
 }

@@ -101,6 +101,13 @@ fn put_txn(bytes: &mut [u8; SHORT], txn: TxnId) -> usize
     write_digits(u64::from(txn), bytes, SHORT)
 }
 
+/// How many digits the number has.
+pub(crate) fn digits_of(n: u64) -> usize
+    ensures { result ≤ 20 }
+{
+    LONG - of_key(n).start as usize
+}
+
 fn put_key(bytes: &mut [u8; LONG], key: Key) -> usize
     ensures room { result ≤ 20 }
     ensures bytes { drop result bytes.new ≡ numeral key }

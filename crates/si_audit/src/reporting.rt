@@ -1,9 +1,10 @@
-// The report of an audit: all its lines, in one buffer.
-ghost use Rattle.std.specs.Prelude.{◌≡◌, ◌++◌, ◌&&◌, [], flat_map, IfOk, OnOk};
+// The report of an audit: all its lines.
+ghost use Rattle.std.specs.Prelude.{◌≡◌, ◌++◌, ◌&&◌, ℕ, List, [], flat_map, IfOk, OnOk};
 ghost use Rattle.si_audit.specs.Audits.{account_of};
 ghost use Rattle.si_audit.specs.Judgements.{account_by};
 ghost use Rattle.si_audit.specs.Lines as lines;
 ghost use Rattle.si_audit.specs.Report.{CanBePrinted};
+ghost use Rattle.si_audit.specs.Sheets.{number_lines, text_of};
 
 use crate::counts::Counts;
 use crate::findings::Audit;
@@ -13,8 +14,7 @@ use crate::lines::{
     push_ssi, push_unexplained,
 };
 use crate::longer_lines::{push_pivot, push_verdict};
-use crate::number_lines::push_numbers;
-use sia_events::{Key, NoMemory};
+use sia_events::NoMemory;
 use sia_graph::{Pivot, Verdict};
 use sia_parts::{BadRead, BadWrite, Edge, Unexplained};
 use std::alloc::{AllocError, Global};
@@ -134,28 +134,6 @@ fn push_report(out: &mut Vec<u8>, a: &Audit) -> Result<(), AllocError>
     Ok(())
 }
 
-/// All lines of a judgement, whose edges are numbers.
-fn push_judgement(
-    alloc: Global,
-    out: &mut Vec<u8>,
-    j: &Judgement,
-    keys: &[Key],
-) -> Result<(), AllocError>
-    ensures { OnOk result (out.new.items ≡ out.old.items ++ lines.report_text (account_by keys.now j.now)) }
-{
-    let found = &j.found;
-    push_front(
-        out,
-        &j.counts,
-        &found.bad_reads,
-        &found.bad_writes,
-        &found.unexplained,
-    )?;
-    push_numbers(alloc, out, j.committed.ids(), keys, &found.edges)?;
-    push_back(out, &j.pivots, j.pass, j.serializable, &j.verdict)?;
-    Ok(())
-}
-
 /// A buffer with room for most reports with so many edges and bad reads.
 fn buffer(alloc: Global, edges: usize, bad_reads: usize) -> Result<Vec<u8>, AllocError>
     ensures { IfOk result (λ bytes. bytes.items ≡ []) }
@@ -175,12 +153,50 @@ pub fn report(alloc: Global, a: &Audit) -> Result<Vec<u8>, NoMemory>
     Ok(out)
 }
 
-/// The same of a judgement, by the written keys.
-pub(crate) fn report_of(alloc: Global, j: &Judgement, keys: &[Key]) -> Result<Vec<u8>, NoMemory>
-    ensures { IfOk result (λ bytes. bytes.items ≡ lines.report_text (account_by keys.now j.now)) }
+/// The lines of a judgement that stand before those of the edges.
+fn front_of(alloc: Global, j: &Judgement) -> Result<Vec<u8>, AllocError>
+    ensures { IfOk result (λ sheet. sheet.items ≡
+        lines.events_line j.now.counts.events j.now.counts.committed j.now.counts.aborted j.now.counts.unfinished
+        ++ lines.isolation_line (lines.is_empty j.now.found.bad_reads.items && lines.is_empty j.now.found.bad_writes.items)
+        ++ flat_map lines.bad_read_line j.now.found.bad_reads.items
+        ++ flat_map lines.bad_write_line j.now.found.bad_writes.items
+        ++ flat_map lines.unexplained_line j.now.found.unexplained.items) }
 {
     let found = &j.found;
-    let mut out = buffer(alloc, found.edges.len(), found.bad_reads.len())?;
-    push_judgement(alloc, &mut out, j, keys)?;
-    Ok(out)
+    let mut sheet = buffer(alloc, found.unexplained.len(), found.bad_reads.len())?;
+    push_front(
+        &mut sheet,
+        &j.counts,
+        &found.bad_reads,
+        &found.bad_writes,
+        &found.unexplained,
+    )?;
+    Ok(sheet)
+}
+
+/// The lines of a judgement that stand behind those of the edges.
+fn back_of(alloc: Global, j: &Judgement) -> Result<Vec<u8>, AllocError>
+    ensures { IfOk result (λ sheet. sheet.items ≡
+        flat_map lines.pivot_line j.now.pivots.items
+        ++ lines.ssi_line j.now.pass
+        ++ lines.serializable_line j.now.serializable
+        ++ lines.verdict_line j.now.verdict) }
+{
+    let mut sheet = buffer(alloc, j.committed.ids().len(), j.pivots.len())?;
+    push_back(&mut sheet, &j.pivots, j.pass, j.serializable, &j.verdict)?;
+    Ok(sheet)
+}
+
+/// The lines of a judgement, of which those of the edges are made already.
+pub(crate) fn report_of(
+    alloc: Global,
+    j: &Judgement,
+    mut sheets: Vec<Vec<u8>>,
+) -> Result<Vec<Vec<u8>>, NoMemory>
+    ensures { IfOk result (λ all. (keys : List ℕ) → text_of sheets.items ≡ number_lines j.now.committed keys j.now.found.edges.items
+        → text_of all.items ≡ lines.report_text (account_by keys j.now)) }
+{
+    sheets.insert(0, front_of(alloc, j)?)?;
+    sheets.push(back_of(alloc, j)?)?;
+    Ok(sheets)
 }

@@ -5,4 +5,5 @@ mod line;
 mod long_texts;
 mod options;
 mod rows;
+mod sheets;
 mod statuses;

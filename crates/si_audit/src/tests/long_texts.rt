@@ -175,7 +175,7 @@ fn a_reader_that_fails_at_the_limit(rt: HostRuntime) -> Result<(), Fail> {
 
 /// `b1`, then from 2 to 1001 a write of the key by the transaction of its number and its commit, then a range read of all
 /// keys by 1 and its commit.
-fn thousand_writers(alloc: Global) -> Result<Vec<u8>, Fail> {
+pub(crate) fn thousand_writers(alloc: Global) -> Result<Vec<u8>, Fail> {
     let mut text = Vec::new(alloc);
     text.extend_from_slice(b"b1")?;
     for i in 2..1002 {
@@ -186,7 +186,7 @@ fn thousand_writers(alloc: Global) -> Result<Vec<u8>, Fail> {
 }
 
 /// Each of these writes is missed by the read, so that there is an edge from 1 to each.
-fn thousand_edges(alloc: Global) -> Result<Vec<u8>, Fail> {
+pub(crate) fn thousand_edges(alloc: Global) -> Result<Vec<u8>, Fail> {
     let mut report = Vec::new(alloc);
     report.extend_from_slice(b"events 2003 committed 1001 aborted 0 open 0\nisolation kept\n")?;
     for i in 2..1002 {

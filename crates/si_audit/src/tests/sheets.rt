@@ -1,0 +1,50 @@
+// Reports whose edges stand on several sheets.
+use crate::answering::answer_to_history;
+use crate::options::Options;
+use crate::tests::long_texts::{thousand_edges, thousand_writers};
+use sia_events::read_history;
+use std::alloc::Global;
+use std::sync::Wait;
+use std::test::*;
+use std::thread::Threads;
+
+/// What so many workers answer to the text, where at least so many edges stand on one sheet, and on how many sheets it stands.
+fn told_on_sheets<T: Threads + Wait + Sync>(
+    rt: &T,
+    alloc: Global,
+    text: &[u8],
+    workers: u8,
+    least: usize,
+) -> Result<(Vec<u8>, usize), Fail> {
+    let h = read_history(alloc, text)?;
+    let options = Options::new(alloc, workers, &[])?;
+    let answer = answer_to_history(rt, alloc, &h, &options, least)?;
+    let mut bytes = Vec::new(alloc);
+    for sheet in &answer.sheets {
+        bytes.extend_from_slice(sheet)?;
+    }
+    Ok((bytes, answer.sheets.len()))
+}
+
+#[test]
+fn a_thousand_edges(rt: HostRuntime) -> Result<(), Fail> {
+    let text = thousand_writers(rt.alloc())?;
+    let report = thousand_edges(rt.alloc())?;
+    // Beside the sheets with edges there are the first and the last.
+    let rows: [(usize, usize); 6] = [
+        (1, 1002),
+        (7, 145),
+        (500, 4),
+        (999, 4),
+        (1000, 3),
+        (1001, 3),
+    ];
+    for (least, count) in rows {
+        for workers in [1, 2, 64] {
+            let (told, sheets) = told_on_sheets(&rt, rt.alloc(), text.as_slice(), workers, least)?;
+            assert_eq!(rt; told.as_slice(), report.as_slice());
+            assert_eq!(rt; sheets, count);
+        }
+    }
+    Ok(())
+}
