@@ -28,7 +28,7 @@ use Rattle.sia_parts.specs.Packing.{IsPacked, Packs, unpacked}
 use Rattle.sia_parts.specs.Parts.{IsInPart}
 use Rattle.sia_parts.specs.Sights.{AreSpans, FromSome, FromMade, IsAsOf, IsWrEdge, IsRwEdge, PartPair}
 use Rattle.sia_parts.specs.Ends.{HasDigits, IsEndOf, IsEndOfVersion, IsNumberTo, IsNumberWithin, end_rank, rank_of}
-use Rattle.sia_parts.specs.Fans.{IsFound, IsReaderNumber, IsGapNumber}
+use Rattle.sia_parts.specs.Fans.{IsNumberFound, IsReaderNumber, IsGapNumber}
 use Rattle.sia_parts.proofs.EndLemmas.{one_committed_number}
 use Rattle.sia_parts.proofs.FewNumbers.{few_committed, few_keys}
 use Rattle.sia_parts.proofs.Committing.{committed_number}
@@ -215,18 +215,18 @@ module _ (h : List Event) (wf : IsWellFormed h) where
             ),
           )
 
-      pub found_stands : (n : ℕ) → IsFound h makers readers gaps n → Stands n
+      pub found_stands : (n : ℕ) → IsNumberFound h makers readers gaps n → Stands n
       found_stands n (inl (inl (end, c, inl w))) = of_later end c n w
       found_stands n (inl (inl (end, c, inr w))) = of_seen end c n w
       found_stands n (inl (inr (end, c, w))) = of_read end c n w
       found_stands n (inr (gap, c, w)) = of_missed gap c n w
 
-      pub found_packed : (n : ℕ) → IsFound h makers readers gaps n → IsPacked txns keys n
+      pub found_packed : (n : ℕ) → IsNumberFound h makers readers gaps n → IsPacked txns keys n
       found_packed n f = (found_stands n f).1.0
 
       -- each edge has a number
       abbrev pub IsMet : Edge → Type 0
-      IsMet e = (n : ℕ) × IsFound h makers readers gaps n × (unpacked txns keys n ≡ e)
+      IsMet e = (n : ℕ) × IsNumberFound h makers readers gaps n × (unpacked txns keys n ≡ e)
 
       maker_of : (v : KeyVersion) → Wrote h v.txn v.key → CommitsAt h v.txn v.commit → IsInPart part v.key → (end : End) × Contains makers end × IsEndOfVersion h v end
       maker_of v wrote at in_part =
@@ -322,7 +322,7 @@ module _ (h : List Event) (wf : IsWellFormed h) where
       )
 
       -- so numbers that rise, and are those found, stand for the edges
-      pub numbers_stand : (numbers : List ℕ) → AllPairs (λ m n. m < n) numbers → ((n : ℕ) → Contains numbers n ↔ IsFound h makers readers gaps n) → AreEdgeNumbers h txns keys (IsInPart part) numbers
+      pub numbers_stand : (numbers : List ℕ) → AllPairs (λ m n. m < n) numbers → ((n : ℕ) → Contains numbers n ↔ IsNumberFound h makers readers gaps n) → AreEdgeNumbers h txns keys (IsInPart part) numbers
       numbers_stand numbers rise are = record {
         each = packed;
         ascending = rise;

@@ -6,7 +6,7 @@ use Rattle.sia_parts.specs.declared.ends.End.{End}
 use Rattle.sia_parts.specs.declared.gaps.Gap.{Gap}
 use Rattle.sia_parts.specs.Sights.{FromSome}
 use Rattle.sia_parts.specs.Ends.{end_rank, rank_of}
-use Rattle.sia_parts.specs.Fans.{IsAtKey, IsFound, IsGapNumber, IsLaterNumber, IsSightNumber, IsSightOf}
+use Rattle.sia_parts.specs.Fans.{IsAtKey, IsNumberFound, IsGapNumber, IsLaterNumber, IsSightNumber, IsSightOf}
 
 module _ (reader maker : End) (fits : maker.high < 4294967296) (at : IsAtKey reader maker) where
   same : maker.key ≡ reader.key
@@ -30,23 +30,23 @@ sight_at_key reader maker n fits (inl seen) = let le = seen.0 in let less = seen
 sight_at_key reader maker n fits (inr missed) = let le = missed.0 in (omega arith, missed.1)
 
 -- the numbers of versions and gaps, and those of readers, are all that are found
-pub found_by_readers : (h : List Event) (makers readers : List End) (gaps : List Gap) (n : ℕ) → ((FromSome (IsLaterNumber makers) makers n ⊎ FromSome (IsGapNumber h makers) gaps n) ⊎ FromSome (IsSightOf makers) readers n) ↔ IsFound h makers readers gaps n
+pub found_by_readers : (h : List Event) (makers readers : List End) (gaps : List Gap) (n : ℕ) → ((FromSome (IsLaterNumber makers) makers n ⊎ FromSome (IsGapNumber h makers) gaps n) ⊎ FromSome (IsSightOf makers) readers n) ↔ IsNumberFound h makers readers gaps n
 found_by_readers h makers readers gaps n = (to, from)
   where
-    to : (FromSome (IsLaterNumber makers) makers n ⊎ FromSome (IsGapNumber h makers) gaps n) ⊎ FromSome (IsSightOf makers) readers n → IsFound h makers readers gaps n
+    to : (FromSome (IsLaterNumber makers) makers n ⊎ FromSome (IsGapNumber h makers) gaps n) ⊎ FromSome (IsSightOf makers) readers n → IsNumberFound h makers readers gaps n
     to (inl (inl (end, c, w))) = inl (inl (end, c, inl w))
     to (inl (inr gap)) = inr gap
     to (inr (reader, c, (maker, d, inl (le, less, is)))) = inl (inl (maker, d, inr (reader, c, le, less, is)))
     to (inr (reader, c, (maker, d, inr (le, less, is)))) = inl (inr (reader, c, (maker, d, le, less, is)))
 
-    from : IsFound h makers readers gaps n → (FromSome (IsLaterNumber makers) makers n ⊎ FromSome (IsGapNumber h makers) gaps n) ⊎ FromSome (IsSightOf makers) readers n
+    from : IsNumberFound h makers readers gaps n → (FromSome (IsLaterNumber makers) makers n ⊎ FromSome (IsGapNumber h makers) gaps n) ⊎ FromSome (IsSightOf makers) readers n
     from (inl (inl (end, c, inl w))) = inl (inl (end, c, w))
     from (inl (inl (maker, d, inr (reader, c, le, less, is)))) = inr (reader, c, (maker, d, inl (le, less, is)))
     from (inl (inr (reader, c, (maker, d, le, less, is)))) = inr (reader, c, (maker, d, inr (le, less, is)))
     from (inr gap) = inl (inr gap)
 
 -- the order of the readers makes no difference
-pub found_from : (h : List Event) (makers readers others : List End) (gaps : List Gap) → ((x : End) → Contains readers x → Contains others x) → (n : ℕ) → IsFound h makers readers gaps n → IsFound h makers others gaps n
+pub found_from : (h : List Event) (makers readers others : List End) (gaps : List Gap) → ((x : End) → Contains readers x → Contains others x) → (n : ℕ) → IsNumberFound h makers readers gaps n → IsNumberFound h makers others gaps n
 found_from h makers readers others gaps to n (inl (inl (end, c, inl w))) = inl (inl (end, c, inl w))
 found_from h makers readers others gaps to n (inl (inl (maker, d, inr (reader, c, le, less, is)))) = inl (inl (maker, d, inr (reader, to reader c, le, less, is)))
 found_from h makers readers others gaps to n (inl (inr (reader, c, w))) = inl (inr (reader, to reader c, w))

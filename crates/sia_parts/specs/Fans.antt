@@ -43,8 +43,8 @@ abbrev pub IsGapNumber : List Event → List End → Gap → ℕ → Type 0
 IsGapNumber h makers gap n = (src : ℕ) × IsCommittedAt h src gap.txn × IsNumberWithin makers (rank_of gap.lo 0) (rank_of (gap.hi + 1) 0) src Rw n
 
 -- any of these
-abbrev pub IsFound : List Event → List End → List End → List Gap → ℕ → Type 0
-IsFound h makers readers gaps n = (FromSome (IsMakerNumber makers readers) makers n ⊎ FromSome (IsReaderNumber makers) readers n) ⊎ FromSome (IsGapNumber h makers) gaps n
+abbrev pub IsNumberFound : List Event → List End → List End → List Gap → ℕ → Type 0
+IsNumberFound h makers readers gaps n = (FromSome (IsMakerNumber makers readers) makers n ⊎ FromSome (IsReaderNumber makers) readers n) ⊎ FromSome (IsGapNumber h makers) gaps n
 
 -- an edge of a reader and a version of the same key: from the version, if the reader saw it or a later one
 abbrev pub IsSeenNumber : End → End → ℕ → Type 0

@@ -6,7 +6,7 @@ ghost use Rattle.sia_events.specs.Transactions.{IsCommitted};
 ghost use Rattle.sia_index.specs.Info.{AreWrittenKeys};
 ghost use Rattle.sia_parts.specs.EdgeNumbers.{AreEdgeNumbers};
 ghost use Rattle.sia_parts.specs.Ends.{HasDigits, RisesByRank};
-ghost use Rattle.sia_parts.specs.Fans.{IsFound};
+ghost use Rattle.sia_parts.specs.Fans.{IsNumberFound};
 ghost use Rattle.sia_parts.specs.Parts.{IsInPart};
 ghost use Rattle.sia_parts.specs.Sights.{AreSpans};
 
@@ -61,7 +61,7 @@ fn numbers_found(
     requires readers { All HasDigits readers.items }
     requires fits { (end : End) → Contains readers.items end → end.high < 4294967296 }
     ensures sorted { IfOk result (λ numbers. AllPairs (λ m n. m < n) numbers.items) }
-    ensures each { IfOk result (λ numbers. (n : ℕ) → Contains numbers.items n ↔ IsFound ix.now makers.now readers.items gaps.now n) }
+    ensures each { IfOk result (λ numbers. (n : ℕ) → Contains numbers.items n ↔ IsNumberFound ix.now makers.now readers.items gaps.now n) }
 {
     if has_many_versions(makers) {
         numbers_by_sources(alloc, ix, committed, makers, readers, gaps)
@@ -101,7 +101,7 @@ fn numbers_by_sources(
     requires readers { All HasDigits readers.items }
     requires fits { (end : End) → Contains readers.items end → end.high < 4294967296 }
     ensures sorted { IfOk result (λ numbers. AllPairs (λ m n. m < n) numbers.items) }
-    ensures each { IfOk result (λ numbers. (n : ℕ) → Contains numbers.items n ↔ IsFound ix.now makers.now readers.items gaps.now n) }
+    ensures each { IfOk result (λ numbers. (n : ℕ) → Contains numbers.items n ↔ IsNumberFound ix.now makers.now readers.items gaps.now n) }
 {
     put_by_rank(&mut readers);
     let fans = fans_of(alloc, ix, committed, makers, &readers, gaps)?;

@@ -5,7 +5,7 @@ ghost use Rattle.sia_events.specs.Refusals.{IsWellFormed};
 ghost use Rattle.sia_events.specs.Transactions.{IsCommitted};
 ghost use Rattle.sia_parts.specs.Sights.{FromSome};
 ghost use Rattle.sia_parts.specs.Ends.{IsNumberWithin, RisesByRank};
-ghost use Rattle.sia_parts.specs.Fans.{ends_for, Gives, IsFanNumber, IsLaterNumber, IsMakerNumber, IsReaderNumber, IsGapNumber, IsFound};
+ghost use Rattle.sia_parts.specs.Fans.{ends_for, Gives, IsFanNumber, IsLaterNumber, IsMakerNumber, IsReaderNumber, IsGapNumber, IsNumberFound};
 
 use crate::committed::Committed;
 use crate::ends::{End, places, rank, rank_above, starts_of};
@@ -94,7 +94,7 @@ pub(crate) fn fans_of(
     requires committed { ListsAscending (IsCommitted ix.now) committed.now }
     requires makers { RisesByRank makers.now }
     requires readers { RisesByRank readers.now }
-    ensures { IfOk result (λ fans. (n : ℕ) → FromSome (IsFanNumber makers.now readers.now) fans.items n ↔ IsFound ix.now makers.now readers.now gaps.now n) }
+    ensures { IfOk result (λ fans. (n : ℕ) → FromSome (IsFanNumber makers.now readers.now) fans.items n ↔ IsNumberFound ix.now makers.now readers.now gaps.now n) }
 {
     let mut fans = Vec::new(alloc);
     let keys = ix.written_keys().len();

@@ -5,7 +5,7 @@ ghost use Rattle.sia_events.specs.Refusals.{IsWellFormed};
 ghost use Rattle.sia_events.specs.Transactions.{IsCommitted};
 ghost use Rattle.sia_parts.specs.Sights.{Adds, FromSome};
 ghost use Rattle.sia_parts.specs.Ends.{HasDigits, RisesByRank};
-ghost use Rattle.sia_parts.specs.Fans.{IsFound, IsAtKey, IsSeenNumber, IsMissedNumber, IsSightNumber, IsSightOf};
+ghost use Rattle.sia_parts.specs.Fans.{IsNumberFound, IsAtKey, IsSeenNumber, IsMissedNumber, IsSightNumber, IsSightOf};
 
 use crate::committed::Committed;
 use crate::ends::{End, places_of_key, rank, rank_above, starts_of};
@@ -33,7 +33,7 @@ pub(crate) fn numbers_by_readers(
     requires makers { All HasDigits makers.now }
     requires readers { All HasDigits readers.now }
     ensures sorted { IfOk result (λ numbers. AllPairs (λ m n. m < n) numbers.items) }
-    ensures each { IfOk result (λ numbers. (n : ℕ) → Contains numbers.items n ↔ IsFound ix.now makers.now readers.now gaps.now n) }
+    ensures each { IfOk result (λ numbers. (n : ℕ) → Contains numbers.items n ↔ IsNumberFound ix.now makers.now readers.now gaps.now n) }
 {
     let fans = unread_fans_of(alloc, ix, committed, makers, gaps)?;
     let starts = starts_of(alloc, makers, ix.written_keys().len())?;
