@@ -28,7 +28,7 @@ use Rattle.sia_parts.specs.Packing.{IsPacked, Packs, unpacked}
 use Rattle.sia_parts.specs.Parts.{IsInPart}
 use Rattle.sia_parts.specs.Sights.{AreSpans, FromSome, FromMade, IsAsOf, IsWrEdge, IsRwEdge, PartPair}
 use Rattle.sia_parts.specs.Ends.{HasDigits, IsEndOf, IsEndOfVersion, IsNumberTo, IsNumberWithin, end_rank, rank_of}
-use Rattle.sia_parts.specs.Fans.{IsNumberFound, IsReaderNumber, IsGapNumber}
+use Rattle.sia_parts.specs.Fans.{IsNumberOfSpans, IsSeenNumber, IsMissedNumber, IsGapNumber}
 use Rattle.sia_parts.proofs.EndLemmas.{one_committed_number}
 use Rattle.sia_parts.proofs.FewNumbers.{few_committed, few_keys}
 use Rattle.sia_parts.proofs.Committing.{committed_number}
@@ -96,7 +96,7 @@ module _ (h : List Event) (wf : IsWellFormed h) where
         at_txn : (i u : ℕ) → IsCommittedAt h i u → slice_index txns i ≡ u
         at_txn i u at = (committed_number h txns txns_are i u at).1
 
-    module _ (part : Part) (versions : List KeyVersion) (spans : List Span) (gaps : List Gap) (versions_are : AreVersionsWithin h part.lo part.hi versions) (spans_are : AreSpans h part spans gaps) (makers readers : List End) (makers_are : (end : End) → Contains makers end ↔ FromSome (IsEndOfVersion h) versions end) (readers_are : (end : End) → Contains readers end ↔ FromSome (IsEndOf h) spans end) where
+    module _ (part : Part) (versions : List KeyVersion) (spans : List Span) (gaps : List Gap) (versions_are : AreVersionsWithin h part.lo part.hi versions) (spans_are : AreSpans h part spans gaps) (makers : List End) (makers_are : (end : End) → Contains makers end ↔ FromSome (IsEndOfVersion h) versions end) where
       -- the edges that the numbers stand for
       abbrev pub IsNamed : Edge → Type 0
       IsNamed e = (PartPair h part e ⊎ FromSome (FromMade h) spans e) ⊎ FromSome (FromGap h) gaps e
@@ -137,19 +137,18 @@ module _ (h : List Event) (wf : IsWellFormed h) where
             )),
           )
 
-      of_seen : (end : End) → Contains makers end → (n : ℕ) → IsNumberWithin readers (end_rank end) (rank_of (end.key + 1) 0) end.txn Wr n → Stands n
-      of_seen end c n w =
+      of_seen : (reader end : End) → FromSome (IsEndOf h) spans reader → Contains makers end → (n : ℕ) → IsSeenNumber reader end n → Stands n
+      of_seen reader end second c n w =
           let first = version_of end c in
-          let second = (readers_are w.0).0 w.1 in
           let v = first.0 in
           let span = second.0 in
-          let key : w.0.key ≡ end.key = same_key end.key end.high w.0 w.2 w.3 second.2.fits in
+          let key : reader.key ≡ end.key = same_key end.key end.high reader w.0 w.1 second.2.fits in
           let same : v.key ≡ span.key = sym first.1.key_is ∙ sym key ∙ second.2.key_is in
           let own = first.1.high_is in
           let other = second.2.high_is in
-          let low = w.2 in (
+          let low = w.0 in (
             record { src = v.txn; dst = span.txn; kind = Wr; key = span.key },
-            number_packs end.txn v.txn Wr span w.0 n first.1.txn_at second.2 w.4,
+            number_packs end.txn v.txn Wr span reader n first.1.txn_at second.2 w.2,
             inl (inr (
               span,
               second.1,
@@ -157,26 +156,25 @@ module _ (h : List Event) (wf : IsWellFormed h) where
                 record { txn = v.txn; commit = v.commit },
                 (subst (Wrote h v.txn) same first.2, first.3),
                 (
-                  (λ one. w.4.0 (one_committed_number h w.0.txn end.txn span.txn second.2.txn_at (subst (IsCommittedAt h end.txn) one first.1.txn_at))),
+                  (λ one. w.2.0 (one_committed_number h reader.txn end.txn span.txn second.2.txn_at (subst (IsCommittedAt h end.txn) one first.1.txn_at))),
                   inl ((let le : v.commit ≤ span.high = omega arith in le), refl),
                 ),
               ),
             )),
           )
 
-      of_read : (end : End) → Contains readers end → (n : ℕ) → IsReaderNumber makers end n → Stands n
-      of_read end c n w =
-          let first = (readers_are end).0 c in
-          let second = version_of w.0 w.1 in
+      of_read : (reader end : End) → FromSome (IsEndOf h) spans reader → Contains makers end → (n : ℕ) → IsMissedNumber reader end n → Stands n
+      of_read reader end first c n w =
+          let second = version_of end c in
           let span = first.0 in
           let v = second.0 in
-          let key : w.0.key ≡ end.key = let low = w.2 in same_key end.key end.low w.0 (omega arith) w.3 second.1.fits in
+          let key : end.key ≡ reader.key = let low = w.0 in same_key reader.key reader.low end (omega arith) w.1 second.1.fits in
           let same : v.key ≡ span.key = sym second.1.key_is ∙ key ∙ first.2.key_is in
           let own = first.2.low_is in
           let other = second.1.high_is in
-          let low = w.2 in (
+          let low = w.0 in (
             record { src = span.txn; dst = v.txn; kind = Rw; key = v.key },
-            number_packs end.txn span.txn Rw (as_span v) w.0 n first.2.txn_at second.1 w.4,
+            number_packs reader.txn span.txn Rw (as_span v) end n first.2.txn_at second.1 w.2,
             inl (inr (
               span,
               first.1,
@@ -184,7 +182,7 @@ module _ (h : List Event) (wf : IsWellFormed h) where
                 record { txn = v.txn; commit = v.commit },
                 (subst (Wrote h v.txn) same second.2, second.3),
                 (
-                  (λ one. w.4.0 (one_committed_number h w.0.txn end.txn span.txn (subst (IsCommittedAt h w.0.txn) one second.1.txn_at) first.2.txn_at)),
+                  (λ one. w.2.0 (one_committed_number h end.txn reader.txn span.txn (subst (IsCommittedAt h end.txn) one second.1.txn_at) first.2.txn_at)),
                   inr ((let less : span.low < v.commit = omega arith in less), (λ i. record { src = span.txn; dst = v.txn; kind = Rw; key = same i })),
                 ),
               ),
@@ -215,29 +213,28 @@ module _ (h : List Event) (wf : IsWellFormed h) where
             ),
           )
 
-      pub found_stands : (n : ℕ) → IsNumberFound h makers readers gaps n → Stands n
-      found_stands n (inl (inl (end, c, inl w))) = of_later end c n w
-      found_stands n (inl (inl (end, c, inr w))) = of_seen end c n w
-      found_stands n (inl (inr (end, c, w))) = of_read end c n w
-      found_stands n (inr (gap, c, w)) = of_missed gap c n w
+      pub found_stands : (n : ℕ) → IsNumberOfSpans h makers spans gaps n → Stands n
+      found_stands n (inl (inl (end, c, w))) = of_later end c n w
+      found_stands n (inl (inr (gap, c, w))) = of_missed gap c n w
+      found_stands n (inr (span, c, (reader, is, (end, d, inl w)))) = of_seen reader end (span, c, is) d n w
+      found_stands n (inr (span, c, (reader, is, (end, d, inr w)))) = of_read reader end (span, c, is) d n w
 
-      pub found_packed : (n : ℕ) → IsNumberFound h makers readers gaps n → IsPacked txns keys n
+      pub found_packed : (n : ℕ) → IsNumberOfSpans h makers spans gaps n → IsPacked txns keys n
       found_packed n f = (found_stands n f).1.0
 
       -- each edge has a number
       abbrev pub IsMet : Edge → Type 0
-      IsMet e = (n : ℕ) × IsNumberFound h makers readers gaps n × (unpacked txns keys n ≡ e)
+      IsMet e = (n : ℕ) × IsNumberOfSpans h makers spans gaps n × (unpacked txns keys n ≡ e)
 
       maker_of : (v : KeyVersion) → Wrote h v.txn v.key → CommitsAt h v.txn v.commit → IsInPart part v.key → (end : End) × Contains makers end × IsEndOfVersion h v end
       maker_of v wrote at in_part =
           let end = end_of_span (as_span v) v.txn (commit_has v.txn v.commit at) wrote (commit_fits v.txn v.commit at) in
           (end.0, (makers_are end.0).1 (v, (versions_are.each v).1 (wrote, at, in_part.0, in_part.1), end.1), end.1)
 
-      reader_of : (span : Span) → Contains spans span → (t : ℕ) → Wrote h t span.key → (end : End) × Contains readers end × IsEndOf h span end
+      reader_of : (span : Span) → Contains spans span → (t : ℕ) → Wrote h t span.key → (end : End) × IsEndOf h span end
       reader_of span c t wrote =
           let look = spans_are.high span c in
-          let end = end_of_span span t (commit_has span.txn look.0.0 look.0.1) wrote (as_of_fits look.2 span.high look.5) in
-          (end.0, (readers_are end.0).1 (span, c, end.1), end.1)
+          end_of_span span t (commit_has span.txn look.0.0 look.0.1) wrote (as_of_fits look.2 span.high look.5)
 
       pair_met : (e : Edge) → PartPair h part e → IsMet e
       pair_met e (k, in_part, pair) =
@@ -256,7 +253,7 @@ module _ (h : List Event) (wf : IsWellFormed h) where
           let later = other.2.high_is in
           let fits = other.2.fits in (
             number.0,
-            inl (inl (own.0, own.1, inl (other.0, other.1, omega arith, omega arith, number.1))),
+            inl (inl (own.0, own.1, (other.0, other.1, omega arith, omega arith, number.1))),
             (number_packs own.0.txn first.txn Ww (as_span u) other.0 number.0 own.2.txn_at other.2 number.1).1 ∙ sym pair.5,
           )
 
@@ -266,35 +263,35 @@ module _ (h : List Event) (wf : IsWellFormed h) where
           maker : (end : End) × Contains makers end × IsEndOfVersion h (record { key = span.key; commit = made.commit; txn = made.txn }) end
           maker = maker_of (record { key = span.key; commit = made.commit; txn = made.txn }) is.0 is.1 (spans_are.within span c)
 
-          reader : (end : End) × Contains readers end × IsEndOf h span end
+          reader : (end : End) × IsEndOf h span end
           reader = reader_of span c made.txn is.0
 
           of_either : IsWrEdge span made e ⊎ IsRwEdge span made e → IsMet e
           of_either (inl (le, same)) =
               let m = maker in
               let r = reader in
-              let number = number_of m.0.txn made.txn Wr span r.0 m.2.txn_at r.2 (λ one. apart (sym one)) in
+              let number = number_of m.0.txn made.txn Wr span r.0 m.2.txn_at r.1 (λ one. apart (sym one)) in
               let key = m.2.key_is in
-              let also = r.2.key_is in
+              let also = r.1.key_is in
               let high = m.2.high_is in
-              let later = r.2.high_is in
-              let fits = r.2.fits in (
+              let later = r.1.high_is in
+              let fits = r.1.fits in (
                 number.0,
-                inl (inl (m.0, m.1, inr (r.0, r.1, omega arith, omega arith, number.1))),
-                (number_packs m.0.txn made.txn Wr span r.0 number.0 m.2.txn_at r.2 number.1).1 ∙ sym same,
+                inr (span, c, (r.0, r.1, (m.0, m.1, inl (omega arith, omega arith, number.1)))),
+                (number_packs m.0.txn made.txn Wr span r.0 number.0 m.2.txn_at r.1 number.1).1 ∙ sym same,
               )
           of_either (inr (less, same)) =
               let m = maker in
               let r = reader in
-              let number = number_of r.0.txn span.txn Rw (as_span (record { key = span.key; commit = made.commit; txn = made.txn })) m.0 r.2.txn_at m.2 apart in
+              let number = number_of r.0.txn span.txn Rw (as_span (record { key = span.key; commit = made.commit; txn = made.txn })) m.0 r.1.txn_at m.2 apart in
               let key = m.2.key_is in
-              let also = r.2.key_is in
+              let also = r.1.key_is in
               let high = m.2.high_is in
-              let low = r.2.low_is in
+              let low = r.1.low_is in
               let fits = m.2.fits in (
                 number.0,
-                inl (inr (r.0, r.1, (m.0, m.1, omega arith, omega arith, number.1))),
-                (number_packs r.0.txn span.txn Rw (as_span (record { key = span.key; commit = made.commit; txn = made.txn })) m.0 number.0 r.2.txn_at m.2 number.1).1 ∙ sym same,
+                inr (span, c, (r.0, r.1, (m.0, m.1, inr (omega arith, omega arith, number.1)))),
+                (number_packs r.0.txn span.txn Rw (as_span (record { key = span.key; commit = made.commit; txn = made.txn })) m.0 number.0 r.1.txn_at m.2 number.1).1 ∙ sym same,
               )
 
       gap_met : (e : Edge) → FromSome (FromGap h) gaps e → IsMet e
@@ -306,7 +303,7 @@ module _ (h : List Event) (wf : IsWellFormed h) where
           let key = m.2.key_is in
           let fits = m.2.fits in (
             number.0,
-            inr (gap, c, (src.0, src.1, (m.0, m.1, omega arith, omega arith, number.1))),
+            inl (inr (gap, c, (src.0, src.1, (m.0, m.1, omega arith, omega arith, number.1)))),
             (number_packs src.0 gap.txn Rw (as_span made) m.0 number.0 src.1 m.2 number.1).1 ∙ sym same,
           )
 
@@ -322,7 +319,7 @@ module _ (h : List Event) (wf : IsWellFormed h) where
       )
 
       -- so numbers that rise, and are those found, stand for the edges
-      pub numbers_stand : (numbers : List ℕ) → AllPairs (λ m n. m < n) numbers → ((n : ℕ) → Contains numbers n ↔ IsNumberFound h makers readers gaps n) → AreEdgeNumbers h txns keys (IsInPart part) numbers
+      pub numbers_stand : (numbers : List ℕ) → AllPairs (λ m n. m < n) numbers → ((n : ℕ) → Contains numbers n ↔ IsNumberOfSpans h makers spans gaps n) → AreEdgeNumbers h txns keys (IsInPart part) numbers
       numbers_stand numbers rise are = record {
         each = packed;
         ascending = rise;

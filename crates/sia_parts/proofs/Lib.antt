@@ -30,4 +30,5 @@ pub mod EndLemmas
 pub mod Giving
 pub mod FanEdges
 pub mod ReaderNumbers
+pub mod FreePlaces
 pub mod FoundEdges

@@ -1,12 +1,13 @@
--- The numbers of readers' edges: those of versions of their keys, and all of them together.
-use Rattle.std.proofs.Common.{◌≡◌, ◌⊎◌, inl, inr, ℕ, ◌+◌, ◌<◌, ◌≤◌, List, arith}
+-- The numbers of readers' edges: those of versions of their keys, and all of them together, by readers or by spans.
+use Rattle.std.proofs.Common.{◌≡◌, inl, inr, ℕ, ◌+◌, ◌<◌, ◌≤◌, List, arith}
 use Rattle.std.specs.Prelude.{◌↔◌, Contains}
 use Rattle.sia_events.specs.declared.event.Event.{Event}
 use Rattle.sia_parts.specs.declared.ends.End.{End}
 use Rattle.sia_parts.specs.declared.gaps.Gap.{Gap}
+use Rattle.sia_parts.specs.declared.spans.Span.{Span}
 use Rattle.sia_parts.specs.Sights.{FromSome}
-use Rattle.sia_parts.specs.Ends.{end_rank, rank_of}
-use Rattle.sia_parts.specs.Fans.{IsAtKey, IsNumberFound, IsGapNumber, IsLaterNumber, IsSightNumber, IsSightOf}
+use Rattle.sia_parts.specs.Ends.{IsEndOf, end_rank, rank_of}
+use Rattle.sia_parts.specs.Fans.{IsAtKey, IsNumberFound, IsNumberOfSpans, IsSightNumber}
 
 module _ (reader maker : End) (fits : maker.high < 4294967296) (at : IsAtKey reader maker) where
   same : maker.key ≡ reader.key
@@ -29,25 +30,16 @@ pub sight_at_key : (reader maker : End) (n : ℕ) → reader.high < 4294967296 �
 sight_at_key reader maker n fits (inl seen) = let le = seen.0 in let less = seen.1 in (omega arith, omega arith)
 sight_at_key reader maker n fits (inr missed) = let le = missed.0 in (omega arith, missed.1)
 
--- the numbers of versions and gaps, and those of readers, are all that are found
-pub found_by_readers : (h : List Event) (makers readers : List End) (gaps : List Gap) (n : ℕ) → ((FromSome (IsLaterNumber makers) makers n ⊎ FromSome (IsGapNumber h makers) gaps n) ⊎ FromSome (IsSightOf makers) readers n) ↔ IsNumberFound h makers readers gaps n
-found_by_readers h makers readers gaps n = (to, from)
-  where
-    to : (FromSome (IsLaterNumber makers) makers n ⊎ FromSome (IsGapNumber h makers) gaps n) ⊎ FromSome (IsSightOf makers) readers n → IsNumberFound h makers readers gaps n
-    to (inl (inl (end, c, w))) = inl (inl (end, c, inl w))
-    to (inl (inr gap)) = inr gap
-    to (inr (reader, c, (maker, d, inl (le, less, is)))) = inl (inl (maker, d, inr (reader, c, le, less, is)))
-    to (inr (reader, c, (maker, d, inr (le, less, is)))) = inl (inr (reader, c, (maker, d, le, less, is)))
+-- the numbers that the readers of the spans give, in whatever order these are, are those of the spans
+module _ (h : List Event) (makers readers : List End) (spans : List Span) (gaps : List Gap) (are : (x : End) → Contains readers x ↔ FromSome (IsEndOf h) spans x) where
+  pub found_of_spans : (n : ℕ) → IsNumberFound h makers readers gaps n → IsNumberOfSpans h makers spans gaps n
+  found_of_spans n (inl (inl (end, c, inl w))) = inl (inl (end, c, w))
+  found_of_spans n (inl (inl (maker, d, inr (reader, c, le, less, is)))) = let f = (are reader).0 c in inr (f.0, f.1, (reader, f.2, (maker, d, inl (le, less, is))))
+  found_of_spans n (inl (inr (reader, c, (maker, d, le, less, is)))) = let f = (are reader).0 c in inr (f.0, f.1, (reader, f.2, (maker, d, inr (le, less, is))))
+  found_of_spans n (inr gap) = inl (inr gap)
 
-    from : IsNumberFound h makers readers gaps n → (FromSome (IsLaterNumber makers) makers n ⊎ FromSome (IsGapNumber h makers) gaps n) ⊎ FromSome (IsSightOf makers) readers n
-    from (inl (inl (end, c, inl w))) = inl (inl (end, c, w))
-    from (inl (inl (maker, d, inr (reader, c, le, less, is)))) = inr (reader, c, (maker, d, inl (le, less, is)))
-    from (inl (inr (reader, c, (maker, d, le, less, is)))) = inr (reader, c, (maker, d, inr (le, less, is)))
-    from (inr gap) = inl (inr gap)
-
--- the order of the readers makes no difference
-pub found_from : (h : List Event) (makers readers others : List End) (gaps : List Gap) → ((x : End) → Contains readers x → Contains others x) → (n : ℕ) → IsNumberFound h makers readers gaps n → IsNumberFound h makers others gaps n
-found_from h makers readers others gaps to n (inl (inl (end, c, inl w))) = inl (inl (end, c, inl w))
-found_from h makers readers others gaps to n (inl (inl (maker, d, inr (reader, c, le, less, is)))) = inl (inl (maker, d, inr (reader, to reader c, le, less, is)))
-found_from h makers readers others gaps to n (inl (inr (reader, c, w))) = inl (inr (reader, to reader c, w))
-found_from h makers readers others gaps to n (inr gap) = inr gap
+  pub of_spans_found : (n : ℕ) → IsNumberOfSpans h makers spans gaps n → IsNumberFound h makers readers gaps n
+  of_spans_found n (inl (inl (end, c, w))) = inl (inl (end, c, inl w))
+  of_spans_found n (inl (inr gap)) = inr gap
+  of_spans_found n (inr (span, c, (reader, of, (maker, d, inl (le, less, is))))) = inl (inl (maker, d, inr (reader, (are reader).1 (span, c, of), le, less, is)))
+  of_spans_found n (inr (span, c, (reader, of, (maker, d, inr (le, less, is))))) = inl (inr (reader, (are reader).1 (span, c, of), (maker, d, le, less, is)))

@@ -7,7 +7,8 @@ use Rattle.sia_parts.specs.declared.finding.Kind.{Kind}
 use Rattle.sia_parts.specs.declared.finding.Kind.TheVariants.{Ww, Wr, Rw}
 use Rattle.sia_parts.specs.declared.gaps.Gap.{Gap}
 use Rattle.sia_parts.specs.EdgeNumbers.{IsCommittedAt}
-use Rattle.sia_parts.specs.Ends.{IsNumberTo, IsNumberWithin, end_rank, rank_of}
+use Rattle.sia_parts.specs.declared.spans.Span.{Span}
+use Rattle.sia_parts.specs.Ends.{IsEndOf, IsNumberTo, IsNumberWithin, end_rank, rank_of}
 use Rattle.sia_parts.specs.Sights.{FromSome}
 
 -- the ends that edges of the kind lead to
@@ -61,6 +62,14 @@ IsSightNumber reader maker n = IsSeenNumber reader maker n ⊎ IsMissedNumber re
 -- either of them, with some version
 abbrev pub IsSightOf : List End → End → ℕ → Type 0
 IsSightOf makers reader n = FromSome (IsSightNumber reader) makers n
+
+-- either of them, of the reader of a span
+abbrev pub IsSpanNumber : List Event → List End → Span → ℕ → Type 0
+IsSpanNumber h makers span n = (reader : End) × IsEndOf h span reader × IsSightOf makers reader n
+
+-- an edge of a version to a later one, of a span or of a gap
+abbrev pub IsNumberOfSpans : List Event → List End → List Span → List Gap → ℕ → Type 0
+IsNumberOfSpans h makers spans gaps n = (FromSome (IsLaterNumber makers) makers n ⊎ FromSome (IsGapNumber h makers) gaps n) ⊎ FromSome (IsSpanNumber h makers) spans n
 
 -- by its rank the maker is of the reader's key
 abbrev pub IsAtKey : End → End → Type 0

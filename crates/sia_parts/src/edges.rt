@@ -6,7 +6,7 @@ ghost use Rattle.sia_events.specs.Transactions.{IsCommitted};
 ghost use Rattle.sia_index.specs.Info.{AreWrittenKeys};
 ghost use Rattle.sia_parts.specs.EdgeNumbers.{AreEdgeNumbers};
 ghost use Rattle.sia_parts.specs.Ends.{HasDigits, RisesByRank};
-ghost use Rattle.sia_parts.specs.Fans.{IsNumberFound};
+ghost use Rattle.sia_parts.specs.Fans.{IsNumberOfSpans};
 ghost use Rattle.sia_parts.specs.Parts.{IsInPart};
 ghost use Rattle.sia_parts.specs.Sights.{AreSpans};
 
@@ -16,7 +16,7 @@ use crate::ends::{End, makers_of, put_by_rank, readers_of};
 use crate::fanning::numbers_of_fans;
 use crate::fans::fans_of;
 use crate::gaps::Gap;
-use crate::looking::numbers_by_readers;
+use crate::looking::numbers_by_spans;
 use crate::spans::Span;
 use sia_events::NoMemory;
 use sia_index::Index;
@@ -40,33 +40,30 @@ pub(crate) fn numbers_of(
     ensures { IfOk result (λ numbers. (keys : List ℕ) → AreWrittenKeys ix.now keys → AreEdgeNumbers ix.now committed.now keys (IsInPart part) numbers.items) }
 {
     let makers = makers_of(alloc, ix, committed, ix.versions_within(part.lo, part.hi))?;
-    let readers = readers_of(alloc, ix, committed, spans)?;
-    let numbers = numbers_found(alloc, ix, committed, &makers, readers, gaps)?;
+    let numbers = numbers_found(alloc, ix, committed, &makers, spans, gaps)?;
     Ok(numbers)
 }
 
-// The numbers of the edges of the versions, the readers and the gaps.
+// The numbers of the edges of the versions, the spans and the gaps.
 fn numbers_found(
     alloc: Global,
     ix: &Index,
     committed: &Committed,
     makers: &[End],
-    readers: Vec<End>,
+    spans: &[Span],
     gaps: &[Gap],
 ) -> Result<Vec<u64>, NoMemory>
     requires well_formed { IsWellFormed ix.now }
     requires committed { ListsAscending (IsCommitted ix.now) committed.now }
     requires rises { RisesByRank makers.now }
     requires makers { All HasDigits makers.now }
-    requires readers { All HasDigits readers.items }
-    requires fits { (end : End) → Contains readers.items end → end.high < 4294967296 }
     ensures sorted { IfOk result (λ numbers. AllPairs (λ m n. m < n) numbers.items) }
-    ensures each { IfOk result (λ numbers. (n : ℕ) → Contains numbers.items n ↔ IsNumberFound ix.now makers.now readers.items gaps.now n) }
+    ensures each { IfOk result (λ numbers. (n : ℕ) → Contains numbers.items n ↔ IsNumberOfSpans ix.now makers.now spans.now gaps.now n) }
 {
     if has_many_versions(makers) {
-        numbers_by_sources(alloc, ix, committed, makers, readers, gaps)
+        numbers_by_sources(alloc, ix, committed, makers, spans, gaps)
     } else {
-        numbers_by_readers(alloc, ix, committed, makers, &readers, gaps)
+        numbers_by_spans(alloc, ix, committed, makers, spans, gaps)
     }
 }
 
@@ -91,18 +88,17 @@ fn numbers_by_sources(
     ix: &Index,
     committed: &Committed,
     makers: &[End],
-    mut readers: Vec<End>,
+    spans: &[Span],
     gaps: &[Gap],
 ) -> Result<Vec<u64>, NoMemory>
     requires well_formed { IsWellFormed ix.now }
     requires committed { ListsAscending (IsCommitted ix.now) committed.now }
     requires rises { RisesByRank makers.now }
     requires makers { All HasDigits makers.now }
-    requires readers { All HasDigits readers.items }
-    requires fits { (end : End) → Contains readers.items end → end.high < 4294967296 }
     ensures sorted { IfOk result (λ numbers. AllPairs (λ m n. m < n) numbers.items) }
-    ensures each { IfOk result (λ numbers. (n : ℕ) → Contains numbers.items n ↔ IsNumberFound ix.now makers.now readers.items gaps.now n) }
+    ensures each { IfOk result (λ numbers. (n : ℕ) → Contains numbers.items n ↔ IsNumberOfSpans ix.now makers.now spans.now gaps.now n) }
 {
+    let mut readers = readers_of(alloc, ix, committed, spans)?;
     put_by_rank(&mut readers);
     let fans = fans_of(alloc, ix, committed, makers, &readers, gaps)?;
     let numbers = numbers_of_fans(alloc, makers, &readers, &fans)?;

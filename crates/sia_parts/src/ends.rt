@@ -1,5 +1,5 @@
 //! Ends of edges: transactions that made or saw versions of keys, with their numbers.
-ghost use Rattle.std.specs.Prelude.{◌≡◌, ◌↔◌, ◌≤◌, ◌<◌, ℕ, All, Contains, IfOk, OnOk, ◌+◌, ◌-◌, IsTrue, MatchOption, length, slice_index_or, slice_range};
+ghost use Rattle.std.specs.Prelude.{◌≡◌, ◌↔◌, ◌≤◌, ◌<◌, ℕ, All, Contains, IfOk, OnOk, ◌+◌, ◌-◌, IsTrue, MatchOption, length, slice_index, slice_index_or, slice_range};
 ghost use Rattle.sia_events.specs.Refusals.{IsWellFormed};
 ghost use Rattle.sia_events.specs.Lists.{ListsAscending};
 ghost use Rattle.sia_events.specs.Transactions.{IsCommitted, Wrote};
@@ -26,6 +26,13 @@ pub(crate) struct End {
     pub(crate) txn: u32,
     /// The number of the key.
     pub(crate) number: u32,
+}
+
+/// The numbers that the key and the transaction of a span may have.
+#[derive(Clone, Copy)]
+pub(crate) struct Likely {
+    pub(crate) key: usize,
+    pub(crate) txn: usize,
 }
 
 /// The makers of the versions of the part's keys, by key and commit.
@@ -151,6 +158,48 @@ fn end_of(ix: &Index, committed: &Committed, span: Span) -> Option<End>
         txn,
         number,
     })
+}
+
+/// The same, and the numbers of the end are digits. They may be these.
+pub(crate) fn end_near(ix: &Index, committed: &Committed, span: Span, likely: Likely) -> Option<End>
+    requires well_formed { IsWellFormed ix.now }
+    requires committed { ListsAscending (IsCommitted ix.now) committed.now }
+    ensures { MatchOption result ((end : End) → ¬ IsEndOf ix.now span end) (λ end. IsEndOf ix.now span end × HasDigits end) }
+{
+    let Some(number) = key_digit_near(ix, span.key, likely.key) else {
+        return None;
+    };
+    let Some(txn) = committed.number_near(ix, span.txn, likely.txn) else {
+        return None;
+    };
+    Some(End {
+        key: span.key,
+        high: span.high,
+        low: span.low,
+        txn,
+        number,
+    })
+}
+
+// The number of the key, if it is written. It may be this one.
+fn key_digit_near(ix: &Index, k: Key, near: usize) -> Option<u32>
+    requires { IsWellFormed ix.now }
+    ensures { MatchOption result ((t : ℕ) → ¬ Wrote ix.now t k) (λ i. IsKeyAt ix.now i k) }
+{
+    if stands_at(ix.written_keys(), near, k) {
+        return Some(near as u32);
+    }
+    key_digit(ix, k)
+}
+
+// Whether the key stands at this place among these.
+fn stands_at(keys: &[Key], at: usize, k: Key) -> bool
+    ensures { IsTrue result → (at < length keys.now) × (slice_index keys.now at ≡ k) }
+{
+    if at < keys.len() {
+        return keys[at] == k;
+    }
+    false
 }
 
 // The number of the key, if it is written.

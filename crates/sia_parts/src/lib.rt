@@ -27,6 +27,7 @@ mod pairs;
 mod ranges;
 mod ranked;
 mod sights;
+mod sourcing;
 mod spans;
 mod unseen;
 

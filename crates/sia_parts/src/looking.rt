@@ -1,78 +1,97 @@
-//! The numbers of edges, reader by reader, and then sorted: for keys with few versions.
+//! The numbers of edges, span by span, and then put in order: for keys with few versions.
 ghost use Rattle.std.specs.Prelude.{◌≡◌, ◌≢◌, ◌↔◌, ◌<◌, ◌≤◌, ℕ, All, AllPairs, Contains, IfOk, OnOk};
 ghost use Rattle.sia_events.specs.Lists.{ListsAscending};
 ghost use Rattle.sia_events.specs.Refusals.{IsWellFormed};
 ghost use Rattle.sia_events.specs.Transactions.{IsCommitted};
 ghost use Rattle.sia_parts.specs.Sights.{Adds, FromSome};
 ghost use Rattle.sia_parts.specs.Ends.{HasDigits, RisesByRank};
-ghost use Rattle.sia_parts.specs.Fans.{IsNumberFound, IsAtKey, IsSeenNumber, IsMissedNumber, IsSightNumber, IsSightOf};
+ghost use Rattle.sia_parts.specs.Fans.{IsNumberOfSpans, IsAtKey, IsSeenNumber, IsMissedNumber, IsSightNumber, IsSightOf, IsSpanNumber};
 
 use crate::committed::Committed;
-use crate::ends::{End, places_of_key, rank, rank_above, starts_of};
+use crate::ends::{End, Likely, end_near, places_of_key, rank, rank_above, starts_of};
 use crate::fanning::{count, number_to, put_numbers};
 use crate::fans::unread_fans_of;
 use crate::finding::Kind;
 use crate::gaps::Gap;
-use crate::ordering::put_in_order;
+use crate::sourcing::in_order_by_source;
+use crate::spans::Span;
 use sia_events::NoMemory;
 use sia_index::Index;
 use std::alloc::Global;
 
-/// The numbers of the edges of the versions, the readers and the gaps, ascending.
-pub(crate) fn numbers_by_readers(
+/// The numbers of the edges of the versions, the spans and the gaps, ascending.
+pub(crate) fn numbers_by_spans(
     alloc: Global,
     ix: &Index,
     committed: &Committed,
     makers: &[End],
-    readers: &[End],
+    spans: &[Span],
     gaps: &[Gap],
 ) -> Result<Vec<u64>, NoMemory>
     requires well_formed { IsWellFormed ix.now }
     requires committed { ListsAscending (IsCommitted ix.now) committed.now }
     requires rises { RisesByRank makers.now }
     requires makers { All HasDigits makers.now }
-    requires readers { All HasDigits readers.now }
     ensures sorted { IfOk result (λ numbers. AllPairs (λ m n. m < n) numbers.items) }
-    ensures each { IfOk result (λ numbers. (n : ℕ) → Contains numbers.items n ↔ IsNumberFound ix.now makers.now readers.now gaps.now n) }
+    ensures each { IfOk result (λ numbers. (n : ℕ) → Contains numbers.items n ↔ IsNumberOfSpans ix.now makers.now spans.now gaps.now n) }
 {
     let fans = unread_fans_of(alloc, ix, committed, makers, gaps)?;
     let starts = starts_of(alloc, makers, ix.written_keys().len())?;
-    let most = count(&fans).saturating_add(count_sights(&starts, readers));
-    let mut numbers = Vec::with_capacity(alloc, most)?;
+    let least = count(&fans).saturating_add(spans.len());
+    let mut numbers = Vec::with_capacity(alloc, least)?;
     put_numbers(makers, &[], &fans, &mut numbers)?;
-    put_sights(makers, &starts, readers, &mut numbers)?;
-    put_in_order(&mut numbers);
+    put_sights(ix, committed, makers, &starts, spans, &mut numbers)?;
+    let numbers = in_order_by_source(alloc, numbers, committed.ids().len())?;
     Ok(numbers)
 }
 
-// How many edges the readers have at most, where few see versions on both sides of one.
-fn count_sights(starts: &[usize], readers: &[End]) -> usize {
-    let mut count: usize = 0;
-    for reader in readers {
-        let number = reader.number as usize;
-        if let (Some(start), Some(stop)) = (starts.get(number), starts.get(number + 1)) {
-            count = count.saturating_add(stop.saturating_sub(*start));
-        }
-    }
-    count
-}
-
-// Adds the numbers of the readers' edges.
+// Adds the numbers of the spans' edges.
 fn put_sights(
+    ix: &Index,
+    committed: &Committed,
     makers: &[End],
     starts: &[usize],
-    readers: &[End],
+    spans: &[Span],
     numbers: &mut Vec<u64>,
 ) -> Result<(), NoMemory>
+    requires well_formed { IsWellFormed ix.now }
+    requires committed { ListsAscending (IsCommitted ix.now) committed.now }
     requires rises { RisesByRank makers.now }
     requires makers { All HasDigits makers.now }
-    requires readers { All HasDigits readers.now }
-    ensures { OnOk result (Adds (FromSome (IsSightOf makers.now) readers.now) numbers.old.items numbers.new.items) }
+    ensures { OnOk result (Adds (FromSome (IsSpanNumber ix.now makers.now) spans.now) numbers.old.items numbers.new.items) }
 {
-    for reader in readers {
-        put_sights_of(makers, starts, *reader, numbers)?;
+    let mut likely = Likely { key: 0, txn: 0 };
+    for span in spans {
+        likely = put_sights_of_span(ix, committed, makers, starts, *span, likely, numbers)?;
     }
     Ok(())
+}
+
+// Adds the numbers of the span's edges. Its numbers may be these. Passes on those that the next span may have: mostly it is of
+// the same transaction and the next key.
+fn put_sights_of_span(
+    ix: &Index,
+    committed: &Committed,
+    makers: &[End],
+    starts: &[usize],
+    span: Span,
+    likely: Likely,
+    numbers: &mut Vec<u64>,
+) -> Result<Likely, NoMemory>
+    requires well_formed { IsWellFormed ix.now }
+    requires committed { ListsAscending (IsCommitted ix.now) committed.now }
+    requires rises { RisesByRank makers.now }
+    requires makers { All HasDigits makers.now }
+    ensures { OnOk result (Adds (IsSpanNumber ix.now makers.now span) numbers.old.items numbers.new.items) }
+{
+    let Some(reader) = end_near(ix, committed, span, likely) else {
+        return Ok(likely);
+    };
+    put_sights_of(makers, starts, reader, numbers)?;
+    Ok(Likely {
+        key: (reader.number as usize).saturating_add(1),
+        txn: reader.txn as usize,
+    })
 }
 
 // Adds the numbers of the reader's edges.

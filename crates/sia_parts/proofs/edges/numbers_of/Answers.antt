@@ -7,15 +7,8 @@ numbers_found-requires-clause-makers c =
     rw c.deref.ensures.value
     (digits_of c.args.ix.now c.requires.well_formed _ (λ end has. let of = (c.in_ok-makers.ensures.ends end).0 has in (as_span of.0, of.2)))
 
-pub numbers_found-requires-clause-readers : goal.numbers_found-requires-clause-readers
-numbers_found-requires-clause-readers c =
-    digits_of c.args.ix.now c.requires.well_formed _ (λ end has. let of = (c.in_ok-readers.ensures end).0 has in (of.0, of.2))
-
-pub numbers_found-requires-clause-fits : goal.numbers_found-requires-clause-fits
-numbers_found-requires-clause-fits c end has = let of = (c.in_ok-readers.ensures end).0 has in of.2.fits
-
 pub returns : goal.returns
 returns c keys keys_are =
     let each = rw c.deref.ensures.value at c.in_ok-numbers.ensures.each in
-    numbers_stand c.args.ix.now c.requires.well_formed c.args.committed.now keys c.requires.committed keys_are c.args.part _ c.args.spans.now c.args.gaps.now c.versions_within.ensures c.requires.spans _ _ c.in_ok-makers.ensures.ends c.in_ok-readers.ensures
+    numbers_stand c.args.ix.now c.requires.well_formed c.args.committed.now keys c.requires.committed keys_are c.args.part _ c.args.spans.now c.args.gaps.now c.versions_within.ensures c.requires.spans _ c.in_ok-makers.ensures.ends
     _ c.in_ok-numbers.ensures.sorted each
