@@ -5,6 +5,7 @@ pub mod Ranks
 pub mod TwoLists
 pub mod MergeSteps
 pub mod ManyLists
+pub mod BothEnds
 pub mod Taking
 pub mod FindingLemmas
 pub mod KeyLemmas

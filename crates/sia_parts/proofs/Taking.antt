@@ -1,13 +1,62 @@
--- Many lists merged in one pass, by how many entries were taken of each.
+-- Many lists merged block by block, by how many entries were taken of each.
 use Rattle.std.proofs.Common.{◌≡◌, inl, inr, ℕ, ◌+◌, ◌-◌, ◌<◌, ◌≤◌, true, List, [], ◌∷◌, ◌++◌, length, get_or, take, slice_set, sym, subst, ◌∙◌, arith}
 use Rattle.std.specs.Prelude.{Contains}
 use Rattle.std.proofs.lemmas.Bool.{cases_lt, cases_eq}
-use Rattle.std.proofs.lemmas.List.{take_more, take_all, get_or_default, get_or-set_same, get_or-set_other}
-use Rattle.std.proofs.lemmas.List.Elements.{Contains-get_or, Contains-append_left, Contains-push, Contains-push_cases}
+use Rattle.std.proofs.lemmas.List.{take_all, get_or_default, get_or-set_same, get_or-set_other}
+use Rattle.std.proofs.lemmas.List.Elements.{Contains-get_or, Contains-append_left, Contains-append_right, Contains-append_cases}
 use Rattle.std.proofs.lemmas.List.Quantifiers.{all_pairs_push}
 use Rattle.sia_events.specs.Lists.{Precedes}
-use Rattle.sia_parts.specs.Merging.{is_before, IsAscending, IsMerged, IsTaken, IsMergedSoFar, PutsNext}
+use Rattle.sia_parts.specs.Blocks.{HoldsSame, HoldsTaken, IsTaken, IsMergedSoFar}
+use Rattle.sia_parts.specs.Merging.{is_before, IsAscending, IsMerged}
+use Rattle.sia_parts.proofs.BothEnds.{same_append, same_itself}
 use Rattle.sia_parts.proofs.Ranks.{Precedes-trans, before_precedes}
+
+-- where what comes last is put in another order
+pub same_taken : {A : Type 0} (lists : List (List A)) (counts : List ℕ) (xs ys zs : List A) → HoldsSame ys zs → HoldsTaken lists counts (xs ++ ys) → HoldsTaken lists counts (xs ++ zs)
+same_taken lists counts xs ys zs same holds x =
+    let all = same_append xs xs ys zs (same_itself xs) same in
+    ((λ c. (holds x).0 ((all x).1 c)), (λ t. (all x).0 ((holds x).1 t)))
+
+-- of list i as many entries were taken as n, and then as m
+module _ {A : Type 0} (lists : List (List A)) (counts : List ℕ) (same : length counts ≡ length lists) (i : ℕ) (within : i < length lists) (m : ℕ) (xs stretch : List A) (more : take m (get_or lists i []) ≡ take (get_or counts i 0) (get_or lists i []) ++ stretch) where
+  abbrev before : List A
+  before = take (get_or counts i 0) (get_or lists i [])
+
+  abbrev after : List ℕ
+  after = slice_set counts i m
+
+  now_taken : (x : A) → Contains (before ++ stretch) x → IsTaken lists after x
+  now_taken x c =
+      let count : get_or after i 0 ≡ m = get_or-set_same counts i m 0 (omega arith) in
+      (i, within, subst (λ n. Contains (take n (get_or lists i [])) x) (sym count) (subst (λ zs. Contains zs x) (sym more) c))
+
+  still_taken : (x : A) → IsTaken lists counts x → IsTaken lists after x
+  still_taken x t = elim (cases_eq t.0 i) [
+    | inl e ↦ now_taken x (Contains-append_left before stretch x (subst (λ j. Contains (take (get_or counts j 0) (get_or lists j [])) x) e t.2))
+    | inr other ↦ (t.0, t.1, subst (λ n. Contains (take n (get_or lists t.0 [])) x) (sym (get_or-set_other counts i t.0 m 0 other)) t.2)
+  ]
+
+  into : (x : A) → (Contains xs x → IsTaken lists counts x) → Contains (xs ++ stretch) x → IsTaken lists after x
+  into x was c = elim (Contains-append_cases xs stretch x c) [
+    | inl early ↦ still_taken x (was early)
+    | inr late ↦ now_taken x (Contains-append_right before stretch x late)
+  ]
+
+  back : (x : A) → (IsTaken lists counts x → Contains xs x) → IsTaken lists after x → Contains (xs ++ stretch) x
+  back x was t = elim (cases_eq t.0 i) [
+    | inl e ↦
+        let count : get_or after i 0 ≡ m = get_or-set_same counts i m 0 (omega arith) in
+        let c : Contains (take m (get_or lists i [])) x = subst (λ n. Contains (take n (get_or lists i [])) x) count (subst (λ j. Contains (take (get_or after j 0) (get_or lists j [])) x) e t.2) in
+        elim (Contains-append_cases before stretch x (subst (λ zs. Contains zs x) more c)) [
+          | inl early ↦ Contains-append_left xs stretch x (was (i, within, early))
+          | inr late ↦ Contains-append_right xs stretch x late
+        ]
+    | inr other ↦ Contains-append_left xs stretch x (was (t.0, t.1, subst (λ n. Contains (take n (get_or lists t.0 [])) x) (get_or-set_other counts i t.0 m 0 other) t.2))
+  ]
+
+  -- the stretch after those that were taken is taken too
+  pub stretch_taken : HoldsTaken lists counts xs → HoldsTaken lists after (xs ++ stretch)
+  stretch_taken holds x = (into x (holds x).0, back x (holds x).1)
 
 module _ {A : Type 0} (rank : A → List ℕ) where
   -- what the last entry precedes, all precede
@@ -30,61 +79,6 @@ module _ {A : Type 0} (rank : A → List ℕ) where
       (λ t. let c : Contains (take 0 (get_or lists t.0 [])) x = subst (λ n. Contains (take n (get_or lists t.0 [])) x) (none t.0) t.2 in let b = c.1 in absurd (omega arith)),
     );
   }
-
-  module _ (lists : List (List A)) (counts : List ℕ) (same : length counts ≡ length lists) (i : ℕ) (within : i < length lists) (below : get_or counts i 0 < length (get_or lists i [])) (old new : List A) (next : PutsNext rank (get_or lists i []) (get_or counts i 0) old new) where
-    abbrev count : ℕ
-    count = get_or counts i 0
-
-    abbrev list : List A
-    list = get_or lists i []
-
-    abbrev after : List ℕ
-    after = slice_set counts i (count + 1)
-
-    one_more : get_or after i 0 ≡ count + 1
-    one_more = get_or-set_same counts i (count + 1) 0 (omega arith)
-
-    as_next : (x : A) → Contains (take (count + 1) list) x → IsTaken lists after x
-    as_next x c = (i, within, subst (λ n. Contains (take n list) x) (sym one_more) c)
-
-    of_more : (x : A) → Contains (take count list ++ get_or list count x ∷ []) x → IsTaken lists after x
-    of_more x c = as_next x (subst (λ xs. Contains xs x) (sym (take_more list count x below)) c)
-
-    still_taken : (x : A) → IsTaken lists counts x → IsTaken lists after x
-    still_taken x t = elim (cases_eq t.0 i) [
-      | inl e ↦ of_more x (Contains-append_left (take count list) (get_or list count x ∷ []) x (subst (λ j. Contains (take (get_or counts j 0) (get_or lists j [])) x) e t.2))
-      | inr other ↦ (t.0, t.1, subst (λ n. Contains (take n (get_or lists t.0 [])) x) (sym (get_or-set_other counts i t.0 (count + 1) 0 other)) t.2)
-    ]
-
-    into : (x : A) → (Contains old x → IsTaken lists counts x) → Contains new x → IsTaken lists after x
-    into x was c = elim (Contains-push_cases old (get_or list count x) x (subst (λ xs. Contains xs x) (next.added x) c)) [
-      | inl early ↦ still_taken x (was early)
-      | inr is ↦ of_more x (subst (Contains (take count list ++ get_or list count x ∷ [])) is (Contains-push (take count list) (get_or list count x)))
-    ]
-
-    in_new : (x : A) → Contains (old ++ get_or list count x ∷ []) x → Contains new x
-    in_new x c = subst (λ xs. Contains xs x) (sym (next.added x)) c
-
-    from_old : (x : A) → Contains old x → Contains new x
-    from_old x c = in_new x (Contains-append_left old (get_or list count x ∷ []) x c)
-
-    back : (x : A) → (IsTaken lists counts x → Contains old x) → IsTaken lists after x → Contains new x
-    back x was t = elim (cases_eq t.0 i) [
-      | inl e ↦
-          let c : Contains (take (count + 1) list) x = subst (λ n. Contains (take n list) x) one_more (subst (λ j. Contains (take (get_or after j 0) (get_or lists j [])) x) e t.2) in
-          elim (Contains-push_cases (take count list) (get_or list count x) x (subst (λ xs. Contains xs x) (take_more list count x below) c)) [
-            | inl early ↦ from_old x (was (i, within, early))
-            | inr is ↦ in_new x (subst (Contains (old ++ get_or list count x ∷ [])) is (Contains-push old (get_or list count x)))
-          ]
-      | inr other ↦ from_old x (was (t.0, t.1, subst (λ n. Contains (take n (get_or lists t.0 [])) x) (get_or-set_other counts i t.0 (count + 1) 0 other) t.2))
-    ]
-
-    -- one more entry is taken
-    pub one_taken : IsMergedSoFar rank lists counts old → IsMergedSoFar rank lists after new
-    one_taken so_far = record {
-      ascending = next.ascending so_far.ascending;
-      each = λ x. (into x (so_far.each x).0, back x (so_far.each x).1);
-    }
 
   -- where each list was taken to its end
   pub all_taken : (lists : List (List A)) (counts : List ℕ) (merged : List A) → ((i : ℕ) → i < length lists → length (get_or lists i []) ≤ get_or counts i 0) → IsMergedSoFar rank lists counts merged → IsMerged rank lists merged

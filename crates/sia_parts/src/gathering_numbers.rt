@@ -9,7 +9,7 @@ ghost use Rattle.sia_parts.specs.Parts.{IsCutting, IsInPart};
 
 use crate::finding::{BadRead, BadWrite, Unexplained};
 use crate::findings::Found;
-use crate::merging::{merge_all, merge_by_twos};
+use crate::merging::merge_all;
 use crate::numbers::EdgeNumber;
 use sia_events::NoMemory;
 use std::alloc::Global;
@@ -38,7 +38,7 @@ pub fn gather_found(alloc: Global, parts: Vec<Found>) -> Result<Found, NoMemory>
     let bad_reads = merge_all(alloc, lists.bad_reads)?;
     let bad_writes = merge_all(alloc, lists.bad_writes)?;
     let unexplained = merge_all(alloc, lists.unexplained)?;
-    let edges = merge_by_twos(alloc, lists.edges)?;
+    let edges = merge_all(alloc, lists.edges)?;
     Ok(Found {
         bad_reads,
         bad_writes,

@@ -1,8 +1,10 @@
 //! Parts of the keys, and what is found in a history at the keys of a part.
 #![tactic(auto)]
 
-mod at_once;
 mod auditing;
+mod blocks;
+mod both_ends;
+mod bounds;
 mod committed;
 mod cutting;
 mod edges;
@@ -11,7 +13,6 @@ mod fanning;
 mod fans;
 mod finding;
 mod findings;
-mod fronts;
 mod gaps;
 mod gathering;
 mod gathering_numbers;

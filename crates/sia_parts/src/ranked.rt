@@ -1,5 +1,5 @@
 //! Entries by their ranks.
-ghost use Rattle.std.specs.Prelude.{◌≡◌, ℕ, List, [], ◌∷◌};
+ghost use Rattle.std.specs.Prelude.{◌≡◌, true, false, ℕ, List, [], ◌∷◌};
 ghost use Rattle.sia_parts.specs.Entries.{kind_number, bad_read_rank, bad_write_rank, unexplained_rank, edge_rank, number_rank};
 ghost use Rattle.sia_parts.specs.Merging.{is_before};
 
@@ -12,10 +12,6 @@ pub(crate) trait Ranked: Copy {
 
     fn precedes(&self, other: &Self) -> bool
         ensures { result ≡ is_before (rank self.now) (rank other.now) };
-
-    /// What tells the entry from most others: never greater than that of an entry that comes after it. A guess rests on
-    /// it, and no clause.
-    fn lead(&self) -> u64;
 }
 
 impl Ranked for BadRead {
@@ -23,10 +19,6 @@ impl Ranked for BadRead {
 
     fn precedes(&self, other: &Self) -> bool {
         self.place < other.place || (self.place == other.place && self.key < other.key)
-    }
-
-    fn lead(&self) -> u64 {
-        u64::from(self.place)
     }
 }
 
@@ -39,10 +31,6 @@ impl Ranked for BadWrite {
                 && (self.first < other.first
                     || (self.first == other.first && self.second < other.second)))
     }
-
-    fn lead(&self) -> u64 {
-        self.key
-    }
 }
 
 impl Ranked for Unexplained {
@@ -50,10 +38,6 @@ impl Ranked for Unexplained {
 
     fn precedes(&self, other: &Self) -> bool {
         self.place < other.place || (self.place == other.place && self.key < other.key)
-    }
-
-    fn lead(&self) -> u64 {
-        u64::from(self.place)
     }
 }
 
@@ -66,10 +50,6 @@ impl Ranked for Edge {
                 && (self.dst < other.dst
                     || (self.dst == other.dst && precedes_within(self, other))))
     }
-
-    fn lead(&self) -> u64 {
-        (u64::from(self.src) << 32) | u64::from(self.dst)
-    }
 }
 
 impl Ranked for EdgeNumber {
@@ -78,10 +58,6 @@ impl Ranked for EdgeNumber {
     #[inline(always)]
     fn precedes(&self, other: &Self) -> bool {
         *self < *other
-    }
-
-    fn lead(&self) -> u64 {
-        *self
     }
 }
 
@@ -103,4 +79,22 @@ fn precedes_within(edge: &Edge, other: &Edge) -> bool
     let number = number_of(edge.kind);
     let other_number = number_of(other.kind);
     number < other_number || (number == other_number && edge.key < other.key)
+}
+
+/// The first of the two, or the second.
+#[inline(always)]
+pub(crate) fn pick<T: Copy>(first: bool, x: &T, y: &T) -> T
+    ensures first { first ≡ true → result ≡ x.now }
+    ensures second { first ≡ false → result ≡ y.now }
+{
+    if first { *x } else { *y }
+}
+
+/// How far to go on in a list of which the entry was taken or not.
+#[inline(always)]
+pub(crate) fn step(taken: bool) -> usize
+    ensures taken { taken ≡ true → result ≡ 1 }
+    ensures kept { taken ≡ false → result ≡ 0 }
+{
+    taken as usize
 }

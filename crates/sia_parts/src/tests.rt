@@ -1,8 +1,8 @@
 //! Cuts and findings worked out by hand.
-ghost use Rattle.std.specs.Prelude.{◌≡◌, []};
+ghost use Rattle.std.specs.Prelude.{◌≡◌, ◌<◌, []};
 
 use super::*;
-use crate::at_once::merge_at_once;
+use crate::blocks::merge_by_blocks;
 use crate::merging::{merge_all, merge_by_twos};
 use sia_events::{History, read_history};
 use sia_index::Index;
@@ -154,12 +154,54 @@ fn edges_of_three_parts(rt: HostRuntime) -> Result<(), Fail> {
     lists.push(Vec::from_slice(rt.alloc(), &first)?)?;
     lists.push(Vec::from_slice(rt.alloc(), &second)?)?;
     lists.push(Vec::from_slice(rt.alloc(), &third)?)?;
-    let merged = merge_at_once(rt.alloc(), lists.as_slice())
+    let merged = merge_by_blocks(rt.alloc(), lists.as_slice())
         .ok()
         .ok_or("no memory")?
         .ok_or("a wrong guess")?;
     let wanted = [second[0], first[0], second[1], third[0], first[1]];
     assert!(rt; merged.as_slice() == wanted.as_slice());
+    Ok(())
+}
+
+// Each third number from the first on.
+fn each_third(alloc: Global, first: u64) -> Result<Vec<u64>, Fail>
+    requires { first < 3 }
+{
+    let mut numbers = Vec::new(alloc);
+    for turn in 0..6000u64 {
+        numbers.push(3 * turn + first)?;
+    }
+    Ok(numbers)
+}
+
+// Three lists that take turns: more numbers than two blocks have room for.
+fn by_turns(alloc: Global) -> Result<Vec<Vec<u64>>, Fail> {
+    let mut lists = Vec::new(alloc);
+    lists.push(each_third(alloc, 0)?)?;
+    lists.push(each_third(alloc, 1)?)?;
+    lists.push(each_third(alloc, 2)?)?;
+    Ok(lists)
+}
+
+// Whether each number is its place.
+fn are_places(numbers: &[u64]) -> bool {
+    for place in 0..numbers.len() {
+        if numbers[place] != place as u64 {
+            return false;
+        }
+    }
+    true
+}
+
+#[test]
+fn numbers_of_several_blocks(rt: HostRuntime) -> Result<(), Fail> {
+    let lists = by_turns(rt.alloc())?;
+    let merged = merge_by_blocks(rt.alloc(), lists.as_slice())
+        .ok()
+        .ok_or("no memory")?
+        .ok_or("a wrong guess")?;
+    assert_eq!(rt; merged.len(), 18_000);
+    assert!(rt; are_places(&merged));
     Ok(())
 }
 

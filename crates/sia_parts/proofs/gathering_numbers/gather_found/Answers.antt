@@ -11,8 +11,8 @@ merge_all-requires-2 c = let r = c.requires in bad_writes_can r.0 r.1 r.2 r.3 r.
 pub merge_all-requires-3 : goal.merge_all-requires-3
 merge_all-requires-3 c = let r = c.requires in unexplained_can r.0 r.1 r.2 r.3 r.4 c.args.parts.items r.5 r.6 r.7 r.8 _ c.in_ok-lists.ensures.unexplained
 
-pub merge_by_twos-requires : goal.merge_by_twos-requires
-merge_by_twos-requires c = let r = c.requires in numbers_can_merge r.0 r.1 r.2 r.3 r.4 c.args.parts.items r.5 r.6 r.7 r.8 _ c.in_ok-lists.ensures.edges
+pub merge_all-requires-4 : goal.merge_all-requires-4
+merge_all-requires-4 c = let r = c.requires in numbers_can_merge r.0 r.1 r.2 r.3 r.4 c.args.parts.items r.5 r.6 r.7 r.8 _ c.in_ok-lists.ensures.edges
 
 pub returns : goal.returns
 returns c h txns keys points cutting wf tables cuts zip = record {
