@@ -125,7 +125,7 @@ impl Making<'_> {
     }
 }
 
-/// For how many workers there is work. Where edges are few the others would take longer to start than what they save.
+/// For how many workers there is work. Where edges are few the calling thread does all, since threads take time to start.
 fn crew_of(o: &Options, edges: usize, stretches: Stretches) -> u32
     requires { stretches.count ≤ 1022 }
     ensures { (0 < result) × (result ≤ 64) }
