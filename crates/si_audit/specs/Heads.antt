@@ -1,5 +1,5 @@
 -- The words of lines of edges that are made once and put into many lines: each stands at the end of some bytes.
-use Rattle.std.specs.Prelude.{◌≡◌, ◌<◌, ◌≤◌, ℕ, List, ◌++◌, drop, length, codes, slice_index, slice_index_or}
+use Rattle.std.specs.Prelude.{◌≡◌, ◌<◌, ◌≤◌, ℕ, List, [], ◌∷◌, ◌++◌, drop, length, codes, slice_index, slice_index_or}
 use Rattle.sia_events.specs.Text.{numeral}
 use Rattle.si_audit.specs.declared.number_lines.Head.{Head}
 use Rattle.si_audit.specs.declared.numerals.Numeral.{Numeral}
@@ -15,10 +15,10 @@ pub record IsNumeral (n : ℕ) (word : Numeral) : Type 0 where
   pub within : word.start ≤ 12
   pub digits : drop word.start word.bytes ≡ numeral n
 
--- the same of a number with up to twenty digits
+-- a space, the digits of n, which can be twenty, and LF
 pub record IsLongNumeral (n : ℕ) (word : LongNumeral) : Type 0 where
-  pub within : word.start ≤ 20
-  pub digits : drop word.start word.bytes ≡ numeral n
+  pub within : word.start ≤ 24
+  pub digits : drop word.start word.bytes ≡ 32 ∷ (numeral n ++ 10 ∷ [])
 
 -- the digits of the first of these numbers
 abbrev pub AreNumerals : List ℕ → List Numeral → Type 0

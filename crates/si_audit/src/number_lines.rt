@@ -8,17 +8,17 @@ ghost use Rattle.si_audit.specs.Lines as lines;
 ghost use Rattle.si_audit.specs.Heads.{AreLongNumerals, AreNumerals, IsHead};
 ghost use Rattle.si_audit.specs.Sheets.{number_lines};
 
-use crate::numerals::{LONG, LongNumeral, Numeral, Numerals, SHORT, digits_of};
+use crate::numerals::{LongNumeral, Numeral, Numerals, digits_of};
 use itoa::write_digits;
 use sia_events::{Key, TxnId};
 use sia_parts::{EdgeNumber, Kind, key_of, kind_in, source_of, target_of};
 use std::alloc::{AllocError, Global};
 
 /// How many lines are put together before they are appended.
-const LINES: usize = 16;
+const LINES: usize = 64;
 
 /// Room for so many lines, of which the longest has less than 64 bytes.
-const ROOM: usize = 1024;
+const ROOM: usize = 4096;
 
 /// How many bytes of a line are no digits: its two words, three spaces and LF.
 const WORDS: usize = 11;
@@ -78,28 +78,36 @@ fn txn_at(txns: &[TxnId], place: usize) -> TxnId
     }
 }
 
-/// Puts the bytes right before `end`. Answers where they start.
+/// Puts the bytes right before `end`. Answers where they start. They are copied to a place of their own first: the compiler
+/// then needs no test whether they overlap with the block, and keeps them in registers.
 #[inline]
-fn put_slot(block: &mut [u8; ROOM], bytes: &[u8; HEAD], end: usize) -> usize
-    requires { (16 ≤ end) × (end ≤ 1024) }
-    ensures room { result + 16 ≡ end }
+fn put<const N: usize>(block: &mut [u8; ROOM], bytes: &[u8; N], end: usize) -> usize
+    requires { (N ≤ end) × (end ≤ 4096) }
+    ensures room { result + N ≡ end }
     ensures bytes { drop result block.new ≡ bytes.now ++ drop end block.old }
 {
-    let start = end - HEAD;
-    block[start..end].copy_from_slice(bytes);
+    let copied = *bytes;
+    let start = end - N;
+    block[start..end].copy_from_slice(&copied);
     start
 }
 
-/// Puts the first two words right before `end`. Answers where they start.
+/// Puts those of the bytes that stand from `start` on right before `end`. Answers where they start. All of the bytes are copied,
+/// since a copy of a known length takes a few instructions. What is put before them next goes over the others.
 #[inline]
-fn put_head(block: &mut [u8; ROOM], head: &Head, end: usize) -> usize
-    requires end { (16 ≤ end) × (end ≤ 1024) }
-    requires start { head.now.start ≤ 16 }
-    ensures room { (result ≤ end) × (end ≤ result + 16) }
-    ensures bytes { drop result block.new ≡ drop head.now.start head.now.bytes ++ drop end block.old }
+fn put_from<const N: usize>(
+    block: &mut [u8; ROOM],
+    bytes: &[u8; N],
+    start: usize,
+    end: usize,
+) -> usize
+    requires end { (N ≤ end) × (end ≤ 4096) }
+    requires start { start ≤ N }
+    ensures room { (result ≤ end) × (end ≤ result + N) }
+    ensures bytes { drop result block.new ≡ drop start bytes.now ++ drop end block.old }
 {
-    let slot = put_slot(block, &head.bytes, end);
-    slot + head.start
+    let slot = put(block, bytes, end);
+    slot + start
 }
 
 /// The word of a kind of edge, with the spaces around it.
@@ -116,19 +124,17 @@ fn word(kind: Kind) -> [u8; 4]
 /// Puts the word of the kind of edge, with the spaces around it, right before `end`.
 #[inline]
 fn put_word(block: &mut [u8; ROOM], kind: Kind, end: usize) -> usize
-    requires { (4 ≤ end) × (end ≤ 1024) }
+    requires { (4 ≤ end) × (end ≤ 4096) }
     ensures room { result + 4 ≡ end }
     ensures bytes { drop result block.new ≡ 32 ∷ (lines.kind_word kind ++ 32 ∷ drop end block.old) }
 {
-    let start = end - 4;
-    block[start..end].copy_from_slice(&word(kind));
-    start
+    put(block, &word(kind), end)
 }
 
 /// Puts the byte right before `end`. Answers where it stands.
 #[inline]
 fn put_byte(block: &mut [u8; ROOM], byte: u8, end: usize) -> usize
-    requires { (1 ≤ end) × (end ≤ 1024) }
+    requires { (1 ≤ end) × (end ≤ 4096) }
     ensures room { result + 1 ≡ end }
     ensures bytes { drop result block.new ≡ byte ∷ drop end block.old }
 {
@@ -139,7 +145,7 @@ fn put_byte(block: &mut [u8; ROOM], byte: u8, end: usize) -> usize
 /// Puts the number right before `end`. Answers where it starts.
 #[inline]
 fn put_key(block: &mut [u8; ROOM], n: u64, end: usize) -> usize
-    requires { (20 ≤ end) × (end ≤ 1024) }
+    requires { (20 ≤ end) × (end ≤ 4096) }
     ensures room { (result ≤ end) × (end ≤ result + 20) }
     ensures bytes { drop result block.new ≡ numeral n ++ drop end block.old }
 {
@@ -149,57 +155,11 @@ fn put_key(block: &mut [u8; ROOM], n: u64, end: usize) -> usize
 /// The same of a number with at most ten digits.
 #[inline]
 fn put_number(block: &mut [u8; ROOM], n: u32, end: usize) -> usize
-    requires { (10 ≤ end) × (end ≤ 1024) }
+    requires { (10 ≤ end) × (end ≤ 4096) }
     ensures room { (result ≤ end) × (end ≤ result + 10) }
     ensures bytes { drop result block.new ≡ numeral n ++ drop end block.old }
 {
     write_digits(u64::from(n), block, end)
-}
-
-/// Puts the bytes right before `end`. Answers where they start.
-#[inline]
-fn put_short(block: &mut [u8; ROOM], bytes: &[u8; SHORT], end: usize) -> usize
-    requires { (12 ≤ end) × (end ≤ 1024) }
-    ensures room { result + 12 ≡ end }
-    ensures bytes { drop result block.new ≡ bytes.now ++ drop end block.old }
-{
-    let start = end - SHORT;
-    block[start..end].copy_from_slice(bytes);
-    start
-}
-
-#[inline]
-fn put_long(block: &mut [u8; ROOM], bytes: &[u8; LONG], end: usize) -> usize
-    requires { (20 ≤ end) × (end ≤ 1024) }
-    ensures room { result + 20 ≡ end }
-    ensures bytes { drop result block.new ≡ bytes.now ++ drop end block.old }
-{
-    let start = end - LONG;
-    block[start..end].copy_from_slice(bytes);
-    start
-}
-
-/// Puts the digits right before `end`. Answers where they start.
-#[inline]
-fn put_numeral(block: &mut [u8; ROOM], word: &Numeral, end: usize) -> usize
-    requires end { (12 ≤ end) × (end ≤ 1024) }
-    requires start { word.now.start ≤ 12 }
-    ensures room { (result ≤ end) × (end ≤ result + 12) }
-    ensures bytes { drop result block.new ≡ drop word.now.start word.now.bytes ++ drop end block.old }
-{
-    let slot = put_short(block, &word.bytes, end);
-    slot + word.start as usize
-}
-
-#[inline]
-fn put_long_numeral(block: &mut [u8; ROOM], word: &LongNumeral, end: usize) -> usize
-    requires end { (20 ≤ end) × (end ≤ 1024) }
-    requires start { word.now.start ≤ 20 }
-    ensures room { (result ≤ end) × (end ≤ result + 20) }
-    ensures bytes { drop result block.new ≡ drop word.now.start word.now.bytes ++ drop end block.old }
-{
-    let slot = put_long(block, &word.bytes, end);
-    slot + word.start as usize
 }
 
 /// Puts the digits of the number's target right before `end`. Answers where they start.
@@ -211,19 +171,19 @@ fn put_target(
     n: EdgeNumber,
     end: usize,
 ) -> usize
-    requires end { (12 ≤ end) × (end ≤ 1024) }
+    requires end { (12 ≤ end) × (end ≤ 4096) }
     requires words { AreNumerals txns.now words.now }
     ensures room { (result ≤ end) × (end ≤ result + 12) }
     ensures bytes { drop result block.new ≡ numeral (slice_index txns.now (target_number n)) ++ drop end block.old }
 {
     let place = target_of(n);
     match words.get(place) {
-        Some(word) => put_numeral(block, word, end),
+        Some(word) => put_from(block, &word.bytes, word.start as usize, end),
         None => put_number(block, txn_at(txns, place), end),
     }
 }
 
-/// Puts the digits of the number's key right before `end`. Answers where they start.
+/// Puts the end of the number's line right before `end`: a space, the digits of its key, and LF. Answers where it starts.
 #[inline]
 fn put_key_of(
     block: &mut [u8; ROOM],
@@ -232,16 +192,27 @@ fn put_key_of(
     n: EdgeNumber,
     end: usize,
 ) -> usize
-    requires end { (20 ≤ end) × (end ≤ 1024) }
+    requires end { (24 ≤ end) × (end ≤ 4096) }
     requires words { AreLongNumerals keys.now words.now }
-    ensures room { (result ≤ end) × (end ≤ result + 20) }
-    ensures bytes { drop result block.new ≡ numeral (slice_index keys.now (key_number n)) ++ drop end block.old }
+    ensures room { (result ≤ end) × (end ≤ result + 24) }
+    ensures bytes { drop result block.new ≡ 32 ∷ (numeral (slice_index keys.now (key_number n)) ++ 10 ∷ drop end block.old) }
 {
     let place = key_of(n);
     match words.get(place) {
-        Some(word) => put_long_numeral(block, word, end),
-        None => put_key(block, key_at(keys, place), end),
+        Some(word) => put_from(block, &word.bytes, word.start as usize, end),
+        None => put_last(block, key_at(keys, place), end),
     }
+}
+
+/// Puts a space, the digits of the key, and LF right before `end`. Answers where they start.
+fn put_last(block: &mut [u8; ROOM], key: Key, end: usize) -> usize
+    requires { (24 ≤ end) × (end ≤ 4096) }
+    ensures room { (result ≤ end) × (end ≤ result + 24) }
+    ensures bytes { drop result block.new ≡ 32 ∷ (numeral key ++ 10 ∷ drop end block.old) }
+{
+    let end = put_byte(block, b'\n', end);
+    let end = put_key(block, key, end);
+    put_byte(block, b' ', end)
 }
 
 /// The key at the place.
@@ -265,7 +236,7 @@ fn put_line(
     head: &Head,
     end: usize,
 ) -> usize
-    requires end { (64 ≤ end) × (end ≤ 1024) }
+    requires end { (64 ≤ end) × (end ≤ 4096) }
     requires targets { AreNumerals txns.now words.now.txns.items }
     requires of_keys { AreLongNumerals keys.now words.now.keys.items }
     requires head { IsHead txns.now head.now }
@@ -273,12 +244,10 @@ fn put_line(
     ensures room { (result ≤ end) × (end ≤ result + 64) }
     ensures bytes { drop result block.new ≡ lines.edge_line (unpacked txns.now keys.now n) ++ drop end block.old }
 {
-    let end = put_byte(block, b'\n', end);
     let end = put_key_of(block, &words.keys, keys, n, end);
-    let end = put_byte(block, b' ', end);
     let end = put_target(block, &words.txns, txns, n, end);
     let end = put_word(block, kind_in(n), end);
-    put_head(block, head, end)
+    put_from(block, &head.bytes, head.start, end)
 }
 
 /// Makes the head that of the number's line, where it isn't yet.
@@ -290,8 +259,17 @@ fn renew(head: &mut Head, txns: &[TxnId], n: EdgeNumber)
 {
     let source = source_of(n);
     if head.source != source {
-        *head = head_of(txns, source);
+        make_anew(head, txns, source);
     }
+}
+
+/// Makes the head that of the source. This stays a call, so that the loop over the lines has no room to set up for it.
+#[inline(never)]
+fn make_anew(head: &mut Head, txns: &[TxnId], source: usize)
+    ensures head { IsHead txns.now head.new }
+    ensures source { head.new.source ≡ source }
+{
+    *head = head_of(txns, source);
 }
 
 /// Puts the lines of the edges of some numbers at the end of the block. Answers where they start.
@@ -304,12 +282,12 @@ fn put_lines(
     keys: &[Key],
     numbers: &[EdgeNumber],
 ) -> usize
-    requires few { length numbers.now ≤ 16 }
+    requires few { length numbers.now ≤ 64 }
     requires targets { AreNumerals txns.now words.now.txns.items }
     requires of_keys { AreLongNumerals keys.now words.now.keys.items }
     requires head { IsHead txns.now head.old }
     ensures head { IsHead txns.now head.new }
-    ensures room { result ≤ 1024 }
+    ensures room { result ≤ 4096 }
     ensures bytes { drop result block.new ≡ flat_map lines.edge_line (map (unpacked txns.now keys.now) numbers.now) }
 {
     let mut end = ROOM;
@@ -334,7 +312,7 @@ fn push_block(
     keys: &[Key],
     numbers: &[EdgeNumber],
 ) -> Result<(), AllocError>
-    requires few { length numbers.now ≤ 16 }
+    requires few { length numbers.now ≤ 64 }
     requires targets { AreNumerals txns.now words.now.txns.items }
     requires of_keys { AreLongNumerals keys.now words.now.keys.items }
     requires head { IsHead txns.now head.old }

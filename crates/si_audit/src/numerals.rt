@@ -1,5 +1,5 @@
 // The digits of transactions and keys, made once and put into many lines.
-ghost use Rattle.std.specs.Prelude.{◌≡◌, ◌≤◌, ◌++◌, drop, IfOk, slice_index};
+ghost use Rattle.std.specs.Prelude.{◌≡◌, ◌+◌, ◌≤◌, ◌∷◌, ◌++◌, drop, IfOk, slice_index};
 ghost use Rattle.sia_events.specs.Text.{numeral};
 ghost use Rattle.si_audit.specs.Heads.{AreLongNumerals, AreNumerals, IsLongNumeral, IsNumeral};
 
@@ -10,8 +10,8 @@ use std::alloc::{AllocError, Global};
 /// Room for the digits of a transaction.
 pub(crate) const SHORT: usize = 12;
 
-/// Room for the digits of a key.
-pub(crate) const LONG: usize = 20;
+/// Room for the digits of a key, a space before them, and LF behind them.
+pub(crate) const LONG: usize = 24;
 
 /// The digits of a transaction: they stand at the end of the bytes, from `start` on.
 #[derive(Clone, Copy)]
@@ -20,7 +20,8 @@ pub struct Numeral {
     pub bytes: [u8; SHORT],
 }
 
-/// The same of a key.
+/// The digits of a key as they end a line, with a space before them and LF behind them. They stand at the end of the bytes, from
+/// `start` on.
 #[derive(Clone, Copy)]
 pub struct LongNumeral {
     pub start: u32,
@@ -88,8 +89,9 @@ fn of_txn(txn: TxnId) -> Numeral
 fn of_key(key: Key) -> LongNumeral
     ensures { IsLongNumeral key result }
 {
-    let mut bytes = [0; LONG];
-    let start = put_key(&mut bytes, key) as u32;
+    let mut bytes = [b'\n'; LONG];
+    let digits = put_key(&mut bytes, key);
+    let start = put_space(&mut bytes, digits) as u32;
     LongNumeral { start, bytes }
 }
 
@@ -105,12 +107,24 @@ fn put_txn(bytes: &mut [u8; SHORT], txn: TxnId) -> usize
 pub(crate) fn digits_of(n: u64) -> usize
     ensures { result ≤ 20 }
 {
-    LONG - of_key(n).start as usize
+    let mut bytes = [0; LONG];
+    LONG - 1 - put_key(&mut bytes, n)
 }
 
+/// Puts the digits right before the last byte. Answers where they start.
 fn put_key(bytes: &mut [u8; LONG], key: Key) -> usize
-    ensures room { result ≤ 20 }
-    ensures bytes { drop result bytes.new ≡ numeral key }
+    ensures room { (result ≤ 23) × (23 ≤ result + 20) }
+    ensures bytes { drop result bytes.new ≡ numeral key ++ drop 23 bytes.old }
 {
-    write_digits(key, bytes, LONG)
+    write_digits(key, bytes, LONG - 1)
+}
+
+/// Puts a space right before `end`. Answers where it stands.
+fn put_space(bytes: &mut [u8; LONG], end: usize) -> usize
+    requires { (1 ≤ end) × (end ≤ 24) }
+    ensures room { result + 1 ≡ end }
+    ensures bytes { drop result bytes.new ≡ 32 ∷ drop end bytes.old }
+{
+    bytes[end - 1] = b' ';
+    end - 1
 }

@@ -8,7 +8,7 @@ use Rattle.si_audit.proofs.number_lines.put_lines.Goals as goal
 pub loop-left-init : goal.loop-left-init
 loop-left-init c = record {
   head = c.requires.head;
-  lines = drop_all 1024 c.args.block.now (omega arith) ∙ sym (ap (λ ns. flat_map edge_line (map (unpacked c.args.txns.now c.args.keys.now) ns)) (drop_all (length c.args.numbers.now) c.args.numbers.now (omega arith)));
+  lines = drop_all 4096 c.args.block.now (omega arith) ∙ sym (ap (λ ns. flat_map edge_line (map (unpacked c.args.txns.now c.args.keys.now) ns)) (drop_all (length c.args.numbers.now) c.args.numbers.now (omega arith)));
   room = omega arith;
   within = omega arith;
   left = omega arith;

@@ -9,7 +9,7 @@ invariant-loop-left l = record {
   head : IsHead l.txns l.head;
   lines : drop l.end l.block ≡ flat_map edge_line (map (unpacked l.txns l.keys) (drop l.left l.numbers));
   room : l.left * 64 ≤ l.end;
-  within : l.end ≤ 1024;
+  within : l.end ≤ 4096;
   left : l.left ≤ length l.numbers;
 }
 

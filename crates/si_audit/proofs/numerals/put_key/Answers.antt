@@ -1,6 +1,4 @@
 use Rattle.std.proofs.Common.{ℕ, List, ◌++◌, drop, ap, sym, ◌∙◌, arith, rules}
-use Rattle.std.proofs.lemmas.List.{drop_all, append-nil}
-use Rattle.sia_events.specs.Text.{numeral}
 use Rattle.std.proofs.lemmas.Fmt.{length-decimal-le}
 use Rattle.sia_events.proofs.Decimals.{numeral_decimal}
 use Rattle.si_audit.proofs.numerals.put_key.Goals as goal
@@ -9,9 +7,7 @@ pub write_digits-requires : goal.write_digits-requires
 write_digits-requires c = (omega (arith, length-decimal-le 20 c.args.key (omega arith) (omega arith) (omega arith)), search rules)
 
 pub returns-clause-room : goal.returns-clause-room
-returns-clause-room c = let short = length-decimal-le 20 c.args.key (omega arith) (omega arith) (omega arith) in omega arith
+returns-clause-room c = let short = length-decimal-le 20 c.args.key (omega arith) (omega arith) (omega arith) in (omega arith, omega arith)
 
 pub returns-clause-bytes : goal.returns-clause-bytes
-returns-clause-bytes c = c.write_digits.ensures.written ∙ ap (λ (bs : List ℕ). bs ++ drop 20 c.args.bytes.now) (sym (numeral_decimal c.args.key c.ranges.key.fits))
-    ∙ ap (λ (bs : List ℕ). numeral c.args.key ++ bs) (drop_all 20 c.args.bytes.now (omega arith))
-    ∙ append-nil (numeral c.args.key)
+returns-clause-bytes c = c.write_digits.ensures.written ∙ ap (λ (bs : List ℕ). bs ++ drop 23 c.args.bytes.now) (sym (numeral_decimal c.args.key c.ranges.key.fits))
