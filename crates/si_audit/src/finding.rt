@@ -8,10 +8,11 @@ ghost use Rattle.sia_index.specs.Info.{AreWrittenKeys};
 ghost use Rattle.sia_parts.specs.EdgeNumbers.{IsFound};
 ghost use Rattle.sia_parts.specs.Parts.{IsInPart};
 
+use crate::merging::gather;
 use crate::options::Options;
 use sia_events::{History, NoMemory};
 use sia_index::Index;
-use sia_parts::{Committed, Found, Part, find_in_part, gather_found};
+use sia_parts::{Committed, Found, Part, find_in_part};
 use sia_pool::{Job, OpenGate, work_off};
 use std::alloc::Global;
 use std::sync::Wait;
@@ -85,7 +86,7 @@ pub(crate) fn find<R: Threads + Wait + Sync>(
     };
     let count = count_of(parts);
     match work_off(rt, alloc, count, crew_of(o, count), &job, &OpenGate) {
-        Ok(crew) => gather_found(alloc, crew.outs),
+        Ok(crew) => gather(rt, alloc, crew.outs, o),
         Err(_) => Err(NoMemory),
     }
 }

@@ -12,15 +12,14 @@ use crate::findings::{Findings, PartFindings};
 use crate::merging::merge_all;
 use sia_events::NoMemory;
 use std::alloc::Global;
-use std::collections::VecDeque;
 
 /// The lists of all parts, by what they list.
 #[derive(Drop)]
 struct PartLists {
-    bad_reads: VecDeque<Vec<BadRead>>,
-    bad_writes: VecDeque<Vec<BadWrite>>,
-    unexplained: VecDeque<Vec<Unexplained>>,
-    edges: VecDeque<Vec<Edge>>,
+    bad_reads: Vec<Vec<BadRead>>,
+    bad_writes: Vec<Vec<BadWrite>>,
+    unexplained: Vec<Vec<Unexplained>>,
+    edges: Vec<Vec<Edge>>,
 }
 
 /// The findings at all keys, of those of the parts in order.
@@ -50,15 +49,15 @@ fn lists_of(alloc: Global, parts: Vec<PartFindings>) -> Result<PartLists, NoMemo
     ensures unexplained { IfOk result (λ lists. lists.unexplained.items ≡ map (λ part. part.unexplained) parts.items) }
     ensures edges { IfOk result (λ lists. lists.edges.items ≡ map (λ part. part.edges) parts.items) }
 {
-    let mut bad_reads = VecDeque::with_capacity(alloc, parts.len())?;
-    let mut bad_writes = VecDeque::with_capacity(alloc, parts.len())?;
-    let mut unexplained = VecDeque::with_capacity(alloc, parts.len())?;
-    let mut edges = VecDeque::with_capacity(alloc, parts.len())?;
+    let mut bad_reads = Vec::with_capacity(alloc, parts.len())?;
+    let mut bad_writes = Vec::with_capacity(alloc, parts.len())?;
+    let mut unexplained = Vec::with_capacity(alloc, parts.len())?;
+    let mut edges = Vec::with_capacity(alloc, parts.len())?;
     for part in parts {
-        bad_reads.push_back(part.bad_reads)?;
-        bad_writes.push_back(part.bad_writes)?;
-        unexplained.push_back(part.unexplained)?;
-        edges.push_back(part.edges)?;
+        bad_reads.push(part.bad_reads)?;
+        bad_writes.push(part.bad_writes)?;
+        unexplained.push(part.unexplained)?;
+        edges.push(part.edges)?;
     }
     Ok(PartLists {
         bad_reads,

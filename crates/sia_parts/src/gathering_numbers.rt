@@ -5,6 +5,9 @@ ghost use Rattle.sia_events.specs.declared.event.Event.{Event};
 ghost use Rattle.sia_events.specs.Refusals.{IsWellFormed};
 ghost use Rattle.sia_parts.specs.declared.cutting.Part.{Part};
 ghost use Rattle.sia_parts.specs.EdgeNumbers.{AreEdgeTables, IsFound};
+ghost use Rattle.sia_parts.specs.Entries.{number_rank};
+ghost use Rattle.sia_parts.specs.Gathering.{lists_in, IsGathering};
+ghost use Rattle.sia_parts.specs.Merging.{CanMerge};
 ghost use Rattle.sia_parts.specs.Parts.{IsCutting, IsInPart};
 
 use crate::finding::{BadRead, BadWrite, Unexplained};
@@ -13,15 +16,73 @@ use crate::merging::merge_all;
 use crate::numbers::EdgeNumber;
 use sia_events::NoMemory;
 use std::alloc::Global;
-use std::collections::VecDeque;
 
 /// The lists of all parts, by what they list.
 #[derive(Drop)]
 struct FoundLists {
-    bad_reads: VecDeque<Vec<BadRead>>,
-    bad_writes: VecDeque<Vec<BadWrite>>,
-    unexplained: VecDeque<Vec<Unexplained>>,
-    edges: VecDeque<Vec<EdgeNumber>>,
+    bad_reads: Vec<Vec<BadRead>>,
+    bad_writes: Vec<Vec<BadWrite>>,
+    unexplained: Vec<Vec<Unexplained>>,
+    edges: Vec<Vec<EdgeNumber>>,
+}
+
+/// What was found at the keys of all parts, where the numbers of the edges are still in one list for each part.
+#[derive(Debug, Drop)]
+pub struct Gathering {
+    pub bad_reads: Vec<BadRead>,
+    pub bad_writes: Vec<BadWrite>,
+    pub unexplained: Vec<Unexplained>,
+    pub edges: Vec<Vec<EdgeNumber>>,
+}
+
+impl Gathering {
+    /// What the parts found, in order of the parts.
+    pub fn of(alloc: Global, parts: Vec<Found>) -> Result<Gathering, NoMemory>
+        requires { (h : List Event) × (txns : List ℕ) × (keys : List ℕ) × (points : List ℕ) × (cutting : List Part)
+            × IsWellFormed h × AreEdgeTables h txns keys × IsCutting points cutting
+            × AllZip (λ part found. IsFound h txns keys (IsInPart part) found) cutting parts.items }
+        ensures can { IfOk result (λ gathering. CanMerge number_rank (lists_in gathering)) }
+        ensures exact { IfOk result (λ gathering. (h : List Event) (txns keys points : List ℕ) (cutting : List Part)
+            → IsWellFormed h → AreEdgeTables h txns keys → IsCutting points cutting
+            → AllZip (λ part found. IsFound h txns keys (IsInPart part) found) cutting parts.items
+            → IsGathering h txns keys gathering) }
+    {
+        let lists = lists_of(alloc, parts)?;
+        let bad_reads = merge_all(alloc, lists.bad_reads)?;
+        let bad_writes = merge_all(alloc, lists.bad_writes)?;
+        let unexplained = merge_all(alloc, lists.unexplained)?;
+        Ok(Gathering {
+            bad_reads,
+            bad_writes,
+            unexplained,
+            edges: lists.edges,
+        })
+    }
+
+    /// How many numbers stand in lists that are to be merged. None where no two lists have any.
+    pub fn unmerged(&self) -> usize {
+        let mut total = 0usize;
+        let mut longest = 0usize;
+        for list in &self.edges {
+            total = total.saturating_add(list.len());
+            longest = longest.max(list.len());
+        }
+        if longest < total { total } else { 0 }
+    }
+
+    /// The numbers of all edges, in order.
+    pub fn merged(self, alloc: Global) -> Result<Found, NoMemory>
+        requires { CanMerge number_rank (lists_in self) }
+        ensures { IfOk result (λ found. (h : List Event) (txns keys : List ℕ) → IsGathering h txns keys self → IsFound h txns keys (λ _. ⊤) found) }
+    {
+        let edges = merge_all(alloc, self.edges)?;
+        Ok(Found {
+            bad_reads: self.bad_reads,
+            bad_writes: self.bad_writes,
+            unexplained: self.unexplained,
+            edges,
+        })
+    }
 }
 
 /// The findings at all keys, of those of the parts in order.
@@ -34,17 +95,9 @@ pub fn gather_found(alloc: Global, parts: Vec<Found>) -> Result<Found, NoMemory>
         → AllZip (λ part found. IsFound h txns keys (IsInPart part) found) cutting parts.items
         → IsFound h txns keys (λ _. ⊤) found) }
 {
-    let lists = lists_of(alloc, parts)?;
-    let bad_reads = merge_all(alloc, lists.bad_reads)?;
-    let bad_writes = merge_all(alloc, lists.bad_writes)?;
-    let unexplained = merge_all(alloc, lists.unexplained)?;
-    let edges = merge_all(alloc, lists.edges)?;
-    Ok(Found {
-        bad_reads,
-        bad_writes,
-        unexplained,
-        edges,
-    })
+    let gathering = Gathering::of(alloc, parts)?;
+    let found = gathering.merged(alloc)?;
+    Ok(found)
 }
 
 /// The lists of the parts, in order.
@@ -54,15 +107,15 @@ fn lists_of(alloc: Global, parts: Vec<Found>) -> Result<FoundLists, NoMemory>
     ensures unexplained { IfOk result (λ lists. lists.unexplained.items ≡ map (λ part. part.unexplained) parts.items) }
     ensures edges { IfOk result (λ lists. lists.edges.items ≡ map (λ part. part.edges) parts.items) }
 {
-    let mut bad_reads = VecDeque::with_capacity(alloc, parts.len())?;
-    let mut bad_writes = VecDeque::with_capacity(alloc, parts.len())?;
-    let mut unexplained = VecDeque::with_capacity(alloc, parts.len())?;
-    let mut edges = VecDeque::with_capacity(alloc, parts.len())?;
+    let mut bad_reads = Vec::with_capacity(alloc, parts.len())?;
+    let mut bad_writes = Vec::with_capacity(alloc, parts.len())?;
+    let mut unexplained = Vec::with_capacity(alloc, parts.len())?;
+    let mut edges = Vec::with_capacity(alloc, parts.len())?;
     for part in parts {
-        bad_reads.push_back(part.bad_reads)?;
-        bad_writes.push_back(part.bad_writes)?;
-        unexplained.push_back(part.unexplained)?;
-        edges.push_back(part.edges)?;
+        bad_reads.push(part.bad_reads)?;
+        bad_writes.push(part.bad_writes)?;
+        unexplained.push(part.unexplained)?;
+        edges.push(part.edges)?;
     }
     Ok(FoundLists {
         bad_reads,

@@ -30,6 +30,7 @@ mod ranked;
 mod sights;
 mod sourcing;
 mod spans;
+mod stretching;
 mod unseen;
 
 pub use auditing::audit_part;
@@ -38,10 +39,11 @@ pub use cutting::{CutFault, Part, cut};
 pub use finding::{BadRead, BadWrite, Edge, Kind, Unexplained};
 pub use findings::{Findings, Found, PartFindings};
 pub use gathering::gather;
-pub use gathering_numbers::gather_found;
+pub use gathering_numbers::{Gathering, gather_found};
 pub use laws::one_part;
 pub use numbered::find_in_part;
 pub use numbers::{EdgeNumber, edge_of, edges_of_numbers, key_of, kind_in, source_of, target_of};
+pub use stretching::Seams;
 
 #[cfg(test)]
 mod tests;
