@@ -10,17 +10,9 @@ ghost use Rattle.sia_parts.specs.Findings.{AreFindings, ArePartFindings};
 use crate::finding::{BadRead, BadWrite, Edge, Unexplained};
 use crate::findings::{Findings, PartFindings};
 use crate::merging::merge_all;
+use crate::part_lists::{PartLists, add_lists, no_lists};
 use sia_events::NoMemory;
 use std::alloc::Global;
-
-/// The lists of all parts, by what they list.
-#[derive(Drop)]
-struct PartLists {
-    bad_reads: Vec<Vec<BadRead>>,
-    bad_writes: Vec<Vec<BadWrite>>,
-    unexplained: Vec<Vec<Unexplained>>,
-    edges: Vec<Vec<Edge>>,
-}
 
 /// The findings at all keys, of those of the parts in order.
 pub fn gather(alloc: Global, parts: Vec<PartFindings>) -> Result<Findings, NoMemory>
@@ -43,26 +35,21 @@ pub fn gather(alloc: Global, parts: Vec<PartFindings>) -> Result<Findings, NoMem
 }
 
 /// The lists of the parts, in order.
-fn lists_of(alloc: Global, parts: Vec<PartFindings>) -> Result<PartLists, NoMemory>
+fn lists_of(alloc: Global, parts: Vec<PartFindings>) -> Result<PartLists<Edge>, NoMemory>
     ensures bad_reads { IfOk result (λ lists. lists.bad_reads.items ≡ map (λ part. part.bad_reads) parts.items) }
     ensures bad_writes { IfOk result (λ lists. lists.bad_writes.items ≡ map (λ part. part.bad_writes) parts.items) }
     ensures unexplained { IfOk result (λ lists. lists.unexplained.items ≡ map (λ part. part.unexplained) parts.items) }
     ensures edges { IfOk result (λ lists. lists.edges.items ≡ map (λ part. part.edges) parts.items) }
 {
-    let mut bad_reads = Vec::with_capacity(alloc, parts.len())?;
-    let mut bad_writes = Vec::with_capacity(alloc, parts.len())?;
-    let mut unexplained = Vec::with_capacity(alloc, parts.len())?;
-    let mut edges = Vec::with_capacity(alloc, parts.len())?;
+    let mut lists = no_lists(alloc);
     for part in parts {
-        bad_reads.push(part.bad_reads)?;
-        bad_writes.push(part.bad_writes)?;
-        unexplained.push(part.unexplained)?;
-        edges.push(part.edges)?;
+        add_lists(
+            &mut lists,
+            part.bad_reads,
+            part.bad_writes,
+            part.unexplained,
+            part.edges,
+        )?;
     }
-    Ok(PartLists {
-        bad_reads,
-        bad_writes,
-        unexplained,
-        edges,
-    })
+    Ok(lists)
 }

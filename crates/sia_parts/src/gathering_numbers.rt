@@ -14,17 +14,9 @@ use crate::finding::{BadRead, BadWrite, Unexplained};
 use crate::findings::Found;
 use crate::merging::merge_all;
 use crate::numbers::EdgeNumber;
+use crate::part_lists::{PartLists, add_lists, no_lists};
 use sia_events::NoMemory;
 use std::alloc::Global;
-
-/// The lists of all parts, by what they list.
-#[derive(Drop)]
-struct FoundLists {
-    bad_reads: Vec<Vec<BadRead>>,
-    bad_writes: Vec<Vec<BadWrite>>,
-    unexplained: Vec<Vec<Unexplained>>,
-    edges: Vec<Vec<EdgeNumber>>,
-}
 
 /// What was found at the keys of all parts, where the numbers of the edges are still in one list for each part.
 #[derive(Debug, Drop)]
@@ -101,26 +93,21 @@ pub fn gather_found(alloc: Global, parts: Vec<Found>) -> Result<Found, NoMemory>
 }
 
 /// The lists of the parts, in order.
-fn lists_of(alloc: Global, parts: Vec<Found>) -> Result<FoundLists, NoMemory>
+fn lists_of(alloc: Global, parts: Vec<Found>) -> Result<PartLists<EdgeNumber>, NoMemory>
     ensures bad_reads { IfOk result (λ lists. lists.bad_reads.items ≡ map (λ part. part.bad_reads) parts.items) }
     ensures bad_writes { IfOk result (λ lists. lists.bad_writes.items ≡ map (λ part. part.bad_writes) parts.items) }
     ensures unexplained { IfOk result (λ lists. lists.unexplained.items ≡ map (λ part. part.unexplained) parts.items) }
     ensures edges { IfOk result (λ lists. lists.edges.items ≡ map (λ part. part.edges) parts.items) }
 {
-    let mut bad_reads = Vec::with_capacity(alloc, parts.len())?;
-    let mut bad_writes = Vec::with_capacity(alloc, parts.len())?;
-    let mut unexplained = Vec::with_capacity(alloc, parts.len())?;
-    let mut edges = Vec::with_capacity(alloc, parts.len())?;
+    let mut lists = no_lists(alloc);
     for part in parts {
-        bad_reads.push(part.bad_reads)?;
-        bad_writes.push(part.bad_writes)?;
-        unexplained.push(part.unexplained)?;
-        edges.push(part.edges)?;
+        add_lists(
+            &mut lists,
+            part.bad_reads,
+            part.bad_writes,
+            part.unexplained,
+            part.edges,
+        )?;
     }
-    Ok(FoundLists {
-        bad_reads,
-        bad_writes,
-        unexplained,
-        edges,
-    })
+    Ok(lists)
 }

@@ -25,6 +25,7 @@ mod numbers;
 mod ordering;
 mod packing;
 mod pairs;
+mod part_lists;
 mod ranges;
 mod ranked;
 mod sights;

@@ -4,8 +4,8 @@ use Rattle.sia_parts.proofs.gathering.lists_of.Given as goal
 
 abbrev pub invariant-loop-part : goal.invariant-loop-part
 invariant-loop-part l = record {
-  bad_reads : l.bad_reads.items ≡ map (λ part. part.bad_reads) l.yielded;
-  bad_writes : l.bad_writes.items ≡ map (λ part. part.bad_writes) l.yielded;
-  unexplained : l.unexplained.items ≡ map (λ part. part.unexplained) l.yielded;
-  edges : l.edges.items ≡ map (λ part. part.edges) l.yielded;
+  bad_reads : l.lists.bad_reads.items ≡ map (λ part. part.bad_reads) l.yielded;
+  bad_writes : l.lists.bad_writes.items ≡ map (λ part. part.bad_writes) l.yielded;
+  unexplained : l.lists.unexplained.items ≡ map (λ part. part.unexplained) l.yielded;
+  edges : l.lists.edges.items ≡ map (λ part. part.edges) l.yielded;
 }
