@@ -29,6 +29,7 @@ pub struct Seams {
 impl Seams {
     /// Cuts the lists into at most so many stretches, of about as many numbers each.
     pub fn of(alloc: Global, gathering: &Gathering, most: u32) -> Result<Seams, NoMemory>
+        ensures some { IfOk result (λ seams. 0 < length seams.places.items) }
         ensures few { IfOk result (λ seams. 0 < most → length seams.places.items ≤ most + 1) }
         ensures rows { IfOk result (λ seams. AreRows gathering.now.edges.items seams.places.items) }
     {
@@ -81,6 +82,7 @@ fn places_of<T: Ranked>(
     lists: &[Vec<T>],
     most: u32,
 ) -> Result<Vec<Vec<usize>>, NoMemory>
+    ensures some { IfOk result (λ places. 0 < length places.items) }
     ensures few { IfOk result (λ places. 0 < most → length places.items ≤ most + 1) }
     ensures rows { IfOk result (λ places. AreRows lists.now places.items) }
 {
