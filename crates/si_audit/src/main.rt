@@ -15,6 +15,7 @@ mod line;
 mod lines;
 mod longer_lines;
 mod make;
+mod merging;
 mod number_lines;
 mod numerals;
 mod options;

@@ -1,12 +1,13 @@
 // The findings of all parts together. Where many edges were found, workers merge their numbers, each stretch apart.
-ghost use Rattle.std.specs.Prelude.{◌≡◌, ◌+◌, ◌<◌, ℕ, List, length, IfOk, MatchOption, ⊤};
+ghost use Rattle.std.specs.Prelude.{◌≡◌, ◌+◌, ◌-◌, ◌<◌, ◌≤◌, ℕ, List, length, IfOk, MatchOption, ⊤};
 ghost use Rattle.std.specs.List.{AllZip};
 ghost use Rattle.sia_events.specs.declared.event.Event.{Event};
 ghost use Rattle.sia_events.specs.Refusals.{IsWellFormed};
 ghost use Rattle.sia_parts.specs.declared.cutting.Part.{Part};
 ghost use Rattle.sia_parts.specs.EdgeNumbers.{AreEdgeTables, IsFound};
 ghost use Rattle.sia_parts.specs.Entries.{number_rank};
-ghost use Rattle.sia_parts.specs.Gathering.{AreRows, IsStretchAt};
+ghost use Rattle.sia_parts.specs.Gathering.{lists_in, AreRows, IsGathering, IsStretchAt};
+ghost use Rattle.sia_parts.specs.Merging.{CanMerge};
 ghost use Rattle.sia_parts.specs.Parts.{IsCutting, IsInPart};
 
 use crate::options::Options;
@@ -57,6 +58,32 @@ fn count_of(seams: &Seams) -> u32
     seams.places.len().saturating_sub(1) as u32
 }
 
+/// The findings, with all edges in order: merged by workers where there are many.
+fn merged<R: Threads + Wait + Sync>(
+    rt: &R,
+    alloc: Global,
+    gathering: Gathering,
+    o: &Options,
+) -> Result<Found, NoMemory>
+    requires { CanMerge number_rank (lists_in gathering) }
+    ensures { IfOk result (λ found. (h : List Event) (txns keys : List ℕ) → IsGathering h txns keys gathering → IsFound h txns keys (λ _. ⊤) found) }
+{
+    let workers = u32::from(o.workers());
+    if workers < 2 || gathering.unmerged() < FEW {
+        return gathering.merged(alloc);
+    }
+    let seams = Seams::of(alloc, &gathering, workers * SHARES)?;
+    let job = Merging {
+        alloc,
+        gathering: &gathering,
+        seams: &seams,
+    };
+    match work_off(rt, alloc, count_of(&seams), workers, &job, &OpenGate) {
+        Ok(crew) => seams.joined(alloc, gathering, crew.outs),
+        Err(_) => Err(NoMemory),
+    }
+}
+
 /// The findings at all keys, of those of the parts in order.
 pub(crate) fn gather<R: Threads + Wait + Sync>(
     rt: &R,
@@ -73,18 +100,6 @@ pub(crate) fn gather<R: Threads + Wait + Sync>(
         → IsFound h txns keys (λ _. ⊤) found) }
 {
     let gathering = Gathering::of(alloc, parts)?;
-    let workers = u32::from(o.workers());
-    if workers < 2 || gathering.unmerged() < FEW {
-        return gathering.merged(alloc);
-    }
-    let seams = Seams::of(alloc, &gathering, workers * SHARES)?;
-    let job = Merging {
-        alloc,
-        gathering: &gathering,
-        seams: &seams,
-    };
-    match work_off(rt, alloc, count_of(&seams), workers, &job, &OpenGate) {
-        Ok(crew) => seams.joined(alloc, gathering, crew.outs),
-        Err(_) => Err(NoMemory),
-    }
+    let found = merged(rt, alloc, gathering, o)?;
+    Ok(found)
 }

@@ -9,13 +9,14 @@ use Rattle.si_audit.proofs.Owed.{each_owed, owed_too}
 use Rattle.si_audit.proofs.Results.{ok_map}
 use Rattle.si_audit.proofs.finding.find.Goals as goal
 
-pub gather_found-requires : goal.gather_found-requires
-gather_found-requires g c =
+pub gather-requires : goal.gather-requires
+gather-requires g c =
     let h = c.args.h.now in
     let txns = c.args.committed.now in
     let keys = c.written_keys.result.now in
     let written = subst (λ x. AreWrittenKeys x keys) c.requires.index c.written_keys.ensures in
     let owed = each_owed (λ (part : Part) (found : Found). (ks : List ℕ) → AreWrittenKeys h ks → IsFound h txns ks (IsInPart part) found) c.parts-parts.result.now c.in-Ok.crew.outs.items (search rules) (search rules) in (
+      search rules, (
       h,
       txns,
       keys,
@@ -25,16 +26,16 @@ gather_found-requires g c =
       record { txns_are = rw (sym c.requires.index) c.requires.committed; keys_are = written },
       c.parts-parts.ensures.cutting.1,
       owed_too _ (λ (part : Part) (found : Found). IsFound h txns keys (IsInPart part) found) _ _ (λ part found is. is keys written) owed,
-    )
+    ))
 
 pub returns-in-Ok : goal.returns-in-Ok
 returns-in-Ok g c =
     let h = c.args.h.now in
     let txns = c.args.committed.now in
     let owed = each_owed (λ (part : Part) (found : Found). (ks : List ℕ) → AreWrittenKeys h ks → IsFound h txns ks (IsInPart part) found) c.parts-parts.result.now c.in-Ok.crew.outs.items (search rules) (search rules) in
-    ok_map _ (λ found. (keys : List ℕ) → AreWrittenKeys h keys → IsFound h txns keys (λ _. ⊤) found) c.gather_found.result
+    ok_map _ (λ found. (keys : List ℕ) → AreWrittenKeys h keys → IsFound h txns keys (λ _. ⊤) found) c.gather.result
     (λ found f keys written. f h txns keys c.parts-parts.ensures.cutting.0 c.parts-parts.result.now c.requires.well_formed
     (record { txns_are = rw (sym c.requires.index) c.requires.committed; keys_are = written })
     c.parts-parts.ensures.cutting.1
     (owed_too _ (λ (part : Part) (found : Found). IsFound h txns keys (IsInPart part) found) _ _ (λ part found is. is keys written) owed))
-    c.gather_found.ensures
+    c.gather.ensures
