@@ -3,6 +3,7 @@ mod devices;
 mod faults;
 mod line;
 mod long_texts;
+mod many_edges;
 mod options;
 mod rows;
 mod sheets;

@@ -16,17 +16,19 @@ gather-requires g c =
     let keys = c.written_keys.result.now in
     let written = subst (λ x. AreWrittenKeys x keys) c.requires.index c.written_keys.ensures in
     let owed = each_owed (λ (part : Part) (found : Found). (ks : List ℕ) → AreWrittenKeys h ks → IsFound h txns ks (IsInPart part) found) c.parts-parts.result.now c.in-Ok.crew.outs.items (search rules) (search rules) in (
-      search rules, (
-      h,
-      txns,
-      keys,
-      c.parts-parts.ensures.cutting.0,
-      c.parts-parts.result.now,
-      c.requires.well_formed,
-      record { txns_are = rw (sym c.requires.index) c.requires.committed; keys_are = written },
-      c.parts-parts.ensures.cutting.1,
-      owed_too _ (λ (part : Part) (found : Found). IsFound h txns keys (IsInPart part) found) _ _ (λ part found is. is keys written) owed,
-    ))
+      search rules,
+      (
+        h,
+        txns,
+        keys,
+        c.parts-parts.ensures.cutting.0,
+        c.parts-parts.result.now,
+        c.requires.well_formed,
+        record { txns_are = rw (sym c.requires.index) c.requires.committed; keys_are = written },
+        c.parts-parts.ensures.cutting.1,
+        owed_too _ (λ (part : Part) (found : Found). IsFound h txns keys (IsInPart part) found) _ _ (λ part found is. is keys written) owed,
+      ),
+    )
 
 pub returns-in-Ok : goal.returns-in-Ok
 returns-in-Ok g c =
