@@ -46,3 +46,15 @@ invariant_of-result c =
       reaches_are = rw c.deref-14.ensures.value at c.in_ok-reaches.ensures;
       ids_are = table_lists _ _ _ c.in_ok-txns.ensures (rw c.as_slice.ensures.value at c.in_ok-ids.ensures);
     })
+
+pub version_rows_of-requires-clause-txns_are : goal.version_rows_of-requires-clause-txns_are
+version_rows_of-requires-clause-txns_are c = rw c.deref.ensures.value c.in_ok-txns.ensures
+
+pub version_rows_of-requires-clause-writes_are : goal.version_rows_of-requires-clause-writes_are
+version_rows_of-requires-clause-writes_are c = rw c.deref-2.ensures.value c.in_ok-writes.ensures.writes
+
+pub offsets_of-requires-clause-rows_ascend : goal.offsets_of-requires-clause-rows_ascend
+offsets_of-requires-clause-rows_ascend c = rw c.deref-5.ensures.value c.in_ok-rows.ensures.ascending
+
+pub returns : goal.returns
+returns c = c.of.ensures
