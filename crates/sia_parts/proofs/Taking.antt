@@ -2,13 +2,15 @@
 use Rattle.std.proofs.Common.{◌≡◌, inl, inr, ℕ, ◌+◌, ◌-◌, ◌<◌, ◌≤◌, true, List, [], ◌∷◌, ◌++◌, length, get_or, take, slice_set, sym, subst, ◌∙◌, arith, append-nil}
 use Rattle.std.specs.Prelude.{Contains}
 use Rattle.std.proofs.lemmas.Bool.{cases_lt, cases_eq}
-use Rattle.std.proofs.lemmas.List.{take_all, get_or_default, get_or-set_same, get_or-set_other}
+use Rattle.std.proofs.Math.Seq.{get_or-append_seam}
+use Rattle.std.proofs.lemmas.List.{length-append, get_or_append_left, take_all, get_or_default, get_or-set_same, get_or-set_other}
 use Rattle.std.proofs.lemmas.List.Elements.{Contains-get_or, Contains-append_left, Contains-append_right, Contains-append_cases}
 use Rattle.std.proofs.lemmas.List.Quantifiers.{all_pairs_push}
 use Rattle.sia_events.specs.Lists.{Precedes}
 use Rattle.sia_parts.specs.Blocks.{HoldsSame, HoldsTaken, IsTaken, IsMergedSoFar, IsStretch}
 use Rattle.sia_parts.specs.Merging.{is_before, IsAscending, IsMerged}
 use Rattle.sia_parts.proofs.BothEnds.{same_append, same_itself}
+use Rattle.sia_parts.proofs.FanEdges.{joined_ascend}
 use Rattle.sia_parts.proofs.Ranks.{Precedes-trans, before_precedes}
 
 -- where what comes last is put in another order
@@ -112,3 +114,15 @@ module _ {A : Type 0} (rank : A → List ℕ) where
   -- a stretch behind those before it
   pub next_taken : (lists : List (List A)) (from to : List ℕ) (before xs : List A) → IsMergedSoFar rank lists from before → IsStretch rank lists from to xs → IsAscending rank (before ++ xs) → IsMergedSoFar rank lists to (before ++ xs)
   next_taken lists from to before xs so_far stretch up = record { ascending = up; each = stretch.each before so_far.each }
+
+  -- entries whose first one follows, behind all others
+  pub stretch_ascends : (xs ys : List A) (y : A) → y ≡ get_or ys 0 y → 0 < length ys → IsAscending rank xs → IsAscending rank (xs ++ y ∷ []) → IsAscending rank ys → IsAscending rank (xs ++ ys)
+  stretch_ascends xs ys y is some up seam more = joined_ascend rank xs ys up more next
+    where
+      next : (d e : A) → 0 < length xs → 0 < length ys → Precedes (rank (get_or xs (length xs - 1) d)) (rank (get_or ys 0 e))
+      next d e before behind =
+          let long = length-append xs (y ∷ []) in
+          let pair = seam (length xs - 1) (length xs) d (omega arith) (omega arith) in
+          let first : get_or (xs ++ y ∷ []) (length xs - 1) d ≡ get_or xs (length xs - 1) d = get_or_append_left xs (y ∷ []) d (length xs - 1) (omega arith) in
+          let second : get_or (xs ++ y ∷ []) (length xs) d ≡ get_or ys 0 e = get_or-append_seam xs y [] d ∙ is ∙ get_or_default ys 0 y e some in
+          subst (λ z. Precedes (rank (get_or xs (length xs - 1) d)) (rank z)) second (subst (λ z. Precedes (rank z) (rank (get_or (xs ++ y ∷ []) (length xs) d))) first pair)

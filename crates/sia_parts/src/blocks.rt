@@ -127,7 +127,7 @@ fn take_entries<T: Ranked>(
 }
 
 /// Adds the entries behind all others. False where they don't ascend from there.
-pub(crate) fn append<T: Ranked>(entries: &[T], merged: &mut Vec<T>) -> Result<bool, NoMemory>
+fn append<T: Ranked>(entries: &[T], merged: &mut Vec<T>) -> Result<bool, NoMemory>
     ensures added { IfOk result (λ ascends. merged.new.items ≡ merged.old.items ++ entries.now) }
     ensures ascending { IfOk result (λ ascends. IsTrue ascends → IsAscending T.rank merged.old.items → IsAscending T.rank merged.new.items) }
 {
@@ -151,7 +151,7 @@ fn ascends_from<T: Ranked>(entries: &[T], place: usize) -> bool
 
 /// Whether the last entry precedes the next one.
 #[inline(always)]
-fn follows<T: Ranked>(entries: &[T], next: &T) -> bool
+pub(crate) fn follows<T: Ranked>(entries: &[T], next: &T) -> bool
     ensures { IsTrue result → IsAscending T.rank entries.now → IsAscending T.rank (entries.now ++ next.now ∷ []) }
 {
     match entries.last() {

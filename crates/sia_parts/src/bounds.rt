@@ -64,7 +64,10 @@ fn take_samples<T: Ranked>(
     let mut place = stride / 2;
     for ((list, start), end) in lists.iter().zip(from).zip(to) {
         let entries = between(list, *start, *end);
-        for entry in entries.iter().skip(place).step_by(stride) {
+        for _ in 0..entries.len() / stride + 1 {
+            let Some(entry) = entries.get(place) else {
+                break;
+            };
             samples.entries.push(*entry)?;
             place = place.saturating_add(stride);
         }

@@ -1,14 +1,14 @@
 //! Many lists merged stretch by stretch, each of them apart from the others, so that workers can do it side by side. Where the
 //! lists are cut is guessed. That the stretches follow one another, and that none is missing, is seen where they are joined.
-ghost use Rattle.std.specs.Prelude.{◌≡◌, ◌+◌, ◌-◌, ◌<◌, ◌≤◌, ℕ, List, [], length, map, slice_index_or, IfOk, IsTrue, MatchOption, OnOk, Option as option, ⊤};
+ghost use Rattle.std.specs.Prelude.{◌≡◌, ◌+◌, ◌-◌, ◌<◌, ◌≤◌, ℕ, List, [], ◌++◌, length, map, slice_index_or, IfOk, IsTrue, MatchOption, OnOk, Option as option, ⊤};
 ghost use Rattle.std.specs.Global.{Vec as vec};
 ghost use Rattle.sia_events.specs.declared.event.Event.{Event};
 ghost use Rattle.sia_parts.specs.EdgeNumbers.{IsFound};
 ghost use Rattle.sia_parts.specs.Entries.{number_rank};
 ghost use Rattle.sia_parts.specs.Gathering.{lists_in, AreRows, IsGathering, IsStretchAt};
-ghost use Rattle.sia_parts.specs.Merging.{CanMerge, IsMerged};
+ghost use Rattle.sia_parts.specs.Merging.{CanMerge, IsAscending, IsMerged};
 
-use crate::blocks::{append, merge_between};
+use crate::blocks::{follows, merge_between};
 use crate::bounds::{bounds_between, count_before, entries_between, lengths_of};
 use crate::findings::Found;
 use crate::gathering_numbers::Gathering;
@@ -173,11 +173,26 @@ fn join<T: Ranked>(
         let Some(entries) = stretch else {
             return Ok(None);
         };
-        if !append(entries, &mut merged)? {
+        if !add_stretch(entries, &mut merged)? {
             return Ok(None);
         }
     }
     Ok(Some(merged))
+}
+
+/// Adds entries that ascend behind all others. False where the first of them doesn't follow.
+fn add_stretch<T: Ranked>(entries: &[T], merged: &mut Vec<T>) -> Result<bool, NoMemory>
+    ensures added { IfOk result (λ ascends. IsTrue ascends → merged.new.items ≡ merged.old.items ++ entries.now) }
+    ensures ascending { IfOk result (λ ascends. IsTrue ascends → IsAscending T.rank entries.now → IsAscending T.rank merged.old.items → IsAscending T.rank merged.new.items) }
+{
+    let Some(first) = entries.first() else {
+        return Ok(true);
+    };
+    if !follows(merged, first) {
+        return Ok(false);
+    }
+    merged.extend_from_slice(entries)?;
+    Ok(true)
 }
 
 /// Whether nothing is taken of any list.

@@ -18,8 +18,8 @@ loop-stretch-preserved g c =
     let entries = c.in-Some.entries.items in
     let stretch = subst (λ found. MatchOption found ⊤ (λ xs. IsStretch g.T.Ranked.rank lists from to xs.items)) c.in-Some.is
     (subst (λ found. MatchOption found ⊤ (λ xs. IsStretch g.T.Ranked.rank lists from to xs.items)) (sym c.stretch-item.is) (c.requires.each i c.stretch-item.result (omega arith))) in
-    let added : c.append.new.merged.items ≡ before ++ entries = c.in_ok-append.ensures.added ∙ ap (λ zs. before ++ zs) c.deref-in-loop-stretch.ensures.value in
-    let up = c.in_ok-append.ensures.ascending c.if-not-branch.false c.loop-stretch.invariant.ascending in
+    let added : c.add_stretch.new.merged.items ≡ before ++ entries = c.in_ok-add_stretch.ensures.added c.if-not-branch.false ∙ ap (λ zs. before ++ zs) c.deref-in-loop-stretch.ensures.value in
+    let up = c.in_ok-add_stretch.ensures.ascending c.if-not-branch.false (subst (IsAscending g.T.Ranked.rank) (sym c.deref-in-loop-stretch.ensures.value) stretch.ascending) c.loop-stretch.invariant.ascending in
     subst (IsMergedSoFar g.T.Ranked.rank lists to) (sym added)
     (next_taken g.T.Ranked.rank lists from to before entries c.loop-stretch.invariant stretch (subst (IsAscending g.T.Ranked.rank) added up))
 
