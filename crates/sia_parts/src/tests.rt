@@ -130,9 +130,9 @@ fn edges_of_two_parts(rt: HostRuntime) -> Result<(), Fail> {
     first.push(early)?;
     let mut second = Vec::new(rt.alloc());
     second.push(late)?;
-    let mut lists = VecDeque::new(rt.alloc());
-    lists.push_back(first)?;
-    lists.push_back(second)?;
+    let mut lists = Vec::new(rt.alloc());
+    lists.push(first)?;
+    lists.push(second)?;
     let merged = merge_all(rt.alloc(), lists).ok().ok_or("no memory")?;
     assert!(rt; merged.as_slice() == [late, early].as_slice());
     Ok(())
