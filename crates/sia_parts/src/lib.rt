@@ -31,6 +31,7 @@ mod ranked;
 mod sights;
 mod sourcing;
 mod spans;
+mod stretches;
 mod stretching;
 mod unseen;
 
@@ -44,6 +45,7 @@ pub use gathering_numbers::{Gathering, gather_found};
 pub use laws::one_part;
 pub use numbered::find_in_part;
 pub use numbers::{EdgeNumber, edge_of, edges_of_numbers, key_of, kind_in, source_of, target_of};
+pub use stretches::EdgeNumbers;
 pub use stretching::Seams;
 
 #[cfg(test)]

@@ -1,0 +1,48 @@
+//! The numbers of all edges, in stretches that workers make side by side.
+ghost use Rattle.std.specs.Prelude.{◌≡◌, ◌<◌, AllPairs, IfOk};
+ghost use Rattle.sia_parts.specs.Stretches.{AreStretches, numbers_in};
+
+use crate::numbers::EdgeNumber;
+use sia_events::NoMemory;
+use std::alloc::Global;
+use std::marker::Model;
+
+/// The numbers of edges, ascending. They stand in stretches of which each goes on where the one before it ends: none is empty,
+/// and those of a source are all in one.
+#[derive(Debug, Drop)]
+pub struct EdgeNumbers {
+    stretches: Vec<Vec<EdgeNumber>>,
+}
+
+impl Model for EdgeNumbers {
+    ghost use Rattle.std.specs.Prelude.{List, ℕ};
+    ghost use Rattle.sia_parts.specs.Stretches.{AreStretches, numbers_in};
+
+    ghost Value = { List ℕ };
+
+    ghost view = { λ a. numbers_in a.stretches.items };
+
+    ghost invariant = { λ a. AreStretches a.stretches.items };
+}
+
+impl EdgeNumbers {
+    /// The numbers of a list, which are one stretch.
+    pub fn of(alloc: Global, numbers: Vec<EdgeNumber>) -> Result<EdgeNumbers, NoMemory>
+        requires { AllPairs (λ m n. m < n) numbers.items }
+        ensures { IfOk result (λ all. all ≡ numbers.items) }
+    {
+        let mut stretches = Vec::new(alloc);
+        if !numbers.is_empty() {
+            stretches.push(numbers)?;
+        }
+        Ok(EdgeNumbers { stretches })
+    }
+
+    /// These stretches.
+    pub fn stretches(&self) -> &[Vec<EdgeNumber>]
+        ensures numbers { numbers_in result.now ≡ self.now }
+        ensures are { AreStretches result.now }
+    {
+        self.stretches.as_slice()
+    }
+}
