@@ -17,5 +17,5 @@ pub mod OfHistory
 mod TakenWords
 mod NumbersGiven
 pub mod OnSheets
-pub mod Stretched
+pub mod Batched
 pub mod OfParts

@@ -11,8 +11,8 @@ use crate::engine::Outcome;
 use crate::judgement::{Judgement, judged};
 use crate::lines::push_refusal;
 use crate::options::Options;
+use crate::pieces::PIECE;
 use crate::reporting::report_of;
-use crate::stretches::STRETCH;
 use sia_events::{History, NoMemory, TextFault, TextReader};
 use sia_index::make::index;
 use std::alloc::Global;
@@ -34,13 +34,13 @@ fn is_clean(j: &Judgement) -> bool
     j.found.bad_reads.is_empty() && j.found.bad_writes.is_empty() && j.serializable
 }
 
-/// The answer to a history. The lines of at least so many edges stand on one sheet.
+/// The answer to a history. The lines of its edges are made in pieces of at most so many.
 pub(crate) fn answer_to_history<T: Threads + Wait + Sync>(
     rt: &T,
     alloc: Global,
     h: &History,
     o: &Options,
-    least: usize,
+    longest: usize,
 ) -> Result<Answer, NoMemory>
     ensures report { IfOk result (λ answer. IsReportOf h.now (text_of answer.sheets.items)) }
     ensures outcome { IfOk result (λ answer. IsOutcomeOf h.now answer.outcome) }
@@ -48,7 +48,7 @@ pub(crate) fn answer_to_history<T: Threads + Wait + Sync>(
     // The length tells that the history is well-formed.
     let _ = h.len();
     let ix = index(alloc, h)?;
-    let judged = judged(rt, alloc, h, &ix, o, Some(least))?;
+    let judged = judged(rt, alloc, h, &ix, o, Some(longest))?;
     let judgement = judged.judgement;
     let sheets = report_of(alloc, &judgement, judged.sheets)?;
     let outcome = if is_clean(&judgement) {
@@ -84,7 +84,7 @@ pub(crate) fn answer_to_text<T: Threads + Wait + Sync>(
     ensures outcome { (bytes : List ℕ) → StandsForRead text bytes → IfOk result (λ answer. IsOutcome bytes answer.outcome) }
 {
     match text.finish() {
-        Ok(h) => answer_to_history(rt, alloc, &h, o, STRETCH),
+        Ok(h) => answer_to_history(rt, alloc, &h, o, PIECE),
         Err(TextFault::NoMemory) => Err(NoMemory),
         Err(fault) => answer_to_refusal(alloc, &fault),
     }

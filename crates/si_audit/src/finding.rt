@@ -1,18 +1,19 @@
 // What is found at all keys: workers find what is at the keys of each part.
-ghost use Rattle.std.specs.Prelude.{◌≡◌, ◌<◌, ◌≤◌, ℕ, List, ⊤, length, IfOk, IfSome};
+ghost use Rattle.std.specs.Prelude.{◌≡◌, ◌<◌, ◌≤◌, ℕ, List, length, IfOk, IfSome};
 ghost use Rattle.std.specs.List.{slice_get};
 ghost use Rattle.sia_events.specs.Lists.{ListsAscending};
 ghost use Rattle.sia_events.specs.Refusals.{IsWellFormed};
 ghost use Rattle.sia_events.specs.Transactions.{IsCommitted};
 ghost use Rattle.sia_index.specs.Info.{AreWrittenKeys};
 ghost use Rattle.sia_parts.specs.EdgeNumbers.{IsFound};
+ghost use Rattle.sia_parts.specs.Gathering.{IsPartFound};
 ghost use Rattle.sia_parts.specs.Parts.{IsInPart};
 
 use crate::merging::gather;
 use crate::options::Options;
 use sia_events::{History, NoMemory};
 use sia_index::Index;
-use sia_parts::{Committed, Found, Part, find_in_part};
+use sia_parts::{Committed, Found, Part, PartFound, find_in_part};
 use sia_pool::{Job, OpenGate, work_off};
 use std::alloc::Global;
 use std::sync::Wait;
@@ -29,14 +30,14 @@ struct Auditing<'a> {
 }
 
 impl Job for Auditing<'_> {
-    type Out = Found;
+    type Out = PartFound;
 
     ghost takes = { λ job number. (job.index.now ≡ job.history.now) × ListsAscending (IsCommitted job.index.now) job.committed.now × (number < length job.parts.now) };
 
     ghost owes = { λ job number found. IfSome (slice_get job.parts.now number) (λ part. (keys : List ℕ) → AreWrittenKeys job.history.now keys
-        → IsFound job.history.now job.committed.now keys (IsInPart part) found) };
+        → IsPartFound job.history.now job.committed.now keys (IsInPart part) found) };
 
-    fn run(&self, number: u32) -> Result<Found, sia_pool::NoMemory> {
+    fn run(&self, number: u32) -> Result<PartFound, sia_pool::NoMemory> {
         let part = self.parts[number as usize];
         match find_in_part(self.alloc, self.history, self.index, self.committed, part) {
             Ok(found) => Ok(found),
@@ -72,7 +73,7 @@ pub(crate) fn find<R: Threads + Wait + Sync>(
     requires index { ix.now ≡ h.now }
     requires well_formed { IsWellFormed h.now }
     requires committed { ListsAscending (IsCommitted ix.now) committed.now }
-    ensures { IfOk result (λ found. (keys : List ℕ) → AreWrittenKeys h.now keys → IsFound h.now committed.now keys (λ _. ⊤) found) }
+    ensures { IfOk result (λ found. (keys : List ℕ) → AreWrittenKeys h.now keys → IsFound h.now committed.now keys found) }
 {
     // There is a list of the written keys, by which the numbers of the parts are of one kind.
     let _ = ix.written_keys();
@@ -86,7 +87,7 @@ pub(crate) fn find<R: Threads + Wait + Sync>(
     };
     let count = count_of(parts);
     match work_off(rt, alloc, count, crew_of(o, count), &job, &OpenGate) {
-        Ok(crew) => gather(rt, alloc, crew.outs, o),
+        Ok(crew) => gather(rt, alloc, crew.outs, committed.ids().len(), o),
         Err(_) => Err(NoMemory),
     }
 }

@@ -1,5 +1,5 @@
 // What follows from what was found in a history.
-ghost use Rattle.std.specs.Prelude.{◌≡◌, ◌↔◌, ℕ, List, [], ⊤, IfOk, IsSome, IsTrue};
+ghost use Rattle.std.specs.Prelude.{◌≡◌, ◌↔◌, ℕ, List, [], IfOk, IsSome, IsTrue};
 ghost use Rattle.sia_events.specs.Lists.{ListsAscending};
 ghost use Rattle.sia_events.specs.Refusals.{IsWellFormed};
 ghost use Rattle.sia_events.specs.Transactions.{IsCommitted};
@@ -17,7 +17,6 @@ use crate::counts::{Counts, counted};
 use crate::finding::find;
 use crate::options::Options;
 use crate::products::{AllEdges, Products, produce};
-use crate::stretches::Stretches;
 use sia_events::{History, NoMemory};
 use sia_graph::{Pivot, Verdict, passes, replay_law, ssi_law};
 use sia_index::Index;
@@ -68,13 +67,13 @@ fn judge(
     requires index { ix.now ≡ h.now }
     requires well_formed { IsWellFormed h.now }
     requires committed { ListsAscending (IsCommitted h.now) committed }
-    requires found { (keys : List ℕ) → AreWrittenKeys h.now keys → IsFound h.now committed keys (λ _. ⊤) found }
+    requires found { (keys : List ℕ) → AreWrittenKeys h.now keys → IsFound h.now committed keys found }
     requires verdict { IsVerdict (IsCommitted h.now) (IsEdge h.now) verdict }
     requires pivots { ArePivots h.now pivots.items }
     ensures exact { (keys : List ℕ) → AreWrittenKeys h.now keys → IsAccount h.now (account_by keys result) }
     ensures pass { IsTrue result.pass → IsTrue result.serializable × IsOrderVerdict result.verdict }
     ensures committed { result.committed ≡ committed }
-    ensures edges { result.found.edges.items ≡ found.edges.items }
+    ensures edges { result.found.edges ≡ found.edges }
 {
     // There is a list of the written keys, by which what was found is of one kind.
     let _ = ix.written_keys();
@@ -95,21 +94,21 @@ fn judge(
 }
 
 /// Audits a history by its index and by workers, and waits for them. Where a length is given, the lines of its edges are made
-/// too, those of at least so many on one sheet.
+/// too, in pieces of at most so many.
 pub(crate) fn judged<R: Threads + Wait + Sync>(
     rt: &R,
     alloc: Global,
     h: &History,
     ix: &Index,
     o: &Options,
-    least: Option<usize>,
+    longest: Option<usize>,
 ) -> Result<JudgedHistory, NoMemory>
     requires index { ix.now ≡ h.now }
     requires well_formed { IsWellFormed h.now }
     ensures exact { IfOk result (λ j. (keys : List ℕ) → AreWrittenKeys h.now keys → IsAccount h.now (account_by keys j.judgement)) }
     ensures pass { IfOk result (λ j. IsTrue j.judgement.pass → IsTrue j.judgement.serializable × IsOrderVerdict j.judgement.verdict) }
-    ensures lines { IsSome least → IfOk result (λ j. (keys : List ℕ) × AreWrittenKeys h.now keys
-        × (text_of j.sheets.items ≡ number_lines j.judgement.committed keys j.judgement.found.edges.items)) }
+    ensures lines { IsSome longest → IfOk result (λ j. (keys : List ℕ) × AreWrittenKeys h.now keys
+        × (text_of j.sheets.items ≡ number_lines j.judgement.committed keys j.judgement.found.edges)) }
 {
     let committed = Committed::of(alloc, ix)?;
     let found = find(rt, alloc, h, ix, &committed, o)?;
@@ -119,12 +118,11 @@ pub(crate) fn judged<R: Threads + Wait + Sync>(
         keys: ix.written_keys(),
         numbers: &found.edges,
     };
-    let stretches = Stretches::of(edges.numbers.len(), least);
     let Products {
         verdict,
         pivots,
         sheets,
-    } = produce(rt, alloc, &edges, stretches, o)?;
+    } = produce(rt, alloc, &edges, longest, o)?;
     let judgement = judge(h, ix, committed, found, verdict, pivots);
     Ok(JudgedHistory { judgement, sheets })
 }

@@ -3,6 +3,7 @@
 #![tactic(auto)]
 
 mod answering;
+mod batches;
 mod counts;
 mod device;
 mod engine;
@@ -20,9 +21,9 @@ mod number_lines;
 mod numerals;
 mod options;
 mod output;
+mod pieces;
 mod products;
 mod reporting;
-mod stretches;
 #[cfg(test)]
 mod tests;
 mod words;

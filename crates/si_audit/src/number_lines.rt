@@ -6,9 +6,10 @@ ghost use Rattle.sia_events.specs.Text.{numeral};
 ghost use Rattle.sia_parts.specs.Packing.{key_number, source_number, target_number, unpacked};
 ghost use Rattle.si_audit.specs.Lines as lines;
 ghost use Rattle.si_audit.specs.Heads.{AreLongNumerals, AreNumerals, IsHead};
-ghost use Rattle.si_audit.specs.Sheets.{number_lines};
+ghost use Rattle.si_audit.specs.Sheets.{number_lines, numbers_of};
 
 use crate::numerals::{LongNumeral, Numeral, Numerals, digits_of};
+use crate::pieces::count_of;
 use itoa::write_digits;
 use sia_events::{Key, TxnId};
 use sia_parts::{EdgeNumber, Kind, key_of, kind_in, source_of, target_of};
@@ -361,20 +362,22 @@ fn longest_line(txns: &[TxnId], keys: &[Key]) -> usize {
     WORDS + 2 * txn + key
 }
 
-/// The lines of the edges of these numbers, on a sheet of their own. It has the room for them from the start.
-pub(crate) fn sheet_of_numbers(
+/// The lines of the edges of these pieces, on a sheet of their own. It has the room for them from the start.
+pub(crate) fn sheet_of_pieces(
     alloc: Global,
     words: &Numerals,
     txns: &[TxnId],
     keys: &[Key],
-    numbers: &[EdgeNumber],
+    pieces: &[&[EdgeNumber]],
 ) -> Result<Vec<u8>, AllocError>
     requires targets { AreNumerals txns.now words.now.txns.items }
     requires of_keys { AreLongNumerals keys.now words.now.keys.items }
-    ensures { IfOk result (λ sheet. sheet.items ≡ number_lines txns.now keys.now numbers.now) }
+    ensures { IfOk result (λ sheet. sheet.items ≡ number_lines txns.now keys.now (numbers_of pieces.now)) }
 {
-    let room = numbers.len().saturating_mul(longest_line(txns, keys));
+    let room = count_of(pieces).saturating_mul(longest_line(txns, keys));
     let mut sheet = Vec::with_capacity(alloc, room)?;
-    push_numbers(&mut sheet, words, txns, keys, numbers)?;
+    for piece in pieces {
+        push_numbers(&mut sheet, words, txns, keys, piece)?;
+    }
     Ok(sheet)
 }

@@ -1,4 +1,4 @@
-// What is made of the edges of a history: the verdict, the pivots, and the lines of each stretch of edges. Workers make them
+// What is made of the edges of a history: the verdict, the pivots, and the lines of each batch of edges. Workers make them
 // side by side, each lines on a sheet of their own, since no worker waits for what another makes.
 ghost use Rattle.std.specs.Prelude.{◌≡◌, ℕ, List, ◌*◌, ◌-◌, ◌<◌, ◌≤◌, ◌∷◌, drop, flat_map, length, take, IfOk, IsSome};
 ghost use Rattle.std.specs.Global.{Vec as vec};
@@ -10,16 +10,17 @@ ghost use Rattle.sia_graph.specs.declared.pivot.Pivot.{Pivot as pivot};
 ghost use Rattle.sia_graph.specs.declared.settling.Verdict.{Verdict as verdict_type};
 ghost use Rattle.si_audit.specs.Heads.{AreLongNumerals, AreNumerals};
 ghost use Rattle.si_audit.specs.Products.{AreAllEdges, IsProduct, lines_in};
-ghost use Rattle.si_audit.specs.Sheets.{number_lines, text_of};
+ghost use Rattle.si_audit.specs.Sheets.{number_lines, numbers_of, text_of};
 
-use crate::number_lines::sheet_of_numbers;
+use crate::batches::Batches;
+use crate::number_lines::sheet_of_pieces;
 use crate::numerals::{Numerals, numerals_of};
 use crate::options::Options;
-use crate::stretches::{STRETCH, Stretches};
+use crate::pieces::{PIECE, count_of, pieces_of};
 use sia_events::{Key, NoMemory, TxnId};
 use sia_graph::{Pivot, Verdict, pivots_of_numbers, settle_numbers};
 use sia_index::Index;
-use sia_parts::EdgeNumber;
+use sia_parts::{EdgeNumber, EdgeNumbers};
 use sia_pool::{Job, OpenGate, work_off};
 use std::alloc::Global;
 use std::sync::Wait;
@@ -30,7 +31,7 @@ use std::thread::Threads;
 pub enum Product {
     Settled(Verdict),
     Pivots(Vec<Pivot>),
-    /// The lines of a stretch of edges.
+    /// The lines of a batch of pieces.
     Lines(Vec<u8>),
 }
 
@@ -40,7 +41,7 @@ pub(crate) struct AllEdges<'a> {
     pub(crate) index: &'a Index,
     pub(crate) txns: &'a [TxnId],
     pub(crate) keys: &'a [Key],
-    pub(crate) numbers: &'a [EdgeNumber],
+    pub(crate) numbers: &'a EdgeNumbers,
 }
 
 /// What all parts of the work make.
@@ -48,7 +49,7 @@ pub(crate) struct AllEdges<'a> {
 pub(crate) struct Products {
     pub(crate) verdict: Verdict,
     pub(crate) pivots: Vec<Pivot>,
-    /// The lines of the edges, one stretch on each sheet.
+    /// The lines of the edges, one batch on each sheet.
     pub(crate) sheets: Vec<Vec<u8>>,
 }
 
@@ -59,9 +60,10 @@ struct Making<'a> {
     index: &'a Index,
     txns: &'a [TxnId],
     keys: &'a [Key],
-    numbers: &'a [EdgeNumber],
+    numbers: &'a EdgeNumbers,
+    pieces: &'a [&'a [EdgeNumber]],
     words: &'a Numerals,
-    /// How many numbers a stretch has.
+    /// How many pieces a batch has.
     size: usize,
 }
 
@@ -69,9 +71,9 @@ impl Job for Making<'_> {
     type Out = Product;
 
     ghost takes = { λ job part. AreAllEdges job.index.now job.txns.now job.keys.now job.numbers.now × AreNumerals job.txns.now job.words.now.txns.items
-        × AreLongNumerals job.keys.now job.words.now.keys.items × ((part - 2) * job.size ≤ length job.numbers.now) };
+        × AreLongNumerals job.keys.now job.words.now.keys.items × ((part - 2) * job.size ≤ length job.pieces.now) };
 
-    ghost owes = { λ job part product. IsProduct job.index.now job.txns.now job.keys.now job.numbers.now job.size part product };
+    ghost owes = { λ job part product. IsProduct job.index.now job.txns.now job.keys.now job.pieces.now job.size part product };
 
     fn run(&self, part: u32) -> Result<Product, sia_pool::NoMemory> {
         match self.product(part) {
@@ -87,8 +89,8 @@ impl Making<'_> {
         requires edges { AreAllEdges self.now.index.now self.now.txns.now self.now.keys.now self.now.numbers.now }
         requires of_txns { AreNumerals self.now.txns.now self.now.words.now.txns.items }
         requires of_keys { AreLongNumerals self.now.keys.now self.now.words.now.keys.items }
-        requires within { (part - 2) * self.now.size ≤ length self.now.numbers.now }
-        ensures { IfOk result (IsProduct self.now.index.now self.now.txns.now self.now.keys.now self.now.numbers.now self.now.size part) }
+        requires within { (part - 2) * self.now.size ≤ length self.now.pieces.now }
+        ensures { IfOk result (IsProduct self.now.index.now self.now.txns.now self.now.keys.now self.now.pieces.now self.now.size part) }
     {
         match part {
             0 => Ok(Product::Settled(self.settled()?)),
@@ -111,29 +113,29 @@ impl Making<'_> {
         pivots_of_numbers(self.alloc, self.index, self.txns, self.numbers)
     }
 
-    /// The lines of the stretch that starts at this number.
+    /// The lines of the batch that starts at this piece.
     fn lines(&self, start: usize) -> Result<Vec<u8>, NoMemory>
         requires of_txns { AreNumerals self.now.txns.now self.now.words.now.txns.items }
         requires of_keys { AreLongNumerals self.now.keys.now self.now.words.now.keys.items }
-        requires within { start ≤ length self.now.numbers.now }
-        ensures { IfOk result (λ sheet. sheet.items ≡ number_lines self.now.txns.now self.now.keys.now (take self.now.size (drop start self.now.numbers.now))) }
+        requires within { start ≤ length self.now.pieces.now }
+        ensures { IfOk result (λ sheet. sheet.items ≡ number_lines self.now.txns.now self.now.keys.now (numbers_of (take self.now.size (drop start self.now.pieces.now)))) }
     {
-        let rest = &self.numbers[start..];
-        let stretch = &rest[..self.size.min(rest.len())];
-        let sheet = sheet_of_numbers(self.alloc, self.words, self.txns, self.keys, stretch)?;
+        let rest = &self.pieces[start..];
+        let batch = &rest[..self.size.min(rest.len())];
+        let sheet = sheet_of_pieces(self.alloc, self.words, self.txns, self.keys, batch)?;
         Ok(sheet)
     }
 }
 
 /// For how many workers there is work. Where edges are few the calling thread does all, since threads take time to start.
-fn crew_of(o: &Options, edges: usize, stretches: Stretches) -> u32
-    requires { stretches.count ≤ 1022 }
+fn crew_of(o: &Options, edges: usize, batches: Batches) -> u32
+    requires { batches.count ≤ 1022 }
     ensures { (0 < result) × (result ≤ 64) }
 {
-    if edges < STRETCH && stretches.count < 2 {
+    if edges < PIECE && batches.count < 2 {
         1
     } else {
-        u32::from(o.workers()).min(stretches.count + 2)
+        u32::from(o.workers()).min(batches.count + 2)
     }
 }
 
@@ -194,24 +196,25 @@ fn taken_apart(alloc: Global, mut products: Vec<Product>) -> Result<Products, No
     })
 }
 
-/// Makes of all edges the verdict, the pivots, and the lines of the stretches, by workers, and waits for them.
-pub(crate) fn produce<R: Threads + Wait + Sync>(
+/// Makes of all edges the verdict, the pivots, and the lines of the batches of pieces, by workers, and waits for them.
+fn made_of<R: Threads + Wait + Sync>(
     rt: &R,
     alloc: Global,
     edges: &AllEdges,
-    stretches: Stretches,
+    pieces: &[&[EdgeNumber]],
+    batches: Batches,
     o: &Options,
 ) -> Result<Products, NoMemory>
     requires edges { AreAllEdges edges.now.index.now edges.now.txns.now edges.now.keys.now edges.now.numbers.now }
-    requires few { stretches.count ≤ 1022 }
-    requires within { (i : ℕ) → i < stretches.count → i * stretches.size ≤ length edges.now.numbers.now }
+    requires few { batches.count ≤ 1022 }
+    requires within { (i : ℕ) → i < batches.count → i * batches.size ≤ length pieces.now }
     ensures verdict { IfOk result (λ made. IsVerdict (IsCommitted edges.now.index.now) (IsEdge edges.now.index.now) made.verdict) }
     ensures pivots { IfOk result (λ made. ArePivots edges.now.index.now made.pivots.items) }
-    ensures lines { length edges.now.numbers.now ≤ stretches.count * stretches.size
-        → IfOk result (λ made. text_of made.sheets.items ≡ number_lines edges.now.txns.now edges.now.keys.now edges.now.numbers.now) }
+    ensures lines { length pieces.now ≤ batches.count * batches.size
+        → IfOk result (λ made. text_of made.sheets.items ≡ number_lines edges.now.txns.now edges.now.keys.now (numbers_of pieces.now)) }
 {
-    let count = edges.numbers.len();
-    let lines = if stretches.count == 0 { 0 } else { count };
+    let count = count_of(pieces);
+    let lines = if batches.count == 0 { 0 } else { count };
     let words = numerals_of(alloc, edges.txns, edges.keys, lines)?;
     let job = Making {
         alloc,
@@ -219,12 +222,33 @@ pub(crate) fn produce<R: Threads + Wait + Sync>(
         txns: edges.txns,
         keys: edges.keys,
         numbers: edges.numbers,
+        pieces,
         words: &words,
-        size: stretches.size,
+        size: batches.size,
     };
-    let workers = crew_of(o, count, stretches);
-    match work_off(rt, alloc, stretches.count + 2, workers, &job, &OpenGate) {
+    let workers = crew_of(o, count, batches);
+    match work_off(rt, alloc, batches.count + 2, workers, &job, &OpenGate) {
         Ok(crew) => taken_apart(alloc, crew.outs),
         Err(_) => Err(NoMemory),
     }
+}
+
+/// Makes of all edges the verdict and the pivots, by workers, and waits for them. Where a length is given, the lines of the
+/// edges are made too, in pieces of at most so many.
+pub(crate) fn produce<R: Threads + Wait + Sync>(
+    rt: &R,
+    alloc: Global,
+    edges: &AllEdges,
+    longest: Option<usize>,
+    o: &Options,
+) -> Result<Products, NoMemory>
+    requires { AreAllEdges edges.now.index.now edges.now.txns.now edges.now.keys.now edges.now.numbers.now }
+    ensures verdict { IfOk result (λ made. IsVerdict (IsCommitted edges.now.index.now) (IsEdge edges.now.index.now) made.verdict) }
+    ensures pivots { IfOk result (λ made. ArePivots edges.now.index.now made.pivots.items) }
+    ensures lines { IsSome longest → IfOk result (λ made. text_of made.sheets.items ≡ number_lines edges.now.txns.now edges.now.keys.now edges.now.numbers.now) }
+{
+    let pieces = pieces_of(alloc, edges.numbers, longest.unwrap_or(PIECE))?;
+    let batches = Batches::of(pieces.len(), longest.is_some());
+    let made = made_of(rt, alloc, edges, &pieces, batches, o)?;
+    Ok(made)
 }

@@ -193,7 +193,7 @@ pub(crate) fn report_of(
     j: &Judgement,
     mut sheets: Vec<Vec<u8>>,
 ) -> Result<Vec<Vec<u8>>, NoMemory>
-    ensures { IfOk result (λ all. (keys : List ℕ) → text_of sheets.items ≡ number_lines j.now.committed keys j.now.found.edges.items
+    ensures { IfOk result (λ all. (keys : List ℕ) → text_of sheets.items ≡ number_lines j.now.committed keys j.now.found.edges
         → text_of all.items ≡ lines.report_text (account_by keys j.now)) }
 {
     sheets.insert(0, front_of(alloc, j)?)?;

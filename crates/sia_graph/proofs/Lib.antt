@@ -40,6 +40,7 @@ pub mod Vulnerable
 pub mod PivotLists
 pub mod Places
 pub mod Arrivals
+pub mod StretchLists
 pub mod TakenPlaces
 pub mod LeastNumbers
 pub mod ReadyPlaces

@@ -6,7 +6,7 @@ use Rattle.std.specs.Ordering.{ordering_then, nat_cmp}
 use Rattle.std.specs.declared.cmp.Ordering.{Ordering}
 use Rattle.std.specs.declared.cmp.Ordering.TheVariants.{Less}
 use Rattle.std.proofs.lemmas.Bool.{ne_eqb}
-use Rattle.std.proofs.lemmas.List.{take_more, map-append, get_or-map, length-map, length-append, get_or-append-add, get_or_append_left}
+use Rattle.std.proofs.lemmas.List.{append_assoc, take_more, map-append, get_or-map, length-map, length-append, get_or-append-add, get_or_append_left}
 use Rattle.std.proofs.lemmas.List.Elements.{All-contains, Contains-append_left, Contains-append_right, Contains-append_cases}
 use Rattle.sia_events.specs.Lists.{Precedes, ListsAscending}
 use Rattle.sia_graph.specs.declared.links.Link.{Link}
@@ -188,23 +188,24 @@ module _ (R : ℕ → ℕ → Type 0) where
         subst (λ xs. AreEnds R xs now) (sym (take_more edges n d within))
         (subst (AreEnds R (take n edges ++ get_or edges n d ∷ [])) (sym is) (ends_same (take n edges) links are (get_or edges n d) other))
 
-  -- the same of edges that are made of the first elements of a list
-  module _ {A : Type 0} (edge : A → Edge) (xs : List A) (n : ℕ) (d : A) (within : n < length xs) (links now : List Link) (are : AreEnds R (map edge (take n xs)) links) where
+  -- the same of edges that are made of the first elements of a list, behind others
+  module _ {A : Type 0} (edge : A → Edge) (before : List Edge) (xs : List A) (n : ℕ) (d : A) (within : n < length xs) (links now : List Link) (are : AreEnds R (before ++ map edge (take n xs)) links) where
     abbrev next : Edge
     next = edge (get_or xs n d)
 
-    one_further : map edge (take (n + 1) xs) ≡ map edge (take n xs) ++ next ∷ []
-    one_further = ap (map edge) (take_more xs n d within) ∙ map-append edge (take n xs) (get_or xs n d ∷ [])
+    one_further : before ++ map edge (take (n + 1) xs) ≡ (before ++ map edge (take n xs)) ++ next ∷ []
+    one_further =
+        ap (λ l. before ++ map edge l) (take_more xs n d within) ∙ ap (λ l. before ++ l) (map-append edge (take n xs) (get_or xs n d ∷ [])) ∙ sym (append_assoc before (map edge (take n xs)) (next ∷ []))
 
-    pub mapped_more : (next.kind ≡ Rw) × R next.src next.dst → now ≡ links ++ ends_of next ∷ [] → AreEnds R (map edge (take (n + 1) xs)) now
+    pub mapped_more : (next.kind ≡ Rw) × R next.src next.dst → now ≡ links ++ ends_of next ∷ [] → AreEnds R (before ++ map edge (take (n + 1) xs)) now
     mapped_more has is =
         subst (λ edges. AreEnds R edges now) (sym one_further)
-        (subst (AreEnds R (map edge (take n xs) ++ next ∷ [])) (sym is) (ends_more (map edge (take n xs)) links are next has))
+        (subst (AreEnds R ((before ++ map edge (take n xs)) ++ next ∷ [])) (sym is) (ends_more (before ++ map edge (take n xs)) links are next has))
 
-    pub mapped_same : ¬ ((next.kind ≡ Rw) × R next.src next.dst) → now ≡ links → AreEnds R (map edge (take (n + 1) xs)) now
+    pub mapped_same : ¬ ((next.kind ≡ Rw) × R next.src next.dst) → now ≡ links → AreEnds R (before ++ map edge (take (n + 1) xs)) now
     mapped_same other is =
         subst (λ edges. AreEnds R edges now) (sym one_further)
-        (subst (AreEnds R (map edge (take n xs) ++ next ∷ [])) (sym is) (ends_same (map edge (take n xs)) links are next other))
+        (subst (AreEnds R ((before ++ map edge (take n xs)) ++ next ∷ [])) (sym is) (ends_same (before ++ map edge (take n xs)) links are next other))
 
   -- these ends, put in order
   pub ends_in_order : (edges : List Edge) (others found : List Link) → AreEnds R edges others → IsStrictlySortedBy by_link found

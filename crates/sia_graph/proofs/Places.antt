@@ -25,7 +25,7 @@ use Rattle.sia_graph.proofs.Positions.{get_left, get_right}
 pub div_rises : (k n m : ℕ) → 0 < k → n ≤ m → n / k ≤ m / k
 div_rises k n m some l = le-div (n / k) m k some (let a = div-mul-le_self n k in omega arith)
 
-source_rises : (n m : ℕ) → n ≤ m → source_number n ≤ source_number m
+pub source_rises : (n m : ℕ) → n ≤ m → source_number n ≤ source_number m
 source_rises n m l = div_rises 1048576 (n / 1048576 / 4) (m / 1048576 / 4) (omega arith) (div_rises 4 (n / 1048576) (m / 1048576) (omega arith) (div_rises 1048576 n m (omega arith) l))
 
 pub sources_rise : (numbers : List ℕ) → AllPairs (λ m n. m < n) numbers → IsNonDecreasingBy source_number numbers

@@ -1,5 +1,6 @@
 -- Edges as numbers: transactions are told by their places among ids, and keys by theirs among keys.
-use Rattle.std.specs.Prelude.{◌≡◌, ◌≢◌, ◌⊎◌, ℕ, ◌<◌, ◌≤◌, ◌==◌, Bool, List, All, AllPairs, count_by, length, map, slice_index}
+use Rattle.std.specs.Prelude.{◌≡◌, ◌≢◌, ◌⊎◌, ℕ, ◌-◌, ◌<◌, ◌≤◌, ◌==◌, Bool, List, All, AllPairs, count_by, length, map, slice_index}
+use Rattle.std.specs.Global.{Vec}
 use Rattle.std.specs.List.Sorted.{IsStrictlyIncreasing}
 use Rattle.sia_parts.specs.declared.finding.Edge.{Edge}
 use Rattle.sia_parts.specs.Packing.{IsPacked, unpacked, source_number, target_number}
@@ -32,6 +33,10 @@ AreArriving places numbers counts = (length counts ≡ places) × ((i : ℕ) →
 -- these numbers are those that lead from the place, which stand side by side
 abbrev pub AreNumbersFrom : List ℕ → ℕ → List ℕ → Type 0
 AreNumbersFrom numbers place group = IsGroup source_number numbers place group
+
+-- where the last number of a stretch leads from
+abbrev pub last_source : Vec ℕ → ℕ
+last_source s = source_number (slice_index s.items (length s.items - 1))
 
 -- the last of the numbers that lead to i is among these
 abbrev pub IsFreedAt : List ℕ → List ℕ → ℕ → Type 0

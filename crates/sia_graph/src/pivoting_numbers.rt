@@ -10,7 +10,7 @@ use crate::pivoting::pivots_of_links;
 use crate::vulnerable_numbers::vulnerable_of_numbers;
 use sia_events::{NoMemory, TxnId};
 use sia_index::Index;
-use sia_parts::EdgeNumber;
+use sia_parts::EdgeNumbers;
 use std::alloc::Global;
 
 /// Every pivot, ascending, with its neighbours, as `pivots` tells them of edges that aren't packed. The transactions are the
@@ -19,7 +19,7 @@ pub fn pivots_of_numbers(
     alloc: Global,
     ix: &Index,
     txns: &[TxnId],
-    numbers: &[EdgeNumber],
+    numbers: &EdgeNumbers,
 ) -> Result<Vec<Pivot>, NoMemory>
     requires txns { ListsAscending (IsCommitted ix.now) txns.now }
     requires numbers { (keys : List ℕ) × AreEdgeNumbers ix.now txns.now keys (λ _. ⊤) numbers.now }

@@ -11,14 +11,27 @@ use crate::taking_numbers::{count_numbers, take_numbered};
 use crate::txns::Txns;
 use crate::walking_numbers::numbered_cycle;
 use sia_events::{Key, NoMemory, TxnId};
-use sia_parts::{EdgeNumber, source_of, target_of};
+use sia_parts::{EdgeNumber, EdgeNumbers, source_of, target_of};
 use std::alloc::Global;
 
-/// Whether each number leads to a greater place.
-fn all_rise(numbers: &[EdgeNumber]) -> bool
+/// Whether each number of a stretch leads to a greater place.
+fn rise(numbers: &[EdgeNumber]) -> bool
     ensures { IsTrue result → All (λ n. source_number n < target_number n) numbers.now }
 {
     numbers.iter().all(|n| source_of(*n) < target_of(*n))
+}
+
+/// Whether each number leads to a greater place.
+fn all_rise(numbers: &EdgeNumbers) -> bool
+    ensures { IsTrue result → All (λ n. source_number n < target_number n) numbers.now }
+{
+    let stretches = numbers.stretches();
+    for stretch in stretches {
+        if !rise(stretch) {
+            return false;
+        }
+    }
+    true
 }
 
 /// The least order of the ids that keeps the edges, or where none does the cycle that is printed, as `settle` tells it of
@@ -27,7 +40,7 @@ pub fn settle_numbers(
     alloc: Global,
     ids: &[TxnId],
     keys: &[Key],
-    numbers: &[EdgeNumber],
+    numbers: &EdgeNumbers,
 ) -> Result<Verdict, NoMemory>
     requires ids { IsStrictlyIncreasing ids.now }
     requires keys { IsStrictlyIncreasing keys.now }
@@ -49,7 +62,7 @@ fn settle_numbered(alloc: Global, edges: &Numbered) -> Result<Verdict, NoMemory>
     ensures { IfOk result (IsVerdict (Contains edges.now.ids.now) (Contains (edges_at edges.now.ids.now edges.now.keys.now edges.now.numbers.now))) }
 {
     let places = edges.ids.len();
-    let mut starts = vec![in alloc; edges.numbers.len(); places.saturating_add(1)]?;
+    let mut starts = vec![in alloc; 0usize; places.saturating_add(1)]?;
     let mut counted = count_numbers(alloc, places, edges.numbers, &mut starts)?;
     let counts = counted.as_mut_slice();
     let order = take_numbered(alloc, edges, &starts, counts)?;

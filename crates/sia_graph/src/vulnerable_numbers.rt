@@ -1,8 +1,9 @@
 //! The rw edges between overlapping transactions, of edges that are kept as numbers.
-ghost use Rattle.std.specs.Prelude.{◌≡◌, ◌↔◌, ℕ, List, ⊤, All, IfOk, IsTrue, map, slice_index};
+ghost use Rattle.std.specs.Prelude.{◌≡◌, ◌↔◌, ◌++◌, ℕ, List, ⊤, All, IfOk, IsTrue, OnOk, map, slice_index};
 ghost use Rattle.sia_events.specs.DangerousStructures.{IsVulnerable};
 ghost use Rattle.sia_events.specs.Lists.{ListsAscending};
 ghost use Rattle.sia_events.specs.Transactions.{IsCommitted, Overlap};
+ghost use Rattle.sia_parts.specs.declared.finding.Edge.{Edge};
 ghost use Rattle.sia_parts.specs.declared.finding.Kind.TheVariants.{Rw};
 ghost use Rattle.sia_parts.specs.EdgeNumbers.{AreEdgeNumbers};
 ghost use Rattle.sia_parts.specs.Packing.{IsPacked, kind_at, kind_digit, source_number, target_number, unpacked};
@@ -14,7 +15,7 @@ use crate::ordering::put_in_order;
 use crate::spans::{Span, overlap, spans_of};
 use sia_events::TxnId;
 use sia_index::Index;
-use sia_parts::{EdgeNumber, kind_in, source_of, target_of};
+use sia_parts::{EdgeNumber, EdgeNumbers, kind_in, source_of, target_of};
 use std::alloc::{AllocError, Global};
 
 /// Whether the edge is of the kind rw, and its ends overlap.
@@ -40,24 +41,44 @@ fn link_of(txns: &[TxnId], n: EdgeNumber) -> Link
     }
 }
 
-/// The ends of each such edge.
+/// Adds the ends of each such edge of a stretch.
 #[inline(never)]
+fn add_ends(
+    ix: &Index,
+    txns: &[TxnId],
+    spans: &[Span],
+    numbers: &[EdgeNumber],
+    links: &mut Vec<Link>,
+) -> Result<(), AllocError>
+    requires spans { AreSpans ix.now txns.now spans.now }
+    requires packed { (keys : List ℕ) × All (IsPacked txns.now keys) numbers.now }
+    ensures { OnOk result ((keys : List ℕ) (before : List Edge) → AreEnds (Overlap ix.now) before links.old.items
+        → AreEnds (Overlap ix.now) (before ++ map (unpacked txns.now keys) numbers.now) links.new.items) }
+{
+    for n in numbers {
+        if is_vulnerable(ix, txns, spans, *n) {
+            links.push(link_of(txns, *n))?;
+        }
+    }
+    Ok(())
+}
+
+/// The ends of each such edge.
 fn ends_of_numbers(
     alloc: Global,
     ix: &Index,
     txns: &[TxnId],
     spans: &[Span],
-    numbers: &[EdgeNumber],
+    numbers: &EdgeNumbers,
 ) -> Result<Vec<Link>, AllocError>
     requires spans { AreSpans ix.now txns.now spans.now }
     requires packed { (keys : List ℕ) × All (IsPacked txns.now keys) numbers.now }
     ensures { IfOk result (λ links. (keys : List ℕ) → AreEnds (Overlap ix.now) (map (unpacked txns.now keys) numbers.now) links.items) }
 {
+    let stretches = numbers.stretches();
     let mut links = Vec::new(alloc);
-    for n in numbers {
-        if is_vulnerable(ix, txns, spans, *n) {
-            links.push(link_of(txns, *n))?;
-        }
+    for stretch in stretches {
+        add_ends(ix, txns, spans, stretch, &mut links)?;
     }
     Ok(links)
 }
@@ -67,7 +88,7 @@ pub(crate) fn vulnerable_of_numbers(
     alloc: Global,
     ix: &Index,
     txns: &[TxnId],
-    numbers: &[EdgeNumber],
+    numbers: &EdgeNumbers,
 ) -> Result<Vec<Link>, AllocError>
     requires txns { ListsAscending (IsCommitted ix.now) txns.now }
     requires numbers { (keys : List ℕ) × AreEdgeNumbers ix.now txns.now keys (λ _. ⊤) numbers.now }

@@ -1,6 +1,6 @@
 -- The numbers of the fans stand for the edges of the part.
 use Rattle.std.proofs.Common.{◌≡◌, ◌≢◌, ◌⊎◌, inl, inr, ℕ, ◌+◌, ◌*◌, ◌<◌, ◌≤◌, List, refl, ap, sym, subst, ◌∙◌, arith}
-use Rattle.std.specs.Prelude.{◌↔◌, All, AllPairs, Contains, slice_index, slice_index_or}
+use Rattle.std.specs.Prelude.{◌↔◌, All, Contains, slice_index, slice_index_or}
 use Rattle.std.proofs.lemmas.List.{get_or_default}
 use Rattle.std.proofs.lemmas.List.Elements.{Contains-get_or}
 use Rattle.sia_events.specs.declared.event.Event.{Event}
@@ -13,7 +13,6 @@ use Rattle.sia_events.proofs.WellFormed.{few_events, one_commit}
 use Rattle.sia_index.specs.declared.info.KeyVersion.{KeyVersion}
 use Rattle.sia_index.specs.Info.{AreVersionsWithin, AreWrittenKeys, IsKeyAt}
 use Rattle.sia_index.proofs.KeyChains.{key_number}
-use Rattle.sia_index.proofs.Ordered.{ascends}
 use Rattle.sia_parts.specs.declared.cutting.Part.{Part}
 use Rattle.sia_parts.specs.declared.ends.End.{End}
 use Rattle.sia_parts.specs.declared.finding.Edge.{Edge}
@@ -21,7 +20,7 @@ use Rattle.sia_parts.specs.declared.finding.Kind.{Kind}
 use Rattle.sia_parts.specs.declared.finding.Kind.TheVariants.{Ww, Wr, Rw}
 use Rattle.sia_parts.specs.declared.gaps.Gap.{Gap}
 use Rattle.sia_parts.specs.declared.spans.Span.{Span}
-use Rattle.sia_parts.specs.EdgeNumbers.{IsCommittedAt, AreEdgeNumbers}
+use Rattle.sia_parts.specs.EdgeNumbers.{IsCommittedAt, StandForEdges}
 use Rattle.sia_parts.specs.Entries.{IsEdge, kind_number}
 use Rattle.sia_parts.specs.Gaps.{FromGap}
 use Rattle.sia_parts.specs.Packing.{IsPacked, Packs, unpacked}
@@ -32,8 +31,7 @@ use Rattle.sia_parts.specs.Fans.{IsNumberOfSpans, IsSeenNumber, IsMissedNumber, 
 use Rattle.sia_parts.proofs.EndLemmas.{one_committed_number}
 use Rattle.sia_parts.proofs.FewNumbers.{few_committed, few_keys}
 use Rattle.sia_parts.proofs.Committing.{committed_number}
-use Rattle.sia_parts.proofs.PackedEdges.{packs, unpacked_ascend}
-use Rattle.sia_parts.proofs.FanEdges.{in_map, map_in}
+use Rattle.sia_parts.proofs.PackedEdges.{packs}
 use Rattle.sia_parts.proofs.Sources.{edges_are}
 
 -- the span of a version
@@ -318,19 +316,12 @@ module _ (h : List Event) (wf : IsWellFormed h) where
         ]),
       )
 
-      -- so numbers that rise, and are those found, stand for the edges
-      pub numbers_stand : (numbers : List ℕ) → AllPairs (λ m n. m < n) numbers → ((n : ℕ) → Contains numbers n ↔ IsNumberOfSpans h makers spans gaps n) → AreEdgeNumbers h txns keys (IsInPart part) numbers
-      numbers_stand numbers rise are = record {
-        each = packed;
-        ascending = rise;
-        edges = record {
-          ascending = unpacked_ascend txns keys (ascends (λ (t : ℕ). t) (IsCommitted h) txns txns_are) (ascends (λ (k : ℕ). k) (λ k. (t : ℕ) × Wrote h t k) keys keys_are) numbers packed rise;
-          each = λ e. (
-            (λ c. let at = in_map (unpacked txns keys) numbers e 0 c in (edges_met e).0 (at.0, (are at.0).0 at.1, at.2)),
-            (λ edge. let m = (edges_met e).1 edge in map_in (unpacked txns keys) numbers m.0 e ((are m.0).1 m.1) m.2),
-          );
-        };
+      -- so what tells these numbers stands for the edges
+      pub numbers_stand : (P : ℕ → Type 0) → ((n : ℕ) → P n ↔ IsNumberOfSpans h makers spans gaps n) → StandForEdges h txns keys (IsInPart part) P
+      numbers_stand P are = record {
+        packed = λ n has. found_packed n ((are n).0 has);
+        each = λ e. (
+          (λ m. (edges_met e).0 (m.0, (are m.0).0 m.1, m.2)),
+          (λ edge. let m = (edges_met e).1 edge in (m.0, (are m.0).1 m.1, m.2)),
+        );
       }
-        where
-          packed : All (IsPacked txns keys) numbers
-          packed k d below = found_packed (slice_index_or numbers k d) ((are (slice_index_or numbers k d)).0 (Contains-get_or numbers k d below))

@@ -25,7 +25,6 @@ pub mod PackedEdges
 pub mod Widening
 pub mod FewNumbers
 pub mod Committing
-pub mod NumberLists
 pub mod FoundFields
 pub mod EndLemmas
 pub mod Giving
@@ -33,3 +32,8 @@ pub mod FanEdges
 pub mod ReaderNumbers
 pub mod FreePlaces
 pub mod FoundEdges
+pub mod StandingNumbers
+pub mod BetweenPlaces
+pub mod BlockNumbers
+pub mod SeamLemmas
+pub mod KeptStretches

@@ -1,29 +1,63 @@
--- What the parts found, with the edges' numbers in one list for each part, and how those lists are merged stretch by stretch.
-use Rattle.std.specs.Prelude.{◌≡◌, ◌+◌, ℕ, List, [], length, map, slice_index_or, All, ⊤}
-use Rattle.std.specs.Global.{Vec}
+-- What the parts found, where the edges of a part can still be fans, and the numbers of all edges, made stretch by stretch.
+use Rattle.std.specs.Prelude.{◌≡◌, ◌↔◌, ℕ, ◌-◌, ◌<◌, ◌≤◌, List, length, slice_index, All, AllPairs, Contains, ⊤}
 use Rattle.sia_events.specs.declared.event.Event.{Event}
+use Rattle.sia_parts.specs.declared.fans.Fan.{Fan}
 use Rattle.sia_parts.specs.declared.gathering_numbers.Gathering.{Gathering}
-use Rattle.sia_parts.specs.Blocks.{IsStretch}
-use Rattle.sia_parts.specs.EdgeNumbers.{AreEdgeNumbers}
-use Rattle.sia_parts.specs.Entries.{number_rank}
+use Rattle.sia_parts.specs.declared.part_edges.PartEdges.{PartEdges}
+use Rattle.sia_parts.specs.declared.part_edges.PartEdges.TheVariants.{Fanned, Numbered}
+use Rattle.sia_parts.specs.declared.part_edges.PartFound.{PartFound}
+use Rattle.sia_parts.specs.EdgeNumbers.{StandForEdges}
+use Rattle.sia_parts.specs.Ends.{HasDigits}
+use Rattle.sia_parts.specs.Fans.{IsFanNumber}
 use Rattle.sia_parts.specs.Findings.{ListsBadReads, ListsBadWrites, ListsUnexplained}
-use Rattle.sia_parts.specs.Merging.{IsMerged}
+use Rattle.sia_parts.specs.Packing.{source_number}
+use Rattle.sia_parts.specs.Sights.{FromSome}
 
--- the lists of the edges' numbers
-abbrev pub lists_in : Gathering → List (List ℕ)
-lists_in g = map (λ list. list.items) g.edges.items
+-- the fans come by their sources
+abbrev pub RiseBySource : List Fan → Type 0
+RiseBySource fans = AllPairs (λ f g. f.src ≤ g.src) fans
 
--- what is found at all keys, where the numbers of the edges are those of the lists, merged
+-- n is the number of one of the edges
+abbrev pub IsNumberIn : PartEdges → ℕ → Type 0
+IsNumberIn (Numbered numbers) n = Contains numbers.items n
+IsNumberIn (Fanned f) n = FromSome (IsFanNumber f.makers.items f.readers.items) f.fans.items n
+
+-- their numbers can be told source by source
+abbrev pub CanSpread : PartEdges → Type 0
+CanSpread (Numbered numbers) = AllPairs (λ m n. m < n) numbers.items
+CanSpread (Fanned f) = All HasDigits f.makers.items × All HasDigits f.readers.items × RiseBySource f.fans.items
+
+-- and its source stands from the one place to before the other
+abbrev pub IsNumberBetween : PartEdges → ℕ → ℕ → ℕ → Type 0
+IsNumberBetween edges from to n = IsNumberIn edges n × (from ≤ source_number n) × (source_number n < to)
+
+-- what is found at these keys
+pub record IsPartFound (h : List Event) (txns keys : List ℕ) (Within : ℕ → Type 0) (found : PartFound) : Type 0 where
+  pub bad_reads : ListsBadReads h Within found.bad_reads.items
+  pub bad_writes : ListsBadWrites h Within found.bad_writes.items
+  pub unexplained : ListsUnexplained h Within found.unexplained.items
+  pub edges : StandForEdges h txns keys Within (IsNumberIn found.edges)
+  pub spread : CanSpread found.edges
+
+-- n is the number of an edge of some part
+abbrev pub IsNumberOfSome : List PartEdges → ℕ → Type 0
+IsNumberOfSome parts n = FromSome IsNumberIn parts n
+
+-- what is found at all keys, where the edges are those of the parts
 pub record IsGathering (h : List Event) (txns keys : List ℕ) (g : Gathering) : Type 0 where
   pub bad_reads : ListsBadReads h (λ _. ⊤) g.bad_reads.items
   pub bad_writes : ListsBadWrites h (λ _. ⊤) g.bad_writes.items
   pub unexplained : ListsUnexplained h (λ _. ⊤) g.unexplained.items
-  pub edges : (numbers : List ℕ) → IsMerged number_rank (lists_in g) numbers → AreEdgeNumbers h txns keys (λ _. ⊤) numbers
+  pub edges : StandForEdges h txns keys (λ _. ⊤) (IsNumberOfSome g.edges.items)
 
--- a place in each list
-abbrev pub AreRows : {A : Type 0} → List (Vec A) → List (Vec ℕ) → Type 0
-AreRows lists places = All (λ row. length row.items ≡ length lists) places
+-- the numbers of the edges whose sources stand from the one place to before the other, ascending
+pub record AreNumbersBetween (parts : List PartEdges) (from to : ℕ) (numbers : List ℕ) : Type 0 where
+  pub ascending : AllPairs (λ m n. m < n) numbers
+  pub each : (n : ℕ) → Contains numbers n ↔ (IsNumberOfSome parts n × (from ≤ source_number n) × (source_number n < to))
 
--- xs is what the lists have from the places of this number to the next ones, in order
-abbrev pub IsStretchAt : {A : Type 0} → (A → List ℕ) → List (Vec A) → List (Vec ℕ) → ℕ → List A → Type 0
-IsStretchAt rank lists places number xs = IsStretch rank (map (λ list. list.items) lists) (slice_index_or (map (λ row. row.items) places) number []) (slice_index_or (map (λ row. row.items) places) (number + 1) []) xs
+-- places of sources, from the first to the end of so many
+pub record AreSeams (sources : ℕ) (places : List ℕ) : Type 0 where
+  pub some : 0 < length places
+  pub first : slice_index places 0 ≡ 0
+  pub last : slice_index places (length places - 1) ≡ sources
+  pub ascending : AllPairs (λ a b. a < b) places

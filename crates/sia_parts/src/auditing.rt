@@ -14,6 +14,7 @@ use crate::findings::PartFindings;
 use crate::gaps::{Gap, joined_gaps};
 use crate::nearby::are_apart;
 use crate::numbered::find_in_part;
+use crate::numbering::numbers_of;
 use crate::numbers::edges_of_numbers;
 use crate::ordering::put_in_order;
 use crate::pairs::put_bad_writes;
@@ -45,13 +46,10 @@ pub fn audit_part(
     // The length tells that the history is well-formed.
     let _ = h.len();
     let committed = Committed::of(alloc, ix)?;
+    let keys = ix.written_keys();
     let found = find_in_part(alloc, h, ix, &committed, part)?;
-    let edges = edges_of_numbers(
-        alloc,
-        committed.ids(),
-        ix.written_keys(),
-        found.edges.as_slice(),
-    )?;
+    let numbers = numbers_of(alloc, found.edges)?;
+    let edges = edges_of_numbers(alloc, committed.ids(), keys, numbers.as_slice())?;
     Ok(PartFindings {
         bad_reads: found.bad_reads,
         bad_writes: found.bad_writes,

@@ -15,7 +15,7 @@ use sia_index::{Index, KeyVersion};
 use std::alloc::Global;
 
 /// A transaction and a key, by their numbers: it made a version of the key, or saw some.
-#[derive(Clone, Copy, PartialEq, Eq, PartialOrd, Ord)]
+#[derive(Clone, Copy, Debug, PartialEq, Eq, PartialOrd, Ord)]
 pub(crate) struct End {
     pub(crate) key: Key,
     /// The commit of the version, or the greatest commit of those that it saw.

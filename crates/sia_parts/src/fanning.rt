@@ -26,7 +26,8 @@ pub(crate) fn numbers_of_fans(
     ensures each { IfOk result (λ numbers. (n : ℕ) → Contains numbers.items n ↔ FromSome (IsFanNumber makers.now readers.now) fans.now n) }
 {
     let mut numbers = Vec::with_capacity(alloc, count(fans))?;
-    let ordered = put_runs(alloc, makers, readers, fans, &mut numbers)?;
+    let mut run = Vec::new(alloc);
+    let ordered = put_runs(makers, readers, fans, &mut run, &mut numbers)?;
     if !ordered {
         put_in_order(&mut numbers);
     }
@@ -42,12 +43,12 @@ pub(crate) fn count(fans: &[Fan]) -> usize {
     count
 }
 
-// Adds the numbers of the fans, run by run, and tells whether those of each run follow those before.
-fn put_runs(
-    alloc: Global,
+/// Adds the numbers of the fans, run by run, and tells whether those of each run follow those before. The run is room for them.
+pub(crate) fn put_runs(
     makers: &[End],
     readers: &[End],
     fans: &[Fan],
+    run: &mut Vec<u64>,
     numbers: &mut Vec<u64>,
 ) -> Result<bool, NoMemory>
     requires makers { All HasDigits makers.now }
@@ -55,20 +56,19 @@ fn put_runs(
     ensures adds { OnOk result (Adds (FromSome (IsFanNumber makers.now readers.now) fans.now) numbers.old.items numbers.new.items) }
     ensures ascends { IfOk result (λ ordered. IsTrue ordered → AllPairs (λ m n. m < n) numbers.old.items → AllPairs (λ m n. m < n) numbers.new.items) }
 {
-    let mut run = Vec::new(alloc);
     let mut ordered = true;
     let mut from = 0;
     while from < fans.len() {
         let to = run_end(fans, from);
-        let follows = put_run(makers, readers, &fans[from..to], &mut run, numbers)?;
+        let follows = put_run(makers, readers, &fans[from..to], run, numbers)?;
         ordered = both(ordered, follows);
         from = to;
     }
     Ok(ordered)
 }
 
-// Whether both are so.
-fn both(first: bool, second: bool) -> bool
+/// Whether both are so.
+pub(crate) fn both(first: bool, second: bool) -> bool
     ensures first { IsTrue result → IsTrue first }
     ensures second { IsTrue result → IsTrue second }
 {
@@ -110,8 +110,8 @@ fn put_run(
     Ok(follows)
 }
 
-// Whether the first number of the run is greater than the last of those before.
-fn follows(numbers: &[u64], run: &[u64]) -> bool
+/// Whether the first number of the run is greater than the last of those before.
+pub(crate) fn follows(numbers: &[u64], run: &[u64]) -> bool
     ensures { IsTrue result → (d e : ℕ) → 0 < length numbers.now → 0 < length run.now → slice_index_or numbers.now (length numbers.now - 1) d < slice_index_or run.now 0 e }
 {
     if numbers.is_empty() {

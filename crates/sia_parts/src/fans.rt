@@ -17,7 +17,7 @@ use std::alloc::Global;
 
 /// The edges of one kind from a transaction, by its number, to the ends from one place to below another. Its ends are
 /// readers where the kind is wr, and else makers.
-#[derive(Clone, Copy, PartialEq, Eq, PartialOrd, Ord)]
+#[derive(Clone, Copy, Debug, PartialEq, Eq, PartialOrd, Ord)]
 pub(crate) struct Fan {
     pub(crate) src: u32,
     pub(crate) kind: Kind,

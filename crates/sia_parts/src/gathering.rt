@@ -35,7 +35,7 @@ pub fn gather(alloc: Global, parts: Vec<PartFindings>) -> Result<Findings, NoMem
 }
 
 /// The lists of the parts, in order.
-fn lists_of(alloc: Global, parts: Vec<PartFindings>) -> Result<PartLists<Edge>, NoMemory>
+fn lists_of(alloc: Global, parts: Vec<PartFindings>) -> Result<PartLists<Vec<Edge>>, NoMemory>
     ensures bad_reads { IfOk result (λ lists. lists.bad_reads.items ≡ map (λ part. part.bad_reads) parts.items) }
     ensures bad_writes { IfOk result (λ lists. lists.bad_writes.items ≡ map (λ part. part.bad_writes) parts.items) }
     ensures unexplained { IfOk result (λ lists. lists.unexplained.items ≡ map (λ part. part.unexplained) parts.items) }
@@ -48,8 +48,8 @@ fn lists_of(alloc: Global, parts: Vec<PartFindings>) -> Result<PartLists<Edge>, 
             part.bad_reads,
             part.bad_writes,
             part.unexplained,
-            part.edges,
         )?;
+        lists.edges.push(part.edges)?;
     }
     Ok(lists)
 }

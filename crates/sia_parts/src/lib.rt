@@ -2,6 +2,7 @@
 #![tactic(auto)]
 
 mod auditing;
+mod between;
 mod blocks;
 mod both_ends;
 mod bounds;
@@ -21,10 +22,12 @@ mod looking;
 mod merging;
 mod nearby;
 mod numbered;
+mod numbering;
 mod numbers;
 mod ordering;
 mod packing;
 mod pairs;
+mod part_edges;
 mod part_lists;
 mod ranges;
 mod ranked;
@@ -34,6 +37,7 @@ mod spans;
 mod stretches;
 mod stretching;
 mod unseen;
+mod weighing;
 
 pub use auditing::audit_part;
 pub use committed::Committed;
@@ -45,6 +49,7 @@ pub use gathering_numbers::{Gathering, gather_found};
 pub use laws::one_part;
 pub use numbered::find_in_part;
 pub use numbers::{EdgeNumber, edge_of, edges_of_numbers, key_of, kind_in, source_of, target_of};
+pub use part_edges::{PartEdges, PartFound, SourceFans};
 pub use stretches::EdgeNumbers;
 pub use stretching::Seams;
 

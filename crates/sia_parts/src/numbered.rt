@@ -3,14 +3,14 @@ ghost use Rattle.std.specs.Prelude.{◌≡◌, ℕ, List, IfOk};
 ghost use Rattle.sia_events.specs.Lists.{ListsAscending};
 ghost use Rattle.sia_events.specs.Transactions.{IsCommitted};
 ghost use Rattle.sia_index.specs.Info.{AreWrittenKeys};
-ghost use Rattle.sia_parts.specs.EdgeNumbers.{IsFound};
+ghost use Rattle.sia_parts.specs.Gathering.{IsPartFound};
 ghost use Rattle.sia_parts.specs.Parts.{IsInPart};
 
 use crate::auditing::{bad_writes_of, seen_of, unexplained_of};
 use crate::committed::Committed;
 use crate::cutting::Part;
-use crate::edges::numbers_of;
-use crate::findings::Found;
+use crate::edges::edges_of;
+use crate::part_edges::PartFound;
 use sia_events::{History, NoMemory};
 use sia_index::Index;
 use std::alloc::Global;
@@ -22,18 +22,18 @@ pub fn find_in_part(
     ix: &Index,
     committed: &Committed,
     part: Part,
-) -> Result<Found, NoMemory>
+) -> Result<PartFound, NoMemory>
     requires index { ix.now ≡ h.now }
     requires committed { ListsAscending (IsCommitted ix.now) committed.now }
-    ensures { IfOk result (λ found. (keys : List ℕ) → AreWrittenKeys h.now keys → IsFound h.now committed.now keys (IsInPart part) found) }
+    ensures { IfOk result (λ found. (keys : List ℕ) → AreWrittenKeys h.now keys → IsPartFound h.now committed.now keys (IsInPart part) found) }
 {
     // The length tells that the history is well-formed.
     let _ = h.len();
     let seen = seen_of(alloc, h, ix, part)?;
     let bad_writes = bad_writes_of(alloc, ix, part)?;
     let unexplained = unexplained_of(alloc, h, ix, part, &seen.bad_reads)?;
-    let edges = numbers_of(alloc, ix, committed, part, &seen.spans, &seen.gaps)?;
-    Ok(Found {
+    let edges = edges_of(alloc, ix, committed, part, &seen.spans, &seen.gaps)?;
+    Ok(PartFound {
         bad_reads: seen.bad_reads,
         bad_writes,
         unexplained,

@@ -1,22 +1,21 @@
 //! What all parts found, in a list for each kind of finding.
-ghost use Rattle.std.specs.Prelude.{◌≡◌, [], ◌∷◌, ◌++◌, IfOk, OnOk};
+ghost use Rattle.std.specs.Prelude.{◌≡◌, [], ◌∷◌, ◌++◌, OnOk};
 
 use crate::finding::{BadRead, BadWrite, Unexplained};
-use crate::ranked::Ranked;
 use sia_events::NoMemory;
 use std::alloc::Global;
 
 /// The lists of all parts, by what they list.
 #[derive(Drop)]
-pub(crate) struct PartLists<E> {
+pub(crate) struct PartLists<V> {
     pub(crate) bad_reads: Vec<Vec<BadRead>>,
     pub(crate) bad_writes: Vec<Vec<BadWrite>>,
     pub(crate) unexplained: Vec<Vec<Unexplained>>,
-    pub(crate) edges: Vec<Vec<E>>,
+    pub(crate) edges: Vec<V>,
 }
 
 /// No lists.
-pub(crate) fn no_lists<E: Ranked>(alloc: Global) -> PartLists<E>
+pub(crate) fn no_lists<V: Drop>(alloc: Global) -> PartLists<V>
     ensures bad_reads { result.bad_reads.items ≡ [] }
     ensures bad_writes { result.bad_writes.items ≡ [] }
     ensures unexplained { result.unexplained.items ≡ [] }
@@ -30,22 +29,20 @@ pub(crate) fn no_lists<E: Ranked>(alloc: Global) -> PartLists<E>
     }
 }
 
-/// Adds the lists of a part.
-pub(crate) fn add_lists<E: Ranked>(
-    lists: &mut PartLists<E>,
+/// Adds the lists of a part, but for its edges.
+pub(crate) fn add_lists<V: Drop>(
+    lists: &mut PartLists<V>,
     bad_reads: Vec<BadRead>,
     bad_writes: Vec<BadWrite>,
     unexplained: Vec<Unexplained>,
-    edges: Vec<E>,
 ) -> Result<(), NoMemory>
     ensures bad_reads { OnOk result (lists.new.bad_reads.items ≡ lists.old.bad_reads.items ++ bad_reads ∷ []) }
     ensures bad_writes { OnOk result (lists.new.bad_writes.items ≡ lists.old.bad_writes.items ++ bad_writes ∷ []) }
     ensures unexplained { OnOk result (lists.new.unexplained.items ≡ lists.old.unexplained.items ++ unexplained ∷ []) }
-    ensures edges { OnOk result (lists.new.edges.items ≡ lists.old.edges.items ++ edges ∷ []) }
+    ensures edges { OnOk result (lists.new.edges.items ≡ lists.old.edges.items) }
 {
     lists.bad_reads.push(bad_reads)?;
     lists.bad_writes.push(bad_writes)?;
     lists.unexplained.push(unexplained)?;
-    lists.edges.push(edges)?;
     Ok(())
 }

@@ -1,6 +1,6 @@
 //! The numbers of all edges, in stretches that workers make side by side.
-ghost use Rattle.std.specs.Prelude.{◌≡◌, ◌<◌, AllPairs, IfOk};
-ghost use Rattle.sia_parts.specs.Stretches.{AreStretches, numbers_in};
+ghost use Rattle.std.specs.Prelude.{◌≡◌, ◌<◌, All, AllPairs, IfOk};
+ghost use Rattle.sia_parts.specs.Stretches.{AreBefore, AreStretches, numbers_in};
 
 use crate::numbers::EdgeNumber;
 use sia_events::NoMemory;
@@ -36,6 +36,16 @@ impl EdgeNumbers {
             stretches.push(numbers)?;
         }
         Ok(EdgeNumbers { stretches })
+    }
+
+    /// The numbers of stretches, of which each goes on where the one before it ends. Those with none are left out.
+    pub fn of_stretches(mut stretches: Vec<Vec<EdgeNumber>>) -> EdgeNumbers
+        requires ascending { All (λ s. AllPairs (λ m n. m < n) s.items) stretches.items }
+        requires apart { AllPairs (λ s t. AreBefore s.items t.items) stretches.items }
+        ensures { result ≡ numbers_in stretches.items }
+    {
+        stretches.retain(|stretch| !stretch.is_empty());
+        EdgeNumbers { stretches }
     }
 
     /// These stretches.

@@ -1,9 +1,11 @@
 //! Cuts and findings worked out by hand.
-ghost use Rattle.std.specs.Prelude.{◌≡◌, ◌<◌, []};
+ghost use Rattle.std.specs.Prelude.{◌≡◌, ◌<◌, ℕ, []};
+ghost use Rattle.std.specs.Global.{Vec as vec};
 
 use super::*;
 use crate::blocks::merge_by_blocks;
 use crate::merging::{merge_all, merge_by_twos};
+use crate::numbering::numbers_of;
 use sia_events::{History, read_history};
 use sia_index::Index;
 use sia_index::make::index;
@@ -72,17 +74,17 @@ fn nothing_in_two_parts(rt: HostRuntime) -> Result<(), Fail> {
     Ok(())
 }
 
-fn none_found(alloc: Global) -> Found
+fn none_found(alloc: Global) -> PartFound
     ensures bad_reads { result.bad_reads.items ≡ [] }
     ensures bad_writes { result.bad_writes.items ≡ [] }
     ensures unexplained { result.unexplained.items ≡ [] }
-    ensures edges { result.edges.items ≡ [] }
+    ensures edges { (numbers : vec ℕ) × (result.edges ≡ PartEdges.Numbered numbers) × (numbers.items ≡ []) }
 {
-    Found {
+    PartFound {
         bad_reads: Vec::new(alloc),
         bad_writes: Vec::new(alloc),
         unexplained: Vec::new(alloc),
-        edges: Vec::new(alloc),
+        edges: PartEdges::Numbered(Vec::new(alloc)),
     }
 }
 
@@ -91,11 +93,11 @@ fn none_found_in_two_parts(rt: HostRuntime) -> Result<(), Fail> {
     let mut parts = Vec::new(rt.alloc());
     parts.push(none_found(rt.alloc()))?;
     parts.push(none_found(rt.alloc()))?;
-    let found = gather_found(rt.alloc(), parts).ok().ok_or("no memory")?;
+    let found = gather_found(rt.alloc(), parts, 0).ok().ok_or("no memory")?;
     assert!(rt; found.bad_reads.is_empty());
     assert!(rt; found.bad_writes.is_empty());
     assert!(rt; found.unexplained.is_empty());
-    assert!(rt; found.edges.is_empty());
+    assert!(rt; found.edges.stretches().is_empty());
     Ok(())
 }
 
@@ -236,10 +238,14 @@ fn numbers_in(alloc: Global, h: &History, ix: &Index) -> Result<Vec<EdgeNumber>,
     let Ok(committed) = Committed::of(alloc, ix) else {
         return Err(Fail::from("memory for the list"));
     };
-    let found = find_in_part(alloc, h, ix, &committed, part(0, u64::MAX))
+    let _ = ix.written_keys();
+    let Ok(found) = find_in_part(alloc, h, ix, &committed, part(0, u64::MAX)) else {
+        return Err(Fail::from("memory for a part"));
+    };
+    let numbers = numbers_of(alloc, found.edges)
         .ok()
-        .ok_or("memory for a part")?;
-    Ok(found.edges)
+        .ok_or("memory for numbers")?;
+    Ok(numbers)
 }
 
 // Of the committed 2 and 5 the first is number 0, though 1 comes before it, and the second is number 1: the edge from 2 to

@@ -1,5 +1,5 @@
 //! Edges turned into numbers, so that what is worked out by hand is asked of both.
-ghost use Rattle.std.specs.Prelude.{◌≢◌, ◌<◌, All, AllPairs, IsTrue};
+ghost use Rattle.std.specs.Prelude.{◌≡◌, ◌≢◌, ◌<◌, All, AllPairs, IfOk, IsTrue};
 ghost use Rattle.std.specs.List.Sorted.{IsStrictlyIncreasing};
 ghost use Rattle.sia_parts.specs.Packing.{IsPacked, unpacked};
 
@@ -7,7 +7,7 @@ use super::{ascends, number};
 use crate::settling::Verdict;
 use crate::settling_numbers::settle_numbers;
 use sia_events::{Key, NoMemory, TxnId};
-use sia_parts::{Edge, EdgeNumber, edge_of, key_of, source_of, target_of};
+use sia_parts::{Edge, EdgeNumber, EdgeNumbers, edge_of, key_of, source_of, target_of};
 use std::alloc::Global;
 use std::process::Abort;
 
@@ -86,6 +86,15 @@ fn keys_of(alloc: Global, edges: &[Edge]) -> Result<Vec<Key>, NoMemory> {
     Ok(keys)
 }
 
+/// The numbers in one stretch, or in none where there are none.
+pub(crate) fn in_one_stretch(alloc: Global, numbers: &[EdgeNumber]) -> Result<EdgeNumbers, NoMemory>
+    requires { AllPairs (λ m n. m < n) numbers.now }
+    ensures { IfOk result (λ all. all ≡ numbers.now) }
+{
+    let stretch = Vec::from_slice(alloc, numbers)?;
+    EdgeNumbers::of(alloc, stretch)
+}
+
 /// The verdict of numbers.
 fn settled(
     alloc: Global,
@@ -99,7 +108,8 @@ fn settled(
     requires ascending { AllPairs (λ m n. m < n) numbers.now }
     requires parted { All (λ n. (unpacked ids.now keys.now n).src ≢ (unpacked ids.now keys.now n).dst) numbers.now }
 {
-    settle_numbers(alloc, ids, keys, numbers)
+    let all = in_one_stretch(alloc, numbers)?;
+    settle_numbers(alloc, ids, keys, &all)
 }
 
 /// The verdict of the edges as numbers, where these are as `settle_numbers` wants them.

@@ -11,6 +11,7 @@ use crate::firsts::commit_of;
 use crate::passing::passes;
 use crate::pivot::Pivot;
 use crate::pivoting_numbers::pivots_of_numbers;
+use crate::tests::numbered::in_one_stretch;
 use crate::tests::structures::{findings, shown};
 use sia_events::{Key, NoMemory, TxnId, read_history};
 use sia_index::{Index, make};
@@ -100,7 +101,8 @@ fn judged(alloc: Global, text: &[u8], numbers: &[EdgeNumber]) -> Result<(Vec<Piv
     if !stand_for(alloc, &txns, keys, numbers, f.edges.as_slice())? {
         return Err(Fail::from("the numbers of the edges"));
     }
-    let found = pivots_of_numbers(alloc, &ix, &txns, numbers)?;
+    let all = in_one_stretch(alloc, numbers)?;
+    let found = pivots_of_numbers(alloc, &ix, &txns, &all)?;
     let passed = passes(&f.bad_reads, &f.bad_writes, &found);
     Ok((found, passed))
 }
@@ -115,7 +117,9 @@ const fn number(source: u8, target: u8, kind: u8, key: u8) -> EdgeNumber {
 
 #[test]
 fn pivots_by_numbers(rt: HostRuntime) -> Result<(), Fail> {
-    let cases: [(&[u8], &[EdgeNumber], &str, bool); 6] = [
+    let cases: [(&[u8], &[EdgeNumber], &str, bool); 7] = [
+        // No edge, and so no stretch.
+        (b"w1[1] c1", &[], "", true),
         // Write skew: each has an edge to the other.
         (
             b"r1[1:0] r1[2:0] r2[1:0] r2[2:0] w1[2] w2[1] c1 c2",

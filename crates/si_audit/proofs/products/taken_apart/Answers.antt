@@ -1,4 +1,4 @@
-use Rattle.std.proofs.Common.{◌≡◌, List, slice_index_or, ap, ◌∙◌}
+use Rattle.std.proofs.Common.{List, slice_index_or, ap, ◌∙◌}
 use Rattle.std.specs.List.{remove}
 use Rattle.si_audit.specs.declared.products.Product.{Product}
 use Rattle.si_audit.proofs.products.taken_apart.Goals as goal

@@ -1,6 +1,6 @@
 -- The block is what was taken, in another order.
 use Rattle.std.proofs.Common.{◌≡◌, ◌++◌, map, sym, ap, subst, ◌∙◌, append-nil, append_assoc}
-use Rattle.sia_parts.specs.Blocks.{HoldsSame, HoldsTaken}
+use Rattle.sia_parts.specs.Blocks.{HoldsTaken}
 use Rattle.sia_parts.proofs.Taking.{same_taken}
 use Rattle.sia_parts.proofs.blocks.add_block.Goals as goal
 

@@ -1,5 +1,5 @@
 -- Nothing is taken before the first block.
-use Rattle.std.proofs.Common.{◌≡◌, [], ◌++◌, map, ap, sym, subst, ◌∙◌}
+use Rattle.std.proofs.Common.{◌≡◌, ◌++◌, map, ap, sym, subst, ◌∙◌}
 use Rattle.sia_parts.specs.Blocks.{IsStretch}
 use Rattle.sia_parts.proofs.Taking.{nothing_yet}
 use Rattle.sia_parts.proofs.blocks.merge_between.Goals as goal

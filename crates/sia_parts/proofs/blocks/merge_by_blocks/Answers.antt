@@ -1,5 +1,5 @@
 -- From the start of each list to its end.
-use Rattle.std.proofs.Common.{◌≡◌, ℕ, ◌<◌, ◌≤◌, List, [], length, map, get_or, replicate, sym, ap, subst, ◌∙◌, arith, rules}
+use Rattle.std.proofs.Common.{◌≡◌, [], length, map, get_or, replicate, ap, subst, ◌∙◌, arith, rules}
 use Rattle.std.specs.Prelude.{MatchOption, ⊤}
 use Rattle.std.proofs.lemmas.List.{length-map, get_or-map, get_or-replicate}
 use Rattle.sia_parts.specs.Blocks.{IsStretch}

@@ -1,5 +1,5 @@
 -- The stretch from the place to the end is taken.
-use Rattle.std.proofs.Common.{◌≡◌, ◌++◌, ◌-◌, List, [], map, length, take, drop, slice_index_or, slice_set, sym, ap, subst, ◌∙◌, arith, append_assoc}
+use Rattle.std.proofs.Common.{◌≡◌, ◌++◌, ◌-◌, [], map, take, drop, slice_index_or, slice_set, sym, ap, subst, ◌∙◌, arith, append_assoc}
 use Rattle.std.proofs.lemmas.List.{length-map, get_or-map}
 use Rattle.sia_parts.specs.Blocks.{HoldsTaken}
 use Rattle.sia_parts.proofs.BothEnds.{up_to}

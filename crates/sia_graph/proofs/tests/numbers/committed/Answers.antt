@@ -1,8 +1,8 @@
-use Rattle.std.proofs.Common.{◌∷◌, [], ℕ, List, ap, refl, sym, ◌∙◌, subst}
+use Rattle.std.proofs.Common.{◌∷◌, [], ap, refl, ◌∙◌}
 use Rattle.sia_events.specs.declared.event.Event.TheVariants.{Commit}
 use Rattle.sia_events.specs.Transactions.{IsCommitted}
 use Rattle.sia_graph.proofs.Listed.{listed_as}
-use Rattle.sia_graph.proofs.Picked.{ArePicked, none_picked, picked_more, picked_same, all_picked}
+use Rattle.sia_graph.proofs.Picked.{picked_more, picked_same, all_picked}
 use Rattle.sia_graph.proofs.tests.numbers.committed.Goals as goal
 use Rattle.sia_graph.proofs.tests.numbers.committed.Goals.{in-Some+in_ok-push, in_default}
 

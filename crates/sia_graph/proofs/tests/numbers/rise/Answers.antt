@@ -1,4 +1,4 @@
-use Rattle.std.proofs.Common.{◌∷◌, [], ◌<◌, inl, inr, ℕ, refl, arith}
+use Rattle.std.proofs.Common.{◌∷◌, [], ◌<◌, inl, inr, ℕ, arith}
 use Rattle.sia_events.specs.Lists.{Precedes}
 use Rattle.sia_graph.proofs.InOrder.{pairs_from_next, next_more}
 use Rattle.sia_graph.proofs.tests.numbers.rise.Goals as goal

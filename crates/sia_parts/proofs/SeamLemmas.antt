@@ -1,0 +1,181 @@
+-- Stretches of numbers between places of sources, one after another.
+use Rattle.std.proofs.Common.{◌≡◌, ◌⊎◌, inl, inr, ℕ, zero, suc, ◌+◌, ◌-◌, ◌<◌, ◌≤◌, List, [], ◌∷◌, ◌++◌, length, get_or, Vec, Global, refl, ap, sym, subst, ◌∙◌, arith}
+use Rattle.std.specs.Prelude.{◌↔◌, All, AllPairs, Contains, slice_index}
+use Rattle.std.proofs.lemmas.Bool.{cases_lt}
+use Rattle.std.proofs.lemmas.List.{get_or_append_left, get_or-append-add, length-append}
+use Rattle.std.proofs.lemmas.List.Concat.{flat_map-cons}
+use Rattle.std.proofs.lemmas.List.Elements.{Contains-get_or, Contains-append_left, Contains-append_right, Contains-append_cases}
+use Rattle.sia_parts.specs.declared.part_edges.PartEdges.{PartEdges}
+use Rattle.sia_parts.specs.Gathering.{AreNumbersBetween, AreSeams, IsNumberOfSome}
+use Rattle.sia_parts.specs.Packing.{source_number}
+use Rattle.sia_parts.specs.Stretches.{AreBefore, numbers_in}
+use Rattle.sia_parts.proofs.BlockNumbers.{source_less}
+use Rattle.sia_parts.proofs.FanEdges.{joined_rise, none_rise}
+use Rattle.sia_parts.proofs.Members.{contains_first, contains_later, first_or_later}
+
+-- places that stand below one
+pub record SeamsBelow (most place : ℕ) (places : List ℕ) : Type 0 where
+  pub few : 0 < most → length places ≤ most
+  pub first : (0 < length places) × (slice_index places 0 ≡ 0)
+  pub below : All (λ p. p < place) places
+  pub ascending : AllPairs (λ a b. a < b) places
+
+pub seams_first : (most : ℕ) → SeamsBelow most 1 (0 ∷ [])
+seams_first most = record {
+  few = λ some. omega arith;
+  first = (omega arith, refl);
+  below = at_zero;
+  ascending = λ i j d less under. absurd (omega arith);
+}
+  where
+    at_zero : All (λ p. p < 1) (0 ∷ [])
+    at_zero zero d under = omega arith
+    at_zero (suc k) d under = absurd (omega arith)
+
+pub seams_same : (most place : ℕ) (places : List ℕ) → SeamsBelow most place places → SeamsBelow most (place + 1) places
+seams_same most place places s = record {
+  few = s.few;
+  first = s.first;
+  below = λ k d under. let b = s.below k d under in omega arith;
+  ascending = s.ascending;
+}
+
+pub seams_more : (most place : ℕ) (places : List ℕ) → length places < most → SeamsBelow most place places → SeamsBelow most (place + 1) (places ++ place ∷ [])
+seams_more most place places room s = record {
+  few = λ some. omega (arith, long);
+  first = (omega (arith, long), get_or_append_left places (place ∷ []) 0 0 s.first.0 ∙ s.first.1);
+  below = λ k d under. below_at k d (cases_lt k (length places)) under;
+  ascending = λ i j d less under. pair i j d less (cases_lt j (length places)) under;
+}
+  where
+    long : length (places ++ place ∷ []) ≡ length places + 1
+    long = length-append places (place ∷ [])
+
+    last : (j d : ℕ) → length places ≤ j → j < length (places ++ place ∷ []) → get_or (places ++ place ∷ []) j d ≡ place
+    last j d after under = let same : length places + 0 ≡ j = let l = long in omega arith in ap (λ n. get_or (places ++ place ∷ []) n d) (sym same) ∙ get_or-append-add places (place ∷ []) 0 d
+
+    below_at : (k d : ℕ) → (k < length places) ⊎ (length places ≤ k) → k < length (places ++ place ∷ []) → get_or (places ++ place ∷ []) k d < place + 1
+    below_at k d (inl left) under = let e = get_or_append_left places (place ∷ []) d k left in let b = s.below k d left in omega arith
+    below_at k d (inr right) under = let e = last k d right under in omega arith
+
+    pair : (i j d : ℕ) → i < j → (j < length places) ⊎ (length places ≤ j) → j < length (places ++ place ∷ []) → get_or (places ++ place ∷ []) i d < get_or (places ++ place ∷ []) j d
+    pair i j d less (inl left) under =
+        let a = get_or_append_left places (place ∷ []) d i (omega arith) in
+        let b = get_or_append_left places (place ∷ []) d j left in
+        let up = s.ascending i j d less left in
+        omega arith
+    pair i j d less (inr right) under =
+        let l = long in
+        let left : i < length places = omega arith in
+        let a = get_or_append_left places (place ∷ []) d i left in
+        let b = last j d right under in
+        let low = s.below i d left in
+        omega arith
+
+-- with the end they are seams
+pub seams_whole : (most txns : ℕ) (places : List ℕ) → SeamsBelow most txns places → AreSeams txns (places ++ txns ∷ [])
+seams_whole most txns places s = record {
+  some = omega (arith, long);
+  first = get_or_append_left places (txns ∷ []) 0 0 s.first.0 ∙ s.first.1;
+  last = let same : length places + 0 ≡ length (places ++ txns ∷ []) - 1 = omega (arith, long) in ap (λ n. get_or (places ++ txns ∷ []) n 0) (sym same) ∙ get_or-append-add places (txns ∷ []) 0 0;
+  ascending = λ i j d less under. pair i j d less (cases_lt j (length places)) under;
+}
+  where
+    long : length (places ++ txns ∷ []) ≡ length places + 1
+    long = length-append places (txns ∷ [])
+
+    pair : (i j d : ℕ) → i < j → (j < length places) ⊎ (length places ≤ j) → j < length (places ++ txns ∷ []) → get_or (places ++ txns ∷ []) i d < get_or (places ++ txns ∷ []) j d
+    pair i j d less (inl left) under =
+        let a = get_or_append_left places (txns ∷ []) d i (omega arith) in
+        let b = get_or_append_left places (txns ∷ []) d j left in
+        let up = s.ascending i j d less left in
+        omega arith
+    pair i j d less (inr right) under =
+        let l = long in
+        let left : i < length places = omega arith in
+        let a = get_or_append_left places (txns ∷ []) d i left in
+        let same : length places + 0 ≡ j = omega arith in
+        let b = ap (λ n. get_or (places ++ txns ∷ []) n d) (sym same) ∙ get_or-append-add places (txns ∷ []) 0 d in
+        let low = s.below i d left in
+        omega arith
+
+-- no sources at all
+pub no_seams : AreSeams 0 (0 ∷ [])
+no_seams = record { some = omega arith; first = refl; last = refl; ascending = λ i j d less under. absurd (omega arith) }
+
+-- what is in some stretch is among the numbers of all, and the other way round
+pub in_all : (stretches : List (Vec ℕ Global)) (s : Vec ℕ Global) (n : ℕ) → Contains stretches s → Contains s.items n → Contains (numbers_in stretches) n
+in_all [] s n c has = absurd (let b = c.1 in omega arith)
+in_all (t ∷ stretches) s n c has = subst (λ ns. Contains ns n) (sym (flat_map-cons (λ (v : Vec ℕ Global). v.items) t stretches)) (elim (first_or_later t s stretches c) [
+  | inl same ↦ Contains-append_left t.items (numbers_in stretches) n (subst (λ v. Contains v.items n) (sym same) has)
+  | inr later ↦ Contains-append_right t.items (numbers_in stretches) n (in_all stretches s n later has)
+])
+
+pub of_all : (stretches : List (Vec ℕ Global)) (n : ℕ) → Contains (numbers_in stretches) n → (s : Vec ℕ Global) × Contains stretches s × Contains s.items n
+of_all [] n c = absurd (let b = c.1 in omega arith)
+of_all (t ∷ stretches) n c = elim (Contains-append_cases t.items (numbers_in stretches) n (subst (λ ns. Contains ns n) (flat_map-cons (λ (v : Vec ℕ Global). v.items) t stretches) c)) [
+  | inl first ↦ (t, contains_first t stretches, first)
+  | inr rest ↦ let of = of_all stretches n rest in (of.0, contains_later t of.0 stretches of.1, of.2)
+]
+
+-- numbers in stretches that follow one another ascend
+pub all_rise : (stretches : List (Vec ℕ Global)) → All (λ s. AllPairs (λ m n. m < n) s.items) stretches → AllPairs (λ s t. AreBefore s.items t.items) stretches → AllPairs (λ m n. m < n) (numbers_in stretches)
+all_rise [] each apart = none_rise
+all_rise (t ∷ stretches) each apart = subst (AllPairs (λ m n. m < n)) (sym (flat_map-cons (λ (v : Vec ℕ Global). v.items) t stretches))
+    (joined_rise t.items (numbers_in stretches) (each 0 t (omega arith)) (all_rise stretches (λ k d under. each (suc k) d (omega arith)) (λ i j d less under. apart (suc i) (suc j) d (omega arith) (omega arith)))
+    (λ d e some more.
+    let m = get_or t.items (length t.items - 1) d in
+    let n = get_or (numbers_in stretches) 0 e in
+    let of = of_all stretches n (Contains-get_or (numbers_in stretches) 0 e more) in
+    let at = of.1 in
+    let before : AreBefore t.items (get_or stretches at.0 of.0).items = apart 0 (suc at.0) of.0 (omega arith) (let b = at.1 in omega arith) in
+    source_less m n (before m n (Contains-get_or t.items (length t.items - 1) d (omega arith)) (subst (λ (v : Vec ℕ Global). Contains v.items n) (sym at.2) of.2))))
+
+entry_at : {A : Type 0} (xs : List A) (i : ℕ) → i < length xs → (x : A) × (get_or xs i x ≡ x)
+entry_at [] i below = absurd (omega arith)
+entry_at (x ∷ xs) zero below = (x, refl)
+entry_at (x ∷ xs) (suc i) below = entry_at xs i (omega arith)
+
+module _ (parts : List PartEdges) (txns : ℕ) (places : List ℕ) (seams : AreSeams txns places) (stretches : List (Vec ℕ Global)) (long : length stretches + 1 ≡ length places)
+    (each : (i : ℕ) (d : Vec ℕ Global) → i < length stretches → AreNumbersBetween parts (slice_index places i) (slice_index places (i + 1)) (get_or stretches i d).items) where
+  pub stretches_ascend : All (λ s. AllPairs (λ m n. m < n) s.items) stretches
+  stretches_ascend i d below = (each i d below).ascending
+
+  no_later : (i j : ℕ) → i < j → j < length places → slice_index places (i + 1) ≤ slice_index places j
+  no_later i j less below = elim (cases_lt (i + 1) j) [
+    | inl under ↦ let up = seams.ascending (i + 1) j 0 under below in omega arith
+    | inr over ↦ let same : i + 1 ≡ j = omega arith in let e = ap (slice_index places) same in omega arith
+  ]
+
+  pub stretches_apart : AllPairs (λ s t. AreBefore s.items t.items) stretches
+  stretches_apart i j d less below m n in_m in_n =
+      let first = ((each i d (omega arith)).each m).0 in_m in
+      let second = ((each j d below).each n).0 in_n in
+      let le = no_later i j less (omega arith) in
+      let high = first.2 in
+      let low = second.1 in
+      omega arith
+
+  -- a source below a place stands between two places before it
+  between : (s k : ℕ) → k < length places → s < slice_index places k → (i : ℕ) × (i < k) × (slice_index places i ≤ s) × (s < slice_index places (i + 1))
+  between s zero below less = absurd (let first = seams.first in omega arith)
+  between s (suc k) below less = elim (cases_lt s (slice_index places k)) [
+    | inl under ↦ let found = between s k (omega arith) under in (found.0, (let b = found.1 in omega arith), found.2, found.3)
+    | inr over ↦ (k, omega arith, over, subst (λ n. s < slice_index places n) (let same : suc k ≡ k + 1 = omega arith in same) less)
+  ]
+
+  -- so all stretches have the numbers of all parts
+  pub stretches_whole : ((n : ℕ) → IsNumberOfSome parts n → source_number n < txns) → (n : ℕ) → Contains (numbers_in stretches) n ↔ IsNumberOfSome parts n
+  stretches_whole below n = (
+    (λ c.
+        let of = of_all stretches n c in
+        let at = of.1 in
+        (((each at.0 of.0 at.1).each n).0 (subst (λ (v : Vec ℕ Global). Contains v.items n) (sym at.2) of.2)).0),
+    (λ is.
+        let last = seams.last in
+        let under = below n is in
+        let found = between (source_number n) (length places - 1) (let s = seams.some in omega arith) (omega arith) in
+        let inside : found.0 < length stretches = let b = found.1 in omega arith in
+        let entry = entry_at stretches found.0 inside in
+        in_all stretches entry.0 n (found.0, inside, entry.1) (subst (λ (v : Vec ℕ Global). Contains v.items n) entry.1 (((each found.0 entry.0 inside).each n).1 (is, found.2, found.3)))),
+  )
