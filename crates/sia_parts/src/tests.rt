@@ -14,6 +14,7 @@ use std::collections::VecDeque;
 use std::test::*;
 
 mod cuts;
+mod stretched;
 mod worked;
 
 fn part(lo: u64, hi: u64) -> Part {

@@ -1,0 +1,300 @@
+//! Edges that are made stretch by stretch, by the places of their sources, worked out by hand from the definitions.
+ghost use Rattle.std.specs.Prelude.{◌≡◌, ◌+◌, ◌<◌, ℕ, List, length, slice_index, slice_index_or, All, IfOk};
+ghost use Rattle.std.specs.Global.{Vec as vec};
+ghost use Rattle.std.specs.List.{AllZip};
+ghost use Rattle.sia_events.specs.Lists.{ListsAscending};
+ghost use Rattle.sia_events.specs.Transactions.{IsCommitted};
+ghost use Rattle.sia_index.specs.Info.{AreWrittenKeys};
+ghost use Rattle.sia_parts.specs.Gathering.{AreNumbersBetween, AreSeams, CanSpread, IsPartFound};
+ghost use Rattle.sia_parts.specs.Parts.{IsInPart};
+
+use super::worked::edge;
+use crate::*;
+use sia_events::{History, Key, read_history};
+use sia_index::Index;
+use sia_index::make::index;
+use std::alloc::Global;
+use std::fmt::Write;
+use std::process::Abort;
+use std::test::*;
+
+// What is found in the part.
+fn found_in_part(
+    alloc: Global,
+    h: &History,
+    ix: &Index,
+    committed: &Committed,
+    part: Part,
+) -> Result<PartFound, Fail>
+    requires index { ix.now ≡ h.now }
+    requires committed { ListsAscending (IsCommitted ix.now) committed.now }
+    ensures { IfOk result (λ found. (keys : List ℕ) → AreWrittenKeys h.now keys → IsPartFound h.now committed.now keys (IsInPart part) found) }
+{
+    match find_in_part(alloc, h, ix, committed, part) {
+        Ok(found) => Ok(found),
+        Err(_) => Err(Fail::from("memory for a part")),
+    }
+}
+
+// What is found in each part, in order.
+fn found_in_parts(
+    alloc: Global,
+    h: &History,
+    ix: &Index,
+    committed: &Committed,
+    parts: &[Part],
+) -> Result<Vec<PartFound>, Fail>
+    requires index { ix.now ≡ h.now }
+    requires committed { ListsAscending (IsCommitted ix.now) committed.now }
+    ensures { IfOk result (λ all. (keys : List ℕ) → AreWrittenKeys h.now keys → AllZip (λ part found. IsPartFound h.now committed.now keys (IsInPart part) found) parts.now all.items) }
+{
+    let mut all = Vec::new(alloc);
+    for part in parts {
+        let found = found_in_part(alloc, h, ix, committed, *part)?;
+        all.push(found)?;
+    }
+    Ok(all)
+}
+
+// What the parts of the cutting found.
+fn gathering_of(
+    alloc: Global,
+    h: &History,
+    ix: &Index,
+    committed: &Committed,
+    points: &[Key],
+) -> Result<Gathering, Fail>
+    requires index { ix.now ≡ h.now }
+    requires committed { ListsAscending (IsCommitted ix.now) committed.now }
+    ensures { IfOk result (λ gathering. All CanSpread gathering.edges.items) }
+{
+    // The length tells that the history is well-formed, and the keys that they can be listed.
+    let _ = h.len();
+    let _ = ix.written_keys();
+    let Ok(parts) = cut(alloc, points) else {
+        return Err(Fail::from("the points cut"));
+    };
+    let all = found_in_parts(alloc, h, ix, committed, &parts)?;
+    match Gathering::of(alloc, all) {
+        Ok(gathering) => Ok(gathering),
+        Err(_) => Err(Fail::from("memory for all parts")),
+    }
+}
+
+// The places at which the stretches start and end.
+fn seams_of(alloc: Global, gathering: &Gathering, txns: usize, most: u32) -> Result<Seams, Fail>
+    requires { All CanSpread gathering.now.edges.items }
+    ensures { IfOk result (λ seams. AreSeams txns seams.places.items) }
+{
+    match Seams::of(alloc, gathering, txns, most) {
+        Ok(seams) => Ok(seams),
+        Err(_) => Err(Fail::from("memory for seams")),
+    }
+}
+
+// The numbers of the edges whose sources stand from the one place to before the other.
+fn stretch_of(
+    alloc: Global,
+    gathering: &Gathering,
+    from: usize,
+    to: usize,
+) -> Result<Vec<EdgeNumber>, Fail>
+    requires { All CanSpread gathering.now.edges.items }
+    ensures { IfOk result (λ numbers. AreNumbersBetween gathering.now.edges.items from to numbers.items) }
+{
+    match gathering.stretch(alloc, from, to) {
+        Ok(numbers) => Ok(numbers),
+        Err(_) => Err(Fail::from("memory for a stretch")),
+    }
+}
+
+// The numbers between each two places that follow one another.
+fn stretches_of(
+    alloc: Global,
+    gathering: &Gathering,
+    places: &[usize],
+) -> Result<Vec<Vec<EdgeNumber>>, Fail>
+    requires spread { All CanSpread gathering.now.edges.items }
+    requires some { 0 < length places.now }
+    ensures many { IfOk result (λ stretches. length stretches.items + 1 ≡ length places.now) }
+    ensures each { IfOk result (λ stretches. (i : ℕ) (d : vec ℕ) → i < length stretches.items → AreNumbersBetween gathering.now.edges.items (slice_index places.now i) (slice_index places.now (i + 1)) (slice_index_or stretches.items i d).items) }
+{
+    let mut stretches = Vec::new(alloc);
+    for i in 0..places.len() - 1 {
+        let numbers = stretch_of(alloc, gathering, places[i], places[i + 1])?;
+        stretches.push(numbers)?;
+    }
+    Ok(stretches)
+}
+
+// The numbers of the edges at all keys, made in at most so many stretches.
+fn numbers_of_stretches(
+    alloc: Global,
+    gathering: Gathering,
+    txns: usize,
+    most: u32,
+) -> Result<EdgeNumbers, Fail>
+    requires { All CanSpread gathering.edges.items }
+{
+    let seams = seams_of(alloc, &gathering, txns, most)?;
+    let stretches = stretches_of(alloc, &gathering, &seams.places)?;
+    let found = gathering.joined(&seams, stretches, txns);
+    Ok(found.edges)
+}
+
+// The edges of each stretch, of the history by its index.
+fn edges_of_stretches(
+    alloc: Global,
+    h: &History,
+    ix: &Index,
+    points: &[Key],
+    most: u32,
+) -> Result<Vec<Vec<Edge>>, Fail>
+    requires { ix.now ≡ h.now }
+{
+    ix.law();
+    let Ok(committed) = Committed::of(alloc, ix) else {
+        return Err(Fail::from("memory for the list"));
+    };
+    let gathering = gathering_of(alloc, h, ix, &committed, points)?;
+    let numbers = numbers_of_stretches(alloc, gathering, committed.ids().len(), most)?;
+    let mut stretches = Vec::new(alloc);
+    for stretch in numbers.stretches() {
+        let edges = edges_of_numbers(alloc, committed.ids(), ix.written_keys(), stretch)
+            .ok()
+            .ok_or("memory for edges")?;
+        stretches.push(edges)?;
+    }
+    Ok(stretches)
+}
+
+// The same, of the history of the text.
+fn stretched(
+    alloc: Global,
+    text: &[u8],
+    points: &[Key],
+    most: u32,
+) -> Result<Vec<Vec<Edge>>, Fail> {
+    let history = read_history(alloc, text)
+        .ok()
+        .ok_or("the text is a history")?;
+    let index = index(alloc, &history).ok().ok_or("memory for an index")?;
+    let stretches = edges_of_stretches(alloc, &history, &index, points, most)?;
+    Ok(stretches)
+}
+
+// That at most so many stretches are made of the history of the text, that none is empty, and that their edges one after another
+// are those that are wanted.
+fn expect<R: Abort + AllocGlobal>(
+    rt: &R,
+    text: &[u8],
+    points: &[Key],
+    most: u32,
+    wanted: &[Edge],
+) -> Result<(), Fail> {
+    let stretches = stretched(rt.alloc(), text, points, most)?;
+    assert!(rt; stretches.len() <= most as usize);
+    let mut edges = Vec::new(rt.alloc());
+    for stretch in &stretches {
+        assert!(rt; !stretch.is_empty());
+        edges.extend_from_slice(stretch)?;
+    }
+    assert_eq!(rt; edges.as_slice(), wanted);
+    Ok(())
+}
+
+// The edges of five transactions, at a key of each part.
+#[test]
+fn several_sources(rt: HostRuntime) -> Result<(), Fail> {
+    let text = b"r4[1:0] r4[9:0] w1[1] w1[9] c1 r2[1:1] w2[1] w2[9] c2 \
+        r3[1:2] r3[9:2] w3[1] c3 r5[1:3] r5[9:1] c5 c4";
+    let wanted = [
+        edge(1, Kind::Ww, 2, 1),
+        edge(1, Kind::Ww, 2, 9),
+        edge(1, Kind::Wr, 2, 1),
+        edge(1, Kind::Ww, 3, 1),
+        edge(1, Kind::Wr, 3, 1),
+        edge(1, Kind::Wr, 3, 9),
+        edge(1, Kind::Wr, 5, 1),
+        edge(1, Kind::Wr, 5, 9),
+        edge(2, Kind::Ww, 3, 1),
+        edge(2, Kind::Wr, 3, 1),
+        edge(2, Kind::Wr, 3, 9),
+        edge(2, Kind::Rw, 3, 1),
+        edge(2, Kind::Wr, 5, 1),
+        edge(3, Kind::Wr, 5, 1),
+        edge(4, Kind::Rw, 1, 1),
+        edge(4, Kind::Rw, 1, 9),
+        edge(4, Kind::Rw, 2, 1),
+        edge(4, Kind::Rw, 2, 9),
+        edge(4, Kind::Rw, 3, 1),
+        edge(5, Kind::Rw, 2, 9),
+    ];
+    for most in [1, 2, 3, 64] {
+        expect(&rt, text, &[], most, &wanted)?;
+        expect(&rt, text, &[5], most, &wanted)?;
+    }
+    Ok(())
+}
+
+// No transaction, and transactions with no edge.
+#[test]
+fn no_edges(rt: HostRuntime) -> Result<(), Fail> {
+    for text in [
+        b"".as_slice(),
+        b"c7".as_slice(),
+        b"w1[1] c1 w2[9] c2".as_slice(),
+    ] {
+        expect(&rt, text, &[], 4, &[])?;
+        expect(&rt, text, &[5], 4, &[])?;
+    }
+    Ok(())
+}
+
+// The text of twenty transactions that write a key one after another.
+fn twenty_writers(alloc: Global) -> Result<String, Fail> {
+    let mut text = String::new(alloc);
+    for i in 1..21 {
+        write!(text, "w{i}[7] c{i} ")?;
+    }
+    Ok(text)
+}
+
+// Their edges, from each to all that come after it.
+fn edges_of_twenty(alloc: Global) -> Result<Vec<Edge>, Fail> {
+    let mut edges = Vec::new(alloc);
+    for src in 1..21 {
+        for dst in src + 1..21 {
+            edges.push(edge(src, Kind::Ww, dst, 7))?;
+        }
+    }
+    Ok(edges)
+}
+
+// So many versions of a key that its edges stay fans. They are made in one stretch, or in several.
+#[test]
+fn many_versions(rt: HostRuntime) -> Result<(), Fail> {
+    let text = twenty_writers(rt.alloc())?;
+    let wanted = edges_of_twenty(rt.alloc())?;
+    assert_eq!(rt; wanted.len(), 190);
+    for most in [1, 4, 64] {
+        expect(&rt, text.as_bytes(), &[], most, &wanted)?;
+    }
+    let stretches = stretched(rt.alloc(), text.as_bytes(), &[], 4)?;
+    assert!(rt; stretches.len() > 1);
+    Ok(())
+}
+
+// Fans in one part, and numbers in the other.
+#[test]
+fn fans_beside_numbers(rt: HostRuntime) -> Result<(), Fail> {
+    let mut text = twenty_writers(rt.alloc())?;
+    text.push_str("w30[1] c30 r31[1:30] c31")?;
+    let mut wanted = edges_of_twenty(rt.alloc())?;
+    wanted.push(edge(30, Kind::Wr, 31, 1))?;
+    for points in [[].as_slice(), [5].as_slice()] {
+        expect(&rt, text.as_bytes(), points, 1, &wanted)?;
+        expect(&rt, text.as_bytes(), points, 4, &wanted)?;
+    }
+    Ok(())
+}
