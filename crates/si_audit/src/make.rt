@@ -1,6 +1,5 @@
 // How a history is audited.
-ghost use Rattle.std.specs.Prelude.{◌≡◌, ◌++◌, map, IfOk, IsTrue, OnOk};
-ghost use Rattle.sia_parts.specs.Packing.{unpacked as unpacked_edge};
+ghost use Rattle.std.specs.Prelude.{◌≡◌, IfOk, IsTrue};
 ghost use Rattle.si_audit.specs.Accounts.{IsAccount};
 ghost use Rattle.si_audit.specs.Audits.{account_of, IsOrderVerdict};
 ghost use Rattle.si_audit.specs.Judgements.{account_by};
@@ -8,50 +7,18 @@ ghost use Rattle.si_audit.specs.Judgements.{account_by};
 use crate::findings::Audit;
 use crate::judgement::{Judgement, judged};
 use crate::options::Options;
-use sia_events::{History, Key, NoMemory, TxnId};
+use sia_events::{History, Key, NoMemory};
 use sia_index::make::index;
-use sia_parts::{Edge, EdgeNumber, EdgeNumbers, Findings, edge_of};
-use std::alloc::{AllocError, Global};
+use sia_parts::Findings;
+use std::alloc::Global;
 use std::sync::Wait;
 use std::thread::Threads;
-
-/// The edges that the numbers stand for.
-fn push_edges(
-    edges: &mut Vec<Edge>,
-    txns: &[TxnId],
-    keys: &[Key],
-    numbers: &[EdgeNumber],
-) -> Result<(), AllocError>
-    ensures { OnOk result (edges.new.items ≡ edges.old.items ++ map (unpacked_edge txns.now keys.now) numbers.now) }
-{
-    edges.reserve(numbers.len())?;
-    for n in numbers {
-        edges.push(edge_of(txns, keys, *n))?;
-    }
-    Ok(())
-}
-
-/// The edges that all the numbers stand for, in the same order.
-fn edges_of(
-    alloc: Global,
-    txns: &[TxnId],
-    keys: &[Key],
-    numbers: &EdgeNumbers,
-) -> Result<Vec<Edge>, AllocError>
-    ensures { IfOk result (λ edges. edges.items ≡ map (unpacked_edge txns.now keys.now) numbers.now) }
-{
-    let mut edges = Vec::new(alloc);
-    for stretch in numbers.stretches() {
-        push_edges(&mut edges, txns, keys, stretch)?;
-    }
-    Ok(edges)
-}
 
 /// The same with the edges as they are.
 fn unpacked(alloc: Global, j: Judgement, keys: &[Key]) -> Result<Audit, NoMemory>
     ensures { IfOk result (λ a. account_of a ≡ account_by keys.now j) }
 {
-    let edges = edges_of(alloc, j.committed.ids(), keys, &j.found.edges)?;
+    let edges = j.found.edges.edges(alloc, j.committed.ids(), keys)?;
     let counts = j.counts;
     let found = j.found;
     Ok(Audit {

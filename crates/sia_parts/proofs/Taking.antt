@@ -1,16 +1,14 @@
 -- Many lists merged block by block, by how many entries were taken of each.
-use Rattle.std.proofs.Common.{◌≡◌, inl, inr, ℕ, ◌-◌, ◌<◌, ◌≤◌, true, List, [], ◌∷◌, ◌++◌, length, get_or, take, slice_set, sym, subst, ◌∙◌, arith, append-nil}
+use Rattle.std.proofs.Common.{◌≡◌, inl, inr, ℕ, ◌-◌, ◌<◌, ◌≤◌, true, List, [], ◌∷◌, ◌++◌, length, get_or, take, slice_set, sym, subst, ◌∙◌, arith}
 use Rattle.std.specs.Prelude.{Contains}
 use Rattle.std.proofs.lemmas.Bool.{cases_lt, cases_eq}
-use Rattle.std.proofs.Math.Seq.{get_or-append_seam}
-use Rattle.std.proofs.lemmas.List.{length-append, get_or_append_left, take_all, get_or_default, get_or-set_same, get_or-set_other}
+use Rattle.std.proofs.lemmas.List.{take_all, get_or_default, get_or-set_same, get_or-set_other}
 use Rattle.std.proofs.lemmas.List.Elements.{Contains-get_or, Contains-append_left, Contains-append_right, Contains-append_cases}
 use Rattle.std.proofs.lemmas.List.Quantifiers.{all_pairs_push}
 use Rattle.sia_events.specs.Lists.{Precedes}
-use Rattle.sia_parts.specs.Blocks.{HoldsSame, HoldsTaken, IsTaken, IsMergedSoFar, IsStretch}
+use Rattle.sia_parts.specs.Blocks.{HoldsSame, HoldsTaken, IsTaken, IsMergedSoFar}
 use Rattle.sia_parts.specs.Merging.{is_before, IsAscending, IsMerged}
 use Rattle.sia_parts.proofs.BothEnds.{same_append, same_itself}
-use Rattle.sia_parts.proofs.FanEdges.{joined_ascend}
 use Rattle.sia_parts.proofs.Ranks.{Precedes-trans, before_precedes}
 
 -- where what comes last is put in another order
@@ -73,12 +71,12 @@ module _ {A : Type 0} (rank : A → List ℕ) where
       ])
 
   -- nothing is taken before the first entry
-  pub none_taken : (lists : List (List A)) (counts : List ℕ) → ((i : ℕ) → i < length lists → get_or counts i 0 ≡ 0) → IsMergedSoFar rank lists counts []
+  pub none_taken : (lists : List (List A)) (counts : List ℕ) → ((i : ℕ) → get_or counts i 0 ≡ 0) → IsMergedSoFar rank lists counts []
   none_taken lists counts none = record {
     ascending = λ i j d less below. absurd (omega arith);
     each = λ x. (
       (λ c. let b = c.1 in absurd (omega arith)),
-      (λ t. let c : Contains (take 0 (get_or lists t.0 [])) x = subst (λ n. Contains (take n (get_or lists t.0 [])) x) (none t.0 t.1) t.2 in let b = c.1 in absurd (omega arith)),
+      (λ t. let c : Contains (take 0 (get_or lists t.0 [])) x = subst (λ n. Contains (take n (get_or lists t.0 [])) x) (none t.0) t.2 in let b = c.1 in absurd (omega arith)),
     );
   }
 
@@ -98,31 +96,3 @@ module _ {A : Type 0} (rank : A → List ℕ) where
           (so_far.each x).1 (at.0, at.1, subst (λ xs. Contains xs x) (sym (whole ∙ is)) some.2)),
     );
   }
-
-  -- nothing is between a place and itself
-  pub nothing_yet : (lists : List (List A)) (places : List ℕ) → IsStretch rank lists places places []
-  nothing_yet lists places = record {
-    ascending = λ i j d less below. absurd (omega arith);
-    each = λ before holds. subst (HoldsTaken lists places) (sym (append-nil before)) holds;
-  }
-
-  -- the stretch from the start of each list to its end
-  pub whole_taken : (lists : List (List A)) (from to : List ℕ) (xs : List A) → ((i : ℕ) → i < length lists → get_or from i 0 ≡ 0) → ((i : ℕ) → i < length lists → length (get_or lists i []) ≤ get_or to i 0) → IsStretch rank lists from to xs → IsMerged rank lists xs
-  whole_taken lists from to xs none through stretch =
-      all_taken lists to xs through (record { ascending = stretch.ascending; each = stretch.each [] (none_taken lists from none).each })
-
-  -- a stretch behind those before it
-  pub next_taken : (lists : List (List A)) (from to : List ℕ) (before xs : List A) → IsMergedSoFar rank lists from before → IsStretch rank lists from to xs → IsAscending rank (before ++ xs) → IsMergedSoFar rank lists to (before ++ xs)
-  next_taken lists from to before xs so_far stretch up = record { ascending = up; each = stretch.each before so_far.each }
-
-  -- entries whose first one follows, behind all others
-  pub stretch_ascends : (xs ys : List A) (y : A) → y ≡ get_or ys 0 y → 0 < length ys → IsAscending rank xs → IsAscending rank (xs ++ y ∷ []) → IsAscending rank ys → IsAscending rank (xs ++ ys)
-  stretch_ascends xs ys y is some up seam more = joined_ascend rank xs ys up more next
-    where
-      next : (d e : A) → 0 < length xs → 0 < length ys → Precedes (rank (get_or xs (length xs - 1) d)) (rank (get_or ys 0 e))
-      next d e before behind =
-          let long = length-append xs (y ∷ []) in
-          let pair = seam (length xs - 1) (length xs) d (omega arith) (omega arith) in
-          let first : get_or (xs ++ y ∷ []) (length xs - 1) d ≡ get_or xs (length xs - 1) d = get_or_append_left xs (y ∷ []) d (length xs - 1) (omega arith) in
-          let second : get_or (xs ++ y ∷ []) (length xs) d ≡ get_or ys 0 e = get_or-append_seam xs y [] d ∙ is ∙ get_or_default ys 0 y e some in
-          subst (λ z. Precedes (rank (get_or xs (length xs - 1) d)) (rank z)) second (subst (λ z. Precedes (rank z) (rank (get_or (xs ++ y ∷ []) (length xs) d))) first pair)

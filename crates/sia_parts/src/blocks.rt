@@ -1,11 +1,11 @@
 //! Many lists merged block by block. A block holds what lies between two bounds, of all lists, and is arranged in memory that
 //! is near. Where the bounds are is guessed. That the entries ascend, and that none is left, is seen.
 ghost use Rattle.std.specs.Prelude.{◌≡◌, ◌≤◌, ◌<◌, ℕ, List, [], ◌∷◌, ◌++◌, length, map, slice_index_or, take, IfOk, IsTrue, MatchOption, OnOk, ⊤};
-ghost use Rattle.sia_parts.specs.Blocks.{HoldsTaken, IsStretch};
+ghost use Rattle.sia_parts.specs.Blocks.{HoldsTaken, IsMergedSoFar};
 ghost use Rattle.sia_parts.specs.Merging.{IsAscending, IsMerged};
 
 use crate::both_ends::{Block, arrange, no_block};
-use crate::bounds::{bounds_between, entries_between, lengths_of, reach};
+use crate::bounds::{bounds_of, entries_of, reach};
 use crate::ranked::Ranked;
 use sia_events::NoMemory;
 use std::alloc::Global;
@@ -17,91 +17,66 @@ pub(crate) fn merge_by_blocks<T: Ranked>(
 ) -> Result<Option<Vec<T>>, NoMemory>
     ensures { IfOk result (λ found. MatchOption found ⊤ (λ merged. IsMerged T.rank (map (λ list. list.items) lists.now) merged.items)) }
 {
-    let from = vec![in alloc; 0usize; lists.len()]?;
-    let to = lengths_of(alloc, lists)?;
-    let Some(merged) = merge_between(alloc, lists, &from, &to)? else {
-        return Ok(None);
-    };
-    Ok(Some(merged))
-}
-
-/// The entries of each list from one place to another as one list, or nothing where they don't come out in order.
-pub(crate) fn merge_between<T: Ranked>(
-    alloc: Global,
-    lists: &[Vec<T>],
-    from: &[usize],
-    to: &[usize],
-) -> Result<Option<Vec<T>>, NoMemory>
-    requires from { length from.now ≡ length lists.now }
-    requires to { length to.now ≡ length lists.now }
-    ensures { IfOk result (λ found. MatchOption found ⊤ (λ merged. IsStretch T.rank (map (λ list. list.items) lists.now) from.now to.now merged.items)) }
-{
-    let mut merged = Vec::with_capacity(alloc, entries_between(from, to))?;
-    let mut places = Vec::with_capacity(alloc, from.len())?;
-    places.extend_from_slice(from)?;
-    if add_blocks(alloc, lists, to, places.as_mut_slice(), &mut merged)? {
+    let mut merged = Vec::with_capacity(alloc, entries_of(lists))?;
+    let mut places = vec![in alloc; 0usize; lists.len()]?;
+    if add_blocks(alloc, lists, places.as_mut_slice(), &mut merged)? {
         return Ok(Some(merged));
     }
     Ok(None)
 }
 
-/// Adds what the lists have up to these places. False where that doesn't ascend, or isn't all.
+/// Adds what the lists have. False where that doesn't ascend.
 fn add_blocks<T: Ranked>(
     alloc: Global,
     lists: &[Vec<T>],
-    to: &[usize],
     places: &mut [usize],
     merged: &mut Vec<T>,
 ) -> Result<bool, NoMemory>
-    requires to { length to.now ≡ length lists.now }
-    requires places { length places.old ≡ length lists.now }
-    ensures { IfOk result (λ ascends. IsTrue ascends → (from : List ℕ)
-        → IsStretch T.rank (map (λ list. list.items) lists.now) from places.old merged.old.items
-        → IsStretch T.rank (map (λ list. list.items) lists.now) from to.now merged.new.items) }
+    requires { length places.old ≡ length lists.now }
+    ensures { IfOk result (λ ascends. IsTrue ascends
+        → IsMergedSoFar T.rank (map (λ list. list.items) lists.now) places.old merged.old.items
+        → IsMerged T.rank (map (λ list. list.items) lists.now) merged.new.items) }
 {
-    let bounds = bounds_between(alloc, lists, places, to)?;
+    let bounds = bounds_of(alloc, lists)?;
     let mut block = no_block(alloc);
     for bound in &bounds {
-        if !add_block(lists, to, places, Some(*bound), &mut block, merged)? {
+        if !add_block(lists, places, Some(*bound), &mut block, merged)? {
             return Ok(false);
         }
     }
-    if !add_block(lists, to, places, None, &mut block, merged)? {
+    if !add_block(lists, places, None, &mut block, merged)? {
         return Ok(false);
     }
-    Ok(are_same(places, to))
+    Ok(are_through(lists, places))
 }
 
-/// Adds what the lists have before the bound, or all that they have up to these places. False where that doesn't ascend.
+/// Adds what the lists have before the bound, or all that they have left. False where that doesn't ascend.
 fn add_block<T: Ranked>(
     lists: &[Vec<T>],
-    to: &[usize],
     places: &mut [usize],
     bound: Option<T>,
     block: &mut Block<T>,
     merged: &mut Vec<T>,
 ) -> Result<bool, NoMemory>
-    requires to { length to.now ≡ length lists.now }
-    requires places { length places.old ≡ length lists.now }
+    requires { length places.old ≡ length lists.now }
     ensures len { length places.new ≡ length places.old }
-    ensures added { IfOk result (λ ascends. IsTrue ascends → (from : List ℕ)
-        → IsStretch T.rank (map (λ list. list.items) lists.now) from places.old merged.old.items
-        → IsStretch T.rank (map (λ list. list.items) lists.now) from places.new merged.new.items) }
+    ensures added { IfOk result (λ ascends. IsTrue ascends
+        → IsMergedSoFar T.rank (map (λ list. list.items) lists.now) places.old merged.old.items
+        → IsMergedSoFar T.rank (map (λ list. list.items) lists.now) places.new merged.new.items) }
 {
     block.entries.clear();
     block.ends.clear();
     for list in 0..lists.len() {
-        take_entries(lists, to[list], places, list, bound, block)?;
+        take_stretch(lists, places, list, bound, block)?;
     }
     arrange(block)?;
     let ascends = append(block.entries.as_slice(), merged)?;
     Ok(ascends)
 }
 
-/// Moves on the entries of the list before the bound, and before this place.
-fn take_entries<T: Ranked>(
+/// Moves on the entries of the list before the bound.
+fn take_stretch<T: Ranked>(
     lists: &[Vec<T>],
-    to: usize,
     places: &mut [usize],
     list: usize,
     bound: Option<T>,
@@ -115,11 +90,10 @@ fn take_entries<T: Ranked>(
 {
     let entries = lists[list].as_slice();
     let place = places[list];
-    let len = to.min(entries.len());
-    if place >= len {
+    if place >= entries.len() {
         return Ok(());
     }
-    let end = reach(&entries[..len], place, bound);
+    let end = reach(entries, place, bound);
     block.entries.extend_from_slice(&entries[place..end])?;
     block.ends.push(block.entries.len())?;
     places[list] = end;
@@ -151,7 +125,7 @@ fn ascends_from<T: Ranked>(entries: &[T], place: usize) -> bool
 
 /// Whether the last entry precedes the next one.
 #[inline(always)]
-pub(crate) fn follows<T: Ranked>(entries: &[T], next: &T) -> bool
+fn follows<T: Ranked>(entries: &[T], next: &T) -> bool
     ensures { IsTrue result → IsAscending T.rank entries.now → IsAscending T.rank (entries.now ++ next.now ∷ []) }
 {
     match entries.last() {
@@ -160,9 +134,16 @@ pub(crate) fn follows<T: Ranked>(entries: &[T], next: &T) -> bool
     }
 }
 
-/// Whether each list was taken up to its place.
-fn are_same(places: &[usize], to: &[usize]) -> bool
-    ensures { IsTrue result → places.now ≡ to.now }
+/// Whether each list was taken to its end.
+fn are_through<T: Ranked>(lists: &[Vec<T>], places: &[usize]) -> bool
+    requires { length places.now ≡ length lists.now }
+    ensures { IsTrue result → (i : ℕ) → i < length lists.now
+        → length (slice_index_or (map (λ list. list.items) lists.now) i []) ≤ slice_index_or places.now i 0 }
 {
-    places == to
+    for i in 0..lists.len() {
+        if places[i] < lists[i].len() {
+            return false;
+        }
+    }
+    true
 }

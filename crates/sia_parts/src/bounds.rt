@@ -1,5 +1,5 @@
 //! Where the blocks of many lists end. All of it is a guess: who asks checks what comes of it.
-ghost use Rattle.std.specs.Prelude.{◌≡◌, ◌≤◌, length, map, IfOk};
+ghost use Rattle.std.specs.Prelude.{◌≤◌, length};
 
 use crate::both_ends::{Block, arrange, no_block};
 use crate::ranked::Ranked;
@@ -9,36 +9,20 @@ use std::alloc::Global;
 /// How many entries are looked at for each block.
 const SAMPLES: usize = 16;
 
-/// How many entries there are between these places of lists.
-pub(crate) fn entries_between(from: &[usize], to: &[usize]) -> usize {
+/// How many entries all lists have.
+pub(crate) fn entries_of<T: Ranked>(lists: &[Vec<T>]) -> usize {
     let mut total = 0usize;
-    for (start, end) in from.iter().zip(to) {
-        total = total.saturating_add(end.saturating_sub(*start));
+    for list in lists {
+        total = total.saturating_add(list.len());
     }
     total
 }
 
-/// How many entries each list has.
-pub(crate) fn lengths_of<T: Ranked>(alloc: Global, lists: &[Vec<T>]) -> Result<Vec<usize>, NoMemory>
-    ensures { IfOk result (λ lengths. lengths.items ≡ map length (map (λ list. list.items) lists.now)) }
-{
-    let mut lengths = Vec::with_capacity(alloc, lists.len())?;
-    for list in lists {
-        lengths.push(list.len())?;
-    }
-    Ok(lengths)
-}
-
-/// Bounds between which the lists have, from one place to another of each, about as many entries as a block is to hold: so few
-/// that they stay near, and so many that each list has several of them.
-pub(crate) fn bounds_between<T: Ranked>(
-    alloc: Global,
-    lists: &[Vec<T>],
-    from: &[usize],
-    to: &[usize],
-) -> Result<Vec<T>, NoMemory> {
+/// Bounds between which the lists have about as many entries as a block is to hold: so few that they stay near, and so many
+/// that each list has several of them.
+pub(crate) fn bounds_of<T: Ranked>(alloc: Global, lists: &[Vec<T>]) -> Result<Vec<T>, NoMemory> {
     let mut samples = no_block(alloc);
-    take_samples(lists, from, to, &mut samples)?;
+    take_samples(lists, &mut samples)?;
     arrange(&mut samples)?;
     let mut bounds = Vec::new(alloc);
     for sample in samples
@@ -54,33 +38,21 @@ pub(crate) fn bounds_between<T: Ranked>(
 }
 
 /// Takes one entry of so many, as if the lists were one.
-fn take_samples<T: Ranked>(
-    lists: &[Vec<T>],
-    from: &[usize],
-    to: &[usize],
-    samples: &mut Block<T>,
-) -> Result<(), NoMemory> {
+fn take_samples<T: Ranked>(lists: &[Vec<T>], samples: &mut Block<T>) -> Result<(), NoMemory> {
     let stride = lists.len().saturating_mul(4).clamp(512, 4096);
     let mut place = stride / 2;
-    for ((list, start), end) in lists.iter().zip(from).zip(to) {
-        let entries = between(list, *start, *end);
-        for _ in 0..entries.len() / stride + 1 {
-            let Some(entry) = entries.get(place) else {
+    for list in lists {
+        for _ in 0..list.len() / stride + 1 {
+            let Some(entry) = list.get(place) else {
                 break;
             };
             samples.entries.push(*entry)?;
             place = place.saturating_add(stride);
         }
-        place = place.saturating_sub(entries.len());
+        place = place.saturating_sub(list.len());
         samples.ends.push(samples.entries.len())?;
     }
     Ok(())
-}
-
-/// The entries from one place to another, as far as there are.
-fn between<T: Ranked>(entries: &[T], start: usize, end: usize) -> &[T] {
-    let end = end.min(entries.len());
-    &entries[start.min(end)..end]
 }
 
 /// How far the list can be taken from the place on: until the bound comes, or to its end.
@@ -96,7 +68,7 @@ pub(crate) fn reach<T: Ranked>(list: &[T], place: usize, bound: Option<T>) -> us
 }
 
 /// How many entries precede the bound. The first ones are looked at first.
-pub(crate) fn count_before<T: Ranked>(list: &[T], bound: &T) -> usize
+fn count_before<T: Ranked>(list: &[T], bound: &T) -> usize
     ensures { result ≤ length list.now }
 {
     let mut far = 16usize;

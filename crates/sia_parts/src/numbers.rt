@@ -61,7 +61,7 @@ pub fn edges_of_numbers(
 ) -> Result<Vec<Edge>, NoMemory>
     ensures { IfOk result (λ edges. edges.items ≡ map (unpacked txns.now keys.now) numbers.now) }
 {
-    let mut edges = Vec::with_capacity(alloc, numbers.len())?;
+    let mut edges = Vec::new(alloc);
     put_unpacked(txns, keys, numbers, &mut edges)?;
     Ok(edges)
 }

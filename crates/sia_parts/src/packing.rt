@@ -29,6 +29,7 @@ pub(crate) fn put_unpacked(
 ) -> Result<(), NoMemory>
     ensures { OnOk result (edges.new.items ≡ edges.old.items ++ map (unpacked txns.now keys.now) numbers.now) }
 {
+    edges.reserve(numbers.len())?;
     for n in numbers {
         edges.push(unpack(txns, keys, *n))?;
     }

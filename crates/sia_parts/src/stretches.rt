@@ -1,9 +1,12 @@
 //! The numbers of all edges, in stretches that workers make side by side.
-ghost use Rattle.std.specs.Prelude.{◌≡◌, ◌<◌, All, AllPairs, IfOk};
+ghost use Rattle.std.specs.Prelude.{◌≡◌, ◌<◌, map, All, AllPairs, IfOk};
+ghost use Rattle.sia_parts.specs.Packing.{unpacked};
 ghost use Rattle.sia_parts.specs.Stretches.{AreBefore, AreStretches, numbers_in};
 
+use crate::finding::Edge;
 use crate::numbers::EdgeNumber;
-use sia_events::NoMemory;
+use crate::packing::put_unpacked;
+use sia_events::{Key, NoMemory, TxnId};
 use std::alloc::Global;
 use std::marker::Model;
 
@@ -54,5 +57,21 @@ impl EdgeNumbers {
         ensures are { AreStretches result.now }
     {
         self.stretches.as_slice()
+    }
+
+    /// The edges that the numbers stand for, of these transactions and keys, in the same order.
+    pub fn edges(
+        &self,
+        alloc: Global,
+        txns: &[TxnId],
+        keys: &[Key],
+    ) -> Result<Vec<Edge>, NoMemory>
+        ensures { IfOk result (λ edges. edges.items ≡ map (unpacked txns.now keys.now) self.now) }
+    {
+        let mut edges = Vec::new(alloc);
+        for stretch in &self.stretches {
+            put_unpacked(txns, keys, stretch, &mut edges)?;
+        }
+        Ok(edges)
     }
 }

@@ -4,7 +4,7 @@ use Rattle.std.proofs.lemmas.List.{length-map, get_or-map}
 use Rattle.sia_parts.specs.Blocks.{HoldsTaken}
 use Rattle.sia_parts.proofs.BothEnds.{up_to}
 use Rattle.sia_parts.proofs.Taking.{stretch_taken}
-use Rattle.sia_parts.proofs.blocks.take_entries.Goals as goal
+use Rattle.sia_parts.proofs.blocks.take_stretch.Goals as goal
 
 pub returns-clause-taken : goal.returns-clause-taken
 returns-clause-taken g c xs holds =
