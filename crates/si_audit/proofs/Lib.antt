@@ -17,5 +17,6 @@ pub mod OfHistory
 mod TakenWords
 mod NumbersGiven
 pub mod OnSheets
+pub mod ByOne
 pub mod Batched
 pub mod OfParts

@@ -1,12 +1,17 @@
 // What is written of a text, and how its run ends.
 ghost use Rattle.std.specs.Prelude.{◌≡◌, ◌↔◌, ℕ, List, [], IfOk, IsTrue};
+ghost use Rattle.sia_events.specs.declared.event.Event.{Event};
+ghost use Rattle.sia_events.specs.Refusals.{IsWellFormed};
 ghost use Rattle.sia_events.specs.Streaming.{StandsForRead};
 ghost use Rattle.si_audit.specs.Lines.{refusal_line};
 ghost use Rattle.si_audit.specs.Report.{IsReport};
+ghost use Rattle.si_audit.specs.Accounts.{IsAccount};
 ghost use Rattle.si_audit.specs.Outcomes.{IsOutcome};
 ghost use Rattle.si_audit.specs.Answering.{IsReportOf, IsOutcomeOf};
+ghost use Rattle.si_audit.specs.Judgements.{account_by};
 ghost use Rattle.si_audit.specs.Sheets.{text_of};
 
+use crate::by_one::report_by_one;
 use crate::engine::Outcome;
 use crate::judgement::{Judgement, judged};
 use crate::lines::push_refusal;
@@ -14,6 +19,7 @@ use crate::options::Options;
 use crate::pieces::PIECE;
 use crate::reporting::report_of;
 use sia_events::{History, NoMemory, TextFault, TextReader};
+use sia_index::Index;
 use sia_index::make::index;
 use std::alloc::Global;
 use std::sync::Wait;
@@ -34,6 +40,59 @@ fn is_clean(j: &Judgement) -> bool
     j.found.bad_reads.is_empty() && j.found.bad_writes.is_empty() && j.serializable
 }
 
+/// How the run of the history ends of which this is the judgement.
+fn outcome_of(j: &Judgement) -> Outcome
+    ensures { (h : List Event) (keys : List ℕ) → IsAccount h (account_by keys j.now) → IsOutcomeOf h result }
+{
+    if is_clean(j) {
+        Outcome::Clean
+    } else {
+        Outcome::Faulty
+    }
+}
+
+/// The answer to a history by its index. The lines of its edges are made beside the verdict and the pivots, in pieces of at most
+/// so many.
+fn answer_side_by_side<T: Threads + Wait + Sync>(
+    rt: &T,
+    alloc: Global,
+    h: &History,
+    ix: &Index,
+    o: &Options,
+    longest: usize,
+) -> Result<Answer, NoMemory>
+    requires index { ix.now ≡ h.now }
+    requires well_formed { IsWellFormed h.now }
+    ensures report { IfOk result (λ answer. IsReportOf h.now (text_of answer.sheets.items)) }
+    ensures outcome { IfOk result (λ answer. IsOutcomeOf h.now answer.outcome) }
+{
+    let judged = judged(rt, alloc, h, ix, o, Some(longest))?;
+    let judgement = judged.judgement;
+    let outcome = outcome_of(&judgement);
+    let sheets = report_of(alloc, &judgement, judged.sheets)?;
+    Ok(Answer { sheets, outcome })
+}
+
+/// The same with the lines made behind the verdict and the pivots, of which nothing is needed then but its lines.
+fn answer_by_one<T: Threads + Wait + Sync>(
+    rt: &T,
+    alloc: Global,
+    h: &History,
+    ix: &Index,
+    o: &Options,
+    longest: usize,
+) -> Result<Answer, NoMemory>
+    requires index { ix.now ≡ h.now }
+    requires well_formed { IsWellFormed h.now }
+    ensures report { IfOk result (λ answer. IsReportOf h.now (text_of answer.sheets.items)) }
+    ensures outcome { IfOk result (λ answer. IsOutcomeOf h.now answer.outcome) }
+{
+    let judged = judged(rt, alloc, h, ix, o, None)?;
+    let outcome = outcome_of(&judged.judgement);
+    let sheets = report_by_one(alloc, judged.judgement, ix.written_keys(), longest)?;
+    Ok(Answer { sheets, outcome })
+}
+
 /// The answer to a history. The lines of its edges are made in pieces of at most so many.
 pub(crate) fn answer_to_history<T: Threads + Wait + Sync>(
     rt: &T,
@@ -48,15 +107,11 @@ pub(crate) fn answer_to_history<T: Threads + Wait + Sync>(
     // The length tells that the history is well-formed.
     let _ = h.len();
     let ix = index(alloc, h)?;
-    let judged = judged(rt, alloc, h, &ix, o, Some(longest))?;
-    let judgement = judged.judgement;
-    let sheets = report_of(alloc, &judgement, judged.sheets)?;
-    let outcome = if is_clean(&judgement) {
-        Outcome::Clean
+    if o.workers() > 1 {
+        answer_side_by_side(rt, alloc, h, &ix, o, longest)
     } else {
-        Outcome::Faulty
-    };
-    Ok(Answer { sheets, outcome })
+        answer_by_one(rt, alloc, h, &ix, o, longest)
+    }
 }
 
 /// The answer to a refused text.

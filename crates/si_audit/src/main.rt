@@ -4,6 +4,7 @@
 
 mod answering;
 mod batches;
+mod by_one;
 mod counts;
 mod device;
 mod engine;

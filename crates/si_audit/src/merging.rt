@@ -22,6 +22,13 @@ const FEW: usize = 131_072;
 /// How many stretches each worker takes, so that none waits long for the last one.
 const SHARES: u32 = 4;
 
+/// How many numbers a stretch mostly has where there is one worker: so few that the memory of each can be used again once its
+/// lines are made.
+const SHORT: usize = 12_000;
+
+/// The greatest number of stretches, which are the parts of the work.
+const MOST: usize = 1024;
+
 /// The work, of whose stretches the workers take one after another.
 #[derive(Drop)]
 struct Merging<'a> {
@@ -51,9 +58,21 @@ impl Job for Merging<'_> {
     }
 }
 
+/// Into how many stretches so many numbers are cut at most.
+fn most_of(workers: u32, numbers: usize) -> u32
+    requires { workers ≤ 64 }
+    ensures { (0 < result) × (result ≤ 1024) }
+{
+    if workers > 1 {
+        workers * SHARES
+    } else {
+        (numbers / SHORT).clamp(1, MOST) as u32
+    }
+}
+
 /// How many stretches there are.
 fn count_of(seams: &Seams) -> u32
-    requires { length seams.now.places.items ≤ 257 }
+    requires { length seams.now.places.items ≤ 1025 }
     ensures { result ≡ length seams.now.places.items - 1 }
 {
     seams.places.len().saturating_sub(1) as u32
@@ -72,10 +91,11 @@ fn merged<R: Threads + Wait + Sync>(
     ensures { IfOk result (λ found. (h : List Event) (ids keys : List ℕ) → AreEdgeTables h ids keys → length ids ≡ txns → IsGathering h ids keys gathering → IsFound h ids keys found) }
 {
     let workers = u32::from(o.workers());
-    if workers < 2 || gathering.unmerged() < FEW {
+    let unmerged = gathering.unmerged();
+    if unmerged < FEW {
         return gathering.merged(alloc, txns);
     }
-    let seams = Seams::of(alloc, &gathering, txns, workers * SHARES)?;
+    let seams = Seams::of(alloc, &gathering, txns, most_of(workers, unmerged))?;
     let job = Merging {
         alloc,
         gathering: &gathering,

@@ -1,7 +1,7 @@
 // The lines of edges that are numbers, of which a report can have millions. Many lines one after another have the same source,
 // so that their first two words are made once. Some lines at a time are put together in a block, from its end to its start, so
 // that nothing is counted before, and appended at once.
-ghost use Rattle.std.specs.Prelude.{◌≡◌, ◌+◌, ◌≤◌, ◌∷◌, ◌++◌, [], length, drop, flat_map, map, codes, IfOk, OnOk, slice_index};
+ghost use Rattle.std.specs.Prelude.{◌≡◌, ◌+◌, ◌<◌, ◌≤◌, ◌∷◌, ◌++◌, [], length, drop, flat_map, map, codes, IfOk, OnOk, slice_index};
 ghost use Rattle.sia_events.specs.Text.{numeral};
 ghost use Rattle.sia_parts.specs.Packing.{key_number, source_number, target_number, unpacked};
 ghost use Rattle.si_audit.specs.Lines as lines;
@@ -356,10 +356,30 @@ fn push_numbers(
 
 /// How many bytes a line has at most: those of the words, the digits of two transactions, and of a key. Both lists ascend, so
 /// that no digits are more than those of the last.
-fn longest_line(txns: &[TxnId], keys: &[Key]) -> usize {
+pub(crate) fn longest_line(txns: &[TxnId], keys: &[Key]) -> usize
+    ensures { 0 < result }
+{
     let txn = txns.last().map_or(0, |last| digits_of(Key::from(*last)));
     let key = keys.last().map_or(0, |last| digits_of(*last));
     WORDS + 2 * txn + key
+}
+
+/// The lines of the edges of these numbers, on a sheet of their own. It has the room for them from the start.
+pub(crate) fn sheet_of(
+    alloc: Global,
+    words: &Numerals,
+    txns: &[TxnId],
+    keys: &[Key],
+    numbers: &[EdgeNumber],
+) -> Result<Vec<u8>, AllocError>
+    requires targets { AreNumerals txns.now words.now.txns.items }
+    requires of_keys { AreLongNumerals keys.now words.now.keys.items }
+    ensures { IfOk result (λ sheet. sheet.items ≡ number_lines txns.now keys.now numbers.now) }
+{
+    let room = numbers.len().saturating_mul(longest_line(txns, keys));
+    let mut sheet = Vec::with_capacity(alloc, room)?;
+    push_numbers(&mut sheet, words, txns, keys, numbers)?;
+    Ok(sheet)
 }
 
 /// The lines of the edges of these pieces, on a sheet of their own. It has the room for them from the start.

@@ -154,7 +154,7 @@ pub fn report(alloc: Global, a: &Audit) -> Result<Vec<u8>, NoMemory>
 }
 
 /// The lines of a judgement that stand before those of the edges.
-fn front_of(alloc: Global, j: &Judgement) -> Result<Vec<u8>, AllocError>
+pub(crate) fn front_of(alloc: Global, j: &Judgement) -> Result<Vec<u8>, AllocError>
     ensures { IfOk result (λ sheet. sheet.items ≡
         lines.events_line j.now.counts.events j.now.counts.committed j.now.counts.aborted j.now.counts.unfinished
         ++ lines.isolation_line (lines.is_empty j.now.found.bad_reads.items && lines.is_empty j.now.found.bad_writes.items)
@@ -175,7 +175,7 @@ fn front_of(alloc: Global, j: &Judgement) -> Result<Vec<u8>, AllocError>
 }
 
 /// The lines of a judgement that stand behind those of the edges.
-fn back_of(alloc: Global, j: &Judgement) -> Result<Vec<u8>, AllocError>
+pub(crate) fn back_of(alloc: Global, j: &Judgement) -> Result<Vec<u8>, AllocError>
     ensures { IfOk result (λ sheet. sheet.items ≡
         flat_map lines.pivot_line j.now.pivots.items
         ++ lines.ssi_line j.now.pass
