@@ -18,7 +18,7 @@ use crate::numerals::{Numerals, numerals_of};
 use crate::options::Options;
 use crate::pieces::{PIECE, count_of, pieces_of};
 use sia_events::{Key, NoMemory, TxnId};
-use sia_graph::{Pivot, Verdict, pivots_of_numbers, settle_numbers};
+use sia_graph::{Pivot, Verdict, judge_numbers, pivots_of_numbers, settle_numbers};
 use sia_index::Index;
 use sia_parts::{EdgeNumber, EdgeNumbers};
 use sia_pool::{Job, OpenGate, work_off};
@@ -233,6 +233,20 @@ fn made_of<R: Threads + Wait + Sync>(
     }
 }
 
+/// Makes of all edges the verdict and the pivots, by the calling thread alone.
+fn made_by_one(alloc: Global, edges: &AllEdges) -> Result<Products, NoMemory>
+    requires { AreAllEdges edges.now.index.now edges.now.txns.now edges.now.keys.now edges.now.numbers.now }
+    ensures verdict { IfOk result (λ made. IsVerdict (IsCommitted edges.now.index.now) (IsEdge edges.now.index.now) made.verdict) }
+    ensures pivots { IfOk result (λ made. ArePivots edges.now.index.now made.pivots.items) }
+{
+    let found = judge_numbers(alloc, edges.index, edges.txns, edges.keys, edges.numbers)?;
+    Ok(Products {
+        verdict: found.0,
+        pivots: found.1,
+        sheets: Vec::new(alloc),
+    })
+}
+
 /// Makes of all edges the verdict and the pivots, by workers, and waits for them. Where a length is given, the lines of the
 /// edges are made too, in pieces of at most so many.
 pub(crate) fn produce<R: Threads + Wait + Sync>(
@@ -247,6 +261,9 @@ pub(crate) fn produce<R: Threads + Wait + Sync>(
     ensures pivots { IfOk result (λ made. ArePivots edges.now.index.now made.pivots.items) }
     ensures lines { IsSome longest → IfOk result (λ made. text_of made.sheets.items ≡ number_lines edges.now.txns.now edges.now.keys.now edges.now.numbers.now) }
 {
+    if longest.is_none() && o.workers() < 2 {
+        return made_by_one(alloc, edges);
+    }
     let pieces = pieces_of(alloc, edges.numbers, longest.unwrap_or(PIECE))?;
     let batches = Batches::of(pieces.len(), longest.is_some());
     let made = made_of(rt, alloc, edges, &pieces, batches, o)?;

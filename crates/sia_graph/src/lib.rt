@@ -5,6 +5,7 @@ mod adjacency;
 mod chains;
 mod firsts;
 mod guesses;
+mod judging_numbers;
 mod laws;
 mod links;
 mod numbered;
@@ -26,6 +27,7 @@ mod vulnerable_numbers;
 mod walking;
 mod walking_numbers;
 
+pub use judging_numbers::judge_numbers;
 pub use laws::{pivot_law, replay_law, ssi_law};
 pub use passing::{passes, ssi_pass};
 pub use pivot::Pivot;

@@ -1,7 +1,8 @@
 //! The least order, or a cycle, of edges that are kept as numbers.
-ghost use Rattle.std.specs.Prelude.{◌≢◌, ◌<◌, All, AllPairs, Contains, IfOk, IsTrue, map};
+ghost use Rattle.std.specs.Prelude.{[], ◌≢◌, ◌<◌, All, AllPairs, Contains, IfOk, IsTrue, map};
 ghost use Rattle.std.specs.List.Sorted.{IsStrictlyIncreasing};
 ghost use Rattle.sia_parts.specs.Packing.{IsPacked, source_number, target_number, unpacked};
+ghost use Rattle.sia_graph.specs.Fronts.{AreWaiting};
 ghost use Rattle.sia_graph.specs.Places.{AreNumbered, edges_at};
 ghost use Rattle.sia_graph.specs.Verdicts.{IsVerdict};
 
@@ -22,7 +23,7 @@ fn rise(numbers: &[EdgeNumber]) -> bool
 }
 
 /// Whether each number leads to a greater place.
-fn all_rise(numbers: &EdgeNumbers) -> bool
+pub(crate) fn all_rise(numbers: &EdgeNumbers) -> bool
     ensures { IsTrue result → All (λ n. source_number n < target_number n) numbers.now }
 {
     let stretches = numbers.stretches();
@@ -64,12 +65,25 @@ fn settle_numbered(alloc: Global, edges: &Numbered) -> Result<Verdict, NoMemory>
     let places = edges.ids.len();
     let mut starts = vec![in alloc; 0usize; places.saturating_add(1)]?;
     let mut counted = count_numbers(alloc, places, edges.numbers, &mut starts)?;
-    let counts = counted.as_mut_slice();
-    let order = take_numbered(alloc, edges, &starts, counts)?;
+    settle_counted(alloc, edges, &starts, counted.as_mut_slice())
+}
+
+/// The same, where it is counted how many edges lead to each transaction, and noted where the edges of each start.
+pub(crate) fn settle_counted(
+    alloc: Global,
+    edges: &Numbered,
+    starts: &[usize],
+    counts: &mut [usize],
+) -> Result<Verdict, NoMemory>
+    requires numbered { AreNumbered edges.now.ids.now edges.now.keys.now edges.now.numbers.now }
+    requires counted { AreWaiting [] edges.now.ids.now (edges_at edges.now.ids.now edges.now.keys.now edges.now.numbers.now) counts.old }
+    ensures { IfOk result (IsVerdict (Contains edges.now.ids.now) (Contains (edges_at edges.now.ids.now edges.now.keys.now edges.now.numbers.now))) }
+{
+    let order = take_numbered(alloc, edges, starts, counts)?;
     match first_left(counts) {
         None => Ok(Verdict::Order(Txns::new(order))),
         Some(start) => {
-            let steps = numbered_cycle(alloc, edges, &starts, counts, start)?;
+            let steps = numbered_cycle(alloc, edges, starts, counts, start)?;
             Ok(Verdict::Cycle(Steps::new(steps)))
         }
     }

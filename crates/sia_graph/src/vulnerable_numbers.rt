@@ -43,7 +43,7 @@ fn link_of(txns: &[TxnId], n: EdgeNumber) -> Link
 
 /// Adds the ends of each such edge of a stretch.
 #[inline(never)]
-fn add_ends(
+pub(crate) fn add_ends(
     ix: &Index,
     txns: &[TxnId],
     spans: &[Span],

@@ -15,7 +15,7 @@ use std::process::Abort;
 const BASE: u64 = 1_048_576;
 
 /// Whether the numbers ascend without repeats.
-fn climbs(numbers: &[u64]) -> bool
+pub(crate) fn climbs(numbers: &[u64]) -> bool
     ensures increasing { IsTrue result → IsStrictlyIncreasing numbers.now }
     ensures pairs { IsTrue result → AllPairs (λ m n. m < n) numbers.now }
 {
@@ -49,7 +49,7 @@ fn parts_ends(ids: &[TxnId], keys: &[Key], n: EdgeNumber) -> bool
     e.src != e.dst
 }
 
-fn all_part_ends(ids: &[TxnId], keys: &[Key], numbers: &[EdgeNumber]) -> bool
+pub(crate) fn all_part_ends(ids: &[TxnId], keys: &[Key], numbers: &[EdgeNumber]) -> bool
     ensures { IsTrue result → All (λ n. (unpacked ids.now keys.now n).src ≢ (unpacked ids.now keys.now n).dst) numbers.now }
 {
     numbers.iter().all(|n| parts_ends(ids, keys, *n))

@@ -1,4 +1,4 @@
-//! Pivots of edges whose numbers are worked out by hand.
+//! Pivots of edges whose numbers are worked out by hand, and whether these have an order.
 ghost use Rattle.std.specs.Prelude.{◌≡◌, ◌<◌, List, ⊤, All, AllPairs, IfOk, IsTrue};
 ghost use Rattle.sia_events.specs.declared.event.Event.{Event};
 ghost use Rattle.sia_events.specs.Lists.{ListsAscending};
@@ -8,14 +8,17 @@ ghost use Rattle.sia_parts.specs.Findings.{ListsEdges};
 ghost use Rattle.sia_parts.specs.Packing.{IsPacked};
 
 use crate::firsts::commit_of;
+use crate::judging_numbers::judge_numbers;
 use crate::passing::passes;
 use crate::pivot::Pivot;
 use crate::pivoting_numbers::pivots_of_numbers;
-use crate::tests::numbered::in_one_stretch;
+use crate::settling::Verdict;
+use crate::tests::ascends;
+use crate::tests::numbered::{all_part_ends, climbs, in_one_stretch};
 use crate::tests::structures::{findings, shown};
 use sia_events::{Key, NoMemory, TxnId, read_history};
 use sia_index::{Index, make};
-use sia_parts::{Edge, EdgeNumber, edges_of_numbers, key_of, source_of, target_of};
+use sia_parts::{Edge, EdgeNumber, EdgeNumbers, edges_of_numbers, key_of, source_of, target_of};
 use std::alloc::{AllocError, Global};
 use std::test::Fail;
 
@@ -91,8 +94,43 @@ fn stand_for(
     Ok(same)
 }
 
+/// What `judge_numbers` tells of all these numbers, where the lists are as it wants them.
+fn at_once(
+    alloc: Global,
+    ix: &Index,
+    txns: &[TxnId],
+    keys: &[Key],
+    numbers: &[EdgeNumber],
+    all: &EdgeNumbers,
+) -> Result<(Verdict, Vec<Pivot>), Fail>
+    requires txns { ListsAscending (IsCommitted ix.now) txns.now }
+    requires numbers { AreEdgeNumbers ix.now txns.now keys.now (λ _. ⊤) all.now }
+    requires same { all.now ≡ numbers.now }
+{
+    if !ascends(txns) {
+        return Err(Fail::from("ascending transactions"));
+    }
+    if !climbs(keys) {
+        return Err(Fail::from("ascending keys"));
+    }
+    if !all_part_ends(txns, keys, numbers) {
+        return Err(Fail::from("edges between two transactions"));
+    }
+    let found = judge_numbers(alloc, ix, txns, keys, all)?;
+    Ok(found)
+}
+
+/// What is told of a history.
+#[derive(Drop)]
+struct Told {
+    pivots: Vec<Pivot>,
+    passed: bool,
+    /// The verdict and the pivots, told at once.
+    at_once: (Verdict, Vec<Pivot>),
+}
+
 /// The pivots of the history, and whether it passes, where these are the numbers of its edges.
-fn judged(alloc: Global, text: &[u8], numbers: &[EdgeNumber]) -> Result<(Vec<Pivot>, bool), Fail> {
+fn judged(alloc: Global, text: &[u8], numbers: &[EdgeNumber]) -> Result<Told, Fail> {
     let h = read_history(alloc, text).ok().ok_or("a history")?;
     let ix = make::index(alloc, &h)?;
     let f = findings(alloc, &h, &ix)?;
@@ -102,9 +140,14 @@ fn judged(alloc: Global, text: &[u8], numbers: &[EdgeNumber]) -> Result<(Vec<Piv
         return Err(Fail::from("the numbers of the edges"));
     }
     let all = in_one_stretch(alloc, numbers)?;
-    let found = pivots_of_numbers(alloc, &ix, &txns, &all)?;
-    let passed = passes(&f.bad_reads, &f.bad_writes, &found);
-    Ok((found, passed))
+    let pivots = pivots_of_numbers(alloc, &ix, &txns, &all)?;
+    let passed = passes(&f.bad_reads, &f.bad_writes, &pivots);
+    let again = at_once(alloc, &ix, &txns, keys, numbers, &all)?;
+    Ok(Told {
+        pivots,
+        passed,
+        at_once: again,
+    })
 }
 
 /// The number of the edge between the transactions at these places, of a kind and of a key at its place.
@@ -117,14 +160,15 @@ const fn number(source: u8, target: u8, kind: u8, key: u8) -> EdgeNumber {
 
 #[test]
 fn pivots_by_numbers(rt: HostRuntime) -> Result<(), Fail> {
-    let cases: [(&[u8], &[EdgeNumber], &str, bool); 7] = [
+    let cases: [(&[u8], &[EdgeNumber], &str, bool, bool); 7] = [
         // No edge, and so no stretch.
-        (b"w1[1] c1", &[], "", true),
+        (b"w1[1] c1", &[], "", true, true),
         // Write skew: each has an edge to the other.
         (
             b"r1[1:0] r1[2:0] r2[1:0] r2[2:0] w1[2] w2[1] c1 c2",
             &[number(0, 1, 2, 0), number(1, 0, 2, 1)],
             "1 [2] [2] [] 2 [1] [1] [1] ",
+            false,
             false,
         ),
         // The edge from 3 to 1 is of the kind wr.
@@ -132,6 +176,7 @@ fn pivots_by_numbers(rt: HostRuntime) -> Result<(), Fail> {
             b"r2[1:0] r2[2:0] r3[1:0] r3[2:0] w2[2] w3[1] c2 c3 r1[1:3] c1",
             &[number(1, 2, 2, 0), number(2, 0, 1, 0), number(2, 1, 2, 1)],
             "2 [3] [3] [] 3 [2] [2] [2] ",
+            false,
             false,
         ),
         // Both edges of the kind rw stand at two keys.
@@ -147,12 +192,14 @@ fn pivots_by_numbers(rt: HostRuntime) -> Result<(), Fail> {
             ],
             "1 [2] [2] [] 2 [1] [1] [1] ",
             false,
+            false,
         ),
         // 3 commits before 2, but after 1.
         (
             b"r1[1:0] r2[2:0] w2[1] w3[2] c1 c3 c2",
             &[number(0, 1, 2, 0), number(1, 2, 2, 1)],
             "2 [1] [3] [] ",
+            true,
             true,
         ),
         // The edge from 2 to 3 is between transactions that don't overlap.
@@ -161,6 +208,7 @@ fn pivots_by_numbers(rt: HostRuntime) -> Result<(), Fail> {
             &[number(0, 1, 2, 1), number(1, 2, 2, 0)],
             "",
             false,
+            true,
         ),
         // Two on each side.
         (
@@ -173,12 +221,16 @@ fn pivots_by_numbers(rt: HostRuntime) -> Result<(), Fail> {
             ],
             "2 [1, 4294967295] [3, 4] [3, 4] ",
             false,
+            true,
         ),
     ];
-    for (text, numbers, entries, is_passing) in cases {
-        let (found, passed) = judged(rt.alloc(), text, numbers)?;
-        assert_eq!(rt; passed, is_passing);
-        assert_eq!(rt; shown(rt.alloc(), &found)?.as_str(), entries);
+    for (text, numbers, entries, is_passing, has_order) in cases {
+        let told = judged(rt.alloc(), text, numbers)?;
+        assert_eq!(rt; told.passed, is_passing);
+        assert_eq!(rt; shown(rt.alloc(), &told.pivots)?.as_str(), entries);
+        let (verdict, pivots) = told.at_once;
+        assert_eq!(rt; shown(rt.alloc(), &pivots)?.as_str(), entries);
+        assert_eq!(rt; matches!(verdict, Verdict::Order(_)), has_order);
     }
     Ok(())
 }

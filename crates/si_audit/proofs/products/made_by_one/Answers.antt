@@ -1,0 +1,16 @@
+use Rattle.std.proofs.Common.{map}
+use Rattle.sia_parts.specs.Packing.{unpacked}
+use Rattle.si_audit.proofs.Judging.{edges_join, verdict_of_history}
+use Rattle.si_audit.proofs.products.made_by_one.Goals as goal
+
+pub judge_numbers-requires-clause-joins : goal.judge_numbers-requires-clause-joins
+judge_numbers-requires-clause-joins c =
+    let edges = c.args.edges.now in
+    let join = edges_join edges.index.now edges.txns.now (map (unpacked edges.txns.now edges.keys.now) edges.numbers.now) c.requires.txns_are c.requires.numbers_are.edges c.requires.well_formed in
+    λ k d below. (join k d below).2
+
+-- what is settled of the lists is settled of the history
+pub returns-clause-verdict : goal.returns-clause-verdict
+returns-clause-verdict c =
+    let edges = c.args.edges.now in
+    verdict_of_history edges.index.now edges.txns.now (map (unpacked edges.txns.now edges.keys.now) edges.numbers.now) c.requires.txns_are c.requires.numbers_are.edges _ c.in_ok-found.ensures.verdict
