@@ -19,11 +19,8 @@ use std::thread::Threads;
 /// How many numbers are made by one thread, since to start others takes time.
 const FEW: usize = 131_072;
 
-/// How many stretches each worker takes, so that none waits long for the last one.
-const SHARES: u32 = 4;
-
-/// How many numbers a stretch mostly has where there is one worker: so few that the memory of each can be used again once its
-/// lines are made.
+/// How many numbers a stretch mostly has: so few that no worker waits long for the last one, and that its memory is one that an
+/// allocator gives each worker apart from the others, and gives again.
 const SHORT: usize = 12_000;
 
 /// The greatest number of stretches, which are the parts of the work.
@@ -59,15 +56,10 @@ impl Job for Merging<'_> {
 }
 
 /// Into how many stretches so many numbers are cut at most.
-fn most_of(workers: u32, numbers: usize) -> u32
-    requires { workers ≤ 64 }
+fn most_of(numbers: usize) -> u32
     ensures { (0 < result) × (result ≤ 1024) }
 {
-    if workers > 1 {
-        workers * SHARES
-    } else {
-        (numbers / SHORT).clamp(1, MOST) as u32
-    }
+    (numbers / SHORT).clamp(1, MOST) as u32
 }
 
 /// How many stretches there are.
@@ -95,7 +87,7 @@ fn merged<R: Threads + Wait + Sync>(
     if unmerged < FEW {
         return gathering.merged(alloc, txns);
     }
-    let seams = Seams::of(alloc, &gathering, txns, most_of(workers, unmerged))?;
+    let seams = Seams::of(alloc, &gathering, txns, most_of(unmerged))?;
     let job = Merging {
         alloc,
         gathering: &gathering,

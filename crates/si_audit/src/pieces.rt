@@ -6,8 +6,9 @@ use sia_events::NoMemory;
 use sia_parts::{EdgeNumber, EdgeNumbers};
 use std::alloc::{AllocError, Global};
 
-/// How many numbers a piece mostly has, so that to take it costs little beside making its lines.
-pub(crate) const PIECE: usize = 131_072;
+/// How many numbers a piece mostly has: so few that the sheet of its lines comes from memory that its worker has to itself, since
+/// an allocator takes great sheets of all workers from one place.
+pub(crate) const PIECE: usize = 4096;
 
 /// The numbers in pieces of at most so many, and of one where that is 0. Each piece is of one stretch.
 pub(crate) fn pieces_of(

@@ -127,12 +127,15 @@ impl Making<'_> {
     }
 }
 
-/// For how many workers there is work. Where edges are few the calling thread does all, since threads take time to start.
+/// Fewer edges are left to the calling thread, since threads take time to start.
+const FEW: usize = 131_072;
+
+/// For how many workers there is work.
 fn crew_of(o: &Options, edges: usize, batches: Batches) -> u32
     requires { batches.count ≤ 1022 }
     ensures { (0 < result) × (result ≤ 64) }
 {
-    if edges < PIECE && batches.count < 2 {
+    if edges < FEW {
         1
     } else {
         u32::from(o.workers()).min(batches.count + 2)
