@@ -36,7 +36,7 @@ stretch_ascends numbers before group after is up i j d less below =
     there k l = ap (λ ys. slice_get ys (length before + k)) is ∙ get_right before (group ++ after) k (get_or group k d) (get_left group after k (get_or group k d) (slice_get-get_or group k d l))
 
 -- of two numbers with one source the lesser has no greater target
-target_rises : (n m : ℕ) → n ≤ m → source_number n ≡ source_number m → target_number n ≤ target_number m
+pub target_rises : (n m : ℕ) → n ≤ m → source_number n ≡ source_number m → target_number n ≤ target_number m
 target_rises n m l same =
     let a = div_rises 4 (n / 1048576) (m / 1048576) (omega arith) (div_rises 1048576 n m (omega arith) l) in
     let b = div-add-mod' (n / 1048576 / 4) 1048576 in

@@ -44,3 +44,6 @@ pub mod StretchLists
 pub mod TakenPlaces
 pub mod LeastNumbers
 pub mod ReadyPlaces
+pub mod NearOrders
+pub mod Highest
+pub mod Leading

@@ -12,13 +12,14 @@ ghost use Rattle.sia_graph.specs.Spans.{AreSpans};
 ghost use Rattle.sia_graph.specs.Verdicts.{IsVerdict};
 
 use crate::links::Link;
+use crate::near_order::near_order;
 use crate::numbered::Numbered;
 use crate::ordering::put_in_order;
 use crate::pivot::Pivot;
 use crate::pivoting::pivots_of_links;
 use crate::pivoting_numbers::pivots_of_numbers;
 use crate::settling::Verdict;
-use crate::settling_numbers::{all_rise, settle_counted};
+use crate::settling_numbers::settle_counted;
 use crate::spans::{Span, spans_of};
 use crate::taking_numbers::count_stretch;
 use crate::txns::Txns;
@@ -81,8 +82,12 @@ pub fn judge_numbers(
     ensures verdict { IfOk result (λ found. IsVerdict (Contains txns.now) (Contains (map (unpacked txns.now keys.now) numbers.now)) found.0) }
     ensures pivots { IfOk result (λ found. ArePivots ix.now found.1.items) }
 {
-    if all_rise(numbers) {
-        let order = Vec::from_slice(alloc, txns)?;
+    let edges = Numbered {
+        ids: txns,
+        keys,
+        numbers,
+    };
+    if let Some(order) = near_order(alloc, &edges)? {
         let pivots = pivots_of_numbers(alloc, ix, txns, numbers)?;
         return Ok((Verdict::Order(Txns::new(order)), pivots));
     }
@@ -93,11 +98,6 @@ pub fn judge_numbers(
     let mut leaving = seen.ends;
     put_in_order(&mut leaving);
     let pivots = pivots_of_links(alloc, ix, &leaving)?;
-    let edges = Numbered {
-        ids: txns,
-        keys,
-        numbers,
-    };
     let verdict = settle_counted(alloc, &edges, &starts, counts.as_mut_slice())?;
     Ok((verdict, pivots))
 }

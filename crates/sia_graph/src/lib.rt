@@ -8,6 +8,7 @@ mod guesses;
 mod judging_numbers;
 mod laws;
 mod links;
+mod near_order;
 mod numbered;
 mod order;
 mod ordering;

@@ -1,39 +1,20 @@
 //! The least order, or a cycle, of edges that are kept as numbers.
-ghost use Rattle.std.specs.Prelude.{[], ◌≢◌, ◌<◌, All, AllPairs, Contains, IfOk, IsTrue, map};
+ghost use Rattle.std.specs.Prelude.{[], ◌≢◌, ◌<◌, All, AllPairs, Contains, IfOk, map};
 ghost use Rattle.std.specs.List.Sorted.{IsStrictlyIncreasing};
-ghost use Rattle.sia_parts.specs.Packing.{IsPacked, source_number, target_number, unpacked};
+ghost use Rattle.sia_parts.specs.Packing.{IsPacked, unpacked};
 ghost use Rattle.sia_graph.specs.Fronts.{AreWaiting};
 ghost use Rattle.sia_graph.specs.Places.{AreNumbered, edges_at};
 ghost use Rattle.sia_graph.specs.Verdicts.{IsVerdict};
 
+use crate::near_order::near_order;
 use crate::numbered::Numbered;
 use crate::settling::{Steps, Verdict, first_left};
 use crate::taking_numbers::{count_numbers, take_numbered};
 use crate::txns::Txns;
 use crate::walking_numbers::numbered_cycle;
 use sia_events::{Key, NoMemory, TxnId};
-use sia_parts::{EdgeNumber, EdgeNumbers, source_of, target_of};
+use sia_parts::EdgeNumbers;
 use std::alloc::Global;
-
-/// Whether each number of a stretch leads to a greater place.
-fn rise(numbers: &[EdgeNumber]) -> bool
-    ensures { IsTrue result → All (λ n. source_number n < target_number n) numbers.now }
-{
-    numbers.iter().all(|n| source_of(*n) < target_of(*n))
-}
-
-/// Whether each number leads to a greater place.
-pub(crate) fn all_rise(numbers: &EdgeNumbers) -> bool
-    ensures { IsTrue result → All (λ n. source_number n < target_number n) numbers.now }
-{
-    let stretches = numbers.stretches();
-    for stretch in stretches {
-        if !rise(stretch) {
-            return false;
-        }
-    }
-    true
-}
 
 /// The least order of the ids that keeps the edges, or where none does the cycle that is printed, as `settle` tells it of
 /// edges that aren't packed. The numbers are of these ids and keys.
@@ -50,11 +31,11 @@ pub fn settle_numbers(
     requires joins { All (λ e. e.src ≢ e.dst) (map (unpacked ids.now keys.now) numbers.now) }
     ensures { IfOk result (IsVerdict (Contains ids.now) (Contains (map (unpacked ids.now keys.now) numbers.now))) }
 {
-    if all_rise(numbers) {
-        let order = Vec::from_slice(alloc, ids)?;
-        return Ok(Verdict::Order(Txns::new(order)));
+    let edges = Numbered { ids, keys, numbers };
+    match near_order(alloc, &edges)? {
+        Some(order) => Ok(Verdict::Order(Txns::new(order))),
+        None => settle_numbered(alloc, &edges),
     }
-    settle_numbered(alloc, &Numbered { ids, keys, numbers })
 }
 
 /// The same, by taking one transaction after another.

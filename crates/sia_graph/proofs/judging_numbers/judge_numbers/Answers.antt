@@ -1,5 +1,6 @@
-use Rattle.std.proofs.Common.{ℕ, List, [], map, sym, ◌∙◌, subst, rules}
-use Rattle.std.specs.Prelude.{Contains}
+use Rattle.std.proofs.Common.{ℕ, List, Option, [], map, sym, ◌∙◌, subst, rules}
+use Rattle.std.specs.Prelude.{Contains, IfSome}
+use Rattle.std.specs.Global.{Vec}
 use Rattle.std.proofs.lemmas.List.Elements.{All-weaker, All-contains_itself}
 use Rattle.sia_events.specs.DangerousStructures.{IsVulnerable}
 use Rattle.sia_events.specs.Transactions.{IsCommitted, Overlap}
@@ -9,28 +10,18 @@ use Rattle.sia_graph.specs.Fronts.{AreWaiting}
 use Rattle.sia_graph.specs.Links.{link_rank, ListsLinks}
 use Rattle.sia_graph.specs.Orders.{IsLeastOrder}
 use Rattle.sia_graph.specs.Places.{AreNumbered, edges_at}
-use Rattle.sia_graph.proofs.Ascending.{ascending_least}
 use Rattle.sia_graph.proofs.LinkLists.{ends_in_order}
 use Rattle.sia_graph.proofs.Listed.{listed_as}
 use Rattle.sia_graph.proofs.Vulnerable.{vulnerable_by}
-use Rattle.sia_graph.proofs.Places.{all_ascend, all_join, counted_first}
+use Rattle.sia_graph.proofs.Places.{counted_first}
 use Rattle.sia_graph.proofs.judging_numbers.judge_numbers.Goals as goal
 
-pub returns-then-all_rise-clause-verdict : goal.returns-then-all_rise-clause-verdict
-returns-then-all_rise-clause-verdict c =
+pub returns-in-Some-clause-verdict : goal.returns-in-Some-clause-verdict
+returns-in-Some-clause-verdict c =
     let ids = c.args.txns.now in
-    let keys = c.args.keys.now in
-    let numbers = c.args.numbers.now in
-    let edges = edges_at ids keys numbers in
-    let are : AreNumbered ids keys numbers = record {
-      ids_up = c.requires.ids;
-      keys_up = c.requires.keys;
-      packed = c.requires.packed;
-      ascending = c.requires.ascending;
-      joins = c.requires.joins;
-    } in
-    subst (λ (l : List ℕ). IsLeastOrder (Contains ids) (Contains edges) l) (sym (c.new.ensures ∙ c.in_ok-order.ensures.items))
-    (ascending_least ids c.requires.ids edges (all_join ids keys numbers are) (all_ascend ids keys numbers are (c.all_rise.ensures c.if-all_rise.true)))
+    let edges = edges_at ids c.args.keys.now c.args.numbers.now in
+    subst (λ (l : List ℕ). IsLeastOrder (Contains ids) (Contains edges) l) (sym c.new.ensures)
+    (subst (λ (o : Option (Vec ℕ)). IfSome o (λ order. IsLeastOrder (Contains ids) (Contains edges) order.items)) c.in-Some.is c.in_ok-order.ensures)
 
 pub spans_of-requires : goal.spans_of-requires
 spans_of-requires c = All-weaker _ (IsCommitted c.args.ix.now) (λ t has. (c.requires.txns.each t).0 has) c.args.txns.now (All-contains_itself c.args.txns.now)
