@@ -67,17 +67,23 @@ module _ {A B : Type 0} (P : A → B → Type 0) (xs : List A) where
   pub from_none : (old : List B) → Adds (FromFirst P xs 0) old old
   from_none old = adds_nothing (FromFirst P xs 0) old (λ y f. let below = f.1.1 in absurd (omega arith))
 
+  -- what the first n give, and what the next one gives
+  pub first_more : (n : ℕ) (d : A) → n < length xs → (y : B) → (FromFirst P xs n y ⊎ P (get_or xs n d) y) ↔ FromFirst P xs (n + 1) y
+  first_more n d below y = (
+    (λ e. elim e [
+      | inl f ↦ (f.0, subst (λ zs. Contains zs f.0) (sym (take_more xs n d below)) (Contains-append_left (take n xs) (get_or xs n d ∷ []) f.0 f.1), f.2)
+      | inr p ↦ (get_or xs n d, subst (λ zs. Contains zs (get_or xs n d)) (sym (take_more xs n d below)) (Contains-push (take n xs) (get_or xs n d)), p)
+    ]),
+    (λ f. elim (Contains-push_cases (take n xs) (get_or xs n d) f.0 (subst (λ zs. Contains zs f.0) (take_more xs n d below) f.1)) [
+      | inl c ↦ inl (f.0, c, f.2)
+      | inr same ↦ inr (subst (λ x. P x y) (sym same) f.2)
+    ]),
+  )
+
   pub from_more : (n : ℕ) (d : A) (old mid new : List B) → n < length xs → Adds (FromFirst P xs n) old mid → Adds (P (get_or xs n d)) mid new → Adds (FromFirst P xs (n + 1)) old new
   from_more n d old mid new below before here =
       adds_same (λ y. FromFirst P xs n y ⊎ P (get_or xs n d) y) (FromFirst P xs (n + 1)) old new
-      (λ y e. elim e [
-        | inl f ↦ (f.0, subst (λ zs. Contains zs f.0) (sym (take_more xs n d below)) (Contains-append_left (take n xs) (get_or xs n d ∷ []) f.0 f.1), f.2)
-        | inr p ↦ (get_or xs n d, subst (λ zs. Contains zs (get_or xs n d)) (sym (take_more xs n d below)) (Contains-push (take n xs) (get_or xs n d)), p)
-      ])
-      (λ y f. elim (Contains-push_cases (take n xs) (get_or xs n d) f.0 (subst (λ zs. Contains zs f.0) (take_more xs n d below) f.1)) [
-        | inl c ↦ inl (f.0, c, f.2)
-        | inr same ↦ inr (subst (λ x. P x y) (sym same) f.2)
-      ])
+      (λ y e. (first_more n d below y).0 e) (λ y f. (first_more n d below y).1 f)
       (adds_both (FromFirst P xs n) (P (get_or xs n d)) old mid new before here)
 
   pub from_all : (n : ℕ) (old new : List B) → length xs ≤ n → Adds (FromFirst P xs n) old new → Adds (FromSome P xs) old new

@@ -37,3 +37,4 @@ pub mod BetweenPlaces
 pub mod BlockNumbers
 pub mod SeamLemmas
 pub mod KeptStretches
+pub mod Twofold

@@ -1,5 +1,5 @@
 //! The numbers of fans' edges, one source after another: a source's numbers are few enough to be sorted at once.
-ghost use Rattle.std.specs.Prelude.{◌≡◌, ◌↔◌, ◌<◌, ◌≤◌, ◌-◌, ℕ, All, AllPairs, Contains, IfOk, OnOk, IsTrue, length, slice_index_or};
+ghost use Rattle.std.specs.Prelude.{◌≡◌, ◌↔◌, ◌⊎◌, ◌<◌, ◌≤◌, ◌-◌, ℕ, All, AllPairs, Contains, IfOk, OnOk, IsTrue, length, slice_index_or};
 ghost use Rattle.sia_parts.specs.Packing.{AreDigits};
 ghost use Rattle.sia_parts.specs.Sights.{Adds, FromSome};
 ghost use Rattle.sia_parts.specs.Ends.{HasDigits, IsNumberTo};
@@ -10,6 +10,7 @@ use crate::fans::{Fan, ends_for};
 use crate::finding::Kind;
 use crate::ordering::{merge_in_order, put_in_order};
 use crate::packing::{BASE, number};
+use crate::sourcing::rise_from_one;
 use sia_events::NoMemory;
 use std::alloc::Global;
 
@@ -104,10 +105,22 @@ fn put_run(
 {
     run.clear();
     put_numbers(makers, readers, fans, run)?;
-    merge_in_order(run)?;
+    put_up(run)?;
     let follows = follows(numbers.as_slice(), run.as_slice());
     numbers.extend_from_slice(run.as_slice())?;
     Ok(follows)
+}
+
+/// Puts the numbers of a run in order, each once. Mostly they are.
+fn put_up(run: &mut Vec<u64>) -> Result<(), NoMemory>
+    ensures up { OnOk result (AllPairs (λ m n. m < n) run.new.items) }
+    ensures same { OnOk result ((n : ℕ) → Contains run.new.items n ↔ Contains run.old.items n) }
+{
+    if rise_from_one(run) {
+        return Ok(());
+    }
+    merge_in_order(run)?;
+    Ok(())
 }
 
 /// Whether the first number of the run is greater than the last of those before.
@@ -134,10 +147,29 @@ pub(crate) fn put_numbers(
     requires readers { All HasDigits readers.now }
     ensures { OnOk result (Adds (FromSome (IsFanNumber makers.now readers.now) fans.now) numbers.old.items numbers.new.items) }
 {
+    if fans.len() == 2 {
+        put_two_fans(makers, readers, fans[0], fans[1], numbers)?;
+        return Ok(());
+    }
     for fan in fans {
         put_fan_numbers(makers, readers, *fan, numbers)?;
     }
     Ok(())
+}
+
+/// The ends of the fan.
+fn ends_of<'a>(makers: &'a [End], readers: &'a [End], fan: Fan) -> &'a [End]
+    requires makers { All HasDigits makers.now }
+    requires readers { All HasDigits readers.now }
+    ensures digits { All HasDigits result.now }
+    ensures each { (n : ℕ) → FromSome (IsNumberTo fan.src fan.kind) result.now n ↔ IsFanNumber makers.now readers.now fan n }
+{
+    let ends = ends_for(makers, readers, fan.kind);
+    if fan.from <= fan.to && fan.to <= ends.len() {
+        &ends[fan.from..fan.to]
+    } else {
+        &[]
+    }
 }
 
 fn put_fan_numbers(
@@ -150,11 +182,79 @@ fn put_fan_numbers(
     requires readers { All HasDigits readers.now }
     ensures { OnOk result (Adds (IsFanNumber makers.now readers.now fan) numbers.old.items numbers.new.items) }
 {
-    let ends = ends_for(makers, readers, fan.kind);
-    if fan.from <= fan.to {
-        if fan.to <= ends.len() {
-            put_numbers_to(fan.src, fan.kind, &ends[fan.from..fan.to], numbers)?;
+    let ends = ends_of(makers, readers, fan);
+    put_numbers_to(fan.src, fan.kind, ends, numbers)?;
+    Ok(())
+}
+
+/// Adds the numbers of both fans, the lesser first each time: where the ends of both ascend, so do these.
+fn put_two_fans(
+    makers: &[End],
+    readers: &[End],
+    first: Fan,
+    second: Fan,
+    numbers: &mut Vec<u64>,
+) -> Result<(), NoMemory>
+    requires makers { All HasDigits makers.now }
+    requires readers { All HasDigits readers.now }
+    ensures { OnOk result (Adds (λ n. IsFanNumber makers.now readers.now first n ⊎ IsFanNumber makers.now readers.now second n) numbers.old.items numbers.new.items) }
+{
+    if u64::from(first.src) >= BASE || u64::from(second.src) >= BASE {
+        put_fan_numbers(makers, readers, first, numbers)?;
+        put_fan_numbers(makers, readers, second, numbers)?;
+        return Ok(());
+    }
+    let left = ends_of(makers, readers, first);
+    let right = ends_of(makers, readers, second);
+    put_both(first, left, second, right, numbers)?;
+    Ok(())
+}
+
+/// Adds the numbers of the edges of both fans to these ends.
+fn put_both(
+    first: Fan,
+    left: &[End],
+    second: Fan,
+    right: &[End],
+    numbers: &mut Vec<u64>,
+) -> Result<(), NoMemory>
+    requires sources { (first.src < 1048576) × (second.src < 1048576) }
+    requires left { All HasDigits left.now }
+    requires right { All HasDigits right.now }
+    ensures { OnOk result (Adds (λ n. FromSome (IsNumberTo first.src first.kind) left.now n ⊎ FromSome (IsNumberTo second.src second.kind) right.now n) numbers.old.items numbers.new.items) }
+{
+    let mut i = 0;
+    let mut j = 0;
+    while i < left.len() && j < right.len() {
+        if number_to(first.src, first.kind, left[i])
+            < number_to(second.src, second.kind, right[j])
+        {
+            put_number_to(first, left[i], numbers)?;
+            i += 1;
+        } else {
+            put_number_to(second, right[j], numbers)?;
+            j += 1;
         }
+    }
+    while i < left.len() {
+        put_number_to(first, left[i], numbers)?;
+        i += 1;
+    }
+    while j < right.len() {
+        put_number_to(second, right[j], numbers)?;
+        j += 1;
+    }
+    Ok(())
+}
+
+/// Adds the number of the fan's edge to the end, if this is of another transaction.
+fn put_number_to(fan: Fan, end: End, numbers: &mut Vec<u64>) -> Result<(), NoMemory>
+    requires source { fan.src < 1048576 }
+    requires end { HasDigits end }
+    ensures { OnOk result (Adds (IsNumberTo fan.src fan.kind end) numbers.old.items numbers.new.items) }
+{
+    if end.txn != fan.src {
+        numbers.push(number_to(fan.src, fan.kind, end))?;
     }
     Ok(())
 }
