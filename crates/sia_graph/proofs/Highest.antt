@@ -1,5 +1,5 @@
 -- The greatest places that lead to others, when more numbers are looked at.
-use Rattle.std.proofs.Common.{◌≡◌, ◌≢◌, ◌⊎◌, inl, inr, ℕ, ◌<◌, ◌≤◌, List, [], ◌∷◌, ◌++◌, length, get_or, replicate, take, refl, sym, ap, ◌∙◌, subst, arith}
+use Rattle.std.proofs.Common.{◌≡◌, ◌⊎◌, inl, inr, ℕ, ◌<◌, ◌≤◌, List, [], ◌∷◌, ◌++◌, length, get_or, replicate, take, refl, sym, ap, ◌∙◌, arith}
 use Rattle.std.specs.Prelude.{◌↔◌, AllPairs, Contains, slice_set}
 use Rattle.std.specs.List.{AllWithin}
 use Rattle.std.proofs.lemmas.Bool.{cases_eq, cases_lt}
@@ -110,20 +110,20 @@ highest_raised before n highest place source from to within less are =
     highest_more before (n ∷ []) highest (slice_set highest place source) (length-set highest place source)
     (λ i e l above. elim (cases_eq place i) [
       | inl same ↦ (
-          (λ le. inr (n, (0, omega arith, refl), to ∙ same, let a = get_or-set_same highest place source 0 within in let b = ap (λ k. get_or (slice_set highest place source) k 0) same in omega arith)),
-          (λ r. let a = get_or-set_same highest place source 0 within in let b = ap (λ k. get_or (slice_set highest place source) k 0) same in let c = ap (λ k. get_or highest k 0) same in
-              elim r [
-                | inl le ↦ omega arith
-                | inr w ↦ let d = ap source_number (only_one_in n w.0 w.1) in let f = w.3 in omega arith
-              ]),
-        )
+        (λ le. inr (n, (0, omega arith, refl), to ∙ same, let a = get_or-set_same highest place source 0 within in let b = ap (λ k. get_or (slice_set highest place source) k 0) same in omega arith)),
+        (λ r. let a = get_or-set_same highest place source 0 within in let b = ap (λ k. get_or (slice_set highest place source) k 0) same in let c = ap (λ k. get_or highest k 0) same in
+            elim r [
+              | inl le ↦ omega arith
+              | inr w ↦ let d = ap source_number (only_one_in n w.0 w.1) in let f = w.3 in omega arith
+            ]),
+      )
       | inr other ↦ (
-          (λ le. inl (let a = get_or-set_other highest place i source 0 (λ same. other (sym same)) in omega arith)),
-          (λ r. elim r [
-            | inl le ↦ let a = get_or-set_other highest place i source 0 (λ same. other (sym same)) in omega arith
-            | inr w ↦ absurd (other (sym to ∙ ap target_number (only_one_in n w.0 w.1) ∙ w.2))
-          ]),
-        )
+        (λ le. inl (let a = get_or-set_other highest place i source 0 (λ same. other (sym same)) in omega arith)),
+        (λ r. elim r [
+          | inl le ↦ let a = get_or-set_other highest place i source 0 (λ same. other (sym same)) in omega arith
+          | inr w ↦ absurd (other (sym to ∙ ap target_number (only_one_in n w.0 w.1) ∙ w.2))
+        ]),
+      )
     ])
     are
 

@@ -1,5 +1,5 @@
 -- Going up the places of the ids: what one more place and one more transaction taken do, and what is made where none is left.
-use Rattle.std.proofs.Common.{◌≡◌, ◌≢◌, ◌⊎◌, inl, inr, ℕ, zero, suc, ◌+◌, ◌-◌, ◌<◌, ◌≤◌, List, [], ◌∷◌, ◌++◌, length, get_or, refl, ap, sym, ◌∙◌, subst, arith}
+use Rattle.std.proofs.Common.{◌≡◌, ◌≢◌, inl, inr, ℕ, zero, suc, ◌+◌, ◌-◌, ◌<◌, ◌≤◌, List, [], ◌∷◌, ◌++◌, length, get_or, refl, ap, sym, ◌∙◌, subst, arith}
 use Rattle.std.specs.Prelude.{Contains, All, AllPairs}
 use Rattle.std.specs.List.{remove}
 use Rattle.std.proofs.lemmas.Bool.{cases_eq, cases_lt}
@@ -9,7 +9,6 @@ use Rattle.std.proofs.lemmas.List.Elements.{All-append, All-contains, All-nil, C
 use Rattle.std.proofs.lemmas.List.Quantifiers.{all_pairs_push, all_pairs_remove}
 use Rattle.sia_parts.specs.declared.finding.Edge.{Edge}
 use Rattle.sia_parts.specs.Packing.{IsPacked, source_number, target_number, unpacked}
-use Rattle.sia_graph.specs.Fronts.{IsFront}
 use Rattle.sia_graph.specs.NearOrders.{IsHeldAt, IsLeftAt, IsTakenUpTo}
 use Rattle.sia_graph.specs.Orders.{IsLeastOrder, Leads}
 use Rattle.sia_graph.specs.Places.{AreNumbered, edges_at}
@@ -94,7 +93,6 @@ module _ (ids : List ℕ) (edges : List Edge) where
         | inr other ↦ inr (omega arith)
       ]
 
-
 -- the places of an edge's ends
 pub ends_of : (ids keys numbers : List ℕ) → AreNumbered ids keys numbers → (s t : ℕ) → Leads (Contains (edges_at ids keys numbers)) s t
     → (n : ℕ) × Contains numbers n × (source_number n < length ids) × (target_number n < length ids) × (get_or ids (source_number n) 0 ≡ s) × (get_or ids (target_number n) 0 ≡ t)
@@ -158,8 +156,13 @@ module _ (ids keys numbers : List ℕ) (are : AreNumbered ids keys numbers) (end
         elim (stands_or_not order s) [
           | inl in' ↦ in'
           | inr out ↦
-              absurd (free (n, w.1, to, (λ e. apart (leads.2 ∙ sym w.4 ∙ ap (λ i. get_or ids i 0) e ∙ sym leads.3)),
-              out_left (source_number n) w.2 (subst (λ x. ¬ Stands order x) (sym w.4) out)))
+              absurd (free (
+                n,
+                w.1,
+                to,
+                (λ e. apart (leads.2 ∙ sym w.4 ∙ ap (λ i. get_or ids i 0) e ∙ sym leads.3)),
+                out_left (source_number n) w.2 (subst (λ x. ¬ Stands order x) (sym w.4) out),
+              ))
         ]
 
     -- no lesser one is ready
@@ -192,7 +195,7 @@ module _ (ids keys numbers : List ℕ) (are : AreNumbered ids keys numbers) (end
         ends_within n c = let p = subst (IsPacked ids keys) c.2 (are.packed c.0 n c.1) in (p.source, p.target)
 
         number_leads : (n : ℕ) → Contains numbers n → get_or ids (target_number n) 0 ≡ u → Leads (Contains edges) (get_or ids (source_number n) 0) u
-        number_leads n c to = 
+        number_leads n c to =
             let long : c.0 < length (edges_at ids keys numbers) = let b = c.1 in omega (arith, length-map numbers (unpacked ids keys)) in
             (unpacked ids keys n, (c.0, long, get_or-map (unpacked ids keys) numbers c.0 n (unpacked ids keys n) c.1 ∙ ap (unpacked ids keys) c.2), refl, to)
 

@@ -108,7 +108,3 @@ module _ (ids keys numbers : List ℕ) (are : AreNumbered ids keys numbers) wher
   -- as many edges wait at first as numbers lead there
   pub counted_first : (counts : List ℕ) → AreArriving (length ids) numbers counts → AreWaiting [] ids edges counts
   counted_first counts made = (made.0, λ i l. made.1 i l ∙ sym (same_arriving i l numbers are.packed))
-
-  -- where each number leads to a greater place, each edge leads to a greater transaction
-  pub all_ascend : All (λ n. source_number n < target_number n) numbers → All (λ e. e.src < e.dst) edges
-  all_ascend rise = All-map (λ e. e.src < e.dst) (unpacked ids keys) numbers (λ k d l. ids_less ids are.ids_up (source_number (get_or numbers k d)) (target_number (get_or numbers k d)) (rise k d l) (are.packed k d l).target)

@@ -17,7 +17,7 @@ use std::alloc::Global;
 const MOST: usize = 8;
 
 /// How often it is looked at most whether one transaction waits for another, for each transaction.
-const LOOKS: usize = 4;
+const LOOKS: usize = 8;
 
 /// How many numbers are looked at first for the end of those of a source.
 const NEAR: usize = 64;
@@ -216,10 +216,7 @@ fn looks_at(waiting: usize) -> usize {
 }
 
 /// The least order, if it is found by going up the places with a few that wait.
-pub(crate) fn near_order(
-    alloc: Global,
-    edges: &Numbered,
-) -> Result<Option<Vec<TxnId>>, NoMemory>
+pub(crate) fn near_order(alloc: Global, edges: &Numbered) -> Result<Option<Vec<TxnId>>, NoMemory>
     requires { AreNumbered edges.now.ids.now edges.now.keys.now edges.now.numbers.now }
     ensures { IfOk result (λ found. IfSome found (λ order. IsLeastOrder (Contains edges.now.ids.now)
         (Contains (edges_at edges.now.ids.now edges.now.keys.now edges.now.numbers.now)) order.items)) }
@@ -232,11 +229,22 @@ pub(crate) fn near_order(
     let mut looks = places.saturating_mul(LOOKS);
     for place in 0..places {
         waiting.push(place)?;
-        let taken = take_free(edges, &starts, &highest, &mut waiting, place + 1, &mut order)?;
+        let taken = take_free(
+            edges,
+            &starts,
+            &highest,
+            &mut waiting,
+            place + 1,
+            &mut order,
+        )?;
         if waiting.len() > MOST || looks < taken {
             return Ok(None);
         }
         looks -= taken;
     }
-    if waiting.is_empty() { Ok(Some(order)) } else { Ok(None) }
+    if waiting.is_empty() {
+        Ok(Some(order))
+    } else {
+        Ok(None)
+    }
 }

@@ -123,7 +123,7 @@ const fn step(txn: TxnId, kind: Kind, key: Key) -> Step {
 #[test]
 fn least_orders(rt: HostRuntime) -> Result<(), Fail> {
     use Kind::{Rw, Wr, Ww};
-    let cases: [(&[TxnId], &[Edge], &[TxnId]); 10] = [
+    let cases: [(&[TxnId], &[Edge], &[TxnId]); 12] = [
         // No transaction.
         (&[], &[], &[]),
         // Without edges the ids ascend.
@@ -160,6 +160,29 @@ fn least_orders(rt: HostRuntime) -> Result<(), Fail> {
                 edge(6, Wr, 2, 0),
             ],
             &[6, 1, 2, 4],
+        ),
+        // 1 waits for 2, which waits for 4 itself: 3 is free before them.
+        (
+            &[1, 2, 3, 4],
+            &[edge(2, Ww, 1, 3), edge(4, Rw, 2, 3)],
+            &[3, 4, 2, 1],
+        ),
+        // Ten wait for the last.
+        (
+            &[1, 2, 3, 4, 5, 6, 7, 8, 9, 10, 11],
+            &[
+                edge(11, Ww, 1, 1),
+                edge(11, Ww, 2, 1),
+                edge(11, Ww, 3, 1),
+                edge(11, Ww, 4, 1),
+                edge(11, Ww, 5, 1),
+                edge(11, Ww, 6, 1),
+                edge(11, Ww, 7, 1),
+                edge(11, Ww, 8, 1),
+                edge(11, Ww, 9, 1),
+                edge(11, Ww, 10, 1),
+            ],
+            &[11, 1, 2, 3, 4, 5, 6, 7, 8, 9, 10],
         ),
         // The greatest name and the greatest key.
         (

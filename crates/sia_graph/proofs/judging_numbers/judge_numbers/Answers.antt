@@ -1,4 +1,4 @@
-use Rattle.std.proofs.Common.{ℕ, List, Option, [], map, sym, ◌∙◌, subst, rules}
+use Rattle.std.proofs.Common.{ℕ, List, Option, [], map, sym, subst, rules}
 use Rattle.std.specs.Prelude.{Contains, IfSome}
 use Rattle.std.specs.Global.{Vec}
 use Rattle.std.proofs.lemmas.List.Elements.{All-weaker, All-contains_itself}
