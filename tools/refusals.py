@@ -3,11 +3,12 @@
 
     refusals.py PROGRAM
 
-On each history and command line, the first call that asks for memory is refused, then the second in a new run, and so on
-until a run ends without a refusal. Each run must end as it does when nothing is refused, or with status 4, nothing on
+On each history and command line, the first call that asks for memory is refused, then the second in a new run, and so
+on until a run ends without a refusal. Each run must end as it does when nothing is refused, or with status 4, nothing on
 standard output and the line for want of memory. The same is done with the calls that start a thread, whose refusal must
-not show at all. The last line is 'N passed, M failed'. What refuses is refuse.c, so this wants Linux and a C compiler;
-where they are missing nothing is run, which the one line then says.
+not show at all. The last line is 'N passed, M failed'. What refuses is refuse.c, so this wants a C compiler, and a
+system that loads a library before a program's own; where one of them is missing, the one line says so, and nothing is
+tried.
 """
 import os
 import shutil
@@ -43,11 +44,14 @@ class Refuser:
     def __init__(self, program, room):
         self.program, self.room = program, room
 
-    def is_made(self):
-        """Whether what refuses could be made."""
+    def lacks(self):
+        """Returns what is missing here, or an empty text."""
         cc = shutil.which(os.environ.get("CC", "cc"))
         words = [cc, "-shared", "-fPIC", "-O1", "-o", f"{self.room}/refuse.so", f"{HERE}/refuse.c", "-ldl"]
-        return bool(cc) and sys.platform == "linux" and subprocess.run(words, stderr=subprocess.DEVNULL).returncode == 0
+        if not cc or subprocess.run(words, stderr=subprocess.DEVNULL).returncode:
+            return "no C compiler makes refuse.c here"
+        _, refused = self.run(f"{EXAMPLES}/clean.history", [], "REFUSE_MEMORY", 1)
+        return "" if refused else "refuse.c is not loaded before the program here"
 
     def run(self, history, line, what=None, number=0):
         """Returns how the program ended and what it wrote, and how many calls it was refused."""
@@ -78,8 +82,9 @@ def main(words):
     tried, failed = {what: 0 for what in ALLOWED}, 0
     with tempfile.TemporaryDirectory() as room:
         refuser = Refuser(os.path.abspath(words[0]), room)
-        if not refuser.is_made():
-            print("left out: this wants Linux and a C compiler")
+        lacking = refuser.lacks()
+        if lacking:
+            print(f"left out: {lacking}")
             return 0
         for history, line in cases(room):
             for what, allowed in ALLOWED.items():
