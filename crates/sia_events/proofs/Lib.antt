@@ -49,4 +49,3 @@ pub mod Pieces
 pub mod Progresses
 pub mod Writing
 pub mod Pairs
-pub mod Fronts

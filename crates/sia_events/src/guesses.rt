@@ -15,9 +15,6 @@ const TRIED: usize = 2;
 /// How many slots the least table has. Each table has a power of two of them.
 const LEAST_SLOTS: usize = 1024;
 
-/// So many guesses are made together. More or fewer would do: their looks are only to be under way at the same time.
-pub(crate) const TOGETHER: usize = 16;
-
 /// A slot holds a position below this, and a tag above it. A history has fewer events.
 const POSITIONS: u32 = 131_072;
 
@@ -122,16 +119,6 @@ impl Guesses {
                 .look(mixed(self.seed.wrapping_mul(MIX), write))
                 .unwrap_or(EMPTY) as usize,
         }
-    }
-
-    /// Where each of the first writes may stand, by one bucket alone. No look waits for another.
-    pub(crate) fn guess_each(&self, writes: &[(Key, TxnId)]) -> [u32; TOGETHER] {
-        let mut guesses = [EMPTY; TOGETHER];
-        for at in 0..writes.len().min(TOGETHER) {
-            let mixed = mixed(self.seed, writes[at]);
-            guesses[at] = self.found(self.bucket(mixed, 0), tag_of(mixed));
-        }
-        guesses
     }
 
     /// Takes the entry into the first empty slot of the bucket, if there is one.

@@ -32,6 +32,13 @@ impl History {
         History { events }
     }
 
+    /// A law of every history, and nothing else: it is well-formed.
+    pub fn law(&self)
+        ensures { IsWellFormed self.now }
+    {
+        let _ = &self.events;
+    }
+
     /// How many events there are.
     pub fn len(&self) -> u32
         ensures len { result ≡ length self.now }

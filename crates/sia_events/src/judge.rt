@@ -158,10 +158,8 @@ fn past_separators(text: &[u8]) -> &[u8]
     &text[len..]
 }
 
-/// How many bytes are looked at together, in long tokens and in short ones.
-const WIDE: usize = 32;
-
-const NARROW: usize = 8;
+/// How many bytes are looked at together.
+const BLOCK: usize = 32;
 
 /// Whether each byte is greater than every separator.
 fn is_plain(block: &[u8]) -> bool
@@ -180,11 +178,8 @@ fn plain_len(text: &[u8]) -> usize
     ensures passed { (k : ℕ) → k < result → is_separator (slice_index text.now k) ≡ false }
 {
     let mut len = 0;
-    'wide: while len + WIDE <= text.len() && is_plain(&text[len..len + WIDE]) {
-        len += WIDE;
-    }
-    'narrow: while len + NARROW <= text.len() && is_plain(&text[len..len + NARROW]) {
-        len += NARROW;
+    while len + BLOCK <= text.len() && is_plain(&text[len..len + BLOCK]) {
+        len += BLOCK;
     }
     len
 }

@@ -1,5 +1,5 @@
 //! Numbers of a token, of any size.
-ghost use Rattle.std.specs.Prelude.{◌≡◌, ◌<◌, ◌≤◌, length, take, Ok, Some, IfOk, IfSome};
+ghost use Rattle.std.specs.Prelude.{◌≡◌, ◌≤◌, length, take, IfOk};
 ghost use Rattle.sia_events.specs.Parsing.{Gives, digits_len, digits_value, narrow, number_at, key_of, version_of, txn_of};
 
 use crate::event::{Key, TxnId, Version};
@@ -11,79 +11,8 @@ pub(crate) type Number = Option<u64>;
 /// A number below this has room for one more digit in 64 bits.
 const HAS_ROOM: u64 = 1_844_674_407_370_955_161;
 
-/// So many digits have room in 64 bits, whatever they are.
-const SHORT: usize = 19;
-
-/// How many digits the bytes begin with, of the first 19 bytes, and the number that they stand for.
-fn short_digits(text: &[u8]) -> (usize, u64)
-    ensures len { result.0 < 19 → result.0 ≡ digits_len text.now }
-    ensures value { result.1 ≡ digits_value (take result.0 text.now) }
-    ensures within { result.0 ≤ length text.now }
-{
-    let most = text.len().min(SHORT);
-    let mut value: u64 = 0;
-    let mut len = 0;
-    while len < most && text[len].is_ascii_digit() {
-        value = value * 10 + u64::from(text[len]) - u64::from(b'0');
-        len += 1;
-    }
-    (len, value)
-}
-
-/// The number that the bytes begin with, where it is one of few digits, and what follows its last digit.
-#[tactic(auto, unfolding(crate::specs::Parsing::number_at))]
-pub(crate) fn short_number(text: &[u8]) -> Option<(u64, &[u8])>
-    ensures gives { IfSome result (λ x. number_at text.now ≡ Ok (Some x.0, x.1.now)) }
-    ensures shorter { IfSome result (λ x. length x.1.now ≤ length text.now) }
-{
-    let (len, value) = short_digits(text);
-    if len == 0 || SHORT <= len || (len > 1 && text[0] == b'0') {
-        return None;
-    }
-    Some((value, &text[len..]))
-}
-
-/// How many digits the bytes begin with, and the number that they stand for, where there are one or two and a byte below
-/// the digits is near, as a comma; else 0 of them. One or two makes no branch.
-fn brief_digits(text: &[u8]) -> (usize, u64)
-    ensures len { 0 < result.0 → result.0 ≡ digits_len text.now }
-    ensures value { 0 < result.0 → result.1 ≡ digits_value (take result.0 text.now) }
-    ensures within { result.0 ≤ length text.now }
-    ensures few { result.0 ≤ 2 }
-    ensures small { result.1 < 100 }
-{
-    if text.len() < 3 || !text[0].is_ascii_digit() || b'0' <= text[1].min(text[2]) {
-        return (0, 0);
-    }
-    let first = u64::from(text[0]) - u64::from(b'0');
-    if text[1].is_ascii_digit() {
-        (2, first * 10 + u64::from(text[1]) - u64::from(b'0'))
-    } else {
-        (1, first)
-    }
-}
-
-/// The same as `short_number`, faster where numbers of one digit and of two are mixed. It stays a call, so that loops over
-/// longer numbers are no larger for it.
-#[tactic(auto, unfolding(crate::specs::Parsing::number_at))]
-#[inline(never)]
-pub(crate) fn brief_number(text: &[u8]) -> Option<(u64, &[u8])>
-    ensures gives { IfSome result (λ x. number_at text.now ≡ Ok (Some x.0, x.1.now)) }
-    ensures shorter { IfSome result (λ x. length x.1.now ≤ length text.now) }
-{
-    let (len, value) = brief_digits(text);
-    if len == 0 {
-        return short_number(text);
-    }
-    // Two digits that begin with a 0.
-    if value + 10 < 10 * len as u64 {
-        return None;
-    }
-    Some((value, &text[len..]))
-}
-
 /// How many digits the bytes begin with, and the number that they stand for.
-fn long_digits(text: &[u8]) -> (usize, Number)
+fn digits(text: &[u8]) -> (usize, Number)
     ensures len { result.0 ≡ digits_len text.now }
     ensures value { result.1 ≡ narrow (digits_value (take (digits_len text.now) text.now)) }
     ensures within { result.0 ≤ length text.now }
@@ -107,19 +36,6 @@ fn long_digits(text: &[u8]) -> (usize, Number)
         len += 1;
     }
     (len, if fits { Some(value) } else { None })
-}
-
-/// The same, where most numbers are short.
-fn digits(text: &[u8]) -> (usize, Number)
-    ensures len { result.0 ≡ digits_len text.now }
-    ensures value { result.1 ≡ narrow (digits_value (take (digits_len text.now) text.now)) }
-    ensures within { result.0 ≤ length text.now }
-{
-    let (len, value) = short_digits(text);
-    if len < SHORT {
-        return (len, Some(value));
-    }
-    long_digits(text)
 }
 
 /// The number that the bytes begin with, and what follows its last digit.

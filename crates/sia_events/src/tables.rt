@@ -10,7 +10,6 @@ ghost use Rattle.sia_events.specs.Known.{Knows, acts, ends, writes, is_explained
 
 use crate::event::{Event, Key, TxnId, Version};
 use crate::fault::Reason;
-use crate::guesses::TOGETHER;
 use crate::txn_set::TxnSet;
 use crate::write_set::WriteSet;
 use std::alloc::{AllocError, Global};
@@ -48,56 +47,6 @@ fn is_good_list(lo: Key, hi: Key, listed: &[(Key, Version)]) -> bool
         before = Some(*key);
     }
     true
-}
-
-/// The guess of that number.
-fn guess_at(guesses: &[u32], at: usize) -> usize {
-    match guesses.get(at) {
-        Some(guess) => *guess as usize,
-        None => usize::MAX,
-    }
-}
-
-/// How many listed keys are looked up together after a run of that length: where there was a run, there may be another.
-fn count_after(run: usize) -> usize
-    ensures { (0 < result) × (result ≤ 16) }
-{
-    if run == 0 { TOGETHER } else { 1 }
-}
-
-/// Puts the first listed versions that aren't 0 into the room, `most` of them at most. Answers how many of the listed versions
-/// were passed, and how many were put. A version 0 needs no look, and a list may have many of them in no order, so that a
-/// branch on each would mostly be taken wrong.
-fn put_few(
-    listed: &[(Key, Version)],
-    most: usize,
-    few: &mut [(Key, Version); TOGETHER],
-) -> (usize, usize)
-    requires { (0 < most) × (most ≤ 16) }
-    ensures passed { result.0 ≤ length listed.now }
-    ensures put { result.1 ≤ 16 }
-    ensures forward { 0 < length listed.now → 0 < result.0 }
-    ensures explained { (events : List AnEvent) → list_all (is_explained events) listed.now
-        ≡ (list_all (is_explained events) (take result.1 few.new) && list_all (is_explained events) (drop result.0 listed.now)) }
-{
-    let mut passed = 0;
-    let mut put = 0;
-    while passed < listed.len() && put < most {
-        few[put] = listed[passed];
-        put += counted(listed[passed].1);
-        passed += 1;
-    }
-    (passed, put)
-}
-
-/// 1 for a version that isn't 0.
-#[inline]
-fn counted(saw: Version) -> usize
-    ensures none { saw ≡ 0 → result ≡ 0 }
-    ensures one { 0 < saw → result ≡ 1 }
-    ensures bound { result ≤ 1 }
-{
-    usize::from(saw != 0)
 }
 
 fn add_begun(begun: &mut TxnSet, event: &Event) -> Result<(), AllocError>
@@ -188,71 +137,27 @@ impl Tables {
         }
     }
 
-    /// Whether the listed version is 0 or was written, where its write may well stand at the position.
+    /// Whether the listed version is 0 or was written, where its write may well follow the one at the position. Where it was
+    /// written, the position may become its own.
     #[tactic(auto, unfolding(crate::specs::Known::is_explained))]
-    fn is_explained_near(&self, position: usize, key: Key, saw: Version) -> bool
+    fn is_explained_after(&self, position: &mut usize, key: Key, saw: Version) -> bool
         ensures { (events : List AnEvent) → Knows self.now events → result ≡ is_explained events (key, saw) }
     {
         if saw == 0 {
             return true;
         }
-        self.written.contains_near(position, (key, saw))
-    }
-
-    /// Whether each version of a few listed keys is 0 or was written. It leaves the position where the next one may stand.
-    fn are_few_explained(&self, few: &[(Key, Version)], position: &mut usize) -> bool
-        ensures { (events : List AnEvent) → Knows self.now events → result ≡ list_all (is_explained events) few.now }
-    {
-        let guesses = self.written.guess_each(few);
-        *position = guess_at(&guesses, few.len().saturating_sub(1)).saturating_add(1);
-        for at in 0..few.len() {
-            let (key, saw) = few[at];
-            if !self.is_explained_near(guess_at(&guesses, at), key, saw) {
-                return false;
-            }
-        }
-        true
-    }
-
-    /// Whether the listed version is that of the write at the position.
-    #[tactic(auto, unfolding(crate::specs::Known::is_explained))]
-    fn is_written_at(&self, position: usize, key: Key, saw: Version) -> bool
-        ensures { (events : List AnEvent) → Knows self.now events → IsTrue result → is_explained events (key, saw) ≡ true }
-    {
-        self.written.has_at(position, (key, saw))
-    }
-
-    /// How many of the first listed versions are those of the writes from the position on.
-    fn run_len(&self, position: usize, listed: &[(Key, Version)]) -> usize
-        ensures within { result ≤ length listed.now }
-        ensures passed { (events : List AnEvent) → Knows self.now events → list_all (is_explained events) (drop result listed.now) ≡ list_all (is_explained events) listed.now }
-    {
-        for len in 0..listed.len() {
-            let (key, saw) = listed[len];
-            if !self.is_written_at(position.saturating_add(len), key, saw) {
-                return len;
-            }
-        }
-        listed.len()
+        self.written.contains_after(position, (key, saw))
     }
 
     /// Whether each listed version is 0 or was written. Most lists go on as the writes did.
     fn are_explained(&self, listed: &[(Key, Version)]) -> bool
         ensures { (events : List AnEvent) → Knows self.now events → result ≡ list_all (is_explained events) listed.now }
     {
-        let mut few = [(0, 0); TOGETHER];
-        let mut rest = listed;
-        let mut most = 1;
-        'rest: while !rest.is_empty() {
-            let (passed, put) = put_few(rest, most, &mut few);
-            let mut position = usize::MAX;
-            if !self.are_few_explained(&few[..put], &mut position) {
+        let mut position = usize::MAX;
+        for (key, saw) in listed {
+            if !self.is_explained_after(&mut position, *key, *saw) {
                 return false;
             }
-            let (_, after) = rest.split_at(passed);
-            let run = self.run_len(position, after);
-            most = count_after(run);
-            rest = &after[run..];
         }
         true
     }

@@ -5,7 +5,7 @@ ghost use Rattle.sia_events.specs.Parsing.{Gives, items_of, begins_with, after_b
 use crate::event::{Event, Key, Listed, Version};
 use crate::fault::{Reason, Refusal};
 use crate::found::Found;
-use crate::number::{Number, brief_number, key_in, number, short_number, txn_in, version_in};
+use crate::number::{Number, key_in, number, txn_in, version_in};
 use std::alloc::Global;
 
 /// What follows one byte.
@@ -95,38 +95,12 @@ fn item(txn: Number, key: Number, text: &[u8]) -> Result<Event, Refusal>
     Ok(Event::Read { txn, key, saw })
 }
 
-/// A listed key with its version, where both are numbers of few digits in their ranges. `brief` guesses that
-/// the version has one or two digits.
-#[tactic(auto, unfolding(crate::specs::Parsing::pair_at))]
-fn short_pair(text: &[u8], brief: bool) -> Option<((Key, Version), &[u8])>
-    ensures gives { IfSome result (λ x. pair_at text.now ≡ Ok (Some x.0, x.1.now)) }
-    ensures shorter { IfSome result (λ x. length x.1.now ≤ length text.now) }
-{
-    let (key, rest) = short_number(text)?;
-    let Ok(rest) = after(rest, b':') else {
-        return None;
-    };
-    let (saw, rest) = if brief {
-        brief_number(rest)?
-    } else {
-        short_number(rest)?
-    };
-    if saw > u64::from(u32::MAX) {
-        return None;
-    }
-    Some(((key, saw as u32), rest))
-}
-
 /// A listed key with its version, or None where one of them is out of its range.
 #[tactic(auto, unfolding(crate::specs::Parsing::pair_at))]
-fn pair(text: &[u8], brief: bool) -> Result<(Option<(Key, Version)>, &[u8]), Refusal>
+fn pair(text: &[u8]) -> Result<(Option<(Key, Version)>, &[u8]), Refusal>
     ensures gives { Gives (λ x. (x.0, x.1.now)) result (pair_at text.now) }
     ensures shorter { IfOk result (λ x. length x.1.now ≤ length text.now) }
 {
-    // Most pairs are short.
-    if let Some((pair, rest)) = short_pair(text, brief) {
-        return Ok((Some(pair), rest));
-    }
     let (key, rest) = number(text)?;
     let rest = after(rest, b':')?;
     let (saw, rest) = number(rest)?;
@@ -171,27 +145,14 @@ fn room_for(text: &[u8]) -> usize {
     count.min(text.len() / LEAST_PAIR + 1)
 }
 
-/// Whether the version has one or two digits.
-fn is_brief(pair: Option<(Key, Version)>) -> bool {
-    match pair {
-        Some((_, saw)) => saw < 100,
-        None => false,
-    }
-}
-
 /// Listed keys with commas between, or None where a number is out of its range, and what follows the last.
 fn pairs(alloc: Global, text: &[u8]) -> Result<(Option<Vec<(Key, Version)>>, &[u8]), Refusal>
     ensures { Gives (λ x. (items_of x.0, x.1.now)) result (pairs_at text.now) }
 {
     let mut found = Found::with_room(alloc, room_for(text))?;
     let mut rest = text;
-    // The next version may well be brief where the last two were.
-    let mut brief = false;
-    let mut was_brief = false;
     loop {
-        let (next, after) = pair(rest, brief)?;
-        brief = was_brief & is_brief(next);
-        was_brief = is_brief(next);
+        let (next, after) = pair(rest)?;
         found.add(next)?;
         match after_comma(after) {
             Some(more) => rest = more,

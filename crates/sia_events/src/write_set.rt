@@ -5,7 +5,7 @@ ghost use Rattle.std.specs.BTreeSet.{contains};
 ghost use Rattle.sia_events.specs.WriteSets.{pair_cmp, same, wrote, IsSound};
 
 use crate::event::{Key, TxnId};
-use crate::guesses::{Guesses, TOGETHER};
+use crate::guesses::Guesses;
 use std::alloc::{AllocError, Global};
 use std::collections::BTreeSet;
 
@@ -93,26 +93,20 @@ impl WriteSet {
         self.is_rare(write)
     }
 
-    /// Where each of the first writes may stand.
-    pub(crate) fn guess_each(&self, writes: &[(Key, TxnId)]) -> [u32; TOGETHER] {
-        self.guesses.guess_each(writes)
-    }
-
-    /// Whether the write is the one at the position.
-    pub(crate) fn has_at(&self, position: usize, write: (Key, TxnId)) -> bool
-        ensures { IsTrue result → wrote self.now write ≡ true }
-    {
-        is_at(&self.writes, position, write)
-    }
-
-    /// Whether the write is one, which may well stand at the position.
-    pub(crate) fn contains_near(&self, position: usize, write: (Key, TxnId)) -> bool
+    /// Whether the write is one, which may well follow the one at the position. The position becomes its own, where that is
+    /// guessed.
+    pub(crate) fn contains_after(&self, position: &mut usize, write: (Key, TxnId)) -> bool
         ensures { IsSound self.now → result ≡ wrote self.now write }
     {
-        if self.has_at(position, write) {
+        *position = position.wrapping_add(1);
+        if is_at(&self.writes, *position, write) {
             return true;
         }
-        self.contains(write)
+        *position = self.guesses.guess(write);
+        if is_at(&self.writes, *position, write) {
+            return true;
+        }
+        self.is_rare(write)
     }
 
     /// Takes the write at the position into the tree.

@@ -3,8 +3,8 @@ use Rattle.std.proofs.Common.{◌≡◌, ◌<◌, false, length, take, get_or, s
 use Rattle.std.proofs.lemmas.Bool.Decides.{nat_tests}
 use Rattle.sia_events.specs.Parsing.{is_digit, digits_len, digits_value}
 use Rattle.sia_events.proofs.Digits.{digits_end, narrow_small, narrow_great}
-use Rattle.sia_events.proofs.number.long_digits.Goals as goal
-use Rattle.sia_events.proofs.number.long_digits.Goals.{then-loop-len-test+else-is_ascii_digit, else-loop-len-test}
+use Rattle.sia_events.proofs.number.digits.Goals as goal
+use Rattle.sia_events.proofs.number.digits.Goals.{then-loop-len-test+else-is_ascii_digit, else-loop-len-test}
 
 len_at_then : (c : goal.Then-fits) → digits_len c.args.text.now ≡ c.loop-len.len
 len_at_then c =

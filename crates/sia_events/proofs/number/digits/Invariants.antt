@@ -1,7 +1,7 @@
 -- The digits passed so far, and the number that they stand for.
 use Rattle.std.proofs.Common.{◌≡◌, ℕ, ◌-◌, ◌^◌, ◌<◌, ◌≤◌, true, false, length, take, get_or}
 use Rattle.sia_events.specs.Parsing.{is_digit, digits_value}
-use Rattle.sia_events.proofs.number.long_digits.Given as goal
+use Rattle.sia_events.proofs.number.digits.Given as goal
 
 abbrev pub invariant-loop-len : goal.invariant-loop-len
 invariant-loop-len l = record {
