@@ -7,7 +7,6 @@ pub mod Collected
 pub mod SpanRows
 pub mod Runs
 pub mod Spans
-pub mod Stretches
 pub mod Offsets
 pub mod ReadTables
 pub mod NextKeys

@@ -12,7 +12,7 @@ use Rattle.sia_events.specs.Transactions.{StartsAt, Wrote}
 use Rattle.sia_events.proofs.Starts.{one_start}
 use Rattle.sia_index.specs.declared.info.KeyVersion.{KeyVersion}
 use Rattle.sia_index.specs.Info.{AreWrittenKeys, IsNextWritten}
-use Rattle.sia_index.specs.Lows.{IsNextAtMost}
+use Rattle.sia_index.specs.Minima.{IsNextAtMost}
 use Rattle.sia_index.specs.Rows.{AscendsByVersion, IsPlaceFrom, PassesNone}
 use Rattle.sia_index.specs.Tables.{AreFirsts}
 use Rattle.sia_index.proofs.Ordered.{ascends, rises, first_rises}

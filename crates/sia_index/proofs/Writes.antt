@@ -8,7 +8,7 @@ use Rattle.std.proofs.lemmas.List.{get_or_default, get_or-map, length-map}
 use Rattle.std.proofs.lemmas.List.Edits.{length-between, get_or-between}
 use Rattle.sia_events.specs.Lists.{Precedes}
 use Rattle.sia_index.specs.declared.rows.WriteRow.{WriteRow}
-use Rattle.sia_index.specs.Lows.{IsNextAtMost}
+use Rattle.sia_index.specs.Minima.{IsNextAtMost}
 use Rattle.sia_index.specs.Rows.{AscendsByWrite, HasNoWrite, IsFirstRow, IsStretch, IsKeyPoint, NextRow}
 use Rattle.sia_index.proofs.Ordered.{first_rises}
 use Rattle.sia_index.proofs.ReadTables.{Rises, PointBelow, PointWithin, point_below, point_from, point_within, point_above}

@@ -1,5 +1,5 @@
 pub mod Info
-pub mod Lows
+pub mod Minima
 pub mod Rows
 pub mod Tables
 pub mod Numbers

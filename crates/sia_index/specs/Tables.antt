@@ -6,13 +6,12 @@ use Rattle.sia_events.specs.Lists.{ListsAscending}
 use Rattle.sia_events.specs.Refusals.{IsWellFormed}
 use Rattle.sia_events.specs.Transactions.{HasEvent, Wrote, CommitsAt}
 use Rattle.sia_index.specs.Info.{AreVersions, AreWrittenKeys}
-use Rattle.sia_index.specs.Lows.{AreLows}
+use Rattle.sia_index.specs.Minima.{AreMinima}
 use Rattle.sia_index.specs.Rows.{AreTxns, AreWrites, AreVersionRows, AreReads, AreRanges, AreReaches}
 use Rattle.sia_index.specs.declared.info.Made.{Made}
 use Rattle.sia_index.specs.declared.info.ItemRead.{ItemRead}
 use Rattle.sia_index.specs.declared.info.RangeRead.{RangeRead}
 use Rattle.sia_index.specs.declared.info.KeyVersion.{KeyVersion}
-use Rattle.sia_index.specs.declared.lows.BlockLows.{BlockLows}
 use Rattle.sia_index.specs.declared.own.WriteTable.{WriteTable}
 use Rattle.sia_index.specs.declared.rows.TxnRow.{TxnRow}
 
@@ -36,11 +35,11 @@ pub record AreChains (h : List Event) (keys offsets : List ℕ) (made : List Mad
   pub last : slice_index offsets (length keys) ≡ length made
   pub each : (i : ℕ) → i < length keys → HasChain h keys offsets made i
 
--- every write event, the place of each, and the lows of these
+-- every write event, the place of each, and the minima of these
 pub record AreWriteTables (h : List Event) (writes : WriteTable) : Type 0 where
   pub rows_are : AreWrites h writes.rows.items
   pub places_are : writes.places.items ≡ map (λ row. row.place) writes.rows.items
-  pub lows_are : AreLows writes.places.items writes.lows
+  pub minima_are : AreMinima writes.places.items writes.minima.items
 
 -- a number for each written key, at most the commit of each of its versions
 pub record AreFirsts (h : List Event) (keys firsts : List ℕ) : Type 0 where
@@ -52,14 +51,14 @@ pub record FirstsSoFar (offsets : List ℕ) (made : List Made) (firsts : List �
   pub count : length firsts ≡ n
   pub early : (i : ℕ) → i < n → All (λ m. slice_index firsts i ≤ m.commit) (slice_range made (slice_index offsets i) (slice_index offsets (i + 1)))
 
-pub record AreTables (h : List Event) (txns : List TxnRow) (writes : WriteTable) (keys offsets : List ℕ) (made : List Made) (firsts : List ℕ) (first_lows : BlockLows) (versions : List KeyVersion) (reads : List ItemRead) (ranges : List RangeRead) (reaches ids : List ℕ) : Type 0 where
+pub record AreTables (h : List Event) (txns : List TxnRow) (writes : WriteTable) (keys offsets : List ℕ) (made : List Made) (firsts : List ℕ) (first_minima : List ℕ) (versions : List KeyVersion) (reads : List ItemRead) (ranges : List RangeRead) (reaches ids : List ℕ) : Type 0 where
   pub well_formed : IsWellFormed h
   pub txns_are : AreTxns h txns
   pub writes_are : AreWriteTables h writes
   pub keys_are : AreWrittenKeys h keys
   pub chains_are : AreChains h keys offsets made
   pub firsts_are : AreFirsts h keys firsts
-  pub first_lows_are : AreLows firsts first_lows
+  pub first_minima_are : AreMinima firsts first_minima
   pub versions_are : AreVersionRows h versions
   pub reads_are : AreReads h reads
   pub ranges_are : AreRanges h ranges

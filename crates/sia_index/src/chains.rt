@@ -6,13 +6,13 @@ ghost use Rattle.sia_events.specs.declared.event.Event.{Event};
 ghost use Rattle.sia_events.specs.Reads.{IsVisible};
 ghost use Rattle.sia_events.specs.Transactions.{StartsAt};
 ghost use Rattle.sia_index.specs.Info.{AreWrittenKeys};
-ghost use Rattle.sia_index.specs.Lows.{AreLows};
+ghost use Rattle.sia_index.specs.Minima.{AreMinima};
 ghost use Rattle.sia_index.specs.Rows.{AreWrites, AscendsByVersion, AscendsByCommit, PassesNone};
 ghost use Rattle.sia_index.specs.Tables.{AreOffsets, AreChains, AreFirsts, FirstsSoFar};
 
 use crate::info::{KeyVersion, Made};
-use crate::lows::{BlockLows, next_at_most};
-use crate::ordering::put_rows_in_order;
+use crate::minima::next_at_most;
+use crate::ordering::put_in_order;
 use crate::rows::{WriteRow, part_at};
 use sia_events::Key;
 use std::alloc::{AllocError, Global};
@@ -22,7 +22,7 @@ pub fn keys_of(alloc: Global, writes: &[WriteRow]) -> Result<Vec<Key>, AllocErro
     ensures { IfOk result (λ keys. (h : List Event) → AreWrites h writes.now → AreWrittenKeys h keys.items) }
 {
     let mut keys = keys_in(alloc, writes)?;
-    put_rows_in_order(alloc, &mut keys);
+    put_in_order(&mut keys);
     Ok(keys)
 }
 
@@ -114,19 +114,19 @@ fn first_commit(versions: &[Made]) -> u32
 pub fn next_first(
     keys: &[Key],
     firsts: &[u32],
-    lows: &BlockLows,
+    minima: &[u32],
     lo: Key,
     hi: Key,
     start: u32,
 ) -> Option<Key>
     requires ascending { AllPairs (λ x y. x < y) keys.now }
     requires count { length firsts.now ≡ length keys.now }
-    requires lows_are { AreLows firsts.now lows.now }
+    requires minima_are { AreMinima firsts.now minima.now }
     ensures { (h : List Event) (t : ℕ) → AreWrittenKeys h keys.now → AreFirsts h keys.now firsts.now → StartsAt h t start → PassesNone (λ k. (u : ℕ) × IsVisible h t k u) lo hi result }
 {
     let from = keys.partition_point(|key| *key < lo);
     let to = keys.partition_point(|key| *key <= hi);
-    match next_at_most(firsts, lows, from, to, start) {
+    match next_at_most(firsts, minima, from, to, start) {
         Some(i) => Some(keys[i]),
         None => None,
     }

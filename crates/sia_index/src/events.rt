@@ -7,7 +7,7 @@ ghost use Rattle.sia_index.specs.Info.{IsItemRead, IsRangeRead};
 ghost use Rattle.sia_index.specs.Rows.{AreWrites, AreReads, AreRanges};
 
 use crate::info::{ItemRead, RangeRead};
-use crate::ordering::put_rows_in_order;
+use crate::ordering::put_in_order;
 use crate::rows::WriteRow;
 use sia_events::{Event, History};
 use std::alloc::{AllocError, Global};
@@ -40,9 +40,9 @@ pub fn rows_of(alloc: Global, h: &History) -> Result<EventRows, AllocError>
             ranges.push(range)?;
         }
     }
-    put_rows_in_order(alloc, &mut writes);
-    put_rows_in_order(alloc, &mut reads);
-    put_rows_in_order(alloc, &mut ranges);
+    put_in_order(&mut writes);
+    put_in_order(&mut reads);
+    put_in_order(&mut ranges);
     Ok(EventRows {
         writes,
         reads,

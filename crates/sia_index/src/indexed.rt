@@ -4,12 +4,11 @@ ghost use Rattle.sia_events.specs.Transactions.{HasEvent, Overlap, Wrote};
 ghost use Rattle.sia_events.specs.Refusals.{IsWellFormed};
 ghost use Rattle.sia_index.specs.Info.{IsInfo, AreVersions, AreWrittenKeys, AreAllVersions, IsFirstWrite, HasKeyAt, IsKeyAt, StartsBefore, AreReadsWithin, AreRangesMeeting, AreWrittenWithin, IsNextWritten, AreVersionsWithin};
 
-use crate::guesses::Guesses;
+use crate::hints::hint_in;
 use crate::info::{Fate, ItemRead, KeyVersion, Made, RangeRead, TxnInfo};
-use crate::lows::BlockLows;
 use crate::own::WriteTable;
 use crate::reads::{key_from, keys_between, ranges_meeting, reads_between, versions_between};
-use crate::rows::{TxnRow, find_key, guess_txn, part_at};
+use crate::rows::{TxnRow, find_key, find_txn_near, part_at};
 use sia_events::{History, Key, TxnId};
 use std::marker::Model;
 use std::snapshot::Snapshot;
@@ -24,14 +23,12 @@ pub struct Index {
     pub(crate) offsets: Vec<usize>,
     pub(crate) made: Vec<Made>,
     pub(crate) firsts: Vec<u32>,
-    pub(crate) first_lows: BlockLows,
+    pub(crate) first_minima: Vec<u32>,
     pub(crate) versions: Vec<KeyVersion>,
     pub(crate) reads: Vec<ItemRead>,
     pub(crate) ranges: Vec<RangeRead>,
     pub(crate) reaches: Vec<Key>,
     pub(crate) ids: Vec<TxnId>,
-    pub(crate) txn_guesses: Guesses,
-    pub(crate) key_guesses: Guesses,
 }
 
 impl Model for Index {
@@ -43,7 +40,7 @@ impl Model for Index {
 
     ghost view = { λ ix. ix.of.value };
 
-    ghost invariant = { λ ix. AreTables ix.of.value ix.txns.items ix.writes ix.keys.items ix.offsets.items ix.made.items ix.firsts.items ix.first_lows ix.versions.items ix.reads.items ix.ranges.items ix.reaches.items ix.ids.items };
+    ghost invariant = { λ ix. AreTables ix.of.value ix.txns.items ix.writes ix.keys.items ix.offsets.items ix.made.items ix.firsts.items ix.first_minima.items ix.versions.items ix.reads.items ix.ranges.items ix.reaches.items ix.ids.items };
 }
 
 impl Index {
@@ -58,14 +55,7 @@ impl Index {
     pub fn txn(&self, t: TxnId) -> Option<TxnInfo>
         ensures { MatchOption result (¬ HasEvent self.now t) (IsInfo self.now t) }
     {
-        self.guessed_txn(self.number_of(t), t)
-    }
-
-    // The same. It may stand at `number` among the transactions.
-    pub(crate) fn guessed_txn(&self, number: usize, t: TxnId) -> Option<TxnInfo>
-        ensures { MatchOption result (¬ HasEvent self.now t) (IsInfo self.now t) }
-    {
-        guess_txn(&self.txns, number, t)
+        find_txn_near(&self.txns, self.hint_of(t), t)
     }
 
     /// Whether both committed, and each started before the other committed.
@@ -83,7 +73,7 @@ impl Index {
     pub fn versions(&self, k: Key) -> &[Made]
         ensures { AreVersions self.now k result.now }
     {
-        match find_key(&self.keys, &self.key_guesses, k) {
+        match find_key(&self.keys, k) {
             Some(i) => self.versions_at(i),
             None => &[],
         }
@@ -108,12 +98,12 @@ impl Index {
     pub fn first_write(&self, t: TxnId, k: Key) -> Option<u32>
         ensures { MatchOption result (¬ Wrote self.now t k) (IsFirstWrite self.now t k) }
     {
-        self.writes.first(self.number_of(t), t, k)
+        self.writes.first(self.hint_of(t), t, k)
     }
 
-    // Where the transaction may stand among all.
-    pub(crate) fn number_of(&self, t: TxnId) -> usize {
-        self.txn_guesses.place(&self.ids, t)
+    // The number that the transaction may have among all.
+    pub(crate) fn hint_of(&self, t: TxnId) -> usize {
+        hint_in(&self.ids, t)
     }
 
     /// Each key that some write event names, committed or not, ascending.
@@ -134,7 +124,7 @@ impl Index {
     pub fn next_written(&self, from: Key) -> Option<Key>
         ensures { MatchOption result ((k t : ℕ) → from ≤ k → ¬ Wrote self.now t k) (IsNextWritten self.now from) }
     {
-        key_from(&self.keys, &self.key_guesses, from)
+        key_from(&self.keys, from)
     }
 
     /// The versions that committed transactions made of the keys from `lo` to `hi`, by key and commit, found by two searches.

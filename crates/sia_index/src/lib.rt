@@ -3,14 +3,13 @@
 
 mod chains;
 mod events;
-mod grouping;
-mod guesses;
+mod hints;
 mod indexed;
 mod info;
-mod lows;
 pub mod make;
+mod minima;
 mod numbers;
-mod ordering;
+pub mod ordering;
 mod own;
 mod readers;
 mod reads;

@@ -3,9 +3,8 @@ ghost use Rattle.std.specs.Prelude.{◌≡◌, IfOk};
 
 use crate::chains::{firsts_of, keys_of, made_of, offsets_of};
 use crate::events::{EventRows, rows_of};
-use crate::guesses::Guesses;
 use crate::indexed::Index;
-use crate::lows::lows_of;
+use crate::minima::minima_of;
 use crate::numbers::ids_of;
 use crate::own::{WriteTable, places_of, starts_of};
 use crate::reads::reaches_of;
@@ -19,11 +18,9 @@ use std::snapshot::Snapshot;
 pub fn index(alloc: Global, h: &History) -> Result<Index, NoMemory>
     ensures { IfOk result (λ ix. ix ≡ h.now) }
 {
-    // The length tells that the history is well-formed.
-    let _ = h.len();
+    h.law();
     let txns = table_of(alloc, h)?;
     let ids = ids_of(alloc, txns.as_slice())?;
-    let txn_guesses = Guesses::over(alloc, ids.as_slice())?;
     let EventRows {
         writes,
         reads,
@@ -34,32 +31,29 @@ pub fn index(alloc: Global, h: &History) -> Result<Index, NoMemory>
     let offsets = offsets_of(alloc, &keys, &rows)?;
     let made = made_of(alloc, &rows)?;
     let firsts = firsts_of(alloc, &offsets, &made, keys.len())?;
-    let first_lows = lows_of(alloc, &firsts)?;
+    let first_minima = minima_of(alloc, &firsts)?;
     let places = places_of(alloc, &writes)?;
-    let lows = lows_of(alloc, &places)?;
+    let minima = minima_of(alloc, &places)?;
     let starts = starts_of(alloc, &txns, &writes)?;
     let reaches = reaches_of(alloc, &ranges)?;
-    let key_guesses = Guesses::over(alloc, keys.as_slice())?;
     Ok(Index {
         of: Snapshot::of(h),
         txns,
         writes: WriteTable {
             rows: writes,
             places,
-            lows,
+            minima,
             starts,
         },
         keys,
         offsets,
         made,
         firsts,
-        first_lows,
+        first_minima,
         versions: rows,
         reads,
         ranges,
         reaches,
         ids,
-        txn_guesses,
-        key_guesses,
     })
 }

@@ -6,7 +6,7 @@ ghost use Rattle.sia_index.specs.Info.{IsInfo, IsKeyAt};
 ghost use Rattle.sia_index.specs.declared.rows.TxnRow.{TxnRow};
 ghost use Rattle.sia_index.specs.Numbers.{HasTxnAt, IsTxnAt};
 
-use crate::guesses::Guesses;
+use crate::hints::hint_in;
 use crate::indexed::Index;
 use crate::info::TxnInfo;
 use crate::rows::{TxnRow, find_key};
@@ -25,7 +25,7 @@ impl Index {
     pub fn txn_number(&self, t: TxnId) -> Option<usize>
         ensures { MatchOption result (¬ HasEvent self.now t) (λ i. IsTxnAt self.now i t) }
     {
-        find_id(&self.ids, &self.txn_guesses, t)
+        find_id(&self.ids, t)
     }
 
     /// What is known of transaction number `i`, counted from 0: no search is needed.
@@ -40,7 +40,7 @@ impl Index {
     pub fn key_number(&self, k: Key) -> Option<usize>
         ensures { MatchOption result ((t : ℕ) → ¬ Wrote self.now t k) (λ i. IsKeyAt self.now i k) }
     {
-        find_key(&self.keys, &self.key_guesses, k)
+        find_key(&self.keys, k)
     }
 }
 
@@ -60,11 +60,11 @@ fn info_at(table: &[TxnRow], i: usize) -> TxnInfo
 }
 
 // The number of the transaction among these, counted from 0, or None where it isn't one of them.
-fn find_id(ids: &[TxnId], guesses: &Guesses, t: TxnId) -> Option<usize>
+fn find_id(ids: &[TxnId], t: TxnId) -> Option<usize>
     requires { AllPairs (λ x y. x < y) ids.now }
     ensures { MatchOption result (All (λ id. id ≢ t) ids.now) (λ i. (i < length ids.now) × (slice_index ids.now i ≡ t)) }
 {
-    let i = guesses.place(ids, t);
+    let i = hint_in(ids, t);
     if i < ids.len() && ids[i] == t {
         return Some(i);
     }

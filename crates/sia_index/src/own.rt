@@ -1,11 +1,11 @@
 //! The write events by transaction, and what one transaction wrote.
 ghost use Rattle.std.specs.Prelude.{◌≡◌, ◌↔◌, ◌+◌, ◌-◌, ◌<◌, ◌≤◌, ℕ, IsTrue, IfOk, MatchOption, AllPairs, Contains, length, map, slice_index_or};
 ghost use Rattle.sia_index.specs.declared.rows.WriteRow.{WriteRow};
-ghost use Rattle.sia_index.specs.Lows.{AreLows};
+ghost use Rattle.sia_index.specs.Minima.{AreMinima};
 ghost use Rattle.sia_index.specs.Rows.{AscendsByWrite, HasNoWrite, IsFirstRow, IsStretch, IsKeyPoint, NextRow};
 
 use crate::info::Reader;
-use crate::lows::{BlockLows, next_at_most};
+use crate::minima::next_at_most;
 use crate::rows::{TxnRow, WriteRow};
 use sia_events::{Key, TxnId};
 use std::alloc::{AllocError, Global};
@@ -17,7 +17,7 @@ pub struct WriteTable {
     /// The place of each row.
     pub(crate) places: Vec<u32>,
     /// The least of each block of places.
-    pub(crate) lows: BlockLows,
+    pub(crate) minima: Vec<u32>,
     /// Where the rows of each transaction may start, by its number among the transactions. Each is checked where it is used.
     pub(crate) starts: Vec<u32>,
 }
@@ -73,7 +73,7 @@ impl WriteTable {
     pub(crate) fn next(&self, number: usize, reader: Reader, lo: Key, hi: Key) -> Option<Key>
         requires ascending { AscendsByWrite self.now.rows.items }
         requires places_are { self.now.places.items ≡ map (λ row. row.place) self.now.rows.items }
-        requires lows_are { AreLows self.now.places.items self.now.lows }
+        requires minima_are { AreMinima self.now.places.items self.now.minima.items }
         ensures { NextRow self.now.rows.items reader.txn reader.place lo hi result }
     {
         if reader.place == 0 {
@@ -82,7 +82,7 @@ impl WriteTable {
         let (from, to) = self.stretch(number, reader.txn);
         let first = key_point(&self.rows, from, to, lo);
         let last = key_end(&self.rows, from, to, hi);
-        match next_at_most(&self.places, &self.lows, first, last, reader.place - 1) {
+        match next_at_most(&self.places, &self.minima, first, last, reader.place - 1) {
             Some(i) => Some(self.rows[i].key),
             None => None,
         }

@@ -19,9 +19,8 @@ impl Index {
         ensures { IsReader self.now t place result }
     {
         let _ = &self.of;
-        let number = self.number_of(t);
-        let has_written = self.has_written(number, t);
-        let (start, committed) = match self.guessed_txn(number, t) {
+        let has_written = self.has_written(t);
+        let (start, committed) = match self.txn(t) {
             Some(info) => (info.start, is_committed(info.fate)),
             None => (0, false),
         };
@@ -34,11 +33,11 @@ impl Index {
         }
     }
 
-    // Whether the transaction wrote any key. It may stand at `number` among the transactions.
-    fn has_written(&self, number: usize, t: TxnId) -> bool
+    // Whether the transaction wrote any key.
+    fn has_written(&self, t: TxnId) -> bool
         ensures { IsTrue result ↔ ((k : ℕ) × Wrote self.now t k) }
     {
-        self.writes.has_any(number, t)
+        self.writes.has_any(self.hint_of(t), t)
     }
 
     /// The version due to a read of the key by the transaction at the place.
@@ -116,7 +115,7 @@ impl Index {
         ensures { PassesNone (λ k. WroteBefore self.now reader.txn k reader.place) lo hi result }
     {
         if reader.has_written {
-            let number = self.number_of(reader.txn);
+            let number = self.hint_of(reader.txn);
             self.writes.next(number, reader, lo, hi)
         } else {
             None
@@ -131,7 +130,7 @@ impl Index {
         next_first(
             &self.keys,
             &self.firsts,
-            &self.first_lows,
+            &self.first_minima,
             lo,
             hi,
             reader.start,

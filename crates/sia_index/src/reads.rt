@@ -5,7 +5,6 @@ ghost use Rattle.sia_events.specs.Transactions.{Wrote};
 ghost use Rattle.sia_index.specs.Info.{AreReadsWithin, AreRangesMeeting, AreWrittenKeys, AreWrittenWithin, IsNextWritten, AreVersionsWithin};
 ghost use Rattle.sia_index.specs.Rows.{AreReads, AreRanges, AreReaches, AscendsByRead, AscendsByRange, AreVersionRows, AscendsByVersion, IsPlaceFrom};
 
-use crate::guesses::Guesses;
 use crate::info::{ItemRead, KeyVersion, RangeRead};
 use sia_events::Key;
 use std::alloc::{AllocError, Global};
@@ -44,11 +43,11 @@ pub fn keys_between(keys: &[Key], lo: Key, hi: Key) -> &[Key]
 }
 
 /// The least key that is at least `from`.
-pub fn key_from(keys: &[Key], guesses: &Guesses, from: Key) -> Option<Key>
+pub fn key_from(keys: &[Key], from: Key) -> Option<Key>
     requires { AllPairs (λ x y. x < y) keys.now }
     ensures { (h : List Event) → AreWrittenKeys h keys.now → MatchOption result ((k t : ℕ) → from ≤ k → ¬ Wrote h t k) (IsNextWritten h from) }
 {
-    let at = place_from(keys, guesses, from);
+    let at = place_from(keys, from);
     if at < keys.len() {
         Some(keys[at])
     } else {
@@ -56,31 +55,12 @@ pub fn key_from(keys: &[Key], guesses: &Guesses, from: Key) -> Option<Key>
     }
 }
 
-// The first place of a key that is at least `from`: where the key below stands among the keys, it is the next one.
-fn place_from(keys: &[Key], guesses: &Guesses, from: Key) -> usize
+// The first place of a key that is at least `from`.
+fn place_from(keys: &[Key], from: Key) -> usize
     requires { AllPairs (λ x y. x < y) keys.now }
     ensures { IsPlaceFrom keys.now from result }
 {
-    let at = guesses
-        .place(keys, from.saturating_sub(1))
-        .saturating_add(1);
-    if is_place_from(keys, at, from) {
-        at
-    } else {
-        keys.partition_point(|key| *key < from)
-    }
-}
-
-// Whether the key at the place is at least `from`, and the one before it is less.
-fn is_place_from(keys: &[Key], at: usize, from: Key) -> bool
-    requires { AllPairs (λ x y. x < y) keys.now }
-    ensures { IsTrue result → IsPlaceFrom keys.now from at }
-{
-    if 0 < at && at < keys.len() {
-        keys[at - 1] < from && from <= keys[at]
-    } else {
-        false
-    }
+    keys.partition_point(|key| *key < from)
 }
 
 /// The versions of the keys from `lo` to `hi`.

@@ -2,9 +2,8 @@
 ghost use Rattle.std.specs.Prelude.{◌≡◌, ◌≢◌, ◌+◌, ◌<◌, ◌≤◌, All, AllPairs, Contains, MatchOption, length, slice_index, slice_range};
 ghost use Rattle.sia_index.specs.Rows.{AscendsByTxn};
 
-use crate::grouping::Grouped;
-use crate::guesses::Guesses;
-use crate::info::{ItemRead, KeyVersion, Made, RangeRead, TxnInfo};
+use crate::hints::hint_in;
+use crate::info::{Made, TxnInfo};
 use sia_events::{Key, TxnId};
 
 /// The places of two events of a transaction, which may be one. The row stands for those in between too.
@@ -15,48 +14,12 @@ pub struct SpanRow {
     pub last: u32,
 }
 
-impl Grouped for SpanRow {
-    fn group(&self) -> u64 {
-        u64::from(self.txn)
-    }
-}
-
 /// A write event.
 #[derive(Clone, Copy, PartialEq, Eq, PartialOrd, Ord)]
 pub struct WriteRow {
     pub txn: TxnId,
     pub key: Key,
     pub place: u32,
-}
-
-impl Grouped for WriteRow {
-    fn group(&self) -> u64 {
-        u64::from(self.txn)
-    }
-}
-
-impl Grouped for KeyVersion {
-    fn group(&self) -> u64 {
-        self.key
-    }
-}
-
-impl Grouped for ItemRead {
-    fn group(&self) -> u64 {
-        self.key
-    }
-}
-
-impl Grouped for RangeRead {
-    fn group(&self) -> u64 {
-        self.lo
-    }
-}
-
-impl Grouped for Key {
-    fn group(&self) -> u64 {
-        *self
-    }
 }
 
 /// A transaction.
@@ -77,23 +40,23 @@ pub fn find_txn(table: &[TxnRow], t: TxnId) -> Option<TxnInfo>
     }
 }
 
-/// The same, where a guess of the row may save the search.
-pub fn guess_txn(table: &[TxnRow], guess: usize, t: TxnId) -> Option<TxnInfo>
+/// The same, where a hint of the row may save the search.
+pub fn find_txn_near(table: &[TxnRow], hint: usize, t: TxnId) -> Option<TxnInfo>
     requires { AscendsByTxn table.now }
     ensures { MatchOption result (All (λ row. row.txn ≢ t) table.now) (λ info. Contains table.now (record { txn = t; info = info })) }
 {
-    match table.get(guess) {
+    match table.get(hint) {
         Some(row) if row.txn == t => Some(row.info),
         _ => find_txn(table, t),
     }
 }
 
 /// The number of the key among the keys, counted from 0, or None where it isn't one of them.
-pub fn find_key(keys: &[Key], guesses: &Guesses, k: Key) -> Option<usize>
+pub fn find_key(keys: &[Key], k: Key) -> Option<usize>
     requires { AllPairs (λ x y. x < y) keys.now }
     ensures { MatchOption result (All (λ key. key ≢ k) keys.now) (λ i. (i < length keys.now) × (slice_index keys.now i ≡ k)) }
 {
-    let i = guesses.place(keys, k);
+    let i = hint_in(keys, k);
     if i < keys.len() && keys[i] == k {
         return Some(i);
     }

@@ -20,7 +20,8 @@ pub struct Seen {
 }
 
 impl Index {
-    /// What the reader sees of the key, which may have number `near` among the written keys.
+    /// What the reader sees of the key, which may have number `near` among the written keys. Where the reader wrote the key
+    /// before its place, the contract says only that the version is 0 or that of a commit: what is due then is its own.
     pub fn seen_near(&self, reader: Reader, k: Key, near: usize) -> Seen
         requires { IsReader self.now reader.txn reader.place reader }
         ensures { IsSeen self.now reader.txn reader.place k result }

@@ -2,7 +2,7 @@
 ghost use Rattle.std.specs.Prelude.{◌≡◌, IsTrue, IfOk, false};
 ghost use Rattle.sia_index.specs.Rows.{AreSpans, IsLonger};
 
-use crate::ordering::put_rows_in_order;
+use crate::ordering::put_in_order;
 use crate::rows::SpanRow;
 use crate::slots::Slots;
 use sia_events::{History, TxnId};
@@ -29,7 +29,7 @@ pub fn spans_of(alloc: Global, h: &History) -> Result<Vec<SpanRow>, AllocError>
             }
         }
     }
-    put_rows_in_order(alloc, &mut spans);
+    put_in_order(&mut spans);
     Ok(spans)
 }
 

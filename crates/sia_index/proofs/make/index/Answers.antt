@@ -16,7 +16,7 @@ firsts_of-requires c =
     let keys = c.in_ok-keys.ensures c.args.h.now (rw c.deref-3.ensures.value c.in_ok-writes.ensures.writes) in
     let offsets = rw (c.deref-4.ensures.value, c.deref-5.ensures.value) at c.in_ok-offsets.ensures in
     let made = rw c.deref-6.ensures.value at c.in_ok-made.ensures in
-    let count : length c.in_ok-keys.keys.items ≡ c.len-2.result = search rules in
+    let count : length c.in_ok-keys.keys.items ≡ c.len.result = search rules in
     rw (c.deref-7.ensures.value, c.deref-8.ensures.value) (c.args.h.now, c.in_ok-keys.keys.items, count, chains_are _ _ keys _ c.in_ok-rows.ensures _ offsets _ made)
 
 pub invariant_of-result : goal.invariant_of-result
@@ -25,21 +25,21 @@ invariant_of-result c =
     let offsets = rw (c.deref-4.ensures.value, c.deref-5.ensures.value) at c.in_ok-offsets.ensures in
     let made = rw c.deref-6.ensures.value at c.in_ok-made.ensures in
     let chains = chains_are _ _ keys _ c.in_ok-rows.ensures _ offsets _ made in
-    let count : c.len-2.result ≡ length c.in_ok-keys.keys.items = search rules in
+    let count : c.len.result ≡ length c.in_ok-keys.keys.items = search rules in
     let so = rw (c.deref-7.ensures.value, c.deref-8.ensures.value) at c.in_ok-firsts.ensures in
     let firsts = firsts_are _ _ _ _ chains _ (subst (FirstsSoFar c.in_ok-offsets.offsets.items c.in_ok-made.made.items c.in_ok-firsts.firsts.items) count so) in
     rw c.of.ensures (record {
-      well_formed = c.len.ensures.well_formed;
+      well_formed = c.law.ensures;
       txns_are = c.in_ok-txns.ensures;
       writes_are = record {
         rows_are = c.in_ok-writes.ensures.writes;
         places_are = rw c.deref-10.ensures.value at c.in_ok-places.ensures;
-        lows_are = rw c.deref-11.ensures.value at c.in_ok-lows.ensures;
+        minima_are = rw c.deref-11.ensures.value at c.in_ok-minima.ensures;
       };
       keys_are = keys;
       chains_are = chains;
       firsts_are = firsts;
-      first_lows_are = rw c.deref-9.ensures.value at c.in_ok-first_lows.ensures;
+      first_minima_are = rw c.deref-9.ensures.value at c.in_ok-first_minima.ensures;
       versions_are = c.in_ok-rows.ensures;
       reads_are = c.in_ok-writes.ensures.reads;
       ranges_are = c.in_ok-writes.ensures.ranges;

@@ -6,7 +6,7 @@ use Rattle.sia_index.proofs.Ordered.{rises}
 use Rattle.sia_index.proofs.NextKeys.{place_found}
 use Rattle.sia_index.proofs.reads.place_from.Goals as goal
 
-pub returns-else-is_place_from : goal.returns-else-is_place_from
-returns-else-is_place_from c =
+pub returns : goal.returns
+returns c =
     let low = IsPartitionPoint-from_clause (λ (k : ℕ). ltb k c.args.from) _ _ c.partition_point.ensures.partitioned (IsPartitionedBy-ltb (λ (k : ℕ). k) _ c.args.from (rises (λ (k : ℕ). k) _ c.requires)) (λ a r f k. search rules) in
     place_found _ _ _ low c.partition_point.ensures.bound

@@ -1,5 +1,5 @@
 -- The last of the key's versions within the start, where there is one.
-use Rattle.std.proofs.Common.{inl, ℕ, refl, subst}
+use Rattle.std.proofs.Common.{inl, refl, subst}
 use Rattle.sia_events.specs.Refusals.{IsWellFormed}
 use Rattle.sia_index.specs.declared.info.Made.{Made}
 use Rattle.sia_index.proofs.Due.{none_due, last_due}

@@ -10,7 +10,7 @@ pub next-requires : goal.next-requires
 next-requires c = record {
   ascending = c.self.invariant.writes_are.rows_are.ascending;
   places_are = c.self.invariant.writes_are.places_are;
-  lows_are = c.self.invariant.writes_are.lows_are;
+  minima_are = c.self.invariant.writes_are.minima_are;
 }
 
 pub returns-then-reader : goal.returns-then-reader

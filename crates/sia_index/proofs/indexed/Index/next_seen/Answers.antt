@@ -6,10 +6,10 @@ use Rattle.sia_index.proofs.Ordered.{ascends}
 use Rattle.sia_index.proofs.indexed.Index.next_seen.Goals as goal
 
 pub next_first-requires : goal.next_first-requires
-next_first-requires c = rw (c.deref.ensures.value, c.deref-2.ensures.value) (record {
+next_first-requires c = rw (c.deref.ensures.value, c.deref-2.ensures.value, c.deref-3.ensures.value) (record {
   ascending = ascends (λ (k : ℕ). k) _ _ c.self.invariant.keys_are;
   count = c.self.invariant.firsts_are.count;
-  lows_are = c.self.invariant.first_lows_are;
+  minima_are = c.self.invariant.first_minima_are;
 })
 
 pub returns : goal.returns

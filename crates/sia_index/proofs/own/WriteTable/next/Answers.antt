@@ -48,5 +48,5 @@ next_at_most-requires-clause-within c =
     let places = ap length (c.deref-3.ensures.value ∙ c.requires.places_are) ∙ length-map c.args.self.now.rows.items (λ (r : WriteRow). r.place) in
     omega arith
 
-pub next_at_most-requires-clause-lows_are : goal.next_at_most-requires-clause-lows_are
-next_at_most-requires-clause-lows_are c = rw c.deref-3.ensures.value c.requires.lows_are
+pub next_at_most-requires-clause-minima_are : goal.next_at_most-requires-clause-minima_are
+next_at_most-requires-clause-minima_are c = rw (c.deref-3.ensures.value, c.deref-4.ensures.value) c.requires.minima_are
