@@ -3,7 +3,7 @@ use Rattle.std.proofs.Common.{◌≡◌, ◌⊎◌, inl, inr, ℕ, ◌+◌, ◌<
 use Rattle.std.specs.Prelude.{◌↔◌, Contains}
 use Rattle.std.proofs.lemmas.Bool.{cases_lt}
 use Rattle.std.proofs.lemmas.List.{take_more, take_all, get_or-take, length-take, get_or_default}
-use Rattle.std.proofs.lemmas.List.Elements.{Contains-append_left, Contains-push, Contains-push_cases}
+use Rattle.std.proofs.lemmas.List.Elements.{Contains-append_left, Contains-append_right, Contains-append_cases, Contains-push, Contains-push_cases}
 use Rattle.sia_index.specs.declared.info.Made.{Made}
 use Rattle.sia_parts.specs.Sights.{Adds, FromSome, FromPair, AscendsByCommit}
 
@@ -54,6 +54,13 @@ module _ {A : Type 0} (P : A → Type 0) where
 -- so it is what a list that was empty holds
 pub added_are : {A : Type 0} (P Q : A → Type 0) (ys : List A) → Adds P [] ys → ((x : A) → P x ↔ Q x) → (x : A) → Contains ys x ↔ Q x
 added_are P Q ys adds same x = ((λ c. (same x).0 ((added_to_none P ys adds x).0 c)), (λ q. (added_to_none P ys adds x).1 ((same x).1 q)))
+
+-- a list behind another
+pub adds_list : {A : Type 0} (xs ys : List A) → Adds (Contains ys) xs (xs ++ ys)
+adds_list xs ys x = (
+  (λ c. Contains-append_cases xs ys x c),
+  (λ e. elim e [ inl c ↦ Contains-append_left xs ys x c | inr c ↦ Contains-append_right xs ys x c ]),
+)
 
 -- what some member gives, where another list has all members
 pub from_members : {A B : Type 0} (P : A → B → Type 0) (xs ys : List A) → ((x : A) → Contains xs x → Contains ys x) → (y : B) → FromSome P xs y → FromSome P ys y

@@ -38,12 +38,6 @@ pub record AreFirst (h : List Event) (txns : List ℕ) (n : ℕ) (found : List �
   pub each : (t : ℕ) → Contains found t ↔ (Contains (take n txns) t × IsCommitted h t)
 
 module _ (h : List Event) (txns : List ℕ) where
-  pub first_none : AreFirst h txns 0 []
-  first_none = record {
-    ascending = λ i j d less below. absurd (omega arith);
-    each = λ t. ((λ c. absurd (let b = c.1 in omega arith)), (λ w. absurd (let b = w.0.1 in omega arith)));
-  }
-
   module _ (rises : Rises txns) (n : ℕ) (inside : n < length txns) (found : List ℕ) (are : AreFirst h txns n found) where
     abbrev x : ℕ
     x = slice_index txns n

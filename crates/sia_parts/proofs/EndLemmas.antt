@@ -1,5 +1,5 @@
 -- Ends of edges: which there are, how they are in order, and which stand between two ranks.
-use Rattle.std.proofs.Common.{◌-◌, ◌≡◌, inl, inr, ℕ, ◌<◌, ◌≤◌, List, [], ◌∷◌, length, sym, subst, ◌∙◌, arith}
+use Rattle.std.proofs.Common.{◌≡◌, inl, inr, ℕ, ◌<◌, ◌≤◌, List, [], ◌∷◌, length, sym, subst, ◌∙◌, arith}
 use Rattle.std.specs.Prelude.{◌↔◌, AllPairs, Contains, slice_range, slice_index, slice_index_or}
 use Rattle.std.specs.Ordering.{nat_cmp, ordering_then}
 use Rattle.std.specs.declared.cmp.Ordering.TheVariants.{Less}
@@ -92,14 +92,6 @@ ends_between ends from to start end stop low high le most bound cut x = (
       ] in
       part_has ends start stop le bound c.0 x after (omega arith) c.2),
 )
-
--- a place whose neighbours are on their sides of the rank
-pub place_checked : (ends : List End) → RisesByRank ends → (from at : ℕ) → at ≤ length ends → ((d : End) → 0 < at → end_rank (slice_index_or ends (at - 1) d) < from) → ((d : End) → at < length ends → from ≤ end_rank (slice_index_or ends at d)) → IsRankPlace ends from at
-place_checked ends rises from at bound before after = record {
-  bound = bound;
-  below = λ i d less. let le = rises i (at - 1) d (omega arith) (omega arith) in let under = before d (omega arith) in omega arith;
-  above = λ i d more below. let le = rises at i d more below in let over = after d (omega arith) in omega arith;
-}
 
 -- what a search found
 pub rank_place : (ends : List End) (from at : ℕ) → PointBelow end_rank ends from at → at ≤ length ends → IsRankPlace ends from at

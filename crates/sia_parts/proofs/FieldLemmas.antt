@@ -1,8 +1,13 @@
--- The four lists of the findings of parts, each over all parts.
-use Rattle.std.proofs.Common.{◌≡◌, ℕ, List, map, Vec, Global}
+-- The lists of what the parts found, one behind another and put in order, are those of all keys.
+use Rattle.std.proofs.Common.{◌≡◌, ℕ, List, []}
 use Rattle.std.specs.List.{AllZip}
-use Rattle.std.specs.Prelude.{⊤}
+use Rattle.std.specs.List.Sorted.{IsStrictlySortedBy}
+use Rattle.std.specs.Ordering.{nat_cmp, ordering_then}
+use Rattle.std.specs.Prelude.{Contains, ⊤}
+use Rattle.std.specs.declared.cmp.Ordering.{Ordering}
+use Rattle.std.specs.declared.cmp.Ordering.TheVariants.{Less}
 use Rattle.sia_events.specs.declared.event.Event.{Event}
+use Rattle.sia_events.specs.Lists.{Precedes}
 use Rattle.sia_events.specs.Refusals.{IsWellFormed}
 use Rattle.sia_events.specs.Isolation.{IsBadRead, IsBadWrite, IsUnexplained}
 use Rattle.sia_parts.specs.declared.cutting.Part.{Part}
@@ -10,47 +15,42 @@ use Rattle.sia_parts.specs.declared.finding.BadRead.{BadRead}
 use Rattle.sia_parts.specs.declared.finding.BadWrite.{BadWrite}
 use Rattle.sia_parts.specs.declared.finding.Unexplained.{Unexplained}
 use Rattle.sia_parts.specs.declared.finding.Edge.{Edge}
-use Rattle.sia_parts.specs.declared.findings.PartFindings.{PartFindings}
-use Rattle.sia_parts.specs.Parts.{IsCutting}
+use Rattle.sia_parts.specs.Parts.{IsCutting, IsInPart}
 use Rattle.sia_parts.specs.Entries.{IsEdge, bad_read_rank, bad_write_rank, unexplained_rank, edge_rank}
-use Rattle.sia_parts.specs.Findings.{ArePartFindings, ListsBadReads, ListsBadWrites, ListsUnexplained, ListsEdges}
-use Rattle.sia_parts.specs.Merging.{CanMerge, IsMerged}
-use Rattle.sia_parts.proofs.KeyLemmas.{seen_key, written_key, edge_key, bad_read_key, bad_write_key, unexplained_key, edge_rank_key}
-use Rattle.sia_parts.proofs.FindingLemmas.{fields_can_merge, fields_all_listed}
+use Rattle.sia_parts.specs.Findings.{ListsBadReads, ListsBadWrites, ListsUnexplained, ListsEdges}
+use Rattle.sia_parts.specs.Sights.{Adds, FromSome}
+use Rattle.sia_parts.proofs.FindingLemmas.{all_listed}
+use Rattle.sia_parts.proofs.KeyLemmas.{seen_key, written_key, edge_key}
+use Rattle.sia_parts.proofs.Listing.{bad_read_before, bad_write_before, unexplained_before}
 
-module _ (h : List Event) (points : List ℕ) (cutting : List Part) (parts : List PartFindings) (wf : IsWellFormed h) (cuts : IsCutting points cutting) (zip : AllZip (ArePartFindings h) cutting parts) where
-  module _ (lists : List (Vec BadRead Global)) (is : lists ≡ map (λ part. part.bad_reads) parts) where
-    pub bad_reads_can : CanMerge bad_read_rank (map (λ list. list.items) lists)
-    bad_reads_can = fields_can_merge bad_read_rank (λ b. b.key) (λ b. IsBadRead h b.place b.txn b.key b.saw b.due) bad_read_key (λ b f. seen_key h wf b.place b.txn b.key b.saw f.0) points cutting cuts
-        (ArePartFindings h) (λ part. part.bad_reads) (λ list. list.items) (λ part found a. a.bad_reads) parts zip lists is
+-- ys is put in order by c, and has what xs has
+pub record IsPut {A : Type 0} (c : A → A → Ordering) (xs ys : List A) : Type 0 where
+  pub sorted : IsStrictlySortedBy c ys
+  pub keeps : (x : A) → Contains xs x → Contains ys x
+  pub adds_none : (x : A) → Contains ys x → Contains xs x
 
-    pub bad_reads_all : (merged : List BadRead) → IsMerged bad_read_rank (map (λ list. list.items) lists) merged → ListsBadReads h (λ _. ⊤) merged
-    bad_reads_all = fields_all_listed bad_read_rank (λ b. b.key) (λ b. IsBadRead h b.place b.txn b.key b.saw b.due) bad_read_key (λ b f. seen_key h wf b.place b.txn b.key b.saw f.0) points cutting cuts
-        (ArePartFindings h) (λ part. part.bad_reads) (λ list. list.items) (λ part found a. a.bad_reads) parts zip lists is
+abbrev pub bad_read_cmp : BadRead → BadRead → Ordering
+bad_read_cmp x y = ordering_then (nat_cmp x.place y.place) (ordering_then (nat_cmp x.txn y.txn) (ordering_then (nat_cmp x.key y.key) (ordering_then (nat_cmp x.saw y.saw) (nat_cmp x.due y.due))))
 
-  module _ (lists : List (Vec BadWrite Global)) (is : lists ≡ map (λ part. part.bad_writes) parts) where
-    pub bad_writes_can : CanMerge bad_write_rank (map (λ list. list.items) lists)
-    bad_writes_can = fields_can_merge bad_write_rank (λ b. b.key) (λ b. IsBadWrite h b.key b.first b.second) bad_write_key (λ b f. written_key h wf b.first b.key f.0) points cutting cuts
-        (ArePartFindings h) (λ part. part.bad_writes) (λ list. list.items) (λ part found a. a.bad_writes) parts zip lists is
+abbrev pub bad_write_cmp : BadWrite → BadWrite → Ordering
+bad_write_cmp x y = ordering_then (nat_cmp x.key y.key) (ordering_then (nat_cmp x.first y.first) (nat_cmp x.second y.second))
 
-    pub bad_writes_all : (merged : List BadWrite) → IsMerged bad_write_rank (map (λ list. list.items) lists) merged → ListsBadWrites h (λ _. ⊤) merged
-    bad_writes_all = fields_all_listed bad_write_rank (λ b. b.key) (λ b. IsBadWrite h b.key b.first b.second) bad_write_key (λ b f. written_key h wf b.first b.key f.0) points cutting cuts
-        (ArePartFindings h) (λ part. part.bad_writes) (λ list. list.items) (λ part found a. a.bad_writes) parts zip lists is
+abbrev pub unexplained_cmp : Unexplained → Unexplained → Ordering
+unexplained_cmp x y = ordering_then (nat_cmp x.place y.place) (ordering_then (nat_cmp x.txn y.txn) (ordering_then (nat_cmp x.key y.key) (nat_cmp x.saw y.saw)))
 
-  module _ (lists : List (Vec Unexplained Global)) (is : lists ≡ map (λ part. part.unexplained) parts) where
-    pub unexplained_can : CanMerge unexplained_rank (map (λ list. list.items) lists)
-    unexplained_can = fields_can_merge unexplained_rank (λ b. b.key) (λ b. IsUnexplained h b.place b.txn b.key b.saw) unexplained_key (λ b f. seen_key h wf b.place b.txn b.key b.saw f.1) points cutting cuts
-        (ArePartFindings h) (λ part. part.unexplained) (λ list. list.items) (λ part found a. a.unexplained) parts zip lists is
+module _ (h : List Event) (points : List ℕ) (cutting : List Part) (wf : IsWellFormed h) (cuts : IsCutting points cutting) {F : Type 0} (R : Part → F → Type 0) (founds : List F) (zip : AllZip R cutting founds) where
+  pub bad_reads_all : (list : F → List BadRead) → ((part : Part) (found : F) → R part found → ListsBadReads h (IsInPart part) (list found)) → (xs ys : List BadRead) → Adds (FromSome (λ found. Contains (list found)) founds) [] xs → IsPut bad_read_cmp xs ys → ListsBadReads h (λ _. ⊤) ys
+  bad_reads_all list fits xs ys adds put = all_listed bad_read_rank (λ b. b.key) (λ b. IsBadRead h b.place b.txn b.key b.saw b.due) (λ b f. seen_key h wf b.place b.txn b.key b.saw f.0) points cutting cuts
+      R list fits founds zip bad_read_cmp (bad_read_before h wf) xs ys adds put.sorted put.keeps put.adds_none
 
-    pub unexplained_all : (merged : List Unexplained) → IsMerged unexplained_rank (map (λ list. list.items) lists) merged → ListsUnexplained h (λ _. ⊤) merged
-    unexplained_all = fields_all_listed unexplained_rank (λ b. b.key) (λ b. IsUnexplained h b.place b.txn b.key b.saw) unexplained_key (λ b f. seen_key h wf b.place b.txn b.key b.saw f.1) points cutting cuts
-        (ArePartFindings h) (λ part. part.unexplained) (λ list. list.items) (λ part found a. a.unexplained) parts zip lists is
+  pub bad_writes_all : (list : F → List BadWrite) → ((part : Part) (found : F) → R part found → ListsBadWrites h (IsInPart part) (list found)) → (xs ys : List BadWrite) → Adds (FromSome (λ found. Contains (list found)) founds) [] xs → IsPut bad_write_cmp xs ys → ListsBadWrites h (λ _. ⊤) ys
+  bad_writes_all list fits xs ys adds put = all_listed bad_write_rank (λ b. b.key) (λ b. IsBadWrite h b.key b.first b.second) (λ b f. written_key h wf b.first b.key f.0) points cutting cuts
+      R list fits founds zip bad_write_cmp (λ x y p q. bad_write_before x y) xs ys adds put.sorted put.keeps put.adds_none
 
-  module _ (lists : List (Vec Edge Global)) (is : lists ≡ map (λ part. part.edges) parts) where
-    pub edges_can : CanMerge edge_rank (map (λ list. list.items) lists)
-    edges_can = fields_can_merge edge_rank (λ e. e.key) (IsEdge h) edge_rank_key (λ e f. edge_key h wf e.kind e.src e.dst e.key f) points cutting cuts
-        (ArePartFindings h) (λ part. part.edges) (λ list. list.items) (λ part found a. a.edges) parts zip lists is
+  pub unexplained_all : (list : F → List Unexplained) → ((part : Part) (found : F) → R part found → ListsUnexplained h (IsInPart part) (list found)) → (xs ys : List Unexplained) → Adds (FromSome (λ found. Contains (list found)) founds) [] xs → IsPut unexplained_cmp xs ys → ListsUnexplained h (λ _. ⊤) ys
+  unexplained_all list fits xs ys adds put = all_listed unexplained_rank (λ b. b.key) (λ b. IsUnexplained h b.place b.txn b.key b.saw) (λ b f. seen_key h wf b.place b.txn b.key b.saw f.1) points cutting cuts
+      R list fits founds zip unexplained_cmp (unexplained_before h wf) xs ys adds put.sorted put.keeps put.adds_none
 
-    pub edges_all : (merged : List Edge) → IsMerged edge_rank (map (λ list. list.items) lists) merged → ListsEdges h (λ _. ⊤) merged
-    edges_all = fields_all_listed edge_rank (λ e. e.key) (IsEdge h) edge_rank_key (λ e f. edge_key h wf e.kind e.src e.dst e.key f) points cutting cuts
-        (ArePartFindings h) (λ part. part.edges) (λ list. list.items) (λ part found a. a.edges) parts zip lists is
+  pub edges_all : (list : F → List Edge) → ((part : Part) (found : F) → R part found → ListsEdges h (IsInPart part) (list found)) → (c : Edge → Edge → Ordering) → ((x y : Edge) → c x y ≡ Less → Precedes (edge_rank x) (edge_rank y)) → (xs ys : List Edge) → Adds (FromSome (λ found. Contains (list found)) founds) [] xs → IsPut c xs ys → ListsEdges h (λ _. ⊤) ys
+  edges_all list fits c before xs ys adds put = all_listed edge_rank (λ e. e.key) (IsEdge h) (λ e f. edge_key h wf e.kind e.src e.dst e.key f) points cutting cuts
+      R list fits founds zip c (λ x y p q. before x y) xs ys adds put.sorted put.keeps put.adds_none

@@ -1,13 +1,17 @@
 -- What is found at the keys of the parts of a cutting, all together.
 use Rattle.std.proofs.Common.{◌≡◌, ℕ, zero, suc, ◌<◌, ◌^◌, List, [], ◌∷◌, ◌++◌, length, get_or, map, refl, ap, sym, subst, arith}
 use Rattle.std.specs.List.{AllZip}
-use Rattle.std.specs.Prelude.{Contains, ⊤}
-use Rattle.std.proofs.lemmas.List.Elements.{Contains-get_or}
-use Rattle.std.proofs.lemmas.Option.{slice_get-get_or, slice_get_within, get_or_from_slice_get}
-use Rattle.sia_events.specs.Lists.{ListsBy}
+use Rattle.std.specs.Prelude.{◌↔◌, Contains, ⊤}
+use Rattle.std.specs.List.Sorted.{IsStrictlySortedBy}
+use Rattle.std.specs.declared.cmp.Ordering.{Ordering}
+use Rattle.std.specs.declared.cmp.Ordering.TheVariants.{Less}
+use Rattle.std.proofs.lemmas.Option.{slice_get_within, get_or_from_slice_get}
+use Rattle.sia_events.specs.Lists.{ListsBy, Precedes}
 use Rattle.sia_parts.specs.declared.cutting.Part.{Part}
-use Rattle.sia_parts.specs.Parts.{IsCutting, IsInPart, IsInPartAt}
-use Rattle.sia_parts.specs.Merging.{CanMerge, IsMerged}
+use Rattle.sia_parts.specs.Parts.{IsCutting, IsInPart}
+use Rattle.sia_parts.specs.Sights.{Adds, FromSome}
+use Rattle.sia_parts.proofs.Adding.{added_are}
+use Rattle.sia_parts.proofs.Listing.{put_listed}
 use Rattle.sia_parts.proofs.PartLemmas.{one_part_holds}
 
 pub AllZip-map : {A B C : Type 0} (R : A → B → Type 0) (S : A → C → Type 0) (f : B → C) → ((x : A) (y : B) → R x y → S x (f y)) → (xs : List A) (ys : List B) → AllZip R xs ys → AllZip S xs (map f ys)
@@ -35,69 +39,38 @@ zip_at R (x ∷ xs) [] i d e z below = absurd z
 zip_at R (x ∷ xs) (y ∷ ys) zero d e z below = z.0
 zip_at R (x ∷ xs) (y ∷ ys) (suc i) d e z below = zip_at R xs ys i d e z.1 (omega arith)
 
--- the things that have P, by rank, each at its key
-module _ {A : Type 0} (rank : A → List ℕ) (key : A → ℕ) (P : A → Type 0) where
-  abbrev pub ListsIn : Part → List A → Type 0
-  ListsIn part xs = ListsBy rank (λ x. P x × IsInPart part (key x)) xs
+pub entry_at : {A : Type 0} (xs : List A) (i : ℕ) → i < length xs → (x : A) × (get_or xs i x ≡ x)
+entry_at [] i below = absurd (omega arith)
+entry_at (x ∷ xs) zero below = (x, refl)
+entry_at (x ∷ xs) (suc i) below = entry_at xs i (omega arith)
 
-  module _ (same_key : (x y : A) → rank x ≡ rank y → key x ≡ key y) (is_key : (x : A) → P x → key x < 2 ^ 64) (points : List ℕ) (cutting : List Part) (cuts : IsCutting points cutting) (lists : List (List A)) (each : AllZip ListsIn cutting lists) where
-    whole : Part
-    whole = record { lo = 0; hi = 0 }
+-- the things that have P, each at its key: those that each part lists, all together
+module _ {A F : Type 0} (rank : A → List ℕ) (key : A → ℕ) (P : A → Type 0) (is_key : (x : A) → P x → key x < 2 ^ 64) (points : List ℕ) (cutting : List Part) (cuts : IsCutting points cutting)
+    (R : Part → F → Type 0) (list : F → List A) (fits : (part : Part) (found : F) → R part found → ListsBy rank (λ x. P x × IsInPart part (key x)) (list found)) (founds : List F) (zip : AllZip R cutting founds) where
+  whole : Part
+  whole = record { lo = 0; hi = 0 }
 
-    as_long : length cutting ≡ length lists
-    as_long = length_zip ListsIn cutting lists each
+  as_long : length cutting ≡ length founds
+  as_long = length_zip R cutting founds zip
 
-    list_at : (i : ℕ) (d : List A) → i < length lists → ListsIn (get_or cutting i whole) (get_or lists i d)
-    list_at i d below = zip_at ListsIn cutting lists i whole d each (let e = as_long in omega arith)
+  list_of : (found : F) (c : Contains founds found) → ListsBy rank (λ x. P x × IsInPart (get_or cutting c.0 whole) (key x)) (list found)
+  list_of found c = fits (get_or cutting c.0 whole) found (subst (R (get_or cutting c.0 whole)) c.2 (zip_at R cutting founds c.0 whole found zip (let e = as_long in let b = c.1 in omega arith)))
 
-    -- what list number i holds has its key in part number i
-    part_of : (i : ℕ) (d : List A) (x : A) → i < length lists → Contains (get_or lists i d) x → P x × IsInPartAt cutting (key x) i
-    part_of i d x below c =
-        let h = ((list_at i d below).each x).0 c in
-        (h.0, (get_or cutting i whole, slice_get-get_or cutting i whole (let e = as_long in omega arith), h.1))
+  of_all : (x : A) → FromSome (λ found. Contains (list found)) founds x ↔ (P x × ⊤)
+  of_all x = ((λ f. ((((list_of f.0 f.1).each x).0 f.2).0, tt)), (λ h. back h.0))
+    where
+      back : P x → FromSome (λ found. Contains (list found)) founds x
+      back is =
+          let one = one_part_holds points cutting cuts (key x) (is_key x is) in
+          let at = one.1 in
+          let in_cutting = slice_get_within cutting one.0 at.0 at.1 in
+          let below : one.0 < length founds = let e = as_long in omega arith in
+          let same : get_or cutting one.0 whole ≡ at.0 = get_or_from_slice_get cutting one.0 at.0 whole at.1 in
+          let within : IsInPart (get_or cutting one.0 whole) (key x) = subst (λ part. IsInPart part (key x)) (sym same) at.2 in
+          let some = entry_at founds one.0 below in
+          (some.0, (one.0, below, some.1), ((list_of some.0 (one.0, below, some.1)).each x).1 (is, within))
 
-    pub can_merge : CanMerge rank lists
-    can_merge = record {
-      ascending = λ i d below. (list_at i d below).ascending;
-      apart = λ i j d less below x y in_x in_y e.
-          let a = part_of i d x (omega arith) in_x in
-          let b = part_of j d y below in_y in
-          let one = one_part_holds points cutting cuts (key x) (is_key x a.0) in
-          let first = one.2 i a.1 in
-          let second = one.2 j (subst (λ k. IsInPartAt cutting k j) (sym (same_key x y e)) b.1) in
-          omega arith;
-    }
-
-    pub all_listed : (merged : List A) → IsMerged rank lists merged → ListsBy rank (λ x. P x × ⊤) merged
-    all_listed merged m = record { ascending = m.ascending; each = λ x. (into x, back x) }
-      where
-        into : (x : A) → Contains merged x → P x × ⊤
-        into x c =
-            let some = (m.each x).0 c in
-            let at : Contains lists some.0 = some.1 in
-            ((part_of at.0 some.0 x at.1 (subst (λ xs. Contains xs x) (sym at.2) some.2)).0, tt)
-
-        back : (x : A) → P x × ⊤ → Contains merged x
-        back x h =
-            let one = one_part_holds points cutting cuts (key x) (is_key x h.0) in
-            let at = one.1 in
-            let in_cutting = slice_get_within cutting one.0 at.0 at.1 in
-            let e = as_long in
-            let below : one.0 < length lists = omega arith in
-            let same : get_or cutting one.0 whole ≡ at.0 = get_or_from_slice_get cutting one.0 at.0 whole at.1 in
-            let within : IsInPart (get_or cutting one.0 whole) (key x) = subst (λ part. IsInPart part (key x)) (sym same) at.2 in
-            (m.each x).1 (get_or lists one.0 [], Contains-get_or lists one.0 [] below, ((list_at one.0 [] below).each x).1 (h.0, within))
-
-  -- the same where the lists are fields of what stands beside the parts
-  module _ (same_key : (x y : A) → rank x ≡ rank y → key x ≡ key y) (is_key : (x : A) → P x → key x < 2 ^ 64) (points : List ℕ) (cutting : List Part) (cuts : IsCutting points cutting)
-      {F V : Type 0} (R : Part → F → Type 0) (field : F → V) (items : V → List A) (fits : (part : Part) (found : F) → R part found → ListsIn part (items (field found))) (founds : List F) (zip : AllZip R cutting founds) (lists : List V) (is : lists ≡ map field founds) where
-    fields_listed : AllZip ListsIn cutting (map items lists)
-    fields_listed = subst (λ vs. AllZip ListsIn cutting (map items vs)) (sym is)
-        (AllZip-map (λ part v. ListsIn part (items v)) ListsIn items (λ part v l. l) cutting (map field founds)
-        (AllZip-map R (λ part v. ListsIn part (items v)) field fits cutting founds zip))
-
-    pub fields_can_merge : CanMerge rank (map items lists)
-    fields_can_merge = can_merge same_key is_key points cutting cuts (map items lists) fields_listed
-
-    pub fields_all_listed : (merged : List A) → IsMerged rank (map items lists) merged → ListsBy rank (λ x. P x × ⊤) merged
-    fields_all_listed = all_listed same_key is_key points cutting cuts (map items lists) fields_listed
+  -- put in order by what goes with the ranks
+  pub all_listed : (c : A → A → Ordering) → ((x y : A) → P x → P y → c x y ≡ Less → Precedes (rank x) (rank y)) → (xs ys : List A) → Adds (FromSome (λ found. Contains (list found)) founds) [] xs
+      → IsStrictlySortedBy c ys → ((x : A) → Contains xs x → Contains ys x) → ((x : A) → Contains ys x → Contains xs x) → ListsBy rank (λ x. P x × ⊤) ys
+  all_listed c before xs ys adds = put_listed rank (λ x. P x × ⊤) c (λ x y p q. before x y p.0 q.0) xs ys (added_are (FromSome (λ found. Contains (list found)) founds) (λ x. P x × ⊤) xs adds of_all)

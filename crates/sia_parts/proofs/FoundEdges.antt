@@ -15,6 +15,7 @@ use Rattle.sia_index.specs.Info.{AreVersionsWithin, AreWrittenKeys, IsKeyAt}
 use Rattle.sia_index.proofs.KeyChains.{key_number}
 use Rattle.sia_parts.specs.declared.cutting.Part.{Part}
 use Rattle.sia_parts.specs.declared.ends.End.{End}
+use Rattle.sia_parts.specs.declared.ends.Ends.{Ends}
 use Rattle.sia_parts.specs.declared.finding.Edge.{Edge}
 use Rattle.sia_parts.specs.declared.finding.Kind.{Kind}
 use Rattle.sia_parts.specs.declared.finding.Kind.TheVariants.{Ww, Wr, Rw}
@@ -27,12 +28,20 @@ use Rattle.sia_parts.specs.Packing.{IsPacked, Packs, unpacked}
 use Rattle.sia_parts.specs.Parts.{IsInPart}
 use Rattle.sia_parts.specs.Sights.{AreSpans, FromSome, FromMade, IsAsOf, IsWrEdge, IsRwEdge, PartPair}
 use Rattle.sia_parts.specs.Ends.{HasDigits, IsEndOf, IsEndOfVersion, IsNumberTo, IsNumberWithin, end_rank, rank_of}
-use Rattle.sia_parts.specs.Fans.{IsNumberOfSpans, IsSeenNumber, IsMissedNumber, IsGapNumber}
+use Rattle.sia_parts.specs.Fans.{IsGapNumber, IsNumberFound}
 use Rattle.sia_parts.proofs.EndLemmas.{one_committed_number}
 use Rattle.sia_parts.proofs.FewNumbers.{few_committed, few_keys}
 use Rattle.sia_parts.proofs.Committing.{committed_number}
 use Rattle.sia_parts.proofs.PackedEdges.{packs}
 use Rattle.sia_parts.proofs.Sources.{edges_are}
+
+-- an edge from a version to one who saw it or a later one
+abbrev IsNumberSeen : End → End → ℕ → Type 0
+IsNumberSeen reader end n = (end_rank end ≤ end_rank reader) × (end_rank reader < rank_of (end.key + 1) 0) × IsNumberTo end.txn Wr reader n
+
+-- and to a version from one who saw an earlier one
+abbrev IsNumberMissed : End → End → ℕ → Type 0
+IsNumberMissed reader end n = (rank_of reader.key reader.low + 1 ≤ end_rank end) × (end_rank end < rank_of (reader.key + 1) 0) × IsNumberTo reader.txn Rw end n
 
 -- the span of a version
 abbrev pub as_span : KeyVersion → Span
@@ -94,7 +103,7 @@ module _ (h : List Event) (wf : IsWellFormed h) where
         at_txn : (i u : ℕ) → IsCommittedAt h i u → slice_index txns i ≡ u
         at_txn i u at = (committed_number h txns txns_are i u at).1
 
-    module _ (part : Part) (versions : List KeyVersion) (spans : List Span) (gaps : List Gap) (versions_are : AreVersionsWithin h part.lo part.hi versions) (spans_are : AreSpans h part spans gaps) (makers : List End) (makers_are : (end : End) → Contains makers end ↔ FromSome (IsEndOfVersion h) versions end) where
+    module _ (part : Part) (versions : List KeyVersion) (spans : List Span) (gaps : List Gap) (versions_are : AreVersionsWithin h part.lo part.hi versions) (spans_are : AreSpans h part spans gaps) (ends : Ends) (writers_are : (end : End) → Contains ends.writers.items end ↔ FromSome (IsEndOfVersion h) versions end) (readers_are : (end : End) → Contains ends.readers.items end ↔ FromSome (IsEndOf h) spans end) where
       -- the edges that the numbers stand for
       abbrev pub IsNamed : Edge → Type 0
       IsNamed e = (PartPair h part e ⊎ FromSome (FromMade h) spans e) ⊎ FromSome (FromGap h) gaps e
@@ -102,13 +111,13 @@ module _ (h : List Event) (wf : IsWellFormed h) where
       abbrev pub Stands : ℕ → Type 0
       Stands n = (e : Edge) × Packs txns keys e n × IsNamed e
 
-      version_of : (end : End) → Contains makers end → (v : KeyVersion) × IsEndOfVersion h v end × Wrote h v.txn v.key × CommitsAt h v.txn v.commit × IsInPart part v.key
+      version_of : (end : End) → Contains ends.writers.items end → (v : KeyVersion) × IsEndOfVersion h v end × Wrote h v.txn v.key × CommitsAt h v.txn v.commit × IsInPart part v.key
       version_of end c =
-          let of = (makers_are end).0 c in
+          let of = (writers_are end).0 c in
           let is = (versions_are.each of.0).0 of.1 in
           (of.0, of.2, is.0, is.1, (is.2, is.3))
 
-      of_later : (end : End) → Contains makers end → (n : ℕ) → IsNumberWithin makers (end_rank end + 1) (rank_of (end.key + 1) 0) end.txn Ww n → Stands n
+      of_later : (end : End) → Contains ends.writers.items end → (n : ℕ) → IsNumberWithin ends.writers.items (end_rank end + 1) (rank_of (end.key + 1) 0) end.txn Ww n → Stands n
       of_later end c n w =
           let first = version_of end c in
           let second = version_of w.0 w.1 in
@@ -135,7 +144,7 @@ module _ (h : List Event) (wf : IsWellFormed h) where
             )),
           )
 
-      of_seen : (reader end : End) → FromSome (IsEndOf h) spans reader → Contains makers end → (n : ℕ) → IsSeenNumber reader end n → Stands n
+      of_seen : (reader end : End) → FromSome (IsEndOf h) spans reader → Contains ends.writers.items end → (n : ℕ) → IsNumberSeen reader end n → Stands n
       of_seen reader end second c n w =
           let first = version_of end c in
           let v = first.0 in
@@ -161,7 +170,7 @@ module _ (h : List Event) (wf : IsWellFormed h) where
             )),
           )
 
-      of_read : (reader end : End) → FromSome (IsEndOf h) spans reader → Contains makers end → (n : ℕ) → IsMissedNumber reader end n → Stands n
+      of_read : (reader end : End) → FromSome (IsEndOf h) spans reader → Contains ends.writers.items end → (n : ℕ) → IsNumberMissed reader end n → Stands n
       of_read reader end first c n w =
           let second = version_of end c in
           let span = first.0 in
@@ -187,7 +196,7 @@ module _ (h : List Event) (wf : IsWellFormed h) where
             )),
           )
 
-      of_missed : (gap : Gap) → Contains gaps gap → (n : ℕ) → IsGapNumber h makers gap n → Stands n
+      of_missed : (gap : Gap) → Contains gaps gap → (n : ℕ) → IsGapNumber h ends gap n → Stands n
       of_missed gap c n (src, at, w) =
           let second = version_of w.0 w.1 in
           let v = second.0 in
@@ -211,23 +220,23 @@ module _ (h : List Event) (wf : IsWellFormed h) where
             ),
           )
 
-      pub found_stands : (n : ℕ) → IsNumberOfSpans h makers spans gaps n → Stands n
-      found_stands n (inl (inl (end, c, w))) = of_later end c n w
-      found_stands n (inl (inr (gap, c, w))) = of_missed gap c n w
-      found_stands n (inr (span, c, (reader, is, (end, d, inl w)))) = of_seen reader end (span, c, is) d n w
-      found_stands n (inr (span, c, (reader, is, (end, d, inr w)))) = of_read reader end (span, c, is) d n w
+      pub found_stands : (n : ℕ) → IsNumberFound h ends gaps n → Stands n
+      found_stands n (inl (inl (end, c, inl w))) = of_later end c n w
+      found_stands n (inl (inl (end, c, inr (reader, d, le, less, is)))) = of_seen reader end ((readers_are reader).0 d) c n (le, less, is)
+      found_stands n (inl (inr (reader, d, (end, c, le, less, is)))) = of_read reader end ((readers_are reader).0 d) c n (le, less, is)
+      found_stands n (inr (gap, c, w)) = of_missed gap c n w
 
-      pub found_packed : (n : ℕ) → IsNumberOfSpans h makers spans gaps n → IsPacked txns keys n
+      pub found_packed : (n : ℕ) → IsNumberFound h ends gaps n → IsPacked txns keys n
       found_packed n f = (found_stands n f).1.0
 
       -- each edge has a number
       abbrev pub IsMet : Edge → Type 0
-      IsMet e = (n : ℕ) × IsNumberOfSpans h makers spans gaps n × (unpacked txns keys n ≡ e)
+      IsMet e = (n : ℕ) × IsNumberFound h ends gaps n × (unpacked txns keys n ≡ e)
 
-      maker_of : (v : KeyVersion) → Wrote h v.txn v.key → CommitsAt h v.txn v.commit → IsInPart part v.key → (end : End) × Contains makers end × IsEndOfVersion h v end
-      maker_of v wrote at in_part =
+      writer_of : (v : KeyVersion) → Wrote h v.txn v.key → CommitsAt h v.txn v.commit → IsInPart part v.key → (end : End) × Contains ends.writers.items end × IsEndOfVersion h v end
+      writer_of v wrote at in_part =
           let end = end_of_span (as_span v) v.txn (commit_has v.txn v.commit at) wrote (commit_fits v.txn v.commit at) in
-          (end.0, (makers_are end.0).1 (v, (versions_are.each v).1 (wrote, at, in_part.0, in_part.1), end.1), end.1)
+          (end.0, (writers_are end.0).1 (v, (versions_are.each v).1 (wrote, at, in_part.0, in_part.1), end.1), end.1)
 
       reader_of : (span : Span) → Contains spans span → (t : ℕ) → Wrote h t span.key → (end : End) × IsEndOf h span end
       reader_of span c t wrote =
@@ -241,8 +250,8 @@ module _ (h : List Event) (wf : IsWellFormed h) where
           let less = pair.4 in
           let v : KeyVersion = record { key = k; commit = first.commit; txn = first.txn } in
           let u : KeyVersion = record { key = k; commit = second.commit; txn = second.txn } in
-          let own = maker_of v pair.2.0 pair.2.1 in_part in
-          let other = maker_of u pair.3.0 pair.3.1 in_part in
+          let own = writer_of v pair.2.0 pair.2.1 in_part in
+          let other = writer_of u pair.3.0 pair.3.1 in_part in
           let apart : second.txn ≢ first.txn = λ same. (let one : first.commit ≡ second.commit = one_commit h wf first.txn first.commit second.commit pair.2.1 (subst (λ t. CommitsAt h t second.commit) same pair.3.1) in omega arith) in
           let number = number_of own.0.txn first.txn Ww (as_span u) other.0 own.2.txn_at other.2 apart in
           let key = own.2.key_is in
@@ -251,22 +260,22 @@ module _ (h : List Event) (wf : IsWellFormed h) where
           let later = other.2.high_is in
           let fits = other.2.fits in (
             number.0,
-            inl (inl (own.0, own.1, (other.0, other.1, omega arith, omega arith, number.1))),
+            inl (inl (own.0, own.1, inl (other.0, other.1, omega arith, omega arith, number.1))),
             (number_packs own.0.txn first.txn Ww (as_span u) other.0 number.0 own.2.txn_at other.2 number.1).1 ∙ sym pair.5,
           )
 
       made_met : (e : Edge) → FromSome (FromMade h) spans e → IsMet e
       made_met e (span, c, (made, is, (apart, either))) = of_either either
         where
-          maker : (end : End) × Contains makers end × IsEndOfVersion h (record { key = span.key; commit = made.commit; txn = made.txn }) end
-          maker = maker_of (record { key = span.key; commit = made.commit; txn = made.txn }) is.0 is.1 (spans_are.within span c)
+          writer : (end : End) × Contains ends.writers.items end × IsEndOfVersion h (record { key = span.key; commit = made.commit; txn = made.txn }) end
+          writer = writer_of (record { key = span.key; commit = made.commit; txn = made.txn }) is.0 is.1 (spans_are.within span c)
 
           reader : (end : End) × IsEndOf h span end
           reader = reader_of span c made.txn is.0
 
           of_either : IsWrEdge span made e ⊎ IsRwEdge span made e → IsMet e
           of_either (inl (le, same)) =
-              let m = maker in
+              let m = writer in
               let r = reader in
               let number = number_of m.0.txn made.txn Wr span r.0 m.2.txn_at r.1 (λ one. apart (sym one)) in
               let key = m.2.key_is in
@@ -275,11 +284,11 @@ module _ (h : List Event) (wf : IsWellFormed h) where
               let later = r.1.high_is in
               let fits = r.1.fits in (
                 number.0,
-                inr (span, c, (r.0, r.1, (m.0, m.1, inl (omega arith, omega arith, number.1)))),
+                inl (inl (m.0, m.1, inr (r.0, (readers_are r.0).1 (span, c, r.1), omega arith, omega arith, number.1))),
                 (number_packs m.0.txn made.txn Wr span r.0 number.0 m.2.txn_at r.1 number.1).1 ∙ sym same,
               )
           of_either (inr (less, same)) =
-              let m = maker in
+              let m = writer in
               let r = reader in
               let number = number_of r.0.txn span.txn Rw (as_span (record { key = span.key; commit = made.commit; txn = made.txn })) m.0 r.1.txn_at m.2 apart in
               let key = m.2.key_is in
@@ -288,20 +297,20 @@ module _ (h : List Event) (wf : IsWellFormed h) where
               let low = r.1.low_is in
               let fits = m.2.fits in (
                 number.0,
-                inr (span, c, (r.0, r.1, (m.0, m.1, inr (omega arith, omega arith, number.1)))),
+                inl (inr (r.0, (readers_are r.0).1 (span, c, r.1), (m.0, m.1, omega arith, omega arith, number.1))),
                 (number_packs r.0.txn span.txn Rw (as_span (record { key = span.key; commit = made.commit; txn = made.txn })) m.0 number.0 r.1.txn_at m.2 number.1).1 ∙ sym same,
               )
 
       gap_met : (e : Edge) → FromSome (FromGap h) gaps e → IsMet e
       gap_met e (gap, c, (made, wrote, at, lo, hi, (apart, same))) =
           let look = spans_are.unlisted (gap.txn, made.key) made.txn wrote (gap, c, (refl, lo, hi)) in
-          let m = maker_of made wrote at look.1 in
+          let m = writer_of made wrote at look.1 in
           let src = numbered_txn gap.txn (commit_has gap.txn look.0.0.0 look.0.0.1) in
           let number = number_of src.0 gap.txn Rw (as_span made) m.0 src.1 m.2 apart in
           let key = m.2.key_is in
           let fits = m.2.fits in (
             number.0,
-            inl (inr (gap, c, (src.0, src.1, (m.0, m.1, omega arith, omega arith, number.1)))),
+            inr (gap, c, (src.0, src.1, (m.0, m.1, omega arith, omega arith, number.1))),
             (number_packs src.0 gap.txn Rw (as_span made) m.0 number.0 src.1 m.2 number.1).1 ∙ sym same,
           )
 
@@ -317,7 +326,7 @@ module _ (h : List Event) (wf : IsWellFormed h) where
       )
 
       -- so what tells these numbers stands for the edges
-      pub numbers_stand : (P : ℕ → Type 0) → ((n : ℕ) → P n ↔ IsNumberOfSpans h makers spans gaps n) → StandForEdges h txns keys (IsInPart part) P
+      pub numbers_stand : (P : ℕ → Type 0) → ((n : ℕ) → P n ↔ IsNumberFound h ends gaps n) → StandForEdges h txns keys (IsInPart part) P
       numbers_stand P are = record {
         packed = λ n has. found_packed n ((are n).0 has);
         each = λ e. (

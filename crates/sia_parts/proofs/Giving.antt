@@ -5,24 +5,25 @@ use Rattle.std.proofs.lemmas.List.{take_more, take_all}
 use Rattle.std.proofs.lemmas.List.Edits.{length-between}
 use Rattle.std.proofs.lemmas.List.Elements.{Contains-append_left, Contains-push, Contains-push_cases}
 use Rattle.sia_parts.specs.declared.ends.End.{End}
+use Rattle.sia_parts.specs.declared.ends.Ends.{Ends}
 use Rattle.sia_parts.specs.declared.fans.Fan.{Fan}
 use Rattle.sia_parts.specs.declared.finding.Kind.{Kind}
 use Rattle.sia_parts.specs.Sights.{FromSome}
-use Rattle.sia_parts.specs.Ends.{IsNumberWithin, end_rank}
-use Rattle.sia_parts.specs.Fans.{ends_for, IsFanNumber, Gives}
+use Rattle.sia_parts.specs.Ends.{IsNumberWithin, end_rank, ends_for}
+use Rattle.sia_parts.specs.Fans.{IsFanNumber, Gives}
 use Rattle.sia_parts.proofs.Adding.{FromFirst}
 
-module _ (makers readers : List End) where
-  pub gives_nothing : (P : ℕ → Type 0) (fans : List Fan) → ((n : ℕ) → ¬ P n) → Gives makers readers P fans fans
+module _ (ends : Ends) where
+  pub gives_nothing : (P : ℕ → Type 0) (fans : List Fan) → ((n : ℕ) → ¬ P n) → Gives ends P fans fans
   gives_nothing P fans none n = (λ f. inl f, λ e. elim e [ inl f ↦ f | inr p ↦ absurd (none n p) ])
 
-  pub gives_same : (P Q : ℕ → Type 0) (old new : List Fan) → ((n : ℕ) → P n → Q n) → ((n : ℕ) → Q n → P n) → Gives makers readers P old new → Gives makers readers Q old new
+  pub gives_same : (P Q : ℕ → Type 0) (old new : List Fan) → ((n : ℕ) → P n → Q n) → ((n : ℕ) → Q n → P n) → Gives ends P old new → Gives ends Q old new
   gives_same P Q old new to from gives n = (
     (λ f. elim ((gives n).0 f) [ inl before ↦ inl before | inr p ↦ inr (to n p) ]),
     (λ e. elim e [ inl before ↦ (gives n).1 (inl before) | inr q ↦ (gives n).1 (inr (from n q)) ]),
   )
 
-  pub gives_both : (P Q : ℕ → Type 0) (old mid new : List Fan) → Gives makers readers P old mid → Gives makers readers Q mid new → Gives makers readers (λ n. P n ⊎ Q n) old new
+  pub gives_both : (P Q : ℕ → Type 0) (old mid new : List Fan) → Gives ends P old mid → Gives ends Q mid new → Gives ends (λ n. P n ⊎ Q n) old new
   gives_both P Q old mid new first second n = (
     (λ f. elim ((second n).0 f) [
       | inl before ↦ elim ((first n).0 before) [ inl more ↦ inl more | inr p ↦ inr (inl p) ]
@@ -38,18 +39,18 @@ module _ (makers readers : List End) where
   )
 
   -- what was added to no fan is what the fans have
-  pub given_to_none : (P : ℕ → Type 0) (fans : List Fan) → Gives makers readers P [] fans → (n : ℕ) → FromSome (IsFanNumber makers readers) fans n ↔ P n
+  pub given_to_none : (P : ℕ → Type 0) (fans : List Fan) → Gives ends P [] fans → (n : ℕ) → FromSome (IsFanNumber ends) fans n ↔ P n
   given_to_none P fans gives n = (
     (λ f. elim ((gives n).0 f) [ inl none ↦ absurd (let below = none.1.1 in omega arith) | inr p ↦ p ]),
     (λ p. (gives n).1 (inr p)),
   )
 
   -- one more fan
-  pub gives_push : (fans : List Fan) (fan : Fan) → Gives makers readers (IsFanNumber makers readers fan) fans (fans ++ fan ∷ [])
+  pub gives_push : (fans : List Fan) (fan : Fan) → Gives ends (IsFanNumber ends fan) fans (fans ++ fan ∷ [])
   gives_push fans fan n = (
     (λ f. elim (Contains-push_cases fans fan f.0 f.1) [
       | inl before ↦ inl (f.0, before, f.2)
-      | inr same ↦ inr (subst (λ (x : Fan). IsFanNumber makers readers x n) (sym same) f.2)
+      | inr same ↦ inr (subst (λ (x : Fan). IsFanNumber ends x n) (sym same) f.2)
     ]),
     (λ e. elim e [
       | inl f ↦ (f.0, Contains-append_left fans (fan ∷ []) f.0 f.1, f.2)
@@ -58,10 +59,10 @@ module _ (makers readers : List End) where
   )
 
   module _ {A : Type 0} (P : A → ℕ → Type 0) (xs : List A) where
-    pub gives_none : (old : List Fan) → Gives makers readers (FromFirst P xs 0) old old
+    pub gives_none : (old : List Fan) → Gives ends (FromFirst P xs 0) old old
     gives_none old = gives_nothing (FromFirst P xs 0) old (λ n f. let below = f.1.1 in absurd (omega arith))
 
-    pub gives_more : (i : ℕ) (d : A) (old mid new : List Fan) → i < length xs → Gives makers readers (FromFirst P xs i) old mid → Gives makers readers (P (get_or xs i d)) mid new → Gives makers readers (FromFirst P xs (i + 1)) old new
+    pub gives_more : (i : ℕ) (d : A) (old mid new : List Fan) → i < length xs → Gives ends (FromFirst P xs i) old mid → Gives ends (P (get_or xs i d)) mid new → Gives ends (FromFirst P xs (i + 1)) old new
     gives_more i d old mid new below before here =
         gives_same (λ n. FromFirst P xs i n ⊎ P (get_or xs i d) n) (FromFirst P xs (i + 1)) old new
         (λ n e. elim e [
@@ -74,20 +75,20 @@ module _ (makers readers : List End) where
         ])
         (gives_both (FromFirst P xs i) (P (get_or xs i d)) old mid new before here)
 
-    pub gives_all : (i : ℕ) (old new : List Fan) → length xs ≤ i → Gives makers readers (FromFirst P xs i) old new → Gives makers readers (FromSome P xs) old new
-    gives_all i old new all gives = subst (λ zs. Gives makers readers (FromSome P zs) old new) (take_all i xs all) gives
+    pub gives_all : (i : ℕ) (old new : List Fan) → length xs ≤ i → Gives ends (FromFirst P xs i) old new → Gives ends (FromSome P xs) old new
+    gives_all i old new all gives = subst (λ zs. Gives ends (FromSome P zs) old new) (take_all i xs all) gives
 
   -- a fan of the ends between two ranks
-  module _ (kind : Kind) (src from to start stop : ℕ) (between : (end : End) → Contains (slice_range (ends_for makers readers kind) start stop) end ↔ (Contains (ends_for makers readers kind) end × (from ≤ end_rank end) × (end_rank end < to))) where
-    pub fan_within : (n : ℕ) → start ≤ stop → stop ≤ length (ends_for makers readers kind) → IsFanNumber makers readers (record { src = src; kind = kind; from = start; to = stop }) n ↔ IsNumberWithin (ends_for makers readers kind) from to src kind n
+  module _ (kind : Kind) (src from to start stop : ℕ) (between : (end : End) → Contains (slice_range (ends_for ends kind) start stop) end ↔ (Contains (ends_for ends kind) end × (from ≤ end_rank end) × (end_rank end < to))) where
+    pub fan_within : (n : ℕ) → start ≤ stop → stop ≤ length (ends_for ends kind) → IsFanNumber ends (record { src = src; kind = kind; from = start; to = stop }) n ↔ IsNumberWithin (ends_for ends kind) from to src kind n
     fan_within n le bound = (
       (λ f. let is = (between f.2.0).0 f.2.1 in (f.2.0, is.0, is.1, is.2, f.2.2)),
       (λ w. (le, bound, (w.0, (between w.0).1 (w.1, w.2, w.3), w.4))),
     )
 
     -- and where none stands between them
-    pub none_within : stop ≤ start → stop ≤ length (ends_for makers readers kind) → (n : ℕ) → ¬ IsNumberWithin (ends_for makers readers kind) from to src kind n
+    pub none_within : stop ≤ start → stop ≤ length (ends_for ends kind) → (n : ℕ) → ¬ IsNumberWithin (ends_for ends kind) from to src kind n
     none_within none bound n w =
         let c = (between w.0).1 (w.1, w.2, w.3) in
         let below = c.1 in
-        omega (arith, length-between (ends_for makers readers kind) start stop bound)
+        omega (arith, length-between (ends_for ends kind) start stop bound)

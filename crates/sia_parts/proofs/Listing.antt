@@ -1,5 +1,5 @@
 -- Lists put in order, by the ranks of their entries.
-use Rattle.std.proofs.Common.{◌≡◌, ◌↔◌, inl, inr, ℕ, ◌<◌, List, [], ◌∷◌, length, ap, sym, subst, ◌∙◌, arith}
+use Rattle.std.proofs.Common.{◌≡◌, refl, ◌↔◌, inl, inr, ℕ, ◌<◌, List, [], ◌∷◌, length, ap, sym, subst, ◌∙◌, arith}
 use Rattle.std.specs.Prelude.{Contains, slice_index_or}
 use Rattle.std.specs.Ordering.{nat_cmp, ordering_then}
 use Rattle.std.specs.declared.cmp.Ordering.{Ordering}
@@ -20,7 +20,11 @@ use Rattle.sia_index.proofs.Ordered.{precedes_last, precedes_then}
 use Rattle.sia_parts.specs.declared.finding.BadRead.{BadRead}
 use Rattle.sia_parts.specs.declared.finding.BadWrite.{BadWrite}
 use Rattle.sia_parts.specs.declared.finding.Unexplained.{Unexplained}
-use Rattle.sia_parts.specs.Entries.{bad_write_rank}
+use Rattle.sia_parts.specs.declared.finding.Edge.{Edge}
+use Rattle.sia_parts.specs.declared.finding.Kind.{Kind}
+use Rattle.sia_parts.specs.declared.finding.Kind.TheVariants.{Ww, Wr, Rw}
+use Rattle.sia_parts.specs.contracts.finding.KindOrd.TheImpl.{cmp-value}
+use Rattle.sia_parts.specs.Entries.{bad_write_rank, edge_rank, kind_number}
 
 -- what was put in order lists what has P by a rank that goes with the order of these
 pub put_listed : {A : Type 0} (rank : A → List ℕ) (P : A → Type 0) (c : A → A → Ordering) → ((x y : A) → P x → P y → c x y ≡ Less → Precedes (rank x) (rank y)) → (xs ys : List A) → ((x : A) → Contains xs x ↔ P x) → IsStrictlySortedBy c ys → ((x : A) → Contains xs x → Contains ys x) → ((x : A) → Contains ys x → Contains xs x) → ListsBy rank P ys
@@ -75,3 +79,20 @@ module _ (h : List Event) (wf : IsWellFormed h) where
 pub bad_write_before : (x y : BadWrite) → ordering_then (nat_cmp x.key y.key) (ordering_then (nat_cmp x.first y.first) (nat_cmp x.second y.second)) ≡ Less → Precedes (bad_write_rank x) (bad_write_rank y)
 bad_write_before x y less = precedes_then x.key y.key (ordering_then (nat_cmp x.first y.first) (nat_cmp x.second y.second)) (x.first ∷ x.second ∷ []) (y.first ∷ y.second ∷ []) less
     (λ l. precedes_then x.first y.first (nat_cmp x.second y.second) (x.second ∷ []) (y.second ∷ []) l (precedes_last x.second y.second))
+
+-- kinds go by their numbers
+kind_order : (k l : Kind) → cmp-value.it k l ≡ nat_cmp (kind_number k) (kind_number l)
+kind_order Ww Ww = refl
+kind_order Ww Wr = refl
+kind_order Ww Rw = refl
+kind_order Wr Ww = refl
+kind_order Wr Wr = refl
+kind_order Wr Rw = refl
+kind_order Rw Ww = refl
+kind_order Rw Wr = refl
+kind_order Rw Rw = refl
+
+pub edge_before : (x y : Edge) → ordering_then (nat_cmp x.src y.src) (ordering_then (nat_cmp x.dst y.dst) (ordering_then (cmp-value.it x.kind y.kind) (nat_cmp x.key y.key))) ≡ Less → Precedes (edge_rank x) (edge_rank y)
+edge_before x y less = precedes_then x.src y.src (ordering_then (nat_cmp x.dst y.dst) (ordering_then (cmp-value.it x.kind y.kind) (nat_cmp x.key y.key))) (x.dst ∷ kind_number x.kind ∷ x.key ∷ []) (y.dst ∷ kind_number y.kind ∷ y.key ∷ []) less
+    (λ l. precedes_then x.dst y.dst (ordering_then (cmp-value.it x.kind y.kind) (nat_cmp x.key y.key)) (kind_number x.kind ∷ x.key ∷ []) (kind_number y.kind ∷ y.key ∷ []) l
+    (λ m. precedes_then (kind_number x.kind) (kind_number y.kind) (nat_cmp x.key y.key) (x.key ∷ []) (y.key ∷ []) (rw (kind_order x.kind y.kind) at m) (precedes_last x.key y.key)))

@@ -1,6 +1,6 @@
 -- What a test calls gather with: the findings of no event, in two parts.
-use Rattle.std.proofs.Common.{◌≡◌, ◌<◌, ◌⊎◌, inl, inr, ℕ, zero, suc, List, [], ◌∷◌, Some, Vec, Global, refl, sym, subst, arith}
-use Rattle.std.specs.Prelude.{AllPairs, Contains}
+use Rattle.std.proofs.Common.{◌≡◌, ◌⊎◌, inl, inr, ℕ, zero, suc, List, [], ◌∷◌, Some, refl, sym, subst, arith}
+use Rattle.std.specs.Prelude.{All, AllPairs, Contains}
 use Rattle.sia_events.specs.declared.fault.TextFault.TheVariants.{NoMemory, TextTooLong, Refused}
 use Rattle.sia_events.specs.Places.{at_place}
 use Rattle.sia_events.specs.Refusals.{IsWellFormed}
@@ -8,15 +8,15 @@ use Rattle.sia_events.specs.Transactions.{Wrote}
 use Rattle.sia_events.specs.Reads.{SawAt}
 use Rattle.sia_events.specs.Lists.{Precedes, ListsBy}
 use Rattle.sia_parts.specs.declared.cutting.Part.{Part}
-use Rattle.sia_parts.specs.declared.part_edges.PartEdges.TheVariants.{Numbered}
 use Rattle.sia_parts.specs.declared.part_edges.PartFound.{PartFound}
 use Rattle.sia_parts.specs.declared.findings.PartFindings.{PartFindings}
 use Rattle.sia_parts.specs.declared.finding.Kind.{Kind}
 use Rattle.sia_parts.specs.declared.finding.Kind.TheVariants.{Ww, Wr, Rw}
-use Rattle.sia_parts.specs.EdgeNumbers.{AreEdgeTables, StandForEdges}
+use Rattle.sia_parts.specs.EdgeNumbers.{AreEdgeTables}
+use Rattle.sia_parts.specs.Ends.{HasDigits}
 use Rattle.sia_parts.specs.Entries.{EdgeOfKind}
 use Rattle.sia_parts.specs.Findings.{ArePartFindings}
-use Rattle.sia_parts.specs.Gathering.{CanSpread, IsNumberIn, IsPartFound}
+use Rattle.sia_parts.specs.Gathering.{IsNumberIn, IsPartFound, RiseBySource}
 use Rattle.sia_parts.specs.Parts.{parts_from, IsCutting, IsInPart}
 use Rattle.sia_parts.proofs.Members.{contains_none, contains_first, contains_later, first_or_later}
 use Rattle.std.proofs.lemmas.List.Elements.{All-nil, All-cons}
@@ -63,36 +63,32 @@ none_found part found empty = record {
   edges = lists_none _ _ (λ e f. no_edge e.kind e.src e.dst e.key f.0) found.edges.items empty.edges;
 }
 
--- the same with edges as numbers
-pub record HasNone (found : PartFound) (numbers : Vec ℕ Global) : Type 0 where
+-- the same with edges as fans
+pub record HasNone (found : PartFound) : Type 0 where
   pub bad_reads : found.bad_reads.items ≡ []
   pub bad_writes : found.bad_writes.items ≡ []
   pub unexplained : found.unexplained.items ≡ []
-  pub edges : found.edges ≡ Numbered numbers
-  pub empty : numbers.items ≡ []
+  pub writers : found.edges.ends.writers.items ≡ []
+  pub readers : found.edges.ends.readers.items ≡ []
+  pub fans : found.edges.fans.items ≡ []
 
-no_numbers : (part : Part) (numbers : Vec ℕ Global) → numbers.items ≡ [] → StandForEdges [] [] [] (IsInPart part) (IsNumberIn (Numbered numbers)) × CanSpread (Numbered numbers)
-no_numbers part numbers is = (
-  record {
-    packed = λ n c. absurd (none n c);
-    each = λ e. ((λ f. absurd (none f.0 f.1)), (λ f. absurd (no_edge e.kind e.src e.dst e.key f.0)));
-  },
-  subst (AllPairs (λ m n. m < n)) (sym is) (λ i j d less below. absurd (omega arith)),
-)
+pub none_at : (part : Part) (found : PartFound) → HasNone found → IsPartFound [] [] [] (IsInPart part) found
+none_at part found none = record {
+  bad_reads = lists_none _ _ (λ b f. no_read b.place b.txn b.key b.saw f.0.0) found.bad_reads.items none.bad_reads;
+  bad_writes = lists_none _ _ (λ b f. no_write b.first b.key f.0.0) found.bad_writes.items none.bad_writes;
+  unexplained = lists_none _ _ (λ b f. no_read b.place b.txn b.key b.saw f.0.1) found.unexplained.items none.unexplained;
+  edges = record {
+    packed = λ n c. absurd (no_number n c);
+    each = λ e. ((λ f. absurd (no_number f.0 f.1)), (λ f. absurd (no_edge e.kind e.src e.dst e.key f.0)));
+  };
+  spread = (
+    (subst (All HasDigits) (sym none.writers) (All-nil HasDigits), subst (All HasDigits) (sym none.readers) (All-nil HasDigits)),
+    subst RiseBySource (sym none.fans) (λ i j d le below. absurd (omega arith)),
+  );
+}
   where
-    none : (n : ℕ) → Contains numbers.items n → ⊥
-    none n c = let below = subst (λ xs. Contains xs n) is c in let b = below.1 in omega arith
-
-pub none_at : (part : Part) (found : PartFound) (numbers : Vec ℕ Global) → HasNone found numbers → IsPartFound [] [] [] (IsInPart part) found
-none_at part found numbers none =
-    let all = subst (λ edges. StandForEdges [] [] [] (IsInPart part) (IsNumberIn edges) × CanSpread edges) (sym none.edges) (no_numbers part numbers none.empty) in
-    record {
-      bad_reads = lists_none _ _ (λ b f. no_read b.place b.txn b.key b.saw f.0.0) found.bad_reads.items none.bad_reads;
-      bad_writes = lists_none _ _ (λ b f. no_write b.first b.key f.0.0) found.bad_writes.items none.bad_writes;
-      unexplained = lists_none _ _ (λ b f. no_read b.place b.txn b.key b.saw f.0.1) found.unexplained.items none.unexplained;
-      edges = all.0;
-      spread = all.1;
-    }
+    no_number : (n : ℕ) → ¬ IsNumberIn found.edges n
+    no_number n f = contains_none f.0 (subst (λ fans. Contains fans f.0) none.fans f.1)
 
 pub empty_tables : AreEdgeTables [] [] []
 empty_tables = record {

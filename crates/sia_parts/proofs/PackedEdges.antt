@@ -1,16 +1,15 @@
 -- Edges as numbers: a number stands for one edge, and of two numbers the lesser stands for the edge that is listed first.
-use Rattle.std.proofs.Common.{◌≡◌, ◌⊎◌, inl, inr, ℕ, zero, suc, ◌+◌, ◌*◌, ◌/◌, ◌%◌, ◌<◌, List, [], ◌∷◌, ◌++◌, length, map, take, get_or, append_assoc, refl, ap, sym, subst, ◌∙◌, arith}
+use Rattle.std.proofs.Common.{◌≡◌, ◌⊎◌, inl, inr, ℕ, zero, suc, ◌+◌, ◌*◌, ◌/◌, ◌%◌, ◌<◌, List, length, map, refl, ap, sym, subst, ◌∙◌, arith}
 use Rattle.std.specs.Prelude.{All, AllPairs, slice_index, slice_index_or}
 use Rattle.std.proofs.Math.Arith.{digits_div, digits_mod}
 use Rattle.std.proofs.lemmas.Bool.{cases_lt}
-use Rattle.std.proofs.lemmas.List.{get_or-map, length-map, map-append, take_more}
+use Rattle.std.proofs.lemmas.List.{get_or-map, length-map}
 use Rattle.std.proofs.lemmas.Nat.{div-add-mod', mod_below}
 use Rattle.sia_events.specs.Lists.{Precedes}
 use Rattle.sia_parts.specs.declared.finding.Edge.{Edge}
 use Rattle.sia_parts.specs.declared.finding.Kind.{Kind}
 use Rattle.sia_parts.specs.declared.finding.Kind.TheVariants.{Ww, Wr, Rw}
 use Rattle.sia_parts.specs.Entries.{kind_number, edge_rank}
-use Rattle.sia_parts.specs.Merging.{IsAscending}
 use Rattle.sia_parts.specs.Packing.{source_number, target_number, kind_digit, key_number, kind_at, unpacked, IsPacked, AreDigits, Packs}
 
 kind_again : (k : Kind) → kind_at (kind_number k) ≡ k
@@ -123,7 +122,7 @@ module _ (txns keys : List ℕ) (txns_up : AllPairs (λ x y. x < y) txns) (keys_
       ]
 
   -- so numbers that rise stand for edges in order
-  pub unpacked_ascend : (numbers : List ℕ) → All (IsPacked txns keys) numbers → AllPairs (λ m n. m < n) numbers → IsAscending edge_rank (map (unpacked txns keys) numbers)
+  pub unpacked_ascend : (numbers : List ℕ) → All (IsPacked txns keys) numbers → AllPairs (λ m n. m < n) numbers → AllPairs (λ x y. Precedes (edge_rank x) (edge_rank y)) (map (unpacked txns keys) numbers)
   unpacked_ascend numbers each rise i j d less below =
       let in_numbers : j < length numbers = omega (arith, length-map numbers (unpacked txns keys)) in
       let n = slice_index_or numbers i 0 in
@@ -133,9 +132,3 @@ module _ (txns keys : List ℕ) (txns_up : AllPairs (λ x y. x < y) txns) (keys_
       let under : n < m = rise i j 0 less in_numbers in
       let before = unpacked_before n m (each i 0 (omega arith)) (each j 0 in_numbers) under in
       subst (λ e. Precedes (edge_rank e) (edge_rank (slice_index_or (map (unpacked txns keys) numbers) j d))) (sym first) (subst (λ e. Precedes (edge_rank (unpacked txns keys n)) (edge_rank e)) (sym second) before)
-
--- one more number and its edge
-pub unpacked_more : (f : ℕ → Edge) (numbers : List ℕ) (n d : ℕ) (old : List Edge) → n < length numbers → (old ++ map f (take n numbers)) ++ f (get_or numbers n d) ∷ [] ≡ old ++ map f (take (n + 1) numbers)
-unpacked_more f numbers n d old below =
-    append_assoc old (map f (take n numbers)) (f (get_or numbers n d) ∷ [])
-    ∙ ap (λ es. old ++ es) (sym (ap (map f) (take_more numbers n d below) ∙ map-append f (take n numbers) (get_or numbers n d ∷ [])))

@@ -1,7 +1,6 @@
 -- The parts that starts give, one after another.
-use Rattle.std.proofs.Common.{◌≡◌, inl, inr, ℕ, zero, suc, ◌+◌, ◌-◌, ◌<◌, ◌≤◌, ◌^◌, List, [], ◌∷◌, length, get_or, drop, slice_get, Option, Some, None, refl, ap, sym, subst, ◌∙◌, arith}
+use Rattle.std.proofs.Common.{◌≡◌, inl, inr, ℕ, zero, suc, ◌-◌, ◌<◌, ◌≤◌, ◌^◌, List, [], ◌∷◌, length, slice_get, Option, Some, None, refl, ap, sym, subst, ◌∙◌, arith}
 use Rattle.std.proofs.lemmas.Bool.{cases_lt}
-use Rattle.std.proofs.lemmas.List.{drop_more}
 use Rattle.sia_parts.specs.declared.cutting.Part.{Part}
 use Rattle.sia_parts.specs.Parts.{parts_from, IsInPartAt, OnePartLaw}
 use Rattle.sia_parts.proofs.Members.{contains_first}
@@ -18,18 +17,6 @@ part_before s next = record { lo = s; hi = last_key next }
 first_part : (s : ℕ) (rest : List ℕ) → parts_from (s ∷ rest) ≡ part_before s (slice_get rest 0) ∷ parts_from rest
 first_part s [] = refl
 first_part s (next ∷ rest) = refl
-
-first_of_drop : (xs : List ℕ) (n : ℕ) → slice_get (drop n xs) 0 ≡ slice_get xs n
-first_of_drop [] zero = refl
-first_of_drop [] (suc n) = refl
-first_of_drop (x ∷ xs) zero = refl
-first_of_drop (x ∷ xs) (suc n) = first_of_drop xs n
-
--- the part of start number i, before those of the later starts
-pub parts_at : (starts : List ℕ) (i : ℕ) → i < length starts → parts_from (drop i starts) ≡ part_before (get_or starts i 0) (slice_get starts (i + 1)) ∷ parts_from (drop (i + 1) starts)
-parts_at starts i below =
-    ap parts_from (drop_more starts i 0 below) ∙ first_part (get_or starts i 0) (drop (i + 1) starts)
-    ∙ ap (λ next. part_before (get_or starts i 0) next ∷ parts_from (drop (i + 1) starts)) (first_of_drop starts (i + 1))
 
 pub length-parts_from : (starts : List ℕ) → length (parts_from starts) ≡ length starts
 length-parts_from [] = refl

@@ -27,10 +27,6 @@ use Rattle.sia_parts.proofs.Widening.{joins_nothing, joins_same}
 listed_of : (t lo hi u from to : ℕ) (a b : List (ℕ × ℕ)) → Range t lo hi a ≡ Range u from to b → a ≡ b
 listed_of t lo hi u from to a b same = cc
 
--- what is known of the same history
-pub own_history : (h now : List Event) → h ≡ now → IsWellFormed now → IsWellFormed h
-own_history h now same wf = subst IsWellFormed (sym same) wf
-
 -- the list that stands in the event of a range read
 pub list_at : (h now : List Event) → h ≡ now → (range : RangeRead) → IsRangeRead h range → (listed : List (ℕ × ℕ)) → ((t lo hi : ℕ) (l : List (ℕ × ℕ)) → at_place now range.place ≡ Some (Range t lo hi l) → listed ≡ l) → at_place h range.place ≡ Some (Range range.txn range.lo range.hi listed)
 list_at h now same range is listed own = subst (λ (l : List (ℕ × ℕ)). at_place h range.place ≡ Some (Range range.txn range.lo range.hi l)) (sym (own range.txn range.lo range.hi is.0 (subst (λ e. at_place e range.place ≡ Some (Range range.txn range.lo range.hi is.0)) same is.1))) is.1

@@ -9,20 +9,21 @@ use Rattle.sia_parts.specs.declared.part_edges.PartEdges.{PartEdges}
 use Rattle.sia_parts.specs.Gathering.{AreNumbersBetween, AreSeams, IsNumberOfSome}
 use Rattle.sia_parts.specs.Packing.{source_number}
 use Rattle.sia_parts.specs.Stretches.{AreBefore, numbers_in}
-use Rattle.sia_parts.proofs.BlockNumbers.{source_less}
+use Rattle.sia_parts.proofs.BetweenPlaces.{source_less}
 use Rattle.sia_parts.proofs.FanEdges.{joined_rise, none_rise}
+use Rattle.sia_parts.proofs.FindingLemmas.{entry_at}
 use Rattle.sia_parts.proofs.Members.{contains_first, contains_later, first_or_later}
 
 -- places that stand below one
-pub record SeamsBelow (most place : ℕ) (places : List ℕ) : Type 0 where
-  pub few : 0 < most → length places ≤ most
+pub record SeamsBelow (place : ℕ) (places : List ℕ) : Type 0 where
+  pub few : length places ≤ 1024
   pub first : (0 < length places) × (slice_index places 0 ≡ 0)
   pub below : All (λ p. p < place) places
   pub ascending : AllPairs (λ a b. a < b) places
 
-pub seams_first : (most : ℕ) → SeamsBelow most 1 (0 ∷ [])
-seams_first most = record {
-  few = λ some. omega arith;
+pub seams_first : SeamsBelow 1 (0 ∷ [])
+seams_first = record {
+  few = omega arith;
   first = (omega arith, refl);
   below = at_zero;
   ascending = λ i j d less under. absurd (omega arith);
@@ -32,17 +33,17 @@ seams_first most = record {
     at_zero zero d under = omega arith
     at_zero (suc k) d under = absurd (omega arith)
 
-pub seams_same : (most place : ℕ) (places : List ℕ) → SeamsBelow most place places → SeamsBelow most (place + 1) places
-seams_same most place places s = record {
+pub seams_same : (place : ℕ) (places : List ℕ) → SeamsBelow place places → SeamsBelow (place + 1) places
+seams_same place places s = record {
   few = s.few;
   first = s.first;
   below = λ k d under. let b = s.below k d under in omega arith;
   ascending = s.ascending;
 }
 
-pub seams_more : (most place : ℕ) (places : List ℕ) → length places < most → SeamsBelow most place places → SeamsBelow most (place + 1) (places ++ place ∷ [])
-seams_more most place places room s = record {
-  few = λ some. omega (arith, long);
+pub seams_more : (place : ℕ) (places : List ℕ) → length places < 1024 → SeamsBelow place places → SeamsBelow (place + 1) (places ++ place ∷ [])
+seams_more place places room s = record {
+  few = omega (arith, long);
   first = (omega (arith, long), get_or_append_left places (place ∷ []) 0 0 s.first.0 ∙ s.first.1);
   below = λ k d under. below_at k d (cases_lt k (length places)) under;
   ascending = λ i j d less under. pair i j d less (cases_lt j (length places)) under;
@@ -72,37 +73,6 @@ seams_more most place places room s = record {
         let low = s.below i d left in
         omega arith
 
--- with the end they are seams
-pub seams_whole : (most txns : ℕ) (places : List ℕ) → SeamsBelow most txns places → AreSeams txns (places ++ txns ∷ [])
-seams_whole most txns places s = record {
-  some = omega (arith, long);
-  first = get_or_append_left places (txns ∷ []) 0 0 s.first.0 ∙ s.first.1;
-  last = let same : length places + 0 ≡ length (places ++ txns ∷ []) - 1 = omega (arith, long) in ap (λ n. get_or (places ++ txns ∷ []) n 0) (sym same) ∙ get_or-append-add places (txns ∷ []) 0 0;
-  ascending = λ i j d less under. pair i j d less (cases_lt j (length places)) under;
-}
-  where
-    long : length (places ++ txns ∷ []) ≡ length places + 1
-    long = length-append places (txns ∷ [])
-
-    pair : (i j d : ℕ) → i < j → (j < length places) ⊎ (length places ≤ j) → j < length (places ++ txns ∷ []) → get_or (places ++ txns ∷ []) i d < get_or (places ++ txns ∷ []) j d
-    pair i j d less (inl left) under =
-        let a = get_or_append_left places (txns ∷ []) d i (omega arith) in
-        let b = get_or_append_left places (txns ∷ []) d j left in
-        let up = s.ascending i j d less left in
-        omega arith
-    pair i j d less (inr right) under =
-        let l = long in
-        let left : i < length places = omega arith in
-        let a = get_or_append_left places (txns ∷ []) d i left in
-        let same : length places + 0 ≡ j = omega arith in
-        let b = ap (λ n. get_or (places ++ txns ∷ []) n d) (sym same) ∙ get_or-append-add places (txns ∷ []) 0 d in
-        let low = s.below i d left in
-        omega arith
-
--- no sources at all
-pub no_seams : AreSeams 0 (0 ∷ [])
-no_seams = record { some = omega arith; first = refl; last = refl; ascending = λ i j d less under. absurd (omega arith) }
-
 -- what is in some stretch is among the numbers of all, and the other way round
 pub in_all : (stretches : List (Vec ℕ Global)) (s : Vec ℕ Global) (n : ℕ) → Contains stretches s → Contains s.items n → Contains (numbers_in stretches) n
 in_all [] s n c has = absurd (let b = c.1 in omega arith)
@@ -130,11 +100,6 @@ all_rise (t ∷ stretches) each apart = subst (AllPairs (λ m n. m < n)) (sym (f
     let at = of.1 in
     let before : AreBefore t.items (get_or stretches at.0 of.0).items = apart 0 (suc at.0) of.0 (omega arith) (let b = at.1 in omega arith) in
     source_less m n (before m n (Contains-get_or t.items (length t.items - 1) d (omega arith)) (subst (λ (v : Vec ℕ Global). Contains v.items n) (sym at.2) of.2))))
-
-entry_at : {A : Type 0} (xs : List A) (i : ℕ) → i < length xs → (x : A) × (get_or xs i x ≡ x)
-entry_at [] i below = absurd (omega arith)
-entry_at (x ∷ xs) zero below = (x, refl)
-entry_at (x ∷ xs) (suc i) below = entry_at xs i (omega arith)
 
 module _ (parts : List PartEdges) (txns : ℕ) (places : List ℕ) (seams : AreSeams txns places) (stretches : List (Vec ℕ Global)) (long : length stretches + 1 ≡ length places)
     (each : (i : ℕ) (d : Vec ℕ Global) → i < length stretches → AreNumbersBetween parts (slice_index places i) (slice_index places (i + 1)) (get_or stretches i d).items) where

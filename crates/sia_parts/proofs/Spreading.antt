@@ -54,10 +54,6 @@ module _ (h : List Event) where
     ]),
   )
 
-  -- one gap
-  pub spreads_push : (gaps : List Gap) (gap : Gap) → Spreads h (IsInGap gap) gaps (gaps ++ gap ∷ [])
-  spreads_push gaps gap look u wrote = in_one_more gaps gap look
-
   module _ {A : Type 0} (P : A → ℕ × ℕ → Type 0) (xs : List A) where
     pub spread_none : (old : List Gap) → Spreads h (FromFirst P xs 0) old old
     spread_none old = spreads_nothing (FromFirst P xs 0) old (λ look u wrote f. let below = f.1.1 in absurd (omega arith))

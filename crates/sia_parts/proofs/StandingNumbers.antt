@@ -1,5 +1,5 @@
 -- Numbers that stand for edges, told one by one, and what a list of them is.
-use Rattle.std.proofs.Common.{◌≡◌, inl, inr, ℕ, zero, suc, ◌<◌, List, [], ◌∷◌, length, get_or, map, refl, sym, subst, arith}
+use Rattle.std.proofs.Common.{◌≡◌, inl, inr, ℕ, ◌<◌, List, [], ◌∷◌, length, get_or, map, sym, subst, arith}
 use Rattle.std.specs.List.{AllZip}
 use Rattle.std.specs.Prelude.{◌↔◌, ⊤, All, AllPairs, Contains}
 use Rattle.std.proofs.lemmas.List.Elements.{All-cons, All-nil, Contains-get_or}
@@ -10,17 +10,17 @@ use Rattle.sia_events.specs.Refusals.{IsWellFormed}
 use Rattle.sia_parts.specs.declared.cutting.Part.{Part}
 use Rattle.sia_parts.specs.declared.finding.Edge.{Edge}
 use Rattle.sia_parts.specs.EdgeNumbers.{AreEdgeNumbers, AreEdgeTables, StandForEdges}
-use Rattle.sia_parts.specs.Entries.{IsEdge, number_rank}
+use Rattle.sia_parts.specs.Entries.{IsEdge}
 use Rattle.sia_parts.specs.Packing.{IsPacked, unpacked}
 use Rattle.sia_parts.specs.Parts.{IsCutting, IsInPart}
 use Rattle.sia_parts.specs.Sights.{FromSome}
 use Rattle.sia_parts.proofs.FanEdges.{in_map, map_in}
-use Rattle.sia_parts.proofs.FindingLemmas.{length_zip, zip_at}
+use Rattle.sia_parts.proofs.FindingLemmas.{entry_at, length_zip, zip_at}
 use Rattle.sia_parts.proofs.KeyLemmas.{edge_key}
 use Rattle.sia_parts.proofs.PackedEdges.{unpacked_ascend}
 use Rattle.sia_parts.proofs.PartLemmas.{one_part_holds}
 
-rank_less : (m n : ℕ) → Precedes (number_rank m) (number_rank n) → m < n
+rank_less : (m n : ℕ) → Precedes (m ∷ []) (n ∷ []) → m < n
 rank_less m n (inl less) = less
 rank_less m n (inr same) = absurd same.1
 
@@ -47,11 +47,6 @@ module _ (h : List Event) (txns keys : List ℕ) (tables : AreEdgeTables h txns 
     where
       packed : All (IsPacked txns keys) numbers
       packed k d below = stand.packed (get_or numbers k d) ((are (get_or numbers k d)).0 (Contains-get_or numbers k d below))
-
-entry_at : {A : Type 0} (xs : List A) (i : ℕ) → i < length xs → (x : A) × (get_or xs i x ≡ x)
-entry_at [] i below = absurd (omega arith)
-entry_at (x ∷ xs) zero below = (x, refl)
-entry_at (x ∷ xs) (suc i) below = entry_at xs i (omega arith)
 
 -- what stands for the edges of each part stands for all edges
 module _ {A : Type 0} (h : List Event) (wf : IsWellFormed h) (txns keys points : List ℕ) (cutting : List Part) (cuts : IsCutting points cutting) (P : A → ℕ → Type 0) (parts : List A) (zip : AllZip (λ part x. StandForEdges h txns keys (IsInPart part) (P x)) cutting parts) where

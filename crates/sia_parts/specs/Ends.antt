@@ -1,9 +1,11 @@
 -- Ends of edges: transactions that made or saw versions of keys, and the numbers of edges to them.
-use Rattle.std.specs.Prelude.{◌≡◌, ◌≢◌, ℕ, ◌+◌, ◌*◌, ◌<◌, ◌≤◌, List, Contains, length, slice_index_or}
+use Rattle.std.specs.Prelude.{◌≡◌, ◌≢◌, ℕ, ◌+◌, ◌*◌, ◌<◌, ◌≤◌, List, All, Contains, length, slice_index_or}
 use Rattle.sia_events.specs.declared.event.Event.{Event}
 use Rattle.sia_index.specs.Info.{IsKeyAt}
 use Rattle.sia_parts.specs.declared.ends.End.{End}
+use Rattle.sia_parts.specs.declared.ends.Ends.{Ends}
 use Rattle.sia_parts.specs.declared.finding.Kind.{Kind}
+use Rattle.sia_parts.specs.declared.finding.Kind.TheVariants.{Ww, Wr, Rw}
 use Rattle.sia_parts.specs.declared.spans.Span.{Span}
 use Rattle.sia_index.specs.declared.info.KeyVersion.{KeyVersion}
 use Rattle.sia_parts.specs.EdgeNumbers.{IsCommittedAt}
@@ -26,6 +28,16 @@ IsEndOfVersion h made end = IsEndOf h (record { txn = made.txn; key = made.key; 
 abbrev pub HasDigits : End → Type 0
 HasDigits end = (end.txn < 1048576) × (end.number < 1048576)
 
+-- those of all of them
+abbrev pub HaveDigits : Ends → Type 0
+HaveDigits ends = All HasDigits ends.writers.items × All HasDigits ends.readers.items
+
+-- the ends that edges of the kind lead to
+abbrev pub ends_for : Ends → Kind → List End
+ends_for ends Ww = ends.writers.items
+ends_for ends Wr = ends.readers.items
+ends_for ends Rw = ends.writers.items
+
 -- by key, and then by the greatest commit
 abbrev pub rank_of : ℕ → ℕ → ℕ
 rank_of key place = key * 4294967296 + place
@@ -35,6 +47,9 @@ end_rank end = rank_of end.key end.high
 
 abbrev pub RisesByRank : List End → Type 0
 RisesByRank ends = (i j : ℕ) (d : End) → i ≤ j → j < length ends → end_rank (slice_index_or ends i d) ≤ end_rank (slice_index_or ends j d)
+
+abbrev pub RiseByRank : Ends → Type 0
+RiseByRank ends = RisesByRank ends.writers.items × RisesByRank ends.readers.items
 
 -- the place parts the ends below the rank from the rest
 pub record IsRankPlace (ends : List End) (from at : ℕ) : Type 0 where

@@ -34,7 +34,3 @@ unexplained_rank b = b.place ∷ b.key ∷ []
 
 abbrev pub edge_rank : Edge → List ℕ
 edge_rank e = e.src ∷ e.dst ∷ kind_number e.kind ∷ e.key ∷ []
-
--- the numbers of edges go as they are
-abbrev pub number_rank : ℕ → List ℕ
-number_rank n = n ∷ []

@@ -1,13 +1,13 @@
--- What the parts found, where the edges of a part can still be fans, and the numbers of all edges, made stretch by stretch.
-use Rattle.std.specs.Prelude.{◌≡◌, ◌↔◌, ℕ, ◌-◌, ◌<◌, ◌≤◌, List, length, slice_index, All, AllPairs, Contains, ⊤}
+-- What the parts found, where the edges of a part are still fans, and the numbers of all edges, made stretch by stretch.
+use Rattle.std.specs.Prelude.{◌≡◌, ◌↔◌, ℕ, ◌-◌, ◌<◌, ◌≤◌, List, length, slice_index, AllPairs, Contains, ⊤}
+use Rattle.std.specs.List.Sorted.{IsNonDecreasingBy}
 use Rattle.sia_events.specs.declared.event.Event.{Event}
 use Rattle.sia_parts.specs.declared.fans.Fan.{Fan}
 use Rattle.sia_parts.specs.declared.gathering_numbers.Gathering.{Gathering}
 use Rattle.sia_parts.specs.declared.part_edges.PartEdges.{PartEdges}
-use Rattle.sia_parts.specs.declared.part_edges.PartEdges.TheVariants.{Fanned, Numbered}
 use Rattle.sia_parts.specs.declared.part_edges.PartFound.{PartFound}
 use Rattle.sia_parts.specs.EdgeNumbers.{StandForEdges}
-use Rattle.sia_parts.specs.Ends.{HasDigits}
+use Rattle.sia_parts.specs.Ends.{HaveDigits}
 use Rattle.sia_parts.specs.Fans.{IsFanNumber}
 use Rattle.sia_parts.specs.Findings.{ListsBadReads, ListsBadWrites, ListsUnexplained}
 use Rattle.sia_parts.specs.Packing.{source_number}
@@ -15,17 +15,15 @@ use Rattle.sia_parts.specs.Sights.{FromSome}
 
 -- the fans come by their sources
 abbrev pub RiseBySource : List Fan → Type 0
-RiseBySource fans = AllPairs (λ f g. f.src ≤ g.src) fans
+RiseBySource fans = IsNonDecreasingBy (λ f. f.src) fans
 
 -- n is the number of one of the edges
 abbrev pub IsNumberIn : PartEdges → ℕ → Type 0
-IsNumberIn (Numbered numbers) n = Contains numbers.items n
-IsNumberIn (Fanned f) n = FromSome (IsFanNumber f.makers.items f.readers.items) f.fans.items n
+IsNumberIn edges n = FromSome (IsFanNumber edges.ends) edges.fans.items n
 
 -- their numbers can be told source by source
 abbrev pub CanSpread : PartEdges → Type 0
-CanSpread (Numbered numbers) = AllPairs (λ m n. m < n) numbers.items
-CanSpread (Fanned f) = All HasDigits f.makers.items × All HasDigits f.readers.items × RiseBySource f.fans.items
+CanSpread edges = HaveDigits edges.ends × RiseBySource edges.fans.items
 
 -- and its source stands from the one place to before the other
 abbrev pub IsNumberBetween : PartEdges → ℕ → ℕ → ℕ → Type 0

@@ -18,9 +18,10 @@ use crate::numbering::numbers_of;
 use crate::numbers::edges_of_numbers;
 use crate::ordering::put_in_order;
 use crate::pairs::put_bad_writes;
-use crate::ranges::put_range_reads;
+use crate::ranges::{Scope, put_range_reads};
 use crate::sights::{is_committed, put_item_reads, wrote_before};
 use crate::spans::{Span, joined};
+use crate::unseen::first_commit;
 use sia_events::{History, NoMemory};
 use sia_index::Index;
 use std::alloc::Global;
@@ -43,12 +44,11 @@ pub fn audit_part(
     requires { ix.now ≡ h.now }
     ensures { IfOk result (λ found. ArePartFindings h.now part found) }
 {
-    // The length tells that the history is well-formed.
-    let _ = h.len();
+    ix.law();
     let committed = Committed::of(alloc, ix)?;
     let keys = ix.written_keys();
     let found = find_in_part(alloc, h, ix, &committed, part)?;
-    let numbers = numbers_of(alloc, found.edges)?;
+    let numbers = numbers_of(alloc, found.edges, committed.ids().len())?;
     let edges = edges_of_numbers(alloc, committed.ids(), keys, numbers.as_slice())?;
     Ok(PartFindings {
         bad_reads: found.bad_reads,
@@ -64,22 +64,14 @@ pub(crate) fn seen_of(alloc: Global, h: &History, ix: &Index, part: Part) -> Res
     ensures bad_reads { IfOk result (λ seen. ListsBadReads ix.now (IsInPart part) seen.bad_reads.items) }
     ensures spans { IfOk result (λ seen. AreSpans ix.now part seen.spans.items seen.gaps.items) }
 {
-    // The length tells that the history is well-formed.
-    let _ = h.len();
+    ix.law();
     let mut bad_reads = Vec::new(alloc);
     let mut spans = Vec::new(alloc);
     let mut gaps = Vec::new(alloc);
+    let first = first_commit(ix, part);
+    let scope = Scope { h, ix, part, first };
     let ranges = ix.ranges_meeting(part.lo, part.hi);
-    let ascend = put_range_reads(
-        alloc,
-        h,
-        ix,
-        part,
-        ranges,
-        &mut bad_reads,
-        &mut spans,
-        &mut gaps,
-    )?;
+    let ascend = put_range_reads(alloc, &scope, ranges, &mut bad_reads, &mut spans, &mut gaps)?;
     let end = spans.len();
     let reads = ix.reads_within(part.lo, part.hi);
     put_item_reads(ix, reads, &mut bad_reads, &mut spans)?;
@@ -121,8 +113,7 @@ pub(crate) fn unexplained_of(
     requires bad { ListsBadReads ix.now (IsInPart part) bad.now }
     ensures { IfOk result (λ found. ListsUnexplained ix.now (IsInPart part) found.items) }
 {
-    // The length tells that the history is well-formed.
-    let _ = h.len();
+    ix.law();
     let mut found = Vec::new(alloc);
     for read in bad {
         if is_unexplained(ix, *read) {

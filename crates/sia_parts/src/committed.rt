@@ -57,26 +57,14 @@ impl Committed {
         requires committed { ListsAscending (IsCommitted ix.now) self.now }
         ensures { MatchOption result (¬ IsCommitted ix.now t) (λ i. IsCommittedAt ix.now i t × (i < 1048576)) }
     {
-        match find(self.ids.as_slice(), self.guess(ix, t), t) {
+        match find(self.ids.as_slice(), self.hint(ix, t), t) {
             Some(i) => Some(i as u32),
             None => None,
         }
     }
 
-    /// The same, where it may be this number.
-    pub(crate) fn number_near(&self, ix: &Index, t: TxnId, near: usize) -> Option<u32>
-        requires well_formed { IsWellFormed ix.now }
-        requires committed { ListsAscending (IsCommitted ix.now) self.now }
-        ensures { MatchOption result (¬ IsCommitted ix.now t) (λ i. IsCommittedAt ix.now i t × (i < 1048576)) }
-    {
-        if stands_at(self.ids.as_slice(), near, t) {
-            return Some(near as u32);
-        }
-        self.number(ix, t)
-    }
-
     // Where it may stand.
-    fn guess(&self, ix: &Index, t: TxnId) -> usize {
+    fn hint(&self, ix: &Index, t: TxnId) -> usize {
         match ix.txn_number(t) {
             Some(number) => match self.places.get(number) {
                 Some(place) => *place as usize,
@@ -100,16 +88,6 @@ fn has_committed(ix: &Index, txns: &[TxnId], i: usize) -> bool
         Fate::Aborted => false,
         Fate::Unfinished => false,
     }
-}
-
-// Whether the transaction stands at this place among these.
-fn stands_at(ids: &[TxnId], at: usize, t: TxnId) -> bool
-    ensures { IsTrue result → (at < length ids.now) × (slice_index ids.now at ≡ t) }
-{
-    if at < ids.len() {
-        return ids[at] == t;
-    }
-    false
 }
 
 // Where the transaction stands among these. It may be at this place.

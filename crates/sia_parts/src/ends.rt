@@ -1,13 +1,14 @@
 //! Ends of edges: transactions that made or saw versions of keys, with their numbers.
-ghost use Rattle.std.specs.Prelude.{◌≡◌, ◌↔◌, ◌≤◌, ◌<◌, ℕ, All, Contains, IfOk, OnOk, ◌+◌, ◌-◌, IsTrue, MatchOption, length, slice_index, slice_index_or, slice_range};
+ghost use Rattle.std.specs.Prelude.{◌≡◌, ◌↔◌, ◌≤◌, ◌<◌, ℕ, Contains, IfOk, OnOk, ◌+◌, MatchOption, length, slice_range};
 ghost use Rattle.sia_events.specs.Refusals.{IsWellFormed};
 ghost use Rattle.sia_events.specs.Lists.{ListsAscending};
 ghost use Rattle.sia_events.specs.Transactions.{IsCommitted, Wrote};
-ghost use Rattle.sia_index.specs.Info.{AreVersionsWithin, IsKeyAt};
+ghost use Rattle.sia_index.specs.Info.{IsKeyAt};
 ghost use Rattle.sia_parts.specs.Sights.{Adds, FromSome};
-ghost use Rattle.sia_parts.specs.Ends.{HasDigits, IsEndOf, IsEndOfVersion, IsRankPlace, RisesByRank, end_rank, rank_of};
+ghost use Rattle.sia_parts.specs.Ends.{IsEndOf, IsEndOfVersion, IsRankPlace, RisesByRank, end_rank, ends_for, rank_of};
 
 use crate::committed::Committed;
+use crate::finding::Kind;
 use crate::ordering::put_in_order;
 use crate::spans::Span;
 use sia_events::{Key, NoMemory};
@@ -28,15 +29,28 @@ pub(crate) struct End {
     pub(crate) number: u32,
 }
 
-/// The numbers that the key and the transaction of a span may have.
-#[derive(Clone, Copy)]
-pub(crate) struct Likely {
-    pub(crate) key: usize,
-    pub(crate) txn: usize,
+/// The ends of a part's edges: who made versions of its keys, and who saw some, each by key and greatest commit.
+#[derive(Debug, Drop)]
+pub(crate) struct Ends {
+    pub(crate) writers: Vec<End>,
+    pub(crate) readers: Vec<End>,
 }
 
-/// The makers of the versions of the part's keys, by key and commit.
-pub(crate) fn makers_of(
+impl Ends {
+    /// The ends that edges of the kind lead to.
+    pub(crate) fn of_kind(&self, kind: Kind) -> &[End]
+        ensures { result.now ≡ ends_for self.now kind }
+    {
+        match kind {
+            Kind::Ww => self.writers.as_slice(),
+            Kind::Wr => self.readers.as_slice(),
+            Kind::Rw => self.writers.as_slice(),
+        }
+    }
+}
+
+/// The writers of the versions of the part's keys, by key and commit.
+pub(crate) fn writers_of(
     alloc: Global,
     ix: &Index,
     committed: &Committed,
@@ -48,12 +62,12 @@ pub(crate) fn makers_of(
     ensures rises { IfOk result (λ ends. RisesByRank ends.items) }
 {
     let mut ends = Vec::with_capacity(alloc, versions.len())?;
-    put_makers(ix, committed, versions, &mut ends)?;
+    put_writers(ix, committed, versions, &mut ends)?;
     put_in_order(&mut ends);
     Ok(ends)
 }
 
-fn put_makers(
+fn put_writers(
     ix: &Index,
     committed: &Committed,
     versions: &[KeyVersion],
@@ -81,7 +95,7 @@ fn span_of(made: KeyVersion) -> Span
     }
 }
 
-/// The readers of the spans at written keys, in the order of the spans.
+/// The readers of the spans at written keys, by key and greatest commit.
 pub(crate) fn readers_of(
     alloc: Global,
     ix: &Index,
@@ -90,20 +104,13 @@ pub(crate) fn readers_of(
 ) -> Result<Vec<End>, NoMemory>
     requires well_formed { IsWellFormed ix.now }
     requires committed { ListsAscending (IsCommitted ix.now) committed.now }
-    ensures { IfOk result (λ ends. (end : End) → Contains ends.items end ↔ FromSome (IsEndOf ix.now) spans.now end) }
+    ensures ends { IfOk result (λ ends. (end : End) → Contains ends.items end ↔ FromSome (IsEndOf ix.now) spans.now end) }
+    ensures rises { IfOk result (λ ends. RisesByRank ends.items) }
 {
     let mut ends = Vec::with_capacity(alloc, spans.len())?;
     put_readers(ix, committed, spans, &mut ends)?;
+    put_in_order(&mut ends);
     Ok(ends)
-}
-
-/// Puts the ends in order, by key and greatest commit.
-pub(crate) fn put_by_rank(ends: &mut Vec<End>)
-    requires { (end : End) → Contains ends.old.items end → end.high < 4294967296 }
-    ensures ends { (end : End) → Contains ends.new.items end ↔ Contains ends.old.items end }
-    ensures rises { RisesByRank ends.new.items }
-{
-    put_in_order(ends);
 }
 
 fn put_readers(
@@ -160,48 +167,6 @@ fn end_of(ix: &Index, committed: &Committed, span: Span) -> Option<End>
     })
 }
 
-/// The same, and the numbers of the end are digits. They may be these.
-pub(crate) fn end_near(ix: &Index, committed: &Committed, span: Span, likely: Likely) -> Option<End>
-    requires well_formed { IsWellFormed ix.now }
-    requires committed { ListsAscending (IsCommitted ix.now) committed.now }
-    ensures { MatchOption result ((end : End) → ¬ IsEndOf ix.now span end) (λ end. IsEndOf ix.now span end × HasDigits end) }
-{
-    let Some(number) = key_digit_near(ix, span.key, likely.key) else {
-        return None;
-    };
-    let Some(txn) = committed.number_near(ix, span.txn, likely.txn) else {
-        return None;
-    };
-    Some(End {
-        key: span.key,
-        high: span.high,
-        low: span.low,
-        txn,
-        number,
-    })
-}
-
-// The number of the key, if it is written. It may be this one.
-fn key_digit_near(ix: &Index, k: Key, near: usize) -> Option<u32>
-    requires { IsWellFormed ix.now }
-    ensures { MatchOption result ((t : ℕ) → ¬ Wrote ix.now t k) (λ i. IsKeyAt ix.now i k) }
-{
-    if stands_at(ix.written_keys(), near, k) {
-        return Some(near as u32);
-    }
-    key_digit(ix, k)
-}
-
-// Whether the key stands at this place among these.
-fn stands_at(keys: &[Key], at: usize, k: Key) -> bool
-    ensures { IsTrue result → (at < length keys.now) × (slice_index keys.now at ≡ k) }
-{
-    if at < keys.len() {
-        return keys[at] == k;
-    }
-    false
-}
-
 // The number of the key, if it is written.
 fn key_digit(ix: &Index, k: Key) -> Option<u32>
     requires { IsWellFormed ix.now }
@@ -227,147 +192,22 @@ pub(crate) fn rank_above(key: Key) -> u128
     (u128::from(key) + 1) * 4_294_967_296
 }
 
-/// For each key, by its number, where its ends may start, and where those of the last may stop. Each is checked where it
-/// is used.
-pub(crate) fn starts_of(alloc: Global, ends: &[End], keys: usize) -> Result<Vec<usize>, NoMemory> {
-    let mut starts = Vec::with_capacity(alloc, keys.saturating_add(1))?;
-    let mut at = 0;
-    for key in 0..keys {
-        starts.push(at)?;
-        at = key_end(ends, at, key);
-    }
-    starts.push(at)?;
-    Ok(starts)
-}
-
-// The first end, at `from` or behind it, that isn't of the key or of one before it.
-fn key_end(ends: &[End], from: usize, key: usize) -> usize {
-    let mut at = from;
-    while at < ends.len() && ends[at].number as usize <= key {
-        at += 1;
-    }
-    at
-}
-
-/// Where the ends from one rank to below another start and stop. They may be those of the key of that number.
-pub(crate) fn places(
-    ends: &[End],
-    starts: &[usize],
-    number: usize,
-    from: u128,
-    to: u128,
-) -> (usize, usize)
+/// Where the ends from one rank to below another start and stop.
+pub(crate) fn places(ends: &[End], from: u128, to: u128) -> (usize, usize)
     requires { RisesByRank ends.now }
     ensures forward { result.0 ≤ result.1 }
     ensures bound { result.1 ≤ length ends.now }
     ensures between { (end : End) → Contains (slice_range ends.now result.0 result.1) end ↔ (Contains ends.now end × (from ≤ end_rank end) × (end_rank end < to)) }
 {
-    let last = hint(starts, number.saturating_add(1), ends.len());
-    let start = point(ends, hint(starts, number, 0), last, from);
-    let stop = point(ends, last, last, to);
+    let start = place(ends, from);
+    let stop = place(ends, to);
     (start, stop.max(start))
 }
 
-/// The same of all ends of the key of that number, which mostly stand between what is noted for it and for the next.
-pub(crate) fn places_of_key(
-    ends: &[End],
-    starts: &[usize],
-    number: usize,
-    from: u128,
-    to: u128,
-) -> (usize, usize)
-    requires { RisesByRank ends.now }
-    ensures forward { result.0 ≤ result.1 }
-    ensures bound { result.1 ≤ length ends.now }
-    ensures between { (end : End) → Contains (slice_range ends.now result.0 result.1) end ↔ (Contains ends.now end × (from ≤ end_rank end) × (end_rank end < to)) }
-{
-    let start = noted(ends, hint(starts, number, 0), from);
-    let stop = noted(ends, hint(starts, number.saturating_add(1), 0), to);
-    (start, stop.max(start))
-}
-
-// Where the ends of at least this rank begin. It is mostly this place.
-fn noted(ends: &[End], at: usize, from: u128) -> usize
-    requires { RisesByRank ends.now }
-    ensures { IsRankPlace ends.now from result }
-{
-    if is_place(ends, at, from) {
-        at
-    } else {
-        search(ends, from)
-    }
-}
-
-// What is noted for the key, or else this place.
-fn hint(starts: &[usize], number: usize, otherwise: usize) -> usize {
-    match starts.get(number) {
-        Some(start) => *start,
-        None => otherwise,
-    }
-}
-
-// Where the ends of at least this rank begin. It may be from the one place to the other.
-fn point(ends: &[End], first: usize, last: usize, from: u128) -> usize
-    requires { RisesByRank ends.now }
-    ensures { IsRankPlace ends.now from result }
-{
-    noted(ends, guess(ends, first, last, from), from)
-}
-
-// The same by a search.
-fn search(ends: &[End], from: u128) -> usize
+// Where the ends of at least this rank begin.
+fn place(ends: &[End], from: u128) -> usize
     requires { RisesByRank ends.now }
     ensures { IsRankPlace ends.now from result }
 {
     ends.partition_point(|end| rank(end.key, end.high) < from)
-}
-
-// Where it may be, from the one place to the other.
-fn guess(ends: &[End], first: usize, last: usize, from: u128) -> usize {
-    if first <= last {
-        if last <= ends.len() {
-            let part = &ends[first..last];
-            return first.saturating_add(part.partition_point(|end| rank(end.key, end.high) < from));
-        }
-    }
-    0
-}
-
-// Whether the ends of at least this rank begin there.
-fn is_place(ends: &[End], at: usize, from: u128) -> bool
-    requires { RisesByRank ends.now }
-    ensures { IsTrue result → IsRankPlace ends.now from at }
-{
-    if at <= ends.len() {
-        if follows_lesser(ends, at, from) {
-            return precedes_greater(ends, at, from);
-        }
-    }
-    false
-}
-
-// Whether the end before the place, if there is one, has a lesser rank.
-fn follows_lesser(ends: &[End], at: usize, from: u128) -> bool
-    requires { at ≤ length ends.now }
-    ensures { IsTrue result → (d : End) → 0 < at → end_rank (slice_index_or ends.now (at - 1) d) < from }
-{
-    if at == 0 {
-        true
-    } else {
-        let end = ends[at - 1];
-        rank(end.key, end.high) < from
-    }
-}
-
-// Whether the end at the place, if there is one, has this rank or a greater one.
-fn precedes_greater(ends: &[End], at: usize, from: u128) -> bool
-    requires { at ≤ length ends.now }
-    ensures { IsTrue result → (d : End) → at < length ends.now → from ≤ end_rank (slice_index_or ends.now at d) }
-{
-    if at == ends.len() {
-        true
-    } else {
-        let end = ends[at];
-        from <= rank(end.key, end.high)
-    }
 }

@@ -7,6 +7,7 @@ ghost use Rattle.sia_parts.specs.Sights.{Adds, IsSight, IsBadOf, unlisted_sight,
 ghost use Rattle.sia_parts.specs.Gaps.{Spreads, FromKeys, IsGapOf, IsBetween, IsBelow, IsUnlisted, CoversSame, IsGapJoined};
 
 use crate::finding::BadRead;
+use crate::sights::Reading;
 use sia_events::{Key, NoMemory, TxnId, Version};
 use sia_index::{Index, Reader};
 use std::alloc::Global;
@@ -21,78 +22,75 @@ pub(crate) struct Gap {
 
 /// Adds the bad reads and the gaps of a range read of the keys from `lo` to `hi`, at those that it didn't list.
 pub(crate) fn put_unlisted(
-    ix: &Index,
-    reader: Reader,
+    reading: &Reading,
     listed: &[(Key, Version)],
     lo: Key,
     hi: Key,
     bad: &mut Vec<BadRead>,
     gaps: &mut Vec<Gap>,
 ) -> Result<(), NoMemory>
-    requires reader { IsReader ix.now reader.txn reader.place reader }
+    requires reader { IsReader reading.now.ix.now reading.now.reader.txn reading.now.reader.place reading.now.reader }
     requires ascending { AscendsByKey listed.now }
     requires within { All (λ p. (lo ≤ p.0) × (p.0 ≤ hi)) listed.now }
     requires some { lo ≤ hi }
-    requires sights { (k : ℕ) → IsUnlisted listed.now lo hi k → IsSight ix.now (unlisted_sight reader k) }
-    ensures bad { OnOk result (Adds (FromKeys (IsUnlisted listed.now lo hi) (λ k. IsBadOf ix.now (unlisted_sight reader k))) bad.old.items bad.new.items) }
-    ensures gaps { OnOk result (Spreads ix.now (IsGapOf reader (IsUnlisted listed.now lo hi)) gaps.old.items gaps.new.items) }
+    requires sights { (k : ℕ) → IsUnlisted listed.now lo hi k → IsSight reading.now.ix.now (unlisted_sight reading.now.reader k) }
+    ensures bad { OnOk result (Adds (FromKeys (IsUnlisted listed.now lo hi) (λ k. IsBadOf reading.now.ix.now (unlisted_sight reading.now.reader k))) bad.old.items bad.new.items) }
+    ensures gaps { OnOk result (Spreads reading.now.ix.now (IsGapOf reading.now.reader (IsUnlisted listed.now lo hi)) gaps.old.items gaps.new.items) }
 {
     let mut from = lo;
     let mut near = 0;
     for pair in listed {
         let key = pair.0;
-        near = ix.number_near(key, near);
-        put_below(ix, reader, from, key, near, bad, gaps)?;
+        near = reading.ix.number_near(key, near);
+        put_below(reading, from, key, near, bad, gaps)?;
         if key >= hi {
             return Ok(());
         }
         from = key + 1;
         near = near.saturating_add(1);
     }
-    put_stretch(ix, reader, from, hi, near, bad, gaps)?;
+    put_stretch(reading, from, hi, near, bad, gaps)?;
     Ok(())
 }
 
 // The same for the keys from `from` to below `key`, none of which the range read listed. The first written key from `from`
 // on may have number `near` among the written keys.
 fn put_below(
-    ix: &Index,
-    reader: Reader,
+    reading: &Reading,
     from: Key,
     key: Key,
     near: usize,
     bad: &mut Vec<BadRead>,
     gaps: &mut Vec<Gap>,
 ) -> Result<(), NoMemory>
-    requires reader { IsReader ix.now reader.txn reader.place reader }
-    requires sights { (k : ℕ) → IsBelow from key k → IsSight ix.now (unlisted_sight reader k) }
-    ensures bad { OnOk result (Adds (FromKeys (IsBelow from key) (λ k. IsBadOf ix.now (unlisted_sight reader k))) bad.old.items bad.new.items) }
-    ensures gaps { OnOk result (Spreads ix.now (IsGapOf reader (IsBelow from key)) gaps.old.items gaps.new.items) }
+    requires reader { IsReader reading.now.ix.now reading.now.reader.txn reading.now.reader.place reading.now.reader }
+    requires sights { (k : ℕ) → IsBelow from key k → IsSight reading.now.ix.now (unlisted_sight reading.now.reader k) }
+    ensures bad { OnOk result (Adds (FromKeys (IsBelow from key) (λ k. IsBadOf reading.now.ix.now (unlisted_sight reading.now.reader k))) bad.old.items bad.new.items) }
+    ensures gaps { OnOk result (Spreads reading.now.ix.now (IsGapOf reading.now.reader (IsBelow from key)) gaps.old.items gaps.new.items) }
 {
     if from < key {
-        put_stretch(ix, reader, from, key - 1, near, bad, gaps)?;
+        put_stretch(reading, from, key - 1, near, bad, gaps)?;
     }
     Ok(())
 }
 
 // The same for the keys from `lo` to `hi`. Where none of them is written there is nothing to add.
 fn put_stretch(
-    ix: &Index,
-    reader: Reader,
+    reading: &Reading,
     lo: Key,
     hi: Key,
     near: usize,
     bad: &mut Vec<BadRead>,
     gaps: &mut Vec<Gap>,
 ) -> Result<(), NoMemory>
-    requires reader { IsReader ix.now reader.txn reader.place reader }
-    requires sights { (k : ℕ) → IsBetween lo hi k → IsSight ix.now (unlisted_sight reader k) }
-    ensures bad { OnOk result (Adds (FromKeys (IsBetween lo hi) (λ k. IsBadOf ix.now (unlisted_sight reader k))) bad.old.items bad.new.items) }
-    ensures gaps { OnOk result (Spreads ix.now (IsGapOf reader (IsBetween lo hi)) gaps.old.items gaps.new.items) }
+    requires reader { IsReader reading.now.ix.now reading.now.reader.txn reading.now.reader.place reading.now.reader }
+    requires sights { (k : ℕ) → IsBetween lo hi k → IsSight reading.now.ix.now (unlisted_sight reading.now.reader k) }
+    ensures bad { OnOk result (Adds (FromKeys (IsBetween lo hi) (λ k. IsBadOf reading.now.ix.now (unlisted_sight reading.now.reader k))) bad.old.items bad.new.items) }
+    ensures gaps { OnOk result (Spreads reading.now.ix.now (IsGapOf reading.now.reader (IsBetween lo hi)) gaps.old.items gaps.new.items) }
 {
-    if is_written_between(ix, lo, hi, near) {
-        put_due(ix, reader, lo, hi, bad)?;
-        put_gap(reader, lo, hi, gaps)?;
+    if is_written_between(reading.ix, lo, hi, near) {
+        put_due(reading.ix, reading.reader, lo, hi, bad)?;
+        put_gap(reading.reader, lo, hi, gaps)?;
     }
     Ok(())
 }

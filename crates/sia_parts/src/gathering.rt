@@ -1,16 +1,15 @@
 //! The findings of all parts together.
-ghost use Rattle.std.specs.Prelude.{◌≡◌, ℕ, List, map, IfOk};
+ghost use Rattle.std.specs.Prelude.{◌≡◌, ℕ, List, Contains, IfOk, OnOk};
 ghost use Rattle.std.specs.List.{AllZip};
 ghost use Rattle.sia_events.specs.declared.event.Event.{Event};
 ghost use Rattle.sia_events.specs.Refusals.{IsWellFormed};
 ghost use Rattle.sia_parts.specs.declared.cutting.Part.{Part};
 ghost use Rattle.sia_parts.specs.Parts.{IsCutting};
 ghost use Rattle.sia_parts.specs.Findings.{AreFindings, ArePartFindings};
+ghost use Rattle.sia_parts.specs.Sights.{Adds, FromSome};
 
-use crate::finding::{BadRead, BadWrite, Edge, Unexplained};
 use crate::findings::{Findings, PartFindings};
-use crate::merging::merge_all;
-use crate::part_lists::{PartLists, add_lists, no_lists};
+use crate::ordering::merge_in_order;
 use sia_events::NoMemory;
 use std::alloc::Global;
 
@@ -21,35 +20,32 @@ pub fn gather(alloc: Global, parts: Vec<PartFindings>) -> Result<Findings, NoMem
     ensures { IfOk result (λ found. (h : List Event) (points : List ℕ) (cutting : List Part)
         → IsWellFormed h → IsCutting points cutting → AllZip (ArePartFindings h) cutting parts.items → AreFindings h found) }
 {
-    let lists = lists_of(alloc, parts)?;
-    let bad_reads = merge_all(alloc, lists.bad_reads)?;
-    let bad_writes = merge_all(alloc, lists.bad_writes)?;
-    let unexplained = merge_all(alloc, lists.unexplained)?;
-    let edges = merge_all(alloc, lists.edges)?;
-    Ok(Findings {
-        bad_reads,
-        bad_writes,
-        unexplained,
-        edges,
-    })
+    let mut all = Findings {
+        bad_reads: Vec::new(alloc),
+        bad_writes: Vec::new(alloc),
+        unexplained: Vec::new(alloc),
+        edges: Vec::new(alloc),
+    };
+    put_parts(&parts, &mut all)?;
+    merge_in_order(&mut all.bad_reads)?;
+    merge_in_order(&mut all.bad_writes)?;
+    merge_in_order(&mut all.unexplained)?;
+    merge_in_order(&mut all.edges)?;
+    Ok(all)
 }
 
-/// The lists of the parts, in order.
-fn lists_of(alloc: Global, parts: Vec<PartFindings>) -> Result<PartLists<Vec<Edge>>, NoMemory>
-    ensures bad_reads { IfOk result (λ lists. lists.bad_reads.items ≡ map (λ part. part.bad_reads) parts.items) }
-    ensures bad_writes { IfOk result (λ lists. lists.bad_writes.items ≡ map (λ part. part.bad_writes) parts.items) }
-    ensures unexplained { IfOk result (λ lists. lists.unexplained.items ≡ map (λ part. part.unexplained) parts.items) }
-    ensures edges { IfOk result (λ lists. lists.edges.items ≡ map (λ part. part.edges) parts.items) }
+/// Adds the lists of the parts, one behind another.
+fn put_parts(parts: &[PartFindings], all: &mut Findings) -> Result<(), NoMemory>
+    ensures bad_reads { OnOk result (Adds (FromSome (λ part. Contains part.bad_reads.items) parts.now) all.old.bad_reads.items all.new.bad_reads.items) }
+    ensures bad_writes { OnOk result (Adds (FromSome (λ part. Contains part.bad_writes.items) parts.now) all.old.bad_writes.items all.new.bad_writes.items) }
+    ensures unexplained { OnOk result (Adds (FromSome (λ part. Contains part.unexplained.items) parts.now) all.old.unexplained.items all.new.unexplained.items) }
+    ensures edges { OnOk result (Adds (FromSome (λ part. Contains part.edges.items) parts.now) all.old.edges.items all.new.edges.items) }
 {
-    let mut lists = no_lists(alloc);
     for part in parts {
-        add_lists(
-            &mut lists,
-            part.bad_reads,
-            part.bad_writes,
-            part.unexplained,
-        )?;
-        lists.edges.push(part.edges)?;
+        all.bad_reads.extend_from_slice(&part.bad_reads)?;
+        all.bad_writes.extend_from_slice(&part.bad_writes)?;
+        all.unexplained.extend_from_slice(&part.unexplained)?;
+        all.edges.extend_from_slice(&part.edges)?;
     }
-    Ok(lists)
+    Ok(())
 }

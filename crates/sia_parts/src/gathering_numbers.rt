@@ -1,5 +1,5 @@
 //! What was found at the keys of all parts together, with each edge as a single number.
-ghost use Rattle.std.specs.Prelude.{◌≡◌, ◌+◌, ◌<◌, ◌≤◌, ℕ, List, length, slice_index, slice_index_or, map, All, IfOk};
+ghost use Rattle.std.specs.Prelude.{◌≡◌, ◌+◌, ◌<◌, ◌≤◌, ℕ, List, length, slice_index, slice_index_or, map, All, Contains, IfOk, OnOk};
 ghost use Rattle.std.specs.List.{AllZip};
 ghost use Rattle.std.specs.Global.{Vec as vec};
 ghost use Rattle.sia_events.specs.declared.event.Event.{Event};
@@ -8,17 +8,16 @@ ghost use Rattle.sia_parts.specs.declared.cutting.Part.{Part};
 ghost use Rattle.sia_parts.specs.EdgeNumbers.{AreEdgeTables, IsFound};
 ghost use Rattle.sia_parts.specs.Gathering.{AreNumbersBetween, AreSeams, CanSpread, IsGathering, IsPartFound};
 ghost use Rattle.sia_parts.specs.Parts.{IsCutting, IsInPart};
+ghost use Rattle.sia_parts.specs.Sights.{Adds, FromSome};
 
 use crate::finding::{BadRead, BadWrite, Unexplained};
 use crate::findings::Found;
-use crate::merging::merge_all;
-use crate::numbering::{all_numbers, numbers_of_sources};
+use crate::numbering::numbers_of_sources;
 use crate::numbers::EdgeNumber;
+use crate::ordering::merge_in_order;
 use crate::part_edges::{PartEdges, PartFound};
-use crate::part_lists::{PartLists, add_lists, no_lists};
 use crate::stretches::EdgeNumbers;
 use crate::stretching::Seams;
-use crate::weighing::count_left;
 use sia_events::NoMemory;
 use std::alloc::Global;
 
@@ -43,23 +42,20 @@ impl Gathering {
             → AllZip (λ part found. IsPartFound h txns keys (IsInPart part) found) cutting parts.items
             → IsGathering h txns keys gathering) }
     {
-        let lists = lists_of(alloc, parts)?;
-        let bad_reads = merge_all(alloc, lists.bad_reads)?;
-        let bad_writes = merge_all(alloc, lists.bad_writes)?;
-        let unexplained = merge_all(alloc, lists.unexplained)?;
+        let mut bad_reads = Vec::new(alloc);
+        let mut bad_writes = Vec::new(alloc);
+        let mut unexplained = Vec::new(alloc);
+        put_parts(&parts, &mut bad_reads, &mut bad_writes, &mut unexplained)?;
+        merge_in_order(&mut bad_reads)?;
+        merge_in_order(&mut bad_writes)?;
+        merge_in_order(&mut unexplained)?;
+        let edges = edges_of_parts(alloc, parts)?;
         Ok(Gathering {
             bad_reads,
             bad_writes,
             unexplained,
-            edges: lists.edges,
+            edges,
         })
-    }
-
-    /// How many numbers are still to be made or merged, about. None where all are in one list already.
-    pub fn unmerged(&self) -> usize
-        requires { All CanSpread self.now.edges.items }
-    {
-        count_left(&self.edges)
     }
 
     /// The numbers of the edges whose sources stand from the one place to before the other.
@@ -91,54 +87,34 @@ impl Gathering {
             edges: EdgeNumbers::of_stretches(stretches),
         }
     }
-
-    /// The findings, made by one thread. There are so many transactions.
-    pub fn merged(self, alloc: Global, txns: usize) -> Result<Found, NoMemory>
-        requires { All CanSpread self.edges.items }
-        ensures { IfOk result (λ found. (h : List Event) (ids keys : List ℕ) → AreEdgeTables h ids keys → length ids ≡ txns → IsGathering h ids keys self → IsFound h ids keys found) }
-    {
-        let numbers = all_numbers(alloc, self.edges, txns)?;
-        let edges = EdgeNumbers::of(alloc, numbers)?;
-        Ok(Found {
-            bad_reads: self.bad_reads,
-            bad_writes: self.bad_writes,
-            unexplained: self.unexplained,
-            edges,
-        })
-    }
 }
 
-/// The lists of the parts, in order.
-fn lists_of(alloc: Global, parts: Vec<PartFound>) -> Result<PartLists<PartEdges>, NoMemory>
-    ensures bad_reads { IfOk result (λ lists. lists.bad_reads.items ≡ map (λ part. part.bad_reads) parts.items) }
-    ensures bad_writes { IfOk result (λ lists. lists.bad_writes.items ≡ map (λ part. part.bad_writes) parts.items) }
-    ensures unexplained { IfOk result (λ lists. lists.unexplained.items ≡ map (λ part. part.unexplained) parts.items) }
-    ensures edges { IfOk result (λ lists. lists.edges.items ≡ map (λ part. part.edges) parts.items) }
+/// Adds the lists of the parts, but for the edges, one behind another.
+fn put_parts(
+    parts: &[PartFound],
+    bad_reads: &mut Vec<BadRead>,
+    bad_writes: &mut Vec<BadWrite>,
+    unexplained: &mut Vec<Unexplained>,
+) -> Result<(), NoMemory>
+    ensures bad_reads { OnOk result (Adds (FromSome (λ part. Contains part.bad_reads.items) parts.now) bad_reads.old.items bad_reads.new.items) }
+    ensures bad_writes { OnOk result (Adds (FromSome (λ part. Contains part.bad_writes.items) parts.now) bad_writes.old.items bad_writes.new.items) }
+    ensures unexplained { OnOk result (Adds (FromSome (λ part. Contains part.unexplained.items) parts.now) unexplained.old.items unexplained.new.items) }
 {
-    let mut lists = no_lists(alloc);
     for part in parts {
-        add_lists(
-            &mut lists,
-            part.bad_reads,
-            part.bad_writes,
-            part.unexplained,
-        )?;
-        lists.edges.push(part.edges)?;
+        bad_reads.extend_from_slice(&part.bad_reads)?;
+        bad_writes.extend_from_slice(&part.bad_writes)?;
+        unexplained.extend_from_slice(&part.unexplained)?;
     }
-    Ok(lists)
+    Ok(())
 }
 
-/// The findings at all keys, of those of the parts in order. There are so many transactions.
-pub fn gather_found(alloc: Global, parts: Vec<PartFound>, txns: usize) -> Result<Found, NoMemory>
-    requires { (h : List Event) × (ids : List ℕ) × (keys : List ℕ) × (points : List ℕ) × (cutting : List Part)
-        × IsWellFormed h × AreEdgeTables h ids keys × IsCutting points cutting
-        × AllZip (λ part found. IsPartFound h ids keys (IsInPart part) found) cutting parts.items }
-    ensures { IfOk result (λ found. (h : List Event) (ids keys points : List ℕ) (cutting : List Part)
-        → IsWellFormed h → AreEdgeTables h ids keys → IsCutting points cutting → length ids ≡ txns
-        → AllZip (λ part found. IsPartFound h ids keys (IsInPart part) found) cutting parts.items
-        → IsFound h ids keys found) }
+/// The edges of the parts.
+fn edges_of_parts(alloc: Global, parts: Vec<PartFound>) -> Result<Vec<PartEdges>, NoMemory>
+    ensures { IfOk result (λ edges. edges.items ≡ map (λ part. part.edges) parts.items) }
 {
-    let gathering = Gathering::of(alloc, parts)?;
-    let found = gathering.merged(alloc, txns)?;
-    Ok(found)
+    let mut edges = Vec::new(alloc);
+    for part in parts {
+        edges.push(part.edges)?;
+    }
+    Ok(edges)
 }

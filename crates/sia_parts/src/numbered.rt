@@ -27,8 +27,7 @@ pub fn find_in_part(
     requires committed { ListsAscending (IsCommitted ix.now) committed.now }
     ensures { IfOk result (λ found. (keys : List ℕ) → AreWrittenKeys h.now keys → IsPartFound h.now committed.now keys (IsInPart part) found) }
 {
-    // The length tells that the history is well-formed.
-    let _ = h.len();
+    ix.law();
     let seen = seen_of(alloc, h, ix, part)?;
     let bad_writes = bad_writes_of(alloc, ix, part)?;
     let unexplained = unexplained_of(alloc, h, ix, part, &seen.bad_reads)?;

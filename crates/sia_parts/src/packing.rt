@@ -1,9 +1,9 @@
 //! The digits of edges' numbers.
 ghost use Rattle.std.specs.Prelude.{◌≡◌, ◌<◌, ◌++◌, OnOk, map, slice_index};
+ghost use Rattle.sia_parts.specs.Entries.{kind_number};
 ghost use Rattle.sia_parts.specs.Packing.{unpacked, kind_at, AreDigits};
 
 use crate::finding::{Edge, Kind};
-use crate::ranked::number_of;
 use sia_events::{Key, NoMemory, TxnId};
 
 /// The number that follows the greatest digit for a transaction or a key. A history has at most 100,000 events, so its
@@ -18,6 +18,17 @@ pub(crate) fn number(src: u64, dst: u64, kind: Kind, key: u64) -> u64
     ensures { AreDigits src dst kind key result }
 {
     ((src * BASE + dst) * 4 + u64::from(number_of(kind))) * BASE + key
+}
+
+// The place of a kind among the kinds.
+fn number_of(kind: Kind) -> u8
+    ensures { result ≡ kind_number kind }
+{
+    match kind {
+        Kind::Ww => 0,
+        Kind::Wr => 1,
+        Kind::Rw => 2,
+    }
 }
 
 // Adds the edges of the numbers.

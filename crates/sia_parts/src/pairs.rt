@@ -1,9 +1,9 @@
-//! Pairs of a key's versions: bad writes and ww edges.
-ghost use Rattle.std.specs.Prelude.{◌≡◌, ◌<◌, ◌≤◌, IfOk, OnOk, Contains};
-ghost use Rattle.sia_index.specs.Info.{AreVersions};
-ghost use Rattle.sia_parts.specs.Sights.{Adds, FromSome, FromPair, IsPairEdge, IsPairBad, IsLateBad, AscendsByCommit, KeyPair};
+//! Pairs of a key's versions: bad writes.
+ghost use Rattle.std.specs.Prelude.{◌↔◌, ◌<◌, OnOk, Contains};
+ghost use Rattle.sia_index.specs.declared.info.Made.{Made as made};
+ghost use Rattle.sia_parts.specs.Sights.{Adds, FromSome, FromPair, IsPairBad, IsLateBad, AscendsByCommit, KeyPair};
 
-use crate::finding::{BadWrite, Edge, Kind};
+use crate::finding::BadWrite;
 use sia_events::{Key, NoMemory};
 use sia_index::{Index, Made};
 
@@ -45,6 +45,7 @@ fn put_bad_with(
     earlier: &[Made],
     bad: &mut Vec<BadWrite>,
 ) -> Result<(), NoMemory>
+    requires { AscendsByCommit earlier.now }
     ensures { OnOk result (Adds (FromSome (IsPairBad ix.now key second) earlier.now) bad.old.items bad.new.items) }
 {
     let Some(info) = ix.txn(second.txn) else {
@@ -61,16 +62,24 @@ fn put_bad_after(
     earlier: &[Made],
     bad: &mut Vec<BadWrite>,
 ) -> Result<(), NoMemory>
+    requires { AscendsByCommit earlier.now }
     ensures { OnOk result (Adds (FromSome (IsLateBad start key second) earlier.now) bad.old.items bad.new.items) }
 {
-    for first in earlier {
-        if start < first.commit {
-            bad.push(BadWrite {
-                key,
-                first: first.txn,
-                second: second.txn,
-            })?;
-        }
+    for first in committed_after(start, earlier) {
+        bad.push(BadWrite {
+            key,
+            first: first.txn,
+            second: second.txn,
+        })?;
     }
     Ok(())
+}
+
+// Of the versions those that were committed after the place, which are the last ones.
+fn committed_after(place: u32, versions: &[Made]) -> &[Made]
+    requires { AscendsByCommit versions.now }
+    ensures { (version : made) → Contains result.now version ↔ (Contains versions.now version × (place < version.commit)) }
+{
+    let from = versions.partition_point(|version| version.commit <= place);
+    &versions[from..]
 }

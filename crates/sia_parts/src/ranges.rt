@@ -15,37 +15,45 @@ use crate::cutting::Part;
 use crate::finding::BadRead;
 use crate::gaps::{Gap, put_unlisted};
 use crate::nearby::{Near, are_in_turn, first_near, next_near, still_ascend};
-use crate::sights::{Sight, put_sight};
+use crate::sights::{Reading, Sight, put_sight};
 use crate::spans::Span;
-use crate::unseen::{first_commit, put_unseen, reader_after, sees_none};
+use crate::unseen::{put_unseen, reader_after, sees_none};
 use sia_events::{Event, History, Key, NoMemory, Version};
 use sia_index::{Index, RangeRead, Reader};
 use std::alloc::Global;
 
-/// Adds the bad reads, the spans and the gaps of range reads, at the keys of the part. Says whether the spans, of which there
-/// were none before, ascend by transaction and key.
+/// Where range reads are looked at: in a history and its index, at the keys of a part, of which no version was committed before
+/// the place `first`.
+#[derive(Clone, Copy)]
+pub(crate) struct Scope<'a> {
+    pub(crate) h: &'a History,
+    pub(crate) ix: &'a Index,
+    pub(crate) part: Part,
+    pub(crate) first: u32,
+}
+
+/// Adds the bad reads, the spans and the gaps of range reads. Says whether the spans, of which there were none before, ascend by
+/// transaction and key.
 pub(crate) fn put_range_reads(
     alloc: Global,
-    h: &History,
-    ix: &Index,
-    part: Part,
+    scope: &Scope,
     ranges: &[RangeRead],
     bad: &mut Vec<BadRead>,
     spans: &mut Vec<Span>,
     gaps: &mut Vec<Gap>,
 ) -> Result<bool, NoMemory>
-    requires of { ix.now ≡ h.now }
-    requires ranges { All (IsRangeRead ix.now) ranges.now }
-    ensures bad { OnOk result (Adds (FromSome (λ range. FromSight (IsRangeSight ix.now part range) (IsBadOf ix.now)) ranges.now) bad.old.items bad.new.items) }
-    ensures spans { OnOk result (JoinsTo (FromSome (λ range. FromSight (IsListedSight ix.now part range) (IsSpanOf ix.now)) ranges.now) spans.old.items spans.new.items) }
-    ensures gaps { OnOk result (Spreads ix.now (FromSome (IsUnlistedBy ix.now part) ranges.now) gaps.old.items gaps.new.items) }
+    requires of { scope.now.ix.now ≡ scope.now.h.now }
+    requires first { CommitsFrom scope.now.ix.now scope.now.part scope.now.first }
+    requires ranges { All (IsRangeRead scope.now.ix.now) ranges.now }
+    ensures bad { OnOk result (Adds (FromSome (λ range. FromSight (IsRangeSight scope.now.ix.now scope.now.part range) (IsBadOf scope.now.ix.now)) ranges.now) bad.old.items bad.new.items) }
+    ensures spans { OnOk result (JoinsTo (FromSome (λ range. FromSight (IsListedSight scope.now.ix.now scope.now.part range) (IsSpanOf scope.now.ix.now)) ranges.now) spans.old.items spans.new.items) }
+    ensures gaps { OnOk result (Spreads scope.now.ix.now (FromSome (IsUnlistedBy scope.now.ix.now scope.now.part) ranges.now) gaps.old.items gaps.new.items) }
 {
-    let first = first_commit(ix, part);
     if are_in_turn(ranges) {
-        return put_in_turn(h, ix, part, first, ranges, bad, spans, gaps);
+        return put_in_turn(scope, ranges, bad, spans, gaps);
     }
     let turns = by_txn(alloc, ranges)?;
-    let ascend = put_in_turn(h, ix, part, first, &turns, bad, spans, gaps)?;
+    let ascend = put_in_turn(scope, &turns, bad, spans, gaps)?;
     Ok(ascend)
 }
 
@@ -59,30 +67,26 @@ fn by_txn(alloc: Global, ranges: &[RangeRead]) -> Result<Vec<RangeRead>, NoMemor
     Ok(turns)
 }
 
-// Adds the bad reads, the spans and the gaps of range reads, one after another. Says whether the spans ascend. No version of a
-// key of the part was committed before the place `first`.
+// Adds the bad reads, the spans and the gaps of range reads, one after another. Says whether the spans ascend.
 fn put_in_turn(
-    h: &History,
-    ix: &Index,
-    part: Part,
-    first: u32,
+    scope: &Scope,
     ranges: &[RangeRead],
     bad: &mut Vec<BadRead>,
     spans: &mut Vec<Span>,
     gaps: &mut Vec<Gap>,
 ) -> Result<bool, NoMemory>
-    requires of { ix.now ≡ h.now }
-    requires first { CommitsFrom ix.now part first }
-    requires ranges { All (IsRangeRead ix.now) ranges.now }
-    ensures bad { OnOk result (Adds (FromSome (λ range. FromSight (IsRangeSight ix.now part range) (IsBadOf ix.now)) ranges.now) bad.old.items bad.new.items) }
-    ensures spans { OnOk result (JoinsTo (FromSome (λ range. FromSight (IsListedSight ix.now part range) (IsSpanOf ix.now)) ranges.now) spans.old.items spans.new.items) }
-    ensures gaps { OnOk result (Spreads ix.now (FromSome (IsUnlistedBy ix.now part) ranges.now) gaps.old.items gaps.new.items) }
+    requires of { scope.now.ix.now ≡ scope.now.h.now }
+    requires first { CommitsFrom scope.now.ix.now scope.now.part scope.now.first }
+    requires ranges { All (IsRangeRead scope.now.ix.now) ranges.now }
+    ensures bad { OnOk result (Adds (FromSome (λ range. FromSight (IsRangeSight scope.now.ix.now scope.now.part range) (IsBadOf scope.now.ix.now)) ranges.now) bad.old.items bad.new.items) }
+    ensures spans { OnOk result (JoinsTo (FromSome (λ range. FromSight (IsListedSight scope.now.ix.now scope.now.part range) (IsSpanOf scope.now.ix.now)) ranges.now) spans.old.items spans.new.items) }
+    ensures gaps { OnOk result (Spreads scope.now.ix.now (FromSome (IsUnlistedBy scope.now.ix.now scope.now.part) ranges.now) gaps.old.items gaps.new.items) }
 {
     let mut ascend = true;
     let mut last = None;
     for range in ranges {
         let end = spans.len();
-        last = put_range_read(h, ix, part, first, last, *range, bad, spans, gaps)?;
+        last = put_range_read(scope, last, *range, bad, spans, gaps)?;
         ascend = still_ascend(ascend, spans, end);
     }
     Ok(ascend)
@@ -90,69 +94,64 @@ fn put_in_turn(
 
 // Adds the bad reads, the spans and the gaps of a range read, at the keys of the part. Passes on who read last.
 fn put_range_read(
-    h: &History,
-    ix: &Index,
-    part: Part,
-    first: u32,
+    scope: &Scope,
     last: Option<Reader>,
     range: RangeRead,
     bad: &mut Vec<BadRead>,
     spans: &mut Vec<Span>,
     gaps: &mut Vec<Gap>,
 ) -> Result<Option<Reader>, NoMemory>
-    requires of { ix.now ≡ h.now }
-    requires first { CommitsFrom ix.now part first }
-    requires last { IsLastReader ix.now last }
-    requires range { IsRangeRead ix.now range }
-    ensures last { IfOk result (λ next. IsLastReader ix.now next) }
-    ensures bad { OnOk result (Adds (FromSight (IsRangeSight ix.now part range) (IsBadOf ix.now)) bad.old.items bad.new.items) }
-    ensures spans { OnOk result (JoinsTo (FromSight (IsListedSight ix.now part range) (IsSpanOf ix.now)) spans.old.items spans.new.items) }
-    ensures gaps { OnOk result (Spreads ix.now (IsUnlistedBy ix.now part range) gaps.old.items gaps.new.items) }
+    requires of { scope.now.ix.now ≡ scope.now.h.now }
+    requires first { CommitsFrom scope.now.ix.now scope.now.part scope.now.first }
+    requires last { IsLastReader scope.now.ix.now last }
+    requires range { IsRangeRead scope.now.ix.now range }
+    ensures last { IfOk result (λ next. IsLastReader scope.now.ix.now next) }
+    ensures bad { OnOk result (Adds (FromSight (IsRangeSight scope.now.ix.now scope.now.part range) (IsBadOf scope.now.ix.now)) bad.old.items bad.new.items) }
+    ensures spans { OnOk result (JoinsTo (FromSight (IsListedSight scope.now.ix.now scope.now.part range) (IsSpanOf scope.now.ix.now)) spans.old.items spans.new.items) }
+    ensures gaps { OnOk result (Spreads scope.now.ix.now (IsUnlistedBy scope.now.ix.now scope.now.part range) gaps.old.items gaps.new.items) }
 {
-    // The length tells that the history is well-formed.
-    let _ = h.len();
-    let lo = part.lo.max(range.lo);
-    let hi = part.hi.min(range.hi);
+    let ix = scope.ix;
+    ix.law();
+    let lo = scope.part.lo.max(range.lo);
+    let hi = scope.part.hi.min(range.hi);
     if lo > hi {
         return Ok(last);
     }
-    let listed = listed_within(listed_at(h, range.place), lo, hi);
+    let listed = listed_within(listed_at(scope.h, range.place), lo, hi);
     let reader = reader_after(ix, last, range.txn, range.place);
     let own = ix.may_own(reader, lo, hi);
     if listed.is_empty() {
-        if sees_none(reader, own, first) {
+        if sees_none(reader, own, scope.first) {
             put_unseen(ix, reader, lo, hi, gaps)?;
             return Ok(Some(reader));
         }
     }
-    put_listed_keys(ix, reader, range, listed, own, bad, spans)?;
-    put_unlisted(ix, reader, listed, lo, hi, bad, gaps)?;
+    let reading = Reading { ix, reader, own };
+    put_listed_keys(&reading, range, listed, bad, spans)?;
+    put_unlisted(&reading, listed, lo, hi, bad, gaps)?;
     Ok(Some(reader))
 }
 
-// Adds the bad reads and the spans of keys that a range read listed. Where `own` isn't true, its transaction is known not to
-// have written them before.
+// Adds the bad reads and the spans of keys that a range read listed.
 fn put_listed_keys(
-    ix: &Index,
-    reader: Reader,
+    reading: &Reading,
     range: RangeRead,
     listed: &[(Key, Version)],
-    own: bool,
     bad: &mut Vec<BadRead>,
     spans: &mut Vec<Span>,
 ) -> Result<(), NoMemory>
-    requires well_formed { IsWellFormed ix.now }
-    requires reader { IsReader ix.now range.txn range.place reader }
-    requires sights { All (λ pair. IsSight ix.now (listed_sight range pair)) listed.now }
-    requires own { own ≡ false → All (λ pair. ¬ WroteBefore ix.now range.txn pair.0 range.place) listed.now }
-    ensures bad { OnOk result (Adds (FromSome (λ pair. IsBadOf ix.now (listed_sight range pair)) listed.now) bad.old.items bad.new.items) }
-    ensures spans { OnOk result (JoinsTo (FromSome (λ pair. IsSpanOf ix.now (listed_sight range pair)) listed.now) spans.old.items spans.new.items) }
+    requires well_formed { IsWellFormed reading.now.ix.now }
+    requires reader { IsReader reading.now.ix.now range.txn range.place reading.now.reader }
+    requires sights { All (λ pair. IsSight reading.now.ix.now (listed_sight range pair)) listed.now }
+    requires own { reading.now.own ≡ false → All (λ pair. ¬ WroteBefore reading.now.ix.now range.txn pair.0 range.place) listed.now }
+    ensures bad { OnOk result (Adds (FromSome (λ pair. IsBadOf reading.now.ix.now (listed_sight range pair)) listed.now) bad.old.items bad.new.items) }
+    ensures spans { OnOk result (JoinsTo (FromSome (λ pair. IsSpanOf reading.now.ix.now (listed_sight range pair)) listed.now) spans.old.items spans.new.items) }
 {
     let mut number = 0;
     let mut place = first_near(spans, range.txn, range.lo);
     let end = spans.len();
     for pair in listed {
-        number = ix.number_near(pair.0, number);
+        number = reading.ix.number_near(pair.0, number);
         place = next_near(spans, place, end, pair.0);
         let sight = Sight {
             place: range.place,
@@ -161,7 +160,7 @@ fn put_listed_keys(
             saw: pair.1,
         };
         let near = Near { number, place };
-        put_sight(ix, reader, sight, own, near, bad, spans)?;
+        put_sight(reading, sight, near, bad, spans)?;
         number = number.saturating_add(1);
     }
     Ok(())

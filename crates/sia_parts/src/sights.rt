@@ -24,6 +24,14 @@ pub(crate) struct Sight {
     pub(crate) saw: Version,
 }
 
+/// A read by an index: what is known of who reads. Where `own` isn't true, it is known not to have written the keys before.
+#[derive(Clone, Copy)]
+pub(crate) struct Reading<'a> {
+    pub(crate) ix: &'a Index,
+    pub(crate) reader: Reader,
+    pub(crate) own: bool,
+}
+
 /// Adds the bad reads and the spans of read events.
 pub(crate) fn put_item_reads(
     ix: &Index,
@@ -51,33 +59,37 @@ pub(crate) fn put_item_reads(
             number,
             place: spans.len().saturating_sub(1),
         };
-        put_sight(ix, reader, sight, reader.has_written, near, bad, spans)?;
+        let reading = Reading {
+            ix,
+            reader,
+            own: reader.has_written,
+        };
+        put_sight(&reading, sight, near, bad, spans)?;
     }
     Ok(())
 }
 
 /// Adds the bad read of a sight, if it is one, and its span, if it has one, joined with one that stands near, if that is
-/// of its transaction and key. Where `own` isn't true, the transaction is known not to have written the key before.
+/// of its transaction and key.
 pub(crate) fn put_sight(
-    ix: &Index,
-    reader: Reader,
+    reading: &Reading,
     sight: Sight,
-    own: bool,
     near: Near,
     bad: &mut Vec<BadRead>,
     spans: &mut Vec<Span>,
 ) -> Result<(), NoMemory>
-    requires well_formed { IsWellFormed ix.now }
-    requires reader { IsReader ix.now sight.txn sight.place reader }
-    requires sight { IsSight ix.now sight }
-    requires own { own ≡ false → ¬ WroteBefore ix.now sight.txn sight.key sight.place }
-    ensures bad { OnOk result (Adds (IsBadOf ix.now sight) bad.old.items bad.new.items) }
-    ensures spans { OnOk result (JoinsTo (IsSpanOf ix.now sight) spans.old.items spans.new.items) }
+    requires well_formed { IsWellFormed reading.now.ix.now }
+    requires reader { IsReader reading.now.ix.now sight.txn sight.place reading.now.reader }
+    requires sight { IsSight reading.now.ix.now sight }
+    requires own { reading.now.own ≡ false → ¬ WroteBefore reading.now.ix.now sight.txn sight.key sight.place }
+    ensures bad { OnOk result (Adds (IsBadOf reading.now.ix.now sight) bad.old.items bad.new.items) }
+    ensures spans { OnOk result (JoinsTo (IsSpanOf reading.now.ix.now sight) spans.old.items spans.new.items) }
 {
-    let seen = seen_at(ix, reader, sight, near.number);
-    let due = due_at(ix, sight, own, seen);
+    let ix = reading.ix;
+    let seen = seen_at(ix, reading.reader, sight, near.number);
+    let due = due_at(ix, sight, reading.own, seen);
     put_bad_read(sight, due, bad)?;
-    put_span(ix, reader, sight, seen, near.place, spans)?;
+    put_span(ix, reading.reader, sight, seen, near.place, spans)?;
     Ok(())
 }
 

@@ -59,13 +59,6 @@ impl EdgeNumbers {
         self.stretches.as_slice()
     }
 
-    /// The stretches themselves, so that each can be freed apart from the others.
-    pub fn into_stretches(self) -> Vec<Vec<EdgeNumber>>
-        ensures { numbers_in result.items ≡ self }
-    {
-        self.stretches
-    }
-
     /// The edges that the numbers stand for, of these transactions and keys, in the same order.
     pub fn edges(&self, alloc: Global, txns: &[TxnId], keys: &[Key]) -> Result<Vec<Edge>, NoMemory>
         ensures { IfOk result (λ edges. edges.items ≡ map (unpacked txns.now keys.now) self.now) }

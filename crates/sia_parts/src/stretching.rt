@@ -1,11 +1,15 @@
 //! Where the edges of all parts are cut into stretches by their sources, so that workers can make their numbers side by side.
-ghost use Rattle.std.specs.Prelude.{◌≡◌, ◌+◌, ◌<◌, ◌≤◌, [], ◌∷◌, length, slice_index, All, AllPairs, IfOk, OnOk};
-ghost use Rattle.sia_parts.specs.Gathering.{AreSeams, CanSpread};
+ghost use Rattle.std.specs.Prelude.{◌≡◌, ◌+◌, ◌<◌, ◌≤◌, [], ◌∷◌, length, slice_index, All, AllPairs, IfOk, IsTrue, OnOk};
+ghost use Rattle.sia_parts.specs.Gathering.{AreSeams};
 
+use crate::fans::Fan;
 use crate::gathering_numbers::Gathering;
-use crate::weighing::{total_of, weight_at, weights_between};
+use crate::part_edges::PartEdges;
 use sia_events::NoMemory;
 use std::alloc::Global;
+
+/// How many stretches there are at most: as many parts as workers take from one deque.
+const MOST: usize = 1024;
 
 /// The places of sources at which stretches start, ascending, and where the last one ends.
 #[derive(Debug, Drop)]
@@ -14,50 +18,87 @@ pub struct Seams {
 }
 
 impl Seams {
-    /// Cuts the edges, whose sources are so many transactions, into at most so many stretches, of about as many edges each.
+    /// Cuts the edges, whose sources are so many transactions, into at most 1,024 stretches: each goes on to the source with
+    /// which it has about so many edges, or more where there would be too many stretches.
     pub fn of(
         alloc: Global,
         gathering: &Gathering,
         txns: usize,
-        most: u32,
+        size: usize,
     ) -> Result<Seams, NoMemory>
-        requires { All CanSpread gathering.now.edges.items }
-        ensures few { IfOk result (λ seams. 0 < most → length seams.places.items ≤ most + 1) }
+        ensures few { IfOk result (λ seams. length seams.places.items ≤ 1025) }
         ensures are { IfOk result (λ seams. AreSeams txns seams.places.items) }
     {
         let mut places = Vec::new(alloc);
         places.push(0)?;
         if txns > 0 {
-            let weights = weights_between(alloc, &gathering.edges, 0, txns)?;
-            put_seams(&weights, txns, most as usize, &mut places)?;
+            let weights = weights_of(alloc, &gathering.edges, txns)?;
+            let least = size.max(sum_of(&weights) / MOST + 1);
+            put_seams(&weights, txns, least, &mut places)?;
             places.push(txns)?;
         }
         Ok(Seams { places })
     }
 }
 
-/// Adds the places between which the sources have about as many edges each, as many places as stay below the most.
+// How many edges all sources have at most.
+fn sum_of(weights: &[usize]) -> usize {
+    let mut sum = 0usize;
+    for weight in weights {
+        sum = sum.saturating_add(*weight);
+    }
+    sum
+}
+
+// How many edges each source has at most. There are so many sources.
+fn weights_of(alloc: Global, parts: &[PartEdges], sources: usize) -> Result<Vec<usize>, NoMemory> {
+    let mut weights = vec![in alloc; 0usize; sources]?;
+    for part in parts {
+        for fan in &part.fans {
+            weigh(*fan, weights.as_mut_slice());
+        }
+    }
+    Ok(weights)
+}
+
+// Adds how many edges the fan has to the weight of its source.
+fn weigh(fan: Fan, weights: &mut [usize]) {
+    if let Some(weight) = weights.get_mut(fan.src as usize) {
+        *weight = weight.saturating_add(fan.to.saturating_sub(fan.from));
+    }
+}
+
+// Adds the places between which the sources have about so many edges each.
 fn put_seams(
     weights: &[usize],
     txns: usize,
-    most: usize,
+    size: usize,
     places: &mut Vec<usize>,
 ) -> Result<(), NoMemory>
     requires some { 0 < txns }
     requires first { places.old.items ≡ 0 ∷ [] }
-    ensures few { OnOk result (0 < most → length places.new.items ≤ most) }
+    ensures few { OnOk result (length places.new.items ≤ 1024) }
     ensures first { OnOk result ((0 < length places.new.items) × (slice_index places.new.items 0 ≡ 0)) }
     ensures below { OnOk result (All (λ place. place < txns) places.new.items) }
     ensures ascending { OnOk result (AllPairs (λ a b. a < b) places.new.items) }
 {
-    let share = (total_of(weights) / most.max(1)).saturating_add(1);
     let mut sum = 0usize;
     for place in 1..txns {
-        sum = sum.saturating_add(weight_at(weights, place - 1));
-        if sum >= share && places.len() < most {
+        sum = sum.saturating_add(weights.get(place - 1).copied().unwrap_or(0));
+        if ends_stretch(sum, size, places.len()) {
             places.push(place)?;
             sum = 0;
         }
     }
     Ok(())
+}
+
+// Whether a stretch with so many edges is long enough, where so many places stand before its end.
+fn ends_stretch(sum: usize, size: usize, places: usize) -> bool
+    ensures { IsTrue result → places < 1024 }
+{
+    if places >= MOST {
+        return false;
+    }
+    sum >= size
 }

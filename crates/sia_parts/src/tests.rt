@@ -1,16 +1,14 @@
 //! Cuts and findings worked out by hand.
-ghost use Rattle.std.specs.Prelude.{◌≡◌, ◌<◌, ℕ, []};
-ghost use Rattle.std.specs.Global.{Vec as vec};
+ghost use Rattle.std.specs.Prelude.{◌≡◌, []};
 
 use super::*;
-use crate::blocks::merge_by_blocks;
-use crate::merging::{merge_all, merge_by_twos};
+use crate::ends::Ends;
 use crate::numbering::numbers_of;
+use crate::ordering::merge_in_order;
 use sia_events::{History, read_history};
 use sia_index::Index;
 use sia_index::make::index;
 use std::alloc::Global;
-use std::collections::VecDeque;
 use std::test::*;
 
 mod cuts;
@@ -79,13 +77,22 @@ fn none_found(alloc: Global) -> PartFound
     ensures bad_reads { result.bad_reads.items ≡ [] }
     ensures bad_writes { result.bad_writes.items ≡ [] }
     ensures unexplained { result.unexplained.items ≡ [] }
-    ensures edges { (numbers : vec ℕ) × (result.edges ≡ PartEdges.Numbered numbers) × (numbers.items ≡ []) }
+    ensures writers { result.edges.ends.writers.items ≡ [] }
+    ensures readers { result.edges.ends.readers.items ≡ [] }
+    ensures fans { result.edges.fans.items ≡ [] }
 {
+    let ends = Ends {
+        writers: Vec::new(alloc),
+        readers: Vec::new(alloc),
+    };
     PartFound {
         bad_reads: Vec::new(alloc),
         bad_writes: Vec::new(alloc),
         unexplained: Vec::new(alloc),
-        edges: PartEdges::Numbered(Vec::new(alloc)),
+        edges: PartEdges {
+            ends,
+            fans: Vec::new(alloc),
+        },
     }
 }
 
@@ -94,24 +101,14 @@ fn none_found_in_two_parts(rt: HostRuntime) -> Result<(), Fail> {
     let mut parts = Vec::new(rt.alloc());
     parts.push(none_found(rt.alloc()))?;
     parts.push(none_found(rt.alloc()))?;
-    let found = gather_found(rt.alloc(), parts, 0).ok().ok_or("no memory")?;
+    let Ok(found) = Gathering::of(rt.alloc(), parts) else {
+        return Err(Fail::from("no memory"));
+    };
     assert!(rt; found.bad_reads.is_empty());
     assert!(rt; found.bad_writes.is_empty());
     assert!(rt; found.unexplained.is_empty());
-    assert!(rt; found.edges.stretches().is_empty());
-    Ok(())
-}
-
-// Each number once, the least first: also beside a part that has none, and where one part's come behind the other's.
-#[test]
-fn numbers_of_four_parts(rt: HostRuntime) -> Result<(), Fail> {
-    let mut lists = VecDeque::new(rt.alloc());
-    lists.push_back(Vec::from_slice(rt.alloc(), &[3, 7, 40])?)?;
-    lists.push_back(Vec::new(rt.alloc()))?;
-    lists.push_back(Vec::from_slice(rt.alloc(), &[1, 8, 9])?)?;
-    lists.push_back(Vec::from_slice(rt.alloc(), &[50, 60])?)?;
-    let merged = merge_by_twos(rt.alloc(), lists).ok().ok_or("no memory")?;
-    assert!(rt; merged.as_slice() == [1, 3, 7, 8, 9, 40, 50, 60].as_slice());
+    let numbers = found.stretch(rt.alloc(), 0, 1).ok().ok_or("no memory")?;
+    assert!(rt; numbers.is_empty());
     Ok(())
 }
 
@@ -129,15 +126,9 @@ fn edges_of_two_parts(rt: HostRuntime) -> Result<(), Fail> {
         dst: 2,
         key: 15,
     };
-    let mut first = Vec::new(rt.alloc());
-    first.push(early)?;
-    let mut second = Vec::new(rt.alloc());
-    second.push(late)?;
-    let mut lists = Vec::new(rt.alloc());
-    lists.push(first)?;
-    lists.push(second)?;
-    let merged = merge_all(rt.alloc(), lists).ok().ok_or("no memory")?;
-    assert!(rt; merged.as_slice() == [late, early].as_slice());
+    let mut edges = Vec::from_slice(rt.alloc(), &[early, late])?;
+    merge_in_order(&mut edges)?;
+    assert!(rt; edges.as_slice() == [late, early].as_slice());
     Ok(())
 }
 
@@ -153,58 +144,12 @@ fn edges_of_three_parts(rt: HostRuntime) -> Result<(), Fail> {
     let first = [edge(1, Kind::Rw, 2, 5), edge(3, Kind::Wr, 4, 6)];
     let second = [edge(1, Kind::Ww, 2, 12), edge(1, Kind::Ww, 3, 12)];
     let third = [edge(2, Kind::Wr, 1, 15)];
-    let mut lists = Vec::new(rt.alloc());
-    lists.push(Vec::from_slice(rt.alloc(), &first)?)?;
-    lists.push(Vec::from_slice(rt.alloc(), &second)?)?;
-    lists.push(Vec::from_slice(rt.alloc(), &third)?)?;
-    let merged = merge_by_blocks(rt.alloc(), lists.as_slice())
-        .ok()
-        .ok_or("no memory")?
-        .ok_or("a wrong guess")?;
+    let mut edges = Vec::from_slice(rt.alloc(), &first)?;
+    edges.extend_from_slice(&second)?;
+    edges.extend_from_slice(&third)?;
+    merge_in_order(&mut edges)?;
     let wanted = [second[0], first[0], second[1], third[0], first[1]];
-    assert!(rt; merged.as_slice() == wanted.as_slice());
-    Ok(())
-}
-
-// Each third number from the first on.
-fn each_third(alloc: Global, first: u64) -> Result<Vec<u64>, Fail>
-    requires { first < 3 }
-{
-    let mut numbers = Vec::new(alloc);
-    for turn in 0..6000u64 {
-        numbers.push(3 * turn + first)?;
-    }
-    Ok(numbers)
-}
-
-// Three lists that take turns: more numbers than two blocks have room for.
-fn by_turns(alloc: Global) -> Result<Vec<Vec<u64>>, Fail> {
-    let mut lists = Vec::new(alloc);
-    lists.push(each_third(alloc, 0)?)?;
-    lists.push(each_third(alloc, 1)?)?;
-    lists.push(each_third(alloc, 2)?)?;
-    Ok(lists)
-}
-
-// Whether each number is its place.
-fn are_places(numbers: &[u64]) -> bool {
-    for place in 0..numbers.len() {
-        if numbers[place] != place as u64 {
-            return false;
-        }
-    }
-    true
-}
-
-#[test]
-fn numbers_of_several_blocks(rt: HostRuntime) -> Result<(), Fail> {
-    let lists = by_turns(rt.alloc())?;
-    let merged = merge_by_blocks(rt.alloc(), lists.as_slice())
-        .ok()
-        .ok_or("no memory")?
-        .ok_or("a wrong guess")?;
-    assert_eq!(rt; merged.len(), 18_000);
-    assert!(rt; are_places(&merged));
+    assert!(rt; edges.as_slice() == wanted.as_slice());
     Ok(())
 }
 
@@ -243,7 +188,7 @@ fn numbers_in(alloc: Global, h: &History, ix: &Index) -> Result<Vec<EdgeNumber>,
     let Ok(found) = find_in_part(alloc, h, ix, &committed, part(0, u64::MAX)) else {
         return Err(Fail::from("memory for a part"));
     };
-    let numbers = numbers_of(alloc, found.edges)
+    let numbers = numbers_of(alloc, found.edges, committed.ids().len())
         .ok()
         .ok_or("memory for numbers")?;
     Ok(numbers)

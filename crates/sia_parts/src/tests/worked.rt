@@ -73,8 +73,7 @@ pub fn findings_of(alloc: Global, text: &[u8], points: &[Key]) -> Result<Finding
 fn gathered(alloc: Global, h: &History, ix: &Index, points: &[Key]) -> Result<Findings, Fail>
     requires { ix.now ≡ h.now }
 {
-    // The length tells that the history is well-formed.
-    let _ = h.len();
+    ix.law();
     let parts = cut(alloc, points).ok().ok_or("the points cut")?;
     let found = audited(alloc, h, ix, &parts)?;
     let findings = gather(alloc, found).ok().ok_or("memory for all parts")?;

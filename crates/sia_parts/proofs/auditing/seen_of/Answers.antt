@@ -1,9 +1,8 @@
 -- What the reads of the part give.
-use Rattle.std.proofs.Common.{[], subst, sym, ◌⊎◌, inl, inr}
+use Rattle.std.proofs.Common.{[], subst, ◌⊎◌, inl, inr}
 use Rattle.std.specs.Prelude.{◌↔◌}
 use Rattle.std.proofs.lemmas.List.Elements.{Contains-get_or}
 use Rattle.sia_events.specs.Isolation.{IsBadRead}
-use Rattle.sia_events.specs.Refusals.{IsWellFormed}
 use Rattle.sia_parts.specs.declared.finding.BadRead.{BadRead}
 use Rattle.sia_parts.specs.Entries.{bad_read_rank}
 use Rattle.sia_parts.specs.Parts.{IsInPart}
@@ -25,20 +24,21 @@ or_turned same = ((λ e. same.0 (or_turn e)), (λ c. or_turn (same.1 c)))
 
 pub put_item_reads-requires : goal.put_item_reads-requires
 put_item_reads-requires c = record {
-  well_formed = subst IsWellFormed (sym c.requires) c.len.ensures.well_formed;
+  well_formed = c.law.ensures;
   reads = λ k d below. ((c.reads_within-reads.ensures.each _).0 (Contains-get_or c.reads_within-reads.result.now k d below)).0;
 }
 
 pub put_range_reads-requires : goal.put_range_reads-requires
 put_range_reads-requires c = record {
   of = c.requires;
+  first = c.first_commit-first.ensures;
   ranges = c.ranges_meeting-ranges.ensures.right;
 }
 
 pub returns-clause-bad_reads : goal.returns-clause-bad_reads
 returns-clause-bad_reads c =
     let h = c.args.ix.now in
-    let wf = subst IsWellFormed (sym c.requires) c.len.ensures.well_formed in
+    let wf = c.law.ensures in
     let reads = FromSome (λ read. IsBadOf h (read_sight read)) c.reads_within-reads.result.now in
     let ranges = FromSome (λ range. FromSight (IsRangeSight h c.args.part range) (IsBadOf h)) c.ranges_meeting-ranges.result.now in
     let adds = adds_both ranges reads [] _ _ (subst (λ old. Adds ranges old c.put_range_reads.new.bad.items) c.new-bad_reads.ensures.items c.in_ok-ascend.ensures.bad) c.in_ok-put_item_reads.ensures.bad in
@@ -49,7 +49,7 @@ returns-clause-bad_reads c =
 pub returns-clause-spans : goal.returns-clause-spans
 returns-clause-spans c =
     let h = c.args.ix.now in
-    let wf = subst IsWellFormed (sym c.requires) c.len.ensures.well_formed in
+    let wf = c.law.ensures in
     let reads = FromSome (λ read. IsSpanOf h (read_sight read)) c.reads_within-reads.result.now in
     let ranges = FromSome (λ range. FromSight (IsListedSight h c.args.part range) (IsSpanOf h)) c.ranges_meeting-ranges.result.now in
     let missed = FromSome (IsUnlistedBy h c.args.part) c.ranges_meeting-ranges.result.now in

@@ -1,7 +1,6 @@
 -- Each bad read adds its unexplained one, if it is.
-use Rattle.std.proofs.Common.{[], refl, subst, sym, rules, get_or}
+use Rattle.std.proofs.Common.{[], refl, sym, rules, get_or}
 use Rattle.sia_events.specs.Isolation.{IsUnexplained}
-use Rattle.sia_events.specs.Refusals.{IsWellFormed}
 use Rattle.sia_parts.specs.declared.finding.BadRead.{BadRead}
 use Rattle.sia_parts.specs.declared.finding.Unexplained.{Unexplained}
 use Rattle.sia_parts.specs.Entries.{unexplained_rank}
@@ -18,7 +17,7 @@ none = record { place = 0; txn = 0; key = 0; saw = 0; due = 0 }
 
 pub is_unexplained-requires : goal.is_unexplained-requires
 is_unexplained-requires c =
-    let wf = subst IsWellFormed (sym c.requires.of) c.len.ensures.well_formed in
+    let wf = c.law.ensures in
     record { well_formed = wf; read = bad_saw c.args.ix.now wf c.args.part c.args.bad.now c.requires.bad c.loop-read.read-index none c.loop-read-test.true }
 
 pub loop-read-init : goal.loop-read-init
@@ -35,7 +34,7 @@ loop-read-preserved c =
 pub returns : goal.returns
 returns c =
     let h = c.args.ix.now in
-    let wf = subst IsWellFormed (sym c.requires.of) c.len.ensures.well_formed in
+    let wf = c.law.ensures in
     put_listed unexplained_rank (λ (u : Unexplained). IsUnexplained h u.place u.txn u.key u.saw × IsInPart c.args.part u.key) _ (λ x y is other less. unexplained_before h wf x y is.0 other.0 less)
     _ _ (added_are (FromSome (IsUnexplainedOf h) c.args.bad.now) (λ (u : Unexplained). IsUnexplained h u.place u.txn u.key u.saw × IsInPart c.args.part u.key) _
     (from_all (IsUnexplainedOf h) c.args.bad.now c.loop-read.read-index [] _ c.loop-read-test.false c.loop-read.invariant)

@@ -3,7 +3,7 @@ use Rattle.std.specs.List.Sorted.{IsNonDecreasingBy}
 use Rattle.std.proofs.lemmas.List.{take_rest}
 use Rattle.std.proofs.lemmas.List.Sorted.{IsPartitionPoint-from_clause, IsPartitionedBy-ltb, IsNonDecreasingBy-drop}
 use Rattle.sia_parts.specs.declared.fans.Fan.{Fan}
-use Rattle.sia_parts.proofs.BetweenPlaces.{cut_between, fan_sources_rise}
+use Rattle.sia_parts.proofs.BetweenPlaces.{cut_between}
 use Rattle.sia_parts.proofs.between.fans_between.Goals as goal
 
 pub returns : goal.returns
@@ -12,7 +12,7 @@ returns c =
     let first = c.partition_point-first.result in
     let rest = take (length numbers - first) (drop first numbers) in
     let is = take_rest numbers first in
-    let rise = fan_sources_rise numbers c.requires in
+    let rise = c.requires in
     let rise_on = subst (λ l. IsNonDecreasingBy (λ (f : Fan). f.src) l) (sym is) (IsNonDecreasingBy-drop (λ (f : Fan). f.src) first numbers rise) in
     cut_between (λ (f : Fan). f.src) numbers rest c.args.from c.args.to first _ is
     (IsPartitionPoint-from_clause (λ (f : Fan). ltb f.src c.args.from) numbers _ c.partition_point-first.ensures.partitioned (IsPartitionedBy-ltb (λ (f : Fan). f.src) numbers c.args.from rise) (λ a r q k. search rules))

@@ -1,8 +1,14 @@
--- Of either kind of edges.
+-- The fans of these sources give the numbers of these sources.
+use Rattle.sia_parts.specs.Fans.{IsFanNumber}
+use Rattle.sia_parts.specs.Gathering.{IsNumberBetween}
+use Rattle.sia_parts.specs.Sights.{FromSome}
+use Rattle.sia_parts.proofs.Adding.{adds_same}
+use Rattle.sia_parts.proofs.BetweenPlaces.{fans_of_sources}
 use Rattle.sia_parts.proofs.between.put_between.Goals as goal
 
-pub returns-in-Numbered-clause-adds : goal.returns-in-Numbered-clause-adds
-returns-in-Numbered-clause-adds c = rw c.in-Numbered.is (rw c.deref.ensures.value at c.put_numbers_between.ensures.adds)
-
-pub returns-in-Fanned-clause-adds : goal.returns-in-Fanned-clause-adds
-returns-in-Fanned-clause-adds c = rw c.in-Fanned.is c.put_fans_between.ensures.adds
+pub returns : goal.returns
+returns c =
+    let edges = c.args.edges.now in
+    let some = c.fans_between-fans.result.now in
+    let same = fans_of_sources edges.ends edges.fans.items some c.args.from c.args.to (rw c.deref.ensures.value at c.fans_between-fans.ensures) in
+    adds_same (FromSome (IsFanNumber edges.ends) some) (IsNumberBetween edges c.args.from c.args.to) _ _ (λ n. (same n).0) (λ n. (same n).1) c.in_ok-put_runs.ensures

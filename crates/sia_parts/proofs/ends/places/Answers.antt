@@ -4,4 +4,4 @@ use Rattle.sia_parts.proofs.EndLemmas.{ends_between}
 use Rattle.sia_parts.proofs.ends.places.Goals as goal
 
 pub returns-clause-between : goal.returns-clause-between
-returns-clause-between c end = ends_between _ _ _ _ _ _ c.point-start.ensures c.point-stop.ensures (omega arith) (omega arith) (omega arith) (λ k after before. omega arith) end
+returns-clause-between c end = ends_between _ _ _ _ _ _ c.place-start.ensures c.place-stop.ensures (omega arith) (omega arith) (omega arith) (λ k after before. omega arith) end

@@ -8,7 +8,7 @@ use Rattle.sia_parts.proofs.fanning.put_fan_numbers.Goals as goal
 pub returns : goal.returns
 returns c =
     let fan = c.args.fan in
-    let each = c.ends_of-ends.ensures.each in
-    adds_same (FromSome (IsNumberTo fan.src fan.kind) c.ends_of-ends.result.now) (IsFanNumber c.args.makers.now c.args.readers.now fan) _ _
+    let each = c.ends_of.ensures.each in
+    adds_same (FromSome (IsNumberTo fan.src fan.kind) c.ends_of.result.now) (IsFanNumber c.args.ends.now fan) _ _
     (λ n f. (each n).0 f) (λ n is. (each n).1 is)
     c.in_ok-put_numbers_to.ensures

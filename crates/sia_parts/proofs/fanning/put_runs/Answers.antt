@@ -6,14 +6,13 @@ use Rattle.sia_parts.proofs.FanEdges.{first_run}
 use Rattle.sia_parts.proofs.fanning.put_runs.Goals as goal
 
 pub loop-from-init : goal.loop-from-init
-loop-from-init c = (omega arith, from_none (IsFanNumber c.args.makers.now c.args.readers.now) c.args.fans.now _, λ so up. up)
+loop-from-init c = (omega arith, from_none (IsFanNumber c.args.ends.now) c.args.fans.now _)
 
 pub loop-from-preserved : goal.loop-from-preserved
 loop-from-preserved c = (
   c.run_end-to.ensures.bound,
-  first_run (IsFanNumber c.args.makers.now c.args.readers.now) c.args.fans.now _ _ (omega (arith, c.run_end-to.ensures.forward)) c.run_end-to.ensures.bound _ _ _ c.loop-from.invariant.1 c.in_ok-follows.ensures.adds,
-  λ so up. c.in_ok-follows.ensures.ascends (c.both-ordered.ensures.second so) (c.loop-from.invariant.2 (c.both-ordered.ensures.first so) up),
+  first_run (IsFanNumber c.args.ends.now) c.args.fans.now _ _ (omega (arith, c.run_end-to.ensures.forward)) c.run_end-to.ensures.bound _ _ _ c.loop-from.invariant.1 c.in_ok-put_run.ensures,
 )
 
-pub returns-clause-adds : goal.returns-clause-adds
-returns-clause-adds c = from_all (IsFanNumber c.args.makers.now c.args.readers.now) c.args.fans.now _ _ _ c.loop-from-test.false c.loop-from.invariant.1
+pub returns : goal.returns
+returns c = from_all (IsFanNumber c.args.ends.now) c.args.fans.now _ _ _ c.loop-from-test.false c.loop-from.invariant.1

@@ -1,15 +1,12 @@
 -- The numbers of the fans so far.
-use Rattle.std.proofs.Common.{◌-◌, ◌≤◌, ◌<◌, length}
-use Rattle.std.specs.Prelude.{AllPairs, IsTrue}
+use Rattle.std.proofs.Common.{◌-◌, ◌≤◌, length}
 use Rattle.sia_parts.specs.Fans.{IsFanNumber}
 use Rattle.sia_parts.specs.Sights.{Adds}
 use Rattle.sia_parts.proofs.Adding.{FromFirst}
 use Rattle.sia_parts.proofs.fanning.put_runs.Given as goal
 
 abbrev pub invariant-loop-from : goal.invariant-loop-from
-invariant-loop-from l = (l.from ≤ length l.fans)
-    × Adds (FromFirst (IsFanNumber l.makers l.readers) l.fans l.from) l.fn.numbers.items l.numbers.items
-    × (IsTrue l.ordered → AllPairs (λ m n. m < n) l.fn.numbers.items → AllPairs (λ m n. m < n) l.numbers.items)
+invariant-loop-from l = (l.from ≤ length l.fans) × Adds (FromFirst (IsFanNumber l.ends) l.fans l.from) l.fn.numbers.items l.numbers.items
 
 abbrev pub decreases-loop-from : goal.decreases-loop-from
 decreases-loop-from l = length l.fans - l.from

@@ -4,12 +4,12 @@ use Rattle.sia_parts.proofs.Giving.{gives_none, gives_more, gives_all}
 use Rattle.sia_parts.proofs.fans.put_reader_fans.Goals as goal
 
 pub loop-end-init : goal.loop-end-init
-loop-end-init c = gives_none _ _ (IsReaderNumber c.args.makers.now) c.args.readers.now _
+loop-end-init c = gives_none c.args.ends.now (IsReaderNumber c.args.ends.now) c.args.ends.now.readers.items _
 
 pub loop-end-preserved : goal.loop-end-preserved
 loop-end-preserved c =
-    gives_more _ _ (IsReaderNumber c.args.makers.now) c.args.readers.now c.loop-end.end-index (record { key = 0; high = 0; low = 0; txn = 0; number = 0 }) _ _ _ c.loop-end-test.true c.loop-end.invariant
-    (rw (c.rank-from.ensures, c.rank_above-above.ensures) at c.in_ok-put_fan.ensures)
+    gives_more c.args.ends.now (IsReaderNumber c.args.ends.now) c.args.ends.now.readers.items c.loop-end.end-index (record { key = 0; high = 0; low = 0; txn = 0; number = 0 }) _ _ _ (rw c.deref-end-items.ensures.value at c.loop-end-test.true) c.loop-end.invariant
+    (rw (c.rank-from.ensures, c.rank_above-above.ensures, c.deref-end-items.ensures.value) at c.in_ok-put_fan.ensures)
 
 pub returns : goal.returns
-returns c = gives_all _ _ (IsReaderNumber c.args.makers.now) c.args.readers.now c.loop-end.end-index _ _ c.loop-end-test.false c.loop-end.invariant
+returns c = gives_all c.args.ends.now (IsReaderNumber c.args.ends.now) c.args.ends.now.readers.items c.loop-end.end-index _ _ (rw c.deref-end-items.ensures.value at c.loop-end-test.false) c.loop-end.invariant

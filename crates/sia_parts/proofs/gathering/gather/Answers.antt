@@ -1,23 +1,17 @@
--- Each list of the parts can be merged, and all of them are what the definitions name.
-use Rattle.sia_parts.proofs.FieldLemmas.{bad_reads_can, bad_reads_all, bad_writes_can, bad_writes_all, unexplained_can, unexplained_all, edges_can, edges_all}
+-- The lists of the parts, one behind another and put in order, are what the definitions name.
+use Rattle.sia_parts.specs.Findings.{ArePartFindings}
+use Rattle.sia_parts.proofs.FieldLemmas.{bad_reads_all, bad_writes_all, unexplained_all, edges_all}
+use Rattle.sia_parts.proofs.Listing.{edge_before}
 use Rattle.sia_parts.proofs.gathering.gather.Goals as goal
 
-pub merge_all-requires : goal.merge_all-requires
-merge_all-requires c = let r = c.requires in bad_reads_can r.0 r.1 r.2 c.args.parts.items r.3 r.4 r.5 _ c.in_ok-lists.ensures.bad_reads
-
-pub merge_all-requires-2 : goal.merge_all-requires-2
-merge_all-requires-2 c = let r = c.requires in bad_writes_can r.0 r.1 r.2 c.args.parts.items r.3 r.4 r.5 _ c.in_ok-lists.ensures.bad_writes
-
-pub merge_all-requires-3 : goal.merge_all-requires-3
-merge_all-requires-3 c = let r = c.requires in unexplained_can r.0 r.1 r.2 c.args.parts.items r.3 r.4 r.5 _ c.in_ok-lists.ensures.unexplained
-
-pub merge_all-requires-4 : goal.merge_all-requires-4
-merge_all-requires-4 c = let r = c.requires in edges_can r.0 r.1 r.2 c.args.parts.items r.3 r.4 r.5 _ c.in_ok-lists.ensures.edges
-
 pub returns : goal.returns
-returns c h points cutting wf cuts zip = record {
-  bad_reads = bad_reads_all h points cutting c.args.parts.items wf cuts zip _ c.in_ok-lists.ensures.bad_reads _ c.in_ok-bad_reads.ensures;
-  bad_writes = bad_writes_all h points cutting c.args.parts.items wf cuts zip _ c.in_ok-lists.ensures.bad_writes _ c.in_ok-bad_writes.ensures;
-  unexplained = unexplained_all h points cutting c.args.parts.items wf cuts zip _ c.in_ok-lists.ensures.unexplained _ c.in_ok-unexplained.ensures;
-  edges = edges_all h points cutting c.args.parts.items wf cuts zip _ c.in_ok-lists.ensures.edges _ c.in_ok-edges.ensures;
-}
+returns c h points cutting wf cuts zip =
+    let R = ArePartFindings h in
+    let parts = c.args.parts.items in
+    let puts = c.in_ok-put_parts.ensures in
+    record {
+      bad_reads = bad_reads_all h points cutting wf cuts R parts zip (λ part. part.bad_reads.items) (λ part found a. a.bad_reads) _ _ (rw (c.new.ensures.items, c.deref.ensures.value) at puts.bad_reads) (record { sorted = c.in_ok-merge_in_order.ensures.sorted; keeps = c.in_ok-merge_in_order.ensures.keeps; adds_none = c.in_ok-merge_in_order.ensures.adds_none });
+      bad_writes = bad_writes_all h points cutting wf cuts R parts zip (λ part. part.bad_writes.items) (λ part found a. a.bad_writes) _ _ (rw (c.new-2.ensures.items, c.deref.ensures.value) at puts.bad_writes) (record { sorted = c.in_ok-merge_in_order-2.ensures.sorted; keeps = c.in_ok-merge_in_order-2.ensures.keeps; adds_none = c.in_ok-merge_in_order-2.ensures.adds_none });
+      unexplained = unexplained_all h points cutting wf cuts R parts zip (λ part. part.unexplained.items) (λ part found a. a.unexplained) _ _ (rw (c.new-3.ensures.items, c.deref.ensures.value) at puts.unexplained) (record { sorted = c.in_ok-merge_in_order-3.ensures.sorted; keeps = c.in_ok-merge_in_order-3.ensures.keeps; adds_none = c.in_ok-merge_in_order-3.ensures.adds_none });
+      edges = edges_all h points cutting wf cuts R parts zip (λ part. part.edges.items) (λ part found a. a.edges) _ edge_before _ _ (rw (c.new-4.ensures.items, c.deref.ensures.value) at puts.edges) (record { sorted = c.in_ok-merge_in_order-4.ensures.sorted; keeps = c.in_ok-merge_in_order-4.ensures.keeps; adds_none = c.in_ok-merge_in_order-4.ensures.adds_none });
+    }

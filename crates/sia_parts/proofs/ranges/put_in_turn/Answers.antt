@@ -21,22 +21,22 @@ put_range_read-requires c = record {
 pub loop-range-init : goal.loop-range-init
 loop-range-init c = record {
   last = tt;
-  bad = from_none (λ range. FromSight (IsRangeSight c.args.ix.now c.args.part range) (IsBadOf c.args.ix.now)) c.args.ranges.now _;
-  spans = join_none (λ range. FromSight (IsListedSight c.args.ix.now c.args.part range) (IsSpanOf c.args.ix.now)) c.args.ranges.now _;
-  gaps = spread_none c.args.ix.now (IsUnlistedBy c.args.ix.now c.args.part) c.args.ranges.now _;
+  bad = from_none (λ range. FromSight (IsRangeSight c.args.scope.now.ix.now c.args.scope.now.part range) (IsBadOf c.args.scope.now.ix.now)) c.args.ranges.now _;
+  spans = join_none (λ range. FromSight (IsListedSight c.args.scope.now.ix.now c.args.scope.now.part range) (IsSpanOf c.args.scope.now.ix.now)) c.args.ranges.now _;
+  gaps = spread_none c.args.scope.now.ix.now (IsUnlistedBy c.args.scope.now.ix.now c.args.scope.now.part) c.args.ranges.now _;
 }
 
 pub loop-range-preserved : goal.loop-range-preserved
 loop-range-preserved c = record {
   last = c.in_ok-last.ensures.last;
-  bad = from_more (λ range. FromSight (IsRangeSight c.args.ix.now c.args.part range) (IsBadOf c.args.ix.now)) c.args.ranges.now c.loop-range.range-index none _ _ _ c.loop-range-test.true c.loop-range.invariant.bad c.in_ok-last.ensures.bad;
-  spans = join_more (λ range. FromSight (IsListedSight c.args.ix.now c.args.part range) (IsSpanOf c.args.ix.now)) c.args.ranges.now c.loop-range.range-index none _ _ _ c.loop-range-test.true c.loop-range.invariant.spans c.in_ok-last.ensures.spans;
-  gaps = spread_more c.args.ix.now (IsUnlistedBy c.args.ix.now c.args.part) c.args.ranges.now c.loop-range.range-index none _ _ _ c.loop-range-test.true c.loop-range.invariant.gaps c.in_ok-last.ensures.gaps;
+  bad = from_more (λ range. FromSight (IsRangeSight c.args.scope.now.ix.now c.args.scope.now.part range) (IsBadOf c.args.scope.now.ix.now)) c.args.ranges.now c.loop-range.range-index none _ _ _ c.loop-range-test.true c.loop-range.invariant.bad c.in_ok-last.ensures.bad;
+  spans = join_more (λ range. FromSight (IsListedSight c.args.scope.now.ix.now c.args.scope.now.part range) (IsSpanOf c.args.scope.now.ix.now)) c.args.ranges.now c.loop-range.range-index none _ _ _ c.loop-range-test.true c.loop-range.invariant.spans c.in_ok-last.ensures.spans;
+  gaps = spread_more c.args.scope.now.ix.now (IsUnlistedBy c.args.scope.now.ix.now c.args.scope.now.part) c.args.ranges.now c.loop-range.range-index none _ _ _ c.loop-range-test.true c.loop-range.invariant.gaps c.in_ok-last.ensures.gaps;
 }
 
 pub returns : goal.returns
 returns c = record {
-  bad = from_all (λ range. FromSight (IsRangeSight c.args.ix.now c.args.part range) (IsBadOf c.args.ix.now)) c.args.ranges.now c.loop-range.range-index _ _ c.loop-range-test.false c.loop-range.invariant.bad;
-  spans = join_all (λ range. FromSight (IsListedSight c.args.ix.now c.args.part range) (IsSpanOf c.args.ix.now)) c.args.ranges.now c.loop-range.range-index _ _ c.loop-range-test.false c.loop-range.invariant.spans;
-  gaps = spread_all c.args.ix.now (IsUnlistedBy c.args.ix.now c.args.part) c.args.ranges.now c.loop-range.range-index _ _ c.loop-range-test.false c.loop-range.invariant.gaps;
+  bad = from_all (λ range. FromSight (IsRangeSight c.args.scope.now.ix.now c.args.scope.now.part range) (IsBadOf c.args.scope.now.ix.now)) c.args.ranges.now c.loop-range.range-index _ _ c.loop-range-test.false c.loop-range.invariant.bad;
+  spans = join_all (λ range. FromSight (IsListedSight c.args.scope.now.ix.now c.args.scope.now.part range) (IsSpanOf c.args.scope.now.ix.now)) c.args.ranges.now c.loop-range.range-index _ _ c.loop-range-test.false c.loop-range.invariant.spans;
+  gaps = spread_all c.args.scope.now.ix.now (IsUnlistedBy c.args.scope.now.ix.now c.args.scope.now.part) c.args.ranges.now c.loop-range.range-index _ _ c.loop-range-test.false c.loop-range.invariant.gaps;
 }

@@ -14,18 +14,18 @@ put_sight-requires c = record {
 
 pub loop-pair-init : goal.loop-pair-init
 loop-pair-init c = record {
-  bad = from_none (λ pair. IsBadOf c.args.ix.now (listed_sight c.args.range pair)) c.args.listed.now _;
-  spans = join_none (λ pair. IsSpanOf c.args.ix.now (listed_sight c.args.range pair)) c.args.listed.now _;
+  bad = from_none (λ pair. IsBadOf c.args.reading.now.ix.now (listed_sight c.args.range pair)) c.args.listed.now _;
+  spans = join_none (λ pair. IsSpanOf c.args.reading.now.ix.now (listed_sight c.args.range pair)) c.args.listed.now _;
 }
 
 pub loop-pair-preserved : goal.loop-pair-preserved
 loop-pair-preserved c = record {
-  bad = from_more (λ pair. IsBadOf c.args.ix.now (listed_sight c.args.range pair)) c.args.listed.now c.loop-pair.pair-index (0, 0) _ _ _ c.loop-pair-test.true c.loop-pair.invariant.bad c.in_ok-put_sight.ensures.bad;
-  spans = join_more (λ pair. IsSpanOf c.args.ix.now (listed_sight c.args.range pair)) c.args.listed.now c.loop-pair.pair-index (0, 0) _ _ _ c.loop-pair-test.true c.loop-pair.invariant.spans c.in_ok-put_sight.ensures.spans;
+  bad = from_more (λ pair. IsBadOf c.args.reading.now.ix.now (listed_sight c.args.range pair)) c.args.listed.now c.loop-pair.pair-index (0, 0) _ _ _ c.loop-pair-test.true c.loop-pair.invariant.bad c.in_ok-put_sight.ensures.bad;
+  spans = join_more (λ pair. IsSpanOf c.args.reading.now.ix.now (listed_sight c.args.range pair)) c.args.listed.now c.loop-pair.pair-index (0, 0) _ _ _ c.loop-pair-test.true c.loop-pair.invariant.spans c.in_ok-put_sight.ensures.spans;
 }
 
 pub returns : goal.returns
 returns c = record {
-  bad = from_all (λ pair. IsBadOf c.args.ix.now (listed_sight c.args.range pair)) c.args.listed.now c.loop-pair.pair-index _ _ c.loop-pair-test.false c.loop-pair.invariant.bad;
-  spans = join_all (λ pair. IsSpanOf c.args.ix.now (listed_sight c.args.range pair)) c.args.listed.now c.loop-pair.pair-index _ _ c.loop-pair-test.false c.loop-pair.invariant.spans;
+  bad = from_all (λ pair. IsBadOf c.args.reading.now.ix.now (listed_sight c.args.range pair)) c.args.listed.now c.loop-pair.pair-index _ _ c.loop-pair-test.false c.loop-pair.invariant.bad;
+  spans = join_all (λ pair. IsSpanOf c.args.reading.now.ix.now (listed_sight c.args.range pair)) c.args.listed.now c.loop-pair.pair-index _ _ c.loop-pair-test.false c.loop-pair.invariant.spans;
 }

@@ -5,6 +5,6 @@ use Rattle.sia_parts.proofs.ranges.put_listed_keys.Given as goal
 
 abbrev pub invariant-loop-pair : goal.invariant-loop-pair
 invariant-loop-pair l = record {
-  bad : Adds (FromFirst (λ pair. IsBadOf l.ix (listed_sight l.range pair)) l.listed l.pair-index) l.fn.bad.items l.bad.items;
-  spans : JoinsTo (FromFirst (λ pair. IsSpanOf l.ix (listed_sight l.range pair)) l.listed l.pair-index) l.fn.spans.items l.spans.items;
+  bad : Adds (FromFirst (λ pair. IsBadOf l.reading.ix.now (listed_sight l.range pair)) l.listed l.pair-index) l.fn.bad.items l.bad.items;
+  spans : JoinsTo (FromFirst (λ pair. IsSpanOf l.reading.ix.now (listed_sight l.range pair)) l.listed l.pair-index) l.fn.spans.items l.spans.items;
 }

@@ -12,22 +12,22 @@ use Rattle.sia_parts.proofs.Widening.{joins_same}
 use Rattle.sia_parts.proofs.ranges.put_range_reads.Goals as goal
 
 pub put_in_turn-requires-2-clause-ranges : goal.put_in_turn-requires-2-clause-ranges
-put_in_turn-requires-2-clause-ranges c k d below = All-contains (IsRangeRead c.args.ix.now) c.args.ranges.now _ c.requires.ranges (((rw (← c.deref.ensures.value) at c.in_ok-turns.ensures) _).0 (Contains-get_or c.deref.result.now k d below))
+put_in_turn-requires-2-clause-ranges c k d below = All-contains (IsRangeRead c.args.scope.now.ix.now) c.args.ranges.now _ c.requires.ranges (((rw (← c.deref.ensures.value) at c.in_ok-turns.ensures) _).0 (Contains-get_or c.deref.result.now k d below))
 
 pub returns-clause-bad : goal.returns-clause-bad
 returns-clause-bad c =
-    let P : RangeRead → BadRead → Type 0 = λ range. FromSight (IsRangeSight c.args.ix.now c.args.part range) (IsBadOf c.args.ix.now) in
+    let P : RangeRead → BadRead → Type 0 = λ range. FromSight (IsRangeSight c.args.scope.now.ix.now c.args.scope.now.part range) (IsBadOf c.args.scope.now.ix.now) in
     let same = rw (← c.deref.ensures.value) at c.in_ok-turns.ensures in
     adds_same _ (FromSome P c.args.ranges.now) _ _ (λ y. from_members P _ _ (λ x. (same x).0) y) (λ y. from_members P _ _ (λ x. (same x).1) y) c.in_ok-ascend.ensures.bad
 
 pub returns-clause-spans : goal.returns-clause-spans
 returns-clause-spans c =
-    let P : RangeRead → Span → Type 0 = λ range. FromSight (IsListedSight c.args.ix.now c.args.part range) (IsSpanOf c.args.ix.now) in
+    let P : RangeRead → Span → Type 0 = λ range. FromSight (IsListedSight c.args.scope.now.ix.now c.args.scope.now.part range) (IsSpanOf c.args.scope.now.ix.now) in
     let same = rw (← c.deref.ensures.value) at c.in_ok-turns.ensures in
     joins_same _ (FromSome P c.args.ranges.now) _ _ (λ y. from_members P _ _ (λ x. (same x).0) y) (λ y. from_members P _ _ (λ x. (same x).1) y) c.in_ok-ascend.ensures.spans
 
 pub returns-clause-gaps : goal.returns-clause-gaps
 returns-clause-gaps c =
-    let P = IsUnlistedBy c.args.ix.now c.args.part in
+    let P = IsUnlistedBy c.args.scope.now.ix.now c.args.scope.now.part in
     let same = rw (← c.deref.ensures.value) at c.in_ok-turns.ensures in
-    spreads_same c.args.ix.now _ (FromSome P c.args.ranges.now) _ _ (λ y. from_members P _ _ (λ x. (same x).0) y) (λ y. from_members P _ _ (λ x. (same x).1) y) c.in_ok-ascend.ensures.gaps
+    spreads_same c.args.scope.now.ix.now _ (FromSome P c.args.ranges.now) _ _ (λ y. from_members P _ _ (λ x. (same x).0) y) (λ y. from_members P _ _ (λ x. (same x).1) y) c.in_ok-ascend.ensures.gaps

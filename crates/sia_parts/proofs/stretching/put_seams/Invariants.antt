@@ -3,4 +3,4 @@ use Rattle.sia_parts.proofs.SeamLemmas.{SeamsBelow}
 use Rattle.sia_parts.proofs.stretching.put_seams.Given as goal
 
 abbrev pub invariant-loop-place : goal.invariant-loop-place
-invariant-loop-place l = SeamsBelow l.most l.place l.places.items
+invariant-loop-place l = SeamsBelow l.place l.places.items

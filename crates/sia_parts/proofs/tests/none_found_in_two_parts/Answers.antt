@@ -6,12 +6,12 @@ use Rattle.sia_parts.specs.Parts.{parts_from, IsInPart}
 use Rattle.sia_parts.proofs.NoEvents.{HasNone, well_formed, none_at, empty_tables, cut_at_14}
 use Rattle.sia_parts.proofs.tests.none_found_in_two_parts.Goals as goal
 
-pub gather_found-requires : goal.gather_found-requires
-gather_found-requires g c =
+pub of-requires : goal.of-requires
+of-requires g c =
     let both : c.push-2.new.self.items ≡ c.none_found.result ∷ c.none_found-2.result ∷ [] =
     c.in_ok-push-2.ensures.items ∙ ap (λ parts. parts ++ c.none_found-2.result ∷ []) (c.in_ok-push.ensures.items ∙ ap (λ parts. parts ++ c.none_found.result ∷ []) c.new-parts.ensures.items) in
-    let first : HasNone c.none_found.result c.none_found.ensures.edges.0 = record { bad_reads = c.none_found.ensures.bad_reads; bad_writes = c.none_found.ensures.bad_writes; unexplained = c.none_found.ensures.unexplained; edges = c.none_found.ensures.edges.1; empty = c.none_found.ensures.edges.2 } in
-    let second : HasNone c.none_found-2.result c.none_found-2.ensures.edges.0 = record { bad_reads = c.none_found-2.ensures.bad_reads; bad_writes = c.none_found-2.ensures.bad_writes; unexplained = c.none_found-2.ensures.unexplained; edges = c.none_found-2.ensures.edges.1; empty = c.none_found-2.ensures.edges.2 } in (
+    let first : HasNone c.none_found.result = record { bad_reads = c.none_found.ensures.bad_reads; bad_writes = c.none_found.ensures.bad_writes; unexplained = c.none_found.ensures.unexplained; writers = c.none_found.ensures.writers; readers = c.none_found.ensures.readers; fans = c.none_found.ensures.fans } in
+    let second : HasNone c.none_found-2.result = record { bad_reads = c.none_found-2.ensures.bad_reads; bad_writes = c.none_found-2.ensures.bad_writes; unexplained = c.none_found-2.ensures.unexplained; writers = c.none_found-2.ensures.writers; readers = c.none_found-2.ensures.readers; fans = c.none_found-2.ensures.fans } in (
       [],
       [],
       [],
@@ -20,5 +20,5 @@ gather_found-requires g c =
       well_formed,
       empty_tables,
       cut_at_14,
-      subst (AllZip (λ part found. IsPartFound [] [] [] (IsInPart part) found) (parts_from (0 ∷ 14 ∷ []))) (sym both) (none_at _ c.none_found.result _ first, (none_at _ c.none_found-2.result _ second, tt)),
+      subst (AllZip (λ part found. IsPartFound [] [] [] (IsInPart part) found) (parts_from (0 ∷ 14 ∷ []))) (sym both) (none_at _ c.none_found.result first, (none_at _ c.none_found-2.result second, tt)),
     )

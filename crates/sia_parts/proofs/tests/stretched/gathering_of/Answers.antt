@@ -2,6 +2,7 @@
 use Rattle.std.proofs.Common.{subst}
 use Rattle.std.specs.List.{AllZip}
 use Rattle.sia_events.specs.Lists.{ListsAscending}
+use Rattle.sia_events.specs.Refusals.{IsWellFormed}
 use Rattle.sia_events.specs.Transactions.{IsCommitted}
 use Rattle.sia_index.specs.Info.{AreWrittenKeys}
 use Rattle.sia_parts.specs.EdgeNumbers.{AreEdgeTables}
@@ -24,7 +25,7 @@ of-requires c =
       keys,
       c.args.points.now,
       c.in-Ok.parts.items,
-      c.len.ensures.well_formed,
+      subst IsWellFormed c.requires.index c.law.ensures,
       tables,
       c.in-Ok.ensures.parts,
       subst (λ parts. AllZip (λ part found. IsPartFound h txns keys (IsInPart part) found) parts c.in_ok-all.all.items) c.deref.ensures.value (c.in_ok-all.ensures keys are),

@@ -1,8 +1,0 @@
--- The numbers of the fans so far.
-use Rattle.sia_parts.specs.Sights.{Adds}
-use Rattle.sia_parts.specs.Fans.{IsFanNumber}
-use Rattle.sia_parts.proofs.Adding.{FromFirst}
-use Rattle.sia_parts.proofs.fanning.put_numbers.Given as goal
-
-abbrev pub invariant-loop-fan : goal.invariant-loop-fan
-invariant-loop-fan l = Adds (FromFirst (IsFanNumber l.makers l.readers) l.fans l.fan-index) l.fn.numbers.items l.numbers.items
