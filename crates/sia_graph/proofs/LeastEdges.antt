@@ -1,8 +1,8 @@
 -- The least edge from one transaction to another, in a sorted list.
-use Rattle.std.proofs.Common.{◌≡◌, ◌⊎◌, inl, inr, ℕ, ◌-◌, ◌<◌, ◌≤◌, true, false, List, [], ◌∷◌, length, get_or, ltb, eqb, ap, sym, ◌∙◌, subst, arith}
+use Rattle.std.proofs.Common.{◌≡◌, ◌⊎◌, inl, inr, ℕ, ◌<◌, ◌≤◌, true, false, List, [], ◌∷◌, length, get_or, ltb, eqb, ap, sym, ◌∙◌, subst, arith}
 use Rattle.std.specs.Prelude.{Contains, AllPairs, ◌&&◌}
 use Rattle.std.specs.List.Sorted.{IsPartitionPoint, IsPartitionedBy}
-use Rattle.std.proofs.lemmas.Bool.{cases_Bool, cases_lt, cases_eq, ltb-true, lt-ltb, eqb-true, eq-eqb, or_left, or_right, or_cases, and_from, and_parts}
+use Rattle.std.proofs.lemmas.Bool.{cases_lt, cases_eq, ltb-true, lt-ltb, eqb-true, eq-eqb, or_left, or_right, or_cases, and_from, and_parts}
 use Rattle.std.proofs.lemmas.List.{get_or_default}
 use Rattle.sia_events.specs.Lists.{Precedes}
 use Rattle.sia_parts.specs.declared.finding.Edge.{Edge}
@@ -36,21 +36,6 @@ module _ (edges : List Edge) (sorted : AllPairs (λ d e. Precedes (edge_rank d) 
     | inl e ↦ ap (λ k. is_before s t (get_or edges k d)) e ∙ later
     | inr other ↦ before_true s t (get_or edges i d) (earlier (get_or edges i d) (get_or edges j d) (sorted i j d (omega arith) b) (true_before s t (get_or edges j d) later))
   ]
-
-  -- a place is the point where what is before it stands before them, and what is there doesn't
-  pub point_there : (i : ℕ) (d : Edge) → i ≤ length edges → (0 < i → is_before s t (get_or edges (i - 1) d) ≡ true) → (i < length edges → is_before s t (get_or edges i d) ≡ false)
-      → IsPartitionPoint (λ e. is_before s t e ≡ true) (λ e. is_before s t e ≡ false) edges i
-  point_there i d within before after = (
-    (λ k e a b. parted k (i - 1) e (omega arith) (omega arith) (ap (is_before s t) (get_or_default edges (i - 1) e d (omega arith)) ∙ before (omega arith))),
-    (λ k e a b. elim (cases_Bool (is_before s t (get_or edges k e))) [
-      | inl told ↦
-          let earlier_too = parted i k e a b told in
-          let f = after (omega arith) in
-          let same = ap (is_before s t) (get_or_default edges i e d (omega arith)) in
-          absurd (let g = sym earlier_too ∙ same ∙ f in cc)
-      | inr told ↦ told
-    ]),
-  )
 
   module _ (i : ℕ) (point : IsPartitionPoint (λ e. is_before s t e ≡ true) (λ e. is_before s t e ≡ false) edges i) where
     -- an edge from s to t stands at the point or after it

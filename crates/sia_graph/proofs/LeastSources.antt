@@ -7,7 +7,7 @@ use Rattle.std.proofs.lemmas.List.{get_or-set_same, get_or-set_other}
 use Rattle.sia_parts.specs.declared.finding.Edge.{Edge}
 use Rattle.sia_graph.specs.Orders.{Leads}
 use Rattle.sia_graph.specs.Fronts.{AreEdgesFrom, arriving, leads_to}
-use Rattle.sia_graph.specs.Walks.{IsSource, IsLeastSource, IsLeastBelow, AreLeastBelow, ArePreviousFrom, back}
+use Rattle.sia_graph.specs.Walks.{AreLeastSources, ArePreviousFrom, IsFedBack, IsLeastSource, IsSource, back}
 use Rattle.sia_graph.proofs.Positions.{contains_stands, get_cases}
 use Rattle.sia_graph.proofs.Waiting.{none_counted, all_at}
 use Rattle.sia_graph.proofs.OneTaken.{group_leads}
@@ -35,38 +35,36 @@ leads_arrive edges group t u from leads =
       | inr past ↦ let l = all_at (λ e. t < e.src) from.1 from.5 past.0 leads.0 past.2 in let e = leads.2 in absurd (omega arith)
     ]
 
-module _ (ids : List ℕ) (edges : List Edge) (counts : List ℕ) (limit : ℕ) where
-  -- p is the least source of j from i on and below limit; where there is none it is j
+module _ (ids : List ℕ) (edges : List Edge) (counts : List ℕ) where
+  -- p is the least source of j from i on; where there is none it is j
   abbrev pub IsLeastFrom : ℕ → ℕ → ℕ → Type 0
-  IsLeastFrom i j p = ((p ≡ j) × ((q : ℕ) → i ≤ q → q < limit → ¬ IsSource ids edges counts j q))
-      ⊎ (IsSource ids edges counts j p × (p < limit) × ((q : ℕ) → i ≤ q → IsSource ids edges counts j q → p ≤ q))
+  IsLeastFrom i j p = ((p ≡ j) × ((q : ℕ) → i ≤ q → ¬ IsSource ids edges counts j q))
+      ⊎ (IsSource ids edges counts j p × ((q : ℕ) → i ≤ q → IsSource ids edges counts j q → p ≤ q))
 
   -- a position that is no source is passed over
   pub passed : (i j p : ℕ) → ¬ IsSource ids edges counts j i → IsLeastFrom (i + 1) j p → IsLeastFrom i j p
   passed i j p none (inl (same, lacks)) = inl (
     same,
-    λ q l below s. elim (cases_eq q i) [
+    λ q l s. elim (cases_eq q i) [
       | inl e ↦ none (subst (λ n. IsSource ids edges counts j n) e s)
-      | inr other ↦ lacks q (elim (cases_lt i q) [ inl less ↦ omega arith | inr more ↦ absurd (other (omega arith)) ]) below s
+      | inr other ↦ lacks q (elim (cases_lt i q) [ inl less ↦ omega arith | inr more ↦ absurd (other (omega arith)) ]) s
     ],
   )
-  passed i j p none (inr (is, within, low)) = inr (
+  passed i j p none (inr (is, low)) = inr (
     is,
-    within,
     λ q l s. elim (cases_eq q i) [
       | inl e ↦ absurd (none (subst (λ n. IsSource ids edges counts j n) e s))
       | inr other ↦ low q (elim (cases_lt i q) [ inl less ↦ omega arith | inr more ↦ absurd (other (omega arith)) ]) s
     ],
   )
 
-  pub led_back : (i : ℕ) (group : List Edge) → i < length ids → i < limit → 0 < get_or counts i 0 → AreEdgesFrom edges (get_or ids i 0) group
+  pub led_back : (i : ℕ) (group : List Edge) → i < length ids → 0 < get_or counts i 0 → AreEdgesFrom edges (get_or ids i 0) group
       → (j was now : ℕ) → (0 < arriving group (get_or ids j 0) → now ≡ i) → (arriving group (get_or ids j 0) ≡ 0 → now ≡ was) → IsLeastFrom (i + 1) j was → IsLeastFrom i j now
-  led_back i group within below left from j was now led kept before = elim (cases_lt 0 (arriving group (get_or ids j 0))) [
+  led_back i group within left from j was now led kept before = elim (cases_lt 0 (arriving group (get_or ids j 0))) [
     | inl some ↦
         let e = led some in
         inr (
           subst (λ n. IsSource ids edges counts j n) (sym e) (within, left, group_leads edges group (get_or ids i 0) (get_or ids j 0) from some),
-          omega arith,
           λ q l s. omega arith,
         )
     | inr none ↦
@@ -80,34 +78,35 @@ module _ (ids : List ℕ) (edges : List Edge) (counts : List ℕ) (limit : ℕ) 
       × ((j : ℕ) → j < length ids → get_or previous j 0 < length ids)
       × ((j : ℕ) → j < length ids → IsLeastFrom i j (get_or previous j 0))
 
-  pub none_led_back : (previous : List ℕ) → length previous ≡ length ids → ((j : ℕ) → j < length ids → get_or previous j 0 ≡ j) → AreLeastFrom limit previous
-  none_led_back previous long same = (long, (λ j l. let e = same j l in omega arith), (λ j l. inl (same j l, λ q more less s. omega arith)))
+  pub none_led_back : (previous : List ℕ) → length previous ≡ length ids → ((j : ℕ) → j < length ids → get_or previous j 0 ≡ j) → AreLeastFrom (length ids) previous
+  none_led_back previous long same = (long, (λ j l. let e = same j l in omega arith), (λ j l. inl (same j l, λ q more s. let a = s.0 in omega arith)))
 
   pub all_passed : (i : ℕ) (previous : List ℕ) → get_or counts i 0 ≤ 0 → AreLeastFrom (i + 1) previous → AreLeastFrom i previous
   all_passed i previous none before = (before.0, before.1, λ j l. passed i j (get_or previous j 0) (λ s. let a = s.1 in omega arith) (before.2 j l))
 
-  pub all_led_back : (i : ℕ) (group : List Edge) → i < length ids → i < limit → 0 < get_or counts i 0 → AreEdgesFrom edges (get_or ids i 0) group → (was now : List ℕ) → length now ≡ length ids
+  pub all_led_back : (i : ℕ) (group : List Edge) → i < length ids → 0 < get_or counts i 0 → AreEdgesFrom edges (get_or ids i 0) group → (was now : List ℕ) → length now ≡ length ids
       → ((j : ℕ) → j < length ids → 0 < arriving group (get_or ids j 0) → get_or now j 0 ≡ i) → ((j : ℕ) → j < length ids → arriving group (get_or ids j 0) ≡ 0 → get_or now j 0 ≡ get_or was j 0)
       → AreLeastFrom (i + 1) was → AreLeastFrom i now
-  all_led_back i group within below left from was now long led kept before = (
+  all_led_back i group within left from was now long led kept before = (
     long,
     λ j l. elim (cases_lt 0 (arriving group (get_or ids j 0))) [
       | inl some ↦ let e = led j l some in omega arith
       | inr none ↦ let e = kept j l (omega arith) in let b = before.1 j l in omega arith
     ],
-    λ j l. led_back i group within below left from j (get_or was j 0) (get_or now j 0) (led j l) (kept j l) (before.2 j l),
+    λ j l. led_back i group within left from j (get_or was j 0) (get_or now j 0) (led j l) (kept j l) (before.2 j l),
   )
 
-  pub least_found : (j p : ℕ) → IsLeastFrom 0 j p → IsLeastBelow ids edges counts limit j p
-  least_found j p (inl (same, none)) = inr (same, λ q l s. none q (omega arith) l s)
-  least_found j p (inr (is, within, low)) = inl (is, λ q s. low q (omega arith) s)
+  pub least_found : (previous : List ℕ) → AreLeastFrom 0 previous → AreLeastSources ids edges counts previous
+  least_found previous from j l = elim (from.2 j l) [
+    | inl none ↦ inr (none.0, λ q s. none.1 q (omega arith) s)
+    | inr found ↦ inl (found.0, λ q s. found.1 q (omega arith) s)
+  ]
 
--- what is left and leads back to least sources, on the whole way back from start, unless something there leads to itself
-module _ (ids : List ℕ) (edges : List Edge) (counts previous : List ℕ) (limit start : ℕ) (below : AreLeastBelow ids edges counts limit previous) (within : start < length ids) (left : 0 < get_or counts start 0)
-    (moves : (n : ℕ) → back previous n start < length ids → 0 < get_or counts (back previous n start) 0
-    → ¬ ((get_or previous (back previous n start) 0 ≡ back previous n start) × ((q : ℕ) → q < limit → ¬ IsSource ids edges counts (back previous n start) q))) where
+-- what is left leads back to least sources, on the whole way back from start, where all that is left has a source that is left
+module _ (ids : List ℕ) (edges : List Edge) (counts previous : List ℕ) (start : ℕ) (least : AreLeastSources ids edges counts previous) (within : start < length ids) (left : 0 < get_or counts start 0)
+    (fed : IsFedBack ids edges counts) where
   least_at : (n : ℕ) → (back previous n start < length ids) × (0 < get_or counts (back previous n start) 0) → IsLeastSource ids edges counts (back previous n start) (get_or previous (back previous n start) 0)
-  least_at n at = elim (below (back previous n start) at.0) [ inl is ↦ is | inr none ↦ absurd (moves n at.0 at.1 none) ]
+  least_at n at = elim (least (back previous n start) at.0) [ inl is ↦ is | inr none ↦ absurd (let s = fed (back previous n start) at.0 at.1 in none.1 s.0 s.1) ]
 
   left_at : (n : ℕ) → (back previous n start < length ids) × (0 < get_or counts (back previous n start) 0)
   left_at zero = (within, left)

@@ -23,7 +23,6 @@ pub mod LeastSources
 pub mod Rounds
 pub mod LeastEdges
 pub mod PrintedCycle
-pub mod Ascending
 pub mod StuckSets
 pub mod NoFirsts
 pub mod InOrder
@@ -44,6 +43,3 @@ pub mod StretchLists
 pub mod TakenPlaces
 pub mod LeastNumbers
 pub mod ReadyPlaces
-pub mod NearOrders
-pub mod Highest
-pub mod Leading

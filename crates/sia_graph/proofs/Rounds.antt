@@ -1,5 +1,5 @@
 -- The steps of a cycle, made from the last to the first by going back from the least transaction on it.
-use Rattle.std.proofs.Common.{◌≡◌, ◌≢◌, inl, inr, ℕ, ◌+◌, ◌<◌, ◌≤◌, List, [], ◌∷◌, ◌++◌, length, get_or, reverse, ap, sym, ◌∙◌, refl, subst, arith}
+use Rattle.std.proofs.Common.{◌≡◌, ◌≢◌, inl, inr, ℕ, ◌+◌, ◌<◌, ◌≤◌, List, [], ◌∷◌, ◌++◌, length, get_or, reverse, ap, sym, ◌∙◌, subst, arith}
 use Rattle.std.specs.Prelude.{All, Contains}
 use Rattle.std.specs.List.Sorted.{IsStrictlyIncreasing}
 use Rattle.std.proofs.lemmas.Bool.{cases_lt}
@@ -85,12 +85,3 @@ module _ (ids : List ℕ) (up : IsStrictlyIncreasing ids) (edges : List Edge) (p
         subst (λ h. StartsAtLeast (reverse made) h) (sym first) (All-permutation (λ x. get_or ids home 0 < x.txn) made (reverse made) (IsPermutation-reverse made) part.above),
         subst (λ h. GoesRound (Contains edges) stuck (s ∷ reverse made) h) (sym first) g,
       )
-
-pub none_made : (ids : List ℕ) (edges : List Edge) (previous : List ℕ) (home period : ℕ) → home < length previous → 0 < period → IsPartOfRound ids edges previous home period [] home
-none_made ids edges previous home period in' some = record {
-  inside = in';
-  few = some;
-  reached = refl;
-  above = λ k d l. absurd (omega arith);
-  round = λ stuck leads. (tt, refl);
-}

@@ -97,12 +97,6 @@ some_waits front edges t more =
     let parts = and_parts (not (stands front e.src)) (eqb e.dst t) w.3 in
     (e.src, (e, stands_contains edges e (w.0, w.2), refl, eqb-true e.dst t parts.1), false_stands front e.src (not-true (stands front e.src) parts.0))
 
-pub waits_if : (front : List ℕ) (edges : List Edge) (t s : ℕ) → Leads (Contains edges) s t → ¬ Stands front s → 0 < waiting front edges t
-waits_if front edges t s leads outside = elim (cases_lt 0 (waiting front edges t)) [
-  | inl more ↦ more
-  | inr none ↦ absurd (outside (none_waits front edges t (omega arith) s leads))
-]
-
 pub none_wait_if : (front : List ℕ) (edges : List Edge) (t : ℕ) → ((s : ℕ) → Leads (Contains edges) s t → Stands front s) → waiting front edges t ≡ 0
 none_wait_if front edges t all = elim (cases_lt 0 (waiting front edges t)) [
   | inl more ↦ let w = some_waits front edges t more in absurd (w.2 (all w.0 w.1))

@@ -1,5 +1,5 @@
 -- Going back along the least sources.
-use Rattle.std.proofs.Common.{◌≡◌, ◌≢◌, ◌⊎◌, inl, inr, ℕ, zero, suc, ◌+◌, ◌-◌, ◌<◌, ◌≤◌, Bool, true, false, cond, List, length, get_or, set, replicate, slice_get, Option, Some, None, ap, sym, ◌∙◌, refl, subst, arith}
+use Rattle.std.proofs.Common.{◌≡◌, ◌⊎◌, inl, inr, ℕ, zero, suc, ◌+◌, ◌-◌, ◌<◌, ◌≤◌, Bool, true, false, cond, List, length, get_or, set, replicate, slice_get, Option, Some, None, ap, sym, ◌∙◌, refl, arith}
 use Rattle.std.specs.List.{count_by}
 use Rattle.std.proofs.lemmas.Bool.{cases_eq, cases_lt}
 use Rattle.std.proofs.lemmas.List.{get_or-set_same, get_or-set_other, length-set, length-replicate}
@@ -40,29 +40,6 @@ module _ (previous : List ℕ) where
             let e : period + (n - period) ≡ n = omega arith in
             (w.0, w.1, w.2 ∙ ap (back previous (n - period)) (sym round) ∙ sym (back_more period (n - period) i) ∙ ap (λ k. back previous k i) e)
       ]
-
-  -- what leads to itself stays there
-  stays_there : (u : ℕ) → get_or previous u 0 ≡ u → (n : ℕ) → back previous n u ≡ u
-  stays_there u e zero = refl
-  stays_there u e (suc n) = ap (back previous n) e ∙ stays_there u e n
-
-  -- where the way back from start comes to a place on a round, and that place doesn't lead to itself, nothing on the way does
-  pub all_move : (start m place period : ℕ) → back previous m start ≡ place → 0 < period → back previous period place ≡ place → get_or previous place 0 ≢ place
-      → (n : ℕ) → get_or previous (back previous n start) 0 ≢ back previous n start
-  all_move start m place period reached some round moves n e =
-      moves (subst (λ k. get_or previous k 0 ≡ k) (sym (comes_to (cases_lt m n))) e)
-    where
-      comes_to : (m < n) ⊎ (n ≤ m) → place ≡ back previous n start
-      comes_to (inr few) =
-          let c : n + (m - n) ≡ m = omega arith in
-          sym reached ∙ sym (ap (λ k. back previous k start) c) ∙ back_more n (m - n) start ∙ stays_there (back previous n start) e (m - n)
-      comes_to (inl many) =
-          let c : m + (n - m) ≡ n = omega arith in
-          let there : back previous (n - m) place ≡ back previous n start = ap (back previous (n - m)) (sym reached) ∙ sym (back_more m (n - m) start) ∙ ap (λ k. back previous k start) c in
-          let w = within_round period place some round (n - m) in
-          let at : back previous w.0 place ≡ back previous n start = w.2 ∙ there in
-          let d : w.0 + (period - w.0) ≡ period = let l = w.1 in omega arith in
-          sym round ∙ sym (ap (λ k. back previous k place) d) ∙ back_more w.0 (period - w.0) place ∙ ap (back previous (period - w.0)) at ∙ stays_there (back previous n start) e (period - w.0)
 
 abbrev pub is_unseen : Option ℕ → Bool
 is_unseen None = true

@@ -17,13 +17,10 @@ IsLeastSource ids edges counts i p = IsSource ids edges counts i p × ((q : ℕ)
 abbrev pub IsFedBack : List ℕ → List Edge → List ℕ → Type 0
 IsFedBack ids edges counts = (i : ℕ) → i < length ids → 0 < slice_index counts i → (p : ℕ) × IsSource ids edges counts i p
 
--- p is the least source of i; or it is i, and no source of i is below limit
-abbrev pub IsLeastBelow : List ℕ → List Edge → List ℕ → ℕ → ℕ → ℕ → Type 0
-IsLeastBelow ids edges counts limit i p = IsLeastSource ids edges counts i p ⊎ ((p ≡ i) × ((q : ℕ) → q < limit → ¬ IsSource ids edges counts i q))
-
--- that of each position
-abbrev pub AreLeastBelow : List ℕ → List Edge → List ℕ → ℕ → List ℕ → Type 0
-AreLeastBelow ids edges counts limit previous = (i : ℕ) → i < length ids → IsLeastBelow ids edges counts limit i (slice_index previous i)
+-- for each position its least source, or itself where it has no source
+abbrev pub AreLeastSources : List ℕ → List Edge → List ℕ → List ℕ → Type 0
+AreLeastSources ids edges counts previous = (i : ℕ) → i < length ids
+    → IsLeastSource ids edges counts i (slice_index previous i) ⊎ ((slice_index previous i ≡ i) × ((q : ℕ) → ¬ IsSource ids edges counts i q))
 
 -- each position leads back to one
 abbrev pub StaysWithin : List ℕ → Type 0

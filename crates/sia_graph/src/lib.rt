@@ -4,11 +4,8 @@
 mod adjacency;
 mod chains;
 mod firsts;
-mod guesses;
-mod judging_numbers;
 mod laws;
 mod links;
-mod near_order;
 mod numbered;
 mod order;
 mod ordering;
@@ -28,7 +25,6 @@ mod vulnerable_numbers;
 mod walking;
 mod walking_numbers;
 
-pub use judging_numbers::judge_numbers;
 pub use laws::{pivot_law, replay_law, ssi_law};
 pub use passing::{passes, ssi_pass};
 pub use pivot::Pivot;

@@ -1,7 +1,6 @@
 //! Edges that are kept as numbers, and where those from a place stand.
-ghost use Rattle.std.specs.Prelude.{◌≡◌, ◌-◌, ◌<◌, ◌≤◌, AllPairs, IfSome, IsTrue, length, slice_index};
+ghost use Rattle.std.specs.Prelude.{◌≡◌, ◌-◌, ◌<◌, ◌≤◌, AllPairs, length, slice_index};
 ghost use Rattle.std.specs.List.{AllWithin};
-ghost use Rattle.sia_parts.specs.Packing.{source_number};
 ghost use Rattle.sia_parts.specs.Stretches.{AreStretches};
 ghost use Rattle.sia_graph.specs.Places.{AreNumbersFrom, last_source};
 
@@ -14,58 +13,6 @@ pub(crate) struct Numbered<'a> {
     pub(crate) ids: &'a [TxnId],
     pub(crate) keys: &'a [Key],
     pub(crate) numbers: &'a EdgeNumbers,
-}
-
-/// Whether only numbers from lesser places stand before `first`.
-fn starts_there(numbers: &[EdgeNumber], first: usize, place: usize) -> bool
-    requires within { first ≤ length numbers.now }
-    requires ascending { AllPairs (λ m n. m < n) numbers.now }
-    ensures { IsTrue result → AllWithin (λ n. source_number n < place) numbers.now 0 first }
-{
-    first == 0 || source_of(numbers[first - 1]) < place
-}
-
-/// Whether only numbers from greater places stand from `end` on.
-fn ends_there(numbers: &[EdgeNumber], end: usize, place: usize) -> bool
-    requires within { end ≤ length numbers.now }
-    requires ascending { AllPairs (λ m n. m < n) numbers.now }
-    ensures { IsTrue result → AllWithin (λ n. place < source_number n) numbers.now end (length numbers.now) }
-{
-    end == numbers.len() || place < source_of(numbers[end])
-}
-
-/// Whether only numbers from the place stand from `first` to `end`.
-fn is_between(numbers: &[EdgeNumber], first: usize, end: usize, place: usize) -> bool
-    requires within { (first ≤ end) × (end ≤ length numbers.now) }
-    requires ascending { AllPairs (λ m n. m < n) numbers.now }
-    ensures { IsTrue result → AllWithin (λ n. source_number n ≡ place) numbers.now first end }
-{
-    first == end || source_of(numbers[first]) == place && source_of(numbers[end - 1]) == place
-}
-
-/// The numbers from `first` to `end`, where these are those from the place.
-fn guessed_numbers(
-    numbers: &[EdgeNumber],
-    first: usize,
-    end: usize,
-    place: usize,
-) -> Option<&[EdgeNumber]>
-    requires { AllPairs (λ m n. m < n) numbers.now }
-    ensures { IfSome result (λ group. AreNumbersFrom numbers.now place group.now) }
-{
-    if end < first || numbers.len() < end {
-        return None;
-    }
-    if !starts_there(numbers, first, place) {
-        return None;
-    }
-    if !ends_there(numbers, end, place) {
-        return None;
-    }
-    if !is_between(numbers, first, end, place) {
-        return None;
-    }
-    Some(&numbers[first..end])
 }
 
 /// The last number.
@@ -84,41 +31,19 @@ fn stretches_before(stretches: &[Vec<EdgeNumber>], place: usize) -> usize
     stretches.partition_point(|stretch| source_of(last_of(stretch)) < place)
 }
 
-/// The numbers of the edges from a place. Where they may start in their stretch stands in `starts`, which saves a search and
-/// is not relied on.
-pub(crate) fn numbers_from<'a>(
-    numbers: &'a EdgeNumbers,
-    starts: &[usize],
-    place: usize,
-) -> &'a [EdgeNumber]
+/// The numbers of the edges from a place.
+pub(crate) fn numbers_from(numbers: &EdgeNumbers, place: usize) -> &[EdgeNumber]
     ensures { AreNumbersFrom numbers.now place result.now }
 {
     let stretches = numbers.stretches();
     match stretches.get(stretches_before(stretches, place)) {
-        Some(stretch) => numbers_within(stretch, starts, place),
+        Some(stretch) => numbers_within(stretch, place),
         None => &[],
     }
 }
 
 /// The same, of the numbers of a stretch.
-fn numbers_within<'a>(numbers: &'a [EdgeNumber], starts: &[usize], place: usize) -> &'a [EdgeNumber]
-    requires { AllPairs (λ m n. m < n) numbers.now }
-    ensures { AreNumbersFrom numbers.now place result.now }
-{
-    let first = starts.get(place).copied().unwrap_or(0);
-    let end = match starts.get(place.wrapping_add(1)) {
-        Some(next) if *next > 0 => *next,
-        // What follows stands in a later stretch.
-        _ => numbers.len(),
-    };
-    match guessed_numbers(numbers, first, end, place) {
-        Some(group) => group,
-        None => searched_numbers(numbers, place),
-    }
-}
-
-/// The same, by a search.
-fn searched_numbers(numbers: &[EdgeNumber], place: usize) -> &[EdgeNumber]
+fn numbers_within(numbers: &[EdgeNumber], place: usize) -> &[EdgeNumber]
     requires { AllPairs (λ m n. m < n) numbers.now }
     ensures { AreNumbersFrom numbers.now place result.now }
 {

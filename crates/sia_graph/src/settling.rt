@@ -1,11 +1,10 @@
 //! The least order of transactions that keeps their dependencies, or where none does a cycle of these.
-ghost use Rattle.std.specs.Prelude.{◌≡◌, ◌≢◌, ℕ, ◌<◌, All, AllPairs, Contains, IfOk, IsTrue, MatchOption, length, slice_index};
+ghost use Rattle.std.specs.Prelude.{◌≡◌, ◌≢◌, ℕ, ◌<◌, All, AllPairs, Contains, IfOk, MatchOption, length, slice_index};
 ghost use Rattle.std.specs.List.Sorted.{IsStrictlyIncreasing};
 ghost use Rattle.sia_events.specs.Lists.{Precedes};
 ghost use Rattle.sia_parts.specs.Entries.{edge_rank};
 ghost use Rattle.sia_graph.specs.Verdicts.{IsVerdict};
 
-use crate::guesses::Guesses;
 use crate::taking::{count_edges, take_ready};
 use crate::txns::Txns;
 use crate::walking::cycle_from;
@@ -68,44 +67,20 @@ pub(crate) fn first_left(counts: &[usize]) -> Option<usize>
     counts.iter().position(|count| *count > 0)
 }
 
-/// Whether each edge leads to a greater transaction.
-fn all_ascend(edges: &[Edge]) -> bool
-    ensures { IsTrue result → All (λ e. e.src < e.dst) edges.now }
-{
-    edges.iter().all(|e| e.src < e.dst)
-}
-
 /// The least order of the ids that keeps the edges, or where none does the cycle that is printed.
-///
-/// Where each edge leads to a greater transaction that is the ids as they stand, and one look at the edges tells it.
 pub fn settle(alloc: Global, ids: &[TxnId], edges: &[Edge]) -> Result<Verdict, NoMemory>
     requires ids { IsStrictlyIncreasing ids.now }
     requires joins { All (λ e. Contains ids.now e.src × Contains ids.now e.dst × (e.src ≢ e.dst)) edges.now }
     requires sorted { AllPairs (λ d e. Precedes (edge_rank d) (edge_rank e)) edges.now }
     ensures { IfOk result (IsVerdict (Contains ids.now) (Contains edges.now)) }
 {
-    if all_ascend(edges) {
-        let order = Vec::from_slice(alloc, ids)?;
-        return Ok(Verdict::Order(Txns::new(order)));
-    }
-    settle_in_steps(alloc, ids, edges)
-}
-
-/// The same, by taking one transaction after another.
-fn settle_in_steps(alloc: Global, ids: &[TxnId], edges: &[Edge]) -> Result<Verdict, NoMemory>
-    requires ids { IsStrictlyIncreasing ids.now }
-    requires joins { All (λ e. Contains ids.now e.src × Contains ids.now e.dst × (e.src ≢ e.dst)) edges.now }
-    requires sorted { AllPairs (λ d e. Precedes (edge_rank d) (edge_rank e)) edges.now }
-    ensures { IfOk result (IsVerdict (Contains ids.now) (Contains edges.now)) }
-{
-    let mut guesses = Guesses::of(alloc, ids, edges.len())?;
-    let mut counted = count_edges(alloc, ids, &mut guesses, edges)?;
+    let mut counted = count_edges(alloc, ids, edges)?;
     let counts = counted.as_mut_slice();
-    let order = take_ready(alloc, ids, &guesses, edges, counts)?;
+    let order = take_ready(alloc, ids, edges, counts)?;
     match first_left(counts) {
         None => Ok(Verdict::Order(Txns::new(order))),
         Some(start) => {
-            let steps = cycle_from(alloc, ids, &guesses, edges, counts, start)?;
+            let steps = cycle_from(alloc, ids, edges, counts, start)?;
             Ok(Verdict::Cycle(Steps { steps }))
         }
     }

@@ -1,12 +1,10 @@
 //! The least order, or a cycle, of edges that are kept as numbers.
-ghost use Rattle.std.specs.Prelude.{[], ◌≢◌, ◌<◌, All, AllPairs, Contains, IfOk, map};
+ghost use Rattle.std.specs.Prelude.{◌≢◌, ◌<◌, All, AllPairs, Contains, IfOk, map};
 ghost use Rattle.std.specs.List.Sorted.{IsStrictlyIncreasing};
 ghost use Rattle.sia_parts.specs.Packing.{IsPacked, unpacked};
-ghost use Rattle.sia_graph.specs.Fronts.{AreWaiting};
 ghost use Rattle.sia_graph.specs.Places.{AreNumbered, edges_at};
 ghost use Rattle.sia_graph.specs.Verdicts.{IsVerdict};
 
-use crate::near_order::near_order;
 use crate::numbered::Numbered;
 use crate::settling::{Steps, Verdict, first_left};
 use crate::taking_numbers::{count_numbers, take_numbered};
@@ -31,11 +29,7 @@ pub fn settle_numbers(
     requires joins { All (λ e. e.src ≢ e.dst) (map (unpacked ids.now keys.now) numbers.now) }
     ensures { IfOk result (IsVerdict (Contains ids.now) (Contains (map (unpacked ids.now keys.now) numbers.now))) }
 {
-    let edges = Numbered { ids, keys, numbers };
-    match near_order(alloc, &edges)? {
-        Some(order) => Ok(Verdict::Order(Txns::new(order))),
-        None => settle_numbered(alloc, &edges),
-    }
+    settle_numbered(alloc, &Numbered { ids, keys, numbers })
 }
 
 /// The same, by taking one transaction after another.
@@ -43,28 +37,13 @@ fn settle_numbered(alloc: Global, edges: &Numbered) -> Result<Verdict, NoMemory>
     requires { AreNumbered edges.now.ids.now edges.now.keys.now edges.now.numbers.now }
     ensures { IfOk result (IsVerdict (Contains edges.now.ids.now) (Contains (edges_at edges.now.ids.now edges.now.keys.now edges.now.numbers.now))) }
 {
-    let places = edges.ids.len();
-    let mut starts = vec![in alloc; 0usize; places.saturating_add(1)]?;
-    let mut counted = count_numbers(alloc, places, edges.numbers, &mut starts)?;
-    settle_counted(alloc, edges, &starts, counted.as_mut_slice())
-}
-
-/// The same, where it is counted how many edges lead to each transaction, and noted where the edges of each start.
-pub(crate) fn settle_counted(
-    alloc: Global,
-    edges: &Numbered,
-    starts: &[usize],
-    counts: &mut [usize],
-) -> Result<Verdict, NoMemory>
-    requires numbered { AreNumbered edges.now.ids.now edges.now.keys.now edges.now.numbers.now }
-    requires counted { AreWaiting [] edges.now.ids.now (edges_at edges.now.ids.now edges.now.keys.now edges.now.numbers.now) counts.old }
-    ensures { IfOk result (IsVerdict (Contains edges.now.ids.now) (Contains (edges_at edges.now.ids.now edges.now.keys.now edges.now.numbers.now))) }
-{
-    let order = take_numbered(alloc, edges, starts, counts)?;
+    let mut counted = count_numbers(alloc, edges.ids.len(), edges.numbers)?;
+    let counts = counted.as_mut_slice();
+    let order = take_numbered(alloc, edges, counts)?;
     match first_left(counts) {
         None => Ok(Verdict::Order(Txns::new(order))),
         Some(start) => {
-            let steps = numbered_cycle(alloc, edges, starts, counts, start)?;
+            let steps = numbered_cycle(alloc, edges, counts, start)?;
             Ok(Verdict::Cycle(Steps::new(steps)))
         }
     }

@@ -1,4 +1,5 @@
-//! The order made by taking ready transactions one at a time, always the least.
+//! A topological order by Kahn's algorithm: transactions with no edge from one that is left are taken one at a time, always the
+//! least.
 ghost use Rattle.std.specs.Prelude.{[], ◌≡◌, ◌≢◌, ◌↔◌, ◌⊎◌, ℕ, ◌+◌, ◌<◌, ◌≤◌, All, AllPairs, Contains, IfNone, IfOk, IfSome, IsTrue, OnOk, false, length, slice_index, slice_get, Some};
 ghost use Rattle.std.specs.BTreeSet.{IsLowerBound, Updates, contains};
 ghost use Rattle.std.specs.List.Sorted.{IsStrictlyIncreasing};
@@ -8,18 +9,15 @@ ghost use Rattle.sia_parts.specs.Entries.{edge_rank};
 ghost use Rattle.sia_graph.specs.Fronts.{AreWaiting, IsFreed, IsFront, IsLastFront, arriving};
 
 use crate::adjacency::{edges_from, position_of};
-use crate::guesses::Guesses;
 use sia_events::{NoMemory, TxnId};
 use sia_parts::Edge;
 use std::alloc::Global;
 use std::collections::BTreeSet;
 
-/// For each id how many edges lead to it. Notes where the edges from each id start.
-#[inline(never)]
+/// For each id how many edges lead to it: its in-degree.
 pub(crate) fn count_edges(
     alloc: Global,
     ids: &[TxnId],
-    guesses: &mut Guesses,
     edges: &[Edge],
 ) -> Result<Vec<usize>, NoMemory>
     requires ascending { IsStrictlyIncreasing ids.now }
@@ -27,26 +25,16 @@ pub(crate) fn count_edges(
     ensures { IfOk result (λ counts. AreWaiting [] ids.now edges.now counts.items) }
 {
     let mut counts = vec![in alloc; 0usize; ids.len()]?;
-    let mut source = 0usize;
-    let mut last = 0;
-    let mut at = 0usize;
     for e in edges {
-        if e.src != last {
-            last = e.src;
-            source = guesses.note_start(ids, source, last, at);
-        }
-        at = at.wrapping_add(1);
-        let i = position_of(ids, guesses, e.dst);
+        let i = position_of(ids, e.dst);
         counts[i] += 1;
     }
     Ok(counts)
 }
 
 /// Takes edges that leave from the counts, and adds what becomes ready.
-#[inline(never)]
 fn release(
     ids: &[TxnId],
-    guesses: &Guesses,
     leaving: &[Edge],
     counts: &mut [usize],
     ready: &mut BTreeSet<TxnId>,
@@ -61,7 +49,7 @@ fn release(
         ↔ (IsTrue (contains nat_cmp ready.old t) ⊎ IsFreed ids.now leaving.now counts.new t)) }
 {
     for e in leaving {
-        let i = position_of(ids, guesses, e.dst);
+        let i = position_of(ids, e.dst);
         counts[i] -= 1;
         if counts[i] == 0 {
             ready.insert(e.dst)?;
@@ -104,7 +92,6 @@ fn next_ready(ready: &mut BTreeSet<TxnId>) -> Option<TxnId>
 pub(crate) fn take_ready(
     alloc: Global,
     ids: &[TxnId],
-    guesses: &Guesses,
     edges: &[Edge],
     counts: &mut [usize],
 ) -> Result<Vec<TxnId>, NoMemory>
@@ -118,8 +105,8 @@ pub(crate) fn take_ready(
     let mut order = Vec::new(alloc);
     while let Some(txn) = next_ready(&mut ready) {
         order.push(txn)?;
-        let leaving = edges_from(edges, guesses, guesses.place(ids, txn), txn);
-        release(ids, guesses, leaving, counts, &mut ready)?;
+        let leaving = edges_from(edges, txn);
+        release(ids, leaving, counts, &mut ready)?;
     }
     Ok(order)
 }

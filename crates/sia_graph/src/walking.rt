@@ -6,33 +6,16 @@ ghost use Rattle.sia_parts.specs.Entries.{edge_rank};
 ghost use Rattle.sia_graph.specs.Cycles.{IsPrintedCycle, IsStuckSet, TakesLeastEdge};
 ghost use Rattle.sia_graph.specs.Fronts.{arriving};
 ghost use Rattle.sia_graph.specs.Orders.{Leads};
-ghost use Rattle.sia_graph.specs.Walks.{AreLeastBelow, AreLeft, ArePreviousFrom, GoesRoundFrom, IsFedBack, LeadsBack, StaysWithin, back, is_before};
+ghost use Rattle.sia_graph.specs.Walks.{AreLeastSources, AreLeft, GoesRoundFrom, IsFedBack, LeadsBack, StaysWithin, back, is_before};
 
 use crate::adjacency::{edges_from, position_of};
-use crate::guesses::Guesses;
 use crate::settling::Step;
 use sia_events::{NoMemory, TxnId};
 use sia_parts::Edge;
 use std::alloc::Global;
 
-/// How many transactions after the first that is left are looked at first.
-const NEAR: usize = 64;
-
-/// How many times as many are looked at the next time.
-const MORE: usize = 8;
-
-/// How often some of them are looked at, before all are.
-const ATTEMPTS: usize = 4;
-
 /// Lets the targets of edges from the transaction at `source` lead back to it.
-#[inline(never)]
-fn lead_back(
-    ids: &[TxnId],
-    guesses: &Guesses,
-    leaving: &[Edge],
-    source: usize,
-    previous: &mut [usize],
-)
+fn lead_back(ids: &[TxnId], leaving: &[Edge], source: usize, previous: &mut [usize])
     requires ascending { IsStrictlyIncreasing ids.now }
     requires members { All (λ e. Contains ids.now e.dst) leaving.now }
     requires long { length previous.old ≡ length ids.now }
@@ -40,7 +23,7 @@ fn lead_back(
     ensures kept { (i : ℕ) → i < length ids.now → arriving leaving.now (slice_index ids.now i) ≡ 0 → slice_index previous.new i ≡ slice_index previous.old i }
 {
     for e in leaving {
-        let i = position_of(ids, guesses, e.dst);
+        let i = position_of(ids, e.dst);
         previous[i] = source;
     }
 }
@@ -57,29 +40,26 @@ pub(crate) fn themselves(alloc: Global, count: usize) -> Result<Vec<usize>, NoMe
     Ok(positions)
 }
 
-/// For each transaction the least one below `limit` that is left and has an edge to it. What has none there leads to itself.
+/// For each transaction the least one that is left and has an edge to it. What has none leads to itself.
 pub(crate) fn least_sources(
     alloc: Global,
     ids: &[TxnId],
-    guesses: &Guesses,
     edges: &[Edge],
     counts: &[usize],
-    limit: usize,
 ) -> Result<Vec<usize>, NoMemory>
     requires ascending { IsStrictlyIncreasing ids.now }
     requires joins { All (λ e. Contains ids.now e.src × Contains ids.now e.dst × (e.src ≢ e.dst)) edges.now }
     requires sorted { AllPairs (λ d e. Precedes (edge_rank d) (edge_rank e)) edges.now }
     requires long { length counts.now ≡ length ids.now }
-    requires limit { limit ≤ length ids.now }
     ensures long { IfOk result (λ previous. length previous.items ≡ length ids.now) }
     ensures within { IfOk result (λ previous. StaysWithin previous.items) }
-    ensures least { IfOk result (λ previous. AreLeastBelow ids.now edges.now counts.now limit previous.items) }
+    ensures least { IfOk result (λ previous. AreLeastSources ids.now edges.now counts.now previous.items) }
 {
     let mut previous = themselves(alloc, ids.len())?;
-    for i in (0..limit).rev() {
+    for i in (0..ids.len()).rev() {
         if counts[i] > 0 {
-            let leaving = edges_from(edges, guesses, i, ids[i]);
-            lead_back(ids, guesses, leaving, i, &mut previous);
+            let leaving = edges_from(edges, ids[i]);
+            lead_back(ids, leaving, i, &mut previous);
         }
     }
     Ok(previous)
@@ -111,58 +91,6 @@ pub(crate) fn reach_cycle(
     }
 }
 
-/// Whether a position leads to itself.
-fn is_alone(previous: &[usize], place: usize) -> bool
-    requires { place < length previous.now }
-    ensures { IsTrue result ↔ (slice_index previous.now place ≡ place) }
-{
-    previous[place] == place
-}
-
-/// Whether nothing that going back from `start` reaches leads to itself.
-pub(crate) fn goes_round(alloc: Global, previous: &[usize], start: usize) -> Result<bool, NoMemory>
-    requires within { StaysWithin previous.now }
-    requires start { start < length previous.now }
-    ensures { IfOk result (λ r. IsTrue r → (n : ℕ) → slice_index previous.now (back previous.now n start) ≢ back previous.now n start) }
-{
-    let (place, _period) = reach_cycle(alloc, previous, start)?;
-    Ok(!is_alone(previous, place))
-}
-
-/// For each transaction that going back from `start` reaches the least one that is left and has an edge to it.
-///
-/// The sources near `start` are looked at first, and more of them only where these don't lead round.
-fn sources_from(
-    alloc: Global,
-    ids: &[TxnId],
-    guesses: &Guesses,
-    edges: &[Edge],
-    counts: &[usize],
-    start: usize,
-) -> Result<Vec<usize>, NoMemory>
-    requires ascending { IsStrictlyIncreasing ids.now }
-    requires joins { All (λ e. Contains ids.now e.src × Contains ids.now e.dst × (e.src ≢ e.dst)) edges.now }
-    requires sorted { AllPairs (λ d e. Precedes (edge_rank d) (edge_rank e)) edges.now }
-    requires long { length counts.now ≡ length ids.now }
-    requires fed { IsFedBack ids.now edges.now counts.now }
-    requires start { (start < length ids.now) × (0 < slice_index counts.now start) }
-    ensures long { IfOk result (λ previous. length previous.items ≡ length ids.now) }
-    ensures within { IfOk result (λ previous. StaysWithin previous.items) }
-    ensures from { IfOk result (λ previous. ArePreviousFrom ids.now edges.now counts.now previous.items start) }
-{
-    let mut limit = start.saturating_add(NEAR);
-    for _attempt in 0..ATTEMPTS {
-        if limit < ids.len() {
-            let previous = least_sources(alloc, ids, guesses, edges, counts, limit)?;
-            if goes_round(alloc, previous.as_slice(), start)? {
-                return Ok(previous);
-            }
-        }
-        limit = limit.saturating_mul(MORE);
-    }
-    least_sources(alloc, ids, guesses, edges, counts, ids.len())
-}
-
 /// The least position that some number of steps back reach, up to `count`.
 pub(crate) fn least_within(previous: &[usize], start: usize, count: usize) -> usize
     requires within { StaysWithin previous.now }
@@ -188,39 +116,22 @@ fn stands_before(e: &Edge, src: TxnId, dst: TxnId) -> bool
     e.src < src || e.src == src && e.dst < dst
 }
 
-/// Whether the edges before `point` are those that stand before the ones from `src` to `dst`.
-fn is_point(edges: &[Edge], point: usize, src: TxnId, dst: TxnId) -> bool
-    requires within { point ≤ length edges.now }
-    requires sorted { AllPairs (λ d e. Precedes (edge_rank d) (edge_rank e)) edges.now }
-    ensures { IsTrue result → IsPartitionPoint (λ e. is_before src dst e ≡ true) (λ e. is_before src dst e ≡ false) edges.now point }
-{
-    if point > 0 && !stands_before(&edges[point - 1], src, dst) {
-        return false;
-    }
-    point == edges.len() || !stands_before(&edges[point], src, dst)
-}
-
-/// Where the edges from one transaction to another stand, perhaps at `near`. This saves a search, and is not relied on.
-fn point_of(edges: &[Edge], near: usize, src: TxnId, dst: TxnId) -> usize
+/// Where the edges from one transaction to another stand.
+fn point_of(edges: &[Edge], src: TxnId, dst: TxnId) -> usize
     requires { AllPairs (λ d e. Precedes (edge_rank d) (edge_rank e)) edges.now }
     ensures { IsPartitionPoint (λ e. is_before src dst e ≡ true) (λ e. is_before src dst e ≡ false) edges.now result }
 {
-    if near <= edges.len() {
-        if is_point(edges, near, src, dst) {
-            return near;
-        }
-    }
     edges.partition_point(|e| stands_before(e, src, dst))
 }
 
-/// The step by the least edge from one transaction to another. It may stand at `near`.
-fn least_step(edges: &[Edge], near: usize, src: TxnId, dst: TxnId) -> Step
+/// The step by the least edge from one transaction to another.
+fn least_step(edges: &[Edge], src: TxnId, dst: TxnId) -> Step
     requires sorted { AllPairs (λ d e. Precedes (edge_rank d) (edge_rank e)) edges.now }
     requires leads { Leads (Contains edges.now) src dst }
     ensures from { result.txn ≡ src }
     ensures least { TakesLeastEdge (Contains edges.now) result dst }
 {
-    let i = point_of(edges, near, src, dst);
+    let i = point_of(edges, src, dst);
     let e = &edges[i];
     Step {
         txn: src,
@@ -233,7 +144,6 @@ fn least_step(edges: &[Edge], near: usize, src: TxnId, dst: TxnId) -> Step
 fn steps_round(
     alloc: Global,
     ids: &[TxnId],
-    guesses: &Guesses,
     edges: &[Edge],
     previous: &[usize],
     home: usize,
@@ -255,8 +165,7 @@ fn steps_round(
     let mut at = home;
     'walk: loop {
         let before = previous[at];
-        let near = guesses.edges_of(before).0;
-        steps.push(least_step(edges, near, ids[before], ids[at]))?;
+        steps.push(least_step(edges, ids[before], ids[at]))?;
         if before == home {
             break;
         }
@@ -270,7 +179,6 @@ fn steps_round(
 pub(crate) fn cycle_from(
     alloc: Global,
     ids: &[TxnId],
-    guesses: &Guesses,
     edges: &[Edge],
     counts: &[usize],
     start: usize,
@@ -284,9 +192,9 @@ pub(crate) fn cycle_from(
     ensures { IfOk result (λ steps. (stuck : List ℕ) → AreLeft ids.now counts.now stuck → IsStuckSet (Contains ids.now) (Contains edges.now) stuck
         → IsPrintedCycle (Contains ids.now) (Contains edges.now) steps.items) }
 {
-    let previous = sources_from(alloc, ids, guesses, edges, counts, start)?;
+    let previous = least_sources(alloc, ids, edges, counts)?;
     let sources = previous.as_slice();
     let (place, period) = reach_cycle(alloc, sources, start)?;
     let home = least_within(sources, place, period);
-    steps_round(alloc, ids, guesses, edges, sources, home, period)
+    steps_round(alloc, ids, edges, sources, home, period)
 }

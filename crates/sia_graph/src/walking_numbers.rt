@@ -4,23 +4,14 @@ ghost use Rattle.sia_parts.specs.Packing.{target_number};
 ghost use Rattle.sia_graph.specs.Cycles.{IsPrintedCycle, IsStuckSet, TakesLeastEdge};
 ghost use Rattle.sia_graph.specs.Orders.{Leads};
 ghost use Rattle.sia_graph.specs.Places.{AreNumbered, arriving_at, edges_at};
-ghost use Rattle.sia_graph.specs.Walks.{AreLeastBelow, AreLeft, ArePreviousFrom, GoesRoundFrom, IsFedBack, LeadsBack, StaysWithin, back};
+ghost use Rattle.sia_graph.specs.Walks.{AreLeastSources, AreLeft, GoesRoundFrom, IsFedBack, LeadsBack, StaysWithin, back};
 
 use crate::numbered::{Numbered, numbers_from};
 use crate::settling::Step;
-use crate::walking::{goes_round, least_within, reach_cycle, themselves};
+use crate::walking::{least_within, reach_cycle, themselves};
 use sia_events::NoMemory;
 use sia_parts::{EdgeNumber, key_of, kind_in, target_of};
 use std::alloc::Global;
-
-/// How many places after the first that is left are looked at first.
-const NEAR: usize = 64;
-
-/// How many times as many are looked at the next time.
-const MORE: usize = 8;
-
-/// How often some of them are looked at, before all are.
-const ATTEMPTS: usize = 4;
 
 /// Lets the targets of numbers from `source` lead back to it.
 #[inline(never)]
@@ -34,64 +25,26 @@ fn lead_back(leaving: &[EdgeNumber], source: usize, previous: &mut [usize])
     }
 }
 
-/// For each place the least one below `limit` that is left and has an edge to it. What has none there leads to itself.
-fn least_sources(
-    alloc: Global,
-    edges: &Numbered,
-    starts: &[usize],
-    counts: &[usize],
-    limit: usize,
-) -> Result<Vec<usize>, NoMemory>
+/// For each place the least one that is left and has an edge to it. What has none leads to itself.
+fn least_sources(alloc: Global, edges: &Numbered, counts: &[usize]) -> Result<Vec<usize>, NoMemory>
     requires numbered { AreNumbered edges.now.ids.now edges.now.keys.now edges.now.numbers.now }
     requires long { length counts.now ≡ length edges.now.ids.now }
-    requires limit { limit ≤ length edges.now.ids.now }
     ensures long { IfOk result (λ previous. length previous.items ≡ length edges.now.ids.now) }
     ensures within { IfOk result (λ previous. StaysWithin previous.items) }
-    ensures least { IfOk result (λ previous. AreLeastBelow edges.now.ids.now (edges_at edges.now.ids.now edges.now.keys.now edges.now.numbers.now) counts.now limit previous.items) }
+    ensures least { IfOk result (λ previous. AreLeastSources edges.now.ids.now (edges_at edges.now.ids.now edges.now.keys.now edges.now.numbers.now) counts.now previous.items) }
 {
     let mut previous = themselves(alloc, edges.ids.len())?;
-    for i in (0..limit).rev() {
+    for i in (0..edges.ids.len()).rev() {
         if counts[i] > 0 {
-            let leaving = numbers_from(edges.numbers, starts, i);
+            let leaving = numbers_from(edges.numbers, i);
             lead_back(leaving, i, &mut previous);
         }
     }
     Ok(previous)
 }
 
-/// For each place that going back from `start` reaches the least one that is left and has an edge to it.
-///
-/// The sources near `start` are looked at first, and more of them only where these don't lead round.
-fn sources_from(
-    alloc: Global,
-    edges: &Numbered,
-    starts: &[usize],
-    counts: &[usize],
-    start: usize,
-) -> Result<Vec<usize>, NoMemory>
-    requires numbered { AreNumbered edges.now.ids.now edges.now.keys.now edges.now.numbers.now }
-    requires long { length counts.now ≡ length edges.now.ids.now }
-    requires fed { IsFedBack edges.now.ids.now (edges_at edges.now.ids.now edges.now.keys.now edges.now.numbers.now) counts.now }
-    requires start { (start < length edges.now.ids.now) × (0 < slice_index counts.now start) }
-    ensures long { IfOk result (λ previous. length previous.items ≡ length edges.now.ids.now) }
-    ensures within { IfOk result (λ previous. StaysWithin previous.items) }
-    ensures from { IfOk result (λ previous. ArePreviousFrom edges.now.ids.now (edges_at edges.now.ids.now edges.now.keys.now edges.now.numbers.now) counts.now previous.items start) }
-{
-    let mut limit = start.saturating_add(NEAR);
-    for _attempt in 0..ATTEMPTS {
-        if limit < edges.ids.len() {
-            let previous = least_sources(alloc, edges, starts, counts, limit)?;
-            if goes_round(alloc, previous.as_slice(), start)? {
-                return Ok(previous);
-            }
-        }
-        limit = limit.saturating_mul(MORE);
-    }
-    least_sources(alloc, edges, starts, counts, edges.ids.len())
-}
-
 /// The step by the least edge from one place to another.
-fn least_step(edges: &Numbered, starts: &[usize], source: usize, target: usize) -> Step
+fn least_step(edges: &Numbered, source: usize, target: usize) -> Step
     requires numbered { AreNumbered edges.now.ids.now edges.now.keys.now edges.now.numbers.now }
     requires source { source < length edges.now.ids.now }
     requires target { target < length edges.now.ids.now }
@@ -99,7 +52,7 @@ fn least_step(edges: &Numbered, starts: &[usize], source: usize, target: usize) 
     ensures from { result.txn ≡ slice_index edges.now.ids.now source }
     ensures least { TakesLeastEdge (Contains (edges_at edges.now.ids.now edges.now.keys.now edges.now.numbers.now)) result (slice_index edges.now.ids.now target) }
 {
-    let leaving = numbers_from(edges.numbers, starts, source);
+    let leaving = numbers_from(edges.numbers, source);
     let i = leaving.partition_point(|n| target_of(*n) < target);
     let n = leaving[i];
     Step {
@@ -113,7 +66,6 @@ fn least_step(edges: &Numbered, starts: &[usize], source: usize, target: usize) 
 fn steps_round(
     alloc: Global,
     edges: &Numbered,
-    starts: &[usize],
     previous: &[usize],
     home: usize,
     period: usize,
@@ -133,7 +85,7 @@ fn steps_round(
     let mut at = home;
     'walk: loop {
         let before = previous[at];
-        steps.push(least_step(edges, starts, before, at))?;
+        steps.push(least_step(edges, before, at))?;
         if before == home {
             break;
         }
@@ -147,7 +99,6 @@ fn steps_round(
 pub(crate) fn numbered_cycle(
     alloc: Global,
     edges: &Numbered,
-    starts: &[usize],
     counts: &[usize],
     start: usize,
 ) -> Result<Vec<Step>, NoMemory>
@@ -159,9 +110,9 @@ pub(crate) fn numbered_cycle(
         → IsStuckSet (Contains edges.now.ids.now) (Contains (edges_at edges.now.ids.now edges.now.keys.now edges.now.numbers.now)) stuck
         → IsPrintedCycle (Contains edges.now.ids.now) (Contains (edges_at edges.now.ids.now edges.now.keys.now edges.now.numbers.now)) steps.items) }
 {
-    let previous = sources_from(alloc, edges, starts, counts, start)?;
+    let previous = least_sources(alloc, edges, counts)?;
     let sources = previous.as_slice();
     let (place, period) = reach_cycle(alloc, sources, start)?;
     let home = least_within(sources, place, period);
-    steps_round(alloc, edges, starts, sources, home, period)
+    steps_round(alloc, edges, sources, home, period)
 }

@@ -8,11 +8,11 @@ ghost use Rattle.sia_parts.specs.Findings.{ListsEdges};
 ghost use Rattle.sia_parts.specs.Packing.{IsPacked};
 
 use crate::firsts::commit_of;
-use crate::judging_numbers::judge_numbers;
 use crate::passing::passes;
 use crate::pivot::Pivot;
 use crate::pivoting_numbers::pivots_of_numbers;
 use crate::settling::Verdict;
+use crate::settling_numbers::settle_numbers;
 use crate::tests::ascends;
 use crate::tests::numbered::{all_part_ends, climbs, in_one_stretch};
 use crate::tests::structures::{findings, shown};
@@ -94,18 +94,15 @@ fn stand_for(
     Ok(same)
 }
 
-/// What `judge_numbers` tells of all these numbers, where the lists are as it wants them.
-fn at_once(
+/// What `settle_numbers` tells of all these numbers, where the lists are as it wants them.
+fn settled(
     alloc: Global,
-    ix: &Index,
     txns: &[TxnId],
     keys: &[Key],
     numbers: &[EdgeNumber],
     all: &EdgeNumbers,
-) -> Result<(Verdict, Vec<Pivot>), Fail>
-    requires txns { ListsAscending (IsCommitted ix.now) txns.now }
-    requires numbers { AreEdgeNumbers ix.now txns.now keys.now (λ _. ⊤) all.now }
-    requires same { all.now ≡ numbers.now }
+) -> Result<Verdict, Fail>
+    requires { all.now ≡ numbers.now }
 {
     if !ascends(txns) {
         return Err(Fail::from("ascending transactions"));
@@ -113,11 +110,17 @@ fn at_once(
     if !climbs(keys) {
         return Err(Fail::from("ascending keys"));
     }
+    if !are_packed(txns, keys, numbers) {
+        return Err(Fail::from("numbers of edges"));
+    }
+    if !rise(numbers) {
+        return Err(Fail::from("ascending numbers"));
+    }
     if !all_part_ends(txns, keys, numbers) {
         return Err(Fail::from("edges between two transactions"));
     }
-    let found = judge_numbers(alloc, ix, txns, keys, all)?;
-    Ok(found)
+    let verdict = settle_numbers(alloc, txns, keys, all)?;
+    Ok(verdict)
 }
 
 /// What is told of a history.
@@ -125,8 +128,7 @@ fn at_once(
 struct Told {
     pivots: Vec<Pivot>,
     passed: bool,
-    /// The verdict and the pivots, told at once.
-    at_once: (Verdict, Vec<Pivot>),
+    verdict: Verdict,
 }
 
 /// The pivots of the history, and whether it passes, where these are the numbers of its edges.
@@ -142,11 +144,11 @@ fn judged(alloc: Global, text: &[u8], numbers: &[EdgeNumber]) -> Result<Told, Fa
     let all = in_one_stretch(alloc, numbers)?;
     let pivots = pivots_of_numbers(alloc, &ix, &txns, &all)?;
     let passed = passes(&f.bad_reads, &f.bad_writes, &pivots);
-    let again = at_once(alloc, &ix, &txns, keys, numbers, &all)?;
+    let verdict = settled(alloc, &txns, keys, numbers, &all)?;
     Ok(Told {
         pivots,
         passed,
-        at_once: again,
+        verdict,
     })
 }
 
@@ -228,9 +230,7 @@ fn pivots_by_numbers(rt: HostRuntime) -> Result<(), Fail> {
         let told = judged(rt.alloc(), text, numbers)?;
         assert_eq!(rt; told.passed, is_passing);
         assert_eq!(rt; shown(rt.alloc(), &told.pivots)?.as_str(), entries);
-        let (verdict, pivots) = told.at_once;
-        assert_eq!(rt; shown(rt.alloc(), &pivots)?.as_str(), entries);
-        assert_eq!(rt; matches!(verdict, Verdict::Order(_)), has_order);
+        assert_eq!(rt; matches!(told.verdict, Verdict::Order(_)), has_order);
     }
     Ok(())
 }

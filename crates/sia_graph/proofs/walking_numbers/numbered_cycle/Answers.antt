@@ -1,6 +1,7 @@
 use Rattle.std.proofs.Common.{◌≡◌, ◌<◌, ◌+◌, ℕ, length, ap, sym, subst, ◌∙◌, arith}
 use Rattle.std.proofs.lemmas.Result.{IfOk-weaker}
 use Rattle.sia_graph.specs.Walks.{back, ArePreviousFrom, StaysWithin}
+use Rattle.sia_graph.proofs.LeastSources.{previous_from}
 use Rattle.sia_graph.proofs.Walks.{stays, back_more}
 use Rattle.sia_graph.proofs.PrintedCycle.{shifted, leads_all, printed, round_home, least_home}
 use Rattle.sia_graph.specs.Places.{edges_at}
@@ -41,7 +42,7 @@ steps_round-requires-clause-leads c =
     let edges = (edges_at c.args.edges.now.ids.now c.args.edges.now.keys.now c.args.edges.now.numbers.now) in
     let counts = c.args.counts.now in
     let sources = c.as_slice-sources.result.now in
-    let are = subst (λ l. ArePreviousFrom ids edges counts l c.args.start) (sym c.as_slice-sources.ensures.value) c.in_ok-previous.ensures.from in
+    let are = subst (λ l. ArePreviousFrom ids edges counts l c.args.start) (sym c.as_slice-sources.ensures.value) (previous_from ids edges counts c.in_ok-previous.previous.items c.args.start c.in_ok-previous.ensures.least c.requires.start.0 c.requires.start.1 c.requires.fed) in
     let w = c.in_ok-place.ensures.reached in
     let v = c.least_within-home.ensures.reached in
     let way : back sources (w.0 + v.0) c.args.start ≡ c.least_within-home.result = back_more sources w.0 v.0 c.args.start ∙ ap (back sources v.0) w.1 ∙ v.2 in
@@ -53,7 +54,7 @@ returns c =
     let edges = (edges_at c.args.edges.now.ids.now c.args.edges.now.keys.now c.args.edges.now.numbers.now) in
     let counts = c.args.counts.now in
     let sources = c.as_slice-sources.result.now in
-    let are = subst (λ l. ArePreviousFrom ids edges counts l c.args.start) (sym c.as_slice-sources.ensures.value) c.in_ok-previous.ensures.from in
+    let are = subst (λ l. ArePreviousFrom ids edges counts l c.args.start) (sym c.as_slice-sources.ensures.value) (previous_from ids edges counts c.in_ok-previous.previous.items c.args.start c.in_ok-previous.ensures.least c.requires.start.0 c.requires.start.1 c.requires.fed) in
     let w = c.in_ok-place.ensures.reached in
     let v = c.least_within-home.ensures.reached in
     let way : back sources (w.0 + v.0) c.args.start ≡ c.least_within-home.result = back_more sources w.0 v.0 c.args.start ∙ ap (back sources v.0) w.1 ∙ v.2 in

@@ -20,12 +20,3 @@ pivots_of_numbers-requires-clause-numbers c =
       subst (λ (l : List ℕ). AreEdgeNumbers h l keys (λ _. ⊤) c.in_ok-all.all) (c.deref.ensures.value ∙ sym c.deref-2.ensures.value)
           (subst (λ (l : List ℕ). AreEdgeNumbers h c.deref.result.now keys (λ _. ⊤) l) (sym c.in_ok-all.ensures) told),
     )
-
-pub at_once-requires-clause-numbers : goal.at_once-requires-clause-numbers
-at_once-requires-clause-numbers c =
-    let h = c.in_ok-ix.ix in
-    let keys = c.written_keys-keys.result.now in
-    let edges = subst (λ (l : List Edge). ListsEdges h (λ _. ⊤) l) (sym c.as_slice.ensures.value) c.in_ok-f.ensures.edges in
-    let told = c.in_ok-stand_for.ensures c.if-not-branch.false h edges in
-    subst (λ (l : List ℕ). AreEdgeNumbers h l keys (λ _. ⊤) c.in_ok-all.all) (c.deref.ensures.value ∙ sym c.deref-6.ensures.value)
-    (subst (λ (l : List ℕ). AreEdgeNumbers h c.deref.result.now keys (λ _. ⊤) l) (sym c.in_ok-all.ensures) told)

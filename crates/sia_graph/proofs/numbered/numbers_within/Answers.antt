@@ -5,7 +5,7 @@ use Rattle.std.proofs.lemmas.List.Sorted.{IsPartitionPoint-from_clause, IsPartit
 use Rattle.sia_parts.specs.Packing.{source_number}
 use Rattle.sia_graph.proofs.Groups.{cut_out}
 use Rattle.sia_graph.proofs.Places.{sources_rise}
-use Rattle.sia_graph.proofs.numbered.searched_numbers.Goals as goal
+use Rattle.sia_graph.proofs.numbered.numbers_within.Goals as goal
 
 pub returns : goal.returns
 returns c =
