@@ -17,6 +17,5 @@ pub mod OfHistory
 mod TakenWords
 mod NumbersGiven
 pub mod OnSheets
-pub mod ByOne
 pub mod Batched
-pub mod OfParts
+pub mod EdgeSheets

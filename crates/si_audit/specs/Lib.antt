@@ -14,4 +14,3 @@ pub mod LineAnswers
 pub mod Judgements
 pub mod Heads
 pub mod Sheets
-pub mod Products

@@ -11,13 +11,12 @@ ghost use Rattle.si_audit.specs.Answering.{IsReportOf, IsOutcomeOf};
 ghost use Rattle.si_audit.specs.Judgements.{account_by};
 ghost use Rattle.si_audit.specs.Sheets.{text_of};
 
-use crate::by_one::report_by_one;
 use crate::engine::Outcome;
-use crate::judgement::{Judgement, judged};
+use crate::judgement::{AllEdges, Judgement, judged};
 use crate::lines::push_refusal;
 use crate::options::Options;
-use crate::pieces::PIECE;
 use crate::reporting::report_of;
+use crate::sheets::sheets_of_edges;
 use sia_events::{History, NoMemory, TextFault, TextReader};
 use sia_index::Index;
 use sia_index::make::index;
@@ -51,55 +50,38 @@ fn outcome_of(j: &Judgement) -> Outcome
     }
 }
 
-/// The answer to a history by its index. The lines of its edges are made beside the verdict and the pivots, in pieces of at most
-/// so many.
-fn answer_side_by_side<T: Threads + Wait + Sync>(
+/// The answer to a history by its index.
+fn answer_by_index<T: Threads + Wait + Sync>(
     rt: &T,
     alloc: Global,
     h: &History,
     ix: &Index,
     o: &Options,
-    longest: usize,
 ) -> Result<Answer, NoMemory>
     requires index { ix.now ≡ h.now }
     requires well_formed { IsWellFormed h.now }
     ensures report { IfOk result (λ answer. IsReportOf h.now (text_of answer.sheets.items)) }
     ensures outcome { IfOk result (λ answer. IsOutcomeOf h.now answer.outcome) }
 {
-    let judged = judged(rt, alloc, h, ix, o, Some(longest))?;
-    let judgement = judged.judgement;
+    let judgement = judged(rt, alloc, h, ix, o)?;
+    let edges = AllEdges {
+        index: ix,
+        txns: judgement.committed.ids(),
+        keys: ix.written_keys(),
+        numbers: &judgement.found.edges,
+    };
+    let lines = sheets_of_edges(rt, alloc, &edges, o)?;
     let outcome = outcome_of(&judgement);
-    let sheets = report_of(alloc, &judgement, judged.sheets)?;
+    let sheets = report_of(alloc, &judgement, lines)?;
     Ok(Answer { sheets, outcome })
 }
 
-/// The same with the lines made behind the verdict and the pivots, of which nothing is needed then but its lines.
-fn answer_by_one<T: Threads + Wait + Sync>(
-    rt: &T,
-    alloc: Global,
-    h: &History,
-    ix: &Index,
-    o: &Options,
-    longest: usize,
-) -> Result<Answer, NoMemory>
-    requires index { ix.now ≡ h.now }
-    requires well_formed { IsWellFormed h.now }
-    ensures report { IfOk result (λ answer. IsReportOf h.now (text_of answer.sheets.items)) }
-    ensures outcome { IfOk result (λ answer. IsOutcomeOf h.now answer.outcome) }
-{
-    let judged = judged(rt, alloc, h, ix, o, None)?;
-    let outcome = outcome_of(&judged.judgement);
-    let sheets = report_by_one(alloc, judged.judgement, ix.written_keys(), longest)?;
-    Ok(Answer { sheets, outcome })
-}
-
-/// The answer to a history. The lines of its edges are made in pieces of at most so many.
+/// The answer to a history.
 pub(crate) fn answer_to_history<T: Threads + Wait + Sync>(
     rt: &T,
     alloc: Global,
     h: &History,
     o: &Options,
-    longest: usize,
 ) -> Result<Answer, NoMemory>
     ensures report { IfOk result (λ answer. IsReportOf h.now (text_of answer.sheets.items)) }
     ensures outcome { IfOk result (λ answer. IsOutcomeOf h.now answer.outcome) }
@@ -107,11 +89,7 @@ pub(crate) fn answer_to_history<T: Threads + Wait + Sync>(
     // The length tells that the history is well-formed.
     let _ = h.len();
     let ix = index(alloc, h)?;
-    if o.workers() > 1 {
-        answer_side_by_side(rt, alloc, h, &ix, o, longest)
-    } else {
-        answer_by_one(rt, alloc, h, &ix, o, longest)
-    }
+    answer_by_index(rt, alloc, h, &ix, o)
 }
 
 /// The answer to a refused text.
@@ -139,7 +117,7 @@ pub(crate) fn answer_to_text<T: Threads + Wait + Sync>(
     ensures outcome { (bytes : List ℕ) → StandsForRead text bytes → IfOk result (λ answer. IsOutcome bytes answer.outcome) }
 {
     match text.finish() {
-        Ok(h) => answer_to_history(rt, alloc, &h, o, PIECE),
+        Ok(h) => answer_to_history(rt, alloc, &h, o),
         Err(TextFault::NoMemory) => Err(NoMemory),
         Err(fault) => answer_to_refusal(alloc, &fault),
     }

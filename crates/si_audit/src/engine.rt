@@ -12,6 +12,7 @@ use sia_events::NoMemory;
 use std::alloc::{AllocError, AllocFailed, Global};
 use std::sync::Wait;
 use std::thread::Threads;
+use thiserror::Error;
 
 /// How a run ended that met no fault.
 #[derive(Clone, Copy, Debug, PartialEq, Eq)]
@@ -22,10 +23,13 @@ pub enum Outcome {
 }
 
 /// Why a run ended before its report was written.
-#[derive(Clone, Copy, Debug, PartialEq, Eq)]
+#[derive(Clone, Copy, Debug, PartialEq, Eq, Error)]
 pub enum RunFault {
+    #[error("read failed")]
     Read,
+    #[error("write failed")]
     Write,
+    #[error("no memory")]
     NoMemory,
 }
 

@@ -54,8 +54,8 @@ fn count_of(parts: &[Part]) -> u32
     parts.len() as u32
 }
 
-/// For how many workers there are parts.
-fn crew_of(o: &Options, count: u32) -> u32
+/// For how many workers there are parts of the work.
+pub(crate) fn crew_of(o: &Options, count: u32) -> u32
     ensures { (0 < result) × (result ≤ 64) }
 {
     u32::from(o.workers()).min(count.max(1))

@@ -1,5 +1,5 @@
 // What follows from what was found in a history.
-ghost use Rattle.std.specs.Prelude.{◌≡◌, ◌↔◌, ℕ, List, [], IfOk, IsSome, IsTrue};
+ghost use Rattle.std.specs.Prelude.{◌≡◌, ◌↔◌, ℕ, List, [], IfOk, IsTrue};
 ghost use Rattle.sia_events.specs.Lists.{ListsAscending};
 ghost use Rattle.sia_events.specs.Refusals.{IsWellFormed};
 ghost use Rattle.sia_events.specs.Transactions.{IsCommitted};
@@ -10,17 +10,15 @@ ghost use Rattle.sia_graph.specs.Pivots.{ArePivots};
 ghost use Rattle.sia_graph.specs.Verdicts.{IsVerdict};
 ghost use Rattle.si_audit.specs.Accounts.{IsAccount};
 ghost use Rattle.si_audit.specs.Audits.{IsOrderVerdict};
-ghost use Rattle.si_audit.specs.Judgements.{account_by};
-ghost use Rattle.si_audit.specs.Sheets.{number_lines, text_of};
+ghost use Rattle.si_audit.specs.Judgements.{AreAllEdges, account_by};
 
 use crate::counts::{Counts, counted};
 use crate::finding::find;
 use crate::options::Options;
-use crate::products::{AllEdges, Products, produce};
-use sia_events::{History, NoMemory};
-use sia_graph::{Pivot, Verdict, passes, replay_law, ssi_law};
+use sia_events::{History, Key, NoMemory, TxnId};
+use sia_graph::{Pivot, Verdict, passes, pivots_of_numbers, replay_law, settle_numbers, ssi_law};
 use sia_index::Index;
-use sia_parts::{Committed, Found, Unexplained};
+use sia_parts::{Committed, EdgeNumbers, Found, Unexplained};
 use std::alloc::Global;
 use std::sync::Wait;
 use std::thread::Threads;
@@ -46,13 +44,6 @@ fn is_serializable(verdict: &Verdict, unexplained: &[Unexplained]) -> bool
         Verdict::Order(_) => unexplained.is_empty(),
         Verdict::Cycle(_) => false,
     }
-}
-
-/// A judgement, and the lines of its edges.
-#[derive(Drop)]
-pub(crate) struct JudgedHistory {
-    pub(crate) judgement: Judgement,
-    pub(crate) sheets: Vec<Vec<u8>>,
 }
 
 /// What follows from what was found.
@@ -93,22 +84,43 @@ fn judge(
     }
 }
 
-/// Audits a history by its index and by workers, and waits for them. Where a length is given, the lines of its edges are made
-/// too, in pieces of at most so many.
+/// All edges of a history as numbers: by the places of the committed transactions and of the written keys.
+#[derive(Clone, Copy)]
+pub(crate) struct AllEdges<'a> {
+    pub(crate) index: &'a Index,
+    pub(crate) txns: &'a [TxnId],
+    pub(crate) keys: &'a [Key],
+    pub(crate) numbers: &'a EdgeNumbers,
+}
+
+/// The least order that keeps the edges, or the printed cycle.
+fn settled(alloc: Global, edges: &AllEdges) -> Result<Verdict, NoMemory>
+    requires { AreAllEdges edges.now.index.now edges.now.txns.now edges.now.keys.now edges.now.numbers.now }
+    ensures { IfOk result (IsVerdict (IsCommitted edges.now.index.now) (IsEdge edges.now.index.now)) }
+{
+    settle_numbers(alloc, edges.txns, edges.keys, edges.numbers)
+}
+
+/// The pivots.
+fn pivots_of(alloc: Global, edges: &AllEdges) -> Result<Vec<Pivot>, NoMemory>
+    requires { AreAllEdges edges.now.index.now edges.now.txns.now edges.now.keys.now edges.now.numbers.now }
+    ensures { IfOk result (λ pivots. ArePivots edges.now.index.now pivots.items) }
+{
+    pivots_of_numbers(alloc, edges.index, edges.txns, edges.numbers)
+}
+
+/// Audits a history by its index and by workers, and waits for them.
 pub(crate) fn judged<R: Threads + Wait + Sync>(
     rt: &R,
     alloc: Global,
     h: &History,
     ix: &Index,
     o: &Options,
-    longest: Option<usize>,
-) -> Result<JudgedHistory, NoMemory>
+) -> Result<Judgement, NoMemory>
     requires index { ix.now ≡ h.now }
     requires well_formed { IsWellFormed h.now }
-    ensures exact { IfOk result (λ j. (keys : List ℕ) → AreWrittenKeys h.now keys → IsAccount h.now (account_by keys j.judgement)) }
-    ensures pass { IfOk result (λ j. IsTrue j.judgement.pass → IsTrue j.judgement.serializable × IsOrderVerdict j.judgement.verdict) }
-    ensures lines { IsSome longest → IfOk result (λ j. (keys : List ℕ) × AreWrittenKeys h.now keys
-        × (text_of j.sheets.items ≡ number_lines j.judgement.committed keys j.judgement.found.edges)) }
+    ensures exact { IfOk result (λ j. (keys : List ℕ) → AreWrittenKeys h.now keys → IsAccount h.now (account_by keys j)) }
+    ensures pass { IfOk result (λ j. IsTrue j.pass → IsTrue j.serializable × IsOrderVerdict j.verdict) }
 {
     let committed = Committed::of(alloc, ix)?;
     let found = find(rt, alloc, h, ix, &committed, o)?;
@@ -118,11 +130,7 @@ pub(crate) fn judged<R: Threads + Wait + Sync>(
         keys: ix.written_keys(),
         numbers: &found.edges,
     };
-    let Products {
-        verdict,
-        pivots,
-        sheets,
-    } = produce(rt, alloc, &edges, longest, o)?;
-    let judgement = judge(h, ix, committed, found, verdict, pivots);
-    Ok(JudgedHistory { judgement, sheets })
+    let verdict = settled(alloc, &edges)?;
+    let pivots = pivots_of(alloc, &edges)?;
+    Ok(judge(h, ix, committed, found, verdict, pivots))
 }

@@ -4,7 +4,6 @@
 
 mod answering;
 mod batches;
-mod by_one;
 mod counts;
 mod device;
 mod engine;
@@ -22,9 +21,8 @@ mod number_lines;
 mod numerals;
 mod options;
 mod output;
-mod pieces;
-mod products;
 mod reporting;
+mod sheets;
 #[cfg(test)]
 mod tests;
 mod words;

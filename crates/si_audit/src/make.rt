@@ -52,6 +52,6 @@ pub fn audit<R: Threads + Wait + Sync>(
     // The length tells that the history is well-formed.
     let _ = h.len();
     let ix = index(alloc, h)?;
-    let judged = judged(rt, alloc, h, &ix, o, None)?;
-    unpacked(alloc, judged.judgement, ix.written_keys())
+    let judgement = judged(rt, alloc, h, &ix, o)?;
+    unpacked(alloc, judgement, ix.written_keys())
 }

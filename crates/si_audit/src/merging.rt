@@ -8,6 +8,7 @@ ghost use Rattle.sia_parts.specs.EdgeNumbers.{AreEdgeTables, IsFound};
 ghost use Rattle.sia_parts.specs.Gathering.{AreNumbersBetween, CanSpread, IsGathering, IsPartFound};
 ghost use Rattle.sia_parts.specs.Parts.{IsCutting, IsInPart};
 
+use crate::finding::crew_of;
 use crate::options::Options;
 use sia_events::NoMemory;
 use sia_parts::{EdgeNumber, Found, Gathering, PartFound, Seams};
@@ -16,15 +17,9 @@ use std::alloc::Global;
 use std::sync::Wait;
 use std::thread::Threads;
 
-/// How many numbers are made by one thread, since to start others takes time.
-const FEW: usize = 131_072;
-
-/// How many numbers a stretch mostly has: so few that no worker waits long for the last one, and that its memory is one that an
-/// allocator gives each worker apart from the others, and gives again.
-const SHORT: usize = 12_000;
-
-/// The greatest number of stretches, which are the parts of the work.
-const MOST: usize = 1024;
+/// How many numbers a stretch mostly has: so few that no worker waits long for the last one, and that the memory of a stretch, and
+/// that of its lines, is one that an allocator gives each worker apart from the others, and gives again.
+const STRETCH: usize = 6_000;
 
 /// The work, of whose stretches the workers take one after another.
 #[derive(Drop)]
@@ -55,13 +50,6 @@ impl Job for Merging<'_> {
     }
 }
 
-/// Into how many stretches so many numbers are cut at most.
-fn most_of(numbers: usize) -> u32
-    ensures { (0 < result) × (result ≤ 1024) }
-{
-    (numbers / SHORT).clamp(1, MOST) as u32
-}
-
 /// How many stretches there are.
 fn count_of(seams: &Seams) -> u32
     requires { length seams.now.places.items ≤ 1025 }
@@ -82,18 +70,15 @@ fn merged<R: Threads + Wait + Sync>(
     requires { All CanSpread gathering.edges.items }
     ensures { IfOk result (λ found. (h : List Event) (ids keys : List ℕ) → AreEdgeTables h ids keys → length ids ≡ txns → IsGathering h ids keys gathering → IsFound h ids keys found) }
 {
-    let workers = u32::from(o.workers());
-    let unmerged = gathering.unmerged();
-    if unmerged < FEW {
-        return gathering.merged(alloc, txns);
-    }
-    let seams = Seams::of(alloc, &gathering, txns, most_of(unmerged))?;
+    let seams = Seams::of(alloc, &gathering, txns, STRETCH)?;
+    let count = count_of(&seams);
+    let workers = crew_of(o, count);
     let job = Merging {
         alloc,
         gathering: &gathering,
         seams: &seams,
     };
-    match work_off(rt, alloc, count_of(&seams), workers, &job, &OpenGate) {
+    match work_off(rt, alloc, count, workers, &job, &OpenGate) {
         Ok(crew) => Ok(gathering.joined(&seams, crew.outs, txns)),
         Err(_) => Err(NoMemory),
     }

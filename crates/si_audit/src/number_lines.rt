@@ -3,13 +3,14 @@
 // that nothing is counted before, and appended at once.
 ghost use Rattle.std.specs.Prelude.{◌≡◌, ◌+◌, ◌<◌, ◌≤◌, ◌∷◌, ◌++◌, [], length, drop, flat_map, map, codes, IfOk, OnOk, slice_index};
 ghost use Rattle.sia_events.specs.Text.{numeral};
+ghost use Rattle.sia_parts.specs.Stretches.{numbers_in};
 ghost use Rattle.sia_parts.specs.Packing.{key_number, source_number, target_number, unpacked};
 ghost use Rattle.si_audit.specs.Lines as lines;
 ghost use Rattle.si_audit.specs.Heads.{AreLongNumerals, AreNumerals, IsHead};
-ghost use Rattle.si_audit.specs.Sheets.{number_lines, numbers_of};
+ghost use Rattle.si_audit.specs.Sheets.{number_lines};
 
 use crate::numerals::{LongNumeral, Numeral, Numerals, digits_of};
-use crate::pieces::count_of;
+use crate::sheets::count_of;
 use itoa::write_digits;
 use sia_events::{Key, TxnId};
 use sia_parts::{EdgeNumber, Kind, key_of, kind_in, source_of, target_of};
@@ -356,7 +357,7 @@ fn push_numbers(
 
 /// How many bytes a line has at most: those of the words, the digits of two transactions, and of a key. Both lists ascend, so
 /// that no digits are more than those of the last.
-pub(crate) fn longest_line(txns: &[TxnId], keys: &[Key]) -> usize
+fn longest_line(txns: &[TxnId], keys: &[Key]) -> usize
     ensures { 0 < result }
 {
     let txn = txns.last().map_or(0, |last| digits_of(Key::from(*last)));
@@ -364,40 +365,22 @@ pub(crate) fn longest_line(txns: &[TxnId], keys: &[Key]) -> usize
     WORDS + 2 * txn + key
 }
 
-/// The lines of the edges of these numbers, on a sheet of their own. It has the room for them from the start.
+/// The lines of the edges of these chunks, on a sheet of their own. It has the room for them from the start.
 pub(crate) fn sheet_of(
     alloc: Global,
     words: &Numerals,
     txns: &[TxnId],
     keys: &[Key],
-    numbers: &[EdgeNumber],
+    chunks: &[Vec<EdgeNumber>],
 ) -> Result<Vec<u8>, AllocError>
     requires targets { AreNumerals txns.now words.now.txns.items }
     requires of_keys { AreLongNumerals keys.now words.now.keys.items }
-    ensures { IfOk result (λ sheet. sheet.items ≡ number_lines txns.now keys.now numbers.now) }
+    ensures { IfOk result (λ sheet. sheet.items ≡ number_lines txns.now keys.now (numbers_in chunks.now)) }
 {
-    let room = numbers.len().saturating_mul(longest_line(txns, keys));
+    let room = count_of(chunks).saturating_mul(longest_line(txns, keys));
     let mut sheet = Vec::with_capacity(alloc, room)?;
-    push_numbers(&mut sheet, words, txns, keys, numbers)?;
-    Ok(sheet)
-}
-
-/// The lines of the edges of these pieces, on a sheet of their own. It has the room for them from the start.
-pub(crate) fn sheet_of_pieces(
-    alloc: Global,
-    words: &Numerals,
-    txns: &[TxnId],
-    keys: &[Key],
-    pieces: &[&[EdgeNumber]],
-) -> Result<Vec<u8>, AllocError>
-    requires targets { AreNumerals txns.now words.now.txns.items }
-    requires of_keys { AreLongNumerals keys.now words.now.keys.items }
-    ensures { IfOk result (λ sheet. sheet.items ≡ number_lines txns.now keys.now (numbers_of pieces.now)) }
-{
-    let room = count_of(pieces).saturating_mul(longest_line(txns, keys));
-    let mut sheet = Vec::with_capacity(alloc, room)?;
-    for piece in pieces {
-        push_numbers(&mut sheet, words, txns, keys, piece)?;
+    for chunk in chunks {
+        push_numbers(&mut sheet, words, txns, keys, chunk)?;
     }
     Ok(sheet)
 }

@@ -5,6 +5,7 @@ mod line;
 mod long_texts;
 mod many_edges;
 mod options;
+mod passing_on;
 mod rows;
 mod sheets;
 mod statuses;

@@ -10,6 +10,6 @@ pub returns-clause-exact : goal.returns-clause-exact
 returns-clause-exact g c =
     let keys = c.written_keys.result.now in
     let written = subst (λ x. AreWrittenKeys x keys) c.in_ok-ix.ensures c.written_keys.ensures in
-    let exact = c.in_ok-judged.ensures.exact keys written in
-    ok_map (λ a. account_of a ≡ account_by keys c.in_ok-judged.judged.judgement) (λ a. IsAccount c.args.h.now (account_of a)) c.unpacked.result
+    let exact = c.in_ok-judgement.ensures.exact keys written in
+    ok_map (λ a. account_of a ≡ account_by keys c.in_ok-judgement.judgement) (λ a. IsAccount c.args.h.now (account_of a)) c.unpacked.result
     (λ a is. subst (IsAccount c.args.h.now) (sym is) exact) c.unpacked.ensures
