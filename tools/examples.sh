@@ -1,36 +1,43 @@
 #!/bin/sh
-# Runs the program on each examples/NAME.history and compares what it writes with NAME.report, and its status with the
-# one in NAME.status, or 0. The last line is 'N passed, M failed'.
+# Runs the program on each NAME.history of examples/ and examples/databases/, and compares what it writes with NAME.report,
+# and its status with the one in NAME.status, or 0; and in the same way on the stored run of its crate. The last line is
+# 'N passed, M failed'.
 : "${PROGRAM:=crates/si_audit/out/si_audit}"
 mkdir -p out
 passed=0
 failed=0
 
-for text in examples/*.history; do
-    name=${text%.history}
-    wanted=0
-    if [ -f "$name.status" ]; then
-        wanted=$(cat "$name.status")
-    fi
-    "$PROGRAM" <"$text" >out/report 2>out/said
+# compare TEXT REPORT STATUS: the program's report on the text is this one, with this status.
+compare() {
+    "$PROGRAM" <"$1" >out/report 2>out/said
     status=$?
     why=
-    if [ ! -f "$name.report" ]; then
-        why="there is no $name.report"
-    elif ! cmp -s "$name.report" out/report; then
-        why="it isn't $name.report"
+    if [ ! -f "$2" ]; then
+        why="there is no $2"
+    elif ! cmp -s "$2" out/report; then
+        why="it isn't $2"
     elif [ -s out/said ]; then
         why="it wrote on standard error"
-    elif [ "$status" != "$wanted" ]; then
-        why="its status is $status and not $wanted"
+    elif [ "$status" != "$3" ]; then
+        why="its status is $status and not $3"
     fi
     if [ -z "$why" ]; then
         passed=$((passed + 1))
     else
         failed=$((failed + 1))
-        echo "$text: $why:"
+        echo "$1: $why:"
         cat out/report out/said
     fi
+}
+
+for text in examples/*.history examples/databases/*.history; do
+    name=${text%.history}
+    wanted=0
+    if [ -f "$name.status" ]; then
+        wanted=$(cat "$name.status")
+    fi
+    compare "$text" "$name.report" "$wanted"
 done
+compare crates/si_audit/stdin crates/si_audit/stdout 0
 echo "$passed passed, $failed failed"
 [ "$failed" = 0 ]

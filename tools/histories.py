@@ -8,71 +8,88 @@ give the same text.
 
 import random
 import sys
+from collections.abc import Callable, Iterable
 
 
 class Store:
     """A store under snapshot isolation, and the events that it records."""
 
-    def __init__(self):
-        self.events = []
-        self.versions = {}  # of each key the committed (place, transaction), in order
-        self.started = {}  # the open transactions: events recorded before the first one
-        self.written = {}  # of each open transaction its keys
-        self.last = 0  # the last transaction's number
+    def __init__(self) -> None:
+        self.events: list[str] = []
+        # Of each key the committed (place, transaction), in order.
+        self.versions: dict[int, list[tuple[int, int]]] = {}
+        # Of each open transaction how many events were recorded before its first one, and the keys that it wrote.
+        self.started: dict[int, int | None] = {}
+        self.written: dict[int, set[int]] = {}
+        self.last = 0
 
-    def start(self):
+    def start(self) -> int:
+        """Starts a transaction, and returns its number."""
         self.last += 1
         self.started[self.last] = None
         self.written[self.last] = set()
         return self.last
 
-    def record(self, txn, event):
-        if self.started[txn] is None:
-            self.started[txn] = len(self.events)
+    def start_of(self, txn: int) -> int:
+        """How many events had been recorded when the transaction started. One with no event starts now."""
+        start = self.started[txn]
+        return len(self.events) if start is None else start
+
+    def record(self, txn: int, event: str) -> None:
+        self.started[txn] = self.start_of(txn)
         self.events.append(event)
 
-    def due(self, txn, key):
+    def due(self, txn: int, key: int) -> int:
+        """The version of the key that the transaction is to see."""
         if key in self.written[txn]:
             return txn
-        start = self.started[txn]
-        if start is None:
-            start = len(self.events)
+        start = self.start_of(txn)
         for place, writer in reversed(self.versions.get(key, [])):
             if place <= start:
                 return writer
         return 0
 
-    def read(self, txn, key):
+    def read(self, txn: int, key: int) -> None:
         self.record(txn, f"r{txn}[{key}:{self.due(txn, key)}]")
 
-    def read_range(self, txn, lo, hi):
-        seen = [(key, self.due(txn, key)) for key in range(lo, hi + 1)]
+    def keys_within(self, lo: int, hi: int) -> Iterable[int]:
+        """The keys of a range that may have a version, ascending."""
+        return range(lo, hi + 1)
+
+    def read_range(self, txn: int, lo: int, hi: int) -> None:
+        seen = [(key, self.due(txn, key)) for key in self.keys_within(lo, hi)]
         listed = ",".join(f"{key}:{version}" for key, version in seen if version)
         self.record(txn, f"r{txn}[{lo}..{hi}{';' + listed if listed else ''}]")
 
-    def write(self, txn, key):
+    def write(self, txn: int, key: int) -> None:
         self.record(txn, f"w{txn}[{key}]")
         self.written[txn].add(key)
 
-    def end(self, txn):
-        """Commits, or aborts where another writer of one of its keys committed since it started."""
-        start = self.started[txn]
-        is_late = any(
-            versions[-1][0] > start
-            for key in self.written[txn]
-            if (versions := self.versions.get(key))
-        )
-        self.record(txn, f"{'a' if is_late else 'c'}{txn}")
-        if not is_late:
+    def is_newer(self, txn: int, key: int) -> bool:
+        """Whether a version of the key was committed since the transaction started."""
+        versions = self.versions.get(key)
+        return bool(versions) and versions[-1][0] > self.start_of(txn)
+
+    def must_abort(self, txn: int) -> bool:
+        """Whether another writer of one of the transaction's keys committed since it started."""
+        return any(self.is_newer(txn, key) for key in self.written[txn])
+
+    def end(self, txn: int) -> None:
+        """Commits, or aborts where the transaction must."""
+        aborts = self.must_abort(txn)
+        self.record(txn, f"{'a' if aborts else 'c'}{txn}")
+        if not aborts:
             for key in self.written[txn]:
                 self.versions.setdefault(key, []).append((len(self.events), txn))
         del self.started[txn], self.written[txn]
 
 
-def interleaved(events, rng, act, steps, at_once=8):
+Act = Callable[[Store, int], None]
+
+
+def interleave(store: Store, events: int, rng: random.Random, act: Act, steps: int, at_once: int = 8) -> list[str]:
     """Some transactions at once, each of a few steps and its end, until there are enough events."""
-    store = Store()
-    left = {}
+    left: dict[int, int] = {}
     while len(store.events) < events or left:
         if len(store.events) < events and len(left) < at_once:
             left[store.start()] = rng.randint(1, steps)
@@ -86,40 +103,40 @@ def interleaved(events, rng, act, steps, at_once=8):
     return store.events
 
 
-def short(events, rng):
+def short(events: int, rng: random.Random) -> list[str]:
     """Short transactions over many keys."""
 
-    def act(store, txn):
+    def act(store: Store, txn: int) -> None:
         key = rng.randrange(10 * events)
         (store.read if rng.random() < 0.6 else store.write)(txn, key)
 
-    return interleaved(events, rng, act, 5)
+    return interleave(Store(), events, rng, act, 5)
 
 
-def hot(events, rng):
+def hot(events: int, rng: random.Random) -> list[str]:
     """Short transactions, most of whose reads and writes are of four keys."""
 
-    def act(store, txn):
+    def act(store: Store, txn: int) -> None:
         key = rng.randrange(4) if rng.random() < 0.8 else rng.randrange(1000)
         (store.read if rng.random() < 0.8 else store.write)(txn, key)
 
-    return interleaved(events, rng, act, 5)
+    return interleave(Store(), events, rng, act, 5)
 
 
-def ranges(events, rng):
+def ranges(events: int, rng: random.Random) -> list[str]:
     """Range reads of a hundred keys, and writes of single keys."""
 
-    def act(store, txn):
+    def act(store: Store, txn: int) -> None:
         key = rng.randrange(2000)
         if rng.random() < 0.5:
             store.read_range(txn, key, key + 99)
         else:
             store.write(txn, key)
 
-    return interleaved(events, rng, act, 4)
+    return interleave(Store(), events, rng, act, 4)
 
 
-def one_reader(events, rng):
+def one_reader(events: int, rng: random.Random) -> list[str]:
     """One transaction reads one key again and again, while others write it."""
     store = Store()
     reader = store.start()
@@ -135,14 +152,19 @@ def one_reader(events, rng):
     return store.events
 
 
-KINDS = {make.__name__: make for make in (short, hot, ranges, one_reader)}
+KINDS: dict[str, Callable[[int, random.Random], list[str]]] = {
+    "short": short,
+    "hot": hot,
+    "ranges": ranges,
+    "one_reader": one_reader,
+}
 
 
-def text_of(kind, events, seed=1):
+def text_of(kind: str, events: int, seed: int = 1) -> str:
     return " ".join(KINDS[kind](events, random.Random(f"{kind} {events} {seed}"))) + "\n"
 
 
-def main(words):
+def main(words: list[str]) -> int:
     if len(words) not in (2, 3) or words[0] not in KINDS or not all(it.isdigit() for it in words[1:]):
         print(__doc__, end="", file=sys.stderr)
         return 2

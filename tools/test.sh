@@ -1,14 +1,66 @@
 #!/bin/sh
-# The whole gate: the kit proves, tests and runs every crate from nothing, and the program that it built runs every
-# example, a list of command lines, and random histories beside the definitions, and is refused memory and threads.
+# make test takes what is proved already, proves the rest, runs the tests of each crate, and then the program: on every
+# example, on command lines, beside the definitions, on the longest texts, and without memory. With FULL=1 the kit's whole
+# gate stands in the place of the first steps: all is proved from nothing, and the edits that the prover must refuse are
+# tried. A table of the steps comes at the end, and the last line counts them.
 : "${PROGRAM:=crates/si_audit/out/si_audit}"
+mkdir -p out
+table=out/steps
+: >"$table"
+passed=0
+failed=0
+
+# step WHAT COMMAND..: one step, and what it shows where the command succeeds.
+step() {
+    what=$1
+    shift
+    echo "== $what"
+    began=$(date +%s)
+    if "$@"; then
+        word=passed
+        passed=$((passed + 1))
+    else
+        word=FAILED
+        failed=$((failed + 1))
+    fi
+    printf '%s %6d s  %s\n' "$word" $(($(date +%s) - began)) "$what" >>"$table"
+}
+
+# Tells what came of the steps. The status is 0 where all passed.
+finish() {
+    echo "== all steps"
+    cat "$table"
+    echo "$passed passed, $failed failed"
+    [ "$failed" = 0 ]
+}
+
+# The definitions in Python, which import each other as one package.
+definitions() {
+    PYTHONPATH=tools python3 -B -m "$@"
+}
+
 sh tools/kit.sh || exit 1
-rt ci || exit 1
-echo "examples:"
-sh tools/examples.sh || exit 1
-echo "command lines:"
-sh tools/line_tests.sh || exit 1
-echo "random histories:"
-python3 tools/oracle.py "$PROGRAM" 1000 || exit 1
-echo "refused memory and threads:"
-python3 tools/refusals.py "$PROGRAM"
+case ${FULL:-0} in
+    0) step "every function is proved to meet its contract, and the program is built" sh tools/build.sh ;;
+    1) step "all is proved from nothing, the prover refuses each wrong edit, and the crates' own tests" rt ci ;;
+    *)
+        echo "make test: FULL is 1, or isn't given" >&2
+        exit 2
+        ;;
+esac
+if [ "$failed" != 0 ]; then
+    finish
+    exit 1
+fi
+if [ "${FULL:-0}" = 0 ]; then
+    step "the crates' own tests" sh tools/crate_tests.sh
+fi
+step "the program on every example" sh tools/examples.sh
+step "the program on command lines, and with devices that fail" sh tools/line_tests.sh
+step "the definitions in Python, on what docs/FORMAT.md works out" definitions unittest -q oracle.tests
+step "the program beside the definitions, on random histories" definitions oracle "$PROGRAM" \
+    small=1000 crowd=60 versions=30 ranges=24 rings=20 edges=12 most_edges=6
+step "the companion: logs in, names and pages out" sh tools/companion_tests.sh
+step "the program on the longest texts, each within some seconds" python3 -B tools/limits.py "$PROGRAM"
+step "the program without memory, and without threads" python3 -B tools/refusals.py "$PROGRAM"
+finish

@@ -1,0 +1,78 @@
+"""The history of a text, or the text's refusal: the table of refusals of docs/FORMAT.md."""
+
+import re
+from dataclasses import dataclass, field
+
+from oracle.events import MAX_EVENTS, Event, Form, event_of
+
+MAX_BYTES = 16_777_216
+SEPARATORS = re.compile(rb"[ \t\r\n]+")
+
+
+@dataclass(frozen=True)
+class Refusal:
+    """The refusal line of a text."""
+
+    line: str
+
+
+@dataclass
+class Reader:
+    """The events so far, and what the rules ask of them: who has an event, who has ended, and who wrote what."""
+
+    events: list[Event] = field(default_factory=list)
+    known: set[int] = field(default_factory=set)
+    ended: set[int] = field(default_factory=set)
+    written: set[tuple[int, int]] = field(default_factory=set)
+
+    def reason(self, event: Event | None) -> str | None:
+        """Why a token of this event can't come next, where it can't."""
+        if len(self.events) == MAX_EVENTS:
+            return "too many events"
+        if event is None:
+            return "bad event"
+        if not event.is_in_range():
+            return "number out of range"
+        if event.txn in self.ended:
+            return "transaction already ended"
+        if event.form is Form.BEGIN and event.txn in self.known:
+            return "transaction already begun"
+        if event.lo is not None and event.hi is not None and event.lo > event.hi:
+            return "empty range"
+        if not is_good_list(event):
+            return "bad list"
+        if any(saw != 0 and (saw, key) not in self.written for key, saw in event.sightings()):
+            return "version not written"
+        if event.start is not None and event.start > len(self.events):
+            return "start too late"
+        return None
+
+    def add(self, event: Event) -> None:
+        """Takes an event for which there is no reason against it."""
+        self.events.append(event)
+        self.known.add(event.txn)
+        if event.form in (Form.COMMIT, Form.ABORT):
+            self.ended.add(event.txn)
+        if event.form is Form.WRITE and event.key is not None:
+            self.written.add((event.txn, event.key))
+
+
+def is_good_list(event: Event) -> bool:
+    """Whether the listed keys ascend within the range."""
+    keys = [key for key, _ in event.pairs]
+    is_within = all(event.sees(key) is not None for key in keys)
+    return is_within and all(left < right for left, right in zip(keys, keys[1:]))
+
+
+def read(text: bytes) -> list[Event] | Refusal:
+    """The events of a text, or its refusal."""
+    if len(text) > MAX_BYTES:
+        return Refusal("refused: text too long")
+    reader = Reader()
+    for number, token in enumerate(filter(None, SEPARATORS.split(text)), 1):
+        event = event_of(token)
+        reason = reader.reason(event)
+        if event is None or reason is not None:
+            return Refusal(f"refused: token {number}: {reason}")
+        reader.add(event)
+    return reader.events

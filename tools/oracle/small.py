@@ -1,0 +1,83 @@
+"""Small random texts: of a store that mostly reads what is due, and of nobody in particular."""
+
+from random import Random
+
+from oracle.events import MAX_KEY, MAX_TXN, Form, event_of
+from oracle.reading import Reader
+from oracle.trying import History
+
+KEYS = ([1, 2], [1, 2, 3], [0, 5, 6, MAX_KEY], [10, 11, 12, 20])
+IDS = (range(1, 7), [3, 70, 1_048_576, 1_048_577, 2**31, MAX_TXN])
+FAULTY = ("x", "r1[9..3]", "r01[1:0]", "w0[1]", "b4294967296", "r1[0..5;]", "c", "r1[1:0", "b1@4294967296")
+
+
+class Maker:
+    """A text in the making. Of the tokens that can't come next only a few are kept, and what follows them is judged as
+    if they weren't there."""
+
+    def __init__(self, rng: Random) -> None:
+        self.rng, self.reader = rng, Reader()
+        self.tokens: list[str] = []
+        self.keys = rng.choice(KEYS)
+        self.ids = rng.sample(rng.choice(IDS), rng.randint(1, 5))
+
+    def add(self, token: str) -> None:
+        event = event_of(token.encode())
+        reason = self.reader.reason(event)
+        if reason is None and event is not None:
+            self.reader.add(event)
+        elif self.rng.random() < 0.97:
+            return
+        self.tokens.append(token)
+
+    def version(self, txn: int, key: int, honest: bool) -> int:
+        """A version of the key for a read to see."""
+        events = self.reader.events
+        writers = [it.txn for it in events if it.form is Form.WRITE and it.key == key]
+        if not honest:
+            others = [self.rng.choice(self.ids)] if self.rng.random() < 0.05 else []
+            return self.rng.choice([0, *writers, *others])
+        if txn in writers:
+            return txn
+        history = History(events)
+        return history.due(txn, len(events) + 1, key) if txn in history.txns else history.newest(key)
+
+    def range_read(self, txn: int, honest: bool) -> str:
+        lo, hi = sorted(self.rng.choice([*self.keys, 0, 7, 15]) for _ in range(2))
+        listed = [(key, self.version(txn, key, honest)) for key in self.keys if lo <= key <= hi]
+        pairs = [f"{key}:{version}" for key, version in listed if version or self.rng.random() < 0.2]
+        return f"r{txn}[{lo}..{hi}{';' + ','.join(pairs) if pairs else ''}]"
+
+    def token(self, honest: bool) -> str:
+        """A token of some transaction."""
+        rng = self.rng
+        txn, key, share = rng.choice(self.ids), rng.choice(self.keys), rng.random()
+        is_due = honest or rng.random() < 0.6
+        if share < 0.35:
+            return f"r{txn}[{key}:{self.version(txn, key, is_due)}]"
+        if share < 0.45:
+            return self.range_read(txn, is_due)
+        if share < 0.75:
+            return f"w{txn}[{key}]"
+        if share < 0.80:
+            return f"b{txn}"
+        if share < 0.84:
+            return f"b{txn}@{rng.randint(0, len(self.reader.events) + rng.randint(0, 1))}"
+        return f"c{txn}" if share < 0.96 else f"a{txn}"
+
+    def text(self) -> bytes:
+        """The text, of up to 24 tokens and some commits."""
+        honest = self.rng.random() < 0.5
+        for _ in range(self.rng.randint(0, 24)):
+            self.add(self.token(honest))
+        if self.rng.random() < 0.5:
+            for txn in self.ids:
+                self.add(f"c{txn}")
+        if self.rng.random() < 0.03:
+            self.tokens.insert(self.rng.randint(0, len(self.tokens)), self.rng.choice(FAULTY))
+        return self.rng.choice((" ", "\n", " \t", "\r\n")).join(self.tokens).encode()
+
+
+def text_of(rng: Random) -> bytes:
+    """A small text."""
+    return Maker(rng).text()
