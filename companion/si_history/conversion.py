@@ -1,0 +1,59 @@
+"""What the commands that read logs have in common: their arguments, and what they write."""
+
+from __future__ import annotations
+
+import argparse
+import gc
+from collections.abc import Callable, Iterator
+from contextlib import contextmanager
+from dataclasses import dataclass
+from typing import BinaryIO
+
+from si_history.errors import BadInput, in_source
+from si_history.files import STANDARD_INPUT, opened, source_name, write_file, write_output
+from si_history.history import Event, text_of
+from si_history.legend import Legend
+
+
+@dataclass(slots=True)
+class Conversion:
+    """The history of a log, and its legend."""
+
+    events: list[Event]
+    legend: Legend
+
+
+def add_log_arguments(parser: argparse.ArgumentParser) -> None:
+    """Adds the log and the legend to a command's arguments."""
+    parser.add_argument("log", metavar="LOG", help="the log; - is standard input")
+    parser.add_argument(
+        "--legend",
+        metavar="FILE",
+        help="write the log's names of transactions and keys, and the line of each event, to FILE as JSON",
+    )
+
+
+@contextmanager
+def without_collector() -> Iterator[None]:
+    """Within it, Python doesn't look for cycles of objects: a conversion makes none, and looking takes a third of its time."""
+    was_on = gc.isenabled()
+    gc.disable()
+    try:
+        yield
+    finally:
+        if was_on:
+            gc.enable()
+
+
+def run_conversion(arguments: argparse.Namespace, convert: Callable[[BinaryIO], Conversion]) -> int:
+    """Converts the log that the arguments name: writes the legend, if wanted, and then the history. Answers the status."""
+    if arguments.legend == STANDARD_INPUT:
+        raise BadInput("--legend needs a file of its own: standard output has the history")
+    with in_source(source_name(arguments.log)), without_collector():
+        with opened(arguments.log) as file:
+            conversion = convert(file)
+        text = text_of(conversion.events)
+    if arguments.legend is not None:
+        write_file(arguments.legend, conversion.legend.to_json())
+    write_output(text)
+    return 0

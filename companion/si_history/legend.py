@@ -1,0 +1,81 @@
+"""The legend of a history: which names and lines of a store's log its numbers stand for."""
+
+from __future__ import annotations
+
+import json
+from dataclasses import dataclass, field
+
+from si_history.errors import BadInput
+
+FORMAT = "si-history legend 1"
+
+
+@dataclass
+class Legend:
+    """What the numbers of a history stand for.
+
+    `transactions` and `keys` give the log's name of each number. `events` gives, for each place of the history in turn,
+    the line of the log that the event came from; both are counted from 1.
+    """
+
+    transactions: dict[int, str] = field(default_factory=dict)
+    keys: dict[int, str] = field(default_factory=dict)
+    events: list[int] = field(default_factory=list)
+
+    def transaction(self, number: int) -> str:
+        """The log's name of a transaction, or the number itself where the legend has none."""
+        return self.transactions.get(number, str(number))
+
+    def key(self, number: int) -> str:
+        """The log's name of a key, or the number itself where the legend has none."""
+        return self.keys.get(number, str(number))
+
+    def line(self, place: int) -> int | None:
+        """The line of the log that the event at a place came from, if the legend tells."""
+        return self.events[place - 1] if 1 <= place <= len(self.events) else None
+
+    def to_json(self) -> str:
+        """The legend as one JSON object, on one line."""
+        return json.dumps({
+            "format": FORMAT,
+            "transactions": {str(number): name for number, name in self.transactions.items()},
+            "keys": {str(number): name for number, name in self.keys.items()},
+            "events": self.events,
+        }) + "\n"
+
+    @classmethod
+    def from_json(cls, text: str) -> Legend:
+        """Reads what `to_json` wrote. Raises BadInput where it is no legend."""
+        try:
+            made = json.loads(text)
+        except (ValueError, RecursionError):
+            raise BadInput("the legend is not JSON") from None
+        if not isinstance(made, dict) or made.get("format") != FORMAT:
+            raise BadInput(f'the legend is no object with "format": "{FORMAT}"')
+        return cls(_names(made, "transactions"), _names(made, "keys"), _lines(made))
+
+
+def _names(made: dict[str, object], part: str) -> dict[int, str]:
+    """One table of the legend, from numbers to names."""
+    table = made.get(part)
+    if not isinstance(table, dict):
+        raise BadInput(f'the legend has no table "{part}"')
+    names: dict[int, str] = {}
+    for number, name in table.items():
+        if not _is_number(number) or not isinstance(name, str):
+            raise BadInput(f'"{part}" of the legend does not lead from numbers to names')
+        names[int(number)] = name
+    return names
+
+
+def _is_number(text: str) -> bool:
+    """Whether a text is a whole number of at most twenty digits, which every number of a history is."""
+    return text.isascii() and text.isdigit() and len(text) <= 20
+
+
+def _lines(made: dict[str, object]) -> list[int]:
+    """The lines of the log, one for each place."""
+    lines = made.get("events")
+    if not isinstance(lines, list) or not all(type(line) is int and line > 0 for line in lines):
+        raise BadInput('"events" of the legend is no list of line numbers')
+    return lines

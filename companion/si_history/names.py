@@ -1,0 +1,119 @@
+"""`si-history names`: a report with the log's own names and lines."""
+
+from __future__ import annotations
+
+import argparse
+from collections.abc import Callable, Iterator
+
+from si_history.errors import BadInput
+from si_history.files import STANDARD_INPUT, write_output
+from si_history.naming import Names
+from si_history.progress import REPORT_LINES, Progress
+from si_history.report_text import INDENT, Malformed, ReportText, edge_of, read_report
+
+EPILOG = """\
+Each line of the report comes out with the log's names in place of numbers, and with
+"line N", a line of the log, in place of the place of an event. Version 0, which no
+transaction wrote, stays 0:
+
+  bad-read 7 4 1 saw 2 due 3      becomes  bad-read line 6 T4 acct/5 saw T2 due T3
+  edge 1 ww 2 1                   becomes  edge T1 ww T2 acct/5
+  cycle 1 >ww:1> 2 >rw:1> 1       becomes  cycle T1 >ww:acct/5> T2 >rw:acct/5> T1
+
+A name that could be misread, with a space or a quote in it for example, is written as
+a JSON string. In lines that explain (they are indented), what is certain is named:
+"transaction N", "key N" and "place N".
+
+examples:
+  si-history from-events --legend run.legend run.log >run.history
+  si_audit <run.history >run.report
+  si-history names --legend run.legend <run.report
+"""
+
+
+def register(commands: argparse._SubParsersAction[argparse.ArgumentParser]) -> None:
+    """Adds the command."""
+    parser = commands.add_parser(
+        "names",
+        help="a report with the log's own names and lines",
+        description="Writes a report with the names of transactions and keys, and the lines, that the log has.",
+        epilog=EPILOG,
+        formatter_class=argparse.RawDescriptionHelpFormatter,
+    )
+    parser.add_argument(
+        "report", metavar="REPORT", nargs="?", default=STANDARD_INPUT, help="the report (default: -, standard input)"
+    )
+    parser.add_argument("--legend", metavar="FILE", required=True, help="the legend that was written with the history")
+    parser.set_defaults(run=run)
+
+
+def run(arguments: argparse.Namespace) -> int:
+    """Writes the report with names."""
+    if arguments.report == arguments.legend == STANDARD_INPUT:
+        raise BadInput("the report and the legend can't both be standard input")
+    names = Names.from_path(arguments.legend)
+    with Progress(REPORT_LINES) as progress:
+        text = ReportText.from_path(arguments.report, progress)
+        names.check(read_report(text).counts)
+        named = "".join(f"{line}\n" for line in named_lines(text, names))
+    write_output(named)
+    return 0
+
+
+def named_lines(text: ReportText, names: Names) -> Iterator[str]:
+    """The lines of a report, which was read without fault, with names. Raises BadInput for what the legend doesn't name."""
+    for number, line in enumerate(text, 1):
+        try:
+            yield names.in_text(line) if line.startswith(INDENT) else named_line(line, names)
+        except Malformed as fault:
+            raise text.no_report(number, fault) from None
+
+
+def named_line(line: str, names: Names) -> str:
+    """One line of a report with names. Raises Malformed for an edge that is none."""
+    head, _, rest = line.partition(" ")
+    if head == "edge":
+        edge = edge_of(line)
+        return f"edge {names.transaction(edge.source)} {edge.kind.value} {names.transaction(edge.target)} {names.key(edge.key)}"
+    words = rest.split(" ") if rest else []
+    if head in _PARTS:
+        return " ".join([head, *(part(names, word) for part, word in zip(_PARTS[head], words, strict=True))])
+    if head in ("pivot", "order", "cycle"):
+        return " ".join([head, *(_stop_or_step(names, word) for word in words)])
+    return line
+
+
+def _as_it_is(_: Names, word: str) -> str:
+    return word
+
+
+def _transaction(names: Names, word: str) -> str:
+    return names.transaction(int(word))
+
+
+def _version(names: Names, word: str) -> str:
+    return word if word == "0" else names.transaction(int(word))
+
+
+def _key(names: Names, word: str) -> str:
+    return names.key(int(word))
+
+
+def _place(names: Names, word: str) -> str:
+    return f"line {names.line(int(word))}"
+
+
+def _stop_or_step(names: Names, word: str) -> str:
+    """A transaction of a list, or what stands between two in the line of a cycle, as `>ww:7>`, or a word such as `in`."""
+    if word.startswith(">"):
+        kind, _, key = word[1:-1].partition(":")
+        return f">{kind}:{_key(names, key)}>"
+    return _transaction(names, word) if word.isdigit() else word
+
+
+_PARTS: dict[str, tuple[Callable[[Names, str], str], ...]] = {
+    "bad-read": (_place, _transaction, _key, _as_it_is, _version, _as_it_is, _version),
+    "bad-write": (_key, _transaction, _transaction),
+    "unexplained": (_place, _transaction, _key, _version),
+}
+"""What stands where in lines of a fixed length, after the first word."""

@@ -1,0 +1,76 @@
+"""`si-history page`: a report and its history as one page for a browser, or as a picture."""
+
+from __future__ import annotations
+
+import argparse
+import os.path
+
+from si_history.document import html, picture
+from si_history.errors import BadInput, in_source
+from si_history.facts import Facts
+from si_history.files import STANDARD_INPUT, read_text, source_name, write_file, write_output
+from si_history.findings import groups_of
+from si_history.history import MAX_BYTES, parse
+from si_history.naming import Names, shown
+from si_history.progress import REPORT_LINES, Progress
+from si_history.report_text import ReportText, read_report
+from si_history.scene import scene_of
+
+EPILOG = """\
+The page holds all that it needs: it loads nothing, and can be sent as one file. It has
+the verdict in words, the findings with their reasons, and a timeline with one lane a
+transaction and arrows for the edges of the cycle. Of a large history the timeline has
+only transactions that the cycle and the findings name.
+
+examples:
+  si_audit <run.history >run.report
+  si-history page run.history run.report -o page.html
+  si-history page run.history run.report --legend run.legend -o page.html
+  si-history page run.history run.report --svg -o picture.svg
+"""
+
+
+def register(commands: argparse._SubParsersAction[argparse.ArgumentParser]) -> None:
+    """Adds the command."""
+    parser = commands.add_parser(
+        "page",
+        help="a history and its report as one page for a browser",
+        description="Writes a history and its report as one HTML page, or the timeline alone as an SVG image.",
+        epilog=EPILOG,
+        formatter_class=argparse.RawDescriptionHelpFormatter,
+    )
+    parser.add_argument("history", metavar="HISTORY", help="the text of the history; - is standard input")
+    parser.add_argument("report", metavar="REPORT", help="its report; - is standard input")
+    parser.add_argument("--legend", metavar="FILE", help="the legend that was written with the history, for the log's names")
+    parser.add_argument("--svg", action="store_true", help="the timeline alone, as an SVG image")
+    parser.add_argument("-o", "--output", metavar="FILE", default="-", help="where to write (default: -, standard output)")
+    parser.set_defaults(run=run)
+
+
+def run(arguments: argparse.Namespace) -> int:
+    """Writes the page or the picture."""
+    if [arguments.history, arguments.report, arguments.legend].count(STANDARD_INPUT) > 1:
+        raise BadInput("only one input can be standard input")
+    made = made_page(arguments.history, arguments.report, arguments.legend, arguments.svg)
+    if arguments.output == STANDARD_INPUT:
+        write_output(made)
+    else:
+        write_file(arguments.output, made)
+    return 0
+
+
+def made_page(history_path: str, report_path: str, legend_path: str | None, is_picture: bool) -> str:
+    """The page, or the picture alone. Raises BadInput where an input is none, or is not of the same history as the report."""
+    with Progress(REPORT_LINES) as progress:
+        report = read_report(ReportText.from_path(report_path, progress))
+    names = Names.from_path(legend_path)
+    names.check(report.counts)
+    with in_source(source_name(history_path)):
+        with Progress("events of the history") as progress:
+            facts = Facts(parse(read_text(history_path, MAX_BYTES), progress))
+        facts.check(report.counts)
+        groups = groups_of(report, facts, names)
+        scene = scene_of(facts, report.cycle, groups, names)
+    if is_picture:
+        return picture(report, scene)
+    return html(shown(os.path.basename(source_name(history_path))), report, groups, scene, names)

@@ -1,0 +1,137 @@
+"""The report of a history, as typed data: what `si_audit` writes, and docs/FORMAT.md explains line by line.
+
+The verdicts are the report's. `reasons` are the lines that explain a line, where the report has such below it.
+"""
+
+from __future__ import annotations
+
+import enum
+from dataclasses import dataclass, field
+from typing import NamedTuple
+
+
+class EdgeKind(enum.Enum):
+    """What an edge from T to U by a key says: T must stand before U, because .."""
+
+    WW = "ww"
+    """.. both wrote the key, and T's version is before U's."""
+    WR = "wr"
+    """.. U saw T's version, or a later one."""
+    RW = "rw"
+    """.. T saw a version that is before U's."""
+
+
+class Edge(NamedTuple):
+    """One edge: the source must stand before the target in a serial order, because of the key."""
+
+    source: int
+    kind: EdgeKind
+    target: int
+    key: int
+
+
+@dataclass(frozen=True, slots=True)
+class Counts:
+    """How many events the history has, and how many transactions of each fate."""
+
+    events: int
+    committed: int
+    aborted: int
+    open: int
+
+
+@dataclass(slots=True)
+class Verdict:
+    """One of the three answers yes or no: isolation kept, ssi pass, serializable."""
+
+    holds: bool
+    reasons: list[str] = field(default_factory=list, kw_only=True)
+
+
+@dataclass(slots=True)
+class BadRead:
+    """At `place` the transaction read the key and saw version `saw`, where `due` was due. Version 0 is the first one."""
+
+    place: int
+    transaction: int
+    key: int
+    saw: int
+    due: int
+    reasons: list[str] = field(default_factory=list, kw_only=True)
+
+
+@dataclass(slots=True)
+class BadWrite:
+    """Two committed transactions that overlap wrote the key; `first` committed first."""
+
+    key: int
+    first: int
+    second: int
+    reasons: list[str] = field(default_factory=list, kw_only=True)
+
+
+@dataclass(slots=True)
+class Unexplained:
+    """At `place` the transaction read the key and saw version `saw`, which no serial order explains."""
+
+    place: int
+    transaction: int
+    key: int
+    saw: int
+    reasons: list[str] = field(default_factory=list, kw_only=True)
+
+
+@dataclass(slots=True)
+class Pivot:
+    """Overlapping transactions with an rw edge to the pivot, with one from it, and those of the latter that commit first."""
+
+    transaction: int
+    sources: tuple[int, ...]
+    targets: tuple[int, ...]
+    firsts: tuple[int, ...]
+    reasons: list[str] = field(default_factory=list, kw_only=True)
+
+
+@dataclass(slots=True)
+class Order:
+    """The committed transactions in an order that keeps every edge."""
+
+    transactions: tuple[int, ...]
+    reasons: list[str] = field(default_factory=list, kw_only=True)
+
+
+@dataclass(slots=True)
+class Cycle:
+    """Edges of which each starts where the one before ends; the last ends where the first starts."""
+
+    steps: tuple[Edge, ...]
+    reasons: list[str] = field(default_factory=list, kw_only=True)
+
+    @property
+    def transactions(self) -> tuple[int, ...]:
+        return tuple(step.source for step in self.steps)
+
+
+@dataclass(slots=True)
+class Report:
+    """A whole report but for its edges, which can be millions: `report_text.edges_in` gives them one by one."""
+
+    counts: Counts
+    isolation: Verdict
+    bad_reads: list[BadRead]
+    bad_writes: list[BadWrite]
+    unexplained: list[Unexplained]
+    edge_count: int
+    """How many lines of edges the report has."""
+    pivots: list[Pivot]
+    ssi: Verdict
+    serializable: Verdict
+    outcome: Order | Cycle
+
+    @property
+    def cycle(self) -> Cycle | None:
+        return self.outcome if isinstance(self.outcome, Cycle) else None
+
+
+Explained = Verdict | BadRead | BadWrite | Unexplained | Pivot | Order | Cycle
+"""What a line says, where the lines below it may explain it."""

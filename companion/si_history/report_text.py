@@ -1,0 +1,273 @@
+"""The text of a report, read.
+
+Edges can be millions of lines, and most uses need few of them or none. So `read_report` passes over them and counts them,
+and `edges_in` gives them one by one. The lines of edges and of pivots may be left out of a report.
+
+A line that starts with two spaces explains the line above it, and is kept there as one of its `reasons`; below the first
+line and below edges it is passed over.
+"""
+
+from __future__ import annotations
+
+import io
+import re
+from collections.abc import Iterator
+from typing import TypeVar
+
+from si_history.errors import BadInput
+from si_history.files import opened, source_name
+from si_history.progress import Progress
+from si_history.report import (
+    BadRead, BadWrite, Counts, Cycle, Edge, EdgeKind, Explained, Order, Pivot, Report, Unexplained, Verdict,
+)
+
+INDENT = "  "
+LINES_BETWEEN_STEPS = 65_536
+MOST_DIGITS = 20
+"""No number of a report has more digits: the greatest key is 18446744073709551615."""
+
+
+class ReportText:
+    """The text of a report, held whole, so that its lines can be gone through more than once.
+
+    Each time they are, the lines so far are told to `progress`.
+    """
+
+    def __init__(self, content: bytes, source: str = "the report", progress: Progress | None = None) -> None:
+        self._content = content
+        self._progress = progress
+        self.source = source
+
+    @classmethod
+    def from_path(cls, path: str, progress: Progress | None = None) -> ReportText:
+        """The text in a file, or in standard input where the path is `-`. Raises BadInput where it can't be read."""
+        with opened(path) as file:
+            return cls(file.read(), source_name(path), progress)
+
+    def __iter__(self) -> Iterator[str]:
+        """The lines, without their ends. Bytes that are no UTF-8 are replaced: nothing but a reason may hold such."""
+        lines = io.TextIOWrapper(io.BytesIO(self._content), encoding="utf-8", errors="replace", newline="\n")
+        for number, line in enumerate(lines, 1):
+            if number % LINES_BETWEEN_STEPS == 0 and self._progress is not None:
+                self._progress.step(number)
+            yield line.removesuffix("\n")
+
+    def no_report(self, line: int, fault: Malformed) -> BadInput:
+        """What to raise where a line is none that a report has in this place."""
+        return BadInput(f"this is no report: {fault}", line=line, source=self.source)
+
+
+def read_report(text: ReportText) -> Report:
+    """The report that a text is, without its edges. Raises BadInput where it is none, or a refusal."""
+    reader = _Reader()
+    number = 0
+    try:
+        for number, line in enumerate(text, 1):
+            reader.take(line)
+        return reader.report()
+    except Malformed as fault:
+        raise text.no_report(max(number, 1), fault) from None
+    except _Refused as fault:
+        raise BadInput(str(fault), source=text.source) from None
+
+
+def edges_in(text: ReportText) -> Iterator[Edge]:
+    """The edges of a report, in their order. Raises BadInput at a line that starts as an edge does and is none."""
+    for number, line in enumerate(text, 1):
+        if line.startswith("edge "):
+            try:
+                edge = edge_of(line)
+            except Malformed as fault:
+                raise text.no_report(number, fault) from None
+            yield edge
+
+
+_EDGE = re.compile("edge (0|[1-9][0-9]{0,19}) (ww|wr|rw) (0|[1-9][0-9]{0,19}) (0|[1-9][0-9]{0,19})")
+_REFUSAL = re.compile(r"refused: (?:(text too long)|token ([1-9][0-9]*): ([a-z ]+))")
+
+
+def refusal_in_words(line: str) -> str:
+    """What the line of a refusal says, for a user who wanted a report."""
+    found = _REFUSAL.fullmatch(line)
+    if found is None:
+        return "this is no report, and no refusal either"
+    where = "the text was too long" if found[1] else f"at event {found[2]}: {found[3]}"
+    return f"the auditor refused the history and made no report ({where})"
+
+
+class Malformed(Exception):
+    """A line that a report has not, or not in this place."""
+
+
+class _Refused(Exception):
+    """The text is a refusal; the words are for the user."""
+
+
+def edge_of(line: str) -> Edge:
+    """The edge that a line says. Raises Malformed where it says none."""
+    found = _EDGE.fullmatch(line)
+    if found is None:
+        raise Malformed("'edge T KIND U KEY' is wanted")
+    source, kind, target, key = found.groups()
+    return Edge(int(source), _KINDS[kind], int(target), int(key))
+
+
+def _kind(word: str) -> EdgeKind:
+    kind = _KINDS.get(word)
+    if kind is None:
+        raise Malformed(f"the kind of an edge is ww, wr or rw, and not {_short(word)}")
+    return kind
+
+
+def _number(word: str) -> int:
+    if not (word.isascii() and word.isdigit()) or len(word) > MOST_DIGITS or (word[0] == "0" and word != "0"):
+        raise Malformed(f"{_short(word)} is no number")
+    return int(word)
+
+
+def _numbers(words: list[str], forms: str) -> list[int]:
+    """The numbers among the words. `forms` is the line that is wanted, with `#` at the place of each number."""
+    wanted = forms.split(" ")
+    if len(words) != len(wanted) or any(form not in ("#", word) for form, word in zip(wanted, words)):
+        raise Malformed(f"'{forms.replace('#', 'N')}' is wanted")
+    return [_number(word) for form, word in zip(wanted, words) if form == "#"]
+
+
+def _verdict(words: list[str], yes: str, no: str) -> Verdict:
+    if words[1:] not in ([yes], [no]):
+        raise Malformed(f"'{words[0]} {yes}' or '{words[0]} {no}' is wanted")
+    return Verdict(words[1] == yes)
+
+
+def _pivot(words: list[str]) -> Pivot:
+    try:
+        sources_at = words.index("in")
+        targets_at = words.index("out")
+    except ValueError:
+        raise Malformed("'pivot T2 in T1 .. out T3 ..' is wanted") from None
+    firsts_at = words.index("first") if "first" in words else len(words)
+    if sources_at != 2 or not sources_at + 1 < targets_at < firsts_at - 1 or firsts_at == len(words) - 1:
+        raise Malformed("'pivot T2 in T1 .. out T3 ..' is wanted")
+    return Pivot(
+        _number(words[1]),
+        tuple(map(_number, words[sources_at + 1 : targets_at])),
+        tuple(map(_number, words[targets_at + 1 : firsts_at])),
+        tuple(map(_number, words[firsts_at + 1 :])),
+    )
+
+
+def _cycle(words: list[str]) -> Cycle:
+    if len(words) < 6 or len(words) % 2 or words[1] != words[-1]:
+        raise Malformed("'cycle T >KIND:KEY> U .. >KIND:KEY> T' is wanted")
+    stops = [_number(word) for word in words[1::2]]
+    steps = []
+    for source, arrow, target in zip(stops, words[2::2], stops[1:]):
+        kind, colon, key = arrow[1:-1].partition(":")
+        if not (arrow.startswith(">") and arrow.endswith(">") and colon):
+            raise Malformed(f"{_short(arrow)} is no step of a cycle")
+        steps.append(Edge(source, _kind(kind), target, _number(key)))
+    return Cycle(tuple(steps))
+
+
+def _short(word: str) -> str:
+    """The word in ASCII and quotes, cut where it is long."""
+    return ascii(word if len(word) <= 40 else word[:40] + "..")
+
+
+_AnyExplained = TypeVar("_AnyExplained", bound=Explained)
+
+_HEADS = (
+    "events", "isolation", "bad-read", "bad-write", "unexplained", "edge", "pivot", "ssi", "serializable", "order",
+)
+"""The first words of the lines, in the order of the lines. A cycle stands in the place of the order."""
+_STAGES = {head: stage for stage, head in enumerate(_HEADS)} | {"cycle": len(_HEADS) - 1}
+_SINGLE = {"events", "isolation", "ssi", "serializable", "order"}
+_KINDS = {kind.value: kind for kind in EdgeKind}
+
+
+class _Reader:
+    """Takes the lines of a report in their order. `_stage` is the index in `_HEADS` of the line that was taken last."""
+
+    def __init__(self) -> None:
+        self._stage = -1
+        self._last: Explained | None = None
+        self._edges = 0
+        self._counts: list[Counts] = []
+        self._verdicts: list[Verdict] = []
+        self._bad_reads: list[BadRead] = []
+        self._bad_writes: list[BadWrite] = []
+        self._unexplained: list[Unexplained] = []
+        self._pivots: list[Pivot] = []
+        self._outcomes: list[Order | Cycle] = []
+
+    def take(self, line: str) -> None:
+        """Takes the next line. Of a line that starts as an edge does, the rest is not looked at."""
+        if line.startswith("edge "):
+            self._move("edge")
+            self._edges += 1
+            self._last = None
+        elif line.startswith(INDENT) and self._stage >= 0:
+            if self._last is not None:
+                self._last.reasons.append(line.strip())
+        else:
+            words = line.split(" ")
+            if words[0] == "refused:" and self._stage < 0:
+                raise _Refused(refusal_in_words(line))
+            self._move(words[0])
+            self._last = self._kept(words)
+
+    def _move(self, head: str) -> None:
+        """Goes on to the stage of a first word. None may be left out or stand twice of those that stand once."""
+        stage = _STAGES.get(head)
+        if stage is None:
+            raise Malformed(f"no line of a report starts with {_short(head)}")
+        if stage == self._stage and _HEADS[stage] not in _SINGLE:
+            return
+        if stage <= self._stage:
+            raise Malformed(f"a line '{head} ..' can't stand here")
+        for between in _HEADS[self._stage + 1 : stage]:
+            if between in _SINGLE:
+                raise Malformed(f"a line '{between} ..' must stand before this one")
+        self._stage = stage
+
+    def _kept(self, words: list[str]) -> Explained | None:
+        """What the words of a line say, put to what the report has of the kind."""
+        match words[0]:
+            case "events":
+                self._counts.append(Counts(*_numbers(words, "events # committed # aborted # open #")))
+                return None
+            case "isolation":
+                return _put(self._verdicts, _verdict(words, "kept", "broken"))
+            case "bad-read":
+                return _put(self._bad_reads, BadRead(*_numbers(words, "bad-read # # # saw # due #")))
+            case "bad-write":
+                return _put(self._bad_writes, BadWrite(*_numbers(words, "bad-write # # #")))
+            case "unexplained":
+                return _put(self._unexplained, Unexplained(*_numbers(words, "unexplained # # # #")))
+            case "pivot":
+                return _put(self._pivots, _pivot(words))
+            case "ssi":
+                return _put(self._verdicts, _verdict(words, "pass", "fail"))
+            case "serializable":
+                return _put(self._verdicts, _verdict(words, "yes", "no"))
+            case "order":
+                return _put(self._outcomes, Order(tuple(map(_number, words[1:]))))
+            case "cycle":
+                return _put(self._outcomes, _cycle(words))
+        raise Malformed("it stands alone")
+
+    def report(self) -> Report:
+        """What was taken, if it is whole."""
+        if not self._outcomes:
+            due = next(head for head in _HEADS[self._stage + 1 :] if head in _SINGLE)
+            raise Malformed(f"it ends before its line '{due} ..'")
+        isolation, ssi, serializable = self._verdicts
+        return Report(
+            self._counts[0], isolation, self._bad_reads, self._bad_writes, self._unexplained, self._edges,
+            self._pivots, ssi, serializable, self._outcomes[0],
+        )
+
+
+def _put(items: list[_AnyExplained], item: _AnyExplained) -> _AnyExplained:
+    items.append(item)
+    return item

@@ -1,0 +1,112 @@
+"""Progress is shown at a terminal alone, and only once the work has taken two seconds."""
+
+from __future__ import annotations
+
+import io
+import itertools
+import tempfile
+import unittest
+from pathlib import Path
+from unittest import mock
+
+from si_history import history, report_text
+from si_history.cli import main
+from si_history.legend import Legend
+from si_history.progress import Progress
+from tests.test_page import LOST_UPDATE_HISTORY
+from tests.test_report import LOST_UPDATE
+
+
+class Terminal(io.StringIO):
+    """A standard error that says it is a terminal."""
+
+    def isatty(self) -> bool:
+        return True
+
+
+def shown(error: io.StringIO, *steps: tuple[float, int]) -> str:
+    """What is written where each step comes at a time, in seconds from the start, with a count."""
+    clock = mock.Mock(return_value=100.0)
+    with mock.patch("sys.stderr", error), mock.patch("time.monotonic", clock), Progress("lines read") as progress:
+        for seconds, count in steps:
+            clock.return_value = 100.0 + seconds
+            progress.step(count)
+    return error.getvalue()
+
+
+class ProgressTest(unittest.TestCase):
+    def test_short_work_is_silent(self) -> None:
+        self.assertEqual(shown(Terminal(), (0.5, 1_000), (1.9, 2_000)), "")
+
+    def test_long_work_is_told_and_wiped(self) -> None:
+        told = shown(Terminal(), (1.0, 1_000), (2.1, 2_000), (2.2, 3_000), (2.7, 4_000))
+        self.assertEqual(told, "\rsi-history: 2,000 lines read\rsi-history: 4,000 lines read\r\x1b[K")
+
+    def test_a_file_is_told_nothing(self) -> None:
+        self.assertEqual(shown(io.StringIO(), (9.0, 1_000)), "")
+
+
+WIPED = "\r\x1b[K"
+
+
+def told(count: int, what: str = "lines of the report") -> str:
+    """What is shown at a step."""
+    return f"\rsi-history: {count} {what}"
+
+
+class CommandsTest(unittest.TestCase):
+    """Commands at a terminal, told of every fifth line of a report of 11 lines, and of every fourth of 6 events.
+
+    The clock goes on by ten seconds whenever it is asked, so that each step is shown.
+    """
+
+    def setUp(self) -> None:
+        place = tempfile.TemporaryDirectory()
+        self.addCleanup(place.cleanup)
+        self.place = Path(place.name)
+        (self.place / "history").write_text(LOST_UPDATE_HISTORY)
+        (self.place / "report").write_text(LOST_UPDATE)
+        (self.place / "legend").write_text(Legend({1: "T7", 2: "T8"}, {1: "k"}, [1, 2, 3, 4, 5, 6]).to_json())
+
+    def said(self, status: int, *words: str) -> str:
+        """What a command says on standard error. Words in capitals are files."""
+        error, output = Terminal(), io.TextIOWrapper(io.BytesIO())
+        with (
+            mock.patch("sys.stderr", error), mock.patch("sys.stdout", output),
+            mock.patch("time.monotonic", mock.Mock(side_effect=itertools.count(0.0, 10.0))),
+            mock.patch.object(report_text, "LINES_BETWEEN_STEPS", 5), mock.patch.object(history, "EVENTS_BETWEEN_STEPS", 4),
+        ):
+            done = main([str(self.place / word.lower()) if word.isupper() else word for word in words])
+        self.assertEqual(done, status, error.getvalue())
+        return error.getvalue()
+
+    def test_a_page(self) -> None:
+        events = told(4, "events of the history") + WIPED
+        self.assertEqual(self.said(0, "page", "HISTORY", "REPORT", "-o", "PAGE"), told(5) + told(10) + WIPED + events)
+
+    def test_names_go_through_the_report_twice(self) -> None:
+        self.assertEqual(self.said(0, "names", "--legend", "LEGEND", "REPORT"), (told(5) + told(10)) * 2 + WIPED)
+
+    def test_the_graph_of_a_cycle(self) -> None:
+        self.assertEqual(self.said(0, "graph", "REPORT"), told(5) + told(10) + WIPED)
+
+    def test_graphs_that_need_edges(self) -> None:
+        """The pivots' edges, and all edges, are found by going through the report once more."""
+        twice = (told(5) + told(10)) * 2 + WIPED
+        self.assertEqual(self.said(0, "graph", "--all", "REPORT"), twice)
+        pivots = "".join("serializable yes\norder 1 2\n" if line.startswith("serializable") else line
+                         for line in LOST_UPDATE.splitlines(keepends=True) if not line.startswith("cycle"))
+        (self.place / "report").write_text(pivots)
+        self.assertEqual(self.said(0, "graph", "REPORT"), twice)
+
+    def test_a_fault_is_told_on_a_line_that_is_wiped(self) -> None:
+        """The legend lacks key 1. An edge is drawn once the line behind it is read, so the fault comes after line 5."""
+        (self.place / "legend").write_text(Legend({1: "T7", 2: "T8"}, {}, [1, 2, 3, 4, 5, 6]).to_json())
+        self.assertEqual(
+            self.said(2, "graph", "--all", "--legend", "LEGEND", "REPORT"),
+            told(5) + told(10) + told(5) + WIPED + "si-history: the legend has no name for key 1\n",
+        )
+
+
+if __name__ == "__main__":
+    unittest.main()

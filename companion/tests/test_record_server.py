@@ -1,0 +1,156 @@
+"""Servers in temporary directories: shell scripts stand for the databases' programs."""
+
+from __future__ import annotations
+
+import os
+import pwd
+import signal
+import subprocess
+import sys
+import tempfile
+import textwrap
+import time
+import unittest
+from pathlib import Path
+from unittest import mock
+
+from si_history.record import drivers, postgres, server
+from si_history.record.model import StoreFault
+from si_history.record.server import MEGABYTE, Server, program
+from tests.support import COMPANION, LONG_SECONDS
+
+ACCOUNT = pwd.getpwuid(os.geteuid()).pw_name
+
+
+def fake(room: int = MEGABYTE, account: str = ACCOUNT) -> Server:
+    return Server("Fake", account, signal.SIGTERM, room)
+
+
+class Servers(unittest.TestCase):
+    def setUp(self) -> None:
+        self.place = tempfile.TemporaryDirectory(prefix="si-test-")
+        self.addCleanup(self.place.cleanup)
+        patched = mock.patch.object(tempfile, "tempdir", self.place.name)
+        patched.start()
+        self.addCleanup(patched.stop)
+
+    def left(self) -> list[str]:
+        return os.listdir(self.place.name)
+
+    def test_a_server_is_stopped_and_its_directory_removed(self) -> None:
+        with fake() as one:
+            one.prepare(["/bin/sh", "-c", "mkdir data"])
+            one.start(["/bin/sh", "-c", "echo $$ >data/process; exec sleep 600"], (one.data / "process").exists)
+            process = int((one.data / "process").read_text())
+            os.kill(process, 0)
+            self.assertEqual(len(self.left()), 1)
+        self.assertEqual(self.left(), [])
+        with self.assertRaises(ProcessLookupError):
+            os.kill(process, 0)
+
+    def test_workers_that_outlive_the_server_are_ended(self) -> None:
+        with fake() as one:
+            script = "setsid sleep 600 & echo $! >worker; exit 1"
+            with self.assertRaises(StoreFault):
+                one.start(["/bin/sh", "-c", script], lambda: False)
+            worker = int((one.directory / "worker").read_text())
+        self.assertEqual(self.left(), [])
+        with self.assertRaises(ProcessLookupError):
+            self.wait_for_end(worker)
+
+    def wait_for_end(self, process: int) -> None:
+        """Raises ProcessLookupError once there is no such process, or it only waits to be taken notice of."""
+        end = time.monotonic() + LONG_SECONDS
+        while time.monotonic() < end:
+            if Path(f"/proc/{process}/stat").exists() and Path(f"/proc/{process}/stat").read_text().split(") ")[1][0] == "Z":
+                raise ProcessLookupError
+            os.kill(process, 0)
+            time.sleep(0.02)
+
+    def test_the_last_words_of_a_failing_command_are_told(self) -> None:
+        with self.assertRaisesRegex(StoreFault, r"Fake: sh failed \(its last words: no room for it\)"), fake() as one:
+            one.prepare(["/bin/sh", "-c", "echo no room for it; exit 3"])
+        self.assertEqual(self.left(), [])
+
+    def test_a_server_that_ends_by_itself_is_told(self) -> None:
+        with self.assertRaisesRegex(StoreFault, "the Fake server ended by itself; run it again"), fake() as one:
+            one.start(["/bin/sh", "-c", "exit 0"], lambda: False)
+        self.assertEqual(self.left(), [])
+
+    def test_a_disk_with_too_little_room_is_told_before_anything_starts(self) -> None:
+        with self.assertRaisesRegex(StoreFault, "MB free, and a Fake server needs .* set TMPDIR"), fake(room=2**60):
+            self.fail("it started")
+        self.assertEqual(self.left(), [])
+
+    def test_a_disk_that_fills_up_is_told(self) -> None:
+        with self.assertRaisesRegex(StoreFault, "0 MB free.* set TMPDIR"), fake() as one:
+            one.start(["/bin/sh", "-c", "exec sleep 600"], lambda: True)
+            one.look()
+            with mock.patch.object(server.shutil, "disk_usage", return_value=mock.Mock(free=1000)):
+                one.look()
+        self.assertEqual(self.left(), [])
+
+    def test_a_directory_that_is_too_long_for_a_socket_is_told(self) -> None:
+        longer = Path(self.place.name) / ("x" * 100)
+        longer.mkdir()
+        with mock.patch.object(tempfile, "tempdir", str(longer)):
+            with self.assertRaisesRegex(StoreFault, "set TMPDIR to a shorter directory"), fake():
+                self.fail("it started")
+        self.assertEqual(os.listdir(longer), [])
+
+    @unittest.skipUnless(os.geteuid() == 0, "left out: only root needs another account")
+    def test_an_account_that_is_missing_is_told(self) -> None:
+        with self.assertRaisesRegex(StoreFault, "no account si-nobody.*install_databases.sh"), fake(account="si-nobody"):
+            self.fail("it started")
+
+    def test_signals_stop_the_server(self) -> None:
+        script = textwrap.dedent(f"""
+            import signal, sys
+            from si_history.record import signals
+            from si_history.record.server import Server
+            with signals.met():
+                with Server("Fake", {ACCOUNT!r}, signal.SIGTERM, 1000) as one:
+                    one.start(["/bin/sh", "-c", "echo $$; exec sleep 600"], lambda: True)
+                    print(one._process.pid, flush=True)
+                    one.start(["/bin/sh", "-c", "exec sleep 600"], lambda: False)
+        """)
+        for number in (signal.SIGTERM, signal.SIGHUP):
+            with self.subTest(number):
+                environment = {**os.environ, "PYTHONPATH": str(COMPANION), "TMPDIR": self.place.name}
+                with subprocess.Popen([sys.executable, "-c", script], stdout=subprocess.PIPE, env=environment) as process:
+                    assert process.stdout is not None
+                    started = int(process.stdout.readline())
+                    process.send_signal(number)
+                    self.assertEqual(process.wait(LONG_SECONDS), -number)
+                with self.assertRaises(ProcessLookupError):
+                    self.wait_for_end(started)
+                self.assertEqual(self.left(), [])
+
+
+class Missing(unittest.TestCase):
+    def test_a_missing_server_is_told(self) -> None:
+        with self.assertRaisesRegex(StoreFault, r"no PostgreSQL server was found.*tools/install_databases\.sh installs it"):
+            program("si-no-such-program", "PostgreSQL", [Path("/nowhere")])
+
+    def test_a_server_of_a_known_place_is_found(self) -> None:
+        self.assertEqual(program("sh", "Shell", []), Path(program("sh", "Shell")))
+        with mock.patch.dict(os.environ, {"PATH": "/nowhere"}):
+            self.assertEqual(program("sh", "Shell", [Path("/bin")]), Path("/bin/sh"))
+
+    def test_a_missing_driver_is_told(self) -> None:
+        with self.assertRaisesRegex(StoreFault, r"there is no Python module si_one or si_two.*install_databases\.sh"):
+            drivers.load("PostgreSQL", ("si_one", "si_two"))
+
+    def test_the_python_that_has_the_driver_is_told(self) -> None:
+        with mock.patch.object(drivers, "_has_module", lambda python, name: name == "si_two"), \
+                mock.patch.object(drivers, "SYSTEM_PYTHON", "/the/other/python3"):
+            with self.assertRaisesRegex(StoreFault, r"/the/other/python3 has si_two: use /the/other/python3 -m si_history"):
+                drivers.load("PostgreSQL", ("si_one", "si_two"))
+
+    def test_the_newest_server_of_debian_is_taken(self) -> None:
+        places = [Path("/usr/lib/postgresql") / version / "bin" for version in ("9", "15", "13", "odd")]
+        self.assertEqual(max(places, key=postgres._version).parent.name, "15")
+
+
+if __name__ == "__main__":
+    unittest.main()

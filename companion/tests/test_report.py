@@ -1,0 +1,163 @@
+"""Reports: each line is read, lines may be left out or explained, and what is no report is refused."""
+
+from __future__ import annotations
+
+import unittest
+
+from si_history.errors import BadInput
+from si_history.report import (
+    BadRead, BadWrite, Counts, Cycle, Edge, EdgeKind, Order, Pivot, Unexplained, Verdict,
+)
+from si_history.report_text import ReportText, edges_in, read_report
+from tests.support import REPOSITORY
+
+LOST_UPDATE = """\
+events 6 committed 2 aborted 0 open 0
+isolation broken
+bad-write 1 1 2
+edge 1 ww 2 1
+edge 1 rw 2 1
+edge 2 rw 1 1
+pivot 1 in 2 out 2
+pivot 2 in 1 out 1 first 1
+ssi fail
+serializable no
+cycle 1 >ww:1> 2 >rw:1> 1
+"""
+
+PLAIN = ["events 0 committed 0 aborted 0 open 0", "isolation kept", "ssi pass", "serializable yes", "order"]
+
+
+def text_of(text: str) -> ReportText:
+    """The text of a report, as if it came from a file r."""
+    return ReportText(text.encode(), "r")
+
+
+def lines(*words: str) -> ReportText:
+    """A report of these lines."""
+    return text_of("".join(f"{line}\n" for line in words))
+
+
+class ReadTest(unittest.TestCase):
+    def test_a_lost_update(self) -> None:
+        report = read_report(text_of(LOST_UPDATE))
+        self.assertEqual(report.counts, Counts(6, 2, 0, 0))
+        self.assertEqual(report.isolation, Verdict(False))
+        self.assertEqual(report.bad_writes, [BadWrite(1, 1, 2)])
+        self.assertEqual(report.edge_count, 3)
+        self.assertEqual(report.pivots, [Pivot(1, (2,), (2,), ()), Pivot(2, (1,), (1,), (1,))])
+        self.assertEqual((report.ssi, report.serializable), (Verdict(False), Verdict(False)))
+        self.assertEqual(report.outcome, Cycle((Edge(1, EdgeKind.WW, 2, 1), Edge(2, EdgeKind.RW, 1, 1))))
+        self.assertIs(report.cycle, report.outcome)
+
+    def test_edges_one_by_one(self) -> None:
+        self.assertEqual(
+            list(edges_in(text_of(LOST_UPDATE))),
+            [Edge(1, EdgeKind.WW, 2, 1), Edge(1, EdgeKind.RW, 2, 1), Edge(2, EdgeKind.RW, 1, 1)],
+        )
+
+    def test_reads_and_an_order(self) -> None:
+        report = read_report(lines(
+            "events 7 committed 2 aborted 1 open 1", "isolation broken", "bad-read 3 4294967295 18446744073709551615 saw 0 due 9",
+            "bad-read 5 4 1 saw 2 due 3", "unexplained 5 4 1 2", "ssi fail", "serializable no", "order 4 2",
+        ))
+        self.assertEqual(report.bad_reads, [BadRead(3, 2**32 - 1, 2**64 - 1, 0, 9), BadRead(5, 4, 1, 2, 3)])
+        self.assertEqual(report.unexplained, [Unexplained(5, 4, 1, 2)])
+        self.assertEqual((report.outcome, report.cycle), (Order((4, 2)), None))
+
+    def test_no_transaction(self) -> None:
+        report = read_report(lines(*PLAIN))
+        self.assertEqual((report.outcome, report.isolation, report.edge_count), (Order(()), Verdict(True), 0))
+
+    def test_a_pivot_of_many(self) -> None:
+        report = read_report(lines(*PLAIN[:2], "pivot 5 in 1 2 3 out 4 6 first 4", *PLAIN[2:]))
+        self.assertEqual(report.pivots, [Pivot(5, (1, 2, 3), (4, 6), (4,))])
+
+    def test_edges_and_pivots_may_be_left_out(self) -> None:
+        brief = [line for line in LOST_UPDATE.splitlines() if not line.startswith(("edge", "pivot"))]
+        report = read_report(lines(*brief))
+        self.assertEqual((report.edge_count, report.pivots), (0, []))
+        self.assertEqual(report.cycle, read_report(text_of(LOST_UPDATE)).cycle)
+
+    def test_lines_that_explain(self) -> None:
+        text = LOST_UPDATE.replace("bad-write 1 1 2\n", "bad-write 1 1 2\n  c1 is event 5\n  it overlaps\n")
+        text = text.replace("edge 1 rw 2 1\n", "edge 1 rw 2 1\n  of an edge\n").replace("ssi fail\n", "ssi fail\n  by 2\n")
+        report = read_report(text_of(text + "  ww by key 1\n"))
+        self.assertEqual(report.bad_writes[0].reasons, ["c1 is event 5", "it overlaps"])
+        self.assertEqual((report.ssi.reasons, report.outcome.reasons), (["by 2"], ["ww by key 1"]))
+        self.assertEqual([pivot.reasons for pivot in report.pivots], [[], []])
+
+    def test_every_example(self) -> None:
+        """Each report under examples is read, and its counts and its kind of outcome are those of its lines."""
+        paths = [path for path in sorted(REPOSITORY.glob("examples/**/*.report")) if path.stem != "refused"]
+        self.assertGreater(len(paths), 8)
+        for path in paths:
+            with self.subTest(path=path.name):
+                words = path.read_text().splitlines()
+                text = ReportText.from_path(str(path))
+                report = read_report(text)
+                edges = sum(line.startswith("edge ") for line in words)
+                self.assertEqual((report.edge_count, len(list(edges_in(text)))), (edges, edges))
+                self.assertEqual(report.isolation.holds, words[1] == "isolation kept")
+                self.assertEqual(report.cycle is None, words[-1].startswith("order"))
+
+
+class RefusedTest(unittest.TestCase):
+    def check(self, text: ReportText, said: str) -> None:
+        """The text is refused, with these words."""
+        with self.assertRaises(BadInput) as caught:
+            read_report(text)
+        self.assertEqual(str(caught.exception), said)
+
+    def test_no_report(self) -> None:
+        self.check(text_of(""), "r: line 1: this is no report: it ends before its line 'events ..'")
+        self.check(text_of("w1[7] c1\n"), "r: line 1: this is no report: no line of a report starts with 'w1[7]'")
+        self.check(ReportText(b"\xff\x00\n", "r"), "r: line 1: this is no report: no line of a report starts with '\\ufffd\\x00'")
+        self.check(lines("isolation kept"), "r: line 1: this is no report: a line 'events ..' must stand before this one")
+        self.check(lines("  indented"), "r: line 1: this is no report: no line of a report starts with ''")
+
+    def test_a_refusal(self) -> None:
+        self.check(
+            lines("refused: token 7: version not written"),
+            "r: the auditor refused the history and made no report (at event 7: version not written)",
+        )
+        self.check(lines("refused: text too long"), "r: the auditor refused the history and made no report (the text was too long)")
+        self.check(lines("refused: nonsense \x1b[31m"), "r: this is no report, and no refusal either")
+
+    def test_lines_that_are_missing_or_doubled(self) -> None:
+        self.check(lines(*PLAIN[:-1]), "r: line 4: this is no report: it ends before its line 'order ..'")
+        self.check(lines(*PLAIN[:2], *PLAIN[3:]), "r: line 3: this is no report: a line 'ssi ..' must stand before this one")
+        self.check(lines(*PLAIN[:2], *PLAIN[1:]), "r: line 3: this is no report: a line 'isolation ..' can't stand here")
+        self.check(lines(*PLAIN, "order"), "r: line 6: this is no report: a line 'order ..' can't stand here")
+        swapped = [*PLAIN[:2], "edge 1 ww 2 1", "bad-write 1 1 2", *PLAIN[2:]]
+        self.check(lines(*swapped), "r: line 4: this is no report: a line 'bad-write ..' can't stand here")
+
+    def test_faulty_lines(self) -> None:
+        for at, line in (
+            (0, "events 1 committed 0 aborted 0"), (0, "events 01 committed 0 aborted 0 open 0"),
+            (0, "events 1 committed 0 aborted 0 open 0 "), (0, "events \u0661 committed 0 aborted 0 open 0"),
+            (0, "events -1 committed 0 aborted 0 open 0"), (0, f"events {'9' * 5000} committed 0 aborted 0 open 0"),
+            (1, "isolation maybe"), (1, "isolation"), (2, "ssi yes"), (3, "serializable pass"), (4, "order 1 x"), (4, "order "),
+            (4, "cycle"), (4, "cycle 1 >ww:1> 1 2"), (4, "cycle 1 >ww:1> 2 >rw:1> 3"), (4, "cycle 1 ww:1 2 >rw:1> 1"),
+            (4, "cycle 1 >xx:1> 2 >rw:1> 1"), (4, "cycle 1 >ww> 2 >rw:1> 1"), (4, "cycle 1 >ww:k> 2 >rw:1> 1"),
+        ):
+            with self.subTest(line=line[:50]), self.assertRaisesRegex(BadInput, f"^r: line {at + 1}: this is no report: "):
+                read_report(lines(*PLAIN[:at], line, *PLAIN[at + 1 :]))
+
+    def test_faulty_findings(self) -> None:
+        for line in (
+            "bad-read 1 1 1 saw 2", "bad-read 1 1 1 due 2 saw 3", "bad-write 1 1", "unexplained 1 1 1 x",
+            "pivot 1 in 2", "pivot 1 out 2 in 3", "pivot 1 in out 2", "pivot 1 in 2 out", "pivot 1 in 2 out first 3",
+            "pivot 1 in 2 out 3 first", "pivot 1 in 2 first 3 out 3", "pivot in 2 out 3",
+        ):
+            with self.subTest(line=line), self.assertRaisesRegex(BadInput, "^r: line 3: this is no report: "):
+                read_report(lines(*PLAIN[:2], line, *PLAIN[2:]))
+
+    def test_faulty_edges_are_told_when_they_are_wanted(self) -> None:
+        for line in ("edge 1 ww 2", "edge 1 xx 2 1", "edge 01 ww 2 1", "edge 1 ww 2 1 ", f"edge 1 ww 2 {'9' * 21}"):
+            with self.subTest(line=line), self.assertRaisesRegex(BadInput, "^r: line 3: this is no report: 'edge T KIND U KEY' is wanted$"):
+                list(edges_in(lines(*PLAIN[:2], line, *PLAIN[2:])))
+
+
+if __name__ == "__main__":
+    unittest.main()
