@@ -4,7 +4,8 @@
 
 COUNT texts of each KIND go through the program: small, crowd, versions, ranges, rings, edges, most_edges. With no KIND
 it is small=1000. A small text is given once, with some number of workers and a few cuts, which must not show; a larger one
-with 1, 2, 3, 7 and 64 workers, each time with 0 to 63 cuts. The first text that tells the program and the definitions
+with 1, 2, 3, 7 and 64 workers, each time with 0 to 63 cuts. Of the runs some ask for the brief report, and some check
+another level. The first text that tells the program and the definitions
 apart is kept as out/differs.history, with both reports beside it, and the status is then 1. The last line is
 'N passed, M failed'.
 """
@@ -18,6 +19,7 @@ from pathlib import Path
 from random import Random
 
 from oracle import larger, small, taking, trying
+from oracle.account import LEVELS, SERIALIZABLE, Account
 from oracle.events import MAX_KEY, Event
 from oracle.reading import Refusal, read
 from oracle.tables import Tables
@@ -29,24 +31,67 @@ SECONDS = 120
 ROOM = Path("out")
 
 
+def text_of(kind: str, rng: Random) -> bytes:
+    return small.text_of(rng) if kind == SMALL else larger.text_of(kind, rng)
+
+
+@dataclass(frozen=True)
+class Line:
+    """A command line: how many workers, which cuts, which report, and which level."""
+
+    workers: int
+    cuts: list[int]
+    brief: bool
+    level: str
+
+    @property
+    def words(self) -> list[str]:
+        level = ["--check", self.level] if self.level != SERIALIZABLE else []
+        return ["--workers", str(self.workers), *["--brief"] * self.brief, *level, *map(str, self.cuts)]
+
+
+def judged(kind: str, events: list[Event] | Refusal) -> Account | Refusal:
+    """What the definitions say of the events. What is small is judged both ways."""
+    if isinstance(events, Refusal):
+        return events
+    account = taking.account_of(events)
+    if kind == SMALL and trying.account_of(events) != account:
+        raise taking.Disagreement("by trying all, and by the procedures")
+    return account
+
+
+def wanted_of(answer: Account | Refusal, line: Line) -> tuple[bytes, int]:
+    """What the program is to write, and its status."""
+    if isinstance(answer, Refusal):
+        return f"{answer.line}\n".encode(), REFUSED
+    return answer.report(line.brief), answer.status(line.level)
+
+
 @dataclass
 class Tally:
     """What the texts of a kind came to: how many lines of each word, and the greatest sizes."""
 
     texts: int = 0
     runs: int = 0
+    brief: int = 0
     lines: Counter[str] = field(default_factory=Counter)
     most: Counter[str] = field(default_factory=Counter)
 
     def reach(self, **sizes: int) -> None:
         self.most |= Counter(sizes)
 
-    def add(self, report: bytes, events: list[Event] | None) -> None:
+    def add_run(self, line: Line) -> None:
+        self.runs += 1
+        self.brief += line.brief
+        self.reach(cuts=len(line.cuts))
+
+    def add(self, answer: Account | Refusal, events: list[Event] | Refusal) -> None:
         self.texts += 1
-        words = Counter(line.partition(b" ")[0].decode() for line in report.splitlines())
+        lines = [answer.line] if isinstance(answer, Refusal) else answer.lines()
+        words = Counter(line.partition(" ")[0] for line in lines)
         self.lines += words
         self.reach(edges=words["edge"])
-        if events is not None:
+        if not isinstance(events, Refusal):
             tables = Tables(events)
             versions = max(map(len, tables.versions.values()), default=0)
             self.reach(committed=len(tables.committed), keys=len(tables.keys), versions=versions)
@@ -54,25 +99,12 @@ class Tally:
     def __str__(self) -> str:
         most = ", ".join(f"{size} {word}" for word, size in self.most.items())
         lines = ", ".join(f"{word} {count}" for word, count in sorted(self.lines.items()))
-        return f"{self.texts} texts in {self.runs} runs alike; at most {most}; lines: {lines}"
+        return f"{self.texts} texts in {self.runs} runs alike, {self.brief} of them brief; at most {most}; lines: {lines}"
 
 
-def text_of(kind: str, rng: Random) -> bytes:
-    return small.text_of(rng) if kind == SMALL else larger.text_of(kind, rng)
-
-
-def wanted_of(kind: str, events: list[Event] | Refusal) -> tuple[bytes, int]:
-    """The report by the definitions, and the status. What is small is judged both ways."""
-    if isinstance(events, Refusal):
-        return f"{events.line}\n".encode(), REFUSED
-    account = taking.account_of(events)
-    if kind == SMALL and trying.account_of(events) != account:
-        raise taking.Disagreement("by trying all, and by the procedures")
-    return account.report(), account.status
-
-
-def command_lines(kind: str, rng: Random, events: list[Event] | Refusal) -> list[list[str]]:
-    """The numbers of workers and the cuts to give. All cuts but the second are at keys of the history."""
+def command_lines(kind: str, rng: Random, events: list[Event] | Refusal) -> list[Line]:
+    """The command lines to give. All cuts but the second are at keys of the history. Of the larger texts the first run asks
+    for the full report."""
     named = [] if isinstance(events, Refusal) else sorted({key for it in events for key in it.keys()})
     workers = (rng.choice(WORKERS),) if kind == SMALL else WORKERS
     most = 3 if kind == SMALL else 63
@@ -80,14 +112,16 @@ def command_lines(kind: str, rng: Random, events: list[Event] | Refusal) -> list
     for number in workers:
         cuts = rng.choices(named or [3], k=rng.randint(0, most))
         cuts[1:2] = [rng.randrange(MAX_KEY + 1)] * len(cuts[1:2])
-        lines.append(["--workers", str(number), *map(str, cuts)])
+        brief = rng.random() < 0.4 and (kind == SMALL or bool(lines))
+        lines.append(Line(number, cuts, brief, rng.choice(LEVELS)))
     return lines
 
 
-def difference(program: str, words: list[str], text: bytes, wanted: bytes, status: int) -> str:
+def difference(program: str, line: Line, text: bytes, answer: Account | Refusal) -> str:
     """Tells where a run differs from what is wanted, or answers an empty text."""
+    wanted, status = wanted_of(answer, line)
     try:
-        ran = subprocess.run([program, *words], input=text, capture_output=True, timeout=SECONDS)
+        ran = subprocess.run([program, *line.words], input=text, capture_output=True, timeout=SECONDS)
         ended, report = f"status {ran.returncode}, and {ran.stderr!r} on standard error", ran.stdout
         if (ran.stdout, ran.stderr, ran.returncode) == (wanted, b"", status):
             return ""
@@ -96,7 +130,7 @@ def difference(program: str, words: list[str], text: bytes, wanted: bytes, statu
     ROOM.mkdir(exist_ok=True)
     for name, it in (("history", text), ("program", report), ("definitions", wanted)):
         (ROOM / f"differs.{name}").write_bytes(it)
-    return f"{' '.join(words)}: {ended}, and by the definitions status {status}; see {ROOM}/differs.*"
+    return f"{' '.join(line.words)}: {ended}, and by the definitions status {status}; see {ROOM}/differs.*"
 
 
 def compare(program: str, kind: str, rng: Random, tally: Tally) -> str:
@@ -104,17 +138,15 @@ def compare(program: str, kind: str, rng: Random, tally: Tally) -> str:
     text = text_of(kind, rng)
     events = read(text)
     try:
-        wanted, status = wanted_of(kind, events)
+        answer = judged(kind, events)
     except taking.Disagreement as why:
         return f"the definitions disagree on {text.decode()}: {why}"
-    lines = command_lines(kind, rng, events)
-    for words in lines:
-        differs = difference(program, words, text, wanted, status)
+    for line in command_lines(kind, rng, events):
+        differs = difference(program, line, text, answer)
         if differs:
             return differs
-        tally.runs += 1
-        tally.reach(cuts=len(words) - 2)
-    tally.add(wanted, None if isinstance(events, Refusal) else events)
+        tally.add_run(line)
+    tally.add(answer, events)
     return ""
 
 

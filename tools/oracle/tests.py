@@ -7,7 +7,7 @@ import unittest
 from random import Random
 
 from oracle import larger, taking, trying
-from oracle.account import Account, Edge
+from oracle.account import LEVELS, Account, Edge
 from oracle.events import Event
 from oracle.reading import Refusal, read
 from oracle.tables import Tables
@@ -121,9 +121,22 @@ class Reports(unittest.TestCase):
         self.assertFalse(taking.replays(tables, [2, 1]))
 
     def test_status(self) -> None:
-        for text, status in (("c1", 0), ("w1[1] w2[1] c1 c2", 1), ("w1[1] r1[1:0] c1", 1)):
+        pivot = "r1[1:0] r2[2:0] w2[1] w3[2] c3 c2 c1"
+        skew = "r1[1:0] r1[2:0] r2[1:0] r2[2:0] w1[2] w2[1] c1 c2"
+        for text, statuses in (
+            ("c1", (0, 0, 0)),
+            ("w1[1] w2[1] c1 c2", (1, 1, 1)),
+            ("w1[1] r1[1:0] c1", (1, 1, 1)),
+            (pivot, (0, 1, 0)),
+            (skew, (1, 1, 0)),
+        ):
             account: Account = taking.account_of(events_of(text))
-            self.assertEqual(account.status, status)
+            self.assertEqual(tuple(map(account.status, LEVELS)), statuses)
+
+    def test_brief_report(self) -> None:
+        account = taking.account_of(events_of("r1[1:0] r1[2:0] r2[1:0] r2[2:0] w1[2] w2[1] c1 c2"))
+        lines = [line.split()[0] for line in account.report(brief=True).decode().splitlines()]
+        self.assertEqual(lines, ["events", "isolation", "ssi", "serializable", "cycle"])
 
 
 class Refusals(unittest.TestCase):

@@ -4,7 +4,7 @@ use Rattle.std.specs.Prelude.{IsTrue, ⊤, All, Contains}
 use Rattle.std.proofs.lemmas.List.{get_or-map, length-map}
 use Rattle.std.proofs.lemmas.List.Elements.{All-contains_itself}
 use Rattle.sia_events.specs.declared.event.Event.{Event}
-use Rattle.sia_events.specs.Isolation.{IsBadRead, IsBadWrite}
+use Rattle.sia_events.specs.Isolation.{IsBadRead, IsBadWrite, IsolationKept}
 use Rattle.sia_events.specs.DangerousStructures.{IsPivot}
 use Rattle.sia_parts.specs.Entries.{bad_read_rank, bad_write_rank}
 use Rattle.sia_parts.proofs.Members.{contains_none}
@@ -15,7 +15,6 @@ use Rattle.sia_graph.specs.Pivots.{ArePivots}
 use Rattle.sia_graph.specs.Verdicts.{IsVerdict}
 use Rattle.si_audit.specs.Account.{Account}
 use Rattle.si_audit.specs.Accounts.{IsAccount}
-use Rattle.si_audit.specs.Outcomes.{IsClean}
 use Rattle.si_audit.specs.Report.{HasStep, CanBePrinted}
 use Rattle.si_audit.proofs.Judging.{none_listed, empty_list}
 
@@ -46,22 +45,18 @@ can_be_printed h a is = record {
   neighbours = has_neighbours h a.pivots is.pivots;
 }
 
--- a history is clean exactly where its account has no bad read and no bad write, and a serial order replays it
-pub clean_where : (h : List Event) (a : Account) → IsAccount h a → ((a.bad_reads ≡ []) × (a.bad_writes ≡ []) × IsTrue a.serializable) ↔ IsClean h
-clean_where h a is = (to, from)
+-- a history kept isolation exactly where its account has no bad read and no bad write
+pub kept_where : (h : List Event) (a : Account) → IsAccount h a → ((a.bad_reads ≡ []) × (a.bad_writes ≡ [])) ↔ IsolationKept h
+kept_where h a is = (to, from)
   where
-    to : (a.bad_reads ≡ []) × (a.bad_writes ≡ []) × IsTrue a.serializable → IsClean h
-    to e = (
-      record {
-        reads = λ p t k saw due bad. none_listed bad_read_rank (λ b. IsBadRead h b.place b.txn b.key b.saw b.due × ⊤) a.bad_reads is.bad_reads e.0 (record { place = p; txn = t; key = k; saw = saw; due = due }) (bad, tt);
-        writes = λ k first second bad. none_listed bad_write_rank (λ b. IsBadWrite h b.key b.first b.second × ⊤) a.bad_writes is.bad_writes e.1 (record { key = k; first = first; second = second }) (bad, tt);
-      },
-      is.serializable.0 e.2,
-    )
+    to : (a.bad_reads ≡ []) × (a.bad_writes ≡ []) → IsolationKept h
+    to e = record {
+      reads = λ p t k saw due bad. none_listed bad_read_rank (λ b. IsBadRead h b.place b.txn b.key b.saw b.due × ⊤) a.bad_reads is.bad_reads e.0 (record { place = p; txn = t; key = k; saw = saw; due = due }) (bad, tt);
+      writes = λ k first second bad. none_listed bad_write_rank (λ b. IsBadWrite h b.key b.first b.second × ⊤) a.bad_writes is.bad_writes e.1 (record { key = k; first = first; second = second }) (bad, tt);
+    }
 
-    from : IsClean h → (a.bad_reads ≡ []) × (a.bad_writes ≡ []) × IsTrue a.serializable
+    from : IsolationKept h → (a.bad_reads ≡ []) × (a.bad_writes ≡ [])
     from e = (
-      empty_list bad_read_rank (λ b. IsBadRead h b.place b.txn b.key b.saw b.due × ⊤) a.bad_reads is.bad_reads (λ b bad. e.0.reads b.place b.txn b.key b.saw b.due bad.0),
-      empty_list bad_write_rank (λ b. IsBadWrite h b.key b.first b.second × ⊤) a.bad_writes is.bad_writes (λ b bad. e.0.writes b.key b.first b.second bad.0),
-      is.serializable.1 e.1,
+      empty_list bad_read_rank (λ b. IsBadRead h b.place b.txn b.key b.saw b.due × ⊤) a.bad_reads is.bad_reads (λ b bad. e.reads b.place b.txn b.key b.saw b.due bad.0),
+      empty_list bad_write_rank (λ b. IsBadWrite h b.key b.first b.second × ⊤) a.bad_writes is.bad_writes (λ b bad. e.writes b.key b.first b.second bad.0),
     )

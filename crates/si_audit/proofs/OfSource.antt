@@ -2,6 +2,7 @@
 use Rattle.std.proofs.Common.{◌≡◌, ℕ, List, ◌++◌, Option, Some, None, IfSome, subst}
 use Rattle.std.specs.Io.KnownBytes.{Appends}
 use Rattle.sia_events.specs.Streaming.{Progress, StandsForRead}
+use Rattle.si_audit.specs.declared.form.Form.{Form}
 use Rattle.si_audit.specs.Report.{IsReport}
 
 -- a fact of each text that a reader stands for, of the text that the source had
@@ -10,6 +11,6 @@ of_source P None r stands f = tt
 of_source P (Some text) r stands f = f text stands
 
 -- a front of the report was written
-pub front_written : (taken now : Option (List ℕ)) (text bytes : List ℕ) → IsReport text bytes → (front rest : List ℕ) → bytes ≡ front ++ rest → Appends taken now front
-    → (bs : List ℕ) × (more : List ℕ) × IsReport text (bs ++ more) × Appends taken now bs
-front_written taken now text bytes report front rest split wrote = (front, rest, subst (IsReport text) split report, wrote)
+pub front_written : (form : Form) (taken now : Option (List ℕ)) (text bytes : List ℕ) → IsReport form text bytes → (front rest : List ℕ) → bytes ≡ front ++ rest → Appends taken now front
+    → (bs : List ℕ) × (more : List ℕ) × IsReport form text (bs ++ more) × Appends taken now bs
+front_written form taken now text bytes report front rest split wrote = (front, rest, subst (IsReport form text) split report, wrote)

@@ -15,6 +15,7 @@ use Rattle.sia_parts.specs.Entries.{IsEdge, bad_read_rank, bad_write_rank, unexp
 use Rattle.sia_graph.specs.declared.pivot.Pivot.{Pivot}
 use Rattle.sia_graph.specs.Pivots.{ListsNeighbours, ArePivots}
 use Rattle.sia_graph.proofs.OneVerdict.{one_verdict}
+use Rattle.si_audit.specs.declared.form.Form.{Form}
 use Rattle.si_audit.specs.Account.{Account}
 use Rattle.si_audit.specs.Accounts.{IsAccount}
 use Rattle.si_audit.specs.Lines.{refusal_line, report_text}
@@ -72,10 +73,10 @@ one_account h a b x y =
       verdict = verdict i;
     }
 
-pub one_report_of : (text : List ℕ) → OneReport text
-one_report_of text bytes others (inl p) (inl q) = p.2 ∙ ap refusal_line (one_refusal text p.0 q.0 p.1 q.1) ∙ sym q.2
-one_report_of text bytes others (inl p) (inr q) = absurd (q.2 p.0 p.1)
-one_report_of text bytes others (inr p) (inl q) = absurd (p.2 q.0 q.1)
-one_report_of text bytes others (inr p) (inr q) =
+pub one_report_of : (form : Form) (text : List ℕ) → OneReport form text
+one_report_of form text bytes others (inl p) (inl q) = p.2 ∙ ap refusal_line (one_refusal text p.0 q.0 p.1 q.1) ∙ sym q.2
+one_report_of form text bytes others (inl p) (inr q) = absurd (q.2 p.0 p.1)
+one_report_of form text bytes others (inr p) (inl q) = absurd (p.2 q.0 q.1)
+one_report_of form text bytes others (inr p) (inr q) =
     let same = spellings_injective p.0 q.0 (sym p.3 ∙ q.3) in
-    p.5 ∙ ap report_text (one_account p.0 p.1 q.1 p.4 (subst (λ h. IsAccount h q.1) (sym same) q.4)) ∙ sym q.5
+    p.5 ∙ ap (report_text form) (one_account p.0 p.1 q.1 p.4 (subst (λ h. IsAccount h q.1) (sym same) q.4)) ∙ sym q.5

@@ -5,6 +5,7 @@ use Rattle.sia_events.specs.declared.fault.Reason.TheVariants.{NotWritten}
 use Rattle.sia_events.specs.declared.fault.TextFault.TheVariants.{TextTooLong, Refused}
 use Rattle.sia_parts.specs.declared.finding.Kind.TheVariants.{Ww, Rw}
 use Rattle.sia_graph.specs.declared.settling.Verdict.TheVariants.{Order, Cycle}
+use Rattle.si_audit.specs.declared.form.Form.TheVariants.{Full, Brief}
 use Rattle.si_audit.specs.Account.{Account}
 use Rattle.si_audit.specs.Lines.{report_text, refusal_line}
 
@@ -25,7 +26,7 @@ account_of_nothing = record {
   verdict = Order [];
 }
 
-report_of_nothing : report_text account_of_nothing ≡ codes "events 0 committed 0 aborted 0 open 0\nisolation kept\nssi pass\nserializable yes\norder\n"
+report_of_nothing : report_text Full account_of_nothing ≡ codes "events 0 committed 0 aborted 0 open 0\nisolation kept\nssi pass\nserializable yes\norder\n"
 unfolding numeral
 report_of_nothing = refl
 
@@ -46,9 +47,13 @@ account_of_write_skew = record {
   verdict = Cycle (record { txn = 1; kind = Rw; key = 1 } ∷ record { txn = 2; kind = Rw; key = 2 } ∷ []);
 }
 
-report_of_write_skew : report_text account_of_write_skew ≡ codes "events 8 committed 2 aborted 0 open 0\nisolation kept\nedge 1 rw 2 1\nedge 2 rw 1 2\npivot 1 in 2 out 2\npivot 2 in 1 out 1 first 1\nssi fail\nserializable no\ncycle 1 >rw:1> 2 >rw:2> 1\n"
+report_of_write_skew : report_text Full account_of_write_skew ≡ codes "events 8 committed 2 aborted 0 open 0\nisolation kept\nedge 1 rw 2 1\nedge 2 rw 1 2\npivot 1 in 2 out 2\npivot 2 in 1 out 1 first 1\nssi fail\nserializable no\ncycle 1 >rw:1> 2 >rw:2> 1\n"
 unfolding numeral
 report_of_write_skew = refl
+
+brief_report_of_write_skew : report_text Brief account_of_write_skew ≡ codes "events 8 committed 2 aborted 0 open 0\nisolation kept\nssi fail\nserializable no\ncycle 1 >rw:1> 2 >rw:2> 1\n"
+unfolding numeral
+brief_report_of_write_skew = refl
 
 -- an aborted version read
 abbrev pub account_of_aborted_read : Account
@@ -67,7 +72,7 @@ account_of_aborted_read = record {
   verdict = Order (2 ∷ []);
 }
 
-report_of_aborted_read : report_text account_of_aborted_read ≡ codes "events 4 committed 1 aborted 1 open 0\nisolation broken\nbad-read 2 2 1 saw 1 due 0\nunexplained 2 2 1 1\nssi fail\nserializable no\norder 2\n"
+report_of_aborted_read : report_text Full account_of_aborted_read ≡ codes "events 4 committed 1 aborted 1 open 0\nisolation broken\nbad-read 2 2 1 saw 1 due 0\nunexplained 2 2 1 1\nssi fail\nserializable no\norder 2\n"
 unfolding numeral
 report_of_aborted_read = refl
 
@@ -88,7 +93,7 @@ account_of_lost_update = record {
   verdict = Order (1 ∷ 2 ∷ []);
 }
 
-report_of_lost_update : report_text account_of_lost_update ≡ codes "events 4 committed 2 aborted 0 open 0\nisolation broken\nbad-write 1 1 2\nedge 1 ww 2 1\nssi fail\nserializable yes\norder 1 2\n"
+report_of_lost_update : report_text Full account_of_lost_update ≡ codes "events 4 committed 2 aborted 0 open 0\nisolation broken\nbad-write 1 1 2\nedge 1 ww 2 1\nssi fail\nserializable yes\norder 1 2\n"
 unfolding numeral
 report_of_lost_update = refl
 

@@ -3,17 +3,19 @@ use Rattle.std.specs.Prelude.{◌≡◌, List, ℕ}
 use Rattle.sia_events.specs.declared.event.Event.{Event}
 use Rattle.si_audit.specs.declared.engine.Outcome.{Outcome}
 use Rattle.si_audit.specs.declared.engine.Outcome.TheVariants.{Clean, Faulty, Refused}
+use Rattle.si_audit.specs.declared.form.Form.{Form}
+use Rattle.si_audit.specs.declared.level.Level.{Level}
 use Rattle.si_audit.specs.Account.{Account}
 use Rattle.si_audit.specs.Accounts.{IsAccount}
 use Rattle.si_audit.specs.Lines.{report_text}
-use Rattle.si_audit.specs.Outcomes.{IsClean}
+use Rattle.si_audit.specs.Outcomes.{Meets}
 
 -- how a run over this history ends
-abbrev pub IsOutcomeOf : List Event → Outcome → Type 0
-IsOutcomeOf h Refused = ⊥
-IsOutcomeOf h Clean = IsClean h
-IsOutcomeOf h Faulty = ¬ IsClean h
+abbrev pub IsOutcomeOf : Level → List Event → Outcome → Type 0
+IsOutcomeOf level h Refused = ⊥
+IsOutcomeOf level h Clean = Meets level h
+IsOutcomeOf level h Faulty = ¬ Meets level h
 
 -- the bytes are the lines of its account
-abbrev pub IsReportOf : List Event → List ℕ → Type 0
-IsReportOf h bytes = (a : Account) × IsAccount h a × (bytes ≡ report_text a)
+abbrev pub IsReportOf : Form → List Event → List ℕ → Type 0
+IsReportOf form h bytes = (a : Account) × IsAccount h a × (bytes ≡ report_text form a)

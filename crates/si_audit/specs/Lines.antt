@@ -16,6 +16,8 @@ use Rattle.sia_graph.specs.declared.pivot.Pivot.{Pivot}
 use Rattle.sia_graph.specs.declared.settling.Step.{Step}
 use Rattle.sia_graph.specs.declared.settling.Verdict.{Verdict}
 use Rattle.sia_graph.specs.declared.settling.Verdict.TheVariants.{Order, Cycle}
+use Rattle.si_audit.specs.declared.form.Form.{Form}
+use Rattle.si_audit.specs.declared.form.Form.TheVariants.{Full, Brief}
 use Rattle.si_audit.specs.Account.{Account}
 
 -- words with one space between two, and LF
@@ -95,16 +97,21 @@ ssi_line pass = line (codes "ssi" ∷ (if pass then codes "pass" else codes "fai
 abbrev pub serializable_line : Bool → List ℕ
 serializable_line serializable = line (codes "serializable" ∷ (if serializable then codes "yes" else codes "no") ∷ [])
 
+-- what a report of this form tells of the things that a brief one leaves out
+abbrev pub told : {A : Type 0} → Form → List A → List A
+told Full things = things
+told Brief things = []
+
 -- all lines, in their order
-abbrev pub report_text : Account → List ℕ
-report_text a =
+abbrev pub report_text : Form → Account → List ℕ
+report_text form a =
     events_line a.events a.committed a.aborted a.unfinished
     ++ isolation_line (is_empty a.bad_reads && is_empty a.bad_writes)
     ++ flat_map bad_read_line a.bad_reads
     ++ flat_map bad_write_line a.bad_writes
     ++ flat_map unexplained_line a.unexplained
-    ++ flat_map edge_line a.edges
-    ++ flat_map pivot_line a.pivots
+    ++ flat_map edge_line (told form a.edges)
+    ++ flat_map pivot_line (told form a.pivots)
     ++ ssi_line a.pass
     ++ serializable_line a.serializable
     ++ verdict_line a.verdict

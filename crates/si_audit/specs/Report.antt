@@ -6,6 +6,7 @@ use Rattle.sia_events.specs.Text.{StandsFor}
 use Rattle.sia_events.specs.Refusals.{IsRefusal, IsAccepted}
 use Rattle.sia_graph.specs.declared.settling.Verdict.{Verdict}
 use Rattle.sia_graph.specs.declared.settling.Verdict.TheVariants.{Order, Cycle}
+use Rattle.si_audit.specs.declared.form.Form.{Form}
 use Rattle.si_audit.specs.Account.{Account}
 use Rattle.si_audit.specs.Accounts.{IsAccount}
 use Rattle.si_audit.specs.Lines.{refusal_line, report_text}
@@ -19,11 +20,11 @@ pub record CanBePrinted (a : Account) : Type 0 where
   pub steps : HasStep a.verdict
   pub neighbours : All (λ p. (p.ins ≢ []) × (p.outs ≢ [])) a.pivots
 
--- the refusal line of a refused text, and the lines of the account of the history that an accepted one stands for
-abbrev pub IsReport : List ℕ → List ℕ → Type 0
-IsReport text bytes = ((fault : TextFault) × IsRefusal text fault × (bytes ≡ refusal_line fault))
-    ⊎ ((h : List Event) × (a : Account) × IsAccepted text × StandsFor text h × IsAccount h a × (bytes ≡ report_text a))
+-- the refusal line of a refused text, and the lines of this form of the account of the history that an accepted one stands for
+abbrev pub IsReport : Form → List ℕ → List ℕ → Type 0
+IsReport form text bytes = ((fault : TextFault) × IsRefusal text fault × (bytes ≡ refusal_line fault))
+    ⊎ ((h : List Event) × (a : Account) × IsAccepted text × StandsFor text h × IsAccount h a × (bytes ≡ report_text form a))
 
--- there is no other report of the text
-abbrev pub OneReport : List ℕ → Type 0
-OneReport text = (bytes : List ℕ) (others : List ℕ) → IsReport text bytes → IsReport text others → bytes ≡ others
+-- there is no other report of the text in this form
+abbrev pub OneReport : Form → List ℕ → Type 0
+OneReport form text = (bytes : List ℕ) (others : List ℕ) → IsReport form text bytes → IsReport form text others → bytes ≡ others

@@ -1,18 +1,21 @@
 // What is written of a text, and how its run ends.
-ghost use Rattle.std.specs.Prelude.{◌≡◌, ◌↔◌, ℕ, List, [], IfOk, IsTrue};
+ghost use Rattle.std.specs.Prelude.{◌≡◌, ◌↔◌, ℕ, List, [], IfOk, IsTrue, flat_map, map};
 ghost use Rattle.sia_events.specs.declared.event.Event.{Event};
 ghost use Rattle.sia_events.specs.Refusals.{IsWellFormed};
 ghost use Rattle.sia_events.specs.Streaming.{StandsForRead};
-ghost use Rattle.si_audit.specs.Lines.{refusal_line};
+ghost use Rattle.sia_parts.specs.Packing.{unpacked};
+ghost use Rattle.si_audit.specs.Lines.{edge_line, refusal_line, told};
 ghost use Rattle.si_audit.specs.Report.{IsReport};
 ghost use Rattle.si_audit.specs.Accounts.{IsAccount};
-ghost use Rattle.si_audit.specs.Outcomes.{IsOutcome};
+ghost use Rattle.si_audit.specs.Outcomes.{IsOutcome, Meets};
 ghost use Rattle.si_audit.specs.Answering.{IsReportOf, IsOutcomeOf};
 ghost use Rattle.si_audit.specs.Judgements.{account_by};
 ghost use Rattle.si_audit.specs.Sheets.{text_of};
 
 use crate::engine::Outcome;
+use crate::form::Form;
 use crate::judgement::{AllEdges, Judgement, judged};
+use crate::level::Level;
 use crate::lines::push_refusal;
 use crate::options::Options;
 use crate::reporting::report_of;
@@ -32,21 +35,47 @@ pub(crate) struct Answer {
     pub(crate) outcome: Outcome,
 }
 
-/// Whether isolation was kept and some serial order replays the history.
-fn is_clean(j: &Judgement) -> bool
-    ensures { IsTrue result ↔ ((j.now.found.bad_reads.items ≡ []) × (j.now.found.bad_writes.items ≡ []) × IsTrue j.now.serializable) }
+/// Whether isolation was kept.
+fn is_kept(j: &Judgement) -> bool
+    ensures { IsTrue result ↔ ((j.now.found.bad_reads.items ≡ []) × (j.now.found.bad_writes.items ≡ [])) }
 {
-    j.found.bad_reads.is_empty() && j.found.bad_writes.is_empty() && j.serializable
+    j.found.bad_reads.is_empty() && j.found.bad_writes.is_empty()
+}
+
+/// Whether the history of which this is the judgement meets the level.
+fn meets(j: &Judgement, level: Level) -> bool
+    ensures { (h : List Event) (keys : List ℕ) → IsAccount h (account_by keys j.now) → IsTrue result ↔ Meets level h }
+{
+    match level {
+        Level::Serializable => is_kept(j) && j.serializable,
+        Level::Ssi => j.pass,
+        Level::Si => is_kept(j),
+    }
 }
 
 /// How the run of the history ends of which this is the judgement.
-fn outcome_of(j: &Judgement) -> Outcome
-    ensures { (h : List Event) (keys : List ℕ) → IsAccount h (account_by keys j.now) → IsOutcomeOf h result }
+fn outcome_of(j: &Judgement, level: Level) -> Outcome
+    ensures { (h : List Event) (keys : List ℕ) → IsAccount h (account_by keys j.now) → IsOutcomeOf level h result }
 {
-    if is_clean(j) {
+    if meets(j, level) {
         Outcome::Clean
     } else {
         Outcome::Faulty
+    }
+}
+
+/// The lines of edges that the report has, on one sheet after another.
+fn edges_told<T: Threads + Wait + Sync>(
+    rt: &T,
+    alloc: Global,
+    edges: &AllEdges,
+    o: &Options,
+) -> Result<Vec<Vec<u8>>, NoMemory>
+    ensures { IfOk result (λ sheets. text_of sheets.items ≡ flat_map edge_line (told o.now.form (map (unpacked edges.now.txns.now edges.now.keys.now) edges.now.numbers.now))) }
+{
+    match o.form() {
+        Form::Full => sheets_of_edges(rt, alloc, edges, o),
+        Form::Brief => Ok(Vec::new(alloc)),
     }
 }
 
@@ -60,8 +89,8 @@ fn answer_by_index<T: Threads + Wait + Sync>(
 ) -> Result<Answer, NoMemory>
     requires index { ix.now ≡ h.now }
     requires well_formed { IsWellFormed h.now }
-    ensures report { IfOk result (λ answer. IsReportOf h.now (text_of answer.sheets.items)) }
-    ensures outcome { IfOk result (λ answer. IsOutcomeOf h.now answer.outcome) }
+    ensures report { IfOk result (λ answer. IsReportOf o.now.form h.now (text_of answer.sheets.items)) }
+    ensures outcome { IfOk result (λ answer. IsOutcomeOf o.now.level h.now answer.outcome) }
 {
     let judgement = judged(rt, alloc, h, ix, o)?;
     let edges = AllEdges {
@@ -70,9 +99,9 @@ fn answer_by_index<T: Threads + Wait + Sync>(
         keys: ix.written_keys(),
         numbers: &judgement.found.edges,
     };
-    let lines = sheets_of_edges(rt, alloc, &edges, o)?;
-    let outcome = outcome_of(&judgement);
-    let sheets = report_of(alloc, &judgement, lines)?;
+    let lines = edges_told(rt, alloc, &edges, o)?;
+    let outcome = outcome_of(&judgement, o.level());
+    let sheets = report_of(alloc, &judgement, lines, o.form())?;
     Ok(Answer { sheets, outcome })
 }
 
@@ -83,8 +112,8 @@ pub(crate) fn answer_to_history<T: Threads + Wait + Sync>(
     h: &History,
     o: &Options,
 ) -> Result<Answer, NoMemory>
-    ensures report { IfOk result (λ answer. IsReportOf h.now (text_of answer.sheets.items)) }
-    ensures outcome { IfOk result (λ answer. IsOutcomeOf h.now answer.outcome) }
+    ensures report { IfOk result (λ answer. IsReportOf o.now.form h.now (text_of answer.sheets.items)) }
+    ensures outcome { IfOk result (λ answer. IsOutcomeOf o.now.level h.now answer.outcome) }
 {
     // The length tells that the history is well-formed.
     let _ = h.len();
@@ -113,8 +142,8 @@ pub(crate) fn answer_to_text<T: Threads + Wait + Sync>(
     text: TextReader,
     o: &Options,
 ) -> Result<Answer, NoMemory>
-    ensures report { (bytes : List ℕ) → StandsForRead text bytes → IfOk result (λ answer. IsReport bytes (text_of answer.sheets.items)) }
-    ensures outcome { (bytes : List ℕ) → StandsForRead text bytes → IfOk result (λ answer. IsOutcome bytes answer.outcome) }
+    ensures report { (bytes : List ℕ) → StandsForRead text bytes → IfOk result (λ answer. IsReport o.now.form bytes (text_of answer.sheets.items)) }
+    ensures outcome { (bytes : List ℕ) → StandsForRead text bytes → IfOk result (λ answer. IsOutcome o.now.level bytes answer.outcome) }
 {
     match text.finish() {
         Ok(h) => answer_to_history(rt, alloc, &h, o),

@@ -17,8 +17,11 @@ use thiserror::Error;
 /// How a run ended that met no fault.
 #[derive(Clone, Copy, Debug, PartialEq, Eq)]
 pub enum Outcome {
+    /// The history meets the level.
     Clean,
+    /// It falls short of the level.
     Faulty,
+    /// The text is no history.
     Refused,
 }
 
@@ -66,7 +69,8 @@ impl From<NoMemory> for RunFault {
     }
 }
 
-/// Reads a history's text to its end, or past the limit of 16,777,216 bytes, writes its report, and flushes once.
+/// Reads a history's text to its end, or past the limit of 16,777,216 bytes, writes its report in the form asked for, and
+/// flushes once.
 ///
 /// The whole report is made in memory before the first byte is written. Neither device may have failed before. The call
 /// joins its workers and may wait for them.
@@ -79,9 +83,10 @@ pub fn run<T: Threads + Wait + Sync, R: Source, W: Sink>(
 ) -> Result<Outcome, RunFault>
     requires reader { IsFalse (R.has_failed reader.old) }
     requires writer { IsFalse (W.has_failed writer.old) }
-    // What is written is the report of the text that the reader gives, and not a byte more.
+    // What is written is the report of the text that the reader gives, in the form of the options, and not a byte more. The
+    // outcome is that of the options' level.
     ensures report { IfOk result (λ outcome. IfSome (R.remaining reader.old) (λ text.
-        IsOutcome text outcome × (bytes : List ℕ) × IsReport text bytes × Appends (W.taken writer.old) (W.taken writer.new) bytes)) }
+        IsOutcome o.now.level text outcome × (bytes : List ℕ) × IsReport o.now.form text bytes × Appends (W.taken writer.old) (W.taken writer.new) bytes)) }
     ensures flushed { OnOk result (IsTrue (W.is_flushed writer.new)) }
 
     // At most so many reads gave bytes.
@@ -94,9 +99,9 @@ pub fn run<T: Threads + Wait + Sync, R: Source, W: Sink>(
     // What was written before a fault: nothing, or a front of the report, which is whole where no write was refused.
     ensures nothing { IfErr result (λ e. e ≢ RunFault.Write → Keeps (W.taken writer.old) (W.taken writer.new)) }
     ensures front { result ≡ Err RunFault.Write → IfSome (R.remaining reader.old) (λ text.
-        (bytes : List ℕ) × (rest : List ℕ) × IsReport text (bytes ++ rest) × Appends (W.taken writer.old) (W.taken writer.new) bytes) }
+        (bytes : List ℕ) × (rest : List ℕ) × IsReport o.now.form text (bytes ++ rest) × Appends (W.taken writer.old) (W.taken writer.new) bytes) }
     ensures whole { result ≡ Err RunFault.Write → IsFalse (W.has_refused writer.new) → IfSome (R.remaining reader.old) (λ text.
-        (bytes : List ℕ) × IsReport text bytes × Appends (W.taken writer.old) (W.taken writer.new) bytes) }
+        (bytes : List ℕ) × IsReport o.now.form text bytes × Appends (W.taken writer.old) (W.taken writer.new) bytes) }
 {
     let text = read_text(alloc, reader)?;
     let answer = answer_to_text(rt, alloc, text, o)?;
@@ -106,7 +111,7 @@ pub fn run<T: Threads + Wait + Sync, R: Source, W: Sink>(
     }
 }
 
-/// The program's status: 0 for a clean history, 1 for a faulty one, 3 for a refused text and 4 for a fault.
+/// The program's status: 0 for a history that meets the level, 1 for one that falls short of it, 3 for a refused text and 4 for a fault.
 pub fn status(r: &Result<Outcome, RunFault>) -> u8
     ensures { result ≡ status_of r.now }
 {

@@ -1,11 +1,14 @@
-//! The command line: how many workers share the parts of the keys, and where the keys are cut.
-ghost use Rattle.std.specs.Prelude.{◌≡◌, ◌≢◌, ◌<◌, ◌≤◌, false, All, Err, IfErr, IfOk, codes, map, string_bytes};
+//! The command line: how many workers share the parts of the keys, where the keys are cut, the form of the report, and the
+//! level that the status tells of.
+ghost use Rattle.std.specs.Prelude.{◌≡◌, ◌≢◌, ◌<◌, ◌≤◌, false, All, Err, IfErr, IfOk, None, Some, codes, map, string_bytes};
 ghost use Rattle.clap.specs.Words.{IsUnsignedIn, app_of, found_of, kind_of, rows_of, rule_of};
 ghost use Rattle.clap.specs.declared.builder.value_parser.ValueParser.TheVariants.{Unsigned};
 ghost use Rattle.clap.specs.declared.error.kind.ErrorKind.TheVariants.{OutOfMemory};
-ghost use Rattle.si_audit.specs.LineAnswers.{HasNumbers, IsOwed, GivesOptions, OwesTooManyCuts, cuts_among, workers_among};
-ghost use Rattle.si_audit.specs.Words.{AreChosen, ChooseTooManyCuts, cuts_rule, number_in, program, workers_rule};
+ghost use Rattle.si_audit.specs.LineAnswers.{HasNumbers, IsOwed, GivesOptions, StandsInTheWay, cuts_among, form_among, level_among, workers_among};
+ghost use Rattle.si_audit.specs.Words.{AreChosen, ChooseNoLevel, ChooseTooManyCuts, brief_rule, check_rule, cuts_rule, level_named as named, number_in, program, workers_rule};
 
+use crate::form::Form;
+use crate::level::Level;
 use crate::options::{Options, OptionsFault};
 use clap::builder::ValueParser;
 use clap::error::ErrorKind;
@@ -19,6 +22,10 @@ is read from standard input, and the report is written to standard output.";
 
 const WORKERS_HELP: &str = "How many workers audit the parts, from 1 to 64";
 
+const BRIEF_HELP: &str = "Leaves out the lines of edges and pivots";
+
+const CHECK_HELP: &str = "What status 0 says was kept: serializable, ssi or si";
+
 const CUT_HELP: &str = "A key at which a part starts, from 0 to 18446744073709551615";
 
 const MORE_HELP: &str =
@@ -27,9 +34,14 @@ CUT there is one part. Cuts come in any order; 0 and repeats change nothing,
 and at most 1023 others may be given. No cut and no number of workers changes
 the report.
 
+Levels:
+  serializable  isolation was kept, and some serial order replays the history
+  ssi           the test of serializable snapshot isolation is passed, too
+  si            isolation was kept
+
 Exit status:
-  0  isolation was kept, and the history is serializable
-  1  isolation was broken, or the history is not serializable
+  0  the history meets the level
+  1  the history falls short of the level
   2  the command line was refused
   3  the text is no history; the one line of the report says why
   4  reading or writing failed, or memory ran out; standard error says which
@@ -37,6 +49,7 @@ Exit status:
 Examples:
   si_audit <run.history
   printf 'w1[1] r2[1:1] c2 a1' | si_audit
+  si_audit --brief --check si <run.history
   si_audit --workers 8 1000 2000 3000 <run.history >run.report";
 
 /// Why the words give no options.
@@ -46,6 +59,8 @@ pub enum LineFault {
     NoMemory,
     /// More than 1,023 distinct cuts that aren't 0.
     TooManyCuts,
+    /// There is no level of the name that the words give.
+    UnknownLevel,
     /// The words ask for help. This is its text.
     Help(String),
     /// The words are none that the program takes. This is what to tell the user.
@@ -67,6 +82,7 @@ impl From<AllocError> for LineFault {
 pub fn options_from(alloc: Global, words: &[String]) -> Result<Options, LineFault>
     ensures chosen { IfOk result (AreChosen (map string_bytes words.now)) }
     ensures too_many { result ≡ Err LineFault.TooManyCuts → ChooseTooManyCuts (map string_bytes words.now) }
+    ensures no_level { result ≡ Err LineFault.UnknownLevel → ChooseNoLevel (map string_bytes words.now) }
     // Help and usage are told only of words that the command doesn't take.
     ensures fault { IfErr result (IsOwed (map string_bytes words.now)) }
 {
@@ -84,7 +100,9 @@ fn command<'a>(alloc: Global) -> Result<Command<'a>, AllocError>
         .about(ABOUT)
         .after_help(MORE_HELP)
         .arg(workers_option(alloc))?
-        .arg(cuts_argument(alloc))
+        .arg(cuts_argument(alloc))?
+        .arg(brief_option(alloc))?
+        .arg(check_option(alloc))
 }
 
 /// The option that says how many workers there are.
@@ -127,10 +145,42 @@ fn cuts_argument<'a>(alloc: Global) -> Arg<'a>
         .help(CUT_HELP)
 }
 
+/// The option that asks for the brief report.
+fn brief_option<'a>(alloc: Global) -> Arg<'a>
+    ensures rule { rule_of result ≡ brief_rule }
+    ensures local { result.global ≡ false }
+{
+    Arg::new(alloc, "brief")
+        .long("brief")
+        .action(ArgAction::Count)
+        .help(BRIEF_HELP)
+}
+
+/// The option that names the level.
+fn check_option<'a>(alloc: Global) -> Arg<'a>
+    ensures rule { rule_of result ≡ check_rule }
+    ensures local { result.global ≡ false }
+{
+    Arg::new(alloc, "check")
+        .long("check")
+        .value_name("LEVEL")
+        .action(ArgAction::Set)
+        .default_value(level_by_default())
+        .help(CHECK_HELP)
+}
+
+/// The name of the level where the words don't say.
+fn level_by_default() -> &'static str
+    ensures { result.now ≡ codes "serializable" }
+{
+    "serializable"
+}
+
 /// What the program says in place of options.
 fn told(alloc: Global, error: &Error) -> LineFault
     ensures memory { kind_of error.now ≡ OutOfMemory → result ≡ LineFault.NoMemory }
-    ensures words { result ≢ LineFault.TooManyCuts }
+    ensures cuts { result ≢ LineFault.TooManyCuts }
+    ensures level { result ≢ LineFault.UnknownLevel }
 {
     if error.kind() == ErrorKind::OutOfMemory {
         return LineFault::NoMemory;
@@ -146,12 +196,16 @@ fn told(alloc: Global, error: &Error) -> LineFault
 fn options_of(alloc: Global, matches: &ArgMatches<'_>) -> Result<Options, LineFault>
     requires { HasNumbers (rows_of (found_of matches.now)) }
     ensures given { IfOk result (GivesOptions (rows_of (found_of matches.now))) }
-    ensures fault { IfErr result (OwesTooManyCuts (rows_of (found_of matches.now))) }
+    ensures fault { IfErr result (StandsInTheWay (rows_of (found_of matches.now))) }
 {
+    let Some(level) = level_in(matches) else {
+        return Err(LineFault::UnknownLevel);
+    };
+    let form = form_in(matches);
     let workers = workers_in(matches);
     let cuts = cuts_in(alloc, matches)?;
     match Options::new(alloc, workers, cuts.as_slice()) {
-        Ok(options) => Ok(options),
+        Ok(options) => Ok(options.with_form(form).with_level(level)),
         Err(OptionsFault::TooManyCuts) => Err(LineFault::TooManyCuts),
         Err(OptionsFault::NoMemory) => Err(LineFault::NoMemory),
         Err(OptionsFault::Workers) => unreachable!(),
@@ -167,6 +221,42 @@ fn workers_in(matches: &ArgMatches<'_>) -> u8
     match matches.get_str("workers") {
         Some(text) => number(text) as u8,
         None => unreachable!(),
+    }
+}
+
+/// The form of the report that the matches ask for.
+fn form_in(matches: &ArgMatches<'_>) -> Form
+    ensures { result ≡ form_among (rows_of (found_of matches.now)) }
+{
+    if matches.get_count("brief") == 0 {
+        Form::Full
+    } else {
+        Form::Brief
+    }
+}
+
+/// The level that the matches name, if there is one of the name.
+fn level_in(matches: &ArgMatches<'_>) -> Option<Level>
+    ensures { result ≡ level_among (rows_of (found_of matches.now)) }
+{
+    match matches.get_str("check") {
+        Some(name) => level_named(name),
+        None => None,
+    }
+}
+
+/// The level of the name, if there is one.
+fn level_named(name: &str) -> Option<Level>
+    ensures { result ≡ named name.now }
+{
+    if name == "serializable" {
+        Some(Level::Serializable)
+    } else if name == "ssi" {
+        Some(Level::Ssi)
+    } else if name == "si" {
+        Some(Level::Si)
+    } else {
+        None
     }
 }
 

@@ -9,9 +9,11 @@ mod device;
 mod engine;
 mod finding;
 mod findings;
+mod form;
 mod input;
 mod judgement;
 mod laws;
+mod level;
 mod line;
 mod lines;
 mod longer_lines;
@@ -72,6 +74,11 @@ fn tell<R: Print + Eprint>(rt: &R, fault: LineFault) -> u8 {
             LINE_REFUSED
         }
         LineFault::TooManyCuts => say(rt, "too many cuts", LINE_REFUSED),
+        LineFault::UnknownLevel => say(
+            rt,
+            "the level of --check is serializable, ssi or si",
+            LINE_REFUSED,
+        ),
         LineFault::NoMemory => say(rt, words_of(RunFault::NoMemory), NOT_DONE),
     }
 }

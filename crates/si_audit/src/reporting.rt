@@ -1,13 +1,15 @@
 // The report of an audit: all its lines.
-ghost use Rattle.std.specs.Prelude.{◌≡◌, ◌++◌, ◌&&◌, ℕ, List, [], flat_map, IfOk, OnOk};
+ghost use Rattle.std.specs.Prelude.{◌≡◌, ◌++◌, ◌&&◌, ℕ, List, [], flat_map, map, IfOk, OnOk};
+ghost use Rattle.sia_parts.specs.Packing.{unpacked};
 ghost use Rattle.si_audit.specs.Audits.{account_of};
 ghost use Rattle.si_audit.specs.Judgements.{account_by};
 ghost use Rattle.si_audit.specs.Lines as lines;
 ghost use Rattle.si_audit.specs.Report.{CanBePrinted};
-ghost use Rattle.si_audit.specs.Sheets.{number_lines, text_of};
+ghost use Rattle.si_audit.specs.Sheets.{text_of};
 
 use crate::counts::Counts;
 use crate::findings::Audit;
+use crate::form::Form;
 use crate::judgement::Judgement;
 use crate::lines::{
     push_bad_read, push_bad_write, push_edge, push_events, push_isolation, push_serializable,
@@ -113,7 +115,7 @@ fn push_back(
 
 /// All lines of an audit.
 fn push_report(out: &mut Vec<u8>, a: &Audit) -> Result<(), AllocError>
-    ensures { OnOk result (out.new.items ≡ out.old.items ++ lines.report_text (account_of a.now)) }
+    ensures { OnOk result (out.new.items ≡ out.old.items ++ lines.report_text Form.Full (account_of a.now)) }
 {
     let counts = Counts {
         events: a.events,
@@ -142,10 +144,10 @@ fn buffer(alloc: Global, edges: usize, bad_reads: usize) -> Result<Vec<u8>, Allo
     Vec::with_capacity(alloc, lines.saturating_mul(LINE))
 }
 
-/// The lines of the report.
+/// The lines of the full report.
 pub fn report(alloc: Global, a: &Audit) -> Result<Vec<u8>, NoMemory>
     requires { CanBePrinted (account_of a.now) }
-    ensures { IfOk result (λ bytes. bytes.items ≡ lines.report_text (account_of a.now)) }
+    ensures { IfOk result (λ bytes. bytes.items ≡ lines.report_text Form.Full (account_of a.now)) }
 {
     let found = &a.findings;
     let mut out = buffer(alloc, found.edges.len(), found.bad_reads.len())?;
@@ -154,7 +156,7 @@ pub fn report(alloc: Global, a: &Audit) -> Result<Vec<u8>, NoMemory>
 }
 
 /// The lines of a judgement that stand before those of the edges.
-pub(crate) fn front_of(alloc: Global, j: &Judgement) -> Result<Vec<u8>, AllocError>
+fn front_of(alloc: Global, j: &Judgement) -> Result<Vec<u8>, AllocError>
     ensures { IfOk result (λ sheet. sheet.items ≡
         lines.events_line j.now.counts.events j.now.counts.committed j.now.counts.aborted j.now.counts.unfinished
         ++ lines.isolation_line (lines.is_empty j.now.found.bad_reads.items && lines.is_empty j.now.found.bad_writes.items)
@@ -174,29 +176,41 @@ pub(crate) fn front_of(alloc: Global, j: &Judgement) -> Result<Vec<u8>, AllocErr
     Ok(sheet)
 }
 
+/// The pivots that a report of this form has.
+fn pivots_told(form: Form, pivots: &[Pivot]) -> &[Pivot]
+    ensures { result.now ≡ lines.told form pivots.now }
+{
+    match form {
+        Form::Full => pivots,
+        Form::Brief => &[],
+    }
+}
+
 /// The lines of a judgement that stand behind those of the edges.
-pub(crate) fn back_of(alloc: Global, j: &Judgement) -> Result<Vec<u8>, AllocError>
+fn back_of(alloc: Global, j: &Judgement, form: Form) -> Result<Vec<u8>, AllocError>
     ensures { IfOk result (λ sheet. sheet.items ≡
-        flat_map lines.pivot_line j.now.pivots.items
+        flat_map lines.pivot_line (lines.told form j.now.pivots.items)
         ++ lines.ssi_line j.now.pass
         ++ lines.serializable_line j.now.serializable
         ++ lines.verdict_line j.now.verdict) }
 {
-    let mut sheet = buffer(alloc, j.committed.ids().len(), j.pivots.len())?;
-    push_back(&mut sheet, &j.pivots, j.pass, j.serializable, &j.verdict)?;
+    let pivots = pivots_told(form, &j.pivots);
+    let mut sheet = buffer(alloc, j.committed.ids().len(), pivots.len())?;
+    push_back(&mut sheet, pivots, j.pass, j.serializable, &j.verdict)?;
     Ok(sheet)
 }
 
-/// The lines of a judgement, of which those of the edges are made already.
+/// The lines of a judgement in this form, of which those of the edges are made already.
 pub(crate) fn report_of(
     alloc: Global,
     j: &Judgement,
     mut sheets: Vec<Vec<u8>>,
+    form: Form,
 ) -> Result<Vec<Vec<u8>>, NoMemory>
-    ensures { IfOk result (λ all. (keys : List ℕ) → text_of sheets.items ≡ number_lines j.now.committed keys j.now.found.edges
-        → text_of all.items ≡ lines.report_text (account_by keys j.now)) }
+    ensures { IfOk result (λ all. (keys : List ℕ) → text_of sheets.items ≡ flat_map lines.edge_line (lines.told form (map (unpacked j.now.committed keys) j.now.found.edges))
+        → text_of all.items ≡ lines.report_text form (account_by keys j.now)) }
 {
     sheets.insert(0, front_of(alloc, j)?)?;
-    sheets.push(back_of(alloc, j)?)?;
+    sheets.push(back_of(alloc, j, form)?)?;
     Ok(sheets)
 }

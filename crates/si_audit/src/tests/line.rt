@@ -1,4 +1,6 @@
 //! Command lines: what the program's words give, worked out by hand.
+use crate::form::Form;
+use crate::level::Level;
 use crate::line::{LineFault, options_from};
 use crate::options::Options;
 use sia_events::Key;
@@ -37,6 +39,47 @@ fn without_words(rt: HostRuntime) -> Result<(), Fail> {
         hi: Key::MAX,
     }];
     assert_eq!(rt; options.parts(), parts.as_slice());
+    assert_eq!(rt; options.form(), Form::Full);
+    assert_eq!(rt; options.level(), Level::Serializable);
+    Ok(())
+}
+
+#[test]
+fn forms_and_levels(rt: HostRuntime) -> Result<(), Fail> {
+    let lines: [(&[&str], Form, Level); 5] = [
+        (&["si_audit", "--brief"], Form::Brief, Level::Serializable),
+        (
+            &["si_audit", "--brief", "14", "--brief"],
+            Form::Brief,
+            Level::Serializable,
+        ),
+        (&["si_audit", "--check", "si"], Form::Full, Level::Si),
+        (
+            &["si_audit", "--check=ssi", "--brief"],
+            Form::Brief,
+            Level::Ssi,
+        ),
+        (
+            &["si_audit", "--check", "serializable"],
+            Form::Full,
+            Level::Serializable,
+        ),
+    ];
+    for (line, form, level) in lines {
+        let options = from(rt.alloc(), line).expect(&rt, "options");
+        assert_eq!(rt; options.form(), form);
+        assert_eq!(rt; options.level(), level);
+    }
+    Ok(())
+}
+
+#[test]
+fn unknown_levels(rt: HostRuntime) -> Result<(), Fail> {
+    for name in ["SI", "", "snapshot"] {
+        let line = ["si_audit", "--check", name];
+        let answer = from(rt.alloc(), line.as_slice());
+        assert!(rt; matches!(answer, Err(LineFault::UnknownLevel)), "{name}");
+    }
     Ok(())
 }
 
@@ -84,7 +127,7 @@ fn the_ends_of_the_keys(rt: HostRuntime) -> Result<(), Fail> {
 
 #[test]
 fn refused_words(rt: HostRuntime) -> Result<(), Fail> {
-    let lines: [(&[&str], &str); 12] = [
+    let lines: [(&[&str], &str); 15] = [
         (&["si_audit", "--workers", "65"], "65 is not in 1..=64"),
         (&["si_audit", "--workers", "0"], "0 is not in 1..=64"),
         (
@@ -99,6 +142,15 @@ fn refused_words(rt: HostRuntime) -> Result<(), Fail> {
             &["si_audit", "--workers", "4", "--workers", "4"],
             "cannot be used multiple times",
         ),
+        (
+            &["si_audit", "--check"],
+            "a value is required for '--check <LEVEL>'",
+        ),
+        (
+            &["si_audit", "--check", "si", "--check", "si"],
+            "cannot be used multiple times",
+        ),
+        (&["si_audit", "--brief=yes"], "unexpected value 'yes' for '--brief'"),
         (&["si_audit", "14", "x"], "'x' for '[CUT]...'"),
         (
             &["si_audit", "18446744073709551616"],

@@ -15,7 +15,7 @@ returns-in-Ok-clause-report g c = of_source _ _ c.in_ok-text.text c.in_ok-text.e
 
 pub returns-clause-front : goal.returns-clause-front
 returns-clause-front g c _ = of_source _ _ c.in_ok-text.text c.in_ok-text.ensures.text (λ text stands.
-    front_written _ _ text (text_of c.in_ok-answer.answer.sheets.items) (c.in_ok-answer.ensures.report text stands)
+    front_written c.args.o.now.form _ _ text (text_of c.in_ok-answer.answer.sheets.items) (c.in_ok-answer.ensures.report text stands)
     c.in-Err.ensures.front.0 c.in-Err.ensures.front.1 (ap text_of (sym c.as_slice.ensures.value) ∙ c.in-Err.ensures.front.2) c.in-Err.ensures.front.3)
 
 pub returns-clause-whole : goal.returns-clause-whole

@@ -7,10 +7,11 @@ use Rattle.clap.specs.declared.builder.command.Command.{Command}
 use Rattle.clap.specs.declared.parser.matches.ArgMatches.{ArgMatches}
 use Rattle.sia_parts.specs.Parts.{IsCutting, HasTooManyCuts}
 use Rattle.si_audit.specs.Choices.{Choices}
-use Rattle.si_audit.specs.LineAnswers.{IsOwed, GivesOptions, OwesTooManyCuts, cuts_among, workers_among}
-use Rattle.si_audit.specs.Words.{AreChosen, ChooseTooManyCuts, program}
+use Rattle.si_audit.specs.LineAnswers.{IsOwed, GivesOptions, StandsInTheWay, cuts_among, form_among, level_among, workers_among}
+use Rattle.si_audit.specs.Words.{AreChosen, ChooseNoLevel, ChooseTooManyCuts, program}
 use Rattle.si_audit.specs.declared.line.LineFault.{LineFault}
-use Rattle.si_audit.specs.declared.line.LineFault.TheVariants.{NoMemory, TooManyCuts, Help, Usage}
+use Rattle.si_audit.specs.declared.line.LineFault.TheVariants.{NoMemory, TooManyCuts, UnknownLevel, Help, Usage}
+use Rattle.si_audit.specs.declared.level.Level.{Level}
 use Rattle.si_audit.proofs.NumbersGiven.{numbers_given}
 use Rattle.si_audit.proofs.TakenWords.{program_takes}
 use Rattle.si_audit.proofs.line.options_from.Goals as goal
@@ -21,28 +22,35 @@ chosen_from rows words o is taken g = record {
   workers = g.workers ∙ ap workers_among is;
   parts = subst (λ (r : List Row). IsCutting (cuts_among r) o.parts) is g.parts;
   few = subst (λ (r : List Row). ¬ HasTooManyCuts (cuts_among r)) is g.few;
+  form = g.form ∙ ap form_among is;
+  level = ap level_among (sym is) ∙ g.level;
 }
 
 owed_from : (rows : List Row) (words : List Text) (fault : LineFault) → rows ≡ matches_of program words → takes program words ≡ true
-    → OwesTooManyCuts rows fault → IsOwed words fault
+    → StandsInTheWay rows fault → IsOwed words fault
 owed_from rows words NoMemory is taken h = tt
 owed_from rows words TooManyCuts is taken h = record {
   taken = taken;
   many = subst (λ (r : List Row). HasTooManyCuts (cuts_among r)) is h;
 }
+owed_from rows words UnknownLevel is taken h = record {
+  taken = taken;
+  none = ap level_among (sym is) ∙ h;
+}
 owed_from rows words (Help text) is taken h = absurd h
 owed_from rows words (Usage text) is taken h = absurd h
 
 -- words that are taken are told of by want of memory alone
-told_owed : (words : List Text) (fault : LineFault) → (takes program words ≡ true → fault ≡ NoMemory) → fault ≢ TooManyCuts → IsOwed words fault
-told_owed words NoMemory memory known = tt
-told_owed words TooManyCuts memory known = absurd (known refl)
-told_owed words (Help text) memory known = go (takes program words) refl
+told_owed : (words : List Text) (fault : LineFault) → (takes program words ≡ true → fault ≡ NoMemory) → fault ≢ TooManyCuts → fault ≢ UnknownLevel → IsOwed words fault
+told_owed words NoMemory memory cuts level = tt
+told_owed words TooManyCuts memory cuts level = absurd (cuts refl)
+told_owed words UnknownLevel memory cuts level = absurd (level refl)
+told_owed words (Help text) memory cuts level = go (takes program words) refl
   where
     go : (b : Bool) → takes program words ≡ b → b ≡ false
     go true e = let bad : Help text ≡ NoMemory = memory e in cc
     go false e = refl
-told_owed words (Usage text) memory known = go (takes program words) refl
+told_owed words (Usage text) memory cuts level = go (takes program words) refl
   where
     go : (b : Bool) → takes program words ≡ b → b ≡ false
     go true e = let bad : Usage text ≡ NoMemory = memory e in cc
@@ -54,6 +62,9 @@ no_memory_owed words (Err fault) h = subst (IsOwed words) (sym h) tt
 
 many_from : {X : Type 0} (words : List Text) (r : Result X LineFault) → IfErr r (IsOwed words) → r ≡ Err TooManyCuts → ChooseTooManyCuts words
 many_from {X = X} words r owed is = subst (λ (x : Result X LineFault). IfErr x (IsOwed words)) is owed
+
+no_level_from : {X : Type 0} (words : List Text) (r : Result X LineFault) → IfErr r (IsOwed words) → r ≡ Err UnknownLevel → ChooseNoLevel words
+no_level_from {X = X} words r owed is = subst (λ (x : Result X LineFault). IfErr x (IsOwed words)) is owed
 
 -- the parse of the program's words
 record Parsed (words : List Text) (rows : List Row) : Type 0 where
@@ -90,7 +101,10 @@ returns-in-Ok-clause-fault c =
 pub returns-in-Ok-clause-too_many : goal.returns-in-Ok-clause-too_many
 returns-in-Ok-clause-too_many c = many_from (map string_bytes c.args.words.now) c.options_of.result (returns-in-Ok-clause-fault c)
 
+pub returns-in-Ok-clause-no_level : goal.returns-in-Ok-clause-no_level
+returns-in-Ok-clause-no_level c = no_level_from (map string_bytes c.args.words.now) c.options_of.result (returns-in-Ok-clause-fault c)
+
 pub returns-in-Err-clause-fault : goal.returns-in-Err-clause-fault
 returns-in-Err-clause-fault c =
     let words = map string_bytes c.args.words.now in
-    told_owed words c.told.result (λ taken. c.told.ensures.memory (c.in-Err.ensures.passes (ap (λ (a : App). takes a words) c.in_ok-command.ensures ∙ taken))) c.told.ensures.words
+    told_owed words c.told.result (λ taken. c.told.ensures.memory (c.in-Err.ensures.passes (ap (λ (a : App). takes a words) c.in_ok-command.ensures ∙ taken))) c.told.ensures.cuts c.told.ensures.level
