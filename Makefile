@@ -6,7 +6,7 @@
 #: make test                   proves what isn't proved yet, runs the tests, and the program on examples and random histories
 #: make test FULL=1            the whole gate: proves all from nothing, tries the wrong edits, and then does the same
 #: make test SERVERS=1         also tests the recorder with PostgreSQL and MariaDB, where they are installed
-#: make install PREFIX=/usr    installs PREFIX/bin/si_audit and PREFIX/bin/si-history (DESTDIR is put before it)
+#: make install PREFIX=/usr    installs PREFIX/bin/si_audit, PREFIX/bin/si-history and their man pages (DESTDIR comes before PREFIX)
 #: make uninstall PREFIX=/usr  removes what make install put there, and nothing else
 #: make bench                  times the program on generated histories
 #: make databases RUNS=20      records and audits PostgreSQL and MariaDB (sh tools/install_databases.sh installs what it needs)

@@ -47,6 +47,9 @@ installs() {
             count "$1: the program" "$(cmp examples/commit_order.report "$out/report" 2>&1)"
             "$root$2/bin/si-history" --version >"$out/report" 2>"$out/said"
             count "$1: si-history" "$(cat "$out/said")"
+            for page in si_audit.1 si-history.1; do
+                count "$1: $page" "$(cmp "docs/$page" "$root$2/share/man/man1/$page" 2>&1)"
+            done
         fi
     done
     listed "$out/after"

@@ -4,7 +4,7 @@
 : "${PREFIX:=/usr/local}"
 share=$DESTDIR$PREFIX/share/si_audit
 
-for file in bin/si_audit bin/si-history; do
+for file in bin/si_audit bin/si-history share/man/man1/si_audit.1 share/man/man1/si-history.1; do
     rm -f "$DESTDIR$PREFIX/$file" || exit 1
 done
 rm -rf "$share/si_history" || exit 1
