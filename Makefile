@@ -1,13 +1,18 @@
-# make run HISTORY=FILE       audits a history: the report on standard output, what its status means on standard error
-# make test                   proves what isn't proved yet, runs the tests, and the program on examples and random histories
-# make test FULL=1            the whole gate: proves all from nothing, tries the wrong edits, and then does the same
-# make test SERVERS=1         also tests the recorder with PostgreSQL and MariaDB, where they are installed
-# make install PREFIX=/usr    installs PREFIX/bin/si_audit and PREFIX/bin/si-history (DESTDIR is put before it)
-# make bench                  times the program on generated histories
-# make databases RUNS=20      records and audits PostgreSQL and MariaDB (sh tools/install_databases.sh installs what it needs)
-# make clean                  removes what was built and checked
+# The targets, one line each: `make help` prints these lines.
+#: make help                   lists the targets, as here
+#: make run HISTORY=FILE       audits a history (without HISTORY examples/write_skew.history) and says what its status means
+#: make                        proves and builds the program, where there is none or a source is newer
+#: make build                  proves and builds the program in any case; the kit knows what it has proved already
+#: make test                   proves what isn't proved yet, runs the tests, and the program on examples and random histories
+#: make test FULL=1            the whole gate: proves all from nothing, tries the wrong edits, and then does the same
+#: make test SERVERS=1         also tests the recorder with PostgreSQL and MariaDB, where they are installed
+#: make install PREFIX=/usr    installs PREFIX/bin/si_audit, PREFIX/bin/si-history and their man pages (DESTDIR comes before PREFIX)
+#: make uninstall PREFIX=/usr  removes what make install put there, and nothing else
+#: make bench                  times the program on generated histories
+#: make databases RUNS=20      records and audits PostgreSQL and MariaDB (sh tools/install_databases.sh installs what it needs)
+#: make clean                  removes what was built and checked
 
-HISTORY =
+HISTORY = examples/write_skew.history
 FULL ?=
 PREFIX = /usr/local
 DESTDIR =
@@ -16,19 +21,28 @@ RUNS = 20
 
 export HISTORY FULL PREFIX DESTDIR PROGRAM
 
-.PHONY: all run test install bench databases clean
+.PHONY: all help run build test install uninstall bench databases clean
 
 all:
 	@sh tools/build.sh
 
+help:
+	@sed -n 's/^#: //p' Makefile
+
 run:
 	@sh tools/audit.sh "$$HISTORY"
+
+build:
+	@sh tools/build.sh always
 
 test:
 	@sh tools/test.sh
 
 install:
 	@sh tools/install.sh
+
+uninstall:
+	@sh tools/uninstall.sh
 
 bench:
 	@sh tools/bench.sh

@@ -6,11 +6,14 @@ Each text is given three times, and the shortest time is told. The system counts
 the process that starts it, so the last line tells the peak of a program that does nothing.
 """
 
+from __future__ import annotations
+
 import os
 import subprocess
 import sys
 import tempfile
 import time
+from collections.abc import Sequence
 
 HERE = os.path.dirname(os.path.abspath(__file__))
 SIZES = (4000, 16000)
@@ -18,7 +21,7 @@ TEXTS = [(kind, events) for kind in ("short", "hot", "ranges", "one_reader") for
 TIMES = 3
 
 
-def run(program, text, report):
+def run(program: str, text: str, report: str) -> tuple[float, int, int]:
     """Returns the seconds, the peak memory in kilobytes and the status of one run."""
     with open(text, "rb") as given, open(report, "wb") as taken:
         began = time.perf_counter()
@@ -30,13 +33,13 @@ def run(program, text, report):
     return seconds, kilobytes, started.returncode
 
 
-def count(path, byte):
+def count(path: str, byte: bytes) -> int:
     """How often the byte stands in a file. The file is read in pieces, which keeps this timer small."""
     with open(path, "rb") as it:
         return sum(piece.count(byte) for piece in iter(lambda: it.read(65536), b""))
 
 
-def main(words):
+def main(words: Sequence[str]) -> int:
     if len(words) != 1:
         print(__doc__, end="", file=sys.stderr)
         return 2

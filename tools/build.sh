@@ -1,9 +1,10 @@
 #!/bin/sh
-# Builds the program, where there is none or a source is newer than it. The kit proves it first.
+# Builds the program, where there is none or a source is newer than it: sh tools/build.sh. With the word `always` the kit is
+# asked in any case: sh tools/build.sh always. The kit proves the program before it builds it.
 : "${PROGRAM:=crates/si_audit/out/si_audit}"
 log=out/build.log
 
-if [ -x "$PROGRAM" ]; then
+if [ "$1" != always ] && [ -x "$PROGRAM" ]; then
     newer=$(find crates.txt crates -name out -prune -o -type f -newer "$PROGRAM" -print)
     if [ -z "$newer" ]; then
         exit 0

@@ -1,6 +1,6 @@
 #!/bin/sh
 # Runs the program on command lines, and with devices that fail or close early. Each test compares its status and what
-# it wrote on standard error with what docs/FORMAT.md says. The last line is 'N passed, M failed'.
+# it wrote on standard error with what docs/USAGE.md says. The last line is 'N passed, M failed'.
 : "${PROGRAM:=crates/si_audit/out/si_audit}"
 mkdir -p out
 history=examples/clean.history

@@ -10,22 +10,28 @@ not show at all. The last line is 'N passed, M failed'. What refuses is refuse.c
 system that loads a library before a program's own; where one of them is missing, the one line says so, and nothing is
 tried.
 """
+
+from __future__ import annotations
+
 import os
 import shutil
 import subprocess
 import sys
 import tempfile
+from collections.abc import Container, Iterator, Sequence
 
 HERE = os.path.dirname(os.path.abspath(__file__))
 EXAMPLES = f"{HERE}/../examples"
-LINES = ([], ["--workers", "1"], ["--workers", "2", "2"])
+LINES: tuple[list[str], ...] = ([], ["--workers", "1"], ["--workers", "2", "2"])
 BUSY = (("hot", 600), ("ranges", 200))
 BUSY_LINE = ["--workers", "3", "5", "20", "100"]
-NO_MEMORY = (4, b"", b"si_audit: no memory\n")
-ALLOWED = {"REFUSE_MEMORY": [NO_MEMORY], "REFUSE_THREAD": []}
+# How a run ended: its status, and what it wrote on standard output and on standard error.
+Ended = tuple[int, bytes, bytes]
+NO_MEMORY: Ended = (4, b"", b"si_audit: no memory\n")
+ALLOWED: dict[str, list[Ended]] = {"REFUSE_MEMORY": [NO_MEMORY], "REFUSE_THREAD": []}
 
 
-def cases(room):
+def cases(room: str) -> Iterator[tuple[str, list[str]]]:
     """Each file of a history with the arguments to give."""
     names = sorted(it for it in os.listdir(EXAMPLES) if it.endswith(".history"))
     for name in names:
@@ -41,31 +47,38 @@ def cases(room):
 
 
 class Refuser:
-    def __init__(self, program, room):
+    def __init__(self, program: str, room: str) -> None:
         self.program, self.room = program, room
 
-    def lacks(self):
+    def lacks(self) -> str:
         """Returns what is missing here, or an empty text."""
         cc = shutil.which(os.environ.get("CC", "cc"))
-        words = [cc, "-shared", "-fPIC", "-O1", "-o", f"{self.room}/refuse.so", f"{HERE}/refuse.c", "-ldl"]
-        if not cc or subprocess.run(words, stderr=subprocess.DEVNULL).returncode:
+        words = ["-shared", "-fPIC", "-O1", "-o", f"{self.room}/refuse.so", f"{HERE}/refuse.c", "-ldl"]
+        if not cc or subprocess.run([cc, *words], stderr=subprocess.DEVNULL).returncode:
             return "no C compiler makes refuse.c here"
         _, refused = self.run(f"{EXAMPLES}/clean.history", [], "REFUSE_MEMORY", 1)
         return "" if refused else "refuse.c is not loaded before the program here"
 
-    def run(self, history, line, what=None, number=0):
+    def run(self, history: str, line: Sequence[str], what: str = "", number: int = 0) -> tuple[Ended, int]:
         """Returns how the program ended and what it wrote, and how many calls it was refused."""
         with open(history, "rb") as given, open(f"{self.room}/refusals", "w+b") as told:
             fd = told.fileno()
             names = {"LD_PRELOAD": f"{self.room}/refuse.so", "REFUSALS": str(fd), what: str(number)} if what else {}
-            how = {"stdin": given, "capture_output": True, "timeout": 60, "pass_fds": [fd]}
-            ran = subprocess.run([self.program, *line], env={**os.environ, **names}, **how)
+            ran = subprocess.run(
+                [self.program, *line],
+                env={**os.environ, **names},
+                stdin=given,
+                capture_output=True,
+                timeout=60,
+                pass_fds=[fd],
+            )
             return (ran.returncode, ran.stdout, ran.stderr), os.fstat(fd).st_size
 
-    def counts(self, history, line, what, allowed):
+    def counts(self, history: str, line: Sequence[str], what: str, allowed: Container[Ended]) -> tuple[int, list[int]]:
         """Returns how many calls were refused, and the numbers of those whose refusal went wrong."""
         wanted, _ = self.run(history, line)
-        number, bad = 1, []
+        number = 1
+        bad: list[int] = []
         while True:
             ended, refused = self.run(history, line, what, number)
             if ended != wanted and not (refused and ended in allowed):
@@ -75,7 +88,7 @@ class Refuser:
             number += 1
 
 
-def main(words):
+def main(words: Sequence[str]) -> int:
     if len(words) != 1:
         print(__doc__, end="", file=sys.stderr)
         return 2

@@ -1,8 +1,8 @@
 #!/bin/sh
 # make test takes what is proved already, proves the rest, runs the tests of each crate, and then the program: on every
-# example, on command lines, beside the definitions, on the longest texts, and without memory. With FULL=1 the kit's whole
-# gate stands in the place of the first steps: all is proved from nothing, and the edits that the prover must refuse are
-# tried. A table of the steps comes at the end, and the last line counts them.
+# example, on command lines, by the Makefile, beside the definitions, on the longest texts, and without memory. With FULL=1
+# the kit's whole gate stands in the place of the first steps: all is proved from nothing, and the edits that the prover
+# must refuse are tried. A table of the steps comes at the end, and the last line counts them.
 : "${PROGRAM:=crates/si_audit/out/si_audit}"
 mkdir -p out
 table=out/steps
@@ -57,6 +57,8 @@ if [ "${FULL:-0}" = 0 ]; then
 fi
 step "the program on every example" sh tools/examples.sh
 step "the program on command lines, and with devices that fail" sh tools/line_tests.sh
+step "the targets of the Makefile for users" sh tools/make_tests.sh
+step "the links of the pages" python3 -B tools/links.py
 step "the definitions in Python, on what docs/FORMAT.md works out" definitions unittest -q oracle.tests
 step "the program beside the definitions, on random histories" definitions oracle "$PROGRAM" \
     small=1000 crowd=60 versions=30 ranges=24 rings=20 edges=12 most_edges=6

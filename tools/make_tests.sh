@@ -1,0 +1,85 @@
+#!/bin/sh
+# Tests the targets of the Makefile that are for users: help, run, install and uninstall. The last line is
+# 'N passed, M failed'.
+: "${PROGRAM:=crates/si_audit/out/si_audit}"
+export PROGRAM
+# What make test was told is not for the makes of this test.
+unset MAKEFLAGS MFLAGS MAKELEVEL
+out=out/make_tests
+passed=0
+failed=0
+
+# count NAME WHY: the test passed where there is no WHY.
+count() {
+    if [ -z "$2" ]; then
+        passed=$((passed + 1))
+    else
+        failed=$((failed + 1))
+        echo "$1: $2"
+    fi
+}
+
+# runs NAME REPORT SAID ARGUMENTS..: make with these arguments writes REPORT, and SAID on standard error.
+runs() {
+    name=$1
+    report=$2
+    said=$3
+    shift 3
+    make "$@" >"$out/report" 2>"$out/said"
+    count "$name: its status" "$([ $? = 0 ] || echo "it is not 0")"
+    count "$name: its report" "$(cmp "$report" "$out/report" 2>&1)"
+    count "$name: what it says" "$(echo "$said" | diff - "$out/said")"
+}
+
+# listed FILE: the files and links under the root, and the folder of the program's own, written to FILE.
+listed() {
+    (cd "$root" && find . ! -type d -print && find . -type d -path '*share/si_audit*' -print) | sort >"$1"
+}
+
+# installs NAME PREFIX: after two makes of install and two of uninstall all is as it was.
+installs() {
+    listed "$out/before"
+    for target in install install uninstall uninstall; do
+        make "$target" DESTDIR="$root" PREFIX="$2" >"$out/said" 2>&1
+        count "$1: make $target" "$([ $? = 0 ] || cat "$out/said")"
+        if [ "$target" = install ]; then
+            printf 'c2 c1' | "$root$2/bin/si_audit" >"$out/report" 2>"$out/said"
+            count "$1: the program" "$(cmp examples/commit_order.report "$out/report" 2>&1)"
+            "$root$2/bin/si-history" --version >"$out/report" 2>"$out/said"
+            count "$1: si-history" "$(cat "$out/said")"
+            for page in si_audit.1 si-history.1; do
+                count "$1: $page" "$(cmp "docs/$page" "$root$2/share/man/man1/$page" 2>&1)"
+            done
+        fi
+    done
+    listed "$out/after"
+    count "$1: what is left" "$(diff "$out/before" "$out/after")"
+}
+
+sh tools/build.sh || exit 1
+rm -rf "$out"
+mkdir -p "$out"
+make help >"$out/help" 2>&1
+for target in $(sed -n 's/^\.PHONY: all//p' Makefile); do
+    count "make help: $target" "$(grep -q "^make $target  *" "$out/help" || echo "it isn't listed")"
+done
+count "make help: each line" "$(grep -v '^make ' "$out/help")"
+
+faulty="status 1: faulty, as the report says"
+runs "make run" examples/write_skew.report "$faulty" run
+runs "make run HISTORY=.." examples/lost_update.report "$faulty" run HISTORY=examples/lost_update.history
+runs "make run of a clean history" examples/clean.report "status 0: clean" run HISTORY=examples/clean.history
+
+root=$PWD/$out/a\ root
+mkdir -p "$root"
+installs "an empty root" /usr/local
+for folder in bin share/si_audit share/man/man1; do
+    mkdir -p "$root/opt/$folder"
+    echo "of another" >"$root/opt/$folder/other"
+done
+installs "a root with files of others" /opt
+count "files of others" "$(cat "$root"/opt/*/other "$root"/opt/share/*/other "$root"/opt/share/man/man1/other | grep -v "of another")"
+
+rm -rf "$out"
+echo "$passed passed, $failed failed"
+[ "$failed" = 0 ]
