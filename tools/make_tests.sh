@@ -1,5 +1,5 @@
 #!/bin/sh
-# Tests the targets of the Makefile that are for users: help, run, install and uninstall. The last line is
+# Tests the targets of the Makefile that are for users: help, run, build, install and uninstall. The last line is
 # 'N passed, M failed'.
 : "${PROGRAM:=crates/si_audit/out/si_audit}"
 export PROGRAM
@@ -41,12 +41,12 @@ installs() {
     listed "$out/before"
     for target in install install uninstall uninstall; do
         make "$target" DESTDIR="$root" PREFIX="$2" >"$out/said" 2>&1
-        count "$1: make $target" "$([ $? = 0 ] || cat "$out/said")"
+        count "$1: make $target" "$([ $? = 0 ] || echo "its status is not 0: $(cat "$out/said")")"
         if [ "$target" = install ]; then
             printf 'c2 c1' | "$root$2/bin/si_audit" >"$out/report" 2>"$out/said"
             count "$1: the program" "$(cmp examples/commit_order.report "$out/report" 2>&1)"
             "$root$2/bin/si-history" --version >"$out/report" 2>"$out/said"
-            count "$1: si-history" "$(cat "$out/said")"
+            count "$1: si-history" "$(grep -q "^si-history " "$out/report" || echo "it doesn't tell its version: $(cat "$out/said")")"
             for page in si_audit.1 si-history.1; do
                 count "$1: $page" "$(cmp "docs/$page" "$root$2/share/man/man1/$page" 2>&1)"
             done
@@ -69,6 +69,16 @@ faulty="status 1: faulty, as the report says"
 runs "make run" examples/write_skew.report "$faulty" run
 runs "make run HISTORY=.." examples/lost_update.report "$faulty" run HISTORY=examples/lost_update.history
 runs "make run of a clean history" examples/clean.report "status 0: clean" run HISTORY=examples/clean.history
+
+# The kit of this test only notes that it was asked.
+mkdir "$out/kit"
+printf '#!/bin/sh\necho "$*" >"%s"\n' "$PWD/$out/asked" >"$out/kit/rt"
+chmod 755 "$out/kit/rt"
+cp "$PROGRAM" "$out/program"
+PATH=$PWD/$out/kit:$PATH make all PROGRAM="$out/program" >"$out/said" 2>&1
+count "make, with nothing new" "$([ ! -e "$out/asked" ] || echo "the kit was asked")"
+PATH=$PWD/$out/kit:$PATH make build PROGRAM="$out/program" >"$out/said" 2>&1
+count "make build, with nothing new" "$([ -e "$out/asked" ] || echo "the kit was not asked")"
 
 root=$PWD/$out/a\ root
 mkdir -p "$root"
