@@ -1,6 +1,7 @@
 # The targets, one line each: `make help` prints these lines.
 #: make help                   lists the targets, as here
 #: make run HISTORY=FILE       audits a history (without HISTORY examples/write_skew.history) and says what its status means
+#: make run BRIEF=1 CHECK=si   leaves out edges and pivots, and the status tells of another level: serializable, ssi or si
 #: make                        proves and builds the program, where there is none or a source is newer
 #: make build                  proves and builds the program in any case; the kit knows what it has proved already
 #: make test                   proves what isn't proved yet, runs the tests, and the program on examples and random histories
@@ -13,13 +14,15 @@
 #: make clean                  removes what was built and checked
 
 HISTORY = examples/write_skew.history
+BRIEF ?=
+CHECK ?= serializable
 FULL ?=
 PREFIX = /usr/local
 DESTDIR =
 PROGRAM ?= crates/si_audit/out/si_audit
 RUNS = 20
 
-export HISTORY FULL PREFIX DESTDIR PROGRAM
+export HISTORY BRIEF CHECK FULL PREFIX DESTDIR PROGRAM
 
 .PHONY: all help run build test install uninstall bench databases clean
 

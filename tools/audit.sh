@@ -1,6 +1,8 @@
 #!/bin/sh
-# Audits one file: sh tools/audit.sh FILE. The status is 0 where there is a report or a refusal line.
+# Audits one file: sh tools/audit.sh FILE. BRIEF, if it isn't empty, asks for the brief report, and CHECK names the level.
+# The status is 0 where there is a report or a refusal line.
 : "${PROGRAM:=crates/si_audit/out/si_audit}"
+: "${CHECK:=serializable}"
 
 fail() {
     echo "make run: $1" >&2
@@ -16,12 +18,18 @@ elif [ ! -e "$1" ]; then
 elif [ ! -r "$1" ]; then
     fail "$1 may not be read"
 fi
+case $CHECK in
+    serializable) kept="isolation was kept, and the history is serializable" ;;
+    ssi) kept="the test of serializable snapshot isolation is passed" ;;
+    si) kept="isolation was kept" ;;
+    *) fail "CHECK is serializable, ssi or si, and not $CHECK" ;;
+esac
 sh tools/build.sh || exit 2
-"$PROGRAM" <"$1"
+"$PROGRAM" ${BRIEF:+--brief} --check "$CHECK" <"$1"
 status=$?
 case $status in
-    0) echo "status 0: clean" >&2 ;;
-    1) echo "status 1: faulty, as the report says" >&2 ;;
+    0) echo "status 0: $kept" >&2 ;;
+    1) echo "status 1: not so, as the report says: $kept" >&2 ;;
     3) echo "status 3: refused, the text is no history" >&2 ;;
     4)
         echo "status 4: a device or the memory failed" >&2

@@ -85,6 +85,8 @@ same "workers and a cut" examples/clean.report --workers 64 14
 same "a cut first" examples/clean.report 14 --workers=1
 same "the greatest key" examples/clean.report 18446744073709551615 0 0
 same "the most cuts" examples/clean.report $(seq 0 1023) 7
+same "the level ssi" examples/clean.report --check ssi
+same "the level si" examples/clean.report --check=si
 usage "65 workers" "invalid value '65' for '--workers <N>': 65 is not in 1..=64" --workers 65
 usage "no worker" "invalid value '0' for '--workers <N>': 0 is not in 1..=64" --workers 0
 usage "workers twice" "the argument '--workers <N>' cannot be used multiple times" --workers 4 --workers 4
@@ -95,6 +97,13 @@ help "-h after others" --workers 64 14 -h
 
 "$PROGRAM" $(seq 1 1024) <"$history" >out/report 2>out/said
 told "too many cuts" $? 2 "si_audit: too many cuts"
+"$PROGRAM" --check SI <"$history" >out/report 2>out/said
+told "a level that is none" $? 2 "si_audit: the level of --check is serializable, ssi or si"
+for level in serializable:1 ssi:1 si:0; do
+    "$PROGRAM" --brief --check "${level%:*}" <examples/write_skew.history >out/report 2>out/said
+    told "write skew, held against ${level%:*}" $? "${level#*:}" ""
+    count "write skew in brief: its report" "$(grep -v -e '^edge' -e '^pivot' examples/write_skew.report | cmp - out/report 2>&1)"
+done
 "$PROGRAM" "$(printf '\377')" <"$history" >out/report 2>out/said
 told "an argument that is not UTF-8" $? 2 "si_audit: an argument is not UTF-8"
 

@@ -65,10 +65,11 @@ for target in $(sed -n 's/^\.PHONY: all//p' Makefile); do
 done
 count "make help: each line" "$(grep -v '^make ' "$out/help")"
 
-faulty="status 1: faulty, as the report says"
+kept="isolation was kept, and the history is serializable"
+faulty="status 1: not so, as the report says: $kept"
 runs "make run" examples/write_skew.report "$faulty" run
 runs "make run HISTORY=.." examples/lost_update.report "$faulty" run HISTORY=examples/lost_update.history
-runs "make run of a clean history" examples/clean.report "status 0: clean" run HISTORY=examples/clean.history
+runs "make run of a clean history" examples/clean.report "status 0: $kept" run HISTORY=examples/clean.history
 
 # The kit of this test only notes that it was asked.
 mkdir "$out/kit"

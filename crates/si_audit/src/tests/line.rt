@@ -150,7 +150,10 @@ fn refused_words(rt: HostRuntime) -> Result<(), Fail> {
             &["si_audit", "--check", "si", "--check", "si"],
             "cannot be used multiple times",
         ),
-        (&["si_audit", "--brief=yes"], "unexpected value 'yes' for '--brief'"),
+        (
+            &["si_audit", "--brief=yes"],
+            "unexpected value 'yes' for '--brief...'",
+        ),
         (&["si_audit", "14", "x"], "'x' for '[CUT]...'"),
         (
             &["si_audit", "18446744073709551616"],

@@ -16,7 +16,7 @@ returns-clause-report g c =
     let written = subst (λ x. AreWrittenKeys x keys) c.requires.index c.written_keys.ensures in
     let edges = c.in_ok-lines.ensures ∙ ap (λ ts. flat_map edge_line (told c.args.o.now.form (map (unpacked ts keys) j.found.edges))) c.ids.ensures in
     let whole = subst (λ (f : Form). (ks : List ℕ) → text_of c.in_ok-lines.lines.items ≡ flat_map edge_line (told f (map (unpacked j.committed ks) j.found.edges))
-        → text_of c.in_ok-sheets.sheets.items ≡ report_text f (account_by ks j)) c.form.ensures c.in_ok-sheets.ensures in
+    → text_of c.in_ok-sheets.sheets.items ≡ report_text f (account_by ks j)) c.form.ensures c.in_ok-sheets.ensures in
     (account_by keys j, c.in_ok-judgement.ensures.exact keys written, whole keys edges)
 
 pub returns-clause-outcome : goal.returns-clause-outcome
