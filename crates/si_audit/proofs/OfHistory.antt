@@ -5,8 +5,8 @@ use Rattle.sia_events.specs.Text.{StandsFor}
 use Rattle.sia_events.specs.Refusals.{IsAccepted}
 use Rattle.si_audit.specs.declared.engine.Outcome.{Outcome}
 use Rattle.si_audit.specs.declared.engine.Outcome.TheVariants.{Clean, Faulty, Refused}
-use Rattle.si_audit.specs.declared.form.Form.{Form}
-use Rattle.si_audit.specs.declared.level.Level.{Level}
+use Rattle.si_audit.specs.declared.cli.form.Form.{Form}
+use Rattle.si_audit.specs.declared.cli.level.Level.{Level}
 use Rattle.si_audit.specs.Answering.{IsOutcomeOf, IsReportOf}
 use Rattle.si_audit.specs.Outcomes.{IsOutcome}
 use Rattle.si_audit.specs.Report.{IsReport}

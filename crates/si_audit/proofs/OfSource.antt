@@ -2,7 +2,7 @@
 use Rattle.std.proofs.Common.{◌≡◌, ℕ, List, ◌++◌, Option, Some, None, IfSome, subst}
 use Rattle.std.specs.Io.KnownBytes.{Appends}
 use Rattle.sia_events.specs.Streaming.{Progress, StandsForRead}
-use Rattle.si_audit.specs.declared.form.Form.{Form}
+use Rattle.si_audit.specs.declared.cli.form.Form.{Form}
 use Rattle.si_audit.specs.Report.{IsReport}
 
 -- a fact of each text that a reader stands for, of the text that the source had

@@ -3,8 +3,8 @@ use Rattle.std.specs.Prelude.{◌≡◌, List, ℕ}
 use Rattle.sia_events.specs.declared.event.Event.{Event}
 use Rattle.si_audit.specs.declared.engine.Outcome.{Outcome}
 use Rattle.si_audit.specs.declared.engine.Outcome.TheVariants.{Clean, Faulty, Refused}
-use Rattle.si_audit.specs.declared.form.Form.{Form}
-use Rattle.si_audit.specs.declared.level.Level.{Level}
+use Rattle.si_audit.specs.declared.cli.form.Form.{Form}
+use Rattle.si_audit.specs.declared.cli.level.Level.{Level}
 use Rattle.si_audit.specs.Account.{Account}
 use Rattle.si_audit.specs.Accounts.{IsAccount}
 use Rattle.si_audit.specs.Lines.{report_text}

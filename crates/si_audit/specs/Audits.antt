@@ -2,7 +2,7 @@
 use Rattle.std.specs.Prelude.{⊤}
 use Rattle.sia_graph.specs.declared.settling.Verdict.{Verdict}
 use Rattle.sia_graph.specs.declared.settling.Verdict.TheVariants.{Order, Cycle}
-use Rattle.si_audit.specs.declared.findings.Audit.{Audit}
+use Rattle.si_audit.specs.declared.audit.findings.Audit.{Audit}
 use Rattle.si_audit.specs.Account.{Account}
 
 abbrev pub IsOrderVerdict : Verdict → Type 0

@@ -1,9 +1,9 @@
 -- The words of lines of edges that are made once and put into many lines: each stands at the end of some bytes.
 use Rattle.std.specs.Prelude.{◌≡◌, ◌<◌, ◌≤◌, ℕ, List, [], ◌∷◌, ◌++◌, drop, length, codes, slice_index, slice_index_or}
 use Rattle.sia_events.specs.Text.{numeral}
-use Rattle.si_audit.specs.declared.number_lines.Head.{Head}
-use Rattle.si_audit.specs.declared.numerals.Numeral.{Numeral}
-use Rattle.si_audit.specs.declared.numerals.LongNumeral.{LongNumeral}
+use Rattle.si_audit.specs.declared.report.number_lines.Head.{Head}
+use Rattle.si_audit.specs.declared.report.numerals.Numeral.{Numeral}
+use Rattle.si_audit.specs.declared.report.numerals.LongNumeral.{LongNumeral}
 
 -- the first two words of lines of edges from the source
 pub record IsHead (txns : List ℕ) (head : Head) : Type 0 where

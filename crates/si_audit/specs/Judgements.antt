@@ -7,7 +7,7 @@ use Rattle.sia_events.specs.Transactions.{IsCommitted}
 use Rattle.sia_index.specs.Info.{AreWrittenKeys}
 use Rattle.sia_parts.specs.EdgeNumbers.{AreEdgeNumbers}
 use Rattle.sia_parts.specs.Packing.{unpacked}
-use Rattle.si_audit.specs.declared.judgement.Judgement.{Judgement}
+use Rattle.si_audit.specs.declared.audit.judgement.Judgement.{Judgement}
 use Rattle.si_audit.specs.Account.{Account}
 
 -- the numbers are those of all edges, by the committed transactions and the written keys

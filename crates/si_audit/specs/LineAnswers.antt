@@ -4,11 +4,11 @@ use Rattle.clap.specs.Words.{IsUnsignedIn, Row, Text, all_of, count_of, first_of
 use Rattle.sia_parts.specs.Parts.{IsCutting, HasTooManyCuts}
 use Rattle.si_audit.specs.Choices.{Choices}
 use Rattle.si_audit.specs.Words.{ChooseNoLevel, ChooseTooManyCuts, level_named, number_in, program}
-use Rattle.si_audit.specs.declared.line.LineFault.{LineFault}
-use Rattle.si_audit.specs.declared.line.LineFault.TheVariants.{NoMemory, TooManyCuts, UnknownLevel, Help, Usage}
-use Rattle.si_audit.specs.declared.form.Form.{Form}
-use Rattle.si_audit.specs.declared.form.Form.TheVariants.{Full, Brief}
-use Rattle.si_audit.specs.declared.level.Level.{Level}
+use Rattle.si_audit.specs.declared.cli.line.LineFault.{LineFault}
+use Rattle.si_audit.specs.declared.cli.line.LineFault.TheVariants.{NoMemory, TooManyCuts, UnknownLevel, Help, Usage}
+use Rattle.si_audit.specs.declared.cli.form.Form.{Form}
+use Rattle.si_audit.specs.declared.cli.form.Form.TheVariants.{Full, Brief}
+use Rattle.si_audit.specs.declared.cli.level.Level.{Level}
 
 -- help and usage are told only of words that the command doesn't take. Memory may run out
 abbrev pub IsOwed : List Text → LineFault → Type 0

@@ -16,8 +16,8 @@ use Rattle.sia_graph.specs.declared.pivot.Pivot.{Pivot}
 use Rattle.sia_graph.specs.declared.settling.Step.{Step}
 use Rattle.sia_graph.specs.declared.settling.Verdict.{Verdict}
 use Rattle.sia_graph.specs.declared.settling.Verdict.TheVariants.{Order, Cycle}
-use Rattle.si_audit.specs.declared.form.Form.{Form}
-use Rattle.si_audit.specs.declared.form.Form.TheVariants.{Full, Brief}
+use Rattle.si_audit.specs.declared.cli.form.Form.{Form}
+use Rattle.si_audit.specs.declared.cli.form.Form.TheVariants.{Full, Brief}
 use Rattle.si_audit.specs.Account.{Account}
 
 -- words with one space between two, and LF

@@ -6,7 +6,7 @@ use Rattle.sia_events.specs.Text.{StandsFor}
 use Rattle.sia_events.specs.Refusals.{IsRefusal, IsAccepted}
 use Rattle.sia_graph.specs.declared.settling.Verdict.{Verdict}
 use Rattle.sia_graph.specs.declared.settling.Verdict.TheVariants.{Order, Cycle}
-use Rattle.si_audit.specs.declared.form.Form.{Form}
+use Rattle.si_audit.specs.declared.cli.form.Form.{Form}
 use Rattle.si_audit.specs.Account.{Account}
 use Rattle.si_audit.specs.Accounts.{IsAccount}
 use Rattle.si_audit.specs.Lines.{refusal_line, report_text}

@@ -12,14 +12,14 @@ ghost use Rattle.si_audit.specs.Answering.{IsReportOf, IsOutcomeOf};
 ghost use Rattle.si_audit.specs.Judgements.{account_by};
 ghost use Rattle.si_audit.specs.Sheets.{text_of};
 
+use crate::audit::judgement::{AllEdges, Judgement, judged};
+use crate::cli::form::Form;
+use crate::cli::level::Level;
+use crate::cli::options::Options;
 use crate::engine::Outcome;
-use crate::form::Form;
-use crate::judgement::{AllEdges, Judgement, judged};
-use crate::level::Level;
-use crate::lines::push_refusal;
-use crate::options::Options;
-use crate::reporting::report_of;
-use crate::sheets::sheets_of_edges;
+use crate::report::lines::push_refusal;
+use crate::report::reporting::report_of;
+use crate::report::sheets::sheets_of_edges;
 use sia_events::{History, NoMemory, TextFault, TextReader};
 use sia_index::Index;
 use sia_index::make::index;
@@ -115,8 +115,7 @@ pub(crate) fn answer_to_history<T: Threads + Wait + Sync>(
     ensures report { IfOk result (λ answer. IsReportOf o.now.form h.now (text_of answer.sheets.items)) }
     ensures outcome { IfOk result (λ answer. IsOutcomeOf o.now.level h.now answer.outcome) }
 {
-    // The length tells that the history is well-formed.
-    let _ = h.len();
+    h.law();
     let ix = index(alloc, h)?;
     answer_by_index(rt, alloc, h, &ix, o)
 }

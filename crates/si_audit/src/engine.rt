@@ -4,10 +4,10 @@ ghost use Rattle.si_audit.specs.Report.{IsReport};
 ghost use Rattle.si_audit.specs.Outcomes.{IsOutcome, status_of};
 
 use crate::answering::answer_to_text;
-use crate::device::{Failed, Sink, Source};
-use crate::input::read_text;
-use crate::options::Options;
-use crate::output::write_whole;
+use crate::cli::options::Options;
+use crate::io::device::{Failed, Sink, Source};
+use crate::io::input::read_text;
+use crate::io::output::write_whole;
 use sia_events::NoMemory;
 use std::alloc::{AllocError, AllocFailed, Global};
 use std::sync::Wait;

@@ -1,7 +1,7 @@
 // Laws over the definitions of a report. Their bodies are empty: what they say is all in the contract.
 ghost use Rattle.std.specs.Prelude.{List, ℕ};
 ghost use Rattle.si_audit.specs.Report.{OneReport};
-ghost use Rattle.si_audit.specs.declared.form.Form.{Form};
+ghost use Rattle.si_audit.specs.declared.cli.form.Form.{Form};
 
 /// A text has one report of each form at most: whatever bytes are a report of it are the same bytes.
 pub fn one_report()

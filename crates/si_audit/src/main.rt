@@ -3,39 +3,22 @@
 #![tactic(auto)]
 
 mod answering;
-mod batches;
-mod counts;
-mod device;
+mod audit;
+mod cli;
 mod engine;
-mod finding;
-mod findings;
-mod form;
-mod input;
-mod judgement;
+mod io;
 mod laws;
-mod level;
-mod line;
-mod lines;
-mod longer_lines;
-mod make;
-mod merging;
-mod number_lines;
-mod numerals;
-mod options;
-mod output;
-mod reporting;
-mod sheets;
+mod report;
 #[cfg(test)]
 mod tests;
-mod words;
 
-use device::FromStd;
+use cli::line::{LineFault, options_from};
+use cli::options::Options;
 use engine::{RunFault, run, status};
-use line::{LineFault, options_from};
-use options::Options;
+use io::device::FromStd;
 use std::alloc::Global;
 use std::env::Env;
-use std::io::{self, ErrorKind};
+use std::io::ErrorKind;
 use std::process::ExitCode;
 
 /// The status where help was asked for.
@@ -84,7 +67,7 @@ fn tell<R: Print + Eprint>(rt: &R, fault: LineFault) -> u8 {
 }
 
 /// The program's words, its name first.
-fn words_given<R: Env + Alloc<A = Global>>(rt: &R) -> io::Result<Vec<String>> {
+fn words_given<R: Env + Alloc<A = Global>>(rt: &R) -> std::io::Result<Vec<String>> {
     let words = std::env::args(rt)?.collect(rt.alloc())?;
     Ok(words)
 }

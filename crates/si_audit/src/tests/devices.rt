@@ -1,7 +1,7 @@
 // Devices that fail.
 ghost use Rattle.std.specs.Prelude.{◌≡◌, Some, true, false};
 
-use crate::device::{Failed, Sink, Source};
+use crate::io::device::{Failed, Sink, Source};
 
 /// Gives the bytes of a slice, and fails in place of giving more than so many.
 #[derive(Drop)]

@@ -1,7 +1,7 @@
 // Devices that fail: which fault comes, and what stands written by then.
-use crate::device::{FromStd, Sink, Source};
+use crate::cli::options::Options;
 use crate::engine::{Outcome, RunFault, run};
-use crate::options::Options;
+use crate::io::device::{FromStd, Sink, Source};
 use crate::tests::devices::{Breaking, Choking, Then};
 use std::test::*;
 

@@ -1,9 +1,9 @@
 // Brief reports, and what each level says of worked histories.
-use crate::device::FromStd;
+use crate::cli::form::Form;
+use crate::cli::level::Level;
+use crate::cli::options::Options;
 use crate::engine::{Outcome, run};
-use crate::form::Form;
-use crate::level::Level;
-use crate::options::Options;
+use crate::io::device::FromStd;
 use std::test::*;
 
 /// A history that kept isolation, with a pivot whose last transaction commits first, and a serial order.

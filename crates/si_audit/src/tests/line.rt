@@ -1,8 +1,8 @@
 //! Command lines: what the program's words give, worked out by hand.
-use crate::form::Form;
-use crate::level::Level;
-use crate::line::{LineFault, options_from};
-use crate::options::Options;
+use crate::cli::form::Form;
+use crate::cli::level::Level;
+use crate::cli::line::{LineFault, options_from};
+use crate::cli::options::Options;
 use sia_events::Key;
 use sia_parts::Part;
 use std::alloc::{AllocError, Global};
@@ -155,6 +155,7 @@ fn refused_words(rt: HostRuntime) -> Result<(), Fail> {
             "unexpected value 'yes' for '--brief...'",
         ),
         (&["si_audit", "14", "x"], "'x' for '[CUT]...'"),
+        (&["si_audit", "run.history"], "si_audit <FILE"),
         (
             &["si_audit", "18446744073709551616"],
             "'18446744073709551616' for '[CUT]...'",
@@ -165,10 +166,6 @@ fn refused_words(rt: HostRuntime) -> Result<(), Fail> {
         (
             &["si_audit", "--worker", "4"],
             "unexpected argument '--worker'",
-        ),
-        (
-            &["si_audit", "--version"],
-            "unexpected argument '--version'",
         ),
     ];
     for (line, said) in lines {
@@ -201,6 +198,24 @@ fn words_that_ask_for_help(rt: HostRuntime) -> Result<(), Fail> {
                 );
                 assert!(rt; text.as_str().contains("--workers <N>"), "{text}");
                 assert!(rt; text.as_str().contains("[default: 4]"), "{text}");
+            }
+            _ => assert!(rt; false),
+        }
+    }
+    Ok(())
+}
+
+#[test]
+fn words_that_ask_for_the_version(rt: HostRuntime) -> Result<(), Fail> {
+    for word in ["--version", "-V"] {
+        let line = ["si_audit", word];
+        let answer = from(rt.alloc(), line.as_slice());
+        match &answer {
+            Err(LineFault::Help(text)) => {
+                assert!(rt;
+                    text.as_str().starts_with("si_audit 0.2.0 (rattle-kit-13b"),
+                    "{text}"
+                );
             }
             _ => assert!(rt; false),
         }

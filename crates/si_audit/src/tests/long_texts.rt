@@ -1,9 +1,9 @@
 // Texts at the limits of bytes and of events, and texts cut short.
 ghost use Rattle.std.specs.Prelude.{◌≤◌};
 
-use crate::device::FromStd;
+use crate::cli::options::Options;
 use crate::engine::{Outcome, RunFault, run};
-use crate::options::Options;
+use crate::io::device::FromStd;
 use crate::tests::devices::Breaking;
 use crate::tests::rows::told;
 use std::alloc::Global;

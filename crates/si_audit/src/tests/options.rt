@@ -1,6 +1,6 @@
 // Options, and the audit that they are given to.
-use crate::make::audit;
-use crate::options::{Options, OptionsFault};
+use crate::audit::make::audit;
+use crate::cli::options::{Options, OptionsFault};
 use sia_events::{Key, read_history};
 use sia_graph::Verdict;
 use sia_parts::Part;

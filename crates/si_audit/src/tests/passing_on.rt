@@ -1,6 +1,6 @@
 // `FromStd` passes each call on to its device, once, and tells what the device answered. Of a device that doesn't tell its
 // bytes, as a file or a pipe, no contract says so.
-use crate::device::{Failed, FromStd, Sink, Source};
+use crate::io::device::{Failed, FromStd, Sink, Source};
 use std::alloc::Global;
 use std::io::{self, ErrorKind, Read, Write};
 use std::test::*;

@@ -1,9 +1,9 @@
 // The reports of worked histories, by one, two and 64 workers.
-use crate::device::FromStd;
+use crate::audit::make::audit;
+use crate::cli::options::Options;
 use crate::engine::{Outcome, run};
-use crate::make::audit;
-use crate::options::Options;
-use crate::reporting::report;
+use crate::io::device::FromStd;
+use crate::report::reporting::report;
 use sia_events::{Key, read_history};
 use std::alloc::Global;
 use std::sync::Wait;

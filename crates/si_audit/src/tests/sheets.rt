@@ -1,5 +1,5 @@
 // How chunks of edges come to sheets.
-use crate::batches::Batches;
+use crate::audit::batches::Batches;
 use std::test::*;
 
 #[test]

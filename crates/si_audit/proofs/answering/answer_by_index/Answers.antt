@@ -1,8 +1,8 @@
 use Rattle.std.proofs.Common.{◌≡◌, ap, subst, ◌∙◌, flat_map, map, List, ℕ}
 use Rattle.sia_index.specs.Info.{AreWrittenKeys}
 use Rattle.sia_parts.specs.Packing.{unpacked}
-use Rattle.si_audit.specs.declared.form.Form.{Form}
-use Rattle.si_audit.specs.declared.level.Level.{Level}
+use Rattle.si_audit.specs.declared.cli.form.Form.{Form}
+use Rattle.si_audit.specs.declared.cli.level.Level.{Level}
 use Rattle.si_audit.specs.Answering.{IsOutcomeOf}
 use Rattle.si_audit.specs.Judgements.{account_by}
 use Rattle.si_audit.specs.Lines.{edge_line, report_text, told}

@@ -2,7 +2,7 @@
 use Rattle.std.proofs.Common.{◌↔◌, subst, sym}
 use Rattle.std.specs.Prelude.{IsTrue}
 use Rattle.std.proofs.lemmas.Bool.{both_ways}
-use Rattle.si_audit.specs.declared.level.Level.{Level}
+use Rattle.si_audit.specs.declared.cli.level.Level.{Level}
 use Rattle.si_audit.specs.Judgements.{account_by}
 use Rattle.si_audit.specs.Outcomes.{Meets}
 use Rattle.si_audit.proofs.Clean.{kept_where}

@@ -1,0 +1,70 @@
+use Rattle.std.proofs.Common.{length, ap, sym, subst, refl, arith}
+use Rattle.std.specs.Prelude.{slice_index}
+use Rattle.std.proofs.lemmas.List.{take_all}
+use Rattle.sia_events.specs.Lists.{CountsAll}
+use Rattle.sia_events.specs.Refusals.{IsWellFormed}
+use Rattle.sia_events.specs.Transactions.{IsCommitted, IsAborted, IsOpen}
+use Rattle.sia_index.specs.declared.info.Fate.TheVariants.{Committed, Aborted, Unfinished}
+use Rattle.si_audit.specs.Counting.{EndedSo}
+use Rattle.si_audit.proofs.Tallies.{next_committed, next_aborted, next_unfinished, all_counted, few_transactions}
+use Rattle.si_audit.proofs.audit.counts.counted.Goals as goal
+use Rattle.si_audit.proofs.audit.counts.counted.Goals.{in-Committed, in-Aborted, in-Unfinished}
+
+pub overflow_add-committed : goal.overflow_add-committed
+overflow_add-committed c =
+    let so = c.loop-i.invariant.committed_are in
+    let kept = so.1.few in
+    let count = so.2 in
+    let few = few_transactions c.args.ix.now c.txns-txns.result.now c.txns-txns.ensures in
+    let same = ap length c.requires.index in
+    omega (arith, c.len-events.ensures.len)
+
+pub overflow_add-aborted : goal.overflow_add-aborted
+overflow_add-aborted c =
+    let so = c.loop-i.invariant.aborted_are in
+    let kept = so.1.few in
+    let count = so.2 in
+    let few = few_transactions c.args.ix.now c.txns-txns.result.now c.txns-txns.ensures in
+    let same = ap length c.requires.index in
+    omega (arith, c.len-events.ensures.len)
+
+pub overflow_add-unfinished : goal.overflow_add-unfinished
+overflow_add-unfinished c =
+    let so = c.loop-i.invariant.unfinished_are in
+    let kept = so.1.few in
+    let count = so.2 in
+    let few = few_transactions c.args.ix.now c.txns-txns.result.now c.txns-txns.ensures in
+    let same = ap length c.requires.index in
+    omega (arith, c.len-events.ensures.len)
+
+pub loop-i-preserved : goal.loop-i-preserved
+loop-i-preserved c =
+    let wf = subst IsWellFormed (sym c.requires.index) c.requires.well_formed in
+    let txns = c.txns-txns.result.now in
+    let x = slice_index txns c.loop-i.i in
+    elim c.match-fate_at.branch [
+      | in-Committed w ↦
+          let ended = subst (λ f. EndedSo c.args.ix.now f x) w.in-Committed.is c.fate_at.ensures in
+          rw (w.committed-is, w.aborted-is, w.unfinished-is)
+          (next_committed c.args.ix.now wf txns c.txns-txns.ensures.ascending c.loop-i.i x 0 c.loop-i-test.true refl _ _ _ c.loop-i.invariant ended)
+      | in-Aborted w ↦
+          let ended = subst (λ f. EndedSo c.args.ix.now f x) w.in-Aborted.is c.fate_at.ensures in
+          rw (w.committed-is, w.aborted-is, w.unfinished-is)
+          (next_aborted c.args.ix.now wf txns c.txns-txns.ensures.ascending c.loop-i.i x 0 c.loop-i-test.true refl _ _ _ c.loop-i.invariant ended)
+      | in-Unfinished w ↦
+          let ended = subst (λ f. EndedSo c.args.ix.now f x) w.in-Unfinished.is c.fate_at.ensures in
+          rw (w.committed-is, w.aborted-is, w.unfinished-is)
+          (next_unfinished c.args.ix.now wf txns c.txns-txns.ensures.ascending c.loop-i.i x 0 c.loop-i-test.true refl _ _ _ c.loop-i.invariant ended)
+    ]
+
+pub returns : goal.returns
+returns c =
+    let txns = c.txns-txns.result.now in
+    let whole = take_all c.loop-i.i txns (omega (arith, c.loop-i-test.false)) in
+    let all = all_counted c.args.ix.now txns c.txns-txns.ensures c.loop-i.i whole in
+    record {
+      events = c.len-events.ensures.len;
+      committed = subst (λ h. CountsAll (IsCommitted h) c.loop-i.committed) c.requires.index (all Committed _ c.loop-i.invariant.committed_are);
+      aborted = subst (λ h. CountsAll (IsAborted h) c.loop-i.aborted) c.requires.index (all Aborted _ c.loop-i.invariant.aborted_are);
+      unfinished = subst (λ h. CountsAll (IsOpen h) c.loop-i.unfinished) c.requires.index (all Unfinished _ c.loop-i.invariant.unfinished_are);
+    }

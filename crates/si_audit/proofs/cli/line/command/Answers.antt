@@ -1,0 +1,19 @@
+-- The texts for the help change nothing that a parse reads.
+use Rattle.std.proofs.Common.{◌≡◌, ◌∙◌, ap, ap₂, codes}
+use Rattle.std.proofs.lemmas.Result.{IfOk-weaker}
+use Rattle.clap.specs.Words.{app_of, new_app, with_rule}
+use Rattle.clap.specs.Simple.{app_of_fields}
+use Rattle.si_audit.specs.Words.{brief_rule, cuts_rule, with_version, workers_rule}
+use Rattle.si_audit.proofs.cli.line.command.Goals as goal
+
+pub returns : goal.returns
+returns c =
+    let start_is : app_of c.after_help.result ≡ with_version (new_app (codes "si_audit")) =
+    ap app_of_fields c.after_help.ensures ∙ (ap app_of_fields c.about.ensures ∙ (ap app_of_fields c.version.ensures ∙ ap with_version c.new.ensures.app)) in
+    let one_is : app_of c.in_ok-arg.field-0 ≡ with_rule (with_version (new_app (codes "si_audit"))) workers_rule =
+    c.in_ok-arg.ensures.shape c.workers_option.ensures.local ∙ ap₂ with_rule start_is c.workers_option.ensures.rule in
+    let two_are : app_of c.in_ok-arg-2.field-0 ≡ with_rule (with_rule (with_version (new_app (codes "si_audit"))) workers_rule) cuts_rule =
+    c.in_ok-arg-2.ensures.shape c.cuts_argument.ensures.local ∙ ap₂ with_rule one_is c.cuts_argument.ensures.rule in
+    let three_are : app_of c.in_ok-arg-3.field-0 ≡ with_rule (with_rule (with_rule (with_version (new_app (codes "si_audit"))) workers_rule) cuts_rule) brief_rule =
+    c.in_ok-arg-3.ensures.shape c.brief_option.ensures.local ∙ ap₂ with_rule two_are c.brief_option.ensures.rule in
+    IfOk-weaker c.arg-4.result _ _ (λ r added. added.shape c.check_option.ensures.local ∙ ap₂ with_rule three_are c.check_option.ensures.rule) c.arg-4.ensures

@@ -1,0 +1,21 @@
+-- The name of the level is the text that the matches have.
+use Rattle.std.proofs.Common.{◌≡◌, ◌∙◌, ap, Option, Some, None, codes}
+use Rattle.std.specs.Prelude.{unwrap_or, []}
+use Rattle.clap.specs.Words.{Text, first_of, first_value, found_of, rows_of}
+use Rattle.clap.specs.declared.parser.matches.Found.{Found}
+use Rattle.clap.proofs.WalkLemmas.{first_value-rows}
+use Rattle.si_audit.specs.Words.{level_named}
+use Rattle.si_audit.proofs.cli.line.level_in.Goals as goal
+
+text_is : (f : Found) (o : Option Text) → o ≡ first_value f (codes "check") → o ≡ first_of (codes "check") (rows_of f)
+text_is f o is = is ∙ first_value-rows f (codes "check")
+
+pub returns-in-Some : goal.returns-in-Some
+returns-in-Some c =
+    let is = text_is (found_of c.args.matches.now) (Some c.in-Some.name.now) c.in-Some.ensures in
+    c.level_named.ensures ∙ ap (λ (o : Option Text). level_named (unwrap_or o [])) is
+
+pub returns-in-None : goal.returns-in-None
+returns-in-None c =
+    let is = text_is (found_of c.args.matches.now) None c.in-None.ensures in
+    ap (λ (o : Option Text). level_named (unwrap_or o [])) is

@@ -1,0 +1,93 @@
+// What is found at all keys: workers find what is at the keys of each part.
+ghost use Rattle.std.specs.Prelude.{◌≡◌, ◌<◌, ◌≤◌, ℕ, List, length, IfOk, IfSome};
+ghost use Rattle.std.specs.List.{slice_get};
+ghost use Rattle.sia_events.specs.Lists.{ListsAscending};
+ghost use Rattle.sia_events.specs.Refusals.{IsWellFormed};
+ghost use Rattle.sia_events.specs.Transactions.{IsCommitted};
+ghost use Rattle.sia_index.specs.Info.{AreWrittenKeys};
+ghost use Rattle.sia_parts.specs.EdgeNumbers.{IsFound};
+ghost use Rattle.sia_parts.specs.Gathering.{IsPartFound};
+ghost use Rattle.sia_parts.specs.Parts.{IsInPart};
+
+use crate::audit::merging::gather;
+use crate::cli::options::Options;
+use sia_events::{History, NoMemory};
+use sia_index::Index;
+use sia_parts::{Committed, Found, Part, PartFound, find_in_part};
+use sia_pool::{Job, OpenGate, work_off};
+use std::alloc::Global;
+use std::sync::Wait;
+use std::thread::Threads;
+
+/// The audit of the parts, of which the workers take one after another.
+#[derive(Drop)]
+struct Auditing<'a> {
+    alloc: Global,
+    history: &'a History,
+    index: &'a Index,
+    committed: &'a Committed,
+    parts: &'a [Part],
+}
+
+impl Job for Auditing<'_> {
+    type Out = PartFound;
+
+    ghost takes = { λ job number. (job.index.now ≡ job.history.now) × ListsAscending (IsCommitted job.index.now) job.committed.now × (number < length job.parts.now) };
+
+    ghost owes = { λ job number found. IfSome (slice_get job.parts.now number) (λ part. (keys : List ℕ) → AreWrittenKeys job.history.now keys
+        → IsPartFound job.history.now job.committed.now keys (IsInPart part) found) };
+
+    fn run(&self, number: u32) -> Result<PartFound, sia_pool::NoMemory> {
+        let part = self.parts[number as usize];
+        match find_in_part(self.alloc, self.history, self.index, self.committed, part) {
+            Ok(found) => Ok(found),
+            Err(NoMemory) => Err(sia_pool::NoMemory),
+        }
+    }
+}
+
+/// How many parts there are.
+fn count_of(parts: &[Part]) -> u32
+    requires { length parts.now ≤ 1024 }
+    ensures { result ≡ length parts.now }
+{
+    parts.len() as u32
+}
+
+/// For how many workers there are parts of the work.
+pub(crate) fn crew_of(o: &Options, count: u32) -> u32
+    ensures { (0 < result) × (result ≤ 64) }
+{
+    u32::from(o.workers()).min(count.max(1))
+}
+
+/// What is found at all keys.
+pub(crate) fn find<R: Threads + Wait + Sync>(
+    rt: &R,
+    alloc: Global,
+    h: &History,
+    ix: &Index,
+    committed: &Committed,
+    o: &Options,
+) -> Result<Found, NoMemory>
+    requires index { ix.now ≡ h.now }
+    requires well_formed { IsWellFormed h.now }
+    requires committed { ListsAscending (IsCommitted ix.now) committed.now }
+    ensures { IfOk result (λ found. (keys : List ℕ) → AreWrittenKeys h.now keys → IsFound h.now committed.now keys found) }
+{
+    // There is a list of the written keys, by which the numbers of the parts are of one kind.
+    let _ = ix.written_keys();
+    let parts = o.parts();
+    let job = Auditing {
+        alloc,
+        history: h,
+        index: ix,
+        committed,
+        parts,
+    };
+    let count = count_of(parts);
+    match work_off(rt, alloc, count, crew_of(o, count), &job, &OpenGate) {
+        Ok(crew) => gather(rt, alloc, crew.outs, committed.ids().len(), o),
+        Err(_) => Err(NoMemory),
+    }
+}

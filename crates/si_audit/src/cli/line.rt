@@ -1,0 +1,313 @@
+//! The command line: how many workers share the parts of the keys, where the keys are cut, the form of the report, and the
+//! level that the status tells of.
+ghost use Rattle.std.specs.Prelude.{◌≡◌, ◌≢◌, ◌<◌, ◌≤◌, false, All, Err, IfErr, IfOk, None, Some, codes, map, string_bytes};
+ghost use Rattle.clap.specs.Words.{IsUnsignedIn, app_of, found_of, kind_of, rows_of, rule_of};
+ghost use Rattle.clap.specs.declared.builder.value_parser.ValueParser.TheVariants.{Unsigned};
+ghost use Rattle.clap.specs.declared.error.kind.ErrorKind.TheVariants.{OutOfMemory};
+ghost use Rattle.si_audit.specs.LineAnswers.{HasNumbers, IsOwed, GivesOptions, StandsInTheWay, cuts_among, form_among, level_among, workers_among};
+ghost use Rattle.si_audit.specs.Words.{AreChosen, ChooseNoLevel, ChooseTooManyCuts, brief_rule, check_rule, cuts_rule, level_named as named, number_in, program, workers_rule};
+
+use crate::cli::form::Form;
+use crate::cli::level::Level;
+use crate::cli::options::{Options, OptionsFault};
+use clap::builder::ValueParser;
+use clap::error::ErrorKind;
+use clap::{Arg, ArgAction, ArgMatches, Command, Error, value_parser};
+use sia_events::Key;
+use std::alloc::{AllocError, Global};
+
+/// The version, and the identity of the kit whose prover has checked it.
+const VERSION: &str = "0.2.0 (rattle-kit-13b logic dac8208d650f15bf)";
+
+const ABOUT: &str = "Audits a history that a multiversion store recorded. Was snapshot isolation
+kept, and does a serial order explain the committed transactions? The history
+is read from standard input, and the report is written to standard output.";
+
+/// What is told where a word stands in the place of a cut and is no number: mostly it is the name of a file.
+const FILE_HINT: &str = "A history is read from standard input: si_audit <FILE\n";
+
+const WORKERS_HELP: &str = "How many workers audit the parts, from 1 to 64";
+
+const BRIEF_HELP: &str = "Leaves out the lines of edges and pivots";
+
+const CHECK_HELP: &str = "What status 0 says was kept: serializable, ssi or si";
+
+const CUT_HELP: &str = "A key at which a part starts, from 0 to 18446744073709551615";
+
+const MORE_HELP: &str =
+    "The keys are cut into parts, which the workers audit side by side. Without a
+CUT there is one part. Cuts come in any order; 0 and repeats change nothing,
+and at most 1023 others may be given. No cut and no number of workers changes
+the report.
+
+Levels:
+  serializable  isolation was kept, and some serial order replays the history
+  ssi           the test of serializable snapshot isolation is passed, too
+  si            isolation was kept
+
+Exit status:
+  0  the history meets the level
+  1  the history falls short of the level
+  2  the command line was refused
+  3  the text is no history; the one line of the report says why
+  4  reading or writing failed, or memory ran out; standard error says which
+
+Examples:
+  si_audit <run.history
+  printf 'w1[1] r2[1:1] c2 a1' | si_audit
+  si_audit --brief --check si <run.history
+  si_audit --workers 8 1000 2000 3000 <run.history >run.report";
+
+/// Why the words give no options.
+#[derive(Debug, Drop)]
+pub enum LineFault {
+    /// A growth was refused.
+    NoMemory,
+    /// More than 1,023 distinct cuts that aren't 0.
+    TooManyCuts,
+    /// There is no level of the name that the words give.
+    UnknownLevel,
+    /// The words ask for help. This is its text.
+    Help(String),
+    /// The words are none that the program takes. This is what to tell the user.
+    Usage(String),
+}
+
+impl From<AllocError> for LineFault {
+    ghost use Rattle.std.specs.Prelude.{◌≡◌};
+    ghost use Rattle.si_audit.specs.declared.cli.line.LineFault.TheVariants.{NoMemory};
+
+    ghost from_gives = { λ _ fault. fault ≡ NoMemory };
+
+    fn from(_refused: AllocError) -> LineFault {
+        LineFault::NoMemory
+    }
+}
+
+/// The options that the program's words give, its name first.
+pub fn options_from(alloc: Global, words: &[String]) -> Result<Options, LineFault>
+    ensures chosen { IfOk result (AreChosen (map string_bytes words.now)) }
+    ensures too_many { result ≡ Err LineFault.TooManyCuts → ChooseTooManyCuts (map string_bytes words.now) }
+    ensures no_level { result ≡ Err LineFault.UnknownLevel → ChooseNoLevel (map string_bytes words.now) }
+    // Help and usage are told only of words that the command doesn't take.
+    ensures fault { IfErr result (IsOwed (map string_bytes words.now)) }
+{
+    match command(alloc)?.try_get_matches_from(words) {
+        Ok(matches) => options_of(alloc, &matches),
+        Err(error) => Err(told(alloc, &error)),
+    }
+}
+
+/// The one command of the program.
+fn command<'a>(alloc: Global) -> Result<Command<'a>, AllocError>
+    ensures { IfOk result (λ c. app_of c ≡ program) }
+{
+    Command::new(alloc, "si_audit")
+        .version(VERSION)
+        .about(ABOUT)
+        .after_help(MORE_HELP)
+        .arg(workers_option(alloc))?
+        .arg(cuts_argument(alloc))?
+        .arg(brief_option(alloc))?
+        .arg(check_option(alloc))
+}
+
+/// The option that says how many workers there are.
+fn workers_option<'a>(alloc: Global) -> Arg<'a>
+    ensures rule { rule_of result ≡ workers_rule }
+    ensures local { result.global ≡ false }
+{
+    Arg::new(alloc, "workers")
+        .long("workers")
+        .value_name("N")
+        .action(ArgAction::Set)
+        .value_parser(numbers_of_workers())
+        .default_value(workers_by_default())
+        .help(WORKERS_HELP)
+}
+
+/// How many workers there may be.
+fn numbers_of_workers<'a>() -> ValueParser<'a>
+    ensures { result ≡ Unsigned 1 64 }
+{
+    ValueParser::Unsigned(1, 64)
+}
+
+/// How many workers there are where the words don't say.
+fn workers_by_default() -> &'static str
+    ensures { result.now ≡ codes "4" }
+{
+    "4"
+}
+
+/// The argument that takes the cuts.
+fn cuts_argument<'a>(alloc: Global) -> Arg<'a>
+    ensures rule { rule_of result ≡ cuts_rule }
+    ensures local { result.global ≡ false }
+{
+    Arg::new(alloc, "cut")
+        .value_name("CUT")
+        .action(ArgAction::Append)
+        .value_parser(value_parser!(u64))
+        .help(CUT_HELP)
+}
+
+/// The option that asks for the brief report.
+fn brief_option<'a>(alloc: Global) -> Arg<'a>
+    ensures rule { rule_of result ≡ brief_rule }
+    ensures local { result.global ≡ false }
+{
+    Arg::new(alloc, "brief")
+        .long("brief")
+        .action(ArgAction::Count)
+        .help(BRIEF_HELP)
+}
+
+/// The option that names the level.
+fn check_option<'a>(alloc: Global) -> Arg<'a>
+    ensures rule { rule_of result ≡ check_rule }
+    ensures local { result.global ≡ false }
+{
+    Arg::new(alloc, "check")
+        .long("check")
+        .value_name("LEVEL")
+        .action(ArgAction::Set)
+        .default_value(level_by_default())
+        .help(CHECK_HELP)
+}
+
+/// The name of the level where the words don't say.
+fn level_by_default() -> &'static str
+    ensures { result.now ≡ codes "serializable" }
+{
+    "serializable"
+}
+
+/// What the program says in place of options.
+fn told(alloc: Global, error: &Error) -> LineFault
+    ensures memory { kind_of error.now ≡ OutOfMemory → result ≡ LineFault.NoMemory }
+    ensures cuts { result ≢ LineFault.TooManyCuts }
+    ensures level { result ≢ LineFault.UnknownLevel }
+{
+    if error.kind() == ErrorKind::OutOfMemory {
+        return LineFault::NoMemory;
+    }
+    match error.to_string(alloc) {
+        Ok(text) if error.use_stderr() => with_hint(text),
+        Ok(text) => LineFault::Help(text),
+        Err(_) => LineFault::NoMemory,
+    }
+}
+
+/// What tells of words that the program doesn't take, with a hint where one of them may be meant for a file.
+fn with_hint(mut text: String) -> LineFault
+    ensures cuts { result ≢ LineFault.TooManyCuts }
+    ensures level { result ≢ LineFault.UnknownLevel }
+{
+    if text.as_str().contains("for '[CUT]...'") && text.push_str(FILE_HINT).is_err() {
+        return LineFault::NoMemory;
+    }
+    LineFault::Usage(text)
+}
+
+/// The options that the matches give.
+fn options_of(alloc: Global, matches: &ArgMatches<'_>) -> Result<Options, LineFault>
+    requires { HasNumbers (rows_of (found_of matches.now)) }
+    ensures given { IfOk result (GivesOptions (rows_of (found_of matches.now))) }
+    ensures fault { IfErr result (StandsInTheWay (rows_of (found_of matches.now))) }
+{
+    let Some(level) = level_in(matches) else {
+        return Err(LineFault::UnknownLevel);
+    };
+    let form = form_in(matches);
+    let workers = workers_in(matches);
+    let cuts = cuts_in(alloc, matches)?;
+    match Options::new(alloc, workers, cuts.as_slice()) {
+        Ok(options) => Ok(options.with_form(form).with_level(level)),
+        Err(OptionsFault::TooManyCuts) => Err(LineFault::TooManyCuts),
+        Err(OptionsFault::NoMemory) => Err(LineFault::NoMemory),
+        Err(OptionsFault::Workers) => unreachable!(),
+    }
+}
+
+/// How many workers the matches ask for.
+fn workers_in(matches: &ArgMatches<'_>) -> u8
+    requires { HasNumbers (rows_of (found_of matches.now)) }
+    ensures number { result ≡ workers_among (rows_of (found_of matches.now)) }
+    ensures bounds { (0 < result) × (result ≤ 64) }
+{
+    match matches.get_str("workers") {
+        Some(text) => number(text) as u8,
+        None => unreachable!(),
+    }
+}
+
+/// The form of the report that the matches ask for.
+fn form_in(matches: &ArgMatches<'_>) -> Form
+    ensures { result ≡ form_among (rows_of (found_of matches.now)) }
+{
+    if matches.get_count("brief") == 0 {
+        Form::Full
+    } else {
+        Form::Brief
+    }
+}
+
+/// The level that the matches name, if there is one of the name.
+fn level_in(matches: &ArgMatches<'_>) -> Option<Level>
+    ensures { result ≡ level_among (rows_of (found_of matches.now)) }
+{
+    match matches.get_str("check") {
+        Some(name) => level_named(name),
+        None => None,
+    }
+}
+
+/// The level of the name, if there is one.
+fn level_named(name: &str) -> Option<Level>
+    ensures { result ≡ named name.now }
+{
+    if name == "serializable" {
+        Some(Level::Serializable)
+    } else if name == "ssi" {
+        Some(Level::Ssi)
+    } else if name == "si" {
+        Some(Level::Si)
+    } else {
+        None
+    }
+}
+
+/// The cuts that the matches have, in the order of the words.
+fn cuts_in(alloc: Global, matches: &ArgMatches<'_>) -> Result<Vec<Key>, AllocError>
+    requires { HasNumbers (rows_of (found_of matches.now)) }
+    ensures { IfOk result (λ cuts. cuts.items ≡ cuts_among (rows_of (found_of matches.now))) }
+{
+    match matches.get_strs("cut") {
+        Some(texts) => numbers(alloc, texts),
+        None => Ok(Vec::new(alloc)),
+    }
+}
+
+/// The numbers of texts, in their order.
+fn numbers(alloc: Global, texts: &[&str]) -> Result<Vec<u64>, AllocError>
+    requires { All (λ t. IsUnsignedIn 0 18446744073709551615 t.now) texts.now }
+    ensures { IfOk result (λ numbers. numbers.items ≡ map (λ t. number_in t.now) texts.now) }
+{
+    let mut numbers = Vec::with_capacity(alloc, texts.len())?;
+    for text in texts {
+        numbers.push(number(text))?;
+    }
+    Ok(numbers)
+}
+
+/// The number that a text is.
+fn number(text: &str) -> u64
+    requires { IsUnsignedIn 0 18446744073709551615 text.now }
+    ensures { result ≡ number_in text.now }
+{
+    match text.parse::<u64>() {
+        Ok(n) => n,
+        Err(_) => unreachable!(),
+    }
+}

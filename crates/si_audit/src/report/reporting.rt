@@ -1,0 +1,216 @@
+// The report of an audit: all its lines.
+ghost use Rattle.std.specs.Prelude.{◌≡◌, ◌++◌, ◌&&◌, ℕ, List, [], flat_map, map, IfOk, OnOk};
+ghost use Rattle.sia_parts.specs.Packing.{unpacked};
+ghost use Rattle.si_audit.specs.Audits.{account_of};
+ghost use Rattle.si_audit.specs.Judgements.{account_by};
+ghost use Rattle.si_audit.specs.Lines as lines;
+ghost use Rattle.si_audit.specs.Report.{CanBePrinted};
+ghost use Rattle.si_audit.specs.Sheets.{text_of};
+
+use crate::audit::counts::Counts;
+use crate::audit::findings::Audit;
+use crate::audit::judgement::Judgement;
+use crate::cli::form::Form;
+use crate::report::lines::{
+    push_bad_read, push_bad_write, push_edge, push_events, push_isolation, push_serializable,
+    push_ssi, push_unexplained,
+};
+use crate::report::longer_lines::{push_pivot, push_verdict};
+use sia_events::NoMemory;
+use sia_graph::{Pivot, Verdict};
+use sia_parts::{BadRead, BadWrite, Edge, Unexplained};
+use std::alloc::{AllocError, Global};
+
+/// How many bytes a line of the report mostly needs.
+const LINE: usize = 32;
+
+fn push_bad_reads(out: &mut Vec<u8>, found: &[BadRead]) -> Result<(), AllocError>
+    ensures { OnOk result (out.new.items ≡ out.old.items ++ flat_map lines.bad_read_line found.now) }
+{
+    for b in found {
+        push_bad_read(out, b)?;
+    }
+    Ok(())
+}
+
+fn push_bad_writes(out: &mut Vec<u8>, found: &[BadWrite]) -> Result<(), AllocError>
+    ensures { OnOk result (out.new.items ≡ out.old.items ++ flat_map lines.bad_write_line found.now) }
+{
+    for b in found {
+        push_bad_write(out, b)?;
+    }
+    Ok(())
+}
+
+fn push_all_unexplained(out: &mut Vec<u8>, found: &[Unexplained]) -> Result<(), AllocError>
+    ensures { OnOk result (out.new.items ≡ out.old.items ++ flat_map lines.unexplained_line found.now) }
+{
+    for b in found {
+        push_unexplained(out, b)?;
+    }
+    Ok(())
+}
+
+fn push_edges(out: &mut Vec<u8>, edges: &[Edge]) -> Result<(), AllocError>
+    ensures { OnOk result (out.new.items ≡ out.old.items ++ flat_map lines.edge_line edges.now) }
+{
+    for e in edges {
+        push_edge(out, e)?;
+    }
+    Ok(())
+}
+
+fn push_pivots(out: &mut Vec<u8>, pivots: &[Pivot]) -> Result<(), AllocError>
+    ensures { OnOk result (out.new.items ≡ out.old.items ++ flat_map lines.pivot_line pivots.now) }
+{
+    for p in pivots {
+        push_pivot(out, p)?;
+    }
+    Ok(())
+}
+
+/// The lines before those of the edges.
+fn push_front(
+    out: &mut Vec<u8>,
+    counts: &Counts,
+    bad_reads: &[BadRead],
+    bad_writes: &[BadWrite],
+    unexplained: &[Unexplained],
+) -> Result<(), AllocError>
+    ensures { OnOk result (out.new.items ≡ out.old.items
+        ++ lines.events_line counts.now.events counts.now.committed counts.now.aborted counts.now.unfinished
+        ++ lines.isolation_line (lines.is_empty bad_reads.now && lines.is_empty bad_writes.now)
+        ++ flat_map lines.bad_read_line bad_reads.now
+        ++ flat_map lines.bad_write_line bad_writes.now
+        ++ flat_map lines.unexplained_line unexplained.now) }
+{
+    push_events(out, counts)?;
+    push_isolation(out, bad_reads.is_empty() && bad_writes.is_empty())?;
+    push_bad_reads(out, bad_reads)?;
+    push_bad_writes(out, bad_writes)?;
+    push_all_unexplained(out, unexplained)?;
+    Ok(())
+}
+
+/// The lines behind those of the edges.
+fn push_back(
+    out: &mut Vec<u8>,
+    pivots: &[Pivot],
+    pass: bool,
+    serializable: bool,
+    verdict: &Verdict,
+) -> Result<(), AllocError>
+    ensures { OnOk result (out.new.items ≡ out.old.items
+        ++ flat_map lines.pivot_line pivots.now
+        ++ lines.ssi_line pass
+        ++ lines.serializable_line serializable
+        ++ lines.verdict_line verdict.now) }
+{
+    push_pivots(out, pivots)?;
+    push_ssi(out, pass)?;
+    push_serializable(out, serializable)?;
+    push_verdict(out, verdict)?;
+    Ok(())
+}
+
+/// All lines of an audit.
+fn push_report(out: &mut Vec<u8>, a: &Audit) -> Result<(), AllocError>
+    ensures { OnOk result (out.new.items ≡ out.old.items ++ lines.report_text Form.Full (account_of a.now)) }
+{
+    let counts = Counts {
+        events: a.events,
+        committed: a.committed,
+        aborted: a.aborted,
+        unfinished: a.unfinished,
+    };
+    let found = &a.findings;
+    push_front(
+        out,
+        &counts,
+        &found.bad_reads,
+        &found.bad_writes,
+        &found.unexplained,
+    )?;
+    push_edges(out, &found.edges)?;
+    push_back(out, &a.pivots, a.pass, a.serializable, &a.verdict)?;
+    Ok(())
+}
+
+/// A buffer with room for most reports with so many edges and bad reads.
+fn buffer(alloc: Global, edges: usize, bad_reads: usize) -> Result<Vec<u8>, AllocError>
+    ensures { IfOk result (λ bytes. bytes.items ≡ []) }
+{
+    let lines = edges.saturating_add(bad_reads);
+    Vec::with_capacity(alloc, lines.saturating_mul(LINE))
+}
+
+/// The lines of the full report.
+pub fn report(alloc: Global, a: &Audit) -> Result<Vec<u8>, NoMemory>
+    requires { CanBePrinted (account_of a.now) }
+    ensures { IfOk result (λ bytes. bytes.items ≡ lines.report_text Form.Full (account_of a.now)) }
+{
+    let found = &a.findings;
+    let mut out = buffer(alloc, found.edges.len(), found.bad_reads.len())?;
+    push_report(&mut out, a)?;
+    Ok(out)
+}
+
+/// The lines of a judgement that stand before those of the edges.
+fn front_of(alloc: Global, j: &Judgement) -> Result<Vec<u8>, AllocError>
+    ensures { IfOk result (λ sheet. sheet.items ≡
+        lines.events_line j.now.counts.events j.now.counts.committed j.now.counts.aborted j.now.counts.unfinished
+        ++ lines.isolation_line (lines.is_empty j.now.found.bad_reads.items && lines.is_empty j.now.found.bad_writes.items)
+        ++ flat_map lines.bad_read_line j.now.found.bad_reads.items
+        ++ flat_map lines.bad_write_line j.now.found.bad_writes.items
+        ++ flat_map lines.unexplained_line j.now.found.unexplained.items) }
+{
+    let found = &j.found;
+    let mut sheet = buffer(alloc, found.unexplained.len(), found.bad_reads.len())?;
+    push_front(
+        &mut sheet,
+        &j.counts,
+        &found.bad_reads,
+        &found.bad_writes,
+        &found.unexplained,
+    )?;
+    Ok(sheet)
+}
+
+/// The pivots that a report of this form has.
+fn pivots_told(form: Form, pivots: &[Pivot]) -> &[Pivot]
+    ensures { result.now ≡ lines.told form pivots.now }
+{
+    match form {
+        Form::Full => pivots,
+        Form::Brief => &[],
+    }
+}
+
+/// The lines of a judgement that stand behind those of the edges.
+fn back_of(alloc: Global, j: &Judgement, form: Form) -> Result<Vec<u8>, AllocError>
+    ensures { IfOk result (λ sheet. sheet.items ≡
+        flat_map lines.pivot_line (lines.told form j.now.pivots.items)
+        ++ lines.ssi_line j.now.pass
+        ++ lines.serializable_line j.now.serializable
+        ++ lines.verdict_line j.now.verdict) }
+{
+    let pivots = pivots_told(form, &j.pivots);
+    let mut sheet = buffer(alloc, j.committed.ids().len(), pivots.len())?;
+    push_back(&mut sheet, pivots, j.pass, j.serializable, &j.verdict)?;
+    Ok(sheet)
+}
+
+/// The lines of a judgement in this form, of which those of the edges are made already.
+pub(crate) fn report_of(
+    alloc: Global,
+    j: &Judgement,
+    mut sheets: Vec<Vec<u8>>,
+    form: Form,
+) -> Result<Vec<Vec<u8>>, NoMemory>
+    ensures { IfOk result (λ all. (keys : List ℕ) → text_of sheets.items ≡ flat_map lines.edge_line (lines.told form (map (unpacked j.now.committed keys) j.now.found.edges))
+        → text_of all.items ≡ lines.report_text form (account_by keys j.now)) }
+{
+    sheets.insert(0, front_of(alloc, j)?)?;
+    sheets.push(back_of(alloc, j, form)?)?;
+    Ok(sheets)
+}
