@@ -6,8 +6,8 @@
 import unittest
 from random import Random
 
-from oracle import larger, taking, trying
-from oracle.account import LEVELS, Account, Edge
+from oracle import larger, narrow, small, taking, trying
+from oracle.account import LEVELS, RW, WR, WW, Account, Edge
 from oracle.events import Event
 from oracle.reading import Refusal, read
 from oracle.tables import Tables
@@ -168,6 +168,35 @@ class Refusals(unittest.TestCase):
         text = "r1[1:0] " * 100_000
         self.assertEqual(len(events_of(text)), 100_000)
         self.assertEqual(read(f"{text}x".encode()), Refusal("refused: token 100001: too many events"))
+
+
+class NarrowEdges(unittest.TestCase):
+    """That narrow edges are edges and lead where all edges lead, on small texts."""
+
+    def test_worked(self) -> None:
+        # 3 looked at versions 0 and 2, and 4 at version 1. The version after 0 is 1, and the one after 1 is 2.
+        history = trying.History(events_of("r3[1:0] w1[1] c1 r4[1:1] w2[1] c2 r3[1:2] c3 w4[1] c4"))
+        edges = {(it.source, it.kind, it.target) for it in narrow.narrow_edges(history)}
+        ww, wr, rw = {(1, WW, 2), (2, WW, 4)}, {(2, WR, 3), (1, WR, 4)}, {(3, RW, 1), (4, RW, 2)}
+        self.assertEqual(edges, ww | wr | rw)
+
+    def test_own_version_is_next(self) -> None:
+        history = trying.History(events_of("r1[1..3] w1[2] c1 w2[2] c2"))
+        self.assertEqual(narrow.narrow_edges(history), {Edge(1, 2, WW, 2)})
+        self.assertEqual(set(history.edges()), {Edge(1, 2, WW, 2), Edge(1, 2, RW, 2)})
+
+    def test_closure(self) -> None:
+        left_out = 0
+        for number in range(500):
+            events = read(small.text_of(Random(f"narrow {number}")))
+            if isinstance(events, Refusal):
+                continue
+            history = trying.History(events)
+            few, edges = narrow.narrow_edges(history), set(history.edges())
+            self.assertLessEqual(few, edges)
+            self.assertEqual(narrow.closure(few), narrow.closure(edges))
+            left_out += len(edges - few)
+        self.assertGreater(left_out, 50)
 
 
 class Sizes(unittest.TestCase):

@@ -1,15 +1,13 @@
 -- In a well-formed history one version is due to a read of a key by a transaction.
-use Rattle.std.proofs.Common.{◌≡◌, ◌⊎◌, inl, inr, ℕ, ◌+◌, ◌<◌, ◌≤◌, List, Option, Some, None, refl, sym, subst, ◌∙◌, arith}
+use Rattle.std.proofs.Common.{◌≡◌, ◌⊎◌, inl, inr, ℕ, ◌+◌, ◌<◌, ◌≤◌, List, refl, sym, subst, ◌∙◌, arith}
 use Rattle.sia_events.specs.declared.event.Event.{Event}
-use Rattle.sia_events.specs.declared.event.Event.TheVariants.{Commit}
-use Rattle.sia_events.specs.Places.{at_place}
 use Rattle.sia_events.specs.Refusals.{IsWellFormed}
 use Rattle.sia_events.specs.Transactions.{HasEvent, StartsAt, CommitsAt, Wrote, WroteBefore}
 use Rattle.sia_events.specs.Reads.{IsVisible, IsNewestVisible, IsDue}
 use Rattle.sia_events.proofs.Decisions.{Decided, last_below}
 use Rattle.sia_events.proofs.TransactionDecisions.{wrote_or_not, wrote_before_or_not, has_start}
 use Rattle.sia_events.proofs.Starts.{one_start}
-use Rattle.sia_events.proofs.Endings.{one_committer}
+use Rattle.sia_events.proofs.Endings.{one_committer, committer_or_none}
 use Rattle.sia_events.proofs.WellFormed.{one_commit}
 
 -- of the visible writers of a key one committed last
@@ -35,22 +33,17 @@ one_due h t p k v w (inr a) (inr b) = of_newest a.1 b.1
     of_newest (inr x) (inr y) = x.1 ∙ sym y.1
 
 -- a writer of k commits at place c
-abbrev WriterCommits : List Event → ℕ → ℕ → Type 0
+abbrev pub WriterCommits : List Event → ℕ → ℕ → Type 0
 WriterCommits h k c = (u : ℕ) × CommitsAt h u c × Wrote h u k
 
-writer_or_not : (h : List Event) (k c : ℕ) → Decided (WriterCommits h k c)
-writer_or_not h k c = of_place (at_place h c) refl
-  where
-    none_but_commits : (o : Option Event) → at_place h c ≡ o → ((u : ℕ) → ¬ (o ≡ Some (Commit u))) → Decided (WriterCommits h k c)
-    none_but_commits o is other = inr (λ w. other w.0 (sym is ∙ w.1))
-
-    of_place : (o : Option Event) → at_place h c ≡ o → Decided (WriterCommits h k c)
-    of_place None is = none_but_commits None is (λ u e. cc)
-    of_place (Some (Commit u)) is = elim (wrote_or_not h u k) [
-      | inl wrote ↦ inl (u, is, wrote)
-      | inr none ↦ inr (λ w. none (subst (λ x. Wrote h x k) (one_committer h w.0 u c w.1 is) w.2))
-    ]
-    of_place (Some e) is = none_but_commits (Some e) is (λ u p. cc)
+pub writer_or_not : (h : List Event) (k c : ℕ) → Decided (WriterCommits h k c)
+writer_or_not h k c = elim (committer_or_none h c) [
+  | inl found ↦ elim (wrote_or_not h found.0 k) [
+    | inl wrote ↦ inl (found.0, found.1, wrote)
+    | inr none ↦ inr (λ w. none (subst (λ x. Wrote h x k) (one_committer h w.0 found.0 c w.1 found.1) w.2))
+  ]
+  | inr none ↦ inr (λ w. none w.0 w.1)
+]
 
 -- and one is due to what has an event
 pub has_due : (h : List Event) → IsWellFormed h → (t p k : ℕ) → HasEvent h t → (v : ℕ) × IsDue h t p k v

@@ -1,5 +1,5 @@
 -- A transaction of a well-formed history ends once, and nothing of it follows its end.
-use Rattle.std.proofs.Common.{◌≡◌, ◌≢◌, inr, ℕ, ◌≤◌, List, Some, refl, sym, subst, arith}
+use Rattle.std.proofs.Common.{◌≡◌, ◌≢◌, ◌⊎◌, inl, inr, ℕ, ◌≤◌, List, Option, Some, None, refl, sym, subst, ◌∙◌, arith}
 use Rattle.sia_events.specs.declared.event.Event.{Event}
 use Rattle.sia_events.specs.declared.event.Event.TheVariants.{Commit, Abort}
 use Rattle.sia_events.specs.declared.fault.Reason.TheVariants.{AlreadyEnded}
@@ -40,3 +40,15 @@ one_committer h t u p a b = let same : Commit t ≡ Commit u = one_event h p p (
 -- two transactions commit at two places
 pub two_commits : (h : List Event) (t u p q : ℕ) → t ≢ u → CommitsAt h t p → CommitsAt h u q → p ≢ q
 two_commits h t u p q other a b same = other (one_committer h t u q (subst (CommitsAt h t) same a) b)
+
+-- the transaction that commits at a place, or none
+pub committer_or_none : (h : List Event) (c : ℕ) → ((t : ℕ) × CommitsAt h t c) ⊎ ((t : ℕ) → ¬ CommitsAt h t c)
+committer_or_none h c = of_place (at_place h c) refl
+  where
+    none_but_commits : (o : Option Event) → at_place h c ≡ o → ((t : ℕ) → ¬ (o ≡ Some (Commit t))) → ((t : ℕ) × CommitsAt h t c) ⊎ ((t : ℕ) → ¬ CommitsAt h t c)
+    none_but_commits o is other = inr (λ t at. other t (sym is ∙ at))
+
+    of_place : (o : Option Event) → at_place h c ≡ o → ((t : ℕ) × CommitsAt h t c) ⊎ ((t : ℕ) → ¬ CommitsAt h t c)
+    of_place None is = none_but_commits None is (λ t e. cc)
+    of_place (Some (Commit t)) is = inl (t, is)
+    of_place (Some e) is = none_but_commits (Some e) is (λ t p. cc)

@@ -17,6 +17,9 @@ pub mod SawDecisions
 pub mod Versions
 pub mod Ranges
 pub mod Unwritten
+pub mod Closures
+pub mod Looks
+pub mod NarrowEdges
 pub mod OneList
 pub mod Histories
 pub mod RoundTrips

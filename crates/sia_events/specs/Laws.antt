@@ -1,5 +1,5 @@
 -- The laws of histories, as statements.
-use Rattle.std.specs.Prelude.{◌≡◌, ◌⊎◌, ◌↔◌, ℕ, ◌+◌, ◌≤◌, List, length, Some, None, Result, Ok, Err}
+use Rattle.std.specs.Prelude.{◌≡◌, ◌⊎◌, ◌↔◌, ℕ, ◌+◌, ◌≤◌, List, length, Contains, Some, None, Result, Ok, Err}
 use Rattle.sia_events.specs.declared.event.Event.{Event}
 use Rattle.sia_events.specs.declared.fault.Reason.TheVariants.{BadEvent}
 use Rattle.sia_events.specs.declared.fault.TextFault.{TextFault}
@@ -12,6 +12,8 @@ use Rattle.sia_events.specs.Reading.{ReadsAs}
 use Rattle.sia_events.specs.Transactions.{Wrote, StartsAt, IsFirstEvent}
 use Rattle.sia_events.specs.Isolation.{IsolationKept, IsBadRead, IsBadWrite, IsUnexplained, NoneUnexplained}
 use Rattle.sia_events.specs.Dependencies.{WwEdge, WrEdge, RwEdge, HasEdge}
+use Rattle.sia_events.specs.NarrowDependencies.{HasNarrowEdge}
+use Rattle.sia_events.specs.Closures.{HaveSameClosure}
 use Rattle.sia_events.specs.DangerousStructures.{NoPivot, PassesSsi}
 use Rattle.sia_events.specs.Replay.{IsOrder, Keeps, Replays, IsSerializable}
 
@@ -88,3 +90,10 @@ pub record NamedStartsOnlyAdd (text : List ℕ) : Type 0 where
       → (t s : ℕ) → StartsAt h t s ↔ StartsPlainly h t s
   pub refused : (fault : TextFault) → IsRefusalIn IsPlain text fault
       → IsRefusal text fault ⊎ ((i : ℕ) × (fault ≡ Refused i BadEvent) × NamesStart text i)
+
+-- narrow edges are edges, and have the closure of all edges; so have pairs that hold each narrow edge, and edges alone
+pub record NarrowLaw (h : List Event) : Type 0 where
+  pub edges : (t u : ℕ) → HasNarrowEdge h t u → HasEdge h t u
+  pub closure : HaveSameClosure (HasNarrowEdge h) (HasEdge h)
+  pub between : (pairs : List (ℕ × ℕ)) → ((t u : ℕ) → HasNarrowEdge h t u → Contains pairs (t, u)) → ((t u : ℕ) → Contains pairs (t, u) → HasEdge h t u)
+      → HaveSameClosure (λ t u. Contains pairs (t, u)) (HasEdge h)

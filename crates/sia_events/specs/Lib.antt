@@ -14,6 +14,8 @@ pub mod Transactions
 pub mod Reads
 pub mod Isolation
 pub mod Dependencies
+pub mod NarrowDependencies
+pub mod Closures
 pub mod DangerousStructures
 pub mod Replay
 pub mod Laws

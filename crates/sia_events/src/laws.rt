@@ -2,7 +2,7 @@
 ghost use Rattle.std.specs.Prelude.{List, ℕ};
 ghost use Rattle.sia_events.specs.declared.event.Event.{Event};
 ghost use Rattle.sia_events.specs.Refusals.{IsWellFormed};
-ghost use Rattle.sia_events.specs.Laws.{CanonicalLaw, HasHistory, NamedStartsOnlyAdd, OneHistory, OneRefusal, RoundTrip, UnwrittenLaw};
+ghost use Rattle.sia_events.specs.Laws.{CanonicalLaw, HasHistory, NamedStartsOnlyAdd, NarrowLaw, OneHistory, OneRefusal, RoundTrip, UnwrittenLaw};
 
 /// A text has one refusal at most.
 pub fn one_refusal()
@@ -38,4 +38,10 @@ pub fn unwritten_law()
 /// unless its faulty token has the form of a named start.
 pub fn named_starts_only_add()
     ensures { (text : List ℕ) → NamedStartsOnlyAdd text }
+{}
+
+/// Narrow edges have the closure of all edges: they lead from one transaction to another in one or more steps exactly if
+/// edges do. So any edges will do that include the narrow ones.
+pub fn narrow_law()
+    ensures { (h : List Event) → IsWellFormed h → NarrowLaw h }
 {}

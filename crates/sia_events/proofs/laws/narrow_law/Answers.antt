@@ -1,0 +1,5 @@
+use Rattle.sia_events.proofs.NarrowEdges.{narrow_edges_suffice}
+use Rattle.sia_events.proofs.laws.narrow_law.Goals as goal
+
+pub returns : goal.returns
+returns c = narrow_edges_suffice
