@@ -9,6 +9,7 @@
 #: make test SERVERS=1         also tests the recorder with PostgreSQL and MariaDB, where they are installed
 #: make install PREFIX=/usr    installs PREFIX/bin/si_audit, PREFIX/bin/si-history and their man pages (DESTDIR comes before PREFIX)
 #: make uninstall PREFIX=/usr  removes what make install put there, and nothing else
+#: make release                keeps the program that was proved and built last in release/, for make run and make install
 #: make bench                  times the program on generated histories
 #: make databases RUNS=20      records and audits PostgreSQL and MariaDB (sh tools/install_databases.sh installs what it needs)
 #: make clean                  removes what was built and checked
@@ -19,12 +20,11 @@ CHECK ?= serializable
 FULL ?=
 PREFIX = /usr/local
 DESTDIR =
-PROGRAM ?= crates/si_audit/out/si_audit
 RUNS = 20
 
-export HISTORY BRIEF CHECK FULL PREFIX DESTDIR PROGRAM
+export HISTORY BRIEF CHECK FULL PREFIX DESTDIR
 
-.PHONY: all help run build test install uninstall bench databases clean
+.PHONY: all help run build test install uninstall release bench databases clean
 
 all:
 	@sh tools/build.sh
@@ -46,6 +46,9 @@ install:
 
 uninstall:
 	@sh tools/uninstall.sh
+
+release:
+	@sh tools/release.sh renew
 
 bench:
 	@sh tools/bench.sh

@@ -1,7 +1,6 @@
 #!/bin/sh
 # Audits one file: sh tools/audit.sh FILE. BRIEF, if it isn't empty, asks for the brief report, and CHECK names the level.
 # The status is 0 where there is a report or a refusal line.
-: "${PROGRAM:=crates/si_audit/out/si_audit}"
 : "${CHECK:=serializable}"
 
 fail() {
@@ -24,8 +23,8 @@ case $CHECK in
     si) kept="isolation was kept" ;;
     *) fail "CHECK is serializable, ssi or si, and not $CHECK" ;;
 esac
-sh tools/build.sh || exit 2
-"$PROGRAM" ${BRIEF:+--brief} --check "$CHECK" <"$1"
+program=$(sh tools/program.sh) || exit 2
+"$program" ${BRIEF:+--brief} --check "$CHECK" <"$1"
 status=$?
 case $status in
     0) echo "status 0: $kept" >&2 ;;

@@ -91,6 +91,45 @@ done
 installs "a root with files of others" /opt
 count "files of others" "$(cat "$root"/opt/*/other "$root"/opt/share/*/other "$root"/opt/share/man/man1/other | grep -v "of another")"
 
+# The kept program, in a repository of one source and with a kit that builds a script.
+mkdir -p "$out/tree/crates/si_audit/src" "$out/tree/rt"
+cp -r tools "$out/tree/tools"
+echo fn main >"$out/tree/crates/si_audit/src/main.rt"
+: >"$out/tree/crates.txt"
+: >"$out/tree/HANDLES"
+cat >"$out/tree/rt/rt" <<'KIT'
+#!/bin/sh
+[ "$1" = version ] && echo a kit && exit
+mkdir -p out
+echo "#!/bin/sh" >out/si_audit
+cat src/main.rt | sed 's/^/# /' >>out/si_audit
+chmod 755 out/si_audit
+KIT
+chmod 755 "$out/tree/rt/rt"
+
+# kept NAME WANTED ARGUMENTS..: release.sh with these arguments prints WANTED, in the tree.
+kept() {
+    name=$1
+    wanted=$2
+    shift 2
+    told=$(cd "$out/tree" && unset PROGRAM && PATH=$PWD/rt:$PATH sh tools/"$@" 2>/dev/null)
+    count "$name" "$([ "$told" = "$wanted" ] || echo "it prints '$told' and not '$wanted'")"
+}
+
+file=release/si_audit-x86_64-linux
+kept "no kept program" "" release.sh program
+kept "a program that is built" crates/si_audit/out/si_audit program.sh
+kept "make release" "make release: $file" release.sh renew
+kept "a kept program" "$file" release.sh program
+kept "a kept program is taken" "$file" program.sh
+kept "the program built here" "$file is the program that was built here, byte for byte" release.sh compare
+echo "# changed" >>"$out/tree/crates/si_audit/out/si_audit"
+kept "another program built here" "$file isn't the program that was built here from the same sources" release.sh compare
+echo fn other >>"$out/tree/crates/si_audit/src/main.rt"
+kept "another source" "" release.sh program
+kept "another source is built" crates/si_audit/out/si_audit program.sh
+kept "nothing to compare" "release/ has no program of these sources" release.sh compare
+
 rm -rf "$out"
 echo "$passed passed, $failed failed"
 [ "$failed" = 0 ]

@@ -55,6 +55,7 @@ fi
 if [ "${FULL:-0}" = 0 ]; then
     step "the crates' own tests" sh tools/crate_tests.sh
 fi
+step "the program that release/ keeps" sh tools/release.sh compare
 step "the program on every example" sh tools/examples.sh
 step "the program on command lines, and with devices that fail" sh tools/line_tests.sh
 step "the targets of the Makefile for users" sh tools/make_tests.sh
