@@ -43,3 +43,4 @@ pub mod StretchLists
 pub mod TakenPlaces
 pub mod LeastNumbers
 pub mod ReadyPlaces
+pub mod Closures

@@ -3,6 +3,7 @@ ghost use Rattle.std.specs.Prelude.{List};
 ghost use Rattle.sia_events.specs.declared.event.Event.{Event};
 ghost use Rattle.sia_events.specs.Refusals.{IsWellFormed};
 ghost use Rattle.sia_events.specs.Laws.{PivotLaw, ReplayLaw, SsiLaw};
+ghost use Rattle.sia_graph.specs.Closures.{ClosureLaw};
 
 /// An order replays a history exactly if it keeps every edge and no read is unexplained.
 pub fn replay_law()
@@ -17,4 +18,9 @@ pub fn ssi_law()
 /// What keeps isolation with no pivot has a serial order.
 pub fn pivot_law()
     ensures { (h : List Event) → IsWellFormed h → PivotLaw h }
+{}
+
+/// Pairs that lead the ways that the edges lead settle what these settle.
+pub fn closure_law()
+    ensures { (h : List Event) → ClosureLaw h }
 {}
