@@ -44,3 +44,4 @@ pub mod TakenPlaces
 pub mod LeastNumbers
 pub mod ReadyPlaces
 pub mod Closures
+pub mod Extremes

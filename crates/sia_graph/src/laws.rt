@@ -4,6 +4,7 @@ ghost use Rattle.sia_events.specs.declared.event.Event.{Event};
 ghost use Rattle.sia_events.specs.Refusals.{IsWellFormed};
 ghost use Rattle.sia_events.specs.Laws.{PivotLaw, ReplayLaw, SsiLaw};
 ghost use Rattle.sia_graph.specs.Closures.{ClosureLaw};
+ghost use Rattle.sia_graph.specs.Extremes.{FirstsLaw};
 
 /// An order replays a history exactly if it keeps every edge and no read is unexplained.
 pub fn replay_law()
@@ -23,4 +24,9 @@ pub fn pivot_law()
 /// Pairs that lead the ways that the edges lead settle what these settle.
 pub fn closure_law()
     ensures { (h : List Event) → ClosureLaw h }
+{}
+
+/// Where isolation is kept, commits alone tell the first of a dangerous structure, and which histories pass.
+pub fn firsts_law()
+    ensures { (h : List Event) → IsWellFormed h → FirstsLaw h }
 {}
