@@ -106,7 +106,7 @@ module _ (M : ℕ → Type 0) (R : ℕ → ℕ → Type 0) (members : (t u : ℕ
     way_stuck s from (suc n) t way = step_stuck way.0 t (way_stuck s from n way.0 way.1) way.2
 
     -- a set that is fed along ways is stuck
-    fed_stuck : (set : List ℕ) → ((t : ℕ) → Contains set t → (s : ℕ) × Contains set s × Reaches R s t) → (t : ℕ) → Contains set t → Contains stuck t
+    pub fed_stuck : (set : List ℕ) → ((t : ℕ) → Contains set t → (s : ℕ) × Contains set s × Reaches R s t) → (t : ℕ) → Contains set t → Contains stuck t
     fed_stuck set each t c =
         let w = on_ways set set each in
         is_stuck.greatest w.0 (λ u d. let f = w.2 u d in (f.0, f.1, elim (f.2) [ inl s ↦ s | inr s ↦ w.1 f.1 s ], f.3)) t (w.1 t c)

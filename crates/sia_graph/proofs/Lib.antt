@@ -45,3 +45,5 @@ pub mod LeastNumbers
 pub mod ReadyPlaces
 pub mod Closures
 pub mod Extremes
+pub mod PartedLists
+pub mod Blocks

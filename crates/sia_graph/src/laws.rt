@@ -1,8 +1,10 @@
 //! The laws of histories, each carried by a function that does nothing.
-ghost use Rattle.std.specs.Prelude.{List};
+ghost use Rattle.std.specs.Prelude.{List, ℕ};
 ghost use Rattle.sia_events.specs.declared.event.Event.{Event};
 ghost use Rattle.sia_events.specs.Refusals.{IsWellFormed};
 ghost use Rattle.sia_events.specs.Laws.{PivotLaw, ReplayLaw, SsiLaw};
+ghost use Rattle.sia_parts.specs.declared.finding.Edge.{Edge};
+ghost use Rattle.sia_graph.specs.Blocks.{BlocksLaw};
 ghost use Rattle.sia_graph.specs.Closures.{ClosureLaw};
 ghost use Rattle.sia_graph.specs.Extremes.{FirstsLaw};
 
@@ -29,4 +31,9 @@ pub fn closure_law()
 /// Where isolation is kept, commits alone tell the first of a dangerous structure, and which histories pass.
 pub fn firsts_law()
     ensures { (h : List Event) → IsWellFormed h → FirstsLaw h }
+{}
+
+/// Where blocks stand between members, the least order and the stuck set without them are those of the members.
+pub fn blocks_law()
+    ensures { (floor : ℕ) (ids : List ℕ) (edges : List Edge) → BlocksLaw floor ids edges }
 {}
