@@ -33,6 +33,14 @@ module _ (floor : ℕ) where
   through_reaches Step (suc n) t u way = join Step t way.0 u (0, way.1) (through_reaches Step n way.0 u way.3)
 
   module _ (Node : ℕ → Type 0) (Step : ℕ → ℕ → Type 0) where
+    -- ways through blocks join members
+    pub through_joins : HasBlocks floor Node Step → (t u : ℕ) → LeadsThrough floor Step t u → IsMemberOf floor Node t × IsMemberOf floor Node u
+    through_joins has t u through = let w = ends through.2 t u through.3 in ((w.0, through.0), (w.1, through.1))
+      where
+        ends : (n t u : ℕ) → IsWayThrough floor Step n t u → Node t × Node u
+        ends zero t u step = has.joins t u step
+        ends (suc n) t u way = ((has.joins t way.0 way.1).0, (ends n way.0 u way.3).1)
+
     module _ (has : HasBlocks floor Node Step) (stuck : List ℕ) (is_stuck : IsStuckBy Node Step stuck) where
       -- blocks descend on the way back, so it reaches a member
       go_back : (k b n t : ℕ) → b < k → b < floor → floor ≤ t → Contains stuck b → IsWayThrough floor Step n b t → (s : ℕ) × Contains stuck s × LeadsThrough floor Step s t
@@ -52,18 +60,18 @@ module _ (floor : ℕ) where
             | inr member ↦ (w.1, w.2, (member, above, 0, w.3))
           ]
 
-      stuck_members : IsStuckBy (IsMemberOf floor Node) (LeadsThrough floor Step) (without_blocks floor stuck)
+      pub stuck_members : IsStuckBy (IsMemberOf floor Node) (LeadsThrough floor Step) (without_blocks floor stuck)
       stuck_members = record {
         fed = λ t c.
             let w = members_in stuck t c in
             let s = member_fed t w.0 w.1 in
             (((is_stuck.fed t w.0).0, w.1), s.0, in_members stuck s.0 s.1 s.2.0, s.2);
         greatest = λ set fed t c.
-            let within = fed_stuck Node Step has.joins stuck is_stuck set (λ u d. let w = fed u d in (w.1, w.2, through_reaches Step w.3.2 w.1 u w.3.3)) t c in
+            let within = fed_stuck Node Step (λ u d step. (has.joins u d step).1) stuck is_stuck set (λ u d. let w = fed u d in (w.1, w.2, through_reaches Step w.3.2 w.1 u w.3.3)) t c in
             in_members stuck t within (fed t c).0.1;
       }
 
-      some_member : (k t : ℕ) → t < k → Contains stuck t → (u : ℕ) × Contains (without_blocks floor stuck) u
+      pub some_member : (k t : ℕ) → t < k → Contains stuck t → (u : ℕ) × Contains (without_blocks floor stuck) u
       some_member zero t l c = absurd (omega arith)
       some_member (suc k) t l c =
           let w = is_stuck.fed t c in

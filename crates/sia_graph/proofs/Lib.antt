@@ -47,3 +47,5 @@ pub mod Closures
 pub mod Extremes
 pub mod PartedLists
 pub mod Blocks
+pub mod Renamed
+pub mod Narrow

@@ -23,9 +23,9 @@ IsMemberOf floor IsNode t = IsNode t × (floor ≤ t)
 abbrev pub without_blocks : ℕ → List ℕ → List ℕ
 without_blocks floor xs = filter (λ t. not (nat_lt t floor)) xs
 
--- steps lead to nodes, and between blocks they ascend
+-- steps join nodes, and between blocks they ascend
 pub record HasBlocks (floor : ℕ) (IsNode : ℕ → Type 0) (Step : ℕ → ℕ → Type 0) : Type 0 where
-  pub joins : (t u : ℕ) → Step t u → IsNode u
+  pub joins : (t u : ℕ) → Step t u → IsNode t × IsNode u
   pub ascends : (t u : ℕ) → Step t u → t < floor → u < floor → t < u
 
 -- without the blocks, the least order of the nodes is that of the members, and so is the stuck set; if any node is stuck, a

@@ -7,6 +7,7 @@ ghost use Rattle.sia_parts.specs.declared.finding.Edge.{Edge};
 ghost use Rattle.sia_graph.specs.Blocks.{BlocksLaw};
 ghost use Rattle.sia_graph.specs.Closures.{ClosureLaw};
 ghost use Rattle.sia_graph.specs.Extremes.{FirstsLaw};
+ghost use Rattle.sia_graph.specs.Narrow.{NarrowLaw};
 
 /// An order replays a history exactly if it keeps every edge and no read is unexplained.
 pub fn replay_law()
@@ -36,4 +37,9 @@ pub fn firsts_law()
 /// Where blocks stand between members, the least order and the stuck set without them are those of the members.
 pub fn blocks_law()
     ensures { (floor : ℕ) (ids : List ℕ) (edges : List Edge) → BlocksLaw floor ids edges }
+{}
+
+/// Nodes and edges that stand for a history, with blocks among them, settle what all its edges settle.
+pub fn narrow_law()
+    ensures { (h : List Event) → NarrowLaw h }
 {}
