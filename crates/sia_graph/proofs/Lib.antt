@@ -43,3 +43,10 @@ pub mod StretchLists
 pub mod TakenPlaces
 pub mod LeastNumbers
 pub mod ReadyPlaces
+pub mod Closures
+pub mod Extremes
+pub mod PartedLists
+pub mod Blocks
+pub mod Renamed
+pub mod StandIns
+pub mod Ways

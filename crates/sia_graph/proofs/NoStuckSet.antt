@@ -176,7 +176,7 @@ module _ (h : List Event) (wf : IsWellFormed h) where
         ]
 
     -- a reader of an earlier version doesn't see the writer's commit
-    rw_unseen : (t u k : ℕ) → RwEdge h t u k → ¬ Sees h t u
+    pub rw_unseen : (t u k : ℕ) → RwEdge h t u k → ¬ Sees h t u
     rw_unseen t u k e sees = by_due (saw_due h wf kept e.3 t k e.4 e.5)
       where
         by_due : ¬ IsDue h t e.3 k e.4

@@ -10,7 +10,7 @@ use Rattle.sia_events.specs.Transactions.{IsCommitted}
 use Rattle.sia_events.proofs.Decisions.{Decided}
 use Rattle.sia_graph.proofs.ReadyOrders.{In, IsAhead, IsOnce, IsFed, order_among}
 
-in_contains : (t : ℕ) (xs : List ℕ) → In t xs → Contains xs t
+pub in_contains : (t : ℕ) (xs : List ℕ) → In t xs → Contains xs t
 in_contains t [] i = absurd i
 in_contains t (x ∷ xs) (inl e) = (0, omega arith, e)
 in_contains t (x ∷ xs) (inr i) = let c = in_contains t xs i in let l = c.1 in (suc c.0, omega arith, c.2)

@@ -25,7 +25,7 @@ mod vulnerable_numbers;
 mod walking;
 mod walking_numbers;
 
-pub use laws::{pivot_law, replay_law, ssi_law};
+pub use laws::{blocks_law, closure_law, firsts_law, pivot_law, replay_law, ssi_law, stand_in_law};
 pub use passing::{passes, ssi_pass};
 pub use pivot::Pivot;
 pub use pivoting::pivots;
