@@ -11,8 +11,8 @@ ghost use Rattle.sia_parts.specs.Sights.{AreSpans};
 
 use crate::committed::Committed;
 use crate::cutting::Part;
-use crate::ends::{Ends, readers_of, writers_of};
-use crate::fans::fans_of;
+use crate::ends::{Ends, by_rank, readers_of, writers_of};
+use crate::fans::{complete, missed_fans};
 use crate::gaps::Gap;
 use crate::part_edges::PartEdges;
 use crate::spans::Span;
@@ -37,7 +37,9 @@ pub(crate) fn edges_of(
 {
     let writers = writers_of(alloc, ix, committed, ix.versions_within(part.lo, part.hi))?;
     let readers = readers_of(alloc, ix, committed, spans)?;
+    let mut fans = missed_fans(alloc, ix, committed, &writers, &readers, gaps)?;
+    let readers = by_rank(readers)?;
     let ends = Ends { writers, readers };
-    let fans = fans_of(alloc, ix, committed, &ends, gaps)?;
+    complete(&ends, &mut fans)?;
     Ok(PartEdges { ends, fans })
 }
