@@ -90,9 +90,9 @@ module _ (ends : List End) (from : ℕ) where
     bracket_up less = record {
       bound = is.bound;
       below = λ i d before.
-      (let most = is.bound in
-      let le = rise i at d (omega arith) (omega arith) in
-      let same = subst (λ (x : End). end_rank x < from) (get_or_default ends at e d (omega arith)) less in omega arith);
+          (let most = is.bound in
+          let le = rise i at d (omega arith) (omega arith) in
+          let same = subst (λ (x : End). end_rank x < from) (get_or_default ends at e d (omega arith)) less in omega arith);
       above = is.above;
     }
 
@@ -101,8 +101,8 @@ module _ (ends : List End) (from : ℕ) where
       bound = let most = is.bound in omega arith;
       below = is.below;
       above = λ i d after before.
-      (let le = rise at i d after before in
-      let same = subst (λ (x : End). from ≤ end_rank x) (get_or_default ends at e d (let most = is.bound in omega arith)) more in omega arith);
+          (let le = rise at i d after before in
+          let same = subst (λ (x : End). from ≤ end_rank x) (get_or_default ends at e d (let most = is.bound in omega arith)) more in omega arith);
     }
 
   pub bracket_shut : (low high : ℕ) → IsBracket ends from low high → low ≤ high → high ≤ low → IsRankPlace ends from low

@@ -116,7 +116,7 @@ found_by h ends readers gaps missed fans same first second n = (
   where
     all : FromSome (IsFanNumber ends) fans n ↔ (IsMissedNumber h ends.writers.items readers gaps n ⊎ FromSome (IsWriterNumber ends) ends.writers.items n)
     all = given_to_none ends (λ n. IsMissedNumber h ends.writers.items readers gaps n ⊎ FromSome (IsWriterNumber ends) ends.writers.items n) fans
-      (gives_both ends (IsMissedNumber h ends.writers.items readers gaps) (FromSome (IsWriterNumber ends) ends.writers.items) [] missed fans first second) n
+        (gives_both ends (IsMissedNumber h ends.writers.items readers gaps) (FromSome (IsWriterNumber ends) ends.writers.items) [] missed fans first second) n
 
     to : IsMissedNumber h ends.writers.items readers gaps n → IsMissedNumber h ends.writers.items ends.readers.items gaps n
     to (inl (reader, c, w)) = inl (reader, (same reader).1 c, w)

@@ -110,11 +110,7 @@ fn put_fans_of_writer(
 }
 
 // Adds the fans of the readers: to the versions after the first one that each saw.
-fn put_reader_fans(
-    writers: &[End],
-    readers: &[End],
-    fans: &mut Vec<Fan>,
-) -> Result<(), NoMemory>
+fn put_reader_fans(writers: &[End], readers: &[End], fans: &mut Vec<Fan>) -> Result<(), NoMemory>
     requires { RisesByRank writers.now }
     ensures { OnOk result (GivesTo Rw writers.now (FromSome (IsReaderNumber writers.now) readers.now) fans.old.items fans.new.items) }
 {
@@ -186,12 +182,7 @@ fn put_fan_of_gap(
 
 // Adds the fan to those of the ends that are reached, if there are any. They are looked for from the place on. Answers where
 // they stop.
-fn put_fan(
-    ends: &[End],
-    reach: Reach,
-    near: usize,
-    fans: &mut Vec<Fan>,
-) -> Result<usize, NoMemory>
+fn put_fan(ends: &[End], reach: Reach, near: usize, fans: &mut Vec<Fan>) -> Result<usize, NoMemory>
     requires { RisesByRank ends.now }
     ensures { OnOk result (GivesTo reach.kind ends.now (IsNumberWithin ends.now reach.from reach.to reach.src reach.kind) fans.old.items fans.new.items) }
 {
