@@ -1,21 +1,16 @@
 -- Ends of edges: which there are, how they are in order, and which stand between two ranks.
-use Rattle.std.proofs.Common.{◌≡◌, inl, inr, ℕ, ◌+◌, ◌<◌, ◌≤◌, List, [], ◌∷◌, length, sym, subst, ◌∙◌, arith}
+use Rattle.std.proofs.Common.{◌≡◌, inl, inr, ℕ, ◌+◌, ◌<◌, ◌≤◌, List, length, sym, subst, ◌∙◌, arith}
 use Rattle.std.specs.Prelude.{◌↔◌, AllPairs, Contains, slice_range, slice_index, slice_index_or}
-use Rattle.std.specs.Ordering.{nat_cmp, ordering_then}
-use Rattle.std.specs.declared.cmp.Ordering.TheVariants.{Less}
-use Rattle.std.specs.List.Sorted.{IsStrictlySortedBy}
 use Rattle.std.proofs.lemmas.Bool.{cases_lt}
 use Rattle.std.proofs.lemmas.List.{get_or_default}
 use Rattle.std.proofs.lemmas.List.Elements.{Contains-get_or}
-use Rattle.std.proofs.lemmas.Map.Keys.{Less-from_sorted}
 use Rattle.sia_events.specs.declared.event.Event.{Event}
-use Rattle.sia_events.specs.Lists.{Precedes}
 use Rattle.sia_events.specs.Transactions.{IsCommitted, Wrote}
 use Rattle.sia_index.specs.Info.{IsKeyAt}
 use Rattle.sia_parts.specs.EdgeNumbers.{IsCommittedAt}
-use Rattle.sia_index.proofs.Ordered.{ascends, precedes_last, precedes_then}
+use Rattle.sia_index.proofs.Ordered.{ascends}
 use Rattle.sia_index.proofs.KeyChains.{key_number}
-use Rattle.sia_index.proofs.ReadTables.{PointBelow, point_below, point_from, part_has, part_gives}
+use Rattle.sia_index.proofs.ReadTables.{part_has, part_gives}
 use Rattle.sia_parts.specs.declared.ends.End.{End}
 use Rattle.sia_parts.specs.declared.spans.Span.{Span}
 use Rattle.sia_parts.specs.Ends.{IsEndOf, RisesByRank, IsRankPlace, end_rank}

@@ -61,25 +61,11 @@ pub(crate) fn writers_of(
     ensures rises { IfOk result (λ ends. RisesByRank ends.items) }
 {
     let mut ends = Vec::with_capacity(alloc, versions.len())?;
-    put_writers(ix, committed, versions, &mut ends)?;
+    for made in versions {
+        put_end(ix, committed, span_of(*made), &mut ends)?;
+    }
     let ranked = by_rank(ends)?;
     Ok(ranked)
-}
-
-fn put_writers(
-    ix: &Index,
-    committed: &Committed,
-    versions: &[KeyVersion],
-    ends: &mut Vec<End>,
-) -> Result<(), NoMemory>
-    requires well_formed { IsWellFormed ix.now }
-    requires committed { ListsAscending (IsCommitted ix.now) committed.now }
-    ensures { OnOk result (Adds (FromSome (IsEndOfVersion ix.now) versions.now) ends.old.items ends.new.items) }
-{
-    for made in versions {
-        put_end(ix, committed, span_of(*made), ends)?;
-    }
-    Ok(())
 }
 
 // The version as a span.
@@ -106,7 +92,9 @@ pub(crate) fn readers_of(
     ensures { IfOk result (λ ends. (end : End) → Contains ends.items end ↔ FromSome (IsEndOf ix.now) spans.now end) }
 {
     let mut ends = Vec::with_capacity(alloc, spans.len())?;
-    put_readers(ix, committed, spans, &mut ends)?;
+    for span in spans {
+        put_end(ix, committed, *span, &mut ends)?;
+    }
     Ok(ends)
 }
 
@@ -117,22 +105,6 @@ pub(crate) fn by_rank(mut ends: Vec<End>) -> Result<Vec<End>, NoMemory>
 {
     ends.sort_by_key(|end| rank(end.key, end.high))?;
     Ok(ends)
-}
-
-fn put_readers(
-    ix: &Index,
-    committed: &Committed,
-    spans: &[Span],
-    ends: &mut Vec<End>,
-) -> Result<(), NoMemory>
-    requires well_formed { IsWellFormed ix.now }
-    requires committed { ListsAscending (IsCommitted ix.now) committed.now }
-    ensures { OnOk result (Adds (FromSome (IsEndOf ix.now) spans.now) ends.old.items ends.new.items) }
-{
-    for span in spans {
-        put_end(ix, committed, *span, ends)?;
-    }
-    Ok(())
 }
 
 // Adds the end of the span, if its key is written.

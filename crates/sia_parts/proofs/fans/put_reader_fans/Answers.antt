@@ -1,6 +1,5 @@
 -- Each reader adds its fan.
-use Rattle.std.proofs.Common.{ap, subst}
-use Rattle.sia_parts.specs.declared.finding.Kind.TheVariants.{Rw}
+use Rattle.std.proofs.Common.{subst}
 use Rattle.sia_parts.specs.Ends.{IsNumberWithin}
 use Rattle.sia_parts.specs.Fans.{IsReaderNumber, GivesTo}
 use Rattle.sia_parts.proofs.Giving.{gives_none, gives_more, gives_all}
