@@ -8,7 +8,6 @@ mod laws;
 mod links;
 mod numbered;
 mod order;
-mod ordering;
 mod passing;
 mod pivot;
 mod pivoting;

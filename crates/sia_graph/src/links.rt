@@ -8,9 +8,9 @@ ghost use Rattle.sia_parts.specs.declared.finding.Kind.TheVariants.{Rw};
 ghost use Rattle.sia_parts.specs.Findings.{ListsEdges};
 ghost use Rattle.sia_graph.specs.Links.{AreEnds, AreLinked, AreLinksAt, ListsLinks, is_rw, link_rank};
 
-use crate::ordering::{merge_in_order, put_in_order};
 use sia_events::TxnId;
 use sia_index::Index;
+use sia_index::ordering::{merge_in_order, put_in_order};
 use sia_parts::{Edge, Kind};
 use std::alloc::{AllocError, Global};
 

@@ -11,10 +11,10 @@ ghost use Rattle.sia_graph.specs.Links.{AreEnds, ListsLinks};
 ghost use Rattle.sia_graph.specs.Spans.{AreSpans};
 
 use crate::links::{Link, leads_rw};
-use crate::ordering::put_in_order;
 use crate::spans::{Span, overlap, spans_of};
 use sia_events::TxnId;
 use sia_index::Index;
+use sia_index::ordering::put_in_order;
 use sia_parts::{EdgeNumber, EdgeNumbers, kind_in, source_of, target_of};
 use std::alloc::{AllocError, Global};
 

@@ -1,20 +1,16 @@
 -- Ends of edges: which there are, how they are in order, and which stand between two ranks.
-use Rattle.std.proofs.Common.{◌≡◌, inl, inr, ℕ, ◌<◌, ◌≤◌, List, [], ◌∷◌, length, sym, subst, ◌∙◌, arith}
+use Rattle.std.proofs.Common.{◌≡◌, inl, inr, ℕ, ◌+◌, ◌<◌, ◌≤◌, List, length, sym, subst, ◌∙◌, arith}
 use Rattle.std.specs.Prelude.{◌↔◌, AllPairs, Contains, slice_range, slice_index, slice_index_or}
-use Rattle.std.specs.Ordering.{nat_cmp, ordering_then}
-use Rattle.std.specs.declared.cmp.Ordering.TheVariants.{Less}
-use Rattle.std.specs.List.Sorted.{IsStrictlySortedBy}
 use Rattle.std.proofs.lemmas.Bool.{cases_lt}
+use Rattle.std.proofs.lemmas.List.{get_or_default}
 use Rattle.std.proofs.lemmas.List.Elements.{Contains-get_or}
-use Rattle.std.proofs.lemmas.Map.Keys.{Less-from_sorted}
 use Rattle.sia_events.specs.declared.event.Event.{Event}
-use Rattle.sia_events.specs.Lists.{Precedes}
 use Rattle.sia_events.specs.Transactions.{IsCommitted, Wrote}
 use Rattle.sia_index.specs.Info.{IsKeyAt}
 use Rattle.sia_parts.specs.EdgeNumbers.{IsCommittedAt}
-use Rattle.sia_index.proofs.Ordered.{ascends, precedes_last, precedes_then}
+use Rattle.sia_index.proofs.Ordered.{ascends}
 use Rattle.sia_index.proofs.KeyChains.{key_number}
-use Rattle.sia_index.proofs.ReadTables.{PointBelow, point_below, point_from, part_has, part_gives}
+use Rattle.sia_index.proofs.ReadTables.{part_has, part_gives}
 use Rattle.sia_parts.specs.declared.ends.End.{End}
 use Rattle.sia_parts.specs.declared.spans.Span.{Span}
 use Rattle.sia_parts.specs.Ends.{IsEndOf, RisesByRank, IsRankPlace, end_rank}
@@ -55,25 +51,6 @@ one_end h span x y is other =
     let number = one_key_number h x.number y.number span.key is.number_at other.number_at in
     λ i. record { key = key i; high = high i; low = low i; txn = txn i; number = number i }
 
--- ends in order rise by rank
-later_rank : (x y : End) → x.high < 4294967296 → Precedes (x.key ∷ x.high ∷ x.low ∷ x.txn ∷ x.number ∷ []) (y.key ∷ y.high ∷ y.low ∷ y.txn ∷ y.number ∷ []) → end_rank x ≤ end_rank y
-later_rank x y high (inl key) = omega arith
-later_rank x y high (inr (key, inl more)) = omega arith
-later_rank x y high (inr (key, inr (same, rest))) = omega arith
-
-pub ends_rise : (ends : List End) → IsStrictlySortedBy (λ x y. ordering_then (nat_cmp x.key y.key) (ordering_then (nat_cmp x.high y.high) (ordering_then (nat_cmp x.low y.low) (ordering_then (nat_cmp x.txn y.txn) (nat_cmp x.number y.number))))) ends → ((i : ℕ) (d : End) → i < length ends → (slice_index_or ends i d).high < 4294967296) → RisesByRank ends
-ends_rise ends sorted fits i j d le below = elim (cases_lt i j) [
-  | inl less ↦
-      later_rank (slice_index_or ends i d) (slice_index_or ends j d) (fits i d (omega arith)) (before (slice_index_or ends i d) (slice_index_or ends j d) (Less-from_sorted _ ends i j d sorted less below))
-  | inr more ↦ let same : i ≡ j = omega arith in subst (λ n. end_rank (slice_index_or ends i d) ≤ end_rank (slice_index_or ends n d)) same (omega arith)
-]
-  where
-    before : (x y : End) → ordering_then (nat_cmp x.key y.key) (ordering_then (nat_cmp x.high y.high) (ordering_then (nat_cmp x.low y.low) (ordering_then (nat_cmp x.txn y.txn) (nat_cmp x.number y.number)))) ≡ Less → Precedes (x.key ∷ x.high ∷ x.low ∷ x.txn ∷ x.number ∷ []) (y.key ∷ y.high ∷ y.low ∷ y.txn ∷ y.number ∷ [])
-    before x y less = precedes_then x.key y.key (ordering_then (nat_cmp x.high y.high) (ordering_then (nat_cmp x.low y.low) (ordering_then (nat_cmp x.txn y.txn) (nat_cmp x.number y.number)))) (x.high ∷ x.low ∷ x.txn ∷ x.number ∷ []) (y.high ∷ y.low ∷ y.txn ∷ y.number ∷ []) less
-        (λ a. precedes_then x.high y.high (ordering_then (nat_cmp x.low y.low) (ordering_then (nat_cmp x.txn y.txn) (nat_cmp x.number y.number))) (x.low ∷ x.txn ∷ x.number ∷ []) (y.low ∷ y.txn ∷ y.number ∷ []) a
-        (λ b. precedes_then x.low y.low (ordering_then (nat_cmp x.txn y.txn) (nat_cmp x.number y.number)) (x.txn ∷ x.number ∷ []) (y.txn ∷ y.number ∷ []) b
-        (λ e. precedes_then x.txn y.txn (nat_cmp x.number y.number) (x.number ∷ []) (y.number ∷ []) e (precedes_last x.number y.number))))
-
 -- between the places of two ranks stand the ends from the one to below the other
 pub ends_between : (ends : List End) (from to start end stop : ℕ) → IsRankPlace ends from start → IsRankPlace ends to end → start ≤ stop → end ≤ stop → stop ≤ length ends → ((k : ℕ) → start ≤ k → k < stop → k < end) → (x : End) → Contains (slice_range ends start stop) x ↔ (Contains ends x × (from ≤ end_rank x) × (end_rank x < to))
 ends_between ends from to start end stop low high le most bound cut x = (
@@ -93,10 +70,39 @@ ends_between ends from to start end stop low high le most bound cut x = (
       part_has ends start stop le bound c.0 x after (omega arith) c.2),
 )
 
--- what a search found
-pub rank_place : (ends : List End) (from at : ℕ) → PointBelow end_rank ends from at → at ≤ length ends → IsRankPlace ends from at
-rank_place ends from at low bound = record {
-  bound = bound;
-  below = λ i d before. point_below end_rank ends from at low i d (omega arith) before;
-  above = λ i d after below. point_from end_rank ends from at low i d after below;
-}
+-- all ends below the place are below the rank, and from the other place on none is
+pub record IsBracket (ends : List End) (from low high : ℕ) : Type 0 where
+  pub bound : high ≤ length ends
+  pub below : (i : ℕ) (d : End) → i < low → end_rank (slice_index_or ends i d) < from
+  pub above : (i : ℕ) (d : End) → high ≤ i → i < length ends → from ≤ end_rank (slice_index_or ends i d)
+
+module _ (ends : List End) (from : ℕ) where
+  pub bracket_all : IsBracket ends from 0 (length ends)
+  bracket_all = record { bound = omega arith; below = λ i d less. absurd (omega arith); above = λ i d more less. absurd (omega arith) }
+
+  module _ (rise : RisesByRank ends) (low high at : ℕ) (e : End) (is : IsBracket ends from low high) (under : at < high) where
+    pub bracket_up : end_rank (slice_index_or ends at e) < from → IsBracket ends from (at + 1) high
+    bracket_up less = record {
+      bound = is.bound;
+      below = λ i d before.
+          (let most = is.bound in
+          let le = rise i at d (omega arith) (omega arith) in
+          let same = subst (λ (x : End). end_rank x < from) (get_or_default ends at e d (omega arith)) less in omega arith);
+      above = is.above;
+    }
+
+    pub bracket_down : from ≤ end_rank (slice_index_or ends at e) → IsBracket ends from low at
+    bracket_down more = record {
+      bound = let most = is.bound in omega arith;
+      below = is.below;
+      above = λ i d after before.
+          (let le = rise at i d after before in
+          let same = subst (λ (x : End). from ≤ end_rank x) (get_or_default ends at e d (let most = is.bound in omega arith)) more in omega arith);
+    }
+
+  pub bracket_shut : (low high : ℕ) → IsBracket ends from low high → low ≤ high → high ≤ low → IsRankPlace ends from low
+  bracket_shut low high is le ge = record {
+    bound = let most = is.bound in omega arith;
+    below = is.below;
+    above = λ i d after before. is.above i d (omega arith) before;
+  }

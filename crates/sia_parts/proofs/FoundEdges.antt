@@ -196,7 +196,7 @@ module _ (h : List Event) (wf : IsWellFormed h) where
             )),
           )
 
-      of_missed : (gap : Gap) → Contains gaps gap → (n : ℕ) → IsGapNumber h ends gap n → Stands n
+      of_missed : (gap : Gap) → Contains gaps gap → (n : ℕ) → IsGapNumber h ends.writers.items gap n → Stands n
       of_missed gap c n (src, at, w) =
           let second = version_of w.0 w.1 in
           let v = second.0 in
@@ -221,10 +221,10 @@ module _ (h : List Event) (wf : IsWellFormed h) where
           )
 
       pub found_stands : (n : ℕ) → IsNumberFound h ends gaps n → Stands n
-      found_stands n (inl (inl (end, c, inl w))) = of_later end c n w
-      found_stands n (inl (inl (end, c, inr (reader, d, le, less, is)))) = of_seen reader end ((readers_are reader).0 d) c n (le, less, is)
-      found_stands n (inl (inr (reader, d, (end, c, le, less, is)))) = of_read reader end ((readers_are reader).0 d) c n (le, less, is)
-      found_stands n (inr (gap, c, w)) = of_missed gap c n w
+      found_stands n (inl (inl (reader, d, (end, c, le, less, is)))) = of_read reader end ((readers_are reader).0 d) c n (le, less, is)
+      found_stands n (inl (inr (gap, c, w))) = of_missed gap c n w
+      found_stands n (inr (end, c, inl w)) = of_later end c n w
+      found_stands n (inr (end, c, inr (reader, d, le, less, is))) = of_seen reader end ((readers_are reader).0 d) c n (le, less, is)
 
       pub found_packed : (n : ℕ) → IsNumberFound h ends gaps n → IsPacked txns keys n
       found_packed n f = (found_stands n f).1.0
@@ -260,7 +260,7 @@ module _ (h : List Event) (wf : IsWellFormed h) where
           let later = other.2.high_is in
           let fits = other.2.fits in (
             number.0,
-            inl (inl (own.0, own.1, inl (other.0, other.1, omega arith, omega arith, number.1))),
+            inr (own.0, own.1, inl (other.0, other.1, omega arith, omega arith, number.1)),
             (number_packs own.0.txn first.txn Ww (as_span u) other.0 number.0 own.2.txn_at other.2 number.1).1 ∙ sym pair.5,
           )
 
@@ -284,7 +284,7 @@ module _ (h : List Event) (wf : IsWellFormed h) where
               let later = r.1.high_is in
               let fits = r.1.fits in (
                 number.0,
-                inl (inl (m.0, m.1, inr (r.0, (readers_are r.0).1 (span, c, r.1), omega arith, omega arith, number.1))),
+                inr (m.0, m.1, inr (r.0, (readers_are r.0).1 (span, c, r.1), omega arith, omega arith, number.1)),
                 (number_packs m.0.txn made.txn Wr span r.0 number.0 m.2.txn_at r.1 number.1).1 ∙ sym same,
               )
           of_either (inr (less, same)) =
@@ -297,7 +297,7 @@ module _ (h : List Event) (wf : IsWellFormed h) where
               let low = r.1.low_is in
               let fits = m.2.fits in (
                 number.0,
-                inl (inr (r.0, (readers_are r.0).1 (span, c, r.1), (m.0, m.1, omega arith, omega arith, number.1))),
+                inl (inl (r.0, (readers_are r.0).1 (span, c, r.1), (m.0, m.1, omega arith, omega arith, number.1))),
                 (number_packs r.0.txn span.txn Rw (as_span (record { key = span.key; commit = made.commit; txn = made.txn })) m.0 number.0 r.1.txn_at m.2 number.1).1 ∙ sym same,
               )
 
@@ -310,7 +310,7 @@ module _ (h : List Event) (wf : IsWellFormed h) where
           let key = m.2.key_is in
           let fits = m.2.fits in (
             number.0,
-            inr (gap, c, (src.0, src.1, (m.0, m.1, omega arith, omega arith, number.1))),
+            inl (inr (gap, c, (src.0, src.1, (m.0, m.1, omega arith, omega arith, number.1)))),
             (number_packs src.0 gap.txn Rw (as_span made) m.0 number.0 src.1 m.2 number.1).1 ∙ sym same,
           )
 

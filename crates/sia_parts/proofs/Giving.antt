@@ -3,14 +3,18 @@ use Rattle.std.proofs.Common.{◌⊎◌, inl, inr, ℕ, ◌+◌, ◌<◌, ◌≤
 use Rattle.std.specs.Prelude.{◌↔◌, Contains, slice_range}
 use Rattle.std.proofs.lemmas.List.{take_more, take_all}
 use Rattle.std.proofs.lemmas.List.Edits.{length-between}
+use Rattle.std.specs.List.Sorted.{IsPermutation}
+use Rattle.std.proofs.lemmas.List.Sorted.{Contains-permutation, IsPermutation-sym}
 use Rattle.std.proofs.lemmas.List.Elements.{Contains-append_left, Contains-push, Contains-push_cases}
+use Rattle.sia_events.specs.declared.event.Event.{Event}
 use Rattle.sia_parts.specs.declared.ends.End.{End}
 use Rattle.sia_parts.specs.declared.ends.Ends.{Ends}
 use Rattle.sia_parts.specs.declared.fans.Fan.{Fan}
 use Rattle.sia_parts.specs.declared.finding.Kind.{Kind}
+use Rattle.sia_parts.specs.declared.gaps.Gap.{Gap}
 use Rattle.sia_parts.specs.Sights.{FromSome}
 use Rattle.sia_parts.specs.Ends.{IsNumberWithin, end_rank, ends_for}
-use Rattle.sia_parts.specs.Fans.{IsFanNumber, Gives}
+use Rattle.sia_parts.specs.Fans.{IsFanNumber, IsMissedNumber, IsNumberFound, IsWriterNumber, Gives, GivesTo}
 use Rattle.sia_parts.proofs.Adding.{FromFirst}
 
 module _ (ends : Ends) where
@@ -43,6 +47,13 @@ module _ (ends : Ends) where
   given_to_none P fans gives n = (
     (λ f. elim ((gives n).0 f) [ inl none ↦ absurd (let below = none.1.1 in omega arith) | inr p ↦ p ]),
     (λ p. (gives n).1 (inr p)),
+  )
+
+  -- and in another order
+  pub gives_arranged : (P : ℕ → Type 0) (old mid new : List Fan) → Gives ends P old mid → IsPermutation mid new → Gives ends P old new
+  gives_arranged P old mid new gives same n = (
+    (λ f. (gives n).0 (f.0, Contains-permutation _ _ f.0 (IsPermutation-sym _ _ same) f.1, f.2)),
+    (λ e. let f = (gives n).1 e in (f.0, Contains-permutation _ _ f.0 same f.1, f.2)),
   )
 
   -- one more fan
@@ -92,3 +103,40 @@ module _ (ends : Ends) where
         let c = (between w.0).1 (w.1, w.2, w.3) in
         let below = c.1 in
         omega (arith, length-between (ends_for ends kind) start stop bound)
+
+-- the fans to versions that reads missed, and those of the versions, give all
+pub found_by : (h : List Event) (ends : Ends) (readers : List End) (gaps : List Gap) (missed fans : List Fan) → ((end : End) → Contains ends.readers.items end ↔ Contains readers end)
+    → Gives ends (IsMissedNumber h ends.writers.items readers gaps) [] missed
+    → Gives ends (FromSome (IsWriterNumber ends) ends.writers.items) missed fans
+    → (n : ℕ) → FromSome (IsFanNumber ends) fans n ↔ IsNumberFound h ends gaps n
+found_by h ends readers gaps missed fans same first second n = (
+  (λ f. elim (all.0 f) [ inl m ↦ inl (to m) | inr w ↦ inr w ]),
+  (λ e. all.1 (elim e [ inl m ↦ inl (from m) | inr w ↦ inr w ])),
+)
+  where
+    all : FromSome (IsFanNumber ends) fans n ↔ (IsMissedNumber h ends.writers.items readers gaps n ⊎ FromSome (IsWriterNumber ends) ends.writers.items n)
+    all = given_to_none ends (λ n. IsMissedNumber h ends.writers.items readers gaps n ⊎ FromSome (IsWriterNumber ends) ends.writers.items n) fans
+        (gives_both ends (IsMissedNumber h ends.writers.items readers gaps) (FromSome (IsWriterNumber ends) ends.writers.items) [] missed fans first second) n
+
+    to : IsMissedNumber h ends.writers.items readers gaps n → IsMissedNumber h ends.writers.items ends.readers.items gaps n
+    to (inl (reader, c, w)) = inl (reader, (same reader).1 c, w)
+    to (inr g) = inr g
+
+    from : IsMissedNumber h ends.writers.items ends.readers.items gaps n → IsMissedNumber h ends.writers.items readers gaps n
+    from (inl (reader, c, w)) = inl (reader, (same reader).0 c, w)
+    from (inr g) = inr g
+
+-- the same of the ends that it leads to alone
+module _ (kind : Kind) (src from to start stop : ℕ) (among : List End) (fans : List Fan) (bound : stop ≤ length among) (between : (end : End) → Contains (slice_range among start stop) end ↔ (Contains among end × (from ≤ end_rank end) × (end_rank end < to))) where
+  pub gives_fan : start ≤ stop → GivesTo kind among (IsNumberWithin among from to src kind) fans (fans ++ record { src = src; kind = kind; from = start; to = stop } ∷ [])
+  gives_fan le ends is =
+      let fan : Fan = record { src = src; kind = kind; from = start; to = stop } in
+      let same : (n : ℕ) → IsFanNumber ends fan n ↔ IsNumberWithin among from to src kind n = λ n.
+      subst (λ xs. IsFanNumber ends fan n ↔ IsNumberWithin xs from to src kind n) is
+      (fan_within ends kind src from to start stop (subst (λ xs. (end : End) → Contains (slice_range xs start stop) end ↔ (Contains xs end × (from ≤ end_rank end) × (end_rank end < to))) (sym is) between) n le (subst (λ xs. stop ≤ length xs) (sym is) bound)) in
+      gives_same ends (IsFanNumber ends fan) (IsNumberWithin among from to src kind) fans _ (λ n. (same n).0) (λ n. (same n).1) (gives_push ends fans fan)
+
+  pub gives_no_fan : stop ≤ start → GivesTo kind among (IsNumberWithin among from to src kind) fans fans
+  gives_no_fan none ends is = gives_nothing ends (IsNumberWithin among from to src kind) fans (λ n.
+      subst (λ xs. ¬ IsNumberWithin xs from to src kind n) is
+      (none_within ends kind src from to start stop (subst (λ xs. (end : End) → Contains (slice_range xs start stop) end ↔ (Contains xs end × (from ≤ end_rank end) × (end_rank end < to))) (sym is) between) none (subst (λ xs. stop ≤ length xs) (sym is) bound) n))

@@ -16,7 +16,6 @@ use crate::nearby::are_apart;
 use crate::numbered::find_in_part;
 use crate::numbering::numbers_of;
 use crate::numbers::edges_of_numbers;
-use crate::ordering::put_in_order;
 use crate::pairs::put_bad_writes;
 use crate::ranges::{Scope, put_range_reads};
 use crate::sights::{is_committed, put_item_reads, wrote_before};
@@ -24,6 +23,7 @@ use crate::spans::{Span, joined};
 use crate::unseen::first_commit;
 use sia_events::{History, NoMemory};
 use sia_index::Index;
+use sia_index::ordering::put_in_order;
 use std::alloc::Global;
 
 /// What reads saw at the keys of a part.

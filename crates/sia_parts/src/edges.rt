@@ -11,8 +11,8 @@ ghost use Rattle.sia_parts.specs.Sights.{AreSpans};
 
 use crate::committed::Committed;
 use crate::cutting::Part;
-use crate::ends::{Ends, readers_of, writers_of};
-use crate::fans::fans_of;
+use crate::ends::{Ends, by_rank, readers_of, writers_of};
+use crate::fans::{complete, missed_fans};
 use crate::gaps::Gap;
 use crate::part_edges::PartEdges;
 use crate::spans::Span;
@@ -20,24 +20,27 @@ use sia_events::NoMemory;
 use sia_index::Index;
 use std::alloc::Global;
 
-/// The edges at the keys of the part, of the spans and the gaps of these.
+/// The edges at the keys of the part, of the spans and the gaps of these. The spans are let go before the edges take memory.
 pub(crate) fn edges_of(
     alloc: Global,
     ix: &Index,
     committed: &Committed,
     part: Part,
-    spans: &[Span],
+    spans: Vec<Span>,
     gaps: &[Gap],
 ) -> Result<PartEdges, NoMemory>
     requires well_formed { IsWellFormed ix.now }
     requires committed { ListsAscending (IsCommitted ix.now) committed.now }
-    requires spans { AreSpans ix.now part spans.now gaps.now }
+    requires spans { AreSpans ix.now part spans.items gaps.now }
     ensures stand { IfOk result (λ edges. (keys : List ℕ) → AreWrittenKeys ix.now keys → StandForEdges ix.now committed.now keys (IsInPart part) (IsNumberIn edges)) }
     ensures spread { IfOk result CanSpread }
 {
     let writers = writers_of(alloc, ix, committed, ix.versions_within(part.lo, part.hi))?;
-    let readers = readers_of(alloc, ix, committed, spans)?;
+    let readers = readers_of(alloc, ix, committed, &spans)?;
+    drop(spans);
+    let mut fans = missed_fans(alloc, ix, committed, &writers, &readers, gaps)?;
+    let readers = by_rank(readers)?;
     let ends = Ends { writers, readers };
-    let fans = fans_of(alloc, ix, committed, &ends, gaps)?;
+    complete(&ends, &mut fans)?;
     Ok(PartEdges { ends, fans })
 }

@@ -9,14 +9,13 @@ ghost use Rattle.sia_parts.specs.Ends.{IsEndOf, IsEndOfVersion, IsRankPlace, Ris
 
 use crate::committed::Committed;
 use crate::finding::Kind;
-use crate::ordering::put_in_order;
 use crate::spans::Span;
 use sia_events::{Key, NoMemory};
 use sia_index::{Index, KeyVersion};
 use std::alloc::Global;
 
 /// A transaction and a key, by their numbers: it made a version of the key, or saw some.
-#[derive(Clone, Copy, Debug, PartialEq, Eq, PartialOrd, Ord)]
+#[derive(Clone, Copy, Debug)]
 pub(crate) struct End {
     pub(crate) key: Key,
     /// The commit of the version, or the greatest commit of those that it saw.
@@ -62,25 +61,11 @@ pub(crate) fn writers_of(
     ensures rises { IfOk result (λ ends. RisesByRank ends.items) }
 {
     let mut ends = Vec::with_capacity(alloc, versions.len())?;
-    put_writers(ix, committed, versions, &mut ends)?;
-    put_in_order(&mut ends);
-    Ok(ends)
-}
-
-fn put_writers(
-    ix: &Index,
-    committed: &Committed,
-    versions: &[KeyVersion],
-    ends: &mut Vec<End>,
-) -> Result<(), NoMemory>
-    requires well_formed { IsWellFormed ix.now }
-    requires committed { ListsAscending (IsCommitted ix.now) committed.now }
-    ensures { OnOk result (Adds (FromSome (IsEndOfVersion ix.now) versions.now) ends.old.items ends.new.items) }
-{
     for made in versions {
-        put_end(ix, committed, span_of(*made), ends)?;
+        put_end(ix, committed, span_of(*made), &mut ends)?;
     }
-    Ok(())
+    let ranked = by_rank(ends)?;
+    Ok(ranked)
 }
 
 // The version as a span.
@@ -95,7 +80,7 @@ fn span_of(made: KeyVersion) -> Span
     }
 }
 
-/// The readers of the spans at written keys, by key and greatest commit.
+/// The readers of the spans at written keys, in the order of the spans.
 pub(crate) fn readers_of(
     alloc: Global,
     ix: &Index,
@@ -104,29 +89,22 @@ pub(crate) fn readers_of(
 ) -> Result<Vec<End>, NoMemory>
     requires well_formed { IsWellFormed ix.now }
     requires committed { ListsAscending (IsCommitted ix.now) committed.now }
-    ensures ends { IfOk result (λ ends. (end : End) → Contains ends.items end ↔ FromSome (IsEndOf ix.now) spans.now end) }
-    ensures rises { IfOk result (λ ends. RisesByRank ends.items) }
+    ensures { IfOk result (λ ends. (end : End) → Contains ends.items end ↔ FromSome (IsEndOf ix.now) spans.now end) }
 {
     let mut ends = Vec::with_capacity(alloc, spans.len())?;
-    put_readers(ix, committed, spans, &mut ends)?;
-    put_in_order(&mut ends);
+    for span in spans {
+        put_end(ix, committed, *span, &mut ends)?;
+    }
     Ok(ends)
 }
 
-fn put_readers(
-    ix: &Index,
-    committed: &Committed,
-    spans: &[Span],
-    ends: &mut Vec<End>,
-) -> Result<(), NoMemory>
-    requires well_formed { IsWellFormed ix.now }
-    requires committed { ListsAscending (IsCommitted ix.now) committed.now }
-    ensures { OnOk result (Adds (FromSome (IsEndOf ix.now) spans.now) ends.old.items ends.new.items) }
+/// The ends by their ranks.
+pub(crate) fn by_rank(mut ends: Vec<End>) -> Result<Vec<End>, NoMemory>
+    ensures same { IfOk result (λ ranked. (end : End) → Contains ranked.items end ↔ Contains ends.items end) }
+    ensures rises { IfOk result (λ ranked. RisesByRank ranked.items) }
 {
-    for span in spans {
-        put_end(ix, committed, *span, ends)?;
-    }
-    Ok(())
+    ends.sort_by_key(|end| rank(end.key, end.high))?;
+    Ok(ends)
 }
 
 // Adds the end of the span, if its key is written.
@@ -192,22 +170,52 @@ pub(crate) fn rank_above(key: Key) -> u128
     (u128::from(key) + 1) * 4_294_967_296
 }
 
-/// Where the ends from one rank to below another start and stop.
-pub(crate) fn places(ends: &[End], from: u128, to: u128) -> (usize, usize)
+/// Where the ends from one rank to below another start and stop. They are looked for from the place on.
+pub(crate) fn places(ends: &[End], from: u128, to: u128, near: usize) -> (usize, usize)
     requires { RisesByRank ends.now }
     ensures forward { result.0 ≤ result.1 }
     ensures bound { result.1 ≤ length ends.now }
     ensures between { (end : End) → Contains (slice_range ends.now result.0 result.1) end ↔ (Contains ends.now end × (from ≤ end_rank end) × (end_rank end < to)) }
 {
-    let start = place(ends, from);
-    let stop = place(ends, to);
+    let start = place(ends, from, near);
+    let stop = place(ends, to, start);
     (start, stop.max(start))
 }
 
-// Where the ends of at least this rank begin.
-fn place(ends: &[End], from: u128) -> usize
+// Where the ends of at least this rank begin. Which places are looked at makes no difference: first the one before `near`,
+// then others behind it, each step twice as long as the one before, and once one was too far, by halving.
+fn place(ends: &[End], from: u128, near: usize) -> usize
     requires { RisesByRank ends.now }
     ensures { IsRankPlace ends.now from result }
 {
-    ends.partition_point(|end| rank(end.key, end.high) < from)
+    let mut low = 0;
+    let mut high = ends.len();
+    let mut guess = near.saturating_sub(1);
+    let mut step = 1usize;
+    while low < high {
+        let at = look(low, high, guess);
+        let end = ends[at];
+        if rank(end.key, end.high) < from {
+            low = at + 1;
+            guess = at.saturating_add(step);
+            step = step.saturating_mul(2);
+        } else {
+            high = at;
+            step = usize::MAX;
+        }
+    }
+    low
+}
+
+// The guess if it lies between the two, and else the middle.
+fn look(low: usize, high: usize, guess: usize) -> usize
+    requires { low < high }
+    ensures from { low ≤ result }
+    ensures below { result < high }
+{
+    if low <= guess && guess < high {
+        guess
+    } else {
+        low + (high - low) / 2
+    }
 }

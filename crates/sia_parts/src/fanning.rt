@@ -8,9 +8,9 @@ ghost use Rattle.sia_parts.specs.Fans.{IsFanNumber};
 use crate::ends::{End, Ends};
 use crate::fans::Fan;
 use crate::finding::Kind;
-use crate::ordering::merge_in_order;
 use crate::packing::{BASE, number};
 use sia_events::NoMemory;
+use sia_index::ordering::merge_in_order;
 
 /// How many edges the fans have at most.
 pub(crate) fn count(fans: &[Fan]) -> usize {

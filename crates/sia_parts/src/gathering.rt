@@ -9,8 +9,8 @@ ghost use Rattle.sia_parts.specs.Findings.{AreFindings, ArePartFindings};
 ghost use Rattle.sia_parts.specs.Sights.{Adds, FromSome};
 
 use crate::findings::{Findings, PartFindings};
-use crate::ordering::merge_in_order;
 use sia_events::NoMemory;
+use sia_index::ordering::merge_in_order;
 use std::alloc::Global;
 
 /// The findings at all keys, of those of the parts in order.

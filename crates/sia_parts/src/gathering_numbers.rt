@@ -14,11 +14,11 @@ use crate::finding::{BadRead, BadWrite, Unexplained};
 use crate::findings::Found;
 use crate::numbering::numbers_of_sources;
 use crate::numbers::EdgeNumber;
-use crate::ordering::merge_in_order;
 use crate::part_edges::{PartEdges, PartFound};
 use crate::stretches::EdgeNumbers;
 use crate::stretching::Seams;
 use sia_events::NoMemory;
+use sia_index::ordering::merge_in_order;
 use std::alloc::Global;
 
 /// What was found at the keys of all parts, where the edges are still those of each part.

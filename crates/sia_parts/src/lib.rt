@@ -19,7 +19,6 @@ mod nearby;
 mod numbered;
 mod numbering;
 mod numbers;
-mod ordering;
 mod packing;
 mod pairs;
 mod part_edges;

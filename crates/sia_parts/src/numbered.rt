@@ -31,7 +31,7 @@ pub fn find_in_part(
     let seen = seen_of(alloc, h, ix, part)?;
     let bad_writes = bad_writes_of(alloc, ix, part)?;
     let unexplained = unexplained_of(alloc, h, ix, part, &seen.bad_reads)?;
-    let edges = edges_of(alloc, ix, committed, part, &seen.spans, &seen.gaps)?;
+    let edges = edges_of(alloc, ix, committed, part, seen.spans, &seen.gaps)?;
     Ok(PartFound {
         bad_reads: seen.bad_reads,
         bad_writes,

@@ -5,9 +5,9 @@ ghost use Rattle.sia_parts.specs.Packing.{source_number};
 
 use crate::between::{count_between, put_between};
 use crate::numbers::EdgeNumber;
-use crate::ordering::merge_in_order;
 use crate::part_edges::PartEdges;
 use sia_events::NoMemory;
+use sia_index::ordering::merge_in_order;
 use std::alloc::Global;
 
 /// The numbers of the edges of all parts, from the source at the one place to before that at the other.

@@ -4,10 +4,10 @@ ghost use Rattle.std.specs.Prelude.{◌≡◌, []};
 use super::*;
 use crate::ends::Ends;
 use crate::numbering::numbers_of;
-use crate::ordering::merge_in_order;
 use sia_events::{History, read_history};
 use sia_index::Index;
 use sia_index::make::index;
+use sia_index::ordering::merge_in_order;
 use std::alloc::Global;
 use std::test::*;
 

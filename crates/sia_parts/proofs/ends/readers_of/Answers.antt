@@ -1,23 +1,17 @@
--- The ends, put in order.
-use Rattle.std.proofs.Common.{get_or, subst}
-use Rattle.std.proofs.lemmas.List.Elements.{Contains-get_or}
-use Rattle.sia_parts.specs.Sights.{Adds, FromSome}
+-- Each of the spans adds its end.
+use Rattle.std.proofs.Common.{[]}
+use Rattle.sia_parts.specs.Sights.{FromSome}
 use Rattle.sia_parts.specs.Ends.{IsEndOf}
-use Rattle.sia_parts.proofs.Adding.{added_to_none}
-use Rattle.sia_parts.proofs.EndLemmas.{ends_rise}
+use Rattle.sia_parts.proofs.Adding.{added_to_none, from_none, from_more, from_all}
 use Rattle.sia_parts.proofs.ends.readers_of.Goals as goal
 
-pub returns-clause-ends : goal.returns-clause-ends
-returns-clause-ends c end =
-    let P = FromSome (IsEndOf c.args.ix.now) c.args.spans.now in
-    let added = added_to_none P _ (subst (λ old. Adds P old c.put_readers.new.ends.items) c.in_ok-ends.ensures.items c.in_ok-put_readers.ensures) end in
-    ((λ has. added.0 (c.put_in_order.ensures.adds_none end has)), (λ is. c.put_in_order.ensures.keeps end (added.1 is)))
+pub loop-span-init : goal.loop-span-init
+loop-span-init c = rw c.in_ok-ends.ensures.items (from_none (IsEndOf c.args.ix.now) c.args.spans.now [])
 
-pub returns-clause-rises : goal.returns-clause-rises
-returns-clause-rises c =
-    let P = FromSome (IsEndOf c.args.ix.now) c.args.spans.now in
-    let added = added_to_none P _ (subst (λ old. Adds P old c.put_readers.new.ends.items) c.in_ok-ends.ensures.items c.in_ok-put_readers.ensures) in
-    ends_rise _ c.put_in_order.ensures.sorted (λ i d below.
-    let end = get_or c.put_in_order.new.rows.items i d in
-    let is = (added end).0 (c.put_in_order.ensures.adds_none end (Contains-get_or _ i d below)) in
-    is.2.fits)
+pub loop-span-preserved : goal.loop-span-preserved
+loop-span-preserved c =
+    from_more (IsEndOf c.args.ix.now) c.args.spans.now c.loop-span.span-index (record { txn = 0; key = 0; low = 0; high = 0 }) [] _ _ c.loop-span-test.true c.loop-span.invariant
+    c.in_ok-put_end.ensures
+
+pub returns : goal.returns
+returns c = added_to_none (FromSome (IsEndOf c.args.ix.now) c.args.spans.now) _ (from_all (IsEndOf c.args.ix.now) c.args.spans.now c.loop-span.span-index [] _ c.loop-span-test.false c.loop-span.invariant)

@@ -1,23 +1,20 @@
--- The ends, put in order.
-use Rattle.std.proofs.Common.{get_or, subst}
-use Rattle.std.proofs.lemmas.List.Elements.{Contains-get_or}
-use Rattle.sia_parts.specs.Sights.{Adds, FromSome}
+-- Each of the versions adds its end.
+use Rattle.std.proofs.Common.{[]}
+use Rattle.sia_parts.specs.Sights.{FromSome}
 use Rattle.sia_parts.specs.Ends.{IsEndOfVersion}
-use Rattle.sia_parts.proofs.Adding.{added_to_none}
-use Rattle.sia_parts.proofs.EndLemmas.{ends_rise}
+use Rattle.sia_parts.proofs.Adding.{added_to_none, from_none, from_more, from_all}
 use Rattle.sia_parts.proofs.ends.writers_of.Goals as goal
+
+pub loop-made-init : goal.loop-made-init
+loop-made-init c = rw c.in_ok-ends.ensures.items (from_none (IsEndOfVersion c.args.ix.now) c.args.versions.now [])
+
+pub loop-made-preserved : goal.loop-made-preserved
+loop-made-preserved c =
+    from_more (IsEndOfVersion c.args.ix.now) c.args.versions.now c.loop-made.made-index (record { key = 0; commit = 0; txn = 0 }) [] _ _ c.loop-made-test.true c.loop-made.invariant
+    (rw c.span_of.ensures at c.in_ok-put_end.ensures)
 
 pub returns-clause-ends : goal.returns-clause-ends
 returns-clause-ends c end =
-    let P = FromSome (IsEndOfVersion c.args.ix.now) c.args.versions.now in
-    let added = added_to_none P _ (subst (λ old. Adds P old c.put_writers.new.ends.items) c.in_ok-ends.ensures.items c.in_ok-put_writers.ensures) end in
-    ((λ has. added.0 (c.put_in_order.ensures.adds_none end has)), (λ is. c.put_in_order.ensures.keeps end (added.1 is)))
-
-pub returns-clause-rises : goal.returns-clause-rises
-returns-clause-rises c =
-    let P = FromSome (IsEndOfVersion c.args.ix.now) c.args.versions.now in
-    let added = added_to_none P _ (subst (λ old. Adds P old c.put_writers.new.ends.items) c.in_ok-ends.ensures.items c.in_ok-put_writers.ensures) in
-    ends_rise _ c.put_in_order.ensures.sorted (λ i d below.
-    let end = get_or c.put_in_order.new.rows.items i d in
-    let is = (added end).0 (c.put_in_order.ensures.adds_none end (Contains-get_or _ i d below)) in
-    is.2.fits)
+    let added = added_to_none (FromSome (IsEndOfVersion c.args.ix.now) c.args.versions.now) _ (from_all (IsEndOfVersion c.args.ix.now) c.args.versions.now c.loop-made.made-index [] _ c.loop-made-test.false c.loop-made.invariant) end in
+    let same = c.in_ok-ranked.ensures.same end in
+    ((λ has. added.0 (same.0 has)), (λ is. same.1 (added.1 is)))

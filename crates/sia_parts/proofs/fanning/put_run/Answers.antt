@@ -22,4 +22,4 @@ returns c =
     let P = FromSome (IsFanNumber c.args.ends.now) c.args.fans.now in
     let added = added_to_none P _ (from_all (IsFanNumber c.args.ends.now) c.args.fans.now c.loop-fan.fan-index [] _ c.loop-fan-test.false c.loop-fan.invariant) in
     rw (c.in_ok-extend_from_slice.ensures.items, c.as_slice.ensures.value)
-    (adds_same (Contains c.merge_in_order.new.rows.items) P _ _ (λ n has. (added n).0 (c.in_ok-merge_in_order.ensures.adds_none n has)) (λ n is. c.in_ok-merge_in_order.ensures.keeps n ((added n).1 is)) (adds_list _ _))
+    (adds_same (Contains c.merge_in_order.new.list.items) P _ _ (λ n has. (added n).0 (c.in_ok-merge_in_order.ensures.adds_none n has)) (λ n is. c.in_ok-merge_in_order.ensures.keeps n ((added n).1 is)) (adds_list _ _))

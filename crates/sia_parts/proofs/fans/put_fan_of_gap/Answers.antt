@@ -8,16 +8,16 @@ use Rattle.sia_parts.proofs.EndLemmas.{one_committed_number}
 use Rattle.sia_parts.proofs.Giving.{gives_nothing, gives_same}
 use Rattle.sia_parts.proofs.fans.put_fan_of_gap.Goals as goal
 
-pub returns-in_ok-put_fan : goal.returns-in_ok-put_fan
-returns-in_ok-put_fan c =
-    let ends = c.args.ends.now in
+pub returns : goal.returns
+returns c ends same =
+    let W = c.args.writers.now in
     let gap = c.args.gap in
     let src = c.in-Some.src in
-    let P : ℕ → ℕ → Type 0 = λ s. IsNumberWithin ends.writers.items (rank_of gap.lo 0) (rank_of (gap.hi + 1) 0) s Rw in
-    gives_same ends (P src) (IsGapNumber c.args.ix.now ends gap) _ _
+    let P : ℕ → ℕ → Type 0 = λ s. IsNumberWithin W (rank_of gap.lo 0) (rank_of (gap.hi + 1) 0) s Rw in
+    gives_same ends (P src) (IsGapNumber c.args.ix.now W gap) _ _
     (λ n is. (src, c.in-Some.ensures.0, is))
     (λ n is. subst (λ s. P s n) (one_committed_number c.args.ix.now is.0 src gap.txn is.1 c.in-Some.ensures.0) is.2)
-    (rw (c.rank-from.ensures, c.rank_above-to.ensures) at c.in_ok-put_fan.ensures)
+    (rw (c.rank.ensures, c.rank_above.ensures) at c.in_ok-stop.ensures ends same)
 
 pub returns-in_default : goal.returns-in_default
-returns-in_default c = gives_nothing c.args.ends.now (IsGapNumber c.args.ix.now c.args.ends.now c.args.gap) _ (λ n is. c.in_default.ensures (at_is_committed _ _ _ is.1))
+returns-in_default c ends same = gives_nothing ends (IsGapNumber c.args.ix.now c.args.writers.now c.args.gap) _ (λ n is. c.in_default.ensures (at_is_committed _ _ _ is.1))

@@ -1,6 +1,6 @@
 -- One fan after the other.
+use Rattle.std.proofs.Common.{refl, ◌+◌}
 use Rattle.sia_parts.specs.Ends.{IsNumberWithin, end_rank, rank_of}
-use Rattle.std.proofs.Common.{◌+◌}
 use Rattle.sia_parts.specs.declared.finding.Kind.TheVariants.{Ww, Wr}
 use Rattle.sia_parts.proofs.Giving.{gives_both}
 use Rattle.sia_parts.proofs.fans.put_fans_of_writer.Goals as goal
@@ -13,5 +13,5 @@ returns c =
     (IsNumberWithin ends.writers.items (end_rank end + 1) (rank_of (end.key + 1) 0) end.txn Ww)
     (IsNumberWithin ends.readers.items (end_rank end) (rank_of (end.key + 1) 0) end.txn Wr)
     _ _ _
-    (rw (c.rank-own.ensures, c.rank_above-above.ensures) at c.in_ok-put_fan.ensures)
-    (rw (c.rank-own.ensures, c.rank_above-above.ensures) at c.in_ok-put_fan-2.ensures)
+    (rw (c.rank-own.ensures, c.rank_above-to.ensures, c.deref.ensures.value) at c.in_ok-first.ensures ends refl)
+    (rw (c.rank-own.ensures, c.rank_above-to.ensures, c.deref-2.ensures.value) at c.in_ok-second.ensures ends refl)

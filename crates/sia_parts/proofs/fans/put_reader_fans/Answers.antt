@@ -1,15 +1,18 @@
 -- Each reader adds its fan.
-use Rattle.sia_parts.specs.Fans.{IsReaderNumber}
+use Rattle.std.proofs.Common.{subst}
+use Rattle.sia_parts.specs.Ends.{IsNumberWithin}
+use Rattle.sia_parts.specs.Fans.{IsReaderNumber, GivesTo}
 use Rattle.sia_parts.proofs.Giving.{gives_none, gives_more, gives_all}
 use Rattle.sia_parts.proofs.fans.put_reader_fans.Goals as goal
 
 pub loop-end-init : goal.loop-end-init
-loop-end-init c = gives_none c.args.ends.now (IsReaderNumber c.args.ends.now) c.args.ends.now.readers.items _
+loop-end-init c ends is = gives_none ends (IsReaderNumber c.args.writers.now) c.args.readers.now _
 
 pub loop-end-preserved : goal.loop-end-preserved
-loop-end-preserved c =
-    gives_more c.args.ends.now (IsReaderNumber c.args.ends.now) c.args.ends.now.readers.items c.loop-end.end-index (record { key = 0; high = 0; low = 0; txn = 0; number = 0 }) _ _ _ (rw c.deref-end-items.ensures.value at c.loop-end-test.true) c.loop-end.invariant
-    (rw (c.rank-from.ensures, c.rank_above-above.ensures, c.deref-end-items.ensures.value) at c.in_ok-put_fan.ensures)
+loop-end-preserved c ends is =
+    let W = c.args.writers.now in
+    gives_more ends (IsReaderNumber W) c.args.readers.now c.loop-end.end-index (record { key = 0; high = 0; low = 0; txn = 0; number = 0 }) _ _ _ c.loop-end-test.true (c.loop-end.invariant ends is)
+    (subst (λ reach. GivesTo reach.kind W (IsNumberWithin W reach.from reach.to reach.src reach.kind) c.loop-end.fans.items c.put_fan.new.fans.items) c.reach_of_reader.ensures c.in_ok-near.ensures ends is)
 
 pub returns : goal.returns
-returns c = gives_all c.args.ends.now (IsReaderNumber c.args.ends.now) c.args.ends.now.readers.items c.loop-end.end-index _ _ (rw c.deref-end-items.ensures.value at c.loop-end-test.false) c.loop-end.invariant
+returns c ends is = gives_all ends (IsReaderNumber c.args.writers.now) c.args.readers.now c.loop-end.end-index _ _ c.loop-end-test.false (c.loop-end.invariant ends is)

@@ -9,7 +9,7 @@ loop-end-init c = gives_none c.args.ends.now (IsWriterNumber c.args.ends.now) c.
 pub loop-end-preserved : goal.loop-end-preserved
 loop-end-preserved c =
     gives_more c.args.ends.now (IsWriterNumber c.args.ends.now) c.args.ends.now.writers.items c.loop-end.end-index (record { key = 0; high = 0; low = 0; txn = 0; number = 0 }) _ _ _ (rw c.deref-end-items.ensures.value at c.loop-end-test.true) c.loop-end.invariant
-    (rw c.deref-end-items.ensures.value at c.in_ok-put_fans_of_writer.ensures)
+    (rw c.deref-end-items.ensures.value at c.in_ok-near.ensures)
 
 pub returns : goal.returns
 returns c = gives_all c.args.ends.now (IsWriterNumber c.args.ends.now) c.args.ends.now.writers.items c.loop-end.end-index _ _ (rw c.deref-end-items.ensures.value at c.loop-end-test.false) c.loop-end.invariant

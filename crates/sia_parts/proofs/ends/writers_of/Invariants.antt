@@ -1,8 +1,9 @@
 -- The ends of the versions so far.
+use Rattle.std.proofs.Common.{[]}
 use Rattle.sia_parts.specs.Sights.{Adds}
 use Rattle.sia_parts.specs.Ends.{IsEndOfVersion}
 use Rattle.sia_parts.proofs.Adding.{FromFirst}
-use Rattle.sia_parts.proofs.ends.put_writers.Given as goal
+use Rattle.sia_parts.proofs.ends.writers_of.Given as goal
 
 abbrev pub invariant-loop-made : goal.invariant-loop-made
-invariant-loop-made l = Adds (FromFirst (IsEndOfVersion l.ix) l.versions l.made-index) l.fn.ends.items l.ends.items
+invariant-loop-made l = Adds (FromFirst (IsEndOfVersion l.ix) l.versions l.made-index) [] l.ends.items
