@@ -4,7 +4,7 @@ use Rattle.std.specs.Global.{Vec}
 use Rattle.std.proofs.lemmas.List.{map-append}
 use Rattle.std.proofs.lemmas.Grind.{flat_map-append}
 use Rattle.sia_parts.specs.Packing.{unpacked}
-use Rattle.sia_parts.specs.Stretches.{numbers_in}
+use Rattle.sia_parts.specs.Chunks.{numbers_in}
 use Rattle.sia_pool.specs.Answers.{AnswersEach}
 use Rattle.si_audit.specs.Lines.{edge_line}
 use Rattle.si_audit.specs.Sheets.{batch, number_lines, text_of}

@@ -9,7 +9,7 @@ use Rattle.sia_events.specs.Dependencies.{IsVersionBefore, IsCommittedWriter}
 use Rattle.sia_events.specs.DangerousStructures.{IsFirst}
 use Rattle.sia_events.proofs.WellFormed.{one_commit}
 use Rattle.sia_graph.specs.Extremes.{HasRwEdge, IsFirstByCommits, IsAfterSeen, FirstsLaw}
-use Rattle.sia_graph.proofs.Facts.{Span, span_of, commits_lt}
+use Rattle.sia_graph.proofs.Facts.{Lifetime, lifetime_of, commits_lt}
 use Rattle.sia_graph.proofs.NoStuckSet.{rw_unseen}
 
 module _ (h : List Event) (wf : IsWellFormed h) where
@@ -33,21 +33,21 @@ module _ (h : List Event) (wf : IsWellFormed h) where
 
   module _ (kept : IsolationKept h) where
     -- a reader of an earlier version starts before the writer commits
-    starts_before : (t u : ℕ) (a : Span h t) (b : Span h u) → HasRwEdge h t u → a.start < b.commit
+    starts_before : (t u : ℕ) (a : Lifetime h t) (b : Lifetime h u) → HasRwEdge h t u → a.start < b.commit
     starts_before t u a b e = elim (cases_lt a.start b.commit) [
       | inl less ↦ less
       | inr more ↦ absurd (rw_unseen h wf kept t u e.0 e.1 (a.start, b.commit, a.starts, b.commits, more))
     ]
 
-    overlap : (t u : ℕ) (a : Span h t) (b : Span h u) → a.start < b.commit → b.start < a.commit → Overlap h t u
+    overlap : (t u : ℕ) (a : Lifetime h t) (b : Lifetime h u) → a.start < b.commit → b.start < a.commit → Overlap h t u
     overlap t u a b l m = ((a.start, b.commit, a.starts, b.commits, l), (b.start, a.commit, b.starts, a.commits, m))
 
     first_by_commits : (t out_to : ℕ) → IsFirstByCommits h t out_to → IsFirst h t out_to
     first_by_commits t out_to f =
-        let mid = span_of h wf t f.0.1.1 in
-        let out = span_of h wf out_to f.0.1.2.1 in
+        let mid = lifetime_of h wf t f.0.1.1 in
+        let out = lifetime_of h wf out_to f.0.1.2.1 in
         let in_from = f.2.0 in
-        let first = span_of h wf in_from f.2.1.1.1 in
+        let first = lifetime_of h wf in_from f.2.1.1.1 in
         let before = commits_lt h wf out_to t out.commit mid.commit out.commits mid.commits f.1 in
         let starts : mid.start < out.commit = starts_before t out_to mid out f.0 in
         let enters : first.start < mid.commit = starts_before in_from t first mid f.2.1 in

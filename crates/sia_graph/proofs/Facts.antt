@@ -35,7 +35,7 @@ module _ (h : List Event) (wf : IsWellFormed h) where
   start_of t p acts = let s = has_start h t (p, acts) in (s.0, start_below h wf t s.0 p s.1 acts, s.1)
 
 -- when a committed transaction starts and commits
-pub record Span (h : List Event) (t : ℕ) : Type 0 where
+pub record Lifetime (h : List Event) (t : ℕ) : Type 0 where
   pub start : ℕ
   pub commit : ℕ
   pub starts : StartsAt h t start
@@ -43,8 +43,8 @@ pub record Span (h : List Event) (t : ℕ) : Type 0 where
   pub ordered : start < commit
 
 module _ (h : List Event) (wf : IsWellFormed h) where
-  pub span_of : (t : ℕ) → IsCommitted h t → Span h t
-  span_of t c =
+  pub lifetime_of : (t : ℕ) → IsCommitted h t → Lifetime h t
+  lifetime_of t c =
       let s = start_of h wf t c.0 (Commit t, c.1, refl) in
       record { start = s.0; commit = c.0; starts = s.2; commits = c.1; ordered = s.1 }
 

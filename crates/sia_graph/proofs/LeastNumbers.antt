@@ -21,9 +21,9 @@ use Rattle.sia_graph.proofs.Places.{all_sorted, div_rises, edges_from_place, gro
 use Rattle.sia_graph.proofs.Positions.{contains_stands, get_cases, get_left, get_right, stands_contains}
 use Rattle.sia_graph.proofs.Waiting.{all_at}
 
--- a stretch ascends as the whole does
-stretch_ascends : (numbers before group after : List ℕ) → numbers ≡ before ++ (group ++ after) → AllPairs (λ m n. m < n) numbers → AllPairs (λ m n. m < n) group
-stretch_ascends numbers before group after is up i j d less below =
+-- a chunk ascends as the whole does
+chunk_ascends : (numbers before group after : List ℕ) → numbers ≡ before ++ (group ++ after) → AllPairs (λ m n. m < n) numbers → AllPairs (λ m n. m < n) group
+chunk_ascends numbers before group after is up i j d less below =
     let at = λ (k : ℕ) (l : k < length group). there k l in
     let first = at i (omega arith) in
     let second = at j below in
@@ -45,7 +45,7 @@ target_rises n m l same =
 
 module _ (ids keys numbers : List ℕ) (are : AreNumbered ids keys numbers) (place : ℕ) (group : List ℕ) (below : place < length ids) (from : AreNumbersFrom numbers place group) where
   group_up : AllPairs (λ m n. m < n) group
-  group_up = stretch_ascends numbers from.0 group from.1 from.2 are.ascending
+  group_up = chunk_ascends numbers from.0 group from.1 from.2 are.ascending
 
   -- the numbers from the place are numbers of edges too
   group_numbered : AreNumbered ids keys group

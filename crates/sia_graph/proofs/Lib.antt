@@ -34,12 +34,12 @@ pub mod Listed
 pub mod Picked
 pub mod Groups
 pub mod LinkLists
-pub mod SpanTables
+pub mod LifetimeTables
 pub mod Vulnerable
 pub mod PivotLists
 pub mod Places
 pub mod Arrivals
-pub mod StretchLists
+pub mod ChunkLists
 pub mod TakenPlaces
 pub mod LeastNumbers
 pub mod ReadyPlaces

@@ -15,7 +15,7 @@ use Rattle.sia_events.proofs.Decisions.{Decided, both}
 use Rattle.sia_events.proofs.Starts.{one_start}
 use Rattle.sia_events.proofs.TransactionDecisions.{committed_or_not}
 use Rattle.sia_graph.proofs.Deciding.{either_decided, le_decided}
-use Rattle.sia_graph.proofs.Facts.{same_committer, committed_positive, Span, span_of, sees_le, commits_lt}
+use Rattle.sia_graph.proofs.Facts.{same_committer, committed_positive, Lifetime, lifetime_of, sees_le, commits_lt}
 use Rattle.sia_graph.proofs.Due.{saw_due}
 use Rattle.sia_graph.proofs.RwDecided.{rw_decided}
 use Rattle.sia_graph.proofs.ReadyOrders.{In, IsFed}
@@ -29,19 +29,19 @@ module _ (h : List Event) (wf : IsWellFormed h) where
       let l = before.4 in
       omega arith
 
-  sees_decided : (t u : ℕ) → Span h t → Span h u → Decided (Sees h t u)
+  sees_decided : (t u : ℕ) → Lifetime h t → Lifetime h u → Decided (Sees h t u)
   sees_decided t u a b = elim (le_decided b.commit a.start) [
     | inl l ↦ inl (a.start, b.commit, a.starts, b.commits, l)
     | inr more ↦ inr (λ sees. more (sees_le h wf t u a.start b.commit a.starts b.commits sees))
   ]
 
-  starts_before_decided : (t u : ℕ) → Span h t → Span h u → Decided (StartsBeforeCommit h t u)
+  starts_before_decided : (t u : ℕ) → Lifetime h t → Lifetime h u → Decided (StartsBeforeCommit h t u)
   starts_before_decided t u a b = elim (cases_lt a.start b.commit) [
     | inl l ↦ inl (a.start, b.commit, a.starts, b.commits, l)
     | inr more ↦ inr (λ before. let l = starts_lt t u a.start b.commit a.starts b.commits before in omega arith)
   ]
 
-  vulnerable_decided : (t u : ℕ) → Span h t → Span h u → Decided (IsVulnerable h t u)
+  vulnerable_decided : (t u : ℕ) → Lifetime h t → Lifetime h u → Decided (IsVulnerable h t u)
   vulnerable_decided t u a b =
       elim (both (Overlap h t u) ((k : ℕ) × RwEdge h t u k)
       (both (StartsBeforeCommit h t u) (StartsBeforeCommit h u t) (starts_before_decided t u a b) (starts_before_decided u t b a))
@@ -61,8 +61,8 @@ module _ (h : List Event) (wf : IsWellFormed h) where
       by_parts (inr fails) d = inr (λ f. fails f.0)
       by_parts (inl c) (inr fails) = inr (λ f. fails f.1)
       by_parts (inl c) (inl d) =
-          let a = span_of h wf t c in
-          let b = span_of h wf u d in
+          let a = lifetime_of h wf t c in
+          let b = lifetime_of h wf u d in
           elim (either_decided (Sees h u t) (IsVulnerable h t u) (sees_decided u t b a) (vulnerable_decided t u a b)) [
             | inl w ↦ inl (c, d, w)
             | inr fails ↦ inr (λ f. fails f.2)
@@ -113,11 +113,11 @@ module _ (h : List Event) (wf : IsWellFormed h) where
   none_fed none x xs all fed =
       let least = earliest x xs all in
       let out_to = least.0 in
-      let out = span_of h wf out_to (all out_to least.2) in
+      let out = lifetime_of h wf out_to (all out_to least.2) in
       let same_out : out.commit ≡ least.1 = one_commit h wf out_to out.commit least.1 out.commits least.3 in
       let middle = fed out_to least.2 in
       let t = middle.0 in
-      let mid = span_of h wf t middle.2.0 in
+      let mid = lifetime_of h wf t middle.2.0 in
       let mid_later : least.1 ≤ mid.commit = least.4 t mid.commit middle.1 mid.commits in
       let out_vulnerable : IsVulnerable h t out_to = elim (middle.2.2) [
         | inl sees ↦ let l = sees_le h wf out_to t out.start mid.commit out.starts mid.commits sees in let o = out.ordered in absurd (omega arith)
@@ -126,13 +126,13 @@ module _ (h : List Event) (wf : IsWellFormed h) where
       let start_before : mid.start < out.commit = starts_lt t out_to mid.start out.commit mid.starts out.commits out_vulnerable.0.0 in
       let inner = fed t middle.1 in
       let in_from = inner.0 in
-      let start = span_of h wf in_from inner.2.0 in
+      let start = lifetime_of h wf in_from inner.2.0 in
       let in_later : least.1 ≤ start.commit = least.4 in_from start.commit inner.1 start.commits in
       let in_vulnerable : IsVulnerable h in_from t = elim (inner.2.2) [
         | inl sees ↦ let l = sees_le h wf t in_from mid.start start.commit mid.starts start.commits sees in absurd (omega arith)
         | inr v ↦ v
       ] in
-      let before : (w : ℕ) (s : Span h w) → least.1 ≤ s.commit → (out_to ≡ w) ⊎ CommitsBefore h out_to w = λ w s l. elim (cases_lt out.commit s.commit) [
+      let before : (w : ℕ) (s : Lifetime h w) → least.1 ≤ s.commit → (out_to ≡ w) ⊎ CommitsBefore h out_to w = λ w s l. elim (cases_lt out.commit s.commit) [
         | inl less ↦ inr (out.commit, s.commit, out.commits, s.commits, less)
         | inr more ↦ inl (same_committer h out_to w out.commit s.commit (omega arith) out.commits s.commits)
       ] in
@@ -151,7 +151,7 @@ module _ (h : List Event) (wf : IsWellFormed h) where
     ww_sees t u k e =
         let before = e.2 in
         let c = before.0 in
-        let b = span_of h wf u (before.1, before.3) in
+        let b = lifetime_of h wf u (before.1, before.3) in
         elim (cases_lt b.start c) [
           | inl less ↦ absurd (kept.writes k t u (e.0, e.1, (b.start, c, b.starts, before.2, less), before))
           | inr more ↦ (b.start, c, b.starts, before.2, more)
@@ -194,8 +194,8 @@ module _ (h : List Event) (wf : IsWellFormed h) where
 
     rw_sees_or_vulnerable : (t u k : ℕ) → RwEdge h t u k → Sees h u t ⊎ IsVulnerable h t u
     rw_sees_or_vulnerable t u k e =
-        let a = span_of h wf t e.1 in
-        let b = span_of h wf u e.2.1 in
+        let a = lifetime_of h wf t e.1 in
+        let b = lifetime_of h wf u e.2.1 in
         elim (cases_lt a.start b.commit) [
           | inr more ↦ absurd (rw_unseen t u k e (a.start, b.commit, a.starts, b.commits, more))
           | inl before ↦ elim (cases_lt b.start a.commit) [

@@ -4,7 +4,7 @@ use Rattle.std.specs.Prelude.{All}
 use Rattle.sia_events.specs.declared.event.Event.{Event}
 use Rattle.sia_events.specs.Lists.{ListsAscending}
 use Rattle.sia_events.specs.DangerousStructures.{IsVulnerable, IsPivot}
-use Rattle.sia_graph.specs.declared.links.Link.{Link}
+use Rattle.sia_graph.specs.declared.pivoting.links.Link.{Link}
 use Rattle.sia_graph.specs.declared.pivot.Pivot.{Pivot}
 use Rattle.sia_graph.specs.Links.{ListsLinks, AreLinked, link_rank}
 use Rattle.sia_graph.specs.Pivots.{ArePivots, ListsNeighbours}

@@ -34,7 +34,7 @@ sources_rise numbers up i j d l b = elim (cases_lt i j) [
   | inr more ↦ let e : i ≡ j = omega arith in let f = ap (λ k. source_number (get_or numbers k d)) e in omega arith
 ]
 
--- what all have, all have of a stretch and of what follows it
+-- what all have, all have of a chunk and of what follows it
 pub part_all : (P : ℕ → Type 0) (xs before group after : List ℕ) → xs ≡ before ++ (group ++ after) → All P xs → All P group × All P after
 part_all P xs before group after is all = (
   (λ k d l. has k (get_or group k d) (get_left group after k (get_or group k d) (slice_get-get_or group k d l))),

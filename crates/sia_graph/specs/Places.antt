@@ -34,7 +34,7 @@ AreArriving places numbers counts = (length counts ≡ places) × ((i : ℕ) →
 abbrev pub AreNumbersFrom : List ℕ → ℕ → List ℕ → Type 0
 AreNumbersFrom numbers place group = IsGroup source_number numbers place group
 
--- where the last number of a stretch leads from
+-- where the last number of a chunk leads from
 abbrev pub last_source : Vec ℕ → ℕ
 last_source s = source_number (slice_index s.items (length s.items - 1))
 

@@ -1,4 +1,4 @@
-use crate::txns::Txns;
+use crate::settling::txns::Txns;
 use sia_events::TxnId;
 
 /// The transaction in the middle of a dangerous structure, with all the transactions at its other ends.

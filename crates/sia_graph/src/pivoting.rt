@@ -6,10 +6,19 @@ ghost use Rattle.sia_parts.specs.Findings.{AreFindings};
 ghost use Rattle.sia_graph.specs.Links.{AreLinked, ListsLinks, link_rank};
 ghost use Rattle.sia_graph.specs.Pivots.{ArePivots, ListsNeighbours};
 
-use crate::firsts::firsts;
-use crate::links::{Link, first_from, has_link, linked, links_at, others, turned, vulnerable};
+pub(crate) mod firsts;
+pub(crate) mod lifetimes;
+pub(crate) mod links;
+pub(crate) mod passing;
+pub(crate) mod pivoting_numbers;
+pub(crate) mod vulnerable_numbers;
+
 use crate::pivot::Pivot;
-use crate::txns::Txns;
+use crate::pivoting::firsts::firsts;
+use crate::pivoting::links::{
+    Link, first_from, has_link, linked, links_at, others, turned, vulnerable,
+};
+use crate::settling::txns::Txns;
 use sia_events::{NoMemory, TxnId};
 use sia_index::Index;
 use sia_parts::Findings;

@@ -4,8 +4,12 @@ ghost use Rattle.sia_events.specs.Replay.{IsFirstMismatch, IsOrder, Replays, ser
 ghost use Rattle.sia_graph.specs.Replaying.{AreCommits, Tells};
 ghost use Rattle.sia_graph.specs.declared.replaying.ReplayFault.TheVariants as faults;
 
-use crate::chains::{chains, replay_txn};
-use crate::order::{commit_places, is_order};
+pub(crate) mod chains;
+pub(crate) mod order;
+pub(crate) mod right;
+
+use crate::replaying::chains::{chains, replay_txn};
+use crate::replaying::order::{commit_places, is_order};
 use sia_events::{History, Key, NoMemory, TxnId, Version};
 use std::alloc::Global;
 use std::collections::BTreeMap;

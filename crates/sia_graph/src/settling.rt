@@ -5,9 +5,18 @@ ghost use Rattle.sia_events.specs.Lists.{Precedes};
 ghost use Rattle.sia_parts.specs.Entries.{edge_rank};
 ghost use Rattle.sia_graph.specs.Verdicts.{IsVerdict};
 
-use crate::taking::{count_edges, take_ready};
-use crate::txns::Txns;
-use crate::walking::cycle_from;
+pub(crate) mod adjacency;
+pub(crate) mod numbered;
+pub(crate) mod settling_numbers;
+pub(crate) mod taking;
+pub(crate) mod taking_numbers;
+pub(crate) mod txns;
+pub(crate) mod walking;
+pub(crate) mod walking_numbers;
+
+use crate::settling::taking::{count_edges, take_ready};
+use crate::settling::txns::Txns;
+use crate::settling::walking::cycle_from;
 use sia_events::{Key, NoMemory, TxnId};
 use sia_parts::{Edge, Kind};
 use std::alloc::Global;

@@ -8,9 +8,9 @@ use Rattle.std.proofs.lemmas.Bool.{cases_lt, leb-false, leb-true, ltb-true, ltb-
 use Rattle.std.proofs.lemmas.List.{get_or-take, get_or-drop, length-take, length-drop}
 use Rattle.std.proofs.lemmas.Nat.{le-div}
 use Rattle.sia_index.specs.declared.info.Made.{Made}
-use Rattle.sia_parts.specs.declared.ends.Ends.{Ends}
-use Rattle.sia_parts.specs.declared.fans.Fan.{Fan}
-use Rattle.sia_parts.specs.declared.part_edges.PartEdges.{PartEdges}
+use Rattle.sia_parts.specs.declared.edges.ends.Ends.{Ends}
+use Rattle.sia_parts.specs.declared.edges.fans.Fan.{Fan}
+use Rattle.sia_parts.specs.declared.edges.part_edges.PartEdges.{PartEdges}
 use Rattle.sia_parts.specs.Fans.{IsFanNumber}
 use Rattle.sia_parts.specs.Gathering.{AreNumbersBetween, IsNumberBetween, IsNumberIn}
 use Rattle.sia_parts.specs.Packing.{source_number}

@@ -11,8 +11,8 @@ use Rattle.sia_parts.specs.EdgeNumbers.{IsCommittedAt}
 use Rattle.sia_index.proofs.Ordered.{ascends}
 use Rattle.sia_index.proofs.KeyChains.{key_number}
 use Rattle.sia_index.proofs.ReadTables.{part_has, part_gives}
-use Rattle.sia_parts.specs.declared.ends.End.{End}
-use Rattle.sia_parts.specs.declared.spans.Span.{Span}
+use Rattle.sia_parts.specs.declared.edges.ends.End.{End}
+use Rattle.sia_parts.specs.declared.auditing.spans.Span.{Span}
 use Rattle.sia_parts.specs.Ends.{IsEndOf, RisesByRank, IsRankPlace, end_rank}
 use Rattle.sia_parts.proofs.Committing.{committed_number}
 

@@ -63,7 +63,7 @@ module _ {A B : Type 0} (f : A → B) (ns : List A) where
   pub map_in : (n : A) (e : B) → Contains ns n → f n ≡ e → Contains (map f ns) e
   map_in n e c is = (c.0, (let b = c.1 in omega (arith, length-map ns f)), get_or-map f ns c.0 n e c.1 ∙ ap f c.2 ∙ is)
 
--- what the first things give, and what a stretch of the next ones gives
+-- what the first things give, and what a chunk of the next ones gives
 module _ {A B : Type 0} (P : A → B → Type 0) (xs : List A) (from to : ℕ) (le : from ≤ to) (bound : to ≤ length xs) where
   first_of : (n : ℕ) (x : A) → n ≤ length xs → Contains (take n xs) x → (k : ℕ) × (k < n) × (slice_index_or xs k x ≡ x)
   first_of n x most c = let less : c.0 < n = let b = c.1 in omega (arith, length-take n xs) in (c.0, less, sym (get_or-take n xs c.0 x less) ∙ c.2)

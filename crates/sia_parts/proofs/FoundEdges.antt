@@ -14,13 +14,13 @@ use Rattle.sia_index.specs.declared.info.KeyVersion.{KeyVersion}
 use Rattle.sia_index.specs.Info.{AreVersionsWithin, AreWrittenKeys, IsKeyAt}
 use Rattle.sia_index.proofs.KeyChains.{key_number}
 use Rattle.sia_parts.specs.declared.cutting.Part.{Part}
-use Rattle.sia_parts.specs.declared.ends.End.{End}
-use Rattle.sia_parts.specs.declared.ends.Ends.{Ends}
+use Rattle.sia_parts.specs.declared.edges.ends.End.{End}
+use Rattle.sia_parts.specs.declared.edges.ends.Ends.{Ends}
 use Rattle.sia_parts.specs.declared.finding.Edge.{Edge}
 use Rattle.sia_parts.specs.declared.finding.Kind.{Kind}
 use Rattle.sia_parts.specs.declared.finding.Kind.TheVariants.{Ww, Wr, Rw}
-use Rattle.sia_parts.specs.declared.gaps.Gap.{Gap}
-use Rattle.sia_parts.specs.declared.spans.Span.{Span}
+use Rattle.sia_parts.specs.declared.auditing.gaps.Gap.{Gap}
+use Rattle.sia_parts.specs.declared.auditing.spans.Span.{Span}
 use Rattle.sia_parts.specs.EdgeNumbers.{IsCommittedAt, StandForEdges}
 use Rattle.sia_parts.specs.Entries.{IsEdge, kind_number}
 use Rattle.sia_parts.specs.Gaps.{FromGap}

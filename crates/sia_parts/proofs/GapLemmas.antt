@@ -1,4 +1,4 @@
--- The keys that a range read didn't list, stretch by stretch, and gaps that are joined.
+-- The keys that a range read didn't list, chunk by chunk, and gaps that are joined.
 use Rattle.std.proofs.Common.{◌≡◌, ◌≢◌, ◌⊎◌, inl, inr, ℕ, ◌+◌, ◌<◌, ◌≤◌, List, [], ◌∷◌, ◌++◌, length, take, get_or, refl, ap, sym, subst, ◌∙◌, arith}
 use Rattle.std.specs.Prelude.{All, Contains}
 use Rattle.std.specs.List.Sorted.{IsPermutation}
@@ -14,7 +14,7 @@ use Rattle.sia_index.specs.declared.info.DueAt.{DueAt}
 use Rattle.sia_index.specs.declared.info.Reader.{Reader}
 use Rattle.sia_index.specs.Info.{IsNextDue}
 use Rattle.sia_parts.specs.declared.finding.BadRead.{BadRead}
-use Rattle.sia_parts.specs.declared.gaps.Gap.{Gap}
+use Rattle.sia_parts.specs.declared.auditing.gaps.Gap.{Gap}
 use Rattle.sia_parts.specs.Sights.{Adds, IsSight, IsBadOf, unlisted_sight, AscendsByKey}
 use Rattle.sia_parts.specs.Gaps.{Spreads, FromKeys, IsGapOf, IsBetween, IsBelow, IsUnlisted, IsInGap, InSomeGap, CoversSame, IsGapJoined}
 use Rattle.sia_parts.proofs.Adding.{adds_nothing, adds_push, adds_same, adds_both}

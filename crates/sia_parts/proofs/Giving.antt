@@ -7,11 +7,11 @@ use Rattle.std.specs.List.Sorted.{IsPermutation}
 use Rattle.std.proofs.lemmas.List.Sorted.{Contains-permutation, IsPermutation-sym}
 use Rattle.std.proofs.lemmas.List.Elements.{Contains-append_left, Contains-push, Contains-push_cases}
 use Rattle.sia_events.specs.declared.event.Event.{Event}
-use Rattle.sia_parts.specs.declared.ends.End.{End}
-use Rattle.sia_parts.specs.declared.ends.Ends.{Ends}
-use Rattle.sia_parts.specs.declared.fans.Fan.{Fan}
+use Rattle.sia_parts.specs.declared.edges.ends.End.{End}
+use Rattle.sia_parts.specs.declared.edges.ends.Ends.{Ends}
+use Rattle.sia_parts.specs.declared.edges.fans.Fan.{Fan}
 use Rattle.sia_parts.specs.declared.finding.Kind.{Kind}
-use Rattle.sia_parts.specs.declared.gaps.Gap.{Gap}
+use Rattle.sia_parts.specs.declared.auditing.gaps.Gap.{Gap}
 use Rattle.sia_parts.specs.Sights.{FromSome}
 use Rattle.sia_parts.specs.Ends.{IsNumberWithin, end_rank, ends_for}
 use Rattle.sia_parts.specs.Fans.{IsFanNumber, IsMissedNumber, IsNumberFound, IsWriterNumber, Gives, GivesTo}

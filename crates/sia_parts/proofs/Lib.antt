@@ -25,5 +25,5 @@ pub mod FanEdges
 pub mod FoundEdges
 pub mod StandingNumbers
 pub mod BetweenPlaces
-pub mod SeamLemmas
-pub mod KeptStretches
+pub mod ChunkBoundLemmas
+pub mod KeptChunks

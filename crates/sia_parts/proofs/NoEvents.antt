@@ -8,7 +8,7 @@ use Rattle.sia_events.specs.Transactions.{Wrote}
 use Rattle.sia_events.specs.Reads.{SawAt}
 use Rattle.sia_events.specs.Lists.{Precedes, ListsBy}
 use Rattle.sia_parts.specs.declared.cutting.Part.{Part}
-use Rattle.sia_parts.specs.declared.part_edges.PartFound.{PartFound}
+use Rattle.sia_parts.specs.declared.edges.part_edges.PartFound.{PartFound}
 use Rattle.sia_parts.specs.declared.findings.PartFindings.{PartFindings}
 use Rattle.sia_parts.specs.declared.finding.Kind.{Kind}
 use Rattle.sia_parts.specs.declared.finding.Kind.TheVariants.{Ww, Wr, Rw}

@@ -14,9 +14,9 @@ use Rattle.sia_index.specs.declared.info.RangeRead.{RangeRead}
 use Rattle.sia_index.specs.declared.info.Reader.{Reader}
 use Rattle.sia_index.specs.Info.{IsRangeRead, IsReader}
 use Rattle.sia_parts.specs.declared.cutting.Part.{Part}
-use Rattle.sia_parts.specs.declared.gaps.Gap.{Gap}
-use Rattle.sia_parts.specs.declared.sights.Sight.{Sight}
-use Rattle.sia_parts.specs.declared.spans.Span.{Span}
+use Rattle.sia_parts.specs.declared.auditing.gaps.Gap.{Gap}
+use Rattle.sia_parts.specs.declared.auditing.sights.Sight.{Sight}
+use Rattle.sia_parts.specs.declared.auditing.spans.Span.{Span}
 use Rattle.sia_parts.specs.Sights.{Adds, JoinsTo, FromSome, FromSight, IsSight, IsRangeSight, IsListedSight, listed_sight, unlisted_sight}
 use Rattle.sia_parts.specs.Gaps.{Spreads, FromKeys, IsGapOf, IsUnlisted, IsUnlistedBy}
 use Rattle.sia_parts.proofs.Adding.{adds_nothing, adds_same, adds_both}

@@ -21,8 +21,8 @@ use Rattle.sia_parts.specs.declared.finding.BadWrite.{BadWrite}
 use Rattle.sia_parts.specs.declared.finding.Edge.{Edge}
 use Rattle.sia_parts.specs.declared.finding.Kind.{Kind}
 use Rattle.sia_parts.specs.declared.finding.Kind.TheVariants.{Ww, Wr, Rw}
-use Rattle.sia_parts.specs.declared.gaps.Gap.{Gap}
-use Rattle.sia_parts.specs.declared.spans.Span.{Span}
+use Rattle.sia_parts.specs.declared.auditing.gaps.Gap.{Gap}
+use Rattle.sia_parts.specs.declared.auditing.spans.Span.{Span}
 use Rattle.sia_parts.specs.Entries.{EdgeOfKind, IsEdge}
 use Rattle.sia_parts.specs.Parts.{IsInPart}
 use Rattle.sia_parts.specs.Sights.{Adds, FromSome, FromPair, FromMade, KeyPair, IsAsOf, Looked, Widens, IsWrEdge, IsRwEdge, PartPair, IsPairEdge, IsLateBad, IsPairBad, AscendsByCommit, AreSpans}

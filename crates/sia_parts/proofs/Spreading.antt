@@ -5,7 +5,7 @@ use Rattle.std.proofs.lemmas.List.{take_more, take_all}
 use Rattle.std.proofs.lemmas.List.Elements.{Contains-append_left, Contains-push, Contains-push_cases}
 use Rattle.sia_events.specs.declared.event.Event.{Event}
 use Rattle.sia_events.specs.Transactions.{Wrote}
-use Rattle.sia_parts.specs.declared.gaps.Gap.{Gap}
+use Rattle.sia_parts.specs.declared.auditing.gaps.Gap.{Gap}
 use Rattle.sia_parts.specs.Sights.{FromSome}
 use Rattle.sia_parts.specs.Gaps.{IsInGap, InSomeGap, Spreads}
 use Rattle.sia_parts.proofs.Adding.{FromFirst}

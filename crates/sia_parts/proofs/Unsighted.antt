@@ -12,8 +12,8 @@ use Rattle.sia_index.specs.declared.info.KeyVersion.{KeyVersion}
 use Rattle.sia_index.specs.declared.info.Reader.{Reader}
 use Rattle.sia_index.specs.Info.{IsReader, AreVersionsWithin}
 use Rattle.sia_parts.specs.declared.cutting.Part.{Part}
-use Rattle.sia_parts.specs.declared.gaps.Gap.{Gap}
-use Rattle.sia_parts.specs.declared.spans.Span.{Span}
+use Rattle.sia_parts.specs.declared.auditing.gaps.Gap.{Gap}
+use Rattle.sia_parts.specs.declared.auditing.spans.Span.{Span}
 use Rattle.sia_parts.specs.Gaps.{Spreads, InSomeGap, IsGapOf, IsBetween, IsUnlisted}
 use Rattle.sia_parts.specs.Parts.{IsInPart}
 use Rattle.sia_parts.specs.Sights.{Adds, JoinsTo, FromSome}

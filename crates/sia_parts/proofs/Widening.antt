@@ -4,7 +4,7 @@ use Rattle.std.specs.Prelude.{Contains}
 use Rattle.std.proofs.lemmas.Bool.{cases_eq}
 use Rattle.std.proofs.lemmas.List.{take_more, take_all, get_or-set_same, get_or-set_other, length-set, get_or_default}
 use Rattle.std.proofs.lemmas.List.Elements.{Contains-append_left, Contains-push, Contains-push_cases, Contains-get_or}
-use Rattle.sia_parts.specs.declared.spans.Span.{Span}
+use Rattle.sia_parts.specs.declared.auditing.spans.Span.{Span}
 use Rattle.sia_parts.specs.Sights.{FromSome, WidensAll, Widens, JoinsTo, IsJoined}
 use Rattle.sia_parts.proofs.Adding.{FromFirst}
 

@@ -2,11 +2,11 @@
 use Rattle.std.specs.Prelude.{◌≡◌, ◌≢◌, ℕ, ◌+◌, ◌*◌, ◌<◌, ◌≤◌, List, All, Contains, length, slice_index_or}
 use Rattle.sia_events.specs.declared.event.Event.{Event}
 use Rattle.sia_index.specs.Info.{IsKeyAt}
-use Rattle.sia_parts.specs.declared.ends.End.{End}
-use Rattle.sia_parts.specs.declared.ends.Ends.{Ends}
+use Rattle.sia_parts.specs.declared.edges.ends.End.{End}
+use Rattle.sia_parts.specs.declared.edges.ends.Ends.{Ends}
 use Rattle.sia_parts.specs.declared.finding.Kind.{Kind}
 use Rattle.sia_parts.specs.declared.finding.Kind.TheVariants.{Ww, Wr, Rw}
-use Rattle.sia_parts.specs.declared.spans.Span.{Span}
+use Rattle.sia_parts.specs.declared.auditing.spans.Span.{Span}
 use Rattle.sia_index.specs.declared.info.KeyVersion.{KeyVersion}
 use Rattle.sia_parts.specs.EdgeNumbers.{IsCommittedAt}
 use Rattle.sia_parts.specs.Packing.{AreDigits}

@@ -1,12 +1,12 @@
 -- Fans: edges of one kind from one transaction, as stretches of ends.
 use Rattle.std.specs.Prelude.{◌≡◌, ◌⊎◌, ◌↔◌, ℕ, ◌+◌, ◌≤◌, List, length, slice_range}
 use Rattle.sia_events.specs.declared.event.Event.{Event}
-use Rattle.sia_parts.specs.declared.ends.End.{End}
-use Rattle.sia_parts.specs.declared.ends.Ends.{Ends}
-use Rattle.sia_parts.specs.declared.fans.Fan.{Fan}
+use Rattle.sia_parts.specs.declared.edges.ends.End.{End}
+use Rattle.sia_parts.specs.declared.edges.ends.Ends.{Ends}
+use Rattle.sia_parts.specs.declared.edges.fans.Fan.{Fan}
 use Rattle.sia_parts.specs.declared.finding.Kind.{Kind}
 use Rattle.sia_parts.specs.declared.finding.Kind.TheVariants.{Ww, Wr, Rw}
-use Rattle.sia_parts.specs.declared.gaps.Gap.{Gap}
+use Rattle.sia_parts.specs.declared.auditing.gaps.Gap.{Gap}
 use Rattle.sia_parts.specs.EdgeNumbers.{IsCommittedAt}
 use Rattle.sia_parts.specs.Ends.{IsNumberTo, IsNumberWithin, end_rank, ends_for, rank_of}
 use Rattle.sia_parts.specs.Sights.{FromSome}

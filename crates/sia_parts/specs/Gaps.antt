@@ -10,7 +10,7 @@ use Rattle.sia_index.specs.declared.info.Reader.{Reader}
 use Rattle.sia_parts.specs.declared.cutting.Part.{Part}
 use Rattle.sia_parts.specs.declared.finding.Edge.{Edge}
 use Rattle.sia_parts.specs.declared.finding.Kind.TheVariants.{Rw}
-use Rattle.sia_parts.specs.declared.gaps.Gap.{Gap}
+use Rattle.sia_parts.specs.declared.auditing.gaps.Gap.{Gap}
 use Rattle.sia_parts.specs.Parts.{IsInPart}
 
 -- the transaction look.0 and the key look.1 lie in the gap

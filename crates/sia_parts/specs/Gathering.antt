@@ -1,11 +1,11 @@
--- What the parts found, where the edges of a part are still fans, and the numbers of all edges, made stretch by stretch.
+-- What the parts found, where the edges of a part are still fans, and the numbers of all edges, made chunk by chunk.
 use Rattle.std.specs.Prelude.{◌≡◌, ◌↔◌, ℕ, ◌-◌, ◌<◌, ◌≤◌, List, length, slice_index, AllPairs, Contains, ⊤}
 use Rattle.std.specs.List.Sorted.{IsNonDecreasingBy}
 use Rattle.sia_events.specs.declared.event.Event.{Event}
-use Rattle.sia_parts.specs.declared.fans.Fan.{Fan}
-use Rattle.sia_parts.specs.declared.gathering_numbers.Gathering.{Gathering}
-use Rattle.sia_parts.specs.declared.part_edges.PartEdges.{PartEdges}
-use Rattle.sia_parts.specs.declared.part_edges.PartFound.{PartFound}
+use Rattle.sia_parts.specs.declared.edges.fans.Fan.{Fan}
+use Rattle.sia_parts.specs.declared.gathering.gathering_numbers.Gathering.{Gathering}
+use Rattle.sia_parts.specs.declared.edges.part_edges.PartEdges.{PartEdges}
+use Rattle.sia_parts.specs.declared.edges.part_edges.PartFound.{PartFound}
 use Rattle.sia_parts.specs.EdgeNumbers.{StandForEdges}
 use Rattle.sia_parts.specs.Ends.{HaveDigits}
 use Rattle.sia_parts.specs.Fans.{IsFanNumber}
@@ -54,7 +54,7 @@ pub record AreNumbersBetween (parts : List PartEdges) (from to : ℕ) (numbers :
   pub each : (n : ℕ) → Contains numbers n ↔ (IsNumberOfSome parts n × (from ≤ source_number n) × (source_number n < to))
 
 -- places of sources, from the first to the end of so many
-pub record AreSeams (sources : ℕ) (places : List ℕ) : Type 0 where
+pub record AreChunkBounds (sources : ℕ) (places : List ℕ) : Type 0 where
   pub some : 0 < length places
   pub first : slice_index places 0 ≡ 0
   pub last : slice_index places (length places - 1) ≡ sources

@@ -7,20 +7,28 @@ ghost use Rattle.sia_parts.specs.Findings.{ArePartFindings, ListsBadReads, Lists
 ghost use Rattle.sia_parts.specs.Parts.{IsInPart};
 ghost use Rattle.sia_parts.specs.Sights.{AreSpans};
 
-use crate::committed::Committed;
+pub(crate) mod gaps;
+pub(crate) mod nearby;
+pub(crate) mod pairs;
+pub(crate) mod ranges;
+pub(crate) mod sights;
+pub(crate) mod spans;
+pub(crate) mod unseen;
+
+use crate::auditing::gaps::{Gap, joined_gaps};
+use crate::auditing::nearby::are_apart;
+use crate::auditing::pairs::put_bad_writes;
+use crate::auditing::ranges::{Scope, put_range_reads};
+use crate::auditing::sights::{is_committed, put_item_reads, wrote_before};
+use crate::auditing::spans::{Span, joined};
+use crate::auditing::unseen::first_commit;
 use crate::cutting::Part;
+use crate::edges::committed::Committed;
+use crate::edges::numbering::numbers_of;
+use crate::edges::numbers::edges_of_numbers;
 use crate::finding::{BadRead, BadWrite, Unexplained};
 use crate::findings::PartFindings;
-use crate::gaps::{Gap, joined_gaps};
-use crate::nearby::are_apart;
 use crate::numbered::find_in_part;
-use crate::numbering::numbers_of;
-use crate::numbers::edges_of_numbers;
-use crate::pairs::put_bad_writes;
-use crate::ranges::{Scope, put_range_reads};
-use crate::sights::{is_committed, put_item_reads, wrote_before};
-use crate::spans::{Span, joined};
-use crate::unseen::first_commit;
 use sia_events::{History, NoMemory};
 use sia_index::Index;
 use sia_index::ordering::put_in_order;

@@ -1,5 +1,5 @@
 use crate::finding::{BadRead, BadWrite, Edge, Unexplained};
-use crate::stretches::EdgeNumbers;
+use crate::gathering::chunks::EdgeNumbers;
 
 /// What was found at the keys of one part.
 #[derive(Debug, Drop)]

@@ -8,6 +8,10 @@ ghost use Rattle.sia_parts.specs.Parts.{IsCutting};
 ghost use Rattle.sia_parts.specs.Findings.{AreFindings, ArePartFindings};
 ghost use Rattle.sia_parts.specs.Sights.{Adds, FromSome};
 
+pub(crate) mod chunking;
+pub(crate) mod chunks;
+pub(crate) mod gathering_numbers;
+
 use crate::findings::{Findings, PartFindings};
 use sia_events::NoMemory;
 use sia_index::ordering::merge_in_order;

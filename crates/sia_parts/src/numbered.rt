@@ -7,10 +7,10 @@ ghost use Rattle.sia_parts.specs.Gathering.{IsPartFound};
 ghost use Rattle.sia_parts.specs.Parts.{IsInPart};
 
 use crate::auditing::{bad_writes_of, seen_of, unexplained_of};
-use crate::committed::Committed;
 use crate::cutting::Part;
+use crate::edges::committed::Committed;
 use crate::edges::edges_of;
-use crate::part_edges::PartFound;
+use crate::edges::part_edges::PartFound;
 use sia_events::{History, NoMemory};
 use sia_index::Index;
 use std::alloc::Global;

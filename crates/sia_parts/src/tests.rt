@@ -2,8 +2,8 @@
 ghost use Rattle.std.specs.Prelude.{◌≡◌, []};
 
 use super::*;
-use crate::ends::Ends;
-use crate::numbering::numbers_of;
+use crate::edges::ends::Ends;
+use crate::edges::numbering::numbers_of;
 use sia_events::{History, read_history};
 use sia_index::Index;
 use sia_index::make::index;
@@ -11,8 +11,8 @@ use sia_index::ordering::merge_in_order;
 use std::alloc::Global;
 use std::test::*;
 
+mod chunked;
 mod cuts;
-mod stretched;
 mod worked;
 
 fn part(lo: u64, hi: u64) -> Part {
@@ -107,7 +107,7 @@ fn none_found_in_two_parts(rt: HostRuntime) -> Result<(), Fail> {
     assert!(rt; found.bad_reads.is_empty());
     assert!(rt; found.bad_writes.is_empty());
     assert!(rt; found.unexplained.is_empty());
-    let numbers = found.stretch(rt.alloc(), 0, 1).ok().ok_or("no memory")?;
+    let numbers = found.chunk(rt.alloc(), 0, 1).ok().ok_or("no memory")?;
     assert!(rt; numbers.is_empty());
     Ok(())
 }

@@ -3,7 +3,7 @@
 // that nothing is counted before, and appended at once.
 ghost use Rattle.std.specs.Prelude.{◌≡◌, ◌+◌, ◌<◌, ◌≤◌, ◌∷◌, ◌++◌, [], length, drop, flat_map, map, codes, IfOk, OnOk, slice_index};
 ghost use Rattle.sia_events.specs.Text.{numeral};
-ghost use Rattle.sia_parts.specs.Stretches.{numbers_in};
+ghost use Rattle.sia_parts.specs.Chunks.{numbers_in};
 ghost use Rattle.sia_parts.specs.Packing.{key_number, source_number, target_number, unpacked};
 ghost use Rattle.si_audit.specs.Lines as lines;
 ghost use Rattle.si_audit.specs.Heads.{AreLongNumerals, AreNumerals, IsHead};

@@ -1,6 +1,6 @@
 // The lines of all edges, which workers make side by side, those of a batch of chunks on each sheet.
 ghost use Rattle.std.specs.Prelude.{◌≡◌, ◌<◌, ◌*◌, ◌≤◌, length, drop, take, IfOk};
-ghost use Rattle.sia_parts.specs.Stretches.{numbers_in};
+ghost use Rattle.sia_parts.specs.Chunks.{numbers_in};
 ghost use Rattle.si_audit.specs.Heads.{AreLongNumerals, AreNumerals};
 ghost use Rattle.si_audit.specs.Sheets.{batch, number_lines, text_of};
 
@@ -78,7 +78,7 @@ pub(crate) fn sheets_of_edges<R: Threads + Wait + Sync>(
 ) -> Result<Vec<Vec<u8>>, NoMemory>
     ensures { IfOk result (λ sheets. text_of sheets.items ≡ number_lines edges.now.txns.now edges.now.keys.now edges.now.numbers.now) }
 {
-    let chunks = edges.numbers.stretches();
+    let chunks = edges.numbers.chunks();
     let batches = Batches::of(chunks.len());
     let words = numerals_of(alloc, edges.txns, edges.keys, count_of(chunks))?;
     let job = Printing {

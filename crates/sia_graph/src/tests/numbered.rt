@@ -5,7 +5,7 @@ ghost use Rattle.sia_parts.specs.Packing.{IsPacked, unpacked};
 
 use super::{ascends, number};
 use crate::settling::Verdict;
-use crate::settling_numbers::settle_numbers;
+use crate::settling::settling_numbers::settle_numbers;
 use sia_events::{Key, NoMemory, TxnId};
 use sia_parts::{Edge, EdgeNumber, EdgeNumbers, edge_of, key_of, source_of, target_of};
 use std::alloc::Global;
@@ -86,13 +86,13 @@ fn keys_of(alloc: Global, edges: &[Edge]) -> Result<Vec<Key>, NoMemory> {
     Ok(keys)
 }
 
-/// The numbers in one stretch, or in none where there are none.
-pub(crate) fn in_one_stretch(alloc: Global, numbers: &[EdgeNumber]) -> Result<EdgeNumbers, NoMemory>
+/// The numbers in one chunk, or in none where there are none.
+pub(crate) fn in_one_chunk(alloc: Global, numbers: &[EdgeNumber]) -> Result<EdgeNumbers, NoMemory>
     requires { AllPairs (λ m n. m < n) numbers.now }
     ensures { IfOk result (λ all. all ≡ numbers.now) }
 {
-    let stretch = Vec::from_slice(alloc, numbers)?;
-    EdgeNumbers::of(alloc, stretch)
+    let chunk = Vec::from_slice(alloc, numbers)?;
+    EdgeNumbers::of(alloc, chunk)
 }
 
 /// The verdict of numbers.
@@ -108,7 +108,7 @@ fn settled(
     requires ascending { AllPairs (λ m n. m < n) numbers.now }
     requires parted { All (λ n. (unpacked ids.now keys.now n).src ≢ (unpacked ids.now keys.now n).dst) numbers.now }
 {
-    let all = in_one_stretch(alloc, numbers)?;
+    let all = in_one_chunk(alloc, numbers)?;
     settle_numbers(alloc, ids, keys, &all)
 }
 

@@ -7,14 +7,14 @@ ghost use Rattle.sia_parts.specs.EdgeNumbers.{AreEdgeNumbers};
 ghost use Rattle.sia_parts.specs.Findings.{ListsEdges};
 ghost use Rattle.sia_parts.specs.Packing.{IsPacked};
 
-use crate::firsts::commit_of;
-use crate::passing::passes;
 use crate::pivot::Pivot;
-use crate::pivoting_numbers::pivots_of_numbers;
+use crate::pivoting::firsts::commit_of;
+use crate::pivoting::passing::passes;
+use crate::pivoting::pivoting_numbers::pivots_of_numbers;
 use crate::settling::Verdict;
-use crate::settling_numbers::settle_numbers;
+use crate::settling::settling_numbers::settle_numbers;
 use crate::tests::ascends;
-use crate::tests::numbered::{all_part_ends, climbs, in_one_stretch};
+use crate::tests::numbered::{all_part_ends, climbs, in_one_chunk};
 use crate::tests::structures::{findings, shown};
 use sia_events::{Key, NoMemory, TxnId, read_history};
 use sia_index::{Index, make};
@@ -141,7 +141,7 @@ fn judged(alloc: Global, text: &[u8], numbers: &[EdgeNumber]) -> Result<Told, Fa
     if !stand_for(alloc, &txns, keys, numbers, f.edges.as_slice())? {
         return Err(Fail::from("the numbers of the edges"));
     }
-    let all = in_one_stretch(alloc, numbers)?;
+    let all = in_one_chunk(alloc, numbers)?;
     let pivots = pivots_of_numbers(alloc, &ix, &txns, &all)?;
     let passed = passes(&f.bad_reads, &f.bad_writes, &pivots);
     let verdict = settled(alloc, &txns, keys, numbers, &all)?;
@@ -163,7 +163,7 @@ const fn number(source: u8, target: u8, kind: u8, key: u8) -> EdgeNumber {
 #[test]
 fn pivots_by_numbers(rt: HostRuntime) -> Result<(), Fail> {
     let cases: [(&[u8], &[EdgeNumber], &str, bool, bool); 7] = [
-        // No edge, and so no stretch.
+        // No edge, and so no chunk.
         (b"w1[1] c1", &[], "", true, true),
         // Write skew: each has an edge to the other.
         (

@@ -2,8 +2,8 @@
 ghost use Rattle.std.specs.Prelude.{◌≡◌, IfOk};
 ghost use Rattle.sia_parts.specs.Findings.{AreFindings};
 
-use crate::passing::ssi_pass;
 use crate::pivot::Pivot;
+use crate::pivoting::passing::ssi_pass;
 use crate::pivoting::pivots;
 use sia_events::{History, Key, NoMemory, read_history};
 use sia_index::{Index, make};

@@ -1,6 +1,6 @@
 -- The numbers of the fans stand for the edges of the part.
 use Rattle.std.proofs.Common.{refl}
-use Rattle.sia_parts.specs.declared.ends.Ends.{Ends}
+use Rattle.sia_parts.specs.declared.edges.ends.Ends.{Ends}
 use Rattle.sia_parts.proofs.FoundEdges.{as_span, digits_of, numbers_stand}
 use Rattle.sia_parts.proofs.Giving.{found_by}
 use Rattle.sia_parts.proofs.edges.edges_of.Goals as goal

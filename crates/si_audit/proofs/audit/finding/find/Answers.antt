@@ -1,7 +1,7 @@
 use Rattle.std.proofs.Common.{ℕ, List, length, ap, sym, subst, rules}
 use Rattle.sia_index.specs.Info.{AreWrittenKeys}
 use Rattle.sia_parts.specs.declared.cutting.Part.{Part}
-use Rattle.sia_parts.specs.declared.part_edges.PartFound.{PartFound}
+use Rattle.sia_parts.specs.declared.edges.part_edges.PartFound.{PartFound}
 use Rattle.sia_parts.specs.EdgeNumbers.{IsFound}
 use Rattle.sia_parts.specs.Gathering.{IsPartFound}
 use Rattle.sia_parts.specs.Parts.{IsInPart}

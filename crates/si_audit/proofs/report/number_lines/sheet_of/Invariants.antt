@@ -1,5 +1,5 @@
 use Rattle.std.proofs.Common.{◌≡◌, take}
-use Rattle.sia_parts.specs.Stretches.{numbers_in}
+use Rattle.sia_parts.specs.Chunks.{numbers_in}
 use Rattle.si_audit.specs.Sheets.{number_lines}
 use Rattle.si_audit.proofs.report.number_lines.sheet_of.Given as goal
 

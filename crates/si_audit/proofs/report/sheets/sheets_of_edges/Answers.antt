@@ -7,5 +7,5 @@ use Rattle.si_audit.proofs.report.sheets.sheets_of_edges.Goals as goal
 pub returns-in-Ok : goal.returns-in-Ok
 returns-in-Ok g c =
     let edges = c.args.edges.now in
-    all_sheets edges.txns.now edges.keys.now c.stretches-chunks.result.now c.of-batches.result.size c.of-batches.result.count c.in-Ok.crew.outs.items c.in-Ok.ensures.len c.in-Ok.ensures.owed c.of-batches.ensures.whole
-    ∙ ap (number_lines edges.txns.now edges.keys.now) c.stretches-chunks.ensures.numbers
+    all_sheets edges.txns.now edges.keys.now c.chunks-chunks.result.now c.of-batches.result.size c.of-batches.result.count c.in-Ok.crew.outs.items c.in-Ok.ensures.len c.in-Ok.ensures.owed c.of-batches.ensures.whole
+    ∙ ap (number_lines edges.txns.now edges.keys.now) c.chunks-chunks.ensures.numbers

@@ -5,8 +5,8 @@ use Rattle.sia_parts.specs.declared.finding.Edge.{Edge}
 use Rattle.sia_parts.specs.Findings.{ListsEdges}
 use Rattle.sia_graph.proofs.tests.numbers.judged.Goals as goal
 
-pub in_one_stretch-requires : goal.in_one_stretch-requires
-in_one_stretch-requires c =
+pub in_one_chunk-requires : goal.in_one_chunk-requires
+in_one_chunk-requires c =
     let edges = subst (λ (l : List Edge). ListsEdges c.in_ok-ix.ix (λ _. ⊤) l) (sym c.as_slice.ensures.value) c.in_ok-f.ensures.edges in
     (c.in_ok-stand_for.ensures c.if-not-branch.false c.in_ok-ix.ix edges).ascending
 

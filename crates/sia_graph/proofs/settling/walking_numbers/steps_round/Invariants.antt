@@ -1,0 +1,10 @@
+use Rattle.std.proofs.Common.{◌-◌, length}
+use Rattle.sia_graph.proofs.Rounds.{IsPartOfRound}
+use Rattle.sia_graph.specs.Places.{edges_at}
+use Rattle.sia_graph.proofs.settling.walking_numbers.steps_round.Given as goal
+
+abbrev pub invariant-walk : goal.invariant-walk
+invariant-walk l = IsPartOfRound l.edges.ids.now (edges_at l.edges.ids.now l.edges.keys.now l.edges.numbers.now) l.previous l.home l.period l.steps.items l.at
+
+abbrev pub decreases-walk : goal.decreases-walk
+decreases-walk l = l.period - length l.steps.items

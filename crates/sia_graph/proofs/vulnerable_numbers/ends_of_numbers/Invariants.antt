@@ -1,9 +1,0 @@
-use Rattle.std.proofs.Common.{ℕ, List, map, take}
-use Rattle.sia_events.specs.Transactions.{Overlap}
-use Rattle.sia_parts.specs.Packing.{unpacked}
-use Rattle.sia_parts.specs.Stretches.{numbers_in}
-use Rattle.sia_graph.specs.Links.{AreEnds}
-use Rattle.sia_graph.proofs.vulnerable_numbers.ends_of_numbers.Given as goal
-
-abbrev pub invariant-loop-stretch : goal.invariant-loop-stretch
-invariant-loop-stretch l = (keys : List ℕ) → AreEnds (Overlap l.ix) (map (unpacked l.txns keys) (numbers_in (take l.stretch-index l.stretches))) l.links.items

@@ -1,0 +1,57 @@
+//! When transactions start and commit, in a list where the place of a transaction is enough to look it up.
+ghost use Rattle.std.specs.Prelude.{◌↔◌, ◌<◌, All, IfOk, IsTrue, MatchOption};
+ghost use Rattle.sia_events.specs.Transactions.{IsCommitted};
+ghost use Rattle.sia_graph.specs.Lifetimes.{AreLifetimes, IsLifetime};
+
+use sia_events::TxnId;
+use sia_index::{Fate, Index};
+use std::alloc::{AllocError, Global};
+
+/// When a committed transaction starts, and when it commits.
+#[derive(Clone, Copy, Debug, PartialEq, Eq)]
+pub struct Lifetime {
+    pub start: u32,
+    pub commit: u32,
+}
+
+fn lifetime_of(ix: &Index, txn: TxnId) -> Option<Lifetime>
+    ensures { MatchOption result (¬ IsCommitted ix.now txn) (IsLifetime ix.now txn) }
+{
+    ix.law();
+    let info = ix.txn(txn)?;
+    let commit = match info.fate {
+        Fate::Committed => info.ended?,
+        Fate::Aborted => return None,
+        Fate::Unfinished => return None,
+    };
+    Some(Lifetime {
+        start: info.start,
+        commit,
+    })
+}
+
+/// The lifetime of each of these transactions, at its place.
+pub(crate) fn lifetimes_of(
+    alloc: Global,
+    ix: &Index,
+    txns: &[TxnId],
+) -> Result<Vec<Lifetime>, AllocError>
+    requires { All (IsCommitted ix.now) txns.now }
+    ensures { IfOk result (λ lifetimes. AreLifetimes ix.now txns.now lifetimes.items) }
+{
+    let mut lifetimes = Vec::with_capacity(alloc, txns.len())?;
+    for txn in txns {
+        if let Some(lifetime) = lifetime_of(ix, *txn) {
+            lifetimes.push(lifetime)?;
+        }
+    }
+    Ok(lifetimes)
+}
+
+/// Whether each of the two transactions started before the other committed.
+#[inline(always)]
+pub(crate) fn overlap(first: Lifetime, second: Lifetime) -> bool
+    ensures { IsTrue result ↔ ((first.start < second.commit) × (second.start < first.commit)) }
+{
+    first.start < second.commit && second.start < first.commit
+}

@@ -1,0 +1,205 @@
+//! What range reads saw of the keys of a part: the keys that they listed, and the keys between these.
+ghost use Rattle.std.specs.Prelude.{◌≡◌, ◌↔◌, ◌≤◌, ℕ, All, Contains, List, false, IfOk, IsTrue, OnOk, map};
+ghost use Rattle.std.specs.List.Sorted.{IsStrictlyIncreasing};
+ghost use Rattle.sia_events.specs.declared.event.Event.TheVariants as events;
+ghost use Rattle.sia_events.specs.Places.{at_place};
+ghost use Rattle.sia_events.specs.Refusals.{IsWellFormed};
+ghost use Rattle.sia_events.specs.Transactions.{WroteBefore};
+ghost use Rattle.sia_index.specs.declared.info.RangeRead.{RangeRead};
+ghost use Rattle.sia_index.specs.Info.{IsRangeRead, IsReader};
+ghost use Rattle.sia_parts.specs.Sights.{Adds, JoinsTo, FromSome, FromSight, IsSight, IsRangeSight, IsListedSight, IsBadOf, IsSpanOf, listed_sight, AscendsByKey};
+ghost use Rattle.sia_parts.specs.Gaps.{Spreads, IsUnlistedBy};
+ghost use Rattle.sia_parts.specs.Unseen.{CommitsFrom, IsLastReader};
+
+use crate::auditing::gaps::{Gap, put_unlisted};
+use crate::auditing::nearby::{Near, are_in_turn, first_near, next_near, still_ascend};
+use crate::auditing::sights::{Reading, Sight, put_sight};
+use crate::auditing::spans::Span;
+use crate::auditing::unseen::{put_unseen, reader_after, sees_none};
+use crate::cutting::Part;
+use crate::finding::BadRead;
+use sia_events::{Event, History, Key, NoMemory, Version};
+use sia_index::{Index, RangeRead, Reader};
+use std::alloc::Global;
+
+/// Where range reads are looked at: in a history and its index, at the keys of a part, of which no version was committed before
+/// the place `first`.
+#[derive(Clone, Copy)]
+pub(crate) struct Scope<'a> {
+    pub(crate) h: &'a History,
+    pub(crate) ix: &'a Index,
+    pub(crate) part: Part,
+    pub(crate) first: u32,
+}
+
+/// Adds the bad reads, the spans and the gaps of range reads. Says whether the spans, of which there were none before, ascend by
+/// transaction and key.
+pub(crate) fn put_range_reads(
+    alloc: Global,
+    scope: &Scope,
+    ranges: &[RangeRead],
+    bad: &mut Vec<BadRead>,
+    spans: &mut Vec<Span>,
+    gaps: &mut Vec<Gap>,
+) -> Result<bool, NoMemory>
+    requires of { scope.now.ix.now ≡ scope.now.h.now }
+    requires first { CommitsFrom scope.now.ix.now scope.now.part scope.now.first }
+    requires ranges { All (IsRangeRead scope.now.ix.now) ranges.now }
+    ensures bad { OnOk result (Adds (FromSome (λ range. FromSight (IsRangeSight scope.now.ix.now scope.now.part range) (IsBadOf scope.now.ix.now)) ranges.now) bad.old.items bad.new.items) }
+    ensures spans { OnOk result (JoinsTo (FromSome (λ range. FromSight (IsListedSight scope.now.ix.now scope.now.part range) (IsSpanOf scope.now.ix.now)) ranges.now) spans.old.items spans.new.items) }
+    ensures gaps { OnOk result (Spreads scope.now.ix.now (FromSome (IsUnlistedBy scope.now.ix.now scope.now.part) ranges.now) gaps.old.items gaps.new.items) }
+{
+    if are_in_turn(ranges) {
+        return put_in_turn(scope, ranges, bad, spans, gaps);
+    }
+    let turns = by_txn(alloc, ranges)?;
+    let ascend = put_in_turn(scope, &turns, bad, spans, gaps)?;
+    Ok(ascend)
+}
+
+// The range reads by transaction and first key: so those of one transaction, which lie close together in the history, come
+// one after another, and what they saw comes almost in order.
+fn by_txn(alloc: Global, ranges: &[RangeRead]) -> Result<Vec<RangeRead>, NoMemory>
+    ensures { IfOk result (λ turns. (x : RangeRead) → Contains turns.items x ↔ Contains ranges.now x) }
+{
+    let mut turns = ranges.to_vec(alloc)?;
+    turns.sort_unstable_by_key(|range| (range.txn, range.lo));
+    Ok(turns)
+}
+
+// Adds the bad reads, the spans and the gaps of range reads, one after another. Says whether the spans ascend.
+fn put_in_turn(
+    scope: &Scope,
+    ranges: &[RangeRead],
+    bad: &mut Vec<BadRead>,
+    spans: &mut Vec<Span>,
+    gaps: &mut Vec<Gap>,
+) -> Result<bool, NoMemory>
+    requires of { scope.now.ix.now ≡ scope.now.h.now }
+    requires first { CommitsFrom scope.now.ix.now scope.now.part scope.now.first }
+    requires ranges { All (IsRangeRead scope.now.ix.now) ranges.now }
+    ensures bad { OnOk result (Adds (FromSome (λ range. FromSight (IsRangeSight scope.now.ix.now scope.now.part range) (IsBadOf scope.now.ix.now)) ranges.now) bad.old.items bad.new.items) }
+    ensures spans { OnOk result (JoinsTo (FromSome (λ range. FromSight (IsListedSight scope.now.ix.now scope.now.part range) (IsSpanOf scope.now.ix.now)) ranges.now) spans.old.items spans.new.items) }
+    ensures gaps { OnOk result (Spreads scope.now.ix.now (FromSome (IsUnlistedBy scope.now.ix.now scope.now.part) ranges.now) gaps.old.items gaps.new.items) }
+{
+    let mut ascend = true;
+    let mut last = None;
+    for range in ranges {
+        let end = spans.len();
+        last = put_range_read(scope, last, *range, bad, spans, gaps)?;
+        ascend = still_ascend(ascend, spans, end);
+    }
+    Ok(ascend)
+}
+
+// Adds the bad reads, the spans and the gaps of a range read, at the keys of the part. Passes on who read last.
+fn put_range_read(
+    scope: &Scope,
+    last: Option<Reader>,
+    range: RangeRead,
+    bad: &mut Vec<BadRead>,
+    spans: &mut Vec<Span>,
+    gaps: &mut Vec<Gap>,
+) -> Result<Option<Reader>, NoMemory>
+    requires of { scope.now.ix.now ≡ scope.now.h.now }
+    requires first { CommitsFrom scope.now.ix.now scope.now.part scope.now.first }
+    requires last { IsLastReader scope.now.ix.now last }
+    requires range { IsRangeRead scope.now.ix.now range }
+    ensures last { IfOk result (λ next. IsLastReader scope.now.ix.now next) }
+    ensures bad { OnOk result (Adds (FromSight (IsRangeSight scope.now.ix.now scope.now.part range) (IsBadOf scope.now.ix.now)) bad.old.items bad.new.items) }
+    ensures spans { OnOk result (JoinsTo (FromSight (IsListedSight scope.now.ix.now scope.now.part range) (IsSpanOf scope.now.ix.now)) spans.old.items spans.new.items) }
+    ensures gaps { OnOk result (Spreads scope.now.ix.now (IsUnlistedBy scope.now.ix.now scope.now.part range) gaps.old.items gaps.new.items) }
+{
+    let ix = scope.ix;
+    ix.law();
+    let lo = scope.part.lo.max(range.lo);
+    let hi = scope.part.hi.min(range.hi);
+    if lo > hi {
+        return Ok(last);
+    }
+    let listed = listed_within(listed_at(scope.h, range.place), lo, hi);
+    let reader = reader_after(ix, last, range.txn, range.place);
+    let own = ix.may_own(reader, lo, hi);
+    if listed.is_empty() {
+        if sees_none(reader, own, scope.first) {
+            put_unseen(ix, reader, lo, hi, gaps)?;
+            return Ok(Some(reader));
+        }
+    }
+    let reading = Reading { ix, reader, own };
+    put_listed_keys(&reading, range, listed, bad, spans)?;
+    put_unlisted(&reading, listed, lo, hi, bad, gaps)?;
+    Ok(Some(reader))
+}
+
+// Adds the bad reads and the spans of keys that a range read listed.
+fn put_listed_keys(
+    reading: &Reading,
+    range: RangeRead,
+    listed: &[(Key, Version)],
+    bad: &mut Vec<BadRead>,
+    spans: &mut Vec<Span>,
+) -> Result<(), NoMemory>
+    requires well_formed { IsWellFormed reading.now.ix.now }
+    requires reader { IsReader reading.now.ix.now range.txn range.place reading.now.reader }
+    requires sights { All (λ pair. IsSight reading.now.ix.now (listed_sight range pair)) listed.now }
+    requires own { reading.now.own ≡ false → All (λ pair. ¬ WroteBefore reading.now.ix.now range.txn pair.0 range.place) listed.now }
+    ensures bad { OnOk result (Adds (FromSome (λ pair. IsBadOf reading.now.ix.now (listed_sight range pair)) listed.now) bad.old.items bad.new.items) }
+    ensures spans { OnOk result (JoinsTo (FromSome (λ pair. IsSpanOf reading.now.ix.now (listed_sight range pair)) listed.now) spans.old.items spans.new.items) }
+{
+    let mut number = 0;
+    let mut place = first_near(spans, range.txn, range.lo);
+    let end = spans.len();
+    for pair in listed {
+        number = reading.ix.number_near(pair.0, number);
+        place = next_near(spans, place, end, pair.0);
+        let sight = Sight {
+            place: range.place,
+            txn: range.txn,
+            key: pair.0,
+            saw: pair.1,
+        };
+        let near = Near { number, place };
+        put_sight(reading, sight, near, bad, spans)?;
+        number = number.saturating_add(1);
+    }
+    Ok(())
+}
+
+// The keys that the range read at the place listed.
+fn listed_at(h: &History, place: u32) -> &[(Key, Version)]
+    ensures { (t lo hi : ℕ) (listed : List (ℕ × ℕ)) → at_place h.now place ≡ Some (events.Range t lo hi listed) → result.now ≡ listed }
+{
+    match h.event(place) {
+        Some(event) => match event {
+            Event::Range { listed, .. } => listed.as_slice(),
+            _ => &[],
+        },
+        None => &[],
+    }
+}
+
+// Of listed keys those from `lo` to `hi`.
+fn listed_within(listed: &[(Key, Version)], lo: Key, hi: Key) -> &[(Key, Version)]
+    requires { IsStrictlyIncreasing (map (λ p. p.0) listed.now) }
+    ensures ascending { AscendsByKey result.now }
+    ensures each { (p : ℕ × ℕ) → Contains result.now p ↔ (Contains listed.now p × (lo ≤ p.0) × (p.0 ≤ hi)) }
+{
+    if are_within(listed, lo, hi) {
+        return listed;
+    }
+    let from = listed.partition_point(|pair| pair.0 < lo);
+    let to = listed.partition_point(|pair| pair.0 <= hi);
+    &listed[from..to.max(from)]
+}
+
+// Whether the first and the last of the listed keys show that all are from `lo` to `hi`.
+fn are_within(listed: &[(Key, Version)], lo: Key, hi: Key) -> bool
+    requires { AscendsByKey listed.now }
+    ensures { IsTrue result → All (λ p. (lo ≤ p.0) × (p.0 ≤ hi)) listed.now }
+{
+    if listed.is_empty() {
+        return true;
+    }
+    lo <= listed[0].0 && listed[listed.len() - 1].0 <= hi
+}

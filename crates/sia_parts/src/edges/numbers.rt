@@ -1,0 +1,67 @@
+//! Edges as single numbers. A number holds the places of an edge's transactions among the committed ones, its kind, and the
+//! place of its key among the written ones, so it takes a third of an edge's memory, and what is looked up by a transaction or
+//! a key is found without a search.
+ghost use Rattle.std.specs.Prelude.{◌≡◌, map, IfOk};
+ghost use Rattle.sia_parts.specs.Packing.{unpacked, source_number, target_number, kind_digit, kind_at, key_number};
+
+use crate::edges::packing::{BASE, kind_of, put_unpacked, unpack};
+use crate::finding::{Edge, Kind};
+use sia_events::{Key, NoMemory, TxnId};
+use std::alloc::Global;
+
+/// An edge as a number: of two of them the lesser is that of the edge that is listed first.
+pub type EdgeNumber = u64;
+
+/// The place of the edge's source among the transactions.
+#[inline(always)]
+pub fn source_of(n: EdgeNumber) -> usize
+    ensures { result ≡ source_number n }
+{
+    (n / BASE / 4 / BASE) as usize
+}
+
+/// The place of the edge's target among the transactions.
+#[inline(always)]
+pub fn target_of(n: EdgeNumber) -> usize
+    ensures { result ≡ target_number n }
+{
+    (n / BASE / 4 % BASE) as usize
+}
+
+/// The edge's kind.
+#[inline(always)]
+pub fn kind_in(n: EdgeNumber) -> Kind
+    ensures { result ≡ kind_at (kind_digit n) }
+{
+    kind_of(n / BASE % 4)
+}
+
+/// The place of the edge's key among the written keys.
+#[inline(always)]
+pub fn key_of(n: EdgeNumber) -> usize
+    ensures { result ≡ key_number n }
+{
+    (n % BASE) as usize
+}
+
+/// The edge that the number stands for, of these transactions and keys.
+#[inline(always)]
+pub fn edge_of(txns: &[TxnId], keys: &[Key], n: EdgeNumber) -> Edge
+    ensures { result ≡ unpacked txns.now keys.now n }
+{
+    unpack(txns, keys, n)
+}
+
+/// The edges that the numbers stand for, in the same order.
+pub fn edges_of_numbers(
+    alloc: Global,
+    txns: &[TxnId],
+    keys: &[Key],
+    numbers: &[EdgeNumber],
+) -> Result<Vec<Edge>, NoMemory>
+    ensures { IfOk result (λ edges. edges.items ≡ map (unpacked txns.now keys.now) numbers.now) }
+{
+    let mut edges = Vec::new(alloc);
+    put_unpacked(txns, keys, numbers, &mut edges)?;
+    Ok(edges)
+}
