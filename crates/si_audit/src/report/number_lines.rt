@@ -1,9 +1,8 @@
 // The lines of edges that are numbers, of which a report can have millions. Some lines at a time are put together in a block, from
 // its end to its start, so that nothing is counted before, and appended at once.
-ghost use Rattle.std.specs.Prelude.{◌≡◌, ◌+◌, ◌<◌, ◌≤◌, ◌∷◌, ◌++◌, [], length, drop, flat_map, map, IfOk, OnOk};
+ghost use Rattle.std.specs.Prelude.{◌≡◌, ◌+◌, ◌<◌, ◌≤◌, ◌∷◌, ◌++◌, [], length, drop, IfOk, OnOk};
 ghost use Rattle.sia_events.specs.Text.{numeral};
 ghost use Rattle.sia_parts.specs.Stretches.{numbers_in};
-ghost use Rattle.sia_parts.specs.Packing.{unpacked};
 ghost use Rattle.si_audit.specs.Lines as lines;
 ghost use Rattle.si_audit.specs.Sheets.{number_lines};
 
@@ -75,12 +74,7 @@ fn put_line(block: &mut [u8; ROOM], e: &Edge, end: usize) -> usize
 
 /// Puts the lines of the edges of some numbers at the end of the block. Answers where they start.
 #[inline]
-fn put_lines(
-    block: &mut [u8; ROOM],
-    txns: &[TxnId],
-    keys: &[Key],
-    numbers: &[EdgeNumber],
-) -> usize
+fn put_lines(block: &mut [u8; ROOM], txns: &[TxnId], keys: &[Key], numbers: &[EdgeNumber]) -> usize
     requires { length numbers.now ≤ 64 }
     ensures room { result ≤ 4608 }
     ensures bytes { drop result block.new ≡ number_lines txns.now keys.now numbers.now }
