@@ -12,5 +12,4 @@ pub mod Spaced
 pub mod Answering
 pub mod LineAnswers
 pub mod Judgements
-pub mod Heads
 pub mod Sheets

@@ -2,7 +2,6 @@
 pub(crate) mod lines;
 pub(crate) mod longer_lines;
 pub(crate) mod number_lines;
-pub(crate) mod numerals;
 pub(crate) mod reporting;
 pub(crate) mod sheets;
 pub(crate) mod words;

@@ -1,7 +1,6 @@
 // The lines of all edges, which workers make side by side, those of a batch of chunks on each sheet.
 ghost use Rattle.std.specs.Prelude.{◌≡◌, ◌<◌, ◌*◌, ◌≤◌, length, drop, take, IfOk};
 ghost use Rattle.sia_parts.specs.Chunks.{numbers_in};
-ghost use Rattle.si_audit.specs.Heads.{AreLongNumerals, AreNumerals};
 ghost use Rattle.si_audit.specs.Sheets.{batch, number_lines, text_of};
 
 use crate::audit::batches::Batches;
@@ -9,7 +8,6 @@ use crate::audit::finding::crew_of;
 use crate::audit::judgement::AllEdges;
 use crate::cli::options::Options;
 use crate::report::number_lines::sheet_of;
-use crate::report::numerals::{Numerals, numerals_of};
 use sia_events::{Key, NoMemory, TxnId};
 use sia_parts::EdgeNumber;
 use sia_pool::{Job, OpenGate, work_off};
@@ -24,7 +22,6 @@ struct Printing<'a> {
     txns: &'a [TxnId],
     keys: &'a [Key],
     chunks: &'a [Vec<EdgeNumber>],
-    words: &'a Numerals,
     /// How many chunks a batch has.
     size: usize,
 }
@@ -32,8 +29,7 @@ struct Printing<'a> {
 impl Job for Printing<'_> {
     type Out = Vec<u8>;
 
-    ghost takes = { λ job part. AreNumerals job.txns.now job.words.now.txns.items × AreLongNumerals job.keys.now job.words.now.keys.items
-        × (part * job.size ≤ length job.chunks.now) };
+    ghost takes = { λ job part. part * job.size ≤ length job.chunks.now };
 
     ghost owes = { λ job part sheet. sheet.items ≡ number_lines job.txns.now job.keys.now (numbers_in (batch job.size part job.chunks.now)) };
 
@@ -48,14 +44,12 @@ impl Job for Printing<'_> {
 impl Printing<'_> {
     /// The lines of the batch that starts at this chunk.
     fn sheet(&self, start: usize) -> Result<Vec<u8>, NoMemory>
-        requires of_txns { AreNumerals self.now.txns.now self.now.words.now.txns.items }
-        requires of_keys { AreLongNumerals self.now.keys.now self.now.words.now.keys.items }
-        requires within { start ≤ length self.now.chunks.now }
+        requires { start ≤ length self.now.chunks.now }
         ensures { IfOk result (λ sheet. sheet.items ≡ number_lines self.now.txns.now self.now.keys.now (numbers_in (take self.now.size (drop start self.now.chunks.now)))) }
     {
         let rest = &self.chunks[start..];
         let batch = &rest[..self.size.min(rest.len())];
-        let sheet = sheet_of(self.alloc, self.words, self.txns, self.keys, batch)?;
+        let sheet = sheet_of(self.alloc, self.txns, self.keys, batch)?;
         Ok(sheet)
     }
 }
@@ -80,13 +74,11 @@ pub(crate) fn sheets_of_edges<R: Threads + Wait + Sync>(
 {
     let chunks = edges.numbers.chunks();
     let batches = Batches::of(chunks.len());
-    let words = numerals_of(alloc, edges.txns, edges.keys, count_of(chunks))?;
     let job = Printing {
         alloc,
         txns: edges.txns,
         keys: edges.keys,
         chunks,
-        words: &words,
         size: batches.size,
     };
     match work_off(

@@ -15,16 +15,14 @@ loop-rest-preserved c =
     ap (λ (es : List ℕ). front ++ flat_map edge_line (map f es)) (take_rest rest 64)
     ∙ sym (flat_map-append edge_line (map f (take 64 rest)) (map f (drop 64 rest)))
     ∙ ap (flat_map edge_line) (sym (map-append f (take 64 rest) (drop 64 rest)))
-    ∙ ap (λ (es : List ℕ). flat_map edge_line (map f es)) (take-append-drop 64 rest) in (
-      c.in_ok-push_block.ensures.head,
-      ap (λ bs. bs ++ flat_map edge_line (map f (take (length rest - 64) (drop 64 rest)))) c.in_ok-push_block.ensures.pushed
-          ∙ append_assoc c.loop-rest.out.items front (flat_map edge_line (map f (take (length rest - 64) (drop 64 rest))))
-          ∙ ap (λ bs. c.loop-rest.out.items ++ bs) both
-          ∙ c.loop-rest.invariant.1,
-    )
+    ∙ ap (λ (es : List ℕ). flat_map edge_line (map f es)) (take-append-drop 64 rest) in
+    ap (λ bs. bs ++ flat_map edge_line (map f (take (length rest - 64) (drop 64 rest)))) c.in_ok-push_block.ensures
+    ∙ append_assoc c.loop-rest.out.items front (flat_map edge_line (map f (take (length rest - 64) (drop 64 rest))))
+    ∙ ap (λ bs. c.loop-rest.out.items ++ bs) both
+    ∙ c.loop-rest.invariant
 
 pub slice_bounds-push_block-end : goal.slice_bounds-push_block-end
 slice_bounds-push_block-end c = let some : 64 ≤ length c.loop-rest.rest.now = omega arith in search rules
 
-pub push_block-requires-clause-few : goal.push_block-requires-clause-few
-push_block-requires-clause-few c = let some : 64 ≤ length c.loop-rest.rest.now = omega arith in let e = length-take-le 64 c.loop-rest.rest.now some in omega arith
+pub push_block-requires : goal.push_block-requires
+push_block-requires c = let some : 64 ≤ length c.loop-rest.rest.now = omega arith in let e = length-take-le 64 c.loop-rest.rest.now some in omega arith
