@@ -32,7 +32,7 @@ fn found_in_part(
 {
     match find_in_part(alloc, h, ix, committed, part) {
         Ok(found) => Ok(found),
-        Err(_) => Err(Fail::from("memory for a part")),
+        Err(fault) => Err(Fail::from(fault)),
     }
 }
 
@@ -71,13 +71,11 @@ fn gathering_of(
     // The keys tell that they can be listed.
     ix.law();
     let _ = ix.written_keys();
-    let Ok(parts) = cut(alloc, points) else {
-        return Err(Fail::from("the points cut"));
-    };
+    let parts = cut(alloc, points)?;
     let all = found_in_parts(alloc, h, ix, committed, &parts)?;
     match Gathering::of(alloc, all) {
         Ok(gathering) => Ok(gathering),
-        Err(_) => Err(Fail::from("memory for all parts")),
+        Err(fault) => Err(Fail::from(fault)),
     }
 }
 
@@ -87,7 +85,7 @@ fn seams_of(alloc: Global, gathering: &Gathering, txns: usize, size: usize) -> R
 {
     match Seams::of(alloc, gathering, txns, size) {
         Ok(seams) => Ok(seams),
-        Err(_) => Err(Fail::from("memory for seams")),
+        Err(fault) => Err(Fail::from(fault)),
     }
 }
 
@@ -103,7 +101,7 @@ fn stretch_of(
 {
     match gathering.stretch(alloc, from, to) {
         Ok(numbers) => Ok(numbers),
-        Err(_) => Err(Fail::from("memory for a stretch")),
+        Err(fault) => Err(Fail::from(fault)),
     }
 }
 
@@ -152,16 +150,12 @@ fn edges_of_stretches(
     requires { ix.now ≡ h.now }
 {
     ix.law();
-    let Ok(committed) = Committed::of(alloc, ix) else {
-        return Err(Fail::from("memory for the list"));
-    };
+    let committed = Committed::of(alloc, ix)?;
     let gathering = gathering_of(alloc, h, ix, &committed, points)?;
     let numbers = numbers_of_stretches(alloc, gathering, committed.ids().len(), size)?;
     let mut stretches = Vec::new(alloc);
     for stretch in numbers.stretches() {
-        let edges = edges_of_numbers(alloc, committed.ids(), ix.written_keys(), stretch)
-            .ok()
-            .ok_or("memory for edges")?;
+        let edges = edges_of_numbers(alloc, committed.ids(), ix.written_keys(), stretch)?;
         stretches.push(edges)?;
     }
     Ok(stretches)
@@ -174,10 +168,8 @@ fn stretched(
     points: &[Key],
     size: usize,
 ) -> Result<Vec<Vec<Edge>>, Fail> {
-    let history = read_history(alloc, text)
-        .ok()
-        .ok_or("the text is a history")?;
-    let index = index(alloc, &history).ok().ok_or("memory for an index")?;
+    let history = read_history(alloc, text)?;
+    let index = index(alloc, &history)?;
     let stretches = edges_of_stretches(alloc, &history, &index, points, size)?;
     Ok(stretches)
 }
