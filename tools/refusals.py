@@ -19,6 +19,7 @@ import subprocess
 import sys
 import tempfile
 from collections.abc import Container, Iterator, Sequence
+from typing import IO
 
 HERE = os.path.dirname(os.path.abspath(__file__))
 EXAMPLES = f"{HERE}/../examples"
@@ -46,33 +47,37 @@ def cases(room: str) -> Iterator[tuple[str, list[str]]]:
         yield path, BUSY_LINE
 
 
+def lacking(room: str) -> str:
+    """Makes refuse.so in the room, and returns what is missing here, or an empty text."""
+    cc = shutil.which(os.environ.get("CC", "cc"))
+    words = ["-shared", "-fPIC", "-O1", "-o", f"{room}/refuse.so", f"{HERE}/refuse.c", "-ldl"]
+    if not cc or subprocess.run([cc, *words], stderr=subprocess.DEVNULL).returncode:
+        return "no C compiler makes refuse.c here"
+    _, refusals = refused([sys.executable, "-c", ""], room, "REFUSE_MEMORY", 1)
+    return "" if refusals else "refuse.c is not loaded before a program here"
+
+
+def refused(
+    words: Sequence[str], room: str, what: str = "", number: int = 0, given: int | IO[bytes] = subprocess.DEVNULL
+) -> tuple[Ended, int]:
+    """Returns how a program ended and what it wrote, and how many calls it was refused."""
+    with tempfile.TemporaryFile(dir=room) as told:
+        fd = told.fileno()
+        names = {"LD_PRELOAD": f"{room}/refuse.so", "REFUSALS": str(fd), what: str(number)} if what else {}
+        ran = subprocess.run(
+            words, env={**os.environ, **names}, stdin=given, capture_output=True, timeout=60, pass_fds=[fd]
+        )
+        return (ran.returncode, ran.stdout, ran.stderr), os.fstat(fd).st_size
+
+
 class Refuser:
     def __init__(self, program: str, room: str) -> None:
         self.program, self.room = program, room
 
-    def lacks(self) -> str:
-        """Returns what is missing here, or an empty text."""
-        cc = shutil.which(os.environ.get("CC", "cc"))
-        words = ["-shared", "-fPIC", "-O1", "-o", f"{self.room}/refuse.so", f"{HERE}/refuse.c", "-ldl"]
-        if not cc or subprocess.run([cc, *words], stderr=subprocess.DEVNULL).returncode:
-            return "no C compiler makes refuse.c here"
-        _, refused = self.run(f"{EXAMPLES}/clean.history", [], "REFUSE_MEMORY", 1)
-        return "" if refused else "refuse.c is not loaded before the program here"
-
     def run(self, history: str, line: Sequence[str], what: str = "", number: int = 0) -> tuple[Ended, int]:
-        """Returns how the program ended and what it wrote, and how many calls it was refused."""
-        with open(history, "rb") as given, open(f"{self.room}/refusals", "w+b") as told:
-            fd = told.fileno()
-            names = {"LD_PRELOAD": f"{self.room}/refuse.so", "REFUSALS": str(fd), what: str(number)} if what else {}
-            ran = subprocess.run(
-                [self.program, *line],
-                env={**os.environ, **names},
-                stdin=given,
-                capture_output=True,
-                timeout=60,
-                pass_fds=[fd],
-            )
-            return (ran.returncode, ran.stdout, ran.stderr), os.fstat(fd).st_size
+        """Returns how the program ended on a history, and how many calls it was refused."""
+        with open(history, "rb") as given:
+            return refused([self.program, *line], self.room, what, number, given)
 
     def counts(self, history: str, line: Sequence[str], what: str, allowed: Container[Ended]) -> tuple[int, list[int]]:
         """Returns how many calls were refused, and the numbers of those whose refusal went wrong."""
@@ -94,11 +99,11 @@ def main(words: Sequence[str]) -> int:
         return 2
     tried, failed = {what: 0 for what in ALLOWED}, 0
     with tempfile.TemporaryDirectory() as room:
-        refuser = Refuser(os.path.abspath(words[0]), room)
-        lacking = refuser.lacks()
-        if lacking:
-            print(f"left out: {lacking}")
+        lacks = lacking(room)
+        if lacks:
+            print(f"left out: {lacks}")
             return 0
+        refuser = Refuser(os.path.abspath(words[0]), room)
         for history, line in cases(room):
             for what, allowed in ALLOWED.items():
                 calls, bad = refuser.counts(history, line, what, allowed)

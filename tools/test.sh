@@ -1,8 +1,9 @@
 #!/bin/sh
 # make test takes what is proved already, proves the rest, runs the tests of each crate, and then the program: on every
-# example, on command lines, by the Makefile, beside the definitions, on the longest texts, and without memory. With FULL=1
-# the kit's whole gate stands in the place of the first steps: all is proved from nothing, and the edits that the prover
-# must refuse are tried. A table of the steps comes at the end, and the last line counts them.
+# example, on command lines, by the Makefile, beside the definitions, on the longest texts, and without memory. The programs
+# that the tests of the crates leave are run without memory, too. With FULL=1 the kit's whole gate stands in the place of the
+# first steps: all is proved from nothing, and the edits that the prover must refuse are tried. A table of the steps comes at
+# the end, and the last line counts them.
 : "${PROGRAM:=crates/si_audit/out/si_audit}"
 mkdir -p out
 table=out/steps
@@ -55,6 +56,7 @@ fi
 if [ "${FULL:-0}" = 0 ]; then
     step "the crates' own tests" sh tools/crate_tests.sh
 fi
+step "the crates' own tests without memory" python3 -B tools/growths.py crates/*/out/*_tests
 step "the program that release/ keeps" sh tools/release.sh compare
 step "the program on every example" sh tools/examples.sh
 step "the program on command lines, and with devices that fail" sh tools/line_tests.sh

@@ -31,15 +31,23 @@ fn read_bytes(alloc: Global, text: &[u8]) -> Result<History, TextFault> {
     reader.finish()
 }
 
+/// Why there is no history, if there is none. Want of memory is passed on.
+fn fault_of(read: Result<History, TextFault>) -> Result<Option<TextFault>, TextFault> {
+    match read.err() {
+        Some(TextFault::NoMemory) => Err(TextFault::NoMemory),
+        fault => Ok(fault),
+    }
+}
+
 /// The fault of a text, which is the same however the text is cut.
-fn fault<R: Abort + AllocGlobal>(rt: &R, text: &[u8]) -> Option<TextFault> {
-    let whole = read_history(rt.alloc(), text).err();
-    assert_eq!(rt; read_bytes(rt.alloc(), text).err(), whole);
+fn fault<R: Abort + AllocGlobal>(rt: &R, text: &[u8]) -> Result<Option<TextFault>, TextFault> {
+    let whole = fault_of(read_history(rt.alloc(), text))?;
+    assert_eq!(rt; fault_of(read_bytes(rt.alloc(), text))?, whole);
     for at in 0..=text.len() {
         let (front, back) = text.split_at(at);
-        assert_eq!(rt; read_cut(rt.alloc(), front, back).err(), whole);
+        assert_eq!(rt; fault_of(read_cut(rt.alloc(), front, back))?, whole);
     }
-    whole
+    Ok(whole)
 }
 
 fn refused(token: u32, reason: Reason) -> Option<TextFault> {
@@ -48,27 +56,15 @@ fn refused(token: u32, reason: Reason) -> Option<TextFault> {
 
 /// The canonical text of what a text is read as, which is the same however the text is cut.
 fn written<R: Abort + AllocGlobal>(rt: &R, text: &[u8]) -> Result<Vec<u8>, Fail> {
-    let history = read_history(rt.alloc(), text)
-        .ok()
-        .ok_or("the text is a history")?;
-    let canonical = write_history(rt.alloc(), &history)
-        .ok()
-        .ok_or("memory is there")?;
-    let by_bytes = read_bytes(rt.alloc(), text)
-        .ok()
-        .ok_or("the bytes are a history")?;
-    let again = write_history(rt.alloc(), &by_bytes)
-        .ok()
-        .ok_or("memory is there")?;
+    let history = read_history(rt.alloc(), text)?;
+    let canonical = write_history(rt.alloc(), &history)?;
+    let by_bytes = read_bytes(rt.alloc(), text)?;
+    let again = write_history(rt.alloc(), &by_bytes)?;
     assert!(rt; canonical == again);
     for at in 0..=text.len() {
         let (front, back) = text.split_at(at);
-        let cut = read_cut(rt.alloc(), front, back)
-            .ok()
-            .ok_or("the pieces are a history")?;
-        let again = write_history(rt.alloc(), &cut)
-            .ok()
-            .ok_or("memory is there")?;
+        let cut = read_cut(rt.alloc(), front, back)?;
+        let again = write_history(rt.alloc(), &cut)?;
         assert!(rt; canonical == again);
     }
     Ok(canonical)

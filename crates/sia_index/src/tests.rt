@@ -7,12 +7,8 @@ mod readers;
 
 // An index of the history that the text stands for.
 fn index_of(rt: &HostRuntime, text: &[u8]) -> Result<Index, Fail> {
-    let history = read_history(rt.alloc(), text)
-        .ok()
-        .ok_or("the text is a history")?;
-    let index = make::index(rt.alloc(), &history)
-        .ok()
-        .ok_or("there is memory")?;
+    let history = read_history(rt.alloc(), text)?;
+    let index = make::index(rt.alloc(), &history)?;
     Ok(index)
 }
 

@@ -21,14 +21,14 @@ fn part(lo: u64, hi: u64) -> Part {
 
 #[test]
 fn keys_uncut(rt: HostRuntime) -> Result<(), Fail> {
-    let parts = cut(rt.alloc(), &[]).ok().ok_or("no point is too many")?;
+    let parts = cut(rt.alloc(), &[])?;
     assert!(rt; parts.as_slice() == [part(0, u64::MAX)].as_slice());
     Ok(())
 }
 
 #[test]
 fn repeated_points_in_any_order(rt: HostRuntime) -> Result<(), Fail> {
-    let parts = cut(rt.alloc(), &[15, 15, 0, 11]).ok().ok_or("two cuts")?;
+    let parts = cut(rt.alloc(), &[15, 15, 0, 11])?;
     assert!(rt; parts.as_slice() == [part(0, 10), part(11, 14), part(15, u64::MAX)].as_slice());
     Ok(())
 }
@@ -39,10 +39,10 @@ fn most_cuts(rt: HostRuntime) -> Result<(), Fail> {
     for point in 1..1024 {
         points.push(point)?;
     }
-    let parts = cut(rt.alloc(), &points).ok().ok_or("1,023 cuts")?;
+    let parts = cut(rt.alloc(), &points)?;
     assert_eq!(rt; parts.len(), 1024);
     points.push(1024)?;
-    assert!(rt; matches!(cut(rt.alloc(), &points), Err(CutFault::TooMany)));
+    assert_eq!(rt; cut(rt.alloc(), &points).err(), Some(CutFault::TooMany));
     Ok(())
 }
 
@@ -65,7 +65,7 @@ fn nothing_in_two_parts(rt: HostRuntime) -> Result<(), Fail> {
     let mut parts = Vec::new(rt.alloc());
     parts.push(nothing(rt.alloc()))?;
     parts.push(nothing(rt.alloc()))?;
-    let found = gather(rt.alloc(), parts).ok().ok_or("no memory")?;
+    let found = gather(rt.alloc(), parts)?;
     assert!(rt; found.bad_reads.is_empty());
     assert!(rt; found.bad_writes.is_empty());
     assert!(rt; found.unexplained.is_empty());
@@ -101,13 +101,11 @@ fn none_found_in_two_parts(rt: HostRuntime) -> Result<(), Fail> {
     let mut parts = Vec::new(rt.alloc());
     parts.push(none_found(rt.alloc()))?;
     parts.push(none_found(rt.alloc()))?;
-    let Ok(found) = Gathering::of(rt.alloc(), parts) else {
-        return Err(Fail::from("no memory"));
-    };
+    let found = Gathering::of(rt.alloc(), parts)?;
     assert!(rt; found.bad_reads.is_empty());
     assert!(rt; found.bad_writes.is_empty());
     assert!(rt; found.unexplained.is_empty());
-    let numbers = found.chunk(rt.alloc(), 0, 1).ok().ok_or("no memory")?;
+    let numbers = found.chunk(rt.alloc(), 0, 1)?;
     assert!(rt; numbers.is_empty());
     Ok(())
 }
@@ -155,14 +153,10 @@ fn edges_of_three_parts(rt: HostRuntime) -> Result<(), Fail> {
 
 // The committed transactions of the history of the text.
 fn committed_of(alloc: Global, text: &[u8]) -> Result<Committed, Fail> {
-    let history = read_history(alloc, text)
-        .ok()
-        .ok_or("the text is a history")?;
-    let index = index(alloc, &history).ok().ok_or("memory for an index")?;
+    let history = read_history(alloc, text)?;
+    let index = index(alloc, &history)?;
     index.law();
-    let committed = Committed::of(alloc, &index)
-        .ok()
-        .ok_or("memory for the list")?;
+    let committed = Committed::of(alloc, &index)?;
     Ok(committed)
 }
 
@@ -181,16 +175,10 @@ fn numbers_in(alloc: Global, h: &History, ix: &Index) -> Result<Vec<EdgeNumber>,
     requires { ix.now ≡ h.now }
 {
     ix.law();
-    let Ok(committed) = Committed::of(alloc, ix) else {
-        return Err(Fail::from("memory for the list"));
-    };
+    let committed = Committed::of(alloc, ix)?;
     let _ = ix.written_keys();
-    let Ok(found) = find_in_part(alloc, h, ix, &committed, part(0, u64::MAX)) else {
-        return Err(Fail::from("memory for a part"));
-    };
-    let numbers = numbers_of(alloc, found.edges, committed.ids().len())
-        .ok()
-        .ok_or("memory for numbers")?;
+    let found = find_in_part(alloc, h, ix, &committed, part(0, u64::MAX))?;
+    let numbers = numbers_of(alloc, found.edges, committed.ids().len())?;
     Ok(numbers)
 }
 
@@ -199,12 +187,8 @@ fn numbers_in(alloc: Global, h: &History, ix: &Index) -> Result<Vec<EdgeNumber>,
 #[test]
 fn number_of_an_edge(rt: HostRuntime) -> Result<(), Fail> {
     let text = b"w1[7] w2[7] a1 c2 r3[7:2] r5[7:2] c5";
-    let history = read_history(rt.alloc(), text)
-        .ok()
-        .ok_or("the text is a history")?;
-    let index = index(rt.alloc(), &history)
-        .ok()
-        .ok_or("memory for an index")?;
+    let history = read_history(rt.alloc(), text)?;
+    let index = index(rt.alloc(), &history)?;
     let numbers = numbers_in(rt.alloc(), &history, &index)?;
     assert!(rt; numbers.as_slice() == [5 * 1_048_576].as_slice());
     Ok(())

@@ -21,18 +21,26 @@ fn from(alloc: Global, line: &[&str]) -> Result<Options, LineFault> {
     options_from(alloc, words(alloc, line)?.as_slice())
 }
 
+/// The answer, where it isn't want of memory.
+fn known(answer: Result<Options, LineFault>) -> Result<Result<Options, LineFault>, Fail> {
+    match answer {
+        Err(LineFault::NoMemory) => Err(Fail::from(LineFault::NoMemory)),
+        answer => Ok(answer),
+    }
+}
+
 /// The program with cuts 1 to `last`.
-fn with_cuts(alloc: Global, last: Key) -> Result<Result<Options, LineFault>, AllocError> {
+fn with_cuts(alloc: Global, last: Key) -> Result<Result<Options, LineFault>, Fail> {
     let mut line = words(alloc, &["si_audit"])?;
     for cut in 1..=last {
         line.push(format!(in alloc; "{cut}")?)?;
     }
-    Ok(options_from(alloc, line.as_slice()))
+    known(options_from(alloc, line.as_slice()))
 }
 
 #[test]
 fn without_words(rt: HostRuntime) -> Result<(), Fail> {
-    let options = from(rt.alloc(), &["si_audit"]).expect(&rt, "options");
+    let options = from(rt.alloc(), &["si_audit"])?;
     assert_eq!(rt; options.workers(), 4);
     let parts = [Part {
         lo: 0,
@@ -66,7 +74,7 @@ fn forms_and_levels(rt: HostRuntime) -> Result<(), Fail> {
         ),
     ];
     for (line, form, level) in lines {
-        let options = from(rt.alloc(), line).expect(&rt, "options");
+        let options = from(rt.alloc(), line)?;
         assert_eq!(rt; options.form(), form);
         assert_eq!(rt; options.level(), level);
     }
@@ -77,7 +85,7 @@ fn forms_and_levels(rt: HostRuntime) -> Result<(), Fail> {
 fn unknown_levels(rt: HostRuntime) -> Result<(), Fail> {
     for name in ["SI", "", "snapshot"] {
         let line = ["si_audit", "--check", name];
-        let answer = from(rt.alloc(), line.as_slice());
+        let answer = known(from(rt.alloc(), line.as_slice()))?;
         assert!(rt; matches!(answer, Err(LineFault::UnknownLevel)), "{name}");
     }
     Ok(())
@@ -100,7 +108,7 @@ fn workers_and_a_cut(rt: HostRuntime) -> Result<(), Fail> {
         &["si_audit", "--workers", "0064", "00014"],
     ];
     for line in lines {
-        let options = from(rt.alloc(), line).expect(&rt, "options");
+        let options = from(rt.alloc(), line)?;
         assert_eq!(rt; options.workers(), 64);
         assert_eq!(rt; options.parts(), parts.as_slice());
     }
@@ -110,7 +118,7 @@ fn workers_and_a_cut(rt: HostRuntime) -> Result<(), Fail> {
 #[test]
 fn the_ends_of_the_keys(rt: HostRuntime) -> Result<(), Fail> {
     let line = ["si_audit", "18446744073709551615", "0"];
-    let options = from(rt.alloc(), line.as_slice()).expect(&rt, "options");
+    let options = from(rt.alloc(), line.as_slice())?;
     let parts = [
         Part {
             lo: 0,
@@ -169,7 +177,7 @@ fn refused_words(rt: HostRuntime) -> Result<(), Fail> {
         ),
     ];
     for (line, said) in lines {
-        let answer = from(rt.alloc(), line);
+        let answer = known(from(rt.alloc(), line))?;
         match &answer {
             Err(LineFault::Usage(text)) => {
                 assert!(rt; text.as_str().starts_with("error: "), "{text}");
@@ -189,7 +197,7 @@ fn words_that_ask_for_help(rt: HostRuntime) -> Result<(), Fail> {
         &["si_audit", "--workers", "64", "14", "--help", "x"],
     ];
     for line in lines {
-        let answer = from(rt.alloc(), line);
+        let answer = known(from(rt.alloc(), line))?;
         match &answer {
             Err(LineFault::Help(text)) => {
                 assert!(rt;
@@ -209,7 +217,7 @@ fn words_that_ask_for_help(rt: HostRuntime) -> Result<(), Fail> {
 fn words_that_ask_for_the_version(rt: HostRuntime) -> Result<(), Fail> {
     for word in ["--version", "-V"] {
         let line = ["si_audit", word];
-        let answer = from(rt.alloc(), line.as_slice());
+        let answer = known(from(rt.alloc(), line.as_slice()))?;
         match &answer {
             Err(LineFault::Help(text)) => {
                 assert!(rt;
@@ -225,7 +233,7 @@ fn words_that_ask_for_the_version(rt: HostRuntime) -> Result<(), Fail> {
 
 #[test]
 fn the_most_cuts(rt: HostRuntime) -> Result<(), Fail> {
-    let options = with_cuts(rt.alloc(), 1023)?.expect(&rt, "options");
+    let options = with_cuts(rt.alloc(), 1023)??;
     assert_eq!(rt; options.workers(), 4);
     assert_eq!(rt; options.parts().len(), 1024);
     assert!(rt; matches!(with_cuts(rt.alloc(), 1024)?, Err(LineFault::TooManyCuts)));

@@ -1,7 +1,7 @@
 // `FromStd` passes each call on to its device, once, and tells what the device answered. Of a device that doesn't tell its
 // bytes, as a file or a pipe, no contract says so.
 use crate::io::device::{Failed, FromStd, Sink, Source};
-use std::alloc::Global;
+use std::alloc::{AllocError, Global};
 use std::io::{self, ErrorKind, Read, Write};
 use std::test::*;
 
@@ -67,16 +67,21 @@ struct Taking {
 }
 
 impl Taking {
-    fn new(alloc: Global, a_call: usize, room: usize, then_fails: bool) -> Taking {
-        Taking {
-            taken: Vec::new(alloc),
+    fn new(
+        alloc: Global,
+        a_call: usize,
+        room: usize,
+        then_fails: bool,
+    ) -> Result<Taking, AllocError> {
+        Ok(Taking {
+            taken: Vec::with_capacity(alloc, 16)?,
             a_call,
             room,
             then_fails,
             flush_fails: false,
             writes: 0,
             flushes: 0,
-        }
+        })
     }
 }
 
@@ -143,19 +148,20 @@ fn a_read_that_fails_after_three_bytes(rt: HostRuntime) {
 }
 
 #[test]
-fn short_writes_are_told(rt: HostRuntime) {
-    let mut writer = FromStd::new(Taking::new(rt.alloc(), 3, 99, true));
+fn short_writes_are_told(rt: HostRuntime) -> Result<(), Fail> {
+    let mut writer = FromStd::new(Taking::new(rt.alloc(), 3, 99, true)?);
     assert_eq!(rt; writer.write(b"events"), Ok(3));
     assert_eq!(rt; writer.write(b"nt"), Ok(2));
     assert!(rt; !writer.failed());
     let device = writer.into_inner();
     assert_eq!(rt; device.taken.as_slice(), b"event".as_slice());
     assert_eq!(rt; (device.writes, device.flushes), (2, 0));
+    Ok(())
 }
 
 #[test]
-fn a_write_that_fails_after_four_bytes(rt: HostRuntime) {
-    let mut writer = FromStd::new(Taking::new(rt.alloc(), 3, 4, true));
+fn a_write_that_fails_after_four_bytes(rt: HostRuntime) -> Result<(), Fail> {
+    let mut writer = FromStd::new(Taking::new(rt.alloc(), 3, 4, true)?);
     assert_eq!(rt; writer.write(b"events"), Ok(3));
     assert_eq!(rt; writer.write(b"nts"), Ok(1));
     assert!(rt; !writer.failed());
@@ -164,32 +170,35 @@ fn a_write_that_fails_after_four_bytes(rt: HostRuntime) {
     let device = writer.into_inner();
     assert_eq!(rt; device.taken.as_slice(), b"even".as_slice());
     assert_eq!(rt; (device.writes, device.flushes), (3, 0));
+    Ok(())
 }
 
 #[test]
-fn a_write_that_takes_no_byte_is_a_failure(rt: HostRuntime) {
-    let mut writer = FromStd::new(Taking::new(rt.alloc(), 3, 0, false));
+fn a_write_that_takes_no_byte_is_a_failure(rt: HostRuntime) -> Result<(), Fail> {
+    let mut writer = FromStd::new(Taking::new(rt.alloc(), 3, 0, false)?);
     assert_eq!(rt; writer.write(b""), Ok(0));
     assert!(rt; !writer.failed());
     assert_eq!(rt; writer.write(b"events"), Ok(0));
     assert!(rt; writer.failed());
     assert_eq!(rt; writer.into_inner().writes, 2);
+    Ok(())
 }
 
 #[test]
-fn a_flush_is_passed_on(rt: HostRuntime) {
-    let mut writer = FromStd::new(Taking::new(rt.alloc(), 9, 9, true));
+fn a_flush_is_passed_on(rt: HostRuntime) -> Result<(), Fail> {
+    let mut writer = FromStd::new(Taking::new(rt.alloc(), 9, 9, true)?);
     assert_eq!(rt; writer.flush(), Ok(()));
     assert!(rt; !writer.failed());
     let device = writer.into_inner();
     assert_eq!(rt; (device.writes, device.flushes), (0, 1));
+    Ok(())
 }
 
 #[test]
-fn a_flush_that_fails_is_a_failure(rt: HostRuntime) {
+fn a_flush_that_fails_is_a_failure(rt: HostRuntime) -> Result<(), Fail> {
     let mut writer = FromStd::new(Taking {
         flush_fails: true,
-        ..Taking::new(rt.alloc(), 9, 9, true)
+        ..Taking::new(rt.alloc(), 9, 9, true)?
     });
     assert_eq!(rt; writer.write(b"events"), Ok(6));
     assert_eq!(rt; writer.flush(), Err(Failed));
@@ -197,4 +206,5 @@ fn a_flush_that_fails_is_a_failure(rt: HostRuntime) {
     let device = writer.into_inner();
     assert_eq!(rt; device.taken.as_slice(), b"events".as_slice());
     assert_eq!(rt; (device.writes, device.flushes), (1, 1));
+    Ok(())
 }

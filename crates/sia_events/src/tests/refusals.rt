@@ -22,10 +22,11 @@ const SINGLE_TOKENS: [(&[u8], u32, Reason); 16] = [
 ];
 
 #[test]
-fn single_tokens(rt: HostRuntime) {
+fn single_tokens(rt: HostRuntime) -> Result<(), Fail> {
     for (text, token, reason) in SINGLE_TOKENS {
-        assert_eq!(rt; fault(&rt, text), refused(token, reason));
+        assert_eq!(rt; fault(&rt, text)?, refused(token, reason));
     }
+    Ok(())
 }
 
 // The last four have transactions with great numbers that share their slots.
@@ -61,10 +62,11 @@ const LATER_TOKENS: [(&[u8], u32, Reason); 12] = [
 ];
 
 #[test]
-fn later_tokens(rt: HostRuntime) {
+fn later_tokens(rt: HostRuntime) -> Result<(), Fail> {
     for (text, token, reason) in LATER_TOKENS {
-        assert_eq!(rt; fault(&rt, text), refused(token, reason));
+        assert_eq!(rt; fault(&rt, text)?, refused(token, reason));
     }
+    Ok(())
 }
 
 const NAMED_STARTS: [(&[u8], u32, Reason); 9] = [
@@ -80,10 +82,11 @@ const NAMED_STARTS: [(&[u8], u32, Reason); 9] = [
 ];
 
 #[test]
-fn named_starts(rt: HostRuntime) {
+fn named_starts(rt: HostRuntime) -> Result<(), Fail> {
     for (text, token, reason) in NAMED_STARTS {
-        assert_eq!(rt; fault(&rt, text), refused(token, reason));
+        assert_eq!(rt; fault(&rt, text)?, refused(token, reason));
     }
+    Ok(())
 }
 
 /// So many times a text, with one more text before it.

@@ -36,9 +36,7 @@ fn lists_that_jump(rt: HostRuntime) -> Result<(), Fail> {
     for step in [1, 2, 12, 1000] {
         push_list(rt.alloc(), &mut text, step)?;
     }
-    let history = read_history(rt.alloc(), &text)
-        .ok()
-        .ok_or("each listed version was written")?;
+    let history = read_history(rt.alloc(), &text)?;
     assert_eq!(rt; history.len(), 1204);
     text.extend_from_slice(b"r9[0..9;0:1,1:3]")?;
     assert_eq!(rt;
@@ -59,9 +57,7 @@ fn many_writers_of_a_key(rt: HostRuntime) -> Result<(), Fail> {
         let list = format!(in rt.alloc(); "r200[5..6;5:{txn},6:{other}] r200[5:{txn}] ")?;
         text.extend_from_slice(list.as_bytes())?;
     }
-    let history = read_history(rt.alloc(), &text)
-        .ok()
-        .ok_or("each listed version was written")?;
+    let history = read_history(rt.alloc(), &text)?;
     assert_eq!(rt; history.len(), 396);
     text.extend_from_slice(b"r200[5..6;5:99,6:100]")?;
     assert_eq!(rt;
@@ -84,11 +80,12 @@ const NOT_TAKEN: [&[u8]; 2] = [
 ];
 
 #[test]
-fn writes_that_share_a_slot(rt: HostRuntime) {
+fn writes_that_share_a_slot(rt: HostRuntime) -> Result<(), Fail> {
     for text in TAKEN {
-        assert_eq!(rt; fault(&rt, text), None);
+        assert_eq!(rt; fault(&rt, text)?, None);
     }
     for text in NOT_TAKEN {
-        assert_eq!(rt; fault(&rt, text), refused(3, Reason::NotWritten));
+        assert_eq!(rt; fault(&rt, text)?, refused(3, Reason::NotWritten));
     }
+    Ok(())
 }

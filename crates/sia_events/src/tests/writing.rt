@@ -66,9 +66,7 @@ fn texts_written_back(rt: HostRuntime) -> Result<(), Fail> {
 #[test]
 fn events_by_place(rt: HostRuntime) -> Result<(), Fail> {
     let text = b"  r1[3..9;5:0]\n\tw1[4]\r\nc1 ";
-    let history = read_history(rt.alloc(), text)
-        .ok()
-        .ok_or("the text is a history")?;
+    let history = read_history(rt.alloc(), text)?;
     assert_eq!(rt; history.len(), 3);
     assert!(rt; history.event(0).is_none());
     assert!(rt; history.event(4).is_none());

@@ -133,7 +133,7 @@ struct Told {
 
 /// The pivots of the history, and whether it passes, where these are the numbers of its edges.
 fn judged(alloc: Global, text: &[u8], numbers: &[EdgeNumber]) -> Result<Told, Fail> {
-    let h = read_history(alloc, text).ok().ok_or("a history")?;
+    let h = read_history(alloc, text)?;
     let ix = make::index(alloc, &h)?;
     let f = findings(alloc, &h, &ix)?;
     let txns = committed(alloc, &ix)?;

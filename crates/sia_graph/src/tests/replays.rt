@@ -5,7 +5,7 @@ use std::alloc::Global;
 use std::test::Fail;
 
 fn history(alloc: Global, text: &[u8]) -> Result<History, Fail> {
-    let h = read_history(alloc, text).ok().ok_or("a history")?;
+    let h = read_history(alloc, text)?;
     Ok(h)
 }
 

@@ -116,8 +116,12 @@ fn structures(rt: HostRuntime) -> Result<(), Fail> {
         ),
     ];
     for (text, entries, passes) in cases {
-        let h = read_history(rt.alloc(), text).ok().ok_or("a history")?;
-        let (found, is_passing) = judged(rt.alloc(), &h)?;
+        let h = read_history(rt.alloc(), text)?;
+        // Want of memory leaves the history as it was, and the calls can be made again.
+        let (found, is_passing) = match judged(rt.alloc(), &h) {
+            Err(NoMemory) => judged(rt.alloc(), &h)?,
+            Ok(told) => told,
+        };
         assert_eq!(rt; is_passing, passes);
         assert_eq!(rt; shown(rt.alloc(), &found)?.as_str(), entries);
     }

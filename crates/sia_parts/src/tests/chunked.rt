@@ -32,7 +32,7 @@ fn found_in_part(
 {
     match find_in_part(alloc, h, ix, committed, part) {
         Ok(found) => Ok(found),
-        Err(_) => Err(Fail::from("memory for a part")),
+        Err(fault) => Err(Fail::from(fault)),
     }
 }
 
@@ -71,13 +71,11 @@ fn gathering_of(
     // The keys tell that they can be listed.
     ix.law();
     let _ = ix.written_keys();
-    let Ok(parts) = cut(alloc, points) else {
-        return Err(Fail::from("the points cut"));
-    };
+    let parts = cut(alloc, points)?;
     let all = found_in_parts(alloc, h, ix, committed, &parts)?;
     match Gathering::of(alloc, all) {
         Ok(gathering) => Ok(gathering),
-        Err(_) => Err(Fail::from("memory for all parts")),
+        Err(fault) => Err(Fail::from(fault)),
     }
 }
 
@@ -92,7 +90,7 @@ fn chunk_bounds_of(
 {
     match ChunkBounds::of(alloc, gathering, txns, size) {
         Ok(chunk_bounds) => Ok(chunk_bounds),
-        Err(_) => Err(Fail::from("memory for chunk_bounds")),
+        Err(fault) => Err(Fail::from(fault)),
     }
 }
 
@@ -108,7 +106,7 @@ fn chunk_of(
 {
     match gathering.chunk(alloc, from, to) {
         Ok(numbers) => Ok(numbers),
-        Err(_) => Err(Fail::from("memory for a chunk")),
+        Err(fault) => Err(Fail::from(fault)),
     }
 }
 
@@ -157,16 +155,12 @@ fn edges_of_chunks(
     requires { ix.now ≡ h.now }
 {
     ix.law();
-    let Ok(committed) = Committed::of(alloc, ix) else {
-        return Err(Fail::from("memory for the list"));
-    };
+    let committed = Committed::of(alloc, ix)?;
     let gathering = gathering_of(alloc, h, ix, &committed, points)?;
     let numbers = numbers_of_chunks(alloc, gathering, committed.ids().len(), size)?;
     let mut chunks = Vec::new(alloc);
     for chunk in numbers.chunks() {
-        let edges = edges_of_numbers(alloc, committed.ids(), ix.written_keys(), chunk)
-            .ok()
-            .ok_or("memory for edges")?;
+        let edges = edges_of_numbers(alloc, committed.ids(), ix.written_keys(), chunk)?;
         chunks.push(edges)?;
     }
     Ok(chunks)
@@ -179,10 +173,8 @@ fn chunked(
     points: &[Key],
     size: usize,
 ) -> Result<Vec<Vec<Edge>>, Fail> {
-    let history = read_history(alloc, text)
-        .ok()
-        .ok_or("the text is a history")?;
-    let index = index(alloc, &history).ok().ok_or("memory for an index")?;
+    let history = read_history(alloc, text)?;
+    let index = index(alloc, &history)?;
     let chunks = edges_of_chunks(alloc, &history, &index, points, size)?;
     Ok(chunks)
 }

@@ -12,15 +12,9 @@ const PHANTOMS: &[u8] = b"b1 b2 r1[10..20] r2[10..20] w1[12] w2[15] c1 c2";
 
 // The edges at the keys of one part, of a history that has no other finding there.
 fn edges_in<R: Abort + AllocGlobal>(rt: &R, text: &[u8], part: Part) -> Result<Vec<Edge>, Fail> {
-    let history = read_history(rt.alloc(), text)
-        .ok()
-        .ok_or("the text is a history")?;
-    let index = index(rt.alloc(), &history)
-        .ok()
-        .ok_or("memory for an index")?;
-    let found = audit_part(rt.alloc(), &history, &index, part)
-        .ok()
-        .ok_or("memory for a part")?;
+    let history = read_history(rt.alloc(), text)?;
+    let index = index(rt.alloc(), &history)?;
+    let found = audit_part(rt.alloc(), &history, &index, part)?;
     assert!(rt; found.bad_reads.is_empty());
     assert!(rt; found.bad_writes.is_empty());
     assert!(rt; found.unexplained.is_empty());

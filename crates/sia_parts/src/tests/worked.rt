@@ -61,10 +61,8 @@ pub const fn edge(src: TxnId, kind: Kind, dst: TxnId, key: Key) -> Edge {
 
 /// The findings of the history of the text, part by part of the cutting and gathered.
 pub fn findings_of(alloc: Global, text: &[u8], points: &[Key]) -> Result<Findings, Fail> {
-    let history = read_history(alloc, text)
-        .ok()
-        .ok_or("the text is a history")?;
-    let index = index(alloc, &history).ok().ok_or("memory for an index")?;
+    let history = read_history(alloc, text)?;
+    let index = index(alloc, &history)?;
     let findings = gathered(alloc, &history, &index, points)?;
     Ok(findings)
 }
@@ -74,9 +72,9 @@ fn gathered(alloc: Global, h: &History, ix: &Index, points: &[Key]) -> Result<Fi
     requires { ix.now ≡ h.now }
 {
     ix.law();
-    let parts = cut(alloc, points).ok().ok_or("the points cut")?;
+    let parts = cut(alloc, points)?;
     let found = audited(alloc, h, ix, &parts)?;
-    let findings = gather(alloc, found).ok().ok_or("memory for all parts")?;
+    let findings = gather(alloc, found)?;
     Ok(findings)
 }
 
@@ -104,7 +102,7 @@ fn audited_part(alloc: Global, h: &History, ix: &Index, part: Part) -> Result<Pa
 {
     match audit_part(alloc, h, ix, part) {
         Ok(found) => Ok(found),
-        Err(_) => Err(Fail::from("memory for a part")),
+        Err(fault) => Err(Fail::from(fault)),
     }
 }
 

@@ -5,4 +5,4 @@ use Rattle.sia_parts.proofs.tests.numbers_in.Goals as goal
 
 pub numbers_of-requires : goal.numbers_of-requires
 numbers_of-requires c =
-    (c.in-Ok-find_in_part.ensures c.written_keys.result.now (subst (λ h. AreWrittenKeys h c.written_keys.result.now) c.requires c.written_keys.ensures)).spread
+    (c.in_ok-found.ensures c.written_keys.result.now (subst (λ h. AreWrittenKeys h c.written_keys.result.now) c.requires c.written_keys.ensures)).spread

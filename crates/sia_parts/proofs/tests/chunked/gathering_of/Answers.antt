@@ -24,9 +24,9 @@ of-requires c =
       txns,
       keys,
       c.args.points.now,
-      c.in-Ok.parts.items,
+      c.in_ok-parts.parts.items,
       subst IsWellFormed c.requires.index c.law.ensures,
       tables,
-      c.in-Ok.ensures.parts,
+      c.in_ok-parts.ensures.parts,
       subst (λ parts. AllZip (λ part found. IsPartFound h txns keys (IsInPart part) found) parts c.in_ok-all.all.items) c.deref.ensures.value (c.in_ok-all.ensures keys are),
     )
