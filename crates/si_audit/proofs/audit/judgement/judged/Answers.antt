@@ -1,6 +1,5 @@
-use Rattle.std.proofs.Common.{rules, subst}
+use Rattle.std.proofs.Common.{subst}
 use Rattle.sia_index.specs.Info.{AreWrittenKeys}
-use Rattle.si_audit.specs.Judgements.{AreAllEdges}
 use Rattle.si_audit.proofs.audit.judgement.judged.Goals as goal
 
 pub settled-requires : goal.settled-requires

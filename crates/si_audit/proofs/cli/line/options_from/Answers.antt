@@ -11,7 +11,6 @@ use Rattle.si_audit.specs.LineAnswers.{IsOwed, GivesOptions, StandsInTheWay, cut
 use Rattle.si_audit.specs.Words.{AreChosen, ChooseNoLevel, ChooseTooManyCuts, program}
 use Rattle.si_audit.specs.declared.cli.line.LineFault.{LineFault}
 use Rattle.si_audit.specs.declared.cli.line.LineFault.TheVariants.{NoMemory, TooManyCuts, UnknownLevel, Help, Usage}
-use Rattle.si_audit.specs.declared.cli.level.Level.{Level}
 use Rattle.si_audit.proofs.NumbersGiven.{numbers_given}
 use Rattle.si_audit.proofs.TakenWords.{program_takes}
 use Rattle.si_audit.proofs.cli.line.options_from.Goals as goal
