@@ -8,6 +8,7 @@ mod finding;
 mod findings;
 mod gathering;
 mod laws;
+mod looks;
 mod numbered;
 
 pub use auditing::audit_part;
@@ -24,6 +25,7 @@ pub use gathering::chunks::EdgeNumbers;
 pub use gathering::gather;
 pub use gathering::gathering_numbers::Gathering;
 pub use laws::one_part;
+pub use looks::{Absence, Look, Looks};
 pub use numbered::find_in_part;
 
 #[cfg(test)]
