@@ -2,12 +2,14 @@
 #![tactic(auto)]
 
 mod laws;
+mod narrow;
 mod pivot;
 mod pivoting;
 mod replaying;
 mod settling;
 
 pub use laws::{blocks_law, closure_law, firsts_law, pivot_law, replay_law, ssi_law, stand_in_law};
+pub use narrow::Evidence;
 pub use pivot::Pivot;
 pub use pivoting::passing::{passes, ssi_pass};
 pub use pivoting::pivoting_numbers::pivots_of_numbers;

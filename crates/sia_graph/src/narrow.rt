@@ -1,0 +1,14 @@
+//! The verdict of a history from narrow edges: few steps that lead wherever all its edges lead.
+use sia_events::{Key, TxnId};
+use sia_index::Index;
+use sia_parts::Looks;
+
+/// What the verdict on a history rests on: its committed transactions and its written keys, both ascending, and what those
+/// transactions wrote and saw at all these keys, by the numbers of both.
+#[derive(Clone, Copy)]
+pub struct Evidence<'a> {
+    pub index: &'a Index,
+    pub txns: &'a [TxnId],
+    pub keys: &'a [Key],
+    pub looks: &'a Looks,
+}
