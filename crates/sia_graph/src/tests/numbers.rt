@@ -9,8 +9,10 @@ ghost use Rattle.sia_parts.specs.Packing.{IsPacked};
 
 use crate::pivot::Pivot;
 use crate::pivoting::firsts::commit_of;
-use crate::pivoting::passing::passes;
-use crate::pivoting::pivoting_numbers::pivots_of_numbers;
+use crate::pivoting::lifetimes::lifetimes_of;
+use crate::pivoting::passing::ssi_pass;
+use crate::pivoting::pivots_of_links;
+use crate::pivoting::vulnerable_numbers::vulnerable_in;
 use crate::settling::Verdict;
 use crate::settling::settling_numbers::settle_numbers;
 use crate::tests::ascends;
@@ -142,8 +144,10 @@ fn judged(alloc: Global, text: &[u8], numbers: &[EdgeNumber]) -> Result<Told, Fa
         return Err(Fail::from("the numbers of the edges"));
     }
     let all = in_one_chunk(alloc, numbers)?;
-    let pivots = pivots_of_numbers(alloc, &ix, &txns, &all)?;
-    let passed = passes(&f.bad_reads, &f.bad_writes, &pivots);
+    let lifetimes = lifetimes_of(alloc, &ix, &txns)?;
+    let links = vulnerable_in(alloc, &ix, &txns, &lifetimes, numbers)?;
+    let pivots = pivots_of_links(alloc, &ix, links)?;
+    let passed = ssi_pass(&f, &pivots);
     let verdict = settled(alloc, &txns, keys, numbers, &all)?;
     Ok(Told {
         pivots,
