@@ -6,14 +6,14 @@ use Rattle.std.specs.Ordering.{ordering_then, nat_cmp}
 use Rattle.std.specs.declared.cmp.Ordering.{Ordering}
 use Rattle.std.specs.declared.cmp.Ordering.TheVariants.{Less}
 use Rattle.std.proofs.lemmas.Bool.{ne_eqb}
-use Rattle.std.proofs.lemmas.List.{append_assoc, take_more, map-append, get_or-map, length-map, length-append, get_or-append-add, get_or_append_left}
+use Rattle.std.proofs.lemmas.List.{take_more, map-append, get_or-map, length-map, length-append, get_or-append-add, get_or_append_left}
 use Rattle.std.proofs.lemmas.List.Elements.{All-contains, Contains-append_left, Contains-append_right, Contains-append_cases}
 use Rattle.sia_events.specs.Lists.{Precedes, ListsAscending}
 use Rattle.sia_graph.specs.declared.pivoting.links.Link.{Link}
 use Rattle.sia_parts.specs.declared.finding.Edge.{Edge}
 use Rattle.sia_parts.specs.declared.finding.Kind.{Kind}
 use Rattle.sia_parts.specs.declared.finding.Kind.TheVariants.{Ww, Wr, Rw}
-use Rattle.sia_graph.specs.Links.{ListsLinks, AreEnds, AreLinksAt, AreLinked, HasRw, is_rw, link_rank}
+use Rattle.sia_graph.specs.Links.{ListsLinks, AreEnds, AreLinksAt, AreLinked, is_rw, link_rank}
 use Rattle.sia_graph.proofs.Positions.{only_one_in}
 use Rattle.sia_graph.proofs.Listed.{listed_as, listed_in_order, mapped, precedes_last, precedes_then}
 
