@@ -5,7 +5,7 @@ pub mod Facts
 pub mod Due
 pub mod ReadyOrders
 pub mod OrderPlaces
-pub mod RwDecided
+pub mod EdgesDecided
 pub mod NoStuckSet
 pub mod LastWriter
 pub mod Serial
@@ -50,3 +50,5 @@ pub mod Blocks
 pub mod Renamed
 pub mod StandIns
 pub mod Ways
+pub mod FiniteLists
+pub mod FiniteHistories

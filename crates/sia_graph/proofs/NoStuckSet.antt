@@ -17,7 +17,7 @@ use Rattle.sia_events.proofs.TransactionDecisions.{committed_or_not}
 use Rattle.sia_graph.proofs.Deciding.{either_decided, le_decided}
 use Rattle.sia_graph.proofs.Facts.{same_committer, committed_positive, Lifetime, lifetime_of, sees_le, commits_lt}
 use Rattle.sia_graph.proofs.Due.{saw_due}
-use Rattle.sia_graph.proofs.RwDecided.{rw_decided}
+use Rattle.sia_graph.proofs.EdgesDecided.{rw_decided}
 use Rattle.sia_graph.proofs.ReadyOrders.{In, IsFed}
 use Rattle.sia_graph.proofs.OrderPlaces.{order_exists}
 
@@ -41,7 +41,7 @@ module _ (h : List Event) (wf : IsWellFormed h) where
     | inr more ↦ inr (λ before. let l = starts_lt t u a.start b.commit a.starts b.commits before in omega arith)
   ]
 
-  vulnerable_decided : (t u : ℕ) → Lifetime h t → Lifetime h u → Decided (IsVulnerable h t u)
+  pub vulnerable_decided : (t u : ℕ) → Lifetime h t → Lifetime h u → Decided (IsVulnerable h t u)
   vulnerable_decided t u a b =
       elim (both (Overlap h t u) ((k : ℕ) × RwEdge h t u k)
       (both (StartsBeforeCommit h t u) (StartsBeforeCommit h u t) (starts_before_decided t u a b) (starts_before_decided u t b a))
