@@ -54,60 +54,47 @@ module _ (Good : ℕ → Type 0) (decide : (v : ℕ) → Decided (Good v)) (k : 
   saw_decided (Range t lo hi listed) =
       range_decided Good decide k t lo hi listed (listed_decided Good decide k listed) (listed_decided (λ v. ⊤) (λ v. inl tt) k listed) (decide 0) (le_decided lo k) (le_decided k hi)
 
-module _ (h : List Event) where
-  -- t saw k at a good version
-  seen_decided : (Good : ℕ → Type 0) → ((v : ℕ) → Decided (Good v)) → (t k : ℕ) → Decided ((p : ℕ) × (v : ℕ) × SawAt h p t k v × Good v)
-  seen_decided Good decide t k =
-      decided_alike ((p : ℕ) × (e : Event) × (at_place h p ≡ Some e) × ((actor e ≡ t) × ((v : ℕ) × Saw e k v × Good v))) ((p : ℕ) × (v : ℕ) × SawAt h p t k v × Good v)
-      (λ w. let saw = w.3.1 in (w.0, saw.0, (w.1, w.2, w.3.0, saw.1), saw.2))
-      (λ w. let at = w.2 in (w.0, at.0, at.1, (at.2, (w.1, at.3, w.3))))
-      (event_decided (λ e. (actor e ≡ t) × ((v : ℕ) × Saw e k v × Good v)) (λ e. both (actor e ≡ t) ((v : ℕ) × Saw e k v × Good v) (cases_eq (actor e) t) (saw_decided Good decide k e)) h)
+module _ (h : List Event) (N P Q : Type 0) (X Y Z : ℕ → Type 0) (t k : ℕ) where
+  -- the event is t's, and saw such a version of k
+  abbrev SawSome : Event → Type 0
+  SawSome e = (actor e ≡ t) × ((v : ℕ) × Saw e k v × (X v × Y v × Z v))
 
-  writer_decided : (k t : ℕ) → Decided (IsCommittedWriter h k t)
-  writer_decided k t = both (Wrote h t k) (IsCommitted h t) (wrote_or_not h t k) (committed_or_not h t)
+  -- three statements hold, and three of a version of k that t saw
+  seen_decided : Decided N → Decided P → Decided Q → ((v : ℕ) → Decided (X v)) → ((v : ℕ) → Decided (Y v)) → ((v : ℕ) → Decided (Z v))
+      → Decided (N × P × Q × (p : ℕ) × (v : ℕ) × SawAt h p t k v × X v × Y v × Z v)
+  seen_decided n p q x y z =
+      decided_alike ((N × P × Q) × ((p : ℕ) × (e : Event) × (at_place h p ≡ Some e) × SawSome e)) (N × P × Q × (p : ℕ) × (v : ℕ) × SawAt h p t k v × X v × Y v × Z v)
+      (λ w. let s = w.1 in let saw = s.3.1 in (w.0.0, w.0.1, w.0.2, s.0, saw.0, (s.1, s.2, s.3.0, saw.1), saw.2.0, saw.2.1, saw.2.2))
+      (λ e. let at = e.5 in ((e.0, e.1, e.2), (e.3, at.0, at.1, (at.2, (e.4, at.3, (e.6, e.7, e.8))))))
+      (both (N × P × Q) ((p : ℕ) × (e : Event) × (at_place h p ≡ Some e) × SawSome e) (three_decided N P Q n p q)
+      (event_decided SawSome (λ e. both (actor e ≡ t) ((v : ℕ) × Saw e k v × (X v × Y v × Z v)) (cases_eq (actor e) t)
+      (saw_decided (λ v. X v × Y v × Z v) (λ v. three_decided (X v) (Y v) (Z v) (x v) (y v) (z v)) k e)) h))
 
 module _ (h : List Event) (wf : IsWellFormed h) where
   ww_decided : (t u k : ℕ) → Decided (WwEdge h t u k)
   ww_decided t u k = three_decided (Wrote h t k) (Wrote h u k) (CommitsBefore h t u) (wrote_or_not h t k) (wrote_or_not h u k) (commits_before_decided h wf t u)
 
+  writer_decided : (k t : ℕ) → Decided (IsCommittedWriter h k t)
+  writer_decided k t = both (Wrote h t k) (IsCommitted h t) (wrote_or_not h t k) (committed_or_not h t)
+
   version_before_decided : (k v w : ℕ) → Decided (IsVersionBefore h k v w)
   version_before_decided k v w =
-      either_decided ((v ≡ 0) × IsCommittedWriter h k w) (WwEdge h v w k) (both (v ≡ 0) (IsCommittedWriter h k w) (cases_eq v 0) (writer_decided h k w)) (ww_decided v w k)
+      either_decided ((v ≡ 0) × IsCommittedWriter h k w) (WwEdge h v w k) (both (v ≡ 0) (IsCommittedWriter h k w) (cases_eq v 0) (writer_decided k w)) (ww_decided v w k)
 
-  module _ (t u k : ℕ) where
-    -- t's version of k or a later one, that isn't u's own
-    abbrev IsLater : ℕ → Type 0
-    IsLater v = IsCommitted h v × (v ≢ u) × ((t ≡ v) ⊎ IsVersionBefore h k t v)
+  differ_or_not : (t u : ℕ) → Decided (t ≢ u)
+  differ_or_not t u = not_decided (t ≡ u) (cases_eq t u)
 
-    later_decided : (v : ℕ) → Decided (IsLater v)
-    later_decided v =
-        three_decided (IsCommitted h v) (v ≢ u) ((t ≡ v) ⊎ IsVersionBefore h k t v) (committed_or_not h v) (not_decided (v ≡ u) (cases_eq v u))
-        (either_decided (t ≡ v) (IsVersionBefore h k t v) (cases_eq t v) (version_before_decided k t v))
+  wr_decided : (t u k : ℕ) → Decided (WrEdge h t u k)
+  wr_decided t u k =
+      seen_decided h (t ≢ u) (IsCommittedWriter h k t) (IsCommitted h u) (IsCommitted h) (λ v. v ≢ u) (λ v. (t ≡ v) ⊎ IsVersionBefore h k t v) u k
+      (differ_or_not t u) (writer_decided k t) (committed_or_not h u) (committed_or_not h) (λ v. differ_or_not v u)
+      (λ v. either_decided (t ≡ v) (IsVersionBefore h k t v) (cases_eq t v) (version_before_decided k t v))
 
-    wr_decided : Decided (WrEdge h t u k)
-    wr_decided =
-        decided_alike ((t ≢ u) × (IsCommittedWriter h k t × IsCommitted h u) × ((p : ℕ) × (v : ℕ) × SawAt h p u k v × IsLater v)) (WrEdge h t u k)
-        (λ w. let s = w.2 in (w.0, w.1.0, w.1.1, s.0, s.1, s.2, s.3.0, s.3.1, s.3.2))
-        (λ e. (e.0, (e.1, e.2), (e.3, e.4, e.5, (e.6, e.7, e.8))))
-        (three_decided (t ≢ u) (IsCommittedWriter h k t × IsCommitted h u) ((p : ℕ) × (v : ℕ) × SawAt h p u k v × IsLater v) (not_decided (t ≡ u) (cases_eq t u))
-        (both (IsCommittedWriter h k t) (IsCommitted h u) (writer_decided h k t) (committed_or_not h u)) (seen_decided h IsLater later_decided u k))
-
-    -- a version of k before u's that isn't t's own
-    abbrev IsEarlier : ℕ → Type 0
-    IsEarlier v = ((v ≡ 0) ⊎ IsCommitted h v) × (v ≢ t) × IsVersionBefore h k v u
-
-    earlier_decided : (v : ℕ) → Decided (IsEarlier v)
-    earlier_decided v =
-        three_decided ((v ≡ 0) ⊎ IsCommitted h v) (v ≢ t) (IsVersionBefore h k v u) (either_decided (v ≡ 0) (IsCommitted h v) (cases_eq v 0) (committed_or_not h v))
-        (not_decided (v ≡ t) (cases_eq v t)) (version_before_decided k v u)
-
-    rw_at_decided : Decided (RwEdge h t u k)
-    rw_at_decided =
-        decided_alike ((t ≢ u) × (IsCommitted h t × IsCommittedWriter h k u) × ((p : ℕ) × (v : ℕ) × SawAt h p t k v × IsEarlier v)) (RwEdge h t u k)
-        (λ w. let s = w.2 in (w.0, w.1.0, w.1.1, s.0, s.1, s.2, s.3.0, s.3.1, s.3.2))
-        (λ e. (e.0, (e.1, e.2), (e.3, e.4, e.5, (e.6, e.7, e.8))))
-        (three_decided (t ≢ u) (IsCommitted h t × IsCommittedWriter h k u) ((p : ℕ) × (v : ℕ) × SawAt h p t k v × IsEarlier v) (not_decided (t ≡ u) (cases_eq t u))
-        (both (IsCommitted h t) (IsCommittedWriter h k u) (committed_or_not h t) (writer_decided h k u)) (seen_decided h IsEarlier earlier_decided t k))
+  rw_at_decided : (t u k : ℕ) → Decided (RwEdge h t u k)
+  rw_at_decided t u k =
+      seen_decided h (t ≢ u) (IsCommitted h t) (IsCommittedWriter h k u) (λ v. (v ≡ 0) ⊎ IsCommitted h v) (λ v. v ≢ t) (λ v. IsVersionBefore h k v u) t k
+      (differ_or_not t u) (committed_or_not h t) (writer_decided k u) (λ v. either_decided (v ≡ 0) (IsCommitted h v) (cases_eq v 0) (committed_or_not h v))
+      (λ v. differ_or_not v t) (λ v. version_before_decided k v u)
 
   pub edge_decided : (kind : Kind) (t u k : ℕ) → Decided (EdgeOfKind h kind t u k)
   edge_decided Ww t u k = ww_decided t u k

@@ -1,5 +1,5 @@
 -- A well-formed history has a list of its edges and a list of its pivots.
-use Rattle.std.proofs.Common.{◌≡◌, ◌⊎◌, inl, inr, ℕ, suc, zero, List, [], ◌∷◌, Some, map, flat_map, refl, ap, sym, subst, arith}
+use Rattle.std.proofs.Common.{◌≡◌, ◌⊎◌, inl, ℕ, suc, zero, List, [], ◌∷◌, Some, map, flat_map, refl, ap, sym, subst, arith}
 use Rattle.std.specs.Prelude.{All, Contains, ⊤}
 use Rattle.std.proofs.lemmas.Bool.{cases_eq}
 use Rattle.std.proofs.lemmas.List.Elements.{All-nil, All-cons}
@@ -12,7 +12,6 @@ use Rattle.sia_events.specs.Transactions.{IsCommitted, CommitsBefore}
 use Rattle.sia_events.specs.Lists.{ListsAscending}
 use Rattle.sia_events.specs.DangerousStructures.{IsVulnerable, IsPivot, IsFirst}
 use Rattle.sia_events.proofs.Decisions.{Decided, both, decided_alike}
-use Rattle.sia_events.proofs.TransactionDecisions.{committed_or_not}
 use Rattle.sia_parts.specs.declared.finding.Edge.{Edge}
 use Rattle.sia_parts.specs.declared.finding.Kind.{Kind}
 use Rattle.sia_parts.specs.declared.finding.Kind.TheVariants.{Ww, Wr, Rw}
@@ -23,7 +22,7 @@ use Rattle.sia_graph.specs.Pivots.{ListsNeighbours, ArePivots}
 use Rattle.sia_graph.specs.Listings.{ListingLaw}
 use Rattle.sia_graph.proofs.Deciding.{three_decided, either_decided, event_decided}
 use Rattle.sia_graph.proofs.EdgesDecided.{edge_decided}
-use Rattle.sia_graph.proofs.Facts.{lifetime_of, commits_before_decided}
+use Rattle.sia_graph.proofs.Facts.{commits_before_decided}
 use Rattle.sia_graph.proofs.FiniteLists.{contains_flat, list_of}
 use Rattle.sia_graph.proofs.Listed.{mapped}
 use Rattle.sia_graph.proofs.NoStuckSet.{vulnerable_decided}
@@ -75,24 +74,16 @@ module _ (h : List Event) where
         (event_decided (λ e. P (actor e)) (λ e. decide (actor e)) h)
 
 module _ (h : List Event) (wf : IsWellFormed h) where
-  pub edges_listed : (edges : List Edge) × ListsEdges h (λ _. ⊤) edges
-  edges_listed =
+  pub edge_list_exists : (edges : List Edge) × ListsEdges h (λ _. ⊤) edges
+  edge_list_exists =
       list_of edge_rank edge_told (λ e. IsEdge h e × ⊤) (λ e. both (IsEdge h e) ⊤ (edge_decided h wf e.kind e.src e.dst e.key) (inl tt)) (may_be_edges h)
       (λ e is. may_be_edge h e.kind e.src e.dst e.key is.0)
-
-  vulnerable_or_not : (t u : ℕ) → Decided (IsVulnerable h t u)
-  vulnerable_or_not t u = by_ends (committed_or_not h t) (committed_or_not h u)
-    where
-      by_ends : Decided (IsCommitted h t) → Decided (IsCommitted h u) → Decided (IsVulnerable h t u)
-      by_ends (inr fails) d = inr (λ v. fails (source_committed h t u v))
-      by_ends (inl c) (inr fails) = inr (λ v. fails (target_committed h t u v))
-      by_ends (inl c) (inl d) = vulnerable_decided h wf t u (lifetime_of h wf t c) (lifetime_of h wf u d)
 
   pivot_or_not : (t : ℕ) → Decided (IsPivot h t)
   pivot_or_not t =
       both ((s : ℕ) × IsVulnerable h s t) ((u : ℕ) × IsVulnerable h t u)
-      (some_txn h (λ s. IsVulnerable h s t) (λ s. vulnerable_or_not s t) (λ s. source_committed h s t))
-      (some_txn h (λ u. IsVulnerable h t u) (vulnerable_or_not t) (target_committed h t))
+      (some_txn h (λ s. IsVulnerable h s t) (λ s. vulnerable_decided h wf s t) (λ s. source_committed h s t))
+      (some_txn h (λ u. IsVulnerable h t u) (vulnerable_decided h wf t) (target_committed h t))
 
   module _ (t u : ℕ) where
     -- an edge comes in from it, and it isn't before u
@@ -101,7 +92,7 @@ module _ (h : List Event) (wf : IsWellFormed h) where
 
     no_earlier_or_not : (s : ℕ) → Decided (IsNoEarlier s)
     no_earlier_or_not s =
-        both (IsVulnerable h s t) ((u ≡ s) ⊎ CommitsBefore h u s) (vulnerable_or_not s t)
+        both (IsVulnerable h s t) ((u ≡ s) ⊎ CommitsBefore h u s) (vulnerable_decided h wf s t)
         (either_decided (u ≡ s) (CommitsBefore h u s) (cases_eq u s) (commits_before_decided h wf u s))
 
     first_or_not : Decided (IsFirst h t u)
@@ -109,25 +100,25 @@ module _ (h : List Event) (wf : IsWellFormed h) where
         decided_alike (IsVulnerable h t u × CommitsBefore h u t × ((s : ℕ) × IsNoEarlier s)) (IsFirst h t u)
         (λ w. (w.0, w.1, w.2.0, w.2.1.0, w.2.1.1))
         (λ f. (f.0, f.1, (f.2, (f.3, f.4))))
-        (three_decided (IsVulnerable h t u) (CommitsBefore h u t) ((s : ℕ) × IsNoEarlier s) (vulnerable_or_not t u) (commits_before_decided h wf u t)
+        (three_decided (IsVulnerable h t u) (CommitsBefore h u t) ((s : ℕ) × IsNoEarlier s) (vulnerable_decided h wf t u) (commits_before_decided h wf u t)
         (some_txn h IsNoEarlier no_earlier_or_not (λ s w. source_committed h s t w.0)))
 
   -- an entry for each
   entries : (ts : List ℕ) → (found : List Pivot) × (map (λ p. p.txn) found ≡ ts) × All (ListsNeighbours h) found
   entries [] = ([], refl, All-nil (ListsNeighbours h))
   entries (t ∷ ts) =
-      let ins = list_of_txns h (λ s. IsVulnerable h s t) (λ s. vulnerable_or_not s t) (λ s. source_committed h s t) in
-      let outs = list_of_txns h (λ u. IsVulnerable h t u) (vulnerable_or_not t) (target_committed h t) in
+      let ins = list_of_txns h (λ s. IsVulnerable h s t) (λ s. vulnerable_decided h wf s t) (λ s. source_committed h s t) in
+      let outs = list_of_txns h (λ u. IsVulnerable h t u) (vulnerable_decided h wf t) (target_committed h t) in
       let firsts = list_of_txns h (λ u. IsFirst h t u) (first_or_not t) (λ u first. target_committed h t u first.0) in
       let rest = entries ts in
       let p : Pivot = record { txn = t; ins = ins.0; outs = outs.0; firsts = firsts.0 } in
       (p ∷ rest.0, ap (λ l. t ∷ l) rest.1, All-cons (ListsNeighbours h) p rest.0 (record { ins = ins.1; outs = outs.1; firsts = firsts.1 }) rest.2)
 
-  pub pivots_listed : (pivots : List Pivot) × ArePivots h pivots
-  pivots_listed =
+  pub pivot_list_exists : (pivots : List Pivot) × ArePivots h pivots
+  pivot_list_exists =
       let ts = list_of_txns h (IsPivot h) pivot_or_not (λ t pivot. source_committed h t pivot.1.0 pivot.1.1) in
       let found = entries ts.0 in
       (found.0, record { txns = subst (ListsAscending (IsPivot h)) (sym found.1) ts.1; neighbours = found.2 })
 
 pub listing_holds : (h : List Event) → IsWellFormed h → ListingLaw h
-listing_holds h wf = (edges_listed h wf, pivots_listed h wf)
+listing_holds h wf = (edge_list_exists h wf, pivot_list_exists h wf)

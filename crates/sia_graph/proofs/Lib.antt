@@ -31,6 +31,8 @@ pub mod ChainOf
 pub mod MapSteps
 pub mod Replayed
 pub mod Listed
+pub mod FiniteLists
+pub mod FiniteHistories
 pub mod Picked
 pub mod Groups
 pub mod LinkLists
@@ -50,5 +52,3 @@ pub mod Blocks
 pub mod Renamed
 pub mod StandIns
 pub mod Ways
-pub mod FiniteLists
-pub mod FiniteHistories

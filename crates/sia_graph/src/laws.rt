@@ -45,7 +45,7 @@ pub fn stand_in_law()
     ensures { (h : List Event) → StandInLaw h }
 {}
 
-/// A history has a list of its edges, and a list of its pivots with their neighbours, whether or not they are made.
+/// A well-formed history has a list of its edges, and a list of its pivots with their neighbours, though no code makes them.
 pub fn listing_law()
     ensures { (h : List Event) → IsWellFormed h → ListingLaw h }
 {}
