@@ -43,6 +43,7 @@ pub mod Arrivals
 pub mod ChunkLists
 pub mod TakenPlaces
 pub mod LeastNumbers
+pub mod LeastRanks
 pub mod ReadyPlaces
 pub mod Closures
 pub mod Extremes
