@@ -20,6 +20,7 @@ pub mod Releasing
 pub mod OneTaken
 pub mod Walks
 pub mod LeastSources
+pub mod RankedRows
 pub mod Rounds
 pub mod LeastEdges
 pub mod PrintedCycle
