@@ -50,3 +50,4 @@ pub mod Blocks
 pub mod Renamed
 pub mod StandIns
 pub mod Ways
+pub mod LookEdges
