@@ -41,7 +41,6 @@ pub mod Places
 pub mod Arrivals
 pub mod ChunkLists
 pub mod TakenPlaces
-pub mod LeastNumbers
 pub mod ReadyPlaces
 pub mod Closures
 pub mod Extremes
