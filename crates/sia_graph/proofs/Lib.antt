@@ -26,6 +26,7 @@ pub mod PrintedCycle
 pub mod StuckSets
 pub mod NoFirsts
 pub mod InOrder
+pub mod InTwoNumbers
 pub mod RightAt
 pub mod ChainOf
 pub mod MapSteps
