@@ -26,6 +26,7 @@ pub mod PrintedCycle
 pub mod StuckSets
 pub mod NoFirsts
 pub mod InOrder
+pub mod InTwoNumbers
 pub mod RightAt
 pub mod ChainOf
 pub mod MapSteps
@@ -41,7 +42,6 @@ pub mod Places
 pub mod Arrivals
 pub mod ChunkLists
 pub mod TakenPlaces
-pub mod LeastNumbers
 pub mod ReadyPlaces
 pub mod Closures
 pub mod Extremes
@@ -51,3 +51,4 @@ pub mod Renamed
 pub mod StandIns
 pub mod Ways
 pub mod KeyBlocks
+pub mod LookEdges
