@@ -43,7 +43,6 @@ pub mod Places
 pub mod Arrivals
 pub mod ChunkLists
 pub mod TakenPlaces
-pub mod LeastNumbers
 pub mod LeastRanks
 pub mod ReadyPlaces
 pub mod Closures
@@ -53,3 +52,5 @@ pub mod Blocks
 pub mod Renamed
 pub mod StandIns
 pub mod Ways
+pub mod KeyBlocks
+pub mod LookEdges

@@ -1,4 +1,5 @@
 //! The verdict of a history from narrow edges: few steps that lead wherever all its edges lead.
+pub(crate) mod blocks;
 mod grouped;
 mod ranked;
 mod two;
