@@ -20,12 +20,14 @@ pub mod Releasing
 pub mod OneTaken
 pub mod Walks
 pub mod LeastSources
+pub mod RankedRows
 pub mod Rounds
 pub mod LeastEdges
 pub mod PrintedCycle
 pub mod StuckSets
 pub mod NoFirsts
 pub mod InOrder
+pub mod InTwoNumbers
 pub mod RightAt
 pub mod ChainOf
 pub mod MapSteps
@@ -43,7 +45,7 @@ pub mod Places
 pub mod Arrivals
 pub mod ChunkLists
 pub mod TakenPlaces
-pub mod LeastNumbers
+pub mod LeastRanks
 pub mod ReadyPlaces
 pub mod Closures
 pub mod Extremes
@@ -52,3 +54,5 @@ pub mod Blocks
 pub mod Renamed
 pub mod StandIns
 pub mod Ways
+pub mod KeyBlocks
+pub mod LookEdges

@@ -17,7 +17,6 @@ pub use pivoting::passing::{passes, ssi_pass};
 pub use pivoting::vulnerable_numbers::vulnerable_in;
 pub use pivoting::{pivots, pivots_of_links};
 pub use replaying::{Mismatch, ReplayFault, replay};
-pub use settling::settling_numbers::settle_numbers;
 pub use settling::txns::Txns;
 pub use settling::{Step, Steps, Verdict, settle};
 

@@ -1,4 +1,9 @@
 //! The verdict of a history from narrow edges: few steps that lead wherever all its edges lead.
+pub(crate) mod blocks;
+mod grouped;
+mod ranked;
+mod two;
+
 use sia_events::{Key, TxnId};
 use sia_index::Index;
 use sia_parts::Looks;
