@@ -8,7 +8,9 @@ mod pivoting;
 mod replaying;
 mod settling;
 
-pub use laws::{blocks_law, closure_law, firsts_law, pivot_law, replay_law, ssi_law, stand_in_law};
+pub use laws::{
+    blocks_law, closure_law, firsts_law, listing_law, pivot_law, replay_law, ssi_law, stand_in_law,
+};
 pub use narrow::Evidence;
 pub use pivot::Pivot;
 pub use pivoting::lifetimes::{Lifetime, lifetimes_of};
