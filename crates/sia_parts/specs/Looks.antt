@@ -32,8 +32,11 @@ IsCovered h looks t k c = ((look : Look) × Contains looks.readers.items look ×
     ⊎ ((c ≡ 0) × (absence : Absence) × Contains looks.absences.items absence × IsAbsentAt h absence t k)
 
 -- by key, and then by commit
+abbrev pub rank_of : ℕ → ℕ → ℕ
+rank_of key place = key * 4294967296 + place
+
 abbrev pub look_rank : Look → ℕ
-look_rank look = look.key * 4294967296 + look.high
+look_rank look = rank_of look.key look.high
 
 abbrev pub RiseByRank : List Look → Type 0
 RiseByRank looks = (i j : ℕ) (d : Look) → i ≤ j → j < length looks → look_rank (slice_index_or looks i d) ≤ look_rank (slice_index_or looks j d)

@@ -1,10 +1,8 @@
-//! Where the edges of all parts are cut into chunks by their sources, so that workers can make their numbers side by side.
+//! Where edges are cut into chunks by their sources, so that workers can make their numbers side by side.
 ghost use Rattle.std.specs.Prelude.{◌≡◌, ◌+◌, ◌<◌, ◌≤◌, [], ◌∷◌, length, slice_index, All, AllPairs, IfOk, IsTrue, OnOk};
 ghost use Rattle.sia_parts.specs.Gathering.{AreChunkBounds};
 
-use crate::edges::fans::Fan;
-use crate::edges::part_edges::PartEdges;
-use crate::gathering::gathering_numbers::Gathering;
+use crate::edges::fans::{Fan, Fans};
 use sia_events::NoMemory;
 use std::alloc::Global;
 
@@ -22,7 +20,7 @@ impl ChunkBounds {
     /// which it has about so many edges, or more where there would be too many chunks.
     pub fn of(
         alloc: Global,
-        gathering: &Gathering,
+        fans: &Fans,
         txns: usize,
         size: usize,
     ) -> Result<ChunkBounds, NoMemory>
@@ -32,7 +30,7 @@ impl ChunkBounds {
         let mut places = Vec::new(alloc);
         places.push(0)?;
         if txns > 0 {
-            let weights = weights_of(alloc, &gathering.edges, txns)?;
+            let weights = weights_of(alloc, &fans.fans, txns)?;
             let least = size.max(sum_of(&weights) / MOST + 1);
             put_chunk_bounds(&weights, txns, least, &mut places)?;
             places.push(txns)?;
@@ -51,12 +49,10 @@ fn sum_of(weights: &[usize]) -> usize {
 }
 
 // How many edges each source has at most. There are so many sources.
-fn weights_of(alloc: Global, parts: &[PartEdges], sources: usize) -> Result<Vec<usize>, NoMemory> {
+fn weights_of(alloc: Global, fans: &[Fan], sources: usize) -> Result<Vec<usize>, NoMemory> {
     let mut weights = vec![in alloc; 0usize; sources]?;
-    for part in parts {
-        for fan in &part.fans {
-            weigh(*fan, weights.as_mut_slice());
-        }
+    for fan in fans {
+        weigh(*fan, weights.as_mut_slice());
     }
     Ok(weights)
 }
