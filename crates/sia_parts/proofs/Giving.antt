@@ -1,6 +1,7 @@
 -- What a list gives, once something was added, and what fans give of numbers.
 use Rattle.std.proofs.Common.{◌≡◌, ◌⊎◌, inl, inr, ℕ, ◌+◌, ◌<◌, ◌≤◌, List, [], ◌∷◌, ◌++◌, length, take, get_or, refl, sym, subst, arith}
 use Rattle.std.specs.Prelude.{◌↔◌, Contains, slice_range}
+use Rattle.std.specs.Global.{Vec}
 use Rattle.std.proofs.lemmas.List.{take_all}
 use Rattle.std.proofs.lemmas.List.Edits.{length-between}
 use Rattle.std.specs.List.Sorted.{IsPermutation}
@@ -8,9 +9,10 @@ use Rattle.std.proofs.lemmas.List.Sorted.{Contains-permutation, IsPermutation-sy
 use Rattle.std.proofs.lemmas.List.Elements.{Contains-append_left, Contains-push, Contains-push_cases}
 use Rattle.sia_parts.specs.declared.edges.fans.Fan.{Fan}
 use Rattle.sia_parts.specs.declared.finding.Kind.{Kind}
+use Rattle.sia_parts.specs.declared.looks.Absence.{Absence}
 use Rattle.sia_parts.specs.declared.looks.Look.{Look}
 use Rattle.sia_parts.specs.declared.looks.Looks.{Looks}
-use Rattle.sia_parts.specs.Fans.{GivesTo, IsFanNumber, IsNumberWithin, looks_for}
+use Rattle.sia_parts.specs.Fans.{GivesTo, IsFanNumber, IsMissedNumber, IsNumberFound, IsNumberWithin, IsWriterNumber, looks_for}
 use Rattle.sia_parts.specs.Looks.{look_rank}
 use Rattle.sia_parts.specs.Sights.{FromSome, Gives}
 use Rattle.sia_parts.proofs.Adding.{FromFirst, first_more}
@@ -96,3 +98,28 @@ module _ (kind : Kind) (src from to start stop : ℕ) (among : List Look) (fans 
       let c = (between w.0).1 (w.1, w.2, w.3) in
       let below = c.1 in
       omega (arith, length-between among start stop bound))
+
+-- the fans to versions that reads missed, and those of the versions, give all, also where the readers are put in order between
+module _ (looks : Looks) (readers : Vec Look) (absences : Vec Absence) (same : (look : Look) → Contains readers.items look ↔ Contains looks.readers.items look) where
+  abbrev pub ranked : Looks
+  ranked = record { writers = looks.writers; readers = readers; absences = absences }
+
+  to : (x : Look) (n : ℕ) → IsWriterNumber ranked x n → IsWriterNumber looks x n
+  to x n (inl later) = inl later
+  to x n (inr (y, c, low, below, is)) = inr (y, (same y).0 c, low, below, is)
+
+  from : (x : Look) (n : ℕ) → IsWriterNumber looks x n → IsWriterNumber ranked x n
+  from x n (inl later) = inl later
+  from x n (inr (y, c, low, below, is)) = inr (y, (same y).1 c, low, below, is)
+
+  pub found_by : (missed fans : List Fan) → Gives (IsFanNumber ranked) (IsMissedNumber looks.writers.items looks.readers.items looks.absences.items) [] missed
+      → Gives (IsFanNumber ranked) (FromSome (IsWriterNumber ranked) looks.writers.items) missed fans
+      → (n : ℕ) → FromSome (IsFanNumber ranked) fans n ↔ IsNumberFound looks n
+  found_by missed fans first second n = (
+    (λ f. elim (all.0 f) [ inl m ↦ inl m | inr w ↦ inr (w.0, w.1, to w.0 n w.2) ]),
+    (λ e. all.1 (elim e [ inl m ↦ inl m | inr w ↦ inr (w.0, w.1, from w.0 n w.2) ])),
+  )
+    where
+      all : FromSome (IsFanNumber ranked) fans n ↔ (IsMissedNumber looks.writers.items looks.readers.items looks.absences.items n ⊎ FromSome (IsWriterNumber ranked) looks.writers.items n)
+      all = given_to_none (IsFanNumber ranked) (λ n. IsMissedNumber looks.writers.items looks.readers.items looks.absences.items n ⊎ FromSome (IsWriterNumber ranked) looks.writers.items n) fans
+          (gives_both (IsFanNumber ranked) (IsMissedNumber looks.writers.items looks.readers.items looks.absences.items) (FromSome (IsWriterNumber ranked) looks.writers.items) [] missed fans first second) n

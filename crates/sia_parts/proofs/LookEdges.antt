@@ -45,11 +45,17 @@ module _ (h : List Event) (wf : IsWellFormed h) where
   has_digits look t k of = (few_committed h wf look.txn t of.0, few_keys h wf look.key k of.1)
 
   module _ (Within : ℕ → Type 0) (looks : Looks) (are : AreLooks h Within looks) where
-    pub writers_have_digits : All HasDigits looks.writers.items
-    writers_have_digits i d below = let of = are.made (slice_index_or looks.writers.items i d) (Contains-get_or looks.writers.items i d below) in has_digits _ of.0 of.1 of.3.0
-
-    pub readers_have_digits : All HasDigits looks.readers.items
-    readers_have_digits i d below = let of = are.seen (slice_index_or looks.readers.items i d) (Contains-get_or looks.readers.items i d below) in has_digits _ of.0 of.1 of.2.0
+    pub have_digits : (readers : List Look) → ((x : Look) → Contains readers x → Contains looks.readers.items x) → All HasDigits looks.writers.items × All HasDigits readers
+    have_digits readers among = (
+      (λ i d below.
+          let look = slice_index_or looks.writers.items i d in
+          let of = are.made look (Contains-get_or looks.writers.items i d below) in
+          has_digits look of.0 of.1 of.3.0),
+      (λ i d below.
+          let look = slice_index_or readers i d in
+          let of = are.seen look (among look (Contains-get_or readers i d below)) in
+          has_digits look of.0 of.1 of.2.0),
+    )
 
     module _ (txns keys : List ℕ) (txns_are : ListsAscending (IsCommitted h) txns) (keys_are : AreWrittenKeys h keys) where
       -- the number of an edge to a look stands for the edge
