@@ -24,6 +24,7 @@ pub mod Giving
 pub mod FanEdges
 pub mod LookEdges
 pub mod LooksMade
+pub mod AllLooks
 pub mod StandingNumbers
 pub mod BetweenPlaces
 pub mod ChunkBoundLemmas
