@@ -1,12 +1,10 @@
 -- What stands between two places of a list that is in order by numbers.
-use Rattle.std.proofs.Common.{◌≡◌, inl, inr, ℕ, ◌+◌, ◌-◌, ◌/◌, ◌<◌, ◌≤◌, true, false, List, [], ◌∷◌, length, get_or, take, drop, ltb, ap, sym, ◌∙◌, subst, arith}
+use Rattle.std.proofs.Common.{◌≡◌, inl, inr, ℕ, ◌+◌, ◌-◌, ◌<◌, ◌≤◌, true, false, List, length, get_or, take, drop, ltb, ap, sym, ◌∙◌, subst, arith}
 use Rattle.std.specs.Prelude.{◌↔◌, AllPairs, Contains, slice_index}
 use Rattle.std.specs.List.Sorted.{IsNonDecreasingBy, IsPartitionPoint}
 use Rattle.std.proofs.Math.Dec.{leb}
-use Rattle.std.proofs.Math.Nat.{div-mul-le_self}
 use Rattle.std.proofs.lemmas.Bool.{cases_lt, leb-false, leb-true, ltb-true, ltb-false}
 use Rattle.std.proofs.lemmas.List.{get_or-take, get_or-drop, length-take, length-drop}
-use Rattle.std.proofs.lemmas.Nat.{le-div}
 use Rattle.sia_parts.specs.declared.edges.fans.Fan.{Fan}
 use Rattle.sia_parts.specs.declared.looks.Looks.{Looks}
 use Rattle.sia_parts.specs.Fans.{IsFanNumber}
@@ -113,20 +111,6 @@ fans_of_sources looks fans some from to are n = (
       let high = w.2 in
       (f.0, (are f.0).1 (f.1, omega arith, omega arith), f.2)),
 )
-
--- a greater number has no lesser source
-div_rises : (k n m : ℕ) → 0 < k → n ≤ m → n / k ≤ m / k
-div_rises k n m some l = le-div (n / k) m k some (let a = div-mul-le_self n k in omega arith)
-
-source_rises : (n m : ℕ) → n ≤ m → source_number n ≤ source_number m
-source_rises n m l = div_rises 1048576 (n / 1048576 / 4) (m / 1048576 / 4) (omega arith) (div_rises 4 (n / 1048576) (m / 1048576) (omega arith) (div_rises 1048576 n m (omega arith) l))
-
--- a number of a lesser source is less
-pub source_less : (m n : ℕ) → source_number m < source_number n → m < n
-source_less m n less = elim (cases_lt m n) [
-  | inl under ↦ under
-  | inr over ↦ absurd (let rises = source_rises n m over in omega arith)
-]
 
 -- the places of the numbers from one to another, both included
 pub places_within : (xs : List ℕ) (lo hi from to : ℕ) → to ≤ length xs

@@ -1,18 +1,8 @@
 -- Places of sources that ascend, put one after another.
-use Rattle.std.proofs.Common.{◌≡◌, ◌⊎◌, inl, inr, ℕ, zero, suc, ◌+◌, ◌-◌, ◌<◌, ◌≤◌, List, [], ◌∷◌, ◌++◌, length, get_or, Vec, Global, refl, ap, sym, subst, ◌∙◌, arith}
-use Rattle.std.specs.Prelude.{◌↔◌, All, AllPairs, Contains, slice_index}
+use Rattle.std.proofs.Common.{◌≡◌, ◌⊎◌, inl, inr, ℕ, zero, suc, ◌+◌, ◌<◌, ◌≤◌, List, [], ◌∷◌, ◌++◌, length, get_or, refl, ap, sym, ◌∙◌, arith}
+use Rattle.std.specs.Prelude.{All, AllPairs, slice_index}
 use Rattle.std.proofs.lemmas.Bool.{cases_lt}
 use Rattle.std.proofs.lemmas.List.{get_or_append_left, get_or-append-add, length-append}
-use Rattle.std.proofs.lemmas.List.Concat.{flat_map-cons}
-use Rattle.std.proofs.lemmas.List.Elements.{Contains-get_or, Contains-append_left, Contains-append_right, Contains-append_cases}
-use Rattle.sia_parts.specs.declared.edges.part_edges.PartEdges.{PartEdges}
-use Rattle.sia_parts.specs.Gathering.{AreNumbersBetween, AreChunkBounds, IsNumberOfSome}
-use Rattle.sia_parts.specs.Packing.{source_number}
-use Rattle.sia_parts.specs.Chunks.{AreBefore, numbers_in}
-use Rattle.sia_parts.proofs.BetweenPlaces.{source_less}
-use Rattle.sia_parts.proofs.FanEdges.{joined_rise, none_rise}
-use Rattle.sia_parts.proofs.FindingLemmas.{entry_at}
-use Rattle.sia_parts.proofs.Members.{contains_first, contains_later, first_or_later}
 
 -- places that stand below one
 pub record ChunkBoundsBelow (place : ℕ) (places : List ℕ) : Type 0 where

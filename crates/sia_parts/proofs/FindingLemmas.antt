@@ -1,5 +1,5 @@
 -- What is found at the keys of the parts of a cutting, all together.
-use Rattle.std.proofs.Common.{◌≡◌, ℕ, zero, suc, ◌<◌, ◌^◌, List, [], ◌∷◌, ◌++◌, length, get_or, map, refl, ap, sym, subst, arith}
+use Rattle.std.proofs.Common.{◌≡◌, ℕ, zero, suc, ◌<◌, ◌^◌, List, [], ◌∷◌, ◌++◌, length, get_or, refl, ap, subst, arith}
 use Rattle.std.specs.List.{AllZip}
 use Rattle.std.specs.Prelude.{◌↔◌, Contains, ⊤}
 use Rattle.std.specs.List.Sorted.{IsStrictlySortedBy}
@@ -13,12 +13,6 @@ use Rattle.sia_parts.specs.Sights.{Adds, FromSome}
 use Rattle.sia_parts.proofs.Adding.{added_are}
 use Rattle.sia_parts.proofs.Listing.{put_listed}
 use Rattle.sia_parts.proofs.PartLemmas.{one_part_holds}
-
-pub AllZip-map : {A B C : Type 0} (R : A → B → Type 0) (S : A → C → Type 0) (f : B → C) → ((x : A) (y : B) → R x y → S x (f y)) → (xs : List A) (ys : List B) → AllZip R xs ys → AllZip S xs (map f ys)
-AllZip-map R S f to [] [] z = tt
-AllZip-map R S f to [] (y ∷ ys) z = absurd z
-AllZip-map R S f to (x ∷ xs) [] z = absurd z
-AllZip-map R S f to (x ∷ xs) (y ∷ ys) z = (to x y z.0, AllZip-map R S f to xs ys z.1)
 
 pub AllZip-one_more : {A B : Type 0} (R : A → B → Type 0) (xs : List A) (ys : List B) (x : A) (y : B) → AllZip R xs ys → R x y → AllZip R (xs ++ x ∷ []) (ys ++ y ∷ [])
 AllZip-one_more R [] [] x y z r = (r, tt)

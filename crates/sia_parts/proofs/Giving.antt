@@ -1,5 +1,5 @@
 -- What a list gives, once something was added, and what fans give of numbers.
-use Rattle.std.proofs.Common.{◌≡◌, ◌⊎◌, inl, inr, ℕ, ◌+◌, ◌<◌, ◌≤◌, List, [], ◌∷◌, ◌++◌, length, take, get_or, refl, sym, subst, arith}
+use Rattle.std.proofs.Common.{◌⊎◌, inl, inr, ℕ, ◌+◌, ◌<◌, ◌≤◌, List, [], ◌∷◌, ◌++◌, length, get_or, sym, subst, arith}
 use Rattle.std.specs.Prelude.{◌↔◌, Contains, slice_range}
 use Rattle.std.specs.Global.{Vec}
 use Rattle.std.proofs.lemmas.List.{take_all}
@@ -12,7 +12,7 @@ use Rattle.sia_parts.specs.declared.finding.Kind.{Kind}
 use Rattle.sia_parts.specs.declared.looks.Absence.{Absence}
 use Rattle.sia_parts.specs.declared.looks.Look.{Look}
 use Rattle.sia_parts.specs.declared.looks.Looks.{Looks}
-use Rattle.sia_parts.specs.Fans.{GivesTo, IsFanNumber, IsMissedNumber, IsNumberFound, IsNumberWithin, IsWriterNumber, looks_for}
+use Rattle.sia_parts.specs.Fans.{GivesTo, IsFanNumber, IsMissedNumber, IsNumberFound, IsNumberWithin, IsWriterNumber}
 use Rattle.sia_parts.specs.Looks.{look_rank}
 use Rattle.sia_parts.specs.Sights.{FromSome, Gives}
 use Rattle.sia_parts.proofs.Adding.{FromFirst, first_more}

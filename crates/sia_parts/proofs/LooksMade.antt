@@ -1,6 +1,6 @@
 -- The looks of a part's versions, spans and gaps are those at its keys.
-use Rattle.std.proofs.Common.{◌≡◌, inl, inr, ℕ, ◌<◌, ◌≤◌, List, refl, sym, subst, ◌∙◌}
-use Rattle.std.specs.Prelude.{◌↔◌, Contains, slice_index}
+use Rattle.std.proofs.Common.{inl, inr, ℕ, List, refl, sym, subst, ◌∙◌}
+use Rattle.std.specs.Prelude.{◌↔◌, Contains}
 use Rattle.std.proofs.lemmas.List.{get_or_default}
 use Rattle.sia_events.specs.declared.event.Event.{Event}
 use Rattle.sia_events.specs.Lists.{ListsAscending}

@@ -1,6 +1,6 @@
 -- Where the findings of a part come from: pairs of versions, spans with versions, and sights.
 use Rattle.std.proofs.Common.{◌≡◌, ◌≢◌, ◌⊎◌, inl, inr, ℕ, ◌<◌, ◌≤◌, List, refl, ap, sym, subst, ◌∙◌, arith}
-use Rattle.std.specs.Prelude.{◌↔◌, Contains}
+use Rattle.std.specs.Prelude.{◌↔◌}
 use Rattle.std.proofs.lemmas.Bool.{cases_eq}
 use Rattle.sia_events.specs.declared.event.Event.{Event}
 use Rattle.sia_events.specs.declared.event.Event.TheVariants.{Commit}
@@ -16,7 +16,7 @@ use Rattle.sia_events.proofs.Seen.{saw_written, actor_is_txn}
 use Rattle.sia_events.proofs.Versions.{writer_not_zero}
 use Rattle.sia_events.proofs.TransactionDecisions.{place_within}
 use Rattle.sia_index.specs.declared.info.Made.{Made}
-use Rattle.sia_index.specs.Info.{IsMade, AreVersions, AreWrittenWithin}
+use Rattle.sia_index.specs.Info.{AreVersions, AreWrittenWithin}
 use Rattle.sia_parts.specs.declared.cutting.Part.{Part}
 use Rattle.sia_parts.specs.declared.finding.BadWrite.{BadWrite}
 use Rattle.sia_parts.specs.declared.auditing.gaps.Gap.{Gap}

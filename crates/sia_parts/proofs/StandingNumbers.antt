@@ -1,24 +1,13 @@
 -- Numbers that stand for edges, told one by one, and what a list of them is.
-use Rattle.std.proofs.Common.{◌≡◌, inl, inr, ℕ, ◌<◌, List, [], ◌∷◌, length, get_or, map, sym, subst, arith}
-use Rattle.std.specs.List.{AllZip}
-use Rattle.std.specs.Prelude.{◌↔◌, ⊤, All, AllPairs, Contains}
-use Rattle.std.proofs.lemmas.List.Elements.{All-cons, All-nil, Contains-get_or}
-use Rattle.std.proofs.lemmas.Option.{slice_get_within, get_or_from_slice_get}
+use Rattle.std.proofs.Common.{inl, inr, ℕ, ◌<◌, List, [], ◌∷◌, get_or}
+use Rattle.std.specs.Prelude.{◌↔◌, All, AllPairs, Contains}
+use Rattle.std.proofs.lemmas.List.Elements.{Contains-get_or}
 use Rattle.sia_events.specs.declared.event.Event.{Event}
 use Rattle.sia_events.specs.Lists.{Precedes}
-use Rattle.sia_events.specs.Refusals.{IsWellFormed}
-use Rattle.sia_parts.specs.declared.cutting.Part.{Part}
-use Rattle.sia_parts.specs.declared.finding.Edge.{Edge}
 use Rattle.sia_parts.specs.EdgeNumbers.{AreEdgeNumbers, AreEdgeTables, StandForEdges}
-use Rattle.sia_parts.specs.Entries.{IsEdge}
 use Rattle.sia_parts.specs.Packing.{IsPacked, unpacked}
-use Rattle.sia_parts.specs.Parts.{IsCutting, IsInPart}
-use Rattle.sia_parts.specs.Sights.{FromSome}
 use Rattle.sia_parts.proofs.FanEdges.{in_map, map_in}
-use Rattle.sia_parts.proofs.FindingLemmas.{entry_at, length_zip, zip_at}
-use Rattle.sia_parts.proofs.KeyLemmas.{edge_key}
 use Rattle.sia_parts.proofs.PackedEdges.{unpacked_ascend}
-use Rattle.sia_parts.proofs.PartLemmas.{one_part_holds}
 
 rank_less : (m n : ℕ) → Precedes (m ∷ []) (n ∷ []) → m < n
 rank_less m n (inl less) = less

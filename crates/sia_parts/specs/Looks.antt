@@ -1,6 +1,6 @@
 -- What committed transactions wrote and saw of the written keys. What one saw of a key is told by the oldest and the newest
 -- version that it looked at: those between add no edge that these don't give.
-use Rattle.std.specs.Prelude.{◌≡◌, ◌⊎◌, ◌↔◌, ℕ, ◌+◌, ◌*◌, ◌<◌, ◌≤◌, List, Contains, length, slice_index_or}
+use Rattle.std.specs.Prelude.{◌≡◌, ◌⊎◌, ℕ, ◌+◌, ◌*◌, ◌<◌, ◌≤◌, List, Contains, length, slice_index_or}
 use Rattle.sia_events.specs.declared.event.Event.{Event}
 use Rattle.sia_events.specs.NarrowDependencies.{CommitsVersion, Looked}
 use Rattle.sia_events.specs.Transactions.{Wrote}

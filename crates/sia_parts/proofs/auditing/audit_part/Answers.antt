@@ -1,14 +1,10 @@
 -- The edges are those of the numbers of the fans.
-use Rattle.std.proofs.Common.{◌≡◌, ℕ, ◌<◌, ◌≤◌, Some, length, subst, sym, ◌∙◌, arith}
+use Rattle.std.proofs.Common.{ℕ, Some, subst, sym, arith}
 use Rattle.std.specs.Prelude.{◌↔◌, Contains}
-use Rattle.sia_events.specs.Lists.{ListsAscending}
-use Rattle.sia_events.specs.Transactions.{IsCommitted}
-use Rattle.sia_index.specs.Info.{AreWrittenKeys}
-use Rattle.sia_parts.specs.EdgeNumbers.{AreEdgeTables, StandForEdges}
+use Rattle.sia_parts.specs.EdgeNumbers.{AreEdgeTables}
 use Rattle.sia_parts.specs.Findings.{ListsEdges}
 use Rattle.sia_parts.specs.Gathering.{IsNumberIn}
 use Rattle.sia_parts.specs.Looks.{AreLooks}
-use Rattle.sia_parts.specs.Packing.{source_number}
 use Rattle.sia_parts.specs.Parts.{IsInPart}
 use Rattle.sia_parts.proofs.StandingNumbers.{listed}
 use Rattle.sia_parts.proofs.auditing.audit_part.Goals as goal

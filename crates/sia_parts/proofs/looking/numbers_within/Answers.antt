@@ -1,7 +1,6 @@
 -- What the two searches part.
-use Rattle.std.proofs.Common.{ℕ, ltb, rules, arith}
+use Rattle.std.proofs.Common.{ℕ, ltb, rules}
 use Rattle.std.proofs.Math.Dec.{leb}
-use Rattle.std.specs.List.Sorted.{IsNonDecreasingBy}
 use Rattle.std.proofs.lemmas.List.Sorted.{IsPartitionPoint-from_clause, IsPartitionedBy-ltb, IsPartitionedBy-leb}
 use Rattle.sia_parts.proofs.BetweenPlaces.{places_within, rise_by}
 use Rattle.sia_parts.proofs.looking.numbers_within.Goals as goal

@@ -1,6 +1,6 @@
 -- The places of the gap's keys are their numbers, and the gap's transaction has one number, or no event.
-use Rattle.std.proofs.Common.{ℕ, ◌<◌, ◌≤◌, ◌≡◌, length, refl, subst, sym, ◌∙◌, arith}
-use Rattle.std.specs.Prelude.{◌↔◌, slice_index}
+use Rattle.std.proofs.Common.{◌≤◌, refl, subst, sym, arith}
+use Rattle.std.specs.Prelude.{slice_index}
 use Rattle.sia_index.proofs.KeyChains.{key_number}
 use Rattle.sia_parts.specs.EdgeNumbers.{IsCommittedAt}
 use Rattle.sia_parts.specs.Looking.{IsAbsence, IsGapAt}

@@ -1,5 +1,5 @@
 -- The fans of these sources give the numbers of these sources, which are put in order.
-use Rattle.std.proofs.Common.{[], subst}
+use Rattle.std.proofs.Common.{subst}
 use Rattle.sia_parts.specs.Fans.{IsFanNumber}
 use Rattle.sia_parts.specs.Sights.{Adds, FromSome}
 use Rattle.sia_parts.proofs.Adding.{added_to_none}

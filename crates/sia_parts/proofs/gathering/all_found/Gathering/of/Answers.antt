@@ -1,5 +1,5 @@
 -- The lists of the parts, one behind another and put in order, are what the definitions name.
-use Rattle.std.proofs.Common.{◌≡◌, [], map-id, rules, subst, sym, ◌∙◌}
+use Rattle.std.proofs.Common.{[], map-id, rules, subst, sym, ◌∙◌}
 use Rattle.std.specs.List.{AllZip}
 use Rattle.std.specs.Prelude.{Contains}
 use Rattle.std.proofs.lemmas.Iterator.Adapters.{YieldsList-from_vec}
