@@ -177,11 +177,7 @@ fn put_fans_of_writer(
 }
 
 // Adds the fans of the readers: to the versions after the first one that each saw.
-fn put_reader_fans(
-    writers: &[Look],
-    readers: &[Look],
-    fans: &mut Vec<Fan>,
-) -> Result<(), NoMemory>
+fn put_reader_fans(writers: &[Look], readers: &[Look], fans: &mut Vec<Fan>) -> Result<(), NoMemory>
     requires writers { RiseByRank writers.now }
     requires readers { All HasDigits readers.now }
     ensures { OnOk result (GivesTo Rw writers.now (FromSome (IsReaderNumber writers.now) readers.now) fans.old.items fans.new.items) }

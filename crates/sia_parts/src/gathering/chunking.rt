@@ -18,12 +18,7 @@ pub struct ChunkBounds {
 impl ChunkBounds {
     /// Cuts the edges, whose sources are so many transactions, into at most 1,024 chunks: each goes on to the source with
     /// which it has about so many edges, or more where there would be too many chunks.
-    pub fn of(
-        alloc: Global,
-        fans: &Fans,
-        txns: usize,
-        size: usize,
-    ) -> Result<ChunkBounds, NoMemory>
+    pub fn of(alloc: Global, fans: &Fans, txns: usize, size: usize) -> Result<ChunkBounds, NoMemory>
         ensures few { IfOk result (λ chunk_bounds. length chunk_bounds.places.items ≤ 1025) }
         ensures are { IfOk result (λ chunk_bounds. AreChunkBounds txns chunk_bounds.places.items) }
     {

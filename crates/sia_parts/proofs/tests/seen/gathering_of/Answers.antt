@@ -15,3 +15,8 @@ of-requires c = (
   c.in_ok-parts.ensures.parts,
   subst (λ parts. AllZip (λ part found. IsPartFound c.args.h.now (IsInPart part) found) parts c.in_ok-all.all.items) c.deref.ensures.value c.in_ok-all.ensures,
 )
+
+pub returns-in-Ok : goal.returns-in-Ok
+returns-in-Ok c = c.in-Ok.ensures c.args.h.now c.args.points.now c.in_ok-parts.parts.items
+    (subst IsWellFormed c.requires.index c.law.ensures) c.in_ok-parts.ensures.parts
+    (subst (λ parts. AllZip (λ part found. IsPartFound c.args.h.now (IsInPart part) found) parts c.in_ok-all.all.items) c.deref.ensures.value c.in_ok-all.ensures)
