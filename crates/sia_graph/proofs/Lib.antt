@@ -51,4 +51,6 @@ pub mod Renamed
 pub mod StandIns
 pub mod Ways
 pub mod KeyBlocks
+pub mod NextVersions
+pub mod NarrowSteps
 pub mod LookEdges
