@@ -53,4 +53,5 @@ pub mod Ways
 pub mod KeyBlocks
 pub mod NextVersions
 pub mod NarrowSteps
+pub mod AbsenceBlocks
 pub mod LookEdges

@@ -65,6 +65,10 @@ pub record AreFirsts (size : ℕ) (writers : List Look) (firsts : List ℕ) : Ty
 abbrev pub IsLeafStep : ℕ → ℕ → ℕ → Type 0
 IsLeafStep size first n = n ≡ step_number (size + step_target first) (node_of size (step_source first))
 
+-- the absence's keys are some of so many
+abbrev pub FitsKeys : ℕ → Absence → Type 0
+FitsKeys size s = s.from < s.to → s.to ≤ size
+
 -- the absence has the key, and its transaction didn't make the key's first version
 abbrev pub IsMissedAt : List ℕ → Absence → ℕ → Type 0
 IsMissedAt firsts s j = (s.from ≤ j) × (j < s.to) × ¬ Contains firsts (step_number s.txn j)
@@ -76,6 +80,10 @@ IsAbsenceStep size firsts s n = (b : ℕ) × (0 < b) × (b < 2 * size) × (n ≡
 -- there are steps to blocks that are over all these keys
 abbrev pub HasAbsenceSteps : ℕ → List ℕ → Absence → List ℕ → Type 0
 HasAbsenceSteps size firsts s steps = (j : ℕ) → j < size → IsMissedAt firsts s j → (b : ℕ) × IsOver size b j × (0 < b) × (b < 2 * size) × Contains steps (step_number (node_of size s.txn) b)
+
+-- what old holds, new holds
+abbrev pub KeepsAll : List ℕ → List ℕ → Type 0
+KeepsAll old new = (n : ℕ) → Contains old n → Contains new n
 
 -- all steps: those that there are, and those that there must be
 pub record AreNarrowSteps (size : ℕ) (looks : Looks) (firsts steps : List ℕ) : Type 0 where

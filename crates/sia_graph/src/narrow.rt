@@ -1,5 +1,6 @@
 //! The verdict of a history from narrow edges: few steps that lead wherever all its edges lead.
 pub(crate) mod blocks;
+mod absences;
 mod grouped;
 mod steps;
 mod versions;
