@@ -4,7 +4,6 @@ use Rattle.std.specs.Prelude.{◌≡◌, ◌≢◌, ◌↔◌, ◌⊎◌, ℕ, �
 use Rattle.std.specs.List.Sorted.{IsNonDecreasing}
 use Rattle.sia_parts.specs.declared.looks.Absence.{Absence}
 use Rattle.sia_parts.specs.declared.looks.Look.{Look}
-use Rattle.sia_parts.specs.declared.looks.Looks.{Looks}
 use Rattle.sia_parts.specs.Looks.{RiseByRank}
 use Rattle.sia_parts.specs.Sights.{FromSome}
 use Rattle.sia_graph.specs.KeyBlocks.{IsOver}
@@ -85,13 +84,16 @@ HasAbsenceSteps size firsts s steps = (j : ℕ) → j < size → IsMissedAt firs
 abbrev pub KeepsAll : List ℕ → List ℕ → Type 0
 KeepsAll old new = (n : ℕ) → Contains old n → Contains new n
 
+-- steps from versions to the next ones, from those who saw versions to the next ones, and to these from the newest that they saw
+abbrev pub IsMemberStep : ℕ → List Look → List Look → ℕ → Type 0
+IsMemberStep size writers readers n = FromSome (IsNextStep size writers) writers n ⊎ FromSome (IsNextStep size writers) readers n ⊎ FromSome (IsNewestStep size writers) readers n
+
 -- all steps: those that there are, and those that there must be
-pub record AreNarrowSteps (size : ℕ) (looks : Looks) (firsts steps : List ℕ) : Type 0 where
-  pub firsts_are : AreFirsts size looks.writers.items firsts
-  pub each : (n : ℕ) → Contains steps n → FromSome (IsNextStep size looks.writers.items) looks.writers.items n ⊎ FromSome (IsNextStep size looks.writers.items) looks.readers.items n
-      ⊎ FromSome (IsNewestStep size looks.writers.items) looks.readers.items n ⊎ IsHalfStep size n ⊎ FromSome (IsLeafStep size) firsts n ⊎ FromSome (IsAbsenceStep size firsts) looks.absences.items n
-  pub next : (n : ℕ) → FromSome (IsNextStep size looks.writers.items) looks.writers.items n ⊎ FromSome (IsNextStep size looks.writers.items) looks.readers.items n → Contains steps n
-  pub newest : (n : ℕ) → FromSome (IsNewestStep size looks.writers.items) looks.readers.items n → Contains steps n
+pub record AreNarrowSteps (size : ℕ) (writers readers : List Look) (absences : List Absence) (steps : List ℕ) : Type 0 where
+  pub firsts : List ℕ
+  pub firsts_are : AreFirsts size writers firsts
+  pub each : (n : ℕ) → Contains steps n → IsMemberStep size writers readers n ⊎ IsHalfStep size n ⊎ FromSome (IsLeafStep size) firsts n ⊎ FromSome (IsAbsenceStep size firsts) absences n
+  pub members : (n : ℕ) → IsMemberStep size writers readers n → Contains steps n
   pub halves : (n : ℕ) → IsHalfStep size n → Contains steps n
   pub leaves : (n : ℕ) → FromSome (IsLeafStep size) firsts n → Contains steps n
-  pub absences : (s : Absence) → Contains looks.absences.items s → HasAbsenceSteps size firsts s steps
+  pub absent : (s : Absence) → Contains absences s → HasAbsenceSteps size firsts s steps

@@ -1,6 +1,8 @@
 //! The verdict of a history from narrow edges: few steps that lead wherever all its edges lead.
 pub(crate) mod blocks;
 mod absences;
+mod all_steps;
+mod firsts;
 mod grouped;
 mod steps;
 mod versions;
