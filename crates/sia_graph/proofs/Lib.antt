@@ -54,4 +54,5 @@ pub mod KeyBlocks
 pub mod NextVersions
 pub mod NarrowSteps
 pub mod AbsenceBlocks
+pub mod NarrowStands
 pub mod LookEdges

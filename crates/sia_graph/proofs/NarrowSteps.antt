@@ -13,7 +13,7 @@ use Rattle.sia_parts.proofs.Adding.{added_to_none, adds_both, adds_nothing, adds
 use Rattle.sia_graph.specs.NarrowSteps.{AreFirsts, AreNarrowSteps, CanSearch, HasAbsenceSteps, IsAbsenceStep, IsFirstNumber, IsFirstOf, IsHalfStep, IsLeafStep, IsMemberStep, IsNewest, IsNext, IsNewestStep, IsNextStep, KeepsAll, node_of, step_number, step_source, step_target}
 use Rattle.sia_graph.proofs.AbsenceBlocks.{still_has}
 
-one_next_at : (writers : List Look) (can : CanSearch writers) (key place : ℕ) (a b : Look) → IsNext writers key place a → IsNext writers key place b → a.txn ≡ b.txn
+pub one_next_at : (writers : List Look) (can : CanSearch writers) (key place : ℕ) (a b : Look) → IsNext writers key place a → IsNext writers key place b → a.txn ≡ b.txn
 one_next_at writers can key place a b n m =
     let x = n.3 b m.0 m.1 m.2 in
     let y = m.3 a n.0 n.1 n.2 in

@@ -1,7 +1,9 @@
 -- Steps that lead wherever the edges of a history lead. Between blocks of keys, each of them over some of `size` keys, and the
 -- committed transactions: block h is node h, and transaction number i is node 2 * size + i.
-use Rattle.std.specs.Prelude.{◌≡◌, ◌≢◌, ◌↔◌, ◌⊎◌, ℕ, ◌+◌, ◌*◌, ◌/◌, ◌%◌, ◌<◌, ◌≤◌, List, All, Contains}
+use Rattle.std.specs.Prelude.{◌≡◌, ◌≢◌, ◌↔◌, ◌⊎◌, ℕ, ◌+◌, ◌-◌, ◌*◌, ◌/◌, ◌%◌, ◌<◌, ◌≤◌, List, All, Contains, length, map, slice_index}
 use Rattle.std.specs.List.Sorted.{IsNonDecreasing}
+use Rattle.sia_parts.specs.declared.finding.Edge.{Edge}
+use Rattle.sia_parts.specs.declared.finding.Kind.TheVariants.{Ww}
 use Rattle.sia_parts.specs.declared.looks.Absence.{Absence}
 use Rattle.sia_parts.specs.declared.looks.Look.{Look}
 use Rattle.sia_parts.specs.Looks.{RiseByRank}
@@ -97,3 +99,18 @@ pub record AreNarrowSteps (size : ℕ) (writers readers : List Look) (absences :
   pub halves : (n : ℕ) → IsHalfStep size n → Contains steps n
   pub leaves : (n : ℕ) → FromSome (IsLeafStep size) firsts n → Contains steps n
   pub absent : (s : Absence) → Contains absences s → HasAbsenceSteps size firsts s steps
+
+-- the steps as edges between nodes, of one kind
+abbrev pub edge_of_step : ℕ → Edge
+edge_of_step n = record { src = step_source n; dst = step_target n; kind = Ww; key = 0 }
+
+abbrev pub edges_of_steps : List ℕ → List Edge
+edges_of_steps steps = map edge_of_step steps
+
+-- the transaction of a node
+abbrev pub name_of : ℕ → List ℕ → ℕ → ℕ
+name_of size txns node = slice_index txns (node - 2 * size)
+
+-- blocks are over the keys where someone was absent, and where no one was they may be over none
+abbrev pub IsSizeFor : ℕ → List ℕ → List Absence → Type 0
+IsSizeFor size keys absences = (size ≡ length keys) ⊎ ((size ≡ 0) × (length absences ≡ 0))
