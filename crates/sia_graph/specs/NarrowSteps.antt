@@ -66,9 +66,9 @@ pub record AreFirsts (size : ℕ) (writers : List Look) (firsts : List ℕ) : Ty
 abbrev pub IsLeafStep : ℕ → ℕ → ℕ → Type 0
 IsLeafStep size first n = n ≡ step_number (size + step_target first) (node_of size (step_source first))
 
--- the absence's keys are some of so many
+-- an absence that has keys has some of so many, and its transaction has a number that fits
 abbrev pub FitsKeys : ℕ → Absence → Type 0
-FitsKeys size s = s.from < s.to → s.to ≤ size
+FitsKeys size s = s.from < s.to → (s.to ≤ size) × (s.txn < 1048576)
 
 -- the absence has the key, and its transaction didn't make the key's first version
 abbrev pub IsMissedAt : List ℕ → Absence → ℕ → Type 0

@@ -78,11 +78,14 @@ fn put_absence(
     steps: &mut Vec<u64>,
 ) -> Result<(), NoMemory>
     requires rise { IsNonDecreasing firsts.now }
-    requires fits { (size ≤ 1048576) × (absence.txn < 1048576) × FitsKeys size absence }
+    requires fits { (size ≤ 1048576) × FitsKeys size absence }
     ensures kept { OnOk result (KeepsAll steps.old.items steps.new.items) }
     ensures each { OnOk result ((n : ℕ) → Contains steps.new.items n → Contains steps.old.items n ⊎ IsAbsenceStep size firsts.now absence n) }
     ensures has { OnOk result (HasAbsenceSteps size firsts.now absence steps.new.items) }
 {
+    if absence.from >= absence.to {
+        return Ok(());
+    }
     blocks.clear();
     put_missed(size, firsts, absence, blocks)?;
     put_steps_to(node(size, absence.txn), blocks, steps)?;
@@ -98,7 +101,7 @@ pub(crate) fn put_absence_steps(
     steps: &mut Vec<u64>,
 ) -> Result<(), NoMemory>
     requires rise { IsNonDecreasing firsts.now }
-    requires fits { (size ≤ 1048576) × All (λ s. (s.txn < 1048576) × FitsKeys size s) absences.now }
+    requires fits { (size ≤ 1048576) × All (FitsKeys size) absences.now }
     ensures kept { OnOk result (KeepsAll steps.old.items steps.new.items) }
     ensures each { OnOk result ((n : ℕ) → Contains steps.new.items n → Contains steps.old.items n ⊎ FromSome (IsAbsenceStep size firsts.now) absences.now n) }
     ensures has { OnOk result ((s : Absence) → Contains absences.now s → HasAbsenceSteps size firsts.now s steps.new.items) }

@@ -41,7 +41,7 @@ fn put_all_steps(
     requires empty { steps.old.items ≡ [] }
     requires writers { CanSearch writers.now }
     requires few { (size ≤ 1048576) × All (λ a. a.txn < 1048576) readers.now }
-    requires fits { All (λ s. (s.txn < 1048576) × FitsKeys size s) absences.now }
+    requires fits { All (FitsKeys size) absences.now }
     ensures { OnOk result (AreNarrowSteps size writers.now readers.now absences.now steps.new.items) }
 {
     put_member_steps(size, writers, readers, steps)?;
@@ -56,7 +56,7 @@ fn put_all_steps(
 pub(crate) fn steps_of(alloc: Global, size: u32, looks: &Looks) -> Result<Vec<u64>, NoMemory>
     requires writers { CanSearch looks.now.writers.items }
     requires few { (size ≤ 1048576) × All (λ a. a.txn < 1048576) looks.now.readers.items }
-    requires fits { All (λ s. (s.txn < 1048576) × FitsKeys size s) looks.now.absences.items }
+    requires fits { All (FitsKeys size) looks.now.absences.items }
     ensures rise { IfOk result (λ steps. IsNonDecreasing steps.items) }
     ensures are { IfOk result (λ steps. AreNarrowSteps size looks.now.writers.items looks.now.readers.items looks.now.absences.items steps.items) }
 {
