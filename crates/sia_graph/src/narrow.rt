@@ -5,6 +5,7 @@ mod all_steps;
 mod firsts;
 mod grouped;
 mod steps;
+mod taking;
 mod versions;
 
 use sia_events::{Key, TxnId};
