@@ -55,4 +55,8 @@ pub mod Renamed
 pub mod StandIns
 pub mod Ways
 pub mod KeyBlocks
+pub mod NextVersions
+pub mod NarrowSteps
+pub mod AbsenceBlocks
+pub mod NarrowStands
 pub mod LookEdges

@@ -1,8 +1,14 @@
 //! The verdict of a history from narrow edges: few steps that lead wherever all its edges lead.
 pub(crate) mod blocks;
+mod absences;
+mod all_steps;
+mod firsts;
 mod grouped;
 mod ranked;
 mod two;
+mod steps;
+mod taking;
+mod versions;
 
 use sia_events::{Key, TxnId};
 use sia_index::Index;
