@@ -1,6 +1,5 @@
 //! The report: its lines, on one sheet after another.
 pub(crate) mod lines;
-pub(crate) mod longer_lines;
 pub(crate) mod number_lines;
 pub(crate) mod reporting;
 pub(crate) mod sheets;

@@ -1,7 +1,7 @@
 use Rattle.std.proofs.Common.{List, ℕ, ◌++◌, ap, sym, ◌∙◌}
 use Rattle.si_audit.proofs.Chains.{then, four_written}
 use Rattle.si_audit.proofs.SpacedWords.{cycle_bytes}
-use Rattle.si_audit.proofs.report.longer_lines.push_cycle.Goals as goal
+use Rattle.si_audit.proofs.report.lines.push_cycle.Goals as goal
 
 -- one step after another
 pub returns : goal.returns
