@@ -5,7 +5,7 @@ use Rattle.std.proofs.lemmas.Bool.{cases_lt}
 use Rattle.std.proofs.lemmas.List.{get_or_default}
 use Rattle.sia_events.specs.Lists.{Precedes}
 
-precedes_trans : (xs ys zs : List ℕ) → Precedes xs ys → Precedes ys zs → Precedes xs zs
+pub precedes_trans : (xs ys zs : List ℕ) → Precedes xs ys → Precedes ys zs → Precedes xs zs
 precedes_trans [] [] zs p q = absurd p
 precedes_trans [] (y ∷ ys) [] p q = absurd q
 precedes_trans [] (y ∷ ys) (z ∷ zs) p q = tt

@@ -5,7 +5,7 @@ pub mod Facts
 pub mod Due
 pub mod ReadyOrders
 pub mod OrderPlaces
-pub mod RwDecided
+pub mod EdgesDecided
 pub mod NoStuckSet
 pub mod LastWriter
 pub mod Serial
@@ -31,6 +31,8 @@ pub mod ChainOf
 pub mod MapSteps
 pub mod Replayed
 pub mod Listed
+pub mod FiniteLists
+pub mod FiniteHistories
 pub mod Picked
 pub mod Groups
 pub mod LinkLists

@@ -11,15 +11,16 @@ use Rattle.sia_events.specs.Dependencies.{WwEdge, WrEdge, RwEdge, HasEdge}
 use Rattle.sia_events.specs.DangerousStructures.{IsVulnerable, NoFirst}
 use Rattle.sia_events.specs.Replay.{IsOrder, Keeps}
 use Rattle.sia_events.proofs.WellFormed.{one_commit}
-use Rattle.sia_events.proofs.Decisions.{Decided, both}
+use Rattle.sia_events.proofs.Decisions.{Decided, both, decided_alike}
 use Rattle.sia_events.proofs.Starts.{one_start}
 use Rattle.sia_events.proofs.TransactionDecisions.{committed_or_not}
 use Rattle.sia_graph.proofs.Deciding.{either_decided, le_decided}
 use Rattle.sia_graph.proofs.Facts.{same_committer, committed_positive, Lifetime, lifetime_of, sees_le, commits_lt}
 use Rattle.sia_graph.proofs.Due.{saw_due}
-use Rattle.sia_graph.proofs.RwDecided.{rw_decided}
+use Rattle.sia_graph.proofs.EdgesDecided.{rw_decided}
 use Rattle.sia_graph.proofs.ReadyOrders.{In, IsFed}
 use Rattle.sia_graph.proofs.OrderPlaces.{order_exists}
+use Rattle.sia_graph.proofs.Vulnerable.{target_committed, source_committed}
 
 module _ (h : List Event) (wf : IsWellFormed h) where
   starts_lt : (t u s c : ℕ) → StartsAt h t s → CommitsAt h u c → StartsBeforeCommit h t u → s < c
@@ -41,14 +42,17 @@ module _ (h : List Event) (wf : IsWellFormed h) where
     | inr more ↦ inr (λ before. let l = starts_lt t u a.start b.commit a.starts b.commits before in omega arith)
   ]
 
-  vulnerable_decided : (t u : ℕ) → Lifetime h t → Lifetime h u → Decided (IsVulnerable h t u)
-  vulnerable_decided t u a b =
-      elim (both (Overlap h t u) ((k : ℕ) × RwEdge h t u k)
-      (both (StartsBeforeCommit h t u) (StartsBeforeCommit h u t) (starts_before_decided t u a b) (starts_before_decided u t b a))
-      (rw_decided h wf t u)) [
-        | inl w ↦ inl (w.0, w.1.0, w.1.1)
-        | inr fails ↦ inr (λ v. fails (v.0, (v.1, v.2)))
-      ]
+  pub vulnerable_decided : (t u : ℕ) → Decided (IsVulnerable h t u)
+  vulnerable_decided t u = by_ends (committed_or_not h t) (committed_or_not h u)
+    where
+      by_ends : Decided (IsCommitted h t) → Decided (IsCommitted h u) → Decided (IsVulnerable h t u)
+      by_ends (inr fails) d = inr (λ v. fails (source_committed h t u v))
+      by_ends (inl c) (inr fails) = inr (λ v. fails (target_committed h t u v))
+      by_ends (inl c) (inl d) =
+          let a = lifetime_of h wf t c in
+          let b = lifetime_of h wf u d in
+          decided_alike (Overlap h t u × ((k : ℕ) × RwEdge h t u k)) (IsVulnerable h t u) (λ w. (w.0, w.1.0, w.1.1)) (λ v. (v.0, (v.1, v.2)))
+          (both (Overlap h t u) ((k : ℕ) × RwEdge h t u k) (both (StartsBeforeCommit h t u) (StartsBeforeCommit h u t) (starts_before_decided t u a b) (starts_before_decided u t b a)) (rw_decided h wf t u))
 
   -- u sees t's commit, or t has an rw edge to u and they overlap
   abbrev Follows : ℕ → ℕ → Type 0
@@ -63,7 +67,7 @@ module _ (h : List Event) (wf : IsWellFormed h) where
       by_parts (inl c) (inl d) =
           let a = lifetime_of h wf t c in
           let b = lifetime_of h wf u d in
-          elim (either_decided (Sees h u t) (IsVulnerable h t u) (sees_decided u t b a) (vulnerable_decided t u a b)) [
+          elim (either_decided (Sees h u t) (IsVulnerable h t u) (sees_decided u t b a) (vulnerable_decided t u)) [
             | inl w ↦ inl (c, d, w)
             | inr fails ↦ inr (λ f. fails f.2)
           ]

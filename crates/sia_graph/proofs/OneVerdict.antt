@@ -33,6 +33,9 @@ kind_told Ww = refl
 kind_told Wr = refl
 kind_told Rw = refl
 
+pub same_kind : (k l : Kind) → kind_number k ≡ kind_number l → k ≡ l
+same_kind k l e = sym (kind_told k) ∙ ap kind_of e ∙ kind_told l
+
 -- t is where a step starts
 abbrev In : ℕ → List Step → Type 0
 In t [] = ⊥
@@ -89,7 +92,7 @@ module _ (E : Edge → Type 0) (S : List ℕ) where
       (b.1 (step_edge s next) a.0 e refl) (a.1 (step_edge r next) b.0 (sym e) refl) in
       let k : kind_number s.kind ≡ kind_number r.kind = cc in
       let j : s.key ≡ r.key = cc in
-      let kind : s.kind ≡ r.kind = sym (kind_told s.kind) ∙ ap kind_of k ∙ kind_told r.kind in
+      let kind = same_kind s.kind r.kind k in
       λ i. record { txn = e i; kind = kind i; key = j i }
 
   same_home : (s r : Step) (ss rs : List Step) → GoesRound E S (s ∷ ss) s.txn → GoesRound E S (r ∷ rs) r.txn → StartsAtLeast ss s.txn → StartsAtLeast rs r.txn

@@ -7,6 +7,7 @@ ghost use Rattle.sia_parts.specs.declared.finding.Edge.{Edge};
 ghost use Rattle.sia_graph.specs.Blocks.{BlocksLaw};
 ghost use Rattle.sia_graph.specs.Closures.{ClosureLaw};
 ghost use Rattle.sia_graph.specs.Extremes.{FirstsLaw};
+ghost use Rattle.sia_graph.specs.Listings.{ListingLaw};
 ghost use Rattle.sia_graph.specs.StandIns.{StandInLaw};
 
 /// An order replays a history exactly if it keeps every edge and no read is unexplained.
@@ -42,4 +43,9 @@ pub fn blocks_law()
 /// Nodes and edges that stand for a history, with blocks among them, settle what all its edges settle.
 pub fn stand_in_law()
     ensures { (h : List Event) → StandInLaw h }
+{}
+
+/// A well-formed history has a list of its edges, and a list of its pivots with their neighbours, though no code makes them.
+pub fn listing_law()
+    ensures { (h : List Event) → IsWellFormed h → ListingLaw h }
 {}
