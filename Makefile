@@ -9,8 +9,9 @@
 #: make test SERVERS=1         also tests the recorder with PostgreSQL and MariaDB, where they are installed
 #: make install PREFIX=/usr    installs PREFIX/bin/si_audit, PREFIX/bin/si-history and their man pages (DESTDIR comes before PREFIX)
 #: make uninstall PREFIX=/usr  removes what make install put there, and nothing else
-#: make release                keeps the program that was proved and built last in release/, for make run and make install
-#: make bench                  times the program on generated histories
+#: make release                keeps the program that was proved and built last in release/, for make run, install and bench
+#: make bench                  times the program on generated histories, and tells the change from the figures that were kept
+#: make bench KEEP=1           does the same, and keeps its figures in tools/bench_figures.txt
 #: make databases RUNS=20      records and audits PostgreSQL and MariaDB (sh tools/install_databases.sh installs what it needs)
 #: make clean                  removes what was built and checked
 
@@ -18,11 +19,12 @@ HISTORY = examples/write_skew.history
 BRIEF ?=
 CHECK ?= serializable
 FULL ?=
+KEEP ?=
 PREFIX = /usr/local
 DESTDIR =
 RUNS = 20
 
-export HISTORY BRIEF CHECK FULL PREFIX DESTDIR
+export HISTORY BRIEF CHECK FULL KEEP PREFIX DESTDIR
 
 .PHONY: all help run build test install uninstall release bench databases clean
 
