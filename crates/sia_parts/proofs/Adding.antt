@@ -70,28 +70,32 @@ from_members P xs ys to y f = (f.0, to f.0 f.1, f.2)
 abbrev pub FromFirst : {A B : Type 0} → (A → B → Type 0) → List A → ℕ → B → Type 0
 FromFirst P xs n = FromSome P (take n xs)
 
+-- no things give nothing
+pub from_nothing : {A B : Type 0} (P : A → B → Type 0) (old : List B) → Adds (FromSome P []) old old
+from_nothing P old = adds_nothing (FromSome P []) old (λ y f. let below = f.1.1 in absurd (omega arith))
+
+-- what the first things give, and what one more gives
+pub some_push : {A B : Type 0} (P : A → B → Type 0) (xs : List A) (x : A) (y : B) → (FromSome P xs y ⊎ P x y) ↔ FromSome P (xs ++ x ∷ []) y
+some_push P xs x y = (
+  (λ e. elim e [ inl f ↦ (f.0, Contains-append_left xs (x ∷ []) f.0 f.1, f.2) | inr p ↦ (x, Contains-push xs x, p) ]),
+  (λ f. elim (Contains-push_cases xs x f.0 f.1) [ inl c ↦ inl (f.0, c, f.2) | inr same ↦ inr (subst (λ z. P z y) (sym same) f.2) ]),
+)
+
+pub from_push : {A B : Type 0} (P : A → B → Type 0) (xs : List A) (x : A) (old mid new : List B) → Adds (FromSome P xs) old mid → Adds (P x) mid new → Adds (FromSome P (xs ++ x ∷ [])) old new
+from_push P xs x old mid new before here =
+    adds_same (λ y. FromSome P xs y ⊎ P x y) (FromSome P (xs ++ x ∷ [])) old new (λ y. (some_push P xs x y).0) (λ y. (some_push P xs x y).1)
+    (adds_both (FromSome P xs) (P x) old mid new before here)
+
 module _ {A B : Type 0} (P : A → B → Type 0) (xs : List A) where
   pub from_none : (old : List B) → Adds (FromFirst P xs 0) old old
-  from_none old = adds_nothing (FromFirst P xs 0) old (λ y f. let below = f.1.1 in absurd (omega arith))
+  from_none old = from_nothing P old
 
   -- what the first n give, and what the next one gives
   pub first_more : (n : ℕ) (d : A) → n < length xs → (y : B) → (FromFirst P xs n y ⊎ P (get_or xs n d) y) ↔ FromFirst P xs (n + 1) y
-  first_more n d below y = (
-    (λ e. elim e [
-      | inl f ↦ (f.0, subst (λ zs. Contains zs f.0) (sym (take_more xs n d below)) (Contains-append_left (take n xs) (get_or xs n d ∷ []) f.0 f.1), f.2)
-      | inr p ↦ (get_or xs n d, subst (λ zs. Contains zs (get_or xs n d)) (sym (take_more xs n d below)) (Contains-push (take n xs) (get_or xs n d)), p)
-    ]),
-    (λ f. elim (Contains-push_cases (take n xs) (get_or xs n d) f.0 (subst (λ zs. Contains zs f.0) (take_more xs n d below) f.1)) [
-      | inl c ↦ inl (f.0, c, f.2)
-      | inr same ↦ inr (subst (λ x. P x y) (sym same) f.2)
-    ]),
-  )
+  first_more n d below y = subst (λ zs. (FromFirst P xs n y ⊎ P (get_or xs n d) y) ↔ FromSome P zs y) (sym (take_more xs n d below)) (some_push P (take n xs) (get_or xs n d) y)
 
   pub from_more : (n : ℕ) (d : A) (old mid new : List B) → n < length xs → Adds (FromFirst P xs n) old mid → Adds (P (get_or xs n d)) mid new → Adds (FromFirst P xs (n + 1)) old new
-  from_more n d old mid new below before here =
-      adds_same (λ y. FromFirst P xs n y ⊎ P (get_or xs n d) y) (FromFirst P xs (n + 1)) old new
-      (λ y e. (first_more n d below y).0 e) (λ y f. (first_more n d below y).1 f)
-      (adds_both (FromFirst P xs n) (P (get_or xs n d)) old mid new before here)
+  from_more n d old mid new below before here = subst (λ zs. Adds (FromSome P zs) old new) (sym (take_more xs n d below)) (from_push P (take n xs) (get_or xs n d) old mid new before here)
 
   pub from_all : (n : ℕ) (old new : List B) → length xs ≤ n → Adds (FromFirst P xs n) old new → Adds (FromSome P xs) old new
   from_all n old new all adds = subst (λ zs. Adds (FromSome P zs) old new) (take_all n xs all) adds

@@ -1,21 +1,15 @@
 -- What stands between two places of a list that is in order by numbers.
-use Rattle.std.proofs.Common.{◌≡◌, inl, inr, ℕ, ◌+◌, ◌-◌, ◌/◌, ◌<◌, ◌≤◌, true, false, List, [], ◌∷◌, length, get_or, take, drop, ltb, ap, sym, ◌∙◌, subst, arith}
-use Rattle.std.specs.Prelude.{◌↔◌, AllPairs, Contains}
+use Rattle.std.proofs.Common.{◌≡◌, inl, inr, ℕ, ◌+◌, ◌-◌, ◌<◌, ◌≤◌, true, false, List, length, get_or, take, drop, ltb, ap, sym, ◌∙◌, subst, arith}
+use Rattle.std.specs.Prelude.{◌↔◌, AllPairs, Contains, slice_index}
 use Rattle.std.specs.List.Sorted.{IsNonDecreasingBy, IsPartitionPoint}
 use Rattle.std.proofs.Math.Dec.{leb}
-use Rattle.std.proofs.Math.Nat.{div-mul-le_self}
 use Rattle.std.proofs.lemmas.Bool.{cases_lt, leb-false, leb-true, ltb-true, ltb-false}
 use Rattle.std.proofs.lemmas.List.{get_or-take, get_or-drop, length-take, length-drop}
-use Rattle.std.proofs.lemmas.Nat.{le-div}
-use Rattle.sia_index.specs.declared.info.Made.{Made}
-use Rattle.sia_parts.specs.declared.edges.ends.Ends.{Ends}
 use Rattle.sia_parts.specs.declared.edges.fans.Fan.{Fan}
-use Rattle.sia_parts.specs.declared.edges.part_edges.PartEdges.{PartEdges}
+use Rattle.sia_parts.specs.declared.looks.Looks.{Looks}
 use Rattle.sia_parts.specs.Fans.{IsFanNumber}
-use Rattle.sia_parts.specs.Gathering.{AreNumbersBetween, IsNumberBetween, IsNumberIn}
 use Rattle.sia_parts.specs.Packing.{source_number}
-use Rattle.sia_parts.specs.Sights.{AscendsByCommit, FromSome}
-use Rattle.sia_parts.proofs.Members.{contains_first, contains_none, first_or_later}
+use Rattle.sia_parts.specs.Sights.{FromSome}
 use Rattle.sia_parts.proofs.PackedEdges.{digits_are}
 
 -- what two partitions cut out
@@ -89,64 +83,52 @@ cut_after {A} key xs from first a x = (into, back)
           (k, below, get_or-drop first xs k x ∙ ap (λ n. get_or xs n x) at ∙ w.0.2)
     ]
 
--- versions that ascend by commit
-pub commits_rise : (versions : List Made) → AscendsByCommit versions → IsNonDecreasingBy (λ v. v.commit) versions
-commits_rise versions up i j d l b = elim (cases_lt i j) [
+-- what ascends by a number doesn't descend by it
+pub rise_by : {A : Type 0} (key : A → ℕ) (xs : List A) → AllPairs (λ x y. key x < key y) xs → IsNonDecreasingBy key xs
+rise_by key xs up i j d l b = elim (cases_lt i j) [
   | inl less ↦ let rise = up i j d less b in omega arith
-  | inr more ↦ let e : i ≡ j = omega arith in let f = ap (λ k. (get_or versions k d).commit) e in omega arith
+  | inr more ↦ let e : i ≡ j = omega arith in let f = ap (λ k. key (get_or xs k d)) e in omega arith
 ]
 
 -- the number of an edge of a fan has the fan's source
-pub fan_source : (ends : Ends) (fan : Fan) (n : ℕ) → IsFanNumber ends fan n → source_number n ≡ fan.src
-fan_source ends fan n is = let to = is.2 in (digits_are fan.src to.0.txn fan.kind to.0.number n to.2.1).0
+pub fan_source : (looks : Looks) (fan : Fan) (n : ℕ) → IsFanNumber looks fan n → source_number n ≡ fan.src
+fan_source looks fan n is = let to = is.2 in (digits_are fan.src to.0.txn fan.kind to.0.key n to.2.1).0
 
 -- so what the fans of some sources give is what all fans give of these sources
-pub fans_of_sources : (ends : Ends) (fans some : List Fan) (from to : ℕ) → ((f : Fan) → Contains some f ↔ (Contains fans f × (from ≤ f.src) × (f.src < to)))
-    → (n : ℕ) → FromSome (IsFanNumber ends) some n ↔ (FromSome (IsFanNumber ends) fans n × (from ≤ source_number n) × (source_number n < to))
-fans_of_sources ends fans some from to are n = (
+pub fans_of_sources : (looks : Looks) (fans some : List Fan) (from to : ℕ) → ((f : Fan) → Contains some f ↔ (Contains fans f × (from ≤ f.src) × (f.src < to)))
+    → (n : ℕ) → FromSome (IsFanNumber looks) some n ↔ (FromSome (IsFanNumber looks) fans n × (from ≤ source_number n) × (source_number n < to))
+fans_of_sources looks fans some from to are n = (
   (λ f.
       let of = (are f.0).0 f.1 in
-      let source = fan_source ends f.0 n f.2 in
+      let source = fan_source looks f.0 n f.2 in
       let low = of.1 in
       let high = of.2 in
       ((f.0, of.0, f.2), (let l : from ≤ source_number n = omega arith in l), (let l : source_number n < to = omega arith in l))),
   (λ w.
       let f = w.0 in
-      let source = fan_source ends f.0 n f.2 in
+      let source = fan_source looks f.0 n f.2 in
       let low = w.1 in
       let high = w.2 in
       (f.0, (are f.0).1 (f.1, omega arith, omega arith), f.2)),
 )
 
--- a greater number has no lesser source
-div_rises : (k n m : ℕ) → 0 < k → n ≤ m → n / k ≤ m / k
-div_rises k n m some l = le-div (n / k) m k some (let a = div-mul-le_self n k in omega arith)
-
-source_rises : (n m : ℕ) → n ≤ m → source_number n ≤ source_number m
-source_rises n m l = div_rises 1048576 (n / 1048576 / 4) (m / 1048576 / 4) (omega arith) (div_rises 4 (n / 1048576) (m / 1048576) (omega arith) (div_rises 1048576 n m (omega arith) l))
-
--- a number of a lesser source is less
-pub source_less : (m n : ℕ) → source_number m < source_number n → m < n
-source_less m n less = elim (cases_lt m n) [
-  | inl under ↦ under
-  | inr over ↦ absurd (let rises = source_rises n m over in omega arith)
-]
-
--- numbers of some sources, told by part, are numbers of these sources
-pub of_parts : (parts : List PartEdges) (from to : ℕ) (numbers : List ℕ) → AllPairs (λ m n. m < n) numbers → ((n : ℕ) → Contains numbers n ↔ FromSome (λ part. IsNumberBetween part from to) parts n) → AreNumbersBetween parts from to numbers
-of_parts parts from to numbers up are = record {
-  ascending = up;
-  each = λ n. (
-    (λ c. let f = (are n).0 c in ((f.0, f.1, f.2.0), f.2.1, f.2.2)),
-    (λ w. (are n).1 (w.0.0, w.0.1, (w.0.2, w.1, w.2))),
-  );
-}
-
--- and where there is one part alone, all its numbers
-pub of_one : (edges : PartEdges) (txns : ℕ) (numbers : List ℕ) → AreNumbersBetween (edges ∷ []) 0 txns numbers → ((n : ℕ) → IsNumberIn edges n → source_number n < txns) → (n : ℕ) → Contains numbers n ↔ IsNumberIn edges n
-of_one edges txns numbers are below n = (
-  (λ c.
-      let f = ((are.each n).0 c).0 in
-      elim (first_or_later edges f.0 [] f.1) [ inl same ↦ subst (λ e. IsNumberIn e n) (sym same) f.2 | inr none ↦ absurd (contains_none f.0 none) ]),
-  (λ is. (are.each n).1 ((edges, contains_first edges [], is), omega arith, below n is)),
+-- the places of the numbers from one to another, both included
+pub places_within : (xs : List ℕ) (lo hi from to : ℕ) → to ≤ length xs
+    → IsPartitionPoint (λ x. ltb x lo ≡ true) (λ x. ltb x lo ≡ false) xs from
+    → IsPartitionPoint (λ x. leb x hi ≡ true) (λ x. leb x hi ≡ false) xs to
+    → (j : ℕ) → ((from ≤ j) × (j < to)) ↔ ((j < length xs) × (lo ≤ slice_index xs j) × (slice_index xs j ≤ hi))
+places_within xs lo hi from to bound a b j = (
+  (λ w.
+      let below : j < length xs = let less = w.1 in omega arith in
+      (below, ltb-false (slice_index xs j) lo (a.1 j 0 w.0 below), leb-true (slice_index xs j) hi (b.0 j 0 (omega arith) w.1))),
+  (λ w. (
+    elim (cases_lt j from) [
+      | inl before ↦ absurd (let less = ltb-true (slice_index xs j) lo (a.0 j 0 (omega arith) before) in let low = w.1 in omega arith)
+      | inr after ↦ after
+    ],
+    elim (cases_lt j to) [
+      | inl before ↦ before
+      | inr after ↦ absurd (let more = leb-false (slice_index xs j) hi (b.1 j 0 after w.0) in let high = w.2 in omega arith)
+    ],
+  )),
 )

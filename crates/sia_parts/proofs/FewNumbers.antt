@@ -14,7 +14,7 @@ use Rattle.sia_events.specs.Places.{at_place}
 use Rattle.sia_events.specs.Refusals.{IsWellFormed}
 use Rattle.sia_events.specs.Transactions.{IsCommitted, Wrote}
 use Rattle.sia_events.proofs.WellFormed.{few_events}
-use Rattle.sia_index.specs.Info.{IsKeyAt}
+use Rattle.sia_index.specs.Info.{AreWrittenKeys, IsKeyAt}
 use Rattle.sia_parts.specs.EdgeNumbers.{IsCommittedAt}
 use Rattle.sia_parts.proofs.Members.{contains_first, contains_later}
 
@@ -63,10 +63,12 @@ written_key (Write t k) = k
 written_key (Commit t) = 0
 written_key (Abort t) = 0
 
-pub few_keys : (h : List Event) → IsWellFormed h → (i k : ℕ) → IsKeyAt h i k → i < 1048576
+pub few_written : (h : List Event) → IsWellFormed h → (keys : List ℕ) → AreWrittenKeys h keys → length keys ≤ 100000
 unfolding written_key
-few_keys h wf i k at =
-    let le : length at.0 ≤ length h = few h written_key at.0 (ascends (λ k. (t : ℕ) × Wrote h t k) at.0 at.1) (λ x c. let is = (at.1.each x).0 c in (is.1.0, Write is.0 x, is.1.1, refl)) in
+few_written h wf keys are =
+    let le : length keys ≤ length h = few h written_key keys (ascends (λ k. (t : ℕ) × Wrote h t k) keys are) (λ x c. let is = (are.each x).0 c in (is.1.0, Write is.0 x, is.1.1, refl)) in
     let most = few_events h wf in
-    let below = at.2 in
     omega arith
+
+pub few_keys : (h : List Event) → IsWellFormed h → (i k : ℕ) → IsKeyAt h i k → i < 1048576
+few_keys h wf i k at = let few = few_written h wf at.0 at.1 in let below = at.2 in omega arith

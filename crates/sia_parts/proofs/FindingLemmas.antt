@@ -1,5 +1,5 @@
 -- What is found at the keys of the parts of a cutting, all together.
-use Rattle.std.proofs.Common.{◌≡◌, ℕ, zero, suc, ◌<◌, ◌^◌, List, [], ◌∷◌, ◌++◌, length, get_or, map, refl, ap, sym, subst, arith}
+use Rattle.std.proofs.Common.{◌≡◌, ℕ, zero, suc, ◌<◌, ◌^◌, List, [], ◌∷◌, ◌++◌, length, get_or, refl, ap, subst, arith}
 use Rattle.std.specs.List.{AllZip}
 use Rattle.std.specs.Prelude.{◌↔◌, Contains, ⊤}
 use Rattle.std.specs.List.Sorted.{IsStrictlySortedBy}
@@ -13,12 +13,6 @@ use Rattle.sia_parts.specs.Sights.{Adds, FromSome}
 use Rattle.sia_parts.proofs.Adding.{added_are}
 use Rattle.sia_parts.proofs.Listing.{put_listed}
 use Rattle.sia_parts.proofs.PartLemmas.{one_part_holds}
-
-pub AllZip-map : {A B C : Type 0} (R : A → B → Type 0) (S : A → C → Type 0) (f : B → C) → ((x : A) (y : B) → R x y → S x (f y)) → (xs : List A) (ys : List B) → AllZip R xs ys → AllZip S xs (map f ys)
-AllZip-map R S f to [] [] z = tt
-AllZip-map R S f to [] (y ∷ ys) z = absurd z
-AllZip-map R S f to (x ∷ xs) [] z = absurd z
-AllZip-map R S f to (x ∷ xs) (y ∷ ys) z = (to x y z.0, AllZip-map R S f to xs ys z.1)
 
 pub AllZip-one_more : {A B : Type 0} (R : A → B → Type 0) (xs : List A) (ys : List B) (x : A) (y : B) → AllZip R xs ys → R x y → AllZip R (xs ++ x ∷ []) (ys ++ y ∷ [])
 AllZip-one_more R [] [] x y z r = (r, tt)
@@ -44,31 +38,34 @@ entry_at [] i below = absurd (omega arith)
 entry_at (x ∷ xs) zero below = (x, refl)
 entry_at (x ∷ xs) (suc i) below = entry_at xs i (omega arith)
 
--- the things that have P, each at its key: those that each part lists, all together
-module _ {A F : Type 0} (rank : A → List ℕ) (key : A → ℕ) (P : A → Type 0) (is_key : (x : A) → P x → key x < 2 ^ 64) (points : List ℕ) (cutting : List Part) (cuts : IsCutting points cutting)
-    (R : Part → F → Type 0) (list : F → List A) (fits : (part : Part) (found : F) → R part found → ListsBy rank (λ x. P x × IsInPart part (key x)) (list found)) (founds : List F) (zip : AllZip R cutting founds) where
-  whole : Part
-  whole = record { lo = 0; hi = 0 }
-
+-- what was found at some key, and where something was found
+module _ {F : Type 0} (points : List ℕ) (cutting : List Part) (cuts : IsCutting points cutting) (R : Part → F → Type 0) (founds : List F) (zip : AllZip R cutting founds) where
   as_long : length cutting ≡ length founds
   as_long = length_zip R cutting founds zip
 
-  list_of : (found : F) (c : Contains founds found) → ListsBy rank (λ x. P x × IsInPart (get_or cutting c.0 whole) (key x)) (list found)
-  list_of found c = fits (get_or cutting c.0 whole) found (subst (R (get_or cutting c.0 whole)) c.2 (zip_at R cutting founds c.0 whole found zip (let e = as_long in let b = c.1 in omega arith)))
+  pub of_part : (found : F) → Contains founds found → (part : Part) × R part found
+  of_part found c =
+      let part = get_or cutting c.0 (record { lo = 0; hi = 0 }) in
+      (part, subst (R part) c.2 (zip_at R cutting founds c.0 (record { lo = 0; hi = 0 }) found zip (let e = as_long in let b = c.1 in omega arith)))
 
+  pub at_key : (k : ℕ) → k < 2 ^ 64 → (part : Part) × (found : F) × Contains founds found × R part found × IsInPart part k
+  at_key k below =
+      let one = one_part_holds points cutting cuts k below in
+      let at = one.1 in
+      let in_cutting = slice_get_within cutting one.0 at.0 at.1 in
+      let inside : one.0 < length founds = let e = as_long in omega arith in
+      let some = entry_at founds one.0 inside in
+      let is : R (get_or cutting one.0 at.0) some.0 = subst (R (get_or cutting one.0 at.0)) some.1 (zip_at R cutting founds one.0 at.0 some.0 zip in_cutting) in
+      (at.0, some.0, (one.0, inside, some.1), subst (λ part. R part some.0) (get_or_from_slice_get cutting one.0 at.0 at.0 at.1) is, at.2)
+
+-- the things that have P, each at its key: those that each part lists, all together
+module _ {A F : Type 0} (rank : A → List ℕ) (key : A → ℕ) (P : A → Type 0) (is_key : (x : A) → P x → key x < 2 ^ 64) (points : List ℕ) (cutting : List Part) (cuts : IsCutting points cutting)
+    (R : Part → F → Type 0) (list : F → List A) (fits : (part : Part) (found : F) → R part found → ListsBy rank (λ x. P x × IsInPart part (key x)) (list found)) (founds : List F) (zip : AllZip R cutting founds) where
   of_all : (x : A) → FromSome (λ found. Contains (list found)) founds x ↔ (P x × ⊤)
-  of_all x = ((λ f. ((((list_of f.0 f.1).each x).0 f.2).0, tt)), (λ h. back h.0))
-    where
-      back : P x → FromSome (λ found. Contains (list found)) founds x
-      back is =
-          let one = one_part_holds points cutting cuts (key x) (is_key x is) in
-          let at = one.1 in
-          let in_cutting = slice_get_within cutting one.0 at.0 at.1 in
-          let below : one.0 < length founds = let e = as_long in omega arith in
-          let same : get_or cutting one.0 whole ≡ at.0 = get_or_from_slice_get cutting one.0 at.0 whole at.1 in
-          let within : IsInPart (get_or cutting one.0 whole) (key x) = subst (λ part. IsInPart part (key x)) (sym same) at.2 in
-          let some = entry_at founds one.0 below in
-          (some.0, (one.0, below, some.1), ((list_of some.0 (one.0, below, some.1)).each x).1 (is, within))
+  of_all x = (
+    (λ f. let of = of_part points cutting cuts R founds zip f.0 f.1 in ((((fits of.0 f.0 of.1).each x).0 f.2).0, tt)),
+    (λ h. let at = at_key points cutting cuts R founds zip (key x) (is_key x h.0) in (at.1, at.2, ((fits at.0 at.1 at.3).each x).1 (h.0, at.4))),
+  )
 
   -- put in order by what goes with the ranks
   pub all_listed : (c : A → A → Ordering) → ((x y : A) → P x → P y → c x y ≡ Less → Precedes (rank x) (rank y)) → (xs ys : List A) → Adds (FromSome (λ found. Contains (list found)) founds) [] xs

@@ -19,11 +19,12 @@ pub mod PackedEdges
 pub mod Widening
 pub mod FewNumbers
 pub mod Committing
-pub mod EndLemmas
+pub mod LookLemmas
 pub mod Giving
 pub mod FanEdges
-pub mod FoundEdges
+pub mod LookEdges
+pub mod LooksMade
+pub mod AllLooks
 pub mod StandingNumbers
 pub mod BetweenPlaces
 pub mod ChunkBoundLemmas
-pub mod KeptChunks

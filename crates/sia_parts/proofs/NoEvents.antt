@@ -1,6 +1,6 @@
 -- What a test calls gather with: the findings of no event, in two parts.
 use Rattle.std.proofs.Common.{◌≡◌, ◌⊎◌, inl, inr, ℕ, zero, suc, List, [], ◌∷◌, Some, refl, sym, subst, arith}
-use Rattle.std.specs.Prelude.{All, AllPairs, Contains}
+use Rattle.std.specs.Prelude.{AllPairs, Contains}
 use Rattle.sia_events.specs.declared.fault.TextFault.TheVariants.{NoMemory, TextTooLong, Refused}
 use Rattle.sia_events.specs.Places.{at_place}
 use Rattle.sia_events.specs.Refusals.{IsWellFormed}
@@ -8,15 +8,14 @@ use Rattle.sia_events.specs.Transactions.{Wrote}
 use Rattle.sia_events.specs.Reads.{SawAt}
 use Rattle.sia_events.specs.Lists.{Precedes, ListsBy}
 use Rattle.sia_parts.specs.declared.cutting.Part.{Part}
-use Rattle.sia_parts.specs.declared.edges.part_edges.PartFound.{PartFound}
+use Rattle.sia_parts.specs.declared.findings.PartFound.{PartFound}
 use Rattle.sia_parts.specs.declared.findings.PartFindings.{PartFindings}
 use Rattle.sia_parts.specs.declared.finding.Kind.{Kind}
 use Rattle.sia_parts.specs.declared.finding.Kind.TheVariants.{Ww, Wr, Rw}
-use Rattle.sia_parts.specs.EdgeNumbers.{AreEdgeTables}
-use Rattle.sia_parts.specs.Ends.{HasDigits}
 use Rattle.sia_parts.specs.Entries.{EdgeOfKind}
 use Rattle.sia_parts.specs.Findings.{ArePartFindings}
-use Rattle.sia_parts.specs.Gathering.{IsNumberIn, IsPartFound, RiseBySource}
+use Rattle.sia_parts.specs.Gathering.{IsPartFound}
+use Rattle.sia_parts.specs.Looks.{RiseByRank}
 use Rattle.sia_parts.specs.Parts.{parts_from, IsCutting, IsInPart}
 use Rattle.sia_parts.proofs.Members.{contains_none, contains_first, contains_later, first_or_later}
 use Rattle.std.proofs.lemmas.List.Elements.{All-nil, All-cons}
@@ -63,37 +62,28 @@ none_found part found empty = record {
   edges = lists_none _ _ (λ e f. no_edge e.kind e.src e.dst e.key f.0) found.edges.items empty.edges;
 }
 
--- the same with edges as fans
+-- the same with looks
 pub record HasNone (found : PartFound) : Type 0 where
   pub bad_reads : found.bad_reads.items ≡ []
   pub bad_writes : found.bad_writes.items ≡ []
   pub unexplained : found.unexplained.items ≡ []
-  pub writers : found.edges.ends.writers.items ≡ []
-  pub readers : found.edges.ends.readers.items ≡ []
-  pub fans : found.edges.fans.items ≡ []
+  pub writers : found.looks.writers.items ≡ []
+  pub readers : found.looks.readers.items ≡ []
+  pub absences : found.looks.absences.items ≡ []
 
-pub none_at : (part : Part) (found : PartFound) → HasNone found → IsPartFound [] [] [] (IsInPart part) found
+pub none_at : (part : Part) (found : PartFound) → HasNone found → IsPartFound [] (IsInPart part) found
 none_at part found none = record {
   bad_reads = lists_none _ _ (λ b f. no_read b.place b.txn b.key b.saw f.0.0) found.bad_reads.items none.bad_reads;
   bad_writes = lists_none _ _ (λ b f. no_write b.first b.key f.0.0) found.bad_writes.items none.bad_writes;
   unexplained = lists_none _ _ (λ b f. no_read b.place b.txn b.key b.saw f.0.1) found.unexplained.items none.unexplained;
-  edges = record {
-    packed = λ n c. absurd (no_number n c);
-    each = λ e. ((λ f. absurd (no_number f.0 f.1)), (λ f. absurd (no_edge e.kind e.src e.dst e.key f.0)));
+  looks = record {
+    made = λ look c. absurd (contains_none look (subst (λ xs. Contains xs look) none.writers c));
+    each_made = λ t k c version within. absurd (no_write t k version.0);
+    rise = subst RiseByRank (sym none.writers) (λ i j d le below. absurd (omega arith));
+    seen = λ look c. absurd (contains_none look (subst (λ xs. Contains xs look) none.readers c));
+    absent = λ absence c j from to. absurd (contains_none absence (subst (λ xs. Contains xs absence) none.absences c));
+    each_seen = λ t k c u look wrote within. absurd (no_write u k wrote);
   };
-  spread = (
-    (subst (All HasDigits) (sym none.writers) (All-nil HasDigits), subst (All HasDigits) (sym none.readers) (All-nil HasDigits)),
-    subst RiseBySource (sym none.fans) (λ i j d le below. absurd (omega arith)),
-  );
-}
-  where
-    no_number : (n : ℕ) → ¬ IsNumberIn found.edges n
-    no_number n f = contains_none f.0 (subst (λ fans. Contains fans f.0) none.fans f.1)
-
-pub empty_tables : AreEdgeTables [] [] []
-empty_tables = record {
-  txns_are = lists_none _ _ (λ t f. no_place f.0 _ f.1) [] refl;
-  keys_are = lists_none _ _ (λ k f. no_write f.0 k f.1) [] refl;
 }
 
 Before : ℕ → ℕ → Type 0

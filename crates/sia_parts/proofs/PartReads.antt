@@ -23,7 +23,8 @@ use Rattle.sia_parts.specs.declared.auditing.sights.Sight.{Sight}
 use Rattle.sia_parts.specs.declared.auditing.spans.Span.{Span}
 use Rattle.sia_parts.specs.Findings.{ListsBadReads}
 use Rattle.sia_parts.specs.Parts.{IsInPart}
-use Rattle.sia_parts.specs.Sights.{FromSome, FromSight, IsSight, IsRangeSight, IsListedSight, IsBadOf, IsSpanOf, IsInSpan, Looked, WidensAll, AreSpans, IsUnexplainedOf, read_sight, bad_sight}
+use Rattle.sia_events.specs.NarrowDependencies.{Looked}
+use Rattle.sia_parts.specs.Sights.{FromSome, FromSight, IsSight, IsRangeSight, IsListedSight, IsBadOf, IsSpanOf, IsInSpan, WidensAll, AreSpans, IsUnexplainedOf, read_sight, bad_sight}
 use Rattle.sia_parts.specs.Gaps.{InSomeGap, Spreads, IsUnlistedBy}
 use Rattle.sia_parts.proofs.RangeSights.{covered_listed, listed_inside}
 use Rattle.sia_parts.proofs.Saw.{read_is_sight}

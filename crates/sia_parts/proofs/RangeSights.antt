@@ -78,18 +78,6 @@ module _ (h : List Event) (wf : IsWellFormed h) (part : Part) (range : RangeRead
 
   -- of the keys of both, some are listed
   module _ (lo hi : ℕ) (lo_is : lo ≡ max part.lo range.lo) (hi_is : hi ≡ min part.hi range.hi) (here : List (ℕ × ℕ)) (cut : (p : ℕ × ℕ) → Contains here p ↔ (Contains listed p × (lo ≤ p.0) × (p.0 ≤ hi))) where
-    from_part : part.lo ≤ lo
-    from_part = omega arith
-
-    from_range : range.lo ≤ lo
-    from_range = omega arith
-
-    to_part : hi ≤ part.hi
-    to_part = omega arith
-
-    to_range : hi ≤ range.hi
-    to_range = omega arith
-
     both_low : (k : ℕ) → part.lo ≤ k → range.lo ≤ k → lo ≤ k
     both_low k a b = omega arith
 

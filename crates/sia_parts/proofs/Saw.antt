@@ -20,7 +20,8 @@ use Rattle.sia_index.specs.Seen.{IsSeen}
 use Rattle.sia_parts.specs.declared.finding.BadRead.{BadRead}
 use Rattle.sia_parts.specs.declared.auditing.sights.Sight.{Sight}
 use Rattle.sia_parts.specs.declared.auditing.spans.Span.{Span}
-use Rattle.sia_parts.specs.Sights.{IsSight, IsBadOf, IsAsOf, IsSpanOf, read_sight, AscendsByKey}
+use Rattle.sia_events.specs.NarrowDependencies.{IsAsOf}
+use Rattle.sia_parts.specs.Sights.{IsSight, IsBadOf, IsSpanOf, read_sight, AscendsByKey}
 use Rattle.sia_parts.proofs.Sources.{one_as_of}
 
 -- what a read event saw is a sight

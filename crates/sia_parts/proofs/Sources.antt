@@ -1,13 +1,14 @@
 -- Where the findings of a part come from: pairs of versions, spans with versions, and sights.
 use Rattle.std.proofs.Common.{◌≡◌, ◌≢◌, ◌⊎◌, inl, inr, ℕ, ◌<◌, ◌≤◌, List, refl, ap, sym, subst, ◌∙◌, arith}
-use Rattle.std.specs.Prelude.{◌↔◌, Contains}
+use Rattle.std.specs.Prelude.{◌↔◌}
 use Rattle.std.proofs.lemmas.Bool.{cases_eq}
 use Rattle.sia_events.specs.declared.event.Event.{Event}
 use Rattle.sia_events.specs.declared.event.Event.TheVariants.{Commit}
+use Rattle.sia_events.specs.NarrowDependencies.{IsAsOf, Looked}
 use Rattle.sia_events.specs.Refusals.{IsWellFormed}
 use Rattle.sia_events.specs.Transactions.{IsCommitted, CommitsAt, StartsAt, Wrote, HasEvent}
 use Rattle.sia_events.specs.Isolation.{IsBadWrite}
-use Rattle.sia_events.specs.Dependencies.{IsVersionBefore, WwEdge, WrEdge, RwEdge}
+use Rattle.sia_events.specs.Dependencies.{IsVersionBefore, WrEdge, RwEdge}
 use Rattle.sia_events.proofs.WellFormed.{one_commit}
 use Rattle.sia_events.proofs.Endings.{one_committer}
 use Rattle.sia_events.proofs.Starts.{one_start}
@@ -15,18 +16,14 @@ use Rattle.sia_events.proofs.Seen.{saw_written, actor_is_txn}
 use Rattle.sia_events.proofs.Versions.{writer_not_zero}
 use Rattle.sia_events.proofs.TransactionDecisions.{place_within}
 use Rattle.sia_index.specs.declared.info.Made.{Made}
-use Rattle.sia_index.specs.Info.{IsMade, AreVersions, AreWrittenWithin}
+use Rattle.sia_index.specs.Info.{AreVersions, AreWrittenWithin}
 use Rattle.sia_parts.specs.declared.cutting.Part.{Part}
 use Rattle.sia_parts.specs.declared.finding.BadWrite.{BadWrite}
-use Rattle.sia_parts.specs.declared.finding.Edge.{Edge}
-use Rattle.sia_parts.specs.declared.finding.Kind.{Kind}
-use Rattle.sia_parts.specs.declared.finding.Kind.TheVariants.{Ww, Wr, Rw}
 use Rattle.sia_parts.specs.declared.auditing.gaps.Gap.{Gap}
 use Rattle.sia_parts.specs.declared.auditing.spans.Span.{Span}
-use Rattle.sia_parts.specs.Entries.{EdgeOfKind, IsEdge}
 use Rattle.sia_parts.specs.Parts.{IsInPart}
-use Rattle.sia_parts.specs.Sights.{Adds, FromSome, FromPair, FromMade, KeyPair, IsAsOf, Looked, Widens, IsWrEdge, IsRwEdge, PartPair, IsPairEdge, IsLateBad, IsPairBad, AscendsByCommit, AreSpans}
-use Rattle.sia_parts.specs.Gaps.{CoversSame, FromGap}
+use Rattle.sia_parts.specs.Sights.{Adds, FromSome, FromPair, KeyPair, Widens, IsLateBad, IsPairBad, AscendsByCommit, AreSpans}
+use Rattle.sia_parts.specs.Gaps.{CoversSame}
 use Rattle.sia_parts.proofs.Adding.{adds_same, adds_nothing}
 
 -- what pairs of a key's versions give
@@ -54,22 +51,6 @@ no_late_bad h k second earlier none old = adds_nothing (FromSome (IsPairBad h k 
 module _ (h : List Event) (wf : IsWellFormed h) where
   commit_positive : (t c : ℕ) → CommitsAt h t c → 0 < c
   commit_positive t c at = (place_within h c (Commit t) at).0
-
-  -- a pair of committed writers is a ww edge
-  pub pair_is_edge : (k : ℕ) (e : Edge) → KeyPair h IsPairEdge k e → (e.kind ≡ Ww) × (e.key ≡ k) × IsEdge h e
-  pair_is_edge k e f =
-      let edge : WwEdge h f.0.txn f.1.txn k = (f.2.0, f.3.0, (f.0.commit, f.1.commit, f.2.1, f.3.1, f.4)) in
-      (ap (λ (x : Edge). x.kind) f.5, ap (λ (x : Edge). x.key) f.5, subst (IsEdge h) (sym f.5) edge)
-
-  pub edge_is_pair : (t u k : ℕ) → WwEdge h t u k → KeyPair h IsPairEdge k (record { src = t; dst = u; kind = Ww; key = k })
-  edge_is_pair t u k edge = (
-    record { txn = t; commit = edge.2.0 },
-    record { txn = u; commit = edge.2.1 },
-    (edge.0, edge.2.2),
-    (edge.1, edge.2.3),
-    edge.2.4,
-    refl,
-  )
 
   -- a pair of committed writers of which the first committed late is a bad write
   pub pair_is_bad : (k : ℕ) (b : BadWrite) → KeyPair h (IsPairBad h) k b → (b.key ≡ k) × IsBadWrite h b.key b.first b.second
@@ -162,93 +143,14 @@ module _ (h : List Event) (wf : IsWellFormed h) where
               let less : both.2.0 < both.2.1 = both.2.4 in
               omega arith
 
-  module _ (part : Part) where
-    -- what the keys of the part give of bad writes
-    pub bad_writes_are : (keys : List ℕ) → AreWrittenWithin h part.lo part.hi keys → (b : BadWrite) → FromSome (KeyPair h (IsPairBad h)) keys b ↔ (IsBadWrite h b.key b.first b.second × IsInPart part b.key)
-    bad_writes_are keys within b = (
-      (λ f.
-          let bad = pair_is_bad f.0 b f.2 in
-          (bad.1, subst (IsInPart part) (sym bad.0) (let at = (within.each f.0).0 f.1 in (at.1, at.2)))),
-      (λ bad. (b.key, (within.each b.key).1 ((b.first, bad.0.0), bad.1.0, bad.1.1), bad_is_pair b.key b.first b.second bad.0)),
-    )
-
-    module _ (spans : List Span) (gaps : List Gap) (are : AreSpans h part spans gaps) where
-      -- what the spans of the part give of edges
-      span_is_edge : (span : Span) → Contains spans span → (made : Made) → IsMade h span.key made → (e : Edge) → made.txn ≢ span.txn → IsWrEdge span made e ⊎ IsRwEdge span made e → IsEdge h e × IsInPart part e.key
-      span_is_edge span c made is e other (inl wr) =
-          let edge = wr_from_look span.key made.txn span.txn span.high made.commit other is.0 is.1 (are.high span c) wr.0 in
-          subst (λ (x : Edge). IsEdge h x × IsInPart part x.key) (sym wr.1) (edge, are.within span c)
-      span_is_edge span c made is e other (inr rw_edge) =
-          let edge = rw_from_look span.key span.txn made.txn span.low made.commit (λ same. other (sym same)) is.0 is.1 (are.low span c) rw_edge.0 in
-          subst (λ (x : Edge). IsEdge h x × IsInPart part x.key) (sym rw_edge.1) (edge, are.within span c)
-
-      -- the edge of a gap
-      gap_is_edge : (gap : Gap) → Contains gaps gap → (e : Edge) → FromGap h gap e → IsEdge h e × IsInPart part e.key
-      gap_is_edge gap c e f =
-          let made = f.0 in
-          let looked = are.unlisted (gap.txn, made.key) made.txn f.1 (gap, c, (refl, f.3, f.4)) in
-          let edge = rw_from_look made.key gap.txn made.txn 0 made.commit (λ same. f.5.0 (sym same)) f.1 f.2 looked.0 (commit_positive made.txn made.commit f.2) in
-          subst (λ (x : Edge). IsEdge h x × IsInPart part x.key) (sym f.5.1) (edge, looked.1)
-
-      -- an edge of the part is of one of the three
-      abbrev IsFound : Edge → Type 0
-      IsFound e = (PartPair h part e ⊎ FromSome (FromMade h) spans e) ⊎ FromSome (FromGap h) gaps e
-
-      edge_found : (kind : Kind) (t u k : ℕ) → EdgeOfKind h kind t u k → IsInPart part k → IsFound (record { src = t; dst = u; kind = kind; key = k })
-      edge_found Ww t u k edge in_part = inl (inl (k, in_part, edge_is_pair t u k edge))
-      edge_found Wr t u k edge in_part =
-          let look = look_of_wr k t u edge in
-          elim (are.whole u k look.0 t look.3 in_part edge.1.0) [
-            | inl found ↦
-                let span = found.0 in
-                let txn = found.2.0 in
-                let key = found.2.1 in
-                inl (inr (
-                  span,
-                  found.1,
-                  (
-                    record { txn = t; commit = look.1 },
-                    (subst (Wrote h t) (sym key) edge.1.0, look.2),
-                    ((λ same. edge.0 (same ∙ txn)), inl ((let le = look.4 in let more = found.2.3 in omega arith), (λ i. record { src = t; dst = sym txn i; kind = Wr; key = sym key i }))),
-                  ),
-                ))
-            | inr gap ↦ absurd (let le = look.4 in let positive = commit_positive t look.1 look.2 in let zero = gap.0 in omega arith)
-          ]
-      edge_found Rw t u k edge in_part =
-          let look = look_of_rw k t u edge in
-          elim (are.whole t k look.0 u look.3 in_part edge.2.0) [
-            | inl found ↦
-                let span = found.0 in
-                let txn = found.2.0 in
-                let key = found.2.1 in
-                inl (inr (
-                  span,
-                  found.1,
-                  (
-                    record { txn = u; commit = look.1 },
-                    (subst (Wrote h u) (sym key) edge.2.0, look.2),
-                    ((λ same. edge.0 (sym txn ∙ sym same)), inr ((let le = look.4 in let more = found.2.2 in omega arith), (λ i. record { src = sym txn i; dst = u; kind = Rw; key = sym key i }))),
-                  ),
-                ))
-            | inr found ↦
-                let gap = found.1.0 in
-                let txn = found.1.2.0 in
-                inr (gap, found.1.1, (record { key = k; commit = look.1; txn = u }, edge.2.0, look.2, found.1.2.1, found.1.2.2, ((λ same. edge.0 (sym txn ∙ sym same)), (λ i. record { src = sym txn i; dst = u; kind = Rw; key = k }))))
-          ]
-
-      pub edges_are : (e : Edge) → ((PartPair h part e ⊎ FromSome (FromMade h) spans e) ⊎ FromSome (FromGap h) gaps e) ↔ (IsEdge h e × IsInPart part e.key)
-      edges_are e = (
-        (λ f. elim f [
-          | inl first ↦ elim first [
-            | inl pair ↦
-                let edge = pair_is_edge pair.0 e pair.2 in
-                (edge.2, subst (IsInPart part) (sym edge.1) pair.1)
-            | inr made ↦ span_is_edge made.0 made.1 made.2.0 made.2.1 e made.2.2.0 made.2.2.1
-          ]
-          | inr gap ↦ gap_is_edge gap.0 gap.1 e gap.2
-        ]),
-        (λ edge. edge_found e.kind e.src e.dst e.key edge.0 edge.1),
-      )
+  -- what the keys of the part give of bad writes
+  pub bad_writes_are : (part : Part) (keys : List ℕ) → AreWrittenWithin h part.lo part.hi keys → (b : BadWrite) → FromSome (KeyPair h (IsPairBad h)) keys b ↔ (IsBadWrite h b.key b.first b.second × IsInPart part b.key)
+  bad_writes_are part keys within b = (
+    (λ f.
+        let bad = pair_is_bad f.0 b f.2 in
+        (bad.1, subst (IsInPart part) (sym bad.0) (let at = (within.each f.0).0 f.1 in (at.1, at.2)))),
+    (λ bad. (b.key, (within.each b.key).1 ((b.first, bad.0.0), bad.1.0, bad.1.1), bad_is_pair b.key b.first b.second bad.0)),
+  )
 
 -- the spans and the gaps of a part, joined, are spans and gaps of the part
 pub joined_are : (h : List Event) (part : Part) (narrow wide : List Span) (gaps joint : List Gap) → AreSpans h part narrow gaps → Widens narrow wide → CoversSame gaps joint → AreSpans h part wide joint

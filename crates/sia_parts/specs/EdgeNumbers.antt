@@ -1,13 +1,12 @@
 -- The edges of a history as single numbers, by the places of committed transactions and of written keys in their lists.
-use Rattle.std.specs.Prelude.{◌≡◌, ◌↔◌, ◌<◌, ℕ, List, All, AllPairs, length, map, slice_index, ⊤}
+use Rattle.std.specs.Prelude.{◌≡◌, ◌↔◌, ◌<◌, ℕ, List, All, AllPairs, length, map, slice_index}
 use Rattle.sia_events.specs.declared.event.Event.{Event}
 use Rattle.sia_events.specs.Lists.{ListsAscending}
 use Rattle.sia_events.specs.Transactions.{IsCommitted}
 use Rattle.sia_index.specs.Info.{AreWrittenKeys}
 use Rattle.sia_parts.specs.declared.finding.Edge.{Edge}
-use Rattle.sia_parts.specs.declared.findings.Found.{Found}
 use Rattle.sia_parts.specs.Entries.{IsEdge}
-use Rattle.sia_parts.specs.Findings.{ListsBadReads, ListsBadWrites, ListsUnexplained, ListsEdges}
+use Rattle.sia_parts.specs.Findings.{ListsEdges}
 use Rattle.sia_parts.specs.Packing.{IsPacked, unpacked}
 
 -- the committed transactions and the written keys, each once, ascending
@@ -29,10 +28,3 @@ pub record AreEdgeNumbers (h : List Event) (txns keys : List ℕ) (Within : ℕ 
 pub record StandForEdges (h : List Event) (txns keys : List ℕ) (Within : ℕ → Type 0) (P : ℕ → Type 0) : Type 0 where
   pub packed : (n : ℕ) → P n → IsPacked txns keys n
   pub each : (e : Edge) → ((n : ℕ) × P n × (unpacked txns keys n ≡ e)) ↔ (IsEdge h e × Within e.key)
-
--- what is found at all keys
-pub record IsFound (h : List Event) (txns keys : List ℕ) (found : Found) : Type 0 where
-  pub bad_reads : ListsBadReads h (λ _. ⊤) found.bad_reads.items
-  pub bad_writes : ListsBadWrites h (λ _. ⊤) found.bad_writes.items
-  pub unexplained : ListsUnexplained h (λ _. ⊤) found.unexplained.items
-  pub edges : AreEdgeNumbers h txns keys (λ _. ⊤) found.edges

@@ -1,15 +1,12 @@
 -- Gaps: keys that range reads covered and didn't list, so that they saw version 0 of each.
-use Rattle.std.specs.Prelude.{◌≡◌, ◌≢◌, ◌⊎◌, ◌↔◌, ℕ, ◌<◌, ◌≤◌, List, Contains, Some, IsTrue}
+use Rattle.std.specs.Prelude.{◌≡◌, ◌⊎◌, ◌↔◌, ℕ, ◌<◌, ◌≤◌, List, Contains, Some, IsTrue}
 use Rattle.sia_events.specs.declared.event.Event.{Event}
 use Rattle.sia_events.specs.declared.event.Event.TheVariants.{Range}
 use Rattle.sia_events.specs.Places.{at_place}
-use Rattle.sia_events.specs.Transactions.{IsCommitted, CommitsAt, Wrote}
-use Rattle.sia_index.specs.declared.info.KeyVersion.{KeyVersion}
+use Rattle.sia_events.specs.Transactions.{IsCommitted, Wrote}
 use Rattle.sia_index.specs.declared.info.RangeRead.{RangeRead}
 use Rattle.sia_index.specs.declared.info.Reader.{Reader}
 use Rattle.sia_parts.specs.declared.cutting.Part.{Part}
-use Rattle.sia_parts.specs.declared.finding.Edge.{Edge}
-use Rattle.sia_parts.specs.declared.finding.Kind.TheVariants.{Rw}
 use Rattle.sia_parts.specs.declared.auditing.gaps.Gap.{Gap}
 use Rattle.sia_parts.specs.Parts.{IsInPart}
 
@@ -55,11 +52,3 @@ IsGapOf reader Within look = (reader.txn ≡ look.0) × IsTrue reader.committed 
 abbrev pub IsUnlistedBy : List Event → Part → RangeRead → ℕ × ℕ → Type 0
 IsUnlistedBy h part range look = (range.txn ≡ look.0) × IsCommitted h look.0 × IsInPart part look.1
     × (listed : List (ℕ × ℕ)) × (at_place h range.place ≡ Some (Range range.txn range.lo range.hi listed)) × IsUnlisted listed range.lo range.hi look.1
-
--- the edge by which the version follows the reader of the gap, who saw version 0 of its key
-abbrev pub IsGapEdge : Gap → KeyVersion → Edge → Type 0
-IsGapEdge gap made e = (made.txn ≢ gap.txn) × (e ≡ record { src = gap.txn; dst = made.txn; kind = Rw; key = made.key })
-
--- the edge of a gap with some committed writer of one of its keys
-abbrev pub FromGap : List Event → Gap → Edge → Type 0
-FromGap h gap e = (made : KeyVersion) × Wrote h made.txn made.key × CommitsAt h made.txn made.commit × (gap.lo ≤ made.key) × (made.key ≤ gap.hi) × IsGapEdge gap made e

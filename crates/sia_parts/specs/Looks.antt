@@ -1,6 +1,6 @@
 -- What committed transactions wrote and saw of the written keys. What one saw of a key is told by the oldest and the newest
 -- version that it looked at: those between add no edge that these don't give.
-use Rattle.std.specs.Prelude.{◌≡◌, ◌⊎◌, ◌↔◌, ℕ, ◌+◌, ◌*◌, ◌<◌, ◌≤◌, List, Contains, length, slice_index_or}
+use Rattle.std.specs.Prelude.{◌≡◌, ◌⊎◌, ℕ, ◌+◌, ◌*◌, ◌<◌, ◌≤◌, List, Contains, length, slice_index_or}
 use Rattle.sia_events.specs.declared.event.Event.{Event}
 use Rattle.sia_events.specs.NarrowDependencies.{CommitsVersion, Looked}
 use Rattle.sia_events.specs.Transactions.{Wrote}
@@ -32,8 +32,11 @@ IsCovered h looks t k c = ((look : Look) × Contains looks.readers.items look ×
     ⊎ ((c ≡ 0) × (absence : Absence) × Contains looks.absences.items absence × IsAbsentAt h absence t k)
 
 -- by key, and then by commit
+abbrev pub rank_of : ℕ → ℕ → ℕ
+rank_of key place = key * 4294967296 + place
+
 abbrev pub look_rank : Look → ℕ
-look_rank look = look.key * 4294967296 + look.high
+look_rank look = rank_of look.key look.high
 
 abbrev pub RiseByRank : List Look → Type 0
 RiseByRank looks = (i j : ℕ) (d : Look) → i ≤ j → j < length looks → look_rank (slice_index_or looks i d) ≤ look_rank (slice_index_or looks j d)

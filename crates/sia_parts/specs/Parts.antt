@@ -1,5 +1,5 @@
 -- Parts of the keys: how points cut the keys into intervals. This project's own.
-use Rattle.std.specs.Prelude.{◌≡◌, ◌≢◌, ◌⊎◌, ℕ, ◌-◌, ◌<◌, ◌≤◌, ◌^◌, List, [], ◌∷◌, Contains, length, Some}
+use Rattle.std.specs.Prelude.{◌≡◌, ◌≢◌, ◌⊎◌, ℕ, ◌-◌, ◌<◌, ◌≤◌, ◌^◌, ⊤, List, [], ◌∷◌, Contains, length, Option, Some, None}
 use Rattle.std.specs.List.{slice_get}
 use Rattle.sia_events.specs.Lists.{ListsAscending}
 use Rattle.sia_parts.specs.declared.cutting.Part.{Part}
@@ -21,6 +21,11 @@ HasTooManyCuts points = (cuts : List ℕ) × ListsAscending (λ s. (s ≢ 0) × 
 -- key k is in the part
 abbrev pub IsInPart : Part → ℕ → Type 0
 IsInPart part k = (part.lo ≤ k) × (k ≤ part.hi)
+
+-- the same, where no part stands for all keys
+abbrev pub IsWithin : Option Part → ℕ → Type 0
+IsWithin None = λ _. ⊤
+IsWithin (Some part) = IsInPart part
 
 -- key k is in part number i, counted from 0
 abbrev pub IsInPartAt : List Part → ℕ → ℕ → Type 0

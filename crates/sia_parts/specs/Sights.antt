@@ -3,7 +3,8 @@ use Rattle.std.specs.Prelude.{◌≡◌, ◌≢◌, ◌⊎◌, ◌↔◌, ℕ, �
 use Rattle.sia_events.specs.declared.event.Event.{Event}
 use Rattle.sia_events.specs.declared.event.Event.TheVariants.{Range}
 use Rattle.sia_events.specs.Places.{at_place}
-use Rattle.sia_events.specs.Transactions.{IsCommitted, CommitsAt, StartsAt, Wrote}
+use Rattle.sia_events.specs.NarrowDependencies.{IsAsOf, Looked}
+use Rattle.sia_events.specs.Transactions.{IsCommitted, StartsAt, Wrote}
 use Rattle.sia_events.specs.Reads.{SawAt}
 use Rattle.sia_events.specs.Isolation.{IsBadRead, IsUnexplained}
 use Rattle.sia_index.specs.declared.info.Made.{Made}
@@ -15,8 +16,6 @@ use Rattle.sia_parts.specs.declared.cutting.Part.{Part}
 use Rattle.sia_parts.specs.declared.finding.BadRead.{BadRead}
 use Rattle.sia_parts.specs.declared.finding.BadWrite.{BadWrite}
 use Rattle.sia_parts.specs.declared.finding.Unexplained.{Unexplained}
-use Rattle.sia_parts.specs.declared.finding.Edge.{Edge}
-use Rattle.sia_parts.specs.declared.finding.Kind.TheVariants.{Ww, Wr, Rw}
 use Rattle.sia_parts.specs.declared.auditing.sights.Sight.{Sight}
 use Rattle.sia_parts.specs.declared.auditing.gaps.Gap.{Gap}
 use Rattle.sia_parts.specs.declared.auditing.spans.Span.{Span}
@@ -30,6 +29,10 @@ Adds {A} P old new = (x : A) → Contains new x ↔ (Contains old x ⊎ P x)
 -- some x of the list gives y
 abbrev pub FromSome : {A B : Type 0} → (A → B → Type 0) → List A → B → Type 0
 FromSome {A} P xs y = (x : A) × Contains xs x × P x y
+
+-- the new list gives what the old one gave, and what has P, and nothing else
+abbrev pub Gives : {A B : Type 0} → (A → B → Type 0) → (B → Type 0) → List A → List A → Type 0
+Gives {A} {B} Q P old new = (y : B) → FromSome Q new y ↔ (FromSome Q old y ⊎ P y)
 
 abbrev pub AscendsByCommit : List Made → Type 0
 AscendsByCommit versions = AllPairs (λ x y. x.commit < y.commit) versions
@@ -75,14 +78,6 @@ IsBadOf h s b = (bad_sight b ≡ s) × IsBadRead h b.place b.txn b.key b.saw b.d
 abbrev pub IsUnexplainedOf : List Event → BadRead → Unexplained → Type 0
 IsUnexplainedOf h b u = IsUnexplained h b.place b.txn b.key b.saw × (u ≡ record { place = b.place; txn = b.txn; key = b.key; saw = b.saw })
 
--- version v as of place c: 0 as of 0, and that of a committed transaction as of its commit
-abbrev pub IsAsOf : List Event → ℕ → ℕ → Type 0
-IsAsOf h v c = ((v ≡ 0) × (c ≡ 0)) ⊎ CommitsAt h v c
-
--- the committed t saw a version of k that isn't its own, as of place c
-abbrev pub Looked : List Event → ℕ → ℕ → ℕ → Type 0
-Looked h t k c = IsCommitted h t × (p : ℕ) × (v : ℕ) × SawAt h p t k v × (v ≢ t) × IsAsOf h v c
-
 -- the span of one sight
 abbrev pub IsSpanOf : List Event → Sight → Span → Type 0
 IsSpanOf h s span = (span.txn ≡ s.txn) × (span.key ≡ s.key) × (span.low ≡ span.high) × IsCommitted h s.txn × (s.saw ≢ s.txn) × IsAsOf h s.saw span.low
@@ -118,22 +113,6 @@ pub record IsJoined (last next both : Span) : Type 0 where
   pub lowest : (both.low ≤ last.low) × (both.low ≤ next.low)
   pub highest : (last.high ≤ both.high) × (next.high ≤ both.high)
 
--- the edge by which the reader of the span follows the version
-abbrev pub IsWrEdge : Span → Made → Edge → Type 0
-IsWrEdge span made e = (made.commit ≤ span.high) × (e ≡ record { src = made.txn; dst = span.txn; kind = Wr; key = span.key })
-
--- the edge by which the version follows the reader of the span
-abbrev pub IsRwEdge : Span → Made → Edge → Type 0
-IsRwEdge span made e = (span.low < made.commit) × (e ≡ record { src = span.txn; dst = made.txn; kind = Rw; key = span.key })
-
--- either of them, with a version that isn't the reader's
-abbrev pub IsSpanEdge : Span → Made → Edge → Type 0
-IsSpanEdge span made e = (made.txn ≢ span.txn) × (IsWrEdge span made e ⊎ IsRwEdge span made e)
-
--- the edge from the first version to the second
-abbrev pub IsPairEdge : ℕ → Made → Made → Edge → Type 0
-IsPairEdge k second first e = e ≡ record { src = first.txn; dst = second.txn; kind = Ww; key = k }
-
 -- the bad write of two versions, where the first committed after place s
 abbrev pub IsLateBad : ℕ → ℕ → Made → Made → BadWrite → Type 0
 IsLateBad s k second first b = (s < first.commit) × (b ≡ record { key = k; first = first.txn; second = second.txn })
@@ -149,14 +128,6 @@ FromPair {B} P versions b = (first : Made) × (second : Made) × Contains versio
 -- of two committed writers of k, the first committed before the second, what they give
 abbrev pub KeyPair : {B : Type 0} → List Event → (ℕ → Made → Made → B → Type 0) → ℕ → B → Type 0
 KeyPair {B} h P k b = (first : Made) × (second : Made) × IsMade h k first × IsMade h k second × (first.commit < second.commit) × P k second first b
-
--- the edge of two committed writers of a key of the part
-abbrev pub PartPair : List Event → Part → Edge → Type 0
-PartPair h part e = (k : ℕ) × IsInPart part k × KeyPair h IsPairEdge k e
-
--- the edge of a span with some committed writer of its key
-abbrev pub FromMade : List Event → Span → Edge → Type 0
-FromMade h span e = (made : Made) × IsMade h span.key made × IsSpanEdge span made e
 
 -- spans and gaps of the part's keys: the ends of spans are looks, at written keys gaps are looks at version 0, and each
 -- look at a written key lies in a span or in a gap

@@ -24,7 +24,7 @@ use crate::auditing::spans::{Span, joined};
 use crate::auditing::unseen::first_commit;
 use crate::cutting::Part;
 use crate::edges::committed::Committed;
-use crate::edges::numbering::numbers_of;
+use crate::edges::fans::Fans;
 use crate::edges::numbers::edges_of_numbers;
 use crate::finding::{BadRead, BadWrite, Unexplained};
 use crate::findings::PartFindings;
@@ -56,7 +56,8 @@ pub fn audit_part(
     let committed = Committed::of(alloc, ix)?;
     let keys = ix.written_keys();
     let found = find_in_part(alloc, h, ix, &committed, part)?;
-    let numbers = numbers_of(alloc, found.edges, committed.ids().len())?;
+    let fans = Fans::of(alloc, ix, &committed, found.looks)?;
+    let numbers = fans.chunk(alloc, 0, committed.ids().len())?;
     let edges = edges_of_numbers(alloc, committed.ids(), keys, numbers.as_slice())?;
     Ok(PartFindings {
         bad_reads: found.bad_reads,

@@ -1,5 +1,5 @@
 use crate::finding::{BadRead, BadWrite, Edge, Unexplained};
-use crate::gathering::chunks::EdgeNumbers;
+use crate::looks::Looks;
 
 /// What was found at the keys of one part.
 #[derive(Debug, Drop)]
@@ -19,11 +19,11 @@ pub struct Findings {
     pub edges: Vec<Edge>,
 }
 
-/// What was found at all keys, with each edge as a single number.
+/// What was found at the keys of one part, where the edges are told by looks.
 #[derive(Debug, Drop)]
-pub struct Found {
+pub struct PartFound {
     pub bad_reads: Vec<BadRead>,
     pub bad_writes: Vec<BadWrite>,
     pub unexplained: Vec<Unexplained>,
-    pub edges: EdgeNumbers,
+    pub looks: Looks,
 }

@@ -8,9 +8,8 @@ ghost use Rattle.sia_parts.specs.Parts.{IsCutting};
 ghost use Rattle.sia_parts.specs.Findings.{AreFindings, ArePartFindings};
 ghost use Rattle.sia_parts.specs.Sights.{Adds, FromSome};
 
+pub(crate) mod all_found;
 pub(crate) mod chunking;
-pub(crate) mod chunks;
-pub(crate) mod gathering_numbers;
 
 use crate::findings::{Findings, PartFindings};
 use sia_events::NoMemory;

@@ -8,22 +8,22 @@ mod finding;
 mod findings;
 mod gathering;
 mod laws;
+mod looking;
 mod looks;
 mod numbered;
 
 pub use auditing::audit_part;
 pub use cutting::{CutFault, Part, cut};
 pub use edges::committed::Committed;
+pub use edges::fans::Fans;
 pub use edges::numbers::{
     EdgeNumber, edge_of, edges_of_numbers, key_of, kind_in, source_of, target_of,
 };
-pub use edges::part_edges::{PartEdges, PartFound};
 pub use finding::{BadRead, BadWrite, Edge, Kind, Unexplained};
-pub use findings::{Findings, Found, PartFindings};
+pub use findings::{Findings, PartFindings, PartFound};
+pub use gathering::all_found::Gathering;
 pub use gathering::chunking::ChunkBounds;
-pub use gathering::chunks::EdgeNumbers;
 pub use gathering::gather;
-pub use gathering::gathering_numbers::Gathering;
 pub use laws::one_part;
 pub use looks::{Absence, Look, Looks};
 pub use numbered::find_in_part;

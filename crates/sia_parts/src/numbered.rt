@@ -1,16 +1,15 @@
-//! What is found at the keys of a part, with each edge as a single number.
-ghost use Rattle.std.specs.Prelude.{◌≡◌, ℕ, List, IfOk};
+//! What is found at the keys of a part, where the edges are told by looks.
+ghost use Rattle.std.specs.Prelude.{◌≡◌, IfOk};
 ghost use Rattle.sia_events.specs.Lists.{ListsAscending};
 ghost use Rattle.sia_events.specs.Transactions.{IsCommitted};
-ghost use Rattle.sia_index.specs.Info.{AreWrittenKeys};
 ghost use Rattle.sia_parts.specs.Gathering.{IsPartFound};
 ghost use Rattle.sia_parts.specs.Parts.{IsInPart};
 
 use crate::auditing::{bad_writes_of, seen_of, unexplained_of};
 use crate::cutting::Part;
 use crate::edges::committed::Committed;
-use crate::edges::edges_of;
-use crate::edges::part_edges::PartFound;
+use crate::findings::PartFound;
+use crate::looking::looks_of;
 use sia_events::{History, NoMemory};
 use sia_index::Index;
 use std::alloc::Global;
@@ -25,17 +24,17 @@ pub fn find_in_part(
 ) -> Result<PartFound, NoMemory>
     requires index { ix.now ≡ h.now }
     requires committed { ListsAscending (IsCommitted ix.now) committed.now }
-    ensures { IfOk result (λ found. (keys : List ℕ) → AreWrittenKeys h.now keys → IsPartFound h.now committed.now keys (IsInPart part) found) }
+    ensures { IfOk result (IsPartFound h.now (IsInPart part)) }
 {
     ix.law();
     let seen = seen_of(alloc, h, ix, part)?;
     let bad_writes = bad_writes_of(alloc, ix, part)?;
     let unexplained = unexplained_of(alloc, h, ix, part, &seen.bad_reads)?;
-    let edges = edges_of(alloc, ix, committed, part, seen.spans, &seen.gaps)?;
+    let looks = looks_of(alloc, ix, committed, part, &seen.spans, &seen.gaps)?;
     Ok(PartFound {
         bad_reads: seen.bad_reads,
         bad_writes,
         unexplained,
-        edges,
+        looks,
     })
 }

@@ -2,10 +2,7 @@
 ghost use Rattle.std.specs.Prelude.{◌≡◌, []};
 
 use super::*;
-use crate::edges::ends::Ends;
-use crate::edges::numbering::numbers_of;
-use sia_events::{History, read_history};
-use sia_index::Index;
+use sia_events::read_history;
 use sia_index::make::index;
 use sia_index::ordering::merge_in_order;
 use std::alloc::Global;
@@ -13,6 +10,7 @@ use std::test::*;
 
 mod chunked;
 mod cuts;
+mod seen;
 mod worked;
 
 fn part(lo: u64, hi: u64) -> Part {
@@ -77,21 +75,18 @@ fn none_found(alloc: Global) -> PartFound
     ensures bad_reads { result.bad_reads.items ≡ [] }
     ensures bad_writes { result.bad_writes.items ≡ [] }
     ensures unexplained { result.unexplained.items ≡ [] }
-    ensures writers { result.edges.ends.writers.items ≡ [] }
-    ensures readers { result.edges.ends.readers.items ≡ [] }
-    ensures fans { result.edges.fans.items ≡ [] }
+    ensures writers { result.looks.writers.items ≡ [] }
+    ensures readers { result.looks.readers.items ≡ [] }
+    ensures absences { result.looks.absences.items ≡ [] }
 {
-    let ends = Ends {
-        writers: Vec::new(alloc),
-        readers: Vec::new(alloc),
-    };
     PartFound {
         bad_reads: Vec::new(alloc),
         bad_writes: Vec::new(alloc),
         unexplained: Vec::new(alloc),
-        edges: PartEdges {
-            ends,
-            fans: Vec::new(alloc),
+        looks: Looks {
+            writers: Vec::new(alloc),
+            readers: Vec::new(alloc),
+            absences: Vec::new(alloc),
         },
     }
 }
@@ -105,8 +100,9 @@ fn none_found_in_two_parts(rt: HostRuntime) -> Result<(), Fail> {
     assert!(rt; found.bad_reads.is_empty());
     assert!(rt; found.bad_writes.is_empty());
     assert!(rt; found.unexplained.is_empty());
-    let numbers = found.chunk(rt.alloc(), 0, 1)?;
-    assert!(rt; numbers.is_empty());
+    assert!(rt; found.looks.writers.is_empty());
+    assert!(rt; found.looks.readers.is_empty());
+    assert!(rt; found.looks.absences.is_empty());
     Ok(())
 }
 
@@ -167,29 +163,5 @@ fn committed_among_others(rt: HostRuntime) -> Result<(), Fail> {
     assert!(rt; none.ids().is_empty());
     let some = committed_of(rt.alloc(), b"c9 w1[7] w2[7] r3[7:0] a1 c2")?;
     assert_eq!(rt; some.ids(), [2, 9].as_slice());
-    Ok(())
-}
-
-// The numbers of the edges of the history, without a cut.
-fn numbers_in(alloc: Global, h: &History, ix: &Index) -> Result<Vec<EdgeNumber>, Fail>
-    requires { ix.now ≡ h.now }
-{
-    ix.law();
-    let committed = Committed::of(alloc, ix)?;
-    let _ = ix.written_keys();
-    let found = find_in_part(alloc, h, ix, &committed, part(0, u64::MAX))?;
-    let numbers = numbers_of(alloc, found.edges, committed.ids().len())?;
-    Ok(numbers)
-}
-
-// Of the committed 2 and 5 the first is number 0, though 1 comes before it, and the second is number 1: the edge from 2 to
-// 5, of the second kind, at the only key.
-#[test]
-fn number_of_an_edge(rt: HostRuntime) -> Result<(), Fail> {
-    let text = b"w1[7] w2[7] a1 c2 r3[7:2] r5[7:2] c5";
-    let history = read_history(rt.alloc(), text)?;
-    let index = index(rt.alloc(), &history)?;
-    let numbers = numbers_in(rt.alloc(), &history, &index)?;
-    assert!(rt; numbers.as_slice() == [5 * 1_048_576].as_slice());
     Ok(())
 }

@@ -1,13 +1,14 @@
 //! What reads saw of the keys of a part: bad reads, and the spans that give edges.
 ghost use Rattle.std.specs.Prelude.{◌≡◌, ◌↔◌, ℕ, All, List, false, IsTrue, OnOk, MatchOption};
 ghost use Rattle.sia_events.specs.declared.event.Event.{Event};
+ghost use Rattle.sia_events.specs.NarrowDependencies.{IsAsOf};
 ghost use Rattle.sia_events.specs.Transactions.{IsCommitted, CommitsAt, WroteBefore};
 ghost use Rattle.sia_events.specs.Reads.{IsDue};
 ghost use Rattle.sia_events.specs.Refusals.{IsWellFormed};
 ghost use Rattle.sia_index.specs.Info.{IsItemRead, IsReader};
 ghost use Rattle.sia_index.specs.Seen.{IsSeen};
 ghost use Rattle.sia_parts.specs.declared.auditing.spans.Span.{Span};
-ghost use Rattle.sia_parts.specs.Sights.{Adds, JoinsTo, FromSome, IsSight, IsBadOf, IsAsOf, IsSpanOf, read_sight};
+ghost use Rattle.sia_parts.specs.Sights.{Adds, JoinsTo, FromSome, IsSight, IsBadOf, IsSpanOf, read_sight};
 
 use crate::auditing::nearby::Near;
 use crate::auditing::spans::{Span, put_joined};

@@ -1,14 +1,13 @@
 //! The numbers of fans' edges, one source after another: a source's numbers are few enough to be sorted at once.
-ghost use Rattle.std.specs.Prelude.{◌↔◌, ◌<◌, ◌≤◌, ℕ, All, OnOk, length};
+ghost use Rattle.std.specs.Prelude.{◌≡◌, ◌↔◌, ◌<◌, ◌≤◌, ℕ, All, OnOk, length};
 ghost use Rattle.sia_parts.specs.Packing.{AreDigits};
 ghost use Rattle.sia_parts.specs.Sights.{Adds, FromSome};
-ghost use Rattle.sia_parts.specs.Ends.{HasDigits, HaveDigits, IsNumberTo};
-ghost use Rattle.sia_parts.specs.Fans.{IsFanNumber};
+ghost use Rattle.sia_parts.specs.Fans.{HasDigits, HaveDigits, IsFanNumber, IsNumberTo, looks_for};
 
-use crate::edges::ends::{End, Ends};
 use crate::edges::fans::Fan;
 use crate::edges::packing::{BASE, number};
 use crate::finding::Kind;
+use crate::looks::{Look, Looks};
 use sia_events::NoMemory;
 use sia_index::ordering::merge_in_order;
 
@@ -23,18 +22,18 @@ pub(crate) fn count(fans: &[Fan]) -> usize {
 
 /// Adds the numbers of the fans, those of each source in order. The run is room for them.
 pub(crate) fn put_runs(
-    ends: &Ends,
+    looks: &Looks,
     fans: &[Fan],
     run: &mut Vec<u64>,
     numbers: &mut Vec<u64>,
 ) -> Result<(), NoMemory>
-    requires { HaveDigits ends.now }
-    ensures { OnOk result (Adds (FromSome (IsFanNumber ends.now) fans.now) numbers.old.items numbers.new.items) }
+    requires { HaveDigits looks.now }
+    ensures { OnOk result (Adds (FromSome (IsFanNumber looks.now) fans.now) numbers.old.items numbers.new.items) }
 {
     let mut from = 0;
     while from < fans.len() {
         let to = run_end(fans, from);
-        put_run(ends, &fans[from..to], run, numbers)?;
+        put_run(looks, &fans[from..to], run, numbers)?;
         from = to;
     }
     Ok(())
@@ -56,30 +55,41 @@ fn run_end(fans: &[Fan], from: usize) -> usize
 
 // Adds the numbers of these fans in order. The run is room for them.
 fn put_run(
-    ends: &Ends,
+    looks: &Looks,
     fans: &[Fan],
     run: &mut Vec<u64>,
     numbers: &mut Vec<u64>,
 ) -> Result<(), NoMemory>
-    requires { HaveDigits ends.now }
-    ensures { OnOk result (Adds (FromSome (IsFanNumber ends.now) fans.now) numbers.old.items numbers.new.items) }
+    requires { HaveDigits looks.now }
+    ensures { OnOk result (Adds (FromSome (IsFanNumber looks.now) fans.now) numbers.old.items numbers.new.items) }
 {
     run.clear();
     for fan in fans {
-        put_fan_numbers(ends, *fan, run)?;
+        put_numbers_to(fan.src, fan.kind, looks_of_fan(looks, *fan), run)?;
     }
     merge_in_order(run)?;
     numbers.extend_from_slice(run.as_slice())?;
     Ok(())
 }
 
-// The ends of the fan.
-fn ends_of(ends: &Ends, fan: Fan) -> &[End]
-    requires { HaveDigits ends.now }
-    ensures digits { All HasDigits result.now }
-    ensures each { (n : ℕ) → FromSome (IsNumberTo fan.src fan.kind) result.now n ↔ IsFanNumber ends.now fan n }
+// The looks that edges of the kind lead to.
+fn of_kind(looks: &Looks, kind: Kind) -> &[Look]
+    ensures { result.now ≡ looks_for looks.now kind }
 {
-    let all = ends.of_kind(fan.kind);
+    match kind {
+        Kind::Ww => looks.writers.as_slice(),
+        Kind::Wr => looks.readers.as_slice(),
+        Kind::Rw => looks.writers.as_slice(),
+    }
+}
+
+// Those that the fan leads to.
+fn looks_of_fan(looks: &Looks, fan: Fan) -> &[Look]
+    requires { HaveDigits looks.now }
+    ensures digits { All HasDigits result.now }
+    ensures each { (n : ℕ) → FromSome (IsNumberTo fan.src fan.kind) result.now n ↔ IsFanNumber looks.now fan n }
+{
+    let all = of_kind(looks, fan.kind);
     if fan.from <= fan.to && fan.to <= all.len() {
         &all[fan.from..fan.to]
     } else {
@@ -87,45 +97,37 @@ fn ends_of(ends: &Ends, fan: Fan) -> &[End]
     }
 }
 
-fn put_fan_numbers(ends: &Ends, fan: Fan, numbers: &mut Vec<u64>) -> Result<(), NoMemory>
-    requires { HaveDigits ends.now }
-    ensures { OnOk result (Adds (IsFanNumber ends.now fan) numbers.old.items numbers.new.items) }
-{
-    put_numbers_to(fan.src, fan.kind, ends_of(ends, fan), numbers)?;
-    Ok(())
-}
-
-// Adds the numbers of the edges to the ends.
+// Adds the numbers of the edges to the looks.
 fn put_numbers_to(
     src: u32,
     kind: Kind,
-    ends: &[End],
+    looks: &[Look],
     numbers: &mut Vec<u64>,
 ) -> Result<(), NoMemory>
-    requires { All HasDigits ends.now }
-    ensures { OnOk result (Adds (FromSome (IsNumberTo src kind) ends.now) numbers.old.items numbers.new.items) }
+    requires { All HasDigits looks.now }
+    ensures { OnOk result (Adds (FromSome (IsNumberTo src kind) looks.now) numbers.old.items numbers.new.items) }
 {
     if u64::from(src) >= BASE {
         return Ok(());
     }
-    for end in ends {
-        if end.txn != src {
-            numbers.push(number_to(src, kind, *end))?;
+    for look in looks {
+        if look.txn != src {
+            numbers.push(number_to(src, kind, *look))?;
         }
     }
     Ok(())
 }
 
-// The number of the edge to the end.
-fn number_to(src: u32, kind: Kind, end: End) -> u64
+// The number of the edge to the look.
+fn number_to(src: u32, kind: Kind, look: Look) -> u64
     requires source { src < 1048576 }
-    requires end { HasDigits end }
-    ensures { AreDigits src end.txn kind end.number result }
+    requires look { HasDigits look }
+    ensures { AreDigits src look.txn kind look.key result }
 {
     number(
         u64::from(src),
-        u64::from(end.txn),
+        u64::from(look.txn),
         kind,
-        u64::from(end.number),
+        u64::from(look.key),
     )
 }

@@ -1,23 +1,30 @@
-//! Fans: the edges of one kind from one transaction, as stretches of ends.
-ghost use Rattle.std.specs.Prelude.{◌≡◌, ◌+◌, [], OnOk, IfOk};
+//! Fans: the edges of one kind from one transaction, as stretches of looks.
+ghost use Rattle.std.specs.Prelude.{◌≡◌, ◌↔◌, ◌+◌, ◌<◌, ◌≤◌, [], ℕ, List, Option, All, Contains, IfOk, OnOk};
 ghost use Rattle.sia_events.specs.Lists.{ListsAscending};
-ghost use Rattle.sia_events.specs.Refusals.{IsWellFormed};
 ghost use Rattle.sia_events.specs.Transactions.{IsCommitted};
-ghost use Rattle.sia_parts.specs.Sights.{FromSome};
+ghost use Rattle.sia_index.specs.Info.{AreWrittenKeys};
+ghost use Rattle.sia_parts.specs.declared.cutting.Part.{Part};
+ghost use Rattle.sia_parts.specs.declared.edges.fans.Fan.{Fan as fan};
 ghost use Rattle.sia_parts.specs.declared.finding.Kind.TheVariants.{Rw};
-ghost use Rattle.sia_parts.specs.Ends.{IsNumberWithin, RiseByRank, RisesByRank, rank_of};
-ghost use Rattle.sia_parts.specs.Fans.{Gives, GivesTo, IsWriterNumber, IsReaderNumber, IsGapNumber, IsMissedNumber};
-ghost use Rattle.sia_parts.specs.Gathering.{RiseBySource};
+ghost use Rattle.sia_parts.specs.EdgeNumbers.{StandForEdges};
+ghost use Rattle.sia_parts.specs.Fans.{GivesTo, HasDigits, HaveDigits, IsAbsenceNumber, IsFanNumber, IsMissedNumber, IsNumberWithin, IsReaderNumber, IsWriterNumber};
+ghost use Rattle.sia_parts.specs.Gathering.{AreNumbersBetween, CanSpread, IsNumberIn, RiseBySource};
+ghost use Rattle.sia_parts.specs.Looks.{AreLooks, RiseByRank, rank_of};
+ghost use Rattle.sia_parts.specs.Parts.{IsWithin};
+ghost use Rattle.sia_parts.specs.Sights.{FromSome, Gives};
 
-use crate::auditing::gaps::Gap;
 use crate::edges::committed::Committed;
-use crate::edges::ends::{End, Ends, places, rank, rank_above};
+use crate::edges::fanning::{count, put_runs};
+use crate::edges::numbers::EdgeNumber;
+use crate::edges::ranks::{places, rank, rank_above, rank_all};
 use crate::finding::Kind;
+use crate::looks::{Absence, Look, Looks};
 use sia_events::NoMemory;
 use sia_index::Index;
+use sia_index::ordering::merge_in_order;
 use std::alloc::Global;
 
-/// The edges of one kind from a transaction, by its number, to the ends from one place to below another. Its ends are
+/// The edges of one kind from a transaction, by its number, to the looks from one place to below another. Its looks are
 /// readers where the kind is wr, and else writers.
 #[derive(Clone, Copy, Debug)]
 pub(crate) struct Fan {
@@ -27,71 +34,131 @@ pub(crate) struct Fan {
     pub(crate) to: usize,
 }
 
-/// The edges of one kind from a transaction, by its number, to the ends from one rank to below another.
+/// Edges, as fans in the order of their sources. Their numbers are made where they are asked for, so that workers can share
+/// the fans.
+#[derive(Debug, Drop)]
+pub struct Fans {
+    /// Those that the fans lead to, the readers by rank too.
+    pub(crate) looks: Looks,
+    pub(crate) fans: Vec<Fan>,
+}
+
+/// The edges of one kind from a transaction, by its number, to the looks from one rank to below another.
 #[derive(Clone, Copy)]
 struct Reach {
     src: u32,
     kind: Kind,
-    from: u128,
-    to: u128,
+    from: u64,
+    to: u64,
 }
 
-/// The fans to versions that reads missed: of the readers, in any order, and of the gaps.
-pub(crate) fn missed_fans(
+impl Fans {
+    /// The fans of all edges between those who looked.
+    pub fn of(
+        alloc: Global,
+        ix: &Index,
+        committed: &Committed,
+        mut looks: Looks,
+    ) -> Result<Fans, NoMemory>
+        requires committed { ListsAscending (IsCommitted ix.now) committed.now }
+        requires looks { (at : Option Part) × AreLooks ix.now (IsWithin at) looks }
+        ensures stand { IfOk result (λ fans. (at : Option Part) → AreLooks ix.now (IsWithin at) looks → (keys : List ℕ) → AreWrittenKeys ix.now keys
+            → StandForEdges ix.now committed.now keys (IsWithin at) (IsNumberIn fans)) }
+        ensures spread { IfOk result CanSpread }
+    {
+        ix.law();
+        let _ = committed;
+        let mut fans = missed_fans(alloc, &looks.writers, &looks.readers, &looks.absences)?;
+        rank_all(&mut looks.readers)?;
+        looks.absences = Vec::new(alloc);
+        complete(&looks, &mut fans)?;
+        Ok(Fans { looks, fans })
+    }
+
+    /// The numbers of the edges whose sources stand from the one place to before the other.
+    pub fn chunk(&self, alloc: Global, from: usize, to: usize) -> Result<Vec<EdgeNumber>, NoMemory>
+        requires { CanSpread self.now }
+        ensures { IfOk result (λ numbers. AreNumbersBetween self.now from to numbers.items) }
+    {
+        let fans = fans_between(&self.fans, from, to);
+        let mut run = Vec::new(alloc);
+        let mut numbers = Vec::with_capacity(alloc, count(fans))?;
+        put_runs(&self.looks, fans, &mut run, &mut numbers)?;
+        merge_in_order(&mut numbers)?;
+        Ok(numbers)
+    }
+}
+
+// The fans of these sources.
+fn fans_between(fans: &[Fan], from: usize, to: usize) -> &[Fan]
+    requires { RiseBySource fans.now }
+    ensures { (f : fan) → Contains result.now f ↔ (Contains fans.now f × (from ≤ f.src) × (f.src < to)) }
+{
+    let first = fans.partition_point(|f| (f.src as usize) < from);
+    let rest = &fans[first..];
+    let count = rest.partition_point(|f| (f.src as usize) < to);
+    &rest[..count]
+}
+
+// The fans to versions that reads missed: of the readers, in any order, and of the absences.
+fn missed_fans(
     alloc: Global,
-    ix: &Index,
-    committed: &Committed,
-    writers: &[End],
-    readers: &[End],
-    gaps: &[Gap],
+    writers: &[Look],
+    readers: &[Look],
+    absences: &[Absence],
 ) -> Result<Vec<Fan>, NoMemory>
-    requires well_formed { IsWellFormed ix.now }
-    requires committed { ListsAscending (IsCommitted ix.now) committed.now }
-    requires writers { RisesByRank writers.now }
-    ensures { IfOk result (λ fans. GivesTo Rw writers.now (IsMissedNumber ix.now writers.now readers.now gaps.now) [] fans.items) }
+    requires writers { RiseByRank writers.now }
+    requires readers { All HasDigits readers.now }
+    ensures { IfOk result (λ fans. GivesTo Rw writers.now (IsMissedNumber writers.now readers.now absences.now) [] fans.items) }
 {
     let mut fans = Vec::new(alloc);
     put_reader_fans(writers, readers, &mut fans)?;
-    put_gap_fans(ix, committed, writers, gaps, &mut fans)?;
+    put_absence_fans(writers, absences, &mut fans)?;
     Ok(fans)
 }
 
-/// Adds the fans of the versions, and puts all in the order of their sources.
-pub(crate) fn complete(ends: &Ends, fans: &mut Vec<Fan>) -> Result<(), NoMemory>
-    requires { RiseByRank ends.now }
-    ensures each { OnOk result (Gives ends.now (FromSome (IsWriterNumber ends.now) ends.now.writers.items) fans.old.items fans.new.items) }
+// Adds the fans of the versions, and puts all in the order of their sources.
+fn complete(looks: &Looks, fans: &mut Vec<Fan>) -> Result<(), NoMemory>
+    requires writers { RiseByRank looks.now.writers.items }
+    requires readers { RiseByRank looks.now.readers.items }
+    requires digits { HaveDigits looks.now }
+    ensures each { OnOk result (Gives (IsFanNumber looks.now) (FromSome (IsWriterNumber looks.now) looks.now.writers.items) fans.old.items fans.new.items) }
     ensures rise { OnOk result (RiseBySource fans.new.items) }
 {
-    put_writer_fans(ends, fans)?;
+    put_writer_fans(looks, fans)?;
     fans.sort_by_key(|fan| fan.src)?;
     Ok(())
 }
 
 // Adds the fans of the versions: to later ones of the same key, and to readers of it who saw it or a later one.
-fn put_writer_fans(ends: &Ends, fans: &mut Vec<Fan>) -> Result<(), NoMemory>
-    requires { RiseByRank ends.now }
-    ensures { OnOk result (Gives ends.now (FromSome (IsWriterNumber ends.now) ends.now.writers.items) fans.old.items fans.new.items) }
+fn put_writer_fans(looks: &Looks, fans: &mut Vec<Fan>) -> Result<(), NoMemory>
+    requires writers { RiseByRank looks.now.writers.items }
+    requires readers { RiseByRank looks.now.readers.items }
+    requires digits { HaveDigits looks.now }
+    ensures { OnOk result (Gives (IsFanNumber looks.now) (FromSome (IsWriterNumber looks.now) looks.now.writers.items) fans.old.items fans.new.items) }
 {
     let mut near = (0, 0);
-    for end in &ends.writers {
-        near = put_fans_of_writer(ends, *end, near, fans)?;
+    for look in &looks.writers {
+        near = put_fans_of_writer(looks, *look, near, fans)?;
     }
     Ok(())
 }
 
-// The places are those near which the ends are looked for. Answers the next ones.
+// The places are those near which the looks are looked for. Answers the next ones.
 fn put_fans_of_writer(
-    ends: &Ends,
-    end: End,
+    looks: &Looks,
+    look: Look,
     near: (usize, usize),
     fans: &mut Vec<Fan>,
 ) -> Result<(usize, usize), NoMemory>
-    requires { RiseByRank ends.now }
-    ensures { OnOk result (Gives ends.now (IsWriterNumber ends.now end) fans.old.items fans.new.items) }
+    requires writers { RiseByRank looks.now.writers.items }
+    requires readers { RiseByRank looks.now.readers.items }
+    requires digits { HasDigits look }
+    ensures { OnOk result (Gives (IsFanNumber looks.now) (IsWriterNumber looks.now look) fans.old.items fans.new.items) }
 {
-    let own = rank(end.key, end.high);
-    let to = rank_above(end.key);
-    let src = end.txn;
+    let own = rank(look.key, look.high);
+    let to = rank_above(look.key);
+    let src = look.txn;
     let later = Reach {
         src,
         kind: Kind::Ww,
@@ -104,89 +171,77 @@ fn put_fans_of_writer(
         from: own,
         to,
     };
-    let first = put_fan(&ends.writers, later, near.0, fans)?;
-    let second = put_fan(&ends.readers, seers, near.1, fans)?;
+    let first = put_fan(&looks.writers, later, near.0, fans)?;
+    let second = put_fan(&looks.readers, seers, near.1, fans)?;
     Ok((first, second))
 }
 
 // Adds the fans of the readers: to the versions after the first one that each saw.
-fn put_reader_fans(writers: &[End], readers: &[End], fans: &mut Vec<Fan>) -> Result<(), NoMemory>
-    requires { RisesByRank writers.now }
+fn put_reader_fans(writers: &[Look], readers: &[Look], fans: &mut Vec<Fan>) -> Result<(), NoMemory>
+    requires writers { RiseByRank writers.now }
+    requires readers { All HasDigits readers.now }
     ensures { OnOk result (GivesTo Rw writers.now (FromSome (IsReaderNumber writers.now) readers.now) fans.old.items fans.new.items) }
 {
     let mut near = 0;
-    for end in readers {
-        near = put_fan(writers, reach_of_reader(*end), near, fans)?;
+    for look in readers {
+        near = put_fan(writers, reach_of_reader(*look), near, fans)?;
     }
     Ok(())
 }
 
 // What the reader missed.
-fn reach_of_reader(end: End) -> Reach
-    ensures { result ≡ record { src = end.txn; kind = Rw; from = rank_of end.key end.low + 1; to = rank_of (end.key + 1) 0 } }
+fn reach_of_reader(look: Look) -> Reach
+    requires { HasDigits look }
+    ensures { result ≡ record { src = look.txn; kind = Rw; from = rank_of look.key look.low + 1; to = rank_of (look.key + 1) 0 } }
 {
     Reach {
-        src: end.txn,
+        src: look.txn,
         kind: Kind::Rw,
-        from: rank(end.key, end.low) + 1,
-        to: rank_above(end.key),
+        from: rank(look.key, look.low) + 1,
+        to: rank_above(look.key),
     }
 }
 
-// Adds the fans of the gaps: to the versions of their keys.
-fn put_gap_fans(
-    ix: &Index,
-    committed: &Committed,
-    writers: &[End],
-    gaps: &[Gap],
+// Adds the fans of the absences: to the versions of their keys.
+fn put_absence_fans(
+    writers: &[Look],
+    absences: &[Absence],
     fans: &mut Vec<Fan>,
 ) -> Result<(), NoMemory>
-    requires well_formed { IsWellFormed ix.now }
-    requires committed { ListsAscending (IsCommitted ix.now) committed.now }
-    requires writers { RisesByRank writers.now }
-    ensures { OnOk result (GivesTo Rw writers.now (FromSome (IsGapNumber ix.now writers.now) gaps.now) fans.old.items fans.new.items) }
+    requires { RiseByRank writers.now }
+    ensures { OnOk result (GivesTo Rw writers.now (FromSome (IsAbsenceNumber writers.now) absences.now) fans.old.items fans.new.items) }
 {
     let mut near = 0;
-    for gap in gaps {
-        near = put_fan_of_gap(ix, committed, writers, *gap, near, fans)?;
+    for absence in absences {
+        near = put_fan(writers, reach_of_absence(*absence), near, fans)?;
     }
     Ok(())
 }
 
-// The place is one near which the ends are looked for. Answers the next one.
-fn put_fan_of_gap(
-    ix: &Index,
-    committed: &Committed,
-    writers: &[End],
-    gap: Gap,
+// What the absent transaction missed.
+fn reach_of_absence(absence: Absence) -> Reach
+    ensures { result ≡ record { src = absence.txn; kind = Rw; from = rank_of absence.from 0; to = rank_of absence.to 0 } }
+{
+    Reach {
+        src: absence.txn,
+        kind: Kind::Rw,
+        from: rank(absence.from, 0),
+        to: rank(absence.to, 0),
+    }
+}
+
+// Adds the fan to those of the looks that are reached, if there are any. They are looked for from the place on. Answers where
+// they stop.
+fn put_fan(
+    looks: &[Look],
+    reach: Reach,
     near: usize,
     fans: &mut Vec<Fan>,
 ) -> Result<usize, NoMemory>
-    requires well_formed { IsWellFormed ix.now }
-    requires committed { ListsAscending (IsCommitted ix.now) committed.now }
-    requires writers { RisesByRank writers.now }
-    ensures { OnOk result (GivesTo Rw writers.now (IsGapNumber ix.now writers.now gap) fans.old.items fans.new.items) }
+    requires { RiseByRank looks.now }
+    ensures { OnOk result (GivesTo reach.kind looks.now (IsNumberWithin looks.now reach.from reach.to reach.src reach.kind) fans.old.items fans.new.items) }
 {
-    let Some(src) = committed.number(ix, gap.txn) else {
-        return Ok(near);
-    };
-    let reach = Reach {
-        src,
-        kind: Kind::Rw,
-        from: rank(gap.lo, 0),
-        to: rank_above(gap.hi),
-    };
-    let stop = put_fan(writers, reach, near, fans)?;
-    Ok(stop)
-}
-
-// Adds the fan to those of the ends that are reached, if there are any. They are looked for from the place on. Answers where
-// they stop.
-fn put_fan(ends: &[End], reach: Reach, near: usize, fans: &mut Vec<Fan>) -> Result<usize, NoMemory>
-    requires { RisesByRank ends.now }
-    ensures { OnOk result (GivesTo reach.kind ends.now (IsNumberWithin ends.now reach.from reach.to reach.src reach.kind) fans.old.items fans.new.items) }
-{
-    let (start, stop) = places(ends, reach.from, reach.to, near);
+    let (start, stop) = places(looks, reach.from, reach.to, near);
     if start < stop {
         fans.push(Fan {
             src: reach.src,

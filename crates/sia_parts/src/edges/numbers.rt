@@ -4,7 +4,7 @@
 ghost use Rattle.std.specs.Prelude.{◌≡◌, map, IfOk};
 ghost use Rattle.sia_parts.specs.Packing.{unpacked, source_number, target_number, kind_digit, kind_at, key_number};
 
-use crate::edges::packing::{BASE, kind_of, put_unpacked, unpack};
+use crate::edges::packing::{BASE, kind_of, unpack};
 use crate::finding::{Edge, Kind};
 use sia_events::{Key, NoMemory, TxnId};
 use std::alloc::Global;
@@ -61,7 +61,9 @@ pub fn edges_of_numbers(
 ) -> Result<Vec<Edge>, NoMemory>
     ensures { IfOk result (λ edges. edges.items ≡ map (unpacked txns.now keys.now) numbers.now) }
 {
-    let mut edges = Vec::new(alloc);
-    put_unpacked(txns, keys, numbers, &mut edges)?;
+    let mut edges = Vec::with_capacity(alloc, numbers.len())?;
+    for n in numbers {
+        edges.push(unpack(txns, keys, *n))?;
+    }
     Ok(edges)
 }

@@ -1,10 +1,10 @@
 //! The digits of edges' numbers.
-ghost use Rattle.std.specs.Prelude.{◌≡◌, ◌<◌, ◌++◌, OnOk, map, slice_index};
+ghost use Rattle.std.specs.Prelude.{◌≡◌, ◌<◌, slice_index};
 ghost use Rattle.sia_parts.specs.Entries.{kind_number};
 ghost use Rattle.sia_parts.specs.Packing.{unpacked, kind_at, AreDigits};
 
 use crate::finding::{Edge, Kind};
-use sia_events::{Key, NoMemory, TxnId};
+use sia_events::{Key, TxnId};
 
 /// The number that follows the greatest digit for a transaction or a key. A history has at most 100,000 events, so its
 /// transactions and keys have lesser numbers.
@@ -29,22 +29,6 @@ fn number_of(kind: Kind) -> u8
         Kind::Wr => 1,
         Kind::Rw => 2,
     }
-}
-
-// Adds the edges of the numbers.
-pub(crate) fn put_unpacked(
-    txns: &[TxnId],
-    keys: &[Key],
-    numbers: &[u64],
-    edges: &mut Vec<Edge>,
-) -> Result<(), NoMemory>
-    ensures { OnOk result (edges.new.items ≡ edges.old.items ++ map (unpacked txns.now keys.now) numbers.now) }
-{
-    edges.reserve(numbers.len())?;
-    for n in numbers {
-        edges.push(unpack(txns, keys, *n))?;
-    }
-    Ok(())
 }
 
 // The edge that the number stands for.

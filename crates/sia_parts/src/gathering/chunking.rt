@@ -1,10 +1,8 @@
-//! Where the edges of all parts are cut into chunks by their sources, so that workers can make their numbers side by side.
+//! Where edges are cut into chunks by their sources, so that workers can make their numbers side by side.
 ghost use Rattle.std.specs.Prelude.{◌≡◌, ◌+◌, ◌<◌, ◌≤◌, [], ◌∷◌, length, slice_index, All, AllPairs, IfOk, IsTrue, OnOk};
 ghost use Rattle.sia_parts.specs.Gathering.{AreChunkBounds};
 
-use crate::edges::fans::Fan;
-use crate::edges::part_edges::PartEdges;
-use crate::gathering::gathering_numbers::Gathering;
+use crate::edges::fans::{Fan, Fans};
 use sia_events::NoMemory;
 use std::alloc::Global;
 
@@ -20,19 +18,14 @@ pub struct ChunkBounds {
 impl ChunkBounds {
     /// Cuts the edges, whose sources are so many transactions, into at most 1,024 chunks: each goes on to the source with
     /// which it has about so many edges, or more where there would be too many chunks.
-    pub fn of(
-        alloc: Global,
-        gathering: &Gathering,
-        txns: usize,
-        size: usize,
-    ) -> Result<ChunkBounds, NoMemory>
+    pub fn of(alloc: Global, fans: &Fans, txns: usize, size: usize) -> Result<ChunkBounds, NoMemory>
         ensures few { IfOk result (λ chunk_bounds. length chunk_bounds.places.items ≤ 1025) }
         ensures are { IfOk result (λ chunk_bounds. AreChunkBounds txns chunk_bounds.places.items) }
     {
         let mut places = Vec::new(alloc);
         places.push(0)?;
         if txns > 0 {
-            let weights = weights_of(alloc, &gathering.edges, txns)?;
+            let weights = weights_of(alloc, &fans.fans, txns)?;
             let least = size.max(sum_of(&weights) / MOST + 1);
             put_chunk_bounds(&weights, txns, least, &mut places)?;
             places.push(txns)?;
@@ -51,12 +44,10 @@ fn sum_of(weights: &[usize]) -> usize {
 }
 
 // How many edges each source has at most. There are so many sources.
-fn weights_of(alloc: Global, parts: &[PartEdges], sources: usize) -> Result<Vec<usize>, NoMemory> {
+fn weights_of(alloc: Global, fans: &[Fan], sources: usize) -> Result<Vec<usize>, NoMemory> {
     let mut weights = vec![in alloc; 0usize; sources]?;
-    for part in parts {
-        for fan in &part.fans {
-            weigh(*fan, weights.as_mut_slice());
-        }
+    for fan in fans {
+        weigh(*fan, weights.as_mut_slice());
     }
     Ok(weights)
 }

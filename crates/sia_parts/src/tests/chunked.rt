@@ -1,13 +1,10 @@
 //! Edges that are made chunk by chunk, by the places of their sources, worked out by hand from the definitions.
-ghost use Rattle.std.specs.Prelude.{◌≡◌, ◌+◌, ◌<◌, ℕ, List, length, slice_index, slice_index_or, All, IfOk};
-ghost use Rattle.std.specs.Global.{Vec as vec};
-ghost use Rattle.std.specs.List.{AllZip};
+ghost use Rattle.std.specs.Prelude.{◌≡◌, IfOk};
 ghost use Rattle.sia_events.specs.Lists.{ListsAscending};
 ghost use Rattle.sia_events.specs.Transactions.{IsCommitted};
-ghost use Rattle.sia_index.specs.Info.{AreWrittenKeys};
-ghost use Rattle.sia_parts.specs.Gathering.{AreNumbersBetween, AreChunkBounds, CanSpread, IsPartFound};
-ghost use Rattle.sia_parts.specs.Parts.{IsInPart};
+ghost use Rattle.sia_parts.specs.Gathering.{CanSpread};
 
+use super::seen::gathering_of;
 use super::worked::edge;
 use crate::*;
 use sia_events::{History, Key, read_history};
@@ -18,130 +15,23 @@ use std::fmt::Write;
 use std::process::Abort;
 use std::test::*;
 
-// What is found in the part.
-fn found_in_part(
-    alloc: Global,
-    h: &History,
-    ix: &Index,
-    committed: &Committed,
-    part: Part,
-) -> Result<PartFound, Fail>
-    requires index { ix.now ≡ h.now }
-    requires committed { ListsAscending (IsCommitted ix.now) committed.now }
-    ensures { IfOk result (λ found. (keys : List ℕ) → AreWrittenKeys h.now keys → IsPartFound h.now committed.now keys (IsInPart part) found) }
-{
-    match find_in_part(alloc, h, ix, committed, part) {
-        Ok(found) => Ok(found),
-        Err(fault) => Err(Fail::from(fault)),
-    }
-}
-
-// What is found in each part, in order.
-fn found_in_parts(
-    alloc: Global,
-    h: &History,
-    ix: &Index,
-    committed: &Committed,
-    parts: &[Part],
-) -> Result<Vec<PartFound>, Fail>
-    requires index { ix.now ≡ h.now }
-    requires committed { ListsAscending (IsCommitted ix.now) committed.now }
-    ensures { IfOk result (λ all. (keys : List ℕ) → AreWrittenKeys h.now keys → AllZip (λ part found. IsPartFound h.now committed.now keys (IsInPart part) found) parts.now all.items) }
-{
-    let mut all = Vec::new(alloc);
-    for part in parts {
-        let found = found_in_part(alloc, h, ix, committed, *part)?;
-        all.push(found)?;
-    }
-    Ok(all)
-}
-
-// What the parts of the cutting found.
-fn gathering_of(
+// The fans of all edges, of what the parts of the cutting found.
+fn fans_of(
     alloc: Global,
     h: &History,
     ix: &Index,
     committed: &Committed,
     points: &[Key],
-) -> Result<Gathering, Fail>
+) -> Result<Fans, Fail>
     requires index { ix.now ≡ h.now }
     requires committed { ListsAscending (IsCommitted ix.now) committed.now }
-    ensures { IfOk result (λ gathering. All CanSpread gathering.edges.items) }
+    ensures { IfOk result CanSpread }
 {
-    // The keys tell that they can be listed.
-    ix.law();
-    let _ = ix.written_keys();
-    let parts = cut(alloc, points)?;
-    let all = found_in_parts(alloc, h, ix, committed, &parts)?;
-    match Gathering::of(alloc, all) {
-        Ok(gathering) => Ok(gathering),
+    let gathering = gathering_of(alloc, h, ix, committed, points)?;
+    match Fans::of(alloc, ix, committed, gathering.looks) {
+        Ok(fans) => Ok(fans),
         Err(fault) => Err(Fail::from(fault)),
     }
-}
-
-// The places at which the chunks start and end.
-fn chunk_bounds_of(
-    alloc: Global,
-    gathering: &Gathering,
-    txns: usize,
-    size: usize,
-) -> Result<ChunkBounds, Fail>
-    ensures { IfOk result (λ chunk_bounds. AreChunkBounds txns chunk_bounds.places.items) }
-{
-    match ChunkBounds::of(alloc, gathering, txns, size) {
-        Ok(chunk_bounds) => Ok(chunk_bounds),
-        Err(fault) => Err(Fail::from(fault)),
-    }
-}
-
-// The numbers of the edges whose sources stand from the one place to before the other.
-fn chunk_of(
-    alloc: Global,
-    gathering: &Gathering,
-    from: usize,
-    to: usize,
-) -> Result<Vec<EdgeNumber>, Fail>
-    requires { All CanSpread gathering.now.edges.items }
-    ensures { IfOk result (λ numbers. AreNumbersBetween gathering.now.edges.items from to numbers.items) }
-{
-    match gathering.chunk(alloc, from, to) {
-        Ok(numbers) => Ok(numbers),
-        Err(fault) => Err(Fail::from(fault)),
-    }
-}
-
-// The numbers between each two places that follow one another.
-fn chunks_of(
-    alloc: Global,
-    gathering: &Gathering,
-    places: &[usize],
-) -> Result<Vec<Vec<EdgeNumber>>, Fail>
-    requires spread { All CanSpread gathering.now.edges.items }
-    requires some { 0 < length places.now }
-    ensures many { IfOk result (λ chunks. length chunks.items + 1 ≡ length places.now) }
-    ensures each { IfOk result (λ chunks. (i : ℕ) (d : vec ℕ) → i < length chunks.items → AreNumbersBetween gathering.now.edges.items (slice_index places.now i) (slice_index places.now (i + 1)) (slice_index_or chunks.items i d).items) }
-{
-    let mut chunks = Vec::new(alloc);
-    for i in 0..places.len() - 1 {
-        let numbers = chunk_of(alloc, gathering, places[i], places[i + 1])?;
-        chunks.push(numbers)?;
-    }
-    Ok(chunks)
-}
-
-// The numbers of the edges at all keys, made in chunks of about so many.
-fn numbers_of_chunks(
-    alloc: Global,
-    gathering: Gathering,
-    txns: usize,
-    size: usize,
-) -> Result<EdgeNumbers, Fail>
-    requires { All CanSpread gathering.edges.items }
-{
-    let chunk_bounds = chunk_bounds_of(alloc, &gathering, txns, size)?;
-    let chunks = chunks_of(alloc, &gathering, &chunk_bounds.places)?;
-    let found = gathering.joined(&chunk_bounds, chunks, txns);
-    Ok(found.edges)
 }
 
 // The edges of each chunk, of the history by its index.
@@ -156,11 +46,14 @@ fn edges_of_chunks(
 {
     ix.law();
     let committed = Committed::of(alloc, ix)?;
-    let gathering = gathering_of(alloc, h, ix, &committed, points)?;
-    let numbers = numbers_of_chunks(alloc, gathering, committed.ids().len(), size)?;
+    let ids = committed.ids();
+    let fans = fans_of(alloc, h, ix, &committed, points)?;
+    let bounds = ChunkBounds::of(alloc, &fans, ids.len(), size)?;
+    let places = bounds.places.as_slice();
     let mut chunks = Vec::new(alloc);
-    for chunk in numbers.chunks() {
-        let edges = edges_of_numbers(alloc, committed.ids(), ix.written_keys(), chunk)?;
+    for i in 1..places.len() {
+        let numbers = fans.chunk(alloc, places[i - 1], places[i])?;
+        let edges = edges_of_numbers(alloc, ids, ix.written_keys(), &numbers)?;
         chunks.push(edges)?;
     }
     Ok(chunks)
@@ -179,8 +72,7 @@ fn chunked(
     Ok(chunks)
 }
 
-// That of the chunks of about so many edges none is empty, and that their edges one after another are those that are
-// wanted.
+// That the edges of the chunks of about so many, one after another, are those that are wanted.
 fn expect<R: Abort + AllocGlobal>(
     rt: &R,
     text: &[u8],
@@ -191,7 +83,6 @@ fn expect<R: Abort + AllocGlobal>(
     let chunks = chunked(rt.alloc(), text, points, size)?;
     let mut edges = Vec::new(rt.alloc());
     for chunk in &chunks {
-        assert!(rt; !chunk.is_empty());
         edges.extend_from_slice(chunk)?;
     }
     assert_eq!(rt; edges.as_slice(), wanted);
@@ -291,5 +182,28 @@ fn few_beside_many(rt: HostRuntime) -> Result<(), Fail> {
         expect(&rt, text.as_bytes(), points, 1000, &wanted)?;
         expect(&rt, text.as_bytes(), points, 48, &wanted)?;
     }
+    Ok(())
+}
+
+// The numbers of all edges of the history.
+fn all_numbers(alloc: Global, h: &History, ix: &Index) -> Result<Vec<EdgeNumber>, Fail>
+    requires { ix.now ≡ h.now }
+{
+    ix.law();
+    let committed = Committed::of(alloc, ix)?;
+    let fans = fans_of(alloc, h, ix, &committed, &[])?;
+    let numbers = fans.chunk(alloc, 0, committed.ids().len())?;
+    Ok(numbers)
+}
+
+// Of the committed 2 and 5 the first is number 0, though 1 comes before it, and the second is number 1: the edge from 2 to
+// 5, of the second kind, at the only key.
+#[test]
+fn number_of_an_edge(rt: HostRuntime) -> Result<(), Fail> {
+    let text = b"w1[7] w2[7] a1 c2 r3[7:2] r5[7:2] c5";
+    let history = read_history(rt.alloc(), text)?;
+    let index = index(rt.alloc(), &history)?;
+    let numbers = all_numbers(rt.alloc(), &history, &index)?;
+    assert!(rt; numbers.as_slice() == [5 * 1_048_576].as_slice());
     Ok(())
 }

@@ -1,6 +1,6 @@
 -- A version is as of one place.
 use Rattle.std.proofs.Common.{subst, sym}
-use Rattle.sia_parts.specs.Sights.{IsAsOf}
+use Rattle.sia_events.specs.NarrowDependencies.{IsAsOf}
 use Rattle.sia_parts.proofs.Sources.{one_as_of}
 use Rattle.sia_parts.proofs.auditing.sights.as_of_seen.Goals as goal
 

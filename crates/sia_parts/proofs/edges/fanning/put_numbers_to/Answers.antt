@@ -1,24 +1,24 @@
--- Each end of another transaction adds its number.
+-- Each look of another transaction adds its number.
 use Rattle.std.proofs.Common.{get_or, sym, ◌∙◌}
-use Rattle.sia_parts.specs.declared.edges.ends.End.{End}
-use Rattle.sia_parts.specs.Ends.{IsNumberTo}
+use Rattle.sia_parts.specs.declared.looks.Look.{Look}
+use Rattle.sia_parts.specs.Fans.{IsNumberTo}
 use Rattle.sia_parts.proofs.Adding.{adds_push, adds_nothing, from_none, from_more, from_all}
 use Rattle.sia_parts.proofs.edges.fanning.put_numbers_to.Goals as goal
-use Rattle.sia_parts.proofs.edges.fanning.put_numbers_to.Goals.{then-end-src+in_ok-push, else-end-src}
+use Rattle.sia_parts.proofs.edges.fanning.put_numbers_to.Goals.{then-look-src+in_ok-push, else-look-src}
 
-abbrev none : End
-none = record { key = 0; high = 0; low = 0; txn = 0; number = 0 }
+abbrev none : Look
+none = record { txn = 0; key = 0; low = 0; high = 0 }
 
-pub loop-end-init : goal.loop-end-init
-loop-end-init c = from_none (IsNumberTo c.args.src c.args.kind) c.args.ends.now _
+pub loop-look-init : goal.loop-look-init
+loop-look-init c = from_none (IsNumberTo c.args.src c.args.kind) c.args.looks.now _
 
-pub loop-end-preserved : goal.loop-end-preserved
-loop-end-preserved c =
-    from_more (IsNumberTo c.args.src c.args.kind) c.args.ends.now c.loop-end.end-index none _ _ _ c.loop-end-test.true c.loop-end.invariant
-    (elim c.if-end-src.branch [
-      | then-end-src+in_ok-push w ↦ rw (w.numbers-is, w.in_ok-push.ensures.items) (adds_push (IsNumberTo c.args.src c.args.kind (get_or c.args.ends.now c.loop-end.end-index none)) _ _ (w.if-end-src.true, w.number_to.ensures) (λ n is. w.number_to.ensures.sum ∙ sym is.1.sum))
-      | else-end-src w ↦ rw w.numbers-is (adds_nothing _ _ (λ n is. is.0 w.if-end-src.false))
+pub loop-look-preserved : goal.loop-look-preserved
+loop-look-preserved c =
+    from_more (IsNumberTo c.args.src c.args.kind) c.args.looks.now c.loop-look.look-index none _ _ _ c.loop-look-test.true c.loop-look.invariant
+    (elim c.if-look-src.branch [
+      | then-look-src+in_ok-push w ↦ rw (w.numbers-is, w.in_ok-push.ensures.items) (adds_push (IsNumberTo c.args.src c.args.kind (get_or c.args.looks.now c.loop-look.look-index none)) _ _ (w.if-look-src.true, w.number_to.ensures) (λ n is. w.number_to.ensures.sum ∙ sym is.1.sum))
+      | else-look-src w ↦ rw w.numbers-is (adds_nothing _ _ (λ n is. is.0 w.if-look-src.false))
     ])
 
 pub returns : goal.returns
-returns c = from_all (IsNumberTo c.args.src c.args.kind) c.args.ends.now c.loop-end.end-index _ _ c.loop-end-test.false c.loop-end.invariant
+returns c = from_all (IsNumberTo c.args.src c.args.kind) c.args.looks.now c.loop-look.look-index _ _ c.loop-look-test.false c.loop-look.invariant

@@ -1,8 +1,8 @@
--- The numbers to the ends so far.
+-- The numbers to the looks so far.
 use Rattle.sia_parts.specs.Sights.{Adds}
-use Rattle.sia_parts.specs.Ends.{IsNumberTo}
+use Rattle.sia_parts.specs.Fans.{IsNumberTo}
 use Rattle.sia_parts.proofs.Adding.{FromFirst}
 use Rattle.sia_parts.proofs.edges.fanning.put_numbers_to.Given as goal
 
-abbrev pub invariant-loop-end : goal.invariant-loop-end
-invariant-loop-end l = Adds (FromFirst (IsNumberTo l.src l.kind) l.ends l.end-index) l.fn.numbers.items l.numbers.items
+abbrev pub invariant-loop-look : goal.invariant-loop-look
+invariant-loop-look l = Adds (FromFirst (IsNumberTo l.src l.kind) l.looks l.look-index) l.fn.numbers.items l.numbers.items

@@ -6,4 +6,4 @@ use Rattle.sia_parts.proofs.Adding.{FromFirst}
 use Rattle.sia_parts.proofs.edges.fanning.put_run.Given as goal
 
 abbrev pub invariant-loop-fan : goal.invariant-loop-fan
-invariant-loop-fan l = Adds (FromFirst (IsFanNumber l.ends) l.fans l.fan-index) [] l.run.items
+invariant-loop-fan l = Adds (FromFirst (IsFanNumber l.looks) l.fans l.fan-index) [] l.run.items

@@ -6,7 +6,7 @@ use Rattle.sia_parts.proofs.Adding.{FromFirst}
 use Rattle.sia_parts.proofs.edges.fanning.put_runs.Given as goal
 
 abbrev pub invariant-loop-from : goal.invariant-loop-from
-invariant-loop-from l = (l.from ≤ length l.fans) × Adds (FromFirst (IsFanNumber l.ends) l.fans l.from) l.fn.numbers.items l.numbers.items
+invariant-loop-from l = (l.from ≤ length l.fans) × Adds (FromFirst (IsFanNumber l.looks) l.fans l.from) l.fn.numbers.items l.numbers.items
 
 abbrev pub decreases-loop-from : goal.decreases-loop-from
 decreases-loop-from l = length l.fans - l.from

@@ -1,0 +1,81 @@
+//! The order of looks, by key and then by commit, and where looks stand in it.
+ghost use Rattle.std.specs.Prelude.{◌≡◌, ◌↔◌, ◌≤◌, ◌<◌, ◌+◌, Contains, OnOk, length, slice_range};
+ghost use Rattle.sia_parts.specs.Fans.{IsRankPlace};
+ghost use Rattle.sia_parts.specs.Looks.{RiseByRank, look_rank, rank_of};
+
+use crate::looks::Look;
+use sia_events::NoMemory;
+
+/// Puts the looks in the order of their ranks.
+pub(crate) fn rank_all(looks: &mut Vec<Look>) -> Result<(), NoMemory>
+    ensures same { OnOk result ((look : Look) → Contains looks.new.items look ↔ Contains looks.old.items look) }
+    ensures rise { OnOk result (RiseByRank looks.new.items) }
+{
+    looks.sort_by_key(|look| rank(look.key, look.high))?;
+    Ok(())
+}
+
+/// The number by which looks are in order: by key, and then by the greatest commit.
+pub(crate) fn rank(key: u32, place: u32) -> u64
+    ensures { result ≡ rank_of key place }
+{
+    u64::from(key) * 4_294_967_296 + u64::from(place)
+}
+
+/// The rank above those of all looks at the key.
+pub(crate) fn rank_above(key: u32) -> u64
+    requires { key < 1048576 }
+    ensures { result ≡ rank_of (key + 1) 0 }
+{
+    (u64::from(key) + 1) * 4_294_967_296
+}
+
+/// Where the looks from one rank to below another start and stop. They are looked for from the place on.
+pub(crate) fn places(looks: &[Look], from: u64, to: u64, near: usize) -> (usize, usize)
+    requires { RiseByRank looks.now }
+    ensures forward { result.0 ≤ result.1 }
+    ensures bound { result.1 ≤ length looks.now }
+    ensures between { (look : Look) → Contains (slice_range looks.now result.0 result.1) look ↔ (Contains looks.now look × (from ≤ look_rank look) × (look_rank look < to)) }
+{
+    let start = place(looks, from, near);
+    let stop = place(looks, to, start);
+    (start, stop.max(start))
+}
+
+// Where the looks of at least this rank begin. Which places are tried makes no difference: first the one before `near`, then
+// others behind it, each step twice as long as the one before, and once one was too far, by halving.
+fn place(looks: &[Look], from: u64, near: usize) -> usize
+    requires { RiseByRank looks.now }
+    ensures { IsRankPlace looks.now from result }
+{
+    let mut low = 0;
+    let mut high = looks.len();
+    let mut guess = near.saturating_sub(1);
+    let mut step = 1usize;
+    while low < high {
+        let at = next_try(low, high, guess);
+        let look = looks[at];
+        if rank(look.key, look.high) < from {
+            low = at + 1;
+            guess = at.saturating_add(step);
+            step = step.saturating_mul(2);
+        } else {
+            high = at;
+            step = usize::MAX;
+        }
+    }
+    low
+}
+
+// The guess if it lies between the two, and else the middle.
+fn next_try(low: usize, high: usize, guess: usize) -> usize
+    requires { low < high }
+    ensures from { low ≤ result }
+    ensures below { result < high }
+{
+    if low <= guess && guess < high {
+        guess
+    } else {
+        low + (high - low) / 2
+    }
+}
