@@ -18,6 +18,7 @@ pub mod Waiting
 pub mod AscendingIds
 pub mod Releasing
 pub mod OneTaken
+pub mod LookEdges
 pub mod Walks
 pub mod LeastSources
 pub mod Rounds
@@ -42,6 +43,8 @@ pub mod Places
 pub mod Arrivals
 pub mod ChunkLists
 pub mod TakenPlaces
+pub mod LeastNumbers
+pub mod LeastRanks
 pub mod ReadyPlaces
 pub mod Closures
 pub mod Extremes
@@ -50,4 +53,3 @@ pub mod Blocks
 pub mod Renamed
 pub mod StandIns
 pub mod Ways
-pub mod LookEdges

@@ -1,5 +1,6 @@
 //! The verdict of a history from narrow edges: few steps that lead wherever all its edges lead.
 mod grouped;
+mod two;
 
 use sia_events::{Key, TxnId};
 use sia_index::Index;
