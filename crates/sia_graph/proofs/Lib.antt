@@ -19,6 +19,8 @@ pub mod AscendingIds
 pub mod Releasing
 pub mod OneTaken
 pub mod LookEdges
+pub mod LeastKeys
+pub mod NumberEdges
 pub mod Walks
 pub mod LeastSources
 pub mod Rounds
@@ -43,7 +45,6 @@ pub mod Places
 pub mod Arrivals
 pub mod ChunkLists
 pub mod TakenPlaces
-pub mod LeastNumbers
 pub mod LeastRanks
 pub mod ReadyPlaces
 pub mod Closures

@@ -1,5 +1,7 @@
 //! The verdict of a history from narrow edges: few steps that lead wherever all its edges lead.
+mod absences;
 mod grouped;
+mod least_edges;
 mod two;
 
 use sia_events::{Key, TxnId};
