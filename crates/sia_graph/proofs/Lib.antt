@@ -23,6 +23,7 @@ pub mod LeastKeys
 pub mod NumberEdges
 pub mod Walks
 pub mod LeastSources
+pub mod RankedRows
 pub mod Rounds
 pub mod LeastEdges
 pub mod PrintedCycle
@@ -54,3 +55,4 @@ pub mod Blocks
 pub mod Renamed
 pub mod StandIns
 pub mod Ways
+pub mod KeyBlocks

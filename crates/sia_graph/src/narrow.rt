@@ -2,6 +2,8 @@
 mod absences;
 mod grouped;
 mod least_edges;
+pub(crate) mod blocks;
+mod ranked;
 mod two;
 
 use sia_events::{Key, TxnId};
