@@ -1,8 +1,8 @@
 //! The verdict of a history from narrow edges: few steps that lead wherever all its edges lead.
 mod absences;
+pub(crate) mod blocks;
 mod grouped;
 mod least_edges;
-pub(crate) mod blocks;
 mod ranked;
 mod two;
 
