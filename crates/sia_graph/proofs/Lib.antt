@@ -21,6 +21,7 @@ pub mod OneTaken
 pub mod LookEdges
 pub mod LeastKeys
 pub mod NumberEdges
+pub mod Previous
 pub mod EvidenceEdges
 pub mod Walks
 pub mod LeastSources

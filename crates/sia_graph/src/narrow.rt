@@ -3,6 +3,7 @@ mod absences;
 pub(crate) mod blocks;
 mod grouped;
 mod least_edges;
+mod previous;
 mod ranked;
 mod two;
 
