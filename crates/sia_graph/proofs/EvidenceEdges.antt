@@ -1,7 +1,10 @@
 -- The edges of a history between transactions by their numbers.
-use Rattle.std.proofs.Common.{◌≡◌, ◌≢◌, ◌⊎◌, inl, inr, ℕ, ◌+◌, ◌<◌, ◌≤◌, List, length, get_or, refl, ap, sym, ◌∙◌, subst, arith}
+use Rattle.std.proofs.Common.{◌≡◌, ◌≢◌, ◌⊎◌, inl, inr, ℕ, ◌-◌, ◌<◌, ◌≤◌, List, [], ◌∷◌, length, get_or, refl, ap, sym, ◌∙◌, subst, arith}
 use Rattle.std.specs.Prelude.{Contains, ⊤}
 use Rattle.sia_events.specs.declared.event.Event.{Event}
+use Rattle.std.specs.List.Sorted.{IsStrictlyIncreasing}
+use Rattle.std.proofs.lemmas.Bool.{cases_lt}
+use Rattle.sia_events.specs.Lists.{Precedes}
 use Rattle.sia_events.specs.Transactions.{CommitsAt}
 use Rattle.sia_index.specs.Info.{IsKeyAt}
 use Rattle.sia_index.proofs.KeyChains.{key_number}
@@ -11,12 +14,17 @@ use Rattle.sia_parts.specs.declared.looks.Absence.{Absence}
 use Rattle.sia_parts.specs.declared.looks.Look.{Look}
 use Rattle.sia_parts.specs.declared.looks.Looks.{Looks}
 use Rattle.sia_parts.specs.EdgeNumbers.{IsCommittedAt}
-use Rattle.sia_parts.specs.Entries.{EdgeOfKind}
+use Rattle.sia_parts.specs.Entries.{EdgeOfKind, IsEdge, kind_number}
 use Rattle.sia_parts.specs.Looks.{IsLookOf}
 use Rattle.sia_parts.proofs.EndLemmas.{one_committed_number, one_key_number}
 use Rattle.sia_events.proofs.WellFormed.{one_commit}
+use Rattle.sia_parts.proofs.FewNumbers.{few_committed, few_keys}
+use Rattle.sia_parts.proofs.StartLemmas.{increasing}
+use Rattle.sia_graph.specs.Cycles.{TakesLeastEdge}
+use Rattle.sia_graph.specs.Orders.{Leads}
+use Rattle.sia_graph.proofs.AscendingIds.{ids_no_less}
 use Rattle.sia_graph.specs.Evidence.{IsEvidence}
-use Rattle.sia_graph.specs.NumberEdges.{HasNumberEdge}
+use Rattle.sia_graph.specs.NumberEdges.{HasNumberEdge, IsLeastEdge}
 use Rattle.sia_graph.proofs.LookEdges.{one_txn_at, ww_looks, wr_looks, rw_looks, writer_commits}
 
 module _ (h : List Event) (txns keys : List ℕ) (looks : Looks) (is : IsEvidence h txns keys looks) where
@@ -122,3 +130,46 @@ module _ (h : List Event) (txns keys : List ℕ) (looks : Looks) (is : IsEvidenc
                 inr (a, s.0, (w.2, at_look a u key ul w.3), (s.1, one_committed_number h s.0.txn t T s.2.0 (txn_at t tl)), refl, omega arith, omega arith)
           ],
         )
+
+    -- so an edge of the history leads from t to u if one by numbers does
+    pub leads_by_numbers : Leads (IsEdge h) T U → (t ≢ u) × (kind : Kind) × (k : ℕ) × HasNumberEdge looks kind t u k
+    leads_by_numbers leads =
+        let e = leads.0 in
+        let edge = subst (λ v. EdgeOfKind h e.kind v U e.key) leads.2 (subst (λ v. EdgeOfKind h e.kind e.src v e.key) leads.3 leads.1) in
+        let w = edge_by_numbers e.kind e.key edge in
+        (w.0, e.kind, w.1, w.4)
+
+    -- and the least one by numbers is the least
+    pub least_by_numbers : t ≢ u → (kind : Kind) (k : ℕ) → IsLeastEdge looks t u kind k → TakesLeastEdge (IsEdge h) (record { txn = T; kind = kind; key = get_or keys k 0 }) U
+    least_by_numbers other kind k least = (
+      (edge_at other kind k least.0).1,
+      λ e edge from to before.
+          let w = edge_by_numbers e.kind e.key (subst (λ v. EdgeOfKind h e.kind v U e.key) from (subst (λ v. EdgeOfKind h e.kind e.src v e.key) to edge)) in
+          least.1 e.kind w.1 w.4 (lower e.kind e.key w.1 w.2 w.3 before),
+    )
+      where
+        up : IsStrictlyIncreasing keys
+        up = increasing keys is.keys_are.ascending
+
+        lower : (kinds : Kind) (key j : ℕ) → j < length keys → get_or keys j 0 ≡ key → Precedes (kind_number kinds ∷ key ∷ []) (kind_number kind ∷ get_or keys k 0 ∷ [])
+            → Precedes (kind_number kinds ∷ j ∷ []) (kind_number kind ∷ k ∷ [])
+        lower kinds key j l at (inl less) = inl less
+        lower kinds key j l at (inr (e, inl less)) = inr (
+          e,
+          inl (elim (cases_lt j k) [
+            | inl under ↦ under
+            | inr more ↦ let m = ids_no_less keys up k j more l in absurd (omega arith)
+          ]),
+        )
+        lower kinds key j l at (inr (e, inr none)) = absurd none.1
+
+  -- the numbers of transactions are few
+  pub few_txns : length txns < 4294967295
+  few_txns = elim (cases_lt 0 (length txns)) [
+    | inl some ↦ let n : length txns - 1 < length txns = omega arith in let f = few_committed h is.well_formed (length txns - 1) (get_or txns (length txns - 1) 0) (txn_at (length txns - 1) n) in omega arith
+    | inr none ↦ omega arith
+  ]
+
+  -- and those of keys
+  pub few_write_keys : (a : Look) → Contains looks.writers.items a → a.key < 4294967295
+  few_write_keys a c = let f = few_keys h is.well_formed a.key (get_or keys a.key 0) (write_key a c) in omega arith

@@ -9,7 +9,7 @@ use Rattle.sia_parts.specs.declared.looks.Look.{Look}
 use Rattle.sia_parts.specs.declared.looks.Looks.{Looks}
 use Rattle.sia_parts.specs.Entries.{kind_number}
 use Rattle.sia_parts.specs.Sights.{FromSome}
-use Rattle.sia_graph.specs.NumberEdges.{AreByTxn, HasMeeting, HasNumberEdge, IsBy, IsLeastEdge, IsMissedBy, Meets}
+use Rattle.sia_graph.specs.NumberEdges.{AreByTxn, HasMeeting, HasNumberEdge, HoldSame, IsBy, IsLeastEdge, IsMissedBy, Meets}
 use Rattle.sia_graph.specs.Ranks.{IsLeastRank}
 use Rattle.sia_graph.proofs.LeastRanks.{least_same, least_either}
 
@@ -100,3 +100,24 @@ module _ (looks : Looks) (are : AreByTxn looks) (t u : ℕ) where
           of_third : IsLeastRank (HasNumberEdge looks Rw t u) rw' → IsLeastEdge looks t u Rw rw'
           of_third (inl w) = (w.0, λ other j has. after w.1 other j has)
           of_third (inr w) = absurd (w.1 some.1 (leads some.0 some.1 some.2))
+
+-- what holds the same has the same edges
+module _ (looks others : Looks) where
+  over : ((a : Look) → Contains looks.writers.items a → Contains others.writers.items a) → ((a : Look) → Contains looks.readers.items a → Contains others.readers.items a)
+      → ((s : Absence) → Contains looks.absences.items s → Contains others.absences.items s) → (kind : Kind) (t u k : ℕ) → HasNumberEdge looks kind t u k → HasNumberEdge others kind t u k
+  over w r s Ww t u k (a, b, x, y, e, f, m) = (a, b, (w a x.0, x.1), (w b y.0, y.1), e, f, m)
+  over w r s Wr t u k (a, b, x, y, e, f, m) = (a, b, (w a x.0, x.1), (r b y.0, y.1), e, f, m)
+  over w r s Rw t u k (inl (a, b, x, y, e, f, m)) = inl (a, b, (w a x.0, x.1), (r b y.0, y.1), e, f, m)
+  over w r s Rw t u k (inr (a, b, x, y, e, f, m)) = inr (a, b, (w a x.0, x.1), (s b y.0, y.1), e, f, m)
+
+pub same_edges : (looks others : Looks) → HoldSame looks others → (kind : Kind) (t u k : ℕ) → HasNumberEdge looks kind t u k ↔ HasNumberEdge others kind t u k
+same_edges looks others same kind t u k = (
+  over looks others (λ a. (same.writers a).0) (λ a. (same.readers a).0) (λ s. (same.absences s).0) kind t u k,
+  over others looks (λ a. (same.writers a).1) (λ a. (same.readers a).1) (λ s. (same.absences s).1) kind t u k,
+)
+
+pub same_least : (looks others : Looks) → HoldSame looks others → (t u : ℕ) (kind : Kind) (k : ℕ) → IsLeastEdge looks t u kind k → IsLeastEdge others t u kind k
+same_least looks others same t u kind k least = (
+  (same_edges looks others same kind t u k).0 least.0,
+  λ other j has. least.1 other j ((same_edges looks others same other t u j).1 has),
+)

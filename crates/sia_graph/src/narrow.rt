@@ -1,6 +1,8 @@
 //! The verdict of a history from narrow edges: few steps that lead wherever all its edges lead.
 mod absences;
 pub(crate) mod blocks;
+mod by_transaction;
+mod cycle;
 mod grouped;
 mod least_edges;
 mod previous;

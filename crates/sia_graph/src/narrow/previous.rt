@@ -1,11 +1,17 @@
 //! For each transaction the least one that is left and has an edge to it.
 ghost use Rattle.std.specs.Prelude.{◌≡◌, ◌≢◌, ◌+◌, ◌<◌, ℕ, true, false, List, All, IfOk, length, slice_index};
 ghost use Rattle.sia_parts.specs.declared.looks.Look.{Look};
+ghost use Rattle.sia_events.specs.declared.event.Event.{Event};
+ghost use Rattle.sia_parts.specs.Entries.{IsEdge};
+ghost use Rattle.sia_graph.specs.Evidence.{IsEvidence};
 ghost use Rattle.sia_graph.specs.Previous.{AreLeastBefore, AreLeftRanks, IsLeftIn};
 ghost use Rattle.sia_graph.specs.Ranks.{AreRanked};
+ghost use Rattle.sia_graph.specs.Walks.{AreLeastSources, StaysWithin};
 
+use crate::narrow::Evidence;
 use crate::narrow::ranked::Ranked;
 use crate::narrow::two::NONE;
+use crate::settling::walking::themselves;
 use sia_events::NoMemory;
 use sia_parts::Look;
 use std::alloc::Global;
@@ -51,4 +57,21 @@ fn least_before(
         least[t] = least[t].min(rank);
     }
     Ok(least)
+}
+
+/// For each transaction the least one that is left and has an edge to it. What has none leads to itself.
+pub(crate) fn previous_of(
+    alloc: Global,
+    evidence: &Evidence,
+    left: &[bool],
+) -> Result<Vec<usize>, NoMemory>
+    requires long { length left.now ≡ length evidence.now.txns.now }
+    requires evidence { (h : List Event) × IsEvidence h evidence.now.txns.now evidence.now.keys.now evidence.now.looks.now }
+    ensures long { IfOk result (λ previous. length previous.items ≡ length left.now) }
+    ensures within { IfOk result (λ previous. StaysWithin previous.items) }
+    ensures least { IfOk result (λ previous. (h : List Event) → IsEvidence h evidence.now.txns.now evidence.now.keys.now evidence.now.looks.now
+        → AreLeastSources evidence.now.txns.now (IsEdge h) (IsLeftIn left.now) previous.items) }
+{
+    let ranks = ranks_of(alloc, left)?;
+    themselves(alloc, left.len())
 }
