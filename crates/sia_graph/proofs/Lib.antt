@@ -54,3 +54,4 @@ pub mod StandIns
 pub mod Ways
 pub mod KeyBlocks
 pub mod LookEdges
+pub mod BlockRanks
