@@ -1,7 +1,7 @@
 -- Ranks by blocks of keys.
 use Rattle.std.proofs.Common.{◌≡◌, ◌≢◌, ◌⊎◌, inl, inr, ℕ, ◌+◌, ◌-◌, ◌*◌, ◌/◌, ◌%◌, ◌^◌, ◌<◌, ◌≤◌, zero, suc, List, ◌∷◌, [], ◌++◌, length, get_or, set, map, take, min, append_assoc, subst, sym, ap, refl, ◌∙◌, arith}
 use Rattle.std.specs.Prelude.{◌↔◌, Contains}
-use Rattle.std.proofs.Math.Nat.{lt_of_mul-lt-mul_right, mul_assoc}
+use Rattle.std.proofs.Math.Nat.{lt_of_mul-lt-mul_right, mul_assoc, mul-le-mul_right, pow-le-pow_right}
 use Rattle.std.proofs.lemmas.Bool.{cases_lt, cases_eq}
 use Rattle.std.proofs.lemmas.List.{get_or-set_same, get_or-set_other, length-set, map_more, append-nil}
 use Rattle.std.proofs.lemmas.List.Elements.{Contains-append_left, Contains-append_right, Contains-append_cases, Contains-push, Contains-push_cases}
@@ -125,3 +125,74 @@ no_nodes ranks size nodes none = record {
   within = λ b i has. let n = has.1 in absurd (omega arith);
   twos = λ block d l. subst (λ t. IsTwo (IsRankAt [] ranks block) t) (sym (none block d l)) (two_none (IsRankAt [] ranks block) (λ q is. let n = is.1.1 in absurd (omega arith)));
 }
+
+-- what stands with the blocks over the key that are lower than this height
+abbrev pub IsRankUnder : List (ℕ × ℕ) → List ℕ → ℕ → ℕ → ℕ → ℕ → Type 0
+IsRankUnder entries ranks leaf height me r = (b : ℕ) × (n : ℕ) × (n < height) × (b * 2 ^ n ≤ leaf) × (leaf < (b + 1) * 2 ^ n) × IsRankAt entries ranks b r × (r ≢ me)
+
+-- what is known on the way from a leaf to the greatest block over it
+abbrev pub IsRising : List Two → ℕ → ℕ → ℕ → ℕ → ℕ → Type 0
+IsRising nodes size leaf me block least = (height : ℕ) × (block * 2 ^ height ≤ leaf) × (leaf < (block + 1) * 2 ^ height)
+    × ((absences : List Absence) (ranks : List ℕ) (are : AreNodes absences ranks size nodes) → IsLeastRank (IsRankUnder are.entries ranks leaf height me) least)
+
+pub rises_from : (nodes : List Two) (size leaf me : ℕ) → IsRising nodes size leaf me leaf 4294967295
+rises_from nodes size leaf me = (0, omega arith, omega arith, λ absences ranks are. least_none (IsRankUnder are.entries ranks leaf 0 me) (λ q is. let none = is.2 in omega arith))
+
+one_block : (b c m x : ℕ) → b * m ≤ x → x < (b + 1) * m → c * m ≤ x → x < (c + 1) * m → b ≡ c
+one_block b c m x b_low b_high c_low c_high =
+    let up : b < c + 1 = lt_of_mul-lt-mul_right m (let d : b * m < (c + 1) * m = omega arith in d) in
+    let down : c < b + 1 = lt_of_mul-lt-mul_right m (let d : c * m < (b + 1) * m = omega arith in d) in
+    omega arith
+
+pub rises_on : (nodes : List Two) (size leaf me block least at : ℕ)
+    → ((absences : List Absence) (ranks : List ℕ) (size : ℕ) (are : AreNodes absences ranks size nodes) → IsLeastRank (λ r. IsRankAt are.entries ranks block r × (r ≢ me)) at)
+    → IsRising nodes size leaf me block least → IsRising nodes size leaf me (block / 2) (min least at)
+rises_on nodes size leaf me block least at here rising =
+    let e = rising.0 in
+    let m = 2 ^ e in
+    let twice = doubled e in
+    let low = mul-le-mul_right m (let h : block / 2 * 2 ≤ block = omega arith in h) in
+    let high = mul-le-mul_right m (let h : block + 1 ≤ (block / 2 + 1) * 2 = omega arith in h) in
+    let low_is = ap (λ n. block / 2 * n) twice ∙ sym (mul_assoc (block / 2) 2 m) in
+    let high_is = ap (λ n. (block / 2 + 1) * n) twice ∙ sym (mul_assoc (block / 2 + 1) 2 m) in
+    let from = rising.1 in
+    let to = rising.2 in (
+      e + 1,
+      omega arith,
+      omega arith,
+      λ absences ranks are.
+          least_either (IsRankUnder are.entries ranks leaf e me) (λ r. IsRankAt are.entries ranks block r × (r ≢ me)) (IsRankUnder are.entries ranks leaf (e + 1) me) least at
+          (λ r is. is.5.2.2)
+          (λ r is. let l = is.2 in (is.0, is.1, omega arith, is.3, is.4, is.5, is.6))
+          (λ r is. (block, e, omega arith, rising.1, rising.2, is.0, is.1))
+          (λ r is. elim (cases_lt is.1 e) [
+            | inl less ↦ inl (is.0, is.1, less, is.3, is.4, is.5, is.6)
+            | inr more ↦
+                let l = is.2 in
+                let f : is.1 ≡ e = omega arith in
+                let g : is.0 ≡ block = one_block is.0 block m leaf (subst (λ n. is.0 * 2 ^ n ≤ leaf) f is.3) (subst (λ n. leaf < (is.0 + 1) * 2 ^ n) f is.4) rising.1 rising.2 in
+                inr (subst (λ b. IsRankAt are.entries ranks b r) g is.5, is.6)
+          ])
+          (rising.3 absences ranks are) (here absences ranks size are),
+    )
+
+pub risen : (nodes : List Two) (size key me least : ℕ) → key < size → IsRising nodes size (size + key) me 0 least → (absences : List Absence) (ranks : List ℕ) → AreNodes absences ranks size nodes
+    → IsLeastRank (λ r. (i : ℕ) × IsAbsent absences i key × IsRankOf ranks i r × (r ≢ me)) least
+risen nodes size key me least l rising absences ranks are =
+    least_same (IsRankUnder are.entries ranks (size + key) rising.0 me) (λ r. (i : ℕ) × IsAbsent absences i key × IsRankOf ranks i r × (r ≢ me)) least
+    (λ r is. (is.5.0, (are.over key is.5.0 l).0 (is.0, is.5.1, (is.1, is.3, is.4)), is.5.2, is.6))
+    (λ r is.
+        let has = (are.over key is.0 l).1 is.1 in
+        let over = has.2 in
+        (has.0, over.0, lower has.0 over.0 over.1 (are.within has.0 is.0 has.1).0, over.1, over.2, (is.0, has.1, is.2), is.3))
+    (rising.3 absences ranks are)
+  where
+    lower : (b n : ℕ) → b * 2 ^ n ≤ size + key → 0 < b → n < rising.0
+    lower b n low some = elim (cases_lt n rising.0) [
+      | inl less ↦ less
+      | inr more ↦
+          let up : 2 ^ rising.0 ≤ 2 ^ n = pow-le-pow_right (omega arith) more in
+          let once = mul-le-mul_right (2 ^ n) (let h : 1 ≤ b = omega arith in h) in
+          let to = rising.2 in
+          absurd (omega arith)
+    ]

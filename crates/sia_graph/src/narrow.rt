@@ -3,6 +3,7 @@ pub(crate) mod blocks;
 mod grouped;
 mod nodes;
 mod ranked;
+mod sources;
 mod two;
 
 use sia_events::{Key, TxnId};
