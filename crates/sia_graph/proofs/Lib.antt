@@ -55,3 +55,4 @@ pub mod Ways
 pub mod KeyBlocks
 pub mod LookEdges
 pub mod BlockRanks
+pub mod SourceRanks
