@@ -58,3 +58,5 @@ pub mod Renamed
 pub mod StandIns
 pub mod Ways
 pub mod KeyBlocks
+pub mod BlockRanks
+pub mod SourceRanks

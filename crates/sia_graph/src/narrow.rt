@@ -6,7 +6,9 @@ mod cycle;
 mod grouped;
 mod least_edges;
 mod previous;
+mod nodes;
 mod ranked;
+mod sources;
 mod two;
 
 use sia_events::{Key, TxnId};
