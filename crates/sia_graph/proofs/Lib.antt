@@ -22,6 +22,7 @@ pub mod LookEdges
 pub mod LeastKeys
 pub mod NumberEdges
 pub mod Previous
+pub mod PreviousEdges
 pub mod EvidenceEdges
 pub mod Walks
 pub mod LeastSources
