@@ -1,6 +1,6 @@
 -- The edges of a history between transactions by their numbers.
-use Rattle.std.proofs.Common.{◌≡◌, ◌≢◌, ◌⊎◌, inl, inr, ℕ, ◌-◌, ◌<◌, ◌≤◌, List, [], ◌∷◌, length, get_or, refl, ap, sym, ◌∙◌, subst, arith}
-use Rattle.std.specs.Prelude.{Contains, ⊤}
+use Rattle.std.proofs.Common.{◌≡◌, ◌≢◌, inl, inr, ℕ, ◌-◌, ◌<◌, List, [], ◌∷◌, length, get_or, refl, ap, sym, subst, arith}
+use Rattle.std.specs.Prelude.{Contains}
 use Rattle.sia_events.specs.declared.event.Event.{Event}
 use Rattle.std.specs.List.Sorted.{IsStrictlyIncreasing}
 use Rattle.std.proofs.lemmas.Bool.{cases_lt}
@@ -10,7 +10,6 @@ use Rattle.sia_index.specs.Info.{IsKeyAt}
 use Rattle.sia_index.proofs.KeyChains.{key_number}
 use Rattle.sia_parts.specs.declared.finding.Kind.{Kind}
 use Rattle.sia_parts.specs.declared.finding.Kind.TheVariants.{Ww, Wr, Rw}
-use Rattle.sia_parts.specs.declared.looks.Absence.{Absence}
 use Rattle.sia_parts.specs.declared.looks.Look.{Look}
 use Rattle.sia_parts.specs.declared.looks.Looks.{Looks}
 use Rattle.sia_parts.specs.EdgeNumbers.{IsCommittedAt}
@@ -25,7 +24,7 @@ use Rattle.sia_graph.specs.Orders.{Leads}
 use Rattle.sia_graph.proofs.AscendingIds.{ids_no_less}
 use Rattle.sia_graph.specs.Evidence.{IsEvidence}
 use Rattle.sia_graph.specs.NumberEdges.{HasNumberEdge, IsLeastEdge}
-use Rattle.sia_graph.proofs.LookEdges.{one_txn_at, ww_looks, wr_looks, rw_looks, writer_commits}
+use Rattle.sia_graph.proofs.LookEdges.{ww_looks, wr_looks, rw_looks, writer_commits}
 
 module _ (h : List Event) (txns keys : List ℕ) (looks : Looks) (is : IsEvidence h txns keys looks) where
   txn_at : (t : ℕ) → t < length txns → IsCommittedAt h t (get_or txns t 0)

@@ -127,11 +127,17 @@ module _ (looks : Looks) (left : List Bool) (size : ℕ) (within : AreWithin loo
   of_third q (i, source, rank) =
       let r = ranked i q rank in
       let a = source.1 in
-      let other : q ≢ t = λ e. source.0 (sym r.0 ∙ e) in
-      (r.1, r.2, other, Rw, a.key, elim source.4 [
-        | inl b ↦ inl (a, b.0, (source.2, source.3), (b.1, b.4 ∙ sym r.0), refl, b.2, b.3)
-        | inr s ↦ inr (a, s.0, (source.2, source.3), (s.1, s.2 ∙ sym r.0), refl, s.3, s.4)
-      ])
+      let other : q ≢ t = λ e. source.0 (sym r.0 ∙ e) in (
+        r.1,
+        r.2,
+        other,
+        Rw,
+        a.key,
+        elim source.4 [
+          | inl b ↦ inl (a, b.0, (source.2, source.3), (b.1, b.4 ∙ sym r.0), refl, b.2, b.3)
+          | inr s ↦ inr (a, s.0, (source.2, source.3), (s.1, s.2 ∙ sym r.0), refl, s.3, s.4)
+        ],
+      )
 
   by_kind : (q : ℕ) → IsLeftSource looks left t q → Both q ⊎ IsRankTo looks ranks t q
   by_kind q (l, is, other, kind, k, edge) = of_kind kind edge

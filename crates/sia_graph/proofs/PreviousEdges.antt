@@ -1,5 +1,5 @@
 -- The least sources by numbers are those of the history.
-use Rattle.std.proofs.Common.{◌≡◌, ◌≢◌, ◌⊎◌, inl, inr, ℕ, ◌+◌, ◌-◌, ◌<◌, ◌≤◌, Bool, List, length, get_or, refl, ap, sym, ◌∙◌, subst, arith}
+use Rattle.std.proofs.Common.{◌≡◌, ◌⊎◌, inl, inr, ℕ, ◌+◌, ◌-◌, ◌<◌, ◌≤◌, Bool, List, length, get_or, refl, sym, ◌∙◌, subst, arith}
 use Rattle.std.specs.Prelude.{All, Contains}
 use Rattle.std.proofs.lemmas.Bool.{cases_lt}
 use Rattle.std.proofs.lemmas.List.Elements.{Contains-get_or}
@@ -8,16 +8,13 @@ use Rattle.sia_events.specs.declared.event.Event.TheVariants.{Commit}
 use Rattle.sia_events.specs.NarrowDependencies.{IsAsOf}
 use Rattle.sia_events.proofs.TransactionDecisions.{place_within}
 use Rattle.sia_events.proofs.WellFormed.{few_events}
-use Rattle.sia_index.specs.Info.{IsKeyAt}
 use Rattle.sia_index.proofs.KeyChains.{key_number}
 use Rattle.sia_parts.specs.declared.looks.Absence.{Absence}
-use Rattle.sia_parts.specs.declared.looks.Look.{Look}
 use Rattle.sia_parts.specs.declared.looks.Looks.{Looks}
 use Rattle.sia_parts.specs.Entries.{IsEdge}
 use Rattle.sia_parts.proofs.Committing.{committed_number}
 use Rattle.sia_parts.proofs.FewNumbers.{few_keys}
 use Rattle.sia_graph.specs.Evidence.{IsEvidence}
-use Rattle.sia_graph.specs.Orders.{Leads}
 use Rattle.sia_graph.specs.Previous.{AreWithin, IsLeftIn, IsLeftSource, IsPreviousOf}
 use Rattle.sia_graph.specs.Walks.{AreLeastSources, IsSource, StaysWithin}
 use Rattle.sia_graph.proofs.EvidenceEdges.{edge_at, leads_by_numbers}

@@ -1,5 +1,5 @@
 -- Edges by the numbers of transactions and keys, told from looks alone. They join different transactions.
-use Rattle.std.specs.Prelude.{◌≡◌, ◌≢◌, ◌⊎◌, ◌↔◌, ℕ, ◌<◌, ◌≤◌, List, [], ◌∷◌, Contains}
+use Rattle.std.specs.Prelude.{◌≡◌, ◌⊎◌, ◌↔◌, ℕ, ◌<◌, ◌≤◌, List, [], ◌∷◌, Contains}
 use Rattle.std.specs.List.Sorted.{IsNonDecreasingBy}
 use Rattle.sia_events.specs.Lists.{Precedes}
 use Rattle.sia_parts.specs.declared.finding.Kind.{Kind}
@@ -8,7 +8,6 @@ use Rattle.sia_parts.specs.declared.looks.Absence.{Absence}
 use Rattle.sia_parts.specs.declared.looks.Look.{Look}
 use Rattle.sia_parts.specs.declared.looks.Looks.{Looks}
 use Rattle.sia_parts.specs.Entries.{kind_number}
-use Rattle.sia_parts.specs.Sights.{FromSome}
 use Rattle.sia_graph.specs.Grouped.{RiseByTxn}
 
 -- at one key, a write comes before another one or before what was seen last, or after what was seen first

@@ -1,5 +1,5 @@
 -- What the sort leaves.
-use Rattle.std.proofs.Common.{◌≡◌, rules}
+use Rattle.std.proofs.Common.{rules}
 use Rattle.std.proofs.lemmas.List.Sorted.{IsNonDecreasingBy-from_sort_by_key}
 use Rattle.sia_parts.specs.declared.looks.Absence.{Absence}
 use Rattle.sia_graph.proofs.narrow.absences.absences_by_txn.Goals as goal

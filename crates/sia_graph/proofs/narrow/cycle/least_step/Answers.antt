@@ -1,5 +1,4 @@
-use Rattle.std.proofs.Common.{◌<◌, length, arith}
-use Rattle.std.specs.Prelude.{◌↔◌}
+use Rattle.std.proofs.Common.{arith}
 use Rattle.sia_graph.proofs.EvidenceEdges.{edge_at, few_txns, leads_by_numbers, least_by_numbers}
 use Rattle.sia_graph.proofs.NumberEdges.{same_edges, same_least}
 use Rattle.sia_graph.proofs.narrow.cycle.least_step.Goals as goal

@@ -1,4 +1,4 @@
-use Rattle.std.proofs.Common.{◌≡◌, inr, length, get_or, sym, ◌∙◌, refl, subst}
+use Rattle.std.proofs.Common.{◌≡◌, inr, sym, ◌∙◌, refl, subst}
 use Rattle.std.specs.Prelude.{All, Contains}
 use Rattle.std.proofs.lemmas.List.{take_all}
 use Rattle.std.proofs.lemmas.List.Elements.{All-contains, All-more}

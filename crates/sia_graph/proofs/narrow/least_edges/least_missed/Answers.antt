@@ -1,4 +1,4 @@
-use Rattle.std.proofs.Common.{inl, inr, ◌<◌, ◌+◌, List, [], length, subst, sym, take, arith}
+use Rattle.std.proofs.Common.{inl, inr, ◌+◌, List, [], subst, sym, take, arith}
 use Rattle.std.proofs.lemmas.List.{take_all}
 use Rattle.sia_parts.specs.declared.looks.Absence.{Absence}
 use Rattle.sia_parts.specs.Sights.{FromSome}

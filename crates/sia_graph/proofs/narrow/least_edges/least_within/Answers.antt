@@ -1,4 +1,4 @@
-use Rattle.std.proofs.Common.{◌≡◌, ◌<◌, ◌≤◌, ltb, length, sym, subst, arith, rules}
+use Rattle.std.proofs.Common.{◌<◌, ltb, length, arith, rules}
 use Rattle.std.proofs.lemmas.List.Sorted.{IsPartitionPoint-from_clause, IsPartitionedBy-ltb}
 use Rattle.sia_parts.specs.declared.looks.Look.{Look}
 use Rattle.sia_graph.proofs.LeastKeys.{least_missed_key, none_missed}

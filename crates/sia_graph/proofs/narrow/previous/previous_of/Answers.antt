@@ -1,4 +1,4 @@
-use Rattle.std.proofs.Common.{◌≡◌, ◌<◌, ◌≤◌, ℕ, length, subst, sym, arith}
+use Rattle.std.proofs.Common.{length, subst, sym, arith}
 use Rattle.sia_graph.specs.Previous.{AreWithin}
 use Rattle.sia_graph.proofs.EvidenceEdges.{few_txns}
 use Rattle.sia_graph.proofs.PreviousEdges.{few_written, are_within, least_sources_are, previous_within}
