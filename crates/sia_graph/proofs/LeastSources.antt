@@ -1,5 +1,5 @@
 -- The least source of each transaction, found from the greatest source down.
-use Rattle.std.proofs.Common.{◌≡◌, ◌⊎◌, inl, inr, ℕ, zero, suc, ◌+◌, ◌<◌, ◌≤◌, List, ◌++◌, length, get_or, set, take, slice_get, Some, ap, sym, ◌∙◌, subst, arith}
+use Rattle.std.proofs.Common.{◌≡◌, ◌⊎◌, inl, inr, ℕ, ◌+◌, ◌<◌, ◌≤◌, List, ◌++◌, length, get_or, set, take, slice_get, Some, ap, sym, ◌∙◌, subst, arith}
 use Rattle.std.specs.Prelude.{Contains}
 use Rattle.std.specs.List.Sorted.{IsStrictlyIncreasing}
 use Rattle.std.proofs.lemmas.Bool.{cases_eq, cases_lt, eq-eqb}
@@ -7,11 +7,10 @@ use Rattle.std.proofs.lemmas.List.{get_or-set_same, get_or-set_other}
 use Rattle.sia_parts.specs.declared.finding.Edge.{Edge}
 use Rattle.sia_graph.specs.Orders.{Leads}
 use Rattle.sia_graph.specs.Fronts.{AreEdgesFrom, arriving, leads_to}
-use Rattle.sia_graph.specs.Walks.{AreLeastSources, ArePreviousFrom, IsFedBack, IsLeastSource, IsSource, back}
+use Rattle.sia_graph.specs.Walks.{AreLeastSources, HasCount, IsSource}
 use Rattle.sia_graph.proofs.Positions.{contains_stands, get_cases}
 use Rattle.sia_graph.proofs.Waiting.{none_counted, all_at}
 use Rattle.sia_graph.proofs.OneTaken.{group_leads}
-use Rattle.sia_graph.proofs.Walks.{back_next}
 use Rattle.sia_graph.proofs.Releasing.{arriving_yes, arriving_no, other_id}
 
 -- an edge from t is one of those from t
@@ -38,22 +37,22 @@ leads_arrive edges group t u from leads =
 module _ (ids : List ℕ) (edges : List Edge) (counts : List ℕ) where
   -- p is the least source of j from i on; where there is none it is j
   abbrev pub IsLeastFrom : ℕ → ℕ → ℕ → Type 0
-  IsLeastFrom i j p = ((p ≡ j) × ((q : ℕ) → i ≤ q → ¬ IsSource ids edges counts j q))
-      ⊎ (IsSource ids edges counts j p × ((q : ℕ) → i ≤ q → IsSource ids edges counts j q → p ≤ q))
+  IsLeastFrom i j p = ((p ≡ j) × ((q : ℕ) → i ≤ q → ¬ IsSource ids (Contains edges) (HasCount counts) j q))
+      ⊎ (IsSource ids (Contains edges) (HasCount counts) j p × ((q : ℕ) → i ≤ q → IsSource ids (Contains edges) (HasCount counts) j q → p ≤ q))
 
   -- a position that is no source is passed over
-  pub passed : (i j p : ℕ) → ¬ IsSource ids edges counts j i → IsLeastFrom (i + 1) j p → IsLeastFrom i j p
+  pub passed : (i j p : ℕ) → ¬ IsSource ids (Contains edges) (HasCount counts) j i → IsLeastFrom (i + 1) j p → IsLeastFrom i j p
   passed i j p none (inl (same, lacks)) = inl (
     same,
     λ q l s. elim (cases_eq q i) [
-      | inl e ↦ none (subst (λ n. IsSource ids edges counts j n) e s)
+      | inl e ↦ none (subst (λ n. IsSource ids (Contains edges) (HasCount counts) j n) e s)
       | inr other ↦ lacks q (elim (cases_lt i q) [ inl less ↦ omega arith | inr more ↦ absurd (other (omega arith)) ]) s
     ],
   )
   passed i j p none (inr (is, low)) = inr (
     is,
     λ q l s. elim (cases_eq q i) [
-      | inl e ↦ absurd (none (subst (λ n. IsSource ids edges counts j n) e s))
+      | inl e ↦ absurd (none (subst (λ n. IsSource ids (Contains edges) (HasCount counts) j n) e s))
       | inr other ↦ low q (elim (cases_lt i q) [ inl less ↦ omega arith | inr more ↦ absurd (other (omega arith)) ]) s
     ],
   )
@@ -64,7 +63,7 @@ module _ (ids : List ℕ) (edges : List Edge) (counts : List ℕ) where
     | inl some ↦
         let e = led some in
         inr (
-          subst (λ n. IsSource ids edges counts j n) (sym e) (within, left, group_leads edges group (get_or ids i 0) (get_or ids j 0) from some),
+          subst (λ n. IsSource ids (Contains edges) (HasCount counts) j n) (sym e) (within, left, group_leads edges group (get_or ids i 0) (get_or ids j 0) from some),
           λ q l s. omega arith,
         )
     | inr none ↦
@@ -96,28 +95,11 @@ module _ (ids : List ℕ) (edges : List Edge) (counts : List ℕ) where
     λ j l. led_back i group within left from j (get_or was j 0) (get_or now j 0) (led j l) (kept j l) (before.2 j l),
   )
 
-  pub least_found : (previous : List ℕ) → AreLeastFrom 0 previous → AreLeastSources ids edges counts previous
+  pub least_found : (previous : List ℕ) → AreLeastFrom 0 previous → AreLeastSources ids (Contains edges) (HasCount counts) previous
   least_found previous from j l = elim (from.2 j l) [
     | inl none ↦ inr (none.0, λ q s. none.1 q (omega arith) s)
     | inr found ↦ inl (found.0, λ q s. found.1 q (omega arith) s)
   ]
-
--- what is left leads back to least sources, on the whole way back from start, where all that is left has a source that is left
-module _ (ids : List ℕ) (edges : List Edge) (counts previous : List ℕ) (start : ℕ) (least : AreLeastSources ids edges counts previous) (within : start < length ids) (left : 0 < get_or counts start 0)
-    (fed : IsFedBack ids edges counts) where
-  least_at : (n : ℕ) → (back previous n start < length ids) × (0 < get_or counts (back previous n start) 0) → IsLeastSource ids edges counts (back previous n start) (get_or previous (back previous n start) 0)
-  least_at n at = elim (least (back previous n start) at.0) [ inl is ↦ is | inr none ↦ absurd (let s = fed (back previous n start) at.0 at.1 in none.1 s.0 s.1) ]
-
-  left_at : (n : ℕ) → (back previous n start < length ids) × (0 < get_or counts (back previous n start) 0)
-  left_at zero = (within, left)
-  left_at (suc n) =
-      let s = (least_at n (left_at n)).0 in
-      let next : n + 1 ≡ suc n = omega arith in
-      let same = sym (back_next previous n start) ∙ ap (λ m. back previous m start) next in
-      subst (λ i. (i < length ids) × (0 < get_or counts i 0)) same (s.0, s.1)
-
-  pub previous_from : ArePreviousFrom ids edges counts previous start
-  previous_from n = least_at n (left_at n)
 
 -- one edge more leads back to its source
 pub led_more : (ids : List ℕ) (up : IsStrictlyIncreasing ids) (edges : List Edge) (previous : List ℕ) → length previous ≡ length ids → (k : ℕ) (d : Edge) → k < length edges

@@ -1,6 +1,6 @@
 -- The steps of a cycle, made from the last to the first by going back from the least transaction on it.
 use Rattle.std.proofs.Common.{◌≡◌, ◌≢◌, inl, inr, ℕ, ◌+◌, ◌<◌, ◌≤◌, List, [], ◌∷◌, ◌++◌, length, get_or, reverse, ap, sym, ◌∙◌, subst, arith}
-use Rattle.std.specs.Prelude.{All, Contains}
+use Rattle.std.specs.Prelude.{All}
 use Rattle.std.specs.List.Sorted.{IsStrictlyIncreasing}
 use Rattle.std.proofs.lemmas.Bool.{cases_lt}
 use Rattle.std.proofs.lemmas.List.{reverse-append, length_push}
@@ -18,13 +18,13 @@ abbrev pub start_of : List Step → ℕ → ℕ
 start_of [] home = home
 start_of (s ∷ steps) home = s.txn
 
-pub record IsPartOfRound (ids : List ℕ) (edges : List Edge) (previous : List ℕ) (home period : ℕ) (made : List Step) (at : ℕ) : Type 0 where
+pub record IsPartOfRound (ids : List ℕ) (IsEdge : Edge → Type 0) (previous : List ℕ) (home period : ℕ) (made : List Step) (at : ℕ) : Type 0 where
   pub inside : at < length previous
   pub few : length made < period
   pub reached : at ≡ back previous (length made) home
   pub above : All (λ s. get_or ids home 0 < s.txn) made
-  pub round : (stuck : List ℕ) → LeadsBack stuck ids edges previous home
-      → GoesRound (Contains edges) stuck (reverse made) (get_or ids home 0) × (start_of (reverse made) (get_or ids home 0) ≡ get_or ids at 0)
+  pub round : (stuck : List ℕ) → LeadsBack stuck ids IsEdge previous home
+      → GoesRound IsEdge stuck (reverse made) (get_or ids home 0) × (start_of (reverse made) (get_or ids home 0) ≡ get_or ids at 0)
 
 -- one more step in front
 step_first : (E : Edge → Type 0) (stuck : List ℕ) (s : Step) (steps : List Step) (home : ℕ) → IsPrevious E stuck s.txn (start_of steps home) → TakesLeastEdge E s (start_of steps home)
@@ -35,26 +35,26 @@ step_first E stuck s (next ∷ steps) home p t g = (p, t, g)
 reverse_push : (made : List Step) (s : Step) → reverse (made ++ s ∷ []) ≡ s ∷ reverse made
 reverse_push made s = reverse-append made (s ∷ [])
 
-module _ (ids : List ℕ) (up : IsStrictlyIncreasing ids) (edges : List Edge) (previous : List ℕ) (long : length previous ≡ length ids) (within : StaysWithin previous)
+module _ (ids : List ℕ) (up : IsStrictlyIncreasing ids) (IsEdge : Edge → Type 0) (previous : List ℕ) (long : length previous ≡ length ids) (within : StaysWithin previous)
     (home : ℕ) (in' : home < length previous) (period : ℕ) (round : back previous period home ≡ home) (least : (n : ℕ) → home ≤ back previous n home)
-    (made : List Step) (at : ℕ) (part : IsPartOfRound ids edges previous home period made at) (s : Step)
-    (from : s.txn ≡ get_or ids (get_or previous at 0) 0) (takes : TakesLeastEdge (Contains edges) s (get_or ids at 0)) where
+    (made : List Step) (at : ℕ) (part : IsPartOfRound ids IsEdge previous home period made at) (s : Step)
+    (from : s.txn ≡ get_or ids (get_or previous at 0) 0) (takes : TakesLeastEdge IsEdge s (get_or ids at 0)) where
   next_at : get_or previous at 0 ≡ back previous (length made + 1) home
   next_at = ap (λ i. get_or previous i 0) part.reached ∙ sym (back_next previous (length made) home)
 
-  round_more : (stuck : List ℕ) → LeadsBack stuck ids edges previous home
-      → GoesRound (Contains edges) stuck (reverse (made ++ s ∷ [])) (get_or ids home 0) × (start_of (reverse (made ++ s ∷ [])) (get_or ids home 0) ≡ get_or ids (get_or previous at 0) 0)
+  round_more : (stuck : List ℕ) → LeadsBack stuck ids IsEdge previous home
+      → GoesRound IsEdge stuck (reverse (made ++ s ∷ [])) (get_or ids home 0) × (start_of (reverse (made ++ s ∷ [])) (get_or ids home 0) ≡ get_or ids (get_or previous at 0) 0)
   round_more stuck leads =
       let w = part.round stuck leads in
-      let p : IsPrevious (Contains edges) stuck s.txn (get_or ids at 0) =
-      subst (λ x. IsPrevious (Contains edges) stuck x (get_or ids at 0)) (sym from)
-      (subst (λ i. IsPrevious (Contains edges) stuck (get_or ids (get_or previous i 0) 0) (get_or ids i 0)) (sym part.reached) (leads (length made))) in
-      let g = step_first (Contains edges) stuck s (reverse made) (get_or ids home 0)
-      (subst (λ x. IsPrevious (Contains edges) stuck s.txn x) (sym w.1) p)
-      (subst (λ x. TakesLeastEdge (Contains edges) s x) (sym w.1) takes) w.0 in
-      subst (λ l. GoesRound (Contains edges) stuck l (get_or ids home 0) × (start_of l (get_or ids home 0) ≡ get_or ids (get_or previous at 0) 0)) (sym (reverse_push made s)) (g, from)
+      let p : IsPrevious IsEdge stuck s.txn (get_or ids at 0) =
+      subst (λ x. IsPrevious IsEdge stuck x (get_or ids at 0)) (sym from)
+      (subst (λ i. IsPrevious IsEdge stuck (get_or ids (get_or previous i 0) 0) (get_or ids i 0)) (sym part.reached) (leads (length made))) in
+      let g = step_first IsEdge stuck s (reverse made) (get_or ids home 0)
+      (subst (λ x. IsPrevious IsEdge stuck s.txn x) (sym w.1) p)
+      (subst (λ x. TakesLeastEdge IsEdge s x) (sym w.1) takes) w.0 in
+      subst (λ l. GoesRound IsEdge stuck l (get_or ids home 0) × (start_of l (get_or ids home 0) ≡ get_or ids (get_or previous at 0) 0)) (sym (reverse_push made s)) (g, from)
 
-  pub part_more : get_or previous at 0 ≢ home → IsPartOfRound ids edges previous home period (made ++ s ∷ []) (get_or previous at 0)
+  pub part_more : get_or previous at 0 ≢ home → IsPartOfRound ids IsEdge previous home period (made ++ s ∷ []) (get_or previous at 0)
   part_more other = record {
     inside = within at part.inside;
     few =
@@ -75,13 +75,13 @@ module _ (ids : List ℕ) (up : IsStrictlyIncreasing ids) (edges : List Edge) (p
     round = round_more;
   }
 
-  pub round_made : get_or previous at 0 ≡ home → (stuck : List ℕ) → LeadsBack stuck ids edges previous home → GoesRoundFrom stuck edges (get_or ids home 0) (reverse (made ++ s ∷ []))
+  pub round_made : get_or previous at 0 ≡ home → (stuck : List ℕ) → LeadsBack stuck ids IsEdge previous home → GoesRoundFrom stuck IsEdge (get_or ids home 0) (reverse (made ++ s ∷ []))
   round_made back_home stuck leads =
       let w = round_more stuck leads in
       let first : s.txn ≡ get_or ids home 0 = from ∙ ap (λ i. get_or ids i 0) back_home in
-      let g : GoesRound (Contains edges) stuck (s ∷ reverse made) (get_or ids home 0) = subst (λ l. GoesRound (Contains edges) stuck l (get_or ids home 0)) (reverse_push made s) w.0 in
-      subst (λ l. GoesRoundFrom stuck edges (get_or ids home 0) l) (sym (reverse_push made s)) (
+      let g : GoesRound IsEdge stuck (s ∷ reverse made) (get_or ids home 0) = subst (λ l. GoesRound IsEdge stuck l (get_or ids home 0)) (reverse_push made s) w.0 in
+      subst (λ l. GoesRoundFrom stuck IsEdge (get_or ids home 0) l) (sym (reverse_push made s)) (
         first,
         subst (λ h. StartsAtLeast (reverse made) h) (sym first) (All-permutation (λ x. get_or ids home 0 < x.txn) made (reverse made) (IsPermutation-reverse made) part.above),
-        subst (λ h. GoesRound (Contains edges) stuck (s ∷ reverse made) h) (sym first) g,
+        subst (λ h. GoesRound IsEdge stuck (s ∷ reverse made) h) (sym first) g,
       )

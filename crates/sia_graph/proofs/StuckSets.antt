@@ -9,7 +9,7 @@ use Rattle.sia_parts.specs.declared.finding.Edge.{Edge}
 use Rattle.sia_graph.specs.Orders.{Leads, IsKeepingOrder, IsLeastOrder}
 use Rattle.sia_graph.specs.Cycles.{IsStuckSet, IsSelfFed}
 use Rattle.sia_graph.specs.Fronts.{stands, waiting, IsLastFront}
-use Rattle.sia_graph.specs.Walks.{AreLeft, IsFedBack}
+use Rattle.sia_graph.specs.Walks.{AreLeft, HasCount, IsFedBack}
 use Rattle.sia_graph.proofs.Positions.{Stands, contains_stands, stands_contains, stands_false, false_stands}
 use Rattle.sia_graph.proofs.Fronts.{none_fed, no_order, whole_front}
 use Rattle.sia_graph.proofs.Waiting.{some_waits}
@@ -75,7 +75,7 @@ module _ (ids : List ℕ) (edges : List Edge) (counts front : List ℕ) (last : 
   iff_left : (t : ℕ) → Contains ids t → ¬ Stands front t → Contains left_ones t
   iff_left t c out = stands_contains left_ones t (kept (λ u. not (stands front u)) ids t (contains_stands ids t c) (not_from_false (stands front t) (stands_false front t out)))
 
-  pub are_left : AreLeft ids counts left_ones
+  pub are_left : AreLeft ids (HasCount counts) left_ones
   are_left t = (
     λ c. let w = left_iff t c in let i = id_at t w.0 in (i.0, i.1, i.2, out_left i.0 i.1 (subst (λ u. ¬ Stands front u) (sym i.2) w.1)),
     λ w. iff_left t (subst (λ u. Contains ids u) w.2 (id_in w.0 w.1)) (subst (λ u. ¬ Stands front u) w.2 (left_out w.0 w.1 w.3)),
@@ -91,7 +91,7 @@ module _ (ids : List ℕ) (edges : List Edge) (counts front : List ℕ) (last : 
         let leads = w.1 in
         (w.0, subst (λ u. Contains ids u) leads.2 (edge_joins ids edges joins leads.0 leads.1).0, w.2, subst (λ u. Leads (Contains edges) w.0 u) i.2 leads)
 
-    pub fed_back : IsFedBack ids edges counts
+    pub fed_back : IsFedBack ids (Contains edges) (HasCount counts)
     fed_back i l more =
         let w = source_left (get_or ids i 0) (id_in i l) (left_out i l more) in
         let p = id_at w.0 w.1 in

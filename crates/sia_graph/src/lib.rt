@@ -15,7 +15,6 @@ pub use pivoting::passing::{passes, ssi_pass};
 pub use pivoting::pivoting_numbers::pivots_of_numbers;
 pub use pivoting::pivots;
 pub use replaying::{Mismatch, ReplayFault, replay};
-pub use settling::settling_numbers::settle_numbers;
 pub use settling::txns::Txns;
 pub use settling::{Step, Steps, Verdict, settle};
 

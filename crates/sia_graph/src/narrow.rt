@@ -1,4 +1,16 @@
 //! The verdict of a history from narrow edges: few steps that lead wherever all its edges lead.
+mod absences;
+pub(crate) mod blocks;
+mod by_transaction;
+mod cycle;
+mod grouped;
+mod least_edges;
+mod nodes;
+mod previous;
+mod ranked;
+mod sources;
+mod two;
+
 use sia_events::{Key, TxnId};
 use sia_index::Index;
 use sia_parts::Looks;

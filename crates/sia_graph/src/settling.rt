@@ -7,12 +7,10 @@ ghost use Rattle.sia_graph.specs.Verdicts.{IsVerdict};
 
 pub(crate) mod adjacency;
 pub(crate) mod numbered;
-pub(crate) mod settling_numbers;
 pub(crate) mod taking;
 pub(crate) mod taking_numbers;
 pub(crate) mod txns;
 pub(crate) mod walking;
-pub(crate) mod walking_numbers;
 
 use crate::settling::taking::{count_edges, take_ready};
 use crate::settling::txns::Txns;

@@ -5,15 +5,12 @@ ghost use Rattle.sia_events.specs.Lists.{Precedes};
 ghost use Rattle.sia_parts.specs.Entries.{edge_rank, kind_number};
 
 use crate::settling::{Step, Verdict, settle};
-use numbered::verdict_of_numbers;
 use sia_events::{Key, NoMemory, TxnId};
 use sia_parts::{Edge, Kind};
 use std::alloc::Global;
 use std::process::Abort;
 use std::test::Fail;
 
-mod numbered;
-mod numbers;
 mod replays;
 mod structures;
 
@@ -92,19 +89,18 @@ fn in_order(edges: &[Edge]) -> bool
     true
 }
 
-/// The verdict, where the ids and the edges are as `settle` wants them, and that of the edges as numbers.
+/// The verdict, where the ids and the edges are as `settle` wants them.
 fn verdicts(
     rt: &impl Abort,
     alloc: Global,
     ids: &[TxnId],
     edges: &[Edge],
-) -> Result<[Verdict; 2], NoMemory> {
+) -> Result<[Verdict; 1], NoMemory> {
     assert!(rt; ascends(ids));
     assert!(rt; joins(ids, edges));
     assert!(rt; in_order(edges));
     let settled = settle(alloc, ids, edges)?;
-    let numbered = verdict_of_numbers(rt, alloc, ids, edges)?;
-    Ok([settled, numbered])
+    Ok([settled])
 }
 
 const fn edge(src: TxnId, kind: Kind, dst: TxnId, key: Key) -> Edge {

@@ -6,7 +6,7 @@ ghost use Rattle.sia_parts.specs.Entries.{edge_rank};
 ghost use Rattle.sia_graph.specs.Cycles.{IsPrintedCycle, IsStuckSet, TakesLeastEdge};
 ghost use Rattle.sia_graph.specs.Fronts.{arriving};
 ghost use Rattle.sia_graph.specs.Orders.{Leads};
-ghost use Rattle.sia_graph.specs.Walks.{AreLeastSources, AreLeft, GoesRoundFrom, IsFedBack, LeadsBack, StaysWithin, back, is_before};
+ghost use Rattle.sia_graph.specs.Walks.{AreLeastSources, AreLeft, GoesRoundFrom, HasCount, IsFedBack, LeadsBack, StaysWithin, back, is_before};
 
 use crate::settling::Step;
 use crate::settling::adjacency::{edges_from, position_of};
@@ -41,7 +41,7 @@ pub(crate) fn themselves(alloc: Global, count: usize) -> Result<Vec<usize>, NoMe
 }
 
 /// For each transaction the least one that is left and has an edge to it. What has none leads to itself.
-pub(crate) fn least_sources(
+fn least_sources(
     alloc: Global,
     ids: &[TxnId],
     edges: &[Edge],
@@ -53,7 +53,7 @@ pub(crate) fn least_sources(
     requires long { length counts.now ≡ length ids.now }
     ensures long { IfOk result (λ previous. length previous.items ≡ length ids.now) }
     ensures within { IfOk result (λ previous. StaysWithin previous.items) }
-    ensures least { IfOk result (λ previous. AreLeastSources ids.now edges.now counts.now previous.items) }
+    ensures least { IfOk result (λ previous. AreLeastSources ids.now (Contains edges.now) (HasCount counts.now) previous.items) }
 {
     let mut previous = themselves(alloc, ids.len())?;
     for i in (0..ids.len()).rev() {
@@ -66,11 +66,7 @@ pub(crate) fn least_sources(
 }
 
 /// A position on the cycle that going back from `start` reaches, and a number of steps from it to itself.
-pub(crate) fn reach_cycle(
-    alloc: Global,
-    previous: &[usize],
-    start: usize,
-) -> Result<(usize, usize), NoMemory>
+fn reach_cycle(alloc: Global, previous: &[usize], start: usize) -> Result<(usize, usize), NoMemory>
     requires within { StaysWithin previous.now }
     requires start { start < length previous.now }
     ensures reached { IfOk result (λ r. (n : ℕ) × (back previous.now n start ≡ r.0)) }
@@ -92,7 +88,7 @@ pub(crate) fn reach_cycle(
 }
 
 /// The least position that some number of steps back reach, up to `count`.
-pub(crate) fn least_within(previous: &[usize], start: usize, count: usize) -> usize
+fn least_within(previous: &[usize], start: usize, count: usize) -> usize
     requires within { StaysWithin previous.now }
     requires start { start < length previous.now }
     ensures reached { (n : ℕ) × (n ≤ count) × (back previous.now n start ≡ result) }
@@ -107,6 +103,24 @@ pub(crate) fn least_within(previous: &[usize], start: usize, count: usize) -> us
         }
     }
     least
+}
+
+/// The least position on the cycle that going back from `start` reaches, and a number of steps from it to itself.
+pub(crate) fn least_on_cycle(
+    alloc: Global,
+    previous: &[usize],
+    start: usize,
+) -> Result<(usize, usize), NoMemory>
+    requires within { StaysWithin previous.now }
+    requires start { start < length previous.now }
+    ensures inside { IfOk result (λ r. r.0 < length previous.now) }
+    ensures reached { IfOk result (λ r. (n : ℕ) × (back previous.now n start ≡ r.0)) }
+    ensures round { IfOk result (λ r. (0 < r.1) × (back previous.now r.1 r.0 ≡ r.0)) }
+    ensures least { IfOk result (λ r. (n : ℕ) → r.0 ≤ back previous.now n r.0) }
+{
+    let (place, period) = reach_cycle(alloc, previous, start)?;
+    let home = least_within(previous, place, period);
+    Ok((home, period))
 }
 
 /// Whether an edge stands before those from one transaction to another.
@@ -158,8 +172,8 @@ fn steps_round(
     requires least { (n : ℕ) → home ≤ back previous.now n home }
     requires leads { (n : ℕ) → Leads (Contains edges.now) (slice_index ids.now (slice_index previous.now (back previous.now n home)))
         (slice_index ids.now (back previous.now n home)) }
-    ensures { IfOk result (λ steps. (stuck : List ℕ) → LeadsBack stuck ids.now edges.now previous.now home
-        → GoesRoundFrom stuck edges.now (slice_index ids.now home) steps.items) }
+    ensures { IfOk result (λ steps. (stuck : List ℕ) → LeadsBack stuck ids.now (Contains edges.now) previous.now home
+        → GoesRoundFrom stuck (Contains edges.now) (slice_index ids.now home) steps.items) }
 {
     let mut steps = Vec::with_capacity(alloc, period)?;
     let mut at = home;
@@ -187,14 +201,13 @@ pub(crate) fn cycle_from(
     requires joins { All (λ e. Contains ids.now e.src × Contains ids.now e.dst × (e.src ≢ e.dst)) edges.now }
     requires sorted { AllPairs (λ d e. Precedes (edge_rank d) (edge_rank e)) edges.now }
     requires long { length counts.now ≡ length ids.now }
-    requires fed { IsFedBack ids.now edges.now counts.now }
+    requires fed { IsFedBack ids.now (Contains edges.now) (HasCount counts.now) }
     requires start { (start < length ids.now) × (0 < slice_index counts.now start) × ((i : ℕ) → i < start → slice_index counts.now i ≡ 0) }
-    ensures { IfOk result (λ steps. (stuck : List ℕ) → AreLeft ids.now counts.now stuck → IsStuckSet (Contains ids.now) (Contains edges.now) stuck
+    ensures { IfOk result (λ steps. (stuck : List ℕ) → AreLeft ids.now (HasCount counts.now) stuck → IsStuckSet (Contains ids.now) (Contains edges.now) stuck
         → IsPrintedCycle (Contains ids.now) (Contains edges.now) steps.items) }
 {
     let previous = least_sources(alloc, ids, edges, counts)?;
     let sources = previous.as_slice();
-    let (place, period) = reach_cycle(alloc, sources, start)?;
-    let home = least_within(sources, place, period);
+    let (home, period) = least_on_cycle(alloc, sources, start)?;
     steps_round(alloc, ids, edges, sources, home, period)
 }

@@ -14,13 +14,13 @@ least_step-requires-clause-leads c =
 pub walk-preserved : goal.walk-preserved
 walk-preserved c =
     let previous = c.args.previous.now in
-    subst (λ (l : List Step). IsPartOfRound c.args.ids.now c.args.edges.now previous c.args.home c.args.period l (get_or previous c.walk.at 0)) (sym c.in_ok-push.ensures.items)
-    (part_more c.args.ids.now c.requires.ascending c.args.edges.now previous c.requires.long c.requires.within c.args.home c.requires.home c.args.period c.requires.round.1 c.requires.least
+    subst (λ (l : List Step). IsPartOfRound c.args.ids.now (Contains c.args.edges.now) previous c.args.home c.args.period l (get_or previous c.walk.at 0)) (sym c.in_ok-push.ensures.items)
+    (part_more c.args.ids.now c.requires.ascending (Contains c.args.edges.now) previous c.requires.long c.requires.within c.args.home c.requires.home c.args.period c.requires.round.1 c.requires.least
     c.walk.steps.items c.walk.at c.walk.invariant c.least_step.result c.least_step.ensures.from c.least_step.ensures.least c.if-before-home.false)
 
 pub returns : goal.returns
 returns c = λ stuck leads.
     let previous = c.args.previous.now in
-    subst (λ (l : List Step). GoesRoundFrom stuck c.args.edges.now (get_or c.args.ids.now c.args.home 0) l) (sym (c.reverse.ensures.items ∙ ap reverse c.in_ok-push.ensures.items))
-    (round_made c.args.ids.now c.requires.ascending c.args.edges.now previous c.requires.long c.requires.within c.args.home c.requires.home c.args.period c.requires.round.1 c.requires.least
+    subst (λ (l : List Step). GoesRoundFrom stuck (Contains c.args.edges.now) (get_or c.args.ids.now c.args.home 0) l) (sym (c.reverse.ensures.items ∙ ap reverse c.in_ok-push.ensures.items))
+    (round_made c.args.ids.now c.requires.ascending (Contains c.args.edges.now) previous c.requires.long c.requires.within c.args.home c.requires.home c.args.period c.requires.round.1 c.requires.least
     c.walk.steps.items c.walk.at c.walk.invariant c.least_step.result c.least_step.ensures.from c.least_step.ensures.least c.if-before-home.true stuck leads)

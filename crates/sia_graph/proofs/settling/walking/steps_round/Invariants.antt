@@ -1,9 +1,10 @@
 use Rattle.std.proofs.Common.{◌-◌, length}
+use Rattle.std.specs.Prelude.{Contains}
 use Rattle.sia_graph.proofs.Rounds.{IsPartOfRound}
 use Rattle.sia_graph.proofs.settling.walking.steps_round.Given as goal
 
 abbrev pub invariant-walk : goal.invariant-walk
-invariant-walk l = IsPartOfRound l.ids l.edges l.previous l.home l.period l.steps.items l.at
+invariant-walk l = IsPartOfRound l.ids (Contains l.edges) l.previous l.home l.period l.steps.items l.at
 
 abbrev pub decreases-walk : goal.decreases-walk
 decreases-walk l = l.period - length l.steps.items
