@@ -56,3 +56,4 @@ pub mod KeyBlocks
 pub mod LookEdges
 pub mod BlockRanks
 pub mod SourceRanks
+pub mod EvidenceNumbers

@@ -11,4 +11,4 @@ returns c looks ranks are =
     let nodes = subst (λ xs. AreNodes looks.absences.items ranks S.size xs) (sym c.deref.ensures.value) are.nodes in
     subst (IsLeastRank (IsRankBefore looks ranks c.args.me c.args.key c.args.place)) (sym c.min.ensures)
     (least_of_both looks ranks c.args.me c.args.key c.args.place c.least-seen.result c.least_absent.result
-      (c.least-seen.ensures looks.readers.items ranks are.low) (c.least_absent.ensures looks.absences.items ranks nodes))
+    (c.least-seen.ensures looks.readers.items ranks are.low) (c.least_absent.ensures looks.absences.items ranks nodes))
