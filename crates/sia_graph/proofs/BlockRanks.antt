@@ -1,9 +1,9 @@
 -- Ranks by blocks of keys.
-use Rattle.std.proofs.Common.{◌≡◌, ◌≢◌, ◌⊎◌, inl, inr, ℕ, ◌+◌, ◌-◌, ◌*◌, ◌/◌, ◌%◌, ◌^◌, ◌<◌, ◌≤◌, zero, suc, List, ◌∷◌, [], ◌++◌, length, get_or, set, map, take, min, append_assoc, subst, sym, ap, refl, ◌∙◌, arith}
+use Rattle.std.proofs.Common.{◌≡◌, ◌≢◌, ◌⊎◌, inl, inr, ℕ, ◌+◌, ◌*◌, ◌/◌, ◌^◌, ◌<◌, ◌≤◌, List, ◌∷◌, [], ◌++◌, length, get_or, set, map, take, min, append_assoc, subst, sym, ap, refl, ◌∙◌, arith}
 use Rattle.std.specs.Prelude.{◌↔◌, Contains}
 use Rattle.std.proofs.Math.Nat.{lt_of_mul-lt-mul_right, mul_assoc, mul-le-mul_right, pow-le-pow_right}
 use Rattle.std.proofs.lemmas.Bool.{cases_lt, cases_eq}
-use Rattle.std.proofs.lemmas.List.{get_or-set_same, get_or-set_other, length-set, map_more, append-nil}
+use Rattle.std.proofs.lemmas.List.{get_or-set_same, get_or-set_other, length-set, map_more}
 use Rattle.std.proofs.lemmas.List.Elements.{Contains-append_left, Contains-append_right, Contains-append_cases, Contains-push, Contains-push_cases}
 use Rattle.sia_parts.specs.declared.looks.Absence.{Absence}
 use Rattle.sia_graph.specs.declared.narrow.two.Two.{Two}
@@ -11,7 +11,7 @@ use Rattle.sia_graph.specs.Absences.{AreNodes, AreTwosAt, IsAbsent, IsRankAt}
 use Rattle.sia_graph.specs.KeyBlocks.{IsOver, IsUnderSome}
 use Rattle.sia_graph.specs.Ranks.{IsLeastRank, IsRankOf, IsTwo}
 use Rattle.sia_graph.proofs.KeyBlocks.{doubled}
-use Rattle.sia_graph.proofs.LeastRanks.{least_either, least_none, least_same, other_least, two_none, two_same, two_with}
+use Rattle.sia_graph.proofs.LeastRanks.{least_either, least_none, least_same, two_none, two_same, two_with}
 use Rattle.sia_graph.proofs.Listed.{mapped}
 
 -- one transaction more at a block

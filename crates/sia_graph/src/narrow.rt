@@ -1,5 +1,6 @@
 //! The verdict of a history from narrow edges: few steps that lead wherever all its edges lead.
 pub(crate) mod blocks;
+mod earlier;
 mod grouped;
 mod nodes;
 mod ranked;

@@ -1,5 +1,5 @@
 -- At first nothing stands at any block.
-use Rattle.std.proofs.Common.{◌≡◌, ◌*◌, ℕ, List, length, get_or, replicate, ap, ◌∙◌, rules, arith}
+use Rattle.std.proofs.Common.{◌≡◌, ◌*◌, List, length, get_or, replicate, ap, ◌∙◌, rules, arith}
 use Rattle.std.proofs.lemmas.List.{get_or-replicate, length-replicate}
 use Rattle.sia_graph.specs.declared.narrow.two.Two.{Two}
 use Rattle.sia_graph.proofs.BlockRanks.{no_nodes}

@@ -1,5 +1,5 @@
 -- One block more each time.
-use Rattle.std.proofs.Common.{◌≡◌, ℕ, ◌∷◌, [], ◌++◌, length, get_or, map, set, take, ◌<◌, subst, sym, arith}
+use Rattle.std.proofs.Common.{◌++◌, length, get_or, map, set, take, ◌<◌, subst, sym, arith}
 use Rattle.std.proofs.lemmas.List.{append-nil, get_or_default, take_all}
 use Rattle.sia_graph.specs.declared.narrow.two.Two.{Two}
 use Rattle.sia_graph.specs.Absences.{AreTwosAt}

@@ -18,8 +18,8 @@ of_txn-own-requires c = subst RiseByTxn (sym c.deref.ensures.value) c.requires.a
 pub loop-made-init : goal.loop-made-init
 loop-made-init c looks are = from_first looks c.args.ranks.now c.rank_of-me.result c.of_txn-own.result.now
 
-pub least_before-requires-clause-key : goal.least_before-requires-clause-key
-least_before-requires-clause-key c =
+pub least-requires-clause-key : goal.least-requires-clause-key
+least-requires-clause-key c =
     let are = c.requires.are.1 in
     let own = c.of_txn-own.result.now in
     let look = get_or own c.loop-made.made-index none in
@@ -32,7 +32,7 @@ loop-made-preserved c looks are =
     let ranks = c.args.ranks.now in
     let n = c.loop-made.made-index in
     subst (IsLeastRank (IsRankFrom looks ranks c.rank_of-me.result own (n + 1))) (sym c.min-least.ensures)
-    (from_next looks ranks c.rank_of-me.result own n c.loop-made.least c.least_before.result none c.loop-made-test.true (c.least_before.ensures looks ranks are)
+    (from_next looks ranks c.rank_of-me.result own n c.loop-made.least c.least.result none c.loop-made-test.true (c.least.ensures looks ranks are.earlier)
     (λ e. get_or_default own n e none c.loop-made-test.true) (c.loop-made.invariant looks are))
 
 pub returns : goal.returns

@@ -3,7 +3,7 @@ use Rattle.std.proofs.Common.{subst, sym}
 use Rattle.sia_graph.specs.Absences.{AreNodes}
 use Rattle.sia_graph.specs.Ranks.{IsLeastRank}
 use Rattle.sia_graph.proofs.SourceRanks.{IsRankBefore, least_of_both}
-use Rattle.sia_graph.proofs.narrow.sources.Sources.least_before.Goals as goal
+use Rattle.sia_graph.proofs.narrow.earlier.Earlier.least.Goals as goal
 
 pub returns : goal.returns
 returns c looks ranks are =
