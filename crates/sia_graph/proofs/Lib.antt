@@ -57,3 +57,4 @@ pub mod LookEdges
 pub mod BlockRanks
 pub mod SourceRanks
 pub mod EvidenceNumbers
+pub mod LimitRanks

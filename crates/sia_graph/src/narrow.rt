@@ -2,6 +2,7 @@
 pub(crate) mod blocks;
 mod earlier;
 mod grouped;
+mod limits;
 mod nodes;
 mod ranked;
 mod sources;
