@@ -1,9 +1,9 @@
 -- Ranks by blocks of keys.
-use Rattle.std.proofs.Common.{◌≡◌, ◌≢◌, ◌⊎◌, inl, inr, ℕ, ◌+◌, ◌-◌, ◌*◌, ◌/◌, ◌%◌, ◌^◌, ◌<◌, ◌≤◌, zero, suc, List, ◌∷◌, [], ◌++◌, length, get_or, set, map, take, min, append_assoc, subst, sym, ap, refl, ◌∙◌, arith}
+use Rattle.std.proofs.Common.{◌≡◌, ◌≢◌, ◌⊎◌, inl, inr, ℕ, ◌+◌, ◌*◌, ◌/◌, ◌^◌, ◌<◌, ◌≤◌, List, ◌∷◌, [], ◌++◌, length, get_or, set, map, take, min, append_assoc, subst, sym, ap, refl, ◌∙◌, arith}
 use Rattle.std.specs.Prelude.{◌↔◌, Contains}
 use Rattle.std.proofs.Math.Nat.{lt_of_mul-lt-mul_right, mul_assoc, mul-le-mul_right, pow-le-pow_right}
 use Rattle.std.proofs.lemmas.Bool.{cases_lt, cases_eq}
-use Rattle.std.proofs.lemmas.List.{get_or-set_same, get_or-set_other, length-set, map_more, append-nil}
+use Rattle.std.proofs.lemmas.List.{get_or-set_same, get_or-set_other, length-set, map_more}
 use Rattle.std.proofs.lemmas.List.Elements.{Contains-append_left, Contains-append_right, Contains-append_cases, Contains-push, Contains-push_cases}
 use Rattle.sia_parts.specs.declared.looks.Absence.{Absence}
 use Rattle.sia_graph.specs.declared.narrow.two.Two.{Two}
@@ -11,7 +11,7 @@ use Rattle.sia_graph.specs.Absences.{AreNodes, AreTwosAt, IsAbsent, IsRankAt}
 use Rattle.sia_graph.specs.KeyBlocks.{IsOver, IsUnderSome}
 use Rattle.sia_graph.specs.Ranks.{IsLeastRank, IsRankOf, IsTwo}
 use Rattle.sia_graph.proofs.KeyBlocks.{doubled}
-use Rattle.sia_graph.proofs.LeastRanks.{least_either, least_none, least_same, other_least, two_none, two_same, two_with}
+use Rattle.sia_graph.proofs.LeastRanks.{least_either, least_none, least_same, two_none, two_same, two_with}
 use Rattle.sia_graph.proofs.Listed.{mapped}
 
 -- one transaction more at a block
@@ -40,7 +40,7 @@ module _ (entries : List (ℕ × ℕ)) (ranks : List ℕ) (nodes : List Two) (bl
             let within : block < length nodes = omega arith in
             let was = subst (λ t. IsTwo (IsRankAt entries ranks block) t) (at d) (are block d within) in
             let is = two_with (IsRankAt entries ranks block) (λ q is. is.2.2) (IsRankAt more ranks block) rank bound (kept block)
-                (λ less. (i, Contains-push entries (block, i), (is_rank rank).1 (refl, less))) rank_back (λ q is. is.2.2) old was new less between same in
+            (λ less. (i, Contains-push entries (block, i), (is_rank rank).1 (refl, less))) rank_back (λ q is. is.2.2) old was new less between same in
             subst (λ n. IsTwo (IsRankAt more ranks n) (get_or (set nodes block new) n d)) (sym here)
             (subst (λ t. IsTwo (IsRankAt more ranks block) t) (sym (get_or-set_same nodes block new d within)) is)
         | inr other ↦
@@ -182,9 +182,9 @@ risen nodes size key me least l rising absences ranks are =
     least_same (IsRankUnder are.entries ranks (size + key) rising.0 me) (λ r. (i : ℕ) × IsAbsent absences i key × IsRankOf ranks i r × (r ≢ me)) least
     (λ r is. (is.5.0, (are.over key is.5.0 l).0 (is.0, is.5.1, (is.1, is.3, is.4)), is.5.2, is.6))
     (λ r is.
-        let has = (are.over key is.0 l).1 is.1 in
-        let over = has.2 in
-        (has.0, over.0, lower has.0 over.0 over.1 (are.within has.0 is.0 has.1).0, over.1, over.2, (is.0, has.1, is.2), is.3))
+    let has = (are.over key is.0 l).1 is.1 in
+    let over = has.2 in
+    (has.0, over.0, lower has.0 over.0 over.1 (are.within has.0 is.0 has.1).0, over.1, over.2, (is.0, has.1, is.2), is.3))
     (rising.3 absences ranks are)
   where
     lower : (b n : ℕ) → b * 2 ^ n ≤ size + key → 0 < b → n < rising.0

@@ -63,3 +63,5 @@ pub mod Ways
 pub mod KeyBlocks
 pub mod BlockRanks
 pub mod SourceRanks
+pub mod EvidenceNumbers
+pub mod LimitRanks

@@ -1,5 +1,5 @@
 -- The least rank of those who saw a version before one of a transaction's own.
-use Rattle.std.proofs.Common.{◌≡◌, ◌≢◌, ◌⊎◌, inl, inr, ℕ, ◌+◌, ◌<◌, ◌≤◌, List, length, get_or, min, refl, subst, sym, ap, ◌∙◌, arith}
+use Rattle.std.proofs.Common.{◌≡◌, ◌≢◌, inl, inr, ℕ, ◌+◌, ◌<◌, ◌≤◌, List, length, get_or, min, refl, subst, sym, ap, ◌∙◌, arith}
 use Rattle.std.specs.Prelude.{◌↔◌, Contains}
 use Rattle.std.proofs.lemmas.Bool.{cases_lt}
 use Rattle.sia_parts.specs.declared.looks.Look.{Look}
@@ -60,12 +60,12 @@ module _ (looks : Looks) (ranks : List ℕ) (me : ℕ) where
       from_all n least all is =
           least_same (IsRankFrom n) (λ r. (i : ℕ) × IsSource looks i t × IsRankOf ranks i r) least
           (λ r from.
-              let made = (owns from.1).0 (from.0, from.3, from.4) in
-              let before = from.5 in
-              (before.0, ((λ same. before.3 ((is_me r).0 (subst (λ i. IsRankOf ranks i r) same before.2)).0), from.1, made.0, made.1, before.1), before.2))
+          let made = (owns from.1).0 (from.0, from.3, from.4) in
+          let before = from.5 in
+          (before.0, ((λ same. before.3 ((is_me r).0 (subst (λ i. IsRankOf ranks i r) same before.2)).0), from.1, made.0, made.1, before.1), before.2))
           (λ r has.
-              let source = has.1 in
-              let place = (owns source.1).1 (source.2, source.3) in
-              let at = place.1 in
-              (place.0, source.1, omega arith, at, place.2, (has.0, source.4, has.2, λ same. source.0 (apart has.0 t r has.2 ((is_me r).1 (same, has.2.2))))))
+          let source = has.1 in
+          let place = (owns source.1).1 (source.2, source.3) in
+          let at = place.1 in
+          (place.0, source.1, omega arith, at, place.2, (has.0, source.4, has.2, λ same. source.0 (apart has.0 t r has.2 ((is_me r).1 (same, has.2.2))))))
           is

@@ -1,13 +1,13 @@
 //! The least rank of those with an rw edge to a transaction.
-ghost use Rattle.std.specs.Prelude.{◌≡◌, ◌≢◌, ◌<◌, ◌≤◌, ℕ, List, All, IfOk};
+ghost use Rattle.std.specs.Prelude.{◌<◌, ◌≤◌, ℕ, All, IfOk};
 ghost use Rattle.sia_parts.specs.declared.looks.Looks.{Looks};
 ghost use Rattle.sia_graph.specs.Ranks.{AreRanks, IsLeastRank, IsRankOf};
-ghost use Rattle.sia_graph.specs.Sources.{AreSources, IsSource, SeesBefore};
+ghost use Rattle.sia_graph.specs.Sources.{AreSources, IsSource};
 
+use crate::narrow::earlier::Earlier;
 use crate::narrow::grouped::{by_txn, of_txn};
-use crate::narrow::nodes::{least_absent, nodes_of};
-use crate::narrow::ranked::{Ranked, rank_of};
-use crate::narrow::two::{NONE, Two};
+use crate::narrow::ranked::rank_of;
+use crate::narrow::two::NONE;
 use sia_events::NoMemory;
 use sia_parts::{Look, Looks};
 use std::alloc::Global;
@@ -16,9 +16,7 @@ use std::alloc::Global;
 #[derive(Drop)]
 pub struct Sources {
     own: Vec<Look>,
-    by_low: Ranked,
-    nodes: Vec<Two>,
-    size: u32,
+    earlier: Earlier,
 }
 
 impl Sources {
@@ -35,25 +33,8 @@ impl Sources {
         ensures { IfOk result (AreSources looks.now ranks.now) }
     {
         let own = by_txn(alloc, &looks.writers)?;
-        let by_low = Ranked::of(alloc, &looks.readers, ranks)?;
-        let nodes = nodes_of(alloc, &looks.absences, ranks, size)?;
-        Ok(Sources {
-            own,
-            by_low,
-            nodes,
-            size,
-        })
-    }
-
-    /// Of the ranks but `me` the least of those who saw a version of the key from before the place.
-    fn least_before(&self, key: u32, place: u32, me: u32) -> u32
-        requires are { (looks : Looks) × (ranks : List ℕ) × AreSources looks ranks self.now }
-        requires key { key < self.now.size }
-        ensures { (looks : Looks) (ranks : List ℕ) → AreSources looks ranks self.now
-            → IsLeastRank (λ r. (i : ℕ) × SeesBefore looks key place i × IsRankOf ranks i r × (r ≢ me)) result }
-    {
-        let seen = self.by_low.least(key, place, me);
-        seen.min(least_absent(&self.nodes, self.size, key, me))
+        let earlier = Earlier::of(alloc, looks, ranks, size)?;
+        Ok(Sources { own, earlier })
     }
 
     /// The least rank of those with an rw edge to transaction number `t`.
@@ -66,7 +47,7 @@ impl Sources {
         let own = of_txn(&self.own, t);
         let mut least = NONE;
         for made in own {
-            least = least.min(self.least_before(made.key, made.high, me));
+            least = least.min(self.earlier.least(made.key, made.high, me));
         }
         least
     }

@@ -1,6 +1,5 @@
 -- What stands at the block, or nothing where there is none.
 use Rattle.std.proofs.Common.{subst, sym, arith}
-use Rattle.sia_graph.specs.declared.narrow.two.Two.{Two}
 use Rattle.sia_graph.specs.Absences.{IsRankAt}
 use Rattle.sia_graph.specs.Ranks.{IsTwo}
 use Rattle.sia_graph.proofs.LeastRanks.{least_none, other_least}

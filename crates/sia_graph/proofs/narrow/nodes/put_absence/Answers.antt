@@ -1,6 +1,6 @@
 -- The blocks are over the keys.
-use Rattle.std.proofs.Common.{◌≡◌, inl, inr, ℕ, ◌<◌, ◌*◌, List, [], ◌++◌, length, map, subst, sym, arith}
-use Rattle.std.specs.Prelude.{All, Contains}
+use Rattle.std.proofs.Common.{inl, inr, ℕ, ◌<◌, ◌++◌, length, map, subst, sym, arith}
+use Rattle.std.specs.Prelude.{All}
 use Rattle.std.proofs.lemmas.List.Elements.{All-contains_itself}
 use Rattle.sia_graph.specs.Absences.{AreTwosAt}
 use Rattle.sia_graph.proofs.BlockRanks.{nodes_more, nodes_same}

@@ -1,5 +1,5 @@
 -- One block more each time.
-use Rattle.std.proofs.Common.{◌≡◌, ℕ, ◌∷◌, [], ◌++◌, length, get_or, map, set, take, ◌<◌, subst, sym, arith}
+use Rattle.std.proofs.Common.{◌++◌, length, get_or, map, set, take, ◌<◌, subst, sym, arith}
 use Rattle.std.proofs.lemmas.List.{append-nil, get_or_default, take_all}
 use Rattle.sia_graph.specs.declared.narrow.two.Two.{Two}
 use Rattle.sia_graph.specs.Absences.{AreTwosAt}
@@ -21,8 +21,8 @@ loop-block-preserved c entries are =
     let none : Two = record { least = 0; next = 0 } in
     subst (λ xs. AreTwosAt xs ranks (set nodes block c.with-two.result)) (sym (entries_more entries blocks c.args.txn n c.loop-block-test.true))
     (more_at (entries ++ map (λ b. (b, c.args.txn)) (take n blocks)) ranks nodes block c.args.txn c.rank_of-rank.result c.rank_of-rank.ensures (omega arith)
-      (get_or nodes block none) c.with-two.result (λ d. get_or_default nodes block d none within)
-      c.with-two.ensures.less c.with-two.ensures.between c.with-two.ensures.same (c.loop-block.invariant entries are))
+    (get_or nodes block none) c.with-two.result (λ d. get_or_default nodes block d none within)
+    c.with-two.ensures.less c.with-two.ensures.between c.with-two.ensures.same (c.loop-block.invariant entries are))
 
 pub returns : goal.returns
 returns c entries are =
