@@ -58,3 +58,4 @@ pub mod BlockRanks
 pub mod SourceRanks
 pub mod EvidenceNumbers
 pub mod LimitRanks
+pub mod LooksPass

@@ -1,6 +1,7 @@
 //! The verdict of a history from narrow edges: few steps that lead wherever all its edges lead.
 pub(crate) mod blocks;
 mod earlier;
+mod extremes;
 mod grouped;
 mod limits;
 mod nodes;
