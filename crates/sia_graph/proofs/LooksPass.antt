@@ -25,7 +25,6 @@ use Rattle.sia_graph.specs.Sources.{IsSource}
 use Rattle.sia_graph.proofs.EvidenceNumbers.{at_txn, source_edges, txn_at}
 use Rattle.sia_graph.proofs.Extremes.{firsts_hold}
 use Rattle.sia_graph.proofs.Facts.{commits_lt}
-use Rattle.sia_graph.proofs.LookEdges.{writer_commits}
 
 abbrev none : Lifetime
 none = record { start = 0; commit = 0 }

@@ -1,10 +1,8 @@
 -- By the limits of all.
-use Rattle.std.proofs.Common.{◌≡◌, ◌-◌, ◌≤◌, ℕ, List, length, get_or, map, subst, sym, ap, ◌∙◌, arith}
-use Rattle.std.specs.Prelude.{◌↔◌, All, IsTrue}
+use Rattle.std.proofs.Common.{◌≤◌, length, get_or, subst, sym, ap, ◌∙◌, arith}
 use Rattle.std.proofs.lemmas.List.Elements.{All-contains_itself}
 use Rattle.sia_graph.specs.declared.pivoting.lifetimes.Lifetime.{Lifetime}
-use Rattle.sia_graph.specs.Lifetimes.{AreLifetimes}
-use Rattle.sia_graph.specs.Limits.{AreLimits, IsWithinLimit}
+use Rattle.sia_graph.specs.Limits.{AreLimits}
 use Rattle.sia_graph.specs.Ranks.{AreRanks}
 use Rattle.sia_graph.proofs.EvidenceNumbers.{absent_keys, few_keys_here, few_txns, writer_key}
 use Rattle.sia_graph.proofs.LooksPass.{passes_told, ranks_apart}

@@ -12,5 +12,5 @@ returns c =
       limits,
       c.in_ok-limits.ensures looks c.in_ok-sources.ensures,
       subst (λ xs. IsTrue c.none_within-none.result ↔ All (λ made. ¬ IsWithinLimit looks limits made) xs) c.deref-2.ensures.value
-        (c.none_within-none.ensures looks limits (subst (λ xs. AreEarlier looks xs c.in_ok-earlier.earlier) c.deref.ensures.value c.in_ok-earlier.ensures.made)),
+          (c.none_within-none.ensures looks limits (subst (λ xs. AreEarlier looks xs c.in_ok-earlier.earlier) c.deref.ensures.value c.in_ok-earlier.ensures.made)),
     )
