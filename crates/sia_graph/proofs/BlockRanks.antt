@@ -64,7 +64,7 @@ pub nodes_more : (absences : List Absence) (absence : Absence) (ranks : List ℕ
     → AreNodes absences ranks size nodes → AreNodes (absences ++ absence ∷ []) ranks size new
 nodes_more absences absence ranks size nodes new blocks over within long put are =
     let i : ℕ = absence.txn in
-    let more = map (λ (b : ℕ). (b, i)) blocks in
+    let more : List (ℕ × ℕ) = map (λ (b : ℕ). (b, i)) blocks in
     record {
       entries = are.entries ++ more;
       over = λ key t l. (
@@ -87,7 +87,7 @@ nodes_more absences absence ranks size nodes new blocks over within long put are
               (under.0, Contains-append_right are.entries more (under.0, t) ((mapped (λ (b : ℕ). (b, i)) blocks (under.0, t)).1 (under.0, under.1, ap (λ (n : ℕ). (under.0, n)) f)), under.2)
         ]),
       );
-      within = λ b t has. elim (Contains-append_cases are.entries more (b, t) has) [
+      within = λ (b t : ℕ) (has : Contains (are.entries ++ more) (b, t)). elim (Contains-append_cases are.entries more (b, t) has) [
         | inl old ↦ let w = are.within b t old in (w.0, omega arith)
         | inr added ↦
             let from = (mapped (λ (b : ℕ). (b, i)) blocks (b, t)).0 added in

@@ -1,8 +1,7 @@
 -- The numbers in the evidence are those of its transactions and keys, so what is told by numbers is told of these.
-use Rattle.std.proofs.Common.{◌≡◌, ◌⊎◌, inl, inr, ℕ, ◌-◌, ◌<◌, ◌≤◌, List, [], ◌∷◌, length, refl, subst, sym, ap, ◌∙◌, arith}
-use Rattle.std.specs.Prelude.{◌↔◌, All, Contains, slice_index}
+use Rattle.std.proofs.Common.{◌≡◌, inl, inr, ℕ, ◌-◌, ◌<◌, ◌≤◌, List, [], ◌∷◌, length, refl, subst, sym, ap, arith}
+use Rattle.std.specs.Prelude.{◌↔◌, Contains, slice_index}
 use Rattle.std.proofs.lemmas.Bool.{cases_lt}
-use Rattle.std.proofs.lemmas.List.Elements.{Contains-get_or}
 use Rattle.sia_events.specs.declared.event.Event.{Event}
 use Rattle.sia_events.specs.Transactions.{IsCommitted, Wrote}
 use Rattle.sia_events.proofs.OneList.{one_list_by}
@@ -12,8 +11,8 @@ use Rattle.sia_parts.specs.declared.looks.Absence.{Absence}
 use Rattle.sia_parts.specs.declared.looks.Look.{Look}
 use Rattle.sia_parts.specs.declared.looks.Looks.{Looks}
 use Rattle.sia_parts.proofs.EndLemmas.{one_committed_number, one_key_number}
-use Rattle.sia_parts.proofs.FewNumbers.{few_keys}
-use Rattle.sia_graph.specs.Evidence.{IsEvidence, HasRwLooks}
+use Rattle.sia_parts.proofs.FewNumbers.{few_committed, few_keys}
+use Rattle.sia_graph.specs.Evidence.{IsEvidence}
 use Rattle.sia_graph.specs.Extremes.{HasRwEdge}
 use Rattle.sia_graph.specs.Sources.{IsSource}
 use Rattle.sia_graph.proofs.LookEdges.{rw_looks}
@@ -32,6 +31,12 @@ module _ (h : List Event) (txns keys : List ℕ) (looks : Looks) (evidence : IsE
   pub few_keys_here : length keys ≤ 1000000000
   few_keys_here = elim (cases_lt 0 (length keys)) [
     | inl some ↦ let f = few_keys h evidence.well_formed (length keys - 1) (slice_index keys (length keys - 1)) (keys, evidence.keys_are, omega arith, refl) in omega arith
+    | inr none ↦ omega arith
+  ]
+
+  pub few_txns : length txns ≤ 1000000000
+  few_txns = elim (cases_lt 0 (length txns)) [
+    | inl some ↦ let f = few_committed h evidence.well_formed (length txns - 1) (slice_index txns (length txns - 1)) (txn_at (length txns - 1) (omega arith)) in omega arith
     | inr none ↦ omega arith
   ]
 

@@ -65,3 +65,4 @@ pub mod BlockRanks
 pub mod SourceRanks
 pub mod EvidenceNumbers
 pub mod LimitRanks
+pub mod LooksPass

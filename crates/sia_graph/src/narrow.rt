@@ -4,6 +4,7 @@ pub(crate) mod blocks;
 mod by_transaction;
 mod cycle;
 mod earlier;
+mod extremes;
 mod grouped;
 mod least_edges;
 mod limits;

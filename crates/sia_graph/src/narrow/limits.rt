@@ -10,7 +10,7 @@ use crate::narrow::sources::Sources;
 use crate::narrow::two::NONE;
 use crate::pivoting::lifetimes::Lifetime;
 use sia_events::NoMemory;
-use sia_parts::Look;
+use sia_parts::{Look, Looks};
 use std::alloc::{AllocError, Global};
 
 /// The greatest rank. A rank stands for the place that is left of it, so that the least rank is the last place.
@@ -83,4 +83,27 @@ pub(crate) fn none_within(earlier: &Earlier, writers: &[Look]) -> bool
         }
     }
     true
+}
+
+/// Whether no version commits up to the limit of one who saw what was before it, where these are the ranks of all commits.
+/// There are `size` keys.
+pub(crate) fn none_early(
+    alloc: Global,
+    looks: &Looks,
+    lifetimes: &[Lifetime],
+    ranks: &[u32],
+    size: u32,
+) -> Result<bool, NoMemory>
+    requires apart { AreRanks ranks.now }
+    requires few { (length lifetimes.now ≤ 1000000000) × (size ≤ 1000000000) }
+    requires keys { All (λ look. look.key < size) looks.now.writers.items }
+    requires within { All (λ absence. absence.from < absence.to → absence.to ≤ size) looks.now.absences.items }
+    ensures { IfOk result (λ none. (limits : List ℕ) × AreLimits looks.now ranks.now lifetimes.now limits
+        × (IsTrue none ↔ All (λ made. ¬ IsWithinLimit looks.now limits made) looks.now.writers.items)) }
+{
+    let sources = Sources::of(alloc, looks, ranks, size)?;
+    let limits = limits_of(alloc, &sources, ranks, lifetimes)?;
+    let earlier = Earlier::of(alloc, looks, &limits, size)?;
+    let none = none_within(&earlier, &looks.writers);
+    Ok(none)
 }

@@ -1,5 +1,5 @@
 -- By the least rank of those who saw what was before it.
-use Rattle.std.proofs.Common.{◌-◌, leb}
+use Rattle.std.proofs.Common.{◌-◌}
 use Rattle.std.proofs.lemmas.Bool.{false≢true, le-leb, leb-true}
 use Rattle.sia_graph.proofs.LimitRanks.{not_within, within_by}
 use Rattle.sia_graph.proofs.narrow.limits.is_within.Goals as goal

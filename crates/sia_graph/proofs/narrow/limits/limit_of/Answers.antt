@@ -9,5 +9,5 @@ returns-then-rank c looks are = no_limit looks c.args.ranks.now c.args.t c.args.
 pub returns : goal.returns
 returns c looks are =
     let e : c.max.result ≡ max c.least-rank.result (4294967294 - (c.args.commit - 1)) =
-        let a = c.saturating_sub.ensures in let b = c.saturating_sub-2.ensures in let d = c.max.ensures in omega arith in
+    let a = c.saturating_sub.ensures in let b = c.saturating_sub-2.ensures in let d = c.max.ensures in omega arith in
     a_limit looks c.args.ranks.now c.args.t c.args.commit c.least-rank.result (c.least-rank.ensures looks are) c.if-rank.false c.max.result e

@@ -1,5 +1,5 @@
 -- One transaction more each time.
-use Rattle.std.proofs.Common.{◌≡◌, ℕ, ◌+◌, ◌<◌, ◌∷◌, [], ◌++◌, length, get_or, ap, sym, subst, ◌∙◌, arith}
+use Rattle.std.proofs.Common.{◌≡◌, ℕ, ◌+◌, ◌<◌, length, get_or, ap, sym, subst, ◌∙◌, arith}
 use Rattle.std.proofs.lemmas.List.{get_or_default, length_push}
 use Rattle.sia_graph.specs.declared.pivoting.lifetimes.Lifetime.{Lifetime}
 use Rattle.sia_graph.specs.Limits.{IsLimit}
