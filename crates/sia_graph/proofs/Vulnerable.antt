@@ -20,7 +20,8 @@ use Rattle.sia_parts.specs.declared.finding.Edge.{Edge}
 use Rattle.sia_parts.specs.declared.finding.Kind.TheVariants.{Rw}
 use Rattle.sia_parts.specs.Entries.{EdgeOfKind}
 use Rattle.sia_parts.specs.Findings.{ListsEdges}
-use Rattle.sia_graph.specs.Links.{HasRw}
+use Rattle.sia_graph.specs.declared.pivoting.links.Link.{Link}
+use Rattle.sia_graph.specs.Links.{AreEnds, AreVulnerable, HasRw}
 use Rattle.sia_graph.proofs.Facts.{from_one}
 
 -- an rw edge among all edges, between overlapping transactions, is a vulnerable one
@@ -34,6 +35,12 @@ vulnerable_by h edges l t u = (
       let e : Edge = record { src = t; kind = Rw; dst = u; key = key } in
       ((e, (l.each e).1 (rw_edge, tt), refl, refl, refl), over)),
 )
+
+-- so the ends of all edges are the vulnerable pairs
+pub all_vulnerable : (h : List Event) (edges : List Edge) → ListsEdges h (λ _. ⊤) edges → (links : List Link) → AreEnds (Overlap h) edges links → AreVulnerable h links
+all_vulnerable h edges l links are k =
+    let by = vulnerable_by h edges l k.at k.other in
+    ((λ c. by.0 ((are k).0 c)), (λ v. (are k).1 (by.1 v)))
 
 -- both ends of a vulnerable edge committed
 pub target_committed : (h : List Event) (t u : ℕ) → IsVulnerable h t u → IsCommitted h u

@@ -1,5 +1,7 @@
 -- Transactions that are linked in some way, as lists that serve to find those that are linked to one.
 use Rattle.std.specs.Prelude.{◌≡◌, ◌↔◌, ◌∷◌, [], ℕ, Bool, true, false, List, Contains}
+use Rattle.sia_events.specs.declared.event.Event.{Event}
+use Rattle.sia_events.specs.DangerousStructures.{IsVulnerable}
 use Rattle.sia_events.specs.Lists.{ListsBy}
 use Rattle.sia_parts.specs.declared.finding.Edge.{Edge}
 use Rattle.sia_parts.specs.declared.finding.Kind.{Kind}
@@ -21,6 +23,10 @@ HasRw edges t u = (e : Edge) × Contains edges e × (e.kind ≡ Rw) × (e.src �
 -- the list holds the ends of the edges of the kind rw whose ends have R
 abbrev pub AreEnds : (ℕ → ℕ → Type 0) → List Edge → List Link → Type 0
 AreEnds R edges links = (l : Link) → Contains links l ↔ (HasRw edges l.at l.other × R l.at l.other)
+
+-- the list holds the ends of each vulnerable edge, at its source
+abbrev pub AreVulnerable : List Event → List Link → Type 0
+AreVulnerable h links = (l : Link) → Contains links l ↔ IsVulnerable h l.at l.other
 
 abbrev pub is_rw : Kind → Bool
 is_rw Ww = false

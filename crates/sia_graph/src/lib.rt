@@ -8,12 +8,16 @@ mod pivoting;
 mod replaying;
 mod settling;
 
-pub use laws::{blocks_law, closure_law, firsts_law, pivot_law, replay_law, ssi_law, stand_in_law};
+pub use laws::{
+    blocks_law, closure_law, firsts_law, listing_law, pivot_law, replay_law, ssi_law, stand_in_law,
+};
 pub use narrow::Evidence;
 pub use pivot::Pivot;
+pub use pivoting::lifetimes::{Lifetime, lifetimes_of};
+pub use pivoting::links::Link;
 pub use pivoting::passing::{passes, ssi_pass};
-pub use pivoting::pivoting_numbers::pivots_of_numbers;
-pub use pivoting::pivots;
+pub use pivoting::vulnerable_numbers::vulnerable_in;
+pub use pivoting::{pivots, pivots_of_links};
 pub use replaying::{Mismatch, ReplayFault, replay};
 pub use settling::txns::Txns;
 pub use settling::{Step, Steps, Verdict, settle};

@@ -3,14 +3,13 @@ ghost use Rattle.std.specs.Prelude.{◌≡◌, ℕ, All, AllPairs, IfOk, map};
 ghost use Rattle.sia_events.specs.DangerousStructures.{IsPivot, IsVulnerable};
 ghost use Rattle.sia_events.specs.Lists.{ListsAscending, Precedes};
 ghost use Rattle.sia_parts.specs.Findings.{AreFindings};
-ghost use Rattle.sia_graph.specs.Links.{AreLinked, ListsLinks, link_rank};
+ghost use Rattle.sia_graph.specs.Links.{AreLinked, AreVulnerable, ListsLinks, link_rank};
 ghost use Rattle.sia_graph.specs.Pivots.{ArePivots, ListsNeighbours};
 
 pub(crate) mod firsts;
 pub(crate) mod lifetimes;
 pub(crate) mod links;
 pub(crate) mod passing;
-pub(crate) mod pivoting_numbers;
 pub(crate) mod vulnerable_numbers;
 
 use crate::pivot::Pivot;
@@ -21,6 +20,7 @@ use crate::pivoting::links::{
 use crate::settling::txns::Txns;
 use sia_events::{NoMemory, TxnId};
 use sia_index::Index;
+use sia_index::ordering::put_in_order;
 use sia_parts::Findings;
 use std::alloc::{AllocError, Global};
 
@@ -95,17 +95,26 @@ pub fn pivots(alloc: Global, f: &Findings, ix: &Index) -> Result<Vec<Pivot>, NoM
     requires { AreFindings ix.now f.now }
     ensures { IfOk result (λ found. ArePivots ix.now found.items) }
 {
-    let leaving = vulnerable(alloc, &f.edges, ix)?;
-    let found = pivots_of_links(alloc, ix, &leaving)?;
+    let links = vulnerable(alloc, &f.edges, ix)?;
+    pivots_of_links(alloc, ix, links)
+}
+
+/// The same, of the links of all vulnerable edges: each at least once, in any order, and no other.
+pub fn pivots_of_links(
+    alloc: Global,
+    ix: &Index,
+    mut links: Vec<Link>,
+) -> Result<Vec<Pivot>, NoMemory>
+    requires { AreVulnerable ix.now links.items }
+    ensures { IfOk result (λ found. ArePivots ix.now found.items) }
+{
+    put_in_order(&mut links);
+    let found = pivots_between(alloc, ix, &links)?;
     Ok(found)
 }
 
-/// The same, of the vulnerable edges, each as a link at its source.
-pub(crate) fn pivots_of_links(
-    alloc: Global,
-    ix: &Index,
-    out: &[Link],
-) -> Result<Vec<Pivot>, AllocError>
+/// The same, of links in order.
+fn pivots_between(alloc: Global, ix: &Index, out: &[Link]) -> Result<Vec<Pivot>, AllocError>
     requires { ListsLinks (IsVulnerable ix.now) out.now }
     ensures { IfOk result (λ found. ArePivots ix.now found.items) }
 {

@@ -3,9 +3,9 @@ ghost use Rattle.std.specs.Prelude.{◌↔◌, ◌<◌, All, IfOk, IsTrue, Match
 ghost use Rattle.sia_events.specs.Transactions.{IsCommitted};
 ghost use Rattle.sia_graph.specs.Lifetimes.{AreLifetimes, IsLifetime};
 
-use sia_events::TxnId;
+use sia_events::{NoMemory, TxnId};
 use sia_index::{Fate, Index};
-use std::alloc::{AllocError, Global};
+use std::alloc::Global;
 
 /// When a committed transaction starts, and when it commits.
 #[derive(Clone, Copy, Debug, PartialEq, Eq)]
@@ -31,11 +31,7 @@ fn lifetime_of(ix: &Index, txn: TxnId) -> Option<Lifetime>
 }
 
 /// The lifetime of each of these transactions, at its place.
-pub(crate) fn lifetimes_of(
-    alloc: Global,
-    ix: &Index,
-    txns: &[TxnId],
-) -> Result<Vec<Lifetime>, AllocError>
+pub fn lifetimes_of(alloc: Global, ix: &Index, txns: &[TxnId]) -> Result<Vec<Lifetime>, NoMemory>
     requires { All (IsCommitted ix.now) txns.now }
     ensures { IfOk result (λ lifetimes. AreLifetimes ix.now txns.now lifetimes.items) }
 {

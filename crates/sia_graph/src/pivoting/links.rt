@@ -1,11 +1,9 @@
 //! The overlapping transactions between which an rw edge leads, in lists that are searched by one end.
-ghost use Rattle.std.specs.Prelude.{◌≡◌, ◌↔◌, ℕ, ◌<◌, ◌≤◌, ⊤, AllPairs, IfOk, IfSome, IsTrue, length, map};
+ghost use Rattle.std.specs.Prelude.{◌≡◌, ◌↔◌, ℕ, ◌<◌, ◌≤◌, AllPairs, IfOk, IfSome, IsTrue, length, map};
 ghost use Rattle.std.specs.List.{AllWithin};
-ghost use Rattle.sia_events.specs.DangerousStructures.{IsVulnerable};
 ghost use Rattle.sia_events.specs.Lists.{ListsAscending, Precedes};
 ghost use Rattle.sia_events.specs.Transactions.{Overlap};
 ghost use Rattle.sia_parts.specs.declared.finding.Kind.TheVariants.{Rw};
-ghost use Rattle.sia_parts.specs.Findings.{ListsEdges};
 ghost use Rattle.sia_graph.specs.Links.{AreEnds, AreLinked, AreLinksAt, ListsLinks, is_rw, link_rank};
 
 use sia_events::TxnId;
@@ -14,7 +12,7 @@ use sia_index::ordering::{merge_in_order, put_in_order};
 use sia_parts::{Edge, Kind};
 use std::alloc::{AllocError, Global};
 
-/// Two transactions that are linked, of which one is looked for.
+/// Two transactions that are linked, of which one is looked for: of an edge, its source.
 #[derive(Clone, Copy, Debug, PartialEq, Eq, PartialOrd, Ord)]
 pub struct Link {
     pub at: TxnId,
@@ -38,9 +36,9 @@ fn is_vulnerable(ix: &Index, e: &Edge) -> bool
     leads_rw(e.kind) && ix.overlap(e.src, e.dst)
 }
 
-/// The ends of each such edge.
+/// The ends of each such edge, as a link at its source.
 #[inline(never)]
-fn ends_of_vulnerable(alloc: Global, edges: &[Edge], ix: &Index) -> Result<Vec<Link>, AllocError>
+pub(crate) fn vulnerable(alloc: Global, edges: &[Edge], ix: &Index) -> Result<Vec<Link>, AllocError>
     ensures { IfOk result (λ links. AreEnds (Overlap ix.now) edges.now links.items) }
 {
     let mut links = Vec::new(alloc);
@@ -52,16 +50,6 @@ fn ends_of_vulnerable(alloc: Global, edges: &[Edge], ix: &Index) -> Result<Vec<L
             })?;
         }
     }
-    Ok(links)
-}
-
-/// The rw edges between overlapping transactions, each as a link at its source.
-pub(crate) fn vulnerable(alloc: Global, edges: &[Edge], ix: &Index) -> Result<Vec<Link>, AllocError>
-    requires { ListsEdges ix.now (λ _. ⊤) edges.now }
-    ensures { IfOk result (λ links. ListsLinks (IsVulnerable ix.now) links.items) }
-{
-    let mut links = ends_of_vulnerable(alloc, edges, ix)?;
-    put_in_order(&mut links);
     Ok(links)
 }
 

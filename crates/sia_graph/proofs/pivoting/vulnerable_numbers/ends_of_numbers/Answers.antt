@@ -1,38 +1,33 @@
-use Rattle.std.proofs.Common.{ℕ, List, ◌++◌, ap, map, subst, sym, take, ◌∙◌, arith}
-use Rattle.std.specs.Prelude.{All}
-use Rattle.std.proofs.lemmas.List.{map-append, take_all}
+use Rattle.std.proofs.Common.{ℕ, List, [], ◌∷◌, ◌++◌, ap, map, subst, sym, ◌∙◌, arith}
+use Rattle.std.proofs.lemmas.List.{take_all}
 use Rattle.sia_events.specs.Transactions.{Overlap}
-use Rattle.sia_parts.specs.declared.finding.Edge.{Edge}
-use Rattle.sia_parts.specs.Packing.{IsPacked, unpacked}
-use Rattle.sia_parts.specs.Chunks.{numbers_in}
+use Rattle.sia_parts.specs.Packing.{unpacked}
 use Rattle.sia_graph.specs.Links.{AreEnds}
-use Rattle.sia_graph.proofs.ChunkLists.{one_chunk_more, chunk_has}
+use Rattle.sia_graph.proofs.LinkLists.{ends_none, mapped_more, mapped_same}
 use Rattle.sia_graph.proofs.pivoting.vulnerable_numbers.ends_of_numbers.Goals as goal
+use Rattle.sia_graph.proofs.pivoting.vulnerable_numbers.ends_of_numbers.Goals.{then-is_vulnerable+in_ok-push, else-is_vulnerable}
 
-pub add_ends-requires-clause-packed : goal.add_ends-requires-clause-packed
-add_ends-requires-clause-packed c =
-    let keys = c.requires.packed.0 in
-    let P = IsPacked c.args.txns.now keys in
-    let chunks = c.chunks-chunks.result.now in
-    let is = c.deref.ensures.value ∙ ap (λ t. t.items) c.chunk-item.is in
-    let all = subst (All P) (sym c.chunks-chunks.ensures.numbers) c.requires.packed.1 in
-    (keys, subst (All P) (sym is) (chunk_has P chunks c.loop-chunk.chunk-index c.chunk-item.result c.loop-chunk-test.true all))
+pub loop-n-init : goal.loop-n-init
+loop-n-init c keys = subst (AreEnds (Overlap c.args.ix.now) []) (sym c.new-links.ensures.items) (ends_none (Overlap c.args.ix.now))
 
-pub loop-chunk-preserved : goal.loop-chunk-preserved
-loop-chunk-preserved c keys =
+pub loop-n-preserved : goal.loop-n-preserved
+loop-n-preserved c keys =
     let h = c.args.ix.now in
     let edge = unpacked c.args.txns.now keys in
-    let chunks = c.chunks-chunks.result.now in
-    let at = c.loop-chunk.chunk-index in
-    let first = numbers_in (take at chunks) in
-    let is = c.deref.ensures.value ∙ ap (λ t. t.items) c.chunk-item.is in
-    let more = ap (λ l. first ++ l) is ∙ sym (one_chunk_more chunks at c.chunk-item.result c.loop-chunk-test.true) in
-    subst (λ (es : List Edge). AreEnds (Overlap h) es c.add_ends.new.links.items) (sym (map-append edge first c.deref.result.now) ∙ ap (map edge) more)
-    (c.in_ok-add_ends.ensures keys (map edge first) (c.loop-chunk.invariant keys))
+    let numbers = c.args.numbers.now in
+    let links = c.loop-n.links.items in
+    let now = c.if-is_vulnerable.links.items in
+    elim c.if-is_vulnerable.branch [
+      | then-is_vulnerable+in_ok-push w ↦
+          mapped_more (Overlap h) edge numbers c.loop-n.n-index 0 c.loop-n-test.true links now (c.loop-n.invariant keys) (c.is_vulnerable.ensures.0 w.if-is_vulnerable.true)
+          (ap (λ v. v.items) w.links-is ∙ w.in_ok-push.ensures.items ∙ ap (λ l. links ++ l ∷ []) w.link_of.ensures)
+      | else-is_vulnerable w ↦
+          mapped_same (Overlap h) edge numbers c.loop-n.n-index 0 c.loop-n-test.true links now (c.loop-n.invariant keys)
+          (λ has. let told = c.is_vulnerable.ensures.1 has in let f = w.if-is_vulnerable.false in cc) (ap (λ v. v.items) w.links-is)
+    ]
 
 pub returns : goal.returns
 returns c keys =
-    let chunks = c.chunks-chunks.result.now in
-    let e = c.loop-chunk-test.false in
-    subst (λ (xs : List ℕ). AreEnds (Overlap c.args.ix.now) (map (unpacked c.args.txns.now keys) xs) c.loop-chunk.links.items)
-    (ap numbers_in (take_all c.loop-chunk.chunk-index chunks (omega arith)) ∙ c.chunks-chunks.ensures.numbers) (c.loop-chunk.invariant keys)
+    let numbers = c.args.numbers.now in
+    let e = c.loop-n-test.false in
+    subst (λ (xs : List ℕ). AreEnds (Overlap c.args.ix.now) (map (unpacked c.args.txns.now keys) xs) c.loop-n.links.items) (take_all c.loop-n.n-index numbers (omega arith)) (c.loop-n.invariant keys)
