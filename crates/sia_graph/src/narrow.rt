@@ -6,6 +6,7 @@ mod cycle;
 mod earlier;
 mod extremes;
 mod grouped;
+pub(crate) mod judging;
 mod least_edges;
 mod limits;
 mod nodes;
