@@ -1,7 +1,7 @@
 -- Narrow steps reach what the edges of a history reach.
 use Rattle.std.proofs.Common.{◌≡◌, ◌≢◌, ◌⊎◌, inl, inr, ℕ, zero, suc, ◌+◌, ◌-◌, ◌*◌, ◌^◌, ◌<◌, ◌≤◌, List, [], ◌∷◌, length, get_or, map, refl, ap, sym, subst, ◌∙◌, arith}
-use Rattle.std.specs.Prelude.{◌↔◌, Contains, ⊤}
-use Rattle.std.specs.List.Sorted.{IsStrictlyIncreasing}
+use Rattle.std.specs.Prelude.{◌↔◌, All, Contains, ⊤}
+use Rattle.std.specs.List.Sorted.{IsNonDecreasing, IsStrictlyIncreasing}
 use Rattle.std.proofs.Math.Nat.{mul_assoc, mul_comm, mul-le-mul_left, mul-le-mul_right, pow-succ'}
 use Rattle.std.proofs.lemmas.Bool.{cases_lt}
 use Rattle.std.proofs.lemmas.List.{get_or-map, get_or_default, length-map}
@@ -35,8 +35,9 @@ use Rattle.sia_parts.specs.Sights.{FromSome}
 use Rattle.sia_graph.specs.Blocks.{IsWayThrough, LeadsThrough}
 use Rattle.sia_graph.specs.Evidence.{IsEvidence}
 use Rattle.sia_graph.specs.KeyBlocks.{IsOver}
-use Rattle.sia_graph.specs.NarrowSteps.{AreFirsts, AreNarrowSteps, CanSearch, HasAbsenceSteps, IsAbsenceStep, IsHalfStep, IsLeafStep, IsMemberStep, IsNewest, IsNewestStep, IsNext, IsNextStep, IsSizeFor, edge_of_step, edges_of_steps, name_of, node_of, step_number, step_source, step_target}
+use Rattle.sia_graph.specs.NarrowSteps.{AreFirsts, AreNarrowSteps, CanSearch, FitsKeys, HasAbsenceSteps, IsAbsenceStep, IsHalfStep, IsLeafStep, IsMemberStep, IsNewest, IsNewestStep, IsNext, IsNextStep, IsSizeFor, edge_of_step, edges_of_steps, name_of, node_of, step_number, step_source, step_target}
 use Rattle.sia_graph.specs.Orders.{Leads}
+use Rattle.sia_graph.specs.Places.{AreSteps}
 use Rattle.sia_graph.specs.StandIns.{LeadsByName, StandForAll}
 use Rattle.sia_graph.proofs.AscendingIds.{ids_less, one_id}
 use Rattle.sia_graph.proofs.KeyBlocks.{doubled, some_power}
@@ -50,6 +51,9 @@ module _ (steps : List ℕ) where
   step_leads a b fits c =
       let n = step_number a b in
       (edge_of_step n, (c.0, (let l = c.1 in omega (arith, length-map steps edge_of_step)), get_or-map edge_of_step steps c.0 n (edge_of_step n) c.1 ∙ ap edge_of_step c.2), omega arith, omega arith)
+
+  pub step_ends : (n : ℕ) → Contains steps n → Leads (Contains (edges_of_steps steps)) (step_source n) (step_target n)
+  step_ends n c = (edge_of_step n, (c.0, (let l = c.1 in omega (arith, length-map steps edge_of_step)), get_or-map edge_of_step steps c.0 n (edge_of_step n) c.1 ∙ ap edge_of_step c.2), refl, refl)
 
   pub leads_step : (a b : ℕ) → Leads (Contains (edges_of_steps steps)) a b → (n : ℕ) × Contains steps n × (step_source n ≡ a) × (step_target n ≡ b)
   leads_step a b leads =
@@ -94,6 +98,18 @@ module _ (h : List Event) (txns keys : List ℕ) (looks : Looks) (is : IsEvidenc
   one_key_number : (i j k : ℕ) → IsKeyAt h i k → IsKeyAt h j k → i ≡ j
   one_key_number i j k a b = let x = key_at i k a in let y = key_at j k b in one_id keys keys_up i j x.0 y.0 (x.1 ∙ sym y.1)
 
+  pub keys_few : length keys ≤ 1048576
+  keys_few = elim (cases_lt 0 (length keys)) [
+    inl some ↦ let j = length keys - 1 in let f = few_keys h is.well_formed j (get_or keys j 0) (keys, is.keys_are, (omega arith), refl) in omega arith
+    | inr none ↦ omega arith
+    ]
+
+  pub txns_few : length txns ≤ 1048576
+  txns_few = elim (cases_lt 0 (length txns)) [
+    inl some ↦ let i = length txns - 1 in let f = few_committed h is.well_formed i (get_or txns i 0) (txns, is.txns_are, (omega arith), refl) in omega arith
+    | inr none ↦ omega arith
+    ]
+
   abbrev W : List Look
   W = looks.writers.items
 
@@ -131,6 +147,9 @@ module _ (h : List Event) (txns keys : List ℕ) (looks : Looks) (is : IsEvidenc
         one_number a.txn b.txn v.0 (subst (λ x. IsCommittedAt h a.txn x) same first.0.0) v.1.0;
   }
 
+  pub readers_few : All (λ a. a.txn < 1048576) R
+  readers_few i d l = let m = is.looks_are.seen (get_or R i d) (i, l, get_or_default R i (get_or R i d) d l) in few_committed h is.well_formed (get_or R i d).txn m.0 m.2.0.0
+
   module _ (size : ℕ) (sized : IsSizeFor size keys A) (steps : List ℕ) (narrow : AreNarrowSteps size W R A steps) where
     abbrev floor : ℕ
     floor = 2 * size
@@ -141,24 +160,22 @@ module _ (h : List Event) (txns keys : List ℕ) (looks : Looks) (is : IsEvidenc
     abbrev name : ℕ → ℕ
     name = name_of size txns
 
-    size_fits : size ≤ 1048576
-    size_fits = elim sized [
-      inl all ↦ elim (cases_lt 0 size) [
-          inl some ↦
-              let j = size - 1 in
-              let k = get_or keys j 0 in
-              let f = few_keys h is.well_formed j k (keys, is.keys_are, (omega arith), refl) in
-              omega arith
-          | inr none ↦ omega arith
-          ]
-      | inr none ↦ let z = none.0 in omega arith
-      ]
+    pub size_fits : size ≤ 1048576
+    size_fits = let f = keys_few in elim sized [ inl all ↦ omega arith | inr none ↦ let z = none.0 in omega arith ]
 
     few_txn : (i t : ℕ) → IsCommittedAt h i t → i < 1048576
     few_txn i t at = few_committed h is.well_formed i t at
 
     named : (i t : ℕ) → IsCommittedAt h i t → name (node_of size i) ≡ t
     named i t at = let e : node_of size i - 2 * size ≡ i = omega arith in ap (λ n. get_or txns n 0) e ∙ (txn_at i t at).1
+
+    pub absences_fit : All (FitsKeys size) A
+    absences_fit i d l some =
+        let s = get_or A i d in
+        let c : Contains A s = (i, l, get_or_default A i s d l) in
+        let m = is.looks_are.absent s c (s.to - 1) (omega arith) (omega arith) in
+        let k = (key_at (s.to - 1) m.1 m.3).0 in
+        ((elim sized [ inl all ↦ omega arith | inr none ↦ let z = none.1 in absurd (omega arith) ]), few_txn s.txn m.0 m.2)
 
     -- a step between two transactions is an edge
     abbrev IsEdgeStep : ℕ → Type 0
@@ -581,9 +598,6 @@ module _ (h : List Event) (txns keys : List ℕ) (looks : Looks) (is : IsEvidenc
       node_within : (a : ℕ) → Contains ids a → a < floor + length txns
       node_within a c = let l = c.1 in let e = at c.0 c.1 in let f = get_or_default ids c.0 0 a c.1 in let g = c.2 in omega arith
 
-      pub all_join_nodes : (a b : ℕ) → Step a b → Contains ids a × Contains ids b × (a ≢ b)
-      all_join_nodes a b leads = let w = joined a b leads in (is_node a w.0, is_node b w.1, w.2)
-
       pub stand : StandForAll h floor ids (edges_of_steps steps) name
       stand = record {
         blocks = record { joins = λ a b leads. let w = joined a b leads in (is_node a w.0, is_node b w.1); ascends = λ a b leads. ascending a b leads };
@@ -601,4 +615,15 @@ module _ (h : List Event) (txns keys : List ℕ) (looks : Looks) (is : IsEvidenc
               (is.txns_are.each t).0 (subst (λ z. Contains txns z) w.2 (w.0 - floor, inside, get_or_default txns (w.0 - floor) (get_or txns (w.0 - floor) 0) 0 inside))),
         );
         reach = reaches;
+      }
+
+      pub are_steps : IsStrictlyIncreasing ids → IsNonDecreasing steps → AreSteps ids steps
+      are_steps up rise = record {
+        ids_up = up;
+        are_places = at;
+        joins = λ k d l.
+            let n = get_or steps k d in
+            let w = joined (step_source n) (step_target n) (step_ends steps n (k, l, get_or_default steps k n d l)) in
+            (omega arith, omega arith, w.2);
+        rise = rise;
       }

@@ -4,6 +4,7 @@ mod absences;
 mod all_steps;
 mod firsts;
 mod grouped;
+mod ordering;
 mod steps;
 mod taking;
 mod versions;
