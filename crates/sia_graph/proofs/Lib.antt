@@ -55,4 +55,5 @@ pub mod NextVersions
 pub mod NarrowSteps
 pub mod AbsenceBlocks
 pub mod NarrowStands
+pub mod TakenNodes
 pub mod LookEdges
