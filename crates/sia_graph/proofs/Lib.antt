@@ -56,4 +56,5 @@ pub mod NarrowSteps
 pub mod AbsenceBlocks
 pub mod NarrowStands
 pub mod TakenNodes
+pub mod TakenMembers
 pub mod LookEdges

@@ -1,7 +1,7 @@
 //! The verdict of a history from narrow edges: few steps that lead wherever all its edges lead.
-pub(crate) mod blocks;
 mod absences;
 mod all_steps;
+pub(crate) mod blocks;
 mod firsts;
 mod grouped;
 mod ordering;

@@ -62,12 +62,7 @@ fn left_of(
 }
 
 /// Takes the nodes, where blocks are over so many keys.
-fn take_nodes(
-    alloc: Global,
-    size: u32,
-    txns: &[TxnId],
-    steps: &[u64],
-) -> Result<Taken, NoMemory>
+fn take_nodes(alloc: Global, size: u32, txns: &[TxnId], steps: &[u64]) -> Result<Taken, NoMemory>
     requires few { (size ≤ 1048576) × (length txns.now ≤ 1048576) }
     requires steps { AreSteps (node_list size txns.now) steps.now }
     ensures { IfOk result (AreTakenNodes size txns.now steps.now) }
