@@ -1,5 +1,5 @@
 //! The verdict of a history from narrow edges: few steps that lead wherever all its edges lead.
-mod absences;
+mod missed;
 mod all_steps;
 pub(crate) mod blocks;
 mod firsts;
