@@ -3,9 +3,9 @@ use Rattle.std.proofs.Common.{◌≡◌, ◌≢◌, ◌⊎◌, inl, inr, ℕ, ze
 use Rattle.std.specs.Prelude.{◌↔◌, AllPairs}
 use Rattle.std.proofs.Math.Seq.{take-append-add}
 use Rattle.std.proofs.lemmas.Bool.{cases_eq, cases_lt, eq-eqb, ne_eqb}
-use Rattle.std.proofs.lemmas.List.{get_or-append-add, get_or-set_same, get_or-set_other, length-append, length-take}
+use Rattle.std.proofs.lemmas.List.{get_or_default, get_or-set_same, get_or-set_other, length-take}
 use Rattle.std.proofs.lemmas.List.Sums.{count_by_more_yes, count_by_more_no, count_by-le-length, sum_by-append, sum_by-cons, sum_by-take-le}
-use Rattle.sia_parts.specs.Packing.{target_number}
+use Rattle.sia_graph.specs.NarrowSteps.{step_target}
 use Rattle.sia_graph.specs.Places.{aims_at, arriving_at, IsFreedAt}
 
 -- the count of the first numbers is at most how many they are, and at most that of all
@@ -15,72 +15,27 @@ arriving_few numbers k i = let a = count_by-le-length (aims_at i) (take k number
 arriving_part : (numbers : List ℕ) (k i : ℕ) → arriving_at (take k numbers) i ≤ arriving_at numbers i
 arriving_part numbers k i = sum_by-take-le (λ n. cond (aims_at i n) 1 0) numbers k
 
--- a number among others that ascend is no less than how many stand before it
-as_great : (numbers : List ℕ) → AllPairs (λ m n. m < n) numbers → (k d : ℕ) → k < length numbers → get_or numbers 0 d + k ≤ get_or numbers k d
-as_great numbers up zero d l = omega arith
-as_great numbers up (suc k) d l = let a = as_great numbers up k d (omega arith) in let b = up k (suc k) d (omega arith) l in omega arith
-
--- the number 0 leads to no place but 0
-zero_apart : (numbers : List ℕ) (k d i : ℕ) → get_or numbers 0 d ≡ 0 → 0 < i → arriving_at (take k numbers) i ≤ k - 1
-zero_apart numbers zero d i none some = omega arith
-zero_apart [] (suc k) d i none some = omega arith
-zero_apart (n ∷ numbers) (suc k) d i none some =
-    let other : aims_at i n ≡ false = ne_eqb (target_number n) i (λ e. absurd (let a = ap target_number none in omega arith)) in
-    let a = sum_by-cons (λ m. cond (aims_at i m) 1 0) n (take k numbers) in
-    let b : cond {A = ℕ} (aims_at i n) 1 0 ≡ 0 = ap (λ t. cond {A = ℕ} t 1 0) other in
-    let c = arriving_few numbers k i in
-    omega arith
-
--- so the count of the numbers before one that leads to the same place, of 64 bits, leaves room for it
-pub room_left : (before numbers : List ℕ) → AllPairs (λ m n. m < n) (before ++ numbers) → (k d : ℕ) → k < length numbers → (i : ℕ) → target_number (get_or numbers k d) ≡ i → get_or numbers k d < 18446744073709551616
-    → arriving_at before i + arriving_at (take k numbers) i + 1 < 18446744073709551616
-room_left before numbers up k d within i at fits =
-    let all = before ++ numbers in
-    let p = length before + k in
-    let n = get_or numbers k d in
-    let first = get_or all 0 d in
-    let long = length-append before numbers in
-    let a = get_or-append-add before numbers k d in
-    let b = as_great all up p d (omega arith) in
-    let c = arriving_few all p i in
-    let e : arriving_at (take p all) i ≡ arriving_at before i + arriving_at (take k numbers) i =
-    ap (λ l. arriving_at l i) (take-append-add before numbers k) ∙ sum_by-append (λ m. cond (aims_at i m) 1 0) before (take k numbers) in
-    elim (cases_lt (n + 1) 18446744073709551616) [
-      | inl less ↦ omega arith
-      | inr last ↦
-          let greatest : n ≡ 18446744073709551615 = omega arith in
-          let f : 1048575 ≡ i = sym (ap target_number greatest) ∙ at in
-          elim (cases_lt 0 first) [
-            | inl some ↦ omega arith
-            | inr none ↦ let g = zero_apart all p d i (omega arith) (omega arith) in omega arith
-          ]
-    ]
-
 -- one number more, which leads to the place j
-module _ (numbers : List ℕ) (k d : ℕ) (within : k < length numbers) (j : ℕ) (at : target_number (get_or numbers k d) ≡ j) where
+module _ (numbers : List ℕ) (k d : ℕ) (within : k < length numbers) (j : ℕ) (at : step_target (get_or numbers k d) ≡ j) where
   one_more : arriving_at (take (k + 1) numbers) j ≡ arriving_at (take k numbers) j + 1
-  one_more = count_by_more_yes (aims_at j) numbers k d within (eq-eqb (target_number (get_or numbers k d)) j at)
+  one_more = count_by_more_yes (aims_at j) numbers k d within (eq-eqb (step_target (get_or numbers k d)) j at)
 
   none_more : (i : ℕ) → i ≢ j → arriving_at (take (k + 1) numbers) i ≡ arriving_at (take k numbers) i
-  none_more i other = count_by_more_no (aims_at i) numbers k d within (ne_eqb (target_number (get_or numbers k d)) i (λ e. other (sym e ∙ at)))
+  none_more i other = count_by_more_no (aims_at i) numbers k d within (ne_eqb (step_target (get_or numbers k d)) i (λ e. other (sym e ∙ at)))
 
   module _ (counts : List ℕ) (below : j < length counts) where
-    -- led back
-    pub led_more : (source : ℕ) (was : List ℕ)
-        → ((i : ℕ) → i < length counts → (0 < arriving_at (take k numbers) i → get_or counts i 0 ≡ source) × (arriving_at (take k numbers) i ≡ 0 → get_or counts i 0 ≡ get_or was i 0))
-        → (i : ℕ) → i < length counts
-        → (0 < arriving_at (take (k + 1) numbers) i → get_or (set counts j source) i 0 ≡ source) × (arriving_at (take (k + 1) numbers) i ≡ 0 → get_or (set counts j source) i 0 ≡ get_or was i 0)
-    led_more source was before i l = elim (cases_eq i j) [
+    -- counted
+    pub counted_more : (v : ℕ) → v ≡ get_or counts j v → ((i : ℕ) → i < length counts → get_or counts i 0 ≡ arriving_at (take k numbers) i)
+        → (i : ℕ) → i < length counts → get_or (set counts j (v + 1)) i 0 ≡ arriving_at (take (k + 1) numbers) i
+    counted_more v is before i l = elim (cases_eq i j) [
       | inl same ↦
-          let a = get_or-set_same counts j source 0 below in
+          let a = get_or-set_same counts j (v + 1) 0 below in
           let b = one_more in
-          let c = ap (λ n. arriving_at (take (k + 1) numbers) n) same in
-          (λ some. ap (λ n. get_or (set counts j source) n 0) same ∙ a, λ none. absurd (omega arith))
-      | inr other ↦
-          let a = get_or-set_other counts j i source 0 other in
-          let b = none_more i other in
-          let w = before i l in
-          (λ some. a ∙ w.0 (omega arith), λ none. a ∙ w.1 (omega arith))
+          let c = before j below in
+          let d = get_or_default counts j v 0 below in
+          let e : get_or (set counts j (v + 1)) j 0 ≡ arriving_at (take (k + 1) numbers) j = omega arith in
+          subst (λ m. get_or (set counts j (v + 1)) m 0 ≡ arriving_at (take (k + 1) numbers) m) (sym same) e
+      | inr other ↦ get_or-set_other counts j i (v + 1) 0 other ∙ before i l ∙ sym (none_more i other)
     ]
 
     module _ (old : List ℕ) (kept : (i : ℕ) → i < length counts → get_or counts i 0 + arriving_at (take k numbers) i ≡ get_or old i 0) where

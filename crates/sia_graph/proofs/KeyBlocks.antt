@@ -9,7 +9,7 @@ use Rattle.sia_graph.specs.KeyBlocks.{IsOver, IsUnderSome}
 pub doubled : (e : ℕ) → 2 ^ (e + 1) ≡ 2 * 2 ^ e
 doubled e = let s : e + 1 ≡ suc e = omega arith in ap (λ n. 2 ^ n) s ∙ pow-succ' 2 e
 
-some_power : (e : ℕ) → 0 < 2 ^ e
+pub some_power : (e : ℕ) → 0 < 2 ^ e
 some_power zero = omega arith
 some_power (suc e) = let h = some_power e in let p = pow-succ' 2 e in omega arith
 

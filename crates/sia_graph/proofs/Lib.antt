@@ -66,3 +66,9 @@ pub mod SourceRanks
 pub mod EvidenceNumbers
 pub mod LimitRanks
 pub mod LooksPass
+pub mod NextVersions
+pub mod NarrowSteps
+pub mod AbsenceBlocks
+pub mod NarrowStands
+pub mod TakenNodes
+pub mod TakenMembers

@@ -1,40 +1,27 @@
--- Numbers of edges by the places of their sources and targets, and what that says of the edges.
+-- Steps by their ends, and what that says of the edges that they are.
 use Rattle.std.proofs.Common.{◌≡◌, inl, inr, ℕ, suc, ◌+◌, ◌/◌, ◌<◌, ◌≤◌, cond, List, [], ◌∷◌, ◌++◌, length, get_or, slice_get, map, Some, eqb, refl, ap, sym, ◌∙◌, subst, arith}
-use Rattle.std.specs.Prelude.{All, AllPairs, Contains}
-use Rattle.std.specs.List.Sorted.{IsNonDecreasingBy}
+use Rattle.std.specs.Prelude.{All, Contains}
+use Rattle.std.specs.List.Sorted.{IsNonDecreasing, IsNonDecreasingBy}
 use Rattle.std.proofs.Math.Nat.{div-mul-le_self}
-use Rattle.std.proofs.lemmas.Bool.{cases_lt, cases_eq, eq-eqb, ne_eqb}
 use Rattle.std.proofs.lemmas.List.{get_or-map, get_or_default, length-map, map-append}
 use Rattle.std.proofs.lemmas.List.Elements.{All-map}
-use Rattle.std.proofs.lemmas.List.Kept.{AllPairs-from_increasing}
 use Rattle.std.proofs.lemmas.List.Sums.{sum_by-cons}
 use Rattle.std.proofs.lemmas.Nat.{le-div}
 use Rattle.std.proofs.lemmas.Option.{slice_get-get_or, get_or_from_slice_get, slice_get_within}
-use Rattle.sia_events.specs.Lists.{Precedes}
 use Rattle.sia_parts.specs.declared.finding.Edge.{Edge}
-use Rattle.sia_parts.specs.Entries.{edge_rank}
-use Rattle.sia_parts.specs.Packing.{IsPacked, unpacked, source_number, target_number}
-use Rattle.sia_parts.proofs.PackedEdges.{unpacked_before}
 use Rattle.sia_graph.specs.Fronts.{AreEdgesFrom, AreWaiting, arriving, leads_to}
-use Rattle.sia_graph.specs.Places.{AreArriving, AreNumbered, AreNumbersFrom, aims_at, arriving_at, edges_at}
-use Rattle.sia_graph.proofs.AscendingIds.{ids_less, one_id}
+use Rattle.sia_graph.specs.NarrowSteps.{edge_of_step, edges_of_steps, step_source, step_target}
+use Rattle.sia_graph.specs.Places.{AreArriving, AreSteps, AreStepsFrom, aims_at, arriving_at}
 use Rattle.sia_graph.proofs.OneTaken.{Joins}
 use Rattle.sia_graph.proofs.Positions.{get_left, get_right}
 
--- a greater number has no lesser quotient
-pub div_rises : (k n m : ℕ) → 0 < k → n ≤ m → n / k ≤ m / k
-div_rises k n m some l = le-div (n / k) m k some (let a = div-mul-le_self n k in omega arith)
+-- a greater step has no lesser source
+pub sources_rise : (steps : List ℕ) → IsNonDecreasing steps → IsNonDecreasingBy step_source steps
+sources_rise steps up i j d l b =
+    let n = get_or steps i d in
+    le-div (n / 4294967296) (get_or steps j d) 4294967296 (omega arith) (let a = div-mul-le_self n 4294967296 in let c = up i j d l b in omega arith)
 
-pub source_rises : (n m : ℕ) → n ≤ m → source_number n ≤ source_number m
-source_rises n m l = div_rises 1048576 (n / 1048576 / 4) (m / 1048576 / 4) (omega arith) (div_rises 4 (n / 1048576) (m / 1048576) (omega arith) (div_rises 1048576 n m (omega arith) l))
-
-pub sources_rise : (numbers : List ℕ) → AllPairs (λ m n. m < n) numbers → IsNonDecreasingBy source_number numbers
-sources_rise numbers up i j d l b = elim (cases_lt i j) [
-  | inl less ↦ source_rises (get_or numbers i d) (get_or numbers j d) (let a = up i j d less b in omega arith)
-  | inr more ↦ let e : i ≡ j = omega arith in let f = ap (λ k. source_number (get_or numbers k d)) e in omega arith
-]
-
--- what all have, all have of a chunk and of what follows it
+-- what all have, all have of a stretch and of what follows it
 pub part_all : (P : ℕ → Type 0) (xs before group after : List ℕ) → xs ≡ before ++ (group ++ after) → All P xs → All P group × All P after
 part_all P xs before group after is all = (
   (λ k d l. has k (get_or group k d) (get_left group after k (get_or group k d) (slice_get-get_or group k d l))),
@@ -46,65 +33,50 @@ part_all P xs before group after is all = (
         let there : slice_get xs (length before + k) ≡ Some x = ap (λ ys. slice_get ys (length before + k)) is ∙ get_right before (group ++ after) k x at in
         subst P (get_or_from_slice_get xs (length before + k) x 0 there) (all (length before + k) 0 (slice_get_within xs (length before + k) x there))
 
-module _ (ids keys numbers : List ℕ) (are : AreNumbered ids keys numbers) where
+module _ (ids steps : List ℕ) (are : AreSteps ids steps) where
   abbrev edges : List Edge
-  edges = edges_at ids keys numbers
+  edges = edges_of_steps steps
 
-  edge_at : (k : ℕ) (d : Edge) → k < length edges → (k < length numbers) × (get_or edges k d ≡ unpacked ids keys (get_or numbers k 0))
-  edge_at k d l =
-      let b : k < length numbers = omega (arith, length-map numbers (unpacked ids keys)) in
-      (b, get_or-map (unpacked ids keys) numbers k 0 d b)
+  is_place : (i : ℕ) → i < length ids → Contains ids i
+  is_place i l = (i, l, get_or_default ids i i 0 l ∙ are.are_places i l)
 
   pub all_join : Joins ids edges
   all_join k d l =
-      let at = edge_at k d l in
-      let n = get_or numbers k 0 in
-      let is = are.packed k 0 at.0 in (
-        subst (λ (e : Edge). Contains ids e.src) (sym at.1) (source_number n, is.source, get_or_default ids (source_number n) (get_or ids (source_number n) 0) 0 is.source),
-        subst (λ (e : Edge). Contains ids e.dst) (sym at.1) (target_number n, is.target, get_or_default ids (target_number n) (get_or ids (target_number n) 0) 0 is.target),
-        are.joins k d l,
+      let b : k < length steps = omega (arith, length-map steps edge_of_step) in
+      let at = get_or-map edge_of_step steps k 0 d b in
+      let is = are.joins k 0 b in (
+        subst (λ (e : Edge). Contains ids e.src) (sym at) (is_place (step_source (get_or steps k 0)) is.0),
+        subst (λ (e : Edge). Contains ids e.dst) (sym at) (is_place (step_target (get_or steps k 0)) is.1),
+        λ same. is.2 (sym (ap (λ (e : Edge). e.src) at) ∙ same ∙ ap (λ (e : Edge). e.dst) at),
       )
 
-  pub all_sorted : AllPairs (λ d e. Precedes (edge_rank d) (edge_rank e)) edges
-  all_sorted i j d less below =
-      let second = edge_at j d below in
-      let first = edge_at i d (omega arith) in
-      let before = unpacked_before ids keys (AllPairs-from_increasing ids are.ids_up) (AllPairs-from_increasing keys are.keys_up) (get_or numbers i 0) (get_or numbers j 0)
-      (are.packed i 0 first.0) (are.packed j 0 second.0) (are.ascending i j 0 less second.0) in
-      subst (λ e. Precedes (edge_rank e) (edge_rank (get_or edges j d))) (sym first.1) (subst (λ e. Precedes (edge_rank (unpacked ids keys (get_or numbers i 0))) (edge_rank e)) (sym second.1) before)
-
-  -- the numbers from a place stand for the edges from its transaction
-  pub edges_from_place : (place : ℕ) (group : List ℕ) → place < length ids → AreNumbersFrom numbers place group → AreEdgesFrom edges (get_or ids place 0) (edges_at ids keys group)
+  -- the steps from a place are the edges from it
+  pub edges_from_place : (place : ℕ) (group : List ℕ) → place < length ids → AreStepsFrom steps place group → AreEdgesFrom edges (get_or ids place 0) (edges_of_steps group)
   edges_from_place place group below from =
-      let f = unpacked ids keys in
+      let f = edge_of_step in
       let t = get_or ids place 0 in
-      let after_packed = (part_all (IsPacked ids keys) numbers from.0 group from.1 from.2 are.packed).1 in (
+      let same = are.are_places place below in (
         map f from.0,
         map f from.1,
         ap (map f) from.2 ∙ map-append f from.0 (group ++ from.1) ∙ ap (λ es. map f from.0 ++ es) (map-append f group from.1),
-        All-map (λ e. e.src < t) f from.0 (λ k d l. ids_less ids are.ids_up (source_number (get_or from.0 k d)) place (from.3 k d l) below),
-        All-map (λ e. e.src ≡ t) f group (λ k d l. ap (λ i. get_or ids i 0) (from.4 k d l)),
-        All-map (λ e. t < e.src) f from.1 (λ k d l. ids_less ids are.ids_up place (source_number (get_or from.1 k d)) (from.5 k d l) (after_packed k d l).source),
+        All-map (λ e. e.src < t) f from.0 (λ k d l. let a = from.3 k d l in omega arith),
+        All-map (λ e. e.src ≡ t) f group (λ k d l. let a = from.4 k d l in omega arith),
+        All-map (λ e. t < e.src) f from.1 (λ k d l. let a = from.5 k d l in omega arith),
       )
 
-  pub group_packed : (place : ℕ) (group : List ℕ) → AreNumbersFrom numbers place group → All (IsPacked ids keys) group
-  group_packed place group from = (part_all (IsPacked ids keys) numbers from.0 group from.1 from.2 are.packed).0
+  pub group_joins : (place : ℕ) (group : List ℕ) → AreStepsFrom steps place group → All (λ n. step_target n < length ids) group
+  group_joins place group from = (part_all (λ n. step_target n < length ids) steps from.0 group from.1 from.2 (λ k d l. (are.joins k d l).1)).0
 
-  same_test : (a i : ℕ) → a < length ids → i < length ids → eqb (get_or ids a 0) (get_or ids i 0) ≡ eqb a i
-  same_test a i l m = elim (cases_eq a i) [
-    | inl e ↦ eq-eqb (get_or ids a 0) (get_or ids i 0) (ap (λ k. get_or ids k 0) e) ∙ sym (eq-eqb a i e)
-    | inr n ↦ ne_eqb (get_or ids a 0) (get_or ids i 0) (λ e. n (one_id ids are.ids_up a i l m e)) ∙ sym (ne_eqb a i n)
-  ]
-
-  -- as many edges lead to a transaction as numbers to its place
-  pub same_arriving : (i : ℕ) → i < length ids → (group : List ℕ) → All (IsPacked ids keys) group → arriving (edges_at ids keys group) (get_or ids i 0) ≡ arriving_at group i
-  same_arriving i l [] packed = refl
-  same_arriving i l (n ∷ group) packed =
+  -- as many edges lead to an id as steps to its place
+  pub same_arriving : (i : ℕ) → i < length ids → (group : List ℕ) → arriving (edges_of_steps group) (get_or ids i 0) ≡ arriving_at group i
+  same_arriving i l [] = refl
+  same_arriving i l (n ∷ group) =
       let t = get_or ids i 0 in
-      sum_by-cons (λ e. cond (leads_to t e) 1 0) (unpacked ids keys n) (edges_at ids keys group)
-      ∙ (λ j. cond (same_test (target_number n) i (packed 0 n (omega arith)).target l j) 1 0 + same_arriving i l group (λ k d m. packed (suc k) d (omega arith)) j)
+      let same = are.are_places i l in
+      sum_by-cons (λ e. cond (leads_to t e) 1 0) (edge_of_step n) (edges_of_steps group)
+      ∙ (λ j. cond (eqb (step_target n) (same j)) 1 0 + same_arriving i l group j)
       ∙ sym (sum_by-cons (λ m. cond (aims_at i m) 1 0) n group)
 
-  -- as many edges wait at first as numbers lead there
-  pub counted_first : (counts : List ℕ) → AreArriving (length ids) numbers counts → AreWaiting [] ids edges counts
-  counted_first counts made = (made.0, λ i l. made.1 i l ∙ sym (same_arriving i l numbers are.packed))
+  -- as many edges wait at first as steps lead there
+  pub counted_first : (counts : List ℕ) → AreArriving (length ids) steps counts → AreWaiting [] ids edges counts
+  counted_first counts made = (made.0, λ i l. made.1 i l ∙ sym (same_arriving i l steps))

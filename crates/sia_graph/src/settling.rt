@@ -6,9 +6,7 @@ ghost use Rattle.sia_parts.specs.Entries.{edge_rank};
 ghost use Rattle.sia_graph.specs.Verdicts.{IsVerdict};
 
 pub(crate) mod adjacency;
-pub(crate) mod numbered;
 pub(crate) mod taking;
-pub(crate) mod taking_numbers;
 pub(crate) mod txns;
 pub(crate) mod walking;
 

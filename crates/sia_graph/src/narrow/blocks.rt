@@ -22,7 +22,7 @@ pub(crate) fn put_blocks(
     to: u32,
     blocks: &mut Vec<u32>,
 ) -> Result<(), NoMemory>
-    requires within { (from ≤ to) × (to ≤ size) }
+    requires within { (from ≤ size) × (to ≤ size) }
     requires few { size ≤ 1000000000 }
     ensures over { OnOk result ((j : ℕ) → j < size → IsUnderSome size blocks.new.items j ↔ (IsUnderSome size blocks.old.items j ⊎ ((from ≤ j) × (j < to)))) }
     ensures within { OnOk result ((b : ℕ) → Contains blocks.new.items b → Contains blocks.old.items b ⊎ ((0 < b) × (b < 2 * size))) }

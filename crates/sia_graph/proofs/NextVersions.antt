@@ -1,0 +1,80 @@
+-- Which writer of a key is the first after a place, and which the last up to it, of writers that stand by key and commit.
+use Rattle.std.proofs.Common.{◌≡◌, ◌≢◌, inl, inr, ℕ, ◌+◌, ◌-◌, ◌*◌, ◌<◌, ◌≤◌, List, Option, Some, None, length, get_or, ap, sym, ◌∙◌, arith}
+use Rattle.std.specs.Prelude.{All, Contains, MatchOption}
+use Rattle.std.specs.List.{AllWithin}
+use Rattle.std.proofs.lemmas.Bool.{cases_lt}
+use Rattle.std.proofs.lemmas.List.{get_or_default}
+use Rattle.sia_parts.specs.declared.looks.Look.{Look}
+use Rattle.sia_parts.specs.Looks.{RiseByRank, look_rank}
+use Rattle.sia_graph.specs.NarrowSteps.{IsNewest, IsNext}
+
+-- what an option tells, said otherwise
+pub match_both : {A : Type 0} (P R : Type 0) (Q S : A → Type 0) (o : Option A) → (P → R) → ((a : A) → Q a → S a) → MatchOption o P Q → MatchOption o R S
+match_both P R Q S None f g m = f m
+match_both P R Q S (Some a) f g m = g a m
+
+module _ (writers : List Look) (rise : RiseByRank writers) (small : All (λ a. a.high < 4294967296) writers) (key place : ℕ) (fits : place < 4294967296) (at : ℕ)
+    (before : AllWithin (λ a. look_rank a ≤ key * 4294967296 + place) writers 0 at) (after : AllWithin (λ a. key * 4294967296 + place < look_rank a) writers at (length writers)) where
+  stands_before : (a : Look) (c : Contains writers a) → c.0 < at → look_rank a ≤ key * 4294967296 + place
+  stands_before a c l = let r = before c.0 a (omega arith) l in let e = ap look_rank c.2 in omega arith
+
+  stands_after : (a : Look) (c : Contains writers a) → at ≤ c.0 → key * 4294967296 + place < look_rank a
+  stands_after a c l = let r = after c.0 a l c.1 in let e = ap look_rank c.2 in omega arith
+
+  is_small : (a : Look) → Contains writers a → a.high < 4294967296
+  is_small a c = let r = small c.0 a c.1 in let e = ap (λ (x : Look). x.high) c.2 in omega arith
+
+  rises : (a b : Look) (c : Contains writers a) (d : Contains writers b) → c.0 ≤ d.0 → look_rank a ≤ look_rank b
+  rises a b c d l =
+      let r = rise c.0 d.0 b l d.1 in
+      let e = ap look_rank (get_or_default writers c.0 b a c.1 ∙ c.2) in
+      let f = ap look_rank d.2 in
+      omega arith
+
+  -- where none stands after, or what does is of another key
+  pub none_next : length writers ≤ at → (a : Look) → Contains writers a → a.key ≡ key → a.high ≤ place
+  none_next all a c same = let r = stands_before a c (let b = c.1 in omega arith) in omega arith
+
+  pub none_next_of : (x : Look) (there : Contains writers x) → there.0 ≡ at → x.key ≢ key → (a : Look) → Contains writers a → a.key ≡ key → a.high ≤ place
+  none_next_of x there is other a c same = elim (cases_lt c.0 at) [
+    | inl l ↦ let r = stands_before a c l in omega arith
+    | inr l ↦
+        let r = rises x a there c (omega arith) in
+        let s = stands_after x there (omega arith) in
+        let f = is_small a c in
+        let g = is_small x there in
+        absurd (other (omega arith))
+  ]
+
+  pub is_next : (x : Look) (there : Contains writers x) → there.0 ≡ at → x.key ≡ key → IsNext writers key place x
+  is_next x there is same = (
+    there,
+    same,
+    (let s = stands_after x there (omega arith) in omega arith),
+    λ b c other later. elim (cases_lt c.0 at) [
+      | inl l ↦ let r = stands_before b c l in absurd (omega arith)
+      | inr l ↦ let r = rises x b there c (omega arith) in omega arith
+    ],
+  )
+
+  pub none_newest_of : (x : Look) (there : Contains writers x) → there.0 + 1 ≡ at → x.key ≢ key → (a : Look) → Contains writers a → a.key ≡ key → place < a.high
+  none_newest_of x there is other a c same = elim (cases_lt c.0 at) [
+    | inl l ↦
+        let r = rises a x c there (omega arith) in
+        let s = stands_before x there (omega arith) in
+        let f = is_small a c in
+        let g = is_small x there in
+        absurd (other (omega arith))
+    | inr l ↦ let r = stands_after a c l in omega arith
+  ]
+
+  pub is_newest : (x : Look) (there : Contains writers x) → there.0 + 1 ≡ at → x.key ≡ key → IsNewest writers key place x
+  is_newest x there is same = (
+    there,
+    same,
+    (let s = stands_before x there (omega arith) in omega arith),
+    λ b c other earlier. elim (cases_lt c.0 at) [
+      | inl l ↦ let r = rises b x c there (omega arith) in omega arith
+      | inr l ↦ let r = stands_after b c l in absurd (omega arith)
+    ],
+  )

@@ -1,0 +1,134 @@
+//! Steps between committed transactions, and through blocks of keys, that lead wherever the edges of a history lead.
+ghost use Rattle.std.specs.Prelude.{◌≡◌, ◌≢◌, ◌⊎◌, ℕ, ◌+◌, ◌*◌, ◌<◌, ◌≤◌, All, OnOk};
+ghost use Rattle.sia_parts.specs.Sights.{Adds, FromSome};
+ghost use Rattle.sia_graph.specs.NarrowSteps.{CanSearch, IsHalfStep, IsLeafStep, IsNewestStep, IsNextStep, node_of, step_number, step_source, step_target};
+
+use crate::narrow::versions::{newest_at, next_after};
+use sia_events::NoMemory;
+use sia_parts::Look;
+
+/// A step from one node to another as a single number.
+pub(crate) fn step(source: u32, target: u32) -> u64
+    ensures { result ≡ step_number source target }
+{
+    u64::from(source) * 4294967296 + u64::from(target)
+}
+
+/// The node that a step leads to.
+pub(crate) fn target_of(step: u64) -> u32
+    ensures { result ≡ step_target step }
+{
+    (step % 4294967296) as u32
+}
+
+/// The node that a step leads from.
+pub(crate) fn source_of(step: u64) -> u32
+    ensures { result ≡ step_source step }
+{
+    (step / 4294967296) as u32
+}
+
+/// The node of a committed transaction, where blocks are over so many keys.
+pub(crate) fn node(size: u32, txn: u32) -> u32
+    requires few { (size ≤ 1048576) × (txn < 1048576) }
+    ensures { result ≡ node_of size txn }
+{
+    2 * size + txn
+}
+
+/// Adds the step from one transaction to another, where they differ.
+fn put_between(size: u32, source: u32, target: u32, steps: &mut Vec<u64>) -> Result<(), NoMemory>
+    requires few { (size ≤ 1048576) × (source < 1048576) × (target < 1048576) }
+    ensures { OnOk result (Adds (λ n. (source ≢ target) × (n ≡ step_number (node_of size source) (node_of size target))) steps.old.items steps.new.items) }
+{
+    if source != target {
+        steps.push(step(node(size, source), node(size, target)))?;
+    }
+    Ok(())
+}
+
+/// Adds the step from who made or saw a version to the next version.
+fn put_next(size: u32, writers: &[Look], look: Look, steps: &mut Vec<u64>) -> Result<(), NoMemory>
+    requires writers { CanSearch writers.now }
+    requires few { (size ≤ 1048576) × (look.txn < 1048576) }
+    ensures { OnOk result (Adds (IsNextStep size writers.now look) steps.old.items steps.new.items) }
+{
+    match next_after(writers, look.key, look.low) {
+        Some(a) => put_between(size, look.txn, a.txn, steps),
+        None => Ok(()),
+    }
+}
+
+/// Adds the steps from who made or saw versions to the next ones.
+pub(crate) fn put_next_steps(
+    size: u32,
+    writers: &[Look],
+    looks: &[Look],
+    steps: &mut Vec<u64>,
+) -> Result<(), NoMemory>
+    requires writers { CanSearch writers.now }
+    requires few { (size ≤ 1048576) × All (λ a. a.txn < 1048576) looks.now }
+    ensures { OnOk result (Adds (FromSome (IsNextStep size writers.now) looks.now) steps.old.items steps.new.items) }
+{
+    for look in looks {
+        put_next(size, writers, *look, steps)?;
+    }
+    Ok(())
+}
+
+/// Adds the step to who saw a version from who made it, or the one before.
+fn put_newest(size: u32, writers: &[Look], look: Look, steps: &mut Vec<u64>) -> Result<(), NoMemory>
+    requires writers { CanSearch writers.now }
+    requires few { (size ≤ 1048576) × (look.txn < 1048576) }
+    ensures { OnOk result (Adds (IsNewestStep size writers.now look) steps.old.items steps.new.items) }
+{
+    match newest_at(writers, look.key, look.high) {
+        Some(a) => put_between(size, a.txn, look.txn, steps),
+        None => Ok(()),
+    }
+}
+
+/// Adds the steps to who saw versions from who made them.
+pub(crate) fn put_newest_steps(
+    size: u32,
+    writers: &[Look],
+    looks: &[Look],
+    steps: &mut Vec<u64>,
+) -> Result<(), NoMemory>
+    requires writers { CanSearch writers.now }
+    requires few { (size ≤ 1048576) × All (λ a. a.txn < 1048576) looks.now }
+    ensures { OnOk result (Adds (FromSome (IsNewestStep size writers.now) looks.now) steps.old.items steps.new.items) }
+{
+    for look in looks {
+        put_newest(size, writers, *look, steps)?;
+    }
+    Ok(())
+}
+
+/// Adds the steps from each block to its halves.
+pub(crate) fn put_half_steps(size: u32, steps: &mut Vec<u64>) -> Result<(), NoMemory>
+    requires few { size ≤ 1048576 }
+    ensures { OnOk result (Adds (IsHalfStep size) steps.old.items steps.new.items) }
+{
+    for h in 1..size {
+        steps.push(step(h, 2 * h))?;
+        steps.push(step(h, 2 * h + 1))?;
+    }
+    Ok(())
+}
+
+/// Adds the steps from the keys' leaves to who made the first versions.
+pub(crate) fn put_leaf_steps(
+    size: u32,
+    firsts: &[u64],
+    steps: &mut Vec<u64>,
+) -> Result<(), NoMemory>
+    requires few { (size ≤ 1048576) × All (λ f. (step_source f < 1048576) × (step_target f < 1048576)) firsts.now }
+    ensures { OnOk result (Adds (FromSome (IsLeafStep size) firsts.now) steps.old.items steps.new.items) }
+{
+    for first in firsts {
+        let leaf = size + target_of(*first);
+        steps.push(step(leaf, node(size, source_of(*first))))?;
+    }
+    Ok(())
+}
