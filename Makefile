@@ -2,15 +2,16 @@
 #: make help                   lists the targets, as here
 #: make run HISTORY=FILE       audits a history (without HISTORY examples/write_skew.history) and says what its status means
 #: make run BRIEF=1 CHECK=si   leaves out edges and pivots, and the status tells of another level: serializable, ssi or si
-#: make                        proves and builds the program, where there is none or a source is newer
+#: make                        proves and builds the program, where there is none or a source is newer than it
 #: make build                  proves and builds the program in any case; the kit knows what it has proved already
 #: make test                   proves what isn't proved yet, runs the tests, and the program on examples and random histories
 #: make test FULL=1            the whole gate: proves all from nothing, tries the wrong edits, and then does the same
 #: make test SERVERS=1         also tests the recorder with PostgreSQL and MariaDB, where they are installed
-#: make install PREFIX=/usr    installs PREFIX/bin/si_audit, PREFIX/bin/si-history and their man pages (DESTDIR comes before PREFIX)
+#: make install PREFIX=/usr    installs si_audit, si-history and their man pages in PREFIX/bin and PREFIX/share, under DESTDIR
 #: make uninstall PREFIX=/usr  removes what make install put there, and nothing else
-#: make release                keeps the program that was proved and built last in release/, for make run and make install
-#: make bench                  times the program on generated histories
+#: make release                proves, builds and keeps the program in release/, for make run, install, bench and databases
+#: make bench                  times the program on generated histories, and tells the change from the figures that were kept
+#: make bench KEEP=1           does the same, and keeps its figures in tools/bench_figures.txt
 #: make databases RUNS=20      records and audits PostgreSQL and MariaDB (sh tools/install_databases.sh installs what it needs)
 #: make clean                  removes what was built and checked
 
@@ -18,11 +19,12 @@ HISTORY = examples/write_skew.history
 BRIEF ?=
 CHECK ?= serializable
 FULL ?=
-PREFIX = /usr/local
-DESTDIR =
+KEEP ?=
+PREFIX ?= /usr/local
+DESTDIR ?=
 RUNS = 20
 
-export HISTORY BRIEF CHECK FULL PREFIX DESTDIR
+export HISTORY BRIEF CHECK FULL KEEP PREFIX DESTDIR
 
 .PHONY: all help run build test install uninstall release bench databases clean
 

@@ -18,9 +18,18 @@ elif [ ! -r "$1" ]; then
     fail "$1 may not be read"
 fi
 case $CHECK in
-    serializable) kept="isolation was kept, and the history is serializable" ;;
-    ssi) kept="the test of serializable snapshot isolation is passed" ;;
-    si) kept="isolation was kept" ;;
+    serializable)
+        kept="isolation was kept, and the history is serializable"
+        broken="isolation was broken, or the history isn't serializable; the report says which"
+        ;;
+    ssi)
+        kept="the history passes the test of serializable snapshot isolation"
+        broken="the history fails the test of serializable snapshot isolation"
+        ;;
+    si)
+        kept="isolation was kept"
+        broken="isolation was broken"
+        ;;
     *) fail "CHECK is serializable, ssi or si, and not $CHECK" ;;
 esac
 program=$(sh tools/program.sh) || exit 2
@@ -28,8 +37,8 @@ program=$(sh tools/program.sh) || exit 2
 status=$?
 case $status in
     0) echo "status 0: $kept" >&2 ;;
-    1) echo "status 1: not so, as the report says: $kept" >&2 ;;
-    3) echo "status 3: refused, the text is no history" >&2 ;;
+    1) echo "status 1: $broken" >&2 ;;
+    3) echo "status 3: the text is no history, and was refused" >&2 ;;
     4)
         echo "status 4: a device or the memory failed" >&2
         exit 4

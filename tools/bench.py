@@ -1,66 +1,188 @@
-"""Times a program on generated histories, and prints a table.
+"""Times a program on generated histories, in both forms of the report, and prints a table.
 
-    python3 tools/bench.py PROGRAM
+    python3 tools/bench.py [--keep] [--events N] PROGRAM
 
-Each text is given three times, and the shortest time is told. The system counts the peak memory of a program from that of
-the process that starts it, so the last line tells the peak of a program that does nothing.
+Each figure is the median of some runs: the seconds, and the peak memory in megabytes of a million bytes. Where
+tools/bench_figures.txt is there, which has the figures of an earlier day, each stands with its change from that day in
+percent. With --keep that file is written anew. The histories of hard.py have some N events, and 100,000 where it isn't
+given. The system counts the peak memory of a program from that of the process that
+starts it, so the last line tells the peak of a program that does nothing.
 """
 
 from __future__ import annotations
 
+import argparse
 import os
+import platform
 import subprocess
 import sys
 import tempfile
-import time
 from collections.abc import Sequence
+from dataclasses import dataclass
+from datetime import date
+from pathlib import Path
+from statistics import median
 
-HERE = os.path.dirname(os.path.abspath(__file__))
-SIZES = (4000, 16000)
-TEXTS = [(kind, events) for kind in ("short", "hot", "ranges", "one_reader") for events in SIZES]
-TIMES = 3
+from measuring import Run, run
 
-
-def run(program: str, text: str, report: str) -> tuple[float, int, int]:
-    """Returns the seconds, the peak memory in kilobytes and the status of one run."""
-    with open(text, "rb") as given, open(report, "wb") as taken:
-        began = time.perf_counter()
-        started = subprocess.Popen([program], stdin=given, stdout=taken)
-        _, status, used = os.wait4(started.pid, 0)
-        seconds = time.perf_counter() - began
-        started.returncode = os.waitstatus_to_exitcode(status)
-    kilobytes = used.ru_maxrss // 1024 if sys.platform == "darwin" else used.ru_maxrss
-    return seconds, kilobytes, started.returncode
+HERE = Path(__file__).resolve().parent
+FIGURES = HERE / "bench_figures.txt"
+TIMES = 5
+# No run may take longer.
+SECONDS = 60
+FORMS: dict[str, list[str]] = {"full": [], "brief": ["--brief"]}
+Name = tuple[str, str, str]
 
 
-def count(path: str, byte: bytes) -> int:
-    """How often the byte stands in a file. The file is read in pieces, which keeps this timer small."""
-    with open(path, "rb") as it:
-        return sum(piece.count(byte) for piece in iter(lambda: it.read(65536), b""))
+@dataclass(frozen=True)
+class Figure:
+    seconds: float
+    megabytes: float
+
+
+@dataclass(frozen=True)
+class Kept:
+    """What was seen on a day: of which program, by which machine, and the figures by kind, events and form."""
+
+    day: str
+    machine: str
+    program: str
+    figures: dict[Name, Figure]
+
+    def lines(self) -> list[str]:
+        """The lines of the file."""
+        head = ["# Written by `make bench KEEP=1`: seconds and peak megabytes of each kind, number of events and form."]
+        head += [f"day {self.day}", f"machine {self.machine}", f"program {self.program}"]
+        return head + [f"{' '.join(name)} {it.seconds:.4f} {it.megabytes:.1f}" for name, it in self.figures.items()]
+
+
+def read_kept(path: Path) -> Kept | None:
+    """What an earlier day's file says, where there is one."""
+    if not path.exists():
+        return None
+    heads = {"day": "", "machine": "", "program": ""}
+    figures: dict[Name, Figure] = {}
+    for line in path.read_text(encoding="utf-8").splitlines():
+        word, _, rest = line.partition(" ")
+        if word in heads:
+            heads[word] = rest
+        elif word != "#":
+            kind, events, form, seconds, megabytes = line.split()
+            figures[kind, events, form] = Figure(float(seconds), float(megabytes))
+    return Kept(**heads, figures=figures)
+
+
+def texts(events: int) -> list[tuple[str, int, list[str]]]:
+    """The kinds, the events of each, and the forms that are asked for. Hard kinds whose edges grow with the square of the
+    events give full reports only where there are few."""
+    store = [(kind, it, [*FORMS]) for kind in ("short", "hot", "ranges", "one_reader") for it in (4000, 16000)]
+    few_edges = ("all_at_once", "key_by_key", "one_list", "one_transaction", "none_ends", "ring")
+    many_edges = ("counter", "lost_updates", "readers_ahead", "held_snapshots", "writers", "wide_ranges", "phantoms")
+    hard = [(kind, it, [*FORMS]) for kinds, it in ((few_edges, events), (many_edges, events // 25)) for kind in kinds]
+    return store + hard + [(kind, events, ["brief"]) for kind in many_edges]
+
+
+def machine() -> str:
+    """The name of the processor, and how many there are."""
+    name = platform.processor() or platform.machine()
+    if os.path.exists("/proc/cpuinfo"):
+        with open("/proc/cpuinfo", encoding="utf-8") as lines:
+            names = [line.partition(":")[2].strip() for line in lines if line.startswith("model name")]
+        name = names[0] if names else name
+    return f"{name}, {os.cpu_count()} processors"
+
+
+def version(program: str) -> str:
+    """The line that the program tells of its version."""
+    told = subprocess.run([program, "--version"], capture_output=True, text=True, check=False)
+    return told.stdout.strip() if told.returncode == 0 else "of an unknown version"
+
+
+def middle(runs: Sequence[Run]) -> Figure:
+    return Figure(median(it.seconds for it in runs), median(it.megabytes for it in runs))
+
+
+def change(now: float, before: float | None) -> str:
+    """How much more or less it is, in percent."""
+    return f"{round(100 * (now / before - 1)):+}%" if before else ""
+
+
+def cells(figure: Figure | None, before: Figure | None, why: str) -> str:
+    """The cells of a form: both numbers, each with its change; or why there are none."""
+    if figure is None:
+        return f"{why:>32}"
+    seconds = change(figure.seconds, before and before.seconds)
+    megabytes = change(figure.megabytes, before and before.megabytes)
+    return f"{figure.seconds:>10.3f}{seconds:>6}{figure.megabytes:>10.1f}{megabytes:>6}"
+
+
+class Bench:
+    """The program, a folder for files, and the figures so far."""
+
+    def __init__(self, program: str, room: str, before: Kept | None) -> None:
+        self.program, self.text, self.report = program, f"{room}/text", f"{room}/report"
+        self.before = before.figures if before else {}
+        self.figures: dict[Name, Figure] = {}
+        self.faults = 0
+
+    def row(self, kind: str, events: int, forms: list[str]) -> str:
+        """Times one text, and answers its row of the table."""
+        with open(self.text, "wb") as it:
+            subprocess.run([sys.executable, "-B", HERE / "histories.py", kind, str(events)], stdout=it, check=True)
+        told = f"{kind:<16}{events:>7}"
+        for form in FORMS:
+            name = (kind, str(events), form)
+            why = self.time(name) if form in forms else "-"
+            told += cells(self.figures.get(name), self.before.get(name), why)
+        return told
+
+    def time(self, name: Name) -> str:
+        """Takes the figure of a text and form, or answers why there is none."""
+        runs: list[Run] = []
+        for _ in range(TIMES):
+            runs.append(run([self.program, *FORMS[name[2]]], self.text, self.report, SECONDS))
+            if runs[-1].status not in (0, 1):
+                self.faults += 1
+                return runs[-1].said.decode(errors="replace").strip() or f"status {runs[-1].status}"
+        self.figures[name] = middle(runs)
+        return ""
+
+    def idle(self) -> float:
+        """The peak of a program that does nothing."""
+        return run(["true"], os.devnull, self.report, SECONDS).megabytes
+
+
+def told_before(before: Kept | None, at: str) -> str:
+    """What the changes are from."""
+    if before is None:
+        return "no figures are kept: make bench KEEP=1 keeps these"
+    other = "" if before.machine == at else f", on another machine: {before.machine}"
+    return f"changes are from {before.day}, {before.program}{other}"
+
+
+def chosen(words: Sequence[str]) -> argparse.Namespace:
+    parser = argparse.ArgumentParser(description="Times a program on generated histories, and prints a table.")
+    parser.add_argument("--keep", action="store_true", help="keeps the figures, for the next run to compare with")
+    parser.add_argument("--events", type=int, default=100_000, help="some events of each hard history, 100000 by default")
+    parser.add_argument("program")
+    return parser.parse_args(words)
 
 
 def main(words: Sequence[str]) -> int:
-    if len(words) != 1:
-        print(__doc__, end="", file=sys.stderr)
-        return 2
-    print(f"{'text':<12}{'bytes':>10}{'events':>9}{'ms':>9}{'peak KB':>10}{'lines':>8}{'status':>8}")
+    asked = chosen(words)
+    before, at, program = read_kept(FIGURES), machine(), version(asked.program)
+    print(f"{program}, on {at}", told_before(before, at), sep="\n")
+    print(f"{'text':<16}{'events':>7}{'full s':>10}{'MB':>16}{'brief s':>16}{'MB':>16}")
     with tempfile.TemporaryDirectory() as room:
-        text, report = f"{room}/text", f"{room}/report"
-        for kind, events in TEXTS:
-            with open(text, "wb") as it:
-                subprocess.run([sys.executable, f"{HERE}/histories.py", kind, str(events)], stdout=it, check=True)
-            runs = [run(words[0], text, report) for _ in range(TIMES)]
-            size, given, lines = os.path.getsize(text), count(text, b" ") + 1, count(report, b"\n")
-            seconds, kilobytes = min(it[0] for it in runs), max(it[1] for it in runs)
-            status = runs[-1][2]
-            print(
-                f"{kind:<12}{size:>10}{given:>9}{seconds * 1000:>9.1f}{kilobytes:>10}{lines:>8}{status:>8}",
-                flush=True,
-            )
-            if status not in (0, 1):
-                return 1
-        print(f"peak KB of a program that does nothing: {run('true', os.devnull, report)[1]}")
-    return 0
+        bench = Bench(asked.program, room, before)
+        for text in texts(asked.events):
+            print(bench.row(*text), flush=True)
+        print(f"peak MB of a program that does nothing: {bench.idle():.1f}")
+    if asked.keep and not bench.faults:
+        kept = Kept(date.today().isoformat(), at, program, bench.figures)
+        FIGURES.write_text("".join(f"{it}\n" for it in kept.lines()), encoding="utf-8")
+        print(f"kept in {os.path.relpath(FIGURES)}")
+    return 1 if bench.faults else 0
 
 
 if __name__ == "__main__":

@@ -1,9 +1,9 @@
 #!/bin/sh
-# Times the program on generated histories, and prints a table.
-: "${PROGRAM:=crates/si_audit/out/si_audit}"
+# Times the program on generated histories, and prints a table. KEEP, if it isn't empty, keeps the figures in
+# tools/bench_figures.txt, from which the next run tells the change.
 if ! command -v python3 >/dev/null 2>&1; then
     echo "make bench: there is no python3 on the PATH, which makes the histories" >&2
     exit 1
 fi
-sh tools/build.sh || exit 1
-exec python3 tools/bench.py "$PROGRAM"
+program=$(sh tools/program.sh) || exit 1
+exec python3 -B tools/bench.py "$program" ${KEEP:+--keep}

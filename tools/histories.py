@@ -2,13 +2,15 @@
 
     python3 tools/histories.py KIND EVENTS [SEED]
 
-KIND is one of short, hot, ranges, one_reader. At least EVENTS events are written, as one line of text. The same words
-give the same text.
+KIND is one of short, hot, ranges, one_reader, and then at least EVENTS events are written, or a kind of hard.py, and then
+some EVENTS. They stand in one line of text. The same words give the same text.
 """
 
 import random
 import sys
 from collections.abc import Callable, Iterable
+
+import hard
 
 
 class Store:
@@ -161,11 +163,13 @@ KINDS: dict[str, Callable[[int, random.Random], list[str]]] = {
 
 
 def text_of(kind: str, events: int, seed: int = 1) -> str:
+    if kind in hard.KINDS:
+        return hard.KINDS[kind](events).text.decode() + "\n"
     return " ".join(KINDS[kind](events, random.Random(f"{kind} {events} {seed}"))) + "\n"
 
 
 def main(words: list[str]) -> int:
-    if len(words) not in (2, 3) or words[0] not in KINDS or not all(it.isdigit() for it in words[1:]):
+    if len(words) not in (2, 3) or words[0] not in KINDS | hard.KINDS or not all(it.isdigit() for it in words[1:]):
         print(__doc__, end="", file=sys.stderr)
         return 2
     sys.stdout.write(text_of(words[0], *map(int, words[1:])))

@@ -1,46 +1,46 @@
 #!/usr/bin/env python3
-"""Runs the program on the longest texts and on those of hostile kinds, each under a limit of seconds.
+"""Runs the program on the longest texts and on those of hostile and hard kinds, each under a limit of seconds.
 
-    limits.py PROGRAM
+    limits.py PROGRAM [SIZE]
 
-Each whole report is worked out by a formula, from the rules of docs/FORMAT.md. Each text is given to one worker, and to four
-with some cuts. Proofs bound no time, so that these end soon is shown here alone. The last line is 'N passed, M failed'.
+Each whole report is worked out by a formula, from the rules of docs/FORMAT.md. Each text of the first kinds is given to one
+worker, and to four with some cuts. Those of hard.py are asked for the brief report, under a limit of memory too: at SIZE,
+which is 100,000 where it isn't given, and at a fourth of it. The greater one may take at most some eight times as long,
+and a moment. Proofs bound neither time nor memory, so that these are small is shown here alone. The last line is
+'N passed, M failed'.
 """
 
+from __future__ import annotations
+
+import filecmp
 import shutil
-import subprocess
 import sys
-import time
-from collections.abc import Callable, Iterator
-from dataclasses import dataclass
+import tempfile
+from collections.abc import Callable, Sequence
 from itertools import zip_longest
+
+import hard
+from hard import MAX_KEY, Case, joined
+from measuring import Run, apart, run
 
 MAX_BYTES = 16_777_216
 MAX_EVENTS = 100_000
 MAX_TXN = 2**32 - 1
-MAX_KEY = 2**64 - 1
 # Some times what a slow machine takes.
 SECONDS = 20
 LINES = (["--workers", "1"], ["--workers", "4", "100", "5000", "20000", str(2**63)])
-
-
-@dataclass(frozen=True)
-class Case:
-    """A text, its report, and the status."""
-
-    text: bytes
-    report: bytes
-    status: int = 0
+# The same of the hard kinds, whose time is that in which threads were busy: what else the machine does counts little.
+HARD_SECONDS = 10
+HARD_MEGABYTES = 300
+HARD_LINES = tuple(["--brief", *it] for it in LINES)
+GROWTH = 8
+MOMENT = 0.2
 
 
 def clean(events: int, committed: list[int], still_open: int = 0, edges: str = "") -> bytes:
     """The report of a history that is kept and serializable, with no pivot, and with the ids as they ascend for order."""
     head = f"events {events} committed {len(committed)} aborted 0 open {still_open}\nisolation kept\n{edges}"
     return f"{head}ssi pass\nserializable yes\n{' '.join(map(str, ['order', *sorted(committed)]))}\n".encode()
-
-
-def joined(tokens: Iterator[str] | list[str]) -> bytes:
-    return " ".join(tokens).encode()
 
 
 def ring() -> Case:
@@ -223,41 +223,90 @@ CASES: list[Callable[[], Case]] = [
 ]
 
 
-def fault(program: str, words: list[str], case: Case) -> str:
-    """Tells what is wrong with a run, or answers an empty text."""
-    try:
-        ran = subprocess.run([program, *words], input=case.text, capture_output=True, timeout=SECONDS)
-    except subprocess.TimeoutExpired:
-        return f"it had not ended after {SECONDS} seconds"
-    if ran.returncode != case.status:
-        return f"its status is {ran.returncode} and not {case.status}"
-    if ran.stderr:
-        return f"it wrote on standard error: {ran.stderr[:200]!r}"
-    if ran.stdout != case.report:
-        lines = zip_longest(ran.stdout.split(b"\n"), case.report.split(b"\n"), fillvalue=b"")
-        at, (got, wanted) = next((at, it) for at, it in enumerate(lines, 1) if it[0] != it[1])
-        return f"line {at} is {got[:200]!r} and not {wanted[:200]!r}"
-    return ""
+class Tried:
+    """What was tried so far, with files in a folder of its own."""
+
+    def __init__(self, program: str, room: str) -> None:
+        self.program = program
+        self.text, self.wanted, self.got = f"{room}/text", f"{room}/wanted", f"{room}/got"
+        self.status = f"{room}/status"
+        self.passed = self.failed = 0
+
+    def count(self, name: str, wrong: str) -> None:
+        """One more that passed, where nothing is wrong."""
+        self.passed, self.failed = self.passed + (not wrong), self.failed + bool(wrong)
+        if wrong:
+            print(f"{name}: {wrong}", flush=True)
+
+    def make(self, make: Callable[[], Case]) -> None:
+        """Makes the files of a case, away from here, where the peak of memory is to stay low."""
+        apart(lambda: self.write(make))
+
+    def write(self, make: Callable[[], Case]) -> None:
+        case = make()
+        for path, given in ((self.text, case.text), (self.wanted, case.report), (self.status, b"%d" % case.status)):
+            with open(path, "wb") as it:
+                it.write(given)
+
+    def runs(self, name: str, lines: Sequence[list[str]], seconds: float, megabytes: float = float("inf")) -> list[Run]:
+        """One run with each command line, on the files that were made last."""
+        them = []
+        for line in lines:
+            it = run([self.program, *line], self.text, self.got, seconds)
+            self.count(f"{name} {' '.join(line)}", self.fault(it, seconds, megabytes))
+            them.append(it)
+        told = " and ".join(f"{it.seconds:.2f} s {it.megabytes:.0f} MB" for it in them)
+        print(f"{name}: {told}", flush=True)
+        return them
+
+    def fault(self, it: Run, seconds: float, megabytes: float) -> str:
+        """Tells what is wrong with a run, or answers an empty text."""
+        with open(self.status, encoding="ascii") as file:
+            status = int(file.read())
+        if it.seconds >= seconds:
+            return f"it had not ended after {seconds} seconds"
+        if it.status != status:
+            return f"its status is {it.status} and not {status}"
+        if it.said:
+            return f"it wrote on standard error: {it.said[:200]!r}"
+        if it.megabytes > megabytes:
+            return f"it took {it.megabytes:.0f} MB, and not at most {megabytes}"
+        return "" if filecmp.cmp(self.got, self.wanted, shallow=False) else self.difference()
+
+    def difference(self) -> str:
+        """The first line in which the two reports differ."""
+        with open(self.got, "rb") as got, open(self.wanted, "rb") as wanted:
+            for at, (one, other) in enumerate(zip_longest(got, wanted, fillvalue=b""), 1):
+                if one != other:
+                    return f"line {at} is {one[:200]!r} and not {other[:200]!r}"
+        return ""
+
+    def hard(self, name: str, size: int) -> None:
+        """One hard kind, at a fourth of the size and at the whole."""
+        fourth, whole = (self.sized(name, it) for it in (size // 4, size))
+        most = GROWTH * fourth + MOMENT
+        self.count(f"{name} grows", f"{whole:.2f} s, and not at most {most:.2f} s" if whole > most else "")
+
+    def sized(self, name: str, size: int) -> float:
+        """How long one worker was busy with a hard kind of this size."""
+        self.make(lambda: hard.KINDS[name](size))
+        return self.runs(f"{name} {size}", HARD_LINES, HARD_SECONDS, HARD_MEGABYTES)[0].busy
 
 
-def main(words: list[str]) -> int:
-    if len(words) != 1 or shutil.which(words[0]) is None:
-        print("limits.py: the one argument is to be the program", file=sys.stderr)
+def main(words: Sequence[str]) -> int:
+    if len(words) not in (1, 2) or shutil.which(words[0]) is None or not all(it.isdigit() for it in words[1:]):
+        print("limits.py: the arguments are the program and, where it isn't 100000, the size", file=sys.stderr)
         return 2
-    passed = failed = 0
-    for make in CASES:
-        case, seconds = make(), []
-        for line in LINES:
-            began = time.monotonic()
-            wrong = fault(words[0], line, case)
-            seconds.append(time.monotonic() - began)
-            passed, failed = passed + (not wrong), failed + bool(wrong)
-            if wrong:
-                print(f"{make.__name__} {' '.join(line)}: {wrong}")
-        told = " and ".join(f"{it:.2f}" for it in seconds)
-        print(f"{make.__name__}: {len(case.text)} bytes, {told} s", flush=True)
-    print(f"{passed} passed, {failed} failed")
-    return 1 if failed else 0
+    size = int(words[1]) if words[1:] else MAX_EVENTS
+    with tempfile.TemporaryDirectory() as room:
+        tried = Tried(words[0], room)
+        for make in CASES:
+            tried.make(make)
+            tried.runs(make.__name__, LINES, SECONDS)
+        for name in hard.KINDS:
+            tried.hard(name, size)
+    print(f"{tried.passed} passed, {tried.failed} failed")
+    return 1 if tried.failed else 0
 
 
 if __name__ == "__main__":

@@ -75,6 +75,26 @@ help() {
     count "$name: its text" "$why"
 }
 
+# hint NAME ARGUMENTS..: the arguments are refused, and the last line on standard error says where a history comes from.
+hint() {
+    name=$1
+    shift
+    "$PROGRAM" "$@" <"$history" >out/report 2>out/said
+    told=$(tail -n 1 out/said)
+    wanted="A history is read from standard input: si_audit <FILE"
+    count "$name: the hint" "$([ "$told" = "$wanted" ] || echo "standard error doesn't end with '$wanted'")"
+}
+
+# version NAME ARGUMENTS..: the version is printed with status 0, and it is the one that the sources name.
+version() {
+    name=$1
+    shift
+    "$PROGRAM" "$@" <"$history" >out/report 2>out/said
+    told "$name" $? 0 ""
+    named=$(sed -n 's/^const VERSION: &str = "\(.*\)";$/si_audit \1/p' crates/si_audit/src/cli/line.rt)
+    count "$name: its text" "$([ "$(cat out/report)" = "$named" ] || echo "it isn't '$named'")"
+}
+
 # A history with many bad reads, whose report is longer than a pipe holds.
 long_history() {
     awk 'BEGIN { printf "w1[1] c1 b2"; for (i = 0; i < 20000; i++) printf " r2[1:0]"; print "" }'
@@ -92,6 +112,10 @@ usage "no worker" "invalid value '0' for '--workers <N>': 0 is not in 1..=64" --
 usage "workers twice" "the argument '--workers <N>' cannot be used multiple times" --workers 4 --workers 4
 usage "a cut that is no number" "invalid value 'x' for '[CUT]...': invalid digit found in string" 14 x
 usage "an unknown option" "unexpected argument '--parts' found" --parts 4
+hint "a cut that is a file's name" "$history"
+hint "a cut that is a file's name, behind others" --workers 4 14 "$history"
+version "--version" --version
+version "-V" -V
 help "--help" --help
 help "-h after others" --workers 64 14 -h
 
@@ -115,6 +139,8 @@ told "no standard input" $? 4 "si_audit: read failed"
 told "no standard output" $? 4 "si_audit: write failed"
 "$PROGRAM" --help 2>out/said >&-
 told "no standard output for the help" $? 4 "si_audit: write failed"
+"$PROGRAM" --version 2>out/said >&-
+told "no standard output for the version" $? 4 "si_audit: write failed"
 "$PROGRAM" <"$history" >out/report 2>&-
 status=$?
 : >out/said

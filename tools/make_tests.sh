@@ -65,11 +65,16 @@ for target in $(sed -n 's/^\.PHONY: all//p' Makefile); do
 done
 count "make help: each line" "$(grep -v '^make ' "$out/help")"
 
-kept="isolation was kept, and the history is serializable"
-faulty="status 1: not so, as the report says: $kept"
-runs "make run" examples/write_skew.report "$faulty" run
-runs "make run HISTORY=.." examples/lost_update.report "$faulty" run HISTORY=examples/lost_update.history
-runs "make run of a clean history" examples/clean.report "status 0: $kept" run HISTORY=examples/clean.history
+kept="status 0: isolation was kept, and the history is serializable"
+broken="status 1: isolation was broken, or the history isn't serializable; the report says which"
+runs "make run" examples/write_skew.report "$broken" run
+runs "make run HISTORY=.." examples/lost_update.report "$broken" run HISTORY=examples/lost_update.history
+runs "make run of a clean history" examples/clean.report "$kept" run HISTORY=examples/clean.history
+runs "make run CHECK=si" examples/write_skew.report "status 0: isolation was kept" run CHECK=si
+broken="status 1: the history fails the test of serializable snapshot isolation"
+runs "make run CHECK=ssi" examples/write_skew.report "$broken" run CHECK=ssi
+refused="status 3: the text is no history, and was refused"
+runs "make run of a text that is no history" examples/refused.report "$refused" run HISTORY=examples/refused.history
 
 # The kit of this test only notes that it was asked.
 mkdir "$out/kit"
@@ -83,6 +88,10 @@ count "make build, with nothing new" "$([ -e "$out/asked" ] || echo "the kit was
 
 root=$PWD/$out/a\ root
 mkdir -p "$root"
+for name in DESTDIR PREFIX; do
+    env "$name=$root" make -pn help >"$out/said" 2>&1
+    count "make with $name in the environment" "$(grep -qxF "$name = $root" "$out/said" || echo "it isn't taken")"
+done
 installs "an empty root" /usr/local
 for folder in bin share/si_audit share/man/man1; do
     mkdir -p "$root/opt/$folder"

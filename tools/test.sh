@@ -1,9 +1,9 @@
 #!/bin/sh
 # make test takes what is proved already, proves the rest, runs the tests of each crate, and then the program: on every
-# example, on command lines, by the Makefile, beside the definitions, on the longest texts, and without memory. The programs
-# that the tests of the crates leave are run without memory, too. With FULL=1 the kit's whole gate stands in the place of the
-# first steps: all is proved from nothing, and the edits that the prover must refuse are tried. A table of the steps comes at
-# the end, and the last line counts them.
+# example, on command lines, by the Makefile, beside the definitions, on the longest texts and on hard ones, and without
+# memory. The programs that the tests of the crates leave are run without memory, too. With FULL=1 the kit's whole gate
+# stands in the place of the first steps: all is proved from nothing, and the edits that the prover must refuse are tried. A
+# table of the steps comes at the end, and the last line counts them.
 : "${PROGRAM:=crates/si_audit/out/si_audit}"
 mkdir -p out
 table=out/steps
@@ -66,6 +66,6 @@ step "the definitions in Python, on what docs/FORMAT.md works out" definitions u
 step "the program beside the definitions, on random histories" definitions oracle "$PROGRAM" \
     small=1000 crowd=60 versions=30 ranges=24 rings=20 edges=12 most_edges=6
 step "the companion: logs in, names and pages out" sh tools/companion_tests.sh
-step "the program on the longest texts, each within some seconds" python3 -B tools/limits.py "$PROGRAM"
+step "the program on the longest texts and on hard ones, each within some seconds" python3 -B tools/limits.py "$PROGRAM"
 step "the program without memory, and without threads" python3 -B tools/refusals.py "$PROGRAM"
 finish

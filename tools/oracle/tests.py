@@ -6,6 +6,7 @@
 import unittest
 from random import Random
 
+import hard
 from oracle import larger, narrow, small, taking, trying
 from oracle.account import LEVELS, RW, WR, WW, Account, Edge
 from oracle.events import Event
@@ -230,6 +231,18 @@ class Sizes(unittest.TestCase):
         for it in self.tables("rings"):
             cycle = taking.account_of([event for _, event in it.at]).cycle
             self.assertGreaterEqual(len(cycle), 20)
+
+
+class Hard(unittest.TestCase):
+    """That the formulas of the hard kinds give the reports, of small histories."""
+
+    def test_reports(self) -> None:
+        for name, make in hard.KINDS.items():
+            with self.subTest(kind=name):
+                case = make(505)
+                account = taking.account_of(events_of(case.text.decode()))
+                self.assertEqual(account.report(brief=True), case.report)
+                self.assertEqual(account.status(), case.status)
 
 
 if __name__ == "__main__":

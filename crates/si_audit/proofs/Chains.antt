@@ -16,13 +16,6 @@ then o m n y step before = step ∙ ap (λ (xs : List ℕ). xs ++ y) before
 pub four_written : (o a b c d : List ℕ) → (((o ++ a) ++ b) ++ c) ++ d ≡ o ++ ((a ++ b ++ c) ++ d)
 four_written o a b c d = simp append_assoc
 
-pub pivot_written : (o a b c d e f g n : List ℕ) → (((((((o ++ a) ++ b) ++ c) ++ d) ++ e) ++ f) ++ g) ++ n ≡ o ++ ((a ++ (b ++ (c ++ (d ++ (e ++ (f ++ g)))))) ++ n)
-pivot_written o a b c d e f g n = simp append_assoc
-
--- four more after what was written
-pub then_four : (o m n a b c d : List ℕ) → n ≡ m ++ a ++ b ++ c ++ d → m ≡ o → n ≡ o ++ a ++ b ++ c ++ d
-then_four o m n a b c d step before = step ∙ ap (λ (xs : List ℕ). xs ++ a ++ b ++ c ++ d) before
-
 pub report_written : (o a b c d e f g s z v : List ℕ) → o ++ a ++ b ++ c ++ d ++ e ++ f ++ g ++ s ++ z ++ v ≡ o ++ (a ++ b ++ c ++ d ++ e ++ f ++ g ++ s ++ z ++ v)
 report_written o a b c d e f g s z v = simp append_assoc
 

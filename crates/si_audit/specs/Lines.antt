@@ -71,18 +71,25 @@ first_words (t ∷ ts) = codes "first" ∷ map numeral (t ∷ ts)
 abbrev pub pivot_line : Pivot → List ℕ
 pivot_line p = line (codes "pivot" ∷ numeral p.txn ∷ codes "in" ∷ map numeral p.ins ++ codes "out" ∷ map numeral p.outs ++ first_words p.firsts)
 
+-- an edge of a cycle
+abbrev pub edge_word : Kind → ℕ → List ℕ
+edge_word kind key = codes ">" ++ kind_word kind ++ codes ":" ++ numeral key ++ codes ">"
+
 -- a transaction, and the edge from it to the next
 abbrev pub step_words : Step → List (List ℕ)
-step_words s = numeral s.txn ∷ (codes ">" ++ kind_word s.kind ++ codes ":" ++ numeral s.key ++ codes ">") ∷ []
+step_words s = numeral s.txn ∷ edge_word s.kind s.key ∷ []
 
 -- the first transaction of the cycle, where it comes again
 abbrev pub home_word : List Step → List (List ℕ)
 home_word [] = []
 home_word (s ∷ steps) = numeral s.txn ∷ []
 
+abbrev pub cycle_line : List Step → List ℕ
+cycle_line steps = line (codes "cycle" ∷ flat_map step_words steps ++ home_word steps)
+
 abbrev pub verdict_line : Verdict → List ℕ
 verdict_line (Order order) = line (codes "order" ∷ map numeral order)
-verdict_line (Cycle steps) = line (codes "cycle" ∷ flat_map step_words steps ++ home_word steps)
+verdict_line (Cycle steps) = cycle_line steps
 
 -- how many events there are, and how many transactions committed, aborted, or are open
 abbrev pub events_line : ℕ → ℕ → ℕ → ℕ → List ℕ

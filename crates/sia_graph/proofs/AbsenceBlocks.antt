@@ -30,20 +30,20 @@ passed_more size firsts s old blocks new from own passed some up most none is ov
   started = let a = passed.started in omega arith;
   over = λ j l. (
     (λ u. elim ((over j l).0 u) [
-      inl b ↦ elim ((passed.over j l).0 b) [ inl o ↦ inl o | inr m ↦ inr (m.0, (let a = m.1 in omega arith)) ]
+      | inl b ↦ elim ((passed.over j l).0 b) [ inl o ↦ inl o | inr m ↦ inr (m.0, (let a = m.1 in omega arith)) ]
       | inr h ↦ inr (((let a = passed.started in let b = h.0 in omega arith), (let b = h.1 in omega arith), none j h.0 h.1), (let b = h.1 in omega arith))
     ]),
     (λ w. elim w [
-      inl o ↦ (over j l).1 (inl ((passed.over j l).1 (inl o)))
+      | inl o ↦ (over j l).1 (inl ((passed.over j l).1 (inl o)))
       | inr m ↦ elim (cases_lt j from) [
-          inl before ↦ (over j l).1 (inl ((passed.over j l).1 (inr (m.0, before))))
-          | inr after ↦ elim (cases_lt j own) [
-              inl before ↦ (over j l).1 (inr (after, before))
-              | inr last ↦
-                  let same : own ≡ j = let a = m.1 in omega arith in
-                  absurd (m.0.2 (subst (λ k. Contains firsts (step_number s.txn k)) same (is (let a = m.0.1 in omega arith))))
-              ]
-          ]
+        | inl before ↦ (over j l).1 (inl ((passed.over j l).1 (inr (m.0, before))))
+        | inr after ↦ elim (cases_lt j own) [
+          | inl before ↦ (over j l).1 (inr (after, before))
+          | inr last ↦
+              let same : own ≡ j = let a = m.1 in omega arith in
+              absurd (m.0.2 (subst (λ k. Contains firsts (step_number s.txn k)) same (is (let a = m.0.1 in omega arith))))
+        ]
+      ]
     ]),
   );
   within = λ b c. elim (within b c) [ inl i ↦ passed.within b i | inr w ↦ inr w ];
@@ -60,9 +60,9 @@ passed_all size firsts s old blocks from passed all j l = (
 module _ (numbers : List ℕ) (rise : IsNonDecreasing numbers) (start at : ℕ) (point : IsPartitionPoint (λ n. ltb n start ≡ true) (λ n. ltb n start ≡ false) numbers at) where
   pub none_from : (end : ℕ) → ((k : ℕ) (d : ℕ) → at ≤ k → k < length numbers → end ≤ get_or numbers k d) → (n : ℕ) → start ≤ n → n < end → ¬ Contains numbers n
   none_from end rest n from before c = elim (cases_lt c.0 at) [
-    inl l ↦ let a = ltb-true (get_or numbers c.0 n) start (point.0 c.0 n (omega arith) l) in let e = c.2 in omega arith
+    | inl l ↦ let a = ltb-true (get_or numbers c.0 n) start (point.0 c.0 n (omega arith) l) in let e = c.2 in omega arith
     | inr l ↦ let a = rest c.0 n l c.1 in let e = c.2 in omega arith
-    ]
+  ]
 
   pub rest_from : (x : ℕ) → at < length numbers → x ≡ get_or numbers at x → (k : ℕ) (d : ℕ) → at ≤ k → k < length numbers → x ≤ get_or numbers k d
   rest_from x inside is k d l below = let a = rise at k d l below in let e = get_or_default numbers at d x inside in omega arith
@@ -84,13 +84,13 @@ module _ (size : ℕ) (firsts : List ℕ) (s : Absence) (blocks old new : List �
   absence_put = (
     (λ n c. (adds n).1 (inl c)),
     (λ n c. elim ((adds n).0 c) [
-      inl o ↦ inl o
+      | inl o ↦ inl o
       | inr f ↦ let w = is_block f.0 f.1 in inr (f.0, w.0, w.1, f.2, (λ j l o. missed f.0 j f.1 l o))
     ]),
     (λ j l m.
-      let u = (over j l).1 (inr m) in
-      let w = is_block u.0 u.1 in
-      (u.0, u.2, w.0, w.1, (adds (step_number (node_of size s.txn) u.0)).1 (inr (u.0, u.1, refl)))),
+        let u = (over j l).1 (inr m) in
+        let w = is_block u.0 u.1 in
+        (u.0, u.2, w.0, w.1, (adds (step_number (node_of size s.txn) u.0)).1 (inr (u.0, u.1, refl)))),
   )
 
 -- what an absence has, it has while steps are added
@@ -112,16 +112,16 @@ pub steps_more : (size : ℕ) (firsts : List ℕ) (absences : List Absence) (old
 steps_more size firsts absences old mid new n x below before kept each has = record {
   kept = λ m c. kept m (before.kept m c);
   each = λ m c. elim (each m c) [
-    inl w ↦ before.each m w
+    | inl w ↦ before.each m w
     | inr a ↦ inr (get_or absences n x, (n, below, get_or_default absences n (get_or absences n x) x below), a)
-    ];
+  ];
   has = λ k d l. elim (cases_lt k n) [
-    inl less ↦ still_has size firsts (get_or absences k d) mid new kept (before.has k d less)
+    | inl less ↦ still_has size firsts (get_or absences k d) mid new kept (before.has k d less)
     | inr more ↦
         let same : n ≡ k = omega arith in
         subst (λ i. HasAbsenceSteps size firsts (get_or absences i d) new) same
         (subst (λ y. HasAbsenceSteps size firsts y new) (get_or_default absences n x d below) has)
-    ];
+  ];
 }
 
 pub steps_all : (size : ℕ) (firsts : List ℕ) (absences : List Absence) (old steps : List ℕ) (n : ℕ) → length absences ≤ n → HaveStepsUpTo size firsts absences old steps n

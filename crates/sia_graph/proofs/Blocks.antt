@@ -23,10 +23,10 @@ module _ (floor : ℕ) where
   above_is : (t : ℕ) → floor ≤ t → is_member t ≡ true
   above_is t l = not_from_false (nat_lt t floor) (le-ltb t floor l)
 
-  in_members : (xs : List ℕ) (t : ℕ) → Contains xs t → floor ≤ t → Contains (without_blocks floor xs) t
+  pub in_members : (xs : List ℕ) (t : ℕ) → Contains xs t → floor ≤ t → Contains (without_blocks floor xs) t
   in_members xs t c l = in_contains t (without_blocks floor xs) (in_filter is_member xs t (contains_in xs t c) (above_is t l))
 
-  members_in : (xs : List ℕ) (t : ℕ) → Contains (without_blocks floor xs) t → Contains xs t × (floor ≤ t)
+  pub members_in : (xs : List ℕ) (t : ℕ) → Contains (without_blocks floor xs) t → Contains xs t × (floor ≤ t)
   members_in xs t c = let w = filter_in is_member xs t (contains_in (without_blocks floor xs) t c) in (in_contains t xs w.0, is_above t w.1)
 
   through_reaches : (Step : ℕ → ℕ → Type 0) (n t u : ℕ) → IsWayThrough floor Step n t u → Reaches Step t u

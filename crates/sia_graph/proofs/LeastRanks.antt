@@ -22,22 +22,22 @@ two_same P Q two to back is =
     (least_same P Q two.least to back is.0, least_same _ _ two.next (λ q (a, b). (to q a, b)) (λ q (a, b). (back q a, b)) is.1)
 
 -- a least rank is none, or less
-least_bound : (P : ℕ → Type 0) → ((q : ℕ) → P q → q < 4294967295) → (r : ℕ) → IsLeastRank P r → r ≤ 4294967295
+pub least_bound : (P : ℕ → Type 0) → ((q : ℕ) → P q → q < 4294967295) → (r : ℕ) → IsLeastRank P r → r ≤ 4294967295
 least_bound P few r (inl has) = let f = few r has.0 in omega arith
 least_bound P few r (inr lacks) = let e = lacks.0 in omega arith
 
-no_less : (P : ℕ → Type 0) (r q : ℕ) → IsLeastRank P r → P q → r ≤ q
+pub no_less : (P : ℕ → Type 0) (r q : ℕ) → IsLeastRank P r → P q → r ≤ q
 no_less P r q (inl has) is = has.1 q is
 no_less P r q (inr lacks) is = absurd (lacks.1 q is)
 
 -- what is no greater than each, and is there if it is less than none
-least_by : (P : ℕ → Type 0) → ((q : ℕ) → P q → q < 4294967295) → (r : ℕ) → r ≤ 4294967295 → (r < 4294967295 → P r) → ((q : ℕ) → P q → r ≤ q) → IsLeastRank P r
+pub least_by : (P : ℕ → Type 0) → ((q : ℕ) → P q → q < 4294967295) → (r : ℕ) → r ≤ 4294967295 → (r < 4294967295 → P r) → ((q : ℕ) → P q → r ≤ q) → IsLeastRank P r
 least_by P few r bound there low = elim (cases_lt r 4294967295) [
   | inl less ↦ inl (there less, low)
   | inr more ↦ inr (omega arith, λ q is. let f = few q is in let g = low q is in absurd (omega arith))
 ]
 
-there_if : (P : ℕ → Type 0) (r : ℕ) → IsLeastRank P r → r < 4294967295 → P r
+pub there_if : (P : ℕ → Type 0) (r : ℕ) → IsLeastRank P r → r < 4294967295 → P r
 there_if P r (inl has) less = has.0
 there_if P r (inr lacks) less = let e = lacks.0 in absurd (omega arith)
 

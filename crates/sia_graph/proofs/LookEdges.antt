@@ -1,5 +1,5 @@
 -- The edges of a history, told from what was written and seen.
-use Rattle.std.proofs.Common.{◌≡◌, ◌≢◌, ◌⊎◌, inl, inr, ℕ, ◌<◌, ◌≤◌, List, [], ◌∷◌, ap, sym, subst, ◌∙◌, arith}
+use Rattle.std.proofs.Common.{◌≡◌, inl, inr, ℕ, ◌<◌, List, [], ◌∷◌, ap, sym, subst, ◌∙◌, arith}
 use Rattle.std.specs.Prelude.{◌↔◌, Contains, ⊤, slice_index}
 use Rattle.sia_events.specs.declared.event.Event.{Event}
 use Rattle.sia_events.specs.declared.event.Event.TheVariants.{Commit}
@@ -11,12 +11,12 @@ use Rattle.sia_events.proofs.OneList.{one_list_by}
 use Rattle.sia_events.proofs.TransactionDecisions.{place_within}
 use Rattle.sia_index.specs.Info.{IsKeyAt}
 use Rattle.sia_parts.specs.EdgeNumbers.{IsCommittedAt}
-use Rattle.sia_parts.specs.Looks.{AreLooks, IsAbsentAt, IsCovered, IsLookOf}
+use Rattle.sia_parts.specs.Looks.{AreLooks, IsAbsentAt, IsLookOf}
 use Rattle.sia_parts.specs.declared.looks.Absence.{Absence}
 use Rattle.sia_parts.specs.declared.looks.Look.{Look}
 use Rattle.sia_parts.specs.declared.looks.Looks.{Looks}
 use Rattle.sia_parts.proofs.Sources.{wr_from_look, look_of_wr, rw_from_look, look_of_rw}
-use Rattle.sia_graph.specs.Evidence.{HasWwLooks, HasWrLooks, HasRwLooks, SawBefore}
+use Rattle.sia_graph.specs.Evidence.{HasWwLooks, HasWrLooks, HasRwLooks}
 
 -- each number is that of one transaction, and of one key
 pub one_txn_at : (h : List Event) (i t u : ℕ) → IsCommittedAt h i t → IsCommittedAt h i u → t ≡ u

@@ -1,7 +1,7 @@
 -- Narrow steps reach what the edges of a history reach.
 use Rattle.std.proofs.Common.{◌≡◌, ◌≢◌, ◌⊎◌, inl, inr, ℕ, zero, suc, ◌+◌, ◌-◌, ◌*◌, ◌^◌, ◌<◌, ◌≤◌, List, [], ◌∷◌, length, get_or, map, refl, ap, sym, subst, ◌∙◌, arith}
-use Rattle.std.specs.Prelude.{◌↔◌, Contains, ⊤}
-use Rattle.std.specs.List.Sorted.{IsStrictlyIncreasing}
+use Rattle.std.specs.Prelude.{◌↔◌, All, Contains, ⊤}
+use Rattle.std.specs.List.Sorted.{IsNonDecreasing, IsStrictlyIncreasing}
 use Rattle.std.proofs.Math.Nat.{mul_assoc, mul_comm, mul-le-mul_left, mul-le-mul_right, pow-succ'}
 use Rattle.std.proofs.lemmas.Bool.{cases_lt}
 use Rattle.std.proofs.lemmas.List.{get_or-map, get_or_default, length-map}
@@ -35,8 +35,9 @@ use Rattle.sia_parts.specs.Sights.{FromSome}
 use Rattle.sia_graph.specs.Blocks.{IsWayThrough, LeadsThrough}
 use Rattle.sia_graph.specs.Evidence.{IsEvidence}
 use Rattle.sia_graph.specs.KeyBlocks.{IsOver}
-use Rattle.sia_graph.specs.NarrowSteps.{AreFirsts, AreNarrowSteps, CanSearch, HasAbsenceSteps, IsAbsenceStep, IsHalfStep, IsLeafStep, IsMemberStep, IsNewest, IsNewestStep, IsNext, IsNextStep, IsSizeFor, edge_of_step, edges_of_steps, name_of, node_of, step_number, step_source, step_target}
+use Rattle.sia_graph.specs.NarrowSteps.{AreFirsts, AreNarrowSteps, CanSearch, FitsKeys, HasAbsenceSteps, IsAbsenceStep, IsHalfStep, IsLeafStep, IsMemberStep, IsNewest, IsNewestStep, IsNext, IsNextStep, IsSizeFor, edge_of_step, edges_of_steps, name_of, node_of, step_number, step_source, step_target}
 use Rattle.sia_graph.specs.Orders.{Leads}
+use Rattle.sia_graph.specs.Places.{AreSteps}
 use Rattle.sia_graph.specs.StandIns.{LeadsByName, StandForAll}
 use Rattle.sia_graph.proofs.AscendingIds.{ids_less, one_id}
 use Rattle.sia_graph.proofs.KeyBlocks.{doubled, some_power}
@@ -50,6 +51,9 @@ module _ (steps : List ℕ) where
   step_leads a b fits c =
       let n = step_number a b in
       (edge_of_step n, (c.0, (let l = c.1 in omega (arith, length-map steps edge_of_step)), get_or-map edge_of_step steps c.0 n (edge_of_step n) c.1 ∙ ap edge_of_step c.2), omega arith, omega arith)
+
+  pub step_ends : (n : ℕ) → Contains steps n → Leads (Contains (edges_of_steps steps)) (step_source n) (step_target n)
+  step_ends n c = (edge_of_step n, (c.0, (let l = c.1 in omega (arith, length-map steps edge_of_step)), get_or-map edge_of_step steps c.0 n (edge_of_step n) c.1 ∙ ap edge_of_step c.2), refl, refl)
 
   pub leads_step : (a b : ℕ) → Leads (Contains (edges_of_steps steps)) a b → (n : ℕ) × Contains steps n × (step_source n ≡ a) × (step_target n ≡ b)
   leads_step a b leads =
@@ -94,6 +98,18 @@ module _ (h : List Event) (txns keys : List ℕ) (looks : Looks) (is : IsEvidenc
   one_key_number : (i j k : ℕ) → IsKeyAt h i k → IsKeyAt h j k → i ≡ j
   one_key_number i j k a b = let x = key_at i k a in let y = key_at j k b in one_id keys keys_up i j x.0 y.0 (x.1 ∙ sym y.1)
 
+  pub keys_few : length keys ≤ 1048576
+  keys_few = elim (cases_lt 0 (length keys)) [
+    | inl some ↦ let j = length keys - 1 in let f = few_keys h is.well_formed j (get_or keys j 0) (keys, is.keys_are, (omega arith), refl) in omega arith
+    | inr none ↦ omega arith
+  ]
+
+  pub txns_few : length txns ≤ 1048576
+  txns_few = elim (cases_lt 0 (length txns)) [
+    | inl some ↦ let i = length txns - 1 in let f = few_committed h is.well_formed i (get_or txns i 0) (txns, is.txns_are, (omega arith), refl) in omega arith
+    | inr none ↦ omega arith
+  ]
+
   abbrev W : List Look
   W = looks.writers.items
 
@@ -131,6 +147,20 @@ module _ (h : List Event) (txns keys : List ℕ) (looks : Looks) (is : IsEvidenc
         one_number a.txn b.txn v.0 (subst (λ x. IsCommittedAt h a.txn x) same first.0.0) v.1.0;
   }
 
+  pub readers_few : All (λ a. a.txn < 1048576) R
+  readers_few i d l = let m = is.looks_are.seen (get_or R i d) (i, l, get_or_default R i (get_or R i d) d l) in few_committed h is.well_formed (get_or R i d).txn m.0 m.2.0.0
+
+  pub size_few : (size : ℕ) → IsSizeFor size keys A → size ≤ 1048576
+  size_few size sized = let f = keys_few in elim sized [ inl all ↦ omega arith | inr none ↦ let z = none.0 in omega arith ]
+
+  pub absences_fit : (size : ℕ) → IsSizeFor size keys A → All (FitsKeys size) A
+  absences_fit size sized i d l some =
+      let s = get_or A i d in
+      let c : Contains A s = (i, l, get_or_default A i s d l) in
+      let m = is.looks_are.absent s c (s.to - 1) (omega arith) (omega arith) in
+      let k = (key_at (s.to - 1) m.1 m.3).0 in
+      ((elim sized [ inl all ↦ omega arith | inr none ↦ let z = none.1 in absurd (omega arith) ]), few_committed h is.well_formed s.txn m.0 m.2)
+
   module _ (size : ℕ) (sized : IsSizeFor size keys A) (steps : List ℕ) (narrow : AreNarrowSteps size W R A steps) where
     abbrev floor : ℕ
     floor = 2 * size
@@ -140,19 +170,6 @@ module _ (h : List Event) (txns keys : List ℕ) (looks : Looks) (is : IsEvidenc
 
     abbrev name : ℕ → ℕ
     name = name_of size txns
-
-    size_fits : size ≤ 1048576
-    size_fits = elim sized [
-      inl all ↦ elim (cases_lt 0 size) [
-          inl some ↦
-              let j = size - 1 in
-              let k = get_or keys j 0 in
-              let f = few_keys h is.well_formed j k (keys, is.keys_are, (omega arith), refl) in
-              omega arith
-          | inr none ↦ omega arith
-          ]
-      | inr none ↦ let z = none.0 in omega arith
-      ]
 
     few_txn : (i t : ℕ) → IsCommittedAt h i t → i < 1048576
     few_txn i t at = few_committed h is.well_formed i t at
@@ -219,20 +236,20 @@ module _ (h : List Event) (txns keys : List ℕ) (looks : Looks) (is : IsEvidenc
 
     ends_of : (a b n : ℕ) → Contains steps n → step_source n ≡ a → step_target n ≡ b → Ends a b
     ends_of a b n c source target = elim (narrow.each n c) [
-      inl m ↦ of_member (member_edge n m)
+      | inl m ↦ of_member (member_edge n m)
       | inr o ↦ elim o [
-          inl half ↦ inr (inl (of_half half))
-          | inr p ↦ elim p [
-              inl leaf ↦ inr (inr (inl (of_leaf leaf)))
-              | inr absence ↦ inr (inr (inr (of_absence absence)))
-              ]
-          ]
+        | inl half ↦ inr (inl (of_half half))
+        | inr p ↦ elim p [
+          | inl leaf ↦ inr (inr (inl (of_leaf leaf)))
+          | inr absence ↦ inr (inr (inr (of_absence absence)))
+        ]
       ]
+    ]
       where
         of_member : IsEdgeStep n → Ends a b
         of_member w =
             let l = few_txn w.1 w.3 w.5 in
-            let m = size_fits in
+            let m = size_few size sized in
             let e = w.7 in
             let from : node_of size w.0 ≡ a = omega arith in
             let to : node_of size w.1 ≡ b = omega arith in
@@ -247,17 +264,17 @@ module _ (h : List Event) (txns keys : List ℕ) (looks : Looks) (is : IsEvidenc
 
         of_half : IsHalfStep size n → (a < size) × (0 < a) × (2 * a ≤ b) × (b ≤ 2 * a + 1)
         of_half w =
-            let m = size_fits in
+            let m = size_few size sized in
             let l = w.2 in
             let some = w.1 in
             elim w.3 [
-              inl e ↦ let f : n ≡ w.0 * 4294967296 + 2 * w.0 = e in (omega arith, omega arith, omega arith, omega arith)
+              | inl e ↦ let f : n ≡ w.0 * 4294967296 + 2 * w.0 = e in (omega arith, omega arith, omega arith, omega arith)
               | inr e ↦ let f : n ≡ w.0 * 4294967296 + (2 * w.0 + 1) = e in (omega arith, omega arith, omega arith, omega arith)
-              ]
+            ]
 
         of_leaf : FromSome (IsLeafStep size) narrow.firsts n → (a < floor) × (floor ≤ b) × IsAbove a b
         of_leaf f =
-            let m = size_fits in
+            let m = size_few size sized in
             let w = (narrow.firsts_are.each f.0).0 f.1 in
             let j = w.0 in
             let below = w.1 in
@@ -274,7 +291,7 @@ module _ (h : List Event) (txns keys : List ℕ) (looks : Looks) (is : IsEvidenc
         of_absence : FromSome (IsAbsenceStep size narrow.firsts) A n
             → (b < floor) × (s : Absence) × Contains A s × (a ≡ node_of size s.txn) × ((j : ℕ) → j < size → IsOver size b j → (s.from ≤ j) × (j < s.to) × ¬ Contains narrow.firsts (step_number s.txn j)) × (0 < b)
         of_absence f =
-            let m = size_fits in
+            let m = size_few size sized in
             let w = f.2 in
             let l = w.2 in
             let e = w.3 in
@@ -287,27 +304,27 @@ module _ (h : List Event) (txns keys : List ℕ) (looks : Looks) (is : IsEvidenc
     -- from a block one comes down to the transactions that made the first versions of the keys below
     down : (n b u : ℕ) → b < floor → floor ≤ u → IsWayThrough floor Step n b u → IsAbove b u
     down zero b u block member leads = elim (ends b u leads) [
-      inl m ↦ let l = m.0 in absurd (omega arith)
+      | inl m ↦ let l = m.0 in absurd (omega arith)
       | inr o ↦ elim o [
-          inl half ↦ let l = half.0 in let r = half.3 in absurd (omega arith)
-          | inr p ↦ elim p [
-              inl leaf ↦ leaf.2
-              | inr absence ↦ let l = absence.0 in absurd (omega arith)
-              ]
-          ]
+        | inl half ↦ let l = half.0 in let r = half.3 in absurd (omega arith)
+        | inr p ↦ elim p [
+          | inl leaf ↦ leaf.2
+          | inr absence ↦ let l = absence.0 in absurd (omega arith)
+        ]
       ]
+    ]
     down (suc n) b u block member way = elim (ends b way.0 way.1) [
-      inl m ↦ let l = m.0 in absurd (omega arith)
+      | inl m ↦ let l = m.0 in absurd (omega arith)
       | inr o ↦ elim o [
-          inl half ↦
-              let under = down n way.0 u way.2 member way.3 in
-              (under.0, under.1, over_half size b way.0 under.0 half.2 half.3 under.2, under.3, under.4, under.5)
-          | inr p ↦ elim p [
-              inl leaf ↦ let l = leaf.1 in let r = way.2 in absurd (omega arith)
-              | inr absence ↦ let e = absence.3 in absurd (omega arith)
-              ]
-          ]
+        | inl half ↦
+            let under = down n way.0 u way.2 member way.3 in
+            (under.0, under.1, over_half size b way.0 under.0 half.2 half.3 under.2, under.3, under.4, under.5)
+        | inr p ↦ elim p [
+          | inl leaf ↦ let l = leaf.1 in let r = way.2 in absurd (omega arith)
+          | inr absence ↦ let e = absence.3 in absurd (omega arith)
+        ]
       ]
+    ]
 
     -- so who was absent there has an edge to them
     absence_edge : (a b u : ℕ) (s : Absence) → Contains A s → a ≡ node_of size s.txn
@@ -320,8 +337,8 @@ module _ (h : List Event) (txns keys : List ℕ) (looks : Looks) (is : IsEvidenc
         let m = is.looks_are.absent s c j missed.0 missed.1 in
         let v = version_of first next.0 j m.1 m.3 next.1 in
         let other : m.0 ≢ v.0 = λ same.
-            missed.2 ((narrow.firsts_are.each (step_number s.txn j)).1
-            (j, above.1, (first, next, ap (λ x. step_number x j) (one_number s.txn first.txn v.0 (subst (λ x. IsCommittedAt h s.txn x) same m.2) v.1.0)))) in
+        missed.2 ((narrow.firsts_are.each (step_number s.txn j)).1
+        (j, above.1, (first, next, ap (λ x. step_number x j) (one_number s.txn first.txn v.0 (subst (λ x. IsCommittedAt h s.txn x) same m.2) v.1.0)))) in
         let edge : HasEdge h m.0 v.0 = (m.1, inr (inr ((rw_looks h is.well_formed looks is.looks_are m.0 v.0 m.1).1 (other, first, next.0, v.1, inr (s, c, (m.2, j, m.3, missed.0, missed.1)))))) in
         subst (λ x. HasEdge h x (name u)) (sym (named s.txn m.0 m.2) ∙ sym (ap name at))
         (subst (λ x. HasEdge h m.0 x) (sym (named first.txn v.0 v.1.0) ∙ sym (ap name above.5)) edge)
@@ -331,25 +348,25 @@ module _ (h : List Event) (txns keys : List ℕ) (looks : Looks) (is : IsEvidenc
       where
         by_length : (n : ℕ) → IsWayThrough floor Step n a u → HasEdge h (name a) (name u)
         by_length zero leads = elim (ends a u leads) [
-          inl m ↦ m.2
+          | inl m ↦ m.2
           | inr o ↦ elim o [
-              inl half ↦ let l = half.0 in let k = through.0 in absurd (omega arith)
-              | inr p ↦ elim p [
-                  inl leaf ↦ let l = leaf.0 in let k = through.0 in absurd (omega arith)
-                  | inr absence ↦ let l = absence.0 in let k = through.1 in absurd (omega arith)
-                  ]
-              ]
+            | inl half ↦ let l = half.0 in let k = through.0 in absurd (omega arith)
+            | inr p ↦ elim p [
+              | inl leaf ↦ let l = leaf.0 in let k = through.0 in absurd (omega arith)
+              | inr absence ↦ let l = absence.0 in let k = through.1 in absurd (omega arith)
+            ]
           ]
+        ]
         by_length (suc n) way = elim (ends a way.0 way.1) [
-          inl m ↦ let l = m.1 in let k = way.2 in absurd (omega arith)
+          | inl m ↦ let l = m.1 in let k = way.2 in absurd (omega arith)
           | inr o ↦ elim o [
-              inl half ↦ let l = half.0 in let k = through.0 in absurd (omega arith)
-              | inr p ↦ elim p [
-                  inl leaf ↦ let l = leaf.0 in let k = through.0 in absurd (omega arith)
-                  | inr absence ↦ absence_edge a way.0 u absence.1 absence.2 absence.3 absence.4 (down n way.0 u way.2 through.1 way.3)
-                  ]
-              ]
+            | inl half ↦ let l = half.0 in let k = through.0 in absurd (omega arith)
+            | inr p ↦ elim p [
+              | inl leaf ↦ let l = leaf.0 in let k = through.0 in absurd (omega arith)
+              | inr absence ↦ absence_edge a way.0 u absence.1 absence.2 absence.3 absence.4 (down n way.0 u way.2 through.1 way.3)
+            ]
           ]
+        ]
 
     -- and each narrow edge is such a way
     abbrev By : ℕ → ℕ → Type 0
@@ -359,7 +376,7 @@ module _ (h : List Event) (txns keys : List ℕ) (looks : Looks) (is : IsEvidenc
     by_step : (i j t u : ℕ) → IsCommittedAt h i t → IsCommittedAt h j u → Contains steps (step_number (node_of size i) (node_of size j)) → By t u
     by_step i j t u a b c =
         let l = few_txn j u b in
-        let m = size_fits in
+        let m = size_few size sized in
         (node_of size i, node_of size j, named i t a, named j u b, (omega arith, omega arith, 0, step_leads steps (node_of size i) (node_of size j) (omega arith) c))
 
     -- the first version after a place, told by the look of who made it
@@ -384,8 +401,8 @@ module _ (h : List Event) (txns keys : List ℕ) (looks : Looks) (is : IsEvidenc
         let a = next.0 in
         let less : c < n.2.0 = n.2.2 in
         let other : t ≢ u = λ same.
-            let e = one_commit h is.well_formed u c n.2.0 (subst (λ x. CommitsAt h x c) same n.1.1) n.2.1.1 in
-            omega arith in
+        let e = one_commit h is.well_formed u c n.2.0 (subst (λ x. CommitsAt h x c) same n.1.1) n.2.1.1 in
+        omega arith in
         by_step w.0.txn a.txn t u of.0.0 next.2 (narrow.members (step_number (node_of size w.0.txn) (node_of size a.txn))
         (inl (w.0, w.1, (a, subst (λ x. IsNext W w.0.key x a) (sym of.1) next.1, apart w.0.txn a.txn t u of.0.0 next.2 other, refl))))
 
@@ -397,7 +414,7 @@ module _ (h : List Event) (txns keys : List ℕ) (looks : Looks) (is : IsEvidenc
         let made = of.2 in
         let some = commits_above h t c n.1.1 in
         elim (is.looks_are.each_seen u k c t n.2 n.1.0 tt) [
-          inl r ↦
+          | inl r ↦
               let look = r.0 in
               let seen = reader_looked h is.well_formed looks is.looks_are look r.1 u k r.2 in
               let most = n.3 look.high seen.1 in
@@ -415,7 +432,7 @@ module _ (h : List Event) (txns keys : List ℕ) (looks : Looks) (is : IsEvidenc
 
     half_leads : (b c : ℕ) → 0 < b → b < size → (c ≡ 2 * b) ⊎ (c ≡ 2 * b + 1) → Step b c
     half_leads b c some below which =
-        let m = size_fits in
+        let m = size_few size sized in
         let fits : c < 4294967296 = elim which [ inl e ↦ omega arith | inr e ↦ omega arith ] in
         step_leads steps b c fits (narrow.halves (step_number b c) (b, some, below, elim which [ inl e ↦ inl (ap (step_number b) e) | inr e ↦ inr (ap (step_number b) e) ]))
 
@@ -434,7 +451,7 @@ module _ (h : List Event) (txns keys : List ℕ) (looks : Looks) (is : IsEvidenc
         let least : (2 * b) * 1 ≤ (2 * b) * 2 ^ e = mul-le-mul_left (2 * b) (omega arith) in
         let more : (2 * b + 1) * 1 ≤ (2 * b + 1) * 2 ^ e = mul-le-mul_left (2 * b + 1) (omega arith) in
         elim (cases_lt (size + j) ((2 * b + 1) * 2 ^ e)) [
-          inl left ↦
+          | inl left ↦
               let rest = way_down e (2 * b) j u (omega arith) below (omega arith) left leaf in
               (suc rest.0, (2 * b, half_leads b (2 * b) some (omega arith) (inl refl), omega arith, rest.1))
           | inr right ↦
@@ -445,19 +462,19 @@ module _ (h : List Event) (txns keys : List ℕ) (looks : Looks) (is : IsEvidenc
     -- an absence leads to who made the first version of one of its keys
     by_absence : (s : Absence) (t u k j : ℕ) → Contains A s → t ≢ u → IsCommittedAt h s.txn t → IsKeyAt h j k → s.from ≤ j → j < s.to → (a : Look) → IsNext W j 0 a → IsCommittedAt h a.txn u → By t u
     by_absence s t u k j c other at key from to a next made =
-        let m = size_fits in
+        let m = size_few size sized in
         let below : j < size = elim sized [ inl all ↦ let l = (key_at j k key).0 in omega arith | inr none ↦ let l = c.1 in let z = none.1 in absurd (omega arith) ] in
         let jfits = few_keys h is.well_formed j k key in
         let tfits = few_txn s.txn t at in
         let ufits = few_txn a.txn u made in
         let own : ¬ Contains narrow.firsts (step_number s.txn j) = λ i.
-            let w = (narrow.firsts_are.each (step_number s.txn j)).0 i in
-            let e = w.2.2 in
-            let l = w.1 in
-            let f = few_txns W can_search w.2.0 w.2.1.0 in
-            let same_key : w.0 ≡ j = omega arith in
-            let same_txn : w.2.0.txn ≡ s.txn = omega arith in
-            apart s.txn a.txn t u at made other (sym same_txn ∙ one_next_at W can_search j 0 w.2.0 a (subst (λ x. IsNext W x 0 w.2.0) same_key w.2.1) next) in
+        let w = (narrow.firsts_are.each (step_number s.txn j)).0 i in
+        let e = w.2.2 in
+        let l = w.1 in
+        let f = few_txns W can_search w.2.0 w.2.1.0 in
+        let same_key : w.0 ≡ j = omega arith in
+        let same_txn : w.2.0.txn ≡ s.txn = omega arith in
+        apart s.txn a.txn t u at made other (sym same_txn ∙ one_next_at W can_search j 0 w.2.0 a (subst (λ x. IsNext W x 0 w.2.0) same_key w.2.1) next) in
         let has = narrow.absent s c j below (from, to, own) in
         let b = has.0 in
         let first = step_number a.txn j in
@@ -475,7 +492,7 @@ module _ (h : List Event) (txns keys : List ℕ) (looks : Looks) (is : IsEvidenc
     narrow_rw k t u n =
         let c = n.1 in
         elim (is.looks_are.each_seen t k c u n.2 n.4.1.0 tt) [
-          inl r ↦
+          | inl r ↦
               let look = r.0 in
               let seen = reader_looked h is.well_formed looks is.looks_are look r.1 t k r.2 in
               let least = n.3 look.low seen.0 in
@@ -507,7 +524,7 @@ module _ (h : List Event) (txns keys : List ℕ) (looks : Looks) (is : IsEvidenc
     over_some : (n b : ℕ) → floor ≤ n + b → 0 < b → b < floor → (j : ℕ) × (j < size) × IsOver size b j
     over_some zero b enough some below = absurd (omega arith)
     over_some (suc n) b enough some below = elim (cases_lt b size) [
-      inl less ↦
+      | inl less ↦
           let w = over_some n (2 * b) (omega arith) (omega arith) (omega arith) in
           (w.0, w.1, over_half size b (2 * b) w.0 (omega arith) (omega arith) w.2)
       | inr more ↦ (b - size, omega arith, (0, (let z : b * 2 ^ 0 ≡ b = omega arith in omega arith), (let z : (b + 1) * 2 ^ 0 ≡ b + 1 = omega arith in omega arith)))
@@ -515,41 +532,41 @@ module _ (h : List Event) (txns keys : List ℕ) (looks : Looks) (is : IsEvidenc
 
     pub joined : (a b : ℕ) → Step a b → (a < floor + length txns) × (b < floor + length txns) × (a ≢ b)
     joined a b leads = elim (ends a b leads) [
-      inl m ↦ (m.3, m.4, m.5)
+      | inl m ↦ (m.3, m.4, m.5)
       | inr o ↦ elim o [
-          inl half ↦ let l = half.0 in let some = half.1 in let x = half.2 in let y = half.3 in (omega arith, omega arith, λ same. omega arith)
-          | inr p ↦ elim p [
-              inl leaf ↦
-                  let maker = leaf.2.3 in
-                  let m = is.looks_are.made maker leaf.2.4.0 in
-                  let l = (txn_at maker.txn m.0 m.3.0.0).0 in
-                  let at = leaf.2.5 in
-                  let x = leaf.0 in
-                  let y = leaf.1 in
-                  (omega arith, omega arith, λ same. omega arith)
-              | inr absence ↦
-                  let x = absence.0 in
-                  let at = absence.3 in
-                  let w = over_some floor b (omega arith) absence.5 absence.0 in
-                  let missed = absence.4 w.0 w.1 w.2 in
-                  let m = is.looks_are.absent absence.1 absence.2 w.0 missed.0 missed.1 in
-                  let l = (txn_at absence.1.txn m.0 m.2).0 in
-                  (omega arith, omega arith, λ same. omega arith)
-              ]
-          ]
+        | inl half ↦ let l = half.0 in let some = half.1 in let x = half.2 in let y = half.3 in (omega arith, omega arith, λ same. omega arith)
+        | inr p ↦ elim p [
+          | inl leaf ↦
+              let maker = leaf.2.3 in
+              let m = is.looks_are.made maker leaf.2.4.0 in
+              let l = (txn_at maker.txn m.0 m.3.0.0).0 in
+              let at = leaf.2.5 in
+              let x = leaf.0 in
+              let y = leaf.1 in
+              (omega arith, omega arith, λ same. omega arith)
+          | inr absence ↦
+              let x = absence.0 in
+              let at = absence.3 in
+              let w = over_some floor b (omega arith) absence.5 absence.0 in
+              let missed = absence.4 w.0 w.1 w.2 in
+              let m = is.looks_are.absent absence.1 absence.2 w.0 missed.0 missed.1 in
+              let l = (txn_at absence.1.txn m.0 m.2).0 in
+              (omega arith, omega arith, λ same. omega arith)
+        ]
       ]
+    ]
 
     ascending : (a b : ℕ) → Step a b → a < floor → b < floor → a < b
     ascending a b leads first second = elim (ends a b leads) [
-      inl m ↦ let l = m.0 in absurd (omega arith)
+      | inl m ↦ let l = m.0 in absurd (omega arith)
       | inr o ↦ elim o [
-          inl half ↦ let some = half.1 in let x = half.2 in omega arith
-          | inr p ↦ elim p [
-              inl leaf ↦ let l = leaf.1 in absurd (omega arith)
-              | inr absence ↦ let at = absence.3 in absurd (omega arith)
-              ]
-          ]
+        | inl half ↦ let some = half.1 in let x = half.2 in omega arith
+        | inr p ↦ elim p [
+          | inl leaf ↦ let l = leaf.1 in absurd (omega arith)
+          | inr absence ↦ let at = absence.3 in absurd (omega arith)
+        ]
       ]
+    ]
 
     has_by_kind : (t u : ℕ) → Leads (IsEdge h) t u → HasEdge h t u
     has_by_kind t u leads = let e = leads.0 in subst (λ x. HasEdge h x u) leads.2 (subst (λ x. HasEdge h e.src x) leads.3 (of_kind e.kind leads.1))
@@ -581,9 +598,6 @@ module _ (h : List Event) (txns keys : List ℕ) (looks : Looks) (is : IsEvidenc
       node_within : (a : ℕ) → Contains ids a → a < floor + length txns
       node_within a c = let l = c.1 in let e = at c.0 c.1 in let f = get_or_default ids c.0 0 a c.1 in let g = c.2 in omega arith
 
-      pub all_join_nodes : (a b : ℕ) → Step a b → Contains ids a × Contains ids b × (a ≢ b)
-      all_join_nodes a b leads = let w = joined a b leads in (is_node a w.0, is_node b w.1, w.2)
-
       pub stand : StandForAll h floor ids (edges_of_steps steps) name
       stand = record {
         blocks = record { joins = λ a b leads. let w = joined a b leads in (is_node a w.0, is_node b w.1); ascends = λ a b leads. ascending a b leads };
@@ -601,4 +615,15 @@ module _ (h : List Event) (txns keys : List ℕ) (looks : Looks) (is : IsEvidenc
               (is.txns_are.each t).0 (subst (λ z. Contains txns z) w.2 (w.0 - floor, inside, get_or_default txns (w.0 - floor) (get_or txns (w.0 - floor) 0) 0 inside))),
         );
         reach = reaches;
+      }
+
+      pub are_steps : IsStrictlyIncreasing ids → IsNonDecreasing steps → AreSteps ids steps
+      are_steps up rise = record {
+        ids_up = up;
+        are_places = at;
+        joins = λ k d l.
+            let n = get_or steps k d in
+            let w = joined (step_source n) (step_target n) (step_ends steps n (k, l, get_or_default steps k n d l)) in
+            (omega arith, omega arith, w.2);
+        rise = rise;
       }

@@ -20,7 +20,6 @@ one_next_at writers can key place a b n m =
     can.one a b n.0 m.0 (n.1 ∙ sym m.1) (omega arith)
 
 module _ (size : ℕ) (writers : List Look) (can : CanSearch writers) (look : Look) (old new : List ℕ) where
-
   one_newest : (a b : Look) → IsNewest writers look.key look.high a → IsNewest writers look.key look.high b → a.txn ≡ b.txn
   one_newest a b n m =
       let x = n.3 b m.0 m.1 m.2 in
@@ -58,11 +57,11 @@ half_more h some old mid before =
     let all = adds_both (λ n. IsHalfStep h n ⊎ (n ≡ first)) (λ n. n ≡ second) old (mid ++ first ∷ []) ((mid ++ first ∷ []) ++ second ∷ []) (adds_both (IsHalfStep h) (λ n. n ≡ first) old mid (mid ++ first ∷ []) before one) two in
     adds_same (λ n. (IsHalfStep h n ⊎ (n ≡ first)) ⊎ (n ≡ second)) (IsHalfStep (h + 1)) old ((mid ++ first ∷ []) ++ second ∷ [])
     (λ n e. elim e [
-      inl f ↦ elim f [ inl w ↦ (w.0, w.1, (let l = w.2 in omega arith), w.3) | inr s ↦ (h, some, omega arith, inl s) ]
+      | inl f ↦ elim f [ inl w ↦ (w.0, w.1, (let l = w.2 in omega arith), w.3) | inr s ↦ (h, some, omega arith, inl s) ]
       | inr s ↦ (h, some, omega arith, inr s)
     ])
     (λ n w. elim (cases_lt w.0 h) [
-      inl l ↦ inl (inl (w.0, w.1, l, w.3))
+      | inl l ↦ inl (inl (w.0, w.1, l, w.3))
       | inr l ↦
           let same : w.0 ≡ h = let m = w.2 in omega arith in
           elim w.3 [ inl s ↦ inl (inr (let t = s in omega arith)) | inr s ↦ inr (let t = s in omega arith) ]
@@ -93,7 +92,7 @@ firsts_more writers key old mid new before here =
     adds_same (λ n. IsFirstNumber key writers n ⊎ IsFirstOf writers key n) (IsFirstNumber (key + 1) writers) old new
     (λ n e. elim e [ inl w ↦ (w.0, (let l = w.1 in omega arith), w.2) | inr f ↦ (key, omega arith, f) ])
     (λ n w. elim (cases_lt w.0 key) [
-      inl l ↦ inl (w.0, l, w.2)
+      | inl l ↦ inl (w.0, l, w.2)
       | inr l ↦ let same : w.0 ≡ key = let m = w.1 in omega arith in inr (subst (λ j. IsFirstOf writers j n) same w.2)
     ])
     (adds_both (IsFirstNumber key writers) (IsFirstOf writers key) old mid new before here)
@@ -133,10 +132,10 @@ all_steps size writers readers absences firsts a b c d are first second third ke
       firsts = firsts;
       firsts_are = are;
       each = λ n i. elim (each n i) [
-        inl o ↦ elim ((held n).0 o) [
-            inl f ↦ elim f [ inl m ↦ inl m | inr h ↦ inr (inl h) ]
-            | inr l ↦ inr (inr (inl l))
-            ]
+        | inl o ↦ elim ((held n).0 o) [
+          | inl f ↦ elim f [ inl m ↦ inl m | inr h ↦ inr (inl h) ]
+          | inr l ↦ inr (inr (inl l))
+        ]
         | inr m ↦ inr (inr (inr m))
       ];
       members = λ n p. kept n ((held n).1 (inl (inl p)));

@@ -37,14 +37,14 @@ module _ (writers : List Look) (rise : RiseByRank writers) (small : All (λ a. a
 
   pub none_next_of : (x : Look) (there : Contains writers x) → there.0 ≡ at → x.key ≢ key → (a : Look) → Contains writers a → a.key ≡ key → a.high ≤ place
   none_next_of x there is other a c same = elim (cases_lt c.0 at) [
-    inl l ↦ let r = stands_before a c l in omega arith
+    | inl l ↦ let r = stands_before a c l in omega arith
     | inr l ↦
         let r = rises x a there c (omega arith) in
         let s = stands_after x there (omega arith) in
         let f = is_small a c in
         let g = is_small x there in
         absurd (other (omega arith))
-    ]
+  ]
 
   pub is_next : (x : Look) (there : Contains writers x) → there.0 ≡ at → x.key ≡ key → IsNext writers key place x
   is_next x there is same = (
@@ -52,21 +52,21 @@ module _ (writers : List Look) (rise : RiseByRank writers) (small : All (λ a. a
     same,
     (let s = stands_after x there (omega arith) in omega arith),
     λ b c other later. elim (cases_lt c.0 at) [
-      inl l ↦ let r = stands_before b c l in absurd (omega arith)
+      | inl l ↦ let r = stands_before b c l in absurd (omega arith)
       | inr l ↦ let r = rises x b there c (omega arith) in omega arith
-      ],
+    ],
   )
 
   pub none_newest_of : (x : Look) (there : Contains writers x) → there.0 + 1 ≡ at → x.key ≢ key → (a : Look) → Contains writers a → a.key ≡ key → place < a.high
   none_newest_of x there is other a c same = elim (cases_lt c.0 at) [
-    inl l ↦
+    | inl l ↦
         let r = rises a x c there (omega arith) in
         let s = stands_before x there (omega arith) in
         let f = is_small a c in
         let g = is_small x there in
         absurd (other (omega arith))
     | inr l ↦ let r = stands_after a c l in omega arith
-    ]
+  ]
 
   pub is_newest : (x : Look) (there : Contains writers x) → there.0 + 1 ≡ at → x.key ≡ key → IsNewest writers key place x
   is_newest x there is same = (
@@ -74,7 +74,7 @@ module _ (writers : List Look) (rise : RiseByRank writers) (small : All (λ a. a
     same,
     (let s = stands_before x there (omega arith) in omega arith),
     λ b c other earlier. elim (cases_lt c.0 at) [
-      inl l ↦ let r = rises b x c there (omega arith) in omega arith
+      | inl l ↦ let r = rises b x c there (omega arith) in omega arith
       | inr l ↦ let r = stands_after b c l in absurd (omega arith)
-      ],
+    ],
   )

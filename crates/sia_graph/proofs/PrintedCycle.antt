@@ -11,6 +11,14 @@ use Rattle.sia_graph.specs.Walks.{AreLeastSources, AreLeft, ArePreviousFrom, IsF
 use Rattle.sia_graph.proofs.AscendingIds.{ids_no_less}
 use Rattle.sia_graph.proofs.Walks.{back_more, back_next, within_round, round_again}
 
+-- where what is left is stuck, it has an edge from what is left
+pub fed_by_stuck : (ids : List ℕ) (IsMember : ℕ → Type 0) (IsEdge : Edge → Type 0) (IsLeft : ℕ → Type 0) (stuck : List ℕ) → AreLeft ids IsLeft stuck → IsStuckSet IsMember IsEdge stuck
+    → IsFedBack ids IsEdge IsLeft
+fed_by_stuck ids IsMember IsEdge IsLeft stuck left set i l is =
+    let s = set.self_fed (get_or ids i 0) ((left (get_or ids i 0)).1 (i, l, refl, is)) in
+    let p = (left s.1).0 s.2 in
+    (p.0, (p.1, p.3, subst (λ x. Leads IsEdge x (get_or ids i 0)) (sym p.2) s.3))
+
 -- what is left leads back to least sources, on the whole way back from start, where all that is left has a source that is left
 module _ (ids : List ℕ) (IsEdge : Edge → Type 0) (IsLeft : ℕ → Type 0) (previous : List ℕ) (start : ℕ) (least : AreLeastSources ids IsEdge IsLeft previous) (within : start < length ids) (left : IsLeft start)
     (fed : IsFedBack ids IsEdge IsLeft) where

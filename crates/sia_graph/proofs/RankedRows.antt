@@ -18,10 +18,10 @@ true_test a b c d test = grind (arith, nat_tests)
 test_true : (a b c d : ℕ) → (a < c) ⊎ ((a ≡ c) × (b < d)) → (ltb a c || (eqb a c && ltb b d)) ≡ true
 test_true a b c d is = grind (arith, nat_tests)
 
-pub true_below : (key bound : ℕ) (look : Look) → is_below key bound look ≡ true → (look.key < key) ⊎ ((look.key ≡ key) × (look.low < bound))
+true_below : (key bound : ℕ) (look : Look) → is_below key bound look ≡ true → (look.key < key) ⊎ ((look.key ≡ key) × (look.low < bound))
 true_below key bound look test = true_test look.key look.low key bound test
 
-pub below_true : (key bound : ℕ) (look : Look) → (look.key < key) ⊎ ((look.key ≡ key) × (look.low < bound)) → is_below key bound look ≡ true
+below_true : (key bound : ℕ) (look : Look) → (look.key < key) ⊎ ((look.key ≡ key) × (look.low < bound)) → is_below key bound look ≡ true
 below_true key bound look is = test_true look.key look.low key bound is
 
 module _ (rows : List Look) (rise : RiseByPlace rows) where
@@ -77,7 +77,7 @@ module _ (looks : List Look) (ranks : List ℕ) (rise : RiseByPlace looks) (n ke
   ]
 
   module _ (rank : ℕ) (is_rank : (r : ℕ) → IsRankOf ranks look.txn r ↔ ((r ≡ rank) × (r < 4294967295))) where
-    pub one_rank : rank < 4294967295 → IsRankWithin looks ranks (n + 1) look.key rank
+    one_rank : rank < 4294967295 → IsRankWithin looks ranks (n + 1) look.key rank
     one_rank less = (n, look, omega arith, within, at look, refl, (is_rank rank).1 (refl, less))
 
     pub rank_back : (q : ℕ) → IsRankWithin looks ranks (n + 1) look.key q → IsRankWithin looks ranks n look.key q ⊎ (q ≡ rank)

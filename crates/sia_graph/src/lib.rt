@@ -12,10 +12,11 @@ pub use laws::{
     blocks_law, closure_law, firsts_law, listing_law, pivot_law, replay_law, ssi_law, stand_in_law,
 };
 pub use narrow::Evidence;
+pub use narrow::judging::{passes, settle_looks};
 pub use pivot::Pivot;
 pub use pivoting::lifetimes::{Lifetime, lifetimes_of};
 pub use pivoting::links::Link;
-pub use pivoting::passing::{passes, ssi_pass};
+pub use pivoting::passing::ssi_pass;
 pub use pivoting::vulnerable_numbers::vulnerable_in;
 pub use pivoting::{pivots, pivots_of_links};
 pub use replaying::{Mismatch, ReplayFault, replay};

@@ -1,13 +1,25 @@
 //! The verdict of a history from narrow edges: few steps that lead wherever all its edges lead.
-pub(crate) mod blocks;
 mod absences;
 mod all_steps;
+pub(crate) mod blocks;
+mod by_transaction;
+mod cycle;
+mod earlier;
+mod extremes;
 mod firsts;
 mod grouped;
+pub(crate) mod judging;
+mod least_edges;
+mod limits;
+mod missed;
+mod nodes;
+mod ordering;
+mod previous;
 mod ranked;
-mod two;
+mod sources;
 mod steps;
 mod taking;
+mod two;
 mod versions;
 
 use sia_events::{Key, TxnId};

@@ -17,7 +17,7 @@ use sia_events::Key;
 use std::alloc::{AllocError, Global};
 
 /// The version, and the identity of the kit whose prover has checked it.
-const VERSION: &str = "0.2.0 (rattle-kit-13b logic dac8208d650f15bf)";
+const VERSION: &str = "0.2.0 (Rattle logic dac8208d650f15bf)";
 
 const ABOUT: &str = "Audits a history that a multiversion store recorded. Was snapshot isolation
 kept, and does a serial order explain the committed transactions? The history

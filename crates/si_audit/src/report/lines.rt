@@ -1,10 +1,12 @@
 // The lines of a report.
-ghost use Rattle.std.specs.Prelude.{◌≡◌, ◌++◌, OnOk};
+ghost use Rattle.std.specs.Prelude.{◌≡◌, ◌++◌, flat_map, OnOk};
 ghost use Rattle.si_audit.specs.Lines as lines;
+ghost use Rattle.si_audit.specs.Spaced.{spaced};
 
 use crate::audit::counts::Counts;
-use crate::report::words::{kind_word, push_key, push_number, reason_words};
+use crate::report::words::{Words, kind_word, number, push_line, push_words, reason_words};
 use sia_events::TextFault;
+use sia_graph::{Pivot, Step, Verdict};
 use sia_parts::{BadRead, BadWrite, Edge, Unexplained};
 use std::alloc::AllocError;
 
@@ -14,14 +16,11 @@ pub(crate) fn push_refusal(out: &mut Vec<u8>, fault: &TextFault) -> Result<(), A
 {
     match fault {
         TextFault::NoMemory => Ok(()),
-        TextFault::TextTooLong => out.extend_from_slice(b"refused: text too long\n"),
+        TextFault::TextTooLong => push_line(out, b"refused: text too long", &[]),
         TextFault::Refused { token, reason } => {
-            out.extend_from_slice(b"refused: token ")?;
-            push_number(out, *token)?;
-            out.extend_from_slice(b": ")?;
-            out.extend_from_slice(reason_words(*reason))?;
-            out.extend_from_slice(b"\n")?;
-            Ok(())
+            let token = Words::Token(u64::from(*token));
+            let reason = Words::Text(reason_words(*reason));
+            push_line(out, b"refused: token", &[token, reason])
         }
     }
 }
@@ -31,111 +30,143 @@ pub(crate) fn push_events(out: &mut Vec<u8>, n: &Counts) -> Result<(), AllocErro
     ensures { OnOk result (out.new.items ≡ out.old.items
         ++ lines.events_line n.now.events n.now.committed n.now.aborted n.now.unfinished) }
 {
-    out.extend_from_slice(b"events ")?;
-    push_number(out, n.events)?;
-    out.extend_from_slice(b" committed ")?;
-    push_number(out, n.committed)?;
-    out.extend_from_slice(b" aborted ")?;
-    push_number(out, n.aborted)?;
-    out.extend_from_slice(b" open ")?;
-    push_number(out, n.unfinished)?;
-    out.extend_from_slice(b"\n")?;
-    Ok(())
+    let words = [
+        number(n.events),
+        Words::Text(b"committed"),
+        number(n.committed),
+        Words::Text(b"aborted"),
+        number(n.aborted),
+        Words::Text(b"open"),
+        number(n.unfinished),
+    ];
+    push_line(out, b"events", &words)
 }
 
 /// Whether isolation was kept.
 pub(crate) fn push_isolation(out: &mut Vec<u8>, kept: bool) -> Result<(), AllocError>
     ensures { OnOk result (out.new.items ≡ out.old.items ++ lines.isolation_line kept) }
 {
-    if kept {
-        out.extend_from_slice(b"isolation kept\n")
-    } else {
-        out.extend_from_slice(b"isolation broken\n")
-    }
+    let word: &[u8] = if kept { b"kept" } else { b"broken" };
+    push_line(out, b"isolation", &[Words::Text(word)])
 }
 
 /// Whether the test of serializable snapshot isolation is passed.
 pub(crate) fn push_ssi(out: &mut Vec<u8>, pass: bool) -> Result<(), AllocError>
     ensures { OnOk result (out.new.items ≡ out.old.items ++ lines.ssi_line pass) }
 {
-    if pass {
-        out.extend_from_slice(b"ssi pass\n")
-    } else {
-        out.extend_from_slice(b"ssi fail\n")
-    }
+    let word: &[u8] = if pass { b"pass" } else { b"fail" };
+    push_line(out, b"ssi", &[Words::Text(word)])
 }
 
 /// Whether the history is serializable.
 pub(crate) fn push_serializable(out: &mut Vec<u8>, serializable: bool) -> Result<(), AllocError>
     ensures { OnOk result (out.new.items ≡ out.old.items ++ lines.serializable_line serializable) }
 {
-    if serializable {
-        out.extend_from_slice(b"serializable yes\n")
-    } else {
-        out.extend_from_slice(b"serializable no\n")
-    }
+    let word: &[u8] = if serializable { b"yes" } else { b"no" };
+    push_line(out, b"serializable", &[Words::Text(word)])
 }
 
 /// One bad read.
 pub(crate) fn push_bad_read(out: &mut Vec<u8>, b: &BadRead) -> Result<(), AllocError>
     ensures { OnOk result (out.new.items ≡ out.old.items ++ lines.bad_read_line b.now) }
 {
-    out.extend_from_slice(b"bad-read ")?;
-    push_number(out, b.place)?;
-    out.extend_from_slice(b" ")?;
-    push_number(out, b.txn)?;
-    out.extend_from_slice(b" ")?;
-    push_key(out, b.key)?;
-    out.extend_from_slice(b" saw ")?;
-    push_number(out, b.saw)?;
-    out.extend_from_slice(b" due ")?;
-    push_number(out, b.due)?;
-    out.extend_from_slice(b"\n")?;
-    Ok(())
+    let words = [
+        number(b.place),
+        number(b.txn),
+        Words::Number(b.key),
+        Words::Text(b"saw"),
+        number(b.saw),
+        Words::Text(b"due"),
+        number(b.due),
+    ];
+    push_line(out, b"bad-read", &words)
 }
 
 /// One bad write.
 pub(crate) fn push_bad_write(out: &mut Vec<u8>, b: &BadWrite) -> Result<(), AllocError>
     ensures { OnOk result (out.new.items ≡ out.old.items ++ lines.bad_write_line b.now) }
 {
-    out.extend_from_slice(b"bad-write ")?;
-    push_key(out, b.key)?;
-    out.extend_from_slice(b" ")?;
-    push_number(out, b.first)?;
-    out.extend_from_slice(b" ")?;
-    push_number(out, b.second)?;
-    out.extend_from_slice(b"\n")?;
-    Ok(())
+    let words = [Words::Number(b.key), number(b.first), number(b.second)];
+    push_line(out, b"bad-write", &words)
 }
 
 /// One unexplained read.
 pub(crate) fn push_unexplained(out: &mut Vec<u8>, b: &Unexplained) -> Result<(), AllocError>
     ensures { OnOk result (out.new.items ≡ out.old.items ++ lines.unexplained_line b.now) }
 {
-    out.extend_from_slice(b"unexplained ")?;
-    push_number(out, b.place)?;
-    out.extend_from_slice(b" ")?;
-    push_number(out, b.txn)?;
-    out.extend_from_slice(b" ")?;
-    push_key(out, b.key)?;
-    out.extend_from_slice(b" ")?;
-    push_number(out, b.saw)?;
-    out.extend_from_slice(b"\n")?;
-    Ok(())
+    let words = [
+        number(b.place),
+        number(b.txn),
+        Words::Number(b.key),
+        number(b.saw),
+    ];
+    push_line(out, b"unexplained", &words)
 }
 
 /// One edge.
 pub(crate) fn push_edge(out: &mut Vec<u8>, e: &Edge) -> Result<(), AllocError>
     ensures { OnOk result (out.new.items ≡ out.old.items ++ lines.edge_line e.now) }
 {
-    out.extend_from_slice(b"edge ")?;
-    push_number(out, e.src)?;
-    out.extend_from_slice(b" ")?;
-    out.extend_from_slice(kind_word(e.kind))?;
-    out.extend_from_slice(b" ")?;
-    push_number(out, e.dst)?;
-    out.extend_from_slice(b" ")?;
-    push_key(out, e.key)?;
+    let words = [
+        number(e.src),
+        Words::Text(kind_word(e.kind)),
+        number(e.dst),
+        Words::Number(e.key),
+    ];
+    push_line(out, b"edge", &words)
+}
+
+/// One pivot.
+pub(crate) fn push_pivot(out: &mut Vec<u8>, p: &Pivot) -> Result<(), AllocError>
+    ensures { OnOk result (out.new.items ≡ out.old.items ++ lines.pivot_line p.now) }
+{
+    let words = [
+        number(p.txn),
+        Words::Text(b"in"),
+        Words::Numbers(p.ins.as_slice()),
+        Words::Text(b"out"),
+        Words::Numbers(p.outs.as_slice()),
+        Words::Firsts(p.firsts.as_slice()),
+    ];
+    push_line(out, b"pivot", &words)
+}
+
+/// The order, or the cycle.
+pub(crate) fn push_verdict(out: &mut Vec<u8>, verdict: &Verdict) -> Result<(), AllocError>
+    ensures { OnOk result (out.new.items ≡ out.old.items ++ lines.verdict_line verdict.now) }
+{
+    match verdict {
+        Verdict::Order(order) => push_line(out, b"order", &[Words::Numbers(order.as_slice())]),
+        Verdict::Cycle(steps) => push_cycle(out, steps.as_slice()),
+    }
+}
+
+fn push_cycle(out: &mut Vec<u8>, steps: &[Step]) -> Result<(), AllocError>
+    ensures { OnOk result (out.new.items ≡ out.old.items ++ lines.cycle_line steps.now) }
+{
+    out.extend_from_slice(b"cycle")?;
+    push_steps(out, steps)?;
+    push_home(out, steps)?;
     out.extend_from_slice(b"\n")?;
     Ok(())
+}
+
+/// The transactions of a cycle, each with the edge from it to the next.
+fn push_steps(out: &mut Vec<u8>, steps: &[Step]) -> Result<(), AllocError>
+    ensures { OnOk result (out.new.items ≡ out.old.items ++ flat_map (λ s. spaced (lines.step_words s)) steps.now) }
+{
+    for s in steps {
+        push_words(out, &[number(s.txn), Words::Edge(s.kind, s.key)])?;
+    }
+    Ok(())
+}
+
+/// The first transaction of a cycle, where it comes again.
+fn push_home(out: &mut Vec<u8>, steps: &[Step]) -> Result<(), AllocError>
+    ensures { OnOk result (out.new.items ≡ out.old.items ++ spaced (lines.home_word steps.now)) }
+{
+    match steps.first() {
+        None => Ok(()),
+        Some(first) => push_words(out, &[number(first.txn)]),
+    }
 }

@@ -11,11 +11,10 @@ use crate::audit::findings::Audit;
 use crate::audit::judgement::Judgement;
 use crate::cli::form::Form;
 use crate::report::lines::{
-    push_bad_read, push_bad_write, push_edge, push_events, push_isolation, push_serializable,
-    push_ssi, push_unexplained,
+    push_bad_read, push_bad_write, push_edge, push_events, push_isolation, push_pivot,
+    push_serializable, push_ssi, push_unexplained, push_verdict,
 };
 use crate::report::listing::Listing;
-use crate::report::longer_lines::{push_pivot, push_verdict};
 use sia_events::NoMemory;
 use sia_graph::{Pivot, Verdict};
 use sia_parts::{BadRead, BadWrite, Edge, Unexplained};

@@ -1,43 +1,114 @@
-// The words and numbers of the lines of a report.
-ghost use Rattle.std.specs.Prelude.{◌≡◌, ℕ, ◌∷◌, ◌++◌, OnOk};
+// The words of the lines of a report.
+ghost use Rattle.std.specs.Prelude.{◌≡◌, [], ◌∷◌, ◌++◌, flat_map, map, OnOk};
 ghost use Rattle.sia_events.specs.Text.{numeral};
 ghost use Rattle.si_audit.specs.Lines as lines;
-ghost use Rattle.si_audit.specs.Spaced.{spaced_numbers};
+ghost use Rattle.si_audit.specs.Spaced.{spaced, words_of};
+ghost use Rattle.si_audit.specs.declared.report.words.Words.TheVariants as some;
 
 use itoa::Buffer;
-use sia_events::{Reason, TxnId};
+use sia_events::{Key, Reason, TxnId};
 use sia_parts::Kind;
 use std::alloc::AllocError;
 
-pub(crate) fn push_key(out: &mut Vec<u8>, n: u64) -> Result<(), AllocError>
-    ensures { OnOk result (out.new.items ≡ out.old.items ++ numeral n) }
+/// Some words of a line.
+#[derive(Clone, Copy)]
+pub(crate) enum Words<'a> {
+    Text(&'a [u8]),
+    Number(u64),
+    /// The number of a refused token, and a colon.
+    Token(u64),
+    /// The edge of a step of a cycle.
+    Edge(Kind, Key),
+    Numbers(&'a [TxnId]),
+    /// The transactions that commit first, behind the word `first`, if there are any.
+    Firsts(&'a [TxnId]),
+}
+
+/// The number as a word.
+pub(crate) fn number(n: u32) -> Words<'static>
+    ensures { words_of result ≡ numeral n ∷ [] }
 {
-    let mut buffer = Buffer::new();
-    out.extend_from_slice(buffer.format(n).as_bytes())?;
+    Words::Number(u64::from(n))
+}
+
+/// A line of these words, behind its first.
+pub(crate) fn push_line(out: &mut Vec<u8>, first: &[u8], words: &[Words]) -> Result<(), AllocError>
+    ensures { OnOk result (out.new.items ≡ out.old.items ++ lines.line (first.now ∷ flat_map words_of words.now)) }
+{
+    out.extend_from_slice(first)?;
+    push_words(out, words)?;
+    out.extend_from_slice(b"\n")?;
     Ok(())
 }
 
-pub(crate) fn push_number(out: &mut Vec<u8>, n: u32) -> Result<(), AllocError>
-    ensures { OnOk result (out.new.items ≡ out.old.items ++ numeral n) }
+/// Each of these words after a space.
+pub(crate) fn push_words(out: &mut Vec<u8>, words: &[Words]) -> Result<(), AllocError>
+    ensures { OnOk result (out.new.items ≡ out.old.items ++ spaced (flat_map words_of words.now)) }
 {
-    push_key(out, u64::from(n))
-}
-
-/// Each number after a space.
-pub(crate) fn push_numbers(out: &mut Vec<u8>, numbers: &[TxnId]) -> Result<(), AllocError>
-    ensures { OnOk result (out.new.items ≡ out.old.items ++ spaced_numbers numbers.now) }
-{
-    for n in numbers {
-        push_spaced(out, *n)?;
+    for some in words {
+        push_some(out, some)?;
     }
     Ok(())
 }
 
-fn push_spaced(out: &mut Vec<u8>, n: u32) -> Result<(), AllocError>
-    ensures { OnOk result (out.new.items ≡ out.old.items ++ 32 ∷ numeral n) }
+fn push_some(out: &mut Vec<u8>, words: &Words) -> Result<(), AllocError>
+    ensures { OnOk result (out.new.items ≡ out.old.items ++ spaced (words_of words.now)) }
+{
+    match words {
+        Words::Text(text) => push_word(out, text),
+        Words::Number(n) => push_number(out, b" ", *n, b""),
+        Words::Token(n) => push_number(out, b" ", *n, b":"),
+        Words::Edge(kind, key) => push_edge(out, *kind, *key),
+        Words::Numbers(numbers) => push_numbers(out, numbers),
+        Words::Firsts(firsts) => push_firsts(out, firsts),
+    }
+}
+
+fn push_word(out: &mut Vec<u8>, word: &[u8]) -> Result<(), AllocError>
+    ensures { OnOk result (out.new.items ≡ out.old.items ++ 32 ∷ word.now) }
 {
     out.extend_from_slice(b" ")?;
-    push_number(out, n)?;
+    out.extend_from_slice(word)?;
+    Ok(())
+}
+
+/// A number between some bytes.
+fn push_number(out: &mut Vec<u8>, before: &[u8], n: u64, behind: &[u8]) -> Result<(), AllocError>
+    ensures { OnOk result (out.new.items ≡ out.old.items ++ before.now ++ numeral n ++ behind.now) }
+{
+    let mut buffer = Buffer::new();
+    out.extend_from_slice(before)?;
+    out.extend_from_slice(buffer.format(n).as_bytes())?;
+    out.extend_from_slice(behind)?;
+    Ok(())
+}
+
+fn push_edge(out: &mut Vec<u8>, kind: Kind, key: Key) -> Result<(), AllocError>
+    ensures { OnOk result (out.new.items ≡ out.old.items ++ spaced (words_of (some.Edge kind key))) }
+{
+    out.extend_from_slice(b" >")?;
+    out.extend_from_slice(kind_word(kind))?;
+    push_number(out, b":", key, b">")?;
+    Ok(())
+}
+
+fn push_numbers(out: &mut Vec<u8>, numbers: &[TxnId]) -> Result<(), AllocError>
+    ensures { OnOk result (out.new.items ≡ out.old.items ++ spaced (map numeral numbers.now)) }
+{
+    for n in numbers {
+        push_number(out, b" ", u64::from(*n), b"")?;
+    }
+    Ok(())
+}
+
+fn push_firsts(out: &mut Vec<u8>, firsts: &[TxnId]) -> Result<(), AllocError>
+    ensures { OnOk result (out.new.items ≡ out.old.items ++ spaced (lines.first_words firsts.now)) }
+{
+    if firsts.is_empty() {
+        return Ok(());
+    }
+    out.extend_from_slice(b" first")?;
+    push_numbers(out, firsts)?;
     Ok(())
 }
 

@@ -221,7 +221,7 @@ fn words_that_ask_for_the_version(rt: HostRuntime) -> Result<(), Fail> {
         match &answer {
             Err(LineFault::Help(text)) => {
                 assert!(rt;
-                    text.as_str().starts_with("si_audit 0.2.0 (rattle-kit-13b"),
+                    text.as_str().starts_with("si_audit 0.2.0 (Rattle logic "),
                     "{text}"
                 );
             }

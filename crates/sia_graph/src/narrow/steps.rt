@@ -37,12 +37,7 @@ pub(crate) fn node(size: u32, txn: u32) -> u32
 }
 
 /// Adds the step from one transaction to another, where they differ.
-fn put_between(
-    size: u32,
-    source: u32,
-    target: u32,
-    steps: &mut Vec<u64>,
-) -> Result<(), NoMemory>
+fn put_between(size: u32, source: u32, target: u32, steps: &mut Vec<u64>) -> Result<(), NoMemory>
     requires few { (size ≤ 1048576) × (source < 1048576) × (target < 1048576) }
     ensures { OnOk result (Adds (λ n. (source ≢ target) × (n ≡ step_number (node_of size source) (node_of size target))) steps.old.items steps.new.items) }
 {
@@ -53,12 +48,7 @@ fn put_between(
 }
 
 /// Adds the step from who made or saw a version to the next version.
-fn put_next(
-    size: u32,
-    writers: &[Look],
-    look: Look,
-    steps: &mut Vec<u64>,
-) -> Result<(), NoMemory>
+fn put_next(size: u32, writers: &[Look], look: Look, steps: &mut Vec<u64>) -> Result<(), NoMemory>
     requires writers { CanSearch writers.now }
     requires few { (size ≤ 1048576) × (look.txn < 1048576) }
     ensures { OnOk result (Adds (IsNextStep size writers.now look) steps.old.items steps.new.items) }
@@ -87,12 +77,7 @@ pub(crate) fn put_next_steps(
 }
 
 /// Adds the step to who saw a version from who made it, or the one before.
-fn put_newest(
-    size: u32,
-    writers: &[Look],
-    look: Look,
-    steps: &mut Vec<u64>,
-) -> Result<(), NoMemory>
+fn put_newest(size: u32, writers: &[Look], look: Look, steps: &mut Vec<u64>) -> Result<(), NoMemory>
     requires writers { CanSearch writers.now }
     requires few { (size ≤ 1048576) × (look.txn < 1048576) }
     ensures { OnOk result (Adds (IsNewestStep size writers.now look) steps.old.items steps.new.items) }

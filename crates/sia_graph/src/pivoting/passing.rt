@@ -1,8 +1,8 @@
 //! The test of serializable snapshot isolation.
-ghost use Rattle.std.specs.Prelude.{[], ◌≡◌, ◌↔◌, All, IsTrue, List, ⊤};
+ghost use Rattle.std.specs.Prelude.{[], ◌≡◌, ◌↔◌, All, IsTrue, List};
 ghost use Rattle.sia_events.specs.declared.event.Event.{Event};
 ghost use Rattle.sia_events.specs.DangerousStructures.{PassesSsi};
-ghost use Rattle.sia_parts.specs.Findings.{AreFindings, ListsBadReads, ListsBadWrites};
+ghost use Rattle.sia_parts.specs.Findings.{AreFindings};
 ghost use Rattle.sia_graph.specs.Pivots.{ArePivots};
 
 use crate::pivot::Pivot;
@@ -15,17 +15,7 @@ pub fn ssi_pass(f: &Findings, p: &[Pivot]) -> bool
     ensures empty { IsTrue result ↔ ((f.now.bad_reads.items ≡ []) × (f.now.bad_writes.items ≡ []) × All (λ pivot. pivot.firsts ≡ []) p.now) }
     ensures passes { (h : List Event) → AreFindings h f.now → ArePivots h p.now → IsTrue result ↔ PassesSsi h }
 {
-    passes(&f.bad_reads, &f.bad_writes, p)
-}
-
-/// The same of the bad reads and the bad writes alone, which are those of the history at all keys.
-pub fn passes(bad_reads: &[BadRead], bad_writes: &[BadWrite], p: &[Pivot]) -> bool
-    requires { (h : List Event) × ListsBadReads h (λ _. ⊤) bad_reads.now × ListsBadWrites h (λ _. ⊤) bad_writes.now × ArePivots h p.now }
-    ensures empty { IsTrue result ↔ ((bad_reads.now ≡ []) × (bad_writes.now ≡ []) × All (λ pivot. pivot.firsts ≡ []) p.now) }
-    ensures passes { (h : List Event) → ListsBadReads h (λ _. ⊤) bad_reads.now → ListsBadWrites h (λ _. ⊤) bad_writes.now → ArePivots h p.now
-        → IsTrue result ↔ PassesSsi h }
-{
-    has_none(bad_reads, bad_writes, p)
+    has_none(&f.bad_reads, &f.bad_writes, p)
 }
 
 /// Whether there is no bad read, no bad write, and no pivot with a first.

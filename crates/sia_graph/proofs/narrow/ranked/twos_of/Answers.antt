@@ -1,9 +1,8 @@
 -- One look more each time.
-use Rattle.std.proofs.Common.{◌≡◌, length, get_or, subst, sym, arith}
+use Rattle.std.proofs.Common.{get_or, arith}
 use Rattle.std.proofs.lemmas.List.{get_or_default}
 use Rattle.sia_parts.specs.declared.looks.Look.{Look}
-use Rattle.sia_graph.specs.Ranks.{AreTwos}
-use Rattle.sia_graph.proofs.RankedRows.{TwosSoFar, no_twos, kept_two, more_twos, twos_there}
+use Rattle.sia_graph.proofs.RankedRows.{no_twos, kept_two, more_twos, twos_there}
 use Rattle.sia_graph.proofs.narrow.ranked.twos_of.Goals as goal
 
 abbrev none : Look

@@ -9,9 +9,9 @@ loop-h-preserved c =
     let h = c.loop-h.h in
     let old = c.loop-h.steps.items in
     let is : c.push-in-loop-h.new.self.items ≡ (old ++ step_number h (2 * h) ∷ []) ++ step_number h (2 * h + 1) ∷ [] =
-        c.in_ok-push-2.ensures.items
-        ∙ ap (λ (l : List ℕ). l ++ c.step-in-loop-h.result ∷ []) (c.in_ok-push.ensures.items ∙ ap (λ n. old ++ n ∷ []) c.step.ensures)
-        ∙ ap (λ n. (old ++ step_number h (2 * h) ∷ []) ++ n ∷ []) c.step-in-loop-h.ensures in
+    c.in_ok-push-2.ensures.items
+    ∙ ap (λ (l : List ℕ). l ++ c.step-in-loop-h.result ∷ []) (c.in_ok-push.ensures.items ∙ ap (λ n. old ++ n ∷ []) c.step.ensures)
+    ∙ ap (λ n. (old ++ step_number h (2 * h) ∷ []) ++ n ∷ []) c.step-in-loop-h.ensures in
     (subst (λ (l : List ℕ). Adds (IsHalfStep (h + 1)) c.args.steps.now.items l) (sym is) (half_more h (omega arith) c.args.steps.now.items old c.loop-h.invariant.0), inl (omega arith))
 
 pub returns : goal.returns

@@ -1,4 +1,4 @@
-use Rattle.std.proofs.Common.{◌≡◌, ◌<◌, ◌+◌, ℕ, length, ap, subst, ◌∙◌}
+use Rattle.std.proofs.Common.{◌<◌, ◌+◌, length, ap, subst, ◌∙◌}
 use Rattle.sia_graph.specs.Walks.{back}
 use Rattle.sia_graph.proofs.Walks.{stays, back_more}
 use Rattle.sia_graph.proofs.PrintedCycle.{round_home, least_home}

@@ -1,0 +1,88 @@
+-- The least sources by numbers are those of the history.
+use Rattle.std.proofs.Common.{◌≡◌, ◌⊎◌, inl, inr, ℕ, ◌+◌, ◌-◌, ◌<◌, ◌≤◌, Bool, List, length, get_or, refl, sym, ◌∙◌, subst, arith}
+use Rattle.std.specs.Prelude.{All, Contains}
+use Rattle.std.proofs.lemmas.Bool.{cases_lt}
+use Rattle.std.proofs.lemmas.List.Elements.{Contains-get_or}
+use Rattle.sia_events.specs.declared.event.Event.{Event}
+use Rattle.sia_events.specs.declared.event.Event.TheVariants.{Commit}
+use Rattle.sia_events.specs.NarrowDependencies.{IsAsOf}
+use Rattle.sia_events.proofs.TransactionDecisions.{place_within}
+use Rattle.sia_events.proofs.WellFormed.{few_events}
+use Rattle.sia_index.proofs.KeyChains.{key_number}
+use Rattle.sia_parts.specs.declared.looks.Absence.{Absence}
+use Rattle.sia_parts.specs.declared.looks.Looks.{Looks}
+use Rattle.sia_parts.specs.Entries.{IsEdge}
+use Rattle.sia_parts.proofs.Committing.{committed_number}
+use Rattle.sia_parts.proofs.FewNumbers.{few_keys}
+use Rattle.sia_graph.specs.Evidence.{IsEvidence}
+use Rattle.sia_graph.specs.Previous.{AreWithin, IsLeftIn, IsLeftSource, IsPreviousOf}
+use Rattle.sia_graph.specs.Walks.{AreLeastSources, IsSource, StaysWithin}
+use Rattle.sia_graph.proofs.EvidenceEdges.{edge_at, leads_by_numbers}
+
+each_of : {A : Type 0} (P : A → Type 0) (xs : List A) → ((x : A) → Contains xs x → P x) → All P xs
+each_of P xs holds k d l = holds (get_or xs k d) (Contains-get_or xs k d l)
+
+-- what leads to a source or to itself leads to a place in the list
+pub previous_within : (looks : Looks) (left : List Bool) (previous : List ℕ) → length previous ≡ length left → ((t : ℕ) → t < length left → IsPreviousOf looks left t (get_or previous t 0)) → StaysWithin previous
+previous_within looks left previous long each t l = of_one (each t (subst (λ n. t < n) long l))
+  where
+    of_one : IsPreviousOf looks left t (get_or previous t 0) → get_or previous t 0 < length previous
+    of_one (inl w) = subst (λ n. get_or previous t 0 < n) (sym long) w.0.0
+    of_one (inr w) = let e = w.0 in omega arith
+
+module _ (h : List Event) (txns keys : List ℕ) (looks : Looks) (is : IsEvidence h txns keys looks) where
+  -- written keys are few
+  pub few_written : length keys ≤ 1000000000
+  few_written = elim (cases_lt 0 (length keys)) [
+    | inl some ↦ let n : length keys - 1 < length keys = omega arith in let f = few_keys h is.well_formed (length keys - 1) (get_or keys (length keys - 1) 0) (keys, is.keys_are, n, refl) in omega arith
+    | inr none ↦ omega arith
+  ]
+
+  -- a version is as of a place of the history
+  as_of_few : (v c : ℕ) → IsAsOf h v c → c ≤ 100000
+  as_of_few v c (inl none) = let e = none.1 in omega arith
+  as_of_few v c (inr at) = let l = (place_within h c (Commit v) at).1 in let f = few_events h is.well_formed in omega arith
+
+  pub are_within : AreWithin looks (length txns) (length keys)
+  are_within = record {
+    writers = each_of (λ look. (look.txn < length txns) × (look.high + 0 < 4294967296)) looks.writers.items (λ look c.
+        let m = is.looks_are.made look c in
+        let l = (place_within h m.2 (Commit m.0) m.3.3.1).1 in
+        let f = few_events h is.well_formed in
+        let e = m.3.2 in
+        ((committed_number h txns is.txns_are look.txn m.0 m.3.0.0).0, omega arith));
+    readers = each_of (λ look. (look.txn < length txns) × (look.high + 1 < 4294967296)) looks.readers.items (λ look c.
+        let m = is.looks_are.seen look c in
+        let f = as_of_few m.2.2.2 look.high m.2.2.5 in
+        ((committed_number h txns is.txns_are look.txn m.0 m.2.0.0).0, omega arith));
+    versions = λ look c. let m = is.looks_are.made look c in m.3.1 ∙ sym m.3.2;
+    keys = each_of (λ look. look.key < length keys) looks.writers.items (λ look c. let m = is.looks_are.made look c in (key_number h keys is.keys_are look.key m.1 m.3.0.1).0);
+    absences = each_of (λ (s : Absence). s.from < s.to → s.to ≤ length keys) looks.absences.items (λ s c less.
+        let m = is.looks_are.absent s c (s.to - 1) (omega arith) (omega arith) in
+        let l = (key_number h keys is.keys_are (s.to - 1) m.1 m.3).0 in
+        omega arith);
+  }
+
+  -- what is a source by numbers is one
+  module _ (left : List Bool) (long : length left ≡ length txns) (t : ℕ) (tl : t < length left) where
+    within : (q : ℕ) → q < length left → q < length txns
+    within q l = subst (λ n. q < n) long l
+
+    source_is : (p : ℕ) → IsLeftSource looks left t p → IsSource txns (IsEdge h) (IsLeftIn left) t p
+    source_is p (l, here, other, kind, k, edge) =
+        let e = edge_at h txns keys looks is p t (within p l) (within t tl) other kind k edge in
+        (within p l, here, (record { src = get_or txns p 0; kind = kind; dst = get_or txns t 0; key = get_or keys k 0 }, e.1, refl, refl))
+
+    is_source : (p : ℕ) → IsSource txns (IsEdge h) (IsLeftIn left) t p → IsLeftSource looks left t p
+    is_source p (l, here, leads) =
+        let w = leads_by_numbers h txns keys looks is p t l (within t tl) leads in
+        (subst (λ n. p < n) (sym long) l, here, w.0, w.1, w.2, w.3)
+
+    pub source_or_none : (p : ℕ) → IsPreviousOf looks left t p
+        → (IsSource txns (IsEdge h) (IsLeftIn left) t p × ((q : ℕ) → IsSource txns (IsEdge h) (IsLeftIn left) t q → p ≤ q)) ⊎ ((p ≡ t) × ((q : ℕ) → ¬ IsSource txns (IsEdge h) (IsLeftIn left) t q))
+    source_or_none p (inl w) = inl (source_is p w.0, λ q s. w.1 q (is_source q s))
+    source_or_none p (inr w) = inr (w.0, λ q s. w.1 q (is_source q s))
+
+  pub least_sources_are : (left : List Bool) → length left ≡ length txns → (previous : List ℕ) → ((t : ℕ) → t < length left → IsPreviousOf looks left t (get_or previous t 0))
+      → AreLeastSources txns (IsEdge h) (IsLeftIn left) previous
+  least_sources_are left long previous each t l = let tl = subst (λ n. t < n) (sym long) l in source_or_none left long t tl (get_or previous t 0) (each t tl)

@@ -1,0 +1,38 @@
+use Rattle.std.proofs.Common.{List, ℕ, subst, sym}
+use Rattle.sia_graph.specs.Places.{AreSteps}
+use Rattle.sia_graph.specs.Taken.{AreTakenNodes, node_list}
+use Rattle.sia_graph.proofs.NarrowStands.{absences_fit, can_search, keys_few, readers_few, size_few, txns_few}
+use Rattle.sia_graph.proofs.TakenMembers.{nodes_are_steps, taken_members}
+use Rattle.sia_graph.proofs.narrow.ordering.take_members.Goals as goal
+
+pub steps_of-requires-clause-writers : goal.steps_of-requires-clause-writers
+steps_of-requires-clause-writers c = let e = c.args.evidence.now in can_search e.index.now e.txns.now e.keys.now e.looks.now c.requires
+
+pub steps_of-requires-clause-few : goal.steps_of-requires-clause-few
+steps_of-requires-clause-few c =
+    let e = c.args.evidence.now in
+    (size_few e.index.now e.txns.now e.keys.now e.looks.now c.requires c.size_for-size.result c.size_for-size.ensures, readers_few e.index.now e.txns.now e.keys.now e.looks.now c.requires)
+
+pub steps_of-requires-clause-fits : goal.steps_of-requires-clause-fits
+steps_of-requires-clause-fits c =
+    let e = c.args.evidence.now in
+    absences_fit e.index.now e.txns.now e.keys.now e.looks.now c.requires c.size_for-size.result c.size_for-size.ensures
+
+pub take_nodes-requires-clause-few : goal.take_nodes-requires-clause-few
+take_nodes-requires-clause-few c =
+    let e = c.args.evidence.now in
+    (size_few e.index.now e.txns.now e.keys.now e.looks.now c.requires c.size_for-size.result c.size_for-size.ensures, txns_few e.index.now e.txns.now e.keys.now e.looks.now c.requires)
+
+pub take_nodes-requires-clause-steps : goal.take_nodes-requires-clause-steps
+take_nodes-requires-clause-steps c =
+    let e = c.args.evidence.now in
+    let steps = c.in_ok-steps in
+    subst (λ (l : List ℕ). AreSteps (node_list c.size_for-size.result e.txns.now) l) (sym c.deref.ensures.value)
+    (nodes_are_steps e.index.now e.txns.now e.keys.now e.looks.now c.requires c.size_for-size.result c.size_for-size.ensures steps.steps.items steps.ensures.are steps.ensures.rise)
+
+pub returns : goal.returns
+returns c =
+    let e = c.args.evidence.now in
+    let steps = c.in_ok-steps in
+    taken_members e.index.now e.txns.now e.keys.now e.looks.now c.requires c.size_for-size.result c.size_for-size.ensures steps.steps.items steps.ensures.are c.in_ok-taken.taken
+    (subst (λ (l : List ℕ). AreTakenNodes c.size_for-size.result e.txns.now l c.in_ok-taken.taken) c.deref.ensures.value c.in_ok-taken.ensures)

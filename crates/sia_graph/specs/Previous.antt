@@ -1,0 +1,51 @@
+-- The least transaction that is left and has an edge to another, found by ranks: what is left has its own number as its rank.
+use Rattle.std.specs.Prelude.{◌≡◌, ◌≢◌, ◌⊎◌, ◌↔◌, ℕ, ◌+◌, ◌<◌, ◌≤◌, Bool, false, List, All, Contains, IsTrue, length, slice_index, slice_index_or}
+use Rattle.sia_parts.specs.declared.finding.Kind.{Kind}
+use Rattle.sia_parts.specs.declared.looks.Absence.{Absence}
+use Rattle.sia_parts.specs.declared.looks.Look.{Look}
+use Rattle.sia_parts.specs.declared.looks.Looks.{Looks}
+use Rattle.sia_parts.specs.Sights.{FromSome}
+use Rattle.sia_graph.specs.NumberEdges.{HasNumberEdge}
+use Rattle.sia_graph.specs.Ranks.{IsLeastRank, IsRankBelow, IsRankOf}
+use Rattle.sia_graph.specs.Sources.{IsSource}
+
+-- the entry at this position says so
+abbrev pub IsLeftIn : List Bool → ℕ → Type 0
+IsLeftIn left i = IsTrue (slice_index_or left i false)
+
+-- what is left has its own number as its rank, and nothing else has a rank
+abbrev pub AreLeftRanks : List Bool → List ℕ → Type 0
+AreLeftRanks left ranks = (i r : ℕ) → IsRankOf ranks i r ↔ ((r ≡ i) × (i < length left) × IsLeftIn left i)
+
+-- r is the rank of another transaction than t with a row at the look's key, before the place that stands so many places behind its end
+abbrev pub IsBefore : List Look → List ℕ → ℕ → ℕ → Look → ℕ → Type 0
+IsBefore rows ranks more t look r = (look.txn ≡ t) × IsRankBelow rows ranks look.key (look.high + more) r × (r ≢ t)
+
+-- for each transaction the least rank that is so by one of its looks
+abbrev pub AreLeastBefore : List Look → List ℕ → ℕ → List Look → ℕ → List ℕ → Type 0
+AreLeastBefore rows ranks more looks count least = (length least ≡ count)
+    × ((t : ℕ) → t < count → IsLeastRank (FromSome (IsBefore rows ranks more t) looks) (slice_index least t))
+
+-- r is the rank of a transaction with a rw edge to t
+abbrev pub IsRankTo : Looks → List ℕ → ℕ → ℕ → Type 0
+IsRankTo looks ranks t r = (i : ℕ) × IsSource looks i t × IsRankOf ranks i r
+
+-- a rank as a place, or where there is none one's own
+abbrev pub IsPlaceOf : ℕ → ℕ → ℕ → Type 0
+IsPlaceOf rank own place = (rank < 4294967295 → place ≡ rank) × (4294967295 ≤ rank → place ≡ own)
+
+-- p is left, and has an edge to another transaction t
+abbrev pub IsLeftSource : Looks → List Bool → ℕ → ℕ → Type 0
+IsLeftSource looks left t p = (p < length left) × IsLeftIn left p × (p ≢ t) × (kind : Kind) × (k : ℕ) × HasNumberEdge looks kind p t k
+
+-- p is the least of these, or t itself where there is none
+abbrev pub IsPreviousOf : Looks → List Bool → ℕ → ℕ → Type 0
+IsPreviousOf looks left t p = (IsLeftSource looks left t p × ((q : ℕ) → IsLeftSource looks left t q → p ≤ q)) ⊎ ((p ≡ t) × ((q : ℕ) → ¬ IsLeftSource looks left t q))
+
+-- transactions and keys have numbers below these, a version is as of one place, and no place is the greatest of 32 bits
+pub record AreWithin (looks : Looks) (count size : ℕ) : Type 0 where
+  pub writers : All (λ look. (look.txn < count) × (look.high + 0 < 4294967296)) looks.writers.items
+  pub readers : All (λ look. (look.txn < count) × (look.high + 1 < 4294967296)) looks.readers.items
+  pub versions : (look : Look) → Contains looks.writers.items look → look.low ≡ look.high
+  pub keys : All (λ look. look.key < size) looks.writers.items
+  pub absences : All (λ (absence : Absence). absence.from < absence.to → absence.to ≤ size) looks.absences.items

@@ -1,0 +1,54 @@
+//! The least rank of those who saw a version of a key from before a place.
+ghost use Rattle.std.specs.Prelude.{◌≡◌, ◌≢◌, ◌<◌, ◌≤◌, ℕ, List, All, IfOk};
+ghost use Rattle.sia_parts.specs.declared.looks.Looks.{Looks};
+ghost use Rattle.sia_graph.specs.Ranks.{IsLeastRank, IsRankOf};
+ghost use Rattle.sia_graph.specs.Sources.{AreEarlier, SeesBefore};
+
+use crate::narrow::nodes::{least_absent, nodes_of};
+use crate::narrow::ranked::Ranked;
+use crate::narrow::two::Two;
+use sia_events::NoMemory;
+use sia_parts::Looks;
+use std::alloc::Global;
+
+/// The ranks of those who saw versions, by the key and how early these were.
+#[derive(Drop)]
+pub struct Earlier {
+    by_low: Ranked,
+    nodes: Vec<Two>,
+    size: u32,
+}
+
+impl Earlier {
+    /// The tables for these ranks. There are `size` keys.
+    pub(crate) fn of(
+        alloc: Global,
+        looks: &Looks,
+        ranks: &[u32],
+        size: u32,
+    ) -> Result<Earlier, NoMemory>
+        requires few { size ≤ 1000000000 }
+        requires within { All (λ absence. absence.from < absence.to → absence.to ≤ size) looks.now.absences.items }
+        ensures made { IfOk result (AreEarlier looks.now ranks.now) }
+        ensures size { IfOk result (λ earlier. earlier.size ≡ size) }
+    {
+        let by_low = Ranked::of(alloc, &looks.readers, ranks)?;
+        let nodes = nodes_of(alloc, &looks.absences, ranks, size)?;
+        Ok(Earlier {
+            by_low,
+            nodes,
+            size,
+        })
+    }
+
+    /// Of the ranks but `me` the least of those who saw a version of the key from before the place.
+    pub(crate) fn least(&self, key: u32, place: u32, me: u32) -> u32
+        requires are { (looks : Looks) × (ranks : List ℕ) × AreEarlier looks ranks self.now }
+        requires key { key < self.now.size }
+        ensures { (looks : Looks) (ranks : List ℕ) → AreEarlier looks ranks self.now
+            → IsLeastRank (λ r. (i : ℕ) × SeesBefore looks key place i × IsRankOf ranks i r × (r ≢ me)) result }
+    {
+        let seen = self.by_low.least(key, place, me);
+        seen.min(least_absent(&self.nodes, self.size, key, me))
+    }
+}

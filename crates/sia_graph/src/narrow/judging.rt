@@ -1,0 +1,55 @@
+//! The verdict on a history, and the test of serializable snapshot isolation, from what was written and seen.
+ghost use Rattle.std.specs.Prelude.{◌↔◌, ⊤, IfOk, IsTrue};
+ghost use Rattle.sia_events.specs.DangerousStructures.{PassesSsi};
+ghost use Rattle.sia_events.specs.Transactions.{IsCommitted};
+ghost use Rattle.sia_parts.specs.Entries.{IsEdge};
+ghost use Rattle.sia_parts.specs.Findings.{ListsBadReads, ListsBadWrites};
+ghost use Rattle.sia_graph.specs.Evidence.{IsEvidence};
+ghost use Rattle.sia_graph.specs.Verdicts.{IsVerdict};
+
+use crate::narrow::Evidence;
+use crate::narrow::cycle::cycle_of;
+use crate::narrow::extremes::passes_looks;
+use crate::narrow::ordering::{Taken, take_members};
+use crate::settling::txns::Txns;
+use crate::settling::{Steps, Verdict};
+use sia_events::NoMemory;
+use sia_parts::{BadRead, BadWrite};
+use std::alloc::Global;
+
+/// The least order of the committed transactions that keeps every edge of the history, or where none does the cycle that is
+/// printed, as `settle` tells it of a list of edges. No edge is made: a few steps lead wherever the edges lead.
+pub fn settle_looks(alloc: Global, evidence: &Evidence) -> Result<Verdict, NoMemory>
+    requires { IsEvidence evidence.now.index.now evidence.now.txns.now evidence.now.keys.now evidence.now.looks.now }
+    ensures { IfOk result (IsVerdict (IsCommitted evidence.now.index.now) (IsEdge evidence.now.index.now)) }
+{
+    match take_members(alloc, evidence)? {
+        Taken::Whole(order) => Ok(Verdict::Order(Txns::new(order))),
+        Taken::Rest(left) => {
+            let steps = cycle_of(alloc, evidence, &left)?;
+            Ok(Verdict::Cycle(Steps::new(steps)))
+        }
+    }
+}
+
+/// Whether there is no bad read, no bad write, and no dangerous structure whose last transaction commits first, as `ssi_pass`
+/// tells it of all findings. The bad reads and the bad writes are those of the history at all keys.
+pub fn passes(
+    alloc: Global,
+    evidence: &Evidence,
+    bad_reads: &[BadRead],
+    bad_writes: &[BadWrite],
+) -> Result<bool, NoMemory>
+    requires evidence { IsEvidence evidence.now.index.now evidence.now.txns.now evidence.now.keys.now evidence.now.looks.now }
+    requires bad_reads { ListsBadReads evidence.now.index.now (λ _. ⊤) bad_reads.now }
+    requires bad_writes { ListsBadWrites evidence.now.index.now (λ _. ⊤) bad_writes.now }
+    ensures { IfOk result (λ passes. IsTrue passes ↔ PassesSsi evidence.now.index.now) }
+{
+    if !bad_reads.is_empty() {
+        return Ok(false);
+    }
+    if !bad_writes.is_empty() {
+        return Ok(false);
+    }
+    passes_looks(alloc, evidence)
+}

@@ -1,0 +1,109 @@
+//! Up to which commit a version is too early for one who saw what was before it.
+ghost use Rattle.std.specs.Prelude.{◌≡◌, ◌↔◌, ◌-◌, ◌<◌, ◌≤◌, ℕ, List, All, IfOk, IsTrue, length, map};
+ghost use Rattle.sia_parts.specs.declared.looks.Looks.{Looks};
+ghost use Rattle.sia_graph.specs.Limits.{AreLimits, IsLimit, IsWithinLimit};
+ghost use Rattle.sia_graph.specs.Ranks.{AreRanks};
+ghost use Rattle.sia_graph.specs.Sources.{AreEarlier, AreSources};
+
+use crate::narrow::earlier::Earlier;
+use crate::narrow::sources::Sources;
+use crate::narrow::two::NONE;
+use crate::pivoting::lifetimes::Lifetime;
+use sia_events::NoMemory;
+use sia_parts::{Look, Looks};
+use std::alloc::{AllocError, Global};
+
+/// The greatest rank. A rank stands for the place that is left of it, so that the least rank is the last place.
+const LAST: u32 = u32::MAX - 1;
+
+/// For each commit its rank.
+pub(crate) fn ranks_of(alloc: Global, lifetimes: &[Lifetime]) -> Result<Vec<u32>, AllocError>
+    ensures { IfOk result (λ ranks. ranks.items ≡ map (λ lifetime. 4294967294 - lifetime.commit) lifetimes.now) }
+{
+    lifetimes
+        .iter()
+        .map(|lifetime| LAST.saturating_sub(lifetime.commit))
+        .collect(alloc)
+}
+
+/// The rank of the last place before the commit of number `t`, up to that of its last source. `LAST` if it has none.
+fn limit_of(sources: &Sources, ranks: &[u32], t: u32, commit: u32) -> u32
+    requires are { (looks : Looks) × AreSources looks ranks.now sources.now }
+    requires apart { AreRanks ranks.now }
+    ensures { (looks : Looks) → AreSources looks ranks.now sources.now → IsLimit looks ranks.now t commit result }
+{
+    let rank = sources.least(ranks, t);
+    if rank == NONE {
+        return LAST;
+    }
+    rank.max(LAST.saturating_sub(commit.saturating_sub(1)))
+}
+
+/// The same of each transaction.
+pub(crate) fn limits_of(
+    alloc: Global,
+    sources: &Sources,
+    ranks: &[u32],
+    lifetimes: &[Lifetime],
+) -> Result<Vec<u32>, NoMemory>
+    requires are { (looks : Looks) × AreSources looks ranks.now sources.now }
+    requires apart { AreRanks ranks.now }
+    requires few { length lifetimes.now ≤ 1000000000 }
+    ensures { IfOk result (λ limits. (looks : Looks) → AreSources looks ranks.now sources.now → AreLimits looks ranks.now lifetimes.now limits.items) }
+{
+    let mut limits = Vec::with_capacity(alloc, lifetimes.len())?;
+    for t in 0..lifetimes.len() {
+        limits.push(limit_of(sources, ranks, t as u32, lifetimes[t].commit))?;
+    }
+    Ok(limits)
+}
+
+/// Whether the version commits up to the limit of one who saw what was before it.
+fn is_within(earlier: &Earlier, made: Look) -> bool
+    requires are { (looks : Looks) × (limits : List ℕ) × AreEarlier looks limits earlier.now }
+    requires key { made.key < earlier.now.size }
+    ensures { (looks : Looks) (limits : List ℕ) → AreEarlier looks limits earlier.now → IsTrue result ↔ IsWithinLimit looks limits made }
+{
+    let rank = earlier.least(made.key, made.high, NONE);
+    if rank == NONE {
+        return false;
+    }
+    made.high <= LAST - rank
+}
+
+/// Whether no version does.
+pub(crate) fn none_within(earlier: &Earlier, writers: &[Look]) -> bool
+    requires are { (looks : Looks) × (limits : List ℕ) × AreEarlier looks limits earlier.now }
+    requires keys { All (λ made. made.key < earlier.now.size) writers.now }
+    ensures { (looks : Looks) (limits : List ℕ) → AreEarlier looks limits earlier.now → IsTrue result ↔ All (λ made. ¬ IsWithinLimit looks limits made) writers.now }
+{
+    for made in writers {
+        if is_within(earlier, *made) {
+            return false;
+        }
+    }
+    true
+}
+
+/// Whether no version commits up to the limit of one who saw what was before it, where these are the ranks of all commits.
+/// There are `size` keys.
+pub(crate) fn none_early(
+    alloc: Global,
+    looks: &Looks,
+    lifetimes: &[Lifetime],
+    ranks: &[u32],
+    size: u32,
+) -> Result<bool, NoMemory>
+    requires apart { AreRanks ranks.now }
+    requires few { (length lifetimes.now ≤ 1000000000) × (size ≤ 1000000000) }
+    requires keys { All (λ look. look.key < size) looks.now.writers.items }
+    requires within { All (λ absence. absence.from < absence.to → absence.to ≤ size) looks.now.absences.items }
+    ensures { IfOk result (λ none. (limits : List ℕ) × AreLimits looks.now ranks.now lifetimes.now limits
+        × (IsTrue none ↔ All (λ made. ¬ IsWithinLimit looks.now limits made) looks.now.writers.items)) }
+{
+    let sources = Sources::of(alloc, looks, ranks, size)?;
+    let limits = limits_of(alloc, &sources, ranks, lifetimes)?;
+    let earlier = Earlier::of(alloc, looks, &limits, size)?;
+    let none = none_within(&earlier, &looks.writers);
+    Ok(none)
+}
