@@ -15,7 +15,7 @@ use Rattle.sia_parts.specs.declared.looks.Looks.{Looks}
 use Rattle.sia_parts.specs.EdgeNumbers.{IsCommittedAt}
 use Rattle.sia_parts.specs.Entries.{EdgeOfKind, IsEdge, kind_number}
 use Rattle.sia_parts.specs.Looks.{IsLookOf}
-use Rattle.sia_parts.proofs.EndLemmas.{one_committed_number, one_key_number}
+use Rattle.sia_parts.proofs.LookLemmas.{one_committed_number, one_key_number}
 use Rattle.sia_events.proofs.WellFormed.{one_commit}
 use Rattle.sia_parts.proofs.FewNumbers.{few_committed, few_keys}
 use Rattle.sia_parts.proofs.StartLemmas.{increasing}

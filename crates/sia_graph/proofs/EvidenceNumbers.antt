@@ -10,7 +10,7 @@ use Rattle.sia_parts.specs.EdgeNumbers.{IsCommittedAt}
 use Rattle.sia_parts.specs.declared.looks.Absence.{Absence}
 use Rattle.sia_parts.specs.declared.looks.Look.{Look}
 use Rattle.sia_parts.specs.declared.looks.Looks.{Looks}
-use Rattle.sia_parts.proofs.EndLemmas.{one_committed_number, one_key_number}
+use Rattle.sia_parts.proofs.LookLemmas.{one_committed_number, one_key_number}
 use Rattle.sia_parts.proofs.FewNumbers.{few_committed, few_keys}
 use Rattle.sia_graph.specs.Evidence.{IsEvidence}
 use Rattle.sia_graph.specs.Extremes.{HasRwEdge}

@@ -14,7 +14,7 @@ use Rattle.sia_events.proofs.WellFormed.{few_events, one_commit}
 use Rattle.sia_parts.specs.EdgeNumbers.{IsCommittedAt}
 use Rattle.sia_parts.specs.declared.looks.Look.{Look}
 use Rattle.sia_parts.specs.declared.looks.Looks.{Looks}
-use Rattle.sia_parts.proofs.EndLemmas.{one_committed_number}
+use Rattle.sia_parts.proofs.LookLemmas.{one_committed_number}
 use Rattle.sia_graph.specs.declared.pivoting.lifetimes.Lifetime.{Lifetime}
 use Rattle.sia_graph.specs.Evidence.{IsEvidence}
 use Rattle.sia_graph.specs.Extremes.{HasRwEdge, IsFirstByCommits}

@@ -5,7 +5,7 @@ use Rattle.std.proofs.lemmas.List.{get_or-map, length-map}
 use Rattle.sia_events.specs.declared.event.Event.{Event}
 use Rattle.sia_events.specs.Lists.{ListsBy}
 use Rattle.sia_events.specs.DangerousStructures.{IsPivot, IsFirst, NoFirst, PassesSsi}
-use Rattle.sia_events.specs.Isolation.{IsBadRead, IsBadWrite}
+use Rattle.sia_events.specs.Isolation.{IsBadRead, IsBadWrite, IsolationKept}
 use Rattle.sia_parts.specs.Entries.{bad_read_rank, bad_write_rank}
 use Rattle.sia_parts.specs.declared.finding.BadRead.{BadRead}
 use Rattle.sia_parts.specs.declared.finding.BadWrite.{BadWrite}
@@ -49,22 +49,23 @@ module _ (h : List Event) (ps : List Pivot) (pivots : ArePivots h ps) where
       let p = get_or ps k d in
       empty (λ x. x ∷ []) (λ x. IsFirst h p.txn x) p.firsts (pivots.neighbours k d l).firsts (λ u. none p.txn u)
 
+-- isolation is kept exactly where there is no bad read and no bad write
+module _ (h : List Event) (reads : List BadRead) (writes : List BadWrite) (found_reads : ListsBadReads h (λ _. ⊤) reads) (found_writes : ListsBadWrites h (λ _. ⊤) writes) where
+  pub kept : reads ≡ [] → writes ≡ [] → IsolationKept h
+  kept no_reads no_writes = record {
+    reads = λ p t k saw due bad. nothing bad_read_rank (λ b. IsBadRead h b.place b.txn b.key b.saw b.due × ⊤) reads found_reads no_reads (record { place = p; txn = t; key = k; saw = saw; due = due }) (bad, tt);
+    writes = λ k first second bad. nothing bad_write_rank (λ b. IsBadWrite h b.key b.first b.second × ⊤) writes found_writes no_writes (record { key = k; first = first; second = second }) (bad, tt);
+  }
+
+  pub no_bad_reads : IsolationKept h → reads ≡ []
+  no_bad_reads e = empty bad_read_rank (λ b. IsBadRead h b.place b.txn b.key b.saw b.due × ⊤) reads found_reads (λ b bad. e.reads b.place b.txn b.key b.saw b.due bad.0)
+
+  pub no_bad_writes : IsolationKept h → writes ≡ []
+  no_bad_writes e = empty bad_write_rank (λ b. IsBadWrite h b.key b.first b.second × ⊤) writes found_writes (λ b bad. e.writes b.key b.first b.second bad.0)
+
 pub passes_by : (b : Bool) (h : List Event) (reads : List BadRead) (writes : List BadWrite) (ps : List Pivot) → (IsTrue b ↔ ((reads ≡ []) × (writes ≡ []) × All (λ p. p.firsts ≡ []) ps))
     → ListsBadReads h (λ _. ⊤) reads → ListsBadWrites h (λ _. ⊤) writes → ArePivots h ps → IsTrue b ↔ PassesSsi h
-passes_by b h reads writes ps e found_reads found_writes pivots = (λ t. to (e.0 t), λ q. e.1 (from q))
-  where
-    to : (reads ≡ []) × (writes ≡ []) × All (λ p. p.firsts ≡ []) ps → PassesSsi h
-    to e = (
-      record {
-        reads = λ p t k saw due bad. nothing bad_read_rank (λ b. IsBadRead h b.place b.txn b.key b.saw b.due × ⊤) reads found_reads e.0 (record { place = p; txn = t; key = k; saw = saw; due = due }) (bad, tt);
-        writes = λ k first second bad. nothing bad_write_rank (λ b. IsBadWrite h b.key b.first b.second × ⊤) writes found_writes e.1 (record { key = k; first = first; second = second }) (bad, tt);
-      },
-      no_first h ps pivots e.2,
-    )
-
-    from : PassesSsi h → (reads ≡ []) × (writes ≡ []) × All (λ p. p.firsts ≡ []) ps
-    from e = (
-      empty bad_read_rank (λ b. IsBadRead h b.place b.txn b.key b.saw b.due × ⊤) reads found_reads (λ b bad. e.0.reads b.place b.txn b.key b.saw b.due bad.0),
-      empty bad_write_rank (λ b. IsBadWrite h b.key b.first b.second × ⊤) writes found_writes (λ b bad. e.0.writes b.key b.first b.second bad.0),
-      none_first h ps pivots e.1,
-    )
+passes_by b h reads writes ps e found_reads found_writes pivots = (
+  (λ t. let q = e.0 t in (kept h reads writes found_reads found_writes q.0 q.1, no_first h ps pivots q.2)),
+  (λ q. e.1 (no_bad_reads h reads writes found_reads found_writes q.0, no_bad_writes h reads writes found_reads found_writes q.0, none_first h ps pivots q.1)),
+)

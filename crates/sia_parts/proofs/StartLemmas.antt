@@ -1,5 +1,5 @@
 -- The starts of parts, and the cuts among them.
-use Rattle.std.proofs.Common.{◌≡◌, ◌≢◌, ◌⊎◌, inl, inr, ℕ, ◌<◌, ◌≤◌, List, [], ◌∷◌, ◌++◌, length, eqb, refl, ap, sym, subst, ◌∙◌, arith}
+use Rattle.std.proofs.Common.{◌≡◌, ◌≢◌, ◌⊎◌, inl, inr, ℕ, ◌+◌, ◌<◌, ◌≤◌, List, [], ◌∷◌, ◌++◌, length, eqb, refl, ap, sym, subst, ◌∙◌, arith}
 use Rattle.std.specs.Prelude.{AllPairs, Contains}
 use Rattle.std.specs.List.{dedup}
 use Rattle.std.specs.List.Sorted.{IsStrictlyIncreasing, IsPermutation, IsSorted}
@@ -30,6 +30,9 @@ less x y (inr h) = absurd h.1
 
 pub Rises-from_increasing : (xs : List ℕ) → IsStrictlyIncreasing xs → Rises xs
 Rises-from_increasing xs h i j d before below = inl (AllPairs-from_increasing xs h i j d before below)
+
+pub increasing : (xs : List ℕ) → Rises xs → IsStrictlyIncreasing xs
+increasing xs h k below = less _ _ (h k (k + 1) 0 (omega arith) below)
 
 pub first_less : (s x : ℕ) (xs : List ℕ) → Rises (s ∷ xs) → Contains xs x → s < x
 first_less s x xs h c = less s x (first_before (λ x y. Precedes (x ∷ []) (y ∷ [])) s x xs h c)

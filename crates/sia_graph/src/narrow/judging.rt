@@ -1,5 +1,5 @@
 //! The verdict on a history, and the test of serializable snapshot isolation, from what was written and seen.
-ghost use Rattle.std.specs.Prelude.{◌↔◌, ⊤, IfOk, IsTrue};
+ghost use Rattle.std.specs.Prelude.{[], ◌≡◌, ◌↔◌, ⊤, IfOk, IsTrue};
 ghost use Rattle.sia_events.specs.DangerousStructures.{PassesSsi};
 ghost use Rattle.sia_events.specs.Transactions.{IsCommitted};
 ghost use Rattle.sia_parts.specs.Entries.{IsEdge};
@@ -45,11 +45,15 @@ pub fn passes(
     requires bad_writes { ListsBadWrites evidence.now.index.now (λ _. ⊤) bad_writes.now }
     ensures { IfOk result (λ passes. IsTrue passes ↔ PassesSsi evidence.now.index.now) }
 {
-    if !bad_reads.is_empty() {
-        return Ok(false);
-    }
-    if !bad_writes.is_empty() {
+    if !are_none(bad_reads, bad_writes) {
         return Ok(false);
     }
     passes_looks(alloc, evidence)
+}
+
+/// Whether both lists are empty.
+fn are_none(bad_reads: &[BadRead], bad_writes: &[BadWrite]) -> bool
+    ensures { IsTrue result ↔ ((bad_reads.now ≡ []) × (bad_writes.now ≡ [])) }
+{
+    bad_reads.is_empty() && bad_writes.is_empty()
 }

@@ -1,4 +1,4 @@
-use Rattle.std.proofs.Common.{ℕ, List, [], ◌⊎◌, ◌<◌, sym, subst}
+use Rattle.std.proofs.Common.{ℕ, List, ◌⊎◌, ◌<◌, sym, subst}
 use Rattle.std.specs.Prelude.{All, Contains}
 use Rattle.sia_parts.specs.declared.looks.Absence.{Absence}
 use Rattle.sia_parts.specs.Sights.{Adds, FromSome}

@@ -1,4 +1,4 @@
-use Rattle.std.proofs.Common.{◌≡◌, ℕ, [], subst, sym, arith}
+use Rattle.std.proofs.Common.{◌≡◌, [], subst, arith}
 use Rattle.sia_parts.specs.Sights.{Adds}
 use Rattle.sia_graph.specs.NarrowSteps.{IsFirstNumber}
 use Rattle.sia_graph.proofs.NarrowSteps.{firsts_more, firsts_made}

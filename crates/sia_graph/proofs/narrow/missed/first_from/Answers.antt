@@ -1,6 +1,5 @@
-use Rattle.std.proofs.Common.{◌≡◌, subst, ◌<◌, ◌≤◌, ℕ, Bool, true, false, ltb, length, rules, sym, arith}
+use Rattle.std.proofs.Common.{◌≡◌, subst, ltb, length, rules, sym, arith}
 use Rattle.std.specs.Prelude.{Contains}
-use Rattle.std.specs.List.Sorted.{IsPartitionPoint}
 use Rattle.std.proofs.lemmas.Bool.{ltb-true, ltb-false}
 use Rattle.std.proofs.lemmas.List.Sorted.{IsPartitionPoint-from_clause, IsPartitionedBy-ltb}
 use Rattle.sia_graph.proofs.AbsenceBlocks.{none_from, rest_from, above}

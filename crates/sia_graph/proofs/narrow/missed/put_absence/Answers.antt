@@ -1,4 +1,4 @@
-use Rattle.std.proofs.Common.{[], ℕ, List, ◌≡◌, ◌⊎◌, ◌<◌, ◌*◌, sym, subst, ◌∙◌}
+use Rattle.std.proofs.Common.{ℕ, List, ◌≡◌, ◌⊎◌, ◌<◌, ◌*◌, subst}
 use Rattle.std.specs.Prelude.{◌↔◌, Contains}
 use Rattle.sia_parts.specs.Sights.{Adds, FromSome}
 use Rattle.sia_graph.specs.KeyBlocks.{IsUnderSome}

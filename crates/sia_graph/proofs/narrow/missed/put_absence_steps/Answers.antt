@@ -1,4 +1,4 @@
-use Rattle.std.proofs.Common.{refl, arith}
+use Rattle.std.proofs.Common.{arith}
 use Rattle.sia_graph.proofs.AbsenceBlocks.{steps_more, steps_all}
 use Rattle.sia_graph.proofs.narrow.missed.put_absence_steps.Goals as goal
 

@@ -1,4 +1,4 @@
-use Rattle.std.proofs.Common.{◌≡◌, arith}
+use Rattle.std.proofs.Common.{arith}
 use Rattle.sia_graph.proofs.AbsenceBlocks.{passed_none, passed_more, passed_all}
 use Rattle.sia_graph.proofs.narrow.missed.put_missed.Goals as goal
 

@@ -1,4 +1,4 @@
-use Rattle.std.proofs.Common.{◌-◌, ◌+◌}
+use Rattle.std.proofs.Common.{◌-◌}
 use Rattle.sia_graph.proofs.AbsenceBlocks.{HasPassedTo}
 use Rattle.sia_graph.proofs.narrow.missed.put_missed.Given as goal
 

@@ -1,7 +1,7 @@
 use Rattle.std.proofs.Common.{List, ℕ, subst, sym}
 use Rattle.sia_graph.specs.Places.{AreSteps}
 use Rattle.sia_graph.specs.Taken.{AreTakenNodes, node_list}
-use Rattle.sia_graph.proofs.NarrowStands.{absences_fit, can_search, keys_few, readers_few, size_few, txns_few}
+use Rattle.sia_graph.proofs.NarrowStands.{absences_fit, can_search, readers_few, size_few, txns_few}
 use Rattle.sia_graph.proofs.TakenMembers.{nodes_are_steps, taken_members}
 use Rattle.sia_graph.proofs.narrow.ordering.take_members.Goals as goal
 

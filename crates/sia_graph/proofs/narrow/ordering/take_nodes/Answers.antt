@@ -1,5 +1,5 @@
-use Rattle.std.proofs.Common.{◌≡◌, ℕ, ◌+◌, ◌*◌, ◌<◌, List, [], length, get_or, ap, sym, subst, ◌∙◌, arith}
-use Rattle.std.specs.Prelude.{All, Contains, map}
+use Rattle.std.proofs.Common.{ℕ, ◌+◌, ◌*◌, ◌<◌, List, [], length, ap, sym, subst, ◌∙◌, arith}
+use Rattle.std.specs.Prelude.{All, map}
 use Rattle.std.specs.List.{range_with_len}
 use Rattle.std.proofs.lemmas.List.FromFn.{length-range_with_len}
 use Rattle.sia_graph.specs.Blocks.{without_blocks}
@@ -8,7 +8,7 @@ use Rattle.sia_graph.specs.NarrowSteps.{edges_of_steps, name_of}
 use Rattle.sia_graph.specs.Places.{AreArriving}
 use Rattle.sia_graph.specs.Taken.{node_list}
 use Rattle.sia_graph.proofs.Places.{all_join, counted_first}
-use Rattle.sia_graph.proofs.StuckSets.{left_ones, are_left, stuck_set, whole_order}
+use Rattle.sia_graph.proofs.StuckSets.{whole_order}
 use Rattle.sia_graph.proofs.TakenNodes.{nodes_below, left_nodes}
 use Rattle.sia_graph.proofs.narrow.ordering.take_nodes.Goals as goal
 

@@ -1,6 +1,6 @@
-use Rattle.std.proofs.Common.{arith, get_or, refl, sym}
+use Rattle.std.proofs.Common.{arith, get_or}
 use Rattle.sia_graph.specs.NarrowSteps.{IsLeafStep}
-use Rattle.sia_parts.proofs.Adding.{adds_push, from_more, from_all}
+use Rattle.sia_parts.proofs.Adding.{from_more, from_all}
 use Rattle.sia_graph.proofs.NarrowSteps.{adds_one}
 use Rattle.sia_graph.proofs.narrow.steps.put_leaf_steps.Goals as goal
 

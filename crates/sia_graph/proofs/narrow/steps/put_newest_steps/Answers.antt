@@ -1,6 +1,6 @@
 use Rattle.std.proofs.Common.{arith}
 use Rattle.sia_graph.specs.NarrowSteps.{IsNewestStep}
-use Rattle.sia_parts.proofs.Adding.{from_none, from_more, from_all}
+use Rattle.sia_parts.proofs.Adding.{from_more, from_all}
 use Rattle.sia_graph.proofs.narrow.steps.put_newest_steps.Goals as goal
 
 pub loop-look-preserved : goal.loop-look-preserved

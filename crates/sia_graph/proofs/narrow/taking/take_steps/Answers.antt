@@ -4,7 +4,6 @@ use Rattle.sia_graph.specs.Fronts.{IsTaking, left_over}
 use Rattle.sia_graph.specs.Places.{IsReadyAt, StandsWhere}
 use Rattle.sia_graph.specs.NarrowSteps.{edges_of_steps}
 use Rattle.std.specs.List.{range_with_len}
-use Rattle.std.proofs.lemmas.List.FromFn.{length-range_with_len}
 use Rattle.sia_graph.proofs.OneTaken.{IsIn, none_in, smaller, none_left}
 use Rattle.sia_graph.proofs.Places.{group_joins}
 use Rattle.sia_graph.proofs.ReadyPlaces.{ready_released, ready_within}
