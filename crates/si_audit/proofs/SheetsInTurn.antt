@@ -1,9 +1,11 @@
 -- What is made of the chunks of the edges, one after another, is what is made of all edges.
-use Rattle.std.proofs.Common.{◌≡◌, inl, inr, ℕ, suc, ◌+◌, ◌-◌, ◌<◌, ◌≤◌, List, [], ◌∷◌, ◌++◌, length, map, flat_map, get_or, refl, ap, sym, subst, ◌∙◌, arith}
+use Rattle.std.proofs.Common.{◌≡◌, inl, inr, ℕ, suc, ◌+◌, ◌-◌, ◌/◌, ◌<◌, ◌≤◌, List, [], ◌∷◌, ◌++◌, length, map, flat_map, get_or, refl, ap, sym, subst, ◌∙◌, arith}
 use Rattle.std.specs.Prelude.{⊤, Contains, slice_index, slice_index_or}
+use Rattle.std.proofs.Math.Nat.{div-mul-le_self}
 use Rattle.std.proofs.lemmas.Bool.{cases_lt}
 use Rattle.std.proofs.lemmas.Grind.{flat_map-append}
 use Rattle.std.proofs.lemmas.List.{map-append}
+use Rattle.std.proofs.lemmas.Nat.{le-div}
 use Rattle.std.proofs.lemmas.List.Elements.{Contains-get_or, Contains-append_left, Contains-append_right, Contains-append_cases}
 use Rattle.sia_events.specs.Transactions.{Overlap}
 use Rattle.sia_parts.specs.declared.finding.Edge.{Edge}
@@ -15,12 +17,19 @@ use Rattle.sia_parts.proofs.StandingNumbers.{listed}
 use Rattle.sia_graph.specs.declared.pivoting.links.Link.{Link}
 use Rattle.sia_graph.specs.Links.{AreEnds}
 use Rattle.sia_graph.proofs.LinkLists.{ends_joined, ends_none}
-use Rattle.sia_graph.proofs.Places.{source_rises}
 use Rattle.sia_graph.proofs.Vulnerable.{all_vulnerable}
 use Rattle.si_audit.specs.declared.audit.edges.AllEdges.{AllEdges}
 use Rattle.si_audit.specs.declared.report.sheets.Sheet.{Sheet}
 use Rattle.si_audit.specs.Lines.{edge_line}
 use Rattle.si_audit.specs.Edges.{AreAllEdges, AreLinesAndLinks, IsSheet}
+
+-- a greater number has no lesser quotient
+div_rises : (k n m : ℕ) → 0 < k → n ≤ m → n / k ≤ m / k
+div_rises k n m some l = le-div (n / k) m k some (let a = div-mul-le_self n k in omega arith)
+
+-- and no lesser source
+source_rises : (n m : ℕ) → n ≤ m → source_number n ≤ source_number m
+source_rises n m l = div_rises 1048576 (n / 1048576 / 4) (m / 1048576 / 4) (omega arith) (div_rises 4 (n / 1048576) (m / 1048576) (omega arith) (div_rises 1048576 n m (omega arith) l))
 
 module _ (e : AllEdges) where
   abbrev edge : ℕ → Edge
