@@ -1,6 +1,4 @@
-use Rattle.std.proofs.Common.{map, subst, sym, ◌∙◌}
-use Rattle.std.specs.Prelude.{⊤}
-use Rattle.sia_parts.specs.Findings.{ListsEdges}
+use Rattle.std.proofs.Common.{map}
 use Rattle.sia_parts.specs.Packing.{unpacked}
 use Rattle.sia_graph.proofs.Vulnerable.{all_vulnerable}
 use Rattle.si_audit.proofs.SheetsInTurn.{all_listed}

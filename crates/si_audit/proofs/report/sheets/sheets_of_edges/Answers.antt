@@ -1,4 +1,4 @@
-use Rattle.std.proofs.Common.{ℕ, ◌<◌, subst, ◌∙◌}
+use Rattle.std.proofs.Common.{◌<◌, subst, ◌∙◌}
 use Rattle.si_audit.proofs.SheetsInTurn.{all_in_turn}
 use Rattle.si_audit.proofs.report.sheets.sheets_of_edges.Goals as goal
 
