@@ -1,4 +1,4 @@
--- What an account says of how a run ends, and that it can be printed.
+-- What an account and a judgement say of how a run ends, and that an account can be printed.
 use Rattle.std.proofs.Common.{◌≡◌, ◌≢◌, ◌↔◌, ℕ, List, [], ◌∷◌, length, map, get_or, subst, arith}
 use Rattle.std.specs.Prelude.{⊤, All, Contains}
 use Rattle.std.proofs.lemmas.List.{get_or-map, length-map}
@@ -6,15 +6,19 @@ use Rattle.std.proofs.lemmas.List.Elements.{All-contains_itself}
 use Rattle.sia_events.specs.declared.event.Event.{Event}
 use Rattle.sia_events.specs.Isolation.{IsBadRead, IsBadWrite, IsolationKept}
 use Rattle.sia_events.specs.DangerousStructures.{IsPivot}
+use Rattle.sia_parts.specs.declared.finding.Edge.{Edge}
 use Rattle.sia_parts.specs.Entries.{bad_read_rank, bad_write_rank}
+use Rattle.sia_parts.specs.Findings.{ListsEdges}
 use Rattle.sia_parts.proofs.Members.{contains_none}
 use Rattle.sia_graph.specs.declared.pivot.Pivot.{Pivot}
 use Rattle.sia_graph.specs.declared.settling.Verdict.{Verdict}
 use Rattle.sia_graph.specs.declared.settling.Verdict.TheVariants.{Order, Cycle}
 use Rattle.sia_graph.specs.Pivots.{ArePivots}
 use Rattle.sia_graph.specs.Verdicts.{IsVerdict}
+use Rattle.si_audit.specs.declared.audit.judgement.Judgement.{Judgement}
 use Rattle.si_audit.specs.Account.{Account}
 use Rattle.si_audit.specs.Accounts.{IsAccount}
+use Rattle.si_audit.specs.Judgements.{IsJudgement, account_with}
 use Rattle.si_audit.specs.Report.{HasStep, CanBePrinted}
 use Rattle.si_audit.proofs.Judging.{none_listed, empty_list}
 
@@ -45,18 +49,35 @@ can_be_printed h a is = record {
   neighbours = has_neighbours h a.pivots is.pivots;
 }
 
--- a history kept isolation exactly where its account has no bad read and no bad write
-pub kept_where : (h : List Event) (a : Account) → IsAccount h a → ((a.bad_reads ≡ []) × (a.bad_writes ≡ [])) ↔ IsolationKept h
-kept_where h a is = (to, from)
+-- with the edges and the pivots of the history a judgement of it is its account
+pub account_is : (h : List Event) (j : Judgement) → IsJudgement h j → (edges : List Edge) → ListsEdges h (λ _. ⊤) edges → (pivots : List Pivot) → ArePivots h pivots → IsAccount h (account_with j edges pivots)
+account_is h j is edges edges_are pivots pivots_are = record {
+  events = is.counts.events;
+  committed = is.counts.committed;
+  aborted = is.counts.aborted;
+  unfinished = is.counts.unfinished;
+  bad_reads = is.bad_reads;
+  bad_writes = is.bad_writes;
+  unexplained = is.unexplained;
+  edges = edges_are;
+  pivots = pivots_are;
+  pass = is.pass;
+  serializable = is.serializable;
+  verdict = is.verdict;
+}
+
+-- a history kept isolation exactly where its judgement has no bad read and no bad write
+pub kept_where : (h : List Event) (j : Judgement) → IsJudgement h j → ((j.bad_reads.items ≡ []) × (j.bad_writes.items ≡ [])) ↔ IsolationKept h
+kept_where h j is = (to, from)
   where
-    to : (a.bad_reads ≡ []) × (a.bad_writes ≡ []) → IsolationKept h
+    to : (j.bad_reads.items ≡ []) × (j.bad_writes.items ≡ []) → IsolationKept h
     to e = record {
-      reads = λ p t k saw due bad. none_listed bad_read_rank (λ b. IsBadRead h b.place b.txn b.key b.saw b.due × ⊤) a.bad_reads is.bad_reads e.0 (record { place = p; txn = t; key = k; saw = saw; due = due }) (bad, tt);
-      writes = λ k first second bad. none_listed bad_write_rank (λ b. IsBadWrite h b.key b.first b.second × ⊤) a.bad_writes is.bad_writes e.1 (record { key = k; first = first; second = second }) (bad, tt);
+      reads = λ p t k saw due bad. none_listed bad_read_rank (λ b. IsBadRead h b.place b.txn b.key b.saw b.due × ⊤) j.bad_reads.items is.bad_reads e.0 (record { place = p; txn = t; key = k; saw = saw; due = due }) (bad, tt);
+      writes = λ k first second bad. none_listed bad_write_rank (λ b. IsBadWrite h b.key b.first b.second × ⊤) j.bad_writes.items is.bad_writes e.1 (record { key = k; first = first; second = second }) (bad, tt);
     }
 
-    from : IsolationKept h → (a.bad_reads ≡ []) × (a.bad_writes ≡ [])
+    from : IsolationKept h → (j.bad_reads.items ≡ []) × (j.bad_writes.items ≡ [])
     from e = (
-      empty_list bad_read_rank (λ b. IsBadRead h b.place b.txn b.key b.saw b.due × ⊤) a.bad_reads is.bad_reads (λ b bad. e.reads b.place b.txn b.key b.saw b.due bad.0),
-      empty_list bad_write_rank (λ b. IsBadWrite h b.key b.first b.second × ⊤) a.bad_writes is.bad_writes (λ b bad. e.writes b.key b.first b.second bad.0),
+      empty_list bad_read_rank (λ b. IsBadRead h b.place b.txn b.key b.saw b.due × ⊤) j.bad_reads.items is.bad_reads (λ b bad. e.reads b.place b.txn b.key b.saw b.due bad.0),
+      empty_list bad_write_rank (λ b. IsBadWrite h b.key b.first b.second × ⊤) j.bad_writes.items is.bad_writes (λ b bad. e.writes b.key b.first b.second bad.0),
     )

@@ -17,5 +17,4 @@ pub mod OfHistory
 mod TakenWords
 mod NumbersGiven
 pub mod OnSheets
-pub mod Batched
-pub mod EdgeSheets
+pub mod SheetsInTurn

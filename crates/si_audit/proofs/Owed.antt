@@ -13,10 +13,3 @@ each_owed R (x ∷ parts) (y ∷ outs) len owed = (
   owed 0 y (omega arith),
   each_owed R parts outs (omega arith) (λ k d below. owed (suc k) d (omega arith)),
 )
-
--- what is owed for another reason
-pub owed_too : {A B : Type 0} (R Q : A → B → Type 0) (parts : List A) (outs : List B) → ((x : A) (y : B) → R x y → Q x y) → AllZip R parts outs → AllZip Q parts outs
-owed_too R Q [] [] f owed = tt
-owed_too R Q [] (y ∷ outs) f owed = absurd owed
-owed_too R Q (x ∷ parts) [] f owed = absurd owed
-owed_too R Q (x ∷ parts) (y ∷ outs) f owed = (f x y owed.0, owed_too R Q parts outs f owed.1)

@@ -13,3 +13,4 @@ pub mod Answering
 pub mod LineAnswers
 pub mod Judgements
 pub mod Sheets
+pub mod Edges

@@ -1,28 +1,26 @@
 // What is written of a text, and how its run ends.
-ghost use Rattle.std.specs.Prelude.{◌≡◌, ◌↔◌, ℕ, List, [], IfOk, IsTrue, flat_map, map};
+ghost use Rattle.std.specs.Prelude.{◌≡◌, ◌↔◌, ℕ, List, [], IfOk, IsTrue};
 ghost use Rattle.sia_events.specs.declared.event.Event.{Event};
 ghost use Rattle.sia_events.specs.Refusals.{IsWellFormed};
 ghost use Rattle.sia_events.specs.Streaming.{StandsForRead};
-ghost use Rattle.sia_parts.specs.Packing.{unpacked};
-ghost use Rattle.si_audit.specs.Lines.{edge_line, refusal_line, told};
+ghost use Rattle.si_audit.specs.Lines.{refusal_line};
 ghost use Rattle.si_audit.specs.Report.{IsReport};
-ghost use Rattle.si_audit.specs.Accounts.{IsAccount};
 ghost use Rattle.si_audit.specs.Outcomes.{IsOutcome, Meets};
 ghost use Rattle.si_audit.specs.Answering.{IsReportOf, IsOutcomeOf};
-ghost use Rattle.si_audit.specs.Judgements.{account_by};
+ghost use Rattle.si_audit.specs.Judgements.{IsJudgement};
 ghost use Rattle.si_audit.specs.Sheets.{text_of};
 
-use crate::audit::judgement::{AllEdges, Judgement, judged};
-use crate::cli::form::Form;
+use crate::audit::judgement::{Judgement, judged};
 use crate::cli::level::Level;
 use crate::cli::options::Options;
 use crate::engine::Outcome;
 use crate::report::lines::push_refusal;
+use crate::report::listing::told;
 use crate::report::reporting::report_of;
-use crate::report::sheets::sheets_of_edges;
 use sia_events::{History, NoMemory, TextFault, TextReader};
 use sia_index::Index;
 use sia_index::make::index;
+use sia_parts::Committed;
 use std::alloc::Global;
 use std::sync::Wait;
 use std::thread::Threads;
@@ -37,14 +35,14 @@ pub(crate) struct Answer {
 
 /// Whether isolation was kept.
 fn is_kept(j: &Judgement) -> bool
-    ensures { IsTrue result ↔ ((j.now.found.bad_reads.items ≡ []) × (j.now.found.bad_writes.items ≡ [])) }
+    ensures { IsTrue result ↔ ((j.now.bad_reads.items ≡ []) × (j.now.bad_writes.items ≡ [])) }
 {
-    j.found.bad_reads.is_empty() && j.found.bad_writes.is_empty()
+    j.bad_reads.is_empty() && j.bad_writes.is_empty()
 }
 
 /// Whether the history of which this is the judgement meets the level.
 fn meets(j: &Judgement, level: Level) -> bool
-    ensures { (h : List Event) (keys : List ℕ) → IsAccount h (account_by keys j.now) → IsTrue result ↔ Meets level h }
+    ensures { (h : List Event) → IsJudgement h j.now → IsTrue result ↔ Meets level h }
 {
     match level {
         Level::Serializable => is_kept(j) && j.serializable,
@@ -55,27 +53,12 @@ fn meets(j: &Judgement, level: Level) -> bool
 
 /// How the run of the history ends of which this is the judgement.
 fn outcome_of(j: &Judgement, level: Level) -> Outcome
-    ensures { (h : List Event) (keys : List ℕ) → IsAccount h (account_by keys j.now) → IsOutcomeOf level h result }
+    ensures { (h : List Event) → IsJudgement h j.now → IsOutcomeOf level h result }
 {
     if meets(j, level) {
         Outcome::Clean
     } else {
         Outcome::Faulty
-    }
-}
-
-/// The lines of edges that the report has, on one sheet after another.
-fn edges_told<T: Threads + Wait + Sync>(
-    rt: &T,
-    alloc: Global,
-    edges: &AllEdges,
-    o: &Options,
-) -> Result<Vec<Vec<u8>>, NoMemory>
-    ensures { IfOk result (λ sheets. text_of sheets.items ≡ flat_map edge_line (told o.now.form (map (unpacked edges.now.txns.now edges.now.keys.now) edges.now.numbers.now))) }
-{
-    match o.form() {
-        Form::Full => sheets_of_edges(rt, alloc, edges, o),
-        Form::Brief => Ok(Vec::new(alloc)),
     }
 }
 
@@ -92,16 +75,11 @@ fn answer_by_index<T: Threads + Wait + Sync>(
     ensures report { IfOk result (λ answer. IsReportOf o.now.form h.now (text_of answer.sheets.items)) }
     ensures outcome { IfOk result (λ answer. IsOutcomeOf o.now.level h.now answer.outcome) }
 {
-    let judgement = judged(rt, alloc, h, ix, o)?;
-    let edges = AllEdges {
-        index: ix,
-        txns: judgement.committed.ids(),
-        keys: ix.written_keys(),
-        numbers: &judgement.found.edges,
-    };
-    let lines = edges_told(rt, alloc, &edges, o)?;
+    let committed = Committed::of(alloc, ix)?;
+    let (judgement, looks) = judged(rt, alloc, h, ix, &committed, o)?;
+    let listing = told(rt, alloc, ix, &committed, looks, o)?;
     let outcome = outcome_of(&judgement, o.level());
-    let sheets = report_of(alloc, &judgement, lines, o.form())?;
+    let sheets = report_of(alloc, &judgement, listing)?;
     Ok(Answer { sheets, outcome })
 }
 

@@ -8,5 +8,4 @@ mod many_edges;
 mod options;
 mod passing_on;
 mod rows;
-mod sheets;
 mod statuses;

@@ -1,19 +1,16 @@
 // What is found at all keys: workers find what is at the keys of each part.
-ghost use Rattle.std.specs.Prelude.{◌≡◌, ◌<◌, ◌≤◌, ℕ, List, length, IfOk, IfSome};
+ghost use Rattle.std.specs.Prelude.{◌≡◌, ◌<◌, ◌≤◌, length, IfOk, IfSome};
 ghost use Rattle.std.specs.List.{slice_get};
 ghost use Rattle.sia_events.specs.Lists.{ListsAscending};
 ghost use Rattle.sia_events.specs.Refusals.{IsWellFormed};
 ghost use Rattle.sia_events.specs.Transactions.{IsCommitted};
-ghost use Rattle.sia_index.specs.Info.{AreWrittenKeys};
-ghost use Rattle.sia_parts.specs.EdgeNumbers.{IsFound};
-ghost use Rattle.sia_parts.specs.Gathering.{IsPartFound};
+ghost use Rattle.sia_parts.specs.Gathering.{IsGathering, IsPartFound};
 ghost use Rattle.sia_parts.specs.Parts.{IsInPart};
 
-use crate::audit::merging::gather;
 use crate::cli::options::Options;
 use sia_events::{History, NoMemory};
 use sia_index::Index;
-use sia_parts::{Committed, Found, Part, PartFound, find_in_part};
+use sia_parts::{Committed, Gathering, Part, PartFound, find_in_part};
 use sia_pool::{Job, OpenGate, work_off};
 use std::alloc::Global;
 use std::sync::Wait;
@@ -34,8 +31,7 @@ impl Job for Auditing<'_> {
 
     ghost takes = { λ job number. (job.index.now ≡ job.history.now) × ListsAscending (IsCommitted job.index.now) job.committed.now × (number < length job.parts.now) };
 
-    ghost owes = { λ job number found. IfSome (slice_get job.parts.now number) (λ part. (keys : List ℕ) → AreWrittenKeys job.history.now keys
-        → IsPartFound job.history.now job.committed.now keys (IsInPart part) found) };
+    ghost owes = { λ job number found. IfSome (slice_get job.parts.now number) (λ part. IsPartFound job.history.now (IsInPart part) found) };
 
     fn run(&self, number: u32) -> Result<PartFound, sia_pool::NoMemory> {
         let part = self.parts[number as usize];
@@ -69,14 +65,12 @@ pub(crate) fn find<R: Threads + Wait + Sync>(
     ix: &Index,
     committed: &Committed,
     o: &Options,
-) -> Result<Found, NoMemory>
+) -> Result<Gathering, NoMemory>
     requires index { ix.now ≡ h.now }
     requires well_formed { IsWellFormed h.now }
     requires committed { ListsAscending (IsCommitted ix.now) committed.now }
-    ensures { IfOk result (λ found. (keys : List ℕ) → AreWrittenKeys h.now keys → IsFound h.now committed.now keys found) }
+    ensures { IfOk result (IsGathering h.now) }
 {
-    // There is a list of the written keys, by which the numbers of the parts are of one kind.
-    let _ = ix.written_keys();
     let parts = o.parts();
     let job = Auditing {
         alloc,
@@ -87,7 +81,7 @@ pub(crate) fn find<R: Threads + Wait + Sync>(
     };
     let count = count_of(parts);
     match work_off(rt, alloc, count, crew_of(o, count), &job, &OpenGate) {
-        Ok(crew) => gather(rt, alloc, crew.outs, committed.ids().len(), o),
+        Ok(crew) => Gathering::of(alloc, crew.outs),
         Err(_) => Err(NoMemory),
     }
 }

@@ -1,42 +1,67 @@
 // How a history is audited.
-ghost use Rattle.std.specs.Prelude.{◌≡◌, IfOk, IsTrue};
+ghost use Rattle.std.specs.Prelude.{◌≡◌, ⊤, IfOk, IsTrue};
+ghost use Rattle.sia_events.specs.Lists.{ListsAscending};
+ghost use Rattle.sia_events.specs.Transactions.{IsCommitted};
+ghost use Rattle.sia_parts.specs.Findings.{ListsEdges};
+ghost use Rattle.sia_parts.specs.Looks.{AreLooks};
+ghost use Rattle.sia_graph.specs.Pivots.{ArePivots};
 ghost use Rattle.si_audit.specs.Accounts.{IsAccount};
 ghost use Rattle.si_audit.specs.Audits.{account_of, IsOrderVerdict};
-ghost use Rattle.si_audit.specs.Judgements.{account_by};
+ghost use Rattle.si_audit.specs.Judgements.{account_with};
 
+use crate::audit::edges::{chunk_of, edges_of};
 use crate::audit::findings::Audit;
 use crate::audit::judgement::{Judgement, judged};
 use crate::cli::options::Options;
-use sia_events::{History, Key, NoMemory};
+use sia_events::{History, NoMemory};
+use sia_graph::{Pivot, pivots_of_links};
+use sia_index::Index;
 use sia_index::make::index;
-use sia_parts::Findings;
+use sia_parts::{Committed, Edge, Findings, Looks, edges_of_numbers};
 use std::alloc::Global;
 use std::sync::Wait;
 use std::thread::Threads;
 
-/// The same with the edges as they are.
-fn unpacked(alloc: Global, j: Judgement, keys: &[Key]) -> Result<Audit, NoMemory>
-    ensures { IfOk result (λ a. account_of a ≡ account_by keys.now j) }
+/// All edges of a history and all pivots, in order.
+pub(crate) fn listed(
+    alloc: Global,
+    ix: &Index,
+    committed: &Committed,
+    looks: Looks,
+) -> Result<(Vec<Edge>, Vec<Pivot>), NoMemory>
+    requires committed { ListsAscending (IsCommitted ix.now) committed.now }
+    requires looks { AreLooks ix.now (λ _. ⊤) looks }
+    ensures edges { IfOk result (λ (edges, pivots). ListsEdges ix.now (λ _. ⊤) edges.items) }
+    ensures pivots { IfOk result (λ (edges, pivots). ArePivots ix.now pivots.items) }
 {
-    let edges = j.found.edges.edges(alloc, j.committed.ids(), keys)?;
+    let all = edges_of(alloc, ix, committed, looks)?;
+    let chunk = chunk_of(alloc, &all, 0, all.txns.len())?;
+    let edges = edges_of_numbers(alloc, all.txns, all.keys, &chunk.numbers)?;
+    let pivots = pivots_of_links(alloc, ix, chunk.links)?;
+    Ok((edges, pivots))
+}
+
+/// The judgement with these edges and pivots.
+fn with_edges(j: Judgement, edges: Vec<Edge>, pivots: Vec<Pivot>) -> Audit
+    ensures { account_of result ≡ account_with j edges.items pivots.items }
+{
     let counts = j.counts;
-    let found = j.found;
-    Ok(Audit {
+    Audit {
         events: counts.events,
         committed: counts.committed,
         aborted: counts.aborted,
         unfinished: counts.unfinished,
         findings: Findings {
-            bad_reads: found.bad_reads,
-            bad_writes: found.bad_writes,
-            unexplained: found.unexplained,
+            bad_reads: j.bad_reads,
+            bad_writes: j.bad_writes,
+            unexplained: j.unexplained,
             edges,
         },
-        pivots: j.pivots,
+        pivots,
         pass: j.pass,
         serializable: j.serializable,
         verdict: j.verdict,
-    })
+    }
 }
 
 /// Audits a history by workers, and waits for them. What it answers depends on the history alone.
@@ -51,6 +76,8 @@ pub fn audit<R: Threads + Wait + Sync>(
 {
     h.law();
     let ix = index(alloc, h)?;
-    let judgement = judged(rt, alloc, h, &ix, o)?;
-    unpacked(alloc, judgement, ix.written_keys())
+    let committed = Committed::of(alloc, &ix)?;
+    let (judgement, looks) = judged(rt, alloc, h, &ix, &committed, o)?;
+    let (edges, pivots) = listed(alloc, &ix, &committed, looks)?;
+    Ok(with_edges(judgement, edges, pivots))
 }

@@ -2,11 +2,9 @@
 // its end to its start, so that nothing is counted before, and appended at once.
 ghost use Rattle.std.specs.Prelude.{◌≡◌, ◌+◌, ◌<◌, ◌≤◌, ◌∷◌, ◌++◌, [], length, drop, IfOk, OnOk};
 ghost use Rattle.sia_events.specs.Text.{numeral};
-ghost use Rattle.sia_parts.specs.Chunks.{numbers_in};
 ghost use Rattle.si_audit.specs.Lines as lines;
 ghost use Rattle.si_audit.specs.Sheets.{number_lines};
 
-use crate::report::sheets::count_of;
 use itoa::{Buffer, write_digits};
 use sia_events::{Key, TxnId};
 use sia_parts::{Edge, EdgeNumber, Kind, edge_of};
@@ -139,19 +137,17 @@ fn longest_line(txns: &[TxnId], keys: &[Key]) -> usize
     WORDS + 2 * txn + key
 }
 
-/// The lines of the edges of these chunks, on a sheet of their own. It has the room for them from the start.
+/// The lines of the edges of these numbers, on a sheet of their own. It has the room for them from the start.
 pub(crate) fn sheet_of(
     alloc: Global,
     txns: &[TxnId],
     keys: &[Key],
-    chunks: &[Vec<EdgeNumber>],
+    numbers: &[EdgeNumber],
 ) -> Result<Vec<u8>, AllocError>
-    ensures { IfOk result (λ sheet. sheet.items ≡ number_lines txns.now keys.now (numbers_in chunks.now)) }
+    ensures { IfOk result (λ sheet. sheet.items ≡ number_lines txns.now keys.now numbers.now) }
 {
-    let room = count_of(chunks).saturating_mul(longest_line(txns, keys));
+    let room = numbers.len().saturating_mul(longest_line(txns, keys));
     let mut sheet = Vec::with_capacity(alloc, room)?;
-    for chunk in chunks {
-        push_numbers(&mut sheet, txns, keys, chunk)?;
-    }
+    push_numbers(&mut sheet, txns, keys, numbers)?;
     Ok(sheet)
 }

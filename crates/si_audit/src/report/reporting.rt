@@ -1,8 +1,7 @@
 // The report of an audit: all its lines.
-ghost use Rattle.std.specs.Prelude.{◌≡◌, ◌++◌, ◌&&◌, ℕ, List, [], flat_map, map, IfOk, OnOk};
-ghost use Rattle.sia_parts.specs.Packing.{unpacked};
+ghost use Rattle.std.specs.Prelude.{◌≡◌, ◌++◌, ◌&&◌, List, [], flat_map, IfOk, OnOk};
 ghost use Rattle.si_audit.specs.Audits.{account_of};
-ghost use Rattle.si_audit.specs.Judgements.{account_by};
+ghost use Rattle.si_audit.specs.Judgements.{account_with};
 ghost use Rattle.si_audit.specs.Lines as lines;
 ghost use Rattle.si_audit.specs.Report.{CanBePrinted};
 ghost use Rattle.si_audit.specs.Sheets.{text_of};
@@ -15,6 +14,7 @@ use crate::report::lines::{
     push_bad_read, push_bad_write, push_edge, push_events, push_isolation, push_pivot,
     push_serializable, push_ssi, push_unexplained, push_verdict,
 };
+use crate::report::listing::Listing;
 use sia_events::NoMemory;
 use sia_graph::{Pivot, Verdict};
 use sia_parts::{BadRead, BadWrite, Edge, Unexplained};
@@ -158,58 +158,44 @@ pub fn report(alloc: Global, a: &Audit) -> Result<Vec<u8>, NoMemory>
 fn front_of(alloc: Global, j: &Judgement) -> Result<Vec<u8>, AllocError>
     ensures { IfOk result (λ sheet. sheet.items ≡
         lines.events_line j.now.counts.events j.now.counts.committed j.now.counts.aborted j.now.counts.unfinished
-        ++ lines.isolation_line (lines.is_empty j.now.found.bad_reads.items && lines.is_empty j.now.found.bad_writes.items)
-        ++ flat_map lines.bad_read_line j.now.found.bad_reads.items
-        ++ flat_map lines.bad_write_line j.now.found.bad_writes.items
-        ++ flat_map lines.unexplained_line j.now.found.unexplained.items) }
+        ++ lines.isolation_line (lines.is_empty j.now.bad_reads.items && lines.is_empty j.now.bad_writes.items)
+        ++ flat_map lines.bad_read_line j.now.bad_reads.items
+        ++ flat_map lines.bad_write_line j.now.bad_writes.items
+        ++ flat_map lines.unexplained_line j.now.unexplained.items) }
 {
-    let found = &j.found;
-    let mut sheet = buffer(alloc, found.unexplained.len(), found.bad_reads.len())?;
+    let mut sheet = buffer(alloc, j.unexplained.len(), j.bad_reads.len())?;
     push_front(
         &mut sheet,
         &j.counts,
-        &found.bad_reads,
-        &found.bad_writes,
-        &found.unexplained,
+        &j.bad_reads,
+        &j.bad_writes,
+        &j.unexplained,
     )?;
     Ok(sheet)
 }
 
-/// The pivots that a report of this form has.
-fn pivots_told(form: Form, pivots: &[Pivot]) -> &[Pivot]
-    ensures { result.now ≡ lines.told form pivots.now }
-{
-    match form {
-        Form::Full => pivots,
-        Form::Brief => &[],
-    }
-}
-
 /// The lines of a judgement that stand behind those of the edges.
-fn back_of(alloc: Global, j: &Judgement, form: Form) -> Result<Vec<u8>, AllocError>
+fn back_of(alloc: Global, j: &Judgement, pivots: &[Pivot]) -> Result<Vec<u8>, AllocError>
     ensures { IfOk result (λ sheet. sheet.items ≡
-        flat_map lines.pivot_line (lines.told form j.now.pivots.items)
+        flat_map lines.pivot_line pivots.now
         ++ lines.ssi_line j.now.pass
         ++ lines.serializable_line j.now.serializable
         ++ lines.verdict_line j.now.verdict) }
 {
-    let pivots = pivots_told(form, &j.pivots);
-    let mut sheet = buffer(alloc, j.committed.ids().len(), pivots.len())?;
+    let mut sheet = buffer(alloc, j.counts.committed as usize, pivots.len())?;
     push_back(&mut sheet, pivots, j.pass, j.serializable, &j.verdict)?;
     Ok(sheet)
 }
 
-/// The lines of a judgement in this form, of which those of the edges are made already.
-pub(crate) fn report_of(
-    alloc: Global,
-    j: &Judgement,
-    mut sheets: Vec<Vec<u8>>,
-    form: Form,
-) -> Result<Vec<Vec<u8>>, NoMemory>
-    ensures { IfOk result (λ all. (keys : List ℕ) → text_of sheets.items ≡ flat_map lines.edge_line (lines.told form (map (unpacked j.now.committed keys) j.now.found.edges))
-        → text_of all.items ≡ lines.report_text form (account_by keys j.now)) }
+/// The lines of a judgement, with what its report tells of the edges and of the pivots.
+pub(crate) fn report_of(alloc: Global, j: &Judgement, t: Listing) -> Result<Vec<Vec<u8>>, NoMemory>
+    ensures { IfOk result (λ all. (form : Form) (edges : List Edge) (pivots : List Pivot) → text_of t.sheets.items ≡ flat_map lines.edge_line (lines.told form edges)
+        → t.pivots.items ≡ lines.told form pivots → text_of all.items ≡ lines.report_text form (account_with j.now edges pivots)) }
 {
-    sheets.insert(0, front_of(alloc, j)?)?;
-    sheets.push(back_of(alloc, j, form)?)?;
+    let front = front_of(alloc, j)?;
+    let back = back_of(alloc, j, &t.pivots)?;
+    let mut sheets = t.sheets;
+    sheets.insert(0, front)?;
+    sheets.push(back)?;
     Ok(sheets)
 }

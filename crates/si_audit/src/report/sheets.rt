@@ -1,94 +1,95 @@
-// The lines of all edges, which workers make side by side, those of a batch of chunks on each sheet.
-ghost use Rattle.std.specs.Prelude.{◌≡◌, ◌<◌, ◌*◌, ◌≤◌, length, drop, take, IfOk};
-ghost use Rattle.sia_parts.specs.Chunks.{numbers_in};
-ghost use Rattle.si_audit.specs.Sheets.{batch, number_lines, text_of};
+// The lines of all edges, which workers make side by side, those of a chunk on each sheet. Of the edges only the links of the
+// vulnerable ones are kept beside their lines.
+ghost use Rattle.std.specs.Prelude.{◌≡◌, ◌+◌, ◌-◌, ◌<◌, ◌≤◌, length, flat_map, slice_index, IfOk};
+ghost use Rattle.si_audit.specs.Edges.{AreAllEdges, IsSheet};
 
-use crate::audit::batches::Batches;
+use crate::audit::edges::{AllEdges, chunk_of};
 use crate::audit::finding::crew_of;
-use crate::audit::judgement::AllEdges;
 use crate::cli::options::Options;
 use crate::report::number_lines::sheet_of;
-use sia_events::{Key, NoMemory, TxnId};
-use sia_parts::EdgeNumber;
+use sia_events::NoMemory;
+use sia_graph::Link;
+use sia_parts::ChunkBounds;
 use sia_pool::{Job, OpenGate, work_off};
 use std::alloc::Global;
 use std::sync::Wait;
 use std::thread::Threads;
 
-/// The work, of whose batches the workers take one after another.
+/// How many edges a chunk mostly has: so few that no worker waits long for the last one, and that the memory of a chunk, and
+/// that of its lines, is one that an allocator gives each worker apart from the others, and gives again.
+const STRETCH: usize = 6_000;
+
+/// What is made of a chunk of the edges.
+#[derive(Drop)]
+pub(crate) struct Sheet {
+    pub(crate) lines: Vec<u8>,
+    /// The vulnerable edges, each as a link at its source.
+    pub(crate) links: Vec<Link>,
+}
+
+/// The work, of whose chunks the workers take one after another.
 #[derive(Drop)]
 struct Printing<'a> {
     alloc: Global,
-    txns: &'a [TxnId],
-    keys: &'a [Key],
-    chunks: &'a [Vec<EdgeNumber>],
-    /// How many chunks a batch has.
-    size: usize,
+    edges: &'a AllEdges<'a>,
+    chunk_bounds: &'a ChunkBounds,
 }
 
 impl Job for Printing<'_> {
-    type Out = Vec<u8>;
+    type Out = Sheet;
 
-    ghost takes = { λ job part. part * job.size ≤ length job.chunks.now };
+    ghost takes = { λ job number. AreAllEdges job.edges.now × (number + 1 < length job.chunk_bounds.now.places.items) };
 
-    ghost owes = { λ job part sheet. sheet.items ≡ number_lines job.txns.now job.keys.now (numbers_in (batch job.size part job.chunks.now)) };
+    ghost owes = { λ job number sheet. IsSheet job.edges.now (slice_index job.chunk_bounds.now.places.items number) (slice_index job.chunk_bounds.now.places.items (number + 1))
+        sheet.lines.items sheet.links.items };
 
-    fn run(&self, part: u32) -> Result<Vec<u8>, sia_pool::NoMemory> {
-        match self.sheet(part as usize * self.size) {
+    fn run(&self, number: u32) -> Result<Sheet, sia_pool::NoMemory> {
+        let places = &self.chunk_bounds.places;
+        let number = number as usize;
+        match sheet_between(self.alloc, self.edges, places[number], places[number + 1]) {
             Ok(sheet) => Ok(sheet),
             Err(NoMemory) => Err(sia_pool::NoMemory),
         }
     }
 }
 
-impl Printing<'_> {
-    /// The lines of the batch that starts at this chunk.
-    fn sheet(&self, start: usize) -> Result<Vec<u8>, NoMemory>
-        requires { start ≤ length self.now.chunks.now }
-        ensures { IfOk result (λ sheet. sheet.items ≡ number_lines self.now.txns.now self.now.keys.now (numbers_in (take self.now.size (drop start self.now.chunks.now)))) }
-    {
-        let rest = &self.chunks[start..];
-        let batch = &rest[..self.size.min(rest.len())];
-        let sheet = sheet_of(self.alloc, self.txns, self.keys, batch)?;
-        Ok(sheet)
-    }
+/// What is made of the edges whose sources stand from the one place to before the other.
+fn sheet_between(alloc: Global, edges: &AllEdges, from: usize, to: usize) -> Result<Sheet, NoMemory>
+    requires { AreAllEdges edges.now }
+    ensures { IfOk result (λ sheet. IsSheet edges.now from to sheet.lines.items sheet.links.items) }
+{
+    let chunk = chunk_of(alloc, edges, from, to)?;
+    let lines = sheet_of(alloc, edges.txns, edges.keys, &chunk.numbers)?;
+    let links = chunk.links;
+    Ok(Sheet { lines, links })
 }
 
-/// How many numbers the chunks have.
-pub(crate) fn count_of(chunks: &[Vec<EdgeNumber>]) -> usize {
-    let mut count: usize = 0;
-    for chunk in chunks {
-        count = count.saturating_add(chunk.len());
-    }
-    count
+/// How many chunks there are.
+fn count_of(chunk_bounds: &ChunkBounds) -> u32
+    requires { length chunk_bounds.now.places.items ≤ 1025 }
+    ensures { result ≡ length chunk_bounds.now.places.items - 1 }
+{
+    chunk_bounds.places.len().saturating_sub(1) as u32
 }
 
-/// The lines of the edges, by workers, and waits for them.
+/// What is made of all edges, by workers, and waits for them.
 pub(crate) fn sheets_of_edges<R: Threads + Wait + Sync>(
     rt: &R,
     alloc: Global,
     edges: &AllEdges,
     o: &Options,
-) -> Result<Vec<Vec<u8>>, NoMemory>
-    ensures { IfOk result (λ sheets. text_of sheets.items ≡ number_lines edges.now.txns.now edges.now.keys.now edges.now.numbers.now) }
+) -> Result<Vec<Sheet>, NoMemory>
+    requires { AreAllEdges edges.now }
+    ensures { IfOk result (λ sheets. IsSheet edges.now 0 (length edges.now.txns.now) (flat_map (λ s. s.lines.items) sheets.items) (flat_map (λ s. s.links.items) sheets.items)) }
 {
-    let chunks = edges.numbers.chunks();
-    let batches = Batches::of(chunks.len());
+    let chunk_bounds = ChunkBounds::of(alloc, &edges.fans, edges.txns.len(), STRETCH)?;
+    let count = count_of(&chunk_bounds);
     let job = Printing {
         alloc,
-        txns: edges.txns,
-        keys: edges.keys,
-        chunks,
-        size: batches.size,
+        edges,
+        chunk_bounds: &chunk_bounds,
     };
-    match work_off(
-        rt,
-        alloc,
-        batches.count,
-        crew_of(o, batches.count),
-        &job,
-        &OpenGate,
-    ) {
+    match work_off(rt, alloc, count, crew_of(o, count), &job, &OpenGate) {
         Ok(crew) => Ok(crew.outs),
         Err(_) => Err(NoMemory),
     }

@@ -1,11 +1,10 @@
-use Rattle.std.proofs.Common.{ap, ◌∙◌}
-use Rattle.si_audit.specs.Sheets.{number_lines}
-use Rattle.si_audit.proofs.EdgeSheets.{all_sheets}
+use Rattle.std.proofs.Common.{ℕ, ◌<◌, subst, ◌∙◌}
+use Rattle.si_audit.proofs.SheetsInTurn.{all_in_turn}
 use Rattle.si_audit.proofs.report.sheets.sheets_of_edges.Goals as goal
 
--- the batches together have all lines
+-- the sheets together have all lines and all links
 pub returns-in-Ok : goal.returns-in-Ok
 returns-in-Ok g c =
-    let edges = c.args.edges.now in
-    all_sheets edges.txns.now edges.keys.now c.chunks-chunks.result.now c.of-batches.result.size c.of-batches.result.count c.in-Ok.crew.outs.items c.in-Ok.ensures.len c.in-Ok.ensures.owed c.of-batches.ensures.whole
-    ∙ ap (number_lines edges.txns.now edges.keys.now) c.chunks-chunks.ensures.numbers
+    let count = c.count_of-count.ensures in
+    all_in_turn c.args.edges.now c.in_ok-chunk_bounds.chunk_bounds.places.items c.in_ok-chunk_bounds.ensures.are c.in-Ok.crew.outs.items (c.in-Ok.ensures.len ∙ count)
+    (λ k d below. c.in-Ok.ensures.owed k d (subst (λ n. k < n) c.in-Ok.ensures.len below))
