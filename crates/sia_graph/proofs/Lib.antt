@@ -49,7 +49,6 @@ pub mod Vulnerable
 pub mod PivotLists
 pub mod Places
 pub mod Arrivals
-pub mod ChunkLists
 pub mod TakenPlaces
 pub mod LeastRanks
 pub mod ReadyPlaces

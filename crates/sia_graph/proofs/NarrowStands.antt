@@ -1,17 +1,16 @@
 -- Narrow steps reach what the edges of a history reach.
-use Rattle.std.proofs.Common.{◌≡◌, ◌≢◌, ◌⊎◌, inl, inr, ℕ, zero, suc, ◌+◌, ◌-◌, ◌*◌, ◌^◌, ◌<◌, ◌≤◌, List, [], ◌∷◌, length, get_or, map, refl, ap, sym, subst, ◌∙◌, arith}
-use Rattle.std.specs.Prelude.{◌↔◌, All, Contains, ⊤}
+use Rattle.std.proofs.Common.{◌≡◌, ◌≢◌, ◌⊎◌, inl, inr, ℕ, zero, suc, ◌+◌, ◌-◌, ◌*◌, ◌^◌, ◌<◌, ◌≤◌, List, [], ◌∷◌, length, get_or, refl, ap, sym, subst, ◌∙◌, arith}
+use Rattle.std.specs.Prelude.{All, Contains}
 use Rattle.std.specs.List.Sorted.{IsNonDecreasing, IsStrictlyIncreasing}
 use Rattle.std.proofs.Math.Nat.{mul_assoc, mul_comm, mul-le-mul_left, mul-le-mul_right, pow-succ'}
 use Rattle.std.proofs.lemmas.Bool.{cases_lt}
 use Rattle.std.proofs.lemmas.List.{get_or-map, get_or_default, length-map}
 use Rattle.sia_events.specs.declared.event.Event.{Event}
-use Rattle.sia_events.specs.Closures.{HaveSameClosure, LeadsInSteps}
+use Rattle.sia_events.specs.Closures.{HaveSameClosure}
 use Rattle.sia_events.specs.Closures.LeadsInSteps.{step}
 use Rattle.sia_events.specs.Dependencies.{HasEdge, RwEdge, WrEdge, WwEdge}
-use Rattle.sia_events.specs.NarrowDependencies.{CommitsVersion, HasNarrowEdge, IsNextVersion, Looked, NarrowRwEdge, NarrowWrEdge, NarrowWwEdge}
+use Rattle.sia_events.specs.NarrowDependencies.{CommitsVersion, HasNarrowEdge, IsNextVersion, NarrowRwEdge, NarrowWrEdge, NarrowWwEdge}
 use Rattle.sia_events.specs.declared.event.Event.TheVariants.{Commit}
-use Rattle.sia_events.specs.Lists.{ListsAscending}
 use Rattle.sia_events.proofs.Endings.{one_committer}
 use Rattle.sia_events.proofs.TransactionDecisions.{place_within}
 use Rattle.sia_events.proofs.WellFormed.{few_events, one_commit}
@@ -30,12 +29,12 @@ use Rattle.sia_parts.specs.declared.looks.Absence.{Absence}
 use Rattle.sia_parts.specs.declared.looks.Look.{Look}
 use Rattle.sia_parts.specs.declared.looks.Looks.{Looks}
 use Rattle.sia_parts.specs.EdgeNumbers.{IsCommittedAt}
-use Rattle.sia_parts.specs.Looks.{AreLooks, IsAbsentAt, IsLookOf}
+use Rattle.sia_parts.specs.Looks.{IsLookOf}
 use Rattle.sia_parts.specs.Sights.{FromSome}
 use Rattle.sia_graph.specs.Blocks.{IsWayThrough, LeadsThrough}
 use Rattle.sia_graph.specs.Evidence.{IsEvidence}
 use Rattle.sia_graph.specs.KeyBlocks.{IsOver}
-use Rattle.sia_graph.specs.NarrowSteps.{AreFirsts, AreNarrowSteps, CanSearch, FitsKeys, HasAbsenceSteps, IsAbsenceStep, IsHalfStep, IsLeafStep, IsMemberStep, IsNewest, IsNewestStep, IsNext, IsNextStep, IsSizeFor, edge_of_step, edges_of_steps, name_of, node_of, step_number, step_source, step_target}
+use Rattle.sia_graph.specs.NarrowSteps.{AreNarrowSteps, CanSearch, FitsKeys, IsAbsenceStep, IsHalfStep, IsLeafStep, IsMemberStep, IsNewest, IsNewestStep, IsNext, IsNextStep, IsSizeFor, edge_of_step, edges_of_steps, name_of, node_of, step_number, step_source, step_target}
 use Rattle.sia_graph.specs.Orders.{Leads}
 use Rattle.sia_graph.specs.Places.{AreSteps}
 use Rattle.sia_graph.specs.StandIns.{LeadsByName, StandForAll}

@@ -1,4 +1,5 @@
 //! The verdict of a history from narrow edges: few steps that lead wherever all its edges lead.
+mod absence_steps;
 mod absences;
 mod all_steps;
 pub(crate) mod blocks;
@@ -11,7 +12,6 @@ mod grouped;
 pub(crate) mod judging;
 mod least_edges;
 mod limits;
-mod missed;
 mod nodes;
 mod ordering;
 mod previous;

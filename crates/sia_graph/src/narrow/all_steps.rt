@@ -4,7 +4,7 @@ ghost use Rattle.std.specs.List.Sorted.{IsNonDecreasing};
 ghost use Rattle.sia_parts.specs.Sights.{Adds};
 ghost use Rattle.sia_graph.specs.NarrowSteps.{AreNarrowSteps, CanSearch, FitsKeys, IsMemberStep};
 
-use crate::narrow::missed::put_absence_steps;
+use crate::narrow::absence_steps::put_absence_steps;
 use crate::narrow::firsts::firsts_of;
 use crate::narrow::steps::{put_half_steps, put_leaf_steps, put_newest_steps, put_next_steps};
 use sia_events::NoMemory;

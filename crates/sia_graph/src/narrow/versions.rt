@@ -5,14 +5,8 @@ ghost use Rattle.sia_parts.specs.declared.looks.Look.{Look};
 ghost use Rattle.sia_parts.specs.Looks.{RiseByRank, look_rank};
 ghost use Rattle.sia_graph.specs.NarrowSteps.{CanSearch, IsNewest, IsNext};
 
+use crate::narrow::steps::step;
 use sia_parts::Look;
-
-/// A key and a place as one number, by which writers stand.
-fn rank(key: u32, place: u32) -> u64
-    ensures { result ≡ key * 4294967296 + place }
-{
-    u64::from(key) * 4294967296 + u64::from(place)
-}
 
 /// How many writers stand up to the key and the place.
 fn count_up_to(writers: &[Look], key: u32, place: u32) -> usize
@@ -21,8 +15,8 @@ fn count_up_to(writers: &[Look], key: u32, place: u32) -> usize
     ensures before { AllWithin (λ a. look_rank a ≤ key * 4294967296 + place) writers.now 0 result }
     ensures after { AllWithin (λ a. key * 4294967296 + place < look_rank a) writers.now result (length writers.now) }
 {
-    let most = rank(key, place);
-    writers.partition_point(|a| rank(a.key, a.high) <= most)
+    let most = step(key, place);
+    writers.partition_point(|a| step(a.key, a.high) <= most)
 }
 
 /// The look, where it is one of the key.

@@ -1,6 +1,6 @@
 use Rattle.std.proofs.Common.{arith}
 use Rattle.sia_graph.proofs.AbsenceBlocks.{steps_more, steps_all}
-use Rattle.sia_graph.proofs.narrow.missed.put_absence_steps.Goals as goal
+use Rattle.sia_graph.proofs.narrow.absence_steps.put_absence_steps.Goals as goal
 
 pub loop-absence-preserved : goal.loop-absence-preserved
 loop-absence-preserved c =

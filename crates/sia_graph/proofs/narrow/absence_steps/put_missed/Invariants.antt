@@ -1,6 +1,6 @@
 use Rattle.std.proofs.Common.{◌-◌}
 use Rattle.sia_graph.proofs.AbsenceBlocks.{HasPassedTo}
-use Rattle.sia_graph.proofs.narrow.missed.put_missed.Given as goal
+use Rattle.sia_graph.proofs.narrow.absence_steps.put_missed.Given as goal
 
 abbrev pub invariant-loop-from : goal.invariant-loop-from
 invariant-loop-from l = HasPassedTo l.size l.firsts l.absence l.initial.blocks.items l.blocks.items l.from

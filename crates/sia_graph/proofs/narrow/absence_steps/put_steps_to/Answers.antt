@@ -2,7 +2,7 @@ use Rattle.std.proofs.Common.{◌≡◌, get_or, sym, ◌∙◌, arith}
 use Rattle.sia_parts.proofs.Adding.{from_more, from_all}
 use Rattle.sia_graph.specs.NarrowSteps.{step_number}
 use Rattle.sia_graph.proofs.NarrowSteps.{adds_one}
-use Rattle.sia_graph.proofs.narrow.missed.put_steps_to.Goals as goal
+use Rattle.sia_graph.proofs.narrow.absence_steps.put_steps_to.Goals as goal
 
 pub loop-target-preserved : goal.loop-target-preserved
 loop-target-preserved c =

@@ -1,6 +1,6 @@
 use Rattle.std.proofs.Common.{arith}
 use Rattle.sia_graph.proofs.AbsenceBlocks.{passed_none, passed_more, passed_all}
-use Rattle.sia_graph.proofs.narrow.missed.put_missed.Goals as goal
+use Rattle.sia_graph.proofs.narrow.absence_steps.put_missed.Goals as goal
 
 pub loop-from-init : goal.loop-from-init
 loop-from-init c = passed_none c.args.size c.args.firsts.now c.args.absence c.args.blocks.now.items

@@ -1,6 +1,6 @@
 use Rattle.std.proofs.Common.{arith}
 use Rattle.sia_graph.specs.NarrowSteps.{step_number}
-use Rattle.sia_graph.proofs.narrow.missed.next_own.Goals as goal
+use Rattle.sia_graph.proofs.narrow.absence_steps.next_own.Goals as goal
 
 pub returns-clause-before : goal.returns-clause-before
 returns-clause-before c j from before =

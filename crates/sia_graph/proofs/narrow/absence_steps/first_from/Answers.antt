@@ -3,7 +3,7 @@ use Rattle.std.specs.Prelude.{Contains}
 use Rattle.std.proofs.lemmas.Bool.{ltb-true, ltb-false}
 use Rattle.std.proofs.lemmas.List.Sorted.{IsPartitionPoint-from_clause, IsPartitionedBy-ltb}
 use Rattle.sia_graph.proofs.AbsenceBlocks.{none_from, rest_from, above}
-use Rattle.sia_graph.proofs.narrow.missed.first_from.Goals as goal
+use Rattle.sia_graph.proofs.narrow.absence_steps.first_from.Goals as goal
 
 pub returns-in-Some : goal.returns-in-Some
 returns-in-Some c =

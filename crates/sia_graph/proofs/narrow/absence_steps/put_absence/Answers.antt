@@ -4,7 +4,7 @@ use Rattle.sia_parts.specs.Sights.{Adds, FromSome}
 use Rattle.sia_graph.specs.KeyBlocks.{IsUnderSome}
 use Rattle.sia_graph.specs.NarrowSteps.{IsMissedAt, step_number}
 use Rattle.sia_graph.proofs.AbsenceBlocks.{absence_put}
-use Rattle.sia_graph.proofs.narrow.missed.put_absence.Goals as goal
+use Rattle.sia_graph.proofs.narrow.absence_steps.put_absence.Goals as goal
 
 pub returns : goal.returns
 returns c =
