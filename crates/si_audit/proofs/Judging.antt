@@ -1,9 +1,8 @@
 -- What follows from the findings of a history: what is settled, and whether a serial order replays it.
-use Rattle.std.proofs.Common.{◌≡◌, ◌≢◌, ◌↔◌, ◌⊎◌, inl, inr, ℕ, Bool, List, [], ◌∷◌, slice_index_or, refl, subst, arith}
-use Rattle.std.specs.Prelude.{IsTrue, ⊤, All, Contains}
-use Rattle.std.proofs.lemmas.List.Elements.{All-contains_itself}
+use Rattle.std.proofs.Common.{◌≡◌, ◌↔◌, ◌⊎◌, inl, inr, ℕ, Bool, List, [], ◌∷◌, refl, subst, arith}
+use Rattle.std.specs.Prelude.{IsTrue, ⊤}
 use Rattle.sia_events.specs.declared.event.Event.{Event}
-use Rattle.sia_events.specs.Lists.{ListsBy, ListsAscending}
+use Rattle.sia_events.specs.Lists.{ListsBy}
 use Rattle.sia_events.specs.Refusals.{IsWellFormed}
 use Rattle.sia_events.specs.Transactions.{IsCommitted}
 use Rattle.sia_events.specs.Isolation.{IsUnexplained, NoneUnexplained}
@@ -11,19 +10,17 @@ use Rattle.sia_events.specs.Dependencies.{WwEdge, WrEdge, RwEdge, HasEdge}
 use Rattle.sia_events.specs.DangerousStructures.{PassesSsi}
 use Rattle.sia_events.specs.Replay.{IsOrder, Keeps, IsSerializable}
 use Rattle.sia_events.specs.Laws.{ReplayLaw, SsiLaw}
-use Rattle.sia_events.proofs.Versions.{edge_between}
 use Rattle.sia_parts.specs.declared.finding.Edge.{Edge}
 use Rattle.sia_parts.specs.declared.finding.Kind.{Kind}
 use Rattle.sia_parts.specs.declared.finding.Kind.TheVariants.{Ww, Wr, Rw}
 use Rattle.sia_parts.specs.declared.finding.Unexplained.{Unexplained}
 use Rattle.sia_parts.specs.Entries.{EdgeOfKind, IsEdge, unexplained_rank}
-use Rattle.sia_parts.specs.Findings.{ListsEdges, ListsUnexplained}
+use Rattle.sia_parts.specs.Findings.{ListsUnexplained}
 use Rattle.sia_graph.specs.declared.settling.Verdict.{Verdict}
 use Rattle.sia_graph.specs.declared.settling.Verdict.TheVariants.{Order, Cycle}
 use Rattle.sia_graph.specs.Orders.{Leads, IsKeepingOrder}
 use Rattle.sia_graph.specs.Verdicts.{IsVerdict}
 use Rattle.si_audit.specs.Audits.{IsOrderVerdict}
-use Rattle.si_audit.proofs.SameVerdict.{AreSame, same_verdict}
 
 module _ {A : Type 0} (rank : A → List ℕ) (P : A → Type 0) where
   -- nothing has P where the list is empty
@@ -55,30 +52,6 @@ module _ (h : List Event) where
       by_kind k (inl e) = (record { src = t; kind = Ww; dst = u; key = k }, e, refl, refl)
       by_kind k (inr (inl e)) = (record { src = t; kind = Wr; dst = u; key = k }, e, refl, refl)
       by_kind k (inr (inr e)) = (record { src = t; kind = Rw; dst = u; key = k }, e, refl, refl)
-
-  module _ (ids : List ℕ) (edges : List Edge) (committed : ListsAscending (IsCommitted h) ids) (found : ListsEdges h (λ _. ⊤) edges) where
-    -- what is settled of the lists is settled of the history
-    same_graph : AreSame (Contains ids) (IsCommitted h) (Contains edges) (IsEdge h)
-    same_graph = record {
-      members = committed.each;
-      edges = λ e. ((λ c. ((found.each e).0 c).0), (λ is. (found.each e).1 (is, tt)));
-    }
-
-    pub verdict_of_history : (v : Verdict) → IsVerdict (Contains ids) (Contains edges) v → IsVerdict (IsCommitted h) (IsEdge h) v
-    verdict_of_history = same_verdict (Contains ids) (IsCommitted h) (Contains edges) (IsEdge h) same_graph
-
-    -- the same, where the lists go by other names
-    pub judged_verdict : (xs : List ℕ) (ys : List Edge) (v : Verdict) → xs ≡ ids → ys ≡ edges → IsVerdict (Contains xs) (Contains ys) v → IsVerdict (IsCommitted h) (IsEdge h) v
-    judged_verdict xs ys v same_ids same_edges is =
-        verdict_of_history v (subst (λ es. IsVerdict (Contains ids) (Contains es) v) same_edges (subst (λ is. IsVerdict (Contains is) (Contains ys) v) same_ids is))
-
-    -- each edge joins two of the ids
-    pub edges_join : IsWellFormed h → All (λ e. Contains ids e.src × Contains ids e.dst × (e.src ≢ e.dst)) edges
-    edges_join wf k d below =
-        let e = slice_index_or edges k d in
-        let is = ((found.each e).0 (All-contains_itself edges k d below)).0 in
-        let b = edge_between h wf e.src e.dst (has_edge e is) in
-        ((committed.each e.src).1 b.1, (committed.each e.dst).1 b.2, b.0)
 
   module _ (wf : IsWellFormed h) (v : Verdict) (is : IsVerdict (IsCommitted h) (IsEdge h) v) where
     keeping : (order : List ℕ) → IsOrder h order → Keeps (HasEdge h) order → IsKeepingOrder (IsCommitted h) (IsEdge h) order

@@ -4,7 +4,6 @@ pub mod OneReport
 pub mod ReadSoFar
 pub mod OfSource
 pub mod SpacedWords
-pub mod SameVerdict
 pub mod Judging
 pub mod Tallies
 pub mod Fates
