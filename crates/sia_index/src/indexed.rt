@@ -8,7 +8,7 @@ use crate::hints::hint_in;
 use crate::info::{Fate, ItemRead, KeyVersion, Made, RangeRead, TxnInfo};
 use crate::own::WriteTable;
 use crate::reads::{key_from, keys_between, ranges_meeting, reads_between, versions_between};
-use crate::rows::{TxnRow, find_key, find_txn_near, part_at};
+use crate::rows::{TxnRow, find_key, part_at};
 use sia_events::{History, Key, TxnId};
 use std::marker::Model;
 use std::snapshot::Snapshot;
@@ -55,7 +55,10 @@ impl Index {
     pub fn txn(&self, t: TxnId) -> Option<TxnInfo>
         ensures { MatchOption result (¬ HasEvent self.now t) (IsInfo self.now t) }
     {
-        find_txn_near(&self.txns, self.hint_of(t), t)
+        match self.txn_number(t) {
+            Some(i) => Some(self.txn_at(i)),
+            None => None,
+        }
     }
 
     /// Whether both committed, and each started before the other committed.
