@@ -11,6 +11,7 @@ ghost use Rattle.sia_index.specs.Rows.{AreWrites, AscendsByVersion, AscendsByCom
 ghost use Rattle.sia_index.specs.Tables.{AreOffsets, AreChains, AreFirsts, FirstsSoFar};
 
 use crate::info::{KeyVersion, Made};
+use crate::keyed::{place_above, place_from};
 use crate::minima::next_at_most;
 use crate::ordering::put_in_order;
 use crate::rows::{WriteRow, part_at};
@@ -124,8 +125,8 @@ pub fn next_first(
     requires minima_are { AreMinima firsts.now minima.now }
     ensures { (h : List Event) (t : ℕ) → AreWrittenKeys h keys.now → AreFirsts h keys.now firsts.now → StartsAt h t start → PassesNone (λ k. (u : ℕ) × IsVisible h t k u) lo hi result }
 {
-    let from = keys.partition_point(|key| *key < lo);
-    let to = keys.partition_point(|key| *key <= hi);
+    let from = place_from(keys, lo);
+    let to = place_above(keys, hi);
     match next_at_most(firsts, minima, from, to, start) {
         Some(i) => Some(keys[i]),
         None => None,

@@ -6,6 +6,7 @@ mod events;
 mod hints;
 mod indexed;
 mod info;
+mod keyed;
 pub mod make;
 mod minima;
 mod numbers;

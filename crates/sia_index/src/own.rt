@@ -5,6 +5,7 @@ ghost use Rattle.sia_index.specs.Minima.{AreMinima};
 ghost use Rattle.sia_index.specs.Rows.{AscendsByWrite, HasNoWrite, IsFirstRow, IsStretch, IsKeyPoint, NextRow};
 
 use crate::info::Reader;
+use crate::keyed::{place_above, place_from};
 use crate::minima::next_at_most;
 use crate::rows::{TxnRow, WriteRow};
 use sia_events::{Key, TxnId};
@@ -185,7 +186,7 @@ fn key_point(rows: &[WriteRow], from: usize, to: usize, k: Key) -> usize
     requires stretch { (t : ℕ) × IsStretch rows.now t from to }
     ensures { IsKeyPoint (λ key. key < k) (λ key. k ≤ key) rows.now from to result }
 {
-    from + rows[from..to].partition_point(|row| row.key < k)
+    from + place_from(&rows[from..to], k)
 }
 
 // Of a transaction's rows the first whose key is above this one, or the end.
@@ -194,5 +195,5 @@ fn key_end(rows: &[WriteRow], from: usize, to: usize, k: Key) -> usize
     requires stretch { (t : ℕ) × IsStretch rows.now t from to }
     ensures { IsKeyPoint (λ key. key ≤ k) (λ key. k < key) rows.now from to result }
 {
-    from + rows[from..to].partition_point(|row| row.key <= k)
+    from + place_above(&rows[from..to], k)
 }
