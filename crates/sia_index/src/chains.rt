@@ -1,5 +1,5 @@
 //! The written keys and the versions of each, made of the rows of writes and versions.
-ghost use Rattle.std.specs.Prelude.{◌≡◌, ◌≤◌, ◌<◌, ◌+◌, ℕ, List, All, AllPairs, IfOk, length, map};
+ghost use Rattle.std.specs.Prelude.{◌≡◌, ◌≤◌, ◌<◌, ◌+◌, ℕ, List, All, AllPairs, IfOk, length};
 ghost use Rattle.std.specs.List.{AllWithin};
 ghost use Rattle.std.specs.List.Sorted.{IsPartitionPoint};
 ghost use Rattle.sia_events.specs.declared.event.Event.{Event};
@@ -10,6 +10,7 @@ ghost use Rattle.sia_index.specs.Minima.{AreMinima};
 ghost use Rattle.sia_index.specs.Rows.{AreWrites, AscendsByVersion, AscendsByCommit, PassesNone};
 ghost use Rattle.sia_index.specs.Tables.{AreOffsets, AreChains, AreFirsts, FirstsSoFar};
 
+use crate::columns::parts_of;
 use crate::info::{KeyVersion, Made};
 use crate::keyed::{place_above, place_from};
 use crate::minima::next_at_most;
@@ -22,28 +23,9 @@ use std::alloc::{AllocError, Global};
 pub fn keys_of(alloc: Global, writes: &[WriteRow]) -> Result<Vec<Key>, AllocError>
     ensures { IfOk result (λ keys. (h : List Event) → AreWrites h writes.now → AreWrittenKeys h keys.items) }
 {
-    let mut keys = keys_in(alloc, writes)?;
+    let mut keys = parts_of(alloc, writes)?;
     put_in_order(&mut keys);
     Ok(keys)
-}
-
-// The keys of all rows.
-fn keys_in(alloc: Global, writes: &[WriteRow]) -> Result<Vec<Key>, AllocError>
-    ensures { IfOk result (λ keys. keys.items ≡ map (λ row. row.key) writes.now) }
-{
-    writes.iter().map(|row| row.key).collect(alloc)
-}
-
-/// The versions of all rows.
-pub fn made_of(alloc: Global, rows: &[KeyVersion]) -> Result<Vec<Made>, AllocError>
-    ensures { IfOk result (λ made. made.items ≡ map (λ row. record { txn = row.txn; commit = row.commit }) rows.now) }
-{
-    rows.iter()
-        .map(|row| Made {
-            txn: row.txn,
-            commit: row.commit,
-        })
-        .collect(alloc)
 }
 
 /// Where the versions of each key begin among the rows, and where those of the last end.

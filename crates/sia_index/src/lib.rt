@@ -2,6 +2,7 @@
 #![tactic(auto)]
 
 mod chains;
+mod columns;
 mod events;
 mod hints;
 mod indexed;

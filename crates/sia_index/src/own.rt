@@ -1,5 +1,5 @@
 //! The write events by transaction, and what one transaction wrote.
-ghost use Rattle.std.specs.Prelude.{◌≡◌, ◌↔◌, ◌+◌, ◌-◌, ◌<◌, ◌≤◌, ℕ, IsTrue, IfOk, MatchOption, AllPairs, Contains, length, map, slice_index_or};
+ghost use Rattle.std.specs.Prelude.{◌≡◌, ◌↔◌, ◌+◌, ◌-◌, ◌<◌, ◌≤◌, ℕ, IsTrue, MatchOption, AllPairs, Contains, length, map, slice_index_or};
 ghost use Rattle.sia_index.specs.declared.rows.WriteRow.{WriteRow};
 ghost use Rattle.sia_index.specs.Minima.{AreMinima};
 ghost use Rattle.sia_index.specs.Rows.{AscendsByWrite, HasNoWrite, IsFirstRow, IsStretch, IsKeyPoint, NextRow};
@@ -21,13 +21,6 @@ pub struct WriteTable {
     pub(crate) minima: Vec<u32>,
     /// Where the rows of each transaction may start, by its number among the transactions. Each is checked where it is used.
     pub(crate) starts: Vec<u32>,
-}
-
-/// The places of all rows.
-pub fn places_of(alloc: Global, rows: &[WriteRow]) -> Result<Vec<u32>, AllocError>
-    ensures { IfOk result (λ places. places.items ≡ map (λ row. row.place) rows.now) }
-{
-    rows.iter().map(|row| row.place).collect(alloc)
 }
 
 /// Where the rows of each transaction start, and where those of the last end.
