@@ -103,17 +103,6 @@ impl Tables {
         Ok(())
     }
 
-    /// Whether the version of the key is 0 or was written.
-    #[tactic(auto, unfolding(crate::specs::Known::is_explained))]
-    fn is_explained(&self, key: Key, saw: Version) -> bool
-        ensures { (events : List AnEvent) → Knows self.now events → result ≡ is_explained events (key, saw) }
-    {
-        if saw == 0 {
-            return true;
-        }
-        self.written.contains((key, saw))
-    }
-
     fn begin_fault(&self, txn: TxnId, start: Option<u32>, count: usize) -> Option<Reason>
         ensures { (events : List AnEvent) → Knows self.now events → result ≡ begin_fault events count txn start }
     {
@@ -130,14 +119,15 @@ impl Tables {
     fn read_fault(&self, key: Key, saw: Version) -> Option<Reason>
         ensures { (events : List AnEvent) → Knows self.now events → result ≡ read_fault events key saw }
     {
-        if self.is_explained(key, saw) {
+        let mut position = usize::MAX;
+        if self.is_explained_after(&mut position, key, saw) {
             None
         } else {
             Some(Reason::NotWritten)
         }
     }
 
-    /// Whether the listed version is 0 or was written, where its write may well follow the one at the position. Where it was
+    /// Whether the version of the key is 0 or was written, where its write may well follow the one at the position. Where it was
     /// written, the position may become its own.
     #[tactic(auto, unfolding(crate::specs::Known::is_explained))]
     fn is_explained_after(&self, position: &mut usize, key: Key, saw: Version) -> bool

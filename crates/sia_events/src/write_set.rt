@@ -55,19 +55,12 @@ impl WriteSet {
         }
     }
 
-    /// Whether the write is one, and the guess says where it stands.
-    fn is_guessed(&self, write: (Key, TxnId)) -> bool
-        ensures { IsTrue result → wrote self.now write ≡ true }
-    {
-        is_at(&self.writes, self.guesses.guess(write), write)
-    }
-
     /// Whether the write is one that has a slot or stands in the tree, as each has.
     #[tactic(auto, unfolding(crate::specs::WriteSets::IsSound))]
     fn is_found(&self, write: (Key, TxnId)) -> bool
         ensures { IsSound self.now → IsTrue result → wrote self.now write ≡ true }
     {
-        if self.is_guessed(write) {
+        if is_at(&self.writes, self.guesses.guess(write), write) {
             return true;
         }
         self.tree.contains(&write)
@@ -82,15 +75,6 @@ impl WriteSet {
             return true;
         }
         is_among(&self.writes, write)
-    }
-
-    pub(crate) fn contains(&self, write: (Key, TxnId)) -> bool
-        ensures { IsSound self.now → result ≡ wrote self.now write }
-    {
-        if self.is_guessed(write) {
-            return true;
-        }
-        self.is_rare(write)
     }
 
     /// Whether the write is one, which may well follow the one at the position. The position becomes its own, where that is
@@ -109,39 +93,21 @@ impl WriteSet {
         self.is_rare(write)
     }
 
-    /// Takes the write at the position into the tree.
-    #[tactic(auto, unfolding(crate::specs::WriteSets::IsSound))]
-    fn add_to_tree(&mut self, position: usize) -> Result<(), AllocError>
-        ensures same { OnOk result (self.new.writes.items ≡ self.old.writes.items) }
-        ensures sound { IsSound self.old → OnOk result (IsSound self.new) }
-    {
-        if let Some(write) = self.writes.get(position) {
-            self.tree.insert(*write)?;
-        }
-        Ok(())
-    }
-
-    /// Makes a guess of the write at the position, and answers whether there was a slot for it.
-    fn guess_one(&mut self, position: usize) -> bool
-        ensures writes { self.new.writes ≡ self.old.writes }
-        ensures tree { self.new.tree ≡ self.old.tree }
-    {
-        match self.writes.get(position) {
-            Some(write) => self.guesses.put(*write, position),
-            None => true,
-        }
-    }
-
     /// Makes a guess of the write at the position, or takes it into the tree.
     #[tactic(auto, unfolding(crate::specs::WriteSets::IsSound))]
     fn place(&mut self, position: usize) -> Result<(), AllocError>
         ensures same { OnOk result (self.new.writes.items ≡ self.old.writes.items) }
         ensures sound { IsSound self.old → OnOk result (IsSound self.new) }
     {
-        if self.guess_one(position) {
+        let Some(write) = self.writes.get(position) else {
+            return Ok(());
+        };
+        let write = *write;
+        if self.guesses.put(write, position) {
             return Ok(());
         }
-        self.add_to_tree(position)
+        self.tree.insert(write)?;
+        Ok(())
     }
 
     /// Whether guesses are to be made anew.
