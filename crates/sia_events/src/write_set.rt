@@ -110,11 +110,6 @@ impl WriteSet {
         Ok(())
     }
 
-    /// Whether guesses are to be made anew.
-    fn is_crowded(&self) -> bool {
-        self.guesses.is_crowded(self.writes.len())
-    }
-
     /// Makes the guesses anew.
     #[tactic(auto, unfolding(crate::specs::WriteSets::IsSound))]
     fn guess_again(&mut self) -> Result<(), AllocError>
@@ -138,10 +133,10 @@ impl WriteSet {
             return Ok(());
         }
         self.writes.push(write)?;
-        if self.is_crowded() {
+        let count = self.writes.len();
+        if self.guesses.is_crowded(count) {
             return self.guess_again();
         }
-        let last = self.writes.len() - 1;
-        self.place(last)
+        self.place(count - 1)
     }
 }
