@@ -38,7 +38,7 @@ pub fn offsets_of(
     requires rows_ascend { AscendsByVersion rows.now }
     ensures { IfOk result (λ offsets. AreOffsets keys.now rows.now offsets.items (length keys.now)) }
 {
-    let mut offsets = Vec::with_capacity(alloc, keys.len().saturating_add(1))?;
+    let mut offsets = Vec::new(alloc);
     let mut at = 0;
     offsets.push(at)?;
     for key in keys {
@@ -74,7 +74,7 @@ pub fn firsts_of(
     requires { (h : List Event) × (keys : List ℕ) × (length keys ≡ count) × AreChains h keys offsets.now made.now }
     ensures { IfOk result (λ firsts. FirstsSoFar offsets.now made.now firsts.items count) }
 {
-    let mut firsts = Vec::with_capacity(alloc, count)?;
+    let mut firsts = Vec::new(alloc);
     for i in 0..count {
         firsts.push(first_commit(part_at(made, offsets, i)))?;
     }

@@ -23,19 +23,18 @@ pub struct WriteTable {
     pub(crate) starts: Vec<u32>,
 }
 
-/// Where the rows of each transaction start, and where those of the last end.
+/// Where the rows of each transaction start.
 pub fn starts_of(
     alloc: Global,
     txns: &[TxnRow],
     rows: &[WriteRow],
 ) -> Result<Vec<u32>, AllocError> {
-    let mut starts = Vec::with_capacity(alloc, txns.len().saturating_add(1))?;
+    let mut starts = Vec::new(alloc);
     let mut at = 0;
     for row in txns {
         at = start_from(rows, at, row.txn);
         starts.push(at.min(u32::MAX as usize) as u32)?;
     }
-    starts.push(rows.len().min(u32::MAX as usize) as u32)?;
     Ok(starts)
 }
 
