@@ -49,25 +49,11 @@ fn is_good_list(lo: Key, hi: Key, listed: &[(Key, Version)]) -> bool
     true
 }
 
-fn add_begun(begun: &mut TxnSet, event: &Event) -> Result<(), AllocError>
-    ensures { OnOk result ((t : ℕ) → has begun.new t ≡ (has begun.old t || acts t event.now)) }
-{
-    begun.insert(event.txn())?;
-    Ok(())
-}
-
 fn add_ended(ended: &mut TxnSet, event: &Event) -> Result<(), AllocError>
     ensures { OnOk result ((t : ℕ) → has ended.new t ≡ (has ended.old t || ends t event.now)) }
 {
     match event {
-        Event::Commit { txn } => {
-            ended.insert(*txn)?;
-            Ok(())
-        }
-        Event::Abort { txn } => {
-            ended.insert(*txn)?;
-            Ok(())
-        }
+        Event::Commit { txn } | Event::Abort { txn } => ended.insert(*txn),
         _ => Ok(()),
     }
 }
@@ -97,10 +83,9 @@ impl Tables {
     pub(crate) fn add(&mut self, event: &Event) -> Result<(), AllocError>
         ensures { (events : List AnEvent) → Knows self.old events → OnOk result (Knows self.new (events ++ event.now ∷ [])) }
     {
-        add_begun(&mut self.begun, event)?;
+        self.begun.insert(event.txn())?;
         add_ended(&mut self.ended, event)?;
-        add_written(&mut self.written, event)?;
-        Ok(())
+        add_written(&mut self.written, event)
     }
 
     fn begin_fault(&self, txn: TxnId, start: Option<u32>, count: usize) -> Option<Reason>
