@@ -49,25 +49,6 @@ fn is_good_list(lo: Key, hi: Key, listed: &[(Key, Version)]) -> bool
     true
 }
 
-fn add_ended(ended: &mut TxnSet, event: &Event) -> Result<(), AllocError>
-    ensures { OnOk result ((t : ℕ) → has ended.new t ≡ (has ended.old t || ends t event.now)) }
-{
-    match event {
-        Event::Commit { txn } | Event::Abort { txn } => ended.insert(*txn),
-        _ => Ok(()),
-    }
-}
-
-fn add_written(written: &mut WriteSet, event: &Event) -> Result<(), AllocError>
-    ensures written { IsSound written.old → OnOk result ((p : ℕ × ℕ) → wrote written.new p ≡ (wrote written.old p || writes p event.now)) }
-    ensures sound { IsSound written.old → OnOk result (IsSound written.new) }
-{
-    match event {
-        Event::Write { txn, key } => written.insert((*key, *txn)),
-        _ => Ok(()),
-    }
-}
-
 impl Tables {
     pub(crate) fn new(alloc: Global) -> Self
         ensures { Knows result [] }
@@ -84,8 +65,11 @@ impl Tables {
         ensures { (events : List AnEvent) → Knows self.old events → OnOk result (Knows self.new (events ++ event.now ∷ [])) }
     {
         self.begun.insert(event.txn())?;
-        add_ended(&mut self.ended, event)?;
-        add_written(&mut self.written, event)
+        match event {
+            Event::Commit { txn } | Event::Abort { txn } => self.ended.insert(*txn),
+            Event::Write { txn, key } => self.written.insert((*key, *txn)),
+            _ => Ok(()),
+        }
     }
 
     fn begin_fault(&self, txn: TxnId, start: Option<u32>, count: usize) -> Option<Reason>
