@@ -63,24 +63,6 @@ fn write(txn: Number, text: &[u8]) -> Result<Event, Refusal>
     Ok(Event::Write { txn, key })
 }
 
-#[tactic(auto, unfolding(crate::specs::Parsing::commit_at))]
-fn commit(txn: Number, text: &[u8]) -> Result<Event, Refusal>
-    ensures { Gives (λ x. x) result (commit_at txn text.now) }
-{
-    end(text)?;
-    let txn = txn_in(txn)?;
-    Ok(Event::Commit { txn })
-}
-
-#[tactic(auto, unfolding(crate::specs::Parsing::abort_at))]
-fn abort(txn: Number, text: &[u8]) -> Result<Event, Refusal>
-    ensures { Gives (λ x. x) result (abort_at txn text.now) }
-{
-    end(text)?;
-    let txn = txn_in(txn)?;
-    Ok(Event::Abort { txn })
-}
-
 /// An item read, from its version on.
 #[tactic(auto, unfolding(crate::specs::Parsing::item_at))]
 fn item(txn: Number, key: Number, text: &[u8]) -> Result<Event, Refusal>
@@ -172,18 +154,8 @@ fn list(alloc: Global, text: &[u8]) -> Result<(Option<Vec<(Key, Version)>>, &[u8
     }
 }
 
-#[tactic(auto, unfolding(crate::specs::Parsing::list_of))]
-fn list_in(listed: Option<Vec<(Key, Version)>>) -> Result<Listed, Refusal>
-    ensures { Gives (λ x. x) result (list_of (items_of listed)) }
-{
-    match listed {
-        Some(pairs) => Ok(Listed::new(pairs)),
-        None => Err(Refusal::Bad(Reason::BadNumber)),
-    }
-}
-
 /// A range read, from its upper end on.
-#[tactic(auto, unfolding(crate::specs::Parsing::range_at))]
+#[tactic(auto, unfolding(crate::specs::Parsing::range_at, crate::specs::Parsing::list_of))]
 fn range(alloc: Global, txn: Number, lo: Number, text: &[u8]) -> Result<Event, Refusal>
     ensures { Gives (λ x. x) result (range_at txn lo text.now) }
 {
@@ -194,13 +166,15 @@ fn range(alloc: Global, txn: Number, lo: Number, text: &[u8]) -> Result<Event, R
     let txn = txn_in(txn)?;
     let lo = key_in(lo)?;
     let hi = key_in(hi)?;
-    let listed = list_in(listed)?;
-    Ok(Event::Range {
-        txn,
-        lo,
-        hi,
-        listed,
-    })
+    match listed {
+        Some(pairs) => Ok(Event::Range {
+            txn,
+            lo,
+            hi,
+            listed: Listed::new(pairs),
+        }),
+        None => Err(Refusal::Bad(Reason::BadNumber)),
+    }
 }
 
 /// A read, from the bracket on.
@@ -221,7 +195,7 @@ fn read(alloc: Global, txn: Number, text: &[u8]) -> Result<Event, Refusal>
 }
 
 /// The event that the token spells, all of it.
-#[tactic(auto, unfolding(crate::specs::Parsing::event_at))]
+#[tactic(auto, unfolding(crate::specs::Parsing::event_at, crate::specs::Parsing::commit_at, crate::specs::Parsing::abort_at))]
 pub(crate) fn event_of(alloc: Global, token: &[u8]) -> Result<Event, Refusal>
     ensures { Gives (λ x. x) result (event_at token.now) }
 {
@@ -233,8 +207,16 @@ pub(crate) fn event_of(alloc: Global, token: &[u8]) -> Result<Event, Refusal>
         b'b' => begin(txn, rest),
         b'r' => read(alloc, txn, rest),
         b'w' => write(txn, rest),
-        b'c' => commit(txn, rest),
-        b'a' => abort(txn, rest),
+        b'c' => {
+            end(rest)?;
+            let txn = txn_in(txn)?;
+            Ok(Event::Commit { txn })
+        }
+        b'a' => {
+            end(rest)?;
+            let txn = txn_in(txn)?;
+            Ok(Event::Abort { txn })
+        }
         _ => Err(Refusal::Bad(Reason::BadEvent)),
     }
 }

@@ -55,30 +55,9 @@ impl WriteSet {
         }
     }
 
-    /// Whether the write is one that has a slot or stands in the tree, as each has.
-    #[tactic(auto, unfolding(crate::specs::WriteSets::IsSound))]
-    fn is_found(&self, write: (Key, TxnId)) -> bool
-        ensures { IsSound self.now → IsTrue result → wrote self.now write ≡ true }
-    {
-        if is_at(&self.writes, self.guesses.guess(write), write) {
-            return true;
-        }
-        self.tree.contains(&write)
-    }
-
-    /// Whether the write is one, where no guess leads to it.
-    #[tactic(auto, unfolding(crate::specs::WriteSets::IsSound))]
-    fn is_rare(&self, write: (Key, TxnId)) -> bool
-        ensures { IsSound self.now → result ≡ wrote self.now write }
-    {
-        if self.tree.contains(&write) {
-            return true;
-        }
-        is_among(&self.writes, write)
-    }
-
     /// Whether the write is one, which may well follow the one at the position. The position becomes its own, where that is
     /// guessed.
+    #[tactic(auto, unfolding(crate::specs::WriteSets::IsSound))]
     pub(crate) fn contains_after(&self, position: &mut usize, write: (Key, TxnId)) -> bool
         ensures { IsSound self.now → result ≡ wrote self.now write }
     {
@@ -90,7 +69,10 @@ impl WriteSet {
         if is_at(&self.writes, *position, write) {
             return true;
         }
-        self.is_rare(write)
+        if self.tree.contains(&write) {
+            return true;
+        }
+        is_among(&self.writes, write)
     }
 
     /// Makes a guess of the write at the position, or takes it into the tree.
@@ -129,7 +111,11 @@ impl WriteSet {
         ensures wrote { IsSound self.old → OnOk result ((p : ℕ × ℕ) → wrote self.new p ≡ (wrote self.old p || same p write)) }
         ensures sound { IsSound self.old → OnOk result (IsSound self.new) }
     {
-        if self.is_found(write) {
+        // Each write has a slot or stands in the tree.
+        if is_at(&self.writes, self.guesses.guess(write), write) {
+            return Ok(());
+        }
+        if self.tree.contains(&write) {
             return Ok(());
         }
         self.writes.push(write)?;
