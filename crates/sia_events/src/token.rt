@@ -5,7 +5,7 @@ ghost use Rattle.sia_events.specs.Parsing.{Gives, items_of, begins_with, after_b
 use crate::event::{Event, Key, Listed, Version};
 use crate::fault::{Reason, Refusal};
 use crate::found::Found;
-use crate::number::{Number, key_in, number, txn_in, version_in};
+use crate::number::{Number, number, txn_in, version_in};
 use std::alloc::Global;
 
 /// What follows one byte.
@@ -50,7 +50,7 @@ fn begin(txn: Number, text: &[u8]) -> Result<Event, Refusal>
     })
 }
 
-#[tactic(auto, unfolding(crate::specs::Parsing::write_at))]
+#[tactic(auto, unfolding(crate::specs::Parsing::write_at, crate::specs::Parsing::key_of))]
 fn write(txn: Number, text: &[u8]) -> Result<Event, Refusal>
     ensures { Gives (λ x. x) result (write_at txn text.now) }
 {
@@ -59,12 +59,14 @@ fn write(txn: Number, text: &[u8]) -> Result<Event, Refusal>
     let rest = after(rest, b']')?;
     end(rest)?;
     let txn = txn_in(txn)?;
-    let key = key_in(key)?;
-    Ok(Event::Write { txn, key })
+    match key {
+        Some(key) => Ok(Event::Write { txn, key }),
+        None => Err(Refusal::Bad(Reason::BadNumber)),
+    }
 }
 
 /// An item read, from its version on.
-#[tactic(auto, unfolding(crate::specs::Parsing::item_at))]
+#[tactic(auto, unfolding(crate::specs::Parsing::item_at, crate::specs::Parsing::key_of))]
 fn item(txn: Number, key: Number, text: &[u8]) -> Result<Event, Refusal>
     ensures { Gives (λ x. x) result (item_at txn key text.now) }
 {
@@ -72,7 +74,9 @@ fn item(txn: Number, key: Number, text: &[u8]) -> Result<Event, Refusal>
     let rest = after(rest, b']')?;
     end(rest)?;
     let txn = txn_in(txn)?;
-    let key = key_in(key)?;
+    let Some(key) = key else {
+        return Err(Refusal::Bad(Reason::BadNumber));
+    };
     let saw = version_in(saw)?;
     Ok(Event::Read { txn, key, saw })
 }
@@ -155,7 +159,7 @@ fn list(alloc: Global, text: &[u8]) -> Result<(Option<Vec<(Key, Version)>>, &[u8
 }
 
 /// A range read, from its upper end on.
-#[tactic(auto, unfolding(crate::specs::Parsing::range_at, crate::specs::Parsing::list_of))]
+#[tactic(auto, unfolding(crate::specs::Parsing::range_at, crate::specs::Parsing::key_of, crate::specs::Parsing::list_of))]
 fn range(alloc: Global, txn: Number, lo: Number, text: &[u8]) -> Result<Event, Refusal>
     ensures { Gives (λ x. x) result (range_at txn lo text.now) }
 {
@@ -164,16 +168,14 @@ fn range(alloc: Global, txn: Number, lo: Number, text: &[u8]) -> Result<Event, R
     let rest = after(rest, b']')?;
     end(rest)?;
     let txn = txn_in(txn)?;
-    let lo = key_in(lo)?;
-    let hi = key_in(hi)?;
-    match listed {
-        Some(pairs) => Ok(Event::Range {
+    match (lo, hi, listed) {
+        (Some(lo), Some(hi), Some(pairs)) => Ok(Event::Range {
             txn,
             lo,
             hi,
             listed: Listed::new(pairs),
         }),
-        None => Err(Refusal::Bad(Reason::BadNumber)),
+        _ => Err(Refusal::Bad(Reason::BadNumber)),
     }
 }
 
