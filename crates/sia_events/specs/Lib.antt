@@ -1,6 +1,7 @@
 pub mod Places
 pub mod Lists
 pub mod Text
+pub mod Spelled
 pub mod Events
 pub mod Refusals
 pub mod Parsing

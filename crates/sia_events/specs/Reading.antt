@@ -12,3 +12,8 @@ ReadsAs text (Ok h) = IsAccepted text × StandsFor text h
 ReadsAs text (Err NoMemory) = ⊤
 ReadsAs text (Err TextTooLong) = IsRefusal text TextTooLong
 ReadsAs text (Err (Refused token reason)) = IsRefusal text (Refused token reason)
+
+-- the same where the events of an accepted text stand beside the answer
+abbrev pub EndsAs : List ℕ → List Event → Result ⊤ TextFault → Type 0
+EndsAs text h (Ok done) = ReadsAs text (Ok h)
+EndsAs text h (Err fault) = ReadsAs text (Err fault)

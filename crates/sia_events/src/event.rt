@@ -12,7 +12,7 @@ pub type Version = u32;
 pub type Key = u64;
 
 /// The keys that a range read listed, each with the version that it saw.
-#[derive(Debug, Drop)]
+#[derive(Drop)]
 pub struct Listed {
     pairs: Vec<(Key, Version)>,
 }
@@ -40,7 +40,7 @@ impl Listed {
 }
 
 /// One event of a history.
-#[derive(Debug, Drop, PartialEq)]
+#[derive(Drop)]
 pub enum Event {
     Begin {
         txn: TxnId,
@@ -92,19 +92,5 @@ impl Event {
             Event::Begin { start, .. } => *start,
             _ => None,
         }
-    }
-}
-
-impl PartialEq for Listed {
-    ghost use Rattle.std.specs.Cmp.Lexicographic.{pointwise, lists_per};
-    ghost use Rattle.std.specs.Prelude.{ℕ};
-    ghost use Rattle.std.specs.Cmp.{and_per, on_per, nat_eq_equiv, partial_equiv_from_equiv};
-
-    ghost eq = { pointwise ⟦<(Key, Version) as PartialEq>⟧.eq };
-
-    ghost laws = { lists_per (and_per (on_per (λ (p : ℕ × ℕ). p.0) (partial_equiv_from_equiv nat_eq_equiv)) (on_per (λ (p : ℕ × ℕ). p.1) (partial_equiv_from_equiv nat_eq_equiv))) };
-
-    fn eq(&self, other: &Listed) -> bool {
-        self.pairs == other.pairs
     }
 }

@@ -46,7 +46,7 @@ pub enum TextFault {
 }
 
 /// Why a token gives no event.
-#[derive(Clone, Copy, Debug)]
+#[derive(Clone, Copy)]
 pub(crate) enum Refusal {
     NoMemory,
     Bad(Reason),

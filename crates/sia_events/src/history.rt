@@ -7,7 +7,7 @@ use crate::event::Event;
 use std::marker::Model;
 
 /// A well-formed history: its events, in the order in which they were recorded.
-#[derive(Debug, Drop)]
+#[derive(Drop)]
 pub struct History {
     events: Vec<Event>,
 }

@@ -20,7 +20,7 @@ pub(crate) const MAX_EVENTS: usize = 100_000;
 #[derive(Drop)]
 pub(crate) struct Judge {
     alloc: Global,
-    events: Vec<Event>,
+    pub(crate) events: Vec<Event>,
     tables: Tables,
 }
 
@@ -94,9 +94,6 @@ impl Judge {
         ensures cleared { OnOk result (unfinished.new.items ≡ []) }
         ensures refused { IfErr result (λ fault. Halts fault self.old.events.items (as_token (unfinished.old.items ++ front.now)) self.new.events.items) }
     {
-        if unfinished.is_empty() {
-            return self.take_some(front);
-        }
         unfinished.extend_from_slice(front)?;
         self.take_some(unfinished)?;
         unfinished.clear();
@@ -131,12 +128,6 @@ impl Judge {
         ensures { length self.now.events.items ≤ 100000 → result ≡ length self.now.events.items + 1 }
     {
         self.events.len().min(MAX_EVENTS) as u32 + 1
-    }
-
-    pub(crate) fn finish(self) -> Vec<Event>
-        ensures { result.items ≡ self.events.items }
-    {
-        self.events
     }
 }
 

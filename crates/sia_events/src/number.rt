@@ -1,8 +1,8 @@
 //! Numbers of a token, of any size.
 ghost use Rattle.std.specs.Prelude.{◌≡◌, ◌≤◌, length, take, IfOk};
-ghost use Rattle.sia_events.specs.Parsing.{Gives, digits_len, digits_value, narrow, number_at, key_of, version_of, txn_of};
+ghost use Rattle.sia_events.specs.Parsing.{Gives, digits_len, digits_value, narrow, number_at, version_of, txn_of};
 
-use crate::event::{Key, TxnId, Version};
+use crate::event::{TxnId, Version};
 use crate::fault::{Reason, Refusal};
 
 /// A number that was read: its value, or None where it takes more than 64 bits.
@@ -49,17 +49,6 @@ pub(crate) fn number(text: &[u8]) -> Result<(Number, &[u8]), Refusal>
         return Err(Refusal::Bad(Reason::BadEvent));
     }
     Ok((value, &text[len..]))
-}
-
-/// A key: a number of 64 bits.
-#[tactic(auto, unfolding(crate::specs::Parsing::key_of))]
-pub(crate) fn key_in(number: Number) -> Result<Key, Refusal>
-    ensures { Gives (λ x. x) result (key_of number) }
-{
-    match number {
-        Some(key) => Ok(key),
-        None => Err(Refusal::Bad(Reason::BadNumber)),
-    }
 }
 
 /// A version, or a start: a number of 32 bits.

@@ -1,7 +1,10 @@
 //! Reading a history from its text, whole or in pieces.
 ghost use Rattle.std.specs.Prelude.{◌≡◌, ◌⊎◌, ◌+◌, ◌<◌, ◌≤◌, ◌++◌, ℕ, length, List, [], true, false, Err, IsOk, IsErr, IsSome, IsNone, OnOk, OnErr};
 ghost use Rattle.sia_events.specs.declared.fault.TextFault.TheVariants.{NoMemory as OutOfMemory};
-ghost use Rattle.sia_events.specs.Reading.{ReadsAs};
+ghost use Rattle.sia_events.specs.Judging.{HasText};
+ghost use Rattle.sia_events.specs.Known.{Knows};
+ghost use Rattle.sia_events.specs.Reading.{EndsAs, ReadsAs};
+ghost use Rattle.sia_events.specs.Refusals.{IsWellFormed};
 ghost use Rattle.sia_events.specs.Streaming.{StandsForRead};
 
 use crate::fault::{NoMemory, Reason, Refusal, TextFault};
@@ -100,23 +103,40 @@ impl TextReader {
             unfinished,
             lost,
         } = self;
-        if lost {
-            return Err(TextFault::NoMemory);
-        }
-        if count > MAX_BYTES {
-            return Err(TextFault::TextTooLong);
-        }
-        if let Some((token, reason)) = fault {
-            return Err(TextFault::Refused { token, reason });
-        }
-        match judge.take_some(&unfinished) {
-            Ok(()) => Ok(History::new(judge.finish())),
-            Err(Refusal::NoMemory) => Err(TextFault::NoMemory),
-            Err(Refusal::Bad(reason)) => Err(TextFault::Refused {
-                token: judge.next_token(),
-                reason,
-            }),
-        }
+        end(&mut judge, count, fault, &unfinished, lost)?;
+        Ok(History::new(judge.events))
+    }
+}
+
+/// Judges the last token, unless it is settled already why there is no history.
+fn end(
+    judge: &mut Judge,
+    count: usize,
+    fault: Option<(u32, Reason)>,
+    unfinished: &[u8],
+    lost: bool,
+) -> Result<(), TextFault>
+    requires { lost ≡ false → IsNone fault → count ≤ 16777216 → Knows judge.old.tables judge.old.events.items × HasText count judge.old.events.items unfinished.now }
+    ensures reads { (text : List ℕ) → StandsForRead (record { count = count; fault = fault; events = judge.old.events.items; unfinished = unfinished.now; lost = lost }) text → EndsAs text judge.new.events.items result }
+    ensures well_formed { OnOk result (IsWellFormed judge.new.events.items) }
+    ensures lost { lost ≡ true → result ≡ Err OutOfMemory }
+{
+    if lost {
+        return Err(TextFault::NoMemory);
+    }
+    if count > MAX_BYTES {
+        return Err(TextFault::TextTooLong);
+    }
+    if let Some((token, reason)) = fault {
+        return Err(TextFault::Refused { token, reason });
+    }
+    match judge.take_some(unfinished) {
+        Ok(()) => Ok(()),
+        Err(Refusal::NoMemory) => Err(TextFault::NoMemory),
+        Err(Refusal::Bad(reason)) => Err(TextFault::Refused {
+            token: judge.next_token(),
+            reason,
+        }),
     }
 }
 

@@ -49,39 +49,6 @@ fn is_good_list(lo: Key, hi: Key, listed: &[(Key, Version)]) -> bool
     true
 }
 
-fn add_begun(begun: &mut TxnSet, event: &Event) -> Result<(), AllocError>
-    ensures { OnOk result ((t : ℕ) → has begun.new t ≡ (has begun.old t || acts t event.now)) }
-{
-    begun.insert(event.txn())?;
-    Ok(())
-}
-
-fn add_ended(ended: &mut TxnSet, event: &Event) -> Result<(), AllocError>
-    ensures { OnOk result ((t : ℕ) → has ended.new t ≡ (has ended.old t || ends t event.now)) }
-{
-    match event {
-        Event::Commit { txn } => {
-            ended.insert(*txn)?;
-            Ok(())
-        }
-        Event::Abort { txn } => {
-            ended.insert(*txn)?;
-            Ok(())
-        }
-        _ => Ok(()),
-    }
-}
-
-fn add_written(written: &mut WriteSet, event: &Event) -> Result<(), AllocError>
-    ensures written { IsSound written.old → OnOk result ((p : ℕ × ℕ) → wrote written.new p ≡ (wrote written.old p || writes p event.now)) }
-    ensures sound { IsSound written.old → OnOk result (IsSound written.new) }
-{
-    match event {
-        Event::Write { txn, key } => written.insert((*key, *txn)),
-        _ => Ok(()),
-    }
-}
-
 impl Tables {
     pub(crate) fn new(alloc: Global) -> Self
         ensures { Knows result [] }
@@ -97,21 +64,12 @@ impl Tables {
     pub(crate) fn add(&mut self, event: &Event) -> Result<(), AllocError>
         ensures { (events : List AnEvent) → Knows self.old events → OnOk result (Knows self.new (events ++ event.now ∷ [])) }
     {
-        add_begun(&mut self.begun, event)?;
-        add_ended(&mut self.ended, event)?;
-        add_written(&mut self.written, event)?;
-        Ok(())
-    }
-
-    /// Whether the version of the key is 0 or was written.
-    #[tactic(auto, unfolding(crate::specs::Known::is_explained))]
-    fn is_explained(&self, key: Key, saw: Version) -> bool
-        ensures { (events : List AnEvent) → Knows self.now events → result ≡ is_explained events (key, saw) }
-    {
-        if saw == 0 {
-            return true;
+        self.begun.insert(event.txn())?;
+        match event {
+            Event::Commit { txn } | Event::Abort { txn } => self.ended.insert(*txn),
+            Event::Write { txn, key } => self.written.insert((*key, *txn)),
+            _ => Ok(()),
         }
-        self.written.contains((key, saw))
     }
 
     fn begin_fault(&self, txn: TxnId, start: Option<u32>, count: usize) -> Option<Reason>
@@ -130,14 +88,15 @@ impl Tables {
     fn read_fault(&self, key: Key, saw: Version) -> Option<Reason>
         ensures { (events : List AnEvent) → Knows self.now events → result ≡ read_fault events key saw }
     {
-        if self.is_explained(key, saw) {
+        let mut position = usize::MAX;
+        if self.is_explained_after(&mut position, key, saw) {
             None
         } else {
             Some(Reason::NotWritten)
         }
     }
 
-    /// Whether the listed version is 0 or was written, where its write may well follow the one at the position. Where it was
+    /// Whether the version of the key is 0 or was written, where its write may well follow the one at the position. Where it was
     /// written, the position may become its own.
     #[tactic(auto, unfolding(crate::specs::Known::is_explained))]
     fn is_explained_after(&self, position: &mut usize, key: Key, saw: Version) -> bool

@@ -5,7 +5,7 @@ ghost use Rattle.sia_events.specs.Parsing.{Gives, items_of, begins_with, after_b
 use crate::event::{Event, Key, Listed, Version};
 use crate::fault::{Reason, Refusal};
 use crate::found::Found;
-use crate::number::{Number, key_in, number, txn_in, version_in};
+use crate::number::{Number, number, txn_in, version_in};
 use std::alloc::Global;
 
 /// What follows one byte.
@@ -50,7 +50,7 @@ fn begin(txn: Number, text: &[u8]) -> Result<Event, Refusal>
     })
 }
 
-#[tactic(auto, unfolding(crate::specs::Parsing::write_at))]
+#[tactic(auto, unfolding(crate::specs::Parsing::write_at, crate::specs::Parsing::key_of))]
 fn write(txn: Number, text: &[u8]) -> Result<Event, Refusal>
     ensures { Gives (λ x. x) result (write_at txn text.now) }
 {
@@ -59,30 +59,14 @@ fn write(txn: Number, text: &[u8]) -> Result<Event, Refusal>
     let rest = after(rest, b']')?;
     end(rest)?;
     let txn = txn_in(txn)?;
-    let key = key_in(key)?;
-    Ok(Event::Write { txn, key })
-}
-
-#[tactic(auto, unfolding(crate::specs::Parsing::commit_at))]
-fn commit(txn: Number, text: &[u8]) -> Result<Event, Refusal>
-    ensures { Gives (λ x. x) result (commit_at txn text.now) }
-{
-    end(text)?;
-    let txn = txn_in(txn)?;
-    Ok(Event::Commit { txn })
-}
-
-#[tactic(auto, unfolding(crate::specs::Parsing::abort_at))]
-fn abort(txn: Number, text: &[u8]) -> Result<Event, Refusal>
-    ensures { Gives (λ x. x) result (abort_at txn text.now) }
-{
-    end(text)?;
-    let txn = txn_in(txn)?;
-    Ok(Event::Abort { txn })
+    match key {
+        Some(key) => Ok(Event::Write { txn, key }),
+        None => Err(Refusal::Bad(Reason::BadNumber)),
+    }
 }
 
 /// An item read, from its version on.
-#[tactic(auto, unfolding(crate::specs::Parsing::item_at))]
+#[tactic(auto, unfolding(crate::specs::Parsing::item_at, crate::specs::Parsing::key_of))]
 fn item(txn: Number, key: Number, text: &[u8]) -> Result<Event, Refusal>
     ensures { Gives (λ x. x) result (item_at txn key text.now) }
 {
@@ -90,7 +74,9 @@ fn item(txn: Number, key: Number, text: &[u8]) -> Result<Event, Refusal>
     let rest = after(rest, b']')?;
     end(rest)?;
     let txn = txn_in(txn)?;
-    let key = key_in(key)?;
+    let Some(key) = key else {
+        return Err(Refusal::Bad(Reason::BadNumber));
+    };
     let saw = version_in(saw)?;
     Ok(Event::Read { txn, key, saw })
 }
@@ -172,18 +158,8 @@ fn list(alloc: Global, text: &[u8]) -> Result<(Option<Vec<(Key, Version)>>, &[u8
     }
 }
 
-#[tactic(auto, unfolding(crate::specs::Parsing::list_of))]
-fn list_in(listed: Option<Vec<(Key, Version)>>) -> Result<Listed, Refusal>
-    ensures { Gives (λ x. x) result (list_of (items_of listed)) }
-{
-    match listed {
-        Some(pairs) => Ok(Listed::new(pairs)),
-        None => Err(Refusal::Bad(Reason::BadNumber)),
-    }
-}
-
 /// A range read, from its upper end on.
-#[tactic(auto, unfolding(crate::specs::Parsing::range_at))]
+#[tactic(auto, unfolding(crate::specs::Parsing::range_at, crate::specs::Parsing::key_of, crate::specs::Parsing::list_of))]
 fn range(alloc: Global, txn: Number, lo: Number, text: &[u8]) -> Result<Event, Refusal>
     ensures { Gives (λ x. x) result (range_at txn lo text.now) }
 {
@@ -192,15 +168,15 @@ fn range(alloc: Global, txn: Number, lo: Number, text: &[u8]) -> Result<Event, R
     let rest = after(rest, b']')?;
     end(rest)?;
     let txn = txn_in(txn)?;
-    let lo = key_in(lo)?;
-    let hi = key_in(hi)?;
-    let listed = list_in(listed)?;
-    Ok(Event::Range {
-        txn,
-        lo,
-        hi,
-        listed,
-    })
+    match (lo, hi, listed) {
+        (Some(lo), Some(hi), Some(pairs)) => Ok(Event::Range {
+            txn,
+            lo,
+            hi,
+            listed: Listed::new(pairs),
+        }),
+        _ => Err(Refusal::Bad(Reason::BadNumber)),
+    }
 }
 
 /// A read, from the bracket on.
@@ -221,7 +197,7 @@ fn read(alloc: Global, txn: Number, text: &[u8]) -> Result<Event, Refusal>
 }
 
 /// The event that the token spells, all of it.
-#[tactic(auto, unfolding(crate::specs::Parsing::event_at))]
+#[tactic(auto, unfolding(crate::specs::Parsing::event_at, crate::specs::Parsing::commit_at, crate::specs::Parsing::abort_at))]
 pub(crate) fn event_of(alloc: Global, token: &[u8]) -> Result<Event, Refusal>
     ensures { Gives (λ x. x) result (event_at token.now) }
 {
@@ -233,8 +209,16 @@ pub(crate) fn event_of(alloc: Global, token: &[u8]) -> Result<Event, Refusal>
         b'b' => begin(txn, rest),
         b'r' => read(alloc, txn, rest),
         b'w' => write(txn, rest),
-        b'c' => commit(txn, rest),
-        b'a' => abort(txn, rest),
+        b'c' => {
+            end(rest)?;
+            let txn = txn_in(txn)?;
+            Ok(Event::Commit { txn })
+        }
+        b'a' => {
+            end(rest)?;
+            let txn = txn_in(txn)?;
+            Ok(Event::Abort { txn })
+        }
         _ => Err(Refusal::Bad(Reason::BadEvent)),
     }
 }

@@ -38,19 +38,6 @@ impl TxnSet {
     pub(crate) fn contains(&self, txn: TxnId) -> bool
         ensures { result ≡ has self.now txn }
     {
-        self.finds(txn)
-    }
-
-    #[tactic(auto, unfolding(crate::specs::TxnSets::has))]
-    pub(crate) fn insert(&mut self, txn: TxnId) -> Result<(), AllocError>
-        ensures { OnOk result ((t : ℕ) → has self.new t ≡ (has self.old t || (t == txn))) }
-    {
-        self.put(txn)
-    }
-
-    fn finds(&self, txn: TxnId) -> bool
-        ensures { result ≡ holds self.now txn }
-    {
         if MARKED <= txn {
             return is_in_slots(&self.slots, txn) || self.others.contains(&txn);
         }
@@ -58,8 +45,9 @@ impl TxnSet {
         at < self.marks.len() && self.marks[at]
     }
 
-    fn put(&mut self, txn: TxnId) -> Result<(), AllocError>
-        ensures { OnOk result ((t : ℕ) → holds self.new t ≡ (holds self.old t || (t == txn))) }
+    #[tactic(auto, unfolding(crate::specs::TxnSets::has))]
+    pub(crate) fn insert(&mut self, txn: TxnId) -> Result<(), AllocError>
+        ensures { OnOk result ((t : ℕ) → has self.new t ≡ (has self.old t || (t == txn))) }
     {
         if txn < MARKED {
             return self.mark(txn as usize);

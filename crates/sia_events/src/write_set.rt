@@ -55,46 +55,9 @@ impl WriteSet {
         }
     }
 
-    /// Whether the write is one, and the guess says where it stands.
-    fn is_guessed(&self, write: (Key, TxnId)) -> bool
-        ensures { IsTrue result → wrote self.now write ≡ true }
-    {
-        is_at(&self.writes, self.guesses.guess(write), write)
-    }
-
-    /// Whether the write is one that has a slot or stands in the tree, as each has.
-    #[tactic(auto, unfolding(crate::specs::WriteSets::IsSound))]
-    fn is_found(&self, write: (Key, TxnId)) -> bool
-        ensures { IsSound self.now → IsTrue result → wrote self.now write ≡ true }
-    {
-        if self.is_guessed(write) {
-            return true;
-        }
-        self.tree.contains(&write)
-    }
-
-    /// Whether the write is one, where no guess leads to it.
-    #[tactic(auto, unfolding(crate::specs::WriteSets::IsSound))]
-    fn is_rare(&self, write: (Key, TxnId)) -> bool
-        ensures { IsSound self.now → result ≡ wrote self.now write }
-    {
-        if self.tree.contains(&write) {
-            return true;
-        }
-        is_among(&self.writes, write)
-    }
-
-    pub(crate) fn contains(&self, write: (Key, TxnId)) -> bool
-        ensures { IsSound self.now → result ≡ wrote self.now write }
-    {
-        if self.is_guessed(write) {
-            return true;
-        }
-        self.is_rare(write)
-    }
-
     /// Whether the write is one, which may well follow the one at the position. The position becomes its own, where that is
     /// guessed.
+    #[tactic(auto, unfolding(crate::specs::WriteSets::IsSound))]
     pub(crate) fn contains_after(&self, position: &mut usize, write: (Key, TxnId)) -> bool
         ensures { IsSound self.now → result ≡ wrote self.now write }
     {
@@ -106,30 +69,10 @@ impl WriteSet {
         if is_at(&self.writes, *position, write) {
             return true;
         }
-        self.is_rare(write)
-    }
-
-    /// Takes the write at the position into the tree.
-    #[tactic(auto, unfolding(crate::specs::WriteSets::IsSound))]
-    fn add_to_tree(&mut self, position: usize) -> Result<(), AllocError>
-        ensures same { OnOk result (self.new.writes.items ≡ self.old.writes.items) }
-        ensures sound { IsSound self.old → OnOk result (IsSound self.new) }
-    {
-        if let Some(write) = self.writes.get(position) {
-            self.tree.insert(*write)?;
+        if self.tree.contains(&write) {
+            return true;
         }
-        Ok(())
-    }
-
-    /// Makes a guess of the write at the position, and answers whether there was a slot for it.
-    fn guess_one(&mut self, position: usize) -> bool
-        ensures writes { self.new.writes ≡ self.old.writes }
-        ensures tree { self.new.tree ≡ self.old.tree }
-    {
-        match self.writes.get(position) {
-            Some(write) => self.guesses.put(*write, position),
-            None => true,
-        }
+        is_among(&self.writes, write)
     }
 
     /// Makes a guess of the write at the position, or takes it into the tree.
@@ -138,15 +81,15 @@ impl WriteSet {
         ensures same { OnOk result (self.new.writes.items ≡ self.old.writes.items) }
         ensures sound { IsSound self.old → OnOk result (IsSound self.new) }
     {
-        if self.guess_one(position) {
+        let Some(write) = self.writes.get(position) else {
+            return Ok(());
+        };
+        let write = *write;
+        if self.guesses.put(write, position) {
             return Ok(());
         }
-        self.add_to_tree(position)
-    }
-
-    /// Whether guesses are to be made anew.
-    fn is_crowded(&self) -> bool {
-        self.guesses.is_crowded(self.writes.len())
+        self.tree.insert(write)?;
+        Ok(())
     }
 
     /// Makes the guesses anew.
@@ -168,14 +111,18 @@ impl WriteSet {
         ensures wrote { IsSound self.old → OnOk result ((p : ℕ × ℕ) → wrote self.new p ≡ (wrote self.old p || same p write)) }
         ensures sound { IsSound self.old → OnOk result (IsSound self.new) }
     {
-        if self.is_found(write) {
+        // Each write has a slot or stands in the tree.
+        if is_at(&self.writes, self.guesses.guess(write), write) {
+            return Ok(());
+        }
+        if self.tree.contains(&write) {
             return Ok(());
         }
         self.writes.push(write)?;
-        if self.is_crowded() {
+        let count = self.writes.len();
+        if self.guesses.is_crowded(count) {
             return self.guess_again();
         }
-        let last = self.writes.len() - 1;
-        self.place(last)
+        self.place(count - 1)
     }
 }

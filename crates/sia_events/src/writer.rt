@@ -1,118 +1,104 @@
 //! Writing the canonical text of a history.
-ghost use Rattle.std.specs.Prelude.{◌≡◌, ◌++◌, ◌∷◌, List, ℕ, OnOk, IfOk, codes};
-ghost use Rattle.sia_events.specs.Text.{numeral, spell_pair, spell_list, spell_start, spell, canonical};
+ghost use Rattle.std.specs.Prelude.{◌≡◌, ◌++◌, ◌∷◌, flat_map, OnOk, IfOk};
+ghost use Rattle.sia_events.specs.Text.{numeral, spell_list, spell, canonical};
+ghost use Rattle.sia_events.specs.Spelled.{spelled};
 
 use crate::event::{Event, Key, Version};
 use crate::fault::NoMemory;
 use crate::history::History;
 use itoa::Buffer;
-use std::alloc::Global;
+use std::alloc::{AllocError, Global};
 
-fn push_number(out: &mut Vec<u8>, n: u64) -> Result<(), NoMemory>
-    ensures { OnOk result (out.new.items ≡ out.old.items ++ numeral n) }
+/// A piece of the spelling of an event.
+#[derive(Clone, Copy)]
+pub(crate) enum Piece<'a> {
+    /// A byte and a number.
+    Marked(u8, u64),
+    Byte(u8),
+    Listed(&'a [(Key, Version)]),
+}
+
+fn push_marked(out: &mut Vec<u8>, mark: u8, n: u64) -> Result<(), AllocError>
+    ensures { OnOk result (out.new.items ≡ out.old.items ++ (mark ∷ numeral n)) }
 {
     let mut buffer = Buffer::new();
+    out.push(mark)?;
     out.extend_from_slice(buffer.format(n).as_bytes())?;
     Ok(())
 }
 
-// A byte and a number.
-fn push_marked(out: &mut Vec<u8>, mark: u8, n: u64) -> Result<(), NoMemory>
-    ensures { OnOk result (out.new.items ≡ out.old.items ++ (mark ∷ numeral n)) }
-{
-    out.push(mark)?;
-    push_number(out, n)
-}
-
-fn push_start(out: &mut Vec<u8>, start: Option<u32>) -> Result<(), NoMemory>
-    ensures { OnOk result (out.new.items ≡ out.old.items ++ spell_start start) }
-{
-    match start {
-        Some(start) => push_marked(out, b'@', u64::from(start)),
-        None => Ok(()),
-    }
-}
-
-fn push_pair(out: &mut Vec<u8>, key: Key, saw: Version) -> Result<(), NoMemory>
-    ensures { OnOk result (out.new.items ≡ out.old.items ++ spell_pair (key, saw)) }
-{
-    push_number(out, key)?;
-    push_marked(out, b':', u64::from(saw))
-}
-
-fn push_list(out: &mut Vec<u8>, listed: &[(Key, Version)]) -> Result<(), NoMemory>
+fn push_list(out: &mut Vec<u8>, listed: &[(Key, Version)]) -> Result<(), AllocError>
     ensures { OnOk result (out.new.items ≡ out.old.items ++ spell_list listed.now) }
 {
     for (i, (key, saw)) in listed.iter().enumerate() {
-        out.push(if i == 0 { b';' } else { b',' })?;
-        push_pair(out, *key, *saw)?;
+        push_marked(out, if i == 0 { b';' } else { b',' }, *key)?;
+        push_marked(out, b':', u64::from(*saw))?;
     }
     Ok(())
 }
 
-// What a read says behind its transaction.
-fn push_read(out: &mut Vec<u8>, key: Key, saw: Version) -> Result<(), NoMemory>
-    ensures { OnOk result (out.new.items ≡ out.old.items ++ (codes "[" ++ spell_pair (key, saw) ++ codes "]")) }
+fn push_piece(out: &mut Vec<u8>, piece: &Piece) -> Result<(), AllocError>
+    ensures { OnOk result (out.new.items ≡ out.old.items ++ spelled piece.now) }
 {
-    push_marked(out, b'[', key)?;
-    push_marked(out, b':', u64::from(saw))?;
-    out.push(b']')?;
+    match piece {
+        Piece::Marked(mark, n) => push_marked(out, *mark, *n),
+        Piece::Byte(byte) => out.extend_from_slice(&[*byte]),
+        Piece::Listed(listed) => push_list(out, listed),
+    }
+}
+
+fn push_pieces(out: &mut Vec<u8>, pieces: &[Piece]) -> Result<(), AllocError>
+    ensures { OnOk result (out.new.items ≡ out.old.items ++ flat_map spelled pieces.now) }
+{
+    for piece in pieces {
+        push_piece(out, piece)?;
+    }
     Ok(())
 }
 
-// What a range read says behind its transaction.
-fn push_range(
-    out: &mut Vec<u8>,
-    lo: Key,
-    hi: Key,
-    listed: &[(Key, Version)],
-) -> Result<(), NoMemory>
-    ensures { OnOk result (out.new.items ≡ out.old.items ++ (codes "[" ++ numeral lo ++ codes ".." ++ numeral hi ++ spell_list listed.now ++ codes "]")) }
-{
-    push_marked(out, b'[', lo)?;
-    out.push(b'.')?;
-    push_marked(out, b'.', hi)?;
-    push_list(out, listed)?;
-    out.push(b']')?;
-    Ok(())
-}
-
-// What a write says behind its transaction.
-fn push_write(out: &mut Vec<u8>, key: Key) -> Result<(), NoMemory>
-    ensures { OnOk result (out.new.items ≡ out.old.items ++ (codes "[" ++ numeral key ++ codes "]")) }
-{
-    push_marked(out, b'[', key)?;
-    out.push(b']')?;
-    Ok(())
-}
-
-fn push_event(out: &mut Vec<u8>, event: &Event) -> Result<(), NoMemory>
+fn push_event(out: &mut Vec<u8>, event: &Event) -> Result<(), AllocError>
     ensures { OnOk result (out.new.items ≡ out.old.items ++ spell event.now) }
 {
+    let txn = u64::from(event.txn());
     match event {
-        Event::Begin { txn, start } => {
-            push_marked(out, b'b', u64::from(*txn))?;
-            push_start(out, *start)
-        }
-        Event::Read { txn, key, saw } => {
-            push_marked(out, b'r', u64::from(*txn))?;
-            push_read(out, *key, *saw)
-        }
-        Event::Range {
-            txn,
-            lo,
-            hi,
-            listed,
+        Event::Begin { start: None, .. } => push_pieces(out, &[Piece::Marked(b'b', txn)]),
+        Event::Begin {
+            start: Some(start),
+            ..
         } => {
-            push_marked(out, b'r', u64::from(*txn))?;
-            push_range(out, *lo, *hi, listed.as_slice())
+            let start = u64::from(*start);
+            push_pieces(out, &[Piece::Marked(b'b', txn), Piece::Marked(b'@', start)])
         }
-        Event::Write { txn, key } => {
-            push_marked(out, b'w', u64::from(*txn))?;
-            push_write(out, *key)
+        Event::Read { key, saw, .. } => {
+            let pieces = [
+                Piece::Marked(b'r', txn),
+                Piece::Marked(b'[', *key),
+                Piece::Marked(b':', u64::from(*saw)),
+                Piece::Byte(b']'),
+            ];
+            push_pieces(out, &pieces)
         }
-        Event::Commit { txn } => push_marked(out, b'c', u64::from(*txn)),
-        Event::Abort { txn } => push_marked(out, b'a', u64::from(*txn)),
+        Event::Range { lo, hi, listed, .. } => {
+            let pieces = [
+                Piece::Marked(b'r', txn),
+                Piece::Marked(b'[', *lo),
+                Piece::Byte(b'.'),
+                Piece::Marked(b'.', *hi),
+                Piece::Listed(listed.as_slice()),
+                Piece::Byte(b']'),
+            ];
+            push_pieces(out, &pieces)
+        }
+        Event::Write { key, .. } => {
+            let pieces = [
+                Piece::Marked(b'w', txn),
+                Piece::Marked(b'[', *key),
+                Piece::Byte(b']'),
+            ];
+            push_pieces(out, &pieces)
+        }
+        Event::Commit { .. } => push_pieces(out, &[Piece::Marked(b'c', txn)]),
+        Event::Abort { .. } => push_pieces(out, &[Piece::Marked(b'a', txn)]),
     }
 }
 

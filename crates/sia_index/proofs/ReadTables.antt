@@ -13,6 +13,7 @@ use Rattle.sia_events.specs.declared.event.Event.TheVariants.{Read, Range}
 use Rattle.sia_events.specs.Lists.{Precedes, ListsBy}
 use Rattle.sia_events.specs.Places.{at_place}
 use Rattle.sia_events.proofs.TransactionDecisions.{place_within}
+use Rattle.sia_index.specs.Between.{IsBetween}
 use Rattle.sia_index.specs.declared.info.ItemRead.{ItemRead}
 use Rattle.sia_index.specs.declared.info.RangeRead.{RangeRead}
 use Rattle.sia_index.specs.Info.{IsItemRead, IsRangeRead, AreRangesMeeting}
@@ -172,6 +173,11 @@ found_within {A} key rank P xs are lo hi from to end low high le most cut bound 
         part_has xs from end le bound at.0 r after (omega arith) at.2),
   );
 }
+
+pub found_between : {A : Type 0} (key : A → ℕ) (rank : A → List ℕ) (P : A → Type 0) (xs : List A) → ListsBy rank P xs → (lo hi : ℕ) (ys : List A) → IsBetween key xs lo hi ys → ListsBy rank (λ x. P x × (lo ≤ key x) × (key x ≤ hi)) ys
+found_between {A} key rank P xs are lo hi ys b =
+    subst (ListsBy rank (λ x. P x × (lo ≤ key x) × (key x ≤ hi))) (sym b.is)
+    (found_within key rank P xs are lo hi b.from b.to b.end b.low b.high b.forward b.most (λ k below after. elim b.no_more [ inl least ↦ omega arith | inr least ↦ omega arith ]) b.bound)
 
 -- between the two points stands each range that shares a key with those from lo to hi
 pub ranges_found : (h : List Event) (ranges : List RangeRead) (reaches : List ℕ) → AreRanges h ranges → AreReaches ranges reaches → (lo hi from to end : ℕ) → PointBelow (λ (n : ℕ). n) reaches lo from → PointWithin (λ (r : RangeRead). r.lo) ranges hi to → from ≤ end → to ≤ end → end ≤ length ranges → AreRangesMeeting h lo hi (slice_range ranges from end)

@@ -4,3 +4,4 @@ pub mod Rows
 pub mod Tables
 pub mod Numbers
 pub mod Seen
+pub mod Between

@@ -1,5 +1,5 @@
 //! The written keys and the versions of each, made of the rows of writes and versions.
-ghost use Rattle.std.specs.Prelude.{◌≡◌, ◌≤◌, ◌<◌, ◌+◌, ℕ, List, All, AllPairs, IfOk, length, map};
+ghost use Rattle.std.specs.Prelude.{◌≡◌, ◌≤◌, ◌<◌, ◌+◌, ℕ, List, All, AllPairs, IfOk, length};
 ghost use Rattle.std.specs.List.{AllWithin};
 ghost use Rattle.std.specs.List.Sorted.{IsPartitionPoint};
 ghost use Rattle.sia_events.specs.declared.event.Event.{Event};
@@ -10,7 +10,9 @@ ghost use Rattle.sia_index.specs.Minima.{AreMinima};
 ghost use Rattle.sia_index.specs.Rows.{AreWrites, AscendsByVersion, AscendsByCommit, PassesNone};
 ghost use Rattle.sia_index.specs.Tables.{AreOffsets, AreChains, AreFirsts, FirstsSoFar};
 
+use crate::columns::parts_of;
 use crate::info::{KeyVersion, Made};
+use crate::keyed::{place_above, place_from};
 use crate::minima::next_at_most;
 use crate::ordering::put_in_order;
 use crate::rows::{WriteRow, part_at};
@@ -21,28 +23,9 @@ use std::alloc::{AllocError, Global};
 pub fn keys_of(alloc: Global, writes: &[WriteRow]) -> Result<Vec<Key>, AllocError>
     ensures { IfOk result (λ keys. (h : List Event) → AreWrites h writes.now → AreWrittenKeys h keys.items) }
 {
-    let mut keys = keys_in(alloc, writes)?;
+    let mut keys = parts_of(alloc, writes)?;
     put_in_order(&mut keys);
     Ok(keys)
-}
-
-// The keys of all rows.
-fn keys_in(alloc: Global, writes: &[WriteRow]) -> Result<Vec<Key>, AllocError>
-    ensures { IfOk result (λ keys. keys.items ≡ map (λ row. row.key) writes.now) }
-{
-    writes.iter().map(|row| row.key).collect(alloc)
-}
-
-/// The versions of all rows.
-pub fn made_of(alloc: Global, rows: &[KeyVersion]) -> Result<Vec<Made>, AllocError>
-    ensures { IfOk result (λ made. made.items ≡ map (λ row. record { txn = row.txn; commit = row.commit }) rows.now) }
-{
-    rows.iter()
-        .map(|row| Made {
-            txn: row.txn,
-            commit: row.commit,
-        })
-        .collect(alloc)
 }
 
 /// Where the versions of each key begin among the rows, and where those of the last end.
@@ -55,7 +38,7 @@ pub fn offsets_of(
     requires rows_ascend { AscendsByVersion rows.now }
     ensures { IfOk result (λ offsets. AreOffsets keys.now rows.now offsets.items (length keys.now)) }
 {
-    let mut offsets = Vec::with_capacity(alloc, keys.len().saturating_add(1))?;
+    let mut offsets = Vec::new(alloc);
     let mut at = 0;
     offsets.push(at)?;
     for key in keys {
@@ -91,7 +74,7 @@ pub fn firsts_of(
     requires { (h : List Event) × (keys : List ℕ) × (length keys ≡ count) × AreChains h keys offsets.now made.now }
     ensures { IfOk result (λ firsts. FirstsSoFar offsets.now made.now firsts.items count) }
 {
-    let mut firsts = Vec::with_capacity(alloc, count)?;
+    let mut firsts = Vec::new(alloc);
     for i in 0..count {
         firsts.push(first_commit(part_at(made, offsets, i)))?;
     }
@@ -124,8 +107,8 @@ pub fn next_first(
     requires minima_are { AreMinima firsts.now minima.now }
     ensures { (h : List Event) (t : ℕ) → AreWrittenKeys h keys.now → AreFirsts h keys.now firsts.now → StartsAt h t start → PassesNone (λ k. (u : ℕ) × IsVisible h t k u) lo hi result }
 {
-    let from = keys.partition_point(|key| *key < lo);
-    let to = keys.partition_point(|key| *key <= hi);
+    let from = place_from(keys, lo);
+    let to = place_above(keys, hi);
     match next_at_most(firsts, minima, from, to, start) {
         Some(i) => Some(keys[i]),
         None => None,

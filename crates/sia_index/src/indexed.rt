@@ -6,9 +6,10 @@ ghost use Rattle.sia_index.specs.Info.{IsInfo, AreVersions, AreWrittenKeys, AreA
 
 use crate::hints::hint_in;
 use crate::info::{Fate, ItemRead, KeyVersion, Made, RangeRead, TxnInfo};
+use crate::keyed::between;
 use crate::own::WriteTable;
-use crate::reads::{key_from, keys_between, ranges_meeting, reads_between, versions_between};
-use crate::rows::{TxnRow, find_key, find_txn_near, part_at};
+use crate::reads::{key_from, ranges_meeting};
+use crate::rows::{TxnRow, find_key, part_at};
 use sia_events::{History, Key, TxnId};
 use std::marker::Model;
 use std::snapshot::Snapshot;
@@ -55,7 +56,10 @@ impl Index {
     pub fn txn(&self, t: TxnId) -> Option<TxnInfo>
         ensures { MatchOption result (¬ HasEvent self.now t) (IsInfo self.now t) }
     {
-        find_txn_near(&self.txns, self.hint_of(t), t)
+        match self.txn_number(t) {
+            Some(i) => Some(self.txn_at(i)),
+            None => None,
+        }
     }
 
     /// Whether both committed, and each started before the other committed.
@@ -117,7 +121,7 @@ impl Index {
     pub fn written_within(&self, lo: Key, hi: Key) -> &[Key]
         ensures { AreWrittenWithin self.now lo hi result.now }
     {
-        keys_between(&self.keys, lo, hi)
+        between(&self.keys, lo, hi)
     }
 
     /// The least written key that is at least `from`.
@@ -131,14 +135,14 @@ impl Index {
     pub fn versions_within(&self, lo: Key, hi: Key) -> &[KeyVersion]
         ensures { AreVersionsWithin self.now lo hi result.now }
     {
-        versions_between(&self.versions, lo, hi)
+        between(&self.versions, lo, hi)
     }
 
     /// The read events of the keys from `lo` to `hi`, found by two searches. For the audit of a part of the keys.
     pub fn reads_within(&self, lo: Key, hi: Key) -> &[ItemRead]
         ensures { AreReadsWithin self.now lo hi result.now }
     {
-        reads_between(&self.reads, lo, hi)
+        between(&self.reads, lo, hi)
     }
 
     /// The range read events that may share a key with those from `lo` to `hi`, found by two searches. For the audit of a

@@ -2,10 +2,12 @@
 #![tactic(auto)]
 
 mod chains;
+mod columns;
 mod events;
 mod hints;
 mod indexed;
 mod info;
+mod keyed;
 pub mod make;
 mod minima;
 mod numbers;

@@ -1,12 +1,12 @@
 //! How an index is made of a history.
 ghost use Rattle.std.specs.Prelude.{◌≡◌, IfOk};
 
-use crate::chains::{firsts_of, keys_of, made_of, offsets_of};
+use crate::chains::{firsts_of, keys_of, offsets_of};
+use crate::columns::parts_of;
 use crate::events::{EventRows, rows_of};
 use crate::indexed::Index;
 use crate::minima::minima_of;
-use crate::numbers::ids_of;
-use crate::own::{WriteTable, places_of, starts_of};
+use crate::own::{WriteTable, starts_of};
 use crate::reads::reaches_of;
 use crate::txns::table_of;
 use crate::versions::version_rows_of;
@@ -20,7 +20,7 @@ pub fn index(alloc: Global, h: &History) -> Result<Index, NoMemory>
 {
     h.law();
     let txns = table_of(alloc, h)?;
-    let ids = ids_of(alloc, txns.as_slice())?;
+    let ids = parts_of(alloc, txns.as_slice())?;
     let EventRows {
         writes,
         reads,
@@ -29,10 +29,10 @@ pub fn index(alloc: Global, h: &History) -> Result<Index, NoMemory>
     let rows = version_rows_of(alloc, h, &txns, &writes)?;
     let keys = keys_of(alloc, &writes)?;
     let offsets = offsets_of(alloc, &keys, &rows)?;
-    let made = made_of(alloc, &rows)?;
+    let made = parts_of(alloc, &rows)?;
     let firsts = firsts_of(alloc, &offsets, &made, keys.len())?;
     let first_minima = minima_of(alloc, &firsts)?;
-    let places = places_of(alloc, &writes)?;
+    let places = parts_of(alloc, &writes)?;
     let minima = minima_of(alloc, &places)?;
     let starts = starts_of(alloc, &txns, &writes)?;
     let reaches = reaches_of(alloc, &ranges)?;

@@ -12,7 +12,7 @@ const BLOCK: usize = 64;
 pub fn minima_of(alloc: Global, numbers: &[u32]) -> Result<Vec<u32>, AllocError>
     ensures { IfOk result (λ minima. AreMinima numbers.now minima.items) }
 {
-    let mut minima = Vec::with_capacity(alloc, numbers.len() / BLOCK + 1)?;
+    let mut minima = Vec::new(alloc);
     let mut from = 0;
     while from < numbers.len() {
         minima.push(least_from(numbers, from))?;

@@ -1,5 +1,5 @@
 //! The number of a transaction among all of them, and of a key among the written ones.
-ghost use Rattle.std.specs.Prelude.{◌≡◌, ◌≢◌, ◌<◌, ℕ, All, AllPairs, IfOk, MatchOption, length, map, slice_index, slice_index_or};
+ghost use Rattle.std.specs.Prelude.{◌≡◌, ◌≢◌, ◌<◌, ℕ, All, AllPairs, MatchOption, length, slice_index, slice_index_or};
 ghost use Rattle.sia_events.specs.Lists.{ListsAscending};
 ghost use Rattle.sia_events.specs.Transactions.{HasEvent, Wrote};
 ghost use Rattle.sia_index.specs.Info.{IsInfo, IsKeyAt};
@@ -11,7 +11,6 @@ use crate::indexed::Index;
 use crate::info::TxnInfo;
 use crate::rows::{TxnRow, find_key};
 use sia_events::{Key, TxnId};
-use std::alloc::{AllocError, Global};
 
 impl Index {
     /// Each transaction that has an event, ascending.
@@ -42,13 +41,6 @@ impl Index {
     {
         find_key(&self.keys, k)
     }
-}
-
-/// The transactions of the table.
-pub fn ids_of(alloc: Global, table: &[TxnRow]) -> Result<Vec<TxnId>, AllocError>
-    ensures { IfOk result (λ ids. ids.items ≡ map (λ row. row.txn) table.now) }
-{
-    table.iter().map(|row| row.txn).collect(alloc)
 }
 
 // What the row says of its transaction.

@@ -1,10 +1,11 @@
 //! The write events by transaction, and what one transaction wrote.
-ghost use Rattle.std.specs.Prelude.{◌≡◌, ◌↔◌, ◌+◌, ◌-◌, ◌<◌, ◌≤◌, ℕ, IsTrue, IfOk, MatchOption, AllPairs, Contains, length, map, slice_index_or};
+ghost use Rattle.std.specs.Prelude.{◌≡◌, ◌↔◌, ◌+◌, ◌-◌, ◌<◌, ◌≤◌, ℕ, IsTrue, MatchOption, AllPairs, Contains, length, map, slice_index_or};
 ghost use Rattle.sia_index.specs.declared.rows.WriteRow.{WriteRow};
 ghost use Rattle.sia_index.specs.Minima.{AreMinima};
 ghost use Rattle.sia_index.specs.Rows.{AscendsByWrite, HasNoWrite, IsFirstRow, IsStretch, IsKeyPoint, NextRow};
 
 use crate::info::Reader;
+use crate::keyed::{place_above, place_from};
 use crate::minima::next_at_most;
 use crate::rows::{TxnRow, WriteRow};
 use sia_events::{Key, TxnId};
@@ -22,26 +23,18 @@ pub struct WriteTable {
     pub(crate) starts: Vec<u32>,
 }
 
-/// The places of all rows.
-pub fn places_of(alloc: Global, rows: &[WriteRow]) -> Result<Vec<u32>, AllocError>
-    ensures { IfOk result (λ places. places.items ≡ map (λ row. row.place) rows.now) }
-{
-    rows.iter().map(|row| row.place).collect(alloc)
-}
-
-/// Where the rows of each transaction start, and where those of the last end.
+/// Where the rows of each transaction start.
 pub fn starts_of(
     alloc: Global,
     txns: &[TxnRow],
     rows: &[WriteRow],
 ) -> Result<Vec<u32>, AllocError> {
-    let mut starts = Vec::with_capacity(alloc, txns.len().saturating_add(1))?;
+    let mut starts = Vec::new(alloc);
     let mut at = 0;
     for row in txns {
         at = start_from(rows, at, row.txn);
         starts.push(at.min(u32::MAX as usize) as u32)?;
     }
-    starts.push(rows.len().min(u32::MAX as usize) as u32)?;
     Ok(starts)
 }
 
@@ -185,7 +178,7 @@ fn key_point(rows: &[WriteRow], from: usize, to: usize, k: Key) -> usize
     requires stretch { (t : ℕ) × IsStretch rows.now t from to }
     ensures { IsKeyPoint (λ key. key < k) (λ key. k ≤ key) rows.now from to result }
 {
-    from + rows[from..to].partition_point(|row| row.key < k)
+    from + place_from(&rows[from..to], k)
 }
 
 // Of a transaction's rows the first whose key is above this one, or the end.
@@ -194,5 +187,5 @@ fn key_end(rows: &[WriteRow], from: usize, to: usize, k: Key) -> usize
     requires stretch { (t : ℕ) × IsStretch rows.now t from to }
     ensures { IsKeyPoint (λ key. key ≤ k) (λ key. k < key) rows.now from to result }
 {
-    from + rows[from..to].partition_point(|row| row.key <= k)
+    from + place_above(&rows[from..to], k)
 }

@@ -10,6 +10,7 @@ ghost use Rattle.sia_index.specs.Rows.{AscendsByCommit, IsLastWithin, PassesNone
 use crate::chains::next_first;
 use crate::indexed::Index;
 use crate::info::{DueAt, Fate, Made, Reader};
+use crate::keyed::place_above;
 use sia_events::{Key, TxnId, Version};
 
 impl Index {
@@ -166,7 +167,7 @@ pub(crate) fn last_within(versions: &[Made], place: u32) -> Option<Made>
     requires { AscendsByCommit versions.now }
     ensures { MatchOption result (All (λ made. place < made.commit) versions.now) (IsLastWithin versions.now place) }
 {
-    let within = versions.partition_point(|made| made.commit <= place);
+    let within = place_above(versions, u64::from(place));
     if within == 0 {
         return None;
     }

@@ -1,6 +1,5 @@
 //! The rows of an index's tables. Each table ascends by the fields of its rows, from the first field on.
 ghost use Rattle.std.specs.Prelude.{◌≡◌, ◌≢◌, ◌+◌, ◌<◌, ◌≤◌, All, AllPairs, Contains, MatchOption, length, slice_index, slice_range};
-ghost use Rattle.sia_index.specs.Rows.{AscendsByTxn};
 
 use crate::hints::hint_in;
 use crate::info::{Made, TxnInfo};
@@ -29,26 +28,26 @@ pub struct TxnRow {
     pub info: TxnInfo,
 }
 
-/// What the table says of a transaction.
-pub fn find_txn(table: &[TxnRow], t: TxnId) -> Option<TxnInfo>
-    requires { AscendsByTxn table.now }
-    ensures { MatchOption result (All (λ row. row.txn ≢ t) table.now) (λ info. Contains table.now (record { txn = t; info = info })) }
-{
-    match table.binary_search_by_key(&t, |row| row.txn) {
-        Ok(i) => Some(table[i].info),
-        Err(_) => None,
-    }
-}
-
-/// The same, where a hint of the row may save the search.
+/// What the table says of a transaction, which is mostly found at the hint.
 pub fn find_txn_near(table: &[TxnRow], hint: usize, t: TxnId) -> Option<TxnInfo>
-    requires { AscendsByTxn table.now }
     ensures { MatchOption result (All (λ row. row.txn ≢ t) table.now) (λ info. Contains table.now (record { txn = t; info = info })) }
 {
     match table.get(hint) {
         Some(row) if row.txn == t => Some(row.info),
         _ => find_txn(table, t),
     }
+}
+
+// The same, by looking at all rows.
+fn find_txn(table: &[TxnRow], t: TxnId) -> Option<TxnInfo>
+    ensures { MatchOption result (All (λ row. row.txn ≢ t) table.now) (λ info. Contains table.now (record { txn = t; info = info })) }
+{
+    for row in table {
+        if row.txn == t {
+            return Some(row.info);
+        }
+    }
+    None
 }
 
 /// The number of the key among the keys, counted from 0, or None where it isn't one of them.

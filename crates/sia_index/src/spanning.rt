@@ -13,7 +13,7 @@ use std::alloc::{AllocError, Global};
 pub fn spans_of(alloc: Global, h: &History) -> Result<Vec<SpanRow>, AllocError>
     ensures { IfOk result (λ spans. AreSpans h.now spans.items) }
 {
-    let mut slots = Slots::for_count(alloc, h.len())?;
+    let mut slots = Slots::new(alloc)?;
     let mut spans = Vec::new(alloc);
     for before in 0..h.len() {
         let place = before + 1;

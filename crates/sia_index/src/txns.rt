@@ -30,7 +30,7 @@ fn txns_of(alloc: Global, h: &History, spans: &[SpanRow]) -> Result<Vec<TxnRow>,
     requires spans_are { AreSpans h.now spans.now }
     ensures { IfOk result (λ table. AreTxns h.now table.items) }
 {
-    let mut table = Vec::with_capacity(alloc, spans.len())?;
+    let mut table = Vec::new(alloc);
     let mut from = 0;
     while from < spans.len() {
         let txn = spans[from].txn;

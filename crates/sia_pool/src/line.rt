@@ -66,7 +66,7 @@ pub fn line_up(alloc: Global, count: u32, workers: u32) -> Result<Vec<Taker>, No
     ensures { IfOk result (λ takers. LinedUp count workers takers.items) }
 {
     let mut end = deque_of_parts(alloc, count)?;
-    let mut takers = Vec::with_capacity(alloc, workers as usize)?;
+    let mut takers = Vec::new(alloc);
     'giving: for number in 1..workers {
         takers.push(new_stealer::<Brand>(alloc, count, workers, number, &mut end)?)?;
     }

@@ -16,7 +16,7 @@ use std::sync::Wait;
 use std::thread::Threads;
 
 /// What the workers did.
-#[derive(Drop, Debug)]
+#[derive(Drop)]
 pub struct Crew<Out> {
     /// One answer for each part, in the order of the parts.
     pub outs: Vec<Out>,

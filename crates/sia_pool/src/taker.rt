@@ -6,7 +6,6 @@ ghost use Rattle.sia_pool.specs.Taker.{taker_view, taker_deque};
 
 use crate::owner::Owner;
 use crate::stealer::Stealer;
-use std::fmt;
 
 /// The answer of one pop or one steal.
 #[derive(Clone, Copy, PartialEq, Eq, Debug)]
@@ -31,15 +30,6 @@ pub(crate) enum Side {
 #[derive(Drop)]
 pub struct Taker {
     pub(crate) side: Side,
-}
-
-impl fmt::Debug for Taker {
-    // What it took. The deque is shared, and what else it holds may change at any moment.
-    fn fmt<W: fmt::Write>(&self, f: &mut fmt::Formatter<W>) -> fmt::Result {
-        f.debug_struct("Taker")
-            .field("share", &self.share())
-            .finish_non_exhaustive()
-    }
 }
 
 impl Taker {

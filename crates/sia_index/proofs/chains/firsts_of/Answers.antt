@@ -7,7 +7,7 @@ use Rattle.sia_index.proofs.Offsets.{firsts_none, firsts_more, chain_ascends}
 use Rattle.sia_index.proofs.chains.firsts_of.Goals as goal
 
 pub loop-i-init : goal.loop-i-init
-loop-i-init c = rw c.in_ok-firsts.ensures.items (firsts_none _ _)
+loop-i-init c = rw c.new-firsts.ensures.items (firsts_none _ _)
 
 pub part_at-requires : goal.part_at-requires
 part_at-requires c =

@@ -6,7 +6,7 @@ use Rattle.sia_index.proofs.Runs.{rows_none, rows_all, rows_more, run_has_span, 
 use Rattle.sia_index.proofs.txns.txns_of.Goals as goal
 
 pub loop-from-init : goal.loop-from-init
-loop-from-init c = rw c.in_ok-table.ensures.items (rows_none _ _ c.requires.spans_are)
+loop-from-init c = rw c.new-table.ensures.items (rows_none _ _ c.requires.spans_are)
 
 pub last_of-last-requires-clause-some : goal.last_of-last-requires-clause-some
 last_of-last-requires-clause-some c =
