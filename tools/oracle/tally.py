@@ -100,4 +100,5 @@ class Tally:
         first = f"{self.texts} texts in {self.forms.total()} runs alike: {runs}; at most {most}; lines: {lines}"
         if not self.forms["explained"]:
             return first
-        return "\n".join([first, "  explained reports with:", *(f"    {self.shapes[it]:6} {it}" for it in REASONS)])
+        shapes = ", ".join(f"{it} {self.shapes[it]}" for it in REASONS)
+        return f"{first}; explained reports with: {shapes}"

@@ -3,6 +3,7 @@
     PYTHONPATH=tools python3 -m unittest oracle.tests
 """
 
+import re
 import unittest
 from collections import Counter
 from itertools import takewhile
@@ -18,7 +19,8 @@ from oracle.runs import Case, Form, Line
 from oracle.tables import Tables
 from oracle.tally import REASONS, shapes_of
 
-EXAMPLES = Path(__file__).resolve().parents[2] / "examples"
+ROOT = Path(__file__).resolve().parents[2]
+EXAMPLES, PAGE = ROOT / "examples", ROOT / "docs" / "FORMAT.md"
 WAYS = (trying.account_of, taking.account_of)
 
 
@@ -293,6 +295,14 @@ class Explained(unittest.TestCase):
             "stale read: event 4 r2[0..9;5:0]; transaction 2 starts after event 3",
             "due: event 1 w1[5], event 3 c1",
         )
+
+    def test_the_table_of_the_page(self) -> None:
+        rows = re.findall(r"^\| `([a-z ]+)` \| `([^`]+)` \| `([^|]+)` \|$", PAGE.read_text(), re.MULTILINE)
+        self.assertEqual([name for name, _, _ in rows], list(explaining.NAMES))
+        for name, text, reasons in rows:
+            (line,) = (it for it in self.lines(text) if it.startswith("bad-read "))
+            self.assertTrue(reasons.startswith(f"{name}: "))
+            self.assert_below(text, line, *reasons.split("` <br> `"))
 
     def test_bad_write(self) -> None:
         self.assert_below(
