@@ -3,7 +3,6 @@
 from __future__ import annotations
 
 import re
-from collections.abc import Sequence
 
 from si_history.errors import BadInput
 from si_history.history import Abort, Commit, RangeRead, Read, Write, event_of
@@ -66,13 +65,14 @@ def _placed(text: str) -> Placed:
 
 def fits_below(finding: Explained, reason: Reason) -> bool:
     """Whether the reason can be the next one below a finding."""
-    heads: Sequence[ReadName | Role | Edge] = [each.head for each in finding.reasons]
+    count = len(finding.reasons)
     match finding:
         case Cycle() | Structure():
-            return len(heads) < len(finding.steps) and reason.head == finding.steps[len(heads)]
+            return count < len(finding.steps) and reason.head == finding.steps[count]
         case BadWrite():
-            return not heads and reason.head is Role.BOTH_WRITE
+            return count == 0 and reason.head is Role.BOTH_WRITE
         case BadRead() | Unexplained():
-            if not heads:
+            if count == 0:
                 return isinstance(reason.head, ReadName)
-            return reason.head is Role.DUE and heads[-1] is not Role.DUE or reason.head is Role.SAW and len(heads) == 1
+            last = finding.reasons[-1].head
+            return isinstance(last, ReadName) and reason.head is Role.SAW or last is not Role.DUE and reason.head is Role.DUE
