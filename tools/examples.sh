@@ -1,42 +1,50 @@
 #!/bin/sh
-# Runs the program on each NAME.history of examples/ and examples/databases/, and compares what it writes with NAME.report,
-# and its status with the one in NAME.status, or 0; and in the same way on the stored run of its crate. The last line is
+# Runs the program on each NAME.history of examples/, examples/databases/ and examples/logs/, and compares what it writes with
+# NAME.report, and its status with the one in NAME.status, or 0; and in the same way on the stored run of its crate. With the
+# word --explain it also runs the program with that word on each of them, and compares with NAME.explained. The last line is
 # 'N passed, M failed'.
 : "${PROGRAM:=crates/si_audit/out/si_audit}"
 mkdir -p out
 passed=0
 failed=0
 
-# compare TEXT REPORT STATUS: the program's report on the text is this one, with this status.
+# compare TEXT REPORT STATUS [WORD]: the program's report on the text is this one, with this status.
 compare() {
-    "$PROGRAM" <"$1" >out/report 2>out/said
+    text=$1
+    wanted=$2
+    ending=$3
+    shift 3
+    "$PROGRAM" "$@" <"$text" >out/report 2>out/said
     status=$?
     why=
-    if [ ! -f "$2" ]; then
-        why="there is no $2"
-    elif ! cmp -s "$2" out/report; then
-        why="it isn't $2"
+    if [ ! -f "$wanted" ]; then
+        why="there is no $wanted"
+    elif ! cmp -s "$wanted" out/report; then
+        why="it isn't $wanted"
     elif [ -s out/said ]; then
         why="it wrote on standard error"
-    elif [ "$status" != "$3" ]; then
-        why="its status is $status and not $3"
+    elif [ "$status" != "$ending" ]; then
+        why="its status is $status and not $ending"
     fi
     if [ -z "$why" ]; then
         passed=$((passed + 1))
     else
         failed=$((failed + 1))
-        echo "$1: $why:"
+        echo "$text: $why:"
         cat out/report out/said
     fi
 }
 
-for text in examples/*.history examples/databases/*.history; do
-    name=${text%.history}
-    wanted=0
+for history in examples/*.history examples/databases/*.history examples/logs/*.history; do
+    name=${history%.history}
+    meets=0
     if [ -f "$name.status" ]; then
-        wanted=$(cat "$name.status")
+        meets=$(cat "$name.status")
     fi
-    compare "$text" "$name.report" "$wanted"
+    compare "$history" "$name.report" "$meets"
+    if [ "$1" = --explain ]; then
+        compare "$history" "$name.explained" "$meets" --explain
+    fi
 done
 compare crates/si_audit/stdin crates/si_audit/stdout 0
 echo "$passed passed, $failed failed"

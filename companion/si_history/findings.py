@@ -12,8 +12,9 @@ from dataclasses import dataclass
 from typing import TypeVar
 
 from si_history.facts import Facts, Fate
+from si_history.named_reasons import told
 from si_history.naming import Names
-from si_history.report import BadRead, BadWrite, Cycle, Edge, EdgeKind, Explained, Pivot, Report, Unexplained
+from si_history.report import BadRead, BadWrite, Cycle, Edge, EdgeKind, Explained, Pivot, Report, Structure, Unexplained
 
 MOST_OF_A_KIND = 100
 MOST_STEPS = 40
@@ -27,6 +28,7 @@ class Kind(enum.Enum):
     BAD_WRITE = "Bad writes"
     BAD_READ = "Bad reads"
     UNEXPLAINED = "Unexplained reads"
+    STRUCTURE = "The dangerous structure"
     PIVOT = "Pivots"
 
 
@@ -61,6 +63,7 @@ def groups_of(report: Report, facts: Facts, names: Names) -> list[Group]:
         _group(Kind.BAD_WRITE, report.bad_writes, teller.bad_write),
         _group(Kind.BAD_READ, report.bad_reads, teller.bad_read),
         _group(Kind.UNEXPLAINED, report.unexplained, teller.unexplained),
+        _group(Kind.STRUCTURE, [report.structure] if report.structure else [], teller.structure),
         _group(Kind.PIVOT, sorted(report.pivots, key=lambda pivot: not pivot.firsts), teller.pivot),
     ]
     return [group for group in groups if group.count]
@@ -155,16 +158,25 @@ class _Teller:
         return Finding(
             Kind.CYCLE,
             f"Each must stand before the next in a serial order: {path}.",
-            self._reasons(cycle) or tuple(self._why_cycle(cycle)),
+            tuple(self._why_cycle(cycle)),
             cycle.transactions,
             tuple(place for step in cycle.steps[:MOST_STEPS] for place in self._facts.ends_of(step)),
         )
 
     def _why_cycle(self, cycle: Cycle) -> Iterator[str]:
-        for step in cycle.steps[:MOST_STEPS]:
-            yield self._why_edge(step)
+        yield from self._reasons(cycle) or map(self._why_edge, cycle.steps[:MOST_STEPS])
         if len(cycle.steps) > MOST_STEPS:
             yield f"And {len(cycle.steps) - MOST_STEPS:,} steps more, which the report names."
+
+    def structure(self, structure: Structure) -> Finding:
+        first, pivot, last = map(self._names.transaction, structure.transactions)
+        return Finding(
+            Kind.STRUCTURE,
+            f"{first} \u2192 {pivot} \u2192 {last}: two rw edges between overlapping transactions, and {last} committed first.",
+            self._reasons(structure) or tuple(map(self._why_edge, structure.steps)),
+            _distinct(structure.transactions),
+            tuple(place for step in structure.steps for place in self._facts.ends_of(step)),
+        )
 
     def _why_edge(self, edge: Edge) -> str:
         source, target = self._names.transaction(edge.source), self._names.transaction(edge.target)
@@ -183,7 +195,7 @@ class _Teller:
         return Finding(
             Kind.PIVOT,
             f"Transaction {middle} is a pivot: rw edges from {self._list(pivot.sources)} and to {self._list(pivot.targets)}.",
-            self._reasons(pivot) or tuple(self._why_pivot(pivot)),
+            tuple(self._why_pivot(pivot)),
             _distinct((pivot.transaction, source, target)),
             (),
         )
@@ -200,7 +212,7 @@ class _Teller:
 
     def _reasons(self, explained: Explained) -> tuple[str, ...]:
         """The report's own reasons."""
-        return tuple(_visible(self._names.in_text(reason)) for reason in explained.reasons)
+        return tuple(told(reason, self._names) for reason in explained.reasons[:MOST_STEPS])
 
     def _list(self, numbers: Sequence[int]) -> str:
         words = ", ".join(map(self._names.transaction, numbers[:MOST_LISTED]))
@@ -230,11 +242,6 @@ class _Teller:
         if writer.fate is Fate.ABORTED:
             return f"{wrote} and aborted at {end}."
         return f"{wrote} and committed at {end}{', after that start' if writer.places[-1] > start else ''}."
-
-
-def _visible(text: str) -> str:
-    """The text with a sign in place of each character that can't be seen."""
-    return "".join(character if character.isprintable() else "\ufffd" for character in text)
 
 
 def _distinct(numbers: Sequence[int]) -> tuple[int, ...]:

@@ -13,7 +13,7 @@ from si_history.errors import BadInput
 from si_history.files import STANDARD_INPUT, write_output
 from si_history.naming import Names
 from si_history.progress import REPORT_LINES, Progress
-from si_history.report import Cycle, Edge, EdgeKind, Pivot, Report
+from si_history.report import Cycle, Edge, EdgeKind, Pivot, Report, Structure
 from si_history.report_text import ReportText, edges_in, read_report
 
 KEYS_SHOWN = 4
@@ -21,8 +21,9 @@ KEYS_SHOWN = 4
 EPILOG = """\
 Without --all the graph is that of the cycle. Where there is none, it is that of each
 pivot's dangerous structures: the rw edges to the pivot (a double box) and from it,
-with bold edges to the transactions that commit first. With --all it has every edge
-of the report; those of the cycle are bold.
+with bold edges to the transactions that commit first; of an explained report, that of
+its one dangerous structure. With --all it has every edge of the report; those of the
+cycle are bold.
 
 examples:
   si_audit <run.history | si-history graph | dot -Tsvg >cycle.svg
@@ -84,17 +85,25 @@ class Graph:
 def graph_of(report: Report, text: ReportText, every_edge: bool) -> Graph:
     """The graph that is wanted of a report. Its text is gone through once more where edges are wanted."""
     if every_edge:
-        if report.edge_count == 0 and (report.cycle or report.pivots):
+        if report.edge_count == 0 and (report.cycle or report.structure or report.pivots):
             raise BadInput("this report leaves its edges out, so --all has nothing to draw", source=text.source)
         return _all_edges(report, text)
     if report.cycle is not None:
         return _cycle_graph(report.cycle)
+    if report.structure is not None and not report.pivots:
+        return _structure_graph(report.structure)
     return _pivot_graph(report.pivots, text)
 
 
 def _cycle_graph(cycle: Cycle) -> Graph:
     arrows = [Arrow(step.source, step.kind, step.target, (step.key,), True) for step in cycle.steps]
     return Graph("the cycle", arrows)
+
+
+def _structure_graph(structure: Structure) -> Graph:
+    into, out = structure.steps
+    arrows = [Arrow(into.source, into.kind, into.target, (into.key,)), Arrow(out.source, out.kind, out.target, (out.key,), True)]
+    return Graph("no cycle; a dangerous structure", arrows, {into.target})
 
 
 def _all_edges(report: Report, text: ReportText) -> Graph:

@@ -128,12 +128,12 @@ def parse(text: str, progress: Progress | None = None) -> list[Event]:
     for number, token in enumerate(tokens, 1):
         if number % EVENTS_BETWEEN_STEPS == 0 and progress is not None:
             progress.step(number)
-        events.append(_event_of(token, number))
+        events.append(event_of(token, number))
     return events
 
 
-def _event_of(token: str, number: int) -> Event:
-    """The event that a token stands for; `number` is the token's place in the text."""
+def event_of(token: str, number: int) -> Event:
+    """The event that a token stands for; `number` is the token's place in the text. Raises BadInput where it is none."""
     def within(digits: str, greatest: int, least: int = 0) -> int:
         if len(digits) > 20 or not least <= int(digits) <= greatest:
             raise BadInput(f"token {number}: number out of range")

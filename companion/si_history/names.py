@@ -7,9 +7,12 @@ from collections.abc import Callable, Iterator
 
 from si_history.errors import BadInput
 from si_history.files import STANDARD_INPUT, write_output
+from si_history.named_reasons import told
 from si_history.naming import Names
 from si_history.progress import REPORT_LINES, Progress
-from si_history.report_text import INDENT, Malformed, ReportText, edge_of, read_report
+from si_history.reasons import reason_of
+from si_history.report_text import INDENT, ReportText, edge_of, read_report
+from si_history.report_words import Malformed
 
 EPILOG = """\
 Each line of the report comes out with the log's names in place of numbers, and with
@@ -20,9 +23,14 @@ transaction wrote, stays 0:
   edge 1 ww 2 1                   becomes  edge T1 ww T2 acct/5
   cycle 1 >ww:1> 2 >rw:1> 1       becomes  cycle T1 >ww:acct/5> T2 >rw:acct/5> T1
 
+In the lines of an explained report that start with two spaces an event keeps its
+number, with its line beside it, since several events can be on one line of a log:
+
+  saw: event 3 w2[1], event 4 c2  becomes  saw: event 3 (line 2) wT2[acct/5],
+                                           event 4 (line 2) cT2
+
 A name that could be misread, with a space or a quote in it for example, is written as
-a JSON string. In lines that explain (they are indented), what is certain is named:
-"transaction N", "key N" and "place N".
+a JSON string.
 
 examples:
   si-history from-events --legend run.legend run.log >run.history
@@ -64,7 +72,10 @@ def named_lines(text: ReportText, names: Names) -> Iterator[str]:
     """The lines of a report, which was read without fault, with names. Raises BadInput for what the legend doesn't name."""
     for number, line in enumerate(text, 1):
         try:
-            yield names.in_text(line) if line.startswith(INDENT) else named_line(line, names)
+            if line.startswith(INDENT):
+                yield INDENT + told(reason_of(line.removeprefix(INDENT)), names)
+            else:
+                yield named_line(line, names)
         except Malformed as fault:
             raise text.no_report(number, fault) from None
 
@@ -78,7 +89,7 @@ def named_line(line: str, names: Names) -> str:
     words = rest.split(" ") if rest else []
     if head in _PARTS:
         return " ".join([head, *(part(names, word) for part, word in zip(_PARTS[head], words, strict=True))])
-    if head in ("pivot", "order", "cycle"):
+    if head in ("pivot", "dangerous", "order", "cycle"):
         return " ".join([head, *(_stop_or_step(names, word) for word in words)])
     return line
 

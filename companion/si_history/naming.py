@@ -17,6 +17,7 @@ MAX_LEGEND_BYTES = 1 << 28
 _WORDS_OF_REPORTS = {"0", "in", "out", "first", "saw", "due", "line"}
 """Words and the version 0 that stand beside names in a report with names."""
 _MISREAD = re.compile(r'[\s"\\<>]')
+_SIGNS_OF_EVENTS = re.compile(r"[\[\]:;,()]|\.\.")
 
 
 def shown(name: str) -> str:
@@ -31,8 +32,11 @@ def shown(name: str) -> str:
         return json.dumps(name, ensure_ascii=False)
     return name
 
-_CERTAIN = re.compile(r"\b(transaction|key|place) ([0-9]{1,20})\b(?![:.@\[]\S)")
-"""What is certain to be meant in a line that explains; `key 7:3` or `key 7..9` is not."""
+
+def tight(name: str) -> str:
+    """A shown name as it stands in an event, as in `r7f3a[acct/5:T2]`: a JSON string also where it holds a sign of these."""
+    return json.dumps(name, ensure_ascii=False) if _SIGNS_OF_EVENTS.search(name) and not name.startswith('"') else name
+
 
 
 class Names:
@@ -57,15 +61,6 @@ class Names:
     def key(self, number: int) -> str:
         return self._keys[number]
 
-    def has_transaction(self, number: int) -> bool:
-        return self._legend is None or number in self._legend.transactions
-
-    def has_key(self, number: int) -> bool:
-        return self._legend is None or number in self._legend.keys
-
-    def has_line(self, place: int) -> bool:
-        return self._legend is not None and self._legend.line(place) is not None
-
     def line(self, place: int) -> int | None:
         """The line of the log from which the event at this place came. None without a legend."""
         if self._legend is None:
@@ -80,19 +75,10 @@ class Names:
         line = self.line(place)
         return f"event {place}" if line is None else f"event {place} (line {line} of the log)"
 
-    def in_text(self, line: str) -> str:
-        """A line that explains, with names where it is certain what is meant, and else as it is."""
-        return _CERTAIN.sub(self._certain, line)
-
-    def _certain(self, found: re.Match[str]) -> str:
-        what, number = found[1], int(found[2])
-        if what == "transaction" and self.has_transaction(number):
-            return f"transaction {self.transaction(number)}"
-        if what == "key" and self.has_key(number):
-            return f"key {self.key(number)}"
-        if what == "place" and self.has_line(number):
-            return f"line {self.line(number)}"
-        return found[0]
+    def event(self, place: int) -> str:
+        """A place in a line that explains: as `place`, but shorter. Place 0, before all events, is on no line."""
+        line = self.line(place) if place else None
+        return f"event {place}" if line is None else f"event {place} (line {line})"
 
     def check(self, counts: Counts) -> None:
         """Raises BadInput where the legend is of another history than the report with these counts."""
@@ -114,5 +100,5 @@ class _Table(dict[int, str]):
         name = str(number) if self._names is None else self._names.get(number)
         if name is None:
             raise BadInput(f"the legend has no name for {self._what} {number}")
-        self[number] = shown(name)
+        self[number] = name if self._names is None else shown(name)
         return self[number]

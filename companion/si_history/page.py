@@ -19,8 +19,9 @@ from si_history.scene import scene_of
 EPILOG = """\
 The page holds all that it needs: it loads nothing, and can be sent as one file. It has
 the verdict in words, the findings with their reasons, and a timeline with one lane a
-transaction and arrows for the edges of the cycle. Of a large history the timeline has
-only transactions that the cycle and the findings name.
+transaction and arrows for the edges of the cycle, or where there is none, of the
+dangerous structure of an explained report. Of a large history the timeline has only
+transactions that the cycle and the findings name.
 
 examples:
   si_audit <run.history >run.report
@@ -70,7 +71,7 @@ def made_page(history_path: str, report_path: str, legend_path: str | None, is_p
             facts = Facts(parse(read_text(history_path, MAX_BYTES), progress))
         facts.check(report.counts)
         groups = groups_of(report, facts, names)
-        scene = scene_of(facts, report.cycle, groups, names)
+        scene = scene_of(facts, report.steps, groups, names)
     if is_picture:
         return picture(report, scene)
     return html(shown(os.path.basename(source_name(history_path))), report, groups, scene, names)

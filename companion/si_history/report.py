@@ -1,6 +1,6 @@
 """The report of a history, as typed data: what `si_audit` writes, and docs/FORMAT.md explains line by line.
 
-The verdicts are the report's. `reasons` are the lines that explain a line, where the report has such below it.
+The verdicts are the report's. `reasons` are the lines below a line that explain it; only an explained report has such.
 """
 
 from __future__ import annotations
@@ -8,6 +8,8 @@ from __future__ import annotations
 import enum
 from dataclasses import dataclass, field
 from typing import NamedTuple
+
+from si_history.history import Event
 
 
 class EdgeKind(enum.Enum):
@@ -30,6 +32,57 @@ class Edge(NamedTuple):
     key: int
 
 
+class ReadName(enum.Enum):
+    """What is wrong with a bad read: the first of these that fits."""
+
+    OWN_WRITE_MISSED = "own write missed"
+    ABORTED_READ = "aborted read"
+    UNCOMMITTED_READ = "uncommitted read"
+    FUTURE_READ = "future read"
+    PHANTOM = "phantom"
+    STALE_READ = "stale read"
+
+
+class Role(enum.Enum):
+    """What a line of reasons is about that begins with neither a name nor a step."""
+
+    SAW = "saw"
+    DUE = "due"
+    BOTH_WRITE = "both write and overlap"
+
+
+@dataclass(frozen=True, slots=True)
+class Placed:
+    """An event at its place. A range read lists no key but the one that the reason is about."""
+
+    place: int
+    event: Event
+
+
+@dataclass(frozen=True, slots=True)
+class Version:
+    """Where a transaction first wrote a key, and where it committed or aborted, if it did."""
+
+    write: Placed
+    end: Placed | None
+
+
+@dataclass(frozen=True, slots=True)
+class Started:
+    """After how many events a transaction started."""
+
+    transaction: int
+    after: int
+
+
+@dataclass(frozen=True, slots=True)
+class Reason:
+    """One line that explains the line above it."""
+
+    head: ReadName | Role | Edge
+    parts: tuple[Placed | Version | Started, ...]
+
+
 @dataclass(frozen=True, slots=True)
 class Counts:
     """How many events the history has, and how many transactions of each fate."""
@@ -45,7 +98,6 @@ class Verdict:
     """One of the three answers yes or no: isolation kept, ssi pass, serializable."""
 
     holds: bool
-    reasons: list[str] = field(default_factory=list, kw_only=True)
 
 
 @dataclass(slots=True)
@@ -57,7 +109,7 @@ class BadRead:
     key: int
     saw: int
     due: int
-    reasons: list[str] = field(default_factory=list, kw_only=True)
+    reasons: list[Reason] = field(default_factory=list, kw_only=True)
 
 
 @dataclass(slots=True)
@@ -67,7 +119,7 @@ class BadWrite:
     key: int
     first: int
     second: int
-    reasons: list[str] = field(default_factory=list, kw_only=True)
+    reasons: list[Reason] = field(default_factory=list, kw_only=True)
 
 
 @dataclass(slots=True)
@@ -78,7 +130,7 @@ class Unexplained:
     transaction: int
     key: int
     saw: int
-    reasons: list[str] = field(default_factory=list, kw_only=True)
+    reasons: list[Reason] = field(default_factory=list, kw_only=True)
 
 
 @dataclass(slots=True)
@@ -89,7 +141,6 @@ class Pivot:
     sources: tuple[int, ...]
     targets: tuple[int, ...]
     firsts: tuple[int, ...]
-    reasons: list[str] = field(default_factory=list, kw_only=True)
 
 
 @dataclass(slots=True)
@@ -97,7 +148,6 @@ class Order:
     """The committed transactions in an order that keeps every edge."""
 
     transactions: tuple[int, ...]
-    reasons: list[str] = field(default_factory=list, kw_only=True)
 
 
 @dataclass(slots=True)
@@ -105,11 +155,23 @@ class Cycle:
     """Edges of which each starts where the one before ends; the last ends where the first starts."""
 
     steps: tuple[Edge, ...]
-    reasons: list[str] = field(default_factory=list, kw_only=True)
+    reasons: list[Reason] = field(default_factory=list, kw_only=True)
 
     @property
     def transactions(self) -> tuple[int, ...]:
         return tuple(step.source for step in self.steps)
+
+
+@dataclass(slots=True)
+class Structure:
+    """A dangerous structure: an rw edge to a pivot, and one from it to the transaction that commits first."""
+
+    steps: tuple[Edge, Edge]
+    reasons: list[Reason] = field(default_factory=list, kw_only=True)
+
+    @property
+    def transactions(self) -> tuple[int, int, int]:
+        return self.steps[0].source, self.steps[1].source, self.steps[1].target
 
 
 @dataclass(slots=True)
@@ -125,6 +187,7 @@ class Report:
     """How many lines of edges the report has."""
     pivots: list[Pivot]
     ssi: Verdict
+    structure: Structure | None
     serializable: Verdict
     outcome: Order | Cycle
 
@@ -132,6 +195,13 @@ class Report:
     def cycle(self) -> Cycle | None:
         return self.outcome if isinstance(self.outcome, Cycle) else None
 
+    @property
+    def steps(self) -> tuple[Edge, ...]:
+        """The edges for a picture to show: those of the cycle, and where there is none those of the dangerous structure."""
+        if self.cycle is not None:
+            return self.cycle.steps
+        return self.structure.steps if self.structure is not None else ()
 
-Explained = Verdict | BadRead | BadWrite | Unexplained | Pivot | Order | Cycle
+
+Explained = BadRead | BadWrite | Unexplained | Structure | Cycle
 """What a line says, where the lines below it may explain it."""

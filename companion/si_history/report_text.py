@@ -3,8 +3,8 @@
 Edges can be millions of lines, and most uses need few of them or none. So `read_report` passes over them and counts them,
 and `edges_in` gives them one by one. The lines of edges and of pivots may be left out of a report.
 
-A line that starts with two spaces explains the line above it, and is kept there as one of its `reasons`; below the first
-line and below edges it is passed over.
+A line that starts with two spaces explains the line above it, and is kept there as one of its `reasons`. A line that no
+explained report has in its place is refused as any other line is.
 """
 
 from __future__ import annotations
@@ -17,14 +17,14 @@ from typing import TypeVar
 from si_history.errors import BadInput
 from si_history.files import opened, source_name
 from si_history.progress import Progress
+from si_history.reasons import fits_below, reason_of
 from si_history.report import (
-    BadRead, BadWrite, Counts, Cycle, Edge, EdgeKind, Explained, Order, Pivot, Report, Unexplained, Verdict,
+    BadRead, BadWrite, Counts, Cycle, Edge, EdgeKind, Explained, Order, Pivot, Report, Structure, Unexplained, Verdict,
 )
+from si_history.report_words import KINDS, Malformed, number_of, numbers_of, short, steps_of
 
 INDENT = "  "
 LINES_BETWEEN_STEPS = 65_536
-MOST_DIGITS = 20
-"""No number of a report has more digits: the greatest key is 18446744073709551615."""
 
 
 class ReportText:
@@ -45,7 +45,7 @@ class ReportText:
             return cls(file.read(), source_name(path), progress)
 
     def __iter__(self) -> Iterator[str]:
-        """The lines, without their ends. Bytes that are no UTF-8 are replaced: nothing but a reason may hold such."""
+        """The lines, without their ends. Bytes that are no UTF-8 are replaced: no line of a report holds such."""
         lines = io.TextIOWrapper(io.BytesIO(self._content), encoding="utf-8", errors="replace", newline="\n")
         for number, line in enumerate(lines, 1):
             if number % LINES_BETWEEN_STEPS == 0 and self._progress is not None:
@@ -84,19 +84,21 @@ def edges_in(text: ReportText) -> Iterator[Edge]:
 
 _EDGE = re.compile("edge (0|[1-9][0-9]{0,19}) (ww|wr|rw) (0|[1-9][0-9]{0,19}) (0|[1-9][0-9]{0,19})")
 _REFUSAL = re.compile(r"refused: (?:(text too long)|token ([1-9][0-9]*): ([a-z ]+))")
+_WHERE = re.compile(r"  line ([1-9][0-9]*), column ([1-9][0-9]*): ((?:[!-\[\]-~]|\\x[0-9a-f]{2})+)")
+
+NO_REFUSAL = "this is no report, and no refusal either"
 
 
-def refusal_in_words(line: str) -> str:
-    """What the line of a refusal says, for a user who wanted a report."""
+def refusal_in_words(line: str, below: str | None = None) -> str:
+    """What the line of a refusal says, and the line below it if there is one, for a user who wanted a report."""
     found = _REFUSAL.fullmatch(line)
-    if found is None:
-        return "this is no report, and no refusal either"
-    where = "the text was too long" if found[1] else f"at event {found[2]}: {found[3]}"
-    return f"the auditor refused the history and made no report ({where})"
-
-
-class Malformed(Exception):
-    """A line that a report has not, or not in this place."""
+    where = None if below is None else _WHERE.fullmatch(below)
+    if found is None or (below is not None and (where is None or found[1])):
+        return NO_REFUSAL
+    words = "the text was too long" if found[1] else f"at event {found[2]}: {found[3]}"
+    if where is not None:
+        words = f"at event {found[2]}, in line {where[1]} from column {where[2]}: {found[3]}: {where[3]}"
+    return f"the auditor refused the history and made no report ({words})"
 
 
 class _Refused(Exception):
@@ -109,28 +111,7 @@ def edge_of(line: str) -> Edge:
     if found is None:
         raise Malformed("'edge T KIND U KEY' is wanted")
     source, kind, target, key = found.groups()
-    return Edge(int(source), _KINDS[kind], int(target), int(key))
-
-
-def _kind(word: str) -> EdgeKind:
-    kind = _KINDS.get(word)
-    if kind is None:
-        raise Malformed(f"the kind of an edge is ww, wr or rw, and not {_short(word)}")
-    return kind
-
-
-def _number(word: str) -> int:
-    if not (word.isascii() and word.isdigit()) or len(word) > MOST_DIGITS or (word[0] == "0" and word != "0"):
-        raise Malformed(f"{_short(word)} is no number")
-    return int(word)
-
-
-def _numbers(words: list[str], forms: str) -> list[int]:
-    """The numbers among the words. `forms` is the line that is wanted, with `#` at the place of each number."""
-    wanted = forms.split(" ")
-    if len(words) != len(wanted) or any(form not in ("#", word) for form, word in zip(wanted, words)):
-        raise Malformed(f"'{forms.replace('#', 'N')}' is wanted")
-    return [_number(word) for form, word in zip(wanted, words) if form == "#"]
+    return Edge(int(source), KINDS[kind], int(target), int(key))
 
 
 def _verdict(words: list[str], yes: str, no: str) -> Verdict:
@@ -149,48 +130,44 @@ def _pivot(words: list[str]) -> Pivot:
     if sources_at != 2 or not sources_at + 1 < targets_at < firsts_at - 1 or firsts_at == len(words) - 1:
         raise Malformed("'pivot T2 in T1 .. out T3 ..' is wanted")
     return Pivot(
-        _number(words[1]),
-        tuple(map(_number, words[sources_at + 1 : targets_at])),
-        tuple(map(_number, words[targets_at + 1 : firsts_at])),
-        tuple(map(_number, words[firsts_at + 1 :])),
+        number_of(words[1]),
+        tuple(map(number_of, words[sources_at + 1 : targets_at])),
+        tuple(map(number_of, words[targets_at + 1 : firsts_at])),
+        tuple(map(number_of, words[firsts_at + 1 :])),
     )
+
+
+def _structure(words: list[str]) -> Structure:
+    steps = steps_of(words[1:]) if len(words) == 6 else ()
+    if len(steps) != 2 or any(step.kind is not EdgeKind.RW for step in steps):
+        raise Malformed("'dangerous T1 >rw:KEY> T2 >rw:KEY> T3' is wanted")
+    return Structure((steps[0], steps[1]))
 
 
 def _cycle(words: list[str]) -> Cycle:
     if len(words) < 6 or len(words) % 2 or words[1] != words[-1]:
         raise Malformed("'cycle T >KIND:KEY> U .. >KIND:KEY> T' is wanted")
-    stops = [_number(word) for word in words[1::2]]
-    steps = []
-    for source, arrow, target in zip(stops, words[2::2], stops[1:]):
-        kind, colon, key = arrow[1:-1].partition(":")
-        if not (arrow.startswith(">") and arrow.endswith(">") and colon):
-            raise Malformed(f"{_short(arrow)} is no step of a cycle")
-        steps.append(Edge(source, _kind(kind), target, _number(key)))
-    return Cycle(tuple(steps))
-
-
-def _short(word: str) -> str:
-    """The word in ASCII and quotes, cut where it is long."""
-    return ascii(word if len(word) <= 40 else word[:40] + "..")
+    return Cycle(steps_of(words[1:]))
 
 
 _AnyExplained = TypeVar("_AnyExplained", bound=Explained)
 
 _HEADS = (
-    "events", "isolation", "bad-read", "bad-write", "unexplained", "edge", "pivot", "ssi", "serializable", "order",
+    "events", "isolation", "bad-read", "bad-write", "unexplained", "edge", "pivot", "ssi", "dangerous", "serializable", "order",
 )
 """The first words of the lines, in the order of the lines. A cycle stands in the place of the order."""
 _STAGES = {head: stage for stage, head in enumerate(_HEADS)} | {"cycle": len(_HEADS) - 1}
 _SINGLE = {"events", "isolation", "ssi", "serializable", "order"}
-_KINDS = {kind.value: kind for kind in EdgeKind}
 
 
 class _Reader:
-    """Takes the lines of a report in their order. `_stage` is the index in `_HEADS` of the line that was taken last."""
+    """Takes the lines of a report in their order. `_stage` is the index in `_HEADS` of the line that was taken last that
+    explains no other, and `_last` what that line says, if others may explain it."""
 
     def __init__(self) -> None:
         self._stage = -1
         self._last: Explained | None = None
+        self._refusal: list[str] = []
         self._edges = 0
         self._counts: list[Counts] = []
         self._verdicts: list[Verdict] = []
@@ -198,6 +175,7 @@ class _Reader:
         self._bad_writes: list[BadWrite] = []
         self._unexplained: list[Unexplained] = []
         self._pivots: list[Pivot] = []
+        self._structures: list[Structure] = []
         self._outcomes: list[Order | Cycle] = []
 
     def take(self, line: str) -> None:
@@ -206,21 +184,27 @@ class _Reader:
             self._move("edge")
             self._edges += 1
             self._last = None
+        elif self._refusal or (line.startswith("refused:") and self._stage < 0):
+            self._refusal.append(line)
         elif line.startswith(INDENT) and self._stage >= 0:
-            if self._last is not None:
-                self._last.reasons.append(line.strip())
+            self._explain(line.removeprefix(INDENT))
         else:
             words = line.split(" ")
-            if words[0] == "refused:" and self._stage < 0:
-                raise _Refused(refusal_in_words(line))
             self._move(words[0])
             self._last = self._kept(words)
+
+    def _explain(self, line: str) -> None:
+        """Takes a line that explains the one before it."""
+        reason = reason_of(line)
+        if self._last is None or not fits_below(self._last, reason):
+            raise Malformed(f"the line {short(line)} explains nothing here")
+        self._last.reasons.append(reason)
 
     def _move(self, head: str) -> None:
         """Goes on to the stage of a first word. None may be left out or stand twice of those that stand once."""
         stage = _STAGES.get(head)
         if stage is None:
-            raise Malformed(f"no line of a report starts with {_short(head)}")
+            raise Malformed(f"no line of a report starts with {short(head)}")
         if stage == self._stage and _HEADS[stage] not in _SINGLE:
             return
         if stage <= self._stage:
@@ -234,37 +218,51 @@ class _Reader:
         """What the words of a line say, put to what the report has of the kind."""
         match words[0]:
             case "events":
-                self._counts.append(Counts(*_numbers(words, "events # committed # aborted # open #")))
+                self._counts.append(Counts(*numbers_of(words, "events # committed # aborted # open #")))
                 return None
             case "isolation":
-                return _put(self._verdicts, _verdict(words, "kept", "broken"))
+                self._verdicts.append(_verdict(words, "kept", "broken"))
+                return None
             case "bad-read":
-                return _put(self._bad_reads, BadRead(*_numbers(words, "bad-read # # # saw # due #")))
+                return _put(self._bad_reads, BadRead(*numbers_of(words, "bad-read # # # saw # due #")))
             case "bad-write":
-                return _put(self._bad_writes, BadWrite(*_numbers(words, "bad-write # # #")))
+                return _put(self._bad_writes, BadWrite(*numbers_of(words, "bad-write # # #")))
             case "unexplained":
-                return _put(self._unexplained, Unexplained(*_numbers(words, "unexplained # # # #")))
+                return _put(self._unexplained, Unexplained(*numbers_of(words, "unexplained # # # #")))
             case "pivot":
-                return _put(self._pivots, _pivot(words))
+                self._pivots.append(_pivot(words))
+                return None
             case "ssi":
-                return _put(self._verdicts, _verdict(words, "pass", "fail"))
+                self._verdicts.append(_verdict(words, "pass", "fail"))
+                return None
+            case "dangerous":
+                if self._structures or self._verdicts != [Verdict(True), Verdict(False)]:
+                    raise Malformed("a line 'dangerous ..' stands once, behind 'ssi fail', where isolation was kept")
+                return _put(self._structures, _structure(words))
             case "serializable":
-                return _put(self._verdicts, _verdict(words, "yes", "no"))
+                self._verdicts.append(_verdict(words, "yes", "no"))
+                return None
             case "order":
-                return _put(self._outcomes, Order(tuple(map(_number, words[1:]))))
+                self._outcomes.append(Order(tuple(map(number_of, words[1:]))))
+                return None
             case "cycle":
                 return _put(self._outcomes, _cycle(words))
         raise Malformed("it stands alone")
 
     def report(self) -> Report:
         """What was taken, if it is whole."""
+        if self._refusal:
+            raise _Refused(refusal_in_words(*self._refusal[:2]) if len(self._refusal) < 3 else NO_REFUSAL)
         if not self._outcomes:
             due = next(head for head in _HEADS[self._stage + 1 :] if head in _SINGLE)
             raise Malformed(f"it ends before its line '{due} ..'")
+        for explained in (*self._structures, *self._outcomes):
+            if not isinstance(explained, Order) and len(explained.reasons) not in (0, len(explained.steps)):
+                raise Malformed("of the steps above some are explained and some are not")
         isolation, ssi, serializable = self._verdicts
         return Report(
             self._counts[0], isolation, self._bad_reads, self._bad_writes, self._unexplained, self._edges,
-            self._pivots, ssi, serializable, self._outcomes[0],
+            self._pivots, ssi, self._structures[0] if self._structures else None, serializable, self._outcomes[0],
         )
 
 

@@ -1,4 +1,5 @@
-"""What a picture of a history shows: lanes of transactions, their events, and the edges of the cycle.
+"""What a picture of a history shows: lanes of transactions, their events, and the edges of the cycle, or of a dangerous
+structure where there is no cycle.
 
 A small history is shown whole. Of a large one only the transactions that the cycle and the findings name are, and of these
 no more than a person can look at; how much is left out is counted.
@@ -7,7 +8,7 @@ no more than a person can look at; how much is left out is counted.
 from __future__ import annotations
 
 import enum
-from collections.abc import Iterable, Iterator
+from collections.abc import Iterable, Iterator, Sequence
 from dataclasses import dataclass
 from itertools import islice
 
@@ -15,7 +16,7 @@ from si_history.facts import Facts, Fate, Transaction
 from si_history.findings import MOST_STEPS, Group
 from si_history.history import Abort, Begin, Commit, Event, RangeRead, Read
 from si_history.naming import Names
-from si_history.report import Cycle, Edge
+from si_history.report import Edge
 
 SMALL_TRANSACTIONS = 24
 SMALL_EVENTS = 240
@@ -58,7 +59,7 @@ class Lane:
 
 @dataclass(frozen=True, slots=True)
 class Link:
-    """An edge of the cycle, from an event in one lane to an event in another."""
+    """An edge of the cycle or the structure, from an event in one lane to an event in another."""
 
     source_place: int
     target_place: int
@@ -68,7 +69,7 @@ class Link:
 
 @dataclass(frozen=True, slots=True)
 class Scene:
-    """What is shown. The lanes of the cycle come first, then the others, both in the order of their starts."""
+    """What is shown. The lanes with edges between them come first, then the others, both in the order of their starts."""
 
     lanes: tuple[Lane, ...]
     links: tuple[Link, ...]
@@ -80,15 +81,15 @@ class Scene:
         return sum(lane.hidden_events for lane in self.lanes)
 
 
-def scene_of(facts: Facts, cycle: Cycle | None, groups: Iterable[Group], names: Names) -> Scene:
-    """The scene of a history with these findings."""
+def scene_of(facts: Facts, steps: Sequence[Edge], groups: Iterable[Group], names: Names) -> Scene:
+    """The scene of a history with these findings, and these edges for arrows."""
     found = list(groups)
-    shown = set(islice(_wanted_transactions(facts, cycle, found), MOST_LANES))
-    edges = [edge for edge in cycle.steps if edge.source in shown and edge.target in shown] if cycle else []
-    in_cycle = {end for edge in edges for end in (edge.source, edge.target)}
+    shown = set(islice(_wanted_transactions(facts, steps, found), MOST_LANES))
+    edges = [edge for edge in steps if edge.source in shown and edge.target in shown]
+    joined = {end for edge in edges for end in (edge.source, edge.target)}
     places = set(islice(_wanted_places(facts, edges, found, shown), MOST_EVENTS))
     ordered = sorted(
-        map(facts.transaction, shown), key=lambda each: (each.number not in in_cycle, each.start, each.places[0])
+        map(facts.transaction, shown), key=lambda each: (each.number not in joined, each.start, each.places[0])
     )
     links = [link for edge in edges if (link := _link(facts, edge, names)) and {link.source_place, link.target_place} <= places]
     return Scene(
@@ -98,9 +99,9 @@ def scene_of(facts: Facts, cycle: Cycle | None, groups: Iterable[Group], names: 
     )
 
 
-def _wanted_transactions(facts: Facts, cycle: Cycle | None, groups: list[Group]) -> Iterator[int]:
+def _wanted_transactions(facts: Facts, steps: Sequence[Edge], groups: list[Group]) -> Iterator[int]:
     """The transactions to show, each once, the foremost first."""
-    named = [cycle.transactions[: MOST_STEPS + 1] if cycle else ()]
+    named = [tuple(step.source for step in steps[: MOST_STEPS + 1])]
     named += [finding.transactions[: MOST_STEPS + 1] for group in groups for finding in group.findings]
     wanted = dict.fromkeys(number for numbers in named for number in numbers)
     is_small = len(facts.transactions) <= SMALL_TRANSACTIONS and facts.event_count <= SMALL_EVENTS

@@ -7,6 +7,7 @@ import tempfile
 import unittest
 from pathlib import Path
 
+from si_history.errors import BadInput
 from si_history.graph import Arrow, Graph, dot, graph_of
 from si_history.legend import Legend
 from si_history.naming import Names
@@ -43,6 +44,13 @@ class ChoiceTest(unittest.TestCase):
         text = lines(*(line for line in PIVOTS if not line.startswith("edge")))
         wanted = [Arrow(1, RW, 2, ()), Arrow(2, RW, 3, (), True), Arrow(2, RW, 4, ()), Arrow(3, RW, 4, ())]
         self.assertEqual(graph(text).arrows, wanted)
+
+    def test_a_dangerous_structure(self) -> None:
+        text = lines(*PLAIN[:2], "ssi fail", "dangerous 1 >rw:3> 2 >rw:9> 4", *PLAIN[3:])
+        wanted = [Arrow(1, RW, 2, (3,)), Arrow(2, RW, 4, (9,), True)]
+        self.assertEqual(graph(text), Graph("no cycle; a dangerous structure", wanted, {2}))
+        with self.assertRaisesRegex(BadInput, "^r: this report leaves its edges out, so --all has nothing to draw$"):
+            graph(text, True)
 
     def test_nothing_to_draw(self) -> None:
         self.assertEqual(graph(lines(*PLAIN)), Graph("no cycle, and no line of a pivot", []))

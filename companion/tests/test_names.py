@@ -3,6 +3,7 @@
 from __future__ import annotations
 
 import json
+import re
 import tempfile
 import unittest
 from pathlib import Path
@@ -10,8 +11,10 @@ from pathlib import Path
 from si_history.errors import BadInput
 from si_history.legend import Legend
 from si_history.names import named_line
+from si_history.named_reasons import told
 from si_history.naming import Names, shown
-from tests.support import run_command
+from si_history.reasons import reason_of
+from tests.support import REPOSITORY, run_command
 from tests.test_report import LOST_UPDATE
 
 LEGEND = Legend({1: "T7", 2: "7f3a", 3: "late one", 4: "out"}, {1: "acct/5", 2: 'a"b'}, [11, 12, 13, 14, 15, 16])
@@ -20,8 +23,11 @@ STALE = """\
 events 6 committed 3 aborted 0 open 0
 isolation broken
 bad-read 5 4 1 saw 0 due 3
-  transaction 3 wrote key 1 at place 2, and transaction 9 not; r4[1:0] is as it was
+  stale read: event 5 r4[1..2;1:0]; transaction 4 starts after event 4
+  due: event 2 w3[1], event 3 c3
 unexplained 6 4 2 1
+  aborted read: event 6 r4[2:1]; transaction 4 starts after event 0
+  saw: event 1 w1[2], event 4 a1
 ssi fail
 serializable no
 order 1 3 4
@@ -31,8 +37,11 @@ NAMED_STALE = """\
 events 6 committed 3 aborted 0 open 0
 isolation broken
 bad-read line 15 "out" acct/5 saw 0 due "late one"
-  transaction "late one" wrote key acct/5 at line 12, and transaction 9 not; r4[1:0] is as it was
+  stale read: event 5 (line 15) r"out"[acct/5.."a\\"b";acct/5:0]; transaction "out" starts after event 4 (line 14)
+  due: event 2 (line 12) w"late one"[acct/5], event 3 (line 13) c"late one"
 unexplained line 16 "out" "a\\"b" T7
+  aborted read: event 6 (line 16) r"out"["a\\"b":T7]; transaction "out" starts after event 0
+  saw: event 1 (line 11) wT7["a\\"b"], event 4 (line 14) aT7
 ssi fail
 serializable no
 order T7 "late one" "out"
@@ -72,24 +81,65 @@ class ShownTest(unittest.TestCase):
 
 
 class LineTest(unittest.TestCase):
-    def test_what_is_certain_in_a_line_that_explains(self) -> None:
+    def test_a_step_and_its_reason(self) -> None:
         names = Names(LEGEND)
+        self.assertEqual(
+            named_line("dangerous 1 >rw:2> 3 >rw:1> 2", names), 'dangerous T7 >rw:"a\\"b"> "late one" >rw:acct/5> 7f3a'
+        )
+        reason = reason_of("1 >wr:1> 3: event 2 w1[1], event 4 c1; event 6 r3[1:2]; event 3 w2[1], event 5 c2")
+        self.assertEqual(told(reason, names), (
+            'T7 >wr:acct/5> "late one": event 2 (line 12) wT7[acct/5], event 4 (line 14) cT7;'
+            ' event 6 (line 16) r"late one"[acct/5:7f3a]; event 3 (line 13) w7f3a[acct/5], event 5 (line 15) c7f3a'
+        ))
+
+    def test_names_with_the_signs_of_events(self) -> None:
+        """Where names stand within events, those are JSON that hold a sign of an event."""
+        names = Names(Legend({1: "a:b", 2: "x;y", 3: "f(1)"}, {1: "t[1]", 2: "1..2", 3: "a,b"}, [7, 8, 9]))
         for line, wanted in (
-            ("key 1.", "key acct/5."), ("key 1, then", "key acct/5, then"), ("(transaction 2)", "(transaction 7f3a)"),
-            ("place 6", "line 16"), ("key 1:2", "key 1:2"), ("key 1..2", "key 1..2"), ("keys 1", "keys 1"), ("monkey 1", "monkey 1"),
-            ("key 3", "key 3"), ("place 7", "place 7"), ("place 0", "place 0"), ("transaction 1st", "transaction 1st"), ("w1[1] c1", "w1[1] c1"),
+            ("saw: event 2 w1[1]", 'saw: event 2 (line 8) w"a:b"["t[1]"]'),
+            ("saw: event 1 w2[2], event 3 a2", 'saw: event 1 (line 7) w"x;y"["1..2"], event 3 (line 9) a"x;y"'),
+            (
+                "phantom: event 3 r3[1..2]; transaction 3 starts after event 2",
+                'phantom: event 3 (line 9) r"f(1)"["t[1]".."1..2"]; transaction "f(1)" starts after event 2 (line 8)',
+            ),
+            ("2 >rw:3> 1: event 1 r2[3:0]; event 2 w1[3], event 3 c1",
+             '"x;y" >rw:"a,b"> "a:b": event 1 (line 7) r"x;y"["a,b":0]; event 2 (line 8) w"a:b"["a,b"], event 3 (line 9) c"a:b"'),
         ):
             with self.subTest(line=line):
-                self.assertEqual(names.in_text("  " + line), "  " + wanted)
+                self.assertEqual(told(reason_of(line), names), wanted)
+
+    def test_nothing_of_an_explained_example_is_lost(self) -> None:
+        """Without a legend each line is as it was, and with names it is so when the names are taken away again."""
+        paths = [path for path in sorted(REPOSITORY.glob("examples/**/*.explained")) if not path.stem.startswith("refused")]
+        self.assertGreater(len(paths), 18)
+        numbers = range(1, 100)
+        legend = Legend({n: f"T{n}" for n in numbers}, {n: f"K{n}" for n in range(100)}, list(numbers))
+        for path in paths:
+            for line in path.read_text().splitlines():
+                if not line.startswith("  "):
+                    continue
+                with self.subTest(path=path.name, line=line):
+                    reason = reason_of(line[2:])
+                    self.assertEqual(told(reason, Names()), line[2:])
+                    named = told(reason, Names(legend))
+                    self.assertNotIn(named, line)
+                    self.assertEqual(re.sub(r" \(line [0-9]+\)|[TK](?=[0-9])", "", named), line[2:])
 
     def test_names_that_are_missing(self) -> None:
         for line, said in (
             ("edge 1 ww 9 1", "the legend has no name for transaction 9"), ("edge 1 ww 2 7", "the legend has no name for key 7"),
             ("bad-read 7 1 1 saw 2 due 0", "the legend has no line for event 7"), ("order 1 2 9", "the legend has no name for transaction 9"),
             ("cycle 1 >ww:8> 2 >rw:1> 1", "the legend has no name for key 8"),
+            ("dangerous 1 >rw:1> 7 >rw:1> 2", "the legend has no name for transaction 7"),
         ):
             with self.subTest(line=line), self.assertRaisesRegex(BadInput, f"^{said}$"):
                 named_line(line, Names(LEGEND))
+        for line, said in (
+            ("saw: event 7 w1[1]", "the legend has no line for event 7"), ("saw: event 6 w9[1]", "the legend has no name for transaction 9"),
+            ("due: event 6 w1[3]", "the legend has no name for key 3"),
+        ):
+            with self.subTest(line=line), self.assertRaisesRegex(BadInput, f"^{said}$"):
+                told(reason_of(line), Names(LEGEND))
 
 
 class CommandTest(unittest.TestCase):
@@ -116,6 +166,10 @@ class CommandTest(unittest.TestCase):
             (LOST_UPDATE, five, "si-history: the legend is of another history: it has 5 events, and the report 6\n"),
             (LOST_UPDATE, lacking, "si-history: the legend has no name for transaction 2\n"),
             (LOST_UPDATE, "{", "si-history: L: the legend is not JSON\n"),
+            (
+                STALE.replace("stale read", "odd read"), None,
+                prefix + "line 4: this is no report: no report explains a finding by the line 'odd read: event 5 r4[1..2;1:0]; transact..'\n",
+            ),
         ):
             with self.subTest(said=said):
                 self.assertEqual(self.run_names(report, legend), (2, "", said))

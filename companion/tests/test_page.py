@@ -13,7 +13,7 @@ from xml.etree import ElementTree
 
 from si_history.document import html, picture
 from si_history.facts import Facts
-from si_history.findings import Finding, Group, groups_of
+from si_history.findings import Finding, Group, Kind, groups_of
 from si_history.history import parse
 from si_history.legend import Legend
 from si_history.naming import Names
@@ -35,7 +35,7 @@ def told(history: str, report: ReportText, legend: Legend | None = None) -> tupl
     names, facts, parsed = Names(legend), Facts(parse(history)), read_report(report)
     facts.check(parsed.counts)
     groups = groups_of(parsed, facts, names)
-    scene = scene_of(facts, parsed.cycle, groups, names)
+    scene = scene_of(facts, parsed.steps, groups, names)
     return groups, scene, html("h", parsed, groups, scene, names), picture(parsed, scene)
 
 
@@ -113,10 +113,51 @@ class ReasonsTest(unittest.TestCase):
         )
 
     def test_the_reports_own_reasons(self) -> None:
-        report = text_of(LOST_UPDATE.replace("bad-write 1 1 2\n", "bad-write 1 1 2\n  transaction 2 <b>late</b>\x07\n"))
-        page = told(LOST_UPDATE_HISTORY, report, Legend({1: "A", 2: "B"}, {1: "k"}, [1, 2, 3, 4, 5, 6]))[2]
-        self.assertIn("<li>transaction B &lt;b&gt;late&lt;/b&gt;\ufffd</li>", page)
+        report = ReportText.from_path(str(REPOSITORY / "examples" / "lost_update.explained"))
+        legend = Legend({1: "A", 2: "<b>"}, {1: "k"}, [11, 12, 13, 14, 15, 16])
+        (cycle, writes), _, page, _ = told(LOST_UPDATE_HISTORY, report, legend)
+        versions = 'event 3 (line 13) wA[k], event 5 (line 15) cA; event 4 (line 14) w"<b>"[k], event 6 (line 16) c"<b>"'
+        self.assertEqual(
+            only([writes]).reasons, (f'both write and overlap: transaction "<b>" starts after event 1 (line 11); {versions}',)
+        )
+        self.assertEqual(only([cycle]).reasons, (
+            f'A >ww:k> "<b>": {versions}',
+            '"<b>" >rw:k> A: event 2 (line 12) r"<b>"[k:0]; event 3 (line 13) wA[k], event 5 (line 15) cA',
+        ))
+        self.assertIn("<li>A &gt;ww:k&gt; &quot;&lt;b&gt;&quot;: event 3 (line 13) wA[k], event 5 (line 15) cA;", page)
         self.assertNotIn("the first committer wins", page)
+
+    def test_a_dangerous_structure(self) -> None:
+        """Where there is no cycle the picture has the structure's edges."""
+        step = "1 >rw:1> 2: event 1 r1[1:0]; event 3 w2[1], event 6 c2", "2 >rw:2> 3: event 2 r2[2:0]; event 4 w3[2], event 5 c3"
+        report = lines(
+            "events 7 committed 3 aborted 0 open 0", "isolation kept", "ssi fail", "dangerous 1 >rw:1> 2 >rw:2> 3", *(f"  {it}" for it in step),
+            "serializable yes", "order 1 2 3",
+        )
+        groups, scene, page, _ = told("r1[1:0] r2[2:0] w2[1] w3[2] c3 c2 c1", report)
+        finding = only(groups)
+        self.assertEqual(finding.title, "1 → 2 → 3: two rw edges between overlapping transactions, and 3 committed first.")
+        self.assertEqual((finding.reasons, finding.transactions, finding.places), (step, (1, 2, 3), (1, 3, 2, 4)))
+        self.assertEqual([(link.source_place, link.target_place, link.label) for link in scene.links], [(1, 3, "rw 1"), (2, 4, "rw 2")])
+        self.assertIn("<h3>The dangerous structure</h3>", page)
+        self.assertIn("The ssi test fails", page)
+
+    def test_every_explained_example(self) -> None:
+        """The findings of an explained report are those of the report, with the explained report's lines for reasons."""
+        for path in sorted(REPOSITORY.glob("examples/**/*.explained")):
+            if path.stem.startswith("refused"):
+                continue
+            with self.subTest(path=path.name):
+                history, text = path.with_suffix(".history").read_text(), path.read_text()
+                groups = told(history, ReportText(text.encode()))[0]
+                others = told(history, ReportText.from_path(str(path.with_suffix(".report"))))[0]
+                listed = [(finding.kind, finding.title, finding.transactions, finding.places) for group in groups for finding in group.findings]
+                for group in others:
+                    if group.kind is not Kind.PIVOT:
+                        for finding in group.findings:
+                            self.assertIn((finding.kind, finding.title, finding.transactions, finding.places), listed)
+                reasons = [reason for group in groups for finding in group.findings for reason in finding.reasons]
+                self.assertEqual(sorted(reasons), sorted(line[2:] for line in text.splitlines() if line.startswith("  ")))
 
 
 class SceneTest(unittest.TestCase):

@@ -5,8 +5,10 @@ from __future__ import annotations
 import unittest
 
 from si_history.errors import BadInput
+from si_history.history import Commit, RangeRead, Write
 from si_history.report import (
-    BadRead, BadWrite, Counts, Cycle, Edge, EdgeKind, Order, Pivot, Unexplained, Verdict,
+    BadRead, BadWrite, Counts, Cycle, Edge, EdgeKind, Order, Pivot, Placed, ReadName, Reason, Role, Started, Unexplained, Verdict,
+    Version,
 )
 from si_history.report_text import ReportText, edges_in, read_report
 from tests.support import REPOSITORY
@@ -24,6 +26,26 @@ ssi fail
 serializable no
 cycle 1 >ww:1> 2 >rw:1> 1
 """
+
+EXPLAINED = [
+    "events 8 committed 3 aborted 0 open 0",
+    "isolation broken",
+    "bad-read 5 1 2 saw 2 due 3",
+    "  future read: event 5 r1[0..9;2:2]; transaction 1 starts after event 0",
+    "  saw: event 3 w2[2], event 4 c2",
+    "  due: event 1 w3[2], event 2 c3",
+    "bad-write 2 3 2",
+    "  both write and overlap: transaction 2 starts after event 7; event 1 w3[2], event 2 c3; event 3 w2[2], event 4 c2",
+    "unexplained 5 1 2 3",
+    "  uncommitted read: event 5 r1[0..9;2:2]; transaction 1 starts after event 0",
+    "  saw: event 1 w3[2]",
+    "ssi fail",
+    "serializable no",
+    "cycle 1 >wr:2> 2 >rw:1> 1",
+    "  1 >wr:2> 2: event 1 w3[2], event 2 c3; event 5 r1[0..9;2:2]; event 3 w2[2], event 4 c2",
+    "  2 >rw:1> 1: event 6 r2[1:0]; event 7 w1[1], event 8 c1",
+]
+"""Lines of reasons of each form. No history has just these."""
 
 PLAIN = ["events 0 committed 0 aborted 0 open 0", "isolation kept", "ssi pass", "serializable yes", "order"]
 
@@ -80,16 +102,52 @@ class ReadTest(unittest.TestCase):
         self.assertEqual(report.cycle, read_report(text_of(LOST_UPDATE)).cycle)
 
     def test_lines_that_explain(self) -> None:
-        text = LOST_UPDATE.replace("bad-write 1 1 2\n", "bad-write 1 1 2\n  c1 is event 5\n  it overlaps\n")
-        text = text.replace("edge 1 rw 2 1\n", "edge 1 rw 2 1\n  of an edge\n").replace("ssi fail\n", "ssi fail\n  by 2\n")
-        report = read_report(text_of(text + "  ww by key 1\n"))
-        self.assertEqual(report.bad_writes[0].reasons, ["c1 is event 5", "it overlaps"])
-        self.assertEqual((report.ssi.reasons, report.outcome.reasons), (["by 2"], ["ww by key 1"]))
-        self.assertEqual([pivot.reasons for pivot in report.pivots], [[], []])
+        report = read_report(lines(*EXPLAINED))
+        read = Placed(5, RangeRead(1, 0, 9, ((2, 2),)))
+        first, second = (Version(Placed(at, Write(t, k)), Placed(end, Commit(t))) for at, t, k, end in ((3, 2, 2, 4), (1, 3, 2, 2)))
+        named = Reason(ReadName.FUTURE_READ, (read, Started(1, 0)))
+        self.assertEqual(report.bad_reads[0].reasons, [named, Reason(Role.SAW, (first,)), Reason(Role.DUE, (second,))])
+        opened = Version(Placed(1, Write(3, 2)), None)
+        self.assertEqual(report.unexplained[0].reasons, [Reason(ReadName.UNCOMMITTED_READ, named.parts), Reason(Role.SAW, (opened,))])
+        self.assertEqual(report.bad_writes[0].reasons, [Reason(Role.BOTH_WRITE, (Started(2, 7), second, first))])
+        to, back = Edge(1, EdgeKind.WR, 2, 2), Edge(2, EdgeKind.RW, 1, 1)
+        assert report.cycle is not None
+        self.assertEqual((report.cycle.steps, [reason.head for reason in report.cycle.reasons]), ((to, back), [to, back]))
+        self.assertEqual(report.cycle.reasons[0].parts, (second, read, first))
+        self.assertEqual((report.structure, report.steps), (None, (to, back)))
+
+    def test_a_dangerous_structure(self) -> None:
+        text = ReportText.from_path(str(REPOSITORY / "examples" / "read_only_anomaly.explained"))
+        report = read_report(text)
+        assert report.structure is not None
+        self.assertEqual(report.structure.steps, (Edge(3, EdgeKind.RW, 2, 1), Edge(2, EdgeKind.RW, 1, 2)))
+        self.assertEqual(report.structure.transactions, (3, 2, 1))
+        self.assertEqual([reason.head for reason in report.structure.reasons], list(report.structure.steps))
+        bare = read_report(lines(*PLAIN[:2], "ssi fail", "dangerous 3 >rw:1> 2 >rw:2> 1", *PLAIN[3:]))
+        assert bare.structure is not None
+        self.assertEqual((bare.structure.steps, bare.structure.reasons), (report.structure.steps, []))
+        self.assertEqual((bare.cycle, bare.steps), (None, report.structure.steps))
+
+    def test_every_explained_example(self) -> None:
+        """An explained report says what the report says, and each line with two spaces is a reason somewhere."""
+        for path in sorted(REPOSITORY.glob("examples/**/*.explained")):
+            if path.stem.startswith("refused"):
+                continue
+            with self.subTest(path=path.name):
+                text = path.read_text()
+                report = read_report(ReportText(text.encode()))
+                brief = read_report(ReportText.from_path(str(path.with_suffix(".report"))))
+                explained = [*report.bad_reads, *report.bad_writes, *report.unexplained]
+                explained += [each for each in (report.structure, report.cycle) if each is not None]
+                self.assertEqual(sum(len(each.reasons) for each in explained), text.count("\n  "))
+                for each in explained:
+                    each.reasons.clear()
+                brief.edge_count, brief.pivots, brief.structure = 0, [], report.structure
+                self.assertEqual(report, brief)
 
     def test_every_example(self) -> None:
         """Each report under examples is read, and its counts and its kind of outcome are those of its lines."""
-        paths = [path for path in sorted(REPOSITORY.glob("examples/**/*.report")) if path.stem != "refused"]
+        paths = [path for path in sorted(REPOSITORY.glob("examples/**/*.report")) if not path.stem.startswith("refused")]
         self.assertGreater(len(paths), 8)
         for path in paths:
             with self.subTest(path=path.name):
@@ -124,6 +182,24 @@ class RefusedTest(unittest.TestCase):
         self.check(lines("refused: text too long"), "r: the auditor refused the history and made no report (the text was too long)")
         self.check(lines("refused: nonsense \x1b[31m"), "r: this is no report, and no refusal either")
 
+    def test_an_explained_refusal(self) -> None:
+        line = "refused: token 7: bad event"
+        self.check(
+            lines(line, r"  line 3, column 5: r2[cl\xc3\xa9:1]"),
+            "r: the auditor refused the history and made no report"
+            r" (at event 7, in line 3 from column 5: bad event: r2[cl\xc3\xa9:1])",
+        )
+        for below in (
+            ["line 3, column 5: x"], ["  line 3, column 5: "], ["  line 0, column 5: x"], ["  line 3, column 5: x\x1b"],
+            [r"  line 3, column 5: \xC3"], [r"  line 3, column 5: \n"], ["  line 3: x"], ["  line 1, column 1: x"] * 2, PLAIN,
+        ):
+            with self.subTest(below=below):
+                self.check(lines(line, *below), "r: this is no report, and no refusal either")
+        self.check(lines("refused: text too long", "  line 1, column 1: x"), "r: this is no report, and no refusal either")
+        for path in sorted(REPOSITORY.glob("examples/refused*.explained")):
+            with self.subTest(path=path.name), self.assertRaisesRegex(BadInput, "in line [13] from column [15]: "):
+                read_report(ReportText.from_path(str(path)))
+
     def test_lines_that_are_missing_or_doubled(self) -> None:
         self.check(lines(*PLAIN[:-1]), "r: line 4: this is no report: it ends before its line 'order ..'")
         self.check(lines(*PLAIN[:2], *PLAIN[3:]), "r: line 3: this is no report: a line 'ssi ..' must stand before this one")
@@ -152,6 +228,37 @@ class RefusedTest(unittest.TestCase):
         ):
             with self.subTest(line=line), self.assertRaisesRegex(BadInput, "^r: line 3: this is no report: "):
                 read_report(lines(*PLAIN[:2], line, *PLAIN[2:]))
+
+    def test_reasons_that_explain_nothing(self) -> None:
+        """A line of reasons that no explained report has, or not there."""
+        version, read = "event 3 w2[2], event 4 c2", "event 5 r1[2:2]"
+        for at, line in (
+            (1, f"  saw: {version}"), (2, f"  saw: {version}"), (3, EXPLAINED[3]), (3, f"  due: {version}; {version}"), (3, "  saw: "),
+            (3, "  saw: event 3 w2[2], event 4 c9"), (3, f"  saw: {read}"), (3, "  saw: event 3 w2[2],event 4 c2"), (3, "  saw: event 3 w2[2], "),
+            (3, "   saw: event 3 w2[2]"), (3, "  saw: event 3 w2[2] "), (3, "  seen: event 3 w2[2]"), (3, "  saw: event x w2[2]"),
+            (3, "  saw: event 3 w02[2]"), (3, "  saw: event 03 w2[2]"), (3, f"  saw: event {'9' * 21} w2[2]"), (4, f"  saw: {version}"),
+            (5, f"  due: {version}"), (2, f"  stale read: {read}"), (2, f"  stale read: transaction 1 starts after event 0; {read}"),
+            (2, f"  odd read: {read}; transaction 1 starts after event 0"), (2, "  stale read: event 5 w1[2]; transaction 1 starts after event 0"),
+            (2, "  stale read: event 5 r1[0..9;2:2,3:2]; transaction 1 starts after event 0"), (7, EXPLAINED[7]), (6, "  1 >ww:2> 2: " + version),
+            (8, "  " + version), (13, EXPLAINED[15]), (13, f"  1 >wr:2> 2: {version}"), (13, f"  1 >wr:2> 2: {read}; {version}"),
+            (13, f"  1 >xx:2> 2: {version}; {read}"), (13, f"  1 >wr:2>: {version}; {read}"), (15, EXPLAINED[15]),
+        ):
+            with self.subTest(at=at, line=line), self.assertRaisesRegex(BadInput, f"^r: line {at + 2}: this is no report: "):
+                read_report(lines(*EXPLAINED[: at + 1], line, *EXPLAINED[at + 1 :]))
+        self.check(lines(*EXPLAINED[:-1]), "r: line 15: this is no report: of the steps above some are explained and some are not")
+
+    def test_faulty_structures(self) -> None:
+        for at, line in (
+            (3, "dangerous"), (3, "dangerous 1 >rw:1> 2"), (3, "dangerous 1 >rw:1> 2 >wr:1> 3"), (3, "dangerous 1 >rw:1> 2 >rw:1> 3 >rw:1> 1"),
+            (3, "dangerous 1 >rw:1> x >rw:1> 3"), (2, "dangerous 1 >rw:1> 2 >rw:1> 3"), (4, "dangerous 1 >rw:1> 2 >rw:1> 3"),
+        ):
+            with self.subTest(line=line), self.assertRaisesRegex(BadInput, f"^r: line {at + 1}: this is no report: "):
+                head = [*PLAIN[:2], "ssi fail", *PLAIN[3:]]
+                read_report(lines(*head[:at], line, *head[at:]))
+        structure = "dangerous 1 >rw:1> 2 >rw:1> 3"
+        for words in ([*PLAIN[:3], structure], [PLAIN[0], "isolation broken", "ssi fail", structure], [*PLAIN[:2], "ssi fail", *[structure] * 2]):
+            with self.subTest(words=words), self.assertRaisesRegex(BadInput, f"^r: line {len(words)}: this is no report: a line 'dangerous"):
+                read_report(lines(*words, *PLAIN[3:]))
 
     def test_faulty_edges_are_told_when_they_are_wanted(self) -> None:
         for line in ("edge 1 ww 2", "edge 1 xx 2 1", "edge 01 ww 2 1", "edge 1 ww 2 1 ", f"edge 1 ww 2 {'9' * 21}"):

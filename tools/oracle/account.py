@@ -1,6 +1,6 @@
 """All that a report tells of a history, and the lines that tell it."""
 
-from collections.abc import Iterator
+from collections.abc import Iterable, Iterator
 from dataclasses import dataclass
 from typing import NamedTuple
 
@@ -17,11 +17,19 @@ class BadRead(NamedTuple):
     saw: int
     due: int
 
+    @property
+    def line(self) -> str:
+        return f"bad-read {self.place} {self.txn} {self.key} saw {self.saw} due {self.due}"
+
 
 class BadWrite(NamedTuple):
     key: int
     first: int
     second: int
+
+    @property
+    def line(self) -> str:
+        return f"bad-write {self.key} {self.first} {self.second}"
 
 
 class Unexplained(NamedTuple):
@@ -29,6 +37,10 @@ class Unexplained(NamedTuple):
     key: int
     txn: int
     saw: int
+
+    @property
+    def line(self) -> str:
+        return f"unexplained {self.place} {self.txn} {self.key} {self.saw}"
 
 
 class Edge(NamedTuple):
@@ -38,6 +50,15 @@ class Edge(NamedTuple):
     target: int
     kind: int
     key: int
+
+    @property
+    def line(self) -> str:
+        return f"edge {self.source} {KINDS[self.kind]} {self.target} {self.key}"
+
+    @property
+    def arrow(self) -> str:
+        """What stands between the two transactions where edges are told one after another."""
+        return f">{KINDS[self.kind]}:{self.key}>"
 
 
 class Pivot(NamedTuple):
@@ -86,26 +107,39 @@ class Account:
 
     def lines(self, brief: bool = False) -> Iterator[str]:
         """The lines of the report. A brief one has none of edges and pivots."""
+        yield from self.head()
+        yield from (it.line for it in self.bad_reads)
+        yield from (it.line for it in self.bad_writes)
+        yield from (it.line for it in self.unexplained)
+        if not brief:
+            yield from (it.line for it in self.edges)
+            yield from map(pivot_line, self.pivots)
+        yield self.ssi_line
+        yield self.serializable_line
+        yield last_line(self)
+
+    def head(self) -> Iterator[str]:
+        """The first two lines."""
         counts = self.counts
         yield f"events {counts.events} committed {counts.committed} aborted {counts.aborted} open {counts.open}"
         yield f"isolation {'kept' if self.is_kept else 'broken'}"
-        for read in self.bad_reads:
-            yield f"bad-read {read.place} {read.txn} {read.key} saw {read.saw} due {read.due}"
-        for write in self.bad_writes:
-            yield f"bad-write {write.key} {write.first} {write.second}"
-        for it in self.unexplained:
-            yield f"unexplained {it.place} {it.txn} {it.key} {it.saw}"
-        if not brief:
-            for source, target, kind, key in self.edges:
-                yield f"edge {source} {KINDS[kind]} {target} {key}"
-            yield from map(pivot_line, self.pivots)
-        yield f"ssi {'pass' if self.passes else 'fail'}"
-        yield f"serializable {'yes' if self.is_serializable else 'no'}"
-        yield last_line(self)
+
+    @property
+    def ssi_line(self) -> str:
+        return f"ssi {'pass' if self.passes else 'fail'}"
+
+    @property
+    def serializable_line(self) -> str:
+        return f"serializable {'yes' if self.is_serializable else 'no'}"
 
     def report(self, brief: bool = False) -> bytes:
         """The report, byte for byte."""
-        return "".join(f"{line}\n" for line in self.lines(brief)).encode()
+        return bytes_of(self.lines(brief))
+
+
+def bytes_of(lines: Iterable[str]) -> bytes:
+    """The lines, each with its end."""
+    return "".join(f"{line}\n" for line in lines).encode()
 
 
 def pivot_line(pivot: Pivot) -> str:
@@ -118,5 +152,5 @@ def last_line(account: Account) -> str:
     """The line of the order, or that of the cycle."""
     if account.order is not None:
         return " ".join(map(str, ["order", *account.order]))
-    steps = "".join(f" >{KINDS[it.kind]}:{it.key}> {it.target}" for it in account.cycle)
+    steps = "".join(f" {it.arrow} {it.target}" for it in account.cycle)
     return f"cycle {account.cycle[0].source}{steps}"

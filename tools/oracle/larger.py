@@ -5,6 +5,7 @@ from random import Random
 
 from histories import Store, interleave
 
+from oracle import spelling
 from oracle.events import MAX_KEY
 from oracle.store import HABITS, ErringStore, Habits, ids, keys
 
@@ -176,12 +177,10 @@ KINDS: dict[str, Callable[[Random], list[str]]] = {
     "most_edges": most_edges,
 }
 
-FAULTY = ("x", "r1[9..3]", "r01[1:0]", "w0[1]", "b4294967296", "r1[0..5;]", "r1[0..9;5:0,4:0]", "b1@4294967296")
-
 
 def text_of(kind: str, rng: Random) -> bytes:
     """A text of this kind. Some have a token that is no event."""
     events = list(KINDS[kind](rng))
     if rng.random() < 0.04:
-        events.insert(rng.randint(0, len(events)), rng.choice(FAULTY))
-    return rng.choice((" ", "\n", "\r\n")).join(events).encode()
+        events.insert(rng.randint(0, len(events)), spelling.faulty(rng))
+    return spelling.text_of(rng, events)

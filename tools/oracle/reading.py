@@ -3,17 +3,25 @@
 import re
 from dataclasses import dataclass, field
 
+from oracle.account import bytes_of
 from oracle.events import MAX_EVENTS, Event, Form, event_of
 
 MAX_BYTES = 16_777_216
-SEPARATORS = re.compile(rb"[ \t\r\n]+")
+TOKEN = re.compile(rb"[^ \t\r\n]+")
+MOST_SHOWN = 60
 
 
 @dataclass(frozen=True)
 class Refusal:
-    """The refusal line of a text."""
+    """The refusal line of a text, and where its faulty token stands, which the explained report has below that line."""
 
     line: str
+    where: str | None = None
+
+    def report(self, explained: bool = False) -> bytes:
+        """The report of the text, byte for byte."""
+        lines = [self.line, f"  {self.where}"] if explained and self.where is not None else [self.line]
+        return bytes_of(lines)
 
 
 @dataclass
@@ -69,10 +77,21 @@ def read(text: bytes) -> list[Event] | Refusal:
     if len(text) > MAX_BYTES:
         return Refusal("refused: text too long")
     reader = Reader()
-    for number, token in enumerate(filter(None, SEPARATORS.split(text)), 1):
-        event = event_of(token)
+    for number, found in enumerate(TOKEN.finditer(text), 1):
+        event = event_of(found[0])
         reason = reader.reason(event)
         if event is None or reason is not None:
-            return Refusal(f"refused: token {number}: {reason}")
+            return Refusal(f"refused: token {number}: {reason}", where(text[: found.start()], found[0]))
         reader.add(event)
     return reader.events
+
+
+def where(before: bytes, token: bytes) -> str:
+    """Where a token stands of which this is the text before it, and what it is."""
+    lines = before.split(b"\n")
+    return f"line {len(lines)}, column {len(lines[-1]) + 1}: {shown(token[:MOST_SHOWN])}"
+
+
+def shown(token: bytes) -> str:
+    """The bytes of a token, with each that isn't printable ASCII, and each backslash, by its number."""
+    return "".join(chr(it) if 0x21 <= it <= 0x7E and it != 0x5C else f"\\x{it:02x}" for it in token)

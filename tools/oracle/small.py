@@ -2,13 +2,13 @@
 
 from random import Random
 
+from oracle import spelling
 from oracle.events import MAX_KEY, MAX_TXN, Form, event_of
 from oracle.reading import Reader
 from oracle.trying import History
 
 KEYS = ([1, 2], [1, 2, 3], [0, 5, 6, MAX_KEY], [10, 11, 12, 20])
 IDS = (range(1, 7), [3, 70, 1_048_576, 1_048_577, 2**31, MAX_TXN])
-FAULTY = ("x", "r1[9..3]", "r01[1:0]", "w0[1]", "b4294967296", "r1[0..5;]", "c", "r1[1:0", "b1@4294967296")
 
 
 class Maker:
@@ -53,7 +53,7 @@ class Maker:
         rng = self.rng
         txn, key, share = rng.choice(self.ids), rng.choice(self.keys), rng.random()
         is_due = honest or rng.random() < 0.6
-        if share < 0.35:
+        if share < 0.28:
             return f"r{txn}[{key}:{self.version(txn, key, is_due)}]"
         if share < 0.45:
             return self.range_read(txn, is_due)
@@ -65,17 +65,27 @@ class Maker:
             return f"b{txn}@{rng.randint(0, len(self.reader.events) + rng.randint(0, 1))}"
         return f"c{txn}" if share < 0.96 else f"a{txn}"
 
+    def add_past(self) -> None:
+        """Adds some transactions that mostly wrote and committed before all others start, one after another."""
+        for txn in self.ids[:-1][: self.rng.randint(1, 3)]:
+            for key in self.rng.sample(self.keys, self.rng.randint(1, 2)):
+                self.add(f"w{txn}[{key}]")
+            if self.rng.random() < 0.9:
+                self.add(f"{self.rng.choice('ccccca')}{txn}")
+
     def text(self) -> bytes:
-        """The text, of up to 24 tokens and some commits."""
+        """The text, of up to 24 tokens, perhaps a past before them, and some commits."""
         honest = self.rng.random() < 0.5
+        if self.rng.random() < 0.4:
+            self.add_past()
         for _ in range(self.rng.randint(0, 24)):
             self.add(self.token(honest))
         if self.rng.random() < 0.5:
             for txn in self.ids:
                 self.add(f"c{txn}")
         if self.rng.random() < 0.03:
-            self.tokens.insert(self.rng.randint(0, len(self.tokens)), self.rng.choice(FAULTY))
-        return self.rng.choice((" ", "\n", " \t", "\r\n")).join(self.tokens).encode()
+            self.tokens.insert(self.rng.randint(0, len(self.tokens)), spelling.faulty(self.rng))
+        return spelling.text_of(self.rng, self.tokens)
 
 
 def text_of(rng: Random) -> bytes:

@@ -3,16 +3,24 @@
     PYTHONPATH=tools python3 -m unittest oracle.tests
 """
 
+import re
 import unittest
+from collections import Counter
+from itertools import takewhile
+from pathlib import Path
 from random import Random
 
 import hard
-from oracle import larger, narrow, small, taking, trying
-from oracle.account import LEVELS, RW, WR, WW, Account, Edge
+from oracle import explaining, larger, narrow, small, taking, trying
+from oracle.account import LEVELS, RW, SERIALIZABLE, WR, WW, Account, Edge
 from oracle.events import Event
 from oracle.reading import Refusal, read
+from oracle.runs import Case, Form, Line
 from oracle.tables import Tables
+from oracle.tally import REASONS, shapes_of
 
+ROOT = Path(__file__).resolve().parents[2]
+EXAMPLES, PAGE = ROOT / "examples", ROOT / "docs" / "FORMAT.md"
 WAYS = (trying.account_of, taking.account_of)
 
 
@@ -20,6 +28,12 @@ def events_of(text: str) -> list[Event]:
     events = read(text.encode())
     assert not isinstance(events, Refusal), events.line
     return events
+
+
+def refusal_of(text: bytes) -> Refusal:
+    refusal = read(text)
+    assert isinstance(refusal, Refusal), text
+    return refusal
 
 
 class Reports(unittest.TestCase):
@@ -159,16 +173,225 @@ class Refusals(unittest.TestCase):
             ("r1[5:2] w2[5]", "token 1: version not written"),
             ("c1 b2@2", "token 2: start too late"),
         ):
-            self.assertEqual(read(text.encode()), Refusal(f"refused: {line}"), text)
+            self.assertEqual(refusal_of(text.encode()).line, f"refused: {line}", text)
+
+    def test_where(self) -> None:
+        for text, where in (
+            (b"r01[1:0]", r"line 1, column 1: r01[1:0]"),
+            (b"r1[5:2] w2[5]", r"line 1, column 1: r1[5:2]"),
+            (b"w1[7] c1\nr2[7:1]\n\tx c2", r"line 3, column 2: x"),
+            (b"\n\nx", r"line 3, column 1: x"),
+            (b"b1\r\n c1\r\n b1", r"line 3, column 2: b1"),
+            (b"b1 \r \tx\nx", r"line 1, column 7: x"),
+            (b"b1 r1[cl\xc3\xa9:0]", r"line 1, column 4: r1[cl\xc3\xa9:0]"),
+            (b"\x00\x0b\x1f!~\x7f\x80\xff", r"line 1, column 1: \x00\x0b\x1f!~\x7f\x80\xff"),
+            (b"\\x41", r"line 1, column 1: \x5cx41"),
+            (b"\xc3\xa9 x", r"line 1, column 1: \xc3\xa9"),
+            (b"b1 \xc3\xa9\n" + 60 * b"y", r"line 1, column 4: \xc3\xa9"),
+            (60 * b"y", "line 1, column 1: " + 60 * "y"),
+            (59 * b"y" + b"\\\\", "line 1, column 1: " + 59 * "y" + r"\x5c"),
+            (b"c1 " + 61 * b"\xff", "line 1, column 4: " + 60 * r"\xff"),
+        ):
+            refusal = refusal_of(text)
+            self.assertEqual(refusal.where, where, text)
+            self.assertEqual(refusal.report(explained=True), f"{refusal.line}\n  {where}\n".encode())
+            self.assertEqual(refusal.report(), f"{refusal.line}\n".encode())
 
     def test_too_long(self) -> None:
         self.assertEqual(read(b" " * 16_777_216), [])
-        self.assertEqual(read(b" " * 16_777_217), Refusal("refused: text too long"))
+        refusal = refusal_of(b" " * 16_777_217)
+        self.assertEqual(refusal.report(), b"refused: text too long\n")
+        self.assertEqual(refusal.report(explained=True), b"refused: text too long\n")
 
     def test_too_many_events(self) -> None:
         text = "r1[1:0] " * 100_000
         self.assertEqual(len(events_of(text)), 100_000)
-        self.assertEqual(read(f"{text}x".encode()), Refusal("refused: token 100001: too many events"))
+        refusal = refusal_of(f"{text}x".encode())
+        self.assertEqual(refusal, Refusal("refused: token 100001: too many events", "line 1, column 800001: x"))
+
+
+class Explained(unittest.TestCase):
+    """What docs/FORMAT.md says of the explained report of a text, and more worked out from its rules by hand."""
+
+    def lines(self, text: str) -> list[str]:
+        events = events_of(text)
+        return explaining.report(events, taking.account_of(events)).decode().splitlines()
+
+    def assert_below(self, text: str, line: str, *wanted: str) -> None:
+        """Exactly these lines stand below a line of the report, each after two spaces."""
+        lines = self.lines(text)
+        below = lines[lines.index(line) + 1 :]
+        reasons = list(takewhile(lambda it: it.startswith("  "), below))
+        self.assertEqual(reasons, [f"  {it}" for it in wanted])
+
+    def test_the_other_lines_are_those_of_the_brief_report(self) -> None:
+        for number in range(300):
+            events = read(small.text_of(Random(f"explained {number}")))
+            if isinstance(events, Refusal):
+                continue
+            account = taking.account_of(events)
+            lines = explaining.report(events, account).decode().splitlines()
+            others = [it for it in lines if not it.startswith(("  ", "dangerous "))]
+            self.assertEqual(others, list(account.lines(brief=True)))
+
+    def test_own_write_missed(self) -> None:
+        read = "own write missed: event 2 r1[1:0]; transaction 1 starts after event 0"
+        self.assert_below("w1[1] r1[1:0] c1", "bad-read 2 1 1 saw 0 due 1", read, "due: event 1 w1[1], event 3 c1")
+        self.assert_below("w1[1] r1[1:0] c1", "unexplained 2 1 1 0", read, "due: event 1 w1[1], event 3 c1")
+        self.assert_below(
+            "w1[1] w2[1] r2[1:1] a1",
+            "bad-read 3 2 1 saw 1 due 2",
+            "own write missed: event 3 r2[1:1]; transaction 2 starts after event 1",
+            "saw: event 1 w1[1], event 4 a1",
+            "due: event 2 w2[1]",
+        )
+        ranged = "own write missed: event 3 r1[0..9]; transaction 1 starts after event 0"
+        self.assert_below("w1[5] w1[5] r1[0..9] c1", "bad-read 3 1 5 saw 0 due 1", ranged, "due: event 1 w1[5], event 4 c1")
+
+    def test_aborted_read(self) -> None:
+        read, saw = "aborted read: event 2 r2[1:1]; transaction 2 starts after event 1", "saw: event 1 w1[1], event 4 a1"
+        self.assert_below("w1[1] r2[1:1] c2 a1", "bad-read 2 2 1 saw 1 due 0", read, saw)
+        self.assert_below("w1[1] r2[1:1] c2 a1", "unexplained 2 2 1 1", read, saw)
+
+    def test_uncommitted_read(self) -> None:
+        read = "uncommitted read: event 2 r2[1:1]; transaction 2 starts after event 1"
+        self.assert_below("w1[1] r2[1:1] c2", "bad-read 2 2 1 saw 1 due 0", read, "saw: event 1 w1[1]")
+
+    def test_future_read(self) -> None:
+        self.assert_below(
+            "r1[1:0] w2[1] w2[2] c2 r1[2:2] c1",
+            "bad-read 5 1 2 saw 2 due 0",
+            "future read: event 5 r1[2:2]; transaction 1 starts after event 0",
+            "saw: event 3 w2[2], event 4 c2",
+        )
+        # The version is committed right behind the start, and before the read's own transaction begins.
+        self.assert_below(
+            "w1[1] c1 b2@1 r2[1:1]",
+            "bad-read 4 2 1 saw 1 due 0",
+            "future read: event 4 r2[1:1]; transaction 2 starts after event 1",
+            "saw: event 1 w1[1], event 2 c1",
+        )
+
+    def test_phantom(self) -> None:
+        self.assert_below(
+            "w1[12] w1[15] c1 r2[10..20;12:1] c2",
+            "bad-read 4 2 15 saw 0 due 1",
+            "phantom: event 4 r2[10..20]; transaction 2 starts after event 3",
+            "due: event 2 w1[15], event 3 c1",
+        )
+
+    def test_stale_read(self) -> None:
+        self.assert_below(
+            "w1[1] c1 w2[1] c2 w3[1] c3 r4[1:2] c4",
+            "bad-read 7 4 1 saw 2 due 3",
+            "stale read: event 7 r4[1:2]; transaction 4 starts after event 6",
+            "saw: event 3 w2[1], event 4 c2",
+            "due: event 5 w3[1], event 6 c3",
+        )
+        # A key that is listed at version 0 is no phantom, and the other pair is left out.
+        self.assert_below(
+            "w1[5] w1[7] c1 r2[0..9;5:0,7:1] c2",
+            "bad-read 4 2 5 saw 0 due 1",
+            "stale read: event 4 r2[0..9;5:0]; transaction 2 starts after event 3",
+            "due: event 1 w1[5], event 3 c1",
+        )
+
+    def test_the_table_of_the_page(self) -> None:
+        rows = re.findall(r"^\| `([a-z ]+)` \| `([^`]+)` \| `([^|]+)` \|$", PAGE.read_text(), re.MULTILINE)
+        self.assertEqual([name for name, _, _ in rows], list(explaining.NAMES))
+        for name, text, reasons in rows:
+            (line,) = (it for it in self.lines(text) if it.startswith("bad-read "))
+            self.assertTrue(reasons.startswith(f"{name}: "))
+            self.assert_below(text, line, *reasons.split("` <br> `"))
+
+    def test_bad_write(self) -> None:
+        self.assert_below(
+            "r2[1:0] w1[1] w1[1] w2[1] c1 c2",
+            "bad-write 1 1 2",
+            "both write and overlap: transaction 2 starts after event 0; event 2 w1[1], event 5 c1; event 4 w2[1], event 6 c2",
+        )
+
+    def test_steps(self) -> None:
+        self.assert_below(
+            "r1[1:0] r2[1:0] w1[1] w2[1] c1 c2",
+            "cycle 1 >ww:1> 2 >rw:1> 1",
+            "1 >ww:1> 2: event 3 w1[1], event 5 c1; event 4 w2[1], event 6 c2",
+            "2 >rw:1> 1: event 2 r2[1:0]; event 3 w1[1], event 5 c1",
+        )
+        self.assert_below(
+            "r3[2:0] w1[1] w1[2] c1 w2[1] c2 r3[1:2] c3",
+            "cycle 1 >wr:1> 3 >rw:2> 1",
+            "1 >wr:1> 3: event 2 w1[1], event 4 c1; event 7 r3[1:2]; event 5 w2[1], event 6 c2",
+            "3 >rw:2> 1: event 1 r3[2:0]; event 3 w1[2], event 4 c1",
+        )
+
+    def test_the_first_sight_that_makes_the_edge(self) -> None:
+        self.assert_below(
+            "w1[1] c1 w2[1] c2 r3[1:2] r3[1:1] r3[1:1] c3",
+            "cycle 2 >wr:1> 3 >rw:1> 2",
+            "2 >wr:1> 3: event 3 w2[1], event 4 c2; event 5 r3[1:2]",
+            "3 >rw:1> 2: event 6 r3[1:1]; event 1 w1[1], event 2 c1; event 3 w2[1], event 4 c2",
+        )
+        # 2 sees of key 1 the version of 4, which aborts, then its own, and then that of 1; of key 2 that of 5, which stays open.
+        self.assert_below(
+            "w4[1] w5[2] r2[1:4] a4 r2[2:5] r2[2:0] w2[1] r2[1:2] w1[1] w1[2] r2[1:1] c1 c2",
+            "cycle 1 >ww:1> 2 >rw:2> 1",
+            "1 >ww:1> 2: event 9 w1[1], event 12 c1; event 7 w2[1], event 13 c2",
+            "2 >rw:2> 1: event 6 r2[2:0]; event 10 w1[2], event 12 c1",
+        )
+
+    def test_dangerous(self) -> None:
+        text = "r1[1:0] r2[2:0] w2[1] w3[2]"
+        lines = "1 >rw:1> 2: event 1 r1[1:0]; event 3 w2[1], event 6 c2", "2 >rw:2> 3: event 2 r2[2:0]; event 4 w3[2], event 5 c3"
+        self.assert_below(f"{text} c3 c2 c1", "dangerous 1 >rw:1> 2 >rw:2> 3", *lines)
+        kept = self.lines(f"{text} c3 c2 c1")
+        self.assertEqual(kept[2:4], ["ssi fail", "dangerous 1 >rw:1> 2 >rw:2> 3"])
+        self.assertEqual(kept[6:], ["serializable yes", "order 1 2 3"])
+        # No such line where no T3 is first, nor where isolation was broken.
+        for other in (f"{text} c1 c3 c2", "r1[1:0] r2[1:0] w1[1] w2[1] c1 c2"):
+            self.assertFalse([it for it in self.lines(other) if it.startswith("dangerous")], other)
+
+    def test_which_dangerous_structure(self) -> None:
+        # 1 commits before 4 and so can't stand before it in a structure; 5 comes after 4. Keys 1 and 3 are the least ones.
+        text = "r1[1:0] r5[1:0] r5[2:0] r3[3:0] r3[4:0] w3[1] w3[2] w4[4] w4[3] c1 c4 c3 c5"
+        self.assert_below(
+            text,
+            "dangerous 5 >rw:1> 3 >rw:3> 4",
+            "5 >rw:1> 3: event 2 r5[1:0]; event 6 w3[1], event 12 c3",
+            "3 >rw:3> 4: event 4 r3[3:0]; event 9 w4[3], event 11 c4",
+        )
+
+    def test_what_small_texts_show(self) -> None:
+        shown: Counter[str] = Counter()
+        for number in range(2000):
+            text = small.text_of(Random(f"shown {number}"))
+            events = read(text)
+            case = Case(text, events, events if isinstance(events, Refusal) else taking.account_of(events))
+            shown.update(set(shapes_of(case.explained)))
+        self.assertEqual([it for it in REASONS if not shown[it]], [])
+
+
+class Examples(unittest.TestCase):
+    """The reports and the explained reports of the examples, which were written by hand."""
+
+    def test_reports(self) -> None:
+        texts = sorted(EXAMPLES.rglob("*.history"))
+        self.assertGreaterEqual(len(texts), 21)
+        for path in texts:
+            text = path.read_bytes()
+            events = read(text)
+            case = Case(text, events, events if isinstance(events, Refusal) else taking.account_of(events))
+            for suffix, form in ((".report", Form.FULL), (".explained", Form.EXPLAINED)):
+                with self.subTest(path=path.name, form=form.name):
+                    report, status = case.wanted(Line(1, [], form, SERIALIZABLE))
+                    self.assertEqual(report, path.with_suffix(suffix).read_bytes())
+                    kept = path.with_suffix(".status")
+                    self.assertEqual(status, int(kept.read_text()) if kept.exists() else 0)
+
+    def test_each_name_has_an_example(self) -> None:
+        lines = [line for path in EXAMPLES.glob("*.explained") for line in path.read_text().splitlines()]
+        for name in explaining.NAMES:
+            self.assertTrue(any(it.startswith(f"  {name}: ") for it in lines), name)
 
 
 class NarrowEdges(unittest.TestCase):

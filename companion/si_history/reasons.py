@@ -1,0 +1,78 @@
+"""A line of an explained report that explains the line above it, read."""
+
+from __future__ import annotations
+
+import re
+
+from si_history.errors import BadInput
+from si_history.history import Abort, Commit, RangeRead, Read, Write, event_of
+from si_history.report import (
+    BadRead, BadWrite, Cycle, Edge, EdgeKind, Explained, Placed, ReadName, Reason, Role, Started, Structure, Unexplained, Version,
+)
+from si_history.report_words import Malformed, number_of, short, step_of
+
+_HEADS: dict[str, ReadName | Role] = {name.value: name for name in ReadName} | {role.value: role for role in Role}
+_STARTED = re.compile("transaction ([0-9]+) starts after event ([0-9]+)")
+_EVENT = re.compile("event ([0-9]+) ([a-z][^ ]*)")
+
+# The parts that a line may have: a read, a version, or a start.
+_LETTERS = {Placed: "R", Version: "V", Started: "S"}
+_SHAPES = {
+    Role.SAW: "V", Role.DUE: "V", Role.BOTH_WRITE: "SVV", EdgeKind.WW: "VV", EdgeKind.WR: "VRV?", EdgeKind.RW: "RV?V",
+} | {name: "RS" for name in ReadName}
+
+
+def reason_of(line: str) -> Reason:
+    """The reason that a line gives; the two spaces before it are left out. Raises Malformed where it gives none."""
+    start, _, rest = line.partition(": ")
+    try:
+        head = _HEADS.get(start) or _step(start.split(" "))
+        parts = tuple(map(_part, rest.split("; ")))
+    except (Malformed, BadInput):
+        raise Malformed(f"no report explains a finding by the line {short(line)}") from None
+    shape = _SHAPES[head.kind if isinstance(head, Edge) else head]
+    if not re.fullmatch(shape, "".join(_LETTERS[type(part)] for part in parts)):
+        raise Malformed(f"what stands behind '{start}:' is not what an explained report has there")
+    return Reason(head, parts)
+
+
+def _step(words: list[str]) -> Edge:
+    if len(words) != 3:
+        raise Malformed("no step")
+    return step_of(words[0], words[1], words[2])
+
+
+def _part(text: str) -> Placed | Version | Started:
+    if found := _STARTED.fullmatch(text):
+        return Started(number_of(found[1]), number_of(found[2]))
+    placed = [_placed(each) for each in text.split(", ")]
+    match placed:
+        case [Placed(event=Read() | RangeRead(listed=() | (_,)))]:
+            return placed[0]
+        case [Placed(event=Write())]:
+            return Version(placed[0], None)
+        case [Placed(event=Write() as write), Placed(event=Commit() | Abort() as end)] if write.transaction == end.transaction:
+            return Version(placed[0], placed[1])
+    raise Malformed("no read and no version")
+
+
+def _placed(text: str) -> Placed:
+    found = _EVENT.fullmatch(text)
+    if found is None:
+        raise Malformed("no event")
+    return Placed(number_of(found[1]), event_of(found[2], 1))
+
+
+def fits_below(finding: Explained, reason: Reason) -> bool:
+    """Whether the reason can be the next one below a finding."""
+    count = len(finding.reasons)
+    match finding:
+        case Cycle() | Structure():
+            return count < len(finding.steps) and reason.head == finding.steps[count]
+        case BadWrite():
+            return count == 0 and reason.head is Role.BOTH_WRITE
+        case BadRead() | Unexplained():
+            if count == 0:
+                return isinstance(reason.head, ReadName)
+            last = finding.reasons[-1].head
+            return isinstance(last, ReadName) and reason.head is Role.SAW or last is not Role.DUE and reason.head is Role.DUE

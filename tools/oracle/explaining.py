@@ -1,0 +1,149 @@
+"""The explained report: what stands below the lines of the brief one, as docs/FORMAT.md words it.
+
+The findings are those of an account. Each answer that is asked for here goes over all events of the history again: there is
+no table of them, and no search.
+"""
+
+from collections.abc import Iterable, Iterator
+
+from oracle.account import RW, WR, WW, Account, BadRead, BadWrite, Edge, bytes_of, last_line
+from oracle.events import Event, Form
+from oracle.trying import History
+
+NAMES = ("own write missed", "aborted read", "uncommitted read", "future read", "phantom", "stale read")
+(OWN_WRITE_MISSED, ABORTED_READ, UNCOMMITTED_READ, FUTURE_READ, PHANTOM, STALE_READ) = NAMES
+
+
+def report(events: list[Event], account: Account) -> bytes:
+    """The explained report of a history with this account, byte for byte."""
+    return bytes_of(Explanation(events, account).lines())
+
+
+def spelled(event: Event, key: int) -> str:
+    """An event as its token, of whose listed pairs only that of the key is left."""
+    if event.form is Form.RANGE:
+        pairs = "".join(f";{it}:{saw}" for it, saw in event.pairs if it == key)
+        return f"r{event.txn}[{event.lo}..{event.hi}{pairs}]"
+    return {
+        Form.READ: f"r{event.txn}[{event.key}:{event.saw}]",
+        Form.WRITE: f"w{event.txn}[{event.key}]",
+        Form.COMMIT: f"c{event.txn}",
+        Form.ABORT: f"a{event.txn}",
+    }[event.form]
+
+
+def with_reasons(line: str, reasons: Iterable[str]) -> Iterator[str]:
+    """A line, and what explains it below."""
+    yield line
+    yield from (f"  {it}" for it in reasons)
+
+
+class Explanation(History):
+    """A history with its account, and what explains the account's findings."""
+
+    def __init__(self, events: list[Event], account: Account) -> None:
+        super().__init__(events)
+        self.account = account
+        # What `version` answered, since it is asked for the same version again and again.
+        self.versions: dict[tuple[int, int], str] = {}
+
+    def lines(self) -> Iterator[str]:
+        """The lines of the explained report."""
+        account = self.account
+        bad_reads = {(it.place, it.key): it for it in account.bad_reads}
+        yield from account.head()
+        for read in account.bad_reads:
+            yield from with_reasons(read.line, self.read_reasons(read))
+        for write in account.bad_writes:
+            yield from with_reasons(write.line, [self.write_reason(write)])
+        for lost in account.unexplained:
+            yield from with_reasons(lost.line, self.read_reasons(bad_reads[lost.place, lost.key]))
+        yield account.ssi_line
+        if account.is_kept and not account.passes:
+            yield from self.structure_lines()
+        yield account.serializable_line
+        yield from with_reasons(last_line(account), map(self.step, account.cycle))
+
+    def told(self, place: int, key: int) -> str:
+        """The event at a place, as far as it is about the key."""
+        return f"event {place} {spelled(self.at[place], key)}"
+
+    def version(self, txn: int, key: int) -> str:
+        """Where the transaction first wrote the key, and its end if it has one."""
+        if (txn, key) not in self.versions:
+            writes = [place for place, it in self.at.items() if it.form is Form.WRITE and (it.txn, it.key) == (txn, key)]
+            ends = [place for place, it in self.at.items() if it.form in (Form.COMMIT, Form.ABORT) and it.txn == txn]
+            self.versions[txn, key] = ", ".join(self.told(place, key) for place in [min(writes), *ends])
+        return self.versions[txn, key]
+
+    def start_told(self, txn: int) -> str:
+        return f"transaction {txn} starts after event {self.start(txn)}"
+
+    def name(self, read: BadRead) -> str:
+        """The name of a bad read: the first one that fits."""
+        event, is_committed = self.at[read.place], read.saw in self.committed
+        fits = {
+            OWN_WRITE_MISSED: read.due == read.txn,
+            ABORTED_READ: read.saw in self.aborted,
+            UNCOMMITTED_READ: read.saw not in (0, *self.committed, *self.aborted),
+            FUTURE_READ: is_committed and self.commit(read.saw) > self.start(read.txn),
+            PHANTOM: event.form is Form.RANGE and read.key not in dict(event.pairs) and read.due != 0,
+            STALE_READ: (read.saw == 0 or is_committed) and read.due in self.committed and self.is_earlier(read.saw, read.due),
+        }
+        return next(name for name in NAMES if fits[name])
+
+    def read_reasons(self, read: BadRead) -> Iterator[str]:
+        """What stands below a bad read, and below an unexplained one at its place and key."""
+        yield f"{self.name(read)}: {self.told(read.place, read.key)}; {self.start_told(read.txn)}"
+        if read.saw != 0:
+            yield f"saw: {self.version(read.saw, read.key)}"
+        if read.due != 0:
+            yield f"due: {self.version(read.due, read.key)}"
+
+    def write_reason(self, write: BadWrite) -> str:
+        """What stands below a bad write."""
+        versions = (self.version(it, write.key) for it in (write.first, write.second))
+        return "; ".join([f"both write and overlap: {self.start_told(write.second)}", *versions])
+
+    def step(self, edge: Edge) -> str:
+        """What explains a step from one transaction to another."""
+        return f"{edge.source} {edge.arrow} {edge.target}: {'; '.join(self.events_of(edge))}"
+
+    def events_of(self, edge: Edge) -> Iterator[str]:
+        """The events by which an edge is there."""
+        if edge.kind != RW:
+            yield self.version(edge.source, edge.key)
+        if edge.kind != WW:
+            place, saw = self.first_sight(edge)
+            yield self.told(place, edge.key)
+            if saw not in (0, edge.source):
+                yield self.version(saw, edge.key)
+        if edge.kind != WR:
+            yield self.version(edge.target, edge.key)
+
+    def first_sight(self, edge: Edge) -> tuple[int, int]:
+        """The first place at which the reader of a wr or rw edge saw a version that makes the edge, and that version."""
+        reader = edge.target if edge.kind == WR else edge.source
+        sights = ((place, it.sees(edge.key)) for place, it in self.at.items() if it.txn == reader)
+        return next((place, saw) for place, saw in sights if saw is not None and self.makes(edge, reader, saw))
+
+    def makes(self, edge: Edge, reader: int, saw: int) -> bool:
+        """Whether the edge is there since the reader saw this version of the key."""
+        if saw == reader or saw not in (0, *self.committed):
+            return False
+        if edge.kind == RW:
+            return self.is_earlier(saw, edge.target)
+        return saw != 0 and (saw == edge.source or self.is_earlier(edge.source, saw))
+
+    def structure_lines(self) -> Iterator[str]:
+        """The line of a dangerous structure whose last transaction commits first, and what explains its two steps."""
+        pivot = min((it for it in self.account.pivots if it.firsts), key=lambda it: it.txn)
+        last = min(pivot.firsts)
+        first = min(it for it in pivot.ins if it == last or self.commit(last) < self.commit(it))
+        steps = [self.least_rw(first, pivot.txn), self.least_rw(pivot.txn, last)]
+        line = f"dangerous {first} {steps[0].arrow} {pivot.txn} {steps[1].arrow} {last}"
+        yield from with_reasons(line, map(self.step, steps))
+
+    def least_rw(self, source: int, target: int) -> Edge:
+        """The rw edge from one transaction to another with the least key."""
+        return min(it for it in self.account.edges if it[:3] == (source, target, RW))

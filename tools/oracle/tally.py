@@ -1,0 +1,104 @@
+"""What the texts of a kind came to, so that one can see that they show something."""
+
+import re
+from collections import Counter
+from collections.abc import Iterator
+from dataclasses import dataclass, field
+
+from oracle.account import KINDS, Account
+from oracle.explaining import NAMES
+from oracle.reading import MOST_SHOWN, Refusal
+from oracle.runs import Case, Form, Line
+from oracle.tables import Tables
+
+STEP = re.compile(r"[0-9]+ >(ww|wr|rw):[0-9]+> [0-9]+: (.*)")
+RANGE = re.compile(r"r[0-9]+\[[0-9]+\.\.[0-9]+(;[^\]]*)?\]")
+WHERE = re.compile(r"line ([0-9]+), column [0-9]+: (.*)")
+ESCAPED = re.compile(r"\\x[0-9a-f]{2}")
+
+RANGES = ("range with the pair", "range without it")
+REFUSALS = ("refusal in line 1", "refusal in a later line", "token cut", "token with strange bytes")
+REASONS = (
+    *NAMES,
+    *(f"step {it}" for it in KINDS),
+    "step wr by a later version",
+    "step rw from a version that was written",
+    "dangerous",
+    "both write and overlap",
+    *RANGES,
+    *REFUSALS,
+)
+
+
+def shapes_of(explained: bytes) -> Iterator[str]:
+    """Which of REASONS the lines of an explained report show."""
+    for line in explained.decode().splitlines():
+        if line.startswith("  "):
+            yield from shapes_of_reason(line.strip())
+        elif line.startswith("dangerous "):
+            yield "dangerous"
+
+
+def shapes_of_reason(line: str) -> Iterator[str]:
+    """Which of REASONS a line shows that explains another one."""
+    if found := WHERE.fullmatch(line):
+        yield REFUSALS[found[1] != "1"]
+        shown = ESCAPED.sub("?", found[2])
+        yield from [REFUSALS[2]] * (len(shown) == MOST_SHOWN) + [REFUSALS[3]] * (shown != found[2])
+        return
+    if found := STEP.fullmatch(line):
+        yield f"step {found[1]}"
+        versions = len(re.findall(r" w[0-9]+\[", found[2]))
+        if found[1] != "ww" and versions > 1:
+            yield "step wr by a later version" if found[1] == "wr" else "step rw from a version that was written"
+    head = line.partition(":")[0]
+    if head in REASONS:
+        yield head
+    yield from (RANGES[it[1] is None] for it in RANGE.finditer(line))
+
+
+@dataclass
+class Tally:
+    """How many texts and runs of each form there were, how many lines of each word, the greatest sizes, and how many
+    explained reports show what."""
+
+    texts: int = 0
+    forms: Counter[str] = field(default_factory=Counter)
+    lines: Counter[str] = field(default_factory=Counter)
+    most: Counter[str] = field(default_factory=Counter)
+    shapes: Counter[str] = field(default_factory=Counter)
+
+    def reach(self, **sizes: int) -> None:
+        self.most |= Counter(sizes)
+
+    def add_run(self, case: Case, line: Line) -> None:
+        """Adds a run in which the program wrote what it was to write."""
+        self.reach(cuts=len(line.cuts))
+        if line.form.is_explained:
+            self.forms["explained"] += 1
+            self.shapes.update(set(shapes_of(case.explained)))
+        else:
+            self.forms["brief" if line.form is Form.BRIEF else "full"] += 1
+
+    def add(self, case: Case) -> None:
+        """Adds a text."""
+        self.texts += 1
+        answer: Account | Refusal = case.answer
+        lines = [answer.line] if isinstance(answer, Refusal) else answer.lines()
+        words = Counter(line.partition(" ")[0] for line in lines)
+        self.lines += words
+        self.reach(edges=words["edge"])
+        if not isinstance(case.events, Refusal):
+            tables = Tables(case.events)
+            versions = max(map(len, tables.versions.values()), default=0)
+            self.reach(committed=len(tables.committed), keys=len(tables.keys), versions=versions)
+
+    def __str__(self) -> str:
+        runs = ", ".join(f"{count} {form}" for form, count in sorted(self.forms.items()))
+        most = ", ".join(f"{size} {word}" for word, size in self.most.items())
+        lines = ", ".join(f"{word} {count}" for word, count in sorted(self.lines.items()))
+        first = f"{self.texts} texts in {self.forms.total()} runs alike: {runs}; at most {most}; lines: {lines}"
+        if not self.forms["explained"]:
+            return first
+        shapes = ", ".join(f"{it} {self.shapes[it]}" for it in REASONS)
+        return f"{first}; explained reports with: {shapes}"
