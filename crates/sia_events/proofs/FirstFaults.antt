@@ -205,7 +205,7 @@ token_moved ts us i w to from NotWritten t = (t.0, tt, t.2, moved (i - 1) (IsEar
 token_moved ts us i w to from BadStart t = (t.0, tt, t.2, moved (i - 1) (IsEarlier us i) (IsEarlier ts i) to from t.0 BadStart t.3)
 
 -- a reason of one of the first tokens is one without those after them, and the other way round
-reason_front : (ts us : List (List ℕ)) (i : ℕ) (r : Reason) → i ≤ length ts → HasReason (ts ++ us) i r → HasReason ts i r
+pub reason_front : (ts us : List (List ℕ)) (i : ℕ) (r : Reason) → i ≤ length ts → HasReason (ts ++ us) i r → HasReason ts i r
 reason_front ts us i r within has = at_number i within has
   where
     at_number : (j : ℕ) → j ≤ length ts → HasReason (ts ++ us) j r → HasReason ts j r
@@ -216,7 +216,7 @@ reason_front ts us i r within has = at_number i within has
       token_moved (ts ++ us) ts (suc j) h.0 (λ f. earlier_front ts us (suc j) f most) (λ f. front_earlier ts us (suc j) f most) r h.2,
     )
 
-front_reason : (ts us : List (List ℕ)) (i : ℕ) (r : Reason) → HasReason ts i r → (i ≤ length ts) × HasReason (ts ++ us) i r
+pub front_reason : (ts us : List (List ℕ)) (i : ℕ) (r : Reason) → HasReason ts i r → (i ≤ length ts) × HasReason (ts ++ us) i r
 front_reason ts us i r has = at_number i has
   where
     at_number : (j : ℕ) → HasReason ts j r → (j ≤ length ts) × HasReason (ts ++ us) j r

@@ -17,6 +17,7 @@ pub mod SawDecisions
 pub mod Versions
 pub mod Ranges
 pub mod Unwritten
+pub mod Anomalies
 pub mod Closures
 pub mod Looks
 pub mod NarrowEdges
@@ -36,6 +37,10 @@ pub mod WorkedStarts
 pub mod Digits
 pub mod NumberLaws
 pub mod Tokens
+pub mod Locations
+pub mod Following
+pub mod Stopping
+pub mod BesideReader
 pub mod PlainBytes
 pub mod Judged
 pub mod EventLaws
@@ -51,4 +56,6 @@ pub mod FirstFaults
 pub mod Pieces
 pub mod Progresses
 pub mod Writing
+pub mod ListedPairs
+pub mod RangeLists
 pub mod Pairs

@@ -1,29 +1,19 @@
--- What a reader keeps stands for a text: as it opens, after one more piece, and as it ends.
-use Rattle.std.proofs.Common.{◌≡◌, inl, ℕ, suc, ◌+◌, ◌<◌, ◌≤◌, Bool, true, false, List, [], ◌++◌, map, length, All, Option, Some, None, refl, ap, sym, subst, ◌∙◌, arith}
+-- What a reader keeps stands for a text: after one more piece, and as it ends.
+use Rattle.std.proofs.Common.{◌≡◌, inl, ℕ, suc, ◌+◌, ◌<◌, ◌≤◌, Bool, true, false, List, [], ◌++◌, map, length, Option, Some, None, refl, ap, sym, subst, ◌∙◌, arith}
 use Rattle.std.specs.Prelude.{min, is_some}
 use Rattle.std.proofs.lemmas.List.{length-append}
 use Rattle.std.proofs.lemmas.List.Elements.{All-nil}
 use Rattle.sia_events.specs.declared.event.Event.{Event}
 use Rattle.sia_events.specs.declared.fault.Reason.{Reason}
-use Rattle.sia_events.specs.declared.fault.TextFault.TheVariants.{TextTooLong, Refused}
+use Rattle.sia_events.specs.declared.fault.TextFault.TheVariants.{Refused}
 use Rattle.sia_events.specs.Text.{spell, is_separator, tokens, StandsFor}
 use Rattle.sia_events.specs.Refusals.{HasReason, IsFirstFault, IsRefusal, IsAccepted, IsWellFormed}
-use Rattle.sia_events.specs.Streaming.{Progress, IsCutAtLastSeparator, StandsForRead}
+use Rattle.sia_events.specs.Streaming.{IsCutAtLastSeparator, StandsForRead}
 use Rattle.sia_events.specs.Judging.{JudgedAll, StopsAt, as_token, HasText}
 use Rattle.sia_events.proofs.Cuts.{some_cut, cut_then, tokens_then, tokens_cut}
 use Rattle.sia_events.proofs.Judged.{JudgedAll-append}
 use Rattle.sia_events.proofs.Clean.{IsClean, clean_none, judged_clean, clean_well_formed, well_formed_accepted, read_as}
 use Rattle.sia_events.proofs.FirstFaults.{clean_no_reason, first_fault_kept, stops_first}
-
-abbrev pub opened : Progress
-opened = record { count = 0; fault = None; events = []; unfinished = []; lost = false }
-
--- nothing read stands for the empty text
-pub opened_stands : StandsForRead opened []
-opened_stands = record {
-  counted = refl;
-  judged = λ short. ([], [], record { whole = refl; rest_goes_on = All-nil (λ c. is_separator c ≡ false); closed_ends = inl refl }, (clean_no_reason [] clean_none, refl), λ none. refl);
-}
 
 pub none_is : (fault : Option (ℕ × Reason)) → is_some fault ≡ false → fault ≡ None
 none_is None e = refl
@@ -122,16 +112,10 @@ ends_kept text count events unfinished lost i r stands few =
     let j = stands.judged short in
     (short, subst (λ ts. IsFirstFault ts i r) (sym (tokens_cut text j.0 j.1 j.2)) (first_fault_kept (tokens j.0) (as_token j.1) i r j.3))
 
-pub ends_long : (text : List ℕ) (r : Progress) → StandsForRead r text → 16777216 < r.count → IsRefusal text TextTooLong
-ends_long text r stands long = let c = stands.counted in omega arith
-
 -- ---- some text is always there
 
 pub text_clean : (count : ℕ) (events : List Event) (unfinished : List ℕ) → HasText count events unfinished → IsClean events
 text_clean count events unfinished h = (judged_clean [] (tokens h.closed) events clean_none h.fine).clean
-
-pub text_unbroken : (count : ℕ) (events : List Event) (unfinished : List ℕ) → HasText count events unfinished → All (λ c. is_separator c ≡ false) unfinished
-text_unbroken count events unfinished h = h.cut.rest_goes_on
 
 pub text_none : HasText 0 [] []
 unfolding JudgedAll

@@ -43,13 +43,6 @@ listed_or_not (q ∷ listed) k = elim (cases_eq q.0 k) [
   ]
 ]
 
--- a range read saw a version of each key from lo to hi
-pub covered_is_seen : (t lo hi k : ℕ) (listed : List (ℕ × ℕ)) → lo ≤ k → k ≤ hi → (v : ℕ) × Saw (Range t lo hi listed) k v
-covered_is_seen t lo hi k listed above below = elim (listed_or_not listed k) [
-  | inl found ↦ (found.0, (above, below, inl found.1))
-  | inr none ↦ (0, (above, below, inr (none, refl)))
-]
-
 at_most_or_not : (m n : ℕ) → Decided (m ≤ n)
 at_most_or_not m n = elim (cases_lt n m) [ inl less ↦ inr (λ most. omega arith) | inr most ↦ inl most ]
 

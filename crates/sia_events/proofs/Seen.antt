@@ -1,5 +1,5 @@
 -- What a read of a well-formed history saw was written before it.
-use Rattle.std.proofs.Common.{◌≢◌, ℕ, ◌<◌, List, subst, arith}
+use Rattle.std.proofs.Common.{◌≢◌, ℕ, List, subst}
 use Rattle.sia_events.specs.declared.event.Event.{Event}
 use Rattle.sia_events.specs.declared.event.Event.TheVariants.{Begin, Read, Range, Write, Commit, Abort}
 use Rattle.sia_events.specs.Events.{actor}
@@ -28,9 +28,3 @@ actor_in_range (Abort t) r = r
 -- what has an event is a transaction by its number
 pub actor_is_txn : (h : List Event) → IsWellFormed h → (t p : ℕ) → ActsAt h t p → IsTxn t
 actor_is_txn h wf t p a = subst IsTxn a.2 (actor_in_range a.0 (event_in_range h wf p a.0 a.1))
-
--- a transaction sees its own version only after its own write of the key
-pub saw_own : (h : List Event) → IsWellFormed h → (p t k : ℕ) → SawAt h p t k t → WroteBefore h t k p
-saw_own h wf p t k saw =
-    let positive : 0 < t = (actor_is_txn h wf t p (saw.0, saw.1, saw.2)).0 in
-    saw_written h wf p t k t saw (λ e. omega arith)

@@ -10,11 +10,15 @@ pub mod WriteSets
 pub mod Known
 pub mod Reading
 pub mod Streaming
+pub mod Locations
+pub mod Locating
 pub mod Judging
 pub mod Transactions
 pub mod Reads
 pub mod Isolation
 pub mod Dependencies
+pub mod Anomalies
+pub mod Telling
 pub mod NarrowDependencies
 pub mod Closures
 pub mod DangerousStructures

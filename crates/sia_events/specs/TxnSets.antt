@@ -1,20 +1,21 @@
 -- Which transactions a set of the reader's has.
-use Rattle.std.specs.Prelude.{ℕ, ◌+◌, ◌*◌, ◌/◌, ◌%◌, ◌==◌, ◌||◌, Bool, List, false, nat_lt, slice_index_or, if◌then◌else◌}
+use Rattle.std.specs.Prelude.{ℕ, ◌/◌, ◌%◌, ◌==◌, ◌||◌, ◌&&◌, not, Bool, List, [], slice_index_or}
+use Rattle.std.specs.List.{list_any}
 use Rattle.std.specs.BTreeSet.{contains}
 use Rattle.std.specs.Ordering.{nat_cmp}
 use Rattle.sia_events.specs.declared.txn_set.TxnSet.{TxnSet}
 
--- the first of the two slots in which a great number may stand: the numbers are spread over an even number of slots
-unfoldable pub slot_of : ℕ → ℕ
-slot_of t = t * 2654435769 % 4294967296 / 32768 * 2
+-- the group of slots in which a number may stand
+unfoldable pub group_of : ℕ → ℕ
+group_of t = t / 8 % 32768
 
--- it stands in one of its slots
-abbrev pub in_slots : List ℕ → ℕ → Bool
-in_slots slots t = (slice_index_or slots (slot_of t) 0 == t) || (slice_index_or slots (slot_of t + 1) 0 == t)
+-- it stands in its group; 0 is in no slot, since it means an empty one
+abbrev pub in_groups : List (List ℕ) → ℕ → Bool
+in_groups groups t = not (t == 0) && list_any (λ u. u == t) (slice_index_or groups (group_of t) [])
 
--- a small number is marked, another is in a slot or in the tree
+-- a number is in its group or in the tree
 abbrev pub holds : TxnSet → ℕ → Bool
-holds s t = if nat_lt t 1048576 then slice_index_or s.marks.items t false else (in_slots s.slots.items t || contains nat_cmp s.others t)
+holds s t = in_groups s.groups.items t || contains nat_cmp s.others t
 
 -- the same, for those who need not look into the set
 unfoldable pub has : TxnSet → ℕ → Bool

@@ -49,10 +49,11 @@ impl Judge {
             return Err(Refusal::Bad(Reason::TooManyEvents));
         }
         let event = event_of(self.alloc, token)?;
-        if let Some(reason) = self.tables.fault(&event, self.events.len()) {
+        let has_begun = self.tables.has_begun(&event);
+        if let Some(reason) = self.tables.fault(&event, has_begun, self.events.len()) {
             return Err(Refusal::Bad(reason));
         }
-        self.tables.add(&event)?;
+        self.tables.add(&event, has_begun)?;
         self.events.push(event)?;
         Ok(())
     }
@@ -132,10 +133,11 @@ impl Judge {
 }
 
 /// Space, tab, CR or LF.
-fn is_separator(byte: u8) -> bool
+pub(crate) fn is_separator(byte: u8) -> bool
     ensures { result ≡ is_separator byte }
 {
-    matches!(byte, b' ' | b'\t' | b'\r' | b'\n')
+    // Most bytes are told by one test.
+    byte <= b' ' && matches!(byte, b' ' | b'\t' | b'\r' | b'\n')
 }
 
 /// What follows the separators that the bytes begin with.

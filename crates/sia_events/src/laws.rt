@@ -2,6 +2,7 @@
 ghost use Rattle.std.specs.Prelude.{List, ℕ};
 ghost use Rattle.sia_events.specs.declared.event.Event.{Event};
 ghost use Rattle.sia_events.specs.Refusals.{IsWellFormed};
+ghost use Rattle.sia_events.specs.Anomalies.{AnomalyLaw};
 ghost use Rattle.sia_events.specs.Laws.{CanonicalLaw, HasHistory, NamedStartsOnlyAdd, NarrowLaw, OneHistory, OneRefusal, RoundTrip, UnwrittenLaw};
 
 /// A text has one refusal at most.
@@ -44,4 +45,9 @@ pub fn named_starts_only_add()
 /// edges do. So any edges will do that include the narrow ones.
 pub fn narrow_law()
     ensures { (h : List Event) → IsWellFormed h → NarrowLaw h }
+{}
+
+/// Each bad read has exactly one name, and a read that no serial order explains is a bad read, so that it has one too.
+pub fn anomaly_law()
+    ensures { (h : List Event) → IsWellFormed h → AnomalyLaw h }
 {}

@@ -1,29 +1,35 @@
 //! Histories of a multiversion store: their events, their text and the definitions over them.
 #![tactic(auto)]
 
+mod anomaly;
 mod event;
 mod fault;
-mod found;
 mod guesses;
 mod history;
 mod judge;
 mod laws;
+mod locating;
 mod number;
 mod reader;
+mod shown;
 mod tables;
+mod telling;
 mod token;
 mod txn_set;
 mod write_set;
 mod writer;
 
+pub use anomaly::Anomaly;
 pub use event::{Event, Key, Listed, TxnId, Version};
 pub use fault::{NoMemory, Reason, TextFault};
 pub use history::History;
 pub use laws::{
-    accepted_text_has_a_history, canonical_law, named_starts_only_add, narrow_law, one_history,
-    one_refusal, round_trip, unwritten_law,
+    accepted_text_has_a_history, anomaly_law, canonical_law, named_starts_only_add, narrow_law,
+    one_history, one_refusal, round_trip, unwritten_law,
 };
+pub use locating::{Locator, Place};
 pub use reader::{TextReader, read_history};
+pub use shown::push_shown;
 pub use writer::write_history;
 
 #[cfg(test)]

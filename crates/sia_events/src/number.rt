@@ -25,12 +25,9 @@ fn digits(text: &[u8]) -> (usize, Number)
         if value < HAS_ROOM {
             value = value * 10 + digit;
         } else {
-            match value
-                .checked_mul(10)
-                .and_then(|tens| tens.checked_add(digit))
-            {
-                Some(more) => value = more,
-                None => fits = false,
+            match value.checked_mul(10) {
+                Some(tens) if tens <= u64::MAX - digit => value = tens + digit,
+                _ => fits = false,
             }
         }
         len += 1;

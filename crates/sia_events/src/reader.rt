@@ -1,5 +1,6 @@
 //! Reading a history from its text, whole or in pieces.
 ghost use Rattle.std.specs.Prelude.{◌≡◌, ◌⊎◌, ◌+◌, ◌<◌, ◌≤◌, ◌++◌, ℕ, length, List, [], true, false, Err, IsOk, IsErr, IsSome, IsNone, OnOk, OnErr};
+ghost use Rattle.std.specs.Option.{option_map};
 ghost use Rattle.sia_events.specs.declared.fault.TextFault.TheVariants.{NoMemory as OutOfMemory};
 ghost use Rattle.sia_events.specs.Judging.{HasText};
 ghost use Rattle.sia_events.specs.Known.{Knows};
@@ -88,6 +89,16 @@ impl TextReader {
                 self.fault = Some((self.judge.next_token(), reason));
                 Ok(())
             }
+        }
+    }
+
+    /// The number of the token that was refused, if one was.
+    pub fn refused(&self) -> Option<u32>
+        ensures { result ≡ option_map (λ fault. fault.0) self.now.fault }
+    {
+        match self.fault {
+            Some((token, _)) => Some(token),
+            None => None,
         }
     }
 

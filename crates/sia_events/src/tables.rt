@@ -1,6 +1,6 @@
 //! What the reader keeps of the events so far, to judge the next one without going over them.
 ghost use Rattle.std.specs.Prelude.{◌≡◌, ℕ, ◌||◌, ◌&&◌, not, nat_lt, List, [], ◌∷◌, ◌++◌, ◌<◌, ◌≤◌, length, take, drop, true, IsTrue, OnOk};
-ghost use Rattle.std.specs.List.{list_all, AllByRecursion};
+ghost use Rattle.std.specs.List.{list_any, list_all, AllByRecursion};
 ghost use Rattle.std.specs.BTreeSet.{contains};
 ghost use Rattle.sia_events.specs.declared.event.Event.{Event as AnEvent};
 ghost use Rattle.sia_events.specs.Events.{actor};
@@ -49,6 +49,18 @@ fn is_good_list(lo: Key, hi: Key, listed: &[(Key, Version)]) -> bool
     true
 }
 
+fn begin_fault(has_begun: bool, start: Option<u32>, count: usize) -> Option<Reason>
+    ensures { (events : List AnEvent) (t : ℕ) → has_begun ≡ list_any (acts t) events → result ≡ begin_fault events count t start }
+{
+    if has_begun {
+        return Some(Reason::AlreadyBegun);
+    }
+    match start {
+        Some(start) if count < start as usize => Some(Reason::BadStart),
+        _ => None,
+    }
+}
+
 impl Tables {
     pub(crate) fn new(alloc: Global) -> Self
         ensures { Knows result [] }
@@ -60,27 +72,23 @@ impl Tables {
         }
     }
 
-    /// Takes in the next event.
-    pub(crate) fn add(&mut self, event: &Event) -> Result<(), AllocError>
-        ensures { (events : List AnEvent) → Knows self.old events → OnOk result (Knows self.new (events ++ event.now ∷ [])) }
+    /// Whether the transaction that acts has an event already.
+    pub(crate) fn has_begun(&self, event: &Event) -> bool
+        ensures { result ≡ has self.now.begun (actor event.now) }
     {
-        self.begun.insert(event.txn())?;
-        match event {
-            Event::Commit { txn } | Event::Abort { txn } => self.ended.insert(*txn),
-            Event::Write { txn, key } => self.written.insert((*key, *txn)),
-            _ => Ok(()),
-        }
+        self.begun.contains(event.txn())
     }
 
-    fn begin_fault(&self, txn: TxnId, start: Option<u32>, count: usize) -> Option<Reason>
-        ensures { (events : List AnEvent) → Knows self.now events → result ≡ begin_fault events count txn start }
+    /// Takes in the next event.
+    pub(crate) fn add(&mut self, event: &Event, has_begun: bool) -> Result<(), AllocError>
+        requires { has_begun ≡ has self.old.begun (actor event.now) }
+        ensures { (events : List AnEvent) → Knows self.old events → OnOk result (Knows self.new (events ++ event.now ∷ [])) }
     {
-        if self.begun.contains(txn) {
-            return Some(Reason::AlreadyBegun);
-        }
-        match start {
-            Some(start) if count < start as usize => Some(Reason::BadStart),
-            _ => None,
+        self.begun.insert(event.txn(), has_begun)?;
+        match event {
+            Event::Commit { txn } | Event::Abort { txn } => self.ended.insert(*txn, false),
+            Event::Write { txn, key } => self.written.insert((*key, *txn)),
+            _ => Ok(()),
         }
     }
 
@@ -138,11 +146,12 @@ impl Tables {
     }
 
     #[tactic(auto, unfolding(crate::specs::Known::own_fault))]
-    fn own_fault(&self, event: &Event, count: usize) -> Option<Reason>
+    fn own_fault(&self, event: &Event, has_begun: bool, count: usize) -> Option<Reason>
+        requires { has_begun ≡ has self.now.begun (actor event.now) }
         ensures { (events : List AnEvent) → Knows self.now events → result ≡ own_fault events count event.now }
     {
         match event {
-            Event::Begin { txn, start } => self.begin_fault(*txn, *start, count),
+            Event::Begin { start, .. } => begin_fault(has_begun, *start, count),
             Event::Read { key, saw, .. } => self.read_fault(*key, *saw),
             Event::Range { lo, hi, listed, .. } => self.range_fault(*lo, *hi, listed.as_slice()),
             _ => None,
@@ -151,12 +160,13 @@ impl Tables {
 
     /// The first reason why an event whose numbers are in their ranges can't come after `count` events, if there is one.
     #[tactic(auto, unfolding(crate::specs::Known::fault_of))]
-    pub(crate) fn fault(&self, event: &Event, count: usize) -> Option<Reason>
+    pub(crate) fn fault(&self, event: &Event, has_begun: bool, count: usize) -> Option<Reason>
+        requires { has_begun ≡ has self.now.begun (actor event.now) }
         ensures { (events : List AnEvent) → Knows self.now events → result ≡ fault_of events count event.now }
     {
-        if self.ended.contains(event.txn()) {
+        if has_begun && self.ended.contains(event.txn()) {
             return Some(Reason::AlreadyEnded);
         }
-        self.own_fault(event, count)
+        self.own_fault(event, has_begun, count)
     }
 }

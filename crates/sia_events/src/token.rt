@@ -4,7 +4,6 @@ ghost use Rattle.sia_events.specs.Parsing.{Gives, items_of, begins_with, after_b
 
 use crate::event::{Event, Key, Listed, Version};
 use crate::fault::{Reason, Refusal};
-use crate::found::Found;
 use crate::number::{Number, number, txn_in, version_in};
 use std::alloc::Global;
 
@@ -135,14 +134,17 @@ fn room_for(text: &[u8]) -> usize {
 fn pairs(alloc: Global, text: &[u8]) -> Result<(Option<Vec<(Key, Version)>>, &[u8]), Refusal>
     ensures { Gives (λ x. (items_of x.0, x.1.now)) result (pairs_at text.now) }
 {
-    let mut found = Found::with_room(alloc, room_for(text))?;
+    let mut found = Vec::with_capacity(alloc, room_for(text))?;
+    // Once a number was out of its range, the pairs count for nothing.
+    let mut in_range = true;
     let mut rest = text;
     loop {
         let (next, after) = pair(rest)?;
-        found.add(next)?;
+        in_range &= next.is_some();
+        found.push(next.unwrap_or((0, 0)))?;
         match after_comma(after) {
             Some(more) => rest = more,
-            None => return Ok((found.finish(), after)),
+            None => return Ok((in_range.then_some(found), after)),
         }
     }
 }

@@ -9,7 +9,7 @@ use crate::guesses::Guesses;
 use std::alloc::{AllocError, Global};
 use std::collections::BTreeSet;
 
-/// The writes, each once, in the order in which they came.
+/// The writes, in the order in which they came.
 ///
 /// A table guesses where a write stands. The writes for which it has no slot are in a tree, whose look-ups no choice of
 /// keys slows down. No fact rests on what both lack: such a write is looked for among all of them.
@@ -92,17 +92,16 @@ impl WriteSet {
         Ok(())
     }
 
-    /// Makes the guesses anew.
+    /// Makes the guesses anew, in a greater table.
     #[tactic(auto, unfolding(crate::specs::WriteSets::IsSound))]
     fn guess_again(&mut self) -> Result<(), AllocError>
         ensures same { OnOk result (self.new.writes.items ≡ self.old.writes.items) }
         ensures sound { IsSound self.old → OnOk result (IsSound self.new) }
     {
-        self.guesses.restart(&self.writes)?;
+        self.guesses.restart()?;
         for position in 0..self.writes.len() {
             self.place(position)?;
         }
-        self.guesses.count_lost();
         Ok(())
     }
 
@@ -111,13 +110,6 @@ impl WriteSet {
         ensures wrote { IsSound self.old → OnOk result ((p : ℕ × ℕ) → wrote self.new p ≡ (wrote self.old p || same p write)) }
         ensures sound { IsSound self.old → OnOk result (IsSound self.new) }
     {
-        // Each write has a slot or stands in the tree.
-        if is_at(&self.writes, self.guesses.guess(write), write) {
-            return Ok(());
-        }
-        if self.tree.contains(&write) {
-            return Ok(());
-        }
         self.writes.push(write)?;
         let count = self.writes.len();
         if self.guesses.is_crowded(count) {

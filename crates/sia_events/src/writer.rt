@@ -1,5 +1,6 @@
 //! Writing the canonical text of a history.
 ghost use Rattle.std.specs.Prelude.{◌≡◌, ◌++◌, ◌∷◌, flat_map, OnOk, IfOk};
+ghost use Rattle.sia_events.specs.declared.event.Event.TheVariants as events;
 ghost use Rattle.sia_events.specs.Text.{numeral, spell_list, spell, canonical};
 ghost use Rattle.sia_events.specs.Spelled.{spelled};
 
@@ -56,7 +57,28 @@ fn push_pieces(out: &mut Vec<u8>, pieces: &[Piece]) -> Result<(), AllocError>
     Ok(())
 }
 
-fn push_event(out: &mut Vec<u8>, event: &Event) -> Result<(), AllocError>
+/// Writes a range read that listed these pairs.
+pub(crate) fn push_range(
+    out: &mut Vec<u8>,
+    txn: u64,
+    lo: Key,
+    hi: Key,
+    listed: &[(Key, Version)],
+) -> Result<(), AllocError>
+    ensures { OnOk result (out.new.items ≡ out.old.items ++ spell (events.Range txn lo hi listed.now)) }
+{
+    let pieces = [
+        Piece::Marked(b'r', txn),
+        Piece::Marked(b'[', lo),
+        Piece::Byte(b'.'),
+        Piece::Marked(b'.', hi),
+        Piece::Listed(listed),
+        Piece::Byte(b']'),
+    ];
+    push_pieces(out, &pieces)
+}
+
+pub(crate) fn push_event(out: &mut Vec<u8>, event: &Event) -> Result<(), AllocError>
     ensures { OnOk result (out.new.items ≡ out.old.items ++ spell event.now) }
 {
     let txn = u64::from(event.txn());
@@ -78,17 +100,7 @@ fn push_event(out: &mut Vec<u8>, event: &Event) -> Result<(), AllocError>
             ];
             push_pieces(out, &pieces)
         }
-        Event::Range { lo, hi, listed, .. } => {
-            let pieces = [
-                Piece::Marked(b'r', txn),
-                Piece::Marked(b'[', *lo),
-                Piece::Byte(b'.'),
-                Piece::Marked(b'.', *hi),
-                Piece::Listed(listed.as_slice()),
-                Piece::Byte(b']'),
-            ];
-            push_pieces(out, &pieces)
-        }
+        Event::Range { lo, hi, listed, .. } => push_range(out, txn, *lo, *hi, listed.as_slice()),
         Event::Write { key, .. } => {
             let pieces = [
                 Piece::Marked(b'w', txn),

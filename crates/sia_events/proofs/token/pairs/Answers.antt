@@ -1,24 +1,27 @@
 -- A pair goes on the list, ends it, or has no form.
-use Rattle.std.proofs.Common.{◌<◌, ◌≤◌, ◌+◌, length, arith}
+use Rattle.std.proofs.Common.{◌≡◌, ℕ, ◌<◌, ◌≤◌, ◌+◌, List, Some, length, sym, subst, arith}
 use Rattle.std.proofs.lemmas.Result.{err_from_is_err_and}
-use Rattle.sia_events.specs.Parsing.{kept, pairs_at}
-use Rattle.sia_events.proofs.Pairs.{starts, goes_on, is_done, fails}
+use Rattle.sia_events.specs.Parsing.{kept, pairs_within, pairs_at}
+use Rattle.sia_events.proofs.Pairs.{with_front, one_pushed, items_of-then_some, starts, goes_on, is_done, fails}
 use Rattle.sia_events.proofs.token.pairs.Goals as goal
 
 pub loop-found-init : goal.loop-found-init
-loop-found-init c = rw (c.in_ok-found.ensures.none, c.in_ok-found.ensures.in_range) (length c.args.text.now + 1, omega arith, starts c.args.text.now)
+loop-found-init c =
+    let text = c.args.text.now in
+    (length text + 1, omega arith, subst (λ (pairs : List (ℕ × ℕ)). with_front (Some pairs) (pairs_within (length text + 1) text) ≡ pairs_at text) (sym c.in_ok-found.ensures.items) (starts text))
 
 pub returns-in_err-next : goal.returns-in_err-next
 returns-in_err-next c =
     let p = err_from_is_err_and c.from_residual-in_err-next.result c.from_residual-in_err-next.ensures.1 in
     let i = c.loop-found.invariant in
-    rw (p.1, p.2) (fails c.in_err-next.field-0.0 i.0 (kept c.loop-found.found.in_range c.loop-found.found.pairs.items) c.loop-found.rest.now (pairs_at c.args.text.now) i.1 c.in_err-next.ensures.gives i.2)
+    rw (p.1, p.2) (fails c.in_err-next.field-0.0 i.0 (kept c.loop-found.in_range c.loop-found.found.items) c.loop-found.rest.now (pairs_at c.args.text.now) i.1 c.in_err-next.ensures.gives i.2)
 
 pub returns-in-None : goal.returns-in-None
 returns-in-None c =
     let i = c.loop-found.invariant in
-    let e = is_done i.0 (kept c.loop-found.found.in_range c.loop-found.found.pairs.items) c.loop-found.rest.now c.in_ok-next.next c.in_ok-next.after.now (pairs_at c.args.text.now) i.1 c.in_ok-next.ensures.gives (c.in-None.ensures) i.2 in
-    rw (c.finish.ensures, c.in_ok-add.ensures) e
+    let e = is_done i.0 (kept c.loop-found.in_range c.loop-found.found.items) c.loop-found.rest.now c.in_ok-next.next c.in_ok-next.after.now (pairs_at c.args.text.now) i.1 c.in_ok-next.ensures.gives (c.in-None.ensures) i.2 in
+    let pushed = one_pushed c.loop-found.in_range c.loop-found.found.items c.in_ok-next.next c.is_some-in_range.ensures c.unwrap_or.ensures c.in_ok-push.ensures.items in
+    rw (c.then_some.ensures, items_of-then_some, pushed) e
 
 pub loop-found-smaller : goal.loop-found-smaller
 loop-found-smaller c =
@@ -32,4 +35,5 @@ loop-found-preserved c =
     let i = c.loop-found.invariant in
     let s : length c.in_ok-next.after.now ≤ length c.loop-found.rest.now = c.in_ok-next.ensures.shorter in
     let m = c.in-Some.ensures in
-    rw (m.1, c.in_ok-add.ensures) (goes_on i.0 (kept c.loop-found.found.in_range c.loop-found.found.pairs.items) c.loop-found.rest.now c.in_ok-next.next c.in_ok-next.after.now (pairs_at c.args.text.now) i.1 (rw (← m.1) m.2) s c.in_ok-next.ensures.gives m.0 i.2)
+    let pushed = one_pushed c.loop-found.in_range c.loop-found.found.items c.in_ok-next.next c.is_some-in_range.ensures c.unwrap_or.ensures c.in_ok-push.ensures.items in
+    rw (m.1, pushed) (goes_on i.0 (kept c.loop-found.in_range c.loop-found.found.items) c.loop-found.rest.now c.in_ok-next.next c.in_ok-next.after.now (pairs_at c.args.text.now) i.1 (rw (← m.1) m.2) s c.in_ok-next.ensures.gives m.0 i.2)

@@ -1,0 +1,12 @@
+-- The bytes that are gone through are the first 60.
+use Rattle.std.proofs.Common.{◌≡◌, ◌++◌, List, ℕ, take, flat_map, ap, ◌∙◌, arith}
+use Rattle.sia_events.specs.Locations.{shown_byte}
+use Rattle.sia_events.proofs.Following.{take_all, take_least}
+use Rattle.sia_events.proofs.shown.push_shown.Goals as goal
+
+pub returns : goal.returns
+returns c =
+    let token = c.args.token.now in
+    let passed : take c.loop-byte.byte-index (take c.min-len.result token) ≡ take 60 token =
+    take_all c.loop-byte.byte-index (take c.min-len.result token) (omega arith) ∙ ap (λ n. take n token) c.min-len.ensures ∙ take_least 60 token in
+    c.loop-byte.invariant ∙ ap (λ (bs : List ℕ). c.args.out.now.items ++ flat_map shown_byte bs) passed

@@ -1,0 +1,146 @@
+//! Where the tokens of a text stand that comes in pieces.
+ghost use Rattle.std.specs.Prelude.{◌≡◌, ◌+◌, ◌<◌, ◌≤◌, ◌++◌, ◌∷◌, ℕ, List, [], length, take, true, false};
+ghost use Rattle.std.specs.Option.{option_map};
+ghost use Rattle.sia_events.specs.Locating.{Follows, StandsForLocated};
+ghost use Rattle.sia_events.specs.Locations.{IsPlaceAfter, IsLocated};
+ghost use Rattle.sia_events.specs.Refusals.{IsRefusal};
+ghost use Rattle.sia_events.specs.declared.fault.Reason.{Reason as AReason};
+ghost use Rattle.sia_events.specs.declared.fault.TextFault.TheVariants.{Refused};
+ghost use Rattle.sia_events.specs.Streaming.{Progress, StandsForRead};
+ghost use Rattle.sia_events.specs.Text.{is_separator};
+
+use crate::judge::is_separator;
+use std::marker::Model;
+
+/// How many bytes of a token are kept.
+const KEPT: usize = 60;
+
+/// A line of a text, and a column on it. Both are counted from 1.
+#[derive(Clone, Copy)]
+pub struct Place {
+    pub line: u32,
+    pub column: u32,
+}
+
+impl Place {
+    /// The place behind a byte that stands here.
+    fn behind(self, byte: u8) -> Place
+        ensures { (front : List ℕ) → length front < 16777216 → IsPlaceAfter front self.line self.column → IsPlaceAfter (front ++ byte ∷ []) result.line result.column }
+    {
+        if byte == b'\n' {
+            Place {
+                line: self.line.saturating_add(1),
+                column: 1,
+            }
+        } else {
+            Place {
+                line: self.line,
+                column: self.column.saturating_add(1),
+            }
+        }
+    }
+}
+
+/// Stands beside a reader, and is fed the same pieces. It keeps where the last token began, and its first bytes.
+#[derive(Drop)]
+pub struct Locator {
+    number: u32,
+    next: Place,
+    place: Place,
+    token: [u8; KEPT],
+    len: usize,
+    is_open: bool,
+}
+
+impl Model for Locator {
+    ghost use Rattle.std.specs.Prelude.{◌≤◌, take};
+    ghost use Rattle.sia_events.specs.Locating.{Located};
+
+    ghost Value = { Located };
+
+    ghost view = { λ l. record { number = l.number; next = l.next; place = l.place; token = take l.len l.token; is_open = l.is_open } };
+
+    ghost invariant = { λ l. l.len ≤ 60 };
+}
+
+impl Locator {
+    /// A locator that has been fed nothing.
+    pub fn new() -> Self
+        ensures { (reader : Progress) → StandsForRead reader [] → StandsForLocated result reader [] }
+    {
+        let start = Place { line: 1, column: 1 };
+        Locator {
+            number: 0,
+            next: start,
+            place: start,
+            token: [0; KEPT],
+            len: 0,
+            is_open: false,
+        }
+    }
+
+    /// Passes the next piece of the text, up to the token that the reader, which has read it, has refused.
+    pub fn feed(&mut self, piece: &[u8], refused: Option<u32>)
+        ensures { (before after : Progress) (text : List ℕ) → StandsForRead before text → StandsForRead after (text ++ piece.now)
+            → option_map (λ fault. fault.0) after.fault ≡ refused
+            → StandsForLocated self.old before text → StandsForLocated self.new after (text ++ piece.now) }
+    {
+        let last = refused.unwrap_or(u32::MAX);
+        for byte in piece {
+            self.pass(*byte, last);
+        }
+    }
+
+    /// Passes a byte, unless it begins a token after the last one.
+    fn pass(&mut self, byte: u8, last: u32)
+        ensures follows { (text : List ℕ) → length text < 16777216 → Follows self.old text → (self.old.is_open ≡ false → is_separator byte ≡ false → self.old.number < last) → Follows self.new (text ++ byte ∷ []) }
+        ensures within { self.old.number ≤ last → self.new.number ≤ last }
+        ensures stopped { self.old.is_open ≡ false → last ≤ self.old.number → (self.new.is_open ≡ false) × (self.new.number ≡ self.old.number) × (self.new.place ≡ self.old.place) × (self.new.token ≡ self.old.token) }
+    {
+        let next = self.next.behind(byte);
+        if is_separator(byte) {
+            self.is_open = false;
+        } else if self.is_open {
+            self.len = keep(&mut self.token, self.len, byte);
+        } else if self.number < last {
+            self.number += 1;
+            self.place = self.next;
+            self.len = keep(&mut self.token, 0, byte);
+            self.is_open = true;
+        } else {
+            return;
+        }
+        self.next = next;
+    }
+
+    /// Where the last token that was passed began.
+    pub fn place(&self) -> Place
+        ensures place { result ≡ self.now.place }
+
+        // Beside a reader that refuses a token, this is where that token is.
+        ensures refused { (reader : Progress) (text : List ℕ) (number : ℕ) (reason : AReason) → StandsForRead reader text → StandsForLocated self.now reader text
+            → IsRefusal text (Refused number reason) → IsLocated text number result.line result.column self.now.token }
+    {
+        self.place
+    }
+
+    /// The first 60 bytes of that token.
+    pub fn token(&self) -> &[u8]
+        ensures { result.now ≡ self.now.token }
+    {
+        &self.token[..self.len]
+    }
+}
+
+/// Keeps one more byte of a token behind so many, if there is room, and answers how many there are then.
+fn keep(token: &mut [u8; KEPT], len: usize, byte: u8) -> usize
+    requires { len ≤ 60 }
+    ensures within { result ≤ 60 }
+    ensures kept { take result token.new ≡ take 60 (take len token.old ++ byte ∷ []) }
+{
+    if len == KEPT {
+        return len;
+    }
+    token[len] = byte;
+    len + 1
+}
