@@ -4,7 +4,6 @@ pub mod PartLemmas
 pub mod FindingLemmas
 pub mod KeyLemmas
 pub mod FieldLemmas
-pub mod NoEvents
 pub mod Adding
 pub mod Sources
 pub mod Listing

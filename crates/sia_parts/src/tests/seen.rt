@@ -7,29 +7,11 @@ ghost use Rattle.sia_parts.specs.Gathering.{IsGathering, IsPartFound};
 ghost use Rattle.sia_parts.specs.Parts.{IsInPart};
 
 use crate::*;
-use sia_events::{History, Key, read_history};
+use sia_events::{History, Key, NoMemory, read_history};
 use sia_index::Index;
 use sia_index::make::index;
 use std::alloc::Global;
 use std::test::*;
-
-// What is found in the part.
-fn found_in_part(
-    alloc: Global,
-    h: &History,
-    ix: &Index,
-    committed: &Committed,
-    part: Part,
-) -> Result<PartFound, Fail>
-    requires index { ix.now ≡ h.now }
-    requires committed { ListsAscending (IsCommitted ix.now) committed.now }
-    ensures { IfOk result (IsPartFound h.now (IsInPart part)) }
-{
-    match find_in_part(alloc, h, ix, committed, part) {
-        Ok(found) => Ok(found),
-        Err(fault) => Err(Fail::from(fault)),
-    }
-}
 
 // What is found in each part, in order.
 fn found_in_parts(
@@ -38,14 +20,14 @@ fn found_in_parts(
     ix: &Index,
     committed: &Committed,
     parts: &[Part],
-) -> Result<Vec<PartFound>, Fail>
+) -> Result<Vec<PartFound>, NoMemory>
     requires index { ix.now ≡ h.now }
     requires committed { ListsAscending (IsCommitted ix.now) committed.now }
     ensures { IfOk result (λ all. AllZip (λ part found. IsPartFound h.now (IsInPart part) found) parts.now all.items) }
 {
     let mut all = Vec::new(alloc);
     for part in parts {
-        let found = found_in_part(alloc, h, ix, committed, *part)?;
+        let found = find_in_part(alloc, h, ix, committed, *part)?;
         all.push(found)?;
     }
     Ok(all)
@@ -91,6 +73,15 @@ fn numbers_of(alloc: Global, looks: &[Look]) -> Result<Vec<[u32; 4]>, Fail> {
     Ok(all)
 }
 
+// Who wrote, by key.
+const WRITERS: &[[u32; 4]] = &[
+    [0, 0, 6, 6],
+    [0, 1, 6, 6],
+    [0, 2, 6, 6],
+    [1, 2, 10, 10],
+    [0, 3, 6, 6],
+];
+
 // 1 is number 0, and 2 number 1. 2 saw version 0 and then 1's version of key 3, 1's version of key 5, which its range lists,
 // and version 0 of keys 4 and 6, which its range passes over: these have the numbers 1 and 3. Key 3, with number 0, lies
 // before the range, and nobody wrote key 7.
@@ -102,23 +93,15 @@ fn looks_of_two(rt: HostRuntime) -> Result<(), Fail> {
     for points in [[].as_slice(), [5].as_slice()] {
         let looks = looks_in(rt.alloc(), &history, &index, points)?;
         let writers = numbers_of(rt.alloc(), &looks.writers)?;
-        let by_key = [
-            [0, 0, 6, 6],
-            [0, 1, 6, 6],
-            [0, 2, 6, 6],
-            [1, 2, 10, 10],
-            [0, 3, 6, 6],
-        ];
-        assert!(&rt; writers.as_slice() == by_key.as_slice());
+        assert!(&rt; writers.as_slice() == WRITERS);
         let readers = numbers_of(rt.alloc(), &looks.readers)?;
-        assert_eq!(&rt; readers.len(), 2);
-        assert!(&rt; readers.contains(&[1, 0, 0, 6]));
-        assert!(&rt; readers.contains(&[1, 2, 6, 6]));
-        let mut missed = Vec::new(rt.alloc());
-        for absence in &looks.absences {
-            missed.push([absence.txn, absence.from, absence.to])?;
+        assert!(&rt;
+            readers.len() == 2 && readers.contains(&[1, 0, 0, 6]) && readers.contains(&[1, 2, 6, 6])
+        );
+        assert_eq!(&rt; looks.absences.len(), 2);
+        for (absence, missed) in looks.absences.iter().zip([[1, 1, 2], [1, 3, 4]]) {
+            assert!(&rt; [absence.txn, absence.from, absence.to] == missed);
         }
-        assert!(&rt; missed.as_slice() == [[1, 1, 2], [1, 3, 4]].as_slice());
     }
     Ok(())
 }
