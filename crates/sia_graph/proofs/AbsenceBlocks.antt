@@ -103,9 +103,6 @@ pub record HaveStepsUpTo (size : ℕ) (firsts : List ℕ) (absences : List Absen
   pub each : (m : ℕ) → Contains steps m → Contains old m ⊎ FromSome (IsAbsenceStep size firsts) absences m
   pub has : (k : ℕ) (d : Absence) → k < n → HasAbsenceSteps size firsts (get_or absences k d) steps
 
-pub steps_none : (size : ℕ) (firsts : List ℕ) (absences : List Absence) (old : List ℕ) → HaveStepsUpTo size firsts absences old old 0
-steps_none size firsts absences old = record { kept = λ n c. c; each = λ m c. inl c; has = λ k d l. absurd (omega arith) }
-
 pub steps_more : (size : ℕ) (firsts : List ℕ) (absences : List Absence) (old mid new : List ℕ) (n : ℕ) (x : Absence) → n < length absences
     → HaveStepsUpTo size firsts absences old mid n → KeepsAll mid new → ((m : ℕ) → Contains new m → Contains mid m ⊎ IsAbsenceStep size firsts (get_or absences n x) m)
     → HasAbsenceSteps size firsts (get_or absences n x) new → HaveStepsUpTo size firsts absences old new (n + 1)

@@ -1,5 +1,5 @@
 -- Positions of ids in a sorted list.
-use Rattle.std.proofs.Common.{◌≡◌, inl, inr, ℕ, ◌<◌, ◌≤◌, true, false, List, length, get_or, ltb, ap, ◌∙◌, arith}
+use Rattle.std.proofs.Common.{◌≡◌, inl, inr, ℕ, zero, suc, ◌<◌, ◌≤◌, true, false, List, length, get_or, ltb, ap, ◌∙◌, arith}
 use Rattle.std.specs.Prelude.{Contains}
 use Rattle.std.specs.List.Sorted.{IsStrictlyIncreasing, IsNonDecreasingBy, IsPartitionPoint}
 use Rattle.std.proofs.lemmas.Bool.{cases_lt, cases_order, ltb-true, ltb-false}
@@ -22,6 +22,11 @@ module _ (ids : List ℕ) (up : IsStrictlyIncreasing ids) where
     | inr (inl less) ↦ let l = ids_less i j less b in absurd (omega arith)
     | inr (inr more) ↦ let l = ids_less j i more a in absurd (omega arith)
   ]
+
+  -- an id is no less than its place
+  pub place_below : (k : ℕ) → k < length ids → k ≤ get_or ids k 0
+  place_below zero l = omega arith
+  place_below (suc k) l = let a = place_below k (omega arith) in let b = ids_less k (suc k) (omega arith) l in omega arith
 
   pub ids_rise : IsNonDecreasingBy (λ x. x) ids
   ids_rise i j d l b =

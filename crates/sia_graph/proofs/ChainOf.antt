@@ -129,14 +129,6 @@ module _ (h : List Event) (t : ℕ) (start : ℕ → ℕ) (versions : BTreeMap �
       let e = chain_end t (on.past + 1) (drop on.past h) (omega arith) (sym on.next ∙ none) in
       on.told others r (subst (λ (l : List (ℕ × Event)). Tells h (version_in versions) (l ++ others) r) (sym e) tells)
 
-pub on_chain : (h : List Event) (t : ℕ) (versions : BTreeMap ℕ ℕ) (first : ℕ) → first ≡ first_at t 1 h → AreWritten h versions → IsOnChain h t (version_in versions) versions first
-on_chain h t versions first is written = record {
-  past = 0;
-  next = is ∙ (let z : 0 + 1 ≡ 1 = omega arith in ap (λ n. first_at t n h) (sym z));
-  written = written;
-  told = λ others r tells. let z : 0 + 1 ≡ 1 = omega arith in subst (λ n. Tells h (version_in versions) (events_from n h t ++ others) r) z tells;
-}
-
 -- the next place of a chain is later, or there is none
 pub first_later : (t n : ℕ) (h : List Event) → (first_at t n h ≡ 0) ⊎ (n ≤ first_at t n h)
 first_later t n [] = inl refl

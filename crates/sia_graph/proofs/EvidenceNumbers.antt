@@ -1,9 +1,10 @@
 -- The numbers in the evidence are those of its transactions and keys, so what is told by numbers is told of these.
-use Rattle.std.proofs.Common.{◌≡◌, inl, inr, ℕ, ◌-◌, ◌<◌, ◌≤◌, List, [], ◌∷◌, length, refl, subst, sym, ap, arith}
+use Rattle.std.proofs.Common.{◌≡◌, inl, inr, ℕ, ◌-◌, ◌<◌, ◌≤◌, List, [], ◌∷◌, length, refl, subst, sym, ap, ◌∙◌, arith}
 use Rattle.std.specs.Prelude.{◌↔◌, Contains, slice_index}
 use Rattle.std.proofs.lemmas.Bool.{cases_lt}
+use Rattle.std.proofs.lemmas.List.{get_or_default}
 use Rattle.sia_events.specs.declared.event.Event.{Event}
-use Rattle.sia_events.specs.Transactions.{IsCommitted, Wrote}
+use Rattle.sia_events.specs.Transactions.{CommitsAt, IsCommitted, Wrote}
 use Rattle.sia_events.proofs.OneList.{one_list_by}
 use Rattle.sia_index.specs.Info.{IsKeyAt}
 use Rattle.sia_parts.specs.EdgeNumbers.{IsCommittedAt}
@@ -48,6 +49,15 @@ module _ (h : List Event) (txns keys : List ℕ) (looks : Looks) (evidence : IsE
       let at = evidence.looks_are.absent absence has (absence.to - 1) (omega arith) (omega arith) in
       let below = key_below (absence.to - 1) at.1 at.3 in
       omega arith
+
+  pub number_of : (t : ℕ) → IsCommitted h t → (i : ℕ) × (i < length txns) × (slice_index txns i ≡ t)
+  number_of t committed = let has = (evidence.txns_are.each t).1 committed in (has.0, has.1, get_or_default txns has.0 0 t has.1 ∙ has.2)
+
+  pub made_commits : (made : Look) → Contains looks.writers.items made → (made.txn < length txns) × CommitsAt h (slice_index txns made.txn) made.high
+  made_commits made has =
+      let is = evidence.looks_are.made made has in
+      let at = at_txn made.txn is.0 is.3.0.0 in
+      (at.0, subst (λ t. CommitsAt h t made.high) (sym at.1) (subst (CommitsAt h is.0) (sym is.3.2) is.3.3.1))
 
   -- what saw a version before one's own has an rw edge to it
   pub source_edges : (i j : ℕ) → i < length txns → j < length txns → IsSource looks i j ↔ HasRwEdge h (slice_index txns i) (slice_index txns j)

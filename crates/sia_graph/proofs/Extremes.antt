@@ -1,12 +1,12 @@
 -- Where isolation is kept, rw edges and commits alone tell which transactions overlap.
-use Rattle.std.proofs.Common.{◌≡◌, ◌≢◌, inl, inr, ℕ, ◌<◌, ◌≤◌, List, sym, subst, arith}
+use Rattle.std.proofs.Common.{◌≡◌, ◌≢◌, ◌⊎◌, inl, inr, ℕ, ◌<◌, ◌≤◌, List, sym, subst, arith}
 use Rattle.std.proofs.lemmas.Bool.{cases_lt}
 use Rattle.sia_events.specs.declared.event.Event.{Event}
 use Rattle.sia_events.specs.Refusals.{IsWellFormed}
 use Rattle.sia_events.specs.Transactions.{IsCommitted, CommitsAt, CommitsBefore, Overlap}
 use Rattle.sia_events.specs.Isolation.{IsolationKept}
 use Rattle.sia_events.specs.Dependencies.{IsVersionBefore, IsCommittedWriter}
-use Rattle.sia_events.specs.DangerousStructures.{IsFirst}
+use Rattle.sia_events.specs.DangerousStructures.{IsFirst, IsVulnerable}
 use Rattle.sia_events.proofs.WellFormed.{one_commit}
 use Rattle.sia_graph.specs.Extremes.{HasRwEdge, IsFirstByCommits, IsAfterSeen, FirstsLaw}
 use Rattle.sia_graph.proofs.Facts.{Lifetime, lifetime_of, commits_lt}
@@ -42,26 +42,28 @@ module _ (h : List Event) (wf : IsWellFormed h) where
     overlap : (t u : ℕ) (a : Lifetime h t) (b : Lifetime h u) → a.start < b.commit → b.start < a.commit → Overlap h t u
     overlap t u a b l m = ((a.start, b.commit, a.starts, b.commits, l), (b.start, a.commit, b.starts, a.commits, m))
 
+    -- what has an rw edge to a transaction with a first, and is that first or commits after it, overlaps it
+    pub entered_from : (t out_to : ℕ) → HasRwEdge h t out_to → CommitsBefore h out_to t → (in_from : ℕ) → HasRwEdge h in_from t → (out_to ≡ in_from) ⊎ CommitsBefore h out_to in_from → IsVulnerable h in_from t
+    entered_from t out_to edge before in_from into or =
+        let mid = lifetime_of h wf t edge.1.1 in
+        let out = lifetime_of h wf out_to edge.1.2.1 in
+        let first = lifetime_of h wf in_from into.1.1 in
+        let starts : mid.start < out.commit = starts_before t out_to mid out edge in
+        let enters : first.start < mid.commit = starts_before in_from t first mid into in
+        let last : out.commit ≤ first.commit = elim or [
+          | inl same ↦ let e : out.commit ≡ first.commit = one_commit h wf in_from out.commit first.commit (subst (λ x. CommitsAt h x out.commit) same out.commits) first.commits in omega arith
+          | inr later ↦ let l = commits_lt h wf out_to in_from out.commit first.commit out.commits first.commits later in omega arith
+        ] in
+        (overlap in_from t first mid enters (omega arith), into.0, into.1)
+
     first_by_commits : (t out_to : ℕ) → IsFirstByCommits h t out_to → IsFirst h t out_to
     first_by_commits t out_to f =
         let mid = lifetime_of h wf t f.0.1.1 in
         let out = lifetime_of h wf out_to f.0.1.2.1 in
-        let in_from = f.2.0 in
-        let first = lifetime_of h wf in_from f.2.1.1.1 in
         let before = commits_lt h wf out_to t out.commit mid.commit out.commits mid.commits f.1 in
         let starts : mid.start < out.commit = starts_before t out_to mid out f.0 in
-        let enters : first.start < mid.commit = starts_before in_from t first mid f.2.1 in
-        let last : out.commit ≤ first.commit = elim (f.2.2) [
-          | inl same ↦ let e : out.commit ≡ first.commit = one_commit h wf in_from out.commit first.commit (subst (λ x. CommitsAt h x out.commit) same out.commits) first.commits in omega arith
-          | inr later ↦ let l = commits_lt h wf out_to in_from out.commit first.commit out.commits first.commits later in omega arith
-        ] in
-        let o = out.ordered in (
-          (overlap t out_to mid out starts (omega arith), f.0.0, f.0.1),
-          f.1,
-          in_from,
-          (overlap in_from t first mid enters (omega arith), f.2.1.0, f.2.1.1),
-          f.2.2,
-        )
+        let o = out.ordered in
+        ((overlap t out_to mid out starts (omega arith), f.0.0, f.0.1), f.1, f.2.0, entered_from t out_to f.0 f.1 f.2.0 f.2.1 f.2.2, f.2.2)
 
 pub firsts_hold : (h : List Event) → IsWellFormed h → FirstsLaw h
 firsts_hold h wf = record {

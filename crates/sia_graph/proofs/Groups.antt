@@ -4,7 +4,7 @@ use Rattle.std.specs.Prelude.{AllPairs}
 use Rattle.std.specs.List.{AllWithin}
 use Rattle.std.specs.List.Sorted.{IsNonDecreasingBy, IsPartitionPoint}
 use Rattle.std.proofs.lemmas.Bool.{cases_lt, lt-ltb, le-ltb, le-leb, lt-leb, ltb-true, ltb-false, leb-true, leb-false}
-use Rattle.std.proofs.lemmas.List.{take-append-drop, get_or-take, get_or-drop, get_or_default, length-take, length-drop}
+use Rattle.std.proofs.lemmas.List.{take-append-drop, get_or-take, get_or-drop, length-take, length-drop}
 use Rattle.sia_events.specs.Lists.{Precedes}
 use Rattle.sia_graph.specs.Groups.{IsGroup}
 
@@ -63,27 +63,3 @@ between {A} key xs t first end l m below at above =
     no_less_at : (k : ℕ) (d : A) → first ≤ k → k < length xs → (k < end) ⊎ (end ≤ k) → t ≤ key (get_or xs k d)
     no_less_at k d a b (inl less) = let e = at k d a less in omega arith
     no_less_at k d a b (inr more) = let e = above k d more b in omega arith
-
-module _ {A : Type 0} (key : A → ℕ) (xs : List A) (rise : IsNonDecreasingBy key xs) (t : ℕ) (e : A) where
-  -- one that is less has none before it that isn't
-  pub less_before : (first : ℕ) → 0 < first → first ≤ length xs → key (get_or xs (first - 1) e) < t → AllWithin (λ x. key x < t) xs 0 first
-  less_before first some within less k d a b =
-      let up = rise k (first - 1) d (omega arith) (omega arith) in
-      let same = ap key (get_or_default xs (first - 1) e d (omega arith)) in
-      omega arith
-
-  -- one that is greater has none after it that isn't
-  pub greater_after : (end : ℕ) → end < length xs → t < key (get_or xs end e) → AllWithin (λ x. t < key x) xs end (length xs)
-  greater_after end within more k d a b =
-      let up = rise end k d a b in
-      let same = ap key (get_or_default xs end e d within) in
-      omega arith
-
-  -- what is between two that are the same is the same
-  pub same_between : (first end : ℕ) → first < end → end ≤ length xs → key (get_or xs first e) ≡ t → key (get_or xs (end - 1) e) ≡ t → AllWithin (λ x. key x ≡ t) xs first end
-  same_between first end less within front back k d a b =
-      let up = rise first k d a (omega arith) in
-      let down = rise k (end - 1) d (omega arith) (omega arith) in
-      let same = ap key (get_or_default xs first e d (omega arith)) in
-      let other = ap key (get_or_default xs (end - 1) e d (omega arith)) in
-      omega arith

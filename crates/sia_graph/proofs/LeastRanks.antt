@@ -55,6 +55,21 @@ least_either P Q R p q few pr qr rs a b =
     there (inl less) within = let e : p ≡ min p q = omega arith in subst R e (pr p (there_if P p a (omega arith)))
     there (inr more) within = let e : q ≡ min p q = omega arith in subst R e (qr q (there_if Q q b (omega arith)))
 
+-- one more
+pub least_more : (P Q : ℕ → Type 0) (least new : ℕ) → new ≤ 4294967295 → ((q : ℕ) → P q → Q q) → Q new → ((q : ℕ) → Q q → P q ⊎ (q ≡ new)) → IsLeastRank P least → IsLeastRank Q (min least new)
+least_more P Q least new bound to one back is = by_order (cases_lt new least) is
+  where
+    low : (r q : ℕ) → r ≤ least → r ≤ new → Q q → r ≤ q
+    low r q a b has = elim (back q has) [ inl old ↦ let m = no_less P least q is old in omega arith | inr e ↦ omega arith ]
+
+    by_order : (new < least) ⊎ (least ≤ new) → IsLeastRank P least → IsLeastRank Q (min least new)
+    by_order (inl less) i = let e : new ≡ min least new = omega arith in subst (IsLeastRank Q) e (inl (one, λ q has. low new q (omega arith) (omega arith) has))
+    by_order (inr more) (inl has) = let e : least ≡ min least new = omega arith in subst (IsLeastRank Q) e (inl (to least has.0, λ q at. low least q (omega arith) more at))
+    by_order (inr more) (inr lacks) =
+        let f = lacks.0 in
+        let e : new ≡ min least new = omega arith in
+        subst (IsLeastRank Q) e (inl (one, λ q at. low new q (omega arith) (omega arith) at))
+
 module _ (P : ℕ → Type 0) (few : (q : ℕ) → P q → q < 4294967295) where
   -- the least but one's own
   pub other_least : (two : Two) (me r : ℕ) → (two.least ≡ me → r ≡ two.next) → (two.least ≢ me → r ≡ two.least) → IsTwo P two → IsLeastRank (λ q. P q × (q ≢ me)) r

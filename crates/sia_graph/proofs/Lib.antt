@@ -16,7 +16,6 @@ pub mod Positions
 pub mod Fronts
 pub mod Waiting
 pub mod AscendingIds
-pub mod Releasing
 pub mod OneTaken
 pub mod LookEdges
 pub mod LeastKeys
@@ -25,7 +24,6 @@ pub mod Previous
 pub mod PreviousEdges
 pub mod EvidenceEdges
 pub mod Walks
-pub mod LeastSources
 pub mod RankedRows
 pub mod Rounds
 pub mod LeastEdges
@@ -65,9 +63,15 @@ pub mod SourceRanks
 pub mod EvidenceNumbers
 pub mod LimitRanks
 pub mod LooksPass
+pub mod FirstsTold
+pub mod Halving
+pub mod LateRanks
+pub mod Uncut
 pub mod NextVersions
 pub mod NarrowSteps
 pub mod AbsenceBlocks
 pub mod NarrowStands
 pub mod TakenNodes
 pub mod TakenMembers
+pub mod StepsOf
+pub mod BetweenTwo

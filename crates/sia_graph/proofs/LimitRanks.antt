@@ -1,14 +1,16 @@
 -- Limits by ranks.
-use Rattle.std.proofs.Common.{◌≡◌, ◌≢◌, inl, inr, ℕ, ◌+◌, ◌-◌, ◌<◌, ◌≤◌, List, ◌∷◌, [], ◌++◌, length, get_or, max, subst, sym, arith}
+use Rattle.std.proofs.Common.{◌≡◌, ◌≢◌, inl, inr, ℕ, ◌+◌, ◌-◌, ◌<◌, ◌≤◌, List, ◌∷◌, [], ◌++◌, length, get_or, max, min, refl, take, subst, sym, arith}
 use Rattle.std.specs.Prelude.{◌↔◌}
 use Rattle.std.proofs.lemmas.Bool.{cases_lt}
 use Rattle.std.proofs.lemmas.List.{get_or_append_left, get_or_push}
 use Rattle.sia_parts.specs.declared.looks.Look.{Look}
 use Rattle.sia_parts.specs.declared.looks.Looks.{Looks}
+use Rattle.sia_parts.specs.Sights.{FromSome}
+use Rattle.sia_parts.proofs.Adding.{first_more}
 use Rattle.sia_graph.specs.Limits.{IsLimit, IsWithinLimit}
 use Rattle.sia_graph.specs.Ranks.{IsLeastRank, IsRankOf}
 use Rattle.sia_graph.specs.Sources.{IsSource, SeesBefore}
-use Rattle.sia_graph.proofs.LeastRanks.{least_bound, no_less, there_if}
+use Rattle.sia_graph.proofs.LeastRanks.{least_bound, least_more, least_same, no_less, there_if}
 
 module _ (looks : Looks) (ranks : List ℕ) (t commit rank : ℕ) (is : IsLeastRank (λ r. (i : ℕ) × IsSource looks i t × IsRankOf ranks i r) rank) where
   -- nothing leads to it
@@ -60,6 +62,26 @@ module _ (looks : Looks) (limits : List ℕ) (made : Look) (rank : ℕ) (is : Is
             let low = within.4 in
             omega arith),
       )
+
+-- number j made the version, which is within these limits
+abbrev pub IsMadeWithin : Looks → List ℕ → Look → ℕ → Type 0
+IsMadeWithin looks limits made j = (made.txn ≡ j) × IsWithinLimit looks limits made
+
+module _ (looks : Looks) (limits : List ℕ) (writers : List Look) (n : ℕ) (d : Look) (below : n < length writers) (least : ℕ)
+    (is : IsLeastRank (FromSome (IsMadeWithin looks limits) (take n writers)) least) where
+  abbrev Made : ℕ → ℕ → Type 0
+  Made m j = FromSome (IsMadeWithin looks limits) (take m writers) j
+
+  pub made_more : (get_or writers n d).txn ≤ 4294967295 → IsWithinLimit looks limits (get_or writers n d) → IsLeastRank (Made (n + 1)) (min least (get_or writers n d).txn)
+  made_more few within =
+      let more = first_more (IsMadeWithin looks limits) writers n d below in
+      least_more (Made n) (Made (n + 1)) least (get_or writers n d).txn few (λ j old. (more j).0 (inl old)) ((more (get_or writers n d).txn).0 (inr (refl, within)))
+      (λ j has. elim ((more j).1 has) [ inl old ↦ inl old | inr it ↦ inr (sym it.0) ]) is
+
+  pub made_same : ¬ IsWithinLimit looks limits (get_or writers n d) → IsLeastRank (Made (n + 1)) least
+  made_same lacks =
+      let more = first_more (IsMadeWithin looks limits) writers n d below in
+      least_same (Made n) (Made (n + 1)) least (λ j old. (more j).0 (inl old)) (λ j has. elim ((more j).1 has) [ inl old ↦ old | inr it ↦ absurd (lacks it.1) ]) is
 
 -- one more in a table
 pub table_more : (P : ℕ → ℕ → Type 0) (n : ℕ) (xs : List ℕ) (new : ℕ) → length xs ≡ n → ((i e : ℕ) → i < n → P i (get_or xs i e)) → P n new

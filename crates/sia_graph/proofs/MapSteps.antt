@@ -1,12 +1,12 @@
 -- Steps of the maps and sets of a replay.
-use Rattle.std.proofs.Common.{◌≡◌, ◌≢◌, inl, inr, ℕ, zero, suc, ◌+◌, ◌<◌, ◌≤◌, Bool, true, false, cond, List, [], ◌∷◌, length, get_or, set, drop, slice_get, Option, Some, None, unwrap_or, ap, sym, ◌∙◌, refl, subst, arith}
+use Rattle.std.proofs.Common.{◌≡◌, ◌≢◌, ◌⊎◌, inl, inr, ℕ, zero, suc, ◌+◌, ◌<◌, ◌≤◌, Bool, true, false, cond, List, [], ◌∷◌, length, get_or, set, drop, slice_get, Option, Some, None, unwrap_or, ap, sym, ◌∙◌, refl, subst, arith}
 use Rattle.std.specs.Prelude.{All, AllPairs, Contains, IsTrue, ◌↔◌}
-use Rattle.std.specs.BTreeMap.{BTreeMap, get, Updates}
+use Rattle.std.specs.BTreeMap.{BTreeMap, get, is_at, Updates}
 use Rattle.std.specs.Option.{is_some}
 use Rattle.std.specs.BTreeSet.{BTreeSet, contains}
 use Rattle.std.specs.BTreeSet as bag
 use Rattle.std.specs.Ordering.{nat_cmp}
-use Rattle.std.proofs.lemmas.Bool.{cases_lt, cases_eq, eq-eqb, ne_eqb}
+use Rattle.std.proofs.lemmas.Bool.{cases_lt, cases_eq, eq-eqb, le-ltb, lt-ltb, ne_eqb}
 use Rattle.std.proofs.lemmas.List.{get_or-set_same, get_or-set_other, length-set, get_or_default}
 use Rattle.std.proofs.lemmas.Option.{same_Some, slice_get_within}
 use Rattle.sia_events.specs.declared.event.Event.{Event}
@@ -19,7 +19,23 @@ use Rattle.sia_events.proofs.WellFormed.{one_commit}
 use Rattle.sia_graph.specs.Replaying.{AreCommits, AreFirsts, AreNext, first_at, version_in}
 use Rattle.sia_graph.proofs.Facts.{same_committer}
 use Rattle.sia_graph.proofs.ChainOf.{drop_at}
-use Rattle.sia_graph.proofs.Releasing.{same_is_at, other_is_at, inserted}
+
+same_is_at : (k q : ℕ) → k ≡ q → is_at (nat_cmp k) q ≡ true
+same_is_at k q e = let a = le-ltb k q (omega arith) in let b = eq-eqb k q e in rw (a, b)
+
+other_is_at : (k q : ℕ) → k ≢ q → is_at (nat_cmp k) q ≡ false
+other_is_at k q n = elim (cases_lt k q) [
+  | inl less ↦ let a = lt-ltb k q less in rw a
+  | inr more ↦ let a = le-ltb k q more in let b = ne_eqb k q n in rw (a, b)
+]
+
+inserted : (s n : BTreeSet ℕ) (k : ℕ) → bag.Updates nat_cmp s n k true → (t : ℕ) → IsTrue (contains nat_cmp n t) ↔ (IsTrue (contains nat_cmp s t) ⊎ (k ≡ t))
+inserted s n k u t = elim (cases_eq k t) [
+  | inl e ↦ (λ _. inr e, λ _. u.0 t ∙ ap (λ b. cond b true (contains nat_cmp s t)) (same_is_at k t e))
+  | inr other ↦
+      let same : contains nat_cmp n t ≡ contains nat_cmp s t = u.0 t ∙ ap (λ b. cond b true (contains nat_cmp s t)) (other_is_at k t other) in
+      (λ c. inl (sym same ∙ c), λ c. elim c [ inl d ↦ same ∙ d | inr e ↦ absurd (other e) ])
+]
 
 module _ (m n : BTreeMap ℕ ℕ) (k v : ℕ) (u : Updates nat_cmp m n k (Some v)) where
   pub get_same : (q : ℕ) → k ≡ q → get nat_cmp n q ≡ Some v

@@ -103,12 +103,6 @@ module _ (h : List Event) (txns keys : List ℕ) (looks : Looks) (is : IsEvidenc
     | inr none ↦ omega arith
   ]
 
-  pub txns_few : length txns ≤ 1048576
-  txns_few = elim (cases_lt 0 (length txns)) [
-    | inl some ↦ let i = length txns - 1 in let f = few_committed h is.well_formed i (get_or txns i 0) (txns, is.txns_are, (omega arith), refl) in omega arith
-    | inr none ↦ omega arith
-  ]
-
   abbrev W : List Look
   W = looks.writers.items
 
@@ -217,10 +211,19 @@ module _ (h : List Event) (txns keys : List ℕ) (looks : Looks) (is : IsEvidenc
         let other = differ a.txn r.txn v.0 m.0 v.1.0 of.0 f.2.2 in
         (a.txn, r.txn, v.0, m.0, v.1.0, of.0, (m.1, inr (inl ((wr_looks h is.well_formed looks is.looks_are v.0 m.0 m.1).1 (other, a, r, newest.0, f.1, v.1, of, newest.2)))), f.2.3, f.2.2)
 
+    -- the newest version up to a writer's own is its own
+    none_newer : (n : ℕ) → ¬ FromSome (IsNewestStep size W) W n
+    none_newer n f =
+        let newest = f.2.1 in
+        let low = newest.2 in
+        let most = newest.3 f.0 f.1 refl (omega arith) in
+        f.2.2 (can_search.one f.2.0 f.0 newest.0 f.1 newest.1 (omega arith))
+
     member_edge : (n : ℕ) → IsMemberStep size W R n → IsEdgeStep n
-    member_edge n (inl f) = next_writer_edge n f
-    member_edge n (inr (inl f)) = next_reader_edge n f
-    member_edge n (inr (inr f)) = newest_edge n f
+    member_edge n (inl (w, c, inl f)) = next_writer_edge n (w, c, f)
+    member_edge n (inl (w, c, inr f)) = absurd (none_newer n (w, c, f))
+    member_edge n (inr (r, c, inl f)) = next_reader_edge n (r, c, f)
+    member_edge n (inr (r, c, inr f)) = newest_edge n (r, c, f)
 
     -- block b is over some key of which u's transaction made the first version
     abbrev IsAbove : ℕ → ℕ → Type 0
@@ -403,7 +406,7 @@ module _ (h : List Event) (txns keys : List ℕ) (looks : Looks) (is : IsEvidenc
         let e = one_commit h is.well_formed u c n.2.0 (subst (λ x. CommitsAt h x c) same n.1.1) n.2.1.1 in
         omega arith in
         by_step w.0.txn a.txn t u of.0.0 next.2 (narrow.members (step_number (node_of size w.0.txn) (node_of size a.txn))
-        (inl (w.0, w.1, (a, subst (λ x. IsNext W w.0.key x a) (sym of.1) next.1, apart w.0.txn a.txn t u of.0.0 next.2 other, refl))))
+        (inl (w.0, w.1, inl (a, subst (λ x. IsNext W w.0.key x a) (sym of.1) next.1, apart w.0.txn a.txn t u of.0.0 next.2 other, refl))))
 
     narrow_wr : (k t u : ℕ) → NarrowWrEdge h t u k → By t u
     narrow_wr k t u n =
@@ -425,7 +428,7 @@ module _ (h : List Event) (txns keys : List ℕ) (looks : Looks) (is : IsEvidenc
                 λ b i same up. omega arith,
               ) in
               let other : w.0.txn ≢ look.txn = apart w.0.txn look.txn t u of.0.0 r.2.0 (looked_saw h u k c t n.2 n.1.1).2 in
-              by_step w.0.txn look.txn t u of.0.0 r.2.0 (narrow.members (step_number (node_of size w.0.txn) (node_of size look.txn)) (inr (inr (look, r.1, (w.0, newest, other, refl)))))
+              by_step w.0.txn look.txn t u of.0.0 r.2.0 (narrow.members (step_number (node_of size w.0.txn) (node_of size look.txn)) (inr (look, r.1, inr (w.0, newest, other, refl))))
           | inr none ↦ let z = none.0 in absurd (omega arith)
         ]
 
@@ -500,7 +503,7 @@ module _ (h : List Event) (txns keys : List ℕ) (looks : Looks) (is : IsEvidenc
               let next = next_is k c u look.key n.4 r.2.1 in
               let a = next.0 in
               by_step look.txn a.txn t u r.2.0 next.2 (narrow.members (step_number (node_of size look.txn) (node_of size a.txn))
-              (inr (inl (look, r.1, (a, subst (λ x. IsNext W look.key x a) same next.1, apart look.txn a.txn t u r.2.0 next.2 n.0, refl)))))
+              (inr (look, r.1, inl (a, subst (λ x. IsNext W look.key x a) same next.1, apart look.txn a.txn t u r.2.0 next.2 n.0, refl))))
           | inr none ↦
               let s = none.1 in
               let at = none.3 in

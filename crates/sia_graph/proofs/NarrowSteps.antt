@@ -97,9 +97,6 @@ firsts_more writers key old mid new before here =
     ])
     (adds_both (IsFirstNumber key writers) (IsFirstOf writers key) old mid new before here)
 
-pub firsts_none : (writers : List Look) (old : List ℕ) → Adds (IsFirstNumber 0 writers) old old
-firsts_none writers old = adds_nothing (IsFirstNumber 0 writers) old (λ n w. let l = w.1 in omega arith)
-
 -- a list in order that holds what was added to none
 pub firsts_made : (size : ℕ) (writers : List Look) (made firsts : List ℕ) → Adds (IsFirstNumber size writers) [] made → IsStrictlySortedBy nat_cmp firsts
     → ((n : ℕ) → Contains made n → Contains firsts n) → ((n : ℕ) → Contains firsts n → Contains made n) → AreFirsts size writers firsts

@@ -1,5 +1,5 @@
 -- Which writer of a key is the first after a place, and which the last up to it, of writers that stand by key and commit.
-use Rattle.std.proofs.Common.{◌≡◌, ◌≢◌, inl, inr, ℕ, ◌+◌, ◌*◌, ◌<◌, ◌≤◌, List, Option, Some, None, length, ap, ◌∙◌, arith}
+use Rattle.std.proofs.Common.{◌≡◌, ◌≢◌, inl, inr, ℕ, ◌+◌, ◌*◌, ◌<◌, ◌≤◌, List, Option, Some, None, length, get_or, ap, ◌∙◌, arith}
 use Rattle.std.specs.Prelude.{All, Contains, MatchOption}
 use Rattle.std.specs.List.{AllWithin}
 use Rattle.std.proofs.lemmas.Bool.{cases_lt}
@@ -31,19 +31,19 @@ module _ (writers : List Look) (rise : RiseByRank writers) (small : All (λ a. a
       let f = ap look_rank d.2 in
       omega arith
 
-  -- where none stands after, or what does is of another key
-  pub none_next : length writers ≤ at → (a : Look) → Contains writers a → a.key ≡ key → a.high ≤ place
-  none_next all a c same = let r = stands_before a c (let b = c.1 in omega arith) in omega arith
-
-  pub none_next_of : (x : Look) (there : Contains writers x) → there.0 ≡ at → x.key ≢ key → (a : Look) → Contains writers a → a.key ≡ key → a.high ≤ place
-  none_next_of x there is other a c same = elim (cases_lt c.0 at) [
+  -- where none stands there, or what does is of another key
+  pub none_next : ((d : Look) → at < length writers → (get_or writers at d).key ≢ key) → (a : Look) → Contains writers a → a.key ≡ key → a.high ≤ place
+  none_next other a c same = elim (cases_lt c.0 at) [
     | inl l ↦ let r = stands_before a c l in omega arith
     | inr l ↦
-        let r = rises x a there c (omega arith) in
+        let within : at < length writers = let b = c.1 in omega arith in
+        let x = get_or writers at a in
+        let there : Contains writers x = (at, within, get_or_default writers at x a within) in
+        let r = rises x a there c l in
         let s = stands_after x there (omega arith) in
         let f = is_small a c in
         let g = is_small x there in
-        absurd (other (omega arith))
+        absurd (other a within (omega arith))
   ]
 
   pub is_next : (x : Look) (there : Contains writers x) → there.0 ≡ at → x.key ≡ key → IsNext writers key place x
@@ -57,14 +57,16 @@ module _ (writers : List Look) (rise : RiseByRank writers) (small : All (λ a. a
     ],
   )
 
-  pub none_newest_of : (x : Look) (there : Contains writers x) → there.0 + 1 ≡ at → x.key ≢ key → (a : Look) → Contains writers a → a.key ≡ key → place < a.high
-  none_newest_of x there is other a c same = elim (cases_lt c.0 at) [
+  pub none_newest : (m : ℕ) → m + 1 ≡ at → m < length writers → ((d : Look) → m < length writers → (get_or writers m d).key ≢ key) → (a : Look) → Contains writers a → a.key ≡ key → place < a.high
+  none_newest m one within other a c same = elim (cases_lt c.0 at) [
     | inl l ↦
+        let x = get_or writers m a in
+        let there : Contains writers x = (m, within, get_or_default writers m x a within) in
         let r = rises a x c there (omega arith) in
         let s = stands_before x there (omega arith) in
         let f = is_small a c in
         let g = is_small x there in
-        absurd (other (omega arith))
+        absurd (other a within (omega arith))
     | inr l ↦ let r = stands_after a c l in omega arith
   ]
 

@@ -1,12 +1,9 @@
 -- Steps by their ends, and what that says of the edges that they are.
-use Rattle.std.proofs.Common.{◌≡◌, ℕ, ◌+◌, ◌/◌, ◌<◌, cond, List, [], ◌∷◌, ◌++◌, length, get_or, slice_get, map, Some, eqb, refl, ap, sym, ◌∙◌, subst, arith}
+use Rattle.std.proofs.Common.{◌≡◌, ℕ, ◌+◌, ◌<◌, cond, List, [], ◌∷◌, ◌++◌, length, get_or, slice_get, map, Some, eqb, refl, ap, sym, ◌∙◌, subst, arith}
 use Rattle.std.specs.Prelude.{All, Contains}
-use Rattle.std.specs.List.Sorted.{IsNonDecreasing, IsNonDecreasingBy}
-use Rattle.std.proofs.Math.Nat.{div-mul-le_self}
 use Rattle.std.proofs.lemmas.List.{get_or-map, get_or_default, length-map, map-append}
 use Rattle.std.proofs.lemmas.List.Elements.{All-map}
 use Rattle.std.proofs.lemmas.List.Sums.{sum_by-cons}
-use Rattle.std.proofs.lemmas.Nat.{le-div}
 use Rattle.std.proofs.lemmas.Option.{slice_get-get_or, get_or_from_slice_get, slice_get_within}
 use Rattle.sia_parts.specs.declared.finding.Edge.{Edge}
 use Rattle.sia_graph.specs.Fronts.{AreEdgesFrom, AreWaiting, arriving, leads_to}
@@ -14,12 +11,6 @@ use Rattle.sia_graph.specs.NarrowSteps.{edge_of_step, edges_of_steps, step_sourc
 use Rattle.sia_graph.specs.Places.{AreArriving, AreSteps, AreStepsFrom, aims_at, arriving_at}
 use Rattle.sia_graph.proofs.OneTaken.{Joins}
 use Rattle.sia_graph.proofs.Positions.{get_left, get_right}
-
--- a greater step has no lesser source
-pub sources_rise : (steps : List ℕ) → IsNonDecreasing steps → IsNonDecreasingBy step_source steps
-sources_rise steps up i j d l b =
-    let n = get_or steps i d in
-    le-div (n / 4294967296) (get_or steps j d) 4294967296 (omega arith) (let a = div-mul-le_self n 4294967296 in let c = up i j d l b in omega arith)
 
 -- what all have, all have of a stretch and of what follows it
 pub part_all : (P : ℕ → Type 0) (xs before group after : List ℕ) → xs ≡ before ++ (group ++ after) → All P xs → All P group × All P after

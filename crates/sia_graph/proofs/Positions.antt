@@ -83,9 +83,6 @@ false_stands xs t e s = let p = sym e ∙ stands_true xs t s in cc
 pub stands_false : (xs : List ℕ) (t : ℕ) → ¬ Stands xs t → stands xs t ≡ false
 stands_false xs t n = elim (cases_Bool (stands xs t)) [ inl e ↦ absurd (n (true_stands xs t e)) | inr e ↦ e ]
 
-pub stands_or_not : (xs : List ℕ) (t : ℕ) → Stands xs t ⊎ ¬ Stands xs t
-stands_or_not xs t = elim (cases_Bool (stands xs t)) [ inl e ↦ inl (true_stands xs t e) | inr e ↦ inr (false_stands xs t e) ]
-
 -- one more at the end
 pub stands_more : (xs : List ℕ) (t u : ℕ) → Stands xs u → Stands (xs ++ t ∷ []) u
 stands_more xs t u s = (s.0, get_left xs (t ∷ []) s.0 u s.1)

@@ -15,7 +15,7 @@ use Rattle.std.specs.declared.ops.Bound.TheVariants.{Included}
 use Rattle.std.specs.Ordering.{nat_cmp, is_gt}
 use Rattle.std.specs.Option.{IsSome, is_some}
 use Rattle.sia_events.specs.declared.event.Event.TheVariants.{Read, Range, Write}
-use Rattle.sia_graph.specs.Replaying.{Agrees, IsRight, IsWrongAt, version_in}
+use Rattle.sia_graph.specs.Replaying.{Agrees, IsRight, version_in}
 use Rattle.sia_graph.proofs.OneTaken.{no_greater}
 use Rattle.sia_graph.proofs.Facts.{commits_lt}
 
@@ -156,14 +156,8 @@ module _ (h : List Event) (found : ℕ → ℕ) where
   pub read_right : (t key saw : ℕ) → found key ≡ saw → (k : ℕ) → IsRight h found (Read t key saw) k
   read_right t key saw e k v s = s.1 ∙ sym e ∙ ap found (sym s.0)
 
-  pub read_wrong : (t key saw : ℕ) → (found key ≡ saw → ⊥) → IsWrongAt h found (Read t key saw) key (found key)
-  read_wrong t key saw n = (λ r. n (sym (r saw (refl, refl))), (λ k l v s. let e = s.0 in absurd (omega arith)), refl)
-
   pub write_right : (t key : ℕ) → MayFollow h key (found key) t → (k : ℕ) → IsRight h found (Write t key) k
   write_right t key f k e = subst (λ n. MayFollow h n (found n) t) (sym e) f
-
-  pub write_wrong : (t key : ℕ) → ¬ MayFollow h key (found key) t → IsWrongAt h found (Write t key) key (found key)
-  write_wrong t key n = (λ r. n (r refl), (λ k l e. absurd (omega arith)), refl)
 
 -- where all that is listed is right, the rest decides
 pub none_listed_wrong : (found : ℕ → ℕ) (t lo hi : ℕ) (listed : List (ℕ × ℕ)) (r : Option ℕ) → ((k v : ℕ) → Contains listed (k, v) → v ≡ found k)

@@ -6,12 +6,12 @@ use Rattle.std.proofs.lemmas.Bool.{cases_lt, cases_Bool, not-true, not_from_fals
 use Rattle.std.proofs.lemmas.List.{get_or_default}
 use Rattle.std.proofs.lemmas.Option.{same_Some}
 use Rattle.sia_parts.specs.declared.finding.Edge.{Edge}
-use Rattle.sia_graph.specs.Orders.{Leads, IsKeepingOrder, IsLeastOrder}
+use Rattle.sia_graph.specs.Orders.{Leads, IsLeastOrder}
 use Rattle.sia_graph.specs.Cycles.{IsStuckSet, IsSelfFed}
 use Rattle.sia_graph.specs.Fronts.{stands, waiting, IsLastFront}
-use Rattle.sia_graph.specs.Walks.{AreLeft, HasCount, IsFedBack}
+use Rattle.sia_graph.specs.Walks.{AreLeft, HasCount}
 use Rattle.sia_graph.proofs.Positions.{Stands, contains_stands, stands_contains, stands_false, false_stands}
-use Rattle.sia_graph.proofs.Fronts.{none_fed, no_order, whole_front}
+use Rattle.sia_graph.proofs.Fronts.{none_fed, whole_front}
 use Rattle.sia_graph.proofs.Waiting.{some_waits}
 use Rattle.sia_graph.proofs.OneTaken.{Joins, edge_joins}
 
@@ -91,12 +91,6 @@ module _ (ids : List ℕ) (edges : List Edge) (counts front : List ℕ) (last : 
         let leads = w.1 in
         (w.0, subst (λ u. Contains ids u) leads.2 (edge_joins ids edges joins leads.0 leads.1).0, w.2, subst (λ u. Leads (Contains edges) w.0 u) i.2 leads)
 
-    pub fed_back : IsFedBack ids (Contains edges) (HasCount counts)
-    fed_back i l more =
-        let w = source_left (get_or ids i 0) (id_in i l) (left_out i l more) in
-        let p = id_at w.0 w.1 in
-        (p.0, (p.1, out_left p.0 p.1 (subst (λ u. ¬ Stands front u) (sym p.2) w.2), subst (λ u. Leads (Contains edges) u (get_or ids i 0)) (sym p.2) w.3))
-
     left_fed : IsSelfFed (Contains ids) (Contains edges) left_ones
     left_fed t c =
         let w = left_iff t c in
@@ -109,10 +103,6 @@ module _ (ids : List ℕ) (edges : List Edge) (counts front : List ℕ) (last : 
       greatest = λ set fed t c. iff_left t (fed t c).0
           (λ s. none_fed (Contains ids) (Contains edges) front last.is_front.closed (λ u. Contains set u) (λ u d. let w = fed u d in (w.1, w.2, w.3)) t s c);
     }
-
-    pub no_order_keeps : (start : ℕ) → start < length ids → 0 < get_or counts start 0 → (order : List ℕ) → ¬ IsKeepingOrder (Contains ids) (Contains edges) order
-    no_order_keeps start l more =
-        no_order (Contains ids) (Contains edges) (λ u. Contains left_ones u) left_fed (get_or ids start 0) (iff_left (get_or ids start 0) (id_in start l) (left_out start l more))
 
     pub whole_order : ((i : ℕ) → i < length counts → get_or counts i 0 ≡ 0) → IsLeastOrder (Contains ids) (Contains edges) front
     whole_order none =

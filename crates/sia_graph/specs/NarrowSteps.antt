@@ -46,6 +46,10 @@ IsNextStep size writers look n = (a : Look) × IsNext writers look.key look.low 
 abbrev pub IsNewestStep : ℕ → List Look → Look → ℕ → Type 0
 IsNewestStep size writers look n = (a : Look) × IsNewest writers look.key look.high a × (a.txn ≢ look.txn) × (n ≡ step_number (node_of size a.txn) (node_of size look.txn))
 
+-- both
+abbrev pub IsLookStep : ℕ → List Look → Look → ℕ → Type 0
+IsLookStep size writers look n = IsNextStep size writers look n ⊎ IsNewestStep size writers look n
+
 -- from a block to its halves
 abbrev pub IsHalfStep : ℕ → ℕ → Type 0
 IsHalfStep size n = (h : ℕ) × (0 < h) × (h < size) × ((n ≡ step_number h (2 * h)) ⊎ (n ≡ step_number h (2 * h + 1)))
@@ -86,9 +90,9 @@ HasAbsenceSteps size firsts s steps = (j : ℕ) → j < size → IsMissedAt firs
 abbrev pub KeepsAll : List ℕ → List ℕ → Type 0
 KeepsAll old new = (n : ℕ) → Contains old n → Contains new n
 
--- steps from versions to the next ones, from those who saw versions to the next ones, and to these from the newest that they saw
+-- steps of those who made versions, and of those who saw some
 abbrev pub IsMemberStep : ℕ → List Look → List Look → ℕ → Type 0
-IsMemberStep size writers readers n = FromSome (IsNextStep size writers) writers n ⊎ FromSome (IsNextStep size writers) readers n ⊎ FromSome (IsNewestStep size writers) readers n
+IsMemberStep size writers readers n = FromSome (IsLookStep size writers) writers n ⊎ FromSome (IsLookStep size writers) readers n
 
 -- all steps: those that there are, and those that there must be
 pub record AreNarrowSteps (size : ℕ) (writers readers : List Look) (absences : List Absence) (steps : List ℕ) : Type 0 where

@@ -1,6 +1,7 @@
 -- Steps between places, which are the nodes 0, 1, 2 and so on.
-use Rattle.std.specs.Prelude.{◌≡◌, ◌≢◌, ◌⊎◌, ℕ, ◌<◌, ◌≤◌, ◌==◌, Bool, List, All, count_by, length, slice_index}
+use Rattle.std.specs.Prelude.{◌≡◌, ◌≢◌, ◌⊎◌, ℕ, ◌<◌, ◌≤◌, ◌==◌, Bool, List, All, count_by, length, slice_index, slice_index_or}
 use Rattle.std.specs.List.Sorted.{IsNonDecreasing, IsStrictlyIncreasing}
+use Rattle.sia_parts.specs.declared.finding.Edge.{Edge}
 use Rattle.sia_graph.specs.Groups.{IsGroup}
 use Rattle.sia_graph.specs.NarrowSteps.{step_source, step_target}
 
@@ -10,6 +11,14 @@ pub record AreSteps (ids steps : List ℕ) : Type 0 where
   pub are_places : (i : ℕ) → i < length ids → slice_index ids i ≡ i
   pub joins : All (λ n. (step_source n < length ids) × (step_target n < length ids) × (step_source n ≢ step_target n)) steps
   pub rise : IsNonDecreasing steps
+
+-- n leads from the place of the edge's source to that of its target
+abbrev pub IsStepOf : List ℕ → Edge → ℕ → Type 0
+IsStepOf ids e n = (step_source n < length ids) × (slice_index ids (step_source n) ≡ e.src) × (step_target n < length ids) × (slice_index ids (step_target n) ≡ e.dst)
+
+-- each edge has its step at its own place
+abbrev pub AreStepsOf : List ℕ → List Edge → List ℕ → Type 0
+AreStepsOf ids edges steps = (length steps ≡ length edges) × ((i : ℕ) (d : Edge) → i < length edges → IsStepOf ids (slice_index_or edges i d) (slice_index steps i))
 
 -- n leads to the place i
 abbrev pub aims_at : ℕ → ℕ → Bool

@@ -1,29 +1,29 @@
--- How taking the committed transactions one after another ends: with the least order of all, or with some that are left.
-use Rattle.std.specs.Prelude.{◌≡◌, ◌↔◌, ℕ, ◌+◌, ◌*◌, ◌<◌, Bool, false, List, map, Contains, IsTrue, length, slice_index, slice_index_or}
+-- How taking members one after another ends: with the least order of all, or with some that are left.
+use Rattle.std.specs.Prelude.{◌≡◌, ◌↔◌, ℕ, ◌+◌, ◌*◌, ◌<◌, Bool, false, List, map, Contains, IsTrue, length, slice_index_or}
 use Rattle.std.specs.List.{range_with_len}
-use Rattle.sia_events.specs.declared.event.Event.{Event}
-use Rattle.sia_events.specs.Transactions.{IsCommitted}
-use Rattle.sia_parts.specs.Entries.{IsEdge}
-use Rattle.sia_graph.specs.declared.narrow.ordering.Taken.{Taken}
-use Rattle.sia_graph.specs.declared.narrow.ordering.Taken.TheVariants.{Whole, Rest}
+use Rattle.sia_parts.specs.declared.finding.Edge.{Edge}
+use Rattle.sia_graph.specs.declared.taking.Taken.{Taken}
+use Rattle.sia_graph.specs.declared.taking.Taken.TheVariants.{Whole, Rest}
 use Rattle.sia_graph.specs.Blocks.{without_blocks}
 use Rattle.sia_graph.specs.Cycles.{IsStuckSet}
 use Rattle.sia_graph.specs.NarrowSteps.{edges_of_steps, name_of}
 use Rattle.sia_graph.specs.Orders.{IsKeepingOrder, IsLeastOrder}
+use Rattle.sia_graph.specs.Previous.{IsLeftIn}
+use Rattle.sia_graph.specs.Walks.{AreLeft}
 
--- for each transaction whether it is left; one is, and those that are can't be put in order
-pub record AreLeftOver (h : List Event) (txns : List ℕ) (left : List Bool) : Type 0 where
-  pub long : length left ≡ length txns
-  pub some : (i : ℕ) × (i < length txns) × IsTrue (slice_index_or left i false)
-  pub none_keeps : (order : List ℕ) → ¬ IsKeepingOrder (IsCommitted h) (IsEdge h) order
+-- for each of ids, which are the members, whether it is left; one is, and those that are can't be put in order
+pub record AreLeftOver (IsMember : ℕ → Type 0) (IsEdge : Edge → Type 0) (ids : List ℕ) (left : List Bool) : Type 0 where
+  pub long : length left ≡ length ids
+  pub some : (i : ℕ) × (i < length left) × IsLeftIn left i
+  pub none_keeps : (order : List ℕ) → ¬ IsKeepingOrder IsMember IsEdge order
   pub stuck : List ℕ
-  pub is_stuck : IsStuckSet (IsCommitted h) (IsEdge h) stuck
-  pub each : (t : ℕ) → Contains stuck t ↔ ((i : ℕ) × (i < length txns) × (slice_index txns i ≡ t) × IsTrue (slice_index_or left i false))
+  pub is_stuck : IsStuckSet IsMember IsEdge stuck
+  pub each : AreLeft ids (IsLeftIn left) stuck
 
 -- the least order that keeps every edge, or who is left where none does
-abbrev pub IsTaken : List Event → List ℕ → Taken → Type 0
-IsTaken h txns (Whole order) = IsLeastOrder (IsCommitted h) (IsEdge h) order.items
-IsTaken h txns (Rest left) = AreLeftOver h txns left.items
+abbrev pub IsTaken : (ℕ → Type 0) → (Edge → Type 0) → List ℕ → Taken → Type 0
+IsTaken IsMember IsEdge ids (Whole order) = IsLeastOrder IsMember IsEdge order.items
+IsTaken IsMember IsEdge ids (Rest left) = AreLeftOver IsMember IsEdge ids left.items
 
 -- the nodes, where blocks are over so many keys
 abbrev pub node_list : ℕ → List ℕ → List ℕ

@@ -1,17 +1,21 @@
 //! Pivots, the least order or a cycle, and the replay of a history by an order.
 #![tactic(auto)]
 
+mod cycle;
 mod laws;
 mod narrow;
 mod pivot;
 mod pivoting;
 mod replaying;
+mod searching;
 mod settling;
+mod taking;
 
 pub use laws::{
     blocks_law, closure_law, firsts_law, listing_law, pivot_law, replay_law, ssi_law, stand_in_law,
 };
 pub use narrow::Evidence;
+pub use narrow::dangerous::{Dangerous, dangerous_of};
 pub use narrow::judging::{passes, settle_looks};
 pub use pivot::Pivot;
 pub use pivoting::lifetimes::{Lifetime, lifetimes_of};

@@ -1,14 +1,13 @@
 //! The verdict of a history from narrow edges: few steps that lead wherever all its edges lead.
 mod absence_steps;
-mod absences;
 mod all_steps;
 pub(crate) mod blocks;
 mod by_transaction;
-mod cycle;
+pub(crate) mod cycle;
+pub(crate) mod dangerous;
 mod earlier;
 mod extremes;
 mod firsts;
-mod grouped;
 pub(crate) mod judging;
 mod least_edges;
 mod limits;
@@ -18,7 +17,6 @@ mod previous;
 mod ranked;
 mod sources;
 mod steps;
-mod taking;
 mod two;
 mod versions;
 

@@ -1,18 +1,17 @@
 //! The least order of transactions that keeps their dependencies, or where none does a cycle of these.
-ghost use Rattle.std.specs.Prelude.{◌≡◌, ◌≢◌, ℕ, ◌<◌, All, AllPairs, Contains, IfOk, MatchOption, length, slice_index};
+ghost use Rattle.std.specs.Prelude.{◌≡◌, ◌≢◌, All, AllPairs, Contains, IfOk};
 ghost use Rattle.std.specs.List.Sorted.{IsStrictlyIncreasing};
 ghost use Rattle.sia_events.specs.Lists.{Precedes};
 ghost use Rattle.sia_parts.specs.Entries.{edge_rank};
 ghost use Rattle.sia_graph.specs.Verdicts.{IsVerdict};
 
-pub(crate) mod adjacency;
-pub(crate) mod taking;
+pub(crate) mod listed;
 pub(crate) mod txns;
-pub(crate) mod walking;
 
-use crate::settling::taking::{count_edges, take_ready};
+use crate::cycle::{EdgesIn, cycle_of};
+use crate::settling::listed::{least_sources, steps_between};
 use crate::settling::txns::Txns;
-use crate::settling::walking::cycle_from;
+use crate::taking::{Taken, take_nodes};
 use sia_events::{Key, NoMemory, TxnId};
 use sia_parts::{Edge, Kind};
 use std::alloc::Global;
@@ -64,14 +63,6 @@ pub enum Verdict {
     Cycle(Steps),
 }
 
-/// The first position with a count that isn't 0.
-pub(crate) fn first_left(counts: &[usize]) -> Option<usize>
-    ensures { MatchOption result ((i : ℕ) → i < length counts.now → slice_index counts.now i ≡ 0)
-        (λ start. (start < length counts.now) × (0 < slice_index counts.now start) × ((i : ℕ) → i < start → slice_index counts.now i ≡ 0)) }
-{
-    counts.iter().position(|count| *count > 0)
-}
-
 /// The least order of the ids that keeps the edges, or where none does the cycle that is printed.
 pub fn settle(alloc: Global, ids: &[TxnId], edges: &[Edge]) -> Result<Verdict, NoMemory>
     requires ids { IsStrictlyIncreasing ids.now }
@@ -79,14 +70,14 @@ pub fn settle(alloc: Global, ids: &[TxnId], edges: &[Edge]) -> Result<Verdict, N
     requires sorted { AllPairs (λ d e. Precedes (edge_rank d) (edge_rank e)) edges.now }
     ensures { IfOk result (IsVerdict (Contains ids.now) (Contains edges.now)) }
 {
-    let mut counted = count_edges(alloc, ids, edges)?;
-    let counts = counted.as_mut_slice();
-    let order = take_ready(alloc, ids, edges, counts)?;
-    match first_left(counts) {
-        None => Ok(Verdict::Order(Txns::new(order))),
-        Some(start) => {
-            let steps = cycle_from(alloc, ids, edges, counts, start)?;
-            Ok(Verdict::Cycle(Steps { steps }))
+    let steps = steps_between(alloc, ids, edges)?;
+    let taken = take_nodes(alloc, 0, ids, &steps)?;
+    match taken {
+        Taken::Whole(order) => Ok(Verdict::Order(Txns::new(order))),
+        Taken::Rest(left) => {
+            let previous = least_sources(alloc, ids, &steps, edges, &left)?;
+            let cycle = cycle_of(alloc, &EdgesIn::Listed(edges), ids, &left, &previous)?;
+            Ok(Verdict::Cycle(Steps { steps: cycle }))
         }
     }
 }

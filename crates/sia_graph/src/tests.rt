@@ -11,6 +11,7 @@ use std::alloc::Global;
 use std::process::Abort;
 use std::test::Fail;
 
+mod dangerous_structures;
 mod replays;
 mod structures;
 

@@ -7,7 +7,8 @@ ghost use Rattle.sia_graph.specs.KeyBlocks.{IsUnderSome};
 ghost use Rattle.sia_graph.specs.NarrowSteps.{FitsKeys, HasAbsenceSteps, IsAbsenceStep, IsMissedAt, KeepsAll, step_number};
 
 use crate::narrow::blocks::put_blocks;
-use crate::narrow::steps::{node, step, target_of};
+use crate::narrow::steps::node;
+use crate::taking::numbers::{step, target_of};
 use sia_events::NoMemory;
 use sia_parts::Absence;
 use std::alloc::Global;

@@ -6,7 +6,7 @@ ghost use Rattle.sia_graph.specs.NarrowSteps.{AreNarrowSteps, CanSearch, FitsKey
 
 use crate::narrow::absence_steps::put_absence_steps;
 use crate::narrow::firsts::firsts_of;
-use crate::narrow::steps::{put_half_steps, put_leaf_steps, put_newest_steps, put_next_steps};
+use crate::narrow::steps::{put_half_steps, put_leaf_steps, put_look_steps};
 use sia_events::NoMemory;
 use sia_index::ordering::put_in_order;
 use sia_parts::{Absence, Look, Looks};
@@ -23,9 +23,8 @@ fn put_member_steps(
     requires few { (size ≤ 1048576) × All (λ a. a.txn < 1048576) readers.now }
     ensures { OnOk result (Adds (IsMemberStep size writers.now readers.now) steps.old.items steps.new.items) }
 {
-    put_next_steps(size, writers, writers, steps)?;
-    put_next_steps(size, writers, readers, steps)?;
-    put_newest_steps(size, writers, readers, steps)?;
+    put_look_steps(size, writers, writers, steps)?;
+    put_look_steps(size, writers, readers, steps)?;
     Ok(())
 }
 

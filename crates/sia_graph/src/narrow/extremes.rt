@@ -5,7 +5,7 @@ ghost use Rattle.sia_events.specs.Isolation.{IsolationKept};
 ghost use Rattle.sia_graph.specs.Evidence.{IsEvidence};
 
 use crate::narrow::Evidence;
-use crate::narrow::limits::{none_early, ranks_of};
+use crate::narrow::limits::{limits_in, none_early};
 use crate::pivoting::lifetimes::lifetimes_of;
 use sia_events::NoMemory;
 use std::alloc::Global;
@@ -17,9 +17,8 @@ pub(crate) fn passes_looks(alloc: Global, evidence: &Evidence) -> Result<bool, N
     requires kept { IsolationKept evidence.now.index.now }
     ensures { IfOk result (λ passes. IsTrue passes ↔ PassesSsi evidence.now.index.now) }
 {
-    let size = evidence.keys.len() as u32;
     let lifetimes = lifetimes_of(alloc, evidence.index, evidence.txns)?;
-    let ranks = ranks_of(alloc, &lifetimes)?;
-    let passes = none_early(alloc, evidence.looks, &lifetimes, &ranks, size)?;
+    let limits = limits_in(alloc, evidence, &lifetimes)?;
+    let passes = none_early(alloc, evidence, &limits)?;
     Ok(passes)
 }

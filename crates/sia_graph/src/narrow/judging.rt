@@ -8,11 +8,12 @@ ghost use Rattle.sia_graph.specs.Evidence.{IsEvidence};
 ghost use Rattle.sia_graph.specs.Verdicts.{IsVerdict};
 
 use crate::narrow::Evidence;
-use crate::narrow::cycle::cycle_of;
+use crate::narrow::cycle::cycle_of_left;
 use crate::narrow::extremes::passes_looks;
-use crate::narrow::ordering::{Taken, take_members};
+use crate::narrow::ordering::take_members;
 use crate::settling::txns::Txns;
 use crate::settling::{Steps, Verdict};
+use crate::taking::Taken;
 use sia_events::NoMemory;
 use sia_parts::{BadRead, BadWrite};
 use std::alloc::Global;
@@ -26,7 +27,7 @@ pub fn settle_looks(alloc: Global, evidence: &Evidence) -> Result<Verdict, NoMem
     match take_members(alloc, evidence)? {
         Taken::Whole(order) => Ok(Verdict::Order(Txns::new(order))),
         Taken::Rest(left) => {
-            let steps = cycle_of(alloc, evidence, &left)?;
+            let steps = cycle_of_left(alloc, evidence, &left)?;
             Ok(Verdict::Cycle(Steps::new(steps)))
         }
     }
@@ -52,7 +53,7 @@ pub fn passes(
 }
 
 /// Whether both lists are empty.
-fn are_none(bad_reads: &[BadRead], bad_writes: &[BadWrite]) -> bool
+pub(crate) fn are_none(bad_reads: &[BadRead], bad_writes: &[BadWrite]) -> bool
     ensures { IsTrue result ↔ ((bad_reads.now ≡ []) × (bad_writes.now ≡ [])) }
 {
     bad_reads.is_empty() && bad_writes.is_empty()

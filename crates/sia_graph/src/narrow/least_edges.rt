@@ -8,9 +8,9 @@ ghost use Rattle.sia_parts.specs.Sights.{FromSome};
 ghost use Rattle.sia_graph.specs.NumberEdges.{AreByTxn, HasMeeting, HasNumberEdge, IsLeastEdge, IsMissedBy, Meets};
 ghost use Rattle.sia_graph.specs.Ranks.{IsLeastRank};
 
-use crate::narrow::absences::absences_of;
-use crate::narrow::grouped::of_txn;
+use crate::narrow::by_transaction::of_txn;
 use crate::narrow::two::NONE;
+use crate::searching::{ByKey, ByTxn, rows_at};
 use sia_parts::{Absence, Kind, Look, Looks};
 
 /// Whether a write and another look at its key make an edge of this kind.
@@ -24,23 +24,12 @@ fn meets(kind: Kind, write: &Look, other: &Look) -> bool
     }
 }
 
-/// The looks at one key, of looks that stand by key.
-fn at_key(looks: &[Look], key: u32) -> &[Look]
-    requires { IsNonDecreasingBy (λ look. look.key) looks.now }
-    ensures { (look : Look) → Contains result.now look ↔ (Contains looks.now look × (look.key ≡ key)) }
-{
-    let first = looks.partition_point(|look| look.key < key);
-    let rest = &looks[first..];
-    let count = rest.partition_point(|look| look.key <= key);
-    &rest[..count]
-}
-
 /// Whether a write makes an edge of this kind with some of the others, which stand by key.
 fn meets_some(kind: Kind, write: &Look, others: &[Look]) -> bool
     requires { IsNonDecreasingBy (λ look. look.key) others.now }
     ensures { IsTrue result ↔ ((b : Look) × Contains others.now b × (b.key ≡ write.now.key) × Meets kind write.now b) }
 {
-    for other in at_key(others, write.key) {
+    for other in rows_at::<Look, ByKey>(others, write.key) {
         if meets(kind, write, other) {
             return true;
         }
@@ -113,13 +102,13 @@ fn least_wr(looks: &Looks, t: u32, u: u32) -> u32
 }
 
 /// The least key of a rw edge from one transaction to another.
-fn least_rw(looks: &Looks, t: u32, u: u32) -> u32
+pub(crate) fn least_rw(looks: &Looks, t: u32, u: u32) -> u32
     requires { AreByTxn looks.now }
     ensures { IsLeastRank (HasNumberEdge looks.now Rw t u) result }
 {
     let writes = of_txn(&looks.writers, u);
     let seen = least_meeting(Kind::Rw, writes, of_txn(&looks.readers, t));
-    let missed = least_missed(absences_of(&looks.absences, t), writes);
+    let missed = least_missed(rows_at::<Absence, ByTxn>(&looks.absences, t), writes);
     seen.min(missed)
 }
 

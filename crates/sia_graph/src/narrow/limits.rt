@@ -1,10 +1,16 @@
 //! Up to which commit a version is too early for one who saw what was before it.
-ghost use Rattle.std.specs.Prelude.{◌≡◌, ◌↔◌, ◌-◌, ◌<◌, ◌≤◌, ℕ, List, All, IfOk, IsTrue, length, map};
+ghost use Rattle.std.specs.Prelude.{◌≡◌, ◌↔◌, ◌-◌, ◌<◌, ◌≤◌, ℕ, List, All, Contains, IfOk, IsTrue, length, map};
+ghost use Rattle.sia_events.specs.Isolation.{IsolationKept};
+ghost use Rattle.sia_parts.specs.declared.looks.Look.{Look};
 ghost use Rattle.sia_parts.specs.declared.looks.Looks.{Looks};
+ghost use Rattle.sia_graph.specs.Early.{IsEarly, TellFirsts};
+ghost use Rattle.sia_graph.specs.Evidence.{IsEvidence};
+ghost use Rattle.sia_graph.specs.Lifetimes.{AreLifetimes};
 ghost use Rattle.sia_graph.specs.Limits.{AreLimits, IsLimit, IsWithinLimit};
-ghost use Rattle.sia_graph.specs.Ranks.{AreRanks};
+ghost use Rattle.sia_graph.specs.Ranks.{AreRanks, IsLeastRank};
 ghost use Rattle.sia_graph.specs.Sources.{AreEarlier, AreSources};
 
+use crate::narrow::Evidence;
 use crate::narrow::earlier::Earlier;
 use crate::narrow::sources::Sources;
 use crate::narrow::two::NONE;
@@ -17,7 +23,7 @@ use std::alloc::{AllocError, Global};
 const LAST: u32 = u32::MAX - 1;
 
 /// For each commit its rank.
-pub(crate) fn ranks_of(alloc: Global, lifetimes: &[Lifetime]) -> Result<Vec<u32>, AllocError>
+fn ranks_of(alloc: Global, lifetimes: &[Lifetime]) -> Result<Vec<u32>, AllocError>
     ensures { IfOk result (λ ranks. ranks.items ≡ map (λ lifetime. 4294967294 - lifetime.commit) lifetimes.now) }
 {
     lifetimes
@@ -40,7 +46,7 @@ fn limit_of(sources: &Sources, ranks: &[u32], t: u32, commit: u32) -> u32
 }
 
 /// The same of each transaction.
-pub(crate) fn limits_of(
+fn limits_of(
     alloc: Global,
     sources: &Sources,
     ranks: &[u32],
@@ -72,7 +78,7 @@ fn is_within(earlier: &Earlier, made: Look) -> bool
 }
 
 /// Whether no version does.
-pub(crate) fn none_within(earlier: &Earlier, writers: &[Look]) -> bool
+fn none_within(earlier: &Earlier, writers: &[Look]) -> bool
     requires are { (looks : Looks) × (limits : List ℕ) × AreEarlier looks limits earlier.now }
     requires keys { All (λ made. made.key < earlier.now.size) writers.now }
     ensures { (looks : Looks) (limits : List ℕ) → AreEarlier looks limits earlier.now → IsTrue result ↔ All (λ made. ¬ IsWithinLimit looks limits made) writers.now }
@@ -85,25 +91,66 @@ pub(crate) fn none_within(earlier: &Earlier, writers: &[Look]) -> bool
     true
 }
 
-/// Whether no version commits up to the limit of one who saw what was before it, where these are the ranks of all commits.
-/// There are `size` keys.
+/// The least number that made a version that does, or `NONE`.
+fn least_within(earlier: &Earlier, writers: &[Look]) -> u32
+    requires are { (looks : Looks) × (limits : List ℕ) × AreEarlier looks limits earlier.now }
+    requires within { All (λ made. (made.key < earlier.now.size) × (made.txn < 4294967295)) writers.now }
+    ensures { (looks : Looks) (limits : List ℕ) → AreEarlier looks limits earlier.now
+        → IsLeastRank (λ j. (made : Look) × Contains writers.now made × (made.txn ≡ j) × IsWithinLimit looks limits made) result }
+{
+    let mut least = NONE;
+    for made in writers {
+        if is_within(earlier, *made) {
+            least = least.min(made.txn);
+        }
+    }
+    least
+}
+
+/// The limit of each transaction of a history that keeps isolation. These are their lifetimes.
+pub(crate) fn limits_in(
+    alloc: Global,
+    evidence: &Evidence,
+    lifetimes: &[Lifetime],
+) -> Result<Vec<u32>, NoMemory>
+    requires evidence { IsEvidence evidence.now.index.now evidence.now.txns.now evidence.now.keys.now evidence.now.looks.now }
+    requires kept { IsolationKept evidence.now.index.now }
+    requires lived { AreLifetimes evidence.now.index.now evidence.now.txns.now lifetimes.now }
+    ensures { IfOk result (λ limits. TellFirsts evidence.now.index.now evidence.now.txns.now evidence.now.looks.now limits.items) }
+{
+    let size = evidence.keys.len() as u32;
+    let ranks = ranks_of(alloc, lifetimes)?;
+    let sources = Sources::of(alloc, evidence.looks, &ranks, size)?;
+    let limits = limits_of(alloc, &sources, &ranks, lifetimes)?;
+    Ok(limits)
+}
+
+/// Whether no version commits up to one of these limits, of one who saw what was before it.
 pub(crate) fn none_early(
     alloc: Global,
-    looks: &Looks,
-    lifetimes: &[Lifetime],
-    ranks: &[u32],
-    size: u32,
+    evidence: &Evidence,
+    limits: &[u32],
 ) -> Result<bool, NoMemory>
-    requires apart { AreRanks ranks.now }
-    requires few { (length lifetimes.now ≤ 1000000000) × (size ≤ 1000000000) }
-    requires keys { All (λ look. look.key < size) looks.now.writers.items }
-    requires within { All (λ absence. absence.from < absence.to → absence.to ≤ size) looks.now.absences.items }
-    ensures { IfOk result (λ none. (limits : List ℕ) × AreLimits looks.now ranks.now lifetimes.now limits
-        × (IsTrue none ↔ All (λ made. ¬ IsWithinLimit looks.now limits made) looks.now.writers.items)) }
+    requires { IsEvidence evidence.now.index.now evidence.now.txns.now evidence.now.keys.now evidence.now.looks.now }
+    ensures { IfOk result (λ none. IsTrue none ↔ ((j : ℕ) → ¬ IsEarly evidence.now.looks.now limits.now j)) }
 {
-    let sources = Sources::of(alloc, looks, ranks, size)?;
-    let limits = limits_of(alloc, &sources, ranks, lifetimes)?;
-    let earlier = Earlier::of(alloc, looks, &limits, size)?;
-    let none = none_within(&earlier, &looks.writers);
+    let size = evidence.keys.len() as u32;
+    let earlier = Earlier::of(alloc, evidence.looks, limits, size)?;
+    let none = none_within(&earlier, &evidence.looks.writers);
     Ok(none)
+}
+
+/// The least number that made such a version, or `NONE`.
+pub(crate) fn least_early(
+    alloc: Global,
+    evidence: &Evidence,
+    limits: &[u32],
+) -> Result<u32, NoMemory>
+    requires { IsEvidence evidence.now.index.now evidence.now.txns.now evidence.now.keys.now evidence.now.looks.now }
+    ensures { IfOk result (IsLeastRank (IsEarly evidence.now.looks.now limits.now)) }
+{
+    let size = evidence.keys.len() as u32;
+    let earlier = Earlier::of(alloc, evidence.looks, limits, size)?;
+    let least = least_within(&earlier, &evidence.looks.writers);
+    Ok(least)
 }

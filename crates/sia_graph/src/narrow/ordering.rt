@@ -1,82 +1,16 @@
 //! The least order of the committed transactions, or who is left where there is none.
-ghost use Rattle.std.specs.Prelude.{◌≡◌, ◌⊎◌, ◌↔◌, ℕ, ◌+◌, ◌*◌, ◌<◌, ◌≤◌, All, IfOk, IsTrue, false, length, map, slice_index, slice_index_or};
-ghost use Rattle.sia_graph.specs.Blocks.{without_blocks};
+ghost use Rattle.std.specs.Prelude.{IfOk};
+ghost use Rattle.sia_events.specs.Transactions.{IsCommitted};
+ghost use Rattle.sia_parts.specs.Entries.{IsEdge};
 ghost use Rattle.sia_graph.specs.Evidence.{IsEvidence};
-ghost use Rattle.sia_graph.specs.NarrowSteps.{IsSizeFor, name_of};
-ghost use Rattle.sia_graph.specs.Places.{AreSteps};
-ghost use Rattle.sia_graph.specs.Taken.{AreTakenNodes, IsTaken, node_list};
+ghost use Rattle.sia_graph.specs.NarrowSteps.{IsSizeFor};
+ghost use Rattle.sia_graph.specs.Taken.{IsTaken};
 
 use crate::narrow::Evidence;
 use crate::narrow::all_steps::steps_of;
-use crate::narrow::taking::{count_steps, take_steps};
-use crate::settling::first_left;
-use sia_events::{NoMemory, TxnId};
+use crate::taking::{Taken, take_nodes};
+use sia_events::NoMemory;
 use std::alloc::Global;
-
-/// How taking one transaction after another ends.
-#[derive(Debug, Drop)]
-pub(crate) enum Taken {
-    /// The least order that keeps every edge.
-    Whole(Vec<TxnId>),
-    /// Where no order does, for each committed transaction, by its number, whether it is left.
-    Rest(Vec<bool>),
-}
-
-/// The transactions of the nodes that are no blocks, in the same order.
-fn names_of(
-    alloc: Global,
-    size: u32,
-    txns: &[TxnId],
-    nodes: &[usize],
-) -> Result<Vec<TxnId>, NoMemory>
-    requires few { size ≤ 1048576 }
-    requires within { All (λ a. a < 2 * size + length txns.now) nodes.now }
-    ensures { IfOk result (λ names. names.items ≡ map (name_of size txns.now) (without_blocks (2 * size) nodes.now)) }
-{
-    let floor = 2 * size as usize;
-    let mut names = Vec::with_capacity(alloc, txns.len())?;
-    for node in nodes {
-        if *node >= floor {
-            names.push(txns[*node - floor])?;
-        }
-    }
-    Ok(names)
-}
-
-/// Whether each of the last so many counts isn't 0.
-fn left_of(
-    alloc: Global,
-    floor: usize,
-    count: usize,
-    counts: &[usize],
-) -> Result<Vec<bool>, NoMemory>
-    requires { length counts.now ≡ floor + count }
-    ensures long { IfOk result (λ left. length left.items ≡ count) }
-    ensures each { IfOk result (λ left. (i : ℕ) → i < count → IsTrue (slice_index_or left.items i false) ↔ (0 < slice_index counts.now (floor + i))) }
-{
-    let mut left = Vec::with_capacity(alloc, count)?;
-    for i in 0..count {
-        left.push(counts[floor + i] > 0)?;
-    }
-    Ok(left)
-}
-
-/// Takes the nodes, where blocks are over so many keys.
-fn take_nodes(alloc: Global, size: u32, txns: &[TxnId], steps: &[u64]) -> Result<Taken, NoMemory>
-    requires few { (size ≤ 1048576) × (length txns.now ≤ 1048576) }
-    requires steps { AreSteps (node_list size txns.now) steps.now }
-    ensures { IfOk result (AreTakenNodes size txns.now steps.now) }
-{
-    let floor = 2 * size as usize;
-    let places = floor + txns.len();
-    let mut counted = count_steps(alloc, places, steps)?;
-    let counts = counted.as_mut_slice();
-    let order = take_steps(alloc, places, steps, counts)?;
-    match first_left(counts) {
-        None => Ok(Taken::Whole(names_of(alloc, size, txns, &order)?)),
-        Some(_) => Ok(Taken::Rest(left_of(alloc, floor, txns.len(), counts)?)),
-    }
-}
 
 /// How many keys blocks are to be over: none where no one was absent.
 fn size_for(evidence: &Evidence) -> u32
@@ -93,7 +27,7 @@ fn size_for(evidence: &Evidence) -> u32
 /// The least order of the committed transactions that keeps every edge, or who is left where none does.
 pub(crate) fn take_members(alloc: Global, evidence: &Evidence) -> Result<Taken, NoMemory>
     requires { IsEvidence evidence.now.index.now evidence.now.txns.now evidence.now.keys.now evidence.now.looks.now }
-    ensures { IfOk result (IsTaken evidence.now.index.now evidence.now.txns.now) }
+    ensures { IfOk result (IsTaken (IsCommitted evidence.now.index.now) (IsEdge evidence.now.index.now) evidence.now.txns.now) }
 {
     let size = size_for(evidence);
     let steps = steps_of(alloc, size, evidence.looks)?;

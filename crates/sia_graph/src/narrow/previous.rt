@@ -1,7 +1,6 @@
 //! For each transaction the least one that is left and has an edge to it.
 ghost use Rattle.std.specs.Prelude.{◌≡◌, ◌≢◌, ◌+◌, ◌<◌, ◌≤◌, ℕ, true, false, List, All, IfOk, length, min, slice_index};
 ghost use Rattle.sia_parts.specs.declared.looks.Look.{Look};
-ghost use Rattle.sia_events.specs.declared.event.Event.{Event};
 ghost use Rattle.sia_parts.specs.declared.looks.Looks.{Looks};
 ghost use Rattle.sia_parts.specs.Entries.{IsEdge};
 ghost use Rattle.sia_graph.specs.Evidence.{IsEvidence};
@@ -27,7 +26,7 @@ fn rank(is_left: bool, number: u32) -> u32
 }
 
 /// The numbers of those that are left as their ranks.
-fn ranks_of(alloc: Global, left: &[bool]) -> Result<Vec<u32>, NoMemory>
+pub(crate) fn ranks_of(alloc: Global, left: &[bool]) -> Result<Vec<u32>, NoMemory>
     requires { length left.now < 4294967295 }
     ensures long { IfOk result (λ ranks. length ranks.items ≡ length left.now) }
     ensures each { IfOk result (λ ranks. AreLeftRanks left.now ranks.items) }
@@ -125,11 +124,10 @@ pub(crate) fn previous_of(
     left: &[bool],
 ) -> Result<Vec<usize>, NoMemory>
     requires long { length left.now ≡ length evidence.now.txns.now }
-    requires evidence { (h : List Event) × IsEvidence h evidence.now.txns.now evidence.now.keys.now evidence.now.looks.now }
+    requires is { IsEvidence evidence.now.index.now evidence.now.txns.now evidence.now.keys.now evidence.now.looks.now }
     ensures long { IfOk result (λ previous. length previous.items ≡ length left.now) }
     ensures within { IfOk result (λ previous. StaysWithin previous.items) }
-    ensures least { IfOk result (λ previous. (h : List Event) → IsEvidence h evidence.now.txns.now evidence.now.keys.now evidence.now.looks.now
-        → AreLeastSources evidence.now.txns.now (IsEdge h) (IsLeftIn left.now) previous.items) }
+    ensures least { IfOk result (λ previous. AreLeastSources evidence.now.txns.now (IsEdge evidence.now.index.now) (IsLeftIn left.now) previous.items) }
 {
     let size = evidence.keys.len() as u32;
     let previous = least_left(alloc, evidence.looks, size, left)?;

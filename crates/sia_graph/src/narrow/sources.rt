@@ -4,8 +4,8 @@ ghost use Rattle.sia_parts.specs.declared.looks.Looks.{Looks};
 ghost use Rattle.sia_graph.specs.Ranks.{AreRanks, IsLeastRank, IsRankOf};
 ghost use Rattle.sia_graph.specs.Sources.{AreSources, IsSource};
 
+use crate::narrow::by_transaction::{by_txn, of_txn};
 use crate::narrow::earlier::Earlier;
-use crate::narrow::grouped::{by_txn, of_txn};
 use crate::narrow::ranked::rank_of;
 use crate::narrow::two::NONE;
 use sia_events::NoMemory;

@@ -1,32 +1,12 @@
 //! Steps between committed transactions, and through blocks of keys, that lead wherever the edges of a history lead.
 ghost use Rattle.std.specs.Prelude.{◌≡◌, ◌≢◌, ◌⊎◌, ℕ, ◌+◌, ◌*◌, ◌<◌, ◌≤◌, All, OnOk};
 ghost use Rattle.sia_parts.specs.Sights.{Adds, FromSome};
-ghost use Rattle.sia_graph.specs.NarrowSteps.{CanSearch, IsHalfStep, IsLeafStep, IsNewestStep, IsNextStep, node_of, step_number, step_source, step_target};
+ghost use Rattle.sia_graph.specs.NarrowSteps.{CanSearch, IsHalfStep, IsLeafStep, IsLookStep, IsNewestStep, IsNextStep, node_of, step_number, step_source, step_target};
 
 use crate::narrow::versions::{newest_at, next_after};
+use crate::taking::numbers::{source_of, step, target_of};
 use sia_events::NoMemory;
 use sia_parts::Look;
-
-/// A step from one node to another as a single number.
-pub(crate) fn step(source: u32, target: u32) -> u64
-    ensures { result ≡ step_number source target }
-{
-    u64::from(source) * 4294967296 + u64::from(target)
-}
-
-/// The node that a step leads to.
-pub(crate) fn target_of(step: u64) -> u32
-    ensures { result ≡ step_target step }
-{
-    (step % 4294967296) as u32
-}
-
-/// The node that a step leads from.
-pub(crate) fn source_of(step: u64) -> u32
-    ensures { result ≡ step_source step }
-{
-    (step / 4294967296) as u32
-}
 
 /// The node of a committed transaction, where blocks are over so many keys.
 pub(crate) fn node(size: u32, txn: u32) -> u32
@@ -47,49 +27,46 @@ fn put_between(size: u32, source: u32, target: u32, steps: &mut Vec<u64>) -> Res
     Ok(())
 }
 
-/// Adds the step from who made or saw a version to the next version.
-fn put_next(size: u32, writers: &[Look], look: Look, steps: &mut Vec<u64>) -> Result<(), NoMemory>
+/// Adds the step from who made or saw a version to the next version, and gives near which place that stands.
+fn put_next(
+    size: u32,
+    writers: &[Look],
+    look: Look,
+    near: usize,
+    steps: &mut Vec<u64>,
+) -> Result<usize, NoMemory>
     requires writers { CanSearch writers.now }
     requires few { (size ≤ 1048576) × (look.txn < 1048576) }
     ensures { OnOk result (Adds (IsNextStep size writers.now look) steps.old.items steps.new.items) }
 {
-    match next_after(writers, look.key, look.low) {
-        Some(a) => put_between(size, look.txn, a.txn, steps),
-        None => Ok(()),
+    let (next, at) = next_after(writers, look.key, look.low, near);
+    match next {
+        Some(a) => put_between(size, look.txn, a.txn, steps)?,
+        None => {}
     }
-}
-
-/// Adds the steps from who made or saw versions to the next ones.
-pub(crate) fn put_next_steps(
-    size: u32,
-    writers: &[Look],
-    looks: &[Look],
-    steps: &mut Vec<u64>,
-) -> Result<(), NoMemory>
-    requires writers { CanSearch writers.now }
-    requires few { (size ≤ 1048576) × All (λ a. a.txn < 1048576) looks.now }
-    ensures { OnOk result (Adds (FromSome (IsNextStep size writers.now) looks.now) steps.old.items steps.new.items) }
-{
-    for look in looks {
-        put_next(size, writers, *look, steps)?;
-    }
-    Ok(())
+    Ok(at)
 }
 
 /// Adds the step to who saw a version from who made it, or the one before.
-fn put_newest(size: u32, writers: &[Look], look: Look, steps: &mut Vec<u64>) -> Result<(), NoMemory>
+fn put_newest(
+    size: u32,
+    writers: &[Look],
+    look: Look,
+    near: usize,
+    steps: &mut Vec<u64>,
+) -> Result<(), NoMemory>
     requires writers { CanSearch writers.now }
     requires few { (size ≤ 1048576) × (look.txn < 1048576) }
     ensures { OnOk result (Adds (IsNewestStep size writers.now look) steps.old.items steps.new.items) }
 {
-    match newest_at(writers, look.key, look.high) {
+    match newest_at(writers, look.key, look.high, near) {
         Some(a) => put_between(size, a.txn, look.txn, steps),
         None => Ok(()),
     }
 }
 
-/// Adds the steps to who saw versions from who made them.
-pub(crate) fn put_newest_steps(
+/// Adds the steps of those who made or saw versions. Where they stand by key and commit, each is found near the one before.
+pub(crate) fn put_look_steps(
     size: u32,
     writers: &[Look],
     looks: &[Look],
@@ -97,10 +74,12 @@ pub(crate) fn put_newest_steps(
 ) -> Result<(), NoMemory>
     requires writers { CanSearch writers.now }
     requires few { (size ≤ 1048576) × All (λ a. a.txn < 1048576) looks.now }
-    ensures { OnOk result (Adds (FromSome (IsNewestStep size writers.now) looks.now) steps.old.items steps.new.items) }
+    ensures { OnOk result (Adds (FromSome (IsLookStep size writers.now) looks.now) steps.old.items steps.new.items) }
 {
+    let mut near = 0usize;
     for look in looks {
-        put_newest(size, writers, *look, steps)?;
+        near = put_next(size, writers, *look, near, steps)?;
+        put_newest(size, writers, *look, near, steps)?;
     }
     Ok(())
 }

@@ -1,11 +1,11 @@
 //! The overlapping transactions between which an rw edge leads, in lists that are searched by one end.
-ghost use Rattle.std.specs.Prelude.{◌≡◌, ◌↔◌, ℕ, ◌<◌, ◌≤◌, AllPairs, IfOk, IfSome, IsTrue, length, map};
-ghost use Rattle.std.specs.List.{AllWithin};
+ghost use Rattle.std.specs.Prelude.{◌≡◌, ◌↔◌, ℕ, AllPairs, IfOk, IsTrue, map};
 ghost use Rattle.sia_events.specs.Lists.{ListsAscending, Precedes};
 ghost use Rattle.sia_events.specs.Transactions.{Overlap};
 ghost use Rattle.sia_parts.specs.declared.finding.Kind.TheVariants.{Rw};
 ghost use Rattle.sia_graph.specs.Links.{AreEnds, AreLinked, AreLinksAt, ListsLinks, is_rw, link_rank};
 
+use crate::searching::{By, rows_near};
 use sia_events::TxnId;
 use sia_index::Index;
 use sia_index::ordering::{merge_in_order, put_in_order};
@@ -17,6 +17,17 @@ use std::alloc::{AllocError, Global};
 pub struct Link {
     pub at: TxnId,
     pub other: TxnId,
+}
+
+/// By the end that is looked for.
+struct ByEnd;
+
+impl By<Link> for ByEnd {
+    ghost by = { λ link. link.at };
+
+    fn number(row: &Link) -> u64 {
+        u64::from(row.at)
+    }
 }
 
 pub(crate) fn leads_rw(kind: Kind) -> bool
@@ -75,53 +86,6 @@ pub(crate) fn turned(alloc: Global, links: &[Link]) -> Result<Vec<Link>, AllocEr
     Ok(turned)
 }
 
-/// Whether only links at lesser transactions stand before `first`.
-fn starts_there(links: &[Link], first: usize, txn: TxnId) -> bool
-    requires within { first ≤ length links.now }
-    requires sorted { AllPairs (λ k l. Precedes (link_rank k) (link_rank l)) links.now }
-    ensures { IsTrue result → AllWithin (λ l. l.at < txn) links.now 0 first }
-{
-    first == 0 || links[first - 1].at < txn
-}
-
-/// Whether only links at greater transactions stand from `end` on.
-fn ends_there(links: &[Link], end: usize, txn: TxnId) -> bool
-    requires within { end ≤ length links.now }
-    requires sorted { AllPairs (λ k l. Precedes (link_rank k) (link_rank l)) links.now }
-    ensures { IsTrue result → AllWithin (λ l. txn < l.at) links.now end (length links.now) }
-{
-    end == links.len() || txn < links[end].at
-}
-
-/// Whether only links at the transaction stand from `first` to `end`.
-fn is_between(links: &[Link], first: usize, end: usize, txn: TxnId) -> bool
-    requires within { (first ≤ end) × (end ≤ length links.now) }
-    requires sorted { AllPairs (λ k l. Precedes (link_rank k) (link_rank l)) links.now }
-    ensures { IsTrue result → AllWithin (λ l. l.at ≡ txn) links.now first end }
-{
-    first == end || links[first].at == txn && links[end - 1].at == txn
-}
-
-/// The links from `first` to `end`, where these are the links at the transaction.
-fn guessed_links(links: &[Link], first: usize, end: usize, txn: TxnId) -> Option<&[Link]>
-    requires { AllPairs (λ k l. Precedes (link_rank k) (link_rank l)) links.now }
-    ensures { IfSome result (λ group. AreLinksAt links.now txn group.now) }
-{
-    if end < first || links.len() < end {
-        return None;
-    }
-    if !starts_there(links, first, txn) {
-        return None;
-    }
-    if !ends_there(links, end, txn) {
-        return None;
-    }
-    if !is_between(links, first, end, txn) {
-        return None;
-    }
-    Some(&links[first..end])
-}
-
 /// Where the links at a transaction may start: the first place from `near` on that isn't too early.
 pub(crate) fn first_from(links: &[Link], near: usize, txn: TxnId) -> usize {
     for i in near..links.len() {
@@ -132,36 +96,13 @@ pub(crate) fn first_from(links: &[Link], near: usize, txn: TxnId) -> usize {
     links.len()
 }
 
-/// Where they may end, if they start there.
-fn end_from(links: &[Link], first: usize, txn: TxnId) -> usize {
-    for i in first..links.len() {
-        if links[i].at != txn {
-            return i;
-        }
-    }
-    links.len()
-}
-
-/// The links at a transaction, which may start at `near`. This saves a search, and is not relied on.
+/// The links at a transaction, which are looked for from near a guess.
 pub(crate) fn links_at(links: &[Link], near: usize, txn: TxnId) -> &[Link]
     requires { AllPairs (λ k l. Precedes (link_rank k) (link_rank l)) links.now }
     ensures { AreLinksAt links.now txn result.now }
 {
-    match guessed_links(links, near, end_from(links, near, txn), txn) {
-        Some(group) => group,
-        None => searched_links(links, txn),
-    }
-}
-
-/// The same, by a search.
-fn searched_links(links: &[Link], txn: TxnId) -> &[Link]
-    requires { AllPairs (λ k l. Precedes (link_rank k) (link_rank l)) links.now }
-    ensures { AreLinksAt links.now txn result.now }
-{
-    let first = links.partition_point(|l| l.at < txn);
-    let rest = &links[first..];
-    let count = rest.partition_point(|l| l.at <= txn);
-    &rest[..count]
+    let (found, _) = rows_near::<Link, ByEnd>(links, u64::from(txn), near);
+    found
 }
 
 /// Whether there is a link at a transaction, perhaps at `near`.

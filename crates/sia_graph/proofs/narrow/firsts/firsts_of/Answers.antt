@@ -5,7 +5,7 @@ use Rattle.sia_graph.proofs.NarrowSteps.{firsts_more, firsts_made}
 use Rattle.sia_graph.proofs.narrow.firsts.firsts_of.Goals as goal
 
 pub loop-key-preserved : goal.loop-key-preserved
-loop-key-preserved c = firsts_more c.args.writers.now c.loop-key.key [] c.loop-key.firsts.items c.put_first.new.firsts.items c.loop-key.invariant c.in_ok-put_first.ensures
+loop-key-preserved c = firsts_more c.args.writers.now c.loop-key.key [] c.loop-key.firsts.items c.put_first.new.firsts.items c.loop-key.invariant c.in_ok-near.ensures
 
 pub returns : goal.returns
 returns c =

@@ -17,8 +17,8 @@ returns c =
     let looks = c.args.looks.now in
     let mine = subst (λ l. HoldsBy l c.args.u c.of_txn-writes.result.now) c.deref.ensures.value c.of_txn-writes.ensures.holds in
     subst (IsLeastRank (HasNumberEdge looks Rw c.args.t c.args.u)) (sym c.min.ensures)
-    (least_read looks c.requires c.args.t c.args.u c.of_txn-writes.result.now c.absences_of.result.now c.least_meeting-seen.result c.least_missed-missed.result mine
-    (subst (λ (l : List Absence). (s : Absence) → Contains c.absences_of.result.now s ↔ (Contains l s × (s.txn ≡ c.args.t))) c.deref-3.ensures.value c.absences_of.ensures)
+    (least_read looks c.requires c.args.t c.args.u c.of_txn-writes.result.now c.rows_at.result.now c.least_meeting-seen.result c.least_missed-missed.result mine
+    (subst (λ (l : List Absence). (s : Absence) → Contains c.rows_at.result.now s ↔ (Contains l s × (s.txn ≡ c.args.t))) c.deref-3.ensures.value c.rows_at.ensures.holds)
     (least_joined Rw looks.writers.items looks.readers.items c.of_txn-writes.result.now c.of_txn.result.now c.args.u c.args.t c.least_meeting-seen.result mine
     (subst (λ l. HoldsBy l c.args.t c.of_txn.result.now) c.deref-2.ensures.value c.of_txn.ensures.holds) c.least_meeting-seen.ensures)
     c.least_missed-missed.ensures)

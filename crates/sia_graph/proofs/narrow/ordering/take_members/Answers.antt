@@ -1,8 +1,10 @@
 use Rattle.std.proofs.Common.{List, ℕ, subst, sym}
+use Rattle.sia_events.specs.Transactions.{IsCommitted}
+use Rattle.sia_parts.specs.Entries.{IsEdge}
 use Rattle.sia_graph.specs.Places.{AreSteps}
 use Rattle.sia_graph.specs.Taken.{AreTakenNodes, node_list}
-use Rattle.sia_graph.proofs.NarrowStands.{absences_fit, can_search, readers_few, size_few, txns_few}
-use Rattle.sia_graph.proofs.TakenMembers.{nodes_are_steps, taken_members}
+use Rattle.sia_graph.proofs.NarrowStands.{absences_fit, can_search, readers_few, size_few}
+use Rattle.sia_graph.proofs.TakenMembers.{nodes_are_steps, nodes_stand, taken_members}
 use Rattle.sia_graph.proofs.narrow.ordering.take_members.Goals as goal
 
 pub steps_of-requires-clause-writers : goal.steps_of-requires-clause-writers
@@ -21,7 +23,7 @@ steps_of-requires-clause-fits c =
 pub take_nodes-requires-clause-few : goal.take_nodes-requires-clause-few
 take_nodes-requires-clause-few c =
     let e = c.args.evidence.now in
-    (size_few e.index.now e.txns.now e.keys.now e.looks.now c.requires c.size_for-size.result c.size_for-size.ensures, txns_few e.index.now e.txns.now e.keys.now e.looks.now c.requires)
+    size_few e.index.now e.txns.now e.keys.now e.looks.now c.requires c.size_for-size.result c.size_for-size.ensures
 
 pub take_nodes-requires-clause-steps : goal.take_nodes-requires-clause-steps
 take_nodes-requires-clause-steps c =
@@ -34,5 +36,7 @@ pub returns : goal.returns
 returns c =
     let e = c.args.evidence.now in
     let steps = c.in_ok-steps in
-    taken_members e.index.now e.txns.now e.keys.now e.looks.now c.requires c.size_for-size.result c.size_for-size.ensures steps.steps.items steps.ensures.are c.in_ok-taken.taken
+    let h = e.index.now in
+    taken_members (IsCommitted h) (IsEdge h) c.size_for-size.result e.txns.now steps.steps.items
+    (nodes_stand h e.txns.now e.keys.now e.looks.now c.requires c.size_for-size.result c.size_for-size.ensures steps.steps.items steps.ensures.are) c.in_ok-taken.taken
     (subst (λ (l : List ℕ). AreTakenNodes c.size_for-size.result e.txns.now l c.in_ok-taken.taken) c.deref.ensures.value c.in_ok-taken.ensures)

@@ -1,29 +1,12 @@
 -- One part holds all keys.
-use Rattle.std.proofs.Common.{◌≡◌, inl, inr, List, [], ◌∷◌, ◌++◌, get_or, ap, refl, subst, sym, ◌∙◌, arith}
+use Rattle.std.proofs.Common.{◌≡◌, List, [], ◌∷◌, ◌++◌, ap, subst, sym, ◌∙◌}
 use Rattle.std.specs.List.{AllZip}
 use Rattle.sia_events.specs.declared.event.Event.{Event}
 use Rattle.sia_events.specs.Refusals.{IsWellFormed}
-use Rattle.sia_parts.specs.declared.cutting.Part.{Part}
 use Rattle.sia_parts.specs.declared.findings.PartFindings.{PartFindings}
-use Rattle.sia_parts.specs.Parts.{IsCutting}
 use Rattle.sia_parts.specs.Findings.{AreFindings, ArePartFindings}
+use Rattle.sia_graph.proofs.Uncut.{uncut, whole}
 use Rattle.sia_graph.proofs.tests.structures.findings.Goals as goal
-
-abbrev whole : Part
-whole = record { lo = 0; hi = 18446744073709551615 }
-
-uncut : IsCutting [] (whole ∷ [])
-uncut = (
-  0 ∷ [],
-  record {
-    ascending = λ i j d less below. absurd (omega arith);
-    each = λ s. (
-      (λ c. let e : c.0 ≡ 0 = (let b = c.1 in omega arith) in inl (sym (subst (λ k. get_or (0 ∷ []) k s ≡ s) e c.2))),
-      (λ w. elim w [ inl zero_ ↦ (0, omega arith, sym zero_) | inr c ↦ absurd (let below = c.1 in omega arith) ]),
-    );
-  },
-  refl,
-)
 
 pub gather-requires : goal.gather-requires
 gather-requires c =

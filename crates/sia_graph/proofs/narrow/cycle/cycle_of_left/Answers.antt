@@ -1,0 +1,7 @@
+use Rattle.sia_graph.proofs.EvidenceEdges.{few_write_keys}
+use Rattle.sia_graph.proofs.narrow.cycle.cycle_of_left.Goals as goal
+
+pub looks_by_txn-requires : goal.looks_by_txn-requires
+looks_by_txn-requires c =
+    let e = c.args.evidence.now in
+    few_write_keys e.index.now e.txns.now e.keys.now e.looks.now c.requires.is

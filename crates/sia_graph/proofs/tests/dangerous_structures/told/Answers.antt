@@ -1,0 +1,18 @@
+use Rattle.std.proofs.Common.{sym, ◌∙◌}
+use Rattle.sia_graph.proofs.NoFirsts.{kept}
+use Rattle.sia_graph.proofs.tests.dangerous_structures.told.Goals as goal
+
+pub dangerous_of-requires-clause-evidence : goal.dangerous_of-requires-clause-evidence
+dangerous_of-requires-clause-evidence c = record {
+  well_formed = c.law.ensures;
+  txns_are = rw c.ids.ensures c.in_ok-committed.ensures;
+  keys_are = c.written_keys.ensures;
+  looks_are = c.in_ok-found.ensures.looks;
+}
+
+pub dangerous_of-requires-clause-kept : goal.dangerous_of-requires-clause-kept
+dangerous_of-requires-clause-kept c =
+    let found = c.in_ok-found.found in
+    let are = c.in_ok-found.ensures in
+    let none = c.are_none.ensures.0 c.if-not-are_none.false in
+    kept c.in_ok-ix.ix found.bad_reads.items found.bad_writes.items are.bad_reads are.bad_writes (sym c.deref.ensures.value ∙ none.0) (sym c.deref-2.ensures.value ∙ none.1)

@@ -1,0 +1,149 @@
+//! The dangerous structure that is told where isolation is kept and the test of serializable snapshot isolation fails.
+ghost use Rattle.std.specs.Prelude.{◌≡◌, ◌<◌, ◌≤◌, IfOk, MatchOption, leb, length, map, slice_index};
+ghost use Rattle.sia_events.specs.DangerousStructures.{NoFirst};
+ghost use Rattle.sia_events.specs.Dependencies.{RwEdge};
+ghost use Rattle.sia_events.specs.Isolation.{IsolationKept};
+ghost use Rattle.sia_graph.specs.Dangerous.{IsDangerous, IsLeast};
+ghost use Rattle.sia_graph.specs.Early.{CommitsFrom, IsLeastPivot};
+ghost use Rattle.sia_graph.specs.Evidence.{IsEvidence};
+ghost use Rattle.sia_graph.specs.Extremes.{HasRwEdge};
+ghost use Rattle.sia_graph.specs.NumberEdges.{AreByTxn, HoldSame};
+ghost use Rattle.sia_graph.specs.Ranks.{IsLeastRank};
+ghost use Rattle.sia_graph.specs.Sources.{IsSource};
+
+use crate::narrow::Evidence;
+use crate::narrow::by_transaction::looks_by_txn;
+use crate::narrow::least_edges::least_rw;
+use crate::narrow::limits::{least_early, limits_in, none_early};
+use crate::narrow::previous::ranks_of;
+use crate::narrow::sources::Sources;
+use crate::narrow::two::NONE;
+use crate::pivoting::lifetimes::{Lifetime, lifetimes_of};
+use sia_events::{Key, NoMemory, TxnId};
+use sia_parts::Looks;
+use std::alloc::{AllocError, Global};
+
+/// A dangerous structure whose last transaction commits first: an rw edge leads from the first transaction to the pivot, and one
+/// from that to the last.
+#[derive(Clone, Copy)]
+pub struct Dangerous {
+    pub first: TxnId,
+    pub first_key: Key,
+    pub pivot: TxnId,
+    pub last_key: Key,
+    pub last: TxnId,
+}
+
+/// The least number whose limit some version is within, if there is one, and the least number that made such a version, or
+/// `NONE`.
+fn least_pivot(alloc: Global, evidence: &Evidence, limits: &[u32]) -> Result<(u32, u32), NoMemory>
+    requires evidence { IsEvidence evidence.now.index.now evidence.now.txns.now evidence.now.keys.now evidence.now.looks.now }
+    requires few { length limits.now ≤ 1000000000 }
+    ensures { IfOk result (λ (pivot, last). IsLeastPivot evidence.now.looks.now limits.now pivot last) }
+{
+    let mut low = 0;
+    let mut high = limits.len();
+    'halving: while high - low > 1 {
+        let middle = low + (high - low) / 2;
+        let none = none_early(alloc, evidence, &limits[..middle])?;
+        if none {
+            low = middle;
+        } else {
+            high = middle;
+        }
+    }
+    let last = least_early(alloc, evidence, &limits[..high])?;
+    Ok((low as u32, last))
+}
+
+/// Which of these commit at the place or after it.
+fn late_of(alloc: Global, lifetimes: &[Lifetime], place: u32) -> Result<Vec<bool>, AllocError>
+    ensures { IfOk result (λ late. late.items ≡ map (λ lifetime. leb place lifetime.commit) lifetimes.now) }
+{
+    lifetimes
+        .iter()
+        .map(|lifetime| place <= lifetime.commit)
+        .collect(alloc)
+}
+
+/// Of those with an rw edge to the pivot the least that commits at this place or after it, or `NONE`.
+fn least_first(
+    alloc: Global,
+    evidence: &Evidence,
+    lifetimes: &[Lifetime],
+    place: u32,
+    pivot: u32,
+) -> Result<u32, NoMemory>
+    requires evidence { IsEvidence evidence.now.index.now evidence.now.txns.now evidence.now.keys.now evidence.now.looks.now }
+    requires few { length lifetimes.now ≤ 1000000000 }
+    ensures { IfOk result (IsLeastRank (λ t. IsSource evidence.now.looks.now t pivot × CommitsFrom lifetimes.now place t)) }
+{
+    let size = evidence.keys.len() as u32;
+    let late = late_of(alloc, lifetimes, place)?;
+    let ranks = ranks_of(alloc, &late)?;
+    let sources = Sources::of(alloc, evidence.looks, &ranks, size)?;
+    let first = sources.least(&ranks, pivot);
+    Ok(first)
+}
+
+/// The least key of an rw edge from one transaction to another. `own` holds the looks by transaction.
+fn least_key(evidence: &Evidence, own: &Looks, t: u32, u: u32) -> Key
+    requires same { HoldSame own.now evidence.now.looks.now }
+    requires by_txn { AreByTxn own.now }
+    requires evidence { IsEvidence evidence.now.index.now evidence.now.txns.now evidence.now.keys.now evidence.now.looks.now }
+    requires within { (t < length evidence.now.txns.now) × (u < length evidence.now.txns.now) }
+    requires edge { HasRwEdge evidence.now.index.now (slice_index evidence.now.txns.now t) (slice_index evidence.now.txns.now u) }
+    ensures { IsLeast (RwEdge evidence.now.index.now (slice_index evidence.now.txns.now t) (slice_index evidence.now.txns.now u)) result }
+{
+    let key = least_rw(own, t, u);
+    evidence.keys[key as usize]
+}
+
+/// The structure of transactions of these numbers.
+fn with_keys(
+    alloc: Global,
+    evidence: &Evidence,
+    first: u32,
+    pivot: u32,
+    last: u32,
+) -> Result<Dangerous, NoMemory>
+    requires evidence { IsEvidence evidence.now.index.now evidence.now.txns.now evidence.now.keys.now evidence.now.looks.now }
+    requires within { (first < length evidence.now.txns.now) × (pivot < length evidence.now.txns.now) × (last < length evidence.now.txns.now) }
+    requires into { HasRwEdge evidence.now.index.now (slice_index evidence.now.txns.now first) (slice_index evidence.now.txns.now pivot) }
+    requires out { HasRwEdge evidence.now.index.now (slice_index evidence.now.txns.now pivot) (slice_index evidence.now.txns.now last) }
+    ensures txns { IfOk result (λ d. (d.first ≡ slice_index evidence.now.txns.now first) × (d.pivot ≡ slice_index evidence.now.txns.now pivot)
+        × (d.last ≡ slice_index evidence.now.txns.now last)) }
+    ensures first_key { IfOk result (λ d. IsLeast (RwEdge evidence.now.index.now (slice_index evidence.now.txns.now first) (slice_index evidence.now.txns.now pivot)) d.first_key) }
+    ensures last_key { IfOk result (λ d. IsLeast (RwEdge evidence.now.index.now (slice_index evidence.now.txns.now pivot) (slice_index evidence.now.txns.now last)) d.last_key) }
+{
+    let own = looks_by_txn(alloc, evidence.looks)?;
+    let first_key = least_key(evidence, &own, first, pivot);
+    let last_key = least_key(evidence, &own, pivot, last);
+    Ok(Dangerous {
+        first: evidence.txns[first as usize],
+        first_key,
+        pivot: evidence.txns[pivot as usize],
+        last_key,
+        last: evidence.txns[last as usize],
+    })
+}
+
+/// The dangerous structure that is told of a history that keeps isolation: that of the least pivot that has a first. None, if the
+/// history passes the test of serializable snapshot isolation.
+pub fn dangerous_of(alloc: Global, evidence: &Evidence) -> Result<Option<Dangerous>, NoMemory>
+    requires evidence { IsEvidence evidence.now.index.now evidence.now.txns.now evidence.now.keys.now evidence.now.looks.now }
+    requires kept { IsolationKept evidence.now.index.now }
+    ensures { IfOk result (λ found. MatchOption found (NoFirst evidence.now.index.now) (IsDangerous evidence.now.index.now)) }
+{
+    let spans = lifetimes_of(alloc, evidence.index, evidence.txns)?;
+    let lifetimes = spans.as_slice();
+    let limits = limits_in(alloc, evidence, lifetimes)?;
+    let (pivot, last) = least_pivot(alloc, evidence, &limits)?;
+    if last == NONE {
+        return Ok(None);
+    }
+    let place = lifetimes[last as usize].commit;
+    let first = least_first(alloc, evidence, lifetimes, place, pivot)?;
+    let found = with_keys(alloc, evidence, first, pivot, last)?;
+    Ok(Some(found))
+}
