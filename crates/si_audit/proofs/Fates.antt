@@ -3,7 +3,7 @@ use Rattle.std.proofs.Common.{◌≡◌, ℕ, List, Option, Some, None, refl}
 use Rattle.sia_events.specs.declared.event.Event.{Event}
 use Rattle.sia_events.specs.Refusals.{IsWellFormed}
 use Rattle.sia_events.specs.declared.event.Event.TheVariants.{Commit, Abort}
-use Rattle.sia_events.specs.Transactions.{HasEvent, IsCommitted, IsAborted}
+use Rattle.sia_events.specs.Transactions.{HasEvent, IsCommitted, IsAborted, IsOpen}
 use Rattle.sia_events.proofs.Endings.{one_end}
 use Rattle.sia_index.specs.declared.info.Fate.{Fate}
 use Rattle.sia_index.specs.declared.info.Fate.TheVariants.{Committed, Aborted, Unfinished}
@@ -40,3 +40,9 @@ pub ended_has_event : (h : List Event) (t : ℕ) (fate : Fate) → EndedSo h fat
 ended_has_event h t Committed is = (is.0, (Commit t, is.1, refl))
 ended_has_event h t Aborted is = (is.0, (Abort t, is.1, refl))
 ended_has_event h t Unfinished is = is.0
+
+-- what is known to have no end is open
+pub open_without_end : (h : List Event) (t : ℕ) (fate : Fate) → EndsAs h t fate None → IsOpen h t
+open_without_end h t Committed ends = absurd ends
+open_without_end h t Aborted ends = absurd ends
+open_without_end h t Unfinished ends = ends

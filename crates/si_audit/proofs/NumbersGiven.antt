@@ -25,10 +25,10 @@ use Rattle.clap.proofs.CallerLemmas.{default_present, entry_by_id, same_rules_by
 use Rattle.clap.proofs.SimpleLemmas.{ready_simple, simple_groups}
 use Rattle.clap.proofs.WalkLemmas.{first_value-rows, raw_values-rows}
 use Rattle.si_audit.specs.LineAnswers.{HasNumbers}
-use Rattle.si_audit.specs.Words.{brief_rule, check_rule, cuts_rule, program, workers_rule}
+use Rattle.si_audit.specs.Words.{brief_rule, check_rule, cuts_rule, explain_rule, program, workers_rule}
 
 abbrev rules : List Rule
-rules = workers_rule ∷ cuts_rule ∷ brief_rule ∷ check_rule ∷ []
+rules = workers_rule ∷ cuts_rule ∷ brief_rule ∷ explain_rule ∷ check_rule ∷ []
 
 at_mapped : (xs : List Arg) (j : ℕ) (e : Arg) → slice_index_or (map rule_of xs) j (rule_of e) ≡ rule_of (slice_index_or xs j e)
 at_mapped [] zero e = refl
@@ -36,9 +36,9 @@ at_mapped [] (suc j) e = refl
 at_mapped (x ∷ xs) zero e = refl
 at_mapped (x ∷ xs) (suc j) e = at_mapped xs j e
 
-some_arg : (xs : List Arg) → length xs ≡ 4 → Arg
-some_arg [] four = absurd (omega arith)
-some_arg (x ∷ xs) four = x
+some_arg : (xs : List Arg) → length xs ≡ 5 → Arg
+some_arg [] five = absurd (omega arith)
+some_arg (x ∷ xs) five = x
 
 -- the entry of an id
 found_at : (xs : List Entry) (id : Text) (i : ℕ) → i < length xs → ((d : Entry) → bytes_eq (slice_index_or xs i d).0.now id ≡ true)
@@ -67,8 +67,8 @@ module _ (c : Command) (m : ArgMatches) (p : IsParsedFrom c m) (app : app_of c �
   same_rules : map rule_of (args_of c) ≡ rules
   same_rules = ap (λ (a : App). a.top.rules) app
 
-  four : length (args_of c) ≡ 4
-  four = sym (length-map (args_of c) rule_of) ∙ ap length same_rules
+  five : length (args_of c) ≡ 5
+  five = sym (length-map (args_of c) rule_of) ∙ ap length same_rules
 
   simple : IsSimple c
   simple = ready_simple c (ap (λ (a : App). is_ready a.top) app) (ap (λ (a : App). list_all is_ready_leaf a.subs) app)
@@ -88,19 +88,21 @@ module _ (c : Command) (m : ArgMatches) (p : IsParsedFrom c m) (app : app_of c �
   -- no two arguments have one id
   one_id : (k : ℕ) (d : Arg) → k < 2 → (j : ℕ) (e : Arg) → j < length (args_of c)
       → bytes_eq (slice_index_or (args_of c) j e).id.now (slice_index_or (args_of c) k d).id.now ≡ true → j ≡ k
-  one_id k d lt j e low same = go k j lt (omega (arith, four)) (rw (id_at j e, id_at k d) at same)
+  one_id k d lt j e low same = go k j lt (omega (arith, five)) (rw (id_at j e, id_at k d) at same)
     where
-      go : (k j : ℕ) → k < 2 → j < 4 → bytes_eq (slice_index_or rules j (rule_of e)).id (slice_index_or rules k (rule_of d)).id ≡ true → j ≡ k
+      go : (k j : ℕ) → k < 2 → j < 5 → bytes_eq (slice_index_or rules j (rule_of e)).id (slice_index_or rules k (rule_of d)).id ≡ true → j ≡ k
       go zero zero lt low same = refl
       go zero (suc zero) lt low same = let bad : false ≡ true = same in cc
       go zero (suc (suc zero)) lt low same = let bad : false ≡ true = same in cc
       go zero (suc (suc (suc zero))) lt low same = let bad : false ≡ true = same in cc
+      go zero (suc (suc (suc (suc zero)))) lt low same = let bad : false ≡ true = same in cc
       go (suc zero) zero lt low same = let bad : false ≡ true = same in cc
       go (suc zero) (suc zero) lt low same = refl
       go (suc zero) (suc (suc zero)) lt low same = let bad : false ≡ true = same in cc
       go (suc zero) (suc (suc (suc zero))) lt low same = let bad : false ≡ true = same in cc
+      go (suc zero) (suc (suc (suc (suc zero)))) lt low same = let bad : false ≡ true = same in cc
       go (suc (suc k)) j lt low same = absurd (omega arith)
-      go k (suc (suc (suc (suc j)))) lt low same = absurd (omega arith)
+      go k (suc (suc (suc (suc (suc j))))) lt low same = absurd (omega arith)
 
   module _ (k : ℕ) (d : Arg) (lt : k < 2) (name : Text) (named : (slice_index_or (args_of c) k d).id.now ≡ name) (some : 0 < length name)
       (own : IsAuto (slice_index_or (args_of c) k d) → ⊥) where
@@ -108,7 +110,7 @@ module _ (c : Command) (m : ArgMatches) (p : IsParsedFrom c m) (app : app_of c �
     rules_of_named : (j : ℕ) (x : Arg) → j < length (args_of p.built) → slice_index_or (args_of p.built) j x ≡ x
         → bytes_eq x.id.now name ≡ true → SameRules (slice_index_or (args_of c) k d) x
     rules_of_named j x high at same =
-        same_rules_by_id c m p k d (omega (arith, four)) (one_id k d lt) own j x high at (rw named same)
+        same_rules_by_id c m p k d (omega (arith, five)) (one_id k d lt) own j x high at (rw named same)
 
     module _ (e : Entry) (pass : EntryPasses p.built e) (key : bytes_eq e.0.now name ≡ true) where
       key_is : e.0.now ≡ name
@@ -191,7 +193,7 @@ module _ (c : Command) (m : ArgMatches) (p : IsParsedFrom c m) (app : app_of c �
 
       here : HasIn (found_of m).entries.items (codes "workers")
       here = subst (HasIn (found_of m).entries.items) named
-          (default_present c m p simple.globals 0 d (omega (arith, four)) ((simple.args 0 d (omega (arith, four))).default_ifs, omega (arith, one_default)))
+          (default_present c m p simple.globals 0 d (omega (arith, five)) ((simple.args 0 d (omega (arith, five))).default_ifs, omega (arith, one_default)))
 
       step : (x : MatchedArg) → matched_of (found_of m) (codes "workers") ≡ Some x
           → ((e : Entry) × (e.1 ≡ x) × (bytes_eq e.0.now (codes "workers") ≡ true) × EntryPasses p.built e)
@@ -200,7 +202,7 @@ module _ (c : Command) (m : ArgMatches) (p : IsParsedFrom c m) (app : app_of c �
           subst (λ (y : MatchedArg). IsSomeAnd (option_map (λ s. s.now) (slice_get y.vals.items 0)) (IsUnsignedIn 1 64)) e.1
           (first_in_bounds 1 64 e.0.1.vals.items
           (has_value 0 d (omega arith) (codes "workers") named (omega arith) own e.0 e.3 e.2 (ap (λ (r : Rule). r.action) rule) (ap (λ (r : Rule). r.range) rule)
-          (simple.args 0 d (omega (arith, four))).delimiter)
+          (simple.args 0 d (omega (arith, five))).delimiter)
           (in_bounds 0 d (omega arith) (codes "workers") named (omega arith) own e.0 e.3 e.2 1 64 (ap (λ (r : Rule). r.parser) rule)))
 
       go : (o : Option MatchedArg) → matched_of (found_of m) (codes "workers") ≡ o
@@ -237,7 +239,7 @@ module _ (c : Command) (m : ArgMatches) (p : IsParsedFrom c m) (app : app_of c �
 
   pub numbers_given : HasNumbers (rows_of (found_of m))
   numbers_given =
-      let d = some_arg (args_of c) four in
+      let d = some_arg (args_of c) five in
       record {
         workers = subst (λ (o : Option Text). IsSomeAnd o (IsUnsignedIn 1 64)) (first_value-rows (found_of m) (codes "workers")) (workers_given d);
         cuts = subst (λ (o : Option (List Text)). IfSome o (All (IsUnsignedIn 0 18446744073709551615))) (raw_values-rows (found_of m) (codes "cut")) (cuts_given d);

@@ -1,8 +1,11 @@
 -- What an accepted text is answered, from what its history is.
-use Rattle.std.proofs.Common.{inr, ℕ, List}
+use Rattle.std.proofs.Common.{◌≢◌, inr, ℕ, List, Err, refl}
 use Rattle.sia_events.specs.declared.event.Event.{Event}
 use Rattle.sia_events.specs.Text.{StandsFor}
-use Rattle.sia_events.specs.Refusals.{IsAccepted}
+use Rattle.sia_events.specs.declared.fault.TextFault.{TextFault}
+use Rattle.sia_events.specs.declared.fault.TextFault.TheVariants.{NoMemory, TextTooLong, Refused}
+use Rattle.sia_events.specs.Reading.{ReadsAs}
+use Rattle.sia_events.specs.Refusals.{IsAccepted, IsRefusal}
 use Rattle.si_audit.specs.declared.engine.Outcome.{Outcome}
 use Rattle.si_audit.specs.declared.engine.Outcome.TheVariants.{Clean, Faulty, Refused}
 use Rattle.si_audit.specs.declared.cli.form.Form.{Form}
@@ -19,3 +22,9 @@ module _ (text : List ℕ) (h : List Event) where
   outcome_of_text level Refused accepted stands is = absurd is
   outcome_of_text level Clean accepted stands is = (h, accepted, stands, is)
   outcome_of_text level Faulty accepted stands is = (h, accepted, stands, is)
+
+-- a text that reads as a fault other than want of memory has this refusal
+pub refusal_of : (text : List ℕ) (fault : TextFault) → fault ≢ NoMemory → ReadsAs text (Err fault) → IsRefusal text fault
+refusal_of text NoMemory other reads = absurd (other refl)
+refusal_of text TextTooLong other reads = reads
+refusal_of text (Refused token reason) other reads = reads

@@ -1,14 +1,13 @@
 -- What holds of the bytes that a source had, and of what was written of them.
 use Rattle.std.proofs.Common.{◌≡◌, ℕ, List, ◌++◌, Option, Some, None, IfSome, subst}
 use Rattle.std.specs.Io.KnownBytes.{Appends}
-use Rattle.sia_events.specs.Streaming.{Progress, StandsForRead}
 use Rattle.si_audit.specs.declared.cli.form.Form.{Form}
 use Rattle.si_audit.specs.Report.{IsReport}
 
--- a fact of each text that a reader stands for, of the text that the source had
-pub of_source : (P : List ℕ → Type 0) (remaining : Option (List ℕ)) (r : Progress) → IfSome remaining (StandsForRead r) → ((text : List ℕ) → StandsForRead r text → P text) → IfSome remaining P
-of_source P None r stands f = tt
-of_source P (Some text) r stands f = f text stands
+-- a fact of each text that what was read stands for, of the text that the source had
+pub of_source : (P Stands : List ℕ → Type 0) (remaining : Option (List ℕ)) → IfSome remaining Stands → ((text : List ℕ) → Stands text → P text) → IfSome remaining P
+of_source P Stands None stands f = tt
+of_source P Stands (Some text) stands f = f text stands
 
 -- a front of the report was written
 pub front_written : (form : Form) (taken now : Option (List ℕ)) (text bytes : List ℕ) → IsReport form text bytes → (front rest : List ℕ) → bytes ≡ front ++ rest → Appends taken now front

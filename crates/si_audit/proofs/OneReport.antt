@@ -1,15 +1,20 @@
 -- A text has one report.
-use Rattle.std.proofs.Common.{◌≡◌, inl, inr, ℕ, suc, List, [], ◌∷◌, map, refl, ap, sym, subst, ◌∙◌, arith}
+use Rattle.std.proofs.Common.{◌≡◌, inl, inr, ℕ, suc, List, [], ◌∷◌, ◌++◌, map, refl, ap, sym, subst, ◌∙◌, arith}
 use Rattle.std.specs.Prelude.{All, ⊤}
 use Rattle.std.specs.Bool.{one_answer}
 use Rattle.sia_events.specs.declared.event.Event.{Event}
+use Rattle.sia_events.specs.declared.fault.TextFault.{TextFault}
+use Rattle.sia_events.specs.declared.fault.TextFault.TheVariants.{NoMemory, TextTooLong, Refused}
 use Rattle.sia_events.specs.Lists.{ListsAscending}
+use Rattle.sia_events.specs.Refusals.{IsWellFormed}
 use Rattle.sia_events.specs.Transactions.{IsCommitted, IsAborted, IsOpen}
 use Rattle.sia_events.specs.Isolation.{IsBadRead, IsBadWrite, IsUnexplained}
 use Rattle.sia_events.specs.DangerousStructures.{IsPivot, IsVulnerable, IsFirst, PassesSsi}
 use Rattle.sia_events.specs.Replay.{IsSerializable}
 use Rattle.sia_events.proofs.Canonical.{spellings_injective}
 use Rattle.sia_events.proofs.OneRefusal.{one_refusal}
+use Rattle.sia_events.proofs.Locations.{one_location}
+use Rattle.sia_events.proofs.Histories.{accepted_well_formed}
 use Rattle.sia_events.proofs.OneList.{one_list_by, one_count}
 use Rattle.sia_parts.specs.Entries.{IsEdge, bad_read_rank, bad_write_rank, unexplained_rank, edge_rank}
 use Rattle.sia_graph.specs.declared.pivot.Pivot.{Pivot}
@@ -18,8 +23,11 @@ use Rattle.sia_graph.proofs.OneVerdict.{one_verdict}
 use Rattle.si_audit.specs.declared.cli.form.Form.{Form}
 use Rattle.si_audit.specs.Account.{Account}
 use Rattle.si_audit.specs.Accounts.{IsAccount}
-use Rattle.si_audit.specs.Lines.{refusal_line, report_text}
-use Rattle.si_audit.specs.Report.{OneReport}
+use Rattle.si_audit.specs.declared.cli.form.Form.TheVariants.{Full, Brief, Explained}
+use Rattle.si_audit.specs.Lines.{refusal_line}
+use Rattle.si_audit.specs.RefusedPlaces.{TellsToken, place_line}
+use Rattle.si_audit.specs.Report.{OneReport, TellsAccount, TellsRefusal}
+use Rattle.si_audit.proofs.OneExplanation.{IsOne, one_explained}
 
 -- a pivot's transaction tells its neighbours
 one_entry : (h : List Event) (p q : Pivot) → p.txn ≡ q.txn → ListsNeighbours h p → ListsNeighbours h q → p ≡ q
@@ -73,10 +81,33 @@ one_account h a b x y =
       verdict = verdict i;
     }
 
+-- of a refusal one thing stands below
+one_token_told : (text : List ℕ) (fault : TextFault) → IsOne (TellsToken text fault)
+one_token_told text NoMemory a b x y = x ∙ sym y
+one_token_told text TextTooLong a b x y = x ∙ sym y
+one_token_told text (Refused n reason) a b x y =
+    let same = one_location text n x.0 x.1 x.2 y.0 y.1 y.2 x.3 y.3 in
+    x.4 ∙ (λ i. place_line (same.0 i) (same.1 i) (same.2 i)) ∙ sym y.4
+
+-- a form tells one thing of a refusal
+one_refusal_told : (form : Form) (text : List ℕ) (fault : TextFault) → IsOne (TellsRefusal form text fault)
+one_refusal_told Full text fault a b x y = x ∙ sym y
+one_refusal_told Brief text fault a b x y = x ∙ sym y
+one_refusal_told Explained text fault a b x y = x.2 ∙ ap (λ (place : List ℕ). refusal_line fault ++ place) (one_token_told text fault x.0 y.0 x.1 y.1) ∙ sym y.2
+
+-- and one of an account
+one_account_told : (form : Form) (h : List Event) → IsWellFormed h → (a : Account) → IsOne (TellsAccount form h a)
+one_account_told Full h wf a bytes others x y = x ∙ sym y
+one_account_told Brief h wf a bytes others x y = x ∙ sym y
+one_account_told Explained h wf a bytes others x y = one_explained h wf a bytes others x y
+
 pub one_report_of : (form : Form) (text : List ℕ) → OneReport form text
-one_report_of form text bytes others (inl p) (inl q) = p.2 ∙ ap refusal_line (one_refusal text p.0 q.0 p.1 q.1) ∙ sym q.2
+one_report_of form text bytes others (inl p) (inl q) =
+    one_refusal_told form text q.0 bytes others (subst (λ fault. TellsRefusal form text fault bytes) (one_refusal text p.0 q.0 p.1 q.1) p.2) q.2
 one_report_of form text bytes others (inl p) (inr q) = absurd (q.2 p.0 p.1)
 one_report_of form text bytes others (inr p) (inl q) = absurd (p.2 q.0 q.1)
 one_report_of form text bytes others (inr p) (inr q) =
     let same = spellings_injective p.0 q.0 (sym p.3 ∙ q.3) in
-    p.5 ∙ ap (report_text form) (one_account p.0 p.1 q.1 p.4 (subst (λ h. IsAccount h q.1) (sym same) q.4)) ∙ sym q.5
+    let account = one_account p.0 p.1 q.1 p.4 (subst (λ h. IsAccount h q.1) (sym same) q.4) in
+    one_account_told form q.0 (accepted_well_formed text q.0 q.2 q.3) q.1 bytes others
+    (subst (λ a. TellsAccount form q.0 a bytes) account (subst (λ h. TellsAccount form h p.1 bytes) same p.5)) q.5

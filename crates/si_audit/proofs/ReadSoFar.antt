@@ -1,7 +1,9 @@
 -- A reader that stands for what a source gave stands for all that it had: at its end, and past the limit of a text.
 use Rattle.std.proofs.Common.{◌≡◌, ℕ, ◌+◌, ◌<◌, List, ◌++◌, Option, Some, None, IfSome, length, min, sym, ap, subst, ◌∙◌, arith, length-append, append-nil}
 use Rattle.std.specs.Io.KnownBytes.{Consumes, IsAtEnd}
+use Rattle.sia_events.specs.Locating.{Located}
 use Rattle.sia_events.specs.Streaming.{Progress, StandsForRead}
+use Rattle.si_audit.specs.Receiving.{IsReceived}
 
 -- what is too long already stands for every text that goes on from it
 stands_longer : (r : Progress) (front rest : List ℕ) → 16777216 < length front → StandsForRead r front → StandsForRead r (front ++ rest)
@@ -13,13 +15,26 @@ stands_longer r front rest long stands =
       judged = λ short. absurd (omega arith);
     }
 
-pub at_the_end : (had left : Option (List ℕ)) (front : List ℕ) (r : Progress) → Consumes had left front → IsAtEnd left → StandsForRead r front → IfSome had (StandsForRead r)
-at_the_end None left front r consumed end stands = tt
-at_the_end (Some xs) None front r consumed end stands = absurd consumed
-at_the_end (Some xs) (Some ys) front r consumed end stands =
-    subst (StandsForRead r) (sym (consumed ∙ ap (λ (l : List ℕ). front ++ l) end ∙ append-nil front)) stands
+-- and what is located in it goes by texts within the limit alone
+received_longer : (IsWanted : Type 0) (l : Located) (r : Progress) (front rest : List ℕ) → 16777216 < length front → IsReceived IsWanted l r front → IsReceived IsWanted l r (front ++ rest)
+received_longer IsWanted l r front rest long received =
+    let len : length (front ++ rest) ≡ length front + length rest = length-append front rest in
+    (stands_longer r front rest long received.0, λ wanted short. absurd (omega arith))
 
-pub past_the_limit : (had left : Option (List ℕ)) (front : List ℕ) (r : Progress) → Consumes had left front → 16777216 < length front → StandsForRead r front → IfSome had (StandsForRead r)
-past_the_limit None left front r consumed long stands = tt
-past_the_limit (Some xs) None front r consumed long stands = absurd consumed
-past_the_limit (Some xs) (Some ys) front r consumed long stands = subst (StandsForRead r) (sym consumed) (stands_longer r front ys long stands)
+module _ (IsWanted : Type 0) (had left : Option (List ℕ)) (front : List ℕ) (l : Located) (r : Progress) where
+  pub at_the_end : Consumes had left front → IsAtEnd left → IsReceived IsWanted l r front → IfSome had (IsReceived IsWanted l r)
+  at_the_end = by_cases had left
+    where
+      by_cases : (had left : Option (List ℕ)) → Consumes had left front → IsAtEnd left → IsReceived IsWanted l r front → IfSome had (IsReceived IsWanted l r)
+      by_cases None left consumed end received = tt
+      by_cases (Some xs) None consumed end received = absurd consumed
+      by_cases (Some xs) (Some ys) consumed end received =
+          subst (IsReceived IsWanted l r) (sym (consumed ∙ ap (λ (m : List ℕ). front ++ m) end ∙ append-nil front)) received
+
+  pub past_the_limit : Consumes had left front → 16777216 < length front → IsReceived IsWanted l r front → IfSome had (IsReceived IsWanted l r)
+  past_the_limit = by_cases had left
+    where
+      by_cases : (had left : Option (List ℕ)) → Consumes had left front → 16777216 < length front → IsReceived IsWanted l r front → IfSome had (IsReceived IsWanted l r)
+      by_cases None left consumed long received = tt
+      by_cases (Some xs) None consumed long received = absurd consumed
+      by_cases (Some xs) (Some ys) consumed long received = subst (IsReceived IsWanted l r) (sym consumed) (received_longer IsWanted l r front ys long received)

@@ -7,7 +7,7 @@ use Rattle.si_audit.specs.declared.cli.form.Form.{Form}
 use Rattle.si_audit.specs.declared.cli.level.Level.{Level}
 use Rattle.si_audit.specs.Account.{Account}
 use Rattle.si_audit.specs.Accounts.{IsAccount}
-use Rattle.si_audit.specs.Lines.{report_text}
+use Rattle.si_audit.specs.Report.{TellsAccount}
 use Rattle.si_audit.specs.Outcomes.{Meets}
 
 -- how a run over this history ends
@@ -16,6 +16,6 @@ IsOutcomeOf level h Refused = ⊥
 IsOutcomeOf level h Clean = Meets level h
 IsOutcomeOf level h Faulty = ¬ Meets level h
 
--- the bytes are the lines of its account
+-- the bytes are what the form tells of its account
 abbrev pub IsReportOf : Form → List Event → List ℕ → Type 0
-IsReportOf form h bytes = (a : Account) × IsAccount h a × (bytes ≡ report_text form a)
+IsReportOf form h bytes = (a : Account) × IsAccount h a × TellsAccount form h a bytes

@@ -4,6 +4,12 @@ pub mod Account
 pub mod Accounts
 pub mod Audits
 pub mod Lines
+pub mod Reasons
+pub mod Acts
+pub mod Wrong
+pub mod Explained
+pub mod RefusedPlaces
+pub mod Receiving
 pub mod Report
 pub mod Outcomes
 pub mod Devices

@@ -7,7 +7,7 @@ use Rattle.si_audit.specs.Words.{ChooseNoLevel, ChooseTooManyCuts, level_named, 
 use Rattle.si_audit.specs.declared.cli.line.LineFault.{LineFault}
 use Rattle.si_audit.specs.declared.cli.line.LineFault.TheVariants.{NoMemory, TooManyCuts, UnknownLevel, Help, Usage}
 use Rattle.si_audit.specs.declared.cli.form.Form.{Form}
-use Rattle.si_audit.specs.declared.cli.form.Form.TheVariants.{Full, Brief}
+use Rattle.si_audit.specs.declared.cli.form.Form.TheVariants.{Full, Brief, Explained}
 use Rattle.si_audit.specs.declared.cli.level.Level.{Level}
 
 -- help and usage are told only of words that the command doesn't take. Memory may run out
@@ -25,7 +25,7 @@ abbrev pub cuts_among : List Row → List ℕ
 cuts_among rows = map number_in (unwrap_or (all_of (codes "cut") rows) [])
 
 abbrev pub form_among : List Row → Form
-form_among rows = if count_of (codes "brief") rows == 0 then Full else Brief
+form_among rows = if count_of (codes "explain") rows == 0 then (if count_of (codes "brief") rows == 0 then Full else Brief) else Explained
 
 abbrev pub level_among : List Row → Option Level
 level_among rows = level_named (unwrap_or (first_of (codes "check") rows) [])

@@ -17,7 +17,7 @@ use Rattle.sia_graph.specs.declared.settling.Step.{Step}
 use Rattle.sia_graph.specs.declared.settling.Verdict.{Verdict}
 use Rattle.sia_graph.specs.declared.settling.Verdict.TheVariants.{Order, Cycle}
 use Rattle.si_audit.specs.declared.cli.form.Form.{Form}
-use Rattle.si_audit.specs.declared.cli.form.Form.TheVariants.{Full, Brief}
+use Rattle.si_audit.specs.declared.cli.form.Form.TheVariants.{Full, Brief, Explained}
 use Rattle.si_audit.specs.Account.{Account}
 
 -- words with one space between two, and LF
@@ -108,6 +108,7 @@ serializable_line serializable = line (codes "serializable" ∷ (if serializable
 abbrev pub told : {A : Type 0} → Form → List A → List A
 told Full things = things
 told Brief things = []
+told Explained things = []
 
 -- all lines, in their order
 abbrev pub report_text : Form → Account → List ℕ

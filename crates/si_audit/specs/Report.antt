@@ -1,5 +1,5 @@
 -- The report of a text.
-use Rattle.std.specs.Prelude.{◌≡◌, ◌⊎◌, ◌≢◌, ℕ, List, [], All, ⊤}
+use Rattle.std.specs.Prelude.{◌≡◌, ◌⊎◌, ◌≢◌, ℕ, List, [], ◌++◌, All, ⊤}
 use Rattle.sia_events.specs.declared.event.Event.{Event}
 use Rattle.sia_events.specs.declared.fault.TextFault.{TextFault}
 use Rattle.sia_events.specs.Text.{StandsFor}
@@ -9,7 +9,10 @@ use Rattle.sia_graph.specs.declared.settling.Verdict.TheVariants.{Order, Cycle}
 use Rattle.si_audit.specs.declared.cli.form.Form.{Form}
 use Rattle.si_audit.specs.Account.{Account}
 use Rattle.si_audit.specs.Accounts.{IsAccount}
+use Rattle.si_audit.specs.declared.cli.form.Form.TheVariants.{Full, Brief, Explained}
+use Rattle.si_audit.specs.Explained.{IsExplained}
 use Rattle.si_audit.specs.Lines.{refusal_line, report_text}
+use Rattle.si_audit.specs.RefusedPlaces.{TellsToken}
 
 -- a cycle has a step
 abbrev pub HasStep : Verdict → Type 0
@@ -20,10 +23,22 @@ pub record CanBePrinted (a : Account) : Type 0 where
   pub steps : HasStep a.verdict
   pub neighbours : All (λ p. (p.ins ≢ []) × (p.outs ≢ [])) a.pivots
 
--- the refusal line of a refused text, and the lines of this form of the account of the history that an accepted one stands for
+-- what this form tells of a refused text
+abbrev pub TellsRefusal : Form → List ℕ → TextFault → List ℕ → Type 0
+TellsRefusal Full text fault bytes = bytes ≡ refusal_line fault
+TellsRefusal Brief text fault bytes = bytes ≡ refusal_line fault
+TellsRefusal Explained text fault bytes = (place : List ℕ) × TellsToken text fault place × (bytes ≡ refusal_line fault ++ place)
+
+-- what it tells of the account of a history
+abbrev pub TellsAccount : Form → List Event → Account → List ℕ → Type 0
+TellsAccount Full h a bytes = bytes ≡ report_text Full a
+TellsAccount Brief h a bytes = bytes ≡ report_text Brief a
+TellsAccount Explained h a bytes = IsExplained h a bytes
+
+-- what this form tells of a refused text, or of the account of the history that an accepted one stands for
 abbrev pub IsReport : Form → List ℕ → List ℕ → Type 0
-IsReport form text bytes = ((fault : TextFault) × IsRefusal text fault × (bytes ≡ refusal_line fault))
-    ⊎ ((h : List Event) × (a : Account) × IsAccepted text × StandsFor text h × IsAccount h a × (bytes ≡ report_text form a))
+IsReport form text bytes = ((fault : TextFault) × IsRefusal text fault × TellsRefusal form text fault bytes)
+    ⊎ ((h : List Event) × (a : Account) × IsAccepted text × StandsFor text h × IsAccount h a × TellsAccount form h a bytes)
 
 -- there is no other report of the text in this form
 abbrev pub OneReport : Form → List ℕ → Type 0

@@ -1,10 +1,16 @@
 // What is written of a text, and how its run ends.
-ghost use Rattle.std.specs.Prelude.{◌≡◌, ◌↔◌, ℕ, List, [], IfOk, IsTrue};
+ghost use Rattle.std.specs.Prelude.{◌≡◌, ◌↔◌, ⊤, ℕ, List, [], IfOk, IsTrue};
 ghost use Rattle.sia_events.specs.declared.event.Event.{Event};
-ghost use Rattle.sia_events.specs.Refusals.{IsWellFormed};
-ghost use Rattle.sia_events.specs.Streaming.{StandsForRead};
-ghost use Rattle.si_audit.specs.Lines.{refusal_line};
-ghost use Rattle.si_audit.specs.Report.{IsReport};
+ghost use Rattle.sia_events.specs.Lists.{ListsAscending};
+ghost use Rattle.sia_events.specs.Locating.{StandsForLocated};
+ghost use Rattle.sia_events.specs.Refusals.{IsRefusal, IsWellFormed};
+ghost use Rattle.sia_events.specs.Streaming.{Progress, StandsForRead};
+ghost use Rattle.sia_events.specs.Transactions.{IsCommitted};
+ghost use Rattle.sia_parts.specs.Looks.{AreLooks};
+ghost use Rattle.sia_events.specs.declared.fault.TextFault.{TextFault};
+ghost use Rattle.si_audit.specs.declared.cli.form.Form.{Form};
+ghost use Rattle.si_audit.specs.Receiving.{IsReceived};
+ghost use Rattle.si_audit.specs.Report.{IsReport, TellsRefusal};
 ghost use Rattle.si_audit.specs.Outcomes.{IsOutcome, Meets};
 ghost use Rattle.si_audit.specs.Answering.{IsReportOf, IsOutcomeOf};
 ghost use Rattle.si_audit.specs.Judgements.{IsJudgement};
@@ -14,13 +20,18 @@ use crate::audit::judgement::{Judgement, judged};
 use crate::cli::level::Level;
 use crate::cli::options::Options;
 use crate::engine::Outcome;
+use crate::explain::explaining::explained;
+use crate::explain::refused::push_place;
+use crate::explain::versions::Recorded;
+use crate::io::input::Received;
 use crate::report::lines::push_refusal;
 use crate::report::listing::told;
 use crate::report::reporting::report_of;
-use sia_events::{History, NoMemory, TextFault, TextReader};
+use sia_events::{History, Locator, NoMemory, TextFault};
+use sia_graph::{Evidence, listing_law};
 use sia_index::Index;
 use sia_index::make::index;
-use sia_parts::Committed;
+use sia_parts::{Committed, Looks};
 use std::alloc::Global;
 use std::sync::Wait;
 use std::thread::Threads;
@@ -62,6 +73,39 @@ fn outcome_of(j: &Judgement, level: Level) -> Outcome
     }
 }
 
+/// The one sheet of the explained report.
+fn explained_sheets(
+    alloc: Global,
+    h: &History,
+    ix: &Index,
+    committed: &Committed,
+    j: &Judgement,
+    looks: &Looks,
+) -> Result<Vec<Vec<u8>>, NoMemory>
+    requires index { ix.now ≡ h.now }
+    requires committed { ListsAscending (IsCommitted ix.now) committed.now }
+    requires looks { AreLooks ix.now (λ _. ⊤) looks.now }
+    requires judgement { IsJudgement h.now j.now }
+    ensures { IfOk result (λ sheets. IsReportOf Form.Explained h.now (text_of sheets.items)) }
+{
+    ix.law();
+    listing_law();
+    let evidence = Evidence {
+        index: ix,
+        txns: committed.ids(),
+        keys: ix.written_keys(),
+        looks,
+    };
+    let of = Recorded {
+        history: h,
+        index: ix,
+    };
+    let sheet = explained(alloc, &of, &evidence, j)?;
+    let mut sheets = Vec::new(alloc);
+    sheets.push(sheet)?;
+    Ok(sheets)
+}
+
 /// The answer to a history by its index.
 fn answer_by_index<T: Threads + Wait + Sync>(
     rt: &T,
@@ -77,8 +121,12 @@ fn answer_by_index<T: Threads + Wait + Sync>(
 {
     let committed = Committed::of(alloc, ix)?;
     let (judgement, looks) = judged(rt, alloc, h, ix, &committed, o)?;
-    let listing = told(rt, alloc, ix, &committed, looks, o)?;
     let outcome = outcome_of(&judgement, o.level());
+    if o.form().is_explained() {
+        let sheets = explained_sheets(alloc, h, ix, &committed, &judgement, &looks)?;
+        return Ok(Answer { sheets, outcome });
+    }
+    let listing = told(rt, alloc, ix, &committed, looks, o)?;
     let sheets = report_of(alloc, &judgement, listing)?;
     Ok(Answer { sheets, outcome })
 }
@@ -98,12 +146,22 @@ pub(crate) fn answer_to_history<T: Threads + Wait + Sync>(
     answer_by_index(rt, alloc, h, &ix, o)
 }
 
-/// The answer to a refused text.
-fn answer_to_refusal(alloc: Global, fault: &TextFault) -> Result<Answer, NoMemory>
-    ensures { IfOk result (λ answer. (text_of answer.sheets.items ≡ refusal_line fault.now) × (answer.outcome ≡ Outcome.Refused)) }
+/// The answer to a refused text, of which the locator tells where the refused token is.
+fn answer_to_refusal(
+    alloc: Global,
+    fault: &TextFault,
+    locator: &Locator,
+    o: &Options,
+) -> Result<Answer, NoMemory>
+    ensures report { (bytes : List ℕ) (reader : Progress) → StandsForRead reader bytes → (o.now.form ≡ Form.Explained → StandsForLocated locator.now reader bytes)
+        → IsRefusal bytes fault.now → IfOk result (λ answer. TellsRefusal o.now.form bytes fault.now (text_of answer.sheets.items)) }
+    ensures outcome { IfOk result (λ answer. answer.outcome ≡ Outcome.Refused) }
 {
     let mut sheet = Vec::new(alloc);
     push_refusal(&mut sheet, fault)?;
+    if o.form().is_explained() {
+        push_place(&mut sheet, fault, locator)?;
+    }
     let mut sheets = Vec::new(alloc);
     sheets.push(sheet)?;
     Ok(Answer {
@@ -112,19 +170,34 @@ fn answer_to_refusal(alloc: Global, fault: &TextFault) -> Result<Answer, NoMemor
     })
 }
 
+/// Whether there is no history for want of memory.
+fn is_lost(fault: &TextFault) -> bool
+    ensures { IsTrue result ↔ (fault.now ≡ TextFault.NoMemory) }
+{
+    match fault {
+        TextFault::NoMemory => true,
+        TextFault::TextTooLong | TextFault::Refused { .. } => false,
+    }
+}
+
 /// The answer to the text that was read.
 pub(crate) fn answer_to_text<T: Threads + Wait + Sync>(
     rt: &T,
     alloc: Global,
-    text: TextReader,
+    received: Received,
     o: &Options,
 ) -> Result<Answer, NoMemory>
-    ensures report { (bytes : List ℕ) → StandsForRead text bytes → IfOk result (λ answer. IsReport o.now.form bytes (text_of answer.sheets.items)) }
-    ensures outcome { (bytes : List ℕ) → StandsForRead text bytes → IfOk result (λ answer. IsOutcome o.now.level bytes answer.outcome) }
+    ensures report { (bytes : List ℕ) → IsReceived (o.now.form ≡ Form.Explained) received.locator received.text bytes → IfOk result (λ answer. IsReport o.now.form bytes (text_of answer.sheets.items)) }
+    ensures outcome { (bytes : List ℕ) → StandsForRead received.text bytes → IfOk result (λ answer. IsOutcome o.now.level bytes answer.outcome) }
 {
+    let Received { text, locator } = received;
     match text.finish() {
         Ok(h) => answer_to_history(rt, alloc, &h, o),
-        Err(TextFault::NoMemory) => Err(NoMemory),
-        Err(fault) => answer_to_refusal(alloc, &fault),
+        Err(fault) => {
+            if is_lost(&fault) {
+                return Err(NoMemory);
+            }
+            answer_to_refusal(alloc, &fault, &locator, o)
+        }
     }
 }

@@ -103,8 +103,8 @@ pub fn run<T: Threads + Wait + Sync, R: Source, W: Sink>(
     ensures whole { result ≡ Err RunFault.Write → IsFalse (W.has_refused writer.new) → IfSome (R.remaining reader.old) (λ text.
         (bytes : List ℕ) × IsReport o.now.form text bytes × Appends (W.taken writer.old) (W.taken writer.new) bytes) }
 {
-    let text = read_text(alloc, reader)?;
-    let answer = answer_to_text(rt, alloc, text, o)?;
+    let received = read_text(alloc, reader, o.form().is_explained())?;
+    let answer = answer_to_text(rt, alloc, received, o)?;
     match write_whole(writer, answer.sheets.as_slice()) {
         Ok(()) => Ok(answer.outcome),
         Err(Failed) => Err(RunFault::Write),

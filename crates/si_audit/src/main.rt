@@ -6,6 +6,7 @@ mod answering;
 mod audit;
 mod cli;
 mod engine;
+mod explain;
 mod io;
 mod laws;
 mod report;

@@ -1,4 +1,5 @@
 // The lines that a report has.
+ghost use Rattle.std.specs.Prelude.{◌≡◌, ◌↔◌, IsTrue};
 
 /// Which lines a report has.
 #[derive(Clone, Copy, Debug, PartialEq, Eq)]
@@ -7,4 +8,17 @@ pub enum Form {
     Full,
     /// All but those of edges and pivots.
     Brief,
+    /// Those of the brief report, with reasons.
+    Explained,
+}
+
+impl Form {
+    pub(crate) fn is_explained(self) -> bool
+        ensures { IsTrue result ↔ (self ≡ Form.Explained) }
+    {
+        match self {
+            Form::Full | Form::Brief => false,
+            Form::Explained => true,
+        }
+    }
 }

@@ -5,7 +5,7 @@ ghost use Rattle.clap.specs.Words.{IsUnsignedIn, app_of, found_of, kind_of, rows
 ghost use Rattle.clap.specs.declared.builder.value_parser.ValueParser.TheVariants.{Unsigned};
 ghost use Rattle.clap.specs.declared.error.kind.ErrorKind.TheVariants.{OutOfMemory};
 ghost use Rattle.si_audit.specs.LineAnswers.{HasNumbers, IsOwed, GivesOptions, StandsInTheWay, cuts_among, form_among, level_among, workers_among};
-ghost use Rattle.si_audit.specs.Words.{AreChosen, ChooseNoLevel, ChooseTooManyCuts, brief_rule, check_rule, cuts_rule, level_named as named, number_in, program, workers_rule};
+ghost use Rattle.si_audit.specs.Words.{AreChosen, ChooseNoLevel, ChooseTooManyCuts, brief_rule, check_rule, cuts_rule, explain_rule, level_named as named, number_in, program, workers_rule};
 
 use crate::cli::form::Form;
 use crate::cli::level::Level;
@@ -29,6 +29,8 @@ const FILE_HINT: &str = "A history is read from standard input: si_audit <FILE\n
 const WORKERS_HELP: &str = "How many workers audit the parts, from 1 to 64";
 
 const BRIEF_HELP: &str = "Leaves out the lines of edges and pivots";
+
+const EXPLAIN_HELP: &str = "The brief report with reasons: the events that show each finding";
 
 const CHECK_HELP: &str = "What status 0 says was kept: serializable, ssi or si";
 
@@ -109,6 +111,7 @@ fn command<'a>(alloc: Global) -> Result<Command<'a>, AllocError>
         .arg(workers_option(alloc))?
         .arg(cuts_argument(alloc))?
         .arg(brief_option(alloc))?
+        .arg(explain_option(alloc))?
         .arg(check_option(alloc))
 }
 
@@ -161,6 +164,17 @@ fn brief_option<'a>(alloc: Global) -> Arg<'a>
         .long("brief")
         .action(ArgAction::Count)
         .help(BRIEF_HELP)
+}
+
+/// The option that asks for the explained report.
+fn explain_option<'a>(alloc: Global) -> Arg<'a>
+    ensures rule { rule_of result ≡ explain_rule }
+    ensures local { result.global ≡ false }
+{
+    Arg::new(alloc, "explain")
+        .long("explain")
+        .action(ArgAction::Count)
+        .help(EXPLAIN_HELP)
 }
 
 /// The option that names the level.
@@ -246,7 +260,9 @@ fn workers_in(matches: &ArgMatches<'_>) -> u8
 fn form_in(matches: &ArgMatches<'_>) -> Form
     ensures { result ≡ form_among (rows_of (found_of matches.now)) }
 {
-    if matches.get_count("brief") == 0 {
+    if matches.get_count("explain") != 0 {
+        Form::Explained
+    } else if matches.get_count("brief") == 0 {
         Form::Full
     } else {
         Form::Brief

@@ -107,6 +107,6 @@ pub(crate) fn told<R: Threads + Wait + Sync>(
 {
     match o.form() {
         Form::Full => listed(rt, alloc, ix, committed, looks, o),
-        Form::Brief => Ok(nothing(alloc, ix)),
+        Form::Brief | Form::Explained => Ok(nothing(alloc, ix)),
     }
 }

@@ -73,7 +73,12 @@ fn push_word(out: &mut Vec<u8>, word: &[u8]) -> Result<(), AllocError>
 }
 
 /// A number between some bytes.
-fn push_number(out: &mut Vec<u8>, before: &[u8], n: u64, behind: &[u8]) -> Result<(), AllocError>
+pub(crate) fn push_number(
+    out: &mut Vec<u8>,
+    before: &[u8],
+    n: u64,
+    behind: &[u8],
+) -> Result<(), AllocError>
     ensures { OnOk result (out.new.items ≡ out.old.items ++ before.now ++ numeral n ++ behind.now) }
 {
     let mut buffer = Buffer::new();

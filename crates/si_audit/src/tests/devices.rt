@@ -1,159 +1,80 @@
-// Devices that fail.
-ghost use Rattle.std.specs.Prelude.{◌≡◌, Some, true, false};
+// Readers and writers of std that give and take little, and fail. They don't tell their bytes, as a file or a pipe doesn't.
+use std::alloc::{AllocError, Global};
+use std::io::{self, ErrorKind, Read, Write};
 
-use crate::io::device::{Failed, Sink, Source};
-
-/// Gives the bytes of a slice, and fails in place of giving more than so many.
+/// Gives the bytes of a slice, at most so many a call, and counts the calls. It fails once, in place of giving more than so
+/// many in all, and then goes on.
 #[derive(Drop)]
-pub(crate) struct Breaking<'a> {
-    rest: &'a [u8],
-    sound_for: usize,
-    failed: bool,
-    reads: u64,
+pub(crate) struct Giving<'a> {
+    pub(crate) rest: &'a [u8],
+    pub(crate) a_call: usize,
+    /// How many bytes it gives before it fails, while it is yet to fail.
+    pub(crate) before: Option<usize>,
+    pub(crate) kind: ErrorKind,
+    pub(crate) calls: u32,
 }
 
-impl<'a> Breaking<'a> {
-    pub(crate) fn new(bytes: &'a [u8], sound_for: usize) -> Breaking<'a>
-        ensures bytes { result.rest.now ≡ bytes.now }
-        ensures sound { result.failed ≡ false }
-    {
-        Breaking {
-            rest: bytes,
-            sound_for,
-            failed: false,
-            reads: 0,
+impl Read for Giving<'_> {
+    fn read(&mut self, into: &mut [u8]) -> io::Result<usize> {
+        self.calls = self.calls.saturating_add(1);
+        if self.before == Some(0) {
+            self.before = None;
+            return Err(self.kind.into());
         }
+        let n = self.rest.len().min(self.a_call).min(into.len());
+        let n = n.min(self.before.unwrap_or(n));
+        into[..n].copy_from_slice(&self.rest[..n]);
+        self.rest = &self.rest[n..];
+        self.before = self.before.map(|before| before.saturating_sub(n));
+        Ok(n)
     }
 }
 
-impl Source for Breaking<'_> {
-    ghost remaining = { λ s. Some s.rest.now };
+/// Takes at most so many bytes a call, and no more than so many in all, where it fails if `then_fails`, and else takes none.
+/// It counts the calls.
+#[derive(Drop)]
+pub(crate) struct Taking {
+    pub(crate) taken: Vec<u8>,
+    pub(crate) a_call: usize,
+    pub(crate) room: usize,
+    pub(crate) then_fails: bool,
+    pub(crate) flush_fails: bool,
+    pub(crate) writes: u32,
+    pub(crate) flushes: u32,
+}
 
-    ghost has_failed = { λ s. s.failed };
+impl Taking {
+    /// Takes all bytes, into memory for 256 of them.
+    pub(crate) fn new(alloc: Global) -> Result<Taking, AllocError> {
+        Ok(Taking {
+            taken: Vec::with_capacity(alloc, 256)?,
+            a_call: usize::MAX,
+            room: usize::MAX,
+            then_fails: true,
+            flush_fails: false,
+            writes: 0,
+            flushes: 0,
+        })
+    }
+}
 
-    ghost reads = { λ s. s.reads };
-
-    fn read(&mut self, into: &mut [u8]) -> Result<usize, Failed> {
-        if self.sound_for == 0 {
-            self.failed = true;
-            return Err(Failed);
+impl Write for Taking {
+    fn write(&mut self, bytes: &[u8]) -> io::Result<usize> {
+        self.writes = self.writes.saturating_add(1);
+        let n = bytes.len().min(self.a_call).min(self.room);
+        if n == 0 && self.then_fails {
+            return Err(ErrorKind::Other.into());
         }
-        let n = self.rest.len().min(self.sound_for).min(into.len());
-        into[..n].copy_from_slice(&self.rest[..n]);
-        self.rest = &self.rest[n..];
-        self.sound_for -= n;
-        if n > 0 {
-            self.reads = self.reads.saturating_add(1);
-        }
+        self.taken.extend_from_slice(&bytes[..n])?;
+        self.room -= n;
         Ok(n)
     }
 
-    fn failed(&self) -> bool {
-        self.failed
-    }
-}
-
-/// What a `Choking` does once it has taken all that it takes.
-#[derive(Clone, Copy, PartialEq, Eq, Debug)]
-pub(crate) enum Then {
-    Fails,
-    TakesNone,
-}
-
-/// Takes at most so many bytes a write, into room that was taken beforehand, and no more than so many in all.
-#[derive(Drop)]
-pub(crate) struct Choking {
-    taken: Vec<u8>,
-    a_write: usize,
-    sound_for: usize,
-    then: Then,
-    flush_fails: bool,
-    refused: bool,
-    flush_failed: bool,
-    flushed: bool,
-}
-
-impl Choking {
-    pub(crate) fn new(room: Vec<u8>, a_write: usize, sound_for: usize, then: Then) -> Choking
-        ensures taken { result.taken.items ≡ room.items }
-        ensures sound { (result.refused ≡ false) × (result.flush_failed ≡ false) }
-    {
-        Choking {
-            taken: room,
-            a_write,
-            sound_for,
-            then,
-            flush_fails: false,
-            refused: false,
-            flush_failed: false,
-            flushed: false,
-        }
-    }
-
-    /// Takes all bytes, and fails its flush.
-    pub(crate) fn without_flush(room: Vec<u8>) -> Choking
-        ensures taken { result.taken.items ≡ room.items }
-        ensures sound { (result.refused ≡ false) × (result.flush_failed ≡ false) }
-    {
-        Choking {
-            flush_fails: true,
-            ..Choking::new(room, usize::MAX, usize::MAX, Then::Fails)
-        }
-    }
-
-    pub(crate) fn taken(&self) -> &[u8]
-        ensures { result.now ≡ self.now.taken.items }
-    {
-        self.taken.as_slice()
-    }
-}
-
-impl Sink for Choking {
-    ghost use Rattle.std.specs.Prelude.{◌||◌};
-    ghost use Rattle.si_audit.specs.Devices.{or_first};
-
-    ghost taken = { λ s. Some s.taken.items };
-
-    ghost has_failed = { λ s. s.refused || s.flush_failed };
-
-    ghost has_refused = { λ s. s.refused };
-
-    ghost is_flushed = { λ s. s.flushed };
-
-    ghost refused_fails = { λ s e. or_first s.refused s.flush_failed e };
-
-    fn write(&mut self, bytes: &[u8]) -> Result<usize, Failed> {
-        self.flushed = false;
-        let n = bytes.len().min(self.a_write).min(self.sound_for);
-        if n == 0 && !bytes.is_empty() {
-            self.refused = true;
-            return match self.then {
-                Then::Fails => Err(Failed),
-                Then::TakesNone => Ok(0),
-            };
-        }
-        match self.taken.extend_from_slice(&bytes[..n]) {
-            Ok(()) => {
-                self.sound_for -= n;
-                Ok(n)
-            }
-            Err(_) => {
-                self.refused = true;
-                Err(Failed)
-            }
-        }
-    }
-
-    fn flush(&mut self) -> Result<(), Failed> {
+    fn flush(&mut self) -> io::Result<()> {
+        self.flushes = self.flushes.saturating_add(1);
         if self.flush_fails {
-            self.flush_failed = true;
-            return Err(Failed);
+            return Err(ErrorKind::Other.into());
         }
-        self.flushed = true;
         Ok(())
-    }
-
-    fn failed(&self) -> bool {
-        self.refused || self.flush_failed
     }
 }

@@ -2,7 +2,6 @@
 use crate::cli::form::Form;
 use crate::cli::level::Level;
 use crate::cli::line::{LineFault, options_from};
-use crate::cli::options::Options;
 use sia_events::Key;
 use sia_parts::Part;
 use std::alloc::{AllocError, Global};
@@ -17,225 +16,242 @@ fn words(alloc: Global, line: &[&str]) -> Result<Vec<String>, AllocError> {
     Ok(words)
 }
 
-fn from(alloc: Global, line: &[&str]) -> Result<Options, LineFault> {
-    options_from(alloc, words(alloc, line)?.as_slice())
-}
+const WHOLE: &[Part] = &[Part {
+    lo: 0,
+    hi: Key::MAX,
+}];
 
-/// The answer, where it isn't want of memory.
-fn known(answer: Result<Options, LineFault>) -> Result<Result<Options, LineFault>, Fail> {
-    match answer {
-        Err(LineFault::NoMemory) => Err(Fail::from(LineFault::NoMemory)),
-        answer => Ok(answer),
-    }
-}
-
-/// The program with cuts 1 to `last`.
-fn with_cuts(alloc: Global, last: Key) -> Result<Result<Options, LineFault>, Fail> {
-    let mut line = words(alloc, &["si_audit"])?;
-    for cut in 1..=last {
-        line.push(format!(in alloc; "{cut}")?)?;
-    }
-    known(options_from(alloc, line.as_slice()))
-}
-
-#[test]
-fn without_words(rt: HostRuntime) -> Result<(), Fail> {
-    let options = from(rt.alloc(), &["si_audit"])?;
-    assert_eq!(rt; options.workers(), 4);
-    let parts = [Part {
-        lo: 0,
+const CUT_AT_14: &[Part] = &[
+    Part { lo: 0, hi: 13 },
+    Part {
+        lo: 14,
         hi: Key::MAX,
-    }];
-    assert_eq!(rt; options.parts(), parts.as_slice());
-    assert_eq!(rt; options.form(), Form::Full);
-    assert_eq!(rt; options.level(), Level::Serializable);
-    Ok(())
-}
+    },
+];
 
-#[test]
-fn forms_and_levels(rt: HostRuntime) -> Result<(), Fail> {
-    let lines: [(&[&str], Form, Level); 5] = [
-        (&["si_audit", "--brief"], Form::Brief, Level::Serializable),
-        (
-            &["si_audit", "--brief", "14", "--brief"],
-            Form::Brief,
-            Level::Serializable,
-        ),
-        (&["si_audit", "--check", "si"], Form::Full, Level::Si),
-        (
-            &["si_audit", "--check=ssi", "--brief"],
-            Form::Brief,
-            Level::Ssi,
-        ),
-        (
-            &["si_audit", "--check", "serializable"],
-            Form::Full,
-            Level::Serializable,
-        ),
-    ];
-    for (line, form, level) in lines {
-        let options = from(rt.alloc(), line)?;
-        assert_eq!(rt; options.form(), form);
-        assert_eq!(rt; options.level(), level);
-    }
-    Ok(())
-}
+const CUT_AT_THE_END: &[Part] = &[
+    Part {
+        lo: 0,
+        hi: Key::MAX - 1,
+    },
+    Part {
+        lo: Key::MAX,
+        hi: Key::MAX,
+    },
+];
 
-#[test]
-fn unknown_levels(rt: HostRuntime) -> Result<(), Fail> {
-    for name in ["SI", "", "snapshot"] {
-        let line = ["si_audit", "--check", name];
-        let answer = known(from(rt.alloc(), line.as_slice()))?;
-        assert!(rt; matches!(answer, Err(LineFault::UnknownLevel)), "{name}");
-    }
-    Ok(())
-}
-
-#[test]
-fn workers_and_a_cut(rt: HostRuntime) -> Result<(), Fail> {
-    let parts = [
-        Part { lo: 0, hi: 13 },
-        Part {
-            lo: 14,
-            hi: Key::MAX,
-        },
-    ];
-    let lines: [&[&str]; 5] = [
+const GIVEN: &[(&[&str], u8, &[Part], Form, Level)] = &[
+    (&["si_audit"], 4, WHOLE, Form::Full, Level::Serializable),
+    (
+        &["si_audit", "--brief"],
+        4,
+        WHOLE,
+        Form::Brief,
+        Level::Serializable,
+    ),
+    (
+        &["si_audit", "--brief", "14", "--brief"],
+        4,
+        CUT_AT_14,
+        Form::Brief,
+        Level::Serializable,
+    ),
+    (
+        &["si_audit", "--check", "si"],
+        4,
+        WHOLE,
+        Form::Full,
+        Level::Si,
+    ),
+    (
+        &["si_audit", "--check=ssi", "--brief"],
+        4,
+        WHOLE,
+        Form::Brief,
+        Level::Ssi,
+    ),
+    (
+        &["si_audit", "--check", "serializable"],
+        4,
+        WHOLE,
+        Form::Full,
+        Level::Serializable,
+    ),
+    (
         &["si_audit", "--workers", "64", "14"],
+        64,
+        CUT_AT_14,
+        Form::Full,
+        Level::Serializable,
+    ),
+    (
         &["si_audit", "14", "--workers=64"],
+        64,
+        CUT_AT_14,
+        Form::Full,
+        Level::Serializable,
+    ),
+    (
         &["si_audit", "--workers", "+64", "--", "+014", "0", "14"],
+        64,
+        CUT_AT_14,
+        Form::Full,
+        Level::Serializable,
+    ),
+    (
         &["", "0", "14", "--workers", "64", "14"],
+        64,
+        CUT_AT_14,
+        Form::Full,
+        Level::Serializable,
+    ),
+    (
         &["si_audit", "--workers", "0064", "00014"],
-    ];
-    for line in lines {
-        let options = from(rt.alloc(), line)?;
-        assert_eq!(rt; options.workers(), 64);
-        assert_eq!(rt; options.parts(), parts.as_slice());
+        64,
+        CUT_AT_14,
+        Form::Full,
+        Level::Serializable,
+    ),
+    (
+        &["si_audit", "18446744073709551615", "0"],
+        4,
+        CUT_AT_THE_END,
+        Form::Full,
+        Level::Serializable,
+    ),
+];
+
+#[test]
+fn words_that_give_options(rt: HostRuntime) -> Result<(), Fail> {
+    for (line, workers, parts, form, level) in GIVEN {
+        let line = words(rt.alloc(), line)?;
+        let options = options_from(rt.alloc(), line.as_slice())?;
+        assert_eq!(rt;
+            (
+                options.workers(),
+                options.parts(),
+                options.form(),
+                options.level()
+            ),
+            (*workers, *parts, *form, *level)
+        );
     }
     Ok(())
 }
 
-#[test]
-fn the_ends_of_the_keys(rt: HostRuntime) -> Result<(), Fail> {
-    let line = ["si_audit", "18446744073709551615", "0"];
-    let options = from(rt.alloc(), line.as_slice())?;
-    let parts = [
-        Part {
-            lo: 0,
-            hi: Key::MAX - 1,
-        },
-        Part {
-            lo: Key::MAX,
-            hi: Key::MAX,
-        },
-    ];
-    assert_eq!(rt; options.parts(), parts.as_slice());
-    Ok(())
-}
-
-#[test]
-fn refused_words(rt: HostRuntime) -> Result<(), Fail> {
-    let lines: [(&[&str], &str); 15] = [
-        (&["si_audit", "--workers", "65"], "65 is not in 1..=64"),
-        (&["si_audit", "--workers", "0"], "0 is not in 1..=64"),
-        (
-            &["si_audit", "--workers", "four"],
-            "'four' for '--workers <N>'",
-        ),
-        (
-            &["si_audit", "--workers"],
-            "a value is required for '--workers <N>'",
-        ),
-        (
-            &["si_audit", "--workers", "4", "--workers", "4"],
-            "cannot be used multiple times",
-        ),
-        (
-            &["si_audit", "--check"],
-            "a value is required for '--check <LEVEL>'",
-        ),
-        (
-            &["si_audit", "--check", "si", "--check", "si"],
-            "cannot be used multiple times",
-        ),
-        (
-            &["si_audit", "--brief=yes"],
-            "unexpected value 'yes' for '--brief...'",
-        ),
-        (&["si_audit", "14", "x"], "'x' for '[CUT]...'"),
-        (&["si_audit", "run.history"], "si_audit <FILE"),
-        (
-            &["si_audit", "18446744073709551616"],
-            "'18446744073709551616' for '[CUT]...'",
-        ),
-        (&["si_audit", ""], "'' for '[CUT]...'"),
-        (&["si_audit", "-1"], "unexpected argument '-1'"),
-        (&["si_audit", "--", "-1"], "'-1' for '[CUT]...'"),
-        (
-            &["si_audit", "--worker", "4"],
-            "unexpected argument '--worker'",
-        ),
-    ];
-    for (line, said) in lines {
-        let answer = known(from(rt.alloc(), line))?;
-        match &answer {
-            Err(LineFault::Usage(text)) => {
-                assert!(rt; text.as_str().starts_with("error: "), "{text}");
-                assert!(rt; text.as_str().contains(said), "{text}");
-            }
-            _ => assert!(rt; false, "{said}"),
-        }
+/// What kind of answer the words get, and its text, if it has one.
+fn told(alloc: Global, words: &[String]) -> Result<(&'static str, String), Fail> {
+    match options_from(alloc, words) {
+        Ok(_) => Ok(("options", String::new(alloc))),
+        Err(LineFault::TooManyCuts) => Ok(("too many cuts", String::new(alloc))),
+        Err(LineFault::UnknownLevel) => Ok(("unknown level", String::new(alloc))),
+        Err(LineFault::Help(text)) => Ok(("help", text)),
+        Err(LineFault::Usage(text)) => Ok(("usage", text)),
+        Err(LineFault::NoMemory) => Err(Fail::from(LineFault::NoMemory)),
     }
-    Ok(())
 }
 
-#[test]
-fn words_that_ask_for_help(rt: HostRuntime) -> Result<(), Fail> {
-    let lines: [&[&str]; 3] = [
+/// Words, the kind of their answer, and what its text contains.
+const NOT_GIVEN: &[(&[&str], &str, &str)] = &[
+    (&["si_audit", "--check", "SI"], "unknown level", ""),
+    (&["si_audit", "--check", ""], "unknown level", ""),
+    (&["si_audit", "--check", "snapshot"], "unknown level", ""),
+    (
         &["si_audit", "--help"],
-        &["si_audit", "-h"],
+        "help",
+        "Usage: si_audit [OPTIONS] [CUT]...",
+    ),
+    (&["si_audit", "-h"], "help", "--workers <N>"),
+    (
         &["si_audit", "--workers", "64", "14", "--help", "x"],
-    ];
-    for line in lines {
-        let answer = known(from(rt.alloc(), line))?;
-        match &answer {
-            Err(LineFault::Help(text)) => {
-                assert!(rt;
-                    text.as_str().contains("Usage: si_audit [OPTIONS] [CUT]..."),
-                    "{text}"
-                );
-                assert!(rt; text.as_str().contains("--workers <N>"), "{text}");
-                assert!(rt; text.as_str().contains("[default: 4]"), "{text}");
-            }
-            _ => assert!(rt; false),
-        }
-    }
-    Ok(())
-}
+        "help",
+        "[default: 4]",
+    ),
+    (
+        &["si_audit", "--version"],
+        "help",
+        "si_audit 0.2.0 (Rattle logic ",
+    ),
+    (&["si_audit", "-V"], "help", "si_audit 0.2.0 (Rattle logic "),
+    (
+        &["si_audit", "--workers", "65"],
+        "usage",
+        "65 is not in 1..=64",
+    ),
+    (
+        &["si_audit", "--workers", "0"],
+        "usage",
+        "0 is not in 1..=64",
+    ),
+    (
+        &["si_audit", "--workers", "four"],
+        "usage",
+        "'four' for '--workers <N>'",
+    ),
+    (
+        &["si_audit", "--workers"],
+        "usage",
+        "a value is required for '--workers <N>'",
+    ),
+    (
+        &["si_audit", "--workers", "4", "--workers", "4"],
+        "usage",
+        "cannot be used multiple times",
+    ),
+    (
+        &["si_audit", "--check"],
+        "usage",
+        "a value is required for '--check <LEVEL>'",
+    ),
+    (
+        &["si_audit", "--check", "si", "--check", "si"],
+        "usage",
+        "cannot be used multiple times",
+    ),
+    (
+        &["si_audit", "--brief=yes"],
+        "usage",
+        "unexpected value 'yes' for '--brief...'",
+    ),
+    (&["si_audit", "14", "x"], "usage", "'x' for '[CUT]...'"),
+    (&["si_audit", "run.history"], "usage", "si_audit <FILE"),
+    (
+        &["si_audit", "18446744073709551616"],
+        "usage",
+        "'18446744073709551616' for '[CUT]...'",
+    ),
+    (&["si_audit", ""], "usage", "'' for '[CUT]...'"),
+    (&["si_audit", "-1"], "usage", "unexpected argument '-1'"),
+    (&["si_audit", "--", "-1"], "usage", "'-1' for '[CUT]...'"),
+    (
+        &["si_audit", "--worker", "4"],
+        "usage",
+        "unexpected argument '--worker'",
+    ),
+];
 
 #[test]
-fn words_that_ask_for_the_version(rt: HostRuntime) -> Result<(), Fail> {
-    for word in ["--version", "-V"] {
-        let line = ["si_audit", word];
-        let answer = known(from(rt.alloc(), line.as_slice()))?;
-        match &answer {
-            Err(LineFault::Help(text)) => {
-                assert!(rt;
-                    text.as_str().starts_with("si_audit 0.2.0 (Rattle logic "),
-                    "{text}"
-                );
-            }
-            _ => assert!(rt; false),
-        }
+fn words_that_give_none(rt: HostRuntime) -> Result<(), Fail> {
+    for (line, kind, said) in NOT_GIVEN {
+        let line = words(rt.alloc(), line)?;
+        let (found, text) = told(rt.alloc(), line.as_slice())?;
+        assert_eq!(rt; found, *kind);
+        assert!(rt; text.as_str().contains(*said), "{text}");
+        assert!(rt; text.as_str().starts_with("error: ") == (found == "usage"));
     }
     Ok(())
 }
 
 #[test]
 fn the_most_cuts(rt: HostRuntime) -> Result<(), Fail> {
-    let options = with_cuts(rt.alloc(), 1023)??;
-    assert_eq!(rt; options.workers(), 4);
-    assert_eq!(rt; options.parts().len(), 1024);
-    assert!(rt; matches!(with_cuts(rt.alloc(), 1024)?, Err(LineFault::TooManyCuts)));
+    let mut line = words(rt.alloc(), &["si_audit"])?;
+    for cut in 1..1024 {
+        line.push(format!(in rt.alloc(); "{cut}")?)?;
+    }
+    let options = options_from(rt.alloc(), line.as_slice())?;
+    assert_eq!(rt; (options.workers(), options.parts().len()), (4, 1024));
+    line.push(String::from_str(rt.alloc(), "1024")?)?;
+    let (kind, _) = told(rt.alloc(), line.as_slice())?;
+    assert_eq!(rt; kind, "too many cuts");
     Ok(())
 }

@@ -3,7 +3,7 @@ use Rattle.std.proofs.Common.{◌≡◌, ◌∙◌, ap, ap₂, codes}
 use Rattle.std.proofs.lemmas.Result.{IfOk-weaker}
 use Rattle.clap.specs.Words.{app_of, new_app, with_rule}
 use Rattle.clap.specs.Simple.{app_of_fields}
-use Rattle.si_audit.specs.Words.{brief_rule, cuts_rule, with_version, workers_rule}
+use Rattle.si_audit.specs.Words.{brief_rule, cuts_rule, explain_rule, with_version, workers_rule}
 use Rattle.si_audit.proofs.cli.line.command.Goals as goal
 
 pub returns : goal.returns
@@ -16,4 +16,6 @@ returns c =
     c.in_ok-arg-2.ensures.shape c.cuts_argument.ensures.local ∙ ap₂ with_rule one_is c.cuts_argument.ensures.rule in
     let three_are : app_of c.in_ok-arg-3.field-0 ≡ with_rule (with_rule (with_rule (with_version (new_app (codes "si_audit"))) workers_rule) cuts_rule) brief_rule =
     c.in_ok-arg-3.ensures.shape c.brief_option.ensures.local ∙ ap₂ with_rule two_are c.brief_option.ensures.rule in
-    IfOk-weaker c.arg-4.result _ _ (λ r added. added.shape c.check_option.ensures.local ∙ ap₂ with_rule three_are c.check_option.ensures.rule) c.arg-4.ensures
+    let four_are : app_of c.in_ok-arg-4.field-0 ≡ with_rule (with_rule (with_rule (with_rule (with_version (new_app (codes "si_audit"))) workers_rule) cuts_rule) brief_rule) explain_rule =
+    c.in_ok-arg-4.ensures.shape c.explain_option.ensures.local ∙ ap₂ with_rule three_are c.explain_option.ensures.rule in
+    IfOk-weaker c.arg-5.result _ _ (λ r added. added.shape c.check_option.ensures.local ∙ ap₂ with_rule four_are c.check_option.ensures.rule) c.arg-5.ensures

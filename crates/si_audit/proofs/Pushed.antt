@@ -1,0 +1,50 @@
+-- Words that are pushed one after another.
+use Rattle.std.proofs.Common.{◌≡◌, ℕ, List, [], ◌++◌, ap, ◌∙◌, append_assoc, append-nil}
+use Rattle.sia_events.specs.Text.{numeral}
+
+-- a number between words, and another number
+pub two_numbers : (o a t b s m n : List ℕ) → m ≡ o ++ a ++ t ++ b → n ≡ m ++ [] ++ s ++ [] → n ≡ o ++ (a ++ t ++ b ++ s)
+two_numbers o a t b s m n first second = second ∙ ap (λ (x : List ℕ). x ++ [] ++ s ++ []) first ∙ simp (append_assoc, append-nil)
+
+-- what comes next stands behind what came before
+pub behind : (o m n a b : List ℕ) → m ≡ o ++ a → n ≡ m ++ b → n ≡ o ++ (a ++ b)
+behind o m n a b first second = second ∙ ap (λ (x : List ℕ). x ++ b) first ∙ append_assoc o a b
+
+chained : (o a r b q c k l : List ℕ) → (((((o ++ a ++ r ++ b) ++ [] ++ q ++ c)) ++ k) ++ l) ≡ o ++ (a ++ r ++ b ++ q ++ c ++ k ++ l)
+chained o a r b q c k l = simp (append_assoc, append-nil)
+
+-- the place of a token, and what is shown of it
+pub place_pushed : (o first second third all a b c kept token l : List ℕ) (x row y column : ℕ) → x ≡ row → y ≡ column → kept ≡ token
+    → first ≡ o ++ a ++ numeral x ++ b → second ≡ first ++ [] ++ numeral y ++ c → third ≡ second ++ kept → all ≡ third ++ l
+    → all ≡ o ++ (a ++ numeral row ++ b ++ numeral column ++ c ++ token ++ l)
+place_pushed o first second third all a b c kept token l x row y column same_row same_column same_token one two three four =
+    four ∙ ap (λ (z : List ℕ). z ++ l) (three ∙ ap (λ (z : List ℕ). z ++ kept) (two ∙ ap (λ (z : List ℕ). z ++ [] ++ numeral y ++ c) one))
+    ∙ chained o a (numeral x) b (numeral y) c kept l
+    ∙ (λ i. o ++ (a ++ numeral (same_row i) ++ b ++ numeral (same_column i) ++ c ++ same_token i ++ l))
+
+-- words behind a number between words
+pub number_and_words : (o a t b s m n : List ℕ) → m ≡ o ++ a ++ t ++ b → n ≡ m ++ s → n ≡ o ++ (a ++ t ++ b ++ s)
+number_and_words o a t b s m n first second = second ∙ ap (λ (x : List ℕ). x ++ s) first ∙ simp append_assoc
+
+pub three_words : (o l m n a b c : List ℕ) → l ≡ o ++ a → m ≡ l ++ b → n ≡ m ++ c → n ≡ o ++ (a ++ b ++ c)
+three_words o l m n a b c first second third = behind o m n (a ++ b) c (behind o l m a b first second) third
+
+-- two things behind a start, with the same word before each
+pub two_things : (o p a b s c d q : List ℕ) → ((((((o ++ (p ++ a)) ++ b) ++ s) ++ c) ++ s) ++ d) ++ q ≡ o ++ (p ++ (a ++ b ++ s ++ c ++ s ++ d) ++ q)
+two_things o p a b s c d q = simp append_assoc
+
+pub seven_words : (o a b c d e f g : List ℕ) → ((((((o ++ a) ++ b) ++ c) ++ d) ++ e) ++ f) ++ g ≡ o ++ (a ++ (b ++ c ++ d ++ e ++ f) ++ g)
+seven_words o a b c d e f g = simp append_assoc
+
+-- the words of a step
+pub step_words_behind : (o a s b c w d k e f t g words z m n p q r y : List ℕ)
+    → m ≡ o ++ a ++ s ++ (b ++ c) → n ≡ m ++ w → p ≡ n ++ d ++ k ++ (e ++ f) → q ≡ p ++ [] ++ t ++ g → r ≡ q ++ words → y ≡ r ++ z
+    → y ≡ o ++ (a ++ (s ++ b ++ (c ++ w ++ d ++ k ++ e) ++ f ++ t ++ g ++ words) ++ z)
+step_words_behind o a s b c w d k e f t g words z m n p q r y first second third fourth fifth sixth =
+    sixth ∙ ap (λ (x : List ℕ). x ++ z) (fifth ∙ ap (λ (x : List ℕ). x ++ words) (fourth ∙ ap (λ (x : List ℕ). x ++ [] ++ t ++ g)
+    (third ∙ ap (λ (x : List ℕ). x ++ d ++ k ++ (e ++ f)) (second ∙ ap (λ (x : List ℕ). x ++ w) first)))) ∙ simp (append_assoc, append-nil)
+
+-- what is told of three lists, behind what was pushed before
+pub findings_pushed : (o a b k l m n r w u : List ℕ) → k ≡ o ++ a ++ b → l ≡ k ++ r → m ≡ l ++ w → n ≡ m ++ u → n ≡ o ++ a ++ b ++ r ++ w ++ u
+findings_pushed o a b k l m n r w u first second third fourth =
+    fourth ∙ ap (λ (x : List ℕ). x ++ u) (third ∙ ap (λ (x : List ℕ). x ++ w) (second ∙ ap (λ (x : List ℕ). x ++ r) first)) ∙ simp append_assoc

@@ -1,0 +1,28 @@
+-- The read, and the version behind it.
+use Rattle.std.proofs.Common.{[], ◌++◌, refl, subst}
+use Rattle.std.specs.Prelude.{codes}
+use Rattle.si_audit.specs.Reasons.{TellsUnless, event_words}
+use Rattle.si_audit.proofs.Pushed.{behind}
+use Rattle.si_audit.proofs.Sighted.{edge_is_seen}
+use Rattle.si_audit.proofs.explain.steps.push_sight.Goals as goal
+
+pub returns-in_default : goal.returns-in_default
+returns-in_default c = absurd (edge_is_seen c.args.of.now.history.now c.args.e.now c.requires.edge c.requires.read c.in_default.ensures)
+
+pub returns : goal.returns
+returns c =
+    let h = c.args.of.now.history.now in
+    let k = c.args.e.now.key in
+    let sight = c.in-Some.sight in
+    let version = c.in_ok-push_unless.ensures in (
+      event_words h k sight.place ++ version.0,
+      (
+        sight.place,
+        sight.version,
+        version.0,
+        c.in-Some.ensures,
+        subst (λ known. TellsUnless known h (codes "; ") k sight.version [] version.0) c.untold_of_edge.ensures version.1,
+        refl,
+      ),
+      behind c.args.out.now.items _ _ (event_words h k sight.place) version.0 c.in_ok-push_event.ensures version.2,
+    )

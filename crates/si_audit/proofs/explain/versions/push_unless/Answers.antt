@@ -1,0 +1,11 @@
+use Rattle.std.proofs.Common.{◌++◌, inr, refl}
+use Rattle.si_audit.proofs.Pushed.{three_words}
+use Rattle.si_audit.proofs.explain.versions.push_unless.Goals as goal
+
+pub returns : goal.returns
+returns c =
+    let told = c.in_ok-push_version.ensures in (
+      c.args.around.now.before.now ++ told.0 ++ c.args.around.now.behind.now,
+      inr (c.if-version-around.false, told.0, told.1, refl),
+      three_words c.args.out.now.items _ _ _ _ _ _ c.in_ok-extend_from_slice.ensures.items told.2 c.in_ok-extend_from_slice-2.ensures.items,
+    )

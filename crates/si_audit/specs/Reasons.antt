@@ -1,0 +1,110 @@
+-- What an explained report says below a finding: the events that make it. Words and their order are this project's own
+-- format (docs/FORMAT.md).
+use Rattle.std.specs.Prelude.{◌≡◌, ◌≢◌, ◌⊎◌, ◌≤◌, ℕ, List, [], ◌∷◌, ◌++◌, codes}
+use Rattle.sia_events.specs.declared.anomaly.Anomaly.{Anomaly}
+use Rattle.sia_events.specs.declared.anomaly.Anomaly.TheVariants.{OwnWriteMissed, AbortedRead, UncommittedRead, FutureRead, Phantom, StaleRead}
+use Rattle.sia_events.specs.declared.event.Event.{Event}
+use Rattle.sia_events.specs.Anomalies.{IsNamed}
+use Rattle.sia_events.specs.Dependencies.{IsVersionBefore}
+use Rattle.sia_events.specs.Isolation.{IsBadRead}
+use Rattle.sia_events.specs.Reads.{SawAt}
+use Rattle.sia_events.specs.Telling.{told_about}
+use Rattle.sia_events.specs.Text.{numeral}
+use Rattle.sia_events.specs.Transactions.{AbortsAt, CommitsAt, IsCommitted, IsOpen, StartsAt}
+use Rattle.sia_index.specs.Info.{IsFirstWrite}
+use Rattle.sia_parts.specs.declared.finding.BadRead.{BadRead}
+use Rattle.sia_parts.specs.declared.finding.BadWrite.{BadWrite}
+use Rattle.sia_parts.specs.declared.finding.Unexplained.{Unexplained}
+use Rattle.sia_parts.specs.declared.finding.Edge.{Edge}
+use Rattle.sia_parts.specs.declared.finding.Kind.{Kind}
+use Rattle.sia_parts.specs.declared.finding.Kind.TheVariants.{Ww, Wr, Rw}
+use Rattle.si_audit.specs.Lines.{edge_word}
+
+-- a line of reasons
+abbrev pub reason : List ℕ → List ℕ
+reason words = codes "  " ++ words ++ codes "\n"
+
+-- the event at place p, as far as it is about k
+abbrev pub event_words : List Event → ℕ → ℕ → List ℕ
+event_words h k p = codes "event " ++ numeral p ++ codes " " ++ told_about h p k
+
+-- when t started
+abbrev pub start_words : ℕ → ℕ → List ℕ
+start_words t s = codes "transaction " ++ numeral t ++ codes " starts after event " ++ numeral s
+
+-- where v first wrote k, and where it ended if it did
+abbrev pub TellsVersion : List Event → ℕ → ℕ → List ℕ → Type 0
+TellsVersion h k v words = (w : ℕ) × IsFirstWrite h v k w
+    × ((IsOpen h v × (words ≡ event_words h k w))
+    ⊎ ((q : ℕ) × (CommitsAt h v q ⊎ AbortsAt h v q) × (words ≡ event_words h k w ++ codes ", " ++ event_words h k q)))
+
+-- version v of k between these words, unless it is the one that wants no word
+abbrev pub TellsUnless : ℕ → List Event → List ℕ → ℕ → ℕ → List ℕ → List ℕ → Type 0
+TellsUnless known h before k v behind bytes = ((v ≡ known) × (bytes ≡ [])) ⊎ ((v ≢ known) × (words : List ℕ) × TellsVersion h k v words × (bytes ≡ before ++ words ++ behind))
+
+abbrev pub anomaly_words : Anomaly → List ℕ
+anomaly_words OwnWriteMissed = codes "own write missed"
+anomaly_words AbortedRead = codes "aborted read"
+anomaly_words UncommittedRead = codes "uncommitted read"
+anomaly_words FutureRead = codes "future read"
+anomaly_words Phantom = codes "phantom"
+anomaly_words StaleRead = codes "stale read"
+
+-- below a bad read: its name, the read, and when its transaction started; the version that was seen; and the one due
+abbrev pub TellsBadRead : List Event → BadRead → List ℕ → Type 0
+TellsBadRead h b bytes = (name : Anomaly) × (s : ℕ) × (saw : List ℕ) × (due : List ℕ)
+    × IsNamed h b.place b.txn b.key b.saw b.due name × StartsAt h b.txn s
+    × TellsUnless 0 h (codes "  saw: ") b.key b.saw (codes "\n") saw × TellsUnless 0 h (codes "  due: ") b.key b.due (codes "\n") due
+    × (bytes ≡ reason (anomaly_words name ++ codes ": " ++ event_words h b.key b.place ++ codes "; " ++ start_words b.txn s) ++ saw ++ due)
+
+-- below an unexplained read: what stands below the bad read at its place and key
+abbrev pub TellsUnexplained : List Event → Unexplained → List ℕ → Type 0
+TellsUnexplained h b bytes = (due : ℕ) × IsBadRead h b.place b.txn b.key b.saw due
+    × TellsBadRead h (record { place = b.place; txn = b.txn; key = b.key; saw = b.saw; due = due }) bytes
+
+-- below a bad write: when the second writer started, and both versions
+abbrev pub TellsBadWrite : List Event → BadWrite → List ℕ → Type 0
+TellsBadWrite h b bytes = (s : ℕ) × (first : List ℕ) × (second : List ℕ)
+    × StartsAt h b.second s × TellsVersion h b.key b.first first × TellsVersion h b.key b.second second
+    × (bytes ≡ reason (codes "both write and overlap: " ++ start_words b.second s ++ codes "; " ++ first ++ codes "; " ++ second))
+
+-- version v of k, seen by one of both, gives the edge from t to u
+abbrev pub Gives : Kind → List Event → ℕ → ℕ → ℕ → ℕ → Type 0
+Gives Ww h t u k v = ⊥
+Gives Wr h t u k v = IsCommitted h v × (v ≢ u) × ((t ≡ v) ⊎ IsVersionBefore h k t v)
+Gives Rw h t u k v = ((v ≡ 0) ⊎ IsCommitted h v) × (v ≢ t) × IsVersionBefore h k v u
+
+-- which of both reads
+abbrev pub reader_of : Kind → ℕ → ℕ → ℕ
+reader_of Ww t u = t
+reader_of Wr t u = u
+reader_of Rw t u = t
+
+-- the version that wants no word: where u saw t's own it is told already, and version 0 has no writer
+abbrev pub untold_of : Kind → ℕ → ℕ
+untold_of Ww t = 0
+untold_of Wr t = t
+untold_of Rw t = 0
+
+-- t saw a version of k that has P first at place p, and it was v
+abbrev pub IsFirstSight : (ℕ → Type 0) → List Event → ℕ → ℕ → ℕ → ℕ → Type 0
+IsFirstSight P h t k p v = SawAt h p t k v × P v × ((q w : ℕ) → SawAt h q t k w → P w → p ≤ q)
+
+-- the first read at which a version was seen that gives the edge, and this version
+abbrev pub TellsSight : List Event → Edge → List ℕ → Type 0
+TellsSight h e words = (p : ℕ) × (v : ℕ) × (version : List ℕ)
+    × IsFirstSight (Gives e.kind h e.src e.dst e.key) h (reader_of e.kind e.src e.dst) e.key p v
+    × TellsUnless (untold_of e.kind e.src) h (codes "; ") e.key v [] version
+    × (words ≡ event_words h e.key p ++ version)
+
+-- the events by which the edge is there: a version and a later one, a version and its reader, a reader and the version that it
+-- missed
+abbrev pub TellsEvents : Kind → List Event → Edge → List ℕ → Type 0
+TellsEvents Ww h e words = (one : List ℕ) × (other : List ℕ) × TellsVersion h e.key e.src one × TellsVersion h e.key e.dst other × (words ≡ one ++ codes "; " ++ other)
+TellsEvents Wr h e words = (one : List ℕ) × (other : List ℕ) × TellsVersion h e.key e.src one × TellsSight h e other × (words ≡ one ++ codes "; " ++ other)
+TellsEvents Rw h e words = (one : List ℕ) × (other : List ℕ) × TellsSight h e one × TellsVersion h e.key e.dst other × (words ≡ one ++ codes "; " ++ other)
+
+-- the line of a step along the edge
+abbrev pub TellsStep : List Event → Edge → List ℕ → Type 0
+TellsStep h e bytes = (words : List ℕ) × TellsEvents e.kind h e words
+    × (bytes ≡ reason (numeral e.src ++ codes " " ++ edge_word e.kind e.key ++ codes " " ++ numeral e.dst ++ codes ": " ++ words))

@@ -1,0 +1,31 @@
+//! Where the token stands that is refused, and what it is.
+ghost use Rattle.std.specs.Prelude.{◌≡◌, ◌++◌, ℕ, List, OnOk};
+ghost use Rattle.sia_events.specs.Locating.{StandsForLocated};
+ghost use Rattle.sia_events.specs.Refusals.{IsRefusal};
+ghost use Rattle.sia_events.specs.Streaming.{Progress, StandsForRead};
+ghost use Rattle.si_audit.specs.RefusedPlaces.{TellsToken};
+
+use crate::report::words::push_number;
+use sia_events::{Locator, NoMemory, TextFault, push_shown};
+
+/// What stands below the line of a refused text.
+pub(crate) fn push_place(
+    out: &mut Vec<u8>,
+    fault: &TextFault,
+    locator: &Locator,
+) -> Result<(), NoMemory>
+    ensures { (text : List ℕ) (reader : Progress) → StandsForRead reader text → StandsForLocated locator.now reader text → IsRefusal text fault.now
+        → OnOk result ((bytes : List ℕ) × TellsToken text fault.now bytes × (out.new.items ≡ out.old.items ++ bytes)) }
+{
+    match fault {
+        TextFault::NoMemory | TextFault::TextTooLong => Ok(()),
+        TextFault::Refused { .. } => {
+            let place = locator.place();
+            push_number(out, b"  line ", u64::from(place.line), b", column ")?;
+            push_number(out, b"", u64::from(place.column), b": ")?;
+            push_shown(out, locator.token())?;
+            out.extend_from_slice(b"\n")?;
+            Ok(())
+        }
+    }
+}

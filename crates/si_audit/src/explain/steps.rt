@@ -1,0 +1,106 @@
+//! The reasons of the steps of a cycle and of a dangerous structure.
+ghost use Rattle.std.specs.Prelude.{◌≡◌, ◌≢◌, ◌++◌, ℕ, All, List, IfOk, OnOk};
+ghost use Rattle.sia_events.specs.Transactions.{Wrote};
+ghost use Rattle.sia_parts.specs.declared.finding.Kind.TheVariants.{Ww};
+ghost use Rattle.sia_parts.specs.Entries.{IsEdge};
+ghost use Rattle.si_audit.specs.Acts.{AreActs};
+ghost use Rattle.si_audit.specs.Explained.{TellsAll};
+ghost use Rattle.si_audit.specs.Reasons.{TellsEvents, TellsSight, TellsStep, untold_of};
+
+use crate::explain::sights::{Act, first_sight};
+use crate::explain::versions::{Around, Recorded, push_event, push_unless, push_version};
+use crate::report::words::{kind_word, push_number};
+use sia_events::{NoMemory, Version};
+use sia_parts::{Edge, Kind};
+
+/// The version that is told already, or has no writer.
+fn untold_of_edge(e: &Edge) -> Version
+    ensures { result ≡ untold_of e.now.kind e.now.src }
+{
+    match e.kind {
+        Kind::Wr => e.src,
+        Kind::Ww | Kind::Rw => 0,
+    }
+}
+
+/// The first read at which a version was seen that gives the edge, and this version.
+fn push_sight(out: &mut Vec<u8>, of: &Recorded, acts: &[Act], e: &Edge) -> Result<(), NoMemory>
+    requires index { of.now.index.now ≡ of.now.history.now }
+    requires acts { AreActs of.now.history.now acts.now }
+    requires edge { IsEdge of.now.history.now e.now }
+    requires read { e.now.kind ≢ Ww }
+    ensures { OnOk result ((words : List ℕ) × TellsSight of.now.history.now e.now words × (out.new.items ≡ out.old.items ++ words)) }
+{
+    let Some(sight) = first_sight(of, acts, e) else {
+        return Ok(());
+    };
+    let around = Around {
+        before: b"; ",
+        behind: b"",
+        known: untold_of_edge(e),
+    };
+    push_event(out, of.history, e.key, sight.place)?;
+    push_unless(out, of, e.key, sight.version, &around)?;
+    Ok(())
+}
+
+/// The events by which the edge is there.
+fn push_events(out: &mut Vec<u8>, of: &Recorded, acts: &[Act], e: &Edge) -> Result<(), NoMemory>
+    requires index { of.now.index.now ≡ of.now.history.now }
+    requires acts { AreActs of.now.history.now acts.now }
+    requires edge { IsEdge of.now.history.now e.now }
+    ensures { OnOk result ((words : List ℕ) × TellsEvents e.now.kind of.now.history.now e.now words × (out.new.items ≡ out.old.items ++ words)) }
+{
+    match e.kind {
+        Kind::Ww => {
+            push_version(out, of, e.key, e.src)?;
+            out.extend_from_slice(b"; ")?;
+            push_version(out, of, e.key, e.dst)?;
+        }
+        Kind::Wr => {
+            push_version(out, of, e.key, e.src)?;
+            out.extend_from_slice(b"; ")?;
+            push_sight(out, of, acts, e)?;
+        }
+        Kind::Rw => {
+            push_sight(out, of, acts, e)?;
+            out.extend_from_slice(b"; ")?;
+            push_version(out, of, e.key, e.dst)?;
+        }
+    }
+    Ok(())
+}
+
+/// The line of a step along the edge.
+fn push_step(out: &mut Vec<u8>, of: &Recorded, acts: &[Act], e: &Edge) -> Result<(), NoMemory>
+    requires index { of.now.index.now ≡ of.now.history.now }
+    requires acts { AreActs of.now.history.now acts.now }
+    requires edge { IsEdge of.now.history.now e.now }
+    ensures { OnOk result ((bytes : List ℕ) × TellsStep of.now.history.now e.now bytes × (out.new.items ≡ out.old.items ++ bytes)) }
+{
+    push_number(out, b"  ", u64::from(e.src), b" >")?;
+    out.extend_from_slice(kind_word(e.kind))?;
+    push_number(out, b":", e.key, b"> ")?;
+    push_number(out, b"", u64::from(e.dst), b": ")?;
+    push_events(out, of, acts, e)?;
+    out.extend_from_slice(b"\n")?;
+    Ok(())
+}
+
+/// The lines of steps along these edges.
+pub(crate) fn push_steps(
+    out: &mut Vec<u8>,
+    of: &Recorded,
+    acts: &[Act],
+    edges: &[Edge],
+) -> Result<(), NoMemory>
+    requires index { of.now.index.now ≡ of.now.history.now }
+    requires acts { AreActs of.now.history.now acts.now }
+    requires edges { All (IsEdge of.now.history.now) edges.now }
+    ensures { OnOk result ((bytes : List ℕ) × TellsAll (TellsStep of.now.history.now) edges.now bytes × (out.new.items ≡ out.old.items ++ bytes)) }
+{
+    for e in edges {
+        push_step(out, of, acts, e)?;
+    }
+    Ok(())
+}

@@ -1,0 +1,99 @@
+//! Events, starts and versions in a line of reasons.
+ghost use Rattle.std.specs.Prelude.{◌≡◌, ◌≢◌, ◌++◌, ℕ, List, OnOk};
+ghost use Rattle.sia_events.specs.Text.{numeral};
+ghost use Rattle.sia_events.specs.Transactions.{Wrote};
+ghost use Rattle.si_audit.specs.Reasons.{TellsUnless, TellsVersion, event_words, start_words};
+
+use crate::report::words::push_number;
+use sia_events::{History, Key, NoMemory, TxnId, Version};
+use sia_index::Index;
+
+/// What reasons are told from.
+#[derive(Clone, Copy)]
+pub(crate) struct Recorded<'a> {
+    pub(crate) history: &'a History,
+    pub(crate) index: &'a Index,
+}
+
+/// A number between some bytes.
+fn push_count(out: &mut Vec<u8>, before: &[u8], n: u32, behind: &[u8]) -> Result<(), NoMemory>
+    ensures { OnOk result (out.new.items ≡ out.old.items ++ before.now ++ numeral n ++ behind.now) }
+{
+    push_number(out, before, u64::from(n), behind)?;
+    Ok(())
+}
+
+/// The event at a place, as far as it is about the key.
+pub(crate) fn push_event(
+    out: &mut Vec<u8>,
+    h: &History,
+    key: Key,
+    place: u32,
+) -> Result<(), NoMemory>
+    ensures { OnOk result (out.new.items ≡ out.old.items ++ event_words h.now key place) }
+{
+    push_count(out, b"event ", place, b" ")?;
+    h.push_about(out, place, key)?;
+    Ok(())
+}
+
+/// When the transaction started.
+pub(crate) fn push_start(out: &mut Vec<u8>, txn: TxnId, start: u32) -> Result<(), NoMemory>
+    ensures { OnOk result (out.new.items ≡ out.old.items ++ start_words txn start) }
+{
+    push_count(out, b"transaction ", txn, b" starts after event ")?;
+    push_count(out, b"", start, b"")?;
+    Ok(())
+}
+
+/// Where the transaction first wrote the key, and where it ended if it did.
+pub(crate) fn push_version(
+    out: &mut Vec<u8>,
+    of: &Recorded,
+    key: Key,
+    version: Version,
+) -> Result<(), NoMemory>
+    requires index { of.now.index.now ≡ of.now.history.now }
+    requires wrote { Wrote of.now.history.now version key }
+    ensures { OnOk result ((words : List ℕ) × TellsVersion of.now.history.now key version words × (out.new.items ≡ out.old.items ++ words)) }
+{
+    let (Some(write), Some(info)) = (of.index.first_write(version, key), of.index.txn(version))
+    else {
+        return Ok(());
+    };
+    push_event(out, of.history, key, write)?;
+    if let Some(end) = info.ended {
+        out.extend_from_slice(b", ")?;
+        push_event(out, of.history, key, end)?;
+    }
+    Ok(())
+}
+
+/// The words around a version, and the version that wants no word.
+#[derive(Clone, Copy)]
+pub(crate) struct Around<'a> {
+    pub(crate) before: &'a [u8],
+    pub(crate) behind: &'a [u8],
+    pub(crate) known: Version,
+}
+
+/// The version between its words, unless it wants none.
+pub(crate) fn push_unless(
+    out: &mut Vec<u8>,
+    of: &Recorded,
+    key: Key,
+    version: Version,
+    around: &Around,
+) -> Result<(), NoMemory>
+    requires index { of.now.index.now ≡ of.now.history.now }
+    requires wrote { version ≢ around.now.known → Wrote of.now.history.now version key }
+    ensures { OnOk result ((bytes : List ℕ) × TellsUnless around.now.known of.now.history.now around.now.before.now key version around.now.behind.now bytes × (out.new.items ≡ out.old.items ++ bytes)) }
+{
+    if version == around.known {
+        return Ok(());
+    }
+    out.extend_from_slice(around.before)?;
+    push_version(out, of, key, version)?;
+    out.extend_from_slice(around.behind)?;
+    Ok(())
+}
