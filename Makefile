@@ -1,6 +1,7 @@
 # The targets, one line each: `make help` prints these lines.
 #: make help                   lists the targets, as here
 #: make run HISTORY=FILE       audits a history (without HISTORY examples/write_skew.history) and says what its status means
+#: make run EXPLAIN=1          leaves out edges and pivots, and tells below each finding which events make it
 #: make run BRIEF=1 CHECK=si   leaves out edges and pivots, and the status tells of another level: serializable, ssi or si
 #: make                        proves and builds the program, where there is none or a source is newer than it
 #: make build                  proves and builds the program in any case; the kit knows what it has proved already
@@ -17,6 +18,7 @@
 
 HISTORY = examples/write_skew.history
 BRIEF ?=
+EXPLAIN ?=
 CHECK ?= serializable
 FULL ?=
 KEEP ?=
@@ -24,7 +26,7 @@ PREFIX ?= /usr/local
 DESTDIR ?=
 RUNS = 20
 
-export HISTORY BRIEF CHECK FULL KEEP PREFIX DESTDIR
+export HISTORY BRIEF EXPLAIN CHECK FULL KEEP PREFIX DESTDIR
 
 .PHONY: all help run build test install uninstall release bench databases clean
 

@@ -1,5 +1,6 @@
 #!/bin/sh
-# Audits one file: sh tools/audit.sh FILE. BRIEF, if it isn't empty, asks for the brief report, and CHECK names the level.
+# Audits one file: sh tools/audit.sh FILE. BRIEF and EXPLAIN, if they aren't empty, ask for the brief report and for the
+# explained one, and CHECK names the level.
 # The status is 0 where there is a report or a refusal line.
 : "${CHECK:=serializable}"
 
@@ -33,7 +34,7 @@ case $CHECK in
     *) fail "CHECK is serializable, ssi or si, and not $CHECK" ;;
 esac
 program=$(sh tools/program.sh) || exit 2
-"$program" ${BRIEF:+--brief} --check "$CHECK" <"$1"
+"$program" ${BRIEF:+--brief} ${EXPLAIN:+--explain} --check "$CHECK" <"$1"
 status=$?
 case $status in
     0) echo "status 0: $kept" >&2 ;;

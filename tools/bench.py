@@ -1,4 +1,4 @@
-"""Times a program on generated histories, in both forms of the report, and prints a table.
+"""Times a program on generated histories, in the three forms of the report, and prints a table.
 
     python3 tools/bench.py [--keep] [--events N] PROGRAM
 
@@ -30,7 +30,7 @@ FIGURES = HERE / "bench_figures.txt"
 TIMES = 5
 # No run may take longer.
 SECONDS = 60
-FORMS: dict[str, list[str]] = {"full": [], "brief": ["--brief"]}
+FORMS: dict[str, list[str]] = {"full": [], "brief": ["--brief"], "explained": ["--explain"]}
 Name = tuple[str, str, str]
 
 
@@ -76,10 +76,10 @@ def texts(events: int) -> list[tuple[str, int, list[str]]]:
     """The kinds, the events of each, and the forms that are asked for. Hard kinds whose edges grow with the square of the
     events give full reports only where there are few."""
     store = [(kind, it, [*FORMS]) for kind in ("short", "hot", "ranges", "one_reader") for it in (4000, 16000)]
-    few_edges = ("all_at_once", "key_by_key", "one_list", "one_transaction", "none_ends", "ring")
+    few_edges = ("all_at_once", "key_by_key", "one_list", "stale_list", "one_transaction", "none_ends", "ring")
     many_edges = ("counter", "lost_updates", "readers_ahead", "held_snapshots", "writers", "wide_ranges", "phantoms")
     hard = [(kind, it, [*FORMS]) for kinds, it in ((few_edges, events), (many_edges, events // 25)) for kind in kinds]
-    return store + hard + [(kind, events, ["brief"]) for kind in many_edges]
+    return store + hard + [(kind, events, ["brief", "explained"]) for kind in many_edges]
 
 
 def machine() -> str:
@@ -172,7 +172,8 @@ def main(words: Sequence[str]) -> int:
     asked = chosen(words)
     before, at, program = read_kept(FIGURES), machine(), version(asked.program)
     print(f"{program}, on {at}", told_before(before, at), sep="\n")
-    print(f"{'text':<16}{'events':>7}{'full s':>10}{'MB':>16}{'brief s':>16}{'MB':>16}")
+    forms = "".join(f"{form + ' s':>16}{'MB':>16}" for form in FORMS)
+    print(f"{'text':<16}{'events':>7}{forms.removeprefix(' ' * 6)}")
     with tempfile.TemporaryDirectory() as room:
         bench = Bench(asked.program, room, before)
         for text in texts(asked.events):

@@ -1,14 +1,13 @@
 #!/bin/sh
 # Runs the program on each NAME.history of examples/, examples/databases/ and examples/logs/, and compares what it writes with
-# NAME.report, and its status with the one in NAME.status, or 0; and in the same way on the stored run of its crate. With the
-# word --explain it also runs the program with that word on each of them, and compares with NAME.explained. The last line is
-# 'N passed, M failed'.
+# NAME.report, and with --explain with NAME.explained, and its status with the one in NAME.status, or 0; and in the same way on
+# the stored run of its crate. The last line is 'N passed, M failed'.
 : "${PROGRAM:=crates/si_audit/out/si_audit}"
 mkdir -p out
 passed=0
 failed=0
 
-# compare TEXT REPORT STATUS [WORD]: the program's report on the text is this one, with this status.
+# compare TEXT REPORT STATUS WORDS..: the program's report on the text, with these words, is this one, with this status.
 compare() {
     text=$1
     wanted=$2
@@ -42,9 +41,7 @@ for history in examples/*.history examples/databases/*.history examples/logs/*.h
         meets=$(cat "$name.status")
     fi
     compare "$history" "$name.report" "$meets"
-    if [ "$1" = --explain ]; then
-        compare "$history" "$name.explained" "$meets" --explain
-    fi
+    compare "$history" "$name.explained" "$meets" --explain
 done
 compare crates/si_audit/stdin crates/si_audit/stdout 0
 echo "$passed passed, $failed failed"

@@ -1,4 +1,4 @@
-"""Histories of hard kinds, each with its brief report, which a formula gives by the rules of docs/FORMAT.md.
+"""Histories of hard kinds, each with its brief and its explained report, which a formula gives by the rules of docs/FORMAT.md.
 
 The size of a history is about how many events it has. One word more says of which kind it is hard: many versions of a key,
 many keys of a reader, wide ranges, long cycles. In most the edges grow with the square of the size.
@@ -14,11 +14,16 @@ KEY = 7
 
 @dataclass(frozen=True)
 class Case:
-    """A text, its report, and the status."""
+    """A text, its report, and the status; and the explained report, where it is known."""
 
     text: bytes
     report: bytes
     status: int = 0
+    explained: bytes = b""
+
+
+# What stands below a line of an explained report.
+Below = dict[str, list[str]]
 
 
 def joined(tokens: Iterable[str]) -> bytes:
@@ -35,21 +40,48 @@ def ordered(ids: Iterable[int]) -> str:
 
 
 def brief(
-    tokens: list[str], counts: tuple[int, int, int], last: str, found: list[str] | None = None, ssi: str = "pass"
+    tokens: list[str],
+    counts: tuple[int, int, int],
+    last: str,
+    found: Below | None = None,
+    steps: list[str] | None = None,
+    dangerous: list[str] | None = None,
 ) -> Case:
     """A case with its brief report: the counts are of committed, aborted and open transactions, isolation is broken where
-    something was found, and the last line says whether there is a serial order."""
+    something was found, the last line says whether there is a serial order, and the test of serializable snapshot isolation
+    fails where something was found or is dangerous. The explained report has besides what stands below each line that was
+    found, the steps below the last line, and the lines of a dangerous structure."""
     committed, aborted, still_open = counts
     is_ordered = last.startswith("order")
-    lines = [
-        f"events {len(tokens)} committed {committed} aborted {aborted} open {still_open}",
-        f"isolation {'broken' if found else 'kept'}",
-        *(found or []),
-        f"ssi {'fail' if found else ssi}",
-        f"serializable {'yes' if is_ordered else 'no'}",
-        last,
-    ]
-    return Case(joined(tokens), ("\n".join(lines) + "\n").encode(), 1 if found or not is_ordered else 0)
+    lines: Below = {
+        f"events {len(tokens)} committed {committed} aborted {aborted} open {still_open}": [],
+        f"isolation {'broken' if found else 'kept'}": [],
+        **(found or {}),
+        f"ssi {'fail' if found or dangerous else 'pass'}": dangerous or [],
+        f"serializable {'yes' if is_ordered else 'no'}": [],
+        last: steps or [],
+    }
+    explained = [it for line, below in lines.items() for it in (line, *below)]
+    return Case(joined(tokens), of_lines(lines), 1 if found or not is_ordered else 0, of_lines(explained))
+
+
+def of_lines(lines: Iterable[str]) -> bytes:
+    return "".join(f"{line}\n" for line in lines).encode()
+
+
+def version(txn: int, key: int, place: int) -> str:
+    """A version in an explained report: a transaction wrote the key at this place, and committed at the next one."""
+    return f"event {place} w{txn}[{key}], event {place + 1} c{txn}"
+
+
+def both_write(txn: int, start: int, first: str, second: str) -> list[str]:
+    """What stands below a bad write: when the later transaction starts, and both versions."""
+    return [f"  both write and overlap: transaction {txn} starts after event {start}; {first}; {second}"]
+
+
+def two_steps(first: str, second: str) -> list[str]:
+    """What stands below a cycle of 1 and 2, where 2 wrote the key after 1, and at place 2 read what was there before 1."""
+    return [f"  1 >ww:{KEY}> 2: {first}; {second}", f"  2 >rw:{KEY}> 1: event 2 r2[{KEY}:0]; {first}"]
 
 
 def counter(size: int) -> Case:
@@ -65,8 +97,13 @@ def lost_updates(size: int) -> Case:
     tokens = [f"r1[{KEY}:0]"]
     for it in range(1, count + 1):
         tokens += [f"r{it + 1}[{KEY}:{it - 1}]"] * (it < count) + [f"w{it}[{KEY}]", f"c{it}"]
-    found = [f"bad-write {KEY} {it} {it + 1}" for it in range(1, count)]
-    return brief(tokens, (count, 0, 0), f"cycle 1 >ww:{KEY}> 2 >rw:{KEY}> 1", found)
+    # Transaction 1 starts at 0, and each next one when three more events were recorded, but for the first read.
+    versions = [version(it, KEY, 3 * it - (it == count)) for it in range(1, count + 1)]
+    found = {
+        f"bad-write {KEY} {it} {it + 1}": both_write(it + 1, 3 * it - 2, versions[it - 1], versions[it])
+        for it in range(1, count)
+    }
+    return brief(tokens, (count, 0, 0), f"cycle 1 >ww:{KEY}> 2 >rw:{KEY}> 1", found, two_steps(versions[0], versions[1]))
 
 
 def all_at_once(size: int) -> Case:
@@ -74,8 +111,13 @@ def all_at_once(size: int) -> Case:
     count = int((10 * size) ** 0.5)
     ids = range(1, count + 1)
     tokens = [f"r{it}[{KEY}:0]" for it in ids] + flat([f"w{it}[{KEY}]", f"c{it}"] for it in ids)
-    found = [f"bad-write {KEY} {it} {other}" for it in ids for other in range(it + 1, count + 1)]
-    return brief(tokens, (count, 0, 0), f"cycle 1 >ww:{KEY}> 2 >rw:{KEY}> 1", found)
+    versions = [version(it, KEY, count + 2 * it - 1) for it in ids]
+    found = {
+        f"bad-write {KEY} {it} {other}": both_write(other, other - 1, versions[it - 1], versions[other - 1])
+        for it in ids
+        for other in range(it + 1, count + 1)
+    }
+    return brief(tokens, (count, 0, 0), f"cycle 1 >ww:{KEY}> 2 >rw:{KEY}> 1", found, two_steps(versions[0], versions[1]))
 
 
 def readers_ahead(size: int) -> Case:
@@ -83,10 +125,15 @@ def readers_ahead(size: int) -> Case:
     2i - 1 wrote."""
     count = size // 5
     tokens = [f"b{2 * it}" for it in range(1, count + 1)]
-    found = []
+    found: Below = {}
     for it in range(1, 2 * count, 2):
-        tokens += [f"w{it}[{KEY}]", f"c{it}", f"r{it + 1}[{KEY}:{it}]", f"c{it + 1}"]
-        found.append(f"bad-read {len(tokens) - 1} {it + 1} {KEY} saw {it} due 0")
+        place = len(tokens) + 3
+        read = f"r{it + 1}[{KEY}:{it}]"
+        tokens += [f"w{it}[{KEY}]", f"c{it}", read, f"c{it + 1}"]
+        found[f"bad-read {place} {it + 1} {KEY} saw {it} due 0"] = [
+            f"  future read: event {place} {read}; transaction {it + 1} starts after event {it // 2}",
+            f"  saw: {version(it, KEY, place - 2)}",
+        ]
     return brief(tokens, (2 * count, 0, 0), ordered(range(1, 2 * count + 1)), found)
 
 
@@ -132,6 +179,23 @@ def one_list(size: int) -> Case:
     return brief(tokens, (count + 1, 0, 0), ordered(range(1, count + 2)))
 
 
+def stale_list(size: int) -> Case:
+    """Two transactions write all keys, one after the other, and then one range read lists each key at its first version."""
+    count = (size - 4) // 2
+    keys = range(count)
+    tokens = [*(f"w1[{key}]" for key in keys), "c1", *(f"w2[{key}]" for key in keys), "c2"]
+    tokens += [f"r3[0..{MAX_KEY};{','.join(f'{key}:1' for key in keys)}]", "c3"]
+    found = {
+        f"bad-read {2 * count + 3} 3 {key} saw 1 due 2": [
+            f"  stale read: event {2 * count + 3} r3[0..{MAX_KEY};{key}:1]; transaction 3 starts after event {2 * count + 2}",
+            f"  saw: event {key + 1} w1[{key}], event {count + 1} c1",
+            f"  due: event {count + 2 + key} w2[{key}], event {2 * count + 2} c2",
+        ]
+        for key in keys
+    }
+    return brief(tokens, (3, 0, 0), ordered([1, 3, 2]), found)
+
+
 def wide_ranges(size: int) -> Case:
     """Two fifths of the size are keys, and a tenth is readers, each with a range of its own. Before each writer of a hundred
     keys some of the readers start. Their ranges cover the keys from that writer's on, which nobody has written yet."""
@@ -152,7 +216,12 @@ def phantoms(size: int) -> Case:
     """Each of many transactions reads all keys by a range and finds none, and then writes a key that the others missed."""
     ids = range(1, size // 3 + 1)
     tokens = [f"r{it}[0..{MAX_KEY}]" for it in ids] + flat([f"w{it}[{it}]", f"c{it}"] for it in ids)
-    return brief(tokens, (len(ids), 0, 0), "cycle 1 >rw:2> 2 >rw:1> 1", ssi="fail")
+    steps = [
+        f"  {it} >rw:{other}> {other}: event {it} {tokens[it - 1]}; {version(other, other, len(ids) + 2 * other - 1)}"
+        for it, other in ((1, 2), (2, 1))
+    ]
+    dangerous = ["dangerous 1 >rw:2> 2 >rw:1> 1", *steps]
+    return brief(tokens, (len(ids), 0, 0), "cycle 1 >rw:2> 2 >rw:1> 1", steps=steps, dangerous=dangerous)
 
 
 def one_transaction(size: int) -> Case:
@@ -173,8 +242,13 @@ def ring(size: int) -> Case:
     count = size // 3
     ids = range(1, count + 1)
     tokens = [f"r{it}[{it}:0]" for it in ids] + [f"w{it}[{it % count + 1}]" for it in ids]
-    steps = "".join(f" >rw:{it % count + 1}> {it}" for it in reversed(ids))
-    return brief([*tokens, *(f"c{it}" for it in ids)], (count, 0, 0), f"cycle 1{steps}", ssi="fail")
+    # Who reads a key comes before who wrote it, which is the transaction one lower.
+    pairs = [(it % count + 1, it) for it in reversed(ids)]
+    cycle = "".join(f" >rw:{reader}> {writer}" for reader, writer in pairs)
+    versions = [f"event {count + it} w{it}[{it % count + 1}], event {2 * count + it} c{it}" for it in ids]
+    steps = [f"  {it} >rw:{it}> {other}: event {it} r{it}[{it}:0]; {versions[other - 1]}" for it, other in pairs]
+    dangerous = ["dangerous 3 >rw:3> 2 >rw:2> 1", *steps[-2:]]
+    return brief([*tokens, *(f"c{it}" for it in ids)], (count, 0, 0), f"cycle 1{cycle}", steps=steps, dangerous=dangerous)
 
 
 KINDS: dict[str, Callable[[int], Case]] = {
@@ -188,6 +262,7 @@ KINDS: dict[str, Callable[[int], Case]] = {
         writers,
         key_by_key,
         one_list,
+        stale_list,
         wide_ranges,
         phantoms,
         one_transaction,

@@ -4,19 +4,22 @@
     limits.py PROGRAM [SIZE]
 
 Each whole report is worked out by a formula, from the rules of docs/FORMAT.md. Each text of the first kinds is given to one
-worker, and to four with some cuts. Those of hard.py are asked for the brief report, under a limit of memory too: at SIZE,
-which is 100,000 where it isn't given, and at a fourth of it. The greater one may take at most some eight times as long,
-and a moment. Proofs bound neither time nor memory, so that these are small is shown here alone. The last line is
-'N passed, M failed'.
+worker, and to four with some cuts; those that are refused once more, for the explained report. Those of hard.py are asked for
+the brief report and for the explained one, under a limit of memory too: at SIZE, which is 100,000 where it isn't given, and at
+a fourth of it. The greater one may take at most some eight times as long, and a moment. An explained report may take as much
+memory as a brief one, and its own bytes. Proofs bound neither time nor memory, so that these are small is shown here alone.
+The last line is 'N passed, M failed'.
 """
 
 from __future__ import annotations
 
 import filecmp
+import os
 import shutil
 import sys
 import tempfile
 from collections.abc import Callable, Sequence
+from dataclasses import replace
 from itertools import zip_longest
 
 import hard
@@ -32,7 +35,7 @@ LINES = (["--workers", "1"], ["--workers", "4", "100", "5000", "20000", str(2**6
 # The same of the hard kinds, whose time is that in which threads were busy: what else the machine does counts little.
 HARD_SECONDS = 10
 HARD_MEGABYTES = 300
-HARD_LINES = tuple(["--brief", *it] for it in LINES)
+BRIEF, EXPLAIN = "--brief", "--explain"
 GROWTH = 8
 MOMENT = 0.2
 
@@ -79,10 +82,9 @@ def far_apart() -> Case:
 
 
 def sharing_slots() -> Case:
-    """The numbers that share the two slots of the reader's table (txn_set.rt): times its factor they are below 2^15. Each
-    of the transactions reads a key."""
-    back = pow(2_654_435_769, -1, 2**32)
-    ids = [it for it in (back * i % 2**32 for i in range(1, 2**15)) if it >= 2**20]
+    """Numbers that share two groups of slots of the reader's table (txn_set.rt), which has 32,768 for eight numbers each.
+    Each of the transactions reads a key."""
+    ids = [262_144 * it + slot for it in range(1, 2**14) for slot in (0, 8)]
     tokens = [f"r{it}[{it}:0]" for it in ids] + [f"b{it}" for it in range(1, 10_000)] + [f"c{it}" for it in ids]
     return Case(joined(tokens), clean(len(tokens), ids, still_open=9_999))
 
@@ -94,27 +96,34 @@ def longest_numbers() -> Case:
     return Case(joined(tokens), clean(MAX_EVENTS, [MAX_TXN]))
 
 
-def refused(text: bytes, reason: str) -> Case:
-    return Case(text, f"refused: {reason}\n".encode(), 3)
+def refused(text: bytes, reason: str, below: str) -> Case:
+    """A text that is refused for a reason, and what the explained report has below the refusal line."""
+    line = f"refused: {reason}\n"
+    return Case(text, line.encode(), 3, f"{line}{below}".encode())
+
+
+def one_bad_token(text: bytes, reason: str) -> Case:
+    return refused(text, f"token 1: {reason}", f"  line 1, column 1: {text[:60].decode()}\n")
 
 
 def one_token() -> Case:
-    return refused(b"x" * MAX_BYTES, "token 1: bad event")
+    return one_bad_token(b"x" * MAX_BYTES, "bad event")
 
 
 def one_number() -> Case:
-    return refused(b"c" + b"9" * (MAX_BYTES - 1), "token 1: number out of range")
+    return one_bad_token(b"c" + b"9" * (MAX_BYTES - 1), "number out of range")
 
 
 def one_list_of_commas() -> Case:
     start = b"r1[0..9;"
-    return refused(start + b"," * (MAX_BYTES - len(start)), "token 1: bad event")
+    return one_bad_token(start + b"," * (MAX_BYTES - len(start)), "bad event")
 
 
 def too_many_tokens() -> Case:
     """As many tokens as fit, each of the shortest form. The one behind the last event is refused."""
-    text = b"".join(b"c%d " % it for it in range(1, MAX_EVENTS + 1)) + b"a "
-    return refused(text + b"x " * ((MAX_BYTES - len(text)) // 2), f"token {MAX_EVENTS + 1}: too many events")
+    text = b"".join(b"c%d " % it for it in range(1, MAX_EVENTS + 1))
+    rest = b"a " + b"x " * ((MAX_BYTES - len(text) - 2) // 2)
+    return refused(text + rest, f"token {MAX_EVENTS + 1}: too many events", f"  line 1, column {len(text) + 1}: a\n")
 
 
 def separators() -> Case:
@@ -122,7 +131,7 @@ def separators() -> Case:
 
 
 def one_byte_too_many() -> Case:
-    return refused(b" " * (MAX_BYTES + 1), "text too long")
+    return refused(b" " * (MAX_BYTES + 1), "text too long", "")
 
 
 def longest_list() -> Case:
@@ -149,8 +158,7 @@ def all_listed() -> Case:
 
 
 def writes_sharing_slots() -> Case:
-    """Keys whose writes have a bucket in common in the reader's table of writes (guesses.rt), until it takes another seed.
-    A range lists them all."""
+    """Keys whose writes have a bucket in common in the reader's table of writes (guesses.rt). A range lists them all."""
     listed = sorted(map(key_in_first_bucket, range(MAX_EVENTS - 3)))
     pairs = ",".join(f"{key}:1" for key in listed)
     tokens = [*(f"w1[{key}]" for key in listed), "c1", f"r2[0..{MAX_KEY};{pairs}]", "c2"]
@@ -159,13 +167,13 @@ def writes_sharing_slots() -> Case:
 
 
 def key_in_first_bucket(number: int) -> int:
-    """A key that the table's first seed sends to its first bucket, where transaction 1 writes it: the steps of the hash
-    taken back, from a value whose bits 22 to 41 are 0."""
+    """A key that the table has in its first bucket, where transaction 1 writes it: the steps of the hash taken back, from a
+    value whose bits 22 to 41 are 0."""
     spread, mix, word = 11_400_714_819_323_198_485, 14_029_467_366_897_019_727, 2**64
     mixed = number + (number * 2_654_435_769 % 2**22) * 2**42
     turned = (mixed * pow(mix, -1, word) % word) ^ 1
     both = turned ^ (turned >> 32)
-    return (both * pow(spread, -1, word) % word) ^ spread
+    return both * pow(spread, -1, word) % word
 
 
 def keys_sharing_slots() -> Case:
@@ -221,6 +229,10 @@ CASES: list[Callable[[], Case]] = [
     hot_key,
     most_open,
 ]
+
+
+# Those of them whose explained report is asked for, too.
+REFUSED: list[Callable[[], Case]] = [one_token, one_number, one_list_of_commas, too_many_tokens, one_byte_too_many]
 
 
 class Tried:
@@ -281,16 +293,29 @@ class Tried:
                     return f"line {at} is {one[:200]!r} and not {other[:200]!r}"
         return ""
 
-    def hard(self, name: str, size: int) -> None:
-        """One hard kind, at a fourth of the size and at the whole."""
-        fourth, whole = (self.sized(name, it) for it in (size // 4, size))
-        most = GROWTH * fourth + MOMENT
-        self.count(f"{name} grows", f"{whole:.2f} s, and not at most {most:.2f} s" if whole > most else "")
+    def explained(self, make: Callable[[], Case]) -> None:
+        """A case, of which the explained report is asked for."""
+        self.make(lambda: in_form(make(), EXPLAIN))
+        self.runs(f"{make.__name__} {EXPLAIN}", [[EXPLAIN, *it] for it in LINES], SECONDS)
 
-    def sized(self, name: str, size: int) -> float:
-        """How long one worker was busy with a hard kind of this size."""
-        self.make(lambda: hard.KINDS[name](size))
-        return self.runs(f"{name} {size}", HARD_LINES, HARD_SECONDS, HARD_MEGABYTES)[0].busy
+    def hard(self, name: str, size: int) -> None:
+        """One hard kind in the brief and in the explained form, at a fourth of the size and at the whole."""
+        for form in (BRIEF, EXPLAIN):
+            fourth, whole = (self.sized(name, it, form) for it in (size // 4, size))
+            most = GROWTH * fourth + MOMENT
+            self.count(f"{name} {form} grows", f"{whole:.2f} s, and not at most {most:.2f} s" if whole > most else "")
+
+    def sized(self, name: str, size: int, form: str) -> float:
+        """How long one worker was busy with a report in this form of a hard kind of this size."""
+        self.make(lambda: in_form(hard.KINDS[name](size), form))
+        printed = os.path.getsize(self.wanted) / 1e6 if form == EXPLAIN else 0
+        lines = [[form, *it] for it in LINES]
+        return self.runs(f"{name} {size} {form}", lines, HARD_SECONDS, HARD_MEGABYTES + printed)[0].busy
+
+
+def in_form(case: Case, form: str) -> Case:
+    """The case with the report of this form."""
+    return replace(case, report=case.explained) if form == EXPLAIN else case
 
 
 def main(words: Sequence[str]) -> int:
@@ -303,6 +328,8 @@ def main(words: Sequence[str]) -> int:
         for make in CASES:
             tried.make(make)
             tried.runs(make.__name__, LINES, SECONDS)
+        for make in REFUSED:
+            tried.explained(make)
         for name in hard.KINDS:
             tried.hard(name, size)
     print(f"{tried.passed} passed, {tried.failed} failed")

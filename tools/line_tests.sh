@@ -44,6 +44,16 @@ same() {
     count "$name: its report" "$(cmp "$report" out/report 2>&1)"
 }
 
+# explained EXAMPLE STATUS ARGUMENTS..: the report of the example with these arguments is its explained one, with this status.
+explained() {
+    example=$1
+    ending=$2
+    shift 2
+    "$PROGRAM" "$@" <"examples/$example.history" >out/report 2>out/said
+    told "$example $*" $? "$ending" ""
+    count "$example $*: its report" "$(cmp "examples/$example.explained" out/report 2>&1)"
+}
+
 # usage NAME TEXT ARGUMENTS..: the arguments are refused with status 2, and the first line on standard error is TEXT.
 usage() {
     name=$1
@@ -69,7 +79,7 @@ help() {
     "$PROGRAM" "$@" <"$history" >out/report 2>out/said
     told "$name" $? 0 ""
     why=
-    for text in "Usage: si_audit [OPTIONS] [CUT]..." "--workers <N>" "[default: 4]" "Exit status:" "Examples:"; do
+    for text in "Usage: si_audit [OPTIONS] [CUT]..." "--workers <N>" "[default: 4]" --brief --explain "Exit status:" "Examples:"; do
         grep -qF -- "$text" out/report || why="the help has no '$text'"
     done
     count "$name: its text" "$why"
@@ -107,10 +117,21 @@ same "the greatest key" examples/clean.report 18446744073709551615 0 0
 same "the most cuts" examples/clean.report $(seq 0 1023) 7
 same "the level ssi" examples/clean.report --check ssi
 same "the level si" examples/clean.report --check=si
+explained clean 0 --explain
+explained clean 0 --explain --workers 64 14
+explained lost_update 1 --explain --explain
+explained lost_update 1 --brief --explain
+explained aborted_read 1 --explain --brief --brief 0 1 2 3
+explained stale_read 1 1 --explain 18446744073709551615 --workers=3
+explained read_only_anomaly 1 --explain --check ssi 2 1
+explained refused 3 --explain --check=si
+explained refused_name 3 --explain --brief --workers 2 7
 usage "65 workers" "invalid value '65' for '--workers <N>': 65 is not in 1..=64" --workers 65
 usage "no worker" "invalid value '0' for '--workers <N>': 0 is not in 1..=64" --workers 0
 usage "workers twice" "the argument '--workers <N>' cannot be used multiple times" --workers 4 --workers 4
 usage "a cut that is no number" "invalid value 'x' for '[CUT]...': invalid digit found in string" 14 x
+usage "--brief with a value" "unexpected value '1' for '--brief...' found; no more were expected" --brief=1
+usage "--explain with a value" "unexpected value '1' for '--explain...' found; no more were expected" --explain=1
 usage "an unknown option" "unexpected argument '--parts' found" --parts 4
 hint "a cut that is a file's name" "$history"
 hint "a cut that is a file's name, behind others" --workers 4 14 "$history"
@@ -127,6 +148,7 @@ for level in serializable:1 ssi:1 si:0; do
     "$PROGRAM" --brief --check "${level%:*}" <examples/write_skew.history >out/report 2>out/said
     told "write skew, held against ${level%:*}" $? "${level#*:}" ""
     count "write skew in brief: its report" "$(grep -v -e '^edge' -e '^pivot' examples/write_skew.report | cmp - out/report 2>&1)"
+    explained write_skew "${level#*:}" --explain --check "${level%:*}"
 done
 "$PROGRAM" "$(printf '\377')" <"$history" >out/report 2>out/said
 told "an argument that is not UTF-8" $? 2 "si_audit: an argument is not UTF-8"

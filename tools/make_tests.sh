@@ -70,6 +70,10 @@ broken="status 1: isolation was broken, or the history isn't serializable; the r
 runs "make run" examples/write_skew.report "$broken" run
 runs "make run HISTORY=.." examples/lost_update.report "$broken" run HISTORY=examples/lost_update.history
 runs "make run of a clean history" examples/clean.report "$kept" run HISTORY=examples/clean.history
+grep -v -e '^edge' -e '^pivot' examples/write_skew.report >"$out/brief"
+runs "make run BRIEF=1" "$out/brief" "$broken" run BRIEF=1
+runs "make run EXPLAIN=1" examples/write_skew.explained "$broken" run EXPLAIN=1
+runs "make run EXPLAIN=1 BRIEF=1" examples/write_skew.explained "$broken" run EXPLAIN=1 BRIEF=1
 runs "make run CHECK=si" examples/write_skew.report "status 0: isolation was kept" run CHECK=si
 broken="status 1: the history fails the test of serializable snapshot isolation"
 runs "make run CHECK=ssi" examples/write_skew.report "$broken" run CHECK=ssi

@@ -24,6 +24,8 @@ from typing import IO
 HERE = os.path.dirname(os.path.abspath(__file__))
 EXAMPLES = f"{HERE}/../examples"
 LINES: tuple[list[str], ...] = ([], ["--workers", "1"], ["--workers", "2", "2"])
+# Those whose explained reports have reasons below each kind of line.
+EXPLAINED = ("aborted_read", "lost_update", "read_only_anomaly", "refused_name", "stale_read")
 BUSY = (("hot", 600), ("ranges", 200))
 BUSY_LINE = ["--workers", "3", "5", "20", "100"]
 # How a run ended: its status, and what it wrote on standard output and on standard error.
@@ -38,6 +40,8 @@ def cases(room: str) -> Iterator[tuple[str, list[str]]]:
     for name in names:
         for line in LINES:
             yield f"{EXAMPLES}/{name}", line
+    for name in EXPLAINED:
+        yield f"{EXAMPLES}/{name}.history", ["--explain"]
     yield f"{EXAMPLES}/{names[0]}", ["--help"]
     yield f"{EXAMPLES}/{names[0]}", ["--workers", "65"]
     for kind, events in BUSY:
@@ -45,6 +49,7 @@ def cases(room: str) -> Iterator[tuple[str, list[str]]]:
         with open(path, "wb") as it:
             subprocess.run([sys.executable, f"{HERE}/histories.py", kind, str(events)], stdout=it, check=True)
         yield path, BUSY_LINE
+        yield path, ["--explain", *BUSY_LINE]
 
 
 def lacking(room: str) -> str:

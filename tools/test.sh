@@ -58,17 +58,12 @@ if [ "${FULL:-0}" = 0 ]; then
 fi
 step "the crates' own tests without memory" python3 -B tools/growths.py crates/*/out/*_tests
 step "the program that release/ keeps" sh tools/release.sh compare
-# The explained report is compared where the program has it.
-case $("$PROGRAM" --help) in
-    *--explain*) explain=--explain ;;
-    *) explain= ;;
-esac
-step "the program on every example" sh tools/examples.sh $explain
+step "the program on every example" sh tools/examples.sh
 step "the program on command lines, and with devices that fail" sh tools/line_tests.sh
 step "the targets of the Makefile for users" sh tools/make_tests.sh
 step "the links of the pages" python3 -B tools/links.py
 step "the definitions in Python, on what docs/FORMAT.md works out" definitions unittest -q oracle.tests
-step "the program beside the definitions, on random histories" definitions oracle "$PROGRAM" $explain \
+step "the program beside the definitions, on random histories" definitions oracle "$PROGRAM" \
     small=1000 crowd=60 versions=30 ranges=24 rings=20 edges=12 most_edges=6
 step "the companion: logs in, names and pages out" sh tools/companion_tests.sh
 step "the program on the longest texts and on hard ones, each within some seconds" python3 -B tools/limits.py "$PROGRAM"

@@ -1,13 +1,13 @@
 """Compares the program with the definitions.
 
-    PYTHONPATH=tools python3 -m oracle PROGRAM [--seed N] [--explain] [KIND=COUNT ...]
+    PYTHONPATH=tools python3 -m oracle PROGRAM [--seed N] [KIND=COUNT ...]
 
 COUNT texts of each KIND go through the program: small, crowd, versions, ranges, rings, edges, most_edges. With no KIND
 it is small=1000. A small text is given once, with some number of workers and a few cuts, which must not show; a larger one
-with 1, 2, 3, 7 and 64 workers, each time with 0 to 63 cuts. Of the runs some ask for the brief report, and some check
-another level. With --explain each text is given once more, for the explained report, and a table tells how many of these
-reports show what. The first text that tells the program and the definitions apart is kept as out/differs.history, with both
-reports beside it, and the status is then 1. The last line is 'N passed, M failed'.
+with 1, 2, 3, 7 and 64 workers, each time with 0 to 63 cuts. Of these runs some ask for the brief report, and some check
+another level. Each text is given once more, for the explained report. A line for each kind tells how many texts and runs
+there were, and how many explained reports show what. The first text that tells the program and the definitions apart is kept
+as out/differs.history, with both reports beside it, and the status is then 1. The last line is 'N passed, M failed'.
 """
 
 import shutil
@@ -20,7 +20,7 @@ from oracle import larger, small, taking, trying
 from oracle.account import Account
 from oracle.events import Event
 from oracle.reading import Refusal, read
-from oracle.runs import Case, Line, command_lines, explained_line
+from oracle.runs import Case, Line, command_lines
 from oracle.tally import Tally
 
 SMALL = "small"
@@ -58,7 +58,7 @@ def difference(program: str, line: Line, case: Case) -> str:
     return f"{' '.join(line.words)}: {ended}, and by the definitions status {status}; see {ROOM}/differs.*"
 
 
-def compare(program: str, kind: str, rng: Random, tally: Tally, is_explained: bool) -> str:
+def compare(program: str, kind: str, rng: Random, tally: Tally) -> str:
     """Makes a text and tells where the program and the definitions differ on it, or answers an empty text."""
     text = text_of(kind, rng)
     events = read(text)
@@ -66,10 +66,7 @@ def compare(program: str, kind: str, rng: Random, tally: Tally, is_explained: bo
         case = Case(text, events, judged(kind, events))
     except taking.Disagreement as why:
         return f"the definitions disagree on {text.decode()}: {why}"
-    lines = command_lines(rng, events, kind == SMALL)
-    if is_explained:
-        lines.append(explained_line(rng, lines[-1]))
-    for line in lines:
+    for line in command_lines(rng, events, kind == SMALL):
         differs = difference(program, line, case)
         if differs:
             return differs
@@ -89,13 +86,13 @@ def counts_in(words: list[str]) -> dict[str, int]:
     return counts or {SMALL: 1000}
 
 
-def compare_all(program: str, seed: int, is_explained: bool, counts: dict[str, int]) -> int:
+def compare_all(program: str, seed: int, counts: dict[str, int]) -> int:
     """Compares so many texts of each kind, and tells what came of it. Returns the status."""
     passed = 0
     for kind, count in counts.items():
         tally = Tally()
         for number in range(count):
-            differs = compare(program, kind, Random(f"{seed} {kind} {number}"), tally, is_explained)
+            differs = compare(program, kind, Random(f"{seed} {kind} {number}"), tally)
             if differs:
                 print(f"{kind} {number} of seed {seed}: {differs}\n{passed} passed, 1 failed")
                 return 1
@@ -107,8 +104,6 @@ def compare_all(program: str, seed: int, is_explained: bool, counts: dict[str, i
 
 def main(words: list[str]) -> int:
     seed = 1
-    is_explained = "--explain" in words[1:]
-    words = [it for it in words if it != "--explain"]
     try:
         if not words or shutil.which(words[0]) is None:
             raise ValueError("the first argument is to be the program")
@@ -121,7 +116,7 @@ def main(words: list[str]) -> int:
     except ValueError as why:
         print(f"oracle: {why}", file=sys.stderr)
         return 2
-    return compare_all(words[0], seed, is_explained, counts)
+    return compare_all(words[0], seed, counts)
 
 
 if __name__ == "__main__":

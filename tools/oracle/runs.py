@@ -49,7 +49,7 @@ class Line:
 
 def command_lines(rng: Random, events: list[Event] | Refusal, is_small: bool) -> list[Line]:
     """The command lines to give. All cuts but the second are at keys of the history. Of the larger texts the first run asks
-    for the full report."""
+    for the full report. The last one asks for the explained report."""
     named = [] if isinstance(events, Refusal) else sorted({key for it in events for key in it.keys()})
     workers = (rng.choice(WORKERS),) if is_small else WORKERS
     most = 3 if is_small else 63
@@ -59,7 +59,7 @@ def command_lines(rng: Random, events: list[Event] | Refusal, is_small: bool) ->
         cuts[1:2] = [rng.randrange(MAX_KEY + 1)] * len(cuts[1:2])
         is_brief = rng.random() < 0.4 and (is_small or bool(lines))
         lines.append(Line(number, cuts, Form.BRIEF if is_brief else Form.FULL, rng.choice(LEVELS)))
-    return lines
+    return [*lines, explained_line(rng, lines[-1])]
 
 
 def explained_line(rng: Random, line: Line) -> Line:

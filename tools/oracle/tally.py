@@ -97,8 +97,6 @@ class Tally:
         runs = ", ".join(f"{count} {form}" for form, count in sorted(self.forms.items()))
         most = ", ".join(f"{size} {word}" for word, size in self.most.items())
         lines = ", ".join(f"{word} {count}" for word, count in sorted(self.lines.items()))
-        first = f"{self.texts} texts in {self.forms.total()} runs alike: {runs}; at most {most}; lines: {lines}"
-        if not self.forms["explained"]:
-            return first
         shapes = ", ".join(f"{it} {self.shapes[it]}" for it in REASONS)
+        first = f"{self.texts} texts in {self.forms.total()} runs alike: {runs}; at most {most}; lines: {lines}"
         return f"{first}; explained reports with: {shapes}"

@@ -463,8 +463,10 @@ class Hard(unittest.TestCase):
         for name, make in hard.KINDS.items():
             with self.subTest(kind=name):
                 case = make(505)
-                account = taking.account_of(events_of(case.text.decode()))
+                events = events_of(case.text.decode())
+                account = taking.account_of(events)
                 self.assertEqual(account.report(brief=True), case.report)
+                self.assertEqual(explaining.report(events, account), case.explained)
                 self.assertEqual(account.status(), case.status)
 
 
