@@ -18,7 +18,8 @@ pub(crate) fn told<T: Threads + Wait + Sync>(
     options: &Options,
 ) -> Result<(Vec<u8>, Outcome), Fail> {
     let mut reader = FromStd::new(text);
-    let mut writer = FromStd::new(Vec::new(alloc));
+    // The writer takes what is written without asking for memory, so that a call which finds none is one of the program's.
+    let mut writer = FromStd::new(Vec::with_capacity(alloc, 65536)?);
     let outcome = run(rt, alloc, &mut reader, &mut writer, options)?;
     Ok((writer.into_inner(), outcome))
 }
