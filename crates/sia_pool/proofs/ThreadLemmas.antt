@@ -1,6 +1,6 @@
 -- Views and answers that are put together.
 use Rattle.std.proofs.Common.{◌≡◌, ℕ, suc, ◌+◌, ◌<◌, List, [], ◌∷◌, ◌++◌, length, sym, refl, ap, ◌∙◌, subst, arith, append_assoc, length-append}
-use Rattle.std.specs.Prelude.{Result, Ok, Err, IfOk, IsOkAnd, IsPermutation}
+use Rattle.std.specs.Prelude.{Result, Ok, Err, IfOk, IsPermutation}
 use Rattle.std.specs.List.{AllByRecursion, concat}
 use Rattle.std.proofs.lemmas.List.{append-nil}
 use Rattle.std.proofs.lemmas.List.Folds.{concat-append}
@@ -117,23 +117,11 @@ module _ {Out : Type 0} (owes : ℕ → Out → Type 0) (count workers : ℕ) (a
       → IsDone owes (taker_deque w) count workers p last zs → length last ≡ suc (length later) → AllDone owes count workers all p last zs
   all_ended w ys o p later last xs zs f d e n = subst (λ l. AllDone owes count workers l p last zs) (sym is) (crew_end owes count workers ts t w ys o p later last xs zs (subst (IsReady count workers) is ready) f d e n)
 
--- where both answers are, so is what follows from them
-pub ok_pair : {A B E F : Type 0} (P : A → Type 0) (Q : B → Type 0) (R : A → B → Type 0) (a : Result A E) (b : Result B F) → ((x : A) (y : B) → P x → Q y → R x y) → IfOk a P → IfOk b Q → IfOk a (λ x. IfOk b (λ y. R x y))
-ok_pair P Q R (Ok x) (Ok y) f p q = f x y p q
-ok_pair P Q R (Ok x) (Err e) f p q = tt
-ok_pair P Q R (Err e) b f p q = tt
+-- what holds of an answer that is there
+pub ok_there : {A E : Type 0} (P : A → Type 0) (a : Result A E) (x : A) → a ≡ Ok x → IfOk a P → P x
+ok_there P a x is p = subst (λ r. IfOk r P) is p
 
-pub ok_end : {A B C E F G : Type 0} (P : A → Type 0) (Q : B → Type 0) (S : A → B → C → Type 0) (T : C → Type 0) (a : Result A E) (b : Result B F) (r : Result C G)
-    → ((x : A) (y : B) (z : C) → P x → Q y → S x y z → T z) → IfOk a P → IfOk b Q → IfOk r (λ z. IsOkAnd a (λ x. IsOkAnd b (λ y. S x y z))) → IfOk r T
-ok_end P Q S T a b (Err e) f p q s = tt
-ok_end P Q S T (Err e) b (Ok z) f p q s = absurd s
-ok_end P Q S T (Ok x) (Err e) (Ok z) f p q s = absurd s
-ok_end P Q S T (Ok x) (Ok y) (Ok z) f p q s = f x y z p q s
-
-pub ok_these : {A B C E F G : Type 0} (S : A → B → C → Type 0) (a : Result A E) (b : Result B F) (r : Result C G) (x : A) (y : B) → a ≡ Ok x → b ≡ Ok y → IfOk r (S x y) → IfOk r (λ z. IsOkAnd a (λ u. IsOkAnd b (λ v. S u v z)))
-ok_these S a b (Err e) x y d e' h = tt
-ok_these S a b (Ok z) x y d e' h = subst (λ c. IsOkAnd c (λ u. IsOkAnd b (λ v. S u v z))) (sym d) (subst (λ c. IsOkAnd c (λ v. S x v z)) (sym e') h)
-
-pub ok_join : {C G : Type 0} (P Q : C → Type 0) (r : Result C G) → IfOk r P → IfOk r Q → IfOk r (λ z. P z × Q z)
-ok_join P Q (Ok z) p q = (p, q)
-ok_join P Q (Err e) p q = tt
+-- what follows from both
+pub ok_both : {A E : Type 0} (P Q T : A → Type 0) (a : Result A E) → ((x : A) → P x → Q x → T x) → IfOk a P → IfOk a Q → IfOk a T
+ok_both P Q T (Ok x) f p q = f x p q
+ok_both P Q T (Err e) f p q = tt

@@ -1,11 +1,11 @@
 // The workers, each in a thread, and the views that come back.
-ghost use Rattle.std.specs.Prelude.{◌≡◌, ℕ, suc, ◌<◌, [], ◌∷◌, ◌++◌, length, IfOk, IsOkAnd};
+ghost use Rattle.std.specs.Prelude.{◌≡◌, ℕ, suc, ◌<◌, [], ◌∷◌, ◌++◌, length, IfOk};
 ghost use denote.Param.Send.{IsSync, IsSend};
 ghost use Rattle.sia_pool.specs.View.{stealer_view};
 ghost use Rattle.sia_pool.specs.Taker.{taker_view, taker_deque};
 ghost use Rattle.sia_pool.specs.Answers.{lists_of, parts_of, Owed};
 ghost use Rattle.sia_pool.specs.Work.{HasWorked};
-ghost use Rattle.sia_pool.specs.Threads.{IsReady, IsDone, ComesBack, AllDone};
+ghost use Rattle.sia_pool.specs.Threads.{IsReady, IsDone, AllDone};
 
 use crate::fault::NoMemory;
 use crate::gate::Gate;
@@ -25,32 +25,6 @@ pub(crate) struct Done<Out> {
     pub(crate) owner: Owner,
     pub(crate) later: Vec<Vec<u32>>,
     pub(crate) answers: Vec<(u32, Out)>,
-}
-
-/// The owner works where no other worker is left to start.
-fn owner_alone<J: Job, G: Gate, R: Wait>(
-    rt: &R,
-    alloc: Global,
-    count: u32,
-    workers: u32,
-    taker: Taker,
-    job: &J,
-    gate: &G,
-) -> Result<Done<J::Out>, NoMemory>
-where
-    J::Out: Drop,
-    requires ready { IsReady count workers (taker ∷ []) }
-    requires takes { (p : ℕ) → p < count → J.takes job.now p }
-    ensures { IfOk result (λ r. AllDone (J.owes job.now) count workers (taker ∷ []) r.owner r.later.items r.answers.items) }
-{
-    let mut taker = taker;
-    let mut answers = Vec::new(alloc);
-    work(rt, &mut taker, &mut answers, job, gate)?;
-    Ok(Done {
-        owner: taker.into_owner(),
-        later: Vec::new(alloc),
-        answers,
-    })
 }
 
 /// One more worker has ended, or never ran: the owner takes its view back.
@@ -80,24 +54,6 @@ where
     done.later.push(share)?;
     done.answers.append(&mut more)?;
     Ok(done)
-}
-
-/// The last stealer and all workers before it have ended, and no answer was looked at before. So a refusal is answered when
-/// no worker runs any more.
-fn with_last<J: Job>(
-    job: &J,
-    count: u32,
-    workers: u32,
-    done: Result<Done<J::Out>, NoMemory>,
-    worked: Result<Worked<J::Out>, NoMemory>,
-) -> Result<Done<J::Out>, NoMemory>
-where
-    J::Out: Drop,
-    requires { IfOk done (λ d. IfOk worked (λ w. ComesBack (J.owes job.now) count workers d.owner d.later.items d.answers.items w.taker w.answers.items)) }
-    ensures { IfOk result (λ r. IsOkAnd done (λ d. IsOkAnd worked (λ w. IsDone (J.owes job.now) (taker_deque w.taker) count workers r.owner r.later.items r.answers.items
-        × (length r.later.items ≡ suc (length d.later.items))))) }
-{
-    with_worker(job, count, workers, done?, worked?)
 }
 
 /// `work` of a stealer, which takes nothing once the workers before it have ended.
@@ -147,11 +103,17 @@ pub(crate) fn run_all<
     requires takes { (p : ℕ) → p < count → J.takes job.now p }
     ensures { IfOk result (λ r. AllDone (J.owes job.now) count workers takers.items r.owner r.later.items r.answers.items) }
 {
-    let Some(last) = takers.pop() else {
+    let Some(mut last) = takers.pop() else {
         unreachable!()
     };
     if takers.is_empty() {
-        return owner_alone(rt, alloc, count, workers, last, job, gate);
+        let mut answers = Vec::new(alloc);
+        work(rt, &mut last, &mut answers, job, gate)?;
+        return Ok(Done {
+            owner: last.into_owner(),
+            later: Vec::new(alloc),
+            answers,
+        });
     }
     let flag = AtomicBool::new(false);
     let ended = &flag;
@@ -167,6 +129,7 @@ pub(crate) fn run_all<
         ended.store(true, Ordering::SeqCst);
         done
     };
+    // All workers have ended before an answer is looked at, so a refusal is told when none runs any more.
     let (worked, done) = thread::join(rt, there, here);
-    with_last(job, count, workers, done, worked)
+    with_worker(job, count, workers, done?, worked?)
 }
