@@ -30,12 +30,12 @@ lists_push (u ∷ vs) v = ap (λ l. u.items ∷ l) (lists_push vs v)
 concat_push : (s : List ℕ) (back : List (List ℕ)) (t : List ℕ) → concat (s ∷ (back ++ t ∷ [])) ≡ concat (s ∷ back) ++ t
 concat_push s back t = ap (λ l. s ++ l) (concat-append back (t ∷ []) ∙ ap (λ l. concat back ++ l) (append-nil t)) ∙ sym (append_assoc s (concat back) t)
 
-each-append : {X : Type 0} (P : X → Type 0) (xs ys : List X) → AllByRecursion P xs → AllByRecursion P ys → AllByRecursion P (xs ++ ys)
+pub each-append : {X : Type 0} (P : X → Type 0) (xs ys : List X) → AllByRecursion P xs → AllByRecursion P ys → AllByRecursion P (xs ++ ys)
 each-append P [] ys a b = b
 each-append P (x ∷ xs) ys a b = (a.0, each-append P xs ys a.1 b)
 
 module _ {Out : Type 0} where
-  parts-append : (xs ys : List (ℕ × Out)) → parts_of (xs ++ ys) ≡ parts_of xs ++ parts_of ys
+  pub parts-append : (xs ys : List (ℕ × Out)) → parts_of (xs ++ ys) ≡ parts_of xs ++ parts_of ys
   parts-append [] ys = refl
   parts-append (x ∷ xs) ys = ap (λ l. x.0 ∷ l) (parts-append xs ys)
 

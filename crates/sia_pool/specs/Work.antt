@@ -1,5 +1,5 @@
 -- What a worker hands back.
-use Rattle.std.specs.Prelude.{◌≡◌, ℕ, List, [], ◌∷◌, ◌++◌}
+use Rattle.std.specs.Prelude.{◌≡◌, ℕ, List, ◌++◌}
 use Rattle.atomic_blocks.specs.Lent.{RowsId}
 use Rattle.std.specs.Global.{Global}
 use Rattle.sia_pool.specs.declared.view.View.{View}
@@ -10,10 +10,6 @@ use Rattle.sia_pool.specs.Taker.{taker_view, taker_deque}
 use Rattle.sia_pool.specs.Answers.{parts_of, Owed}
 
 module _ {Out : Type 0} where
-  -- an answer that is owed to this part joined the end
-  abbrev pub HasAnswered : (ℕ → Out → Type 0) → ℕ → List (ℕ × Out) → List (ℕ × Out) → Type 0
-  HasAnswered owes part before after = (out : Out) × owes part out × (after ≡ before ++ (part, out) ∷ [])
-
   -- the taker took some more parts, and each has its answer
   pub record HasWorked (owes : ℕ → Out → Type 0) (deque : RowsId × Global) (old : View) (before : List (ℕ × Out)) (new : Taker) (after : List (ℕ × Out)) : Type 0 where
     pub same : taker_deque new ≡ deque

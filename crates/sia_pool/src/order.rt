@@ -8,14 +8,6 @@ use crate::fault::NoMemory;
 use crate::job::Job;
 use std::alloc::{AllocError, Global};
 
-/// Sorts answers by their parts. No two answers are to one part, so there is nothing to keep stable.
-fn sort_by_part<Out>(answers: &mut Vec<(u32, Out)>)
-    ensures same { IsPermutation answers.old.items answers.new.items }
-    ensures sorted { IsNonDecreasingBy (λ a. a.0) answers.new.items }
-{
-    answers.sort_unstable_by_key(|answer| answer.0);
-}
-
 /// Answers without their parts.
 fn without_parts<Out: Drop>(alloc: Global, answers: Vec<(u32, Out)>) -> Result<Vec<Out>, AllocError>
     ensures { IfOk result (λ outs. outs.items ≡ map (λ a. a.1) answers.items) }
@@ -36,6 +28,7 @@ where
     requires once { IsPermutation (range_with_len 0 count) (parts_of answers.items) }
     ensures { IfOk result (λ v. (length v.items ≡ count) × OwedFrom (J.owes job.now) 0 v.items) }
 {
-    sort_by_part(&mut answers);
+    // No two answers are to one part, so there is nothing to keep stable.
+    answers.sort_unstable_by_key(|answer| answer.0);
     Ok(without_parts(alloc, answers)?)
 }

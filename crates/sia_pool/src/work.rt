@@ -1,9 +1,8 @@
 // What one worker does.
 ghost use Rattle.std.specs.Prelude.{ℕ, ◌<◌, OnOk};
 ghost use Rattle.sia_pool.specs.Taker.{taker_view, taker_deque};
-ghost use Rattle.sia_pool.specs.Gate.{EndsWith};
 ghost use Rattle.sia_pool.specs.Answers.{Owed};
-ghost use Rattle.sia_pool.specs.Work.{HasAnswered, WorkedOff};
+ghost use Rattle.sia_pool.specs.Work.{WorkedOff};
 
 use crate::fault::NoMemory;
 use crate::gate::Gate;
@@ -16,27 +15,6 @@ use std::sync::Wait;
 pub(crate) struct Worked<Out> {
     pub(crate) taker: Taker,
     pub(crate) answers: Vec<(u32, Out)>,
-}
-
-/// Runs a part that was just taken, and adds its answer.
-fn answer_part<J: Job, G: Gate>(
-    number: u32,
-    part: u32,
-    taker: &Taker,
-    answers: &mut Vec<(u32, J::Out)>,
-    job: &J,
-    gate: &G,
-) -> Result<(), NoMemory>
-where
-    J::Out: Drop,
-    requires taken { EndsWith (taker_view taker.now).share part }
-    requires takes { J.takes job.now part }
-    ensures { OnOk result (HasAnswered (J.owes job.now) part answers.old.items answers.new.items) }
-{
-    gate.pass(number, part, taker);
-    let out = job.run(part)?;
-    answers.push((part, out))?;
-    Ok(())
 }
 
 /// Takes parts until nothing is left, and adds an answer for each.
@@ -56,7 +34,11 @@ where
     let number = taker.number();
     'taking: for _ in rt.forever() {
         match taker.next_part() {
-            Taken::Part(part) => answer_part(number, part, taker, answers, job, gate)?,
+            Taken::Part(part) => {
+                gate.pass(number, part, taker);
+                let out = job.run(part)?;
+                answers.push((part, out))?;
+            }
             Taken::Nothing => return Ok(()),
             // A race was lost, and something may be left. How often is not bounded, as with any wait for other threads.
             Taken::Lost => {}
