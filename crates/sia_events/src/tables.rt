@@ -92,18 +92,6 @@ impl Tables {
         }
     }
 
-    #[tactic(auto, unfolding(crate::specs::Known::read_fault))]
-    fn read_fault(&self, key: Key, saw: Version) -> Option<Reason>
-        ensures { (events : List AnEvent) → Knows self.now events → result ≡ read_fault events key saw }
-    {
-        let mut position = usize::MAX;
-        if self.is_explained_after(&mut position, key, saw) {
-            None
-        } else {
-            Some(Reason::NotWritten)
-        }
-    }
-
     /// Whether the version of the key is 0 or was written, where its write may well follow the one at the position. Where it was
     /// written, the position may become its own.
     #[tactic(auto, unfolding(crate::specs::Known::is_explained))]
@@ -145,14 +133,17 @@ impl Tables {
         None
     }
 
-    #[tactic(auto, unfolding(crate::specs::Known::own_fault))]
+    #[tactic(auto, unfolding(crate::specs::Known::own_fault, crate::specs::Known::read_fault))]
     fn own_fault(&self, event: &Event, has_begun: bool, count: usize) -> Option<Reason>
         requires { has_begun ≡ has self.now.begun (actor event.now) }
         ensures { (events : List AnEvent) → Knows self.now events → result ≡ own_fault events count event.now }
     {
         match event {
             Event::Begin { start, .. } => begin_fault(has_begun, *start, count),
-            Event::Read { key, saw, .. } => self.read_fault(*key, *saw),
+            Event::Read { key, saw, .. } => {
+                let is_explained = self.is_explained_after(&mut usize::MAX, *key, *saw);
+                (!is_explained).then_some(Reason::NotWritten)
+            }
             Event::Range { lo, hi, listed, .. } => self.range_fault(*lo, *hi, listed.as_slice()),
             _ => None,
         }
