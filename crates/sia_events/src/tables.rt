@@ -6,7 +6,7 @@ ghost use Rattle.sia_events.specs.declared.event.Event.{Event as AnEvent};
 ghost use Rattle.sia_events.specs.Events.{actor};
 ghost use Rattle.sia_events.specs.TxnSets.{has};
 ghost use Rattle.sia_events.specs.WriteSets.{wrote, IsSound, pair_cmp};
-ghost use Rattle.sia_events.specs.Known.{Knows, acts, ends, writes, is_explained, least_after, goes_up, begin_fault, read_fault, range_fault, own_fault, fault_of};
+ghost use Rattle.sia_events.specs.Known.{Knows, acts, ends, writes, is_explained, least_after, goes_up, read_fault, range_fault, own_fault, fault_of};
 
 use crate::event::{Event, Key, TxnId, Version};
 use crate::fault::Reason;
@@ -47,18 +47,6 @@ fn is_good_list(lo: Key, hi: Key, listed: &[(Key, Version)]) -> bool
         before = Some(*key);
     }
     true
-}
-
-fn begin_fault(has_begun: bool, start: Option<u32>, count: usize) -> Option<Reason>
-    ensures { (events : List AnEvent) (t : ℕ) → has_begun ≡ list_any (acts t) events → result ≡ begin_fault events count t start }
-{
-    if has_begun {
-        return Some(Reason::AlreadyBegun);
-    }
-    match start {
-        Some(start) if count < start as usize => Some(Reason::BadStart),
-        _ => None,
-    }
 }
 
 impl Tables {
@@ -133,13 +121,17 @@ impl Tables {
         None
     }
 
-    #[tactic(auto, unfolding(crate::specs::Known::own_fault, crate::specs::Known::read_fault))]
+    #[tactic(auto, unfolding(crate::specs::Known::own_fault, crate::specs::Known::begin_fault, crate::specs::Known::read_fault))]
     fn own_fault(&self, event: &Event, has_begun: bool, count: usize) -> Option<Reason>
         requires { has_begun ≡ has self.now.begun (actor event.now) }
         ensures { (events : List AnEvent) → Knows self.now events → result ≡ own_fault events count event.now }
     {
         match event {
-            Event::Begin { start, .. } => begin_fault(has_begun, *start, count),
+            Event::Begin { .. } if has_begun => Some(Reason::AlreadyBegun),
+            Event::Begin {
+                start: Some(start),
+                ..
+            } if count < *start as usize => Some(Reason::BadStart),
             Event::Read { key, saw, .. } => {
                 let is_explained = self.is_explained_after(&mut usize::MAX, *key, *saw);
                 (!is_explained).then_some(Reason::NotWritten)
