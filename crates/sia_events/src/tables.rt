@@ -6,7 +6,7 @@ ghost use Rattle.sia_events.specs.declared.event.Event.{Event as AnEvent};
 ghost use Rattle.sia_events.specs.Events.{actor};
 ghost use Rattle.sia_events.specs.TxnSets.{has};
 ghost use Rattle.sia_events.specs.WriteSets.{wrote, IsSound, pair_cmp};
-ghost use Rattle.sia_events.specs.Known.{Knows, acts, ends, writes, is_explained, least_after, goes_up, read_fault, range_fault, own_fault, fault_of};
+ghost use Rattle.sia_events.specs.Known.{Knows, acts, ends, writes, is_explained, least_after, goes_up, own_fault, fault_of};
 
 use crate::event::{Event, Key, TxnId, Version};
 use crate::fault::Reason;
@@ -105,23 +105,7 @@ impl Tables {
         true
     }
 
-    #[tactic(auto, unfolding(crate::specs::Known::range_fault))]
-    fn range_fault(&self, lo: Key, hi: Key, listed: &[(Key, Version)]) -> Option<Reason>
-        ensures { (events : List AnEvent) → Knows self.now events → result ≡ range_fault events lo hi listed.now }
-    {
-        if hi < lo {
-            return Some(Reason::EmptyRange);
-        }
-        if !is_good_list(lo, hi, listed) {
-            return Some(Reason::BadList);
-        }
-        if !self.are_explained(listed) {
-            return Some(Reason::NotWritten);
-        }
-        None
-    }
-
-    #[tactic(auto, unfolding(crate::specs::Known::own_fault, crate::specs::Known::begin_fault, crate::specs::Known::read_fault))]
+    #[tactic(auto, unfolding(crate::specs::Known::own_fault, crate::specs::Known::begin_fault, crate::specs::Known::read_fault, crate::specs::Known::range_fault))]
     fn own_fault(&self, event: &Event, has_begun: bool, count: usize) -> Option<Reason>
         requires { has_begun ≡ has self.now.begun (actor event.now) }
         ensures { (events : List AnEvent) → Knows self.now events → result ≡ own_fault events count event.now }
@@ -136,7 +120,12 @@ impl Tables {
                 let is_explained = self.is_explained_after(&mut usize::MAX, *key, *saw);
                 (!is_explained).then_some(Reason::NotWritten)
             }
-            Event::Range { lo, hi, listed, .. } => self.range_fault(*lo, *hi, listed.as_slice()),
+            Event::Range { lo, hi, .. } if hi < lo => Some(Reason::EmptyRange),
+            Event::Range { lo, hi, listed, .. } if !is_good_list(*lo, *hi, listed.as_slice()) =>
+                Some(Reason::BadList),
+            Event::Range { listed, .. } if !self.are_explained(listed.as_slice()) => Some(
+                Reason::NotWritten,
+            ),
             _ => None,
         }
     }
