@@ -87,20 +87,6 @@ impl Judge {
         Ok(rest)
     }
 
-    /// Takes the event of the token that the unfinished bytes and these make, if there is one.
-    fn take_joined(&mut self, unfinished: &mut Vec<u8>, front: &[u8]) -> Result<(), Refusal>
-        requires { Knows self.old.tables self.old.events.items }
-        ensures taken { OnOk result (JudgedAll self.old.events.items (as_token (unfinished.old.items ++ front.now)) self.new.events.items) }
-        ensures knows { OnOk result (Knows self.new.tables self.new.events.items) }
-        ensures cleared { OnOk result (unfinished.new.items ≡ []) }
-        ensures refused { IfErr result (λ fault. Halts fault self.old.events.items (as_token (unfinished.old.items ++ front.now)) self.new.events.items) }
-    {
-        unfinished.extend_from_slice(front)?;
-        self.take_some(unfinished)?;
-        unfinished.clear();
-        Ok(())
-    }
-
     /// Takes the events of all tokens of the unfinished bytes and the piece that a separator follows, and leaves as
     /// unfinished what comes after the last separator.
     pub(crate) fn take_piece(
@@ -118,7 +104,9 @@ impl Judge {
             unfinished.extend_from_slice(piece)?;
             return Ok(());
         };
-        self.take_joined(unfinished, front)?;
+        unfinished.extend_from_slice(front)?;
+        self.take_some(unfinished)?;
+        unfinished.clear();
         let rest = self.take_closed(after)?;
         unfinished.extend_from_slice(rest)?;
         Ok(())

@@ -6,7 +6,7 @@ ghost use Rattle.sia_events.specs.declared.event.Event.{Event as AnEvent};
 ghost use Rattle.sia_events.specs.Events.{actor};
 ghost use Rattle.sia_events.specs.TxnSets.{has};
 ghost use Rattle.sia_events.specs.WriteSets.{wrote, IsSound, pair_cmp};
-ghost use Rattle.sia_events.specs.Known.{Knows, acts, ends, writes, is_explained, least_after, goes_up, begin_fault, read_fault, range_fault, own_fault, fault_of};
+ghost use Rattle.sia_events.specs.Known.{Knows, acts, ends, writes, is_explained, least_after, goes_up, own_fault, fault_of};
 
 use crate::event::{Event, Key, TxnId, Version};
 use crate::fault::Reason;
@@ -49,18 +49,6 @@ fn is_good_list(lo: Key, hi: Key, listed: &[(Key, Version)]) -> bool
     true
 }
 
-fn begin_fault(has_begun: bool, start: Option<u32>, count: usize) -> Option<Reason>
-    ensures { (events : List AnEvent) (t : ℕ) → has_begun ≡ list_any (acts t) events → result ≡ begin_fault events count t start }
-{
-    if has_begun {
-        return Some(Reason::AlreadyBegun);
-    }
-    match start {
-        Some(start) if count < start as usize => Some(Reason::BadStart),
-        _ => None,
-    }
-}
-
 impl Tables {
     pub(crate) fn new(alloc: Global) -> Self
         ensures { Knows result [] }
@@ -92,18 +80,6 @@ impl Tables {
         }
     }
 
-    #[tactic(auto, unfolding(crate::specs::Known::read_fault))]
-    fn read_fault(&self, key: Key, saw: Version) -> Option<Reason>
-        ensures { (events : List AnEvent) → Knows self.now events → result ≡ read_fault events key saw }
-    {
-        let mut position = usize::MAX;
-        if self.is_explained_after(&mut position, key, saw) {
-            None
-        } else {
-            Some(Reason::NotWritten)
-        }
-    }
-
     /// Whether the version of the key is 0 or was written, where its write may well follow the one at the position. Where it was
     /// written, the position may become its own.
     #[tactic(auto, unfolding(crate::specs::Known::is_explained))]
@@ -129,31 +105,27 @@ impl Tables {
         true
     }
 
-    #[tactic(auto, unfolding(crate::specs::Known::range_fault))]
-    fn range_fault(&self, lo: Key, hi: Key, listed: &[(Key, Version)]) -> Option<Reason>
-        ensures { (events : List AnEvent) → Knows self.now events → result ≡ range_fault events lo hi listed.now }
-    {
-        if hi < lo {
-            return Some(Reason::EmptyRange);
-        }
-        if !is_good_list(lo, hi, listed) {
-            return Some(Reason::BadList);
-        }
-        if !self.are_explained(listed) {
-            return Some(Reason::NotWritten);
-        }
-        None
-    }
-
-    #[tactic(auto, unfolding(crate::specs::Known::own_fault))]
+    #[tactic(auto, unfolding(crate::specs::Known::own_fault, crate::specs::Known::begin_fault, crate::specs::Known::read_fault, crate::specs::Known::range_fault))]
     fn own_fault(&self, event: &Event, has_begun: bool, count: usize) -> Option<Reason>
         requires { has_begun ≡ has self.now.begun (actor event.now) }
         ensures { (events : List AnEvent) → Knows self.now events → result ≡ own_fault events count event.now }
     {
         match event {
-            Event::Begin { start, .. } => begin_fault(has_begun, *start, count),
-            Event::Read { key, saw, .. } => self.read_fault(*key, *saw),
-            Event::Range { lo, hi, listed, .. } => self.range_fault(*lo, *hi, listed.as_slice()),
+            Event::Begin { .. } if has_begun => Some(Reason::AlreadyBegun),
+            Event::Begin {
+                start: Some(start),
+                ..
+            } if count < *start as usize => Some(Reason::BadStart),
+            Event::Read { key, saw, .. } => {
+                let is_explained = self.is_explained_after(&mut usize::MAX, *key, *saw);
+                (!is_explained).then_some(Reason::NotWritten)
+            }
+            Event::Range { lo, hi, .. } if hi < lo => Some(Reason::EmptyRange),
+            Event::Range { lo, hi, listed, .. } if !is_good_list(*lo, *hi, listed.as_slice()) =>
+                Some(Reason::BadList),
+            Event::Range { listed, .. } if !self.are_explained(listed.as_slice()) => Some(
+                Reason::NotWritten,
+            ),
             _ => None,
         }
     }

@@ -92,19 +92,7 @@ impl WriteSet {
         Ok(())
     }
 
-    /// Makes the guesses anew, in a greater table.
-    #[tactic(auto, unfolding(crate::specs::WriteSets::IsSound))]
-    fn guess_again(&mut self) -> Result<(), AllocError>
-        ensures same { OnOk result (self.new.writes.items ≡ self.old.writes.items) }
-        ensures sound { IsSound self.old → OnOk result (IsSound self.new) }
-    {
-        self.guesses.restart()?;
-        for position in 0..self.writes.len() {
-            self.place(position)?;
-        }
-        Ok(())
-    }
-
+    /// Takes in the write. Where the table of guesses is crowded, all guesses are made anew, in a greater one.
     #[tactic(auto, unfolding(crate::specs::WriteSets::IsSound))]
     pub(crate) fn insert(&mut self, write: (Key, TxnId)) -> Result<(), AllocError>
         ensures wrote { IsSound self.old → OnOk result ((p : ℕ × ℕ) → wrote self.new p ≡ (wrote self.old p || same p write)) }
@@ -113,7 +101,11 @@ impl WriteSet {
         self.writes.push(write)?;
         let count = self.writes.len();
         if self.guesses.is_crowded(count) {
-            return self.guess_again();
+            self.guesses.restart()?;
+            for position in 0..count {
+                self.place(position)?;
+            }
+            return Ok(());
         }
         self.place(count - 1)
     }

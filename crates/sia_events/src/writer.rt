@@ -38,21 +38,15 @@ fn push_list(out: &mut Vec<u8>, listed: &[(Key, Version)]) -> Result<(), AllocEr
     Ok(())
 }
 
-fn push_piece(out: &mut Vec<u8>, piece: &Piece) -> Result<(), AllocError>
-    ensures { OnOk result (out.new.items ≡ out.old.items ++ spelled piece.now) }
-{
-    match piece {
-        Piece::Marked(mark, n) => push_marked(out, *mark, *n),
-        Piece::Byte(byte) => out.extend_from_slice(&[*byte]),
-        Piece::Listed(listed) => push_list(out, listed),
-    }
-}
-
 fn push_pieces(out: &mut Vec<u8>, pieces: &[Piece]) -> Result<(), AllocError>
     ensures { OnOk result (out.new.items ≡ out.old.items ++ flat_map spelled pieces.now) }
 {
     for piece in pieces {
-        push_piece(out, piece)?;
+        match piece {
+            Piece::Marked(mark, n) => push_marked(out, *mark, *n)?,
+            Piece::Byte(byte) => out.push(*byte)?,
+            Piece::Listed(listed) => push_list(out, listed)?,
+        }
     }
     Ok(())
 }
