@@ -44,14 +44,19 @@ table_lists h table ids are is = subst (ListsAscending (HasEvent h)) (sym is) (r
   );
 })
 
+-- transaction number i is so in every list of the transactions
+pub txn_number : (h : List Event) (ids : List ℕ) → ListsAscending (HasEvent h) ids → (i t : ℕ) → IsTxnAt h i t → (i < length ids) × (slice_index ids i ≡ t)
+txn_number h ids are i t at =
+    let same = one_list_by _ _ at.0 ids at.1 are in
+    (subst (λ ts. i < length ts) same at.2, subst (λ ts. slice_index ts i ≡ t) same at.3)
+
 -- transaction number i stands in row i of the table
 pub row_at : (h : List Event) (table : List TxnRow) → AreTxns h table → (i t : ℕ) → IsTxnAt h i t → (i < length table) × ((d : TxnRow) → IsInfo h t (slice_index_or table i d).info)
 row_at h table are i t at =
-    let own = table_lists h table (map (λ row. row.txn) table) are refl in
-    let same = one_list_by _ _ at.0 (map (λ row. row.txn) table) at.1 own in
-    let inside : i < length table = (let b = subst (λ ts. i < length ts) same at.2 in omega (arith, length-map table (λ (r : TxnRow). r.txn))) in
-    let here : slice_index (map (λ row. row.txn) table) i ≡ t = subst (λ ts. slice_index ts i ≡ t) same at.3 in
-    (inside, λ d. subst (λ u. IsInfo h u (slice_index_or table i d).info) (sym (get_or-map (λ (r : TxnRow). r.txn) table i d 0 inside) ∙ here) (are.right i d inside))
+    let ids = map (λ (row : TxnRow). row.txn) table in
+    let here = txn_number h ids (table_lists h table ids are refl) i t at in
+    let inside : i < length table = (let below = here.0 in omega (arith, length-map table (λ (r : TxnRow). r.txn))) in
+    (inside, λ d. subst (λ u. IsInfo h u (slice_index_or table i d).info) (sym (get_or-map (λ (r : TxnRow). r.txn) table i d 0 inside) ∙ here.1) (are.right i d inside))
 
 -- what was found among them is the transaction's number, and what was not has no event
 pub txn_numbered : (h : List Event) (ids : List ℕ) → ListsAscending (HasEvent h) ids → (t : ℕ) (found : Option ℕ) → MatchOption found (All (λ id. id ≢ t) ids) (λ i. (i < length ids) × (slice_index ids i ≡ t)) → MatchOption found (¬ HasEvent h t) (λ i. IsTxnAt h i t)

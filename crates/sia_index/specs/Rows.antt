@@ -49,14 +49,6 @@ AreWrites h writes = ListsBy (λ w. w.txn ∷ w.key ∷ w.place ∷ []) (λ w. W
 abbrev pub AscendsByWrite : List WriteRow → Type 0
 AscendsByWrite writes = AllPairs (λ x y. Precedes (x.txn ∷ x.key ∷ x.place ∷ []) (y.txn ∷ y.key ∷ y.place ∷ [])) writes
 
--- no row is of k and t
-abbrev pub HasNoWrite : List WriteRow → ℕ → ℕ → Type 0
-HasNoWrite writes t k = (q : ℕ) → ¬ Contains writes (record { key = k; txn = t; place = q })
-
--- p is the least place in the rows of k and t
-abbrev pub IsFirstRow : List WriteRow → ℕ → ℕ → ℕ → Type 0
-IsFirstRow writes t k p = Contains writes (record { key = k; txn = t; place = p }) × ((q : ℕ) → Contains writes (record { key = k; txn = t; place = q }) → p ≤ q)
-
 -- the place parts what is below from in the list from the rest
 pub record IsPlaceFrom (keys : List ℕ) (from at : ℕ) : Type 0 where
   pub bound : at ≤ length keys
@@ -70,20 +62,9 @@ pub record IsStretch (rows : List WriteRow) (t from to : ℕ) : Type 0 where
   pub own : (i : ℕ) (d : WriteRow) → from ≤ i → i < to → (slice_index_or rows i d).txn ≡ t
   pub whole : (i : ℕ) (d : WriteRow) → i < length rows → (slice_index_or rows i d).txn ≡ t → (from ≤ i) × (i < to)
 
--- a place from one to another that parts the rows between by their keys
-pub record IsKeyPoint (before after : ℕ → Type 0) (rows : List WriteRow) (from to at : ℕ) : Type 0 where
-  pub first : from ≤ at
-  pub last : at ≤ to
-  pub below : (i : ℕ) (d : WriteRow) → from ≤ i → i < at → before (slice_index_or rows i d).key
-  pub above : (i : ℕ) (d : WriteRow) → at ≤ i → i < to → after (slice_index_or rows i d).key
-
 -- no number from lo to hi has P, or none below the one that was found
 abbrev pub PassesNone : (ℕ → Type 0) → ℕ → ℕ → Option ℕ → Type 0
 PassesNone P lo hi found = MatchOption found ((k : ℕ) → lo ≤ k → k ≤ hi → ¬ P k) (λ k. (lo ≤ k) × (k ≤ hi) × ((j : ℕ) → lo ≤ j → j < k → ¬ P j))
-
--- the same of the keys that t wrote before place p, by the rows
-abbrev pub NextRow : List WriteRow → ℕ → ℕ → ℕ → ℕ → Option ℕ → Type 0
-NextRow rows t p lo hi found = PassesNone (λ k. (q : ℕ) × (q < p) × Contains rows (record { key = k; txn = t; place = q })) lo hi found
 
 -- another version than 0 is due to t at place p on k: t wrote it before, or sees a writer of it
 abbrev pub HasDue : List Event → ℕ → ℕ → ℕ → Type 0

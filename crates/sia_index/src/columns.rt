@@ -24,14 +24,6 @@ impl HasPart<TxnId> for TxnRow {
     }
 }
 
-impl HasPart<u32> for WriteRow {
-    ghost part = { λ row. row.place };
-
-    fn part(&self) -> u32 {
-        self.place
-    }
-}
-
 impl HasPart<Key> for WriteRow {
     ghost part = { λ row. row.key };
 

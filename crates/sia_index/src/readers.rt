@@ -7,10 +7,11 @@ ghost use Rattle.sia_index.specs.declared.info.Fate.TheVariants.{Committed};
 ghost use Rattle.sia_index.specs.Info.{IsReader, NoneDue, IsNextDue};
 ghost use Rattle.sia_index.specs.Rows.{AscendsByCommit, IsLastWithin, PassesNone, HasDue};
 
-use crate::chains::next_first;
 use crate::indexed::Index;
-use crate::info::{DueAt, Fate, Made, Reader};
-use crate::keyed::place_above;
+use crate::info::{DueAt, Fate, KeyVersion, Made, Reader};
+use crate::keyed::{ByKey, ByPlace, place_above};
+use crate::minima::next_key;
+use crate::rows::WriteRow;
 use sia_events::{Key, TxnId, Version};
 
 impl Index {
@@ -20,7 +21,8 @@ impl Index {
         ensures { IsReader self.now t place result }
     {
         let _ = &self.of;
-        let has_written = self.has_written(t);
+        let (from, to) = self.stretch(t);
+        let has_written = from < to;
         let (start, committed) = match self.txn(t) {
             Some(info) => (info.start, is_committed(info.fate)),
             None => (0, false),
@@ -32,13 +34,6 @@ impl Index {
             committed,
             has_written,
         }
-    }
-
-    // Whether the transaction wrote any key.
-    fn has_written(&self, t: TxnId) -> bool
-        ensures { IsTrue result ↔ ((k : ℕ) × Wrote self.now t k) }
-    {
-        self.writes.has_any(self.hint_of(t), t)
     }
 
     /// The version due to a read of the key by the transaction at the place.
@@ -116,8 +111,14 @@ impl Index {
         ensures { PassesNone (λ k. WroteBefore self.now reader.txn k reader.place) lo hi result }
     {
         if reader.has_written {
-            let number = self.hint_of(reader.txn);
-            self.writes.next(number, reader, lo, hi)
+            next_key::<WriteRow, ByKey, ByPlace>(
+                &self.writes,
+                &self.place_minima,
+                self.stretch(reader.txn),
+                lo,
+                hi,
+                u64::from(reader.place),
+            )
         } else {
             None
         }
@@ -128,13 +129,13 @@ impl Index {
         requires { IsReader self.now reader.txn reader.place reader }
         ensures { PassesNone (λ k. (u : ℕ) × IsVisible self.now reader.txn k u) lo hi result }
     {
-        next_first(
-            &self.keys,
-            &self.firsts,
-            &self.first_minima,
+        next_key::<KeyVersion, ByKey, ByPlace>(
+            &self.versions,
+            &self.commit_minima,
+            (0, self.versions.len()),
             lo,
             hi,
-            reader.start,
+            u64::from(reader.start) + 1,
         )
     }
 }
@@ -167,7 +168,7 @@ pub(crate) fn last_within(versions: &[Made], place: u32) -> Option<Made>
     requires { AscendsByCommit versions.now }
     ensures { MatchOption result (All (λ made. place < made.commit) versions.now) (IsLastWithin versions.now place) }
 {
-    let within = place_above(versions, u64::from(place));
+    let within = place_above::<Made, ByPlace>(versions, u64::from(place));
     if within == 0 {
         return None;
     }

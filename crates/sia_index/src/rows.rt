@@ -1,8 +1,8 @@
 //! The rows of an index's tables. Each table ascends by the fields of its rows, from the first field on.
-ghost use Rattle.std.specs.Prelude.{◌≡◌, ◌≢◌, ◌+◌, ◌<◌, ◌≤◌, All, AllPairs, Contains, MatchOption, length, slice_index, slice_range};
+ghost use Rattle.std.specs.Prelude.{◌≡◌, ◌≢◌, ◌<◌, All, AllPairs, Contains, MatchOption, length, slice_index};
 
 use crate::hints::hint_in;
-use crate::info::{Made, TxnInfo};
+use crate::info::TxnInfo;
 use sia_events::{Key, TxnId};
 
 /// The places of two events of a transaction, which may be one. The row stands for those in between too.
@@ -71,16 +71,4 @@ fn search_key(keys: &[Key], k: Key) -> Option<usize>
         Ok(i) => Some(i),
         Err(_) => None,
     }
-}
-
-/// What stands from offset `i` to the next one.
-pub fn part_at<'a>(made: &'a [Made], offsets: &[usize], i: usize) -> &'a [Made]
-    requires two { i + 1 < length offsets.now }
-    requires in_order { slice_index offsets.now i ≤ slice_index offsets.now (i + 1) }
-    requires within { slice_index offsets.now (i + 1) ≤ length made.now }
-    ensures { result.now ≡ slice_range made.now (slice_index offsets.now i) (slice_index offsets.now (i + 1)) }
-{
-    let from = offsets[i];
-    let to = offsets[i + 1];
-    &made[from..to]
 }
