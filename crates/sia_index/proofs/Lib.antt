@@ -13,3 +13,4 @@ pub mod NextKeys
 pub mod DueWithin
 pub mod TxnNumbers
 pub mod Blocks
+pub mod Finding

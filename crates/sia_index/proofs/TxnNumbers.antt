@@ -59,11 +59,11 @@ row_at h table are i t at =
     (inside, λ d. subst (λ u. IsInfo h u (slice_index_or table i d).info) (sym (get_or-map (λ (r : TxnRow). r.txn) table i d 0 inside) ∙ here.1) (are.right i d inside))
 
 -- what was found among them is the transaction's number, and what was not has no event
-pub txn_numbered : (h : List Event) (ids : List ℕ) → ListsAscending (HasEvent h) ids → (t : ℕ) (found : Option ℕ) → MatchOption found (All (λ id. id ≢ t) ids) (λ i. (i < length ids) × (slice_index ids i ≡ t)) → MatchOption found (¬ HasEvent h t) (λ i. IsTxnAt h i t)
+pub txn_numbered : (h : List Event) (ids : List ℕ) → ListsAscending (HasEvent h) ids → (t : ℕ) (found : Option ℕ) → MatchOption found (All (λ id. id ≢ t) ids) (λ i. (i < length ids) × ((d : ℕ) → slice_index_or ids i d ≡ t)) → MatchOption found (¬ HasEvent h t) (λ i. IsTxnAt h i t)
 txn_numbered h ids are t None missing = λ has. All-contains (λ id. id ≢ t) ids t missing ((are.each t).1 has) refl
-txn_numbered h ids are t (Some i) at = (ids, are, at.0, at.1)
+txn_numbered h ids are t (Some i) at = (ids, are, at.0, at.1 0)
 
 -- what was found among the written keys is the key's number, and what was not nothing wrote
-pub key_numbered : (h : List Event) (keys : List ℕ) → AreWrittenKeys h keys → (k : ℕ) (found : Option ℕ) → MatchOption found (All (λ key. key ≢ k) keys) (λ i. (i < length keys) × (slice_index keys i ≡ k)) → MatchOption found ((t : ℕ) → ¬ Wrote h t k) (λ i. IsKeyAt h i k)
+pub key_numbered : (h : List Event) (keys : List ℕ) → AreWrittenKeys h keys → (k : ℕ) (found : Option ℕ) → MatchOption found (All (λ key. key ≢ k) keys) (λ i. (i < length keys) × ((d : ℕ) → slice_index_or keys i d ≡ k)) → MatchOption found ((t : ℕ) → ¬ Wrote h t k) (λ i. IsKeyAt h i k)
 key_numbered h keys are k None missing = λ t wrote. All-contains (λ key. key ≢ k) keys k missing ((are.each k).1 (t, wrote)) refl
-key_numbered h keys are k (Some i) at = (keys, are, at.0, at.1)
+key_numbered h keys are k (Some i) at = (keys, are, at.0, at.1 0)

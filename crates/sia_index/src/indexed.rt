@@ -7,10 +7,11 @@ ghost use Rattle.sia_index.specs.Rows.{AreWrites, IsStretch};
 ghost use Rattle.sia_index.specs.Info.{IsInfo, AreVersions, AreWrittenKeys, AreAllVersions, IsFirstWrite, HasKeyAt, IsKeyAt, StartsBefore, AreReadsWithin, AreRangesMeeting, AreWrittenWithin, IsNextWritten, AreVersionsWithin};
 
 use crate::grouping::group_at;
+use crate::hints::find;
 use crate::info::{Fate, ItemRead, KeyVersion, Made, RangeRead, TxnInfo};
 use crate::keyed::{ByKey, between, place_from};
 use crate::reads::{key_from, ranges_meeting};
-use crate::rows::{TxnRow, WriteRow, find_key};
+use crate::rows::{TxnRow, WriteRow};
 use sia_events::{History, Key, TxnId};
 use std::marker::Model;
 use std::snapshot::Snapshot;
@@ -79,7 +80,14 @@ impl Index {
     pub fn versions(&self, k: Key) -> &[Made]
         ensures { AreVersions self.now k result.now }
     {
-        match find_key(&self.keys, k) {
+        self.versions_near(k, 0)
+    }
+
+    // The same. The key may have this number among the written keys.
+    pub(crate) fn versions_near(&self, k: Key, near: usize) -> &[Made]
+        ensures { AreVersions self.now k result.now }
+    {
+        match find::<Key, ByKey>(&self.keys, k, near) {
             Some(i) => self.versions_at(i),
             None => &[],
         }

@@ -1,7 +1,6 @@
 //! The rows of an index's tables. Each table ascends by the fields of its rows, from the first field on.
 ghost use Rattle.std.specs.Prelude.{◌≡◌, ◌≢◌, ◌<◌, All, AllPairs, Contains, MatchOption, length, slice_index};
 
-use crate::hints::hint_in;
 use crate::info::TxnInfo;
 use sia_events::{Key, TxnId};
 
@@ -48,27 +47,4 @@ fn find_txn(table: &[TxnRow], t: TxnId) -> Option<TxnInfo>
         }
     }
     None
-}
-
-/// The number of the key among the keys, counted from 0, or None where it isn't one of them.
-pub fn find_key(keys: &[Key], k: Key) -> Option<usize>
-    requires { AllPairs (λ x y. x < y) keys.now }
-    ensures { MatchOption result (All (λ key. key ≢ k) keys.now) (λ i. (i < length keys.now) × (slice_index keys.now i ≡ k)) }
-{
-    let i = hint_in(keys, k);
-    if i < keys.len() && keys[i] == k {
-        return Some(i);
-    }
-    search_key(keys, k)
-}
-
-/// The same, by a search.
-fn search_key(keys: &[Key], k: Key) -> Option<usize>
-    requires { AllPairs (λ x y. x < y) keys.now }
-    ensures { MatchOption result (All (λ key. key ≢ k) keys.now) (λ i. (i < length keys.now) × (slice_index keys.now i ≡ k)) }
-{
-    match keys.binary_search(&k) {
-        Ok(i) => Some(i),
-        Err(_) => None,
-    }
 }
