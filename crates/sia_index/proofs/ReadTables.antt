@@ -218,7 +218,7 @@ pub record ReachesSoFar (ranges : List RangeRead) (n : ℕ) (reaches : List ℕ)
   pub far : (i : ℕ) (d : RangeRead) → i < n → (slice_index_or ranges i d).hi ≤ slice_index reaches i
   pub last : All (λ x. x ≤ reach) reaches
 
-at_push : (xs : List ℕ) (x i d : ℕ) → length xs ≡ i → slice_index_or (xs ++ x ∷ []) i d ≡ x
+pub at_push : {A : Type 0} (xs : List A) (x : A) (i : ℕ) (d : A) → length xs ≡ i → slice_index_or (xs ++ x ∷ []) i d ≡ x
 at_push xs x i d at = get_or-append_right xs (x ∷ []) i i d at (omega arith) ∙ ap (λ n. slice_index_or (x ∷ []) n d) (let none : i - i ≡ 0 = omega arith in none)
 
 pub reaches_none : (ranges : List RangeRead) → ReachesSoFar ranges 0 [] 0

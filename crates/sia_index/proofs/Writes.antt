@@ -30,7 +30,7 @@ IsFirstRow writes t k p = Contains writes (record { key = k; txn = t; place = p 
 
 module _ (h : List Event) (ids : List ℕ) (ids_are : ListsAscending (HasEvent h) ids) (rows : List WriteRow) (are : AreWrites h rows) where
   -- the transaction of a row has an event
-  txn_of_row : (j : ℕ) (d : WriteRow) → j < length rows → Contains ids (slice_index_or rows j d).txn
+  pub txn_of_row : (j : ℕ) (d : WriteRow) → j < length rows → Contains ids (slice_index_or rows j d).txn
   txn_of_row j d below =
       let row : WriteRow = slice_index_or rows j d in
       let writes = (are.each row).0 (Contains-get_or rows j d below) in

@@ -1,7 +1,7 @@
 -- The rows of an index's tables: what each says of a history, and the order that they stand in.
 use Rattle.std.specs.Prelude.{◌≡◌, ◌⊎◌, ◌<◌, ◌≤◌, ℕ, Option, MatchOption, List, [], ◌∷◌, All, AllPairs, Contains, length, slice_index, slice_index_or, slice_set}
 use Rattle.sia_events.specs.declared.event.Event.{Event}
-use Rattle.sia_events.specs.Lists.{ListsBy, Precedes}
+use Rattle.sia_events.specs.Lists.{ListsAscending, ListsBy, Precedes}
 use Rattle.sia_events.specs.Transactions.{ActsAt, HasEvent, WritesAt, Wrote, WroteBefore, CommitsAt}
 use Rattle.sia_events.specs.Reads.{IsVisible}
 use Rattle.sia_index.specs.Info.{IsInfo, IsItemRead, IsRangeRead}
@@ -12,7 +12,6 @@ use Rattle.sia_index.specs.declared.info.TxnInfo.{TxnInfo}
 use Rattle.sia_index.specs.declared.rows.SpanRow.{SpanRow}
 use Rattle.sia_index.specs.declared.rows.WriteRow.{WriteRow}
 use Rattle.sia_index.specs.declared.info.KeyVersion.{KeyVersion}
-use Rattle.sia_index.specs.declared.rows.TxnRow.{TxnRow}
 
 abbrev pub AscendsBySpan : List SpanRow → Type 0
 AscendsBySpan spans = AllPairs (λ x y. Precedes (x.txn ∷ x.first ∷ x.last ∷ []) (y.txn ∷ y.first ∷ y.last ∷ [])) spans
@@ -85,14 +84,11 @@ IsLastWithin versions place made = Contains versions made × (made.commit ≤ pl
 abbrev pub AreVersionRows : List Event → List KeyVersion → Type 0
 AreVersionRows h rows = ListsBy (λ v. v.key ∷ v.commit ∷ v.txn ∷ []) (λ v. Wrote h v.txn v.key × CommitsAt h v.txn v.commit) rows
 
-abbrev pub AscendsByTxn : List TxnRow → Type 0
-AscendsByTxn table = AllPairs (λ x y. x.txn < y.txn) table
-
--- every transaction once, ascending, with what is known of it
-pub record AreTxns (h : List Event) (table : List TxnRow) : Type 0 where
-  pub ascending : AscendsByTxn table
-  pub right : All (λ row. IsInfo h row.txn row.info) table
-  pub whole : (t : ℕ) → HasEvent h t → (info : TxnInfo) × Contains table (record { txn = t; info = info })
+-- every transaction once, ascending, and beside each what is known of it
+pub record AreTxns (h : List Event) (ids : List ℕ) (infos : List TxnInfo) : Type 0 where
+  pub ids_are : ListsAscending (HasEvent h) ids
+  pub count : length infos ≡ length ids
+  pub right : (i : ℕ) (d : TxnInfo) → i < length ids → IsInfo h (slice_index ids i) (slice_index_or infos i d)
 
 -- every read event, by key
 abbrev pub AreReads : List Event → List ItemRead → Type 0

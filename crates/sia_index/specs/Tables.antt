@@ -2,9 +2,7 @@
 use Rattle.std.specs.Prelude.{◌≡◌, ◌<◌, ◌≤◌, ◌+◌, ℕ, List, length, slice_index, slice_range}
 use Rattle.std.specs.List.Sorted.{IsPartitionPoint}
 use Rattle.sia_events.specs.declared.event.Event.{Event}
-use Rattle.sia_events.specs.Lists.{ListsAscending}
 use Rattle.sia_events.specs.Refusals.{IsWellFormed}
-use Rattle.sia_events.specs.Transactions.{HasEvent}
 use Rattle.sia_index.specs.Info.{AreVersions, AreWrittenKeys}
 use Rattle.sia_index.specs.Minima.{AreMinima}
 use Rattle.sia_index.specs.Rows.{AreTxns, AreWrites, AreVersionRows, AreReads, AreRanges, AreReaches}
@@ -13,7 +11,7 @@ use Rattle.sia_index.specs.declared.info.ItemRead.{ItemRead}
 use Rattle.sia_index.specs.declared.info.RangeRead.{RangeRead}
 use Rattle.sia_index.specs.declared.info.KeyVersion.{KeyVersion}
 use Rattle.sia_index.specs.declared.rows.WriteRow.{WriteRow}
-use Rattle.sia_index.specs.declared.rows.TxnRow.{TxnRow}
+use Rattle.sia_index.specs.declared.info.TxnInfo.{TxnInfo}
 
 -- the offsets of the groups of the first n numbers among the rows
 pub record AreOffsets {A : Type 0} (by : A → ℕ) (numbers : List ℕ) (rows : List A) (offsets : List ℕ) (n : ℕ) : Type 0 where
@@ -35,9 +33,9 @@ pub record AreChains (h : List Event) (keys offsets : List ℕ) (made : List Mad
   pub last : slice_index offsets (length keys) ≡ length made
   pub each : (i : ℕ) → i < length keys → HasChain h keys offsets made i
 
-pub record AreTables (h : List Event) (txns : List TxnRow) (writes : List WriteRow) (starts place_minima keys offsets : List ℕ) (made : List Made) (versions : List KeyVersion) (commit_minima : List ℕ) (reads : List ItemRead) (ranges : List RangeRead) (reaches ids : List ℕ) : Type 0 where
+pub record AreTables (h : List Event) (ids : List ℕ) (infos : List TxnInfo) (writes : List WriteRow) (starts place_minima keys offsets : List ℕ) (made : List Made) (versions : List KeyVersion) (commit_minima : List ℕ) (reads : List ItemRead) (ranges : List RangeRead) (reaches : List ℕ) : Type 0 where
   pub well_formed : IsWellFormed h
-  pub txns_are : AreTxns h txns
+  pub txns_are : AreTxns h ids infos
   pub writes_are : AreWrites h writes
   pub starts_are : AreOffsets (λ w. w.txn) ids writes starts (length ids)
   pub place_minima_are : AreMinima (λ w. w.place) writes place_minima
@@ -48,4 +46,3 @@ pub record AreTables (h : List Event) (txns : List TxnRow) (writes : List WriteR
   pub reads_are : AreReads h reads
   pub ranges_are : AreRanges h ranges
   pub reaches_are : AreReaches ranges reaches
-  pub ids_are : ListsAscending (HasEvent h) ids

@@ -2,8 +2,8 @@
 ghost use Rattle.std.specs.Prelude.{◌≡◌, map, IfOk};
 
 use crate::info::{KeyVersion, Made};
-use crate::rows::{TxnRow, WriteRow};
-use sia_events::{Key, TxnId};
+use crate::rows::WriteRow;
+use sia_events::Key;
 use std::alloc::{AllocError, Global};
 
 /// A row with a part of that type, of which there is a list.
@@ -14,14 +14,6 @@ pub trait HasPart<P> {
 
     fn part(&self) -> P
         ensures { result ≡ part self.now };
-}
-
-impl HasPart<TxnId> for TxnRow {
-    ghost part = { λ row. row.txn };
-
-    fn part(&self) -> TxnId {
-        self.txn
-    }
 }
 
 impl HasPart<Key> for WriteRow {

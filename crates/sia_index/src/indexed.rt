@@ -11,7 +11,7 @@ use crate::hints::find;
 use crate::info::{Fate, ItemRead, KeyVersion, Made, RangeRead, TxnInfo};
 use crate::keyed::{ByKey, between, place_from};
 use crate::reads::{key_from, ranges_meeting};
-use crate::rows::{TxnRow, WriteRow};
+use crate::rows::WriteRow;
 use sia_events::{History, Key, TxnId};
 use std::marker::Model;
 use std::snapshot::Snapshot;
@@ -20,7 +20,8 @@ use std::snapshot::Snapshot;
 #[derive(Drop)]
 pub struct Index {
     pub(crate) of: Snapshot<History>,
-    pub(crate) txns: Vec<TxnRow>,
+    pub(crate) ids: Vec<TxnId>,
+    pub(crate) infos: Vec<TxnInfo>,
     pub(crate) writes: Vec<WriteRow>,
     pub(crate) starts: Vec<usize>,
     pub(crate) place_minima: Vec<u64>,
@@ -32,7 +33,6 @@ pub struct Index {
     pub(crate) reads: Vec<ItemRead>,
     pub(crate) ranges: Vec<RangeRead>,
     pub(crate) reaches: Vec<Key>,
-    pub(crate) ids: Vec<TxnId>,
 }
 
 impl Model for Index {
@@ -44,7 +44,7 @@ impl Model for Index {
 
     ghost view = { λ ix. ix.of.value };
 
-    ghost invariant = { λ ix. AreTables ix.of.value ix.txns.items ix.writes.items ix.starts.items ix.place_minima.items ix.keys.items ix.offsets.items ix.made.items ix.versions.items ix.commit_minima.items ix.reads.items ix.ranges.items ix.reaches.items ix.ids.items };
+    ghost invariant = { λ ix. AreTables ix.of.value ix.ids.items ix.infos.items ix.writes.items ix.starts.items ix.place_minima.items ix.keys.items ix.offsets.items ix.made.items ix.versions.items ix.commit_minima.items ix.reads.items ix.ranges.items ix.reaches.items };
 }
 
 impl Index {

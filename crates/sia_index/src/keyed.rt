@@ -4,7 +4,7 @@ ghost use Rattle.std.specs.List.Sorted.{IsNonDecreasingBy, IsPartitionPoint};
 ghost use Rattle.sia_index.specs.Between.{IsBetween};
 
 use crate::info::{ItemRead, KeyVersion, Made, RangeRead};
-use crate::rows::WriteRow;
+use crate::rows::{SpanRow, WriteRow};
 use sia_events::{Key, TxnId};
 
 /// The number that a list of rows goes by.
@@ -76,6 +76,14 @@ impl By<WriteRow> for ByTxn {
 
     fn number(row: &WriteRow) -> u64 {
         u64::from(row.txn)
+    }
+}
+
+impl By<SpanRow> for ByTxn {
+    ghost by = { λ span. span.txn };
+
+    fn number(span: &SpanRow) -> u64 {
+        u64::from(span.txn)
     }
 }
 

@@ -10,7 +10,7 @@ use crate::keyed::{ByKey, ByPlace, ByTxn};
 use crate::minima::minima_of;
 use crate::reads::reaches_of;
 use crate::rows::WriteRow;
-use crate::txns::table_of;
+use crate::txns::{Txns, table_of};
 use crate::versions::version_rows_of;
 use sia_events::{History, Key, NoMemory, TxnId};
 use std::alloc::Global;
@@ -21,14 +21,13 @@ pub fn index(alloc: Global, h: &History) -> Result<Index, NoMemory>
     ensures { IfOk result (λ ix. ix ≡ h.now) }
 {
     h.law();
-    let txns = table_of(alloc, h)?;
-    let ids = parts_of(alloc, txns.as_slice())?;
+    let Txns { ids, infos } = table_of(alloc, h)?;
     let EventRows {
         writes,
         reads,
         ranges,
     } = rows_of(alloc, h)?;
-    let rows = version_rows_of(alloc, h, &txns, &writes)?;
+    let rows = version_rows_of(alloc, h, &ids, &infos, &writes)?;
     let keys = keys_of(alloc, &writes)?;
     let offsets = offsets_of::<Key, ByKey, KeyVersion, ByKey>(alloc, &keys, &rows)?;
     let made = parts_of(alloc, &rows)?;
@@ -38,7 +37,8 @@ pub fn index(alloc: Global, h: &History) -> Result<Index, NoMemory>
     let reaches = reaches_of(alloc, &ranges)?;
     Ok(Index {
         of: Snapshot::of(h),
-        txns,
+        ids,
+        infos,
         writes,
         starts,
         place_minima,
@@ -50,6 +50,5 @@ pub fn index(alloc: Global, h: &History) -> Result<Index, NoMemory>
         reads,
         ranges,
         reaches,
-        ids,
     })
 }

@@ -1,16 +1,14 @@
 //! The number of a transaction among all of them, and of a key among the written ones.
-ghost use Rattle.std.specs.Prelude.{◌≡◌, ◌<◌, ℕ, MatchOption, length, slice_index_or};
+ghost use Rattle.std.specs.Prelude.{ℕ, MatchOption};
 ghost use Rattle.sia_events.specs.Lists.{ListsAscending};
 ghost use Rattle.sia_events.specs.Transactions.{HasEvent, Wrote};
 ghost use Rattle.sia_index.specs.Info.{IsInfo, IsKeyAt};
-ghost use Rattle.sia_index.specs.declared.rows.TxnRow.{TxnRow};
 ghost use Rattle.sia_index.specs.Numbers.{HasTxnAt, IsTxnAt};
 
 use crate::hints::find;
 use crate::indexed::Index;
 use crate::info::TxnInfo;
 use crate::keyed::{ByKey, ByTxn};
-use crate::rows::TxnRow;
 use sia_events::{Key, TxnId};
 
 impl Index {
@@ -33,7 +31,7 @@ impl Index {
         requires { HasTxnAt self.now i }
         ensures { (t : ℕ) → IsTxnAt self.now i t → IsInfo self.now t result }
     {
-        info_at(&self.txns, i)
+        self.infos[i]
     }
 
     /// The number of a key among the written ones, counted from 0.
@@ -42,12 +40,4 @@ impl Index {
     {
         find::<Key, ByKey>(&self.keys, k, 0)
     }
-}
-
-// What the row says of its transaction.
-fn info_at(table: &[TxnRow], i: usize) -> TxnInfo
-    requires { i < length table.now }
-    ensures { (d : TxnRow) → result ≡ (slice_index_or table.now i d).info }
-{
-    table[i].info
 }

@@ -3,15 +3,15 @@ ghost use Rattle.std.specs.Prelude.{◌≡◌, ◌↔◌, ◌≤◌, ◌<◌, �
 ghost use Rattle.sia_events.specs.declared.event.Event.{Event};
 ghost use Rattle.sia_events.specs.Transactions.{HasEvent, Wrote, WroteBefore};
 ghost use Rattle.sia_events.specs.Reads.{IsVisible, IsDue};
-ghost use Rattle.sia_index.specs.declared.info.Fate.TheVariants.{Committed};
 ghost use Rattle.sia_index.specs.Info.{IsReader, NoneDue, IsNextDue};
 ghost use Rattle.sia_index.specs.Rows.{AscendsByCommit, IsLastWithin, PassesNone, HasDue};
 
 use crate::indexed::Index;
-use crate::info::{DueAt, Fate, KeyVersion, Made, Reader};
+use crate::info::{DueAt, KeyVersion, Made, Reader};
 use crate::keyed::{ByKey, ByPlace, place_above};
 use crate::minima::next_key;
 use crate::rows::WriteRow;
+use crate::versions::commit_of;
 use sia_events::{Key, TxnId, Version};
 
 impl Index {
@@ -24,7 +24,7 @@ impl Index {
         let (from, to) = self.stretch(t);
         let has_written = from < to;
         let (start, committed) = match self.txn(t) {
-            Some(info) => (info.start, is_committed(info.fate)),
+            Some(info) => (info.start, commit_of(info).is_some()),
             None => (0, false),
         };
         Reader {
@@ -149,17 +149,6 @@ fn lesser(own: Option<Key>, seen: Option<Key>) -> Option<Key>
         (Some(a), None) => Some(a),
         (None, Some(b)) => Some(b),
         (None, None) => None,
-    }
-}
-
-// Whether the transaction with this end committed.
-fn is_committed(fate: Fate) -> bool
-    ensures { IsTrue result ↔ (fate ≡ Committed) }
-{
-    match fate {
-        Fate::Committed => true,
-        Fate::Aborted => false,
-        Fate::Unfinished => false,
     }
 }
 

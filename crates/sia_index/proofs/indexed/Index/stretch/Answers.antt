@@ -11,13 +11,13 @@ use Rattle.sia_index.proofs.indexed.Index.stretch.Goals as goal
 
 pub group_at-requires : goal.group_at-requires
 group_at-requires c =
-    let ids = subst (λ h. ListsAscending (HasEvent h) c.self.inside.ids.items) c.self.view_is c.self.invariant.ids_are in
+    let ids = subst (λ h. ListsAscending (HasEvent h) c.self.inside.ids.items) c.self.view_is c.self.invariant.txns_are.ids_are in
     let below = (txn_number _ _ ids _ _ c.in-Some.ensures).0 in
     rw c.deref.ensures.value (omega (arith, c.self.invariant.starts_are.count))
 
 pub returns-in-Some : goal.returns-in-Some
 returns-in-Some c rows are =
-    let ids = subst (λ h. ListsAscending (HasEvent h) c.self.inside.ids.items) c.self.view_is c.self.invariant.ids_are in
+    let ids = subst (λ h. ListsAscending (HasEvent h) c.self.inside.ids.items) c.self.view_is c.self.invariant.txns_are.ids_are in
     let writes = subst (λ h. AreWrites h c.self.inside.writes.items) c.self.view_is c.self.invariant.writes_are in
     let number = txn_number _ _ ids _ _ c.in-Some.ensures in
     let from = c.group_at.ensures.from ∙ ap (λ xs. slice_index xs c.in-Some.i) c.deref.ensures.value in
@@ -28,5 +28,5 @@ returns-in-Some c rows are =
 
 pub returns-in-None : goal.returns-in-None
 returns-in-None c rows are =
-    let ids = subst (λ h. ListsAscending (HasEvent h) c.self.inside.ids.items) c.self.view_is c.self.invariant.ids_are in
+    let ids = subst (λ h. ListsAscending (HasEvent h) c.self.inside.ids.items) c.self.view_is c.self.invariant.txns_are.ids_are in
     no_stretch _ _ ids rows are c.args.t c.in-None.ensures

@@ -8,10 +8,10 @@ use Rattle.sia_index.proofs.indexed.Index.txn_number.Goals as goal
 
 pub find-requires : goal.find-requires
 find-requires c =
-    let are = subst (λ h. ListsAscending (HasEvent h) c.self.inside.ids.items) c.self.view_is c.self.invariant.ids_are in
+    let are = subst (λ h. ListsAscending (HasEvent h) c.self.inside.ids.items) c.self.view_is c.self.invariant.txns_are.ids_are in
     rw c.deref.ensures.value (ascends (λ (x : ℕ). x) _ _ are)
 
 pub returns : goal.returns
 returns c =
-    let are = subst (λ h. ListsAscending (HasEvent h) c.self.inside.ids.items) c.self.view_is c.self.invariant.ids_are in
+    let are = subst (λ h. ListsAscending (HasEvent h) c.self.inside.ids.items) c.self.view_is c.self.invariant.txns_are.ids_are in
     txn_numbered _ _ are _ _ (rw (c.deref.ensures.value, c.from.ensures) at c.find.ensures)
