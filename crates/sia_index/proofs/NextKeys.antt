@@ -72,31 +72,33 @@ pub passes_same : (P Q : ℕ → Type 0) (lo hi : ℕ) (found : Option ℕ) → 
 passes_same P Q lo hi None same none = λ k low high has. none k low high (same k has)
 passes_same P Q lo hi (Some i) same next = (next.0, next.1, λ j low less has. next.2 j low less (same j has))
 
--- of two that pass none the lesser passes none of either
+-- what passes none of Q, and what up to there passes none of P
 module _ (P Q : ℕ → Type 0) (lo hi : ℕ) where
-  pub passes_either : (a b c : ℕ) → PassesNone P lo hi (Some a) → PassesNone Q lo hi (Some b) → c ≤ a → c ≤ b → lo ≤ c → PassesNone (λ k. P k ⊎ Q k) lo hi (Some c)
-  passes_either a b c p q below_a below_b low = (
-    low,
-    (let high = p.1 in omega arith),
-    λ j from less has. elim has [ inl one ↦ p.2 j from (omega arith) one | inr other ↦ q.2 j from (omega arith) other ],
-  )
+  pub own_before : (k a : ℕ) → PassesNone Q lo hi (Some k) → PassesNone P lo k (Some a) → PassesNone (λ j. P j ⊎ Q j) lo hi (Some a)
+  own_before k a q p =
+      let last = q.1 in
+      let before = p.1 in (
+        p.0,
+        omega arith,
+        λ j from less has. elim has [ inl one ↦ p.2 j from less one | inr other ↦ q.2 j from (omega arith) other ],
+      )
 
-  pub passes_first : (a : ℕ) → PassesNone P lo hi (Some a) → PassesNone Q lo hi None → PassesNone (λ k. P k ⊎ Q k) lo hi (Some a)
-  passes_first a p q = (
+  pub own_alone : (a : ℕ) → PassesNone Q lo hi None → PassesNone P lo hi (Some a) → PassesNone (λ j. P j ⊎ Q j) lo hi (Some a)
+  own_alone a q p = (
     p.0,
     p.1,
     λ j from less has. elim has [ inl one ↦ p.2 j from less one | inr other ↦ q j from (let high = p.1 in omega arith) other ],
   )
 
-  pub passes_second : (b : ℕ) → PassesNone P lo hi None → PassesNone Q lo hi (Some b) → PassesNone (λ k. P k ⊎ Q k) lo hi (Some b)
-  passes_second b p q = (
+  pub seen_first : (k : ℕ) → PassesNone Q lo hi (Some k) → PassesNone P lo k None → PassesNone (λ j. P j ⊎ Q j) lo hi (Some k)
+  seen_first k q p = (
     q.0,
     q.1,
-    λ j from less has. elim has [ inl one ↦ p j from (let high = q.1 in omega arith) one | inr other ↦ q.2 j from less other ],
+    λ j from less has. elim has [ inl one ↦ p j from (omega arith) one | inr other ↦ q.2 j from less other ],
   )
 
-  pub passes_neither : PassesNone P lo hi None → PassesNone Q lo hi None → PassesNone (λ k. P k ⊎ Q k) lo hi None
-  passes_neither p q k low high has = elim has [ inl one ↦ p k low high one | inr other ↦ q k low high other ]
+  pub passes_neither : PassesNone Q lo hi None → PassesNone P lo hi None → PassesNone (λ j. P j ⊎ Q j) lo hi None
+  passes_neither q p j low high has = elim has [ inl one ↦ p j low high one | inr other ↦ q j low high other ]
 
 -- a place from one to another that parts the rows between by a number of each
 pub record IsPointIn {A : Type 0} (key : A → ℕ) (before after : ℕ → Type 0) (rows : List A) (from to at : ℕ) : Type 0 where

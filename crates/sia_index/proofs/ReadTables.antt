@@ -41,8 +41,8 @@ read_more h n xs r holds here = holds_one (IsReadAt h) n xs r holds here (λ x i
     let saw : r.saw ≡ x.saw = cc in
     λ i. record { key = key i; txn = txn i; place = place i; saw = saw i })
 
-pub read_same : (h : List Event) (n : ℕ) (xs : List ItemRead) → HoldsBelow (IsReadAt h) n xs → ((r : ItemRead) → r.place ≡ n → ¬ IsItemRead h r) → HoldsBelow (IsReadAt h) (n + 1) xs
-read_same h n xs holds none = holds_same (IsReadAt h) n xs holds (λ r is. none r is.0 is.1)
+pub read_same : (h : List Event) (n : ℕ) (xs : List ItemRead) → HoldsBelow (IsReadAt h) n xs → ((t k s : ℕ) → ¬ (at_place h n ≡ Some (Read t k s))) → HoldsBelow (IsReadAt h) (n + 1) xs
+read_same h n xs holds none = holds_same (IsReadAt h) n xs holds (λ r is. none r.txn r.key r.saw (ap (at_place h) (sym is.0) ∙ is.1))
 
 pub range_more : (h : List Event) (n : ℕ) (xs : List RangeRead) (r : RangeRead) → HoldsBelow (IsRangeAt h) n xs → IsRangeAt h r n → HoldsBelow (IsRangeAt h) (n + 1) (xs ++ r ∷ [])
 range_more h n xs r holds here = holds_one (IsRangeAt h) n xs r holds here (λ x is.
@@ -56,8 +56,8 @@ range_more h n xs r holds here = holds_one (IsRangeAt h) n xs r holds here (λ x
     let txn : r.txn ≡ x.txn = cc in
     λ i. record { lo = lo i; hi = hi i; txn = txn i; place = place i })
 
-pub range_same : (h : List Event) (n : ℕ) (xs : List RangeRead) → HoldsBelow (IsRangeAt h) n xs → ((r : RangeRead) → r.place ≡ n → ¬ IsRangeRead h r) → HoldsBelow (IsRangeAt h) (n + 1) xs
-range_same h n xs holds none = holds_same (IsRangeAt h) n xs holds (λ r is. none r is.0 is.1)
+pub range_same : (h : List Event) (n : ℕ) (xs : List RangeRead) → HoldsBelow (IsRangeAt h) n xs → ((t lo hi : ℕ) (listed : List (ℕ × ℕ)) → ¬ (at_place h n ≡ Some (Range t lo hi listed))) → HoldsBelow (IsRangeAt h) (n + 1) xs
+range_same h n xs holds none = holds_same (IsRangeAt h) n xs holds (λ r is. none r.txn r.lo r.hi is.1.0 (ap (at_place h) (sym is.0) ∙ is.1.1))
 
 -- over all places they are every read event's
 pub reads_listed : (h : List Event) (n : ℕ) (xs ys : List ItemRead) → length h ≤ n → HoldsBelow (IsReadAt h) (n + 1) xs → IsStrictlySortedBy (λ x y. ordering_then (nat_cmp x.key y.key) (ordering_then (nat_cmp x.txn y.txn) (ordering_then (nat_cmp x.place y.place) (nat_cmp x.saw y.saw)))) ys → ((x : ItemRead) → Contains xs x → Contains ys x) → ((x : ItemRead) → Contains ys x → Contains xs x) → AreReads h ys

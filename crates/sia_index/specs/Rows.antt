@@ -84,6 +84,10 @@ IsLastWithin versions place made = Contains versions made × (made.commit ≤ pl
 abbrev pub AreVersionRows : List Event → List KeyVersion → Type 0
 AreVersionRows h rows = ListsBy (λ v. v.key ∷ v.commit ∷ v.txn ∷ []) (λ v. Wrote h v.txn v.key × CommitsAt h v.txn v.commit) rows
 
+-- the versions of the rows, each at the place of its row
+abbrev pub AreMade : List KeyVersion → List Made → Type 0
+AreMade rows made = (length made ≡ length rows) × ((i : ℕ) (d : Made) (e : KeyVersion) → i < length made → slice_index_or made i d ≡ record { txn = (slice_index_or rows i e).txn; commit = (slice_index_or rows i e).commit })
+
 -- every transaction once, ascending, and beside each what is known of it
 pub record AreTxns (h : List Event) (ids : List ℕ) (infos : List TxnInfo) : Type 0 where
   pub ids_are : ListsAscending (HasEvent h) ids

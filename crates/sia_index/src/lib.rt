@@ -1,7 +1,6 @@
 //! What an index of a history answers: where a transaction starts and how it ends, and the versions of a key.
 #![tactic(auto)]
 
-mod columns;
 mod events;
 mod grouping;
 mod hints;

@@ -1,7 +1,6 @@
 //! How an index is made of a history.
 ghost use Rattle.std.specs.Prelude.{◌≡◌, IfOk};
 
-use crate::columns::parts_of;
 use crate::events::{EventRows, rows_of};
 use crate::grouping::{keys_of, offsets_of};
 use crate::indexed::Index;
@@ -11,7 +10,7 @@ use crate::minima::minima_of;
 use crate::reads::reaches_of;
 use crate::rows::WriteRow;
 use crate::txns::{Txns, table_of};
-use crate::versions::version_rows_of;
+use crate::versions::{made_of, version_rows_of};
 use sia_events::{History, Key, NoMemory, TxnId};
 use std::alloc::Global;
 use std::snapshot::Snapshot;
@@ -30,7 +29,7 @@ pub fn index(alloc: Global, h: &History) -> Result<Index, NoMemory>
     let rows = version_rows_of(alloc, h, &ids, &infos, &writes)?;
     let keys = keys_of(alloc, &writes)?;
     let offsets = offsets_of::<Key, ByKey, KeyVersion, ByKey>(alloc, &keys, &rows)?;
-    let made = parts_of(alloc, &rows)?;
+    let made = made_of(alloc, &rows)?;
     let commit_minima = minima_of::<KeyVersion, ByPlace>(alloc, &rows)?;
     let starts = offsets_of::<TxnId, ByTxn, WriteRow, ByTxn>(alloc, &ids, &writes)?;
     let place_minima = minima_of::<WriteRow, ByPlace>(alloc, &writes)?;

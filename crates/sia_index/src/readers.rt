@@ -99,10 +99,15 @@ impl Index {
         requires { IsReader self.now reader.txn reader.place reader }
         ensures { PassesNone (HasDue self.now reader.txn reader.place) lo hi result }
     {
-        lesser(
-            self.next_own(reader, lo, hi),
-            self.next_seen(reader, lo, hi),
-        )
+        let seen = self.next_seen(reader, lo, hi);
+        let most = match seen {
+            Some(key) => key,
+            None => hi,
+        };
+        match self.next_own(reader, lo, most) {
+            Some(key) => Some(key),
+            None => seen,
+        }
     }
 
     // The least key from `lo` to `hi` that the reader wrote before its place.
@@ -137,18 +142,6 @@ impl Index {
             hi,
             u64::from(reader.start) + 1,
         )
-    }
-}
-
-// The lesser of two keys, where there are two.
-fn lesser(own: Option<Key>, seen: Option<Key>) -> Option<Key>
-    ensures { (h : List Event) (t p lo hi : ℕ) → PassesNone (λ k. WroteBefore h t k p) lo hi own → PassesNone (λ k. (u : ℕ) × IsVisible h t k u) lo hi seen → PassesNone (HasDue h t p) lo hi result }
-{
-    match (own, seen) {
-        (Some(a), Some(b)) => Some(a.min(b)),
-        (Some(a), None) => Some(a),
-        (None, Some(b)) => Some(b),
-        (None, None) => None,
     }
 }
 

@@ -73,30 +73,15 @@ fn info_of(h: &History, first: u32, last: u32) -> TxnInfo
     ensures { (t : ℕ) → IsSpan h.now t first last → IsInfo h.now t result }
 {
     let start = start_of(h, first);
-    match h.event(last) {
+    let (ended, fate) = match h.event(last) {
         Some(event) => match event {
-            Event::Commit { txn: _ } => TxnInfo {
-                start,
-                ended: Some(last),
-                fate: Fate::Committed,
-            },
-            Event::Abort { txn: _ } => TxnInfo {
-                start,
-                ended: Some(last),
-                fate: Fate::Aborted,
-            },
-            _ => TxnInfo {
-                start,
-                ended: None,
-                fate: Fate::Unfinished,
-            },
+            Event::Commit { .. } => (Some(last), Fate::Committed),
+            Event::Abort { .. } => (Some(last), Fate::Aborted),
+            _ => (None, Fate::Unfinished),
         },
-        None => TxnInfo {
-            start,
-            ended: None,
-            fate: Fate::Unfinished,
-        },
-    }
+        None => (None, Fate::Unfinished),
+    };
+    TxnInfo { start, ended, fate }
 }
 
 // The start of the transaction whose first event stands at the place.
