@@ -15,7 +15,6 @@ mod readers;
 mod reads;
 mod rows;
 mod seen;
-mod slots;
 mod spanning;
 mod txns;
 mod versions;

@@ -73,7 +73,10 @@ fn next_below<T, O: By<T>>(
     let mut i = from;
     while i < to {
         if is_block_above(minima, i, limit) {
-            i = i.saturating_add(BLOCK);
+            if to - i <= BLOCK {
+                return None;
+            }
+            i += BLOCK;
         } else if O::number(&rows[i]) < limit {
             return Some(i);
         } else {
