@@ -1,5 +1,5 @@
 -- The rows that span events fall into runs, one for each transaction.
-use Rattle.std.proofs.Common.{◌≡◌, ◌⊎◌, inl, inr, ℕ, ◌+◌, ◌<◌, ◌≤◌, List, [], ◌∷◌, ◌++◌, length, None, refl, ap, sym, subst, ◌∙◌, arith}
+use Rattle.std.proofs.Common.{◌≡◌, ◌⊎◌, inl, inr, ℕ, ◌+◌, ◌<◌, ◌≤◌, List, [], ◌∷◌, ◌++◌, length, None, ap, sym, subst, ◌∙◌, arith}
 use Rattle.std.specs.Prelude.{All, AllPairs, Contains, slice_index, slice_index_or}
 use Rattle.std.specs.List.{AllWithin}
 use Rattle.std.specs.List.Sorted.{IsPartitionPoint}
@@ -34,18 +34,6 @@ module _ (h : List Event) (spans : List SpanRow) (are : AreSpans h spans) where
   txns_rise : (i j : ℕ) (d : SpanRow) → i ≤ j → j < length spans → (slice_index_or spans i d).txn ≤ (slice_index_or spans j d).txn
   txns_rise = first_rises (λ (a : SpanRow). a.txn) (λ a. a.first ∷ a.last ∷ []) spans are.ascending
 
-  -- none, before the first span
-  pub rows_none : RowsSoFar h spans 0 [] []
-  rows_none = record {
-    within = omega arith;
-    count = refl;
-    ascending = λ i j d less below. absurd (omega arith);
-    right = λ i d below. absurd (omega arith);
-    below = λ k d below. absurd (omega arith);
-    whole = λ i d below. absurd (omega arith);
-    passed = λ i j d before from below. absurd (omega arith);
-  }
-
   -- behind the last span, they are all transactions
   pub rows_all : (from : ℕ) (ids : List ℕ) (infos : List TxnInfo) → RowsSoFar h spans from ids infos → length spans ≤ from → AreTxns h ids infos
   rows_all from ids infos so end = record {
@@ -65,13 +53,6 @@ module _ (h : List Event) (spans : List SpanRow) (are : AreSpans h spans) where
   }
 
   module _ (from : ℕ) (ids : List ℕ) (infos : List TxnInfo) (so : RowsSoFar h spans from ids infos) (under : from < length spans) (t : ℕ) (is : (d : SpanRow) → (slice_index_or spans from d).txn ≡ t) where
-    -- the spans before are of lesser transactions
-    pub before_run : AllWithin (λ span. span.txn ≤ t) spans 0 from
-    before_run k d low less =
-        let below = so.passed k from d less (omega arith) under in
-        let same = is d in
-        omega arith
-
     module _ (to : ℕ) (bound : to ≤ length spans) (end : IsPartitionPoint (λ span. span.txn ≤ t) (λ span. t < span.txn) spans to) where
       -- the run has a row
       pub run_has_span : from < to

@@ -2,7 +2,6 @@
 use Rattle.std.proofs.Common.{◌≡◌, ℕ, ◌<◌, List, Option, Some, None, refl, subst, arith}
 use Rattle.std.specs.Prelude.{◌↔◌}
 use Rattle.sia_events.specs.declared.event.Event.{Event}
-use Rattle.sia_events.specs.declared.event.Event.TheVariants.{Commit}
 use Rattle.sia_events.specs.Refusals.{IsWellFormed}
 use Rattle.sia_events.specs.Transactions.{HasEvent, StartsAt, CommitsAt, StartsBeforeCommit, Overlap, IsCommitted}
 use Rattle.sia_events.proofs.Starts.{one_start}
@@ -16,9 +15,6 @@ use Rattle.sia_index.specs.Info.{EndsAs, IsInfo, StartsBefore}
 -- what has a start has an event
 pub start_has_event : (h : List Event) (t s : ℕ) → StartsAt h t s → HasEvent h t
 start_has_event h t s a = (a.0, (a.1, a.2.0, a.2.1))
-
-pub commit_has_event : (h : List Event) (t c : ℕ) → CommitsAt h t c → HasEvent h t
-commit_has_event h t c a = (c, (Commit t, a, refl))
 
 -- where it is told that t starts before u commits, it does
 pub starts_before : (h : List Event) (t u : ℕ) (a b : TxnInfo) → IsInfo h t a → IsInfo h u b → StartsBefore a b → StartsBeforeCommit h t u
