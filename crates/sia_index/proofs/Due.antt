@@ -1,25 +1,16 @@
 -- What a search of the writes and of a key's versions says of the version due.
-use Rattle.std.proofs.Common.{◌≡◌, inl, inr, ℕ, ◌<◌, ◌≤◌, List, Option, Some, None, refl, arith}
-use Rattle.std.specs.Prelude.{All, Contains, MatchOption}
+use Rattle.std.proofs.Common.{◌≡◌, inl, inr, ℕ, ◌<◌, ◌≤◌, List, refl, arith}
+use Rattle.std.specs.Prelude.{All, Contains}
 use Rattle.std.proofs.lemmas.List.Elements.{All-contains}
 use Rattle.sia_events.specs.declared.event.Event.{Event}
 use Rattle.sia_events.specs.Refusals.{IsWellFormed}
-use Rattle.sia_events.specs.Transactions.{StartsAt, CommitsAt, Wrote, WroteBefore}
+use Rattle.sia_events.specs.Transactions.{StartsAt, CommitsAt, WroteBefore}
 use Rattle.sia_events.specs.Reads.{IsVisible, IsDue}
 use Rattle.sia_events.proofs.Starts.{one_start}
 use Rattle.sia_events.proofs.WellFormed.{one_commit}
 use Rattle.sia_index.specs.declared.info.Made.{Made}
-use Rattle.sia_index.specs.declared.rows.WriteRow.{WriteRow}
-use Rattle.sia_index.specs.Info.{AreVersions, IsFirstWrite}
-use Rattle.sia_index.specs.Rows.{AreWrites, HasNoWrite, IsFirstRow, IsLastWithin}
-
--- what the table says of a first write is so
-pub written : (h : List Event) (writes : List WriteRow) → AreWrites h writes → (t k : ℕ) (found : Option ℕ) → MatchOption found (HasNoWrite writes t k) (IsFirstRow writes t k) → MatchOption found (¬ Wrote h t k) (IsFirstWrite h t k)
-written h writes are t k None none = λ wrote. none wrote.0 ((are.each (record { key = k; txn = t; place = wrote.0 })).1 wrote.1)
-written h writes are t k (Some p) first = (
-  (are.each (record { key = k; txn = t; place = p })).0 first.0,
-  λ q at. first.1 q ((are.each (record { key = k; txn = t; place = q })).1 at),
-)
+use Rattle.sia_index.specs.Info.{AreVersions}
+use Rattle.sia_index.specs.Rows.{IsLastWithin}
 
 module _ (h : List Event) (wf : IsWellFormed h) (t p k s : ℕ) (starts : StartsAt h t s) (none : ¬ WroteBefore h t k p) (versions : List Made) (are : AreVersions h k versions) where
   -- a writer that is visible has a version that commits at most at the start

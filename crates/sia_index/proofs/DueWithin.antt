@@ -1,17 +1,14 @@
 -- What is known of a reader, and what is due to it over a range of keys.
 use Rattle.std.proofs.Common.{◌≡◌, ◌↔◌, inl, inr, ℕ, ◌+◌, ◌<◌, ◌≤◌, List, true, false, Option, Some, None, refl, sym, subst, arith}
+use Rattle.std.specs.Prelude.{Bool, MatchOption}
+use Rattle.std.specs.Option.{is_some}
 use Rattle.std.proofs.lemmas.Bool.{cases_lt}
 use Rattle.sia_events.specs.declared.event.Event.{Event}
-use Rattle.sia_events.specs.Refusals.{IsWellFormed}
 use Rattle.sia_events.specs.Reads.{IsDue}
-use Rattle.sia_events.specs.Transactions.{StartsAt, IsCommitted, Wrote}
-use Rattle.sia_index.specs.declared.info.Fate.{Fate}
-use Rattle.sia_index.specs.declared.info.Fate.TheVariants.{Committed, Aborted, Unfinished}
+use Rattle.sia_events.specs.Transactions.{StartsAt, CommitsAt, IsCommitted, Wrote}
 use Rattle.sia_index.specs.declared.info.Reader.{Reader}
-use Rattle.sia_index.specs.declared.info.TxnInfo.{TxnInfo}
-use Rattle.sia_index.specs.Info.{EndsAs, IsInfo, IsReader, NoneDue}
+use Rattle.sia_index.specs.Info.{IsReader, NoneDue}
 use Rattle.sia_index.specs.Rows.{HasDue}
-use Rattle.sia_index.proofs.Table.{aborted_not_committed}
 
 -- what is known of t at a place is known of the transaction and the place that it names
 pub own_reader : (h : List Event) (t p : ℕ) (r : Reader) → IsReader h t p r → IsReader h r.txn r.place r
@@ -25,26 +22,9 @@ own_reader h t p r is = record {
 }
 
 -- what is told to have committed did, and nothing else
-pub committed_told : (h : List Event) → IsWellFormed h → (t : ℕ) (info : TxnInfo) → IsInfo h t info → (info.fate ≡ Committed) ↔ IsCommitted h t
-committed_told h wf t info is = (
-  λ same. of_fate info.fate info.ended same is.1,
-  λ done. by_fate info.fate refl done,
-)
-  where
-    of_fate : (f : Fate) (e : Option ℕ) → f ≡ Committed → EndsAs h t f e → IsCommitted h t
-    of_fate Committed None same ends = absurd ends
-    of_fate Committed (Some p) same ends = (p, ends)
-    of_fate Aborted e same ends = cc
-    of_fate Unfinished e same ends = cc
-
-    open_not : (e : Option ℕ) → EndsAs h t Unfinished e → ¬ IsCommitted h t
-    open_not None ends = ends.1
-    open_not (Some p) ends = absurd ends
-
-    by_fate : (f : Fate) → info.fate ≡ f → IsCommitted h t → f ≡ Committed
-    by_fate Committed same done = refl
-    by_fate Aborted same done = absurd (aborted_not_committed h wf t info is same done)
-    by_fate Unfinished same done = absurd (open_not info.ended (subst (λ f. EndsAs h t f info.ended) same is.1) done)
+pub committed_told : (h : List Event) (t : ℕ) (found : Option ℕ) (told : Bool) → MatchOption found (¬ IsCommitted h t) (CommitsAt h t) → told ≡ is_some found → (told ≡ true) ↔ IsCommitted h t
+committed_told h t (Some p) told commits is = ((λ yes. (p, commits)), (λ done. is))
+committed_told h t None told none is = ((λ yes. cc), (λ done. absurd (none done)))
 
 -- 0 is due where nothing else is
 pub zero_due : (h : List Event) (t p k : ℕ) → ¬ HasDue h t p k → IsDue h t p k 0

@@ -1,10 +1,10 @@
 -- The written keys and their versions, as the tables of an index hold them.
-use Rattle.std.proofs.Common.{◌≡◌, ◌≢◌, ℕ, suc, ◌+◌, ◌<◌, ◌≤◌, List, [], ◌∷◌, ◌++◌, length, map, drop, refl, ap, sym, subst, ◌∙◌, append_assoc, arith}
+use Rattle.std.proofs.Common.{◌≡◌, ◌≢◌, ℕ, suc, ◌+◌, ◌<◌, ◌≤◌, List, [], ◌∷◌, ◌++◌, length, drop, refl, ap, sym, subst, ◌∙◌, append_assoc, arith}
 use Rattle.std.specs.Prelude.{All, slice_index, slice_range, flat_map, Contains, slice_index_or}
 use Rattle.std.specs.List.{AllZip}
 use Rattle.std.specs.Ordering.{nat_cmp}
 use Rattle.std.specs.List.Sorted.{IsStrictlySortedBy}
-use Rattle.std.proofs.lemmas.List.{drop_all, append-nil, get_or-map, length-map}
+use Rattle.std.proofs.lemmas.List.{drop_all, append-nil}
 use Rattle.std.proofs.lemmas.List.Elements.{All-contains, Contains-get_or}
 use Rattle.std.proofs.lemmas.List.Folds.{drop_split}
 use Rattle.sia_events.specs.declared.event.Event.{Event}
@@ -83,24 +83,19 @@ all_chains h keys (from ∷ rest) made are chains =
     )
 
 -- the keys of all write events, each once and in order, are the written keys
-pub keys_listed : (h : List Event) (writes : List WriteRow) (keys others : List ℕ) → AreWrites h writes → others ≡ map (λ row. row.key) writes → IsStrictlySortedBy nat_cmp keys → ((k : ℕ) → Contains others k → Contains keys k) → ((k : ℕ) → Contains keys k → Contains others k) → AreWrittenKeys h keys
-keys_listed h writes keys others are is sorted keeps adds_none =
+pub keys_listed : (h : List Event) (writes : List WriteRow) (keys others : List ℕ) → AreWrites h writes → length others ≡ length writes → ((i d : ℕ) (e : WriteRow) → i < length others → slice_index_or others i d ≡ (slice_index_or writes i e).key) → IsStrictlySortedBy nat_cmp keys → ((k : ℕ) → Contains others k → Contains keys k) → ((k : ℕ) → Contains keys k → Contains others k) → AreWrittenKeys h keys
+keys_listed h writes keys others are long at sorted keeps adds_none =
     lists_sorted (λ k. k ∷ []) (λ k. (t : ℕ) × Wrote h t k) nat_cmp precedes_last keys sorted (λ k. (
       (λ has.
-          let c = subst (λ xs. Contains xs k) is (adds_none k has) in
+          let c = adds_none k has in
+          let none : WriteRow = record { key = 0; txn = 0; place = 0 } in
           let row : WriteRow = slice_index_or writes c.0 none in
-          let below : c.0 < length writes = let b = c.1 in omega (arith, length-map writes (λ (r : WriteRow). r.key)) in
-          let key : row.key ≡ k = sym (get_or-map (λ (r : WriteRow). r.key) writes c.0 none k below) ∙ c.2 in
+          let below : c.0 < length writes = let b = c.1 in omega arith in
+          let key : row.key ≡ k = sym (at c.0 k none c.1) ∙ c.2 in
           (row.txn, subst (Wrote h row.txn) key (row.place, (are.each row).0 (Contains-get_or writes c.0 none below)))),
       (λ (t, wrote).
           let row : WriteRow = record { key = k; txn = t; place = wrote.0 } in
           let c = (are.each row).1 wrote.1 in
-          keeps k (subst (λ xs. Contains xs k) (sym is) (
-            c.0,
-            (let b = c.1 in omega (arith, length-map writes (λ (r : WriteRow). r.key))),
-            get_or-map (λ (r : WriteRow). r.key) writes c.0 row k c.1 ∙ ap (λ (r : WriteRow). r.key) c.2,
-          ))),
+          let below : c.0 < length others = let b = c.1 in omega arith in
+          keeps k (c.0, below, at c.0 k row below ∙ ap (λ (r : WriteRow). r.key) c.2)),
     ))
-  where
-    none : WriteRow
-    none = record { key = 0; txn = 0; place = 0 }

@@ -12,3 +12,5 @@ pub mod ReadTables
 pub mod NextKeys
 pub mod DueWithin
 pub mod TxnNumbers
+pub mod Blocks
+pub mod Finding

@@ -1,20 +1,21 @@
 -- The written keys and the versions that a search finds from a key on.
-use Rattle.std.proofs.Common.{◌≡◌, ◌↔◌, ◌⊎◌, ℕ, ◌<◌, ◌≤◌, List, [], ◌∷◌, length, Option, Some, None, inl, inr, sym, subst, ◌∙◌, arith}
+use Rattle.std.proofs.Common.{◌≡◌, ◌↔◌, ◌⊎◌, ℕ, ◌<◌, ◌≤◌, List, [], ◌∷◌, length, Option, Some, None, inl, inr, refl, ap, ◌+◌, ◌-◌, subst, ◌∙◌, arith}
 use Rattle.std.specs.List.{AllWithin}
-use Rattle.std.specs.Prelude.{Contains, slice_index}
+use Rattle.std.specs.Prelude.{Contains, slice_index, slice_index_or, slice_range}
 use Rattle.std.proofs.lemmas.Bool.{cases_lt}
 use Rattle.std.proofs.lemmas.List.{get_or_default}
+use Rattle.std.proofs.lemmas.List.Edits.{length-between, get_or-between}
 use Rattle.std.proofs.lemmas.List.Elements.{Contains-get_or}
 use Rattle.sia_events.specs.declared.event.Event.{Event}
 use Rattle.sia_events.specs.Lists.{ListsBy}
 use Rattle.sia_events.specs.Reads.{IsVisible}
-use Rattle.sia_events.specs.Transactions.{StartsAt, Wrote}
+use Rattle.sia_events.specs.Transactions.{StartsAt, Wrote, WroteBefore}
 use Rattle.sia_events.proofs.Starts.{one_start}
 use Rattle.sia_index.specs.declared.info.KeyVersion.{KeyVersion}
 use Rattle.sia_index.specs.Info.{AreWrittenKeys, IsNextWritten}
-use Rattle.sia_index.specs.Minima.{IsNextAtMost}
-use Rattle.sia_index.specs.Rows.{AscendsByVersion, IsPlaceFrom, PassesNone}
-use Rattle.sia_index.specs.Tables.{AreFirsts}
+use Rattle.sia_index.specs.declared.rows.WriteRow.{WriteRow}
+use Rattle.sia_index.specs.Minima.{IsNextBelow, IsNextKey}
+use Rattle.sia_index.specs.Rows.{AreVersionRows, AreWrites, AscendsByVersion, IsPlaceFrom, IsStretch, PassesNone}
 use Rattle.sia_index.proofs.Ordered.{ascends, rises, first_rises}
 use Rattle.sia_index.proofs.ReadTables.{Rises, PointBelow, PointWithin, point_below, point_from, point_within, point_above}
 
@@ -71,74 +72,125 @@ pub passes_same : (P Q : ℕ → Type 0) (lo hi : ℕ) (found : Option ℕ) → 
 passes_same P Q lo hi None same none = λ k low high has. none k low high (same k has)
 passes_same P Q lo hi (Some i) same next = (next.0, next.1, λ j low less has. next.2 j low less (same j has))
 
--- of two that pass none the lesser passes none of either
+-- what passes none of Q, and what up to there passes none of P
 module _ (P Q : ℕ → Type 0) (lo hi : ℕ) where
-  pub passes_either : (a b c : ℕ) → PassesNone P lo hi (Some a) → PassesNone Q lo hi (Some b) → c ≤ a → c ≤ b → lo ≤ c → PassesNone (λ k. P k ⊎ Q k) lo hi (Some c)
-  passes_either a b c p q below_a below_b low = (
-    low,
-    (let high = p.1 in omega arith),
-    λ j from less has. elim has [ inl one ↦ p.2 j from (omega arith) one | inr other ↦ q.2 j from (omega arith) other ],
-  )
+  pub own_before : (k a : ℕ) → PassesNone Q lo hi (Some k) → PassesNone P lo k (Some a) → PassesNone (λ j. P j ⊎ Q j) lo hi (Some a)
+  own_before k a q p =
+      let last = q.1 in
+      let before = p.1 in (
+        p.0,
+        omega arith,
+        λ j from less has. elim has [ inl one ↦ p.2 j from less one | inr other ↦ q.2 j from (omega arith) other ],
+      )
 
-  pub passes_first : (a : ℕ) → PassesNone P lo hi (Some a) → PassesNone Q lo hi None → PassesNone (λ k. P k ⊎ Q k) lo hi (Some a)
-  passes_first a p q = (
+  pub own_alone : (a : ℕ) → PassesNone Q lo hi None → PassesNone P lo hi (Some a) → PassesNone (λ j. P j ⊎ Q j) lo hi (Some a)
+  own_alone a q p = (
     p.0,
     p.1,
     λ j from less has. elim has [ inl one ↦ p.2 j from less one | inr other ↦ q j from (let high = p.1 in omega arith) other ],
   )
 
-  pub passes_second : (b : ℕ) → PassesNone P lo hi None → PassesNone Q lo hi (Some b) → PassesNone (λ k. P k ⊎ Q k) lo hi (Some b)
-  passes_second b p q = (
+  pub seen_first : (k : ℕ) → PassesNone Q lo hi (Some k) → PassesNone P lo k None → PassesNone (λ j. P j ⊎ Q j) lo hi (Some k)
+  seen_first k q p = (
     q.0,
     q.1,
-    λ j from less has. elim has [ inl one ↦ p j from (let high = q.1 in omega arith) one | inr other ↦ q.2 j from less other ],
+    λ j from less has. elim has [ inl one ↦ p j from (omega arith) one | inr other ↦ q.2 j from less other ],
   )
 
-  pub passes_neither : PassesNone P lo hi None → PassesNone Q lo hi None → PassesNone (λ k. P k ⊎ Q k) lo hi None
-  passes_neither p q k low high has = elim has [ inl one ↦ p k low high one | inr other ↦ q k low high other ]
+  pub passes_neither : PassesNone Q lo hi None → PassesNone P lo hi None → PassesNone (λ j. P j ⊎ Q j) lo hi None
+  passes_neither q p j low high has = elim has [ inl one ↦ p j low high one | inr other ↦ q j low high other ]
 
--- the keys between the points, with the numbers of their first versions
-module _ (h : List Event) (t start : ℕ) (keys firsts : List ℕ) (are : AreWrittenKeys h keys) (early : AreFirsts h keys firsts) (starts : StartsAt h t start) (lo hi from to : ℕ) (low : PointBelow (λ (k : ℕ). k) keys lo from) (high : PointWithin (λ (k : ℕ). k) keys hi to) where
-  -- a key with a version that t sees has a number that is at most the start
-  seen_early : (k u : ℕ) → lo ≤ k → IsVisible h t k u → (c : Contains keys k) × (from ≤ c.0) × (slice_index keys c.0 ≡ k) × (slice_index firsts c.0 ≤ start)
-  seen_early k u le visible =
-      let c = (are.each k).1 (u, visible.0) in
-      let is : slice_index keys c.0 ≡ k = get_or_default keys c.0 0 k c.1 ∙ c.2 in
-      let same : visible.1.0 ≡ start = one_start h t visible.1.0 start visible.1.2 starts in
-      let within : visible.1.1 ≤ visible.1.0 = visible.1.4 in
-      let first = early.early c.0 u visible.1.1 c.1 (subst (Wrote h u) (sym is) visible.0) visible.1.3 in (
-        c,
-        elim (cases_lt c.0 from) [
-          | inl before ↦ let less = point_below (λ (k : ℕ). k) keys lo from low c.0 0 c.1 before in absurd (omega arith)
-          | inr after ↦ after
-        ],
-        is,
-        omega arith,
-      )
+-- a place from one to another that parts the rows between by a number of each
+pub record IsPointIn {A : Type 0} (key : A → ℕ) (before after : ℕ → Type 0) (rows : List A) (from to at : ℕ) : Type 0 where
+  pub first : from ≤ at
+  pub last : at ≤ to
+  pub below : (i : ℕ) (d : A) → from ≤ i → i < at → before (key (slice_index_or rows i d))
+  pub above : (i : ℕ) (d : A) → at ≤ i → i < to → after (key (slice_index_or rows i d))
 
-  pub none_first : AllWithin (λ n. start < n) firsts from to → PassesNone (λ k. (u : ℕ) × IsVisible h t k u) lo hi None
-  none_first above k le most (u, visible) =
-      let found = seen_early k u le visible in
-      let is = found.2 in
-      let under = found.3 in
-      let before : found.0.0 < to = elim (cases_lt found.0.0 to) [
-        | inl less ↦ less
-        | inr more ↦ let over = point_above (λ (k : ℕ). k) keys hi to high found.0.0 0 more found.0.1 in absurd (omega arith)
-      ] in
-      let over : start < slice_index firsts found.0.0 = above found.0.0 0 found.1 before in
-      omega arith
+-- rows from one place to below another, by a number of each
+module _ {A : Type 0} (key : A → ℕ) (rows : List A) (from to : ℕ) (le : from ≤ to) (bound : to ≤ length rows) where
+  -- what parts the list of these parts the rows
+  point_in : (before after : ℕ → Type 0) (n : ℕ) → n ≤ length (slice_range rows from to) → ((i : ℕ) (d : A) → i < length (slice_range rows from to) → i < n → before (key (slice_index_or (slice_range rows from to) i d))) → ((i : ℕ) (d : A) → n ≤ i → i < length (slice_range rows from to) → after (key (slice_index_or (slice_range rows from to) i d))) → IsPointIn key before after rows from to (from + n)
+  point_in before after n most low high =
+      let long = length-between rows from to bound in
+      let at : (i : ℕ) (d : A) → from ≤ i → i < to → slice_index_or (slice_range rows from to) (i - from) d ≡ slice_index_or rows i d =
+      λ i d start end. get_or-between rows from to (i - from) d (omega arith) ∙ ap (λ m. slice_index_or rows m d) (let place : from + (i - from) ≡ i = omega arith in place) in
+      record {
+        first = omega arith;
+        last = omega arith;
+        below = λ i d start less. subst (λ (x : A). before (key x)) (at i d start (omega arith)) (low (i - from) d (omega arith) (omega arith));
+        above = λ i d start less. subst (λ (x : A). after (key x)) (at i d (omega arith) less) (high (i - from) d (omega arith) (omega arith));
+      }
 
-  pub some_first : (i : ℕ) → to ≤ length keys → IsNextAtMost firsts from to start i → PassesNone (λ k. (u : ℕ) × IsVisible h t k u) lo hi (Some (slice_index keys i))
-  some_first i bound next =
-      let before = next.1 in (
-        point_from (λ (k : ℕ). k) keys lo from low i 0 next.0 (omega arith),
-        point_within (λ (k : ℕ). k) keys hi to high i 0 (omega arith) before,
-        λ j le less (u, visible).
-            let found = seen_early j u le visible in
-            let is = found.2 in
-            let under = found.3 in
-            elim (cases_lt found.0.0 i) [
-              | inl earlier ↦ let over : start < slice_index firsts found.0.0 = next.3 found.0.0 0 found.1 earlier in omega arith
-              | inr later ↦ let rise = rises (λ (k : ℕ). k) keys (ascends (λ (k : ℕ). k) _ keys are) i found.0.0 0 later found.0.1 in omega arith
-            ],
-      )
+  pub point_from_in : (t n : ℕ) → n ≤ length (slice_range rows from to) → PointBelow key (slice_range rows from to) t n → IsPointIn key (λ k. k < t) (λ k. t ≤ k) rows from to (from + n)
+  point_from_in t n most point = point_in (λ k. k < t) (λ k. t ≤ k) n most (point_below key (slice_range rows from to) t n point) (point_from key (slice_range rows from to) t n point)
+
+  pub point_above_in : (t n : ℕ) → n ≤ length (slice_range rows from to) → PointWithin key (slice_range rows from to) t n → IsPointIn key (λ k. k ≤ t) (λ k. t < k) rows from to (from + n)
+  point_above_in t n most point = point_in (λ k. k ≤ t) (λ k. t < k) n most (point_within key (slice_range rows from to) t n point) (point_above key (slice_range rows from to) t n point)
+
+  module _ (rise : Rises key (slice_range rows from to)) (num : A → ℕ) (limit lo hi first last : ℕ) (low : IsPointIn key (λ k. k < lo) (λ k. lo ≤ k) rows from to first) (high : IsPointIn key (λ k. k ≤ hi) (λ k. hi < k) rows from to last) where
+    -- a row of a key that is at least lo doesn't stand before the first point
+    from_first : (row : A) (i : ℕ) → from ≤ i → i < to → slice_index_or rows i row ≡ row → lo ≤ key row → first ≤ i
+    from_first row i after before is le_key = elim (cases_lt i first) [
+      | inl less ↦ let under = low.below i row after less in let same = ap key is in absurd (omega arith)
+      | inr more ↦ more
+    ]
+
+    pub none_next : AllWithin (λ row. limit ≤ num row) rows first last → IsNextKey key num rows from to limit lo hi None
+    none_next above k low_k high_k (row, i, after, before, is, same, small) =
+        let at = ap key is in
+        let num_at = ap num is in
+        let start = from_first row i after before is (omega arith) in
+        let end : i < last = elim (cases_lt i last) [
+          | inl less ↦ less
+          | inr more ↦ let over = high.above i row more before in absurd (omega arith)
+        ] in
+        let over : limit ≤ num (slice_index_or rows i row) = above i row start end in
+        omega arith
+
+    pub some_next : (i : ℕ) → IsNextBelow num rows first last limit i → (k : ℕ) (e : A) → key (slice_index_or rows i e) ≡ k → IsNextKey key num rows from to limit lo hi (Some k)
+    some_next i next k e is =
+        let start = low.first in
+        let end = high.last in
+        let after = next.0 in
+        let before = next.1 in
+        let over = low.above i e after (omega arith) in
+        let under = high.below i e (omega arith) before in (
+          omega arith,
+          omega arith,
+          λ j le_j less (row, n, from_n, to_n, at, same, small).
+              let first_n = from_first row n from_n to_n at (omega arith) in
+              let key_n = ap key at in
+              elim (cases_lt n i) [
+                | inl earlier ↦ let num_n = ap num at in let more : limit ≤ num (slice_index_or rows n row) = next.3 n row first_n earlier in omega arith
+                | inr later ↦
+                    let long = length-between rows from to bound in
+                    let up = rise (i - from) (n - from) row (omega arith) (omega arith) in
+                    let place_i : from + (i - from) ≡ i = omega arith in
+                    let place_n : from + (n - from) ≡ n = omega arith in
+                    let here = ap key (get_or-between rows from to (i - from) row (omega arith) ∙ ap (λ m. slice_index_or rows m row) place_i) in
+                    let there = ap key (get_or-between rows from to (n - from) row (omega arith) ∙ ap (λ m. slice_index_or rows m row) place_n) in
+                    let own = ap key (get_or_default rows i row e (omega arith)) in
+                    omega arith
+              ],
+        )
+
+-- of the writes of t those below a place
+pub own_next : (h : List Event) (rows : List WriteRow) → AreWrites h rows → (t from to : ℕ) → IsStretch rows t from to → (p lo hi : ℕ) (found : Option ℕ) → IsNextKey (λ (w : WriteRow). w.key) (λ (w : WriteRow). w.place) rows from to p lo hi found → PassesNone (λ k. WroteBefore h t k p) lo hi found
+own_next h rows are t from to stretch p lo hi found next =
+    passes_same (λ k. (row : WriteRow) × (i : ℕ) × (from ≤ i) × (i < to) × (slice_index_or rows i row ≡ row) × (row.key ≡ k) × (row.place < p)) (λ k. WroteBefore h t k p) lo hi found (λ k before.
+    let row : WriteRow = record { txn = t; key = k; place = before.0 } in
+    let c = (are.each row).1 before.2 in
+    let within = stretch.whole c.0 row c.1 (ap (λ (w : WriteRow). w.txn) c.2) in
+    (row, c.0, within.0, within.1, c.2, refl, before.1)) next
+
+-- of the versions those that t sees
+pub seen_next : (h : List Event) (rows : List KeyVersion) → AreVersionRows h rows → (t start : ℕ) → StartsAt h t start → (n limit lo hi : ℕ) (found : Option ℕ) → n ≡ length rows → limit ≡ start + 1 → IsNextKey (λ (v : KeyVersion). v.key) (λ (v : KeyVersion). v.commit) rows 0 n limit lo hi found → PassesNone (λ k. (u : ℕ) × IsVisible h t k u) lo hi found
+seen_next h rows are t start starts n limit lo hi found all below next =
+    passes_same (λ k. (row : KeyVersion) × (i : ℕ) × (0 ≤ i) × (i < n) × (slice_index_or rows i row ≡ row) × (row.key ≡ k) × (row.commit < limit)) (λ k. (u : ℕ) × IsVisible h t k u) lo hi found (λ k (u, visible).
+    let row : KeyVersion = record { key = k; commit = visible.1.1; txn = u } in
+    let c = (are.each row).1 (visible.0, visible.1.3) in
+    let same : visible.1.0 ≡ start = one_start h t visible.1.0 start visible.1.2 starts in
+    let within : visible.1.1 ≤ visible.1.0 = visible.1.4 in
+    let inside = c.1 in
+    (row, c.0, omega arith, omega arith, c.2, refl, omega arith)) next

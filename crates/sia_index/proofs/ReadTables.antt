@@ -41,8 +41,8 @@ read_more h n xs r holds here = holds_one (IsReadAt h) n xs r holds here (λ x i
     let saw : r.saw ≡ x.saw = cc in
     λ i. record { key = key i; txn = txn i; place = place i; saw = saw i })
 
-pub read_same : (h : List Event) (n : ℕ) (xs : List ItemRead) → HoldsBelow (IsReadAt h) n xs → ((r : ItemRead) → r.place ≡ n → ¬ IsItemRead h r) → HoldsBelow (IsReadAt h) (n + 1) xs
-read_same h n xs holds none = holds_same (IsReadAt h) n xs holds (λ r is. none r is.0 is.1)
+pub read_same : (h : List Event) (n : ℕ) (xs : List ItemRead) → HoldsBelow (IsReadAt h) n xs → ((t k s : ℕ) → ¬ (at_place h n ≡ Some (Read t k s))) → HoldsBelow (IsReadAt h) (n + 1) xs
+read_same h n xs holds none = holds_same (IsReadAt h) n xs holds (λ r is. none r.txn r.key r.saw (ap (at_place h) (sym is.0) ∙ is.1))
 
 pub range_more : (h : List Event) (n : ℕ) (xs : List RangeRead) (r : RangeRead) → HoldsBelow (IsRangeAt h) n xs → IsRangeAt h r n → HoldsBelow (IsRangeAt h) (n + 1) (xs ++ r ∷ [])
 range_more h n xs r holds here = holds_one (IsRangeAt h) n xs r holds here (λ x is.
@@ -56,8 +56,8 @@ range_more h n xs r holds here = holds_one (IsRangeAt h) n xs r holds here (λ x
     let txn : r.txn ≡ x.txn = cc in
     λ i. record { lo = lo i; hi = hi i; txn = txn i; place = place i })
 
-pub range_same : (h : List Event) (n : ℕ) (xs : List RangeRead) → HoldsBelow (IsRangeAt h) n xs → ((r : RangeRead) → r.place ≡ n → ¬ IsRangeRead h r) → HoldsBelow (IsRangeAt h) (n + 1) xs
-range_same h n xs holds none = holds_same (IsRangeAt h) n xs holds (λ r is. none r is.0 is.1)
+pub range_same : (h : List Event) (n : ℕ) (xs : List RangeRead) → HoldsBelow (IsRangeAt h) n xs → ((t lo hi : ℕ) (listed : List (ℕ × ℕ)) → ¬ (at_place h n ≡ Some (Range t lo hi listed))) → HoldsBelow (IsRangeAt h) (n + 1) xs
+range_same h n xs holds none = holds_same (IsRangeAt h) n xs holds (λ r is. none r.txn r.lo r.hi is.1.0 (ap (at_place h) (sym is.0) ∙ is.1.1))
 
 -- over all places they are every read event's
 pub reads_listed : (h : List Event) (n : ℕ) (xs ys : List ItemRead) → length h ≤ n → HoldsBelow (IsReadAt h) (n + 1) xs → IsStrictlySortedBy (λ x y. ordering_then (nat_cmp x.key y.key) (ordering_then (nat_cmp x.txn y.txn) (ordering_then (nat_cmp x.place y.place) (nat_cmp x.saw y.saw)))) ys → ((x : ItemRead) → Contains xs x → Contains ys x) → ((x : ItemRead) → Contains ys x → Contains xs x) → AreReads h ys
@@ -136,6 +136,15 @@ module _ {A : Type 0} (xs : List A) (from to : ℕ) (le : from ≤ to) (bound : 
       let then = get_or-between xs from to j d (omega arith) in
       subst (λ (x : A). R x (slice_index_or (slice_range xs from to) j d)) (sym at) (subst (λ (y : A). R (slice_index_or xs (from + i) d) y) (sym then) (up (from + i) (from + j) d (omega arith) (omega arith)))
 
+-- so do those of a part
+pub part_rises : {A : Type 0} (key : A → ℕ) (xs : List A) (from to : ℕ) → to ≤ length xs → Rises key xs → Rises key (slice_range xs from to)
+part_rises key xs from to bound up i j d le below =
+    let long = length-between xs from to bound in
+    let at = ap key (get_or-between xs from to i d (omega arith)) in
+    let then = ap key (get_or-between xs from to j d (omega arith)) in
+    let rise = up (from + i) (from + j) d (omega arith) (omega arith) in
+    omega arith
+
 pub reads_rise : (reads : List ItemRead) → AscendsByRead reads → Rises (λ (r : ItemRead). r.key) reads
 reads_rise reads up = first_rises (λ (r : ItemRead). r.key) (λ r. r.txn ∷ r.place ∷ r.saw ∷ []) reads up
 
@@ -209,7 +218,7 @@ pub record ReachesSoFar (ranges : List RangeRead) (n : ℕ) (reaches : List ℕ)
   pub far : (i : ℕ) (d : RangeRead) → i < n → (slice_index_or ranges i d).hi ≤ slice_index reaches i
   pub last : All (λ x. x ≤ reach) reaches
 
-at_push : (xs : List ℕ) (x i d : ℕ) → length xs ≡ i → slice_index_or (xs ++ x ∷ []) i d ≡ x
+pub at_push : {A : Type 0} (xs : List A) (x : A) (i : ℕ) (d : A) → length xs ≡ i → slice_index_or (xs ++ x ∷ []) i d ≡ x
 at_push xs x i d at = get_or-append_right xs (x ∷ []) i i d at (omega arith) ∙ ap (λ n. slice_index_or (x ∷ []) n d) (let none : i - i ≡ 0 = omega arith in none)
 
 pub reaches_none : (ranges : List RangeRead) → ReachesSoFar ranges 0 [] 0

@@ -1,65 +1,58 @@
 -- The rows that span events fall into runs, one for each transaction.
-use Rattle.std.proofs.Common.{◌≡◌, ◌⊎◌, inl, inr, ℕ, ◌+◌, ◌<◌, ◌≤◌, List, [], ◌∷◌, ◌++◌, length, ap, sym, subst, ◌∙◌, arith}
-use Rattle.std.specs.Prelude.{All, Contains, slice_index_or}
+use Rattle.std.proofs.Common.{◌≡◌, ◌⊎◌, inl, inr, ℕ, ◌+◌, ◌<◌, ◌≤◌, List, [], ◌∷◌, ◌++◌, length, None, ap, sym, subst, ◌∙◌, arith}
+use Rattle.std.specs.Prelude.{All, AllPairs, Contains, slice_index, slice_index_or}
 use Rattle.std.specs.List.{AllWithin}
 use Rattle.std.specs.List.Sorted.{IsPartitionPoint}
 use Rattle.std.proofs.lemmas.Bool.{cases_lt}
-use Rattle.std.proofs.lemmas.List.{get_or_default}
+use Rattle.std.proofs.lemmas.List.{get_or_default, get_or_append_left, length-append}
 use Rattle.std.proofs.lemmas.List.Elements.{All-push, Contains-append_left, Contains-push}
 use Rattle.std.proofs.lemmas.List.Quantifiers.{all_pairs_push}
 use Rattle.sia_events.specs.declared.event.Event.{Event}
 use Rattle.sia_events.specs.Lists.{Precedes}
-use Rattle.sia_events.specs.Transactions.{ActsAt}
+use Rattle.sia_events.specs.Transactions.{ActsAt, HasEvent}
 use Rattle.sia_index.specs.Info.{IsInfo}
 use Rattle.sia_index.specs.declared.info.TxnInfo.{TxnInfo}
 use Rattle.sia_index.specs.declared.rows.SpanRow.{SpanRow}
-use Rattle.sia_index.specs.declared.rows.TxnRow.{TxnRow}
 use Rattle.sia_index.proofs.Ordered.{first_rises}
-use Rattle.sia_index.specs.Rows.{AreSpans, AscendsByTxn, AreTxns, IsSpan}
+use Rattle.sia_index.specs.Rows.{AreSpans, AreTxns, IsSpan}
+use Rattle.sia_index.specs.declared.info.Fate.TheVariants.{Committed}
+use Rattle.sia_index.proofs.Offsets.{kept, pushed}
+use Rattle.sia_index.proofs.ReadTables.{at_push}
+use Rattle.sia_index.proofs.Table.{start_has_event}
 
--- the rows of the transactions whose spans come before from
-pub record RowsSoFar (h : List Event) (spans : List SpanRow) (from : ℕ) (table : List TxnRow) : Type 0 where
+-- the transactions whose spans come before from, and what is known of each
+pub record RowsSoFar (h : List Event) (spans : List SpanRow) (from : ℕ) (ids : List ℕ) (infos : List TxnInfo) : Type 0 where
   pub within : from ≤ length spans
-  pub ascending : AscendsByTxn table
-  pub right : All (λ row. IsInfo h row.txn row.info) table
-  pub below : All (λ row. AllWithin (λ span. row.txn < span.txn) spans from (length spans)) table
-  pub whole : (i : ℕ) (d : SpanRow) → i < from → (info : TxnInfo) × Contains table (record { txn = (slice_index_or spans i d).txn; info = info })
+  pub count : length infos ≡ length ids
+  pub ascending : AllPairs (λ x y. x < y) ids
+  pub right : (i : ℕ) (d : TxnInfo) → i < length ids → IsInfo h (slice_index ids i) (slice_index_or infos i d)
+  pub below : All (λ t. AllWithin (λ span. t < span.txn) spans from (length spans)) ids
+  pub whole : (i : ℕ) (d : SpanRow) → i < from → Contains ids (slice_index_or spans i d).txn
   pub passed : (i j : ℕ) (d : SpanRow) → i < from → from ≤ j → j < length spans → (slice_index_or spans i d).txn < (slice_index_or spans j d).txn
 
 module _ (h : List Event) (spans : List SpanRow) (are : AreSpans h spans) where
   txns_rise : (i j : ℕ) (d : SpanRow) → i ≤ j → j < length spans → (slice_index_or spans i d).txn ≤ (slice_index_or spans j d).txn
   txns_rise = first_rises (λ (a : SpanRow). a.txn) (λ a. a.first ∷ a.last ∷ []) spans are.ascending
 
-  -- no row, before the first span
-  pub rows_none : RowsSoFar h spans 0 []
-  rows_none = record {
-    within = omega arith;
-    ascending = λ i j d less below. absurd (omega arith);
-    right = λ k d below. absurd (omega arith);
-    below = λ k d below. absurd (omega arith);
-    whole = λ i d below. absurd (omega arith);
-    passed = λ i j d before from below. absurd (omega arith);
-  }
-
-  -- behind the last span, the rows are those of all transactions
-  pub rows_all : (from : ℕ) (table : List TxnRow) → RowsSoFar h spans from table → length spans ≤ from → AreTxns h table
-  rows_all from table so end = record {
-    ascending = so.ascending;
+  -- behind the last span, they are all transactions
+  pub rows_all : (from : ℕ) (ids : List ℕ) (infos : List TxnInfo) → RowsSoFar h spans from ids infos → length spans ≤ from → AreTxns h ids infos
+  rows_all from ids infos so end = record {
+    ids_are = record {
+      ascending = λ i j d less below. inl (so.ascending i j d less below);
+      each = λ t. (
+        (λ c.
+            let none : TxnInfo = record { start = 0; ended = None; fate = Committed } in
+            subst (HasEvent h) (get_or_default ids c.0 0 t c.1 ∙ c.2) (start_has_event h (slice_index ids c.0) (slice_index_or infos c.0 none).start (so.right c.0 none c.1).0)),
+        (λ has.
+            let (s, c, same, low, high) = are.whole t has.0 has.1 in
+            subst (Contains ids) (ap (λ (r : SpanRow). r.txn) c.2 ∙ same) (so.whole c.0 s (let below = c.1 in omega arith))),
+      );
+    };
+    count = so.count;
     right = so.right;
-    whole = λ t has.
-        let (s, c, same, low, high) = are.whole t has.0 has.1 in
-        let found = so.whole c.0 s (let below = c.1 in omega arith) in
-        (found.0, subst (λ u. Contains table (record { txn = u; info = found.0 })) (ap (λ (r : SpanRow). r.txn) c.2 ∙ same) found.1);
   }
 
-  module _ (from : ℕ) (table : List TxnRow) (so : RowsSoFar h spans from table) (under : from < length spans) (t : ℕ) (is : (d : SpanRow) → (slice_index_or spans from d).txn ≡ t) where
-    -- the spans before are of lesser transactions
-    pub before_run : AllWithin (λ span. span.txn ≤ t) spans 0 from
-    before_run k d low less =
-        let below = so.passed k from d less (omega arith) under in
-        let same = is d in
-        omega arith
-
+  module _ (from : ℕ) (ids : List ℕ) (infos : List TxnInfo) (so : RowsSoFar h spans from ids infos) (under : from < length spans) (t : ℕ) (is : (d : SpanRow) → (slice_index_or spans from d).txn ≡ t) where
     module _ (to : ℕ) (bound : to ≤ length spans) (end : IsPartitionPoint (λ span. span.txn ≤ t) (λ span. t < span.txn) spans to) where
       -- the run has a row
       pub run_has_span : from < to
@@ -131,25 +124,32 @@ module _ (h : List Event) (spans : List SpanRow) (are : AreSpans h spans) where
             omega arith;
       }
 
-      -- with the row of t the rows are those up to the end of its run
-      pub rows_more : (info : TxnInfo) → IsInfo h t info → RowsSoFar h spans to (table ++ record { txn = t; info = info } ∷ [])
+      -- with t they are those up to the end of its run
+      pub rows_more : (info : TxnInfo) → IsInfo h t info → RowsSoFar h spans to (ids ++ t ∷ []) (infos ++ info ∷ [])
       rows_more info right =
-          let row : TxnRow = record { txn = t; info = info } in
           let some = run_has_span in
+          let count = so.count in
+          let long = length-append ids (t ∷ []) in
           record {
             within = bound;
-            ascending = all_pairs_push (λ (x y : TxnRow). x.txn < y.txn) table row so.ascending (λ k d below.
+            count = omega (arith, long, length-append infos (info ∷ []));
+            ascending = all_pairs_push (λ (x y : ℕ). x < y) ids t so.ascending (λ k d below.
                 let d0 : SpanRow = record { txn = 0; first = 0; last = 0 } in
                 let less = so.below k d below from d0 (omega arith) under in
                 let same = is d0 in
                 omega arith);
-            right = All-push (λ (r : TxnRow). IsInfo h r.txn r.info) table row so.right right;
-            below = All-push (λ (r : TxnRow). AllWithin (λ span. r.txn < span.txn) spans to (length spans)) table row
+            right = λ i d below. elim (cases_lt i (length ids)) [
+              | inl less ↦ rw (kept ids t i less, get_or_append_left infos (info ∷ []) d i (omega arith)) (so.right i d less)
+              | inr more ↦
+                  let at : length ids ≡ i = omega arith in
+                  rw (pushed ids t i (sym at), at_push infos info i d (omega arith)) right
+            ];
+            below = All-push (λ (u : ℕ). AllWithin (λ span. u < span.txn) spans to (length spans)) ids t
                 (λ k d below j e low high. so.below k d below j e (omega arith) high)
                 (λ j e low high. end.1 j e low high);
             whole = λ i d before. elim (cases_lt i from) [
-              | inl less ↦ let found = so.whole i d less in (found.0, Contains-append_left table (row ∷ []) (record { txn = (slice_index_or spans i d).txn; info = found.0 }) found.1)
-              | inr more ↦ (info, subst (λ u. Contains (table ++ row ∷ []) (record { txn = u; info = info })) (sym (run_is i d more before)) (Contains-push table row))
+              | inl less ↦ Contains-append_left ids (t ∷ []) (slice_index_or spans i d).txn (so.whole i d less)
+              | inr more ↦ subst (Contains (ids ++ t ∷ [])) (sym (run_is i d more before)) (Contains-push ids t)
             ];
             passed = λ i j d before after below.
                 let most : (slice_index_or spans i d).txn ≤ t = end.0 i d (omega arith) before in

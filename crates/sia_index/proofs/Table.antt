@@ -1,11 +1,7 @@
 -- The table of transactions: what a row of it says, and what no row says.
-use Rattle.std.proofs.Common.{◌≡◌, ◌≢◌, ℕ, ◌<◌, List, Option, Some, None, refl, sym, subst, ◌∙◌, arith}
-use Rattle.std.proofs.Common.{length}
-use Rattle.std.specs.Prelude.{◌↔◌, All, Contains, MatchOption, slice_index_or}
-use Rattle.std.proofs.lemmas.List.{get_or_default}
-use Rattle.std.proofs.lemmas.List.Elements.{All-contains}
+use Rattle.std.proofs.Common.{◌≡◌, ℕ, ◌<◌, List, Option, Some, None, refl, subst, arith}
+use Rattle.std.specs.Prelude.{◌↔◌}
 use Rattle.sia_events.specs.declared.event.Event.{Event}
-use Rattle.sia_events.specs.declared.event.Event.TheVariants.{Commit}
 use Rattle.sia_events.specs.Refusals.{IsWellFormed}
 use Rattle.sia_events.specs.Transactions.{HasEvent, StartsAt, CommitsAt, StartsBeforeCommit, Overlap, IsCommitted}
 use Rattle.sia_events.proofs.Starts.{one_start}
@@ -14,29 +10,11 @@ use Rattle.sia_events.proofs.Endings.{one_end}
 use Rattle.sia_index.specs.declared.info.TxnInfo.{TxnInfo}
 use Rattle.sia_index.specs.declared.info.Fate.{Fate}
 use Rattle.sia_index.specs.declared.info.Fate.TheVariants.{Committed, Aborted, Unfinished}
-use Rattle.sia_index.specs.declared.rows.TxnRow.{TxnRow}
 use Rattle.sia_index.specs.Info.{EndsAs, IsInfo, StartsBefore}
-use Rattle.sia_index.specs.Rows.{AreTxns}
-
--- a row by its parts
-pub contains_row : (table : List TxnRow) (i t : ℕ) (info : TxnInfo) (d : TxnRow) → i < length table → ((e : TxnRow) → (slice_index_or table i e).txn ≡ t) → info ≡ (slice_index_or table i d).info → Contains table (record { txn = t; info = info })
-contains_row table i t info d below same is =
-    let row : TxnRow = record { txn = t; info = info } in
-    let at = get_or_default table i row d below in
-    let txn = same d in
-    (i, below, at ∙ (λ j. record { txn = txn j; info = sym is j }))
-
--- what the table says of a transaction is so
-pub told : (h : List Event) (table : List TxnRow) → AreTxns h table → (t : ℕ) (found : Option TxnInfo) → MatchOption found (All (λ row. row.txn ≢ t) table) (λ info. Contains table (record { txn = t; info = info })) → MatchOption found (¬ HasEvent h t) (IsInfo h t)
-told h table are t None none = λ has. let row = are.whole t has in All-contains (λ (r : TxnRow). r.txn ≢ t) table (record { txn = t; info = row.0 }) none row.1 refl
-told h table are t (Some info) row = All-contains (λ (r : TxnRow). IsInfo h r.txn r.info) table (record { txn = t; info = info }) are.right row
 
 -- what has a start has an event
 pub start_has_event : (h : List Event) (t s : ℕ) → StartsAt h t s → HasEvent h t
 start_has_event h t s a = (a.0, (a.1, a.2.0, a.2.1))
-
-pub commit_has_event : (h : List Event) (t c : ℕ) → CommitsAt h t c → HasEvent h t
-commit_has_event h t c a = (c, (Commit t, a, refl))
 
 -- where it is told that t starts before u commits, it does
 pub starts_before : (h : List Event) (t u : ℕ) (a b : TxnInfo) → IsInfo h t a → IsInfo h u b → StartsBefore a b → StartsBeforeCommit h t u

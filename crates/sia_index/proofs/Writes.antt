@@ -1,84 +1,73 @@
--- The table of writes: the rows of one transaction, and what stands among them.
-use Rattle.std.proofs.Common.{◌≡◌, ◌≢◌, ◌⊎◌, inl, inr, ℕ, ◌+◌, ◌-◌, ◌<◌, ◌≤◌, List, [], ◌∷◌, length, Bool, true, false, Some, None, map, ap, sym, subst, ◌∙◌, arith}
+-- The rows of one transaction's writes, and what stands among them.
+use Rattle.std.proofs.Common.{◌≡◌, ◌≢◌, ◌⊎◌, inl, inr, ℕ, ◌+◌, ◌<◌, ◌≤◌, List, [], ◌∷◌, length, ap, sym, subst, refl, arith}
 use Rattle.std.specs.Prelude.{Contains, slice_index, slice_index_or, slice_range}
-use Rattle.std.specs.List.{AllWithin}
-use Rattle.std.specs.List.Sorted.{IsPartitionPoint}
 use Rattle.std.proofs.lemmas.Bool.{cases_lt}
-use Rattle.std.proofs.lemmas.List.{get_or_default, get_or-map, length-map}
 use Rattle.std.proofs.lemmas.List.Edits.{length-between, get_or-between}
-use Rattle.sia_events.specs.Lists.{Precedes}
+use Rattle.std.proofs.lemmas.List.Elements.{Contains-get_or}
+use Rattle.sia_events.specs.declared.event.Event.{Event}
+use Rattle.sia_events.specs.declared.event.Event.TheVariants.{Write}
+use Rattle.sia_events.specs.Lists.{ListsAscending, Precedes}
+use Rattle.sia_events.specs.Transactions.{HasEvent, WritesAt, Wrote}
 use Rattle.sia_index.specs.declared.rows.WriteRow.{WriteRow}
-use Rattle.sia_index.specs.Minima.{IsNextAtMost}
-use Rattle.sia_index.specs.Rows.{AscendsByWrite, HasNoWrite, IsFirstRow, IsStretch, IsKeyPoint, NextRow}
-use Rattle.sia_index.proofs.Ordered.{first_rises}
-use Rattle.sia_index.proofs.ReadTables.{Rises, PointBelow, PointWithin, point_below, point_from, point_within, point_above}
+use Rattle.sia_index.specs.Info.{IsFirstWrite}
+use Rattle.sia_index.specs.Rows.{AreWrites, AscendsByWrite, IsStretch}
+use Rattle.sia_index.specs.Tables.{AreOffsets}
+use Rattle.sia_index.proofs.Offsets.{is_of_key, between_offsets}
+use Rattle.sia_index.proofs.Ordered.{ascends, first_rises}
+use Rattle.sia_index.proofs.NextKeys.{IsPointIn}
+use Rattle.sia_index.proofs.ReadTables.{Rises}
 
 pub txns_rise : (rows : List WriteRow) → AscendsByWrite rows → Rises (λ (r : WriteRow). r.txn) rows
 txns_rise rows up = first_rises (λ (r : WriteRow). r.txn) (λ r. r.key ∷ r.place ∷ []) rows up
 
+-- no row is of k and t
+abbrev pub HasNoWrite : List WriteRow → ℕ → ℕ → Type 0
+HasNoWrite writes t k = (q : ℕ) → ¬ Contains writes (record { key = k; txn = t; place = q })
+
+-- p is the least place in the rows of k and t
+abbrev pub IsFirstRow : List WriteRow → ℕ → ℕ → ℕ → Type 0
+IsFirstRow writes t k p = Contains writes (record { key = k; txn = t; place = p }) × ((q : ℕ) → Contains writes (record { key = k; txn = t; place = q }) → p ≤ q)
+
+module _ (h : List Event) (ids : List ℕ) (ids_are : ListsAscending (HasEvent h) ids) (rows : List WriteRow) (are : AreWrites h rows) where
+  -- the transaction of a row has an event
+  pub txn_of_row : (j : ℕ) (d : WriteRow) → j < length rows → Contains ids (slice_index_or rows j d).txn
+  txn_of_row j d below =
+      let row : WriteRow = slice_index_or rows j d in
+      let writes = (are.each row).0 (Contains-get_or rows j d below) in
+      (ids_are.each row.txn).1 (row.place, (Write row.txn row.key, writes, refl))
+
+  -- the rows of transaction number i stand between its offsets
+  pub stretch_at : (starts : List ℕ) → AreOffsets (λ (w : WriteRow). w.txn) ids rows starts (length ids) → (i : ℕ) → i < length ids → IsStretch rows (slice_index ids i) (slice_index starts i) (slice_index starts (i + 1))
+  stretch_at starts offsets i some =
+      let up = ascends (λ (x : ℕ). x) (HasEvent h) ids ids_are in
+      record {
+        le = (offsets.bound i some).0;
+        bound = (offsets.bound i some).1;
+        own = λ j d after before. is_of_key (λ (w : WriteRow). w.txn) ids up rows txn_of_row starts offsets i j d some after before;
+        whole = λ j d below is. between_offsets (λ (w : WriteRow). w.txn) ids up rows txn_of_row starts offsets i j d some below is;
+      }
+
+  -- what has no event has no rows
+  pub no_stretch : (t : ℕ) → ¬ HasEvent h t → IsStretch rows t 0 0
+  no_stretch t none = record {
+    le = omega arith;
+    bound = omega arith;
+    own = λ i d after before. absurd (omega arith);
+    whole = λ i d below is. absurd (none (subst (HasEvent h) is ((ids_are.each (slice_index_or rows i d).txn).0 (txn_of_row i d below))));
+  }
+
+-- what the rows say of a first write is so
+module _ (h : List Event) (rows : List WriteRow) (are : AreWrites h rows) (t k : ℕ) where
+  pub first_written : (p : ℕ) → IsFirstRow rows t k p → IsFirstWrite h t k p
+  first_written p first = (
+    (are.each (record { key = k; txn = t; place = p })).0 first.0,
+    λ q at. first.1 q ((are.each (record { key = k; txn = t; place = q })).1 at),
+  )
+
+  pub none_written : HasNoWrite rows t k → ¬ Wrote h t k
+  none_written none wrote = none wrote.0 ((are.each (record { key = k; txn = t; place = wrote.0 })).1 wrote.1)
+
 module _ (rows : List WriteRow) (up : AscendsByWrite rows) (t : ℕ) where
-  -- what the ends of a stretch and the rows next to it say of all rows
-  pub stretch_checked : (from to : ℕ) → from ≤ to → to ≤ length rows
-      → ((d : WriteRow) → 0 < from → (slice_index_or rows (from - 1) d).txn < t)
-      → ((d : WriteRow) → to < length rows → t < (slice_index_or rows to d).txn)
-      → ((d : WriteRow) → from < to → (slice_index_or rows from d).txn ≡ t)
-      → ((d : WriteRow) → from < to → (slice_index_or rows (to - 1) d).txn ≡ t)
-      → IsStretch rows t from to
-  stretch_checked from to le bound lesser greater first last = record {
-    le = le;
-    bound = bound;
-    own = λ i d after before.
-        let low = txns_rise rows up from i d after (omega arith) in
-        let high = txns_rise rows up i (to - 1) d (omega arith) (omega arith) in
-        let start = first d (omega arith) in
-        let end = last d (omega arith) in
-        omega arith;
-    whole = λ i d below is. (
-      elim (cases_lt i from) [
-        | inl before ↦
-            let high = txns_rise rows up i (from - 1) d (omega arith) (omega arith) in
-            let less = lesser d (omega arith) in
-            absurd (omega arith)
-        | inr after ↦ after
-      ],
-      elim (cases_lt i to) [
-        | inl before ↦ before
-        | inr after ↦
-            let low = txns_rise rows up to i d after below in
-            let more = greater d (omega arith) in
-            absurd (omega arith)
-      ],
-    );
-  }
-
-  -- what two searches found
-  pub stretch_found : (from to : ℕ) → PointBelow (λ (r : WriteRow). r.txn) rows t from → PointWithin (λ (r : WriteRow). r.txn) rows t to → from ≤ length rows → to ≤ length rows → IsStretch rows t from to
-  stretch_found from to low high from_bound to_bound = record {
-    le = elim (cases_lt to from) [
-      | inl less ↦
-          let none : WriteRow = record { txn = 0; key = 0; place = 0 } in
-          let under = point_below (λ (r : WriteRow). r.txn) rows t from low to none (omega arith) less in
-          let over = point_above (λ (r : WriteRow). r.txn) rows t to high to none (omega arith) (omega arith) in
-          absurd (omega arith)
-      | inr more ↦ more
-    ];
-    bound = to_bound;
-    own = λ i d after before.
-        let over = point_from (λ (r : WriteRow). r.txn) rows t from low i d after (omega arith) in
-        let under = point_within (λ (r : WriteRow). r.txn) rows t to high i d (omega arith) before in
-        omega arith;
-    whole = λ i d below is. (
-      elim (cases_lt i from) [
-        | inl before ↦ let under = point_below (λ (r : WriteRow). r.txn) rows t from low i d below before in absurd (omega arith)
-        | inr after ↦ after
-      ],
-      elim (cases_lt i to) [
-        | inl before ↦ before
-        | inr after ↦ let over = point_above (λ (r : WriteRow). r.txn) rows t to high i d after below in absurd (omega arith)
-      ],
-    );
-  }
-
   module _ (from to : ℕ) (stretch : IsStretch rows t from to) where
     -- of two rows of the transaction the later is of no lesser key, and of the same key at a later place
     later : (i j : ℕ) (d : WriteRow) → from ≤ i → i < j → j < to → ((slice_index_or rows i d).key < (slice_index_or rows j d).key) ⊎ (((slice_index_or rows i d).key ≡ (slice_index_or rows j d).key) × ((slice_index_or rows i d).place < (slice_index_or rows j d).place))
@@ -108,29 +97,11 @@ module _ (rows : List WriteRow) (up : AscendsByWrite rows) (t : ℕ) where
         subst (λ (x : WriteRow). x.key ≤ (slice_index_or (slice_range rows from to) j d).key) (sym at)
         (subst (λ (y : WriteRow). (slice_index_or rows (from + i) d).key ≤ y.key) (sym then) (keys_rise (from + i) (from + j) d (omega arith) (omega arith) (omega arith)))
 
-    -- what parts that list parts the rows
-    pub point_in : (before after : ℕ → Type 0) (test : ℕ → Bool) → ((k : ℕ) → test k ≡ true → before k) → ((k : ℕ) → test k ≡ false → after k) → (n : ℕ) → n ≤ length (slice_range rows from to) → IsPartitionPoint (λ (r : WriteRow). test r.key ≡ true) (λ r. test r.key ≡ false) (slice_range rows from to) n → IsKeyPoint before after rows from to (from + n)
-    point_in before after test passes fails n bound point =
-        let long = length-between rows from to stretch.bound in
-        let forward = stretch.le in
-        record {
-          first = omega arith;
-          last = omega arith;
-          below = λ i d low less.
-              let at : from + (i - from) ≡ i = omega arith in
-              let own = get_or-between rows from to (i - from) d (omega arith) ∙ ap (λ m. slice_index_or rows m d) at in
-              subst (λ (x : WriteRow). before x.key) own (passes (slice_index_or (slice_range rows from to) (i - from) d).key (point.0 (i - from) d (omega arith) (omega arith)));
-          above = λ i d low less.
-              let at : from + (i - from) ≡ i = omega arith in
-              let own = get_or-between rows from to (i - from) d (omega arith) ∙ ap (λ m. slice_index_or rows m d) at in
-              subst (λ (x : WriteRow). after x.key) own (fails (slice_index_or (slice_range rows from to) (i - from) d).key (point.1 (i - from) d (omega arith) (omega arith)));
-        }
-
     -- a row of k is in the stretch, and not before the point of a key that isn't above it
     held : (k q : ℕ) (c : Contains rows (record { key = k; txn = t; place = q })) → (from ≤ c.0) × (c.0 < to)
     held k q c = stretch.whole c.0 (record { key = k; txn = t; place = q }) c.1 (ap (λ (r : WriteRow). r.txn) c.2)
 
-    module _ (lo first : ℕ) (low : IsKeyPoint (λ key. key < lo) (λ key. lo ≤ key) rows from to first) where
+    module _ (lo first : ℕ) (low : IsPointIn (λ (r : WriteRow). r.key) (λ k. k < lo) (λ k. lo ≤ k) rows from to first) where
       held_from : (k q : ℕ) (c : Contains rows (record { key = k; txn = t; place = q })) → lo ≤ k → first ≤ c.0
       held_from k q c le = elim (cases_lt c.0 first) [
         | inl before ↦
@@ -176,73 +147,20 @@ module _ (rows : List WriteRow) (up : AscendsByWrite rows) (t : ℕ) where
           let up_to = keys_rise first c.0 row low.first after before in
           other (omega arith) row (omega arith)
 
-      module _ (p hi last : ℕ) (high : IsKeyPoint (λ key. key ≤ hi) (λ key. hi < key) rows from to last) (places : List ℕ) (are : places ≡ map (λ (r : WriteRow). r.place) rows) (some : 0 < p) where
-        place_is : (k q : ℕ) (c : Contains rows (record { key = k; txn = t; place = q })) → slice_index places c.0 ≡ q
-        place_is k q c =
-            let row : WriteRow = record { key = k; txn = t; place = q } in
-            ap (λ ps. slice_index ps c.0) are ∙ get_or-map (λ (r : WriteRow). r.place) rows c.0 row 0 c.1 ∙ ap (λ (r : WriteRow). r.place) c.2
+module _ (h : List Event) (rows : List WriteRow) (are : AreWrites h rows) (t from to : ℕ) (stretch : IsStretch rows t from to) where
+  -- a stretch with rows has a row of the transaction
+  pub some_written : from < to → (k : ℕ) × Wrote h t k
+  some_written less =
+      let none : WriteRow = record { txn = 0; key = 0; place = 0 } in
+      let row : WriteRow = slice_index_or rows from none in
+      let bound = stretch.bound in
+      let writes = (are.each row).0 (Contains-get_or rows from none (omega arith)) in
+      (row.key, (row.place, subst (λ u. WritesAt h u row.key row.place) (stretch.own from none (omega arith) less) writes))
 
-        held_to : (k q : ℕ) (c : Contains rows (record { key = k; txn = t; place = q })) → k ≤ hi → c.0 < last
-        held_to k q c le = elim (cases_lt c.0 last) [
-          | inl before ↦ before
-          | inr after ↦
-              let over = high.above c.0 (record { key = k; txn = t; place = q }) after (held k q c).1 in
-              let key : (slice_index_or rows c.0 (record { key = k; txn = t; place = q })).key ≡ k = ap (λ (r : WriteRow). r.key) c.2 in
-              absurd (omega arith)
-        ]
-
-        -- a place among those of the table
-        pub bound_is : last ≤ length places
-        bound_is = let long = length-map rows (λ (r : WriteRow). r.place) in let end = high.last in let all = stretch.bound in let count = ap length are in omega arith
-
-        -- no earlier place at these keys
-        pub none_next : AllWithin (λ n. p - 1 < n) places first last → NextRow rows t p lo hi None
-        none_next above k low_k high_k (q, less, c) =
-            let over : p - 1 < slice_index places c.0 = above c.0 0 (held_from k q c low_k) (held_to k q c high_k) in
-            let is = place_is k q c in
-            omega arith
-
-        -- the first such place is at the least key
-        pub some_next : (i : ℕ) → IsNextAtMost places first last (p - 1) i → (k : ℕ) → ((d : WriteRow) → (slice_index_or rows i d).key ≡ k) → NextRow rows t p lo hi (Some k)
-        some_next i next k key =
-            let none : WriteRow = record { key = 0; txn = 0; place = 0 } in
-            let end = high.last in
-            let over = low.above i none next.0 (let before = next.1 in omega arith) in
-            let start = low.first in
-            let after = next.0 in
-            let under = high.below i none (omega arith) next.1 in
-            let is = key none in (
-              omega arith,
-              omega arith,
-              λ j le less (q, early, c).
-                  let row : WriteRow = record { key = j; txn = t; place = q } in
-                  let from_first = held_from j q c le in
-                  let there : (slice_index_or rows c.0 row).key ≡ j = ap (λ (r : WriteRow). r.key) c.2 in
-                  let own = key row in
-                  elim (cases_lt c.0 i) [
-                    | inl before ↦
-                        let more : p - 1 < slice_index places c.0 = next.3 c.0 0 from_first before in
-                        let at = place_is j q c in
-                        omega arith
-                    | inr behind ↦
-                        let rise = keys_rise i c.0 row (omega arith) behind (held j q c).1 in
-                        omega arith
-                  ],
-            )
-
--- a stretch with rows has a row of the transaction
-pub some_row : (rows : List WriteRow) (t from to : ℕ) → IsStretch rows t from to → from < to → (k p : ℕ) × Contains rows (record { key = k; txn = t; place = p })
-some_row rows t from to stretch less =
-    let none : WriteRow = record { txn = 0; key = 0; place = 0 } in
-    let row : WriteRow = slice_index_or rows from none in
-    let bound = stretch.bound in
-    let within : from < length rows = omega arith in
-    let txn : row.txn ≡ t = stretch.own from none (omega arith) less in
-    let at = get_or_default rows from (record { key = row.key; txn = t; place = row.place }) none within in
-    (row.key, row.place, (from, within, at ∙ (λ i. record { key = row.key; txn = txn i; place = row.place })))
-
--- and a row of the transaction stands in it
-pub row_within : (rows : List WriteRow) (t from to : ℕ) → IsStretch rows t from to → (k p : ℕ) → Contains rows (record { key = k; txn = t; place = p }) → from < to
-row_within rows t from to stretch k p c =
-    let within = stretch.whole c.0 (record { key = k; txn = t; place = p }) c.1 (ap (λ (r : WriteRow). r.txn) c.2) in
-    omega arith
+  -- and a row of the transaction stands in it
+  pub written_within : (k : ℕ) → Wrote h t k → from < to
+  written_within k wrote =
+      let row : WriteRow = record { key = k; txn = t; place = wrote.0 } in
+      let c = (are.each row).1 wrote.1 in
+      let within = stretch.whole c.0 row c.1 (ap (λ (r : WriteRow). r.txn) c.2) in
+      omega arith

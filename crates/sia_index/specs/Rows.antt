@@ -1,7 +1,7 @@
 -- The rows of an index's tables: what each says of a history, and the order that they stand in.
 use Rattle.std.specs.Prelude.{◌≡◌, ◌⊎◌, ◌<◌, ◌≤◌, ℕ, Option, MatchOption, List, [], ◌∷◌, All, AllPairs, Contains, length, slice_index, slice_index_or, slice_set}
 use Rattle.sia_events.specs.declared.event.Event.{Event}
-use Rattle.sia_events.specs.Lists.{ListsBy, Precedes}
+use Rattle.sia_events.specs.Lists.{ListsAscending, ListsBy, Precedes}
 use Rattle.sia_events.specs.Transactions.{ActsAt, HasEvent, WritesAt, Wrote, WroteBefore, CommitsAt}
 use Rattle.sia_events.specs.Reads.{IsVisible}
 use Rattle.sia_index.specs.Info.{IsInfo, IsItemRead, IsRangeRead}
@@ -12,7 +12,6 @@ use Rattle.sia_index.specs.declared.info.TxnInfo.{TxnInfo}
 use Rattle.sia_index.specs.declared.rows.SpanRow.{SpanRow}
 use Rattle.sia_index.specs.declared.rows.WriteRow.{WriteRow}
 use Rattle.sia_index.specs.declared.info.KeyVersion.{KeyVersion}
-use Rattle.sia_index.specs.declared.rows.TxnRow.{TxnRow}
 
 abbrev pub AscendsBySpan : List SpanRow → Type 0
 AscendsBySpan spans = AllPairs (λ x y. Precedes (x.txn ∷ x.first ∷ x.last ∷ []) (y.txn ∷ y.first ∷ y.last ∷ [])) spans
@@ -49,14 +48,6 @@ AreWrites h writes = ListsBy (λ w. w.txn ∷ w.key ∷ w.place ∷ []) (λ w. W
 abbrev pub AscendsByWrite : List WriteRow → Type 0
 AscendsByWrite writes = AllPairs (λ x y. Precedes (x.txn ∷ x.key ∷ x.place ∷ []) (y.txn ∷ y.key ∷ y.place ∷ [])) writes
 
--- no row is of k and t
-abbrev pub HasNoWrite : List WriteRow → ℕ → ℕ → Type 0
-HasNoWrite writes t k = (q : ℕ) → ¬ Contains writes (record { key = k; txn = t; place = q })
-
--- p is the least place in the rows of k and t
-abbrev pub IsFirstRow : List WriteRow → ℕ → ℕ → ℕ → Type 0
-IsFirstRow writes t k p = Contains writes (record { key = k; txn = t; place = p }) × ((q : ℕ) → Contains writes (record { key = k; txn = t; place = q }) → p ≤ q)
-
 -- the place parts what is below from in the list from the rest
 pub record IsPlaceFrom (keys : List ℕ) (from at : ℕ) : Type 0 where
   pub bound : at ≤ length keys
@@ -70,20 +61,9 @@ pub record IsStretch (rows : List WriteRow) (t from to : ℕ) : Type 0 where
   pub own : (i : ℕ) (d : WriteRow) → from ≤ i → i < to → (slice_index_or rows i d).txn ≡ t
   pub whole : (i : ℕ) (d : WriteRow) → i < length rows → (slice_index_or rows i d).txn ≡ t → (from ≤ i) × (i < to)
 
--- a place from one to another that parts the rows between by their keys
-pub record IsKeyPoint (before after : ℕ → Type 0) (rows : List WriteRow) (from to at : ℕ) : Type 0 where
-  pub first : from ≤ at
-  pub last : at ≤ to
-  pub below : (i : ℕ) (d : WriteRow) → from ≤ i → i < at → before (slice_index_or rows i d).key
-  pub above : (i : ℕ) (d : WriteRow) → at ≤ i → i < to → after (slice_index_or rows i d).key
-
 -- no number from lo to hi has P, or none below the one that was found
 abbrev pub PassesNone : (ℕ → Type 0) → ℕ → ℕ → Option ℕ → Type 0
 PassesNone P lo hi found = MatchOption found ((k : ℕ) → lo ≤ k → k ≤ hi → ¬ P k) (λ k. (lo ≤ k) × (k ≤ hi) × ((j : ℕ) → lo ≤ j → j < k → ¬ P j))
-
--- the same of the keys that t wrote before place p, by the rows
-abbrev pub NextRow : List WriteRow → ℕ → ℕ → ℕ → ℕ → Option ℕ → Type 0
-NextRow rows t p lo hi found = PassesNone (λ k. (q : ℕ) × (q < p) × Contains rows (record { key = k; txn = t; place = q })) lo hi found
 
 -- another version than 0 is due to t at place p on k: t wrote it before, or sees a writer of it
 abbrev pub HasDue : List Event → ℕ → ℕ → ℕ → Type 0
@@ -104,14 +84,15 @@ IsLastWithin versions place made = Contains versions made × (made.commit ≤ pl
 abbrev pub AreVersionRows : List Event → List KeyVersion → Type 0
 AreVersionRows h rows = ListsBy (λ v. v.key ∷ v.commit ∷ v.txn ∷ []) (λ v. Wrote h v.txn v.key × CommitsAt h v.txn v.commit) rows
 
-abbrev pub AscendsByTxn : List TxnRow → Type 0
-AscendsByTxn table = AllPairs (λ x y. x.txn < y.txn) table
+-- the versions of the rows, each at the place of its row
+abbrev pub AreMade : List KeyVersion → List Made → Type 0
+AreMade rows made = (length made ≡ length rows) × ((i : ℕ) (d : Made) (e : KeyVersion) → i < length made → slice_index_or made i d ≡ record { txn = (slice_index_or rows i e).txn; commit = (slice_index_or rows i e).commit })
 
--- every transaction once, ascending, with what is known of it
-pub record AreTxns (h : List Event) (table : List TxnRow) : Type 0 where
-  pub ascending : AscendsByTxn table
-  pub right : All (λ row. IsInfo h row.txn row.info) table
-  pub whole : (t : ℕ) → HasEvent h t → (info : TxnInfo) × Contains table (record { txn = t; info = info })
+-- every transaction once, ascending, and beside each what is known of it
+pub record AreTxns (h : List Event) (ids : List ℕ) (infos : List TxnInfo) : Type 0 where
+  pub ids_are : ListsAscending (HasEvent h) ids
+  pub count : length infos ≡ length ids
+  pub right : (i : ℕ) (d : TxnInfo) → i < length ids → IsInfo h (slice_index ids i) (slice_index_or infos i d)
 
 -- every read event, by key
 abbrev pub AreReads : List Event → List ItemRead → Type 0

@@ -1,9 +1,5 @@
 //! Rows of tables, collected from a history's events.
-ghost use Rattle.std.specs.Prelude.{◌≡◌, IfOk, MatchOption, ℕ};
-ghost use Rattle.sia_events.specs.Transactions.{WritesAt};
-ghost use Rattle.sia_index.specs.declared.info.ItemRead.{ItemRead};
-ghost use Rattle.sia_index.specs.declared.info.RangeRead.{RangeRead};
-ghost use Rattle.sia_index.specs.Info.{IsItemRead, IsRangeRead};
+ghost use Rattle.std.specs.Prelude.{IfOk};
 ghost use Rattle.sia_index.specs.Rows.{AreWrites, AreReads, AreRanges};
 
 use crate::info::{ItemRead, RangeRead};
@@ -30,14 +26,27 @@ pub fn rows_of(alloc: Global, h: &History) -> Result<EventRows, AllocError>
     let mut ranges = Vec::new(alloc);
     for before in 0..h.len() {
         let place = before + 1;
-        if let Some(write) = write_at(h, place) {
-            writes.push(write)?;
-        }
-        if let Some(read) = read_at(h, place) {
-            reads.push(read)?;
-        }
-        if let Some(range) = range_at(h, place) {
-            ranges.push(range)?;
+        if let Some(event) = h.event(place) {
+            match event {
+                Event::Write { txn, key } => writes.push(WriteRow {
+                    txn: *txn,
+                    key: *key,
+                    place,
+                })?,
+                Event::Read { txn, key, saw } => reads.push(ItemRead {
+                    key: *key,
+                    txn: *txn,
+                    place,
+                    saw: *saw,
+                })?,
+                Event::Range { txn, lo, hi, .. } => ranges.push(RangeRead {
+                    lo: *lo,
+                    hi: *hi,
+                    txn: *txn,
+                    place,
+                })?,
+                _ => {}
+            }
         }
     }
     put_in_order(&mut writes);
@@ -48,57 +57,4 @@ pub fn rows_of(alloc: Global, h: &History) -> Result<EventRows, AllocError>
         reads,
         ranges,
     })
-}
-
-// The write event at the place.
-fn write_at(h: &History, place: u32) -> Option<WriteRow>
-    ensures { MatchOption result ((t k : ℕ) → ¬ WritesAt h.now t k place) (λ write. (write.place ≡ place) × WritesAt h.now write.txn write.key place) }
-{
-    match h.event(place) {
-        Some(event) => match event {
-            Event::Write { txn, key } => Some(WriteRow {
-                txn: *txn,
-                key: *key,
-                place,
-            }),
-            _ => None,
-        },
-        None => None,
-    }
-}
-
-// The read event at the place.
-fn read_at(h: &History, place: u32) -> Option<ItemRead>
-    ensures { MatchOption result ((read : ItemRead) → read.place ≡ place → ¬ IsItemRead h.now read) (λ read. (read.place ≡ place) × IsItemRead h.now read) }
-{
-    match h.event(place) {
-        Some(event) => match event {
-            Event::Read { txn, key, saw } => Some(ItemRead {
-                key: *key,
-                txn: *txn,
-                place,
-                saw: *saw,
-            }),
-            _ => None,
-        },
-        None => None,
-    }
-}
-
-// The range read event at the place.
-fn range_at(h: &History, place: u32) -> Option<RangeRead>
-    ensures { MatchOption result ((read : RangeRead) → read.place ≡ place → ¬ IsRangeRead h.now read) (λ read. (read.place ≡ place) × IsRangeRead h.now read) }
-{
-    match h.event(place) {
-        Some(event) => match event {
-            Event::Range { txn, lo, hi, .. } => Some(RangeRead {
-                lo: *lo,
-                hi: *hi,
-                txn: *txn,
-                place,
-            }),
-            _ => None,
-        },
-        None => None,
-    }
 }

@@ -1,5 +1,7 @@
-//! Hints of where a number stands in a list that ascends. A hint saves a search. It is checked where it is used, so nothing
-//! rests on it.
+//! Where a number stands in rows that ascend by it. A hint saves a search. It is checked, so nothing rests on it.
+ghost use Rattle.std.specs.Prelude.{◌≡◌, ◌≢◌, ◌<◌, false, All, AllPairs, IsTrue, MatchOption, length, slice_index_or};
+
+use crate::keyed::{By, place_from};
 
 /// Spans of at least so many numbers lose bits, so that no product is too great.
 const WIDE: u64 = 1 << 46;
@@ -7,20 +9,46 @@ const WIDE: u64 = 1 << 46;
 /// How many bits they lose.
 const LOST: u32 = 18;
 
-/// Where the number would stand if those of the list lay evenly.
-pub fn hint_in<T: Copy + Into<u64>>(list: &[T], number: T) -> usize {
-    let (Some(first), Some(last)) = (list.first(), list.last()) else {
+/// The place of the row of the number, which may be `near`, or where it would stand if all lay evenly.
+pub fn find<T, O: By<T>>(rows: &[T], number: u64, near: usize) -> Option<usize>
+    requires { AllPairs (λ x y. O.by x < O.by y) rows.now }
+    ensures { MatchOption result (All (λ row. O.by row ≢ number) rows.now) (λ i. (i < length rows.now) × ((d : T) → O.by (slice_index_or rows.now i d) ≡ number)) }
+{
+    if stands_at::<T, O>(rows, number, near) {
+        return Some(near);
+    }
+    let hint = hint_in::<T, O>(rows, number);
+    if stands_at::<T, O>(rows, number, hint) {
+        return Some(hint);
+    }
+    let at = place_from::<T, O>(rows, number);
+    if stands_at::<T, O>(rows, number, at) {
+        Some(at)
+    } else {
+        None
+    }
+}
+
+// Whether the row at the place, if there is one, has the number.
+fn stands_at<T, O: By<T>>(rows: &[T], number: u64, at: usize) -> bool
+    ensures here { IsTrue result → (at < length rows.now) × ((d : T) → O.by (slice_index_or rows.now at d) ≡ number) }
+    ensures other { result ≡ false → at < length rows.now → (d : T) → O.by (slice_index_or rows.now at d) ≢ number }
+{
+    match rows.get(at) {
+        Some(row) => O::number(row) == number,
+        None => false,
+    }
+}
+
+// Where the number would stand if those of the rows lay evenly.
+fn hint_in<T, O: By<T>>(rows: &[T], number: u64) -> usize {
+    let (Some(first), Some(last)) = (rows.first(), rows.last()) else {
         return 0;
     };
-    let first: u64 = (*first).into();
-    let last: u64 = (*last).into();
-    let number: u64 = number.into();
-    let span = last.wrapping_sub(first);
-    let offset = number.wrapping_sub(first);
-    let steps = (list.len() as u64).wrapping_sub(1);
-    if span < WIDE {
-        (offset.wrapping_mul(steps) / span.max(1)) as usize
-    } else {
-        ((offset >> LOST).wrapping_mul(steps) / (span >> LOST).max(1)) as usize
-    }
+    let first = O::number(first);
+    let span = O::number(last).wrapping_sub(first);
+    let lost = if span < WIDE { 0 } else { LOST };
+    let offset = number.wrapping_sub(first) >> lost;
+    let steps = (rows.len() as u64).wrapping_sub(1);
+    (offset.wrapping_mul(steps) / (span >> lost).max(1)) as usize
 }

@@ -1,15 +1,17 @@
 //! An index of a history, and what it answers.
-ghost use Rattle.std.specs.Prelude.{◌≡◌, ◌↔◌, ◌≤◌, ◌<◌, ℕ, IsTrue, MatchOption, All, Contains};
+ghost use Rattle.std.specs.Prelude.{◌≡◌, ◌↔◌, ◌≤◌, ◌<◌, ℕ, IsTrue, List, MatchOption};
 ghost use Rattle.sia_events.specs.Transactions.{HasEvent, Overlap, Wrote};
 ghost use Rattle.sia_events.specs.Refusals.{IsWellFormed};
+ghost use Rattle.sia_index.specs.declared.rows.WriteRow.{WriteRow};
+ghost use Rattle.sia_index.specs.Rows.{AreWrites, IsStretch};
 ghost use Rattle.sia_index.specs.Info.{IsInfo, AreVersions, AreWrittenKeys, AreAllVersions, IsFirstWrite, HasKeyAt, IsKeyAt, StartsBefore, AreReadsWithin, AreRangesMeeting, AreWrittenWithin, IsNextWritten, AreVersionsWithin};
 
-use crate::hints::hint_in;
+use crate::grouping::group_at;
+use crate::hints::find;
 use crate::info::{Fate, ItemRead, KeyVersion, Made, RangeRead, TxnInfo};
-use crate::keyed::between;
-use crate::own::WriteTable;
+use crate::keyed::{ByKey, between, place_from};
 use crate::reads::{key_from, ranges_meeting};
-use crate::rows::{TxnRow, find_key, part_at};
+use crate::rows::WriteRow;
 use sia_events::{History, Key, TxnId};
 use std::marker::Model;
 use std::snapshot::Snapshot;
@@ -18,18 +20,19 @@ use std::snapshot::Snapshot;
 #[derive(Drop)]
 pub struct Index {
     pub(crate) of: Snapshot<History>,
-    pub(crate) txns: Vec<TxnRow>,
-    pub(crate) writes: WriteTable,
+    pub(crate) ids: Vec<TxnId>,
+    pub(crate) infos: Vec<TxnInfo>,
+    pub(crate) writes: Vec<WriteRow>,
+    pub(crate) starts: Vec<usize>,
+    pub(crate) place_minima: Vec<u64>,
     pub(crate) keys: Vec<Key>,
     pub(crate) offsets: Vec<usize>,
     pub(crate) made: Vec<Made>,
-    pub(crate) firsts: Vec<u32>,
-    pub(crate) first_minima: Vec<u32>,
     pub(crate) versions: Vec<KeyVersion>,
+    pub(crate) commit_minima: Vec<u64>,
     pub(crate) reads: Vec<ItemRead>,
     pub(crate) ranges: Vec<RangeRead>,
     pub(crate) reaches: Vec<Key>,
-    pub(crate) ids: Vec<TxnId>,
 }
 
 impl Model for Index {
@@ -41,7 +44,7 @@ impl Model for Index {
 
     ghost view = { λ ix. ix.of.value };
 
-    ghost invariant = { λ ix. AreTables ix.of.value ix.txns.items ix.writes ix.keys.items ix.offsets.items ix.made.items ix.firsts.items ix.first_minima.items ix.versions.items ix.reads.items ix.ranges.items ix.reaches.items ix.ids.items };
+    ghost invariant = { λ ix. AreTables ix.of.value ix.ids.items ix.infos.items ix.writes.items ix.starts.items ix.place_minima.items ix.keys.items ix.offsets.items ix.made.items ix.versions.items ix.commit_minima.items ix.reads.items ix.ranges.items ix.reaches.items };
 }
 
 impl Index {
@@ -77,7 +80,14 @@ impl Index {
     pub fn versions(&self, k: Key) -> &[Made]
         ensures { AreVersions self.now k result.now }
     {
-        match find_key(&self.keys, k) {
+        self.versions_near(k, 0)
+    }
+
+    // The same. The key may have this number among the written keys.
+    pub(crate) fn versions_near(&self, k: Key, near: usize) -> &[Made]
+        ensures { AreVersions self.now k result.now }
+    {
+        match find::<Key, ByKey>(&self.keys, k, near) {
             Some(i) => self.versions_at(i),
             None => &[],
         }
@@ -88,7 +98,8 @@ impl Index {
         requires { HasKeyAt self.now i }
         ensures { (k : ℕ) → IsKeyAt self.now i k → AreVersions self.now k result.now }
     {
-        part_at(&self.made, &self.offsets, i)
+        let (from, to) = group_at(&self.offsets, i);
+        &self.made[from..to]
     }
 
     /// The versions of all written keys, those of the least key first, each key's by commit.
@@ -102,12 +113,23 @@ impl Index {
     pub fn first_write(&self, t: TxnId, k: Key) -> Option<u32>
         ensures { MatchOption result (¬ Wrote self.now t k) (IsFirstWrite self.now t k) }
     {
-        self.writes.first(self.hint_of(t), t, k)
+        let (from, to) = self.stretch(t);
+        let at = from + place_from::<WriteRow, ByKey>(&self.writes[from..to], k);
+        if at < to && self.writes[at].key == k {
+            Some(self.writes[at].place)
+        } else {
+            None
+        }
     }
 
-    // The number that the transaction may have among all.
-    pub(crate) fn hint_of(&self, t: TxnId) -> usize {
-        hint_in(&self.ids, t)
+    // Where the rows of the transaction start and end among those of all writes.
+    pub(crate) fn stretch(&self, t: TxnId) -> (usize, usize)
+        ensures { (rows : List WriteRow) → AreWrites self.now rows → IsStretch rows t result.0 result.1 }
+    {
+        match self.txn_number(t) {
+            Some(i) => group_at(&self.starts, i),
+            None => (0, 0),
+        }
     }
 
     /// Each key that some write event names, committed or not, ascending.
@@ -121,7 +143,7 @@ impl Index {
     pub fn written_within(&self, lo: Key, hi: Key) -> &[Key]
         ensures { AreWrittenWithin self.now lo hi result.now }
     {
-        between(&self.keys, lo, hi)
+        between::<Key, ByKey>(&self.keys, lo, hi)
     }
 
     /// The least written key that is at least `from`.
@@ -135,14 +157,14 @@ impl Index {
     pub fn versions_within(&self, lo: Key, hi: Key) -> &[KeyVersion]
         ensures { AreVersionsWithin self.now lo hi result.now }
     {
-        between(&self.versions, lo, hi)
+        between::<KeyVersion, ByKey>(&self.versions, lo, hi)
     }
 
     /// The read events of the keys from `lo` to `hi`, found by two searches. For the audit of a part of the keys.
     pub fn reads_within(&self, lo: Key, hi: Key) -> &[ItemRead]
         ensures { AreReadsWithin self.now lo hi result.now }
     {
-        between(&self.reads, lo, hi)
+        between::<ItemRead, ByKey>(&self.reads, lo, hi)
     }
 
     /// The range read events that may share a key with those from `lo` to `hi`, found by two searches. For the audit of a

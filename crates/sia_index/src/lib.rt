@@ -1,9 +1,8 @@
 //! What an index of a history answers: where a transaction starts and how it ends, and the versions of a key.
 #![tactic(auto)]
 
-mod chains;
-mod columns;
 mod events;
+mod grouping;
 mod hints;
 mod indexed;
 mod info;
@@ -12,12 +11,10 @@ pub mod make;
 mod minima;
 mod numbers;
 pub mod ordering;
-mod own;
 mod readers;
 mod reads;
 mod rows;
 mod seen;
-mod slots;
 mod spanning;
 mod txns;
 mod versions;

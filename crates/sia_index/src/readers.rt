@@ -3,14 +3,15 @@ ghost use Rattle.std.specs.Prelude.{◌≡◌, ◌↔◌, ◌≤◌, ◌<◌, �
 ghost use Rattle.sia_events.specs.declared.event.Event.{Event};
 ghost use Rattle.sia_events.specs.Transactions.{HasEvent, Wrote, WroteBefore};
 ghost use Rattle.sia_events.specs.Reads.{IsVisible, IsDue};
-ghost use Rattle.sia_index.specs.declared.info.Fate.TheVariants.{Committed};
 ghost use Rattle.sia_index.specs.Info.{IsReader, NoneDue, IsNextDue};
 ghost use Rattle.sia_index.specs.Rows.{AscendsByCommit, IsLastWithin, PassesNone, HasDue};
 
-use crate::chains::next_first;
 use crate::indexed::Index;
-use crate::info::{DueAt, Fate, Made, Reader};
-use crate::keyed::place_above;
+use crate::info::{DueAt, KeyVersion, Made, Reader};
+use crate::keyed::{ByKey, ByPlace, place_above};
+use crate::minima::next_key;
+use crate::rows::WriteRow;
+use crate::versions::commit_of;
 use sia_events::{Key, TxnId, Version};
 
 impl Index {
@@ -20,9 +21,10 @@ impl Index {
         ensures { IsReader self.now t place result }
     {
         let _ = &self.of;
-        let has_written = self.has_written(t);
+        let (from, to) = self.stretch(t);
+        let has_written = from < to;
         let (start, committed) = match self.txn(t) {
-            Some(info) => (info.start, is_committed(info.fate)),
+            Some(info) => (info.start, commit_of(info).is_some()),
             None => (0, false),
         };
         Reader {
@@ -32,13 +34,6 @@ impl Index {
             committed,
             has_written,
         }
-    }
-
-    // Whether the transaction wrote any key.
-    fn has_written(&self, t: TxnId) -> bool
-        ensures { IsTrue result ↔ ((k : ℕ) × Wrote self.now t k) }
-    {
-        self.writes.has_any(self.hint_of(t), t)
     }
 
     /// The version due to a read of the key by the transaction at the place.
@@ -104,10 +99,15 @@ impl Index {
         requires { IsReader self.now reader.txn reader.place reader }
         ensures { PassesNone (HasDue self.now reader.txn reader.place) lo hi result }
     {
-        lesser(
-            self.next_own(reader, lo, hi),
-            self.next_seen(reader, lo, hi),
-        )
+        let seen = self.next_seen(reader, lo, hi);
+        let most = match seen {
+            Some(key) => key,
+            None => hi,
+        };
+        match self.next_own(reader, lo, most) {
+            Some(key) => Some(key),
+            None => seen,
+        }
     }
 
     // The least key from `lo` to `hi` that the reader wrote before its place.
@@ -116,8 +116,14 @@ impl Index {
         ensures { PassesNone (λ k. WroteBefore self.now reader.txn k reader.place) lo hi result }
     {
         if reader.has_written {
-            let number = self.hint_of(reader.txn);
-            self.writes.next(number, reader, lo, hi)
+            next_key::<WriteRow, ByKey, ByPlace>(
+                &self.writes,
+                &self.place_minima,
+                self.stretch(reader.txn),
+                lo,
+                hi,
+                u64::from(reader.place),
+            )
         } else {
             None
         }
@@ -128,37 +134,14 @@ impl Index {
         requires { IsReader self.now reader.txn reader.place reader }
         ensures { PassesNone (λ k. (u : ℕ) × IsVisible self.now reader.txn k u) lo hi result }
     {
-        next_first(
-            &self.keys,
-            &self.firsts,
-            &self.first_minima,
+        next_key::<KeyVersion, ByKey, ByPlace>(
+            &self.versions,
+            &self.commit_minima,
+            (0, self.versions.len()),
             lo,
             hi,
-            reader.start,
+            u64::from(reader.start) + 1,
         )
-    }
-}
-
-// The lesser of two keys, where there are two.
-fn lesser(own: Option<Key>, seen: Option<Key>) -> Option<Key>
-    ensures { (h : List Event) (t p lo hi : ℕ) → PassesNone (λ k. WroteBefore h t k p) lo hi own → PassesNone (λ k. (u : ℕ) × IsVisible h t k u) lo hi seen → PassesNone (HasDue h t p) lo hi result }
-{
-    match (own, seen) {
-        (Some(a), Some(b)) => Some(a.min(b)),
-        (Some(a), None) => Some(a),
-        (None, Some(b)) => Some(b),
-        (None, None) => None,
-    }
-}
-
-// Whether the transaction with this end committed.
-fn is_committed(fate: Fate) -> bool
-    ensures { IsTrue result ↔ (fate ≡ Committed) }
-{
-    match fate {
-        Fate::Committed => true,
-        Fate::Aborted => false,
-        Fate::Unfinished => false,
     }
 }
 
@@ -167,7 +150,7 @@ pub(crate) fn last_within(versions: &[Made], place: u32) -> Option<Made>
     requires { AscendsByCommit versions.now }
     ensures { MatchOption result (All (λ made. place < made.commit) versions.now) (IsLastWithin versions.now place) }
 {
-    let within = place_above(versions, u64::from(place));
+    let within = place_above::<Made, ByPlace>(versions, u64::from(place));
     if within == 0 {
         return None;
     }

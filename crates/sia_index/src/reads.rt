@@ -6,7 +6,7 @@ ghost use Rattle.sia_index.specs.Info.{AreRangesMeeting, AreWrittenKeys, IsNextW
 ghost use Rattle.sia_index.specs.Rows.{AreRanges, AreReaches, AscendsByRange};
 
 use crate::info::RangeRead;
-use crate::keyed::{place_above, place_from};
+use crate::keyed::{ByKey, place_above, place_from};
 use sia_events::Key;
 use std::alloc::{AllocError, Global};
 
@@ -28,7 +28,7 @@ pub fn key_from(keys: &[Key], from: Key) -> Option<Key>
     requires { AllPairs (λ x y. x < y) keys.now }
     ensures { (h : List Event) → AreWrittenKeys h keys.now → MatchOption result ((k t : ℕ) → from ≤ k → ¬ Wrote h t k) (IsNextWritten h from) }
 {
-    let at = place_from(keys, from);
+    let at = place_from::<Key, ByKey>(keys, from);
     if at < keys.len() {
         Some(keys[at])
     } else {
@@ -47,7 +47,7 @@ pub fn ranges_meeting<'a>(
     requires reaches_are { AreReaches ranges.now reaches.now }
     ensures { (h : List Event) → AreRanges h ranges.now → AreRangesMeeting h lo hi result.now }
 {
-    let from = place_from(reaches, lo);
-    let to = place_above(ranges, hi);
+    let from = place_from::<Key, ByKey>(reaches, lo);
+    let to = place_above::<RangeRead, ByKey>(ranges, hi);
     &ranges[from..to.max(from)]
 }

@@ -1,8 +1,4 @@
 //! The rows of an index's tables. Each table ascends by the fields of its rows, from the first field on.
-ghost use Rattle.std.specs.Prelude.{◌≡◌, ◌≢◌, ◌+◌, ◌<◌, ◌≤◌, All, AllPairs, Contains, MatchOption, length, slice_index, slice_range};
-
-use crate::hints::hint_in;
-use crate::info::{Made, TxnInfo};
 use sia_events::{Key, TxnId};
 
 /// The places of two events of a transaction, which may be one. The row stands for those in between too.
@@ -19,68 +15,4 @@ pub struct WriteRow {
     pub txn: TxnId,
     pub key: Key,
     pub place: u32,
-}
-
-/// A transaction.
-#[derive(Clone, Copy)]
-pub struct TxnRow {
-    pub txn: TxnId,
-    pub info: TxnInfo,
-}
-
-/// What the table says of a transaction, which is mostly found at the hint.
-pub fn find_txn_near(table: &[TxnRow], hint: usize, t: TxnId) -> Option<TxnInfo>
-    ensures { MatchOption result (All (λ row. row.txn ≢ t) table.now) (λ info. Contains table.now (record { txn = t; info = info })) }
-{
-    match table.get(hint) {
-        Some(row) if row.txn == t => Some(row.info),
-        _ => find_txn(table, t),
-    }
-}
-
-// The same, by looking at all rows.
-fn find_txn(table: &[TxnRow], t: TxnId) -> Option<TxnInfo>
-    ensures { MatchOption result (All (λ row. row.txn ≢ t) table.now) (λ info. Contains table.now (record { txn = t; info = info })) }
-{
-    for row in table {
-        if row.txn == t {
-            return Some(row.info);
-        }
-    }
-    None
-}
-
-/// The number of the key among the keys, counted from 0, or None where it isn't one of them.
-pub fn find_key(keys: &[Key], k: Key) -> Option<usize>
-    requires { AllPairs (λ x y. x < y) keys.now }
-    ensures { MatchOption result (All (λ key. key ≢ k) keys.now) (λ i. (i < length keys.now) × (slice_index keys.now i ≡ k)) }
-{
-    let i = hint_in(keys, k);
-    if i < keys.len() && keys[i] == k {
-        return Some(i);
-    }
-    search_key(keys, k)
-}
-
-/// The same, by a search.
-fn search_key(keys: &[Key], k: Key) -> Option<usize>
-    requires { AllPairs (λ x y. x < y) keys.now }
-    ensures { MatchOption result (All (λ key. key ≢ k) keys.now) (λ i. (i < length keys.now) × (slice_index keys.now i ≡ k)) }
-{
-    match keys.binary_search(&k) {
-        Ok(i) => Some(i),
-        Err(_) => None,
-    }
-}
-
-/// What stands from offset `i` to the next one.
-pub fn part_at<'a>(made: &'a [Made], offsets: &[usize], i: usize) -> &'a [Made]
-    requires two { i + 1 < length offsets.now }
-    requires in_order { slice_index offsets.now i ≤ slice_index offsets.now (i + 1) }
-    requires within { slice_index offsets.now (i + 1) ≤ length made.now }
-    ensures { result.now ≡ slice_range made.now (slice_index offsets.now i) (slice_index offsets.now (i + 1)) }
-{
-    let from = offsets[i];
-    let to = offsets[i + 1];
-    &made[from..to]
 }

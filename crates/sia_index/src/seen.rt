@@ -2,12 +2,14 @@
 //! passed on from one key to the next saves searches, and no answer depends on it.
 ghost use Rattle.std.specs.Prelude.{◌≡◌, ◌⊎◌, ◌<◌, ◌≤◌, ℕ, false, IsTrue, AllPairs, All, length, slice_index};
 ghost use Rattle.sia_events.specs.Transactions.{Wrote, WroteBefore};
-ghost use Rattle.sia_index.specs.Info.{IsReader, AreVersions};
+ghost use Rattle.sia_index.specs.Info.{IsReader};
 ghost use Rattle.sia_index.specs.Rows.{AscendsByCommit, IsLastWithin};
 ghost use Rattle.sia_index.specs.Seen.{IsSeen, IsSeenOf};
 
+use crate::hints::find;
 use crate::indexed::Index;
 use crate::info::{Made, Reader};
+use crate::keyed::ByKey;
 use crate::readers::last_within;
 use sia_events::{Key, Version};
 
@@ -32,12 +34,9 @@ impl Index {
 
     /// A number that the key may have among the written keys: `near`, where it has that, and else one that is looked up.
     pub fn number_near(&self, k: Key, near: usize) -> usize {
-        match self.keys.get(near) {
-            Some(key) if *key == k => near,
-            _ => match self.key_number(k) {
-                Some(i) => i,
-                None => near,
-            },
+        match find::<Key, ByKey>(&self.keys, k, near) {
+            Some(i) => i,
+            None => near,
         }
     }
 
@@ -58,17 +57,6 @@ impl Index {
     {
         let _ = &self.of;
         lie_around(&self.keys, near, lo, hi)
-    }
-
-    // The versions of the key, which may have this number among the written keys.
-    fn versions_near(&self, k: Key, near: usize) -> &[Made]
-        ensures { AreVersions self.now k result.now }
-    {
-        if near < self.keys.len() && self.keys[near] == k {
-            self.versions_at(near)
-        } else {
-            self.versions(k)
-        }
     }
 }
 

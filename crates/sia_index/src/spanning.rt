@@ -4,23 +4,25 @@ ghost use Rattle.sia_index.specs.Rows.{AreSpans, IsLonger};
 
 use crate::ordering::put_in_order;
 use crate::rows::SpanRow;
-use crate::slots::Slots;
 use sia_events::{History, TxnId};
 use std::alloc::{AllocError, Global};
 
-/// Rows that span the events of every transaction, by transaction. Mostly each has one row. It has more where its slot was
-/// another's for a while, in the worst case one for each event.
+/// More slots than there are transactions in a history.
+const SLOTS: usize = 131_072;
+
+/// Rows that span the events of every transaction, by transaction. Mostly each has one row. A slot tells where it may stand,
+/// and what it tells is checked. A transaction has more rows where its slot was another's for a while, in the worst case one
+/// for each event.
 pub fn spans_of(alloc: Global, h: &History) -> Result<Vec<SpanRow>, AllocError>
     ensures { IfOk result (λ spans. AreSpans h.now spans.items) }
 {
-    let mut slots = Slots::new(alloc)?;
+    let mut slots = slots_of(alloc)?;
     let mut spans = Vec::new(alloc);
     for before in 0..h.len() {
         let place = before + 1;
         if let Some(event) = h.event(place) {
             let txn = event.txn();
-            if !reach(&mut spans, slots.row(txn), txn, place) {
-                slots.put(txn, spans.len());
+            if !reach(&mut spans, &mut slots, txn, place) {
                 spans.push(SpanRow {
                     txn,
                     first: place,
@@ -33,15 +35,27 @@ pub fn spans_of(alloc: Global, h: &History) -> Result<Vec<SpanRow>, AllocError>
     Ok(spans)
 }
 
-// Makes the row of that number reach to the place, if it is the transaction's.
-fn reach(spans: &mut Vec<SpanRow>, number: usize, t: TxnId, place: u32) -> bool
+// Slots of no row yet.
+fn slots_of(alloc: Global) -> Result<Vec<u32>, AllocError> {
+    vec![in alloc; 0u32; SLOTS]
+}
+
+// Makes the row of the transaction's slot reach to the place, if it is its own. Else its next row has the slot.
+fn reach(spans: &mut Vec<SpanRow>, slots: &mut Vec<u32>, t: TxnId, place: u32) -> bool
     ensures longer { IsTrue result → IsLonger spans.old.items t place spans.new.items }
     ensures same { result ≡ false → spans.new.items ≡ spans.old.items }
 {
+    // The low bits of its name, mixed with the high ones.
+    let at = (t ^ t.wrapping_shr(16)) as usize & (SLOTS - 1);
+    let Some(slot) = slots.get_mut(at) else {
+        return false;
+    };
+    let number = *slot as usize;
     if number < spans.len() && spans[number].txn == t {
         spans[number].last = place;
         true
     } else {
+        *slot = spans.len().min(u32::MAX as usize) as u32;
         false
     }
 }

@@ -1,61 +1,55 @@
 //! The table of transactions, made of rows that span their events.
 ghost use Rattle.std.specs.Prelude.{◌≡◌, ◌≤◌, ◌<◌, ℕ, IfOk, length, slice_index_or};
 ghost use Rattle.std.specs.List.{AllWithin};
-ghost use Rattle.std.specs.List.Sorted.{IsPartitionPoint};
 ghost use Rattle.sia_events.specs.declared.event.Event.{Event};
 ghost use Rattle.sia_events.specs.Refusals.{IsWellFormed};
 ghost use Rattle.sia_events.specs.Transactions.{IsFirstEvent, StartsAt};
 ghost use Rattle.sia_index.specs.Info.{IsInfo};
 ghost use Rattle.sia_index.specs.declared.rows.SpanRow.{SpanRow};
-ghost use Rattle.sia_index.specs.Rows.{AreSpans, AreTxns, IsSpan, AscendsBySpan};
+ghost use Rattle.sia_index.specs.Rows.{AreSpans, AreTxns, IsSpan};
 
+use crate::grouping::end_of;
 use crate::info::{Fate, TxnInfo};
-use crate::rows::{SpanRow, TxnRow};
+use crate::keyed::ByTxn;
+use crate::rows::SpanRow;
 use crate::spanning::spans_of;
 use sia_events::{Event, History, TxnId};
 use std::alloc::{AllocError, Global};
 
-/// Every transaction, with what is known of it.
-pub fn table_of(alloc: Global, h: &History) -> Result<Vec<TxnRow>, AllocError>
+/// Every transaction once, ascending, and beside each what is known of it.
+pub struct Txns {
+    pub ids: Vec<TxnId>,
+    pub infos: Vec<TxnInfo>,
+}
+
+/// The transactions of the history.
+pub fn table_of(alloc: Global, h: &History) -> Result<Txns, AllocError>
     requires { IsWellFormed h.now }
-    ensures { IfOk result (λ table. AreTxns h.now table.items) }
+    ensures { IfOk result (λ txns. AreTxns h.now txns.ids.items txns.infos.items) }
 {
     let spans = spans_of(alloc, h)?;
     txns_of(alloc, h, &spans)
 }
 
 // The same, made of the rows that span the events.
-fn txns_of(alloc: Global, h: &History, spans: &[SpanRow]) -> Result<Vec<TxnRow>, AllocError>
+fn txns_of(alloc: Global, h: &History, spans: &[SpanRow]) -> Result<Txns, AllocError>
     requires well_formed { IsWellFormed h.now }
     requires spans_are { AreSpans h.now spans.now }
-    ensures { IfOk result (λ table. AreTxns h.now table.items) }
+    ensures { IfOk result (λ txns. AreTxns h.now txns.ids.items txns.infos.items) }
 {
-    let mut table = Vec::new(alloc);
+    let mut ids = Vec::new(alloc);
+    let mut infos = Vec::new(alloc);
     let mut from = 0;
     while from < spans.len() {
         let txn = spans[from].txn;
-        let to = run_end(spans, from, txn);
+        let to = end_of::<SpanRow, ByTxn>(spans, from, u64::from(txn));
         let last = last_of(spans, from, to);
         let info = info_of(h, spans[from].first, last);
-        table.push(TxnRow { txn, info })?;
+        ids.push(txn)?;
+        infos.push(info)?;
         from = to;
     }
-    Ok(table)
-}
-
-// Where the rows of this transaction, and of those before it, end. Those before `from` are known to be of these.
-fn run_end(spans: &[SpanRow], from: usize, t: TxnId) -> usize
-    requires ascending { AscendsBySpan spans.now }
-    requires within { from ≤ length spans.now }
-    requires before { AllWithin (λ span. span.txn ≤ t) spans.now 0 from }
-    ensures bound { result ≤ length spans.now }
-    ensures end { IsPartitionPoint (λ span. span.txn ≤ t) (λ span. t < span.txn) spans.now result }
-{
-    let mut to = from;
-    while to < spans.len() && spans[to].txn <= t {
-        to += 1;
-    }
-    to
+    Ok(Txns { ids, infos })
 }
 
 // The greatest of the last places of the rows from one to below another.
@@ -79,30 +73,15 @@ fn info_of(h: &History, first: u32, last: u32) -> TxnInfo
     ensures { (t : ℕ) → IsSpan h.now t first last → IsInfo h.now t result }
 {
     let start = start_of(h, first);
-    match h.event(last) {
+    let (ended, fate) = match h.event(last) {
         Some(event) => match event {
-            Event::Commit { txn: _ } => TxnInfo {
-                start,
-                ended: Some(last),
-                fate: Fate::Committed,
-            },
-            Event::Abort { txn: _ } => TxnInfo {
-                start,
-                ended: Some(last),
-                fate: Fate::Aborted,
-            },
-            _ => TxnInfo {
-                start,
-                ended: None,
-                fate: Fate::Unfinished,
-            },
+            Event::Commit { .. } => (Some(last), Fate::Committed),
+            Event::Abort { .. } => (Some(last), Fate::Aborted),
+            _ => (None, Fate::Unfinished),
         },
-        None => TxnInfo {
-            start,
-            ended: None,
-            fate: Fate::Unfinished,
-        },
-    }
+        None => (None, Fate::Unfinished),
+    };
+    TxnInfo { start, ended, fate }
 }
 
 // The start of the transaction whose first event stands at the place.

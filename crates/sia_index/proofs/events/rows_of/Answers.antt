@@ -1,9 +1,10 @@
 -- Each place adds the row of its event, if it has one.
-use Rattle.std.proofs.Common.{arith}
+use Rattle.std.proofs.Common.{◌≡◌, Some, refl, ap, sym, ◌∙◌, arith}
+use Rattle.sia_events.specs.declared.event.Event.TheVariants.{Write, Read, Range}
 use Rattle.sia_index.proofs.Collected.{IsWriteAt, holds_none, write_more, write_same, writes_listed}
 use Rattle.sia_index.proofs.ReadTables.{IsReadAt, IsRangeAt, read_more, read_same, reads_listed, range_more, range_same, ranges_listed}
 use Rattle.sia_index.proofs.events.rows_of.Goals as goal
-use Rattle.sia_index.proofs.events.rows_of.Goals.{in-Some+in_ok-push, in_default, in-Some-read_at+in_ok-push-2, in_default-read_at, in-Some-range_at+in_ok-push-3, in_default-range_at}
+use Rattle.sia_index.proofs.events.rows_of.Goals.{in-Some+in-Write+in_ok-push-in-Write, in-Some+in-Read+in_ok-push-in-Read, in-Some+in-Range+in_ok-push-in-Range, in-Some+in_default-event, in_default}
 
 pub loop-before-init : goal.loop-before-init
 loop-before-init c = (
@@ -13,20 +14,37 @@ loop-before-init c = (
 )
 
 pub loop-before-preserved : goal.loop-before-preserved
-loop-before-preserved c = (
-  (elim c.match-write_at.branch [
-    | in-Some+in_ok-push w ↦ rw (w.writes-is, w.in_ok-push.ensures.items) (write_more _ _ _ _ c.loop-before.invariant.0 w.in-Some.ensures)
-    | in_default w ↦ rw w.writes-is (write_same _ _ _ c.loop-before.invariant.0 w.in_default.ensures)
-  ]),
-  (elim c.match-read_at.branch [
-    | in-Some-read_at+in_ok-push-2 w ↦ rw (w.reads-is, w.in_ok-push-2.ensures.items) (read_more _ _ _ _ c.loop-before.invariant.1 w.in-Some-read_at.ensures)
-    | in_default-read_at w ↦ rw w.reads-is (read_same _ _ _ c.loop-before.invariant.1 w.in_default-read_at.ensures)
-  ]),
-  (elim c.match-range_at.branch [
-    | in-Some-range_at+in_ok-push-3 w ↦ rw (w.ranges-is, w.in_ok-push-3.ensures.items) (range_more _ _ _ _ c.loop-before.invariant.2 w.in-Some-range_at.ensures)
-    | in_default-range_at w ↦ rw w.ranges-is (range_same _ _ _ c.loop-before.invariant.2 w.in_default-range_at.ensures)
-  ]),
-)
+loop-before-preserved c = elim c.match-event.branch [
+  | in-Some+in-Write+in_ok-push-in-Write w ↦
+      let at = sym w.in-Some.ensures ∙ ap Some w.in-Write.is in (
+        rw (w.writes-is, w.in_ok-push-in-Write.ensures.items) (write_more _ _ _ _ c.loop-before.invariant.0 (refl, at)),
+        rw w.reads-is (read_same _ _ _ c.loop-before.invariant.1 (λ t k s is. cc)),
+        rw w.ranges-is (range_same _ _ _ c.loop-before.invariant.2 (λ t lo hi listed is. cc)),
+      )
+  | in-Some+in-Read+in_ok-push-in-Read w ↦
+      let at = sym w.in-Some.ensures ∙ ap Some w.in-Read.is in (
+        rw w.writes-is (write_same _ _ _ c.loop-before.invariant.0 (λ t k is. cc)),
+        rw (w.reads-is, w.in_ok-push-in-Read.ensures.items) (read_more _ _ _ _ c.loop-before.invariant.1 (refl, at)),
+        rw w.ranges-is (range_same _ _ _ c.loop-before.invariant.2 (λ t lo hi listed is. cc)),
+      )
+  | in-Some+in-Range+in_ok-push-in-Range w ↦
+      let at = sym w.in-Some.ensures ∙ ap Some w.in-Range.is in (
+        rw w.writes-is (write_same _ _ _ c.loop-before.invariant.0 (λ t k is. cc)),
+        rw w.reads-is (read_same _ _ _ c.loop-before.invariant.1 (λ t k s is. cc)),
+        rw (w.ranges-is, w.in_ok-push-in-Range.ensures.items) (range_more _ _ _ _ c.loop-before.invariant.2 (refl, (_, at))),
+      )
+  | in-Some+in_default-event w ↦
+      let at = sym w.in-Some.ensures in (
+        rw w.writes-is (write_same _ _ _ c.loop-before.invariant.0 (λ t k is. let same : w.in-Some.event.now ≡ Write t k = cc in w.in_default-event.not-Write t k same)),
+        rw w.reads-is (read_same _ _ _ c.loop-before.invariant.1 (λ t k s is. let same : w.in-Some.event.now ≡ Read t k s = cc in w.in_default-event.not-Read t k s same)),
+        rw w.ranges-is (range_same _ _ _ c.loop-before.invariant.2 (λ t lo hi listed is. let same : w.in-Some.event.now ≡ Range t lo hi listed = cc in w.in_default-event.not-Range t lo hi listed same)),
+      )
+  | in_default w ↦ (
+    rw w.writes-is (write_same _ _ _ c.loop-before.invariant.0 (λ t k is. let none = w.in_default.ensures in cc)),
+    rw w.reads-is (read_same _ _ _ c.loop-before.invariant.1 (λ t k s is. let none = w.in_default.ensures in cc)),
+    rw w.ranges-is (range_same _ _ _ c.loop-before.invariant.2 (λ t lo hi listed is. let none = w.in_default.ensures in cc)),
+  )
+]
 
 pub returns-clause-writes : goal.returns-clause-writes
 returns-clause-writes c =

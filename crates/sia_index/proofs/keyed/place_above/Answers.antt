@@ -5,4 +5,4 @@ use Rattle.std.proofs.lemmas.List.Sorted.{IsPartitionPoint-from_clause, IsPartit
 use Rattle.sia_index.proofs.keyed.place_above.Goals as goal
 
 pub returns-clause-point : goal.returns-clause-point
-returns-clause-point g c = IsPartitionPoint-from_clause (λ row. leb (g.T.Keyed.by row) c.args.to) _ _ c.partition_point.ensures.partitioned (IsPartitionedBy-leb g.T.Keyed.by _ c.args.to c.requires) (λ a r f k. search rules)
+returns-clause-point g c = IsPartitionPoint-from_clause (λ row. leb (g.O.By.by row) c.args.to) _ _ c.partition_point.ensures.partitioned (IsPartitionedBy-leb g.O.By.by _ c.args.to c.requires) (λ a r f k. search rules)

@@ -5,4 +5,4 @@ use Rattle.std.proofs.lemmas.List.Sorted.{IsPartitionPoint-from_clause, IsPartit
 use Rattle.sia_index.proofs.keyed.place_from.Goals as goal
 
 pub returns-clause-point : goal.returns-clause-point
-returns-clause-point g c = IsPartitionPoint-from_clause (λ row. ltb (g.T.Keyed.by row) c.args.from) _ _ c.partition_point.ensures.partitioned (IsPartitionedBy-ltb g.T.Keyed.by _ c.args.from c.requires) (λ a r f k. search rules)
+returns-clause-point g c = IsPartitionPoint-from_clause (λ row. ltb (g.O.By.by row) c.args.from) _ _ c.partition_point.ensures.partitioned (IsPartitionedBy-ltb g.O.By.by _ c.args.from c.requires) (λ a r f k. search rules)

@@ -1,15 +1,18 @@
--- Transaction number i stands in row i of the table.
-use Rattle.std.proofs.Common.{refl, sym, subst}
+-- What is known of transaction number i stands at place i.
+use Rattle.std.proofs.Common.{refl, sym, subst, arith}
 use Rattle.sia_index.specs.Info.{IsInfo}
 use Rattle.sia_index.specs.Rows.{AreTxns}
-use Rattle.sia_index.proofs.TxnNumbers.{row_at, none}
+use Rattle.sia_index.proofs.TxnNumbers.{txn_number, info_at}
 use Rattle.sia_index.proofs.indexed.Index.txn_at.Goals as goal
 
-pub info_at-requires : goal.info_at-requires
-info_at-requires c =
-    rw c.deref.ensures.value (row_at _ _ (subst (λ h. AreTxns h c.self.inside.txns.items) c.self.view_is c.self.invariant.txns_are) c.args.i _ (c.requires.0, c.requires.1, c.requires.2, refl)).0
+pub index-requires : goal.index-requires
+index-requires c =
+    let are = subst (λ h. AreTxns h c.self.inside.ids.items c.self.inside.infos.items) c.self.view_is c.self.invariant.txns_are in
+    let below = (txn_number _ _ are.ids_are c.args.i _ (c.requires.0, c.requires.1, c.requires.2, refl)).0 in
+    omega (arith, are.count, c.self.inside.infos.ok)
 
 pub returns : goal.returns
 returns c t at =
-    let row = row_at _ _ (subst (λ h. AreTxns h c.self.inside.txns.items) c.self.view_is c.self.invariant.txns_are) c.args.i t at in
-    subst (λ info. IsInfo c.args.self.now t info) (sym (rw c.deref.ensures.value at c.info_at.ensures none)) (row.1 none)
+    let are = subst (λ h. AreTxns h c.self.inside.ids.items c.self.inside.infos.items) c.self.view_is c.self.invariant.txns_are in
+    let known = info_at _ _ _ are c.args.i t (txn_number _ _ are.ids_are c.args.i t at) c.index.result.now in
+    subst (IsInfo c.args.self.now t) (sym c.index.ensures) known

@@ -6,12 +6,12 @@ use Rattle.sia_index.proofs.Ordered.{ascends}
 use Rattle.sia_index.proofs.TxnNumbers.{txn_numbered}
 use Rattle.sia_index.proofs.indexed.Index.txn_number.Goals as goal
 
-pub find_id-requires : goal.find_id-requires
-find_id-requires c =
-    let are = subst (λ h. ListsAscending (HasEvent h) c.self.inside.ids.items) c.self.view_is c.self.invariant.ids_are in
+pub find-requires : goal.find-requires
+find-requires c =
+    let are = subst (λ h. ListsAscending (HasEvent h) c.self.inside.ids.items) c.self.view_is c.self.invariant.txns_are.ids_are in
     rw c.deref.ensures.value (ascends (λ (x : ℕ). x) _ _ are)
 
 pub returns : goal.returns
 returns c =
-    let are = subst (λ h. ListsAscending (HasEvent h) c.self.inside.ids.items) c.self.view_is c.self.invariant.ids_are in
-    txn_numbered _ _ are _ _ (rw c.deref.ensures.value at c.find_id.ensures)
+    let are = subst (λ h. ListsAscending (HasEvent h) c.self.inside.ids.items) c.self.view_is c.self.invariant.txns_are.ids_are in
+    txn_numbered _ _ are _ _ (rw (c.deref.ensures.value, c.from.ensures) at c.find.ensures)

@@ -1,13 +1,30 @@
--- The key stands at the number.
-use Rattle.std.proofs.Common.{◌≡◌, ◌<◌, ◌∙◌, length, subst, sym, arith}
-use Rattle.std.proofs.lemmas.List.{get_or_default}
-use Rattle.std.specs.Prelude.{slice_index}
+-- What was found among the written keys.
+use Rattle.std.proofs.Common.{ℕ, sym, subst}
 use Rattle.sia_index.specs.Info.{AreWrittenKeys}
+use Rattle.sia_index.proofs.Ordered.{ascends}
+use Rattle.sia_index.proofs.KeyChains.{no_versions}
 use Rattle.sia_index.proofs.indexed.Index.versions_near.Goals as goal
 
-pub returns-then-index-k : goal.returns-then-index-k
-returns-then-index-k c =
+pub find-requires : goal.find-requires
+find-requires c =
     let own = subst (λ h. AreWrittenKeys h c.self.inside.keys.items) c.self.view_is c.self.invariant.keys_are in
-    let below : c.args.near < length c.self.inside.keys.items = omega (arith, c.len.ensures, c.if-near-len.true) in
-    let here : slice_index c.self.inside.keys.items c.args.near ≡ c.args.k = get_or_default c.self.inside.keys.items c.args.near 0 c.index.result.now below ∙ sym c.index.ensures ∙ c.if-index-k.true in
-    c.versions_at.ensures c.args.k (c.self.inside.keys.items, own, below, here)
+    let are = subst (AreWrittenKeys c.args.self.now) (sym c.deref.ensures.value) own in
+    ascends (λ (k : ℕ). k) _ _ are
+
+pub versions_at-requires : goal.versions_at-requires
+versions_at-requires c =
+    let own = subst (λ h. AreWrittenKeys h c.self.inside.keys.items) c.self.view_is c.self.invariant.keys_are in
+    let are = subst (AreWrittenKeys c.args.self.now) (sym c.deref.ensures.value) own in
+    (c.deref.result.now, are, c.in-Some.ensures.0)
+
+pub returns-in-Some : goal.returns-in-Some
+returns-in-Some c =
+    let own = subst (λ h. AreWrittenKeys h c.self.inside.keys.items) c.self.view_is c.self.invariant.keys_are in
+    let are = subst (AreWrittenKeys c.args.self.now) (sym c.deref.ensures.value) own in
+    c.versions_at.ensures c.args.k (c.deref.result.now, are, c.in-Some.ensures.0, c.in-Some.ensures.1 0)
+
+pub returns-in-None : goal.returns-in-None
+returns-in-None c =
+    let own = subst (λ h. AreWrittenKeys h c.self.inside.keys.items) c.self.view_is c.self.invariant.keys_are in
+    let are = subst (AreWrittenKeys c.args.self.now) (sym c.deref.ensures.value) own in
+    no_versions _ _ are c.args.k c.in-None.ensures

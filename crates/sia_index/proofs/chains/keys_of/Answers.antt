@@ -1,6 +1,0 @@
--- The keys of all rows, in order.
-use Rattle.sia_index.proofs.KeyChains.{keys_listed}
-use Rattle.sia_index.proofs.chains.keys_of.Goals as goal
-
-pub returns : goal.returns
-returns c h are = keys_listed h _ _ _ are c.in_ok-keys.ensures c.put_in_order.ensures.sorted c.put_in_order.ensures.keeps c.put_in_order.ensures.adds_none

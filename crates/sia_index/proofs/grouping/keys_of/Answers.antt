@@ -1,0 +1,7 @@
+-- The keys of all rows, in order.
+use Rattle.std.proofs.Common.{arith}
+use Rattle.sia_index.proofs.KeyChains.{keys_listed}
+use Rattle.sia_index.proofs.grouping.keys_of.Goals as goal
+
+pub returns : goal.returns
+returns c h are = keys_listed h _ _ _ are (omega (arith, c.loop-row.invariant.0)) c.loop-row.invariant.1 c.put_in_order.ensures.sorted c.put_in_order.ensures.keeps c.put_in_order.ensures.adds_none
