@@ -11,7 +11,7 @@ use std::alloc::Global;
 use std::marker::Model;
 
 /// The committed transactions of a history, ascending. The number of one is its place among them, counted from 0.
-#[derive(Debug, Drop)]
+#[derive(Drop)]
 pub struct Committed {
     ids: Vec<TxnId>,
     /// Where a transaction may stand among the committed ones, by its number among all. Each is checked where it is used.

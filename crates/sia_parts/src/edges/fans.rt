@@ -26,7 +26,7 @@ use std::alloc::Global;
 
 /// The edges of one kind from a transaction, by its number, to the looks from one place to below another. Its looks are
 /// readers where the kind is wr, and else writers.
-#[derive(Clone, Copy, Debug)]
+#[derive(Clone, Copy)]
 pub(crate) struct Fan {
     pub(crate) src: u32,
     pub(crate) kind: Kind,
@@ -36,7 +36,7 @@ pub(crate) struct Fan {
 
 /// Edges, as fans in the order of their sources. Their numbers are made where they are asked for, so that workers can share
 /// the fans.
-#[derive(Debug, Drop)]
+#[derive(Drop)]
 pub struct Fans {
     /// Those that the fans lead to, the readers by rank too.
     pub(crate) looks: Looks,

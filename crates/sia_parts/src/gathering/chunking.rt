@@ -10,7 +10,7 @@ use std::alloc::Global;
 const MOST: usize = 1024;
 
 /// The places of sources at which chunks start, ascending, and where the last one ends.
-#[derive(Debug, Drop)]
+#[derive(Drop)]
 pub struct ChunkBounds {
     pub places: Vec<usize>,
 }
