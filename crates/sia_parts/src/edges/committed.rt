@@ -1,5 +1,5 @@
 //! The committed transactions of a history, and the number of each among them.
-ghost use Rattle.std.specs.Prelude.{◌≡◌, ◌≢◌, ◌↔◌, ◌<◌, ℕ, All, AllPairs, IfOk, IsTrue, MatchOption, length, slice_index};
+ghost use Rattle.std.specs.Prelude.{◌≡◌, ◌≢◌, ◌↔◌, ◌<◌, ℕ, All, AllPairs, IfOk, IsTrue, MatchOption, Some, length, slice_index};
 ghost use Rattle.sia_events.specs.Lists.{ListsAscending};
 ghost use Rattle.sia_events.specs.Refusals.{IsWellFormed};
 ghost use Rattle.sia_events.specs.Transactions.{HasEvent, IsCommitted};
@@ -55,7 +55,7 @@ impl Committed {
     pub(crate) fn number(&self, ix: &Index, t: TxnId) -> Option<u32>
         requires well_formed { IsWellFormed ix.now }
         requires committed { ListsAscending (IsCommitted ix.now) self.now }
-        ensures { MatchOption result (¬ IsCommitted ix.now t) (λ i. IsCommittedAt ix.now i t × (i < 1048576)) }
+        ensures { (i : ℕ) → (result ≡ Some i) ↔ IsCommittedAt ix.now i t }
     {
         match find(self.ids.as_slice(), self.hint(ix, t), t) {
             Some(i) => Some(i as u32),

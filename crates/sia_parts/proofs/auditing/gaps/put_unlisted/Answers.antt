@@ -16,8 +16,8 @@ put_stretch-requires-clause-sights c k is = c.requires.sights k (rest_new c.args
 pub loop-pair-init : goal.loop-pair-init
 loop-pair-init c = record {
   passed = passed_none c.args.listed.now c.requires.ascending c.args.lo c.args.hi c.requires.within c.requires.some;
-  bad = keys_of_none (IsPassed c.args.listed.now c.args.lo c.args.lo) (λ k is. let low = is.0 in let less = is.1 in omega arith) (λ k. IsBadOf c.args.reading.now.ix.now (unlisted_sight c.args.reading.now.reader k)) _;
-  gaps = gap_of_none c.args.reading.now.ix.now c.args.reading.now.reader (IsPassed c.args.listed.now c.args.lo c.args.lo) (λ k u wrote is. let low = is.0 in let less = is.1 in omega arith) _;
+  bad = keys_of_none (IsPassed c.args.listed.now c.args.lo c.args.lo) (λ k is. let low = is.0 in let less = is.1 in omega arith) (λ k. IsBadOf c.args.reading.now.ix.now (unlisted_sight c.args.reading.now.known.reader k)) _;
+  absences = gap_of_none c.args.reading.now.ix.now c.args.reading.now.known.reader (IsPassed c.args.listed.now c.args.lo c.args.lo) (λ i k at is. let low = is.0 in let less = is.1 in omega arith) _;
 }
 
 pub loop-pair-preserved : goal.loop-pair-preserved
@@ -28,22 +28,22 @@ loop-pair-preserved c =
     let split = passed_split listed c.requires.ascending c.args.lo c.args.hi c.requires.within c.requires.some c.loop-pair.pair-index c.loop-pair.from so none below in
     record {
       passed = passed_more listed c.requires.ascending c.args.lo c.args.hi c.requires.within c.requires.some c.loop-pair.pair-index c.loop-pair.from so none below (omega arith);
-      bad = keys_split split (λ k. IsBadOf c.args.reading.now.ix.now (unlisted_sight c.args.reading.now.reader k)) _ _ _ c.loop-pair.invariant.bad c.in_ok-put_below.ensures.bad;
-      gaps = gap_split split c.args.reading.now.ix.now c.args.reading.now.reader _ _ _ c.loop-pair.invariant.gaps c.in_ok-put_below.ensures.gaps;
+      bad = keys_split split (λ k. IsBadOf c.args.reading.now.ix.now (unlisted_sight c.args.reading.now.known.reader k)) _ _ _ c.loop-pair.invariant.bad c.in_ok-put_below.ensures.bad;
+      absences = gap_split split c.args.reading.now.ix.now c.args.reading.now.known.reader _ _ _ c.loop-pair.invariant.absences c.in_ok-put_below.ensures.absences;
     }
 
 pub returns-then-key-hi : goal.returns-then-key-hi
 returns-then-key-hi c =
     let split = last_split c.args.listed.now c.requires.ascending c.args.lo c.args.hi c.requires.within c.requires.some c.loop-pair.pair-index c.loop-pair.from c.loop-pair.invariant.passed none c.loop-pair-test.true c.if-key-hi.true in
     record {
-      bad = keys_split split (λ k. IsBadOf c.args.reading.now.ix.now (unlisted_sight c.args.reading.now.reader k)) _ _ _ c.loop-pair.invariant.bad c.in_ok-put_below.ensures.bad;
-      gaps = gap_split split c.args.reading.now.ix.now c.args.reading.now.reader _ _ _ c.loop-pair.invariant.gaps c.in_ok-put_below.ensures.gaps;
+      bad = keys_split split (λ k. IsBadOf c.args.reading.now.ix.now (unlisted_sight c.args.reading.now.known.reader k)) _ _ _ c.loop-pair.invariant.bad c.in_ok-put_below.ensures.bad;
+      absences = gap_split split c.args.reading.now.ix.now c.args.reading.now.known.reader _ _ _ c.loop-pair.invariant.absences c.in_ok-put_below.ensures.absences;
     }
 
 pub returns : goal.returns
 returns c =
     let split = rest_split c.args.listed.now c.requires.ascending c.args.lo c.args.hi c.requires.within c.requires.some c.loop-pair.pair-index c.loop-pair.from c.loop-pair.invariant.passed c.loop-pair-test.false in
     record {
-      bad = keys_split split (λ k. IsBadOf c.args.reading.now.ix.now (unlisted_sight c.args.reading.now.reader k)) _ _ _ c.loop-pair.invariant.bad c.in_ok-put_stretch.ensures.bad;
-      gaps = gap_split split c.args.reading.now.ix.now c.args.reading.now.reader _ _ _ c.loop-pair.invariant.gaps c.in_ok-put_stretch.ensures.gaps;
+      bad = keys_split split (λ k. IsBadOf c.args.reading.now.ix.now (unlisted_sight c.args.reading.now.known.reader k)) _ _ _ c.loop-pair.invariant.bad c.in_ok-put_stretch.ensures.bad;
+      absences = gap_split split c.args.reading.now.ix.now c.args.reading.now.known.reader _ _ _ c.loop-pair.invariant.absences c.in_ok-put_stretch.ensures.absences;
     }
