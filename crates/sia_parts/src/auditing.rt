@@ -21,7 +21,7 @@ pub(crate) mod unseen;
 use crate::auditing::joining::joined;
 use crate::auditing::nearby::are_apart;
 use crate::auditing::pairs::put_bad_writes;
-use crate::auditing::ranges::{Scope, put_range_reads};
+use crate::auditing::ranges::{Scope, put_range_reads, ranges_in_turn};
 use crate::auditing::sights::{is_committed, put_item_reads, wrote_before};
 use crate::auditing::unseen::first_commit;
 use crate::cutting::Part;
@@ -95,15 +95,8 @@ pub(crate) fn seen_of(
         part,
         first,
     };
-    let ranges = ix.ranges_meeting(part.lo, part.hi);
-    let ascend = put_range_reads(
-        alloc,
-        &scope,
-        ranges,
-        &mut bad_reads,
-        &mut looks,
-        &mut absences,
-    )?;
+    let turns = ranges_in_turn(alloc, ix, part)?;
+    let ascend = put_range_reads(&scope, &turns, &mut bad_reads, &mut looks, &mut absences)?;
     let end = looks.len();
     let reads = ix.reads_within(part.lo, part.hi);
     put_item_reads(ix, committed, reads, &mut bad_reads, &mut looks)?;

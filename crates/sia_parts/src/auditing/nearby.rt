@@ -1,19 +1,6 @@
 //! Where looks may stand that are looked for. A place only saves a search, and their order only a sort, so that nothing rests on
 //! them.
 use crate::looks::Look;
-use sia_index::RangeRead;
-
-/// Whether the range reads come by transaction and first key.
-pub(crate) fn are_in_turn(ranges: &[RangeRead]) -> bool {
-    for i in 1..ranges.len() {
-        let last = ranges[i - 1];
-        let next = ranges[i];
-        if next.txn < last.txn || (next.txn == last.txn && next.lo < last.lo) {
-            return false;
-        }
-    }
-    true
-}
 
 /// Whether the looks still ascend by transaction and key, where they did up to `end`, and those from there on do.
 pub(crate) fn still_ascend(ascend: bool, looks: &[Look], end: usize) -> bool {

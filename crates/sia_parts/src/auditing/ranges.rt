@@ -7,7 +7,7 @@ ghost use Rattle.sia_events.specs.Lists.{ListsAscending};
 ghost use Rattle.sia_events.specs.Refusals.{IsWellFormed};
 ghost use Rattle.sia_events.specs.Transactions.{IsCommitted, WroteBefore};
 ghost use Rattle.sia_index.specs.declared.info.RangeRead.{RangeRead};
-ghost use Rattle.sia_index.specs.Info.{IsRangeRead};
+ghost use Rattle.sia_index.specs.Info.{AreRangesMeeting, IsRangeRead};
 ghost use Rattle.sia_parts.specs.Sights.{Adds, FromSome, FromSight, IsSight, IsRangeSight, IsListedSight, IsBadOf, LooksAt, listed_sight, AscendsByKey};
 ghost use Rattle.sia_parts.specs.Gaps.{IsUnlistedBy};
 ghost use Rattle.sia_parts.specs.Joining.{JoinsTo, Spreads};
@@ -15,8 +15,8 @@ ghost use Rattle.sia_parts.specs.Unseen.{CommitsFrom, IsKnown, IsLastKnown};
 
 use crate::auditing::gaps::put_unlisted;
 use crate::auditing::keys::{key_near, numbers_within};
-use crate::auditing::nearby::{are_in_turn, first_near, next_near, still_ascend};
-use crate::auditing::sights::{Near, Reading, Sight, put_sight};
+use crate::auditing::nearby::{first_near, next_near, still_ascend};
+use crate::auditing::sights::{Reading, Sight, put_sight};
 use crate::auditing::unseen::{Known, known_after, put_absence, sees_none};
 use crate::cutting::Part;
 use crate::edges::committed::Committed;
@@ -37,44 +37,23 @@ pub(crate) struct Scope<'a> {
     pub(crate) first: u32,
 }
 
-/// Adds the bad reads, the looks and the absences of range reads. Says whether the looks, of which there were none before, ascend by
-/// transaction and key.
-pub(crate) fn put_range_reads(
+/// The range reads that meet the part, by transaction and first key: so those of one transaction, which lie close together in the
+/// history, come one after another, and what they saw comes almost in order.
+pub(crate) fn ranges_in_turn(
     alloc: Global,
-    scope: &Scope,
-    ranges: &[RangeRead],
-    bad: &mut Vec<BadRead>,
-    looks: &mut Vec<Look>,
-    absences: &mut Vec<Absence>,
-) -> Result<bool, NoMemory>
-    requires of { scope.now.ix.now ≡ scope.now.h.now }
-    requires committed { ListsAscending (IsCommitted scope.now.ix.now) scope.now.committed.now }
-    requires first { CommitsFrom scope.now.ix.now scope.now.part scope.now.first }
-    requires ranges { All (IsRangeRead scope.now.ix.now) ranges.now }
-    ensures bad { OnOk result (Adds (FromSome (λ range. FromSight (IsRangeSight scope.now.ix.now scope.now.part range) (IsBadOf scope.now.ix.now)) ranges.now) bad.old.items bad.new.items) }
-    ensures looks { OnOk result (JoinsTo (FromSome (λ range. FromSight (IsListedSight scope.now.ix.now scope.now.part range) (LooksAt scope.now.ix.now)) ranges.now) looks.old.items looks.new.items) }
-    ensures absences { OnOk result (Spreads (FromSome (IsUnlistedBy scope.now.ix.now scope.now.part) ranges.now) absences.old.items absences.new.items) }
+    ix: &Index,
+    part: Part,
+) -> Result<Vec<RangeRead>, NoMemory>
+    ensures { IfOk result (λ turns. AreRangesMeeting ix.now part.lo part.hi turns.items) }
 {
-    if are_in_turn(ranges) {
-        return put_in_turn(scope, ranges, bad, looks, absences);
-    }
-    let turns = by_txn(alloc, ranges)?;
-    let ascend = put_in_turn(scope, &turns, bad, looks, absences)?;
-    Ok(ascend)
-}
-
-// The range reads by transaction and first key: so those of one transaction, which lie close together in the history, come
-// one after another, and what they saw comes almost in order.
-fn by_txn(alloc: Global, ranges: &[RangeRead]) -> Result<Vec<RangeRead>, NoMemory>
-    ensures { IfOk result (λ turns. (x : RangeRead) → Contains turns.items x ↔ Contains ranges.now x) }
-{
-    let mut turns = ranges.to_vec(alloc)?;
+    let mut turns = ix.ranges_meeting(part.lo, part.hi).to_vec(alloc)?;
     turns.sort_unstable_by_key(|range| (range.txn, range.lo));
     Ok(turns)
 }
 
-// Adds the bad reads, the looks and the absences of range reads, one after another. Says whether the looks ascend.
-fn put_in_turn(
+/// Adds the bad reads, the looks and the absences of range reads, one after another. Says whether the looks, of which there were
+/// none before, ascend by transaction and key.
+pub(crate) fn put_range_reads(
     scope: &Scope,
     ranges: &[RangeRead],
     bad: &mut Vec<BadRead>,
@@ -174,8 +153,7 @@ fn put_listed_keys(
             key: pair.0,
             saw: pair.1,
         };
-        let near = Near { number, place };
-        put_sight(reading, sight, near, bad, looks)?;
+        put_sight(reading, sight, number, place, bad, looks)?;
         first = first.saturating_add(1);
     }
     Ok(())

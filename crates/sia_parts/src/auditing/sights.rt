@@ -6,7 +6,7 @@ ghost use Rattle.sia_events.specs.NarrowDependencies.{IsAsOf};
 ghost use Rattle.sia_events.specs.Transactions.{IsCommitted, CommitsAt, WroteBefore};
 ghost use Rattle.sia_events.specs.Reads.{IsDue};
 ghost use Rattle.sia_events.specs.Refusals.{IsWellFormed};
-ghost use Rattle.sia_index.specs.Info.{IsItemRead, IsKeyAt, IsReader};
+ghost use Rattle.sia_index.specs.Info.{IsItemRead, IsKeyAt};
 ghost use Rattle.sia_index.specs.Seen.{IsSeen};
 ghost use Rattle.sia_parts.specs.Joining.{JoinsTo, IsLookOfSight};
 ghost use Rattle.sia_parts.specs.Sights.{Adds, FromSome, IsSight, IsBadOf, LooksAt, read_sight};
@@ -19,7 +19,7 @@ use crate::edges::committed::Committed;
 use crate::finding::BadRead;
 use crate::looks::Look;
 use sia_events::{Key, NoMemory, TxnId, Version};
-use sia_index::{Fate, Index, ItemRead, Reader, Seen};
+use sia_index::{Fate, Index, ItemRead, Seen};
 
 /// A version of a key that a transaction saw at a place.
 #[derive(Clone, Copy)]
@@ -38,13 +38,6 @@ pub(crate) struct Reading<'a> {
     pub(crate) known: Known,
     pub(crate) first: u32,
     pub(crate) own: bool,
-}
-
-/// The number of a sight's key among the written ones, if it has one, and the place where a look of it may stand among the looks.
-#[derive(Clone, Copy)]
-pub(crate) struct Near {
-    pub(crate) number: Option<u32>,
-    pub(crate) place: usize,
 }
 
 /// Adds the bad reads and the looks of read events.
@@ -74,10 +67,7 @@ pub(crate) fn put_item_reads(
         let number = key_near(ix, read.key, first);
         first = number.unwrap_or(first);
         // Reads of one transaction and key stand side by side.
-        let near = Near {
-            number,
-            place: looks.len().saturating_sub(1),
-        };
+        let place = looks.len().saturating_sub(1);
         let own = known.reader.has_written;
         let reading = Reading {
             ix,
@@ -85,45 +75,39 @@ pub(crate) fn put_item_reads(
             first,
             own,
         };
-        put_sight(&reading, sight, near, bad, looks)?;
+        put_sight(&reading, sight, number, place, bad, looks)?;
         last = Some(known);
     }
     Ok(())
 }
 
-/// Adds the bad read of a sight, if it is one, and its look, if it has one, joined with one that stands near, if that is of its
-/// transaction and key.
+/// Adds the bad read of a sight, if it is one, and its look, if it has one, joined with the one at the place, if that is of its
+/// transaction and key. Its key has the number among the written ones, if it is written.
 pub(crate) fn put_sight(
     reading: &Reading,
     sight: Sight,
-    near: Near,
+    number: Option<u32>,
+    place: usize,
     bad: &mut Vec<BadRead>,
     looks: &mut Vec<Look>,
 ) -> Result<(), NoMemory>
     requires well_formed { IsWellFormed reading.now.ix.now }
     requires known { IsKnown reading.now.ix.now sight.txn sight.place reading.now.known }
     requires sight { IsSight reading.now.ix.now sight }
-    requires number { (i : ℕ) → (near.number ≡ Some i) ↔ IsKeyAt reading.now.ix.now i sight.key }
+    requires number { (i : ℕ) → (number ≡ Some i) ↔ IsKeyAt reading.now.ix.now i sight.key }
     requires own { reading.now.own ≡ false → ¬ WroteBefore reading.now.ix.now sight.txn sight.key sight.place }
     ensures bad { OnOk result (Adds (IsBadOf reading.now.ix.now sight) bad.old.items bad.new.items) }
     ensures looks { OnOk result (JoinsTo (LooksAt reading.now.ix.now sight) looks.old.items looks.new.items) }
 {
     let ix = reading.ix;
-    let seen = seen_at(ix, reading.known.reader, sight, near.number.unwrap_or(0));
+    let near = number.unwrap_or(0) as usize;
+    let seen = ix.seen_near(reading.known.reader, sight.key, near);
     let due = due_at(ix, sight, reading.own, seen);
     put_bad_read(sight, due, bad)?;
-    if let Some(look) = look_of(reading, sight, seen, near.number) {
-        put_joined(looks, look, near.place)?;
+    if let Some(look) = look_of(reading, sight, seen, number) {
+        put_joined(looks, look, place)?;
     }
     Ok(())
-}
-
-// What the transaction of a sight sees of its key. The key may have this number among the written keys.
-fn seen_at(ix: &Index, reader: Reader, sight: Sight, number: u32) -> Seen
-    requires { IsReader ix.now sight.txn sight.place reader }
-    ensures { IsSeen ix.now sight.txn sight.place sight.key result }
-{
-    ix.seen_near(reader, sight.key, number as usize)
 }
 
 // The version due at a sight.

@@ -1,6 +1,6 @@
 //! Range reads that see nothing of a part of the keys, since every version there was committed after they had started. A wide
 //! range read meets many parts, so that this has to be told without a look at their keys.
-ghost use Rattle.std.specs.Prelude.{◌≡◌, ◌≤◌, ◌<◌, ℕ, All, IsTrue, OnOk, false};
+ghost use Rattle.std.specs.Prelude.{◌≡◌, ◌≤◌, ◌<◌, ℕ, IsTrue, OnOk, false};
 ghost use Rattle.sia_events.specs.Lists.{ListsAscending};
 ghost use Rattle.sia_events.specs.Refusals.{IsWellFormed};
 ghost use Rattle.sia_events.specs.Transactions.{HasEvent, IsCommitted};
@@ -12,24 +12,18 @@ use crate::cutting::Part;
 use crate::edges::committed::Committed;
 use crate::looks::Absence;
 use sia_events::{NoMemory, TxnId};
-use sia_index::{Index, KeyVersion, Reader};
+use sia_index::{Index, Reader};
 
 /// The place of the first commit of a version of a key of the part. Each version there is looked at once.
 pub(crate) fn first_commit(ix: &Index, part: Part) -> u32
     ensures { CommitsFrom ix.now part result }
 {
-    least_commit(ix.versions_within(part.lo, part.hi))
-}
-
-// The least commit of these versions.
-fn least_commit(versions: &[KeyVersion]) -> u32
-    ensures { All (λ version. result ≤ version.commit) versions.now }
-{
-    let mut least: u32 = u32::MAX;
+    let versions = ix.versions_within(part.lo, part.hi);
+    let mut first: u32 = u32::MAX;
     for version in versions {
-        least = least.min(version.commit);
+        first = first.min(version.commit);
     }
-    least
+    first
 }
 
 /// Whether it is plain that the reader sees no version of some keys of a part, by the place of the first commit there. Where

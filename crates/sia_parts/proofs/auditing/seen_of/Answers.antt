@@ -34,7 +34,7 @@ put_range_reads-requires c = record {
   of = c.requires.index;
   committed = c.requires.committed;
   first = c.first_commit-first.ensures;
-  ranges = c.ranges_meeting-ranges.ensures.right;
+  ranges = (rw (← c.deref.ensures.value) at c.in_ok-turns.ensures).right;
 }
 
 pub returns-clause-bad_reads : goal.returns-clause-bad_reads
@@ -42,18 +42,18 @@ returns-clause-bad_reads c =
     let h = c.args.ix.now in
     let wf = c.law.ensures in
     let reads = FromSome (λ read. IsBadOf h (read_sight read)) c.reads_within-reads.result.now in
-    let ranges = FromSome (λ range. FromSight (IsRangeSight h c.args.part range) (IsBadOf h)) c.ranges_meeting-ranges.result.now in
+    let ranges = FromSome (λ range. FromSight (IsRangeSight h c.args.part range) (IsBadOf h)) c.deref.result.now in
     let adds = adds_both ranges reads [] _ _ (subst (λ old. Adds ranges old c.put_range_reads.new.bad.items) c.new-bad_reads.ensures.items c.in_ok-ascend.ensures.bad) c.in_ok-put_item_reads.ensures.bad in
     put_listed bad_read_rank (λ (b : BadRead). IsBadRead h b.place b.txn b.key b.saw b.due × IsInPart c.args.part b.key) _ (λ x y is other less. bad_read_before h wf x y is.0 other.0 less)
-    _ _ (added_are (λ b. ranges b ⊎ reads b) (λ (b : BadRead). IsBadRead h b.place b.txn b.key b.saw b.due × IsInPart c.args.part b.key) _ adds (λ b. or_turned ((bad_reads_are h wf c.args.part _ _ c.reads_within-reads.ensures c.ranges_meeting-ranges.ensures) b)))
+    _ _ (added_are (λ b. ranges b ⊎ reads b) (λ (b : BadRead). IsBadRead h b.place b.txn b.key b.saw b.due × IsInPart c.args.part b.key) _ adds (λ b. or_turned ((bad_reads_are h wf c.args.part _ _ c.reads_within-reads.ensures (rw (← c.deref.ensures.value) at c.in_ok-turns.ensures)) b)))
     c.put_in_order.ensures.sorted c.put_in_order.ensures.keeps c.put_in_order.ensures.adds_none
 
 pub returns-clause-seen : goal.returns-clause-seen
 returns-clause-seen c =
     let h = c.args.ix.now in
     let reads = FromSome (λ read. LooksAt h (read_sight read)) c.reads_within-reads.result.now in
-    let ranges = FromSome (λ range. FromSight (IsListedSight h c.args.part range) (LooksAt h)) c.ranges_meeting-ranges.result.now in
-    let missed = FromSome (IsUnlistedBy h c.args.part) c.ranges_meeting-ranges.result.now in
+    let ranges = FromSome (λ range. FromSight (IsListedSight h c.args.part range) (LooksAt h)) c.deref.result.now in
+    let missed = FromSome (IsUnlistedBy h c.args.part) c.deref.result.now in
     let joins = covers_both IsEnd IsInLook ranges reads [] _ _ (subst (λ old. JoinsTo ranges old c.put_range_reads.new.looks.items) c.new-looks.ensures.items c.in_ok-ascend.ensures.looks) c.in_ok-put_item_reads.ensures.looks in
     let spread = subst (λ old. Spreads missed old c.put_range_reads.new.absences.items) c.new-absences.ensures.items c.in_ok-ascend.ensures.absences in
-    seen_are h c.law.ensures c.args.part _ _ c.reads_within-reads.ensures c.ranges_meeting-ranges.ensures _ joins _ spread _ _ c.in_ok-looks.ensures c.in_ok-absences.ensures
+    seen_are h c.law.ensures c.args.part _ _ c.reads_within-reads.ensures (rw (← c.deref.ensures.value) at c.in_ok-turns.ensures) _ joins _ spread _ _ c.in_ok-looks.ensures c.in_ok-absences.ensures

@@ -4,7 +4,7 @@ use Rattle.sia_parts.specs.Sights.{Adds, FromSight, IsRangeSight, IsListedSight,
 use Rattle.sia_parts.specs.Gaps.{IsUnlistedBy}
 use Rattle.sia_parts.specs.Unseen.{IsLastKnown}
 use Rattle.sia_parts.proofs.Adding.{FromFirst}
-use Rattle.sia_parts.proofs.auditing.ranges.put_in_turn.Given as goal
+use Rattle.sia_parts.proofs.auditing.ranges.put_range_reads.Given as goal
 
 abbrev pub invariant-loop-range : goal.invariant-loop-range
 invariant-loop-range l = record {
