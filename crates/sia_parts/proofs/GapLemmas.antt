@@ -1,5 +1,5 @@
 -- The keys that a range read didn't list, chunk by chunk.
-use Rattle.std.proofs.Common.{◌≡◌, ◌≢◌, ◌⊎◌, inl, inr, ℕ, ◌+◌, ◌<◌, ◌≤◌, List, [], ◌∷◌, ◌++◌, Option, Some, length, get_or, refl, ap, sym, subst, ◌∙◌, arith}
+use Rattle.std.proofs.Common.{◌≡◌, ◌≢◌, ◌⊎◌, inl, inr, ℕ, ◌+◌, ◌-◌, ◌<◌, ◌≤◌, List, [], ◌∷◌, ◌++◌, Option, Some, length, get_or, refl, ap, sym, subst, ◌∙◌, arith}
 use Rattle.std.specs.Prelude.{◌↔◌, All, Contains}
 use Rattle.std.proofs.lemmas.Bool.{cases_lt, cases_eq}
 use Rattle.std.proofs.lemmas.List.{get_or_default}
@@ -61,6 +61,13 @@ keys_same One Other to from P old new adds = adds_same (FromKeys One P) (FromKey
 
 pub gap_same : (h : List Event) (reader : Reader) (One Other : ℕ → Type 0) → ((k : ℕ) → One k → Other k) → ((k : ℕ) → Other k → One k) → (old new : List Absence) → Spreads (IsGapOf h reader One) old new → Spreads (IsGapOf h reader Other) old new
 gap_same h reader One Other to from old new spreads = covers_same IsInAbsence IsInAbsence (IsGapOf h reader One) (IsGapOf h reader One) (IsGapOf h reader Other) (IsGapOf h reader Other) old new (λ at is. (is.0, is.1, is.2, to is.1 is.3, is.4)) (λ at is. (is.0, is.1, is.2, from is.1 is.3, is.4)) spreads
+
+-- below a key is up to the one before it
+pub below_bad : {B : Type 0} (from key : ℕ) → from < key → (P : ℕ → B → Type 0) (old new : List B) → Adds (FromKeys (IsBetween from (key - 1)) P) old new → Adds (FromKeys (IsBelow from key) P) old new
+below_bad from key less P old new adds = keys_same (IsBetween from (key - 1)) (IsBelow from key) (λ k is. (is.0, (let most = is.1 in omega arith))) (λ k is. (is.0, (let under = is.1 in omega arith))) P old new adds
+
+pub below_gap : (from key : ℕ) → from < key → (h : List Event) (reader : Reader) (old new : List Absence) → Spreads (IsGapOf h reader (IsBetween from (key - 1))) old new → Spreads (IsGapOf h reader (IsBelow from key)) old new
+below_gap from key less h reader old new spreads = gap_same h reader (IsBetween from (key - 1)) (IsBelow from key) (λ k is. (is.0, (let most = is.1 in omega arith))) (λ k is. (is.0, (let under = is.1 in omega arith))) old new spreads
 
 -- the keys from lo to hi, by their numbers
 pub gap_of_numbers : (h : List Event) (reader : Reader) (number : Option ℕ) → ((i : ℕ) → (number ≡ Some i) ↔ IsCommittedAt h i reader.txn) → (lo hi from to : ℕ) → ((j : ℕ) → ((from ≤ j) × (j < to)) ↔ ((k : ℕ) × IsKeyAt h j k × (lo ≤ k) × (k ≤ hi))) → (old new : List Absence) → Spreads (IsAbsentFrom number from to) old new → Spreads (IsGapOf h reader (IsBetween lo hi)) old new

@@ -2,7 +2,7 @@
 ghost use Rattle.std.specs.Prelude.{◌≤◌, ℕ, All, OnOk};
 ghost use Rattle.sia_events.specs.Refusals.{IsWellFormed};
 ghost use Rattle.sia_index.specs.Info.{IsReader};
-ghost use Rattle.sia_parts.specs.Gaps.{FromKeys, IsGapOf, IsBetween, IsBelow, IsUnlisted};
+ghost use Rattle.sia_parts.specs.Gaps.{FromKeys, IsGapOf, IsBetween, IsUnlisted};
 ghost use Rattle.sia_parts.specs.Joining.{Spreads};
 ghost use Rattle.sia_parts.specs.Sights.{Adds, IsSight, IsBadOf, unlisted_sight, AscendsByKey};
 ghost use Rattle.sia_parts.specs.Unseen.{IsKnown};
@@ -38,7 +38,9 @@ pub(crate) fn put_unlisted(
     for pair in listed {
         let key = pair.0;
         near = key_near(reading.ix, key, near).unwrap_or(near);
-        put_below(reading, from, key, near, bad, absences)?;
+        if from < key {
+            put_stretch(reading, from, key - 1, near, bad, absences)?;
+        }
         if key >= hi {
             return Ok(());
         }
@@ -49,29 +51,8 @@ pub(crate) fn put_unlisted(
     Ok(())
 }
 
-// The same for the keys from `from` to below `key`, none of which the range read listed. The first written key from `from`
-// on may have number `near` among the written keys.
-fn put_below(
-    reading: &Reading,
-    from: Key,
-    key: Key,
-    near: u32,
-    bad: &mut Vec<BadRead>,
-    absences: &mut Vec<Absence>,
-) -> Result<(), NoMemory>
-    requires well_formed { IsWellFormed reading.now.ix.now }
-    requires known { IsKnown reading.now.ix.now reading.now.known.reader.txn reading.now.known.reader.place reading.now.known }
-    requires sights { (k : ℕ) → IsBelow from key k → IsSight reading.now.ix.now (unlisted_sight reading.now.known.reader k) }
-    ensures bad { OnOk result (Adds (FromKeys (IsBelow from key) (λ k. IsBadOf reading.now.ix.now (unlisted_sight reading.now.known.reader k))) bad.old.items bad.new.items) }
-    ensures absences { OnOk result (Spreads (IsGapOf reading.now.ix.now reading.now.known.reader (IsBelow from key)) absences.old.items absences.new.items) }
-{
-    if from < key {
-        put_stretch(reading, from, key - 1, near, bad, absences)?;
-    }
-    Ok(())
-}
-
-// The same for the keys from `lo` to `hi`. Where none of them is written there is nothing to add.
+// The same for the keys from `lo` to `hi`, none of which the range read listed. The first written key from `lo` on may have
+// number `near` among the written keys. Where none of them is written there is nothing to add.
 fn put_stretch(
     reading: &Reading,
     lo: Key,

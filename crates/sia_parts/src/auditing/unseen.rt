@@ -1,5 +1,5 @@
-//! Range reads that see nothing of a part of the keys, since every version there was committed after they had started. A wide
-//! range read meets many parts, so that this has to be told without a look at their keys.
+//! What is known of who reads. Some range reads see nothing of a part of the keys, since every version there was committed after
+//! they had started: a wide range read meets many parts, so that this has to be told without a look at their keys.
 ghost use Rattle.std.specs.Prelude.{◌≡◌, ◌≤◌, ◌<◌, ℕ, IsTrue, OnOk, false};
 ghost use Rattle.sia_events.specs.Lists.{ListsAscending};
 ghost use Rattle.sia_events.specs.Refusals.{IsWellFormed};

@@ -1,5 +1,5 @@
 -- The key that stands there, or the one that is found.
-use Rattle.std.proofs.Common.{refl, sym, arith}
+use Rattle.std.proofs.Common.{arith}
 use Rattle.sia_parts.proofs.FewNumbers.{few_keys}
 use Rattle.sia_parts.proofs.LookLemmas.{key_some, at_is_written}
 use Rattle.sia_parts.proofs.auditing.keys.key_near.Goals as goal

@@ -1,8 +1,5 @@
 -- What the two places part.
-use Rattle.std.proofs.Common.{ℕ, ◌<◌, arith}
-use Rattle.sia_index.proofs.Ordered.{ascends}
-use Rattle.sia_index.specs.Info.{IsKeyAt}
-use Rattle.sia_events.specs.Transactions.{Wrote}
+use Rattle.std.proofs.Common.{arith}
 use Rattle.sia_parts.proofs.FewNumbers.{few_written}
 use Rattle.sia_parts.proofs.KeyNumbers.{numbers_each, numbers_none}
 use Rattle.sia_parts.proofs.LookLemmas.{at_is_written}

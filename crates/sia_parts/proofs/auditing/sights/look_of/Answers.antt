@@ -1,5 +1,5 @@
 -- The look, where the transaction and the key have numbers, and the version a place as of which it is.
-use Rattle.std.proofs.Common.{◌≡◌, ◌≤◌, ◌∙◌, sym, inl, inr, refl, subst, arith}
+use Rattle.std.proofs.Common.{◌≡◌, ◌∙◌, sym, inl, inr, refl, subst, arith}
 use Rattle.sia_events.specs.NarrowDependencies.{IsAsOf}
 use Rattle.sia_index.specs.Info.{IsKeyAt}
 use Rattle.sia_parts.specs.EdgeNumbers.{IsCommittedAt}

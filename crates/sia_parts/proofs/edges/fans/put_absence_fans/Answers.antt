@@ -1,6 +1,5 @@
 -- Each absence adds its fan.
-use Rattle.std.proofs.Common.{subst}
-use Rattle.sia_parts.specs.Fans.{GivesTo, IsAbsenceNumber, IsFanNumber, IsNumberWithin}
+use Rattle.sia_parts.specs.Fans.{IsAbsenceNumber, IsFanNumber}
 use Rattle.sia_parts.proofs.Giving.{gives_none, gives_more, gives_all}
 use Rattle.sia_parts.proofs.edges.fans.put_absence_fans.Goals as goal
 

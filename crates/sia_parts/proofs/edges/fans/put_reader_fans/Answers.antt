@@ -1,6 +1,5 @@
 -- Each reader adds its fan.
-use Rattle.std.proofs.Common.{subst}
-use Rattle.sia_parts.specs.Fans.{GivesTo, IsFanNumber, IsNumberWithin, IsReaderNumber}
+use Rattle.sia_parts.specs.Fans.{IsFanNumber, IsReaderNumber}
 use Rattle.sia_parts.proofs.Giving.{gives_none, gives_more, gives_all}
 use Rattle.sia_parts.proofs.edges.fans.put_reader_fans.Goals as goal
 
