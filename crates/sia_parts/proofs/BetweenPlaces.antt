@@ -1,6 +1,6 @@
 -- What stands between two places of a list that is in order by numbers.
 use Rattle.std.proofs.Common.{◌≡◌, inl, inr, ℕ, ◌+◌, ◌-◌, ◌<◌, ◌≤◌, true, false, List, length, get_or, take, drop, ltb, ap, sym, ◌∙◌, subst, arith}
-use Rattle.std.specs.Prelude.{◌↔◌, AllPairs, Contains, slice_index}
+use Rattle.std.specs.Prelude.{◌↔◌, AllPairs, Contains}
 use Rattle.std.specs.List.Sorted.{IsNonDecreasingBy, IsPartitionPoint}
 use Rattle.std.proofs.Math.Dec.{leb}
 use Rattle.std.proofs.lemmas.Bool.{cases_lt, leb-false, leb-true, ltb-true, ltb-false}
@@ -110,25 +110,4 @@ fans_of_sources looks fans some from to are n = (
       let low = w.1 in
       let high = w.2 in
       (f.0, (are f.0).1 (f.1, omega arith, omega arith), f.2)),
-)
-
--- the places of the numbers from one to another, both included
-pub places_within : (xs : List ℕ) (lo hi from to : ℕ) → to ≤ length xs
-    → IsPartitionPoint (λ x. ltb x lo ≡ true) (λ x. ltb x lo ≡ false) xs from
-    → IsPartitionPoint (λ x. leb x hi ≡ true) (λ x. leb x hi ≡ false) xs to
-    → (j : ℕ) → ((from ≤ j) × (j < to)) ↔ ((j < length xs) × (lo ≤ slice_index xs j) × (slice_index xs j ≤ hi))
-places_within xs lo hi from to bound a b j = (
-  (λ w.
-      let below : j < length xs = let less = w.1 in omega arith in
-      (below, ltb-false (slice_index xs j) lo (a.1 j 0 w.0 below), leb-true (slice_index xs j) hi (b.0 j 0 (omega arith) w.1))),
-  (λ w. (
-    elim (cases_lt j from) [
-      | inl before ↦ absurd (let less = ltb-true (slice_index xs j) lo (a.0 j 0 (omega arith) before) in let low = w.1 in omega arith)
-      | inr after ↦ after
-    ],
-    elim (cases_lt j to) [
-      | inl before ↦ before
-      | inr after ↦ absurd (let more = leb-false (slice_index xs j) hi (b.1 j 0 after w.0) in let high = w.2 in omega arith)
-    ],
-  )),
 )

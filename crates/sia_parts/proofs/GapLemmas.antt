@@ -1,25 +1,25 @@
--- The keys that a range read didn't list, chunk by chunk, and gaps that are joined.
-use Rattle.std.proofs.Common.{◌≡◌, ◌≢◌, ◌⊎◌, inl, inr, ℕ, ◌+◌, ◌<◌, ◌≤◌, List, [], ◌∷◌, ◌++◌, length, take, get_or, refl, ap, sym, subst, ◌∙◌, arith}
-use Rattle.std.specs.Prelude.{All, Contains}
-use Rattle.std.specs.List.Sorted.{IsPermutation}
+-- The keys that a range read didn't list, chunk by chunk.
+use Rattle.std.proofs.Common.{◌≡◌, ◌≢◌, ◌⊎◌, inl, inr, ℕ, ◌+◌, ◌-◌, ◌<◌, ◌≤◌, List, [], ◌∷◌, ◌++◌, Option, Some, length, get_or, refl, ap, sym, subst, ◌∙◌, arith}
+use Rattle.std.specs.Prelude.{◌↔◌, All, Contains}
 use Rattle.std.proofs.lemmas.Bool.{cases_lt, cases_eq}
-use Rattle.std.proofs.lemmas.List.{take_more, take_all, get_or_default}
+use Rattle.std.proofs.lemmas.List.{get_or_default}
 use Rattle.std.proofs.lemmas.List.Elements.{Contains-get_or}
-use Rattle.std.proofs.lemmas.List.Sorted.{Contains-permutation, IsPermutation-sym}
 use Rattle.sia_events.specs.declared.event.Event.{Event}
 use Rattle.sia_events.specs.Transactions.{Wrote}
 use Rattle.sia_events.specs.Reads.{IsDue, IsVisible, IsNewestVisible}
 use Rattle.sia_events.proofs.Due.{one_due}
 use Rattle.sia_index.specs.declared.info.DueAt.{DueAt}
 use Rattle.sia_index.specs.declared.info.Reader.{Reader}
-use Rattle.sia_index.specs.Info.{IsNextDue}
+use Rattle.sia_index.specs.Info.{IsKeyAt, IsNextDue}
 use Rattle.sia_parts.specs.declared.finding.BadRead.{BadRead}
-use Rattle.sia_parts.specs.declared.auditing.gaps.Gap.{Gap}
+use Rattle.sia_parts.specs.declared.looks.Absence.{Absence}
 use Rattle.sia_parts.specs.Sights.{Adds, IsSight, IsBadOf, unlisted_sight, AscendsByKey}
-use Rattle.sia_parts.specs.Gaps.{Spreads, FromKeys, IsGapOf, IsBetween, IsBelow, IsUnlisted, IsInGap, InSomeGap, CoversSame, IsGapJoined}
+use Rattle.sia_parts.specs.EdgeNumbers.{IsCommittedAt}
+use Rattle.sia_parts.specs.Gaps.{FromKeys, IsGapOf, IsBetween, IsBelow, IsUnlisted}
+use Rattle.sia_parts.specs.Joining.{IsAbsentFrom, IsInAbsence, Spreads}
 use Rattle.sia_parts.proofs.Adding.{adds_nothing, adds_push, adds_same, adds_both}
 use Rattle.sia_parts.proofs.Saw.{bad_alone}
-use Rattle.sia_parts.proofs.Spreading.{in_no_gap, in_one_more, spreads_nothing, spreads_same, spreads_both}
+use Rattle.sia_parts.proofs.Covering.{covers_nothing, covers_same, covers_both}
 
 -- keys that fall into two kinds
 module _ (One Other Both : ℕ → Type 0) (to : (k : ℕ) → Both k → One k ⊎ Other k) (one : (k : ℕ) → One k → Both k) (other : (k : ℕ) → Other k → Both k) where
@@ -29,11 +29,11 @@ module _ (One Other Both : ℕ → Type 0) (to : (k : ℕ) → Both k → One k 
       (λ y f. elim (to f.0 f.1) [ inl a ↦ inl (f.0, a, f.2) | inr b ↦ inr (f.0, b, f.2) ])
       (adds_both (FromKeys One P) (FromKeys Other P) old mid new first second)
 
-  pub gap_of_both : (h : List Event) (reader : Reader) (old mid new : List Gap) → Spreads h (IsGapOf reader One) old mid → Spreads h (IsGapOf reader Other) mid new → Spreads h (IsGapOf reader Both) old new
-  gap_of_both h reader old mid new first second = spreads_same h (λ look. IsGapOf reader One look ⊎ IsGapOf reader Other look) (IsGapOf reader Both) old new
-      (λ look e. elim e [ inl f ↦ (f.0, f.1, one look.1 f.2) | inr f ↦ (f.0, f.1, other look.1 f.2) ])
-      (λ look f. elim (to look.1 f.2) [ inl a ↦ inl (f.0, f.1, a) | inr b ↦ inr (f.0, f.1, b) ])
-      (spreads_both h (IsGapOf reader One) (IsGapOf reader Other) old mid new first second)
+  pub gap_of_both : (h : List Event) (reader : Reader) (old mid new : List Absence) → Spreads (IsGapOf h reader One) old mid → Spreads (IsGapOf h reader Other) mid new → Spreads (IsGapOf h reader Both) old new
+  gap_of_both h reader old mid new first second = covers_same IsInAbsence IsInAbsence (λ at. IsGapOf h reader One at ⊎ IsGapOf h reader Other at) (λ at. IsGapOf h reader One at ⊎ IsGapOf h reader Other at) (IsGapOf h reader Both) (IsGapOf h reader Both) old new
+      (λ at e. elim e [ inl f ↦ (f.0, f.1, f.2, one f.1 f.3, f.4) | inr f ↦ (f.0, f.1, f.2, other f.1 f.3, f.4) ])
+      (λ at f. elim (to f.1 f.3) [ inl a ↦ inl (f.0, f.1, f.2, a, f.4) | inr b ↦ inr (f.0, f.1, f.2, b, f.4) ])
+      (covers_both IsInAbsence IsInAbsence (IsGapOf h reader One) (IsGapOf h reader Other) old mid new first second)
 
 -- the keys of the third are those of the first two
 pub record Splits (One Other Both : ℕ → Type 0) : Type 0 where
@@ -45,22 +45,36 @@ module _ {One Other Both : ℕ → Type 0} (split : Splits One Other Both) where
   pub keys_split : {B : Type 0} (P : ℕ → B → Type 0) (old mid new : List B) → Adds (FromKeys One P) old mid → Adds (FromKeys Other P) mid new → Adds (FromKeys Both P) old new
   keys_split P old mid new first second = keys_of_both One Other Both split.to split.one split.other P old mid new first second
 
-  pub gap_split : (h : List Event) (reader : Reader) (old mid new : List Gap) → Spreads h (IsGapOf reader One) old mid → Spreads h (IsGapOf reader Other) mid new → Spreads h (IsGapOf reader Both) old new
+  pub gap_split : (h : List Event) (reader : Reader) (old mid new : List Absence) → Spreads (IsGapOf h reader One) old mid → Spreads (IsGapOf h reader Other) mid new → Spreads (IsGapOf h reader Both) old new
   gap_split h reader old mid new first second = gap_of_both One Other Both split.to split.one split.other h reader old mid new first second
 
 -- where there is no key there is nothing to add
 pub keys_of_none : {B : Type 0} (Within : ℕ → Type 0) → ((k : ℕ) → ¬ Within k) → (P : ℕ → B → Type 0) (old : List B) → Adds (FromKeys Within P) old old
 keys_of_none Within none P old = adds_nothing (FromKeys Within P) old (λ y f. none f.0 f.1)
 
-pub gap_of_none : (h : List Event) (reader : Reader) (Within : ℕ → Type 0) → ((k u : ℕ) → Wrote h u k → ¬ Within k) → (old : List Gap) → Spreads h (IsGapOf reader Within) old old
-gap_of_none h reader Within none old = spreads_nothing h (IsGapOf reader Within) old (λ look u wrote is. none look.1 u wrote is.2)
+pub gap_of_none : (h : List Event) (reader : Reader) (Within : ℕ → Type 0) → ((i k : ℕ) → IsKeyAt h i k → ¬ Within k) → (old : List Absence) → Spreads (IsGapOf h reader Within) old old
+gap_of_none h reader Within none old = covers_nothing IsInAbsence IsInAbsence (IsGapOf h reader Within) old (λ at is. none at.1 is.1 is.2 is.3)
 
 -- keys of one kind that are of the other
 pub keys_same : {B : Type 0} (One Other : ℕ → Type 0) → ((k : ℕ) → One k → Other k) → ((k : ℕ) → Other k → One k) → (P : ℕ → B → Type 0) (old new : List B) → Adds (FromKeys One P) old new → Adds (FromKeys Other P) old new
 keys_same One Other to from P old new adds = adds_same (FromKeys One P) (FromKeys Other P) old new (λ y f. (f.0, to f.0 f.1, f.2)) (λ y f. (f.0, from f.0 f.1, f.2)) adds
 
-pub gap_same : (h : List Event) (reader : Reader) (One Other : ℕ → Type 0) → ((k : ℕ) → One k → Other k) → ((k : ℕ) → Other k → One k) → (old new : List Gap) → Spreads h (IsGapOf reader One) old new → Spreads h (IsGapOf reader Other) old new
-gap_same h reader One Other to from old new spreads = spreads_same h (IsGapOf reader One) (IsGapOf reader Other) old new (λ look is. (is.0, is.1, to look.1 is.2)) (λ look is. (is.0, is.1, from look.1 is.2)) spreads
+pub gap_same : (h : List Event) (reader : Reader) (One Other : ℕ → Type 0) → ((k : ℕ) → One k → Other k) → ((k : ℕ) → Other k → One k) → (old new : List Absence) → Spreads (IsGapOf h reader One) old new → Spreads (IsGapOf h reader Other) old new
+gap_same h reader One Other to from old new spreads = covers_same IsInAbsence IsInAbsence (IsGapOf h reader One) (IsGapOf h reader One) (IsGapOf h reader Other) (IsGapOf h reader Other) old new (λ at is. (is.0, is.1, is.2, to is.1 is.3, is.4)) (λ at is. (is.0, is.1, is.2, from is.1 is.3, is.4)) spreads
+
+-- below a key is up to the one before it
+pub below_bad : {B : Type 0} (from key : ℕ) → from < key → (P : ℕ → B → Type 0) (old new : List B) → Adds (FromKeys (IsBetween from (key - 1)) P) old new → Adds (FromKeys (IsBelow from key) P) old new
+below_bad from key less P old new adds = keys_same (IsBetween from (key - 1)) (IsBelow from key) (λ k is. (is.0, (let most = is.1 in omega arith))) (λ k is. (is.0, (let under = is.1 in omega arith))) P old new adds
+
+pub below_gap : (from key : ℕ) → from < key → (h : List Event) (reader : Reader) (old new : List Absence) → Spreads (IsGapOf h reader (IsBetween from (key - 1))) old new → Spreads (IsGapOf h reader (IsBelow from key)) old new
+below_gap from key less h reader old new spreads = gap_same h reader (IsBetween from (key - 1)) (IsBelow from key) (λ k is. (is.0, (let most = is.1 in omega arith))) (λ k is. (is.0, (let under = is.1 in omega arith))) old new spreads
+
+-- the keys from lo to hi, by their numbers
+pub gap_of_numbers : (h : List Event) (reader : Reader) (number : Option ℕ) → ((i : ℕ) → (number ≡ Some i) ↔ IsCommittedAt h i reader.txn) → (lo hi from to : ℕ) → ((j : ℕ) → ((from ≤ j) × (j < to)) ↔ ((k : ℕ) × IsKeyAt h j k × (lo ≤ k) × (k ≤ hi))) → (old new : List Absence) → Spreads (IsAbsentFrom number from to) old new → Spreads (IsGapOf h reader (IsBetween lo hi)) old new
+gap_of_numbers h reader number txn lo hi from to keys old new spreads = covers_same IsInAbsence IsInAbsence (IsAbsentFrom number from to) (IsAbsentFrom number from to) (IsGapOf h reader (IsBetween lo hi)) (IsGapOf h reader (IsBetween lo hi)) old new
+    (λ at is. let k = (keys at.1).0 (is.1, is.2) in ((txn at.0).0 is.0, k.0, k.1, (k.2, k.3), is.3))
+    (λ at is. let n = (keys at.1).1 (is.1, is.2, is.3.0, is.3.1) in ((txn at.0).1 is.0, n.0, n.1, is.4))
+    spreads
 
 -- the unlisted keys below from
 abbrev pub IsPassed : List (ℕ × ℕ) → ℕ → ℕ → ℕ → Type 0
@@ -219,62 +233,3 @@ module _ (h : List Event) (reader : Reader) where
         | inl same ↦ bad_alone h (unlisted_sight reader next.key) next.due is.3 b (subst (λ k. IsBadAt k b) same f.2)
         | inr other ↦ absurd (none_bad f.0 (is.4 f.0 f.1.0 (let less = f.1.1 in omega arith)) b f.2)
       ])
-
--- gaps that are joined
-pub record GapsSoFar (narrow : List Gap) (n : ℕ) (wide : List Gap) : Type 0 where
-  pub right : (look : ℕ × ℕ) → InSomeGap wide look → InSomeGap narrow look
-  pub whole : (look : ℕ × ℕ) → InSomeGap (take n narrow) look → InSomeGap wide look
-
-pub covers_none : CoversSame [] []
-covers_none look = (λ f. f, λ f. f)
-
-module _ (narrow : List Gap) where
-  pub gaps_first : (first : Gap) → Contains narrow first → GapsSoFar narrow 0 (first ∷ [])
-  gaps_first first c = record {
-    right = λ look f. elim ((in_one_more [] first look).0 f) [ inl none ↦ absurd (in_no_gap look none) | inr here ↦ (first, c, here) ];
-    whole = λ look f. absurd (let below = f.1.0 in omega arith);
-  }
-
-  module _ (n : ℕ) (d : Gap) (below : n < length narrow) (done : List Gap) (last : Gap) (so : GapsSoFar narrow n (done ++ last ∷ [])) where
-    here_or_before : (look : ℕ × ℕ) → InSomeGap (take (n + 1) narrow) look → InSomeGap (take n narrow) look ⊎ IsInGap (get_or narrow n d) look
-    here_or_before look f = (in_one_more (take n narrow) (get_or narrow n d) look).0 (subst (λ gaps. InSomeGap gaps look) (take_more narrow n d below) f)
-
-    pub gaps_grown : (both : Gap) → IsGapJoined last (get_or narrow n d) both → GapsSoFar narrow (n + 1) (done ++ both ∷ [])
-    gaps_grown both joint = record {
-      right = λ look f. elim ((in_one_more done both look).0 f) [
-        | inl old ↦ so.right look ((in_one_more done last look).1 (inl old))
-        | inr here ↦ elim ((joint look).0 here) [
-          | inl left ↦ so.right look ((in_one_more done last look).1 (inr left))
-          | inr right ↦ (get_or narrow n d, Contains-get_or narrow n d below, right)
-        ]
-      ];
-      whole = λ look f. (in_one_more done both look).1 (elim (here_or_before look f) [
-        | inl before ↦ elim ((in_one_more done last look).0 (so.whole look before)) [
-          | inl old ↦ inl old
-          | inr left ↦ inr ((joint look).1 (inl left))
-        ]
-        | inr here ↦ inr ((joint look).1 (inr here))
-      ]);
-    }
-
-    pub gaps_next : GapsSoFar narrow (n + 1) ((done ++ last ∷ []) ++ get_or narrow n d ∷ [])
-    gaps_next = record {
-      right = λ look f. elim ((in_one_more (done ++ last ∷ []) (get_or narrow n d) look).0 f) [
-        | inl old ↦ so.right look old
-        | inr here ↦ (get_or narrow n d, Contains-get_or narrow n d below, here)
-      ];
-      whole = λ look f. (in_one_more (done ++ last ∷ []) (get_or narrow n d) look).1 (elim (here_or_before look f) [
-        | inl before ↦ inl (so.whole look before)
-        | inr here ↦ inr here
-      ]);
-    }
-
-  pub gaps_all : (n : ℕ) (wide : List Gap) → length narrow ≤ n → GapsSoFar narrow n wide → CoversSame narrow wide
-  gaps_all n wide all so look = (so.right look, λ f. so.whole look (subst (λ gaps. InSomeGap gaps look) (sym (take_all n narrow all)) f))
-
--- a sort changes the order alone
-pub covers_sorted : (xs ys wide : List Gap) → IsPermutation xs ys → CoversSame ys wide → CoversSame xs wide
-covers_sorted xs ys wide p covers look = (
-  (λ f. let g = (covers look).0 f in (g.0, Contains-permutation ys xs g.0 (IsPermutation-sym xs ys p) g.1, g.2)),
-  (λ f. (covers look).1 (f.0, Contains-permutation xs ys f.0 p f.1, f.2)),
-)

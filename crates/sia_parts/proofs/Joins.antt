@@ -1,117 +1,83 @@
--- Spans of one transaction and key that are joined.
-use Rattle.std.proofs.Common.{◌≡◌, ◌⊎◌, inl, inr, ℕ, ◌+◌, ◌<◌, ◌≤◌, List, [], ◌∷◌, ◌++◌, length, take, get_or, slice_get, Some, None, refl, sym, subst, ◌∙◌, arith}
+-- Rows that are joined with their neighbours.
+use Rattle.std.proofs.Common.{◌≡◌, ◌⊎◌, inl, inr, ℕ, ◌+◌, ◌<◌, ◌≤◌, List, [], ◌∷◌, ◌++◌, length, get_or, slice_get, Some, None, refl, sym, subst, arith}
 use Rattle.std.specs.Prelude.{Contains}
 use Rattle.std.specs.List.Sorted.{IsPermutation}
-use Rattle.std.proofs.lemmas.List.{take_more, take_all}
-use Rattle.std.proofs.lemmas.List.Elements.{Contains-append_left, Contains-push, Contains-push_cases, Contains-get_or}
+use Rattle.std.proofs.lemmas.List.{take_all}
+use Rattle.std.proofs.lemmas.List.Elements.{Contains-get_or}
 use Rattle.std.proofs.lemmas.List.Sorted.{Contains-permutation, IsPermutation-sym}
 use Rattle.std.proofs.lemmas.Option.{same_Some}
-use Rattle.sia_parts.specs.declared.auditing.spans.Span.{Span}
-use Rattle.sia_parts.specs.Sights.{Widens, IsJoined}
+use Rattle.sia_parts.specs.Joining.{Keeps, IsJoined}
+use Rattle.sia_parts.specs.Sights.{FromSome}
+use Rattle.sia_parts.proofs.Adding.{FromFirst, first_more, some_push}
+use Rattle.sia_parts.proofs.Covering.{none_from}
 
--- some of the spans has this low end
-abbrev HasLow : List Span → Span → Type 0
-HasLow narrow s = (n : Span) × Contains narrow n × (n.txn ≡ s.txn) × (n.key ≡ s.key) × (n.low ≡ s.low)
+-- the first n rows, joined: they rest on what some of all rows rest on
+pub record JoinedSoFar {A B : Type 0} (E H : A → B → Type 0) (narrow : List A) (n : ℕ) (wide : List A) : Type 0 where
+  pub ends : (y : B) → FromSome E wide y → FromSome E narrow y
+  pub holds : (y : B) → FromFirst H narrow n y → FromSome H wide y
 
-abbrev HasHigh : List Span → Span → Type 0
-HasHigh narrow s = (n : Span) × Contains narrow n × (n.txn ≡ s.txn) × (n.key ≡ s.key) × (n.high ≡ s.high)
+module _ {A B : Type 0} (E H : A → B → Type 0) where
+  pub keeps_itself : (xs : List A) → Keeps E H xs xs
+  keeps_itself xs = record { ends = λ y f. f; holds = λ y f. f }
 
--- the span lies in one of these
-abbrev IsWithin : List Span → Span → Type 0
-IsWithin wide n = (s : Span) × Contains wide s × (s.txn ≡ n.txn) × (s.key ≡ n.key) × (s.low ≤ n.low) × (n.high ≤ s.high)
-
--- the first n spans, joined: the ends are of some of all spans
-pub record JoinedSoFar (narrow : List Span) (n : ℕ) (wide : List Span) : Type 0 where
-  pub low : (s : Span) → Contains wide s → HasLow narrow s
-  pub high : (s : Span) → Contains wide s → HasHigh narrow s
-  pub each : (x : Span) → Contains (take n narrow) x → IsWithin wide x
-
-pub joins_none : Widens [] []
-joins_none = record {
-  low = λ s c. absurd (let below = c.1 in omega arith);
-  high = λ s c. absurd (let below = c.1 in omega arith);
-  each = λ s c. absurd (let below = c.1 in omega arith);
-}
-
-module _ (narrow : List Span) where
-  pub joins_first : (first : Span) → Contains narrow first → JoinedSoFar narrow 0 (first ∷ [])
-  joins_first first c = record {
-    low = λ s in_one. let same = only s in_one in (first, c, (λ i. (same i).txn), (λ i. (same i).key), (λ i. (same i).low));
-    high = λ s in_one. let same = only s in_one in (first, c, (λ i. (same i).txn), (λ i. (same i).key), (λ i. (same i).high));
-    each = λ x none. absurd (let below = none.1 in omega arith);
-  }
-    where
-      only : (s : Span) → Contains (first ∷ []) s → first ≡ s
-      only s in_one = elim (Contains-push_cases [] first s in_one) [ inl none ↦ absurd (let below = none.1 in omega arith) | inr same ↦ same ]
-
-  module _ (n : ℕ) (d : Span) (below : n < length narrow) (done : List Span) (last : Span) (so : JoinedSoFar narrow n (done ++ last ∷ [])) where
-    here : Contains narrow (get_or narrow n d)
-    here = Contains-get_or narrow n d below
-
-    here_or_before : (x : Span) → Contains (take (n + 1) narrow) x → Contains (take n narrow) x ⊎ (get_or narrow n d ≡ x)
-    here_or_before x c = Contains-push_cases (take n narrow) (get_or narrow n d) x (subst (λ xs. Contains xs x) (take_more narrow n d below) c)
-
-    -- the last one grown by the next
-    pub joins_grown : (both : Span) → IsJoined last (get_or narrow n d) both → JoinedSoFar narrow (n + 1) (done ++ both ∷ [])
-    joins_grown both joint = record {
-      low = λ s c. elim (Contains-push_cases done both s c) [
-        | inl old ↦ so.low s (Contains-append_left done (last ∷ []) s old)
-        | inr same ↦ subst (HasLow narrow) same (elim joint.low [
-          | inl left ↦ let own = so.low last (Contains-push done last) in (own.0, own.1, own.2 ∙ sym joint.txn.0, own.3 ∙ sym joint.key.0, own.4 ∙ sym left)
-          | inr right ↦ (get_or narrow n d, here, sym joint.txn.1, sym joint.key.1, sym right)
-        ])
-      ];
-      high = λ s c. elim (Contains-push_cases done both s c) [
-        | inl old ↦ so.high s (Contains-append_left done (last ∷ []) s old)
-        | inr same ↦ subst (HasHigh narrow) same (elim joint.high [
-          | inl left ↦ let own = so.high last (Contains-push done last) in (own.0, own.1, own.2 ∙ sym joint.txn.0, own.3 ∙ sym joint.key.0, own.4 ∙ sym left)
-          | inr right ↦ (get_or narrow n d, here, sym joint.txn.1, sym joint.key.1, sym right)
-        ])
-      ];
-      each = λ x c. elim (here_or_before x c) [
-        | inl before ↦
-            let found = so.each x before in
-            elim (Contains-push_cases done last found.0 found.1) [
-              | inl old ↦ (found.0, Contains-append_left done (both ∷ []) found.0 old, found.2, found.3, found.4, found.5)
-              | inr same ↦
-                  let own : IsWithin (last ∷ []) x = (last, Contains-push [] last, subst (λ (s : Span). s.txn ≡ x.txn) (sym same) found.2, subst (λ (s : Span). s.key ≡ x.key) (sym same) found.3, subst (λ (s : Span). s.low ≤ x.low) (sym same) found.4, subst (λ (s : Span). x.high ≤ s.high) (sym same) found.5) in
-                  (both, Contains-push done both, joint.txn.0 ∙ subst (λ (s : Span). s.txn ≡ x.txn) (sym same) found.2, joint.key.0 ∙ subst (λ (s : Span). s.key ≡ x.key) (sym same) found.3, (let a = joint.lowest.0 in let b = subst (λ (s : Span). s.low ≤ x.low) (sym same) found.4 in omega arith), (let a = joint.highest.0 in let b = subst (λ (s : Span). x.high ≤ s.high) (sym same) found.5 in omega arith))
-            ]
-        | inr next ↦ subst (IsWithin (done ++ both ∷ [])) next (both, Contains-push done both, joint.txn.1, joint.key.1, joint.lowest.1, joint.highest.1)
-      ];
-    }
-
-    -- the next one is the last from then on
-    pub joins_next : JoinedSoFar narrow (n + 1) ((done ++ last ∷ []) ++ get_or narrow n d ∷ [])
-    joins_next = record {
-      low = λ s c. elim (Contains-push_cases (done ++ last ∷ []) (get_or narrow n d) s c) [
-        | inl old ↦ so.low s old
-        | inr same ↦ subst (HasLow narrow) same (get_or narrow n d, here, refl, refl, refl)
-      ];
-      high = λ s c. elim (Contains-push_cases (done ++ last ∷ []) (get_or narrow n d) s c) [
-        | inl old ↦ so.high s old
-        | inr same ↦ subst (HasHigh narrow) same (get_or narrow n d, here, refl, refl, refl)
-      ];
-      each = λ x c. elim (here_or_before x c) [
-        | inl before ↦ let found = so.each x before in (found.0, Contains-append_left (done ++ last ∷ []) (get_or narrow n d ∷ []) found.0 found.1, found.2, found.3, found.4, found.5)
-        | inr next ↦ subst (IsWithin ((done ++ last ∷ []) ++ get_or narrow n d ∷ [])) next (get_or narrow n d, Contains-push (done ++ last ∷ []) (get_or narrow n d), refl, refl, omega arith, omega arith)
-      ];
-    }
-
-  pub joins_all : (n : ℕ) (wide : List Span) → length narrow ≤ n → JoinedSoFar narrow n wide → Widens narrow wide
-  joins_all n wide all so = record {
-    low = so.low;
-    high = so.high;
-    each = λ x c. so.each x (subst (λ xs. Contains xs x) (sym (take_all n narrow all)) c);
+  -- a sort changes the order alone
+  pub keeps_sorted : (xs ys wide : List A) → IsPermutation xs ys → Keeps E H ys wide → Keeps E H xs wide
+  keeps_sorted xs ys wide p keeps = record {
+    ends = λ y f. (let g = keeps.ends y f in (g.0, Contains-permutation ys xs g.0 (IsPermutation-sym xs ys p) g.1, g.2));
+    holds = λ y f. keeps.holds y (f.0, Contains-permutation xs ys f.0 p f.1, f.2);
   }
 
--- a sort changes the order alone
-pub joins_sorted : (xs ys wide : List Span) → IsPermutation xs ys → Widens ys wide → Widens xs wide
-joins_sorted xs ys wide p w = record {
-  low = λ s c. let n = w.low s c in (n.0, Contains-permutation ys xs n.0 (IsPermutation-sym xs ys p) n.1, n.2, n.3, n.4);
-  high = λ s c. let n = w.high s c in (n.0, Contains-permutation ys xs n.0 (IsPermutation-sym xs ys p) n.1, n.2, n.3, n.4);
-  each = λ x c. w.each x (Contains-permutation xs ys x p c);
-}
+  module _ (narrow : List A) where
+    pub joins_first : (first : A) → Contains narrow first → JoinedSoFar E H narrow 0 (first ∷ [])
+    joins_first first c = record {
+      ends = λ y f. elim ((some_push E [] first y).1 f) [ inl none ↦ absurd (none_from E y none) | inr is ↦ (first, c, is) ];
+      holds = λ y f. absurd (none_from H y f);
+    }
+
+    module _ (n : ℕ) (x : A) (is_x : x ≡ get_or narrow n x) (below : n < length narrow) (done : List A) (last : A) (so : JoinedSoFar E H narrow n (done ++ last ∷ [])) where
+      here : Contains narrow x
+      here = subst (Contains narrow) (sym is_x) (Contains-get_or narrow n x below)
+
+      first_or_here : (y : B) → FromFirst H narrow (n + 1) y → FromFirst H narrow n y ⊎ H x y
+      first_or_here y f = elim ((first_more H narrow n x below y).1 f) [ inl before ↦ inl before | inr is ↦ inr (subst (λ z. H z y) (sym is_x) is) ]
+
+      -- the last one grown by the next
+      pub joins_grown : (both : A) → IsJoined E H last x both → JoinedSoFar E H narrow (n + 1) (done ++ both ∷ [])
+      joins_grown both joint = record {
+        ends = λ y f. elim ((some_push E done both y).1 f) [
+          | inl old ↦ so.ends y ((some_push E done last y).0 (inl old))
+          | inr is ↦ elim (joint.ends y is) [
+            | inl left ↦ so.ends y ((some_push E done last y).0 (inr left))
+            | inr right ↦ (x, here, right)
+          ]
+        ];
+        holds = λ y f. (some_push H done both y).0 (elim (first_or_here y f) [
+          | inl before ↦ elim ((some_push H done last y).1 (so.holds y before)) [
+            | inl old ↦ inl old
+            | inr left ↦ inr (joint.holds y (inl left))
+          ]
+          | inr is ↦ inr (joint.holds y (inr is))
+        ]);
+      }
+
+      -- the next one is the last from then on
+      pub joins_next : JoinedSoFar E H narrow (n + 1) ((done ++ last ∷ []) ++ x ∷ [])
+      joins_next = record {
+        ends = λ y f. elim ((some_push E (done ++ last ∷ []) x y).1 f) [
+          | inl old ↦ so.ends y old
+          | inr is ↦ (x, here, is)
+        ];
+        holds = λ y f. (some_push H (done ++ last ∷ []) x y).0 (elim (first_or_here y f) [
+          | inl before ↦ inl (so.holds y before)
+          | inr is ↦ inr is
+        ]);
+      }
+
+    pub joins_all : (n : ℕ) (wide : List A) → length narrow ≤ n → JoinedSoFar E H narrow n wide → Keeps E H narrow wide
+    joins_all n wide all so = record {
+      ends = so.ends;
+      holds = λ y f. so.holds y (subst (λ xs. FromSome H xs y) (sym (take_all n narrow all)) f);
+    }
 
 -- what stands first is in the list, and where nothing does the list is empty
 pub first_of : {A : Type 0} (xs : List A) (x : A) → Some x ≡ slice_get xs 0 → Contains xs x

@@ -9,13 +9,12 @@ pub mod Sources
 pub mod Listing
 pub mod Joins
 pub mod Saw
-pub mod Spreading
 pub mod GapLemmas
 pub mod Unsighted
 pub mod RangeSights
 pub mod PartReads
 pub mod PackedEdges
-pub mod Widening
+pub mod Covering
 pub mod FewNumbers
 pub mod Committing
 pub mod LookLemmas
@@ -26,4 +25,5 @@ pub mod LooksMade
 pub mod AllLooks
 pub mod StandingNumbers
 pub mod BetweenPlaces
+pub mod KeyNumbers
 pub mod ChunkBoundLemmas

@@ -1,8 +1,9 @@
 -- Looks: their numbers, how they are in order, and which stand between two ranks.
-use Rattle.std.proofs.Common.{◌≡◌, inl, inr, ℕ, ◌+◌, ◌<◌, ◌≤◌, List, length, sym, subst, ◌∙◌, arith}
+use Rattle.std.proofs.Common.{◌≡◌, inl, inr, ℕ, ◌+◌, ◌<◌, ◌≤◌, List, Some, None, length, ap, sym, subst, ◌∙◌, arith}
 use Rattle.std.specs.Prelude.{◌↔◌, AllPairs, Contains, slice_range, slice_index, slice_index_or}
 use Rattle.std.proofs.lemmas.Bool.{cases_lt}
 use Rattle.std.proofs.lemmas.List.{get_or_default}
+use Rattle.std.proofs.lemmas.Option.{same_Some}
 use Rattle.std.proofs.lemmas.List.Elements.{Contains-get_or}
 use Rattle.sia_events.specs.declared.event.Event.{Event}
 use Rattle.sia_events.specs.Transactions.{IsCommitted, Wrote}
@@ -11,12 +12,12 @@ use Rattle.sia_parts.specs.EdgeNumbers.{IsCommittedAt}
 use Rattle.sia_index.proofs.Ordered.{ascends}
 use Rattle.sia_index.proofs.KeyChains.{key_number}
 use Rattle.sia_index.proofs.ReadTables.{part_has, part_gives}
-use Rattle.sia_parts.specs.declared.auditing.spans.Span.{Span}
+use Rattle.sia_index.specs.declared.info.KeyVersion.{KeyVersion}
 use Rattle.sia_parts.specs.declared.looks.Look.{Look}
 use Rattle.sia_parts.specs.Fans.{IsRankPlace}
-use Rattle.sia_parts.specs.Looking.{IsSpanLook}
+use Rattle.sia_parts.specs.Looking.{IsVersionLook}
 use Rattle.sia_parts.specs.Looks.{RiseByRank, look_rank}
-use Rattle.sia_parts.proofs.Committing.{committed_number}
+use Rattle.sia_parts.proofs.Committing.{at_is_committed, committed_number}
 
 -- a key with a number is written
 pub at_is_written : (h : List Event) (i k : ℕ) → IsKeyAt h i k → (t : ℕ) × Wrote h t k
@@ -50,11 +51,21 @@ one_key h i j k at other = sym at.3 ∙ (key_number h at.0 at.1 i k other).1
 pub one_committed : (h : List Event) (i t u : ℕ) → IsCommittedAt h i t → IsCommittedAt h i u → t ≡ u
 one_committed h i t u at other = sym at.3 ∙ (committed_number h at.0 at.1 i u other).1
 
--- so a span has one look
-pub one_look : (h : List Event) (span : Span) (x y : Look) → IsSpanLook h span x → IsSpanLook h span y → x ≡ y
-one_look h span x y is other =
-    let txn = one_committed_number h x.txn y.txn span.txn is.0.0 other.0.0 in
-    let key = one_key_number h x.key y.key span.key is.0.1 other.0.1 in
+-- by an option
+pub committed_some : (h : List Event) (i t : ℕ) → IsCommittedAt h i t → (j : ℕ) → (Some i ≡ Some j) ↔ IsCommittedAt h j t
+committed_some h i t at j = ((λ same. subst (λ n. IsCommittedAt h n t) (same_Some i j same) at), (λ other. ap Some (one_committed_number h i j t at other)))
+
+pub committed_none : (h : List Event) (t : ℕ) → ¬ IsCommitted h t → (j : ℕ) → (None ≡ Some j) ↔ IsCommittedAt h j t
+committed_none h t none j = ((λ same. absurd cc), (λ at. absurd (none (at_is_committed h j t at))))
+
+pub key_some : (h : List Event) (i k : ℕ) → IsKeyAt h i k → (j : ℕ) → (Some i ≡ Some j) ↔ IsKeyAt h j k
+key_some h i k at j = ((λ same. subst (λ n. IsKeyAt h n k) (same_Some i j same) at), (λ other. ap Some (one_key_number h i j k at other)))
+
+-- so a version has one look
+pub one_look : (h : List Event) (made : KeyVersion) (x y : Look) → IsVersionLook h made x → IsVersionLook h made y → x ≡ y
+one_look h made x y is other =
+    let txn = one_committed_number h x.txn y.txn made.txn is.0.0 other.0.0 in
+    let key = one_key_number h x.key y.key made.key is.0.1 other.0.1 in
     let low = is.1 ∙ sym other.1 in
     let high = is.2 ∙ sym other.2 in
     λ i. record { txn = txn i; key = key i; low = low i; high = high i }

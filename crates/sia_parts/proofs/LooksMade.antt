@@ -1,4 +1,4 @@
--- The looks of a part's versions, spans and gaps are those at its keys.
+-- The looks of a part's versions, and what its reads saw, are the looks at its keys.
 use Rattle.std.proofs.Common.{inl, inr, ℕ, List, refl, sym, subst, ◌∙◌}
 use Rattle.std.specs.Prelude.{◌↔◌, Contains}
 use Rattle.std.proofs.lemmas.List.{get_or_default}
@@ -8,17 +8,15 @@ use Rattle.sia_events.specs.NarrowDependencies.{Looked}
 use Rattle.sia_events.specs.Transactions.{IsCommitted, Wrote}
 use Rattle.sia_index.specs.declared.info.KeyVersion.{KeyVersion}
 use Rattle.sia_index.specs.Info.{AreVersionsWithin, AreWrittenKeys, IsKeyAt}
-use Rattle.sia_parts.specs.declared.auditing.gaps.Gap.{Gap}
-use Rattle.sia_parts.specs.declared.auditing.spans.Span.{Span}
 use Rattle.sia_parts.specs.declared.cutting.Part.{Part}
 use Rattle.sia_parts.specs.declared.looks.Look.{Look}
 use Rattle.sia_parts.specs.declared.looks.Looks.{Looks}
 use Rattle.sia_parts.specs.EdgeNumbers.{IsCommittedAt}
-use Rattle.sia_parts.specs.Looking.{IsAbsence, IsGapAt, IsSpanLook, IsVersionLook}
+use Rattle.sia_parts.specs.Looking.{AreSeen, IsVersionLook}
 use Rattle.sia_parts.specs.Looks.{AreLooks, IsCovered, RiseByRank}
 use Rattle.sia_parts.specs.Parts.{IsInPart}
-use Rattle.sia_parts.specs.Sights.{AreSpans, FromSome}
-use Rattle.sia_parts.proofs.LookLemmas.{at_is_written}
+use Rattle.sia_parts.specs.Sights.{FromSome}
+use Rattle.sia_parts.proofs.LookLemmas.{one_committed, one_key}
 
 module _ (h : List Event) (txns keys : List ℕ) (txns_are : ListsAscending (IsCommitted h) txns) (keys_are : AreWrittenKeys h keys) where
   numbered_txn : (t : ℕ) → IsCommitted h t → (i : ℕ) × IsCommittedAt h i t
@@ -27,21 +25,15 @@ module _ (h : List Event) (txns keys : List ℕ) (txns_are : ListsAscending (IsC
   numbered_key : (k t : ℕ) → Wrote h t k → (i : ℕ) × IsKeyAt h i k
   numbered_key k t wrote = let c = (keys_are.each k).1 (t, wrote) in (c.0, (keys, keys_are, c.1, get_or_default keys c.0 0 k c.1 ∙ c.2))
 
-  module _ (part : Part) (versions : List KeyVersion) (spans : List Span) (gaps : List Gap) (versions_are : AreVersionsWithin h part.lo part.hi versions) (spans_are : AreSpans h part spans gaps) (looks : Looks)
-      (writers : (look : Look) → Contains looks.writers.items look ↔ FromSome (IsVersionLook h) versions look) (rise : RiseByRank looks.writers.items)
-      (readers : (look : Look) → Contains looks.readers.items look ↔ FromSome (IsSpanLook h) spans look)
-      (absences : (pair : ℕ × ℕ) → FromSome IsAbsence looks.absences.items pair ↔ FromSome (IsGapAt h) gaps pair) where
+  module _ (part : Part) (versions : List KeyVersion) (versions_are : AreVersionsWithin h part.lo part.hi versions) (looks : Looks) (seen : AreSeen h part looks.readers.items looks.absences.items)
+      (writers : (look : Look) → Contains looks.writers.items look ↔ FromSome (IsVersionLook h) versions look) (rise : RiseByRank looks.writers.items) where
     covered : (t k c u : ℕ) → Looked h t k c → Wrote h u k → IsInPart part k → IsCovered h looks t k c
     covered t k c u look wrote within =
         let i = numbered_txn t look.0 in
         let j = numbered_key k u wrote in
-        elim (spans_are.whole t k c u look within wrote) [
-          | inl (span, has, (txn, key, low, high)) ↦
-              let seen : Look = record { txn = i.0; key = j.0; low = span.low; high = span.high } in
-              inl (seen, (readers seen).1 (span, has, ((subst (IsCommittedAt h i.0) (sym txn) i.1, subst (IsKeyAt h j.0) (sym key) j.1), refl, refl)), (i.1, j.1), low, high)
-          | inr (zero, (gap, has, (txn, lo, hi))) ↦
-              let f = (absences (i.0, j.0)).1 (gap, has, (subst (IsCommittedAt h i.0) (sym txn) i.1, k, j.1, lo, hi)) in
-              inr (zero, f.0, f.1, (subst (λ n. IsCommittedAt h n t) (sym f.2.0) i.1, j.0, j.1, f.2.1, f.2.2))
+        elim (seen.whole (i.0, j.0, c) (t, k, i.1, j.1, look, within)) [
+          | inl (reader, has, (txn, key, low, high)) ↦ inl (reader, has, (subst (λ n. IsCommittedAt h n t) (sym txn) i.1, subst (λ n. IsKeyAt h n k) (sym key) j.1), low, high)
+          | inr (absence, has, (txn, from, to, zero)) ↦ inr (zero, absence, has, (subst (λ n. IsCommittedAt h n t) (sym txn) i.1, j.0, j.1, from, to))
         ]
 
     pub looks_are : AreLooks h (IsInPart part) looks
@@ -59,15 +51,11 @@ module _ (h : List Event) (txns keys : List ℕ) (txns_are : ListsAscending (IsC
           (look, (writers look).1 (v, (versions_are.each v).1 (version.0, version.1, within.0, within.1), ((i.1, j.1), refl, refl)), ((i.1, j.1), refl, refl, version)));
       rise = rise;
       seen = λ look c.
-          (let of = (readers look).0 c in
-          let span = of.0 in
-          (span.txn, span.key, (of.2.0, subst (Looked h span.txn span.key) (sym of.2.1) (spans_are.low span of.1), subst (Looked h span.txn span.key) (sym of.2.2) (spans_are.high span of.1)), spans_are.within span of.1));
-      absent = λ absence c j from to.
-          (let f = (absences (absence.txn, j)).0 (absence, c, (refl, from, to)) in
-          let gap = f.0 in
-          let at = f.2 in
-          let wrote = at_is_written h j at.1 at.2 in
-          let look = spans_are.unlisted (gap.txn, at.1) wrote.0 wrote.1 (gap, f.1, (refl, at.3, at.4)) in
-          (gap.txn, at.1, at.0, at.2, look.0, look.1));
+          (let low = seen.ends (look.txn, look.key, look.low) (inl (look, c, (refl, refl, inl refl))) in
+          let high = seen.ends (look.txn, look.key, look.high) (inl (look, c, (refl, refl, inr refl))) in
+          let txn = one_committed h look.txn high.0 low.0 high.2 low.2 in
+          let key = one_key h look.key high.1 low.1 high.3 low.3 in
+          (low.0, low.1, ((low.2, low.3), low.4, subst (λ t. Looked h t low.1 look.high) txn (subst (λ k. Looked h high.0 k look.high) key high.4)), low.5));
+      absent = λ absence c j from to. seen.ends (absence.txn, j, 0) (inr (absence, c, (refl, from, to, refl)));
       each_seen = λ t k c u look wrote within. covered t k c u look wrote within;
     }

@@ -1,4 +1,4 @@
--- What the reads of a part give: its bad reads, its spans and gaps, and its unexplained reads.
+-- What the reads of a part give: its bad reads, its looks and absences, and its unexplained reads.
 use Rattle.std.proofs.Common.{◌≡◌, ◌≢◌, ◌⊎◌, inl, inr, ℕ, ◌<◌, ◌≤◌, List, [], Some, length, get_or, refl, sym, subst, ◌∙◌, arith}
 use Rattle.std.specs.Prelude.{◌↔◌, Contains}
 use Rattle.std.proofs.lemmas.List.Elements.{Contains-get_or}
@@ -7,7 +7,7 @@ use Rattle.sia_events.specs.declared.event.Event.TheVariants.{Begin, Read, Range
 use Rattle.sia_events.specs.Places.{at_place}
 use Rattle.sia_events.specs.Events.{actor, Saw}
 use Rattle.sia_events.specs.Refusals.{IsWellFormed}
-use Rattle.sia_events.specs.Transactions.{CommitsAt, Wrote}
+use Rattle.sia_events.specs.Transactions.{CommitsAt}
 use Rattle.sia_events.specs.Reads.{SawAt, IsDue}
 use Rattle.sia_events.specs.Isolation.{IsBadRead, IsUnexplained}
 use Rattle.sia_events.proofs.Due.{has_due}
@@ -18,18 +18,20 @@ use Rattle.sia_index.specs.Info.{AreReadsWithin, AreRangesMeeting}
 use Rattle.sia_parts.specs.declared.cutting.Part.{Part}
 use Rattle.sia_parts.specs.declared.finding.BadRead.{BadRead}
 use Rattle.sia_parts.specs.declared.finding.Unexplained.{Unexplained}
-use Rattle.sia_parts.specs.declared.auditing.gaps.Gap.{Gap}
 use Rattle.sia_parts.specs.declared.auditing.sights.Sight.{Sight}
-use Rattle.sia_parts.specs.declared.auditing.spans.Span.{Span}
+use Rattle.sia_parts.specs.declared.looks.Absence.{Absence}
+use Rattle.sia_parts.specs.declared.looks.Look.{Look}
 use Rattle.sia_parts.specs.Findings.{ListsBadReads}
+use Rattle.sia_parts.specs.Joining.{JoinsTo, Keeps, Spreads, IsEnd, IsInLook, IsInAbsence}
+use Rattle.sia_parts.specs.Looking.{AreSeen, IsLookedAt}
 use Rattle.sia_parts.specs.Parts.{IsInPart}
-use Rattle.sia_events.specs.NarrowDependencies.{Looked}
-use Rattle.sia_parts.specs.Sights.{FromSome, FromSight, IsSight, IsRangeSight, IsListedSight, IsBadOf, IsSpanOf, IsInSpan, WidensAll, AreSpans, IsUnexplainedOf, read_sight, bad_sight}
-use Rattle.sia_parts.specs.Gaps.{InSomeGap, Spreads, IsUnlistedBy}
+use Rattle.sia_parts.specs.Sights.{FromSome, FromSight, IsSight, IsRangeSight, IsListedSight, IsBadOf, LooksAt, IsUnexplainedOf, read_sight, bad_sight}
+use Rattle.sia_parts.specs.Gaps.{IsUnlistedBy}
+use Rattle.sia_parts.proofs.Committing.{at_is_committed}
+use Rattle.sia_parts.proofs.Covering.{none_from}
 use Rattle.sia_parts.proofs.RangeSights.{covered_listed, listed_inside}
 use Rattle.sia_parts.proofs.Saw.{read_is_sight}
 use Rattle.sia_parts.proofs.Sources.{one_as_of}
-use Rattle.sia_parts.proofs.Spreading.{in_no_gap}
 
 module _ (h : List Event) (wf : IsWellFormed h) (part : Part) (reads : List ItemRead) (ranges : List RangeRead) (reads_are : AreReadsWithin h part.lo part.hi reads) (ranges_are : AreRangesMeeting h part.lo part.hi ranges) where
   -- the range read of an event is among those that meet the part
@@ -74,13 +76,13 @@ module _ (h : List Event) (wf : IsWellFormed h) (part : Part) (reads : List Item
     (λ bad. given (IsBadOf h) b (bad_sight b) bad.0.0 bad.1 (refl, bad.0)),
   )
 
-  -- the spans of read events and of keys that range reads listed
-  abbrev pub FromListed : Span → Type 0
-  FromListed y = FromSome (λ read. IsSpanOf h (read_sight read)) reads y ⊎ FromSome (λ range. FromSight (IsListedSight h part range) (IsSpanOf h)) ranges y
+  -- the points of read events and of keys that range reads listed
+  abbrev pub FromListed : ℕ × ℕ × ℕ → Type 0
+  FromListed at = FromSome (λ range. FromSight (IsListedSight h part range) (LooksAt h)) ranges at ⊎ FromSome (λ read. LooksAt h (read_sight read)) reads at
 
-  listed_taken : (y : Span) → FromListed y → (s : Sight) × IsSight h s × IsInPart part s.key × IsSpanOf h s y
-  listed_taken y (inl f) = let is = (reads_are.each f.0).0 f.1 in (read_sight f.0, read_is_sight h f.0 is.0, (is.1, is.2), f.2)
-  listed_taken y (inr f) =
+  listed_taken : (at : ℕ × ℕ × ℕ) → FromListed at → (s : Sight) × IsSight h s × IsInPart part s.key × LooksAt h s at
+  listed_taken at (inr f) = let is = (reads_are.each f.0).0 f.1 in (read_sight f.0, read_is_sight h f.0 is.0, (is.1, is.2), f.2)
+  listed_taken at (inl f) =
       let s = f.2.0 in
       let is = f.2.1 in
       let range = f.0 in
@@ -88,73 +90,51 @@ module _ (h : List Event) (wf : IsWellFormed h) (part : Part) (reads : List Item
       let sight = covered_listed h wf part range is.3 is.4 s.key s.saw inside.0 inside.1 is.5 in
       (s, subst (IsSight h) (λ i. record { place = sym is.0 i; txn = sym is.1 i; key = s.key; saw = s.saw }) sight, is.2, f.2.2)
 
-  module _ (spans : List Span) (wide : WidensAll FromListed spans) (gaps : List Gap) (spread : Spreads h (FromSome (IsUnlistedBy h part) ranges) [] gaps) where
-    looked_low : (span : Span) → ((s : Sight) × IsSight h s × IsInPart part s.key × IsSpanOf h s span) → Looked h span.txn span.key span.low
-    looked_low span f =
-        let s = f.0 in
-        let is = f.3 in
-        subst (λ t. Looked h t span.key span.low) (sym is.0) (subst (λ k. Looked h s.txn k span.low) (sym is.1) (is.3, s.place, s.saw, f.1, is.4, is.5))
+  module _ (looks : List Look) (joins : JoinsTo FromListed [] looks) (absences : List Absence) (spread : Spreads (FromSome (IsUnlistedBy h part) ranges) [] absences) where
+    looked : (at : ℕ × ℕ × ℕ) → FromListed at → IsLookedAt h part at
+    looked at f =
+        let of = listed_taken at f in
+        let s = of.0 in
+        let is = of.3 in
+        (s.txn, s.key, is.0, is.1, (at_is_committed h at.0 s.txn is.0, s.place, s.saw, of.1, is.2, is.3), of.2)
 
-    -- a look of one span is one of another with its transaction, key and end
-    moved : (n s : Span) {c : ℕ} → n.txn ≡ s.txn → n.key ≡ s.key → n.low ≡ c → Looked h n.txn n.key n.low → Looked h s.txn s.key c
-    moved n s {c} txn key end look = subst (λ t. Looked h t s.key c) txn (subst (λ k. Looked h n.txn k c) key (subst (Looked h n.txn n.key) end look))
+    -- what lies in an absence was seen at version 0
+    missed : (at : ℕ × ℕ × ℕ) → FromSome (IsUnlistedBy h part) ranges at → IsLookedAt h part at
+    missed at by =
+        let range = by.0 in
+        let is = by.2 in
+        let k = is.1 in
+        let saw : SawAt h range.place range.txn k 0 = (Range range.txn range.lo range.hi is.4, is.5, refl, (is.6.0, is.6.1, inr (is.6.2, refl))) in
+        let positive : 0 < range.txn = (actor_is_txn h wf range.txn range.place (saw.0, saw.1, saw.2)).0 in
+        (range.txn, k, is.0, is.2, (at_is_committed h at.0 range.txn is.0, range.place, 0, saw, (λ same. omega arith), inl (refl, is.7)), is.3)
 
-    -- what lies in a gap was seen at version 0
-    gap_looked : (look : ℕ × ℕ) (u : ℕ) → Wrote h u look.1 → InSomeGap gaps look → Looked h look.0 look.1 0 × IsInPart part look.1
-    gap_looked look u wrote f = elim ((spread look u wrote).0 f) [
-      | inl none ↦ absurd (in_no_gap look none)
-      | inr by ↦
-          let range = by.0 in
-          let is = by.2 in
-          let saw : SawAt h range.place look.0 look.1 0 = (Range range.txn range.lo range.hi is.3, is.4, is.0, (is.5.0, is.5.1, inr (is.5.2, refl))) in
-          let positive : 0 < look.0 = (actor_is_txn h wf look.0 range.place (saw.0, saw.1, saw.2)).0 in
-          ((is.1, range.place, 0, saw, (λ same. omega arith), inl (refl, refl)), is.2)
-    ]
-
-    -- a look at a key of the part lies in a span or in a gap
-    look_found : (t k c u : ℕ) → Looked h t k c → IsInPart part k → Wrote h u k → ((s : Span) × Contains spans s × IsInSpan s t k c) ⊎ ((c ≡ 0) × InSomeGap gaps (t, k))
-    look_found t k c u look in_part wrote = of_event look.3.0 look.3.1 look.3.2 look.3.3
+    -- a look at a key of the part lies in a look or in an absence
+    look_found : (at : ℕ × ℕ × ℕ) → IsLookedAt h part at → FromSome IsInLook looks at ⊎ FromSome IsInAbsence absences at
+    look_found at (t, k, txn, key, look, in_part) = of_event look.3.0 look.3.1 look.3.2 look.3.3
       where
         s : Sight
         s = record { place = look.1; txn = t; key = k; saw = look.2 }
 
-        span : Span
-        span = record { txn = t; key = k; low = c; high = c }
+        of_event : (e : Event) → at_place h look.1 ≡ Some e → actor e ≡ t → Saw e k look.2 → FromSome IsInLook looks at ⊎ FromSome IsInAbsence absences at
+        of_event (Begin a start) stands act saw = absurd saw
+        of_event (Read a j v) stands act saw = inl (joins.holds at (inr (inr (record { key = k; txn = t; place = look.1; saw = look.2 }, is_read s a j v stands act saw.0 saw.1 in_part, (txn, key, look.4, look.5)))))
+        of_event (Range a lo hi listed) stands act (from, to, inl c) =
+            let own = stands ∙ (λ i. Some (Range (act i) lo hi listed)) in
+            inl (joins.holds at (inr (inl (record { lo = lo; hi = hi; txn = t; place = look.1 }, meets look.1 t k lo hi listed own from to in_part, (s, (refl, refl, in_part, listed, own, c), (txn, key, look.4, look.5))))))
+        of_event (Range a lo hi listed) stands act (from, to, inr none) =
+            let own = stands ∙ (λ i. Some (Range (act i) lo hi listed)) in
+            inr (spread.holds at (inr (record { lo = lo; hi = hi; txn = t; place = look.1 }, meets look.1 t k lo hi listed own from to in_part, (txn, k, key, in_part, listed, own, (from, to, none.0), one_as_of h wf look.2 at.2 0 look.5 (inl (none.1, refl))))))
+        of_event (Write a j) stands act saw = absurd saw
+        of_event (Commit a) stands act saw = absurd saw
+        of_event (Abort a) stands act saw = absurd saw
 
-        one : FromListed span → (x : Span) × Contains spans x × IsInSpan x t k c
-        one f = let wider = wide.each span f in (wider.0, wider.1, (wider.2, wider.3, wider.4, wider.5))
-
-        of_event : (e : Event) → at_place h look.1 ≡ Some e → actor e ≡ t → Saw e k look.2 → ((x : Span) × Contains spans x × IsInSpan x t k c) ⊎ ((c ≡ 0) × InSomeGap gaps (t, k))
-        of_event (Begin a start) at act saw = absurd saw
-        of_event (Read a j v) at act saw = inl (one (inl (record { key = k; txn = t; place = look.1; saw = look.2 }, is_read s a j v at act saw.0 saw.1 in_part, (refl, refl, refl, look.0, look.4, look.5))))
-        of_event (Range a lo hi listed) at act (from, to, inl c) =
-            let own = at ∙ (λ i. Some (Range (act i) lo hi listed)) in
-            inl (one (inr (record { lo = lo; hi = hi; txn = t; place = look.1 }, meets look.1 t k lo hi listed own from to in_part, (s, (refl, refl, in_part, listed, own, c), (refl, refl, refl, look.0, look.4, look.5)))))
-        of_event (Range a lo hi listed) at act (from, to, inr none) =
-            let own = at ∙ (λ i. Some (Range (act i) lo hi listed)) in
-            inr (
-              one_as_of h wf look.2 c 0 look.5 (inl (none.1, refl)),
-              (spread (t, k) u wrote).1 (inr (record { lo = lo; hi = hi; txn = t; place = look.1 }, meets look.1 t k lo hi listed own from to in_part, (refl, look.0, in_part, listed, own, (from, to, none.0)))),
-            )
-        of_event (Write a j) at act saw = absurd saw
-        of_event (Commit a) at act saw = absurd saw
-        of_event (Abort a) at act saw = absurd saw
-
-    pub spans_are : AreSpans h part spans gaps
-    spans_are = record {
-      low = λ s c.
-          let n = wide.low s c in
-          moved n.0 s n.2 n.3 n.4 (looked_low n.0 (listed_taken n.0 n.1));
-      high = λ s c.
-          let n = wide.high s c in
-          let f = listed_taken n.0 n.1 in
-          moved n.0 s n.2 n.3 (f.3.2 ∙ n.4) (looked_low n.0 f);
-      within = λ s c.
-          let n = wide.low s c in
-          let f = listed_taken n.0 n.1 in
-          subst (IsInPart part) (sym f.3.1 ∙ n.3) f.2;
-      unlisted = gap_looked;
-      whole = look_found;
+    pub seen_are : (wide : List Look) (joint : List Absence) → Keeps IsEnd IsInLook looks wide → Keeps IsInAbsence IsInAbsence absences joint → AreSeen h part wide joint
+    seen_are wide joint keeps spares = record {
+      ends = λ at e. elim e [
+        | inl f ↦ elim (joins.ends at (keeps.ends at f)) [ inl none ↦ absurd (none_from IsEnd at none) | inr is ↦ looked at is ]
+        | inr f ↦ elim (spread.ends at (spares.ends at f)) [ inl none ↦ absurd (none_from IsInAbsence at none) | inr is ↦ missed at is ]
+      ];
+      whole = λ at is. elim (look_found at is) [ inl f ↦ inl (keeps.holds at f) | inr f ↦ inr (spares.holds at f) ];
     }
 
 module _ (h : List Event) (wf : IsWellFormed h) where

@@ -7,21 +7,21 @@ use Rattle.sia_events.specs.declared.event.Event.TheVariants.{Range}
 use Rattle.sia_events.specs.Places.{at_place}
 use Rattle.sia_events.specs.Events.{Saw}
 use Rattle.sia_events.specs.Refusals.{IsWellFormed}
-use Rattle.sia_events.specs.Transactions.{IsCommitted}
 use Rattle.sia_events.proofs.Ranges.{list_in_order}
 use Rattle.sia_events.proofs.Starts.{one_event}
 use Rattle.sia_index.specs.declared.info.RangeRead.{RangeRead}
 use Rattle.sia_index.specs.declared.info.Reader.{Reader}
 use Rattle.sia_index.specs.Info.{IsRangeRead, IsReader}
 use Rattle.sia_parts.specs.declared.cutting.Part.{Part}
-use Rattle.sia_parts.specs.declared.auditing.gaps.Gap.{Gap}
 use Rattle.sia_parts.specs.declared.auditing.sights.Sight.{Sight}
-use Rattle.sia_parts.specs.declared.auditing.spans.Span.{Span}
-use Rattle.sia_parts.specs.Sights.{Adds, JoinsTo, FromSome, FromSight, IsSight, IsRangeSight, IsListedSight, listed_sight, unlisted_sight}
-use Rattle.sia_parts.specs.Gaps.{Spreads, FromKeys, IsGapOf, IsUnlisted, IsUnlistedBy}
+use Rattle.sia_parts.specs.declared.looks.Absence.{Absence}
+use Rattle.sia_parts.specs.declared.looks.Look.{Look}
+use Rattle.sia_parts.specs.EdgeNumbers.{IsCommittedAt}
+use Rattle.sia_parts.specs.Joining.{JoinsTo, Spreads, IsEnd, IsInLook, IsInAbsence}
+use Rattle.sia_parts.specs.Sights.{Adds, FromSome, FromSight, IsSight, IsRangeSight, IsListedSight, listed_sight, unlisted_sight}
+use Rattle.sia_parts.specs.Gaps.{FromKeys, IsGapOf, IsUnlisted, IsUnlistedBy}
 use Rattle.sia_parts.proofs.Adding.{adds_nothing, adds_same, adds_both}
-use Rattle.sia_parts.proofs.Spreading.{spreads_nothing, spreads_same}
-use Rattle.sia_parts.proofs.Widening.{joins_nothing, joins_same}
+use Rattle.sia_parts.proofs.Covering.{covers_nothing, covers_same}
 
 -- the list of a range read
 listed_of : (t lo hi u from to : ℕ) (a b : List (ℕ × ℕ)) → Range t lo hi a ≡ Range u from to b → a ≡ b
@@ -66,15 +66,15 @@ module _ (h : List Event) (wf : IsWellFormed h) (part : Part) (range : RangeRead
     pub apart_sights : {B : Type 0} (Q : Sight → B → Type 0) (old : List B) → Adds (FromSight (IsRangeSight h part range) Q) old old
     apart_sights Q old = adds_nothing (FromSight (IsRangeSight h part range) Q) old (λ y f. let saw = saw_of f.0 f.1 in apart f.0.key f.1.3.0 f.1.3.1 saw.0 saw.1)
 
-    pub apart_listed : (Q : Sight → Span → Type 0) (old : List Span) → JoinsTo (FromSight (IsListedSight h part range) Q) old old
-    apart_listed Q old = joins_nothing (FromSight (IsListedSight h part range) Q) old
+    pub apart_listed : (Q : Sight → ℕ × ℕ × ℕ → Type 0) (old : List Look) → JoinsTo (FromSight (IsListedSight h part range) Q) old old
+    apart_listed Q old = covers_nothing IsEnd IsInLook (FromSight (IsListedSight h part range) Q) old
         (λ y f.
         let is = f.1 in
         let inside = listed_inside f.0.key f.0.saw (subst (λ l. Contains l (f.0.key, f.0.saw)) (own_list is.3 is.4) is.5) in
         apart f.0.key is.2.0 is.2.1 inside.0 inside.1)
 
-    pub apart_gaps : (old : List Gap) → Spreads h (IsUnlistedBy h part range) old old
-    apart_gaps old = spreads_nothing h (IsUnlistedBy h part range) old (λ look u wrote is. apart look.1 is.2.0 is.2.1 is.5.0 is.5.1)
+    pub apart_gaps : (old : List Absence) → Spreads (IsUnlistedBy h part range) old old
+    apart_gaps old = covers_nothing IsInAbsence IsInAbsence (IsUnlistedBy h part range) old (λ at is. apart is.1 is.3.0 is.3.1 is.6.0 is.6.1)
 
   -- of the keys of both, some are listed
   module _ (lo hi : ℕ) (lo_is : lo ≡ max part.lo range.lo) (hi_is : hi ≡ min part.hi range.hi) (here : List (ℕ × ℕ)) (cut : (p : ℕ × ℕ) → Contains here p ↔ (Contains listed p × (lo ≤ p.0) × (p.0 ≤ hi))) where
@@ -96,8 +96,8 @@ module _ (h : List Event) (wf : IsWellFormed h) (part : Part) (range : RangeRead
     pub unlisted_here_sight : (reader : Reader) → IsReader h range.txn range.place reader → (k : ℕ) → IsUnlisted here lo hi k → IsSight h (unlisted_sight reader k)
     unlisted_here_sight reader is k un = covered_unlisted reader is k (let a = un.0 in omega arith) (let a = un.1 in omega arith) (not_here k un)
 
-    pub listed_here : (Q : Sight → Span → Type 0) (old new : List Span) → JoinsTo (FromSome (λ p. Q (listed_sight range p)) here) old new → JoinsTo (FromSight (IsListedSight h part range) Q) old new
-    listed_here Q old new joins = joins_same (FromSome (λ p. Q (listed_sight range p)) here) (FromSight (IsListedSight h part range) Q) old new
+    pub listed_here : (Q : Sight → ℕ × ℕ × ℕ → Type 0) (old new : List Look) → JoinsTo (FromSome (λ p. Q (listed_sight range p)) here) old new → JoinsTo (FromSight (IsListedSight h part range) Q) old new
+    listed_here Q old new joins = covers_same IsEnd IsInLook (FromSome (λ p. Q (listed_sight range p)) here) (FromSome (λ p. Q (listed_sight range p)) here) (FromSight (IsListedSight h part range) Q) (FromSight (IsListedSight h part range) Q) old new
         (λ y f.
         let own = (cut f.0).0 f.1 in
         let first = own.1 in
@@ -147,17 +147,18 @@ module _ (h : List Event) (wf : IsWellFormed h) (part : Part) (range : RangeRead
                 subst (λ (x : Sight). Q x y) (λ i. record { place = place i; txn = txn i; key = s.key; saw = zero i }) q,
               )
 
-      pub gaps_here : (old new : List Gap) → Spreads h (IsGapOf reader (IsUnlisted here lo hi)) old new → Spreads h (IsUnlistedBy h part range) old new
-      gaps_here old new spreads = spreads_same h (IsGapOf reader (IsUnlisted here lo hi)) (IsUnlistedBy h part range) old new
+      pub gaps_here : (old new : List Absence) → Spreads (IsGapOf h reader (IsUnlisted here lo hi)) old new → Spreads (IsUnlistedBy h part range) old new
+      gaps_here old new spreads = covers_same IsInAbsence IsInAbsence (IsGapOf h reader (IsUnlisted here lo hi)) (IsGapOf h reader (IsUnlisted here lo hi)) (IsUnlistedBy h part range) (IsUnlistedBy h part range) old new
           (λ look is.
-          let txn : range.txn ≡ look.0 = sym reads.txn_is ∙ is.0 in
-          let low = is.2.0 in
-          let high = is.2.1 in
-          (txn, subst (IsCommitted h) txn (reads.committed.0 is.1), (omega arith, omega arith), listed, at, (omega arith, omega arith, not_here look.1 is.2)))
+          let low = is.3.0 in
+          let high = is.3.1 in
+          (subst (IsCommittedAt h look.0) reads.txn_is is.0, is.1, is.2, (omega arith, omega arith), listed, at, (omega arith, omega arith, not_here is.1 is.3), is.4))
           (λ look is.
-          let list = own_list is.3 is.4 in (
-            reads.txn_is ∙ is.0,
-            reads.committed.1 (subst (IsCommitted h) (sym is.0) is.1),
-            (both_low look.1 is.2.0 is.5.0, both_high look.1 is.2.1 is.5.1, (λ v c. is.5.2 v (subst (λ l. Contains l (look.1, v)) (sym list) ((cut (look.1, v)).0 c).0))),
+          let list = own_list is.4 is.5 in (
+            subst (IsCommittedAt h look.0) (sym reads.txn_is) is.0,
+            is.1,
+            is.2,
+            (both_low is.1 is.3.0 is.6.0, both_high is.1 is.3.1 is.6.1, (λ v c. is.6.2 v (subst (λ l. Contains l (is.1, v)) (sym list) ((cut (is.1, v)).0 c).0))),
+            is.7,
           ))
           spreads

@@ -1,10 +1,11 @@
 -- What reads saw of keys: the sights of read events, and what comes of a sight.
 use Rattle.std.proofs.Common.{◌≡◌, ◌≢◌, ◌⊎◌, inl, inr, ℕ, ◌-◌, ◌<◌, ◌≤◌, List, [], ◌∷◌, length, get_or, map, Option, Some, None, refl, ap, sym, subst, ◌∙◌, arith}
-use Rattle.std.specs.Prelude.{All, Contains, MatchOption}
+use Rattle.std.specs.Prelude.{◌↔◌, All, Contains, MatchOption}
 use Rattle.std.proofs.lemmas.Bool.{cases_eq}
 use Rattle.std.specs.List.Sorted.{IsStrictlyIncreasing}
 use Rattle.std.proofs.lemmas.List.{get_or-map, get_or_default, length-map}
 use Rattle.std.proofs.lemmas.List.Kept.{AllPairs-from_increasing}
+use Rattle.std.proofs.lemmas.Option.{same_Some}
 use Rattle.sia_events.specs.declared.event.Event.{Event}
 use Rattle.sia_events.specs.declared.event.Event.TheVariants.{Read}
 use Rattle.sia_events.specs.Lists.{ListsBy}
@@ -19,9 +20,8 @@ use Rattle.sia_index.specs.Info.{IsItemRead, IsReader}
 use Rattle.sia_index.specs.Seen.{IsSeen}
 use Rattle.sia_parts.specs.declared.finding.BadRead.{BadRead}
 use Rattle.sia_parts.specs.declared.auditing.sights.Sight.{Sight}
-use Rattle.sia_parts.specs.declared.auditing.spans.Span.{Span}
 use Rattle.sia_events.specs.NarrowDependencies.{IsAsOf}
-use Rattle.sia_parts.specs.Sights.{IsSight, IsBadOf, IsSpanOf, read_sight, AscendsByKey}
+use Rattle.sia_parts.specs.Sights.{IsSight, IsBadOf, read_sight, AscendsByKey}
 use Rattle.sia_parts.proofs.Sources.{one_as_of}
 
 -- what a read event saw is a sight
@@ -48,20 +48,16 @@ bad_none h s due is good x bad =
     let same = bad_alone h s due is x bad in
     bad.1.2 (sym (ap (λ (y : BadRead). y.saw) same) ∙ sym good ∙ ap (λ (y : BadRead). y.due) same)
 
--- the span of a sight is one
-pub one_span : (h : List Event) → IsWellFormed h → (s : Sight) (c : ℕ) → IsAsOf h s.saw c → (x : Span) → IsSpanOf h s x → ◌≡◌ {A = Span} (record { txn = s.txn; key = s.key; low = c; high = c }) x
-one_span h wf s c is x span =
-    let low : c ≡ x.low = one_as_of h wf s.saw c x.low is span.5 in
-    let high : c ≡ x.high = low ∙ span.2 in
-    λ i. record { txn = sym span.0 i; key = sym span.1 i; low = low i; high = high i }
+-- a version is as of what place, by cases
+pub as_of_this : (h : List Event) → IsWellFormed h → (v c : ℕ) → IsAsOf h v c → (d : ℕ) → (Some c ≡ Some d) ↔ IsAsOf h v d
+as_of_this h wf v c is d = ((λ same. subst (IsAsOf h v) (same_Some c d same) is), (λ other. ap Some (one_as_of h wf v c d is other)))
 
--- the place as of which a version is, by cases
-pub as_of_zero : (h : List Event) → IsWellFormed h → (v : ℕ) → v ≡ 0 → IsAsOf h v 0 × ((d : ℕ) → IsAsOf h v d → 0 ≡ d)
-as_of_zero h wf v zero = let is : IsAsOf h v 0 = inl (zero, refl) in (is, λ d other. one_as_of h wf v 0 d is other)
-
-pub as_of_commit : (h : List Event) → IsWellFormed h → (v : ℕ) → v ≢ 0 → (found : Option ℕ) → MatchOption found (¬ IsCommitted h v) (CommitsAt h v) → MatchOption found ((c : ℕ) → ¬ IsAsOf h v c) (λ c. IsAsOf h v c × ((d : ℕ) → IsAsOf h v d → c ≡ d))
-as_of_commit h wf v other None none = λ c is. elim is [ inl zero ↦ other zero.0 | inr commits ↦ none (c, commits) ]
-as_of_commit h wf v other (Some c) commits = (inr commits, λ d is. one_as_of h wf v c d (inr commits) is)
+pub as_of_commit : (h : List Event) → IsWellFormed h → (v : ℕ) → v ≢ 0 → (found : Option ℕ) → MatchOption found (¬ IsCommitted h v) (CommitsAt h v) → (d : ℕ) → (found ≡ Some d) ↔ IsAsOf h v d
+as_of_commit h wf v other None none d = (
+  (λ same. absurd cc),
+  (λ is. elim is [ inl zero ↦ absurd (other zero.0) | inr commits ↦ absurd (none (d, commits)) ]),
+)
+as_of_commit h wf v other (Some c) commits d = as_of_this h wf v c (inr commits) d
 
 -- listed keys that ascend, pair by pair
 pub listed_ascend : (listed : List (ℕ × ℕ)) → IsStrictlyIncreasing (map (λ p. p.0) listed) → AscendsByKey listed

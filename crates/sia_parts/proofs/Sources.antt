@@ -1,4 +1,4 @@
--- Where the findings of a part come from: pairs of versions, spans with versions, and sights.
+-- Where the findings of a part come from: pairs of versions, looks with versions, and sights.
 use Rattle.std.proofs.Common.{◌≡◌, ◌≢◌, ◌⊎◌, inl, inr, ℕ, ◌<◌, ◌≤◌, List, refl, ap, sym, subst, ◌∙◌, arith}
 use Rattle.std.specs.Prelude.{◌↔◌}
 use Rattle.std.proofs.lemmas.Bool.{cases_eq}
@@ -19,11 +19,8 @@ use Rattle.sia_index.specs.declared.info.Made.{Made}
 use Rattle.sia_index.specs.Info.{AreVersions, AreWrittenWithin}
 use Rattle.sia_parts.specs.declared.cutting.Part.{Part}
 use Rattle.sia_parts.specs.declared.finding.BadWrite.{BadWrite}
-use Rattle.sia_parts.specs.declared.auditing.gaps.Gap.{Gap}
-use Rattle.sia_parts.specs.declared.auditing.spans.Span.{Span}
 use Rattle.sia_parts.specs.Parts.{IsInPart}
-use Rattle.sia_parts.specs.Sights.{Adds, FromSome, FromPair, KeyPair, Widens, IsLateBad, IsPairBad, AscendsByCommit, AreSpans}
-use Rattle.sia_parts.specs.Gaps.{CoversSame}
+use Rattle.sia_parts.specs.Sights.{Adds, FromSome, FromPair, KeyPair, IsLateBad, IsPairBad, AscendsByCommit}
 use Rattle.sia_parts.proofs.Adding.{adds_same, adds_nothing}
 
 -- what pairs of a key's versions give
@@ -151,18 +148,3 @@ module _ (h : List Event) (wf : IsWellFormed h) where
         (bad.1, subst (IsInPart part) (sym bad.0) (let at = (within.each f.0).0 f.1 in (at.1, at.2)))),
     (λ bad. (b.key, (within.each b.key).1 ((b.first, bad.0.0), bad.1.0, bad.1.1), bad_is_pair b.key b.first b.second bad.0)),
   )
-
--- the spans and the gaps of a part, joined, are spans and gaps of the part
-pub joined_are : (h : List Event) (part : Part) (narrow wide : List Span) (gaps joint : List Gap) → AreSpans h part narrow gaps → Widens narrow wide → CoversSame gaps joint → AreSpans h part wide joint
-joined_are h part narrow wide gaps joint are joins covers = record {
-  low = λ s c. let n = joins.low s c in subst (λ t. Looked h t s.key s.low) n.2 (subst (λ k. Looked h n.0.txn k s.low) n.3 (subst (Looked h n.0.txn n.0.key) n.4 (are.low n.0 n.1)));
-  high = λ s c. let n = joins.high s c in subst (λ t. Looked h t s.key s.high) n.2 (subst (λ k. Looked h n.0.txn k s.high) n.3 (subst (Looked h n.0.txn n.0.key) n.4 (are.high n.0 n.1)));
-  within = λ s c. let n = joins.low s c in subst (IsInPart part) n.3 (are.within n.0 n.1);
-  unlisted = λ look u wrote f. are.unlisted look u wrote ((covers look).0 f);
-  whole = λ t k c u look in_part wrote. elim (are.whole t k c u look in_part wrote) [
-    | inl found ↦
-        let wider = joins.each found.0 found.1 in
-        inl (wider.0, wider.1, (wider.2 ∙ found.2.0, wider.3 ∙ found.2.1, (let a = wider.4 in let b = found.2.2 in omega arith), (let a = wider.5 in let b = found.2.3 in omega arith)))
-    | inr gap ↦ inr (gap.0, (covers (t, k)).1 gap.1)
-  ];
-}

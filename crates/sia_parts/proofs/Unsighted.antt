@@ -1,6 +1,6 @@
 -- A reader who started before any version of a part's keys was committed, and wrote none, sees none of them.
-use Rattle.std.proofs.Common.{◌≡◌, inl, inr, ℕ, ◌+◌, ◌<◌, ◌≤◌, List, [], length, get_or, refl, sym, subst, arith}
-use Rattle.std.specs.Prelude.{All, Contains}
+use Rattle.std.proofs.Common.{◌≡◌, inl, inr, ℕ, ◌+◌, ◌<◌, ◌≤◌, List, [], Some, length, get_or, refl, sym, subst, arith}
+use Rattle.std.specs.Prelude.{◌↔◌, All, Contains}
 use Rattle.std.proofs.lemmas.Bool.{cases_eq}
 use Rattle.std.proofs.lemmas.List.{get_or_default}
 use Rattle.std.proofs.lemmas.List.Elements.{All-contains}
@@ -12,16 +12,20 @@ use Rattle.sia_index.specs.declared.info.KeyVersion.{KeyVersion}
 use Rattle.sia_index.specs.declared.info.Reader.{Reader}
 use Rattle.sia_index.specs.Info.{IsReader, AreVersionsWithin}
 use Rattle.sia_parts.specs.declared.cutting.Part.{Part}
-use Rattle.sia_parts.specs.declared.auditing.gaps.Gap.{Gap}
-use Rattle.sia_parts.specs.declared.auditing.spans.Span.{Span}
-use Rattle.sia_parts.specs.Gaps.{Spreads, InSomeGap, IsGapOf, IsBetween, IsUnlisted}
+use Rattle.sia_parts.specs.declared.auditing.unseen.Known.{Known}
+use Rattle.sia_parts.specs.declared.looks.Absence.{Absence}
+use Rattle.sia_parts.specs.declared.looks.Look.{Look}
+use Rattle.sia_parts.specs.EdgeNumbers.{IsCommittedAt}
+use Rattle.sia_parts.specs.Gaps.{IsGapOf, IsBetween, IsUnlisted}
+use Rattle.sia_parts.specs.Joining.{JoinsTo, Spreads, IsEnd, IsInLook}
 use Rattle.sia_parts.specs.Parts.{IsInPart}
-use Rattle.sia_parts.specs.Sights.{Adds, JoinsTo, FromSome}
-use Rattle.sia_parts.specs.Unseen.{CommitsFrom}
+use Rattle.sia_parts.specs.Sights.{Adds, FromSome}
+use Rattle.sia_parts.specs.Unseen.{CommitsFrom, IsKnown}
 use Rattle.sia_parts.proofs.Adding.{adds_nothing}
+use Rattle.sia_parts.proofs.Covering.{covers_nothing}
+use Rattle.sia_parts.proofs.GapLemmas.{gap_same}
 use Rattle.sia_parts.proofs.Members.{contains_none}
-use Rattle.sia_parts.proofs.Spreading.{spreads_same}
-use Rattle.sia_parts.proofs.Widening.{joins_nothing}
+use Rattle.sia_parts.proofs.Saw.{own_reader}
 
 -- the commits of all versions are no earlier
 pub commits_from : (h : List Event) (part : Part) (versions : List KeyVersion) (first : ℕ) → AreVersionsWithin h part.lo part.hi versions → All (λ v. first ≤ v.commit) versions → CommitsFrom h part first
@@ -30,9 +34,16 @@ commits_from h part versions first are least k u c within wrote commits =
     All-contains (λ v. first ≤ v.commit) versions version least ((are.each version).1 (wrote, commits, within.0, within.1))
 
 -- what is known of a reader is known of it at any place
-pub reader_at : (h : List Event) (t p q : ℕ) (r : Reader) → r.txn ≡ t → IsReader h r.txn q r → IsReader h t p (record { txn = t; place = p; start = r.start; committed = r.committed; has_written = r.has_written })
-reader_at h t p q r same is = subst (λ u. IsReader h u p (record { txn = u; place = p; start = r.start; committed = r.committed; has_written = r.has_written })) same
-    (record { txn_is = refl; place_is = refl; starts = is.starts; committed = is.committed; wrote_none = is.wrote_none; wrote_some = is.wrote_some })
+pub known_at : (h : List Event) (t p q : ℕ) (known : Known) → known.reader.txn ≡ t → IsKnown h known.reader.txn q known → IsKnown h t p (record { reader = record { txn = t; place = p; start = known.reader.start; committed = known.reader.committed; has_written = known.reader.has_written }; number = known.number })
+known_at h t p q known same is = subst (λ u. IsKnown h u p (record { reader = record { txn = u; place = p; start = known.reader.start; committed = known.reader.committed; has_written = known.reader.has_written }; number = known.number })) same
+    (record { reader = record { txn_is = refl; place_is = refl; starts = is.reader.starts; committed = is.reader.committed; wrote_none = is.reader.wrote_none; wrote_some = is.reader.wrote_some }; number = is.number })
+
+-- and by its own fields
+pub own_known : (h : List Event) (t p : ℕ) (known : Known) → IsKnown h t p known → IsKnown h known.reader.txn known.reader.place known
+own_known h t p known is = record {
+  reader = own_reader h t p known.reader is.reader;
+  number = subst (λ u. (i : ℕ) → (known.number ≡ Some i) ↔ IsCommittedAt h i u) (sym is.reader.txn_is) is.number;
+}
 
 -- so version 0 is due there
 pub unseen_due : (h : List Event) (part : Part) (first : ℕ) → CommitsFrom h part first → (t p : ℕ) (r : Reader) → IsReader h t p r → r.start < first → (k : ℕ) → IsInPart part k → ¬ WroteBefore h r.txn k r.place → IsDue h r.txn r.place k 0
@@ -46,29 +57,19 @@ unseen_due h part first from t p r is early k within not_own = inr (not_own, inr
         let seen : sees.1 ≤ sees.0 = sees.4 in
         absurd (omega arith)
 
--- a gap that is there adds nothing
-pub held_spreads : (h : List Event) (r : Reader) (lo hi : ℕ) (gaps : List Gap) → ((k : ℕ) → IsBetween lo hi k → InSomeGap gaps (r.txn, k)) → Spreads h (IsGapOf r (IsBetween lo hi)) gaps gaps
-held_spreads h r lo hi gaps held look u wrote = (
-  (λ c. inl c),
-  (λ e. elim e [ inl c ↦ c | inr is ↦ subst (λ t. InSomeGap gaps (t, look.1)) is.0 (held look.1 is.2) ]),
-)
-
 -- where no key is listed the unlisted keys are all
-pub gap_of_all : (h : List Event) (r : Reader) (here : List (ℕ × ℕ)) (lo hi : ℕ) (old new : List Gap) → here ≡ [] → Spreads h (IsGapOf r (IsBetween lo hi)) old new → Spreads h (IsGapOf r (IsUnlisted here lo hi)) old new
-gap_of_all h r here lo hi old new none spreads = spreads_same h (IsGapOf r (IsBetween lo hi)) (IsGapOf r (IsUnlisted here lo hi)) old new
-    (λ look is. (is.0, is.1, (is.2.0, is.2.1, λ v c. not_in v look.1 c)))
-    (λ look is. (is.0, is.1, (is.2.0, is.2.1)))
-    spreads
-  where
-    not_in : (v k : ℕ) → ¬ Contains here (k, v)
-    not_in v k c = contains_none (k, v) (subst (λ l. Contains l (k, v)) none c)
+pub gap_of_all : (h : List Event) (r : Reader) (here : List (ℕ × ℕ)) (lo hi : ℕ) (old new : List Absence) → here ≡ [] → Spreads (IsGapOf h r (IsBetween lo hi)) old new → Spreads (IsGapOf h r (IsUnlisted here lo hi)) old new
+gap_of_all h r here lo hi old new none spreads = gap_same h r (IsBetween lo hi) (IsUnlisted here lo hi)
+    (λ k is. (is.0, is.1, λ v c. contains_none (k, v) (subst (λ l. Contains l (k, v)) none c)))
+    (λ k is. (is.0, is.1))
+    old new spreads
 
 -- an empty list gives nothing
 pub none_give : {A B : Type 0} (P : A → B → Type 0) (here : List A) (old : List B) → here ≡ [] → Adds (FromSome P here) old old
 none_give P here old none = adds_nothing (FromSome P here) old (λ y f. contains_none f.0 (subst (λ l. Contains l f.0) none f.1))
 
-pub none_join : {A : Type 0} (P : A → Span → Type 0) (here : List A) (old : List Span) → here ≡ [] → JoinsTo (FromSome P here) old old
-none_join P here old none = joins_nothing (FromSome P here) old (λ y f. contains_none f.0 (subst (λ l. Contains l f.0) none f.1))
+pub none_join : {A : Type 0} (P : A → ℕ × ℕ × ℕ → Type 0) (here : List A) (old : List Look) → here ≡ [] → JoinsTo (FromSome P here) old old
+none_join P here old none = covers_nothing IsEnd IsInLook (FromSome P here) old (λ y f. contains_none f.0 (subst (λ l. Contains l f.0) none f.1))
 
 -- the least commit so far
 pub least_more : (versions : List KeyVersion) (n least next : ℕ) (d : KeyVersion) → n < length versions → next ≤ least → next ≤ (get_or versions n d).commit

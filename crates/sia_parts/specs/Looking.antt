@@ -1,27 +1,33 @@
--- How the looks at the keys of a part come about: from versions, from spans and from gaps.
-use Rattle.std.specs.Prelude.{◌≡◌, ℕ, ◌<◌, ◌≤◌, List}
+-- How the looks at the keys of a part come about: from versions, and from what reads saw.
+use Rattle.std.specs.Prelude.{◌≡◌, ◌⊎◌, ℕ, ◌<◌, ◌≤◌, List, length, slice_index}
 use Rattle.sia_events.specs.declared.event.Event.{Event}
+use Rattle.sia_events.specs.NarrowDependencies.{Looked}
 use Rattle.sia_index.specs.declared.info.KeyVersion.{KeyVersion}
 use Rattle.sia_index.specs.Info.{IsKeyAt}
-use Rattle.sia_parts.specs.declared.auditing.gaps.Gap.{Gap}
-use Rattle.sia_parts.specs.declared.auditing.spans.Span.{Span}
+use Rattle.sia_parts.specs.declared.cutting.Part.{Part}
 use Rattle.sia_parts.specs.declared.looks.Absence.{Absence}
 use Rattle.sia_parts.specs.declared.looks.Look.{Look}
 use Rattle.sia_parts.specs.EdgeNumbers.{IsCommittedAt}
+use Rattle.sia_parts.specs.Joining.{IsEnd, IsInLook, IsInAbsence}
 use Rattle.sia_parts.specs.Looks.{IsLookOf}
-
--- the look of a span
-abbrev pub IsSpanLook : List Event → Span → Look → Type 0
-IsSpanLook h span look = IsLookOf h look span.txn span.key × (look.low ≡ span.low) × (look.high ≡ span.high)
+use Rattle.sia_parts.specs.Parts.{IsInPart}
+use Rattle.sia_parts.specs.Sights.{FromSome}
 
 -- the look of a version
 abbrev pub IsVersionLook : List Event → KeyVersion → Look → Type 0
-IsVersionLook h made look = IsSpanLook h (record { txn = made.txn; key = made.key; low = made.commit; high = made.commit }) look
+IsVersionLook h made look = IsLookOf h look made.txn made.key × (look.low ≡ made.commit) × (look.high ≡ made.commit)
 
--- the absence is of transaction number pair.0 at key number pair.1
-abbrev pub IsAbsence : Absence → ℕ × ℕ → Type 0
-IsAbsence absence pair = (absence.txn ≡ pair.0) × (absence.from ≤ pair.1) × (pair.1 < absence.to)
+-- the transaction looked at a version of the key, which is of the part, as of the point's commit
+abbrev pub IsLookedAt : List Event → Part → ℕ × ℕ × ℕ → Type 0
+IsLookedAt h part at = (t : ℕ) × (k : ℕ) × IsCommittedAt h at.0 t × IsKeyAt h at.1 k × Looked h t k at.2 × IsInPart part k
 
--- the gap is of transaction number pair.0, and key number pair.1 lies in it
-abbrev pub IsGapAt : List Event → Gap → ℕ × ℕ → Type 0
-IsGapAt h gap pair = IsCommittedAt h pair.0 gap.txn × (k : ℕ) × IsKeyAt h pair.1 k × (gap.lo ≤ k) × (k ≤ gap.hi)
+-- looks and absences at the keys of a part: they rest on what was looked at, and all of that lies in them
+pub record AreSeen (h : List Event) (part : Part) (looks : List Look) (absences : List Absence) : Type 0 where
+  pub ends : (at : ℕ × ℕ × ℕ) → FromSome IsEnd looks at ⊎ FromSome IsInAbsence absences at → IsLookedAt h part at
+  pub whole : (at : ℕ × ℕ × ℕ) → IsLookedAt h part at → FromSome IsInLook looks at ⊎ FromSome IsInAbsence absences at
+
+-- the place parts the numbers below k from the rest
+pub record IsPlaceFrom (xs : List ℕ) (k at : ℕ) : Type 0 where
+  pub bound : at ≤ length xs
+  pub below : (i : ℕ) → i < at → slice_index xs i < k
+  pub above : (i : ℕ) → at ≤ i → i < length xs → k ≤ slice_index xs i

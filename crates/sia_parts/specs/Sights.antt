@@ -1,25 +1,23 @@
 -- How the findings of a part come about: from pairs of a key's versions, and from what reads saw of a key.
-use Rattle.std.specs.Prelude.{◌≡◌, ◌≢◌, ◌⊎◌, ◌↔◌, ℕ, ◌<◌, ◌≤◌, List, AllPairs, Contains, Some}
+use Rattle.std.specs.Prelude.{◌≡◌, ◌≢◌, ◌⊎◌, ◌↔◌, ℕ, ◌<◌, List, AllPairs, Contains, Some}
 use Rattle.sia_events.specs.declared.event.Event.{Event}
 use Rattle.sia_events.specs.declared.event.Event.TheVariants.{Range}
 use Rattle.sia_events.specs.Places.{at_place}
-use Rattle.sia_events.specs.NarrowDependencies.{IsAsOf, Looked}
-use Rattle.sia_events.specs.Transactions.{IsCommitted, StartsAt, Wrote}
+use Rattle.sia_events.specs.NarrowDependencies.{IsAsOf}
+use Rattle.sia_events.specs.Transactions.{StartsAt}
 use Rattle.sia_events.specs.Reads.{SawAt}
 use Rattle.sia_events.specs.Isolation.{IsBadRead, IsUnexplained}
 use Rattle.sia_index.specs.declared.info.Made.{Made}
 use Rattle.sia_index.specs.declared.info.ItemRead.{ItemRead}
 use Rattle.sia_index.specs.declared.info.RangeRead.{RangeRead}
 use Rattle.sia_index.specs.declared.info.Reader.{Reader}
-use Rattle.sia_index.specs.Info.{IsMade}
+use Rattle.sia_index.specs.Info.{IsKeyAt, IsMade}
 use Rattle.sia_parts.specs.declared.cutting.Part.{Part}
 use Rattle.sia_parts.specs.declared.finding.BadRead.{BadRead}
 use Rattle.sia_parts.specs.declared.finding.BadWrite.{BadWrite}
 use Rattle.sia_parts.specs.declared.finding.Unexplained.{Unexplained}
 use Rattle.sia_parts.specs.declared.auditing.sights.Sight.{Sight}
-use Rattle.sia_parts.specs.declared.auditing.gaps.Gap.{Gap}
-use Rattle.sia_parts.specs.declared.auditing.spans.Span.{Span}
-use Rattle.sia_parts.specs.Gaps.{InSomeGap}
+use Rattle.sia_parts.specs.EdgeNumbers.{IsCommittedAt}
 use Rattle.sia_parts.specs.Parts.{IsInPart}
 
 -- new holds what old held, and what has P, and nothing else
@@ -78,40 +76,14 @@ IsBadOf h s b = (bad_sight b ≡ s) × IsBadRead h b.place b.txn b.key b.saw b.d
 abbrev pub IsUnexplainedOf : List Event → BadRead → Unexplained → Type 0
 IsUnexplainedOf h b u = IsUnexplained h b.place b.txn b.key b.saw × (u ≡ record { place = b.place; txn = b.txn; key = b.key; saw = b.saw })
 
--- the span of one sight
-abbrev pub IsSpanOf : List Event → Sight → Span → Type 0
-IsSpanOf h s span = (span.txn ≡ s.txn) × (span.key ≡ s.key) × (span.low ≡ span.high) × IsCommitted h s.txn × (s.saw ≢ s.txn) × IsAsOf h s.saw span.low
+-- the sight is of a committed transaction and a written key, by number, and of a version that isn't the transaction's own, as of
+-- its commit
+abbrev pub LooksAt : List Event → Sight → ℕ × ℕ × ℕ → Type 0
+LooksAt h s at = IsCommittedAt h at.0 s.txn × IsKeyAt h at.1 s.key × (s.saw ≢ s.txn) × IsAsOf h s.saw at.2
 
 -- some sight that has P gives y
 abbrev pub FromSight : {B : Type 0} → (Sight → Type 0) → (Sight → B → Type 0) → B → Type 0
 FromSight P Q y = (s : Sight) × P s × Q s y
-
--- t, k and c lie in the span
-abbrev pub IsInSpan : Span → ℕ → ℕ → ℕ → Type 0
-IsInSpan span t k c = (span.txn ≡ t) × (span.key ≡ k) × (span.low ≤ c) × (c ≤ span.high)
-
--- the ends of each wide span are those of spans with P, and each span with P lies in a wide one
-pub record WidensAll (P : Span → Type 0) (wide : List Span) : Type 0 where
-  pub low : (s : Span) → Contains wide s → (n : Span) × P n × (n.txn ≡ s.txn) × (n.key ≡ s.key) × (n.low ≡ s.low)
-  pub high : (s : Span) → Contains wide s → (n : Span) × P n × (n.txn ≡ s.txn) × (n.key ≡ s.key) × (n.high ≡ s.high)
-  pub each : (n : Span) → P n → (s : Span) × Contains wide s × (s.txn ≡ n.txn) × (s.key ≡ n.key) × (s.low ≤ n.low) × (n.high ≤ s.high)
-
--- the same of the spans of a list
-abbrev pub Widens : List Span → List Span → Type 0
-Widens narrow wide = WidensAll (Contains narrow) wide
-
--- the new spans are the old ones and those with P, of which some may be joined
-abbrev pub JoinsTo : (Span → Type 0) → List Span → List Span → Type 0
-JoinsTo P old new = WidensAll (λ n. Contains old n ⊎ P n) new
-
--- the span of both
-pub record IsJoined (last next both : Span) : Type 0 where
-  pub txn : (both.txn ≡ last.txn) × (both.txn ≡ next.txn)
-  pub key : (both.key ≡ last.key) × (both.key ≡ next.key)
-  pub low : (both.low ≡ last.low) ⊎ (both.low ≡ next.low)
-  pub high : (both.high ≡ last.high) ⊎ (both.high ≡ next.high)
-  pub lowest : (both.low ≤ last.low) × (both.low ≤ next.low)
-  pub highest : (last.high ≤ both.high) × (next.high ≤ both.high)
 
 -- the bad write of two versions, where the first committed after place s
 abbrev pub IsLateBad : ℕ → ℕ → Made → Made → BadWrite → Type 0
@@ -128,12 +100,3 @@ FromPair {B} P versions b = (first : Made) × (second : Made) × Contains versio
 -- of two committed writers of k, the first committed before the second, what they give
 abbrev pub KeyPair : {B : Type 0} → List Event → (ℕ → Made → Made → B → Type 0) → ℕ → B → Type 0
 KeyPair {B} h P k b = (first : Made) × (second : Made) × IsMade h k first × IsMade h k second × (first.commit < second.commit) × P k second first b
-
--- spans and gaps of the part's keys: the ends of spans are looks, at written keys gaps are looks at version 0, and each
--- look at a written key lies in a span or in a gap
-pub record AreSpans (h : List Event) (part : Part) (spans : List Span) (gaps : List Gap) : Type 0 where
-  pub low : (s : Span) → Contains spans s → Looked h s.txn s.key s.low
-  pub high : (s : Span) → Contains spans s → Looked h s.txn s.key s.high
-  pub within : (s : Span) → Contains spans s → IsInPart part s.key
-  pub unlisted : (look : ℕ × ℕ) (u : ℕ) → Wrote h u look.1 → InSomeGap gaps look → Looked h look.0 look.1 0 × IsInPart part look.1
-  pub whole : (t k c u : ℕ) → Looked h t k c → IsInPart part k → Wrote h u k → ((s : Span) × Contains spans s × IsInSpan s t k c) ⊎ ((c ≡ 0) × InSomeGap gaps (t, k))

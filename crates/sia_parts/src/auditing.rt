@@ -1,26 +1,28 @@
 //! The audit of a part of the keys.
 ghost use Rattle.std.specs.Prelude.{◌≡◌, ◌↔◌, All, IfOk, IsTrue};
+ghost use Rattle.sia_events.specs.Lists.{ListsAscending};
 ghost use Rattle.sia_events.specs.Refusals.{IsWellFormed};
+ghost use Rattle.sia_events.specs.Transactions.{IsCommitted};
 ghost use Rattle.sia_events.specs.Isolation.{IsBadRead, IsUnexplained};
 ghost use Rattle.sia_events.specs.Reads.{SawAt};
 ghost use Rattle.sia_parts.specs.Findings.{ArePartFindings, ListsBadReads, ListsBadWrites, ListsUnexplained};
 ghost use Rattle.sia_parts.specs.Parts.{IsInPart};
-ghost use Rattle.sia_parts.specs.Sights.{AreSpans};
+ghost use Rattle.sia_parts.specs.Looking.{AreSeen};
 
 pub(crate) mod gaps;
+pub(crate) mod joining;
+pub(crate) mod keys;
 pub(crate) mod nearby;
 pub(crate) mod pairs;
 pub(crate) mod ranges;
 pub(crate) mod sights;
-pub(crate) mod spans;
 pub(crate) mod unseen;
 
-use crate::auditing::gaps::{Gap, joined_gaps};
+use crate::auditing::joining::joined;
 use crate::auditing::nearby::are_apart;
 use crate::auditing::pairs::put_bad_writes;
-use crate::auditing::ranges::{Scope, put_range_reads};
+use crate::auditing::ranges::{Scope, put_range_reads, ranges_in_turn};
 use crate::auditing::sights::{is_committed, put_item_reads, wrote_before};
-use crate::auditing::spans::{Span, joined};
 use crate::auditing::unseen::first_commit;
 use crate::cutting::Part;
 use crate::edges::committed::Committed;
@@ -28,6 +30,7 @@ use crate::edges::fans::Fans;
 use crate::edges::numbers::edges_of_numbers;
 use crate::finding::{BadRead, BadWrite, Unexplained};
 use crate::findings::PartFindings;
+use crate::looks::{Absence, Look};
 use crate::numbered::find_in_part;
 use sia_events::{History, NoMemory};
 use sia_index::Index;
@@ -38,8 +41,8 @@ use std::alloc::Global;
 #[derive(Drop)]
 pub(crate) struct Seen {
     pub(crate) bad_reads: Vec<BadRead>,
-    pub(crate) spans: Vec<Span>,
-    pub(crate) gaps: Vec<Gap>,
+    pub(crate) looks: Vec<Look>,
+    pub(crate) absences: Vec<Absence>,
 }
 
 /// The findings at the keys of the part, by an index of the history.
@@ -67,31 +70,44 @@ pub fn audit_part(
     })
 }
 
-/// The bad reads at the keys of the part, and the spans and the gaps of these.
-pub(crate) fn seen_of(alloc: Global, h: &History, ix: &Index, part: Part) -> Result<Seen, NoMemory>
-    requires { ix.now ≡ h.now }
+/// The bad reads at the keys of the part, and the looks and the absences of committed transactions there.
+pub(crate) fn seen_of(
+    alloc: Global,
+    h: &History,
+    ix: &Index,
+    committed: &Committed,
+    part: Part,
+) -> Result<Seen, NoMemory>
+    requires index { ix.now ≡ h.now }
+    requires committed { ListsAscending (IsCommitted ix.now) committed.now }
     ensures bad_reads { IfOk result (λ seen. ListsBadReads ix.now (IsInPart part) seen.bad_reads.items) }
-    ensures spans { IfOk result (λ seen. AreSpans ix.now part seen.spans.items seen.gaps.items) }
+    ensures seen { IfOk result (λ seen. AreSeen ix.now part seen.looks.items seen.absences.items) }
 {
     ix.law();
     let mut bad_reads = Vec::new(alloc);
-    let mut spans = Vec::new(alloc);
-    let mut gaps = Vec::new(alloc);
+    let mut looks = Vec::new(alloc);
+    let mut absences = Vec::new(alloc);
     let first = first_commit(ix, part);
-    let scope = Scope { h, ix, part, first };
-    let ranges = ix.ranges_meeting(part.lo, part.hi);
-    let ascend = put_range_reads(alloc, &scope, ranges, &mut bad_reads, &mut spans, &mut gaps)?;
-    let end = spans.len();
+    let scope = Scope {
+        h,
+        ix,
+        committed,
+        part,
+        first,
+    };
+    let turns = ranges_in_turn(alloc, ix, part)?;
+    let ascend = put_range_reads(&scope, &turns, &mut bad_reads, &mut looks, &mut absences)?;
+    let end = looks.len();
     let reads = ix.reads_within(part.lo, part.hi);
-    put_item_reads(ix, reads, &mut bad_reads, &mut spans)?;
+    put_item_reads(ix, committed, reads, &mut bad_reads, &mut looks)?;
     put_in_order(&mut bad_reads);
-    let apart = are_apart(ascend, &spans, end);
-    let spans = joined(alloc, spans, apart)?;
-    let gaps = joined_gaps(alloc, gaps)?;
+    let apart = are_apart(ascend, &looks, end);
+    let looks = joined(alloc, looks, apart)?;
+    let absences = joined(alloc, absences, false)?;
     Ok(Seen {
         bad_reads,
-        spans,
-        gaps,
+        looks,
+        absences,
     })
 }
 

@@ -4,5 +4,4 @@ pub(crate) mod committed;
 pub(crate) mod fanning;
 pub(crate) mod fans;
 pub(crate) mod numbers;
-pub(crate) mod packing;
 pub(crate) mod ranks;

@@ -2,7 +2,7 @@ use crate::finding::{BadRead, BadWrite, Edge, Unexplained};
 use crate::looks::Looks;
 
 /// What was found at the keys of one part.
-#[derive(Debug, Drop)]
+#[derive(Drop)]
 pub struct PartFindings {
     pub bad_reads: Vec<BadRead>,
     pub bad_writes: Vec<BadWrite>,
@@ -20,7 +20,7 @@ pub struct Findings {
 }
 
 /// What was found at the keys of one part, where the edges are told by looks.
-#[derive(Debug, Drop)]
+#[derive(Drop)]
 pub struct PartFound {
     pub bad_reads: Vec<BadRead>,
     pub bad_writes: Vec<BadWrite>,

@@ -1,7 +1,7 @@
 //! What committed transactions wrote and saw, by their numbers and those of the keys.
 
 /// A committed transaction and a written key, by their numbers: it made a version of the key, or saw some that aren't its own.
-#[derive(Clone, Copy, Debug)]
+#[derive(Clone, Copy, PartialEq, Eq, PartialOrd, Ord)]
 pub struct Look {
     /// The number of the transaction among the committed ones, counted from 0.
     pub txn: u32,
@@ -14,7 +14,7 @@ pub struct Look {
 }
 
 /// A committed transaction that saw version 0 of each written key from one number to before another.
-#[derive(Clone, Copy, Debug)]
+#[derive(Clone, Copy, PartialEq, Eq, PartialOrd, Ord)]
 pub struct Absence {
     pub txn: u32,
     pub from: u32,
@@ -22,7 +22,7 @@ pub struct Absence {
 }
 
 /// What committed transactions wrote and saw at some keys.
-#[derive(Debug, Drop)]
+#[derive(Drop)]
 pub struct Looks {
     /// Who made versions, by key and commit.
     pub writers: Vec<Look>,

@@ -9,7 +9,8 @@ use crate::auditing::{bad_writes_of, seen_of, unexplained_of};
 use crate::cutting::Part;
 use crate::edges::committed::Committed;
 use crate::findings::PartFound;
-use crate::looking::looks_of;
+use crate::looking::writers_of;
+use crate::looks::Looks;
 use sia_events::{History, NoMemory};
 use sia_index::Index;
 use std::alloc::Global;
@@ -27,14 +28,19 @@ pub fn find_in_part(
     ensures { IfOk result (IsPartFound h.now (IsInPart part)) }
 {
     ix.law();
-    let seen = seen_of(alloc, h, ix, part)?;
+    let _ = ix.written_keys();
+    let seen = seen_of(alloc, h, ix, committed, part)?;
     let bad_writes = bad_writes_of(alloc, ix, part)?;
     let unexplained = unexplained_of(alloc, h, ix, part, &seen.bad_reads)?;
-    let looks = looks_of(alloc, ix, committed, part, &seen.spans, &seen.gaps)?;
+    let writers = writers_of(alloc, ix, committed, ix.versions_within(part.lo, part.hi))?;
     Ok(PartFound {
         bad_reads: seen.bad_reads,
         bad_writes,
         unexplained,
-        looks,
+        looks: Looks {
+            writers,
+            readers: seen.looks,
+            absences: seen.absences,
+        },
     })
 }

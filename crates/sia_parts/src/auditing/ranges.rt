@@ -3,112 +3,99 @@ ghost use Rattle.std.specs.Prelude.{◌≡◌, ◌↔◌, ◌≤◌, ℕ, All, C
 ghost use Rattle.std.specs.List.Sorted.{IsStrictlyIncreasing};
 ghost use Rattle.sia_events.specs.declared.event.Event.TheVariants as events;
 ghost use Rattle.sia_events.specs.Places.{at_place};
+ghost use Rattle.sia_events.specs.Lists.{ListsAscending};
 ghost use Rattle.sia_events.specs.Refusals.{IsWellFormed};
-ghost use Rattle.sia_events.specs.Transactions.{WroteBefore};
+ghost use Rattle.sia_events.specs.Transactions.{IsCommitted, WroteBefore};
 ghost use Rattle.sia_index.specs.declared.info.RangeRead.{RangeRead};
-ghost use Rattle.sia_index.specs.Info.{IsRangeRead, IsReader};
-ghost use Rattle.sia_parts.specs.Sights.{Adds, JoinsTo, FromSome, FromSight, IsSight, IsRangeSight, IsListedSight, IsBadOf, IsSpanOf, listed_sight, AscendsByKey};
-ghost use Rattle.sia_parts.specs.Gaps.{Spreads, IsUnlistedBy};
-ghost use Rattle.sia_parts.specs.Unseen.{CommitsFrom, IsLastReader};
+ghost use Rattle.sia_index.specs.Info.{AreRangesMeeting, IsRangeRead};
+ghost use Rattle.sia_parts.specs.Sights.{Adds, FromSome, FromSight, IsSight, IsRangeSight, IsListedSight, IsBadOf, LooksAt, listed_sight, AscendsByKey};
+ghost use Rattle.sia_parts.specs.Gaps.{IsUnlistedBy};
+ghost use Rattle.sia_parts.specs.Joining.{JoinsTo, Spreads};
+ghost use Rattle.sia_parts.specs.Unseen.{CommitsFrom, IsKnown, IsLastKnown};
 
-use crate::auditing::gaps::{Gap, put_unlisted};
-use crate::auditing::nearby::{Near, are_in_turn, first_near, next_near, still_ascend};
+use crate::auditing::gaps::put_unlisted;
+use crate::auditing::keys::{key_near, numbers_within};
+use crate::auditing::nearby::{first_near, next_near, still_ascend};
 use crate::auditing::sights::{Reading, Sight, put_sight};
-use crate::auditing::spans::Span;
-use crate::auditing::unseen::{put_unseen, reader_after, sees_none};
+use crate::auditing::unseen::{Known, known_after, put_absence, sees_none};
 use crate::cutting::Part;
+use crate::edges::committed::Committed;
 use crate::finding::BadRead;
+use crate::looks::{Absence, Look};
 use sia_events::{Event, History, Key, NoMemory, Version};
-use sia_index::{Index, RangeRead, Reader};
+use sia_index::{Index, RangeRead};
 use std::alloc::Global;
 
-/// Where range reads are looked at: in a history and its index, at the keys of a part, of which no version was committed before
-/// the place `first`.
+/// Where range reads are looked at: in a history, its index and its committed transactions, at the keys of a part, of which no
+/// version was committed before the place `first`.
 #[derive(Clone, Copy)]
 pub(crate) struct Scope<'a> {
     pub(crate) h: &'a History,
     pub(crate) ix: &'a Index,
+    pub(crate) committed: &'a Committed,
     pub(crate) part: Part,
     pub(crate) first: u32,
 }
 
-/// Adds the bad reads, the spans and the gaps of range reads. Says whether the spans, of which there were none before, ascend by
-/// transaction and key.
-pub(crate) fn put_range_reads(
+/// The range reads that meet the part, by transaction and first key: so those of one transaction, which lie close together in the
+/// history, come one after another, and what they saw comes almost in order.
+pub(crate) fn ranges_in_turn(
     alloc: Global,
-    scope: &Scope,
-    ranges: &[RangeRead],
-    bad: &mut Vec<BadRead>,
-    spans: &mut Vec<Span>,
-    gaps: &mut Vec<Gap>,
-) -> Result<bool, NoMemory>
-    requires of { scope.now.ix.now ≡ scope.now.h.now }
-    requires first { CommitsFrom scope.now.ix.now scope.now.part scope.now.first }
-    requires ranges { All (IsRangeRead scope.now.ix.now) ranges.now }
-    ensures bad { OnOk result (Adds (FromSome (λ range. FromSight (IsRangeSight scope.now.ix.now scope.now.part range) (IsBadOf scope.now.ix.now)) ranges.now) bad.old.items bad.new.items) }
-    ensures spans { OnOk result (JoinsTo (FromSome (λ range. FromSight (IsListedSight scope.now.ix.now scope.now.part range) (IsSpanOf scope.now.ix.now)) ranges.now) spans.old.items spans.new.items) }
-    ensures gaps { OnOk result (Spreads scope.now.ix.now (FromSome (IsUnlistedBy scope.now.ix.now scope.now.part) ranges.now) gaps.old.items gaps.new.items) }
+    ix: &Index,
+    part: Part,
+) -> Result<Vec<RangeRead>, NoMemory>
+    ensures { IfOk result (λ turns. AreRangesMeeting ix.now part.lo part.hi turns.items) }
 {
-    if are_in_turn(ranges) {
-        return put_in_turn(scope, ranges, bad, spans, gaps);
-    }
-    let turns = by_txn(alloc, ranges)?;
-    let ascend = put_in_turn(scope, &turns, bad, spans, gaps)?;
-    Ok(ascend)
-}
-
-// The range reads by transaction and first key: so those of one transaction, which lie close together in the history, come
-// one after another, and what they saw comes almost in order.
-fn by_txn(alloc: Global, ranges: &[RangeRead]) -> Result<Vec<RangeRead>, NoMemory>
-    ensures { IfOk result (λ turns. (x : RangeRead) → Contains turns.items x ↔ Contains ranges.now x) }
-{
-    let mut turns = ranges.to_vec(alloc)?;
+    let mut turns = ix.ranges_meeting(part.lo, part.hi).to_vec(alloc)?;
     turns.sort_unstable_by_key(|range| (range.txn, range.lo));
     Ok(turns)
 }
 
-// Adds the bad reads, the spans and the gaps of range reads, one after another. Says whether the spans ascend.
-fn put_in_turn(
+/// Adds the bad reads, the looks and the absences of range reads, one after another. Says whether the looks, of which there were
+/// none before, ascend by transaction and key.
+pub(crate) fn put_range_reads(
     scope: &Scope,
     ranges: &[RangeRead],
     bad: &mut Vec<BadRead>,
-    spans: &mut Vec<Span>,
-    gaps: &mut Vec<Gap>,
+    looks: &mut Vec<Look>,
+    absences: &mut Vec<Absence>,
 ) -> Result<bool, NoMemory>
     requires of { scope.now.ix.now ≡ scope.now.h.now }
+    requires committed { ListsAscending (IsCommitted scope.now.ix.now) scope.now.committed.now }
     requires first { CommitsFrom scope.now.ix.now scope.now.part scope.now.first }
     requires ranges { All (IsRangeRead scope.now.ix.now) ranges.now }
     ensures bad { OnOk result (Adds (FromSome (λ range. FromSight (IsRangeSight scope.now.ix.now scope.now.part range) (IsBadOf scope.now.ix.now)) ranges.now) bad.old.items bad.new.items) }
-    ensures spans { OnOk result (JoinsTo (FromSome (λ range. FromSight (IsListedSight scope.now.ix.now scope.now.part range) (IsSpanOf scope.now.ix.now)) ranges.now) spans.old.items spans.new.items) }
-    ensures gaps { OnOk result (Spreads scope.now.ix.now (FromSome (IsUnlistedBy scope.now.ix.now scope.now.part) ranges.now) gaps.old.items gaps.new.items) }
+    ensures looks { OnOk result (JoinsTo (FromSome (λ range. FromSight (IsListedSight scope.now.ix.now scope.now.part range) (LooksAt scope.now.ix.now)) ranges.now) looks.old.items looks.new.items) }
+    ensures absences { OnOk result (Spreads (FromSome (IsUnlistedBy scope.now.ix.now scope.now.part) ranges.now) absences.old.items absences.new.items) }
 {
     let mut ascend = true;
     let mut last = None;
     for range in ranges {
-        let end = spans.len();
-        last = put_range_read(scope, last, *range, bad, spans, gaps)?;
-        ascend = still_ascend(ascend, spans, end);
+        let end = looks.len();
+        last = put_range_read(scope, last, *range, bad, looks, absences)?;
+        ascend = still_ascend(ascend, looks, end);
     }
     Ok(ascend)
 }
 
-// Adds the bad reads, the spans and the gaps of a range read, at the keys of the part. Passes on who read last.
+// Adds the bad reads, the looks and the absences of a range read, at the keys of the part. Passes on who read last.
 fn put_range_read(
     scope: &Scope,
-    last: Option<Reader>,
+    last: Option<Known>,
     range: RangeRead,
     bad: &mut Vec<BadRead>,
-    spans: &mut Vec<Span>,
-    gaps: &mut Vec<Gap>,
-) -> Result<Option<Reader>, NoMemory>
+    looks: &mut Vec<Look>,
+    absences: &mut Vec<Absence>,
+) -> Result<Option<Known>, NoMemory>
     requires of { scope.now.ix.now ≡ scope.now.h.now }
+    requires committed { ListsAscending (IsCommitted scope.now.ix.now) scope.now.committed.now }
     requires first { CommitsFrom scope.now.ix.now scope.now.part scope.now.first }
-    requires last { IsLastReader scope.now.ix.now last }
+    requires last { IsLastKnown scope.now.ix.now last }
     requires range { IsRangeRead scope.now.ix.now range }
-    ensures last { IfOk result (λ next. IsLastReader scope.now.ix.now next) }
+    ensures last { IfOk result (λ next. IsLastKnown scope.now.ix.now next) }
     ensures bad { OnOk result (Adds (FromSight (IsRangeSight scope.now.ix.now scope.now.part range) (IsBadOf scope.now.ix.now)) bad.old.items bad.new.items) }
-    ensures spans { OnOk result (JoinsTo (FromSight (IsListedSight scope.now.ix.now scope.now.part range) (IsSpanOf scope.now.ix.now)) spans.old.items spans.new.items) }
-    ensures gaps { OnOk result (Spreads scope.now.ix.now (IsUnlistedBy scope.now.ix.now scope.now.part range) gaps.old.items gaps.new.items) }
+    ensures looks { OnOk result (JoinsTo (FromSight (IsListedSight scope.now.ix.now scope.now.part range) (LooksAt scope.now.ix.now)) looks.old.items looks.new.items) }
+    ensures absences { OnOk result (Spreads (IsUnlistedBy scope.now.ix.now scope.now.part range) absences.old.items absences.new.items) }
 {
     let ix = scope.ix;
     ix.law();
@@ -118,50 +105,56 @@ fn put_range_read(
         return Ok(last);
     }
     let listed = listed_within(listed_at(scope.h, range.place), lo, hi);
-    let reader = reader_after(ix, last, range.txn, range.place);
-    let own = ix.may_own(reader, lo, hi);
+    let known = known_after(ix, scope.committed, last, range.txn, range.place);
+    let own = ix.may_own(known.reader, lo, hi);
+    let (first, end) = numbers_within(ix, lo, hi, 0);
     if listed.is_empty() {
-        if sees_none(reader, own, scope.first) {
-            put_unseen(ix, reader, lo, hi, gaps)?;
-            return Ok(Some(reader));
+        if sees_none(known.reader, own, scope.first) {
+            put_absence(known.number, first, end, absences)?;
+            return Ok(Some(known));
         }
     }
-    let reading = Reading { ix, reader, own };
-    put_listed_keys(&reading, range, listed, bad, spans)?;
-    put_unlisted(&reading, listed, lo, hi, bad, gaps)?;
-    Ok(Some(reader))
+    let reading = Reading {
+        ix,
+        known,
+        first,
+        own,
+    };
+    put_listed_keys(&reading, range, listed, bad, looks)?;
+    put_unlisted(&reading, listed, lo, hi, bad, absences)?;
+    Ok(Some(known))
 }
 
-// Adds the bad reads and the spans of keys that a range read listed.
+// Adds the bad reads and the looks of keys that a range read listed.
 fn put_listed_keys(
     reading: &Reading,
     range: RangeRead,
     listed: &[(Key, Version)],
     bad: &mut Vec<BadRead>,
-    spans: &mut Vec<Span>,
+    looks: &mut Vec<Look>,
 ) -> Result<(), NoMemory>
     requires well_formed { IsWellFormed reading.now.ix.now }
-    requires reader { IsReader reading.now.ix.now range.txn range.place reading.now.reader }
+    requires known { IsKnown reading.now.ix.now range.txn range.place reading.now.known }
     requires sights { All (λ pair. IsSight reading.now.ix.now (listed_sight range pair)) listed.now }
     requires own { reading.now.own ≡ false → All (λ pair. ¬ WroteBefore reading.now.ix.now range.txn pair.0 range.place) listed.now }
     ensures bad { OnOk result (Adds (FromSome (λ pair. IsBadOf reading.now.ix.now (listed_sight range pair)) listed.now) bad.old.items bad.new.items) }
-    ensures spans { OnOk result (JoinsTo (FromSome (λ pair. IsSpanOf reading.now.ix.now (listed_sight range pair)) listed.now) spans.old.items spans.new.items) }
+    ensures looks { OnOk result (JoinsTo (FromSome (λ pair. LooksAt reading.now.ix.now (listed_sight range pair)) listed.now) looks.old.items looks.new.items) }
 {
-    let mut number = 0;
-    let mut place = first_near(spans, range.txn, range.lo);
-    let end = spans.len();
+    let mut first = reading.first;
+    let mut place = first_near(looks, reading.known.number.unwrap_or(0), first);
+    let end = looks.len();
     for pair in listed {
-        number = reading.ix.number_near(pair.0, number);
-        place = next_near(spans, place, end, pair.0);
+        let number = key_near(reading.ix, pair.0, first);
+        first = number.unwrap_or(first);
+        place = next_near(looks, place, end, first);
         let sight = Sight {
             place: range.place,
             txn: range.txn,
             key: pair.0,
             saw: pair.1,
         };
-        let near = Near { number, place };
-        put_sight(reading, sight, near, bad, spans)?;
-        number = number.saturating_add(1);
+        put_sight(reading, sight, number, place, bad, looks)?;
+        first = first.saturating_add(1);
     }
     Ok(())
 }

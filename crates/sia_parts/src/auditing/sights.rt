@@ -1,20 +1,25 @@
-//! What reads saw of the keys of a part: bad reads, and the spans that give edges.
-ghost use Rattle.std.specs.Prelude.{◌≡◌, ◌↔◌, ℕ, All, List, false, IsTrue, OnOk, MatchOption};
+//! What reads saw of the keys of a part: bad reads, and the looks that give edges.
+ghost use Rattle.std.specs.Prelude.{◌≡◌, ◌↔◌, ℕ, All, List, Some, false, IsTrue, OnOk, MatchOption};
 ghost use Rattle.sia_events.specs.declared.event.Event.{Event};
+ghost use Rattle.sia_events.specs.Lists.{ListsAscending};
 ghost use Rattle.sia_events.specs.NarrowDependencies.{IsAsOf};
 ghost use Rattle.sia_events.specs.Transactions.{IsCommitted, CommitsAt, WroteBefore};
 ghost use Rattle.sia_events.specs.Reads.{IsDue};
 ghost use Rattle.sia_events.specs.Refusals.{IsWellFormed};
-ghost use Rattle.sia_index.specs.Info.{IsItemRead, IsReader};
+ghost use Rattle.sia_index.specs.Info.{IsItemRead, IsKeyAt};
 ghost use Rattle.sia_index.specs.Seen.{IsSeen};
-ghost use Rattle.sia_parts.specs.declared.auditing.spans.Span.{Span};
-ghost use Rattle.sia_parts.specs.Sights.{Adds, JoinsTo, FromSome, IsSight, IsBadOf, IsSpanOf, read_sight};
+ghost use Rattle.sia_parts.specs.Joining.{JoinsTo, IsLookOfSight};
+ghost use Rattle.sia_parts.specs.Sights.{Adds, FromSome, IsSight, IsBadOf, LooksAt, read_sight};
+ghost use Rattle.sia_parts.specs.Unseen.{IsKnown};
 
-use crate::auditing::nearby::Near;
-use crate::auditing::spans::{Span, put_joined};
+use crate::auditing::joining::put_joined;
+use crate::auditing::keys::key_near;
+use crate::auditing::unseen::{Known, known_after};
+use crate::edges::committed::Committed;
 use crate::finding::BadRead;
+use crate::looks::Look;
 use sia_events::{Key, NoMemory, TxnId, Version};
-use sia_index::{Fate, Index, ItemRead, Reader, Seen};
+use sia_index::{Fate, Index, ItemRead, Seen};
 
 /// A version of a key that a transaction saw at a place.
 #[derive(Clone, Copy)]
@@ -25,27 +30,32 @@ pub(crate) struct Sight {
     pub(crate) saw: Version,
 }
 
-/// A read by an index: what is known of who reads. Where `own` isn't true, it is known not to have written the keys before.
+/// A read by an index: what is known of who reads, and the number that the first key may have among the written ones. Where
+/// `own` isn't true, it is known not to have written the keys before.
 #[derive(Clone, Copy)]
 pub(crate) struct Reading<'a> {
     pub(crate) ix: &'a Index,
-    pub(crate) reader: Reader,
+    pub(crate) known: Known,
+    pub(crate) first: u32,
     pub(crate) own: bool,
 }
 
-/// Adds the bad reads and the spans of read events.
+/// Adds the bad reads and the looks of read events.
 pub(crate) fn put_item_reads(
     ix: &Index,
+    committed: &Committed,
     reads: &[ItemRead],
     bad: &mut Vec<BadRead>,
-    spans: &mut Vec<Span>,
+    looks: &mut Vec<Look>,
 ) -> Result<(), NoMemory>
     requires well_formed { IsWellFormed ix.now }
+    requires committed { ListsAscending (IsCommitted ix.now) committed.now }
     requires reads { All (IsItemRead ix.now) reads.now }
     ensures bad { OnOk result (Adds (FromSome (λ read. IsBadOf ix.now (read_sight read)) reads.now) bad.old.items bad.new.items) }
-    ensures spans { OnOk result (JoinsTo (FromSome (λ read. IsSpanOf ix.now (read_sight read)) reads.now) spans.old.items spans.new.items) }
+    ensures looks { OnOk result (JoinsTo (FromSome (λ read. LooksAt ix.now (read_sight read)) reads.now) looks.old.items looks.new.items) }
 {
-    let mut number = 0;
+    let mut last = None;
+    let mut first = 0;
     for read in reads {
         let sight = Sight {
             place: read.place,
@@ -53,53 +63,51 @@ pub(crate) fn put_item_reads(
             key: read.key,
             saw: read.saw,
         };
-        let reader = ix.reader(read.txn, read.place);
-        number = ix.number_near(read.key, number);
+        let known = known_after(ix, committed, last, read.txn, read.place);
+        let number = key_near(ix, read.key, first);
+        first = number.unwrap_or(first);
         // Reads of one transaction and key stand side by side.
-        let near = Near {
-            number,
-            place: spans.len().saturating_sub(1),
-        };
+        let place = looks.len().saturating_sub(1);
+        let own = known.reader.has_written;
         let reading = Reading {
             ix,
-            reader,
-            own: reader.has_written,
+            known,
+            first,
+            own,
         };
-        put_sight(&reading, sight, near, bad, spans)?;
+        put_sight(&reading, sight, number, place, bad, looks)?;
+        last = Some(known);
     }
     Ok(())
 }
 
-/// Adds the bad read of a sight, if it is one, and its span, if it has one, joined with one that stands near, if that is
-/// of its transaction and key.
+/// Adds the bad read of a sight, if it is one, and its look, if it has one, joined with the one at the place, if that is of its
+/// transaction and key. Its key has the number among the written ones, if it is written.
 pub(crate) fn put_sight(
     reading: &Reading,
     sight: Sight,
-    near: Near,
+    number: Option<u32>,
+    place: usize,
     bad: &mut Vec<BadRead>,
-    spans: &mut Vec<Span>,
+    looks: &mut Vec<Look>,
 ) -> Result<(), NoMemory>
     requires well_formed { IsWellFormed reading.now.ix.now }
-    requires reader { IsReader reading.now.ix.now sight.txn sight.place reading.now.reader }
+    requires known { IsKnown reading.now.ix.now sight.txn sight.place reading.now.known }
     requires sight { IsSight reading.now.ix.now sight }
+    requires number { (i : ℕ) → (number ≡ Some i) ↔ IsKeyAt reading.now.ix.now i sight.key }
     requires own { reading.now.own ≡ false → ¬ WroteBefore reading.now.ix.now sight.txn sight.key sight.place }
     ensures bad { OnOk result (Adds (IsBadOf reading.now.ix.now sight) bad.old.items bad.new.items) }
-    ensures spans { OnOk result (JoinsTo (IsSpanOf reading.now.ix.now sight) spans.old.items spans.new.items) }
+    ensures looks { OnOk result (JoinsTo (LooksAt reading.now.ix.now sight) looks.old.items looks.new.items) }
 {
     let ix = reading.ix;
-    let seen = seen_at(ix, reading.reader, sight, near.number);
+    let near = number.unwrap_or(0) as usize;
+    let seen = ix.seen_near(reading.known.reader, sight.key, near);
     let due = due_at(ix, sight, reading.own, seen);
     put_bad_read(sight, due, bad)?;
-    put_span(ix, reading.reader, sight, seen, near.place, spans)?;
+    if let Some(look) = look_of(reading, sight, seen, number) {
+        put_joined(looks, look, place)?;
+    }
     Ok(())
-}
-
-// What the transaction of a sight sees of its key. The key may have this number among the written keys.
-fn seen_at(ix: &Index, reader: Reader, sight: Sight, number: usize) -> Seen
-    requires { IsReader ix.now sight.txn sight.place reader }
-    ensures { IsSeen ix.now sight.txn sight.place sight.key result }
-{
-    ix.seen_near(reader, sight.key, number)
 }
 
 // The version due at a sight.
@@ -108,23 +116,12 @@ fn due_at(ix: &Index, sight: Sight, own: bool, seen: Seen) -> Version
     requires seen { IsSeen ix.now sight.txn sight.place sight.key seen }
     ensures { IsDue ix.now sight.txn sight.place sight.key result }
 {
-    if is_own(ix, sight, own) {
-        sight.txn
-    } else {
-        seen.version
-    }
-}
-
-// Whether the transaction of a sight wrote the key before.
-fn is_own(ix: &Index, sight: Sight, own: bool) -> bool
-    requires { own ≡ false → ¬ WroteBefore ix.now sight.txn sight.key sight.place }
-    ensures { IsTrue result ↔ WroteBefore ix.now sight.txn sight.key sight.place }
-{
     if own {
-        wrote_before(ix, sight.txn, sight.place, sight.key)
-    } else {
-        false
+        if wrote_before(ix, sight.txn, sight.place, sight.key) {
+            return sight.txn;
+        }
     }
+    seen.version
 }
 
 /// Whether the transaction wrote the key before the place.
@@ -153,43 +150,24 @@ fn put_bad_read(sight: Sight, due: Version, bad: &mut Vec<BadRead>) -> Result<()
     Ok(())
 }
 
-// Adds the span of a sight, if it has one.
-fn put_span(
-    ix: &Index,
-    reader: Reader,
-    sight: Sight,
-    seen: Seen,
-    place: usize,
-    spans: &mut Vec<Span>,
-) -> Result<(), NoMemory>
-    requires well_formed { IsWellFormed ix.now }
-    requires reader { IsReader ix.now sight.txn sight.place reader }
-    requires seen { IsSeen ix.now sight.txn sight.place sight.key seen }
-    ensures { OnOk result (JoinsTo (IsSpanOf ix.now sight) spans.old.items spans.new.items) }
-{
-    if let Some(span) = span_of(ix, reader, sight, seen) {
-        put_joined(spans, span, place)?;
-    }
-    Ok(())
-}
-
-// The span of a sight by a committed transaction of a version that isn't its own and that 0 or a committed one made.
-fn span_of(ix: &Index, reader: Reader, sight: Sight, seen: Seen) -> Option<Span>
-    requires well_formed { IsWellFormed ix.now }
-    requires reader { IsReader ix.now sight.txn sight.place reader }
-    requires seen { IsSeen ix.now sight.txn sight.place sight.key seen }
-    ensures { MatchOption result ((span : Span) → ¬ IsSpanOf ix.now sight span) (λ span. IsSpanOf ix.now sight span × ((other : Span) → IsSpanOf ix.now sight other → span ≡ other)) }
+// The look of a sight by a committed transaction, of a written key and of a version that isn't its own and that 0 or a committed
+// one made.
+fn look_of(reading: &Reading, sight: Sight, seen: Seen, number: Option<u32>) -> Option<Look>
+    requires well_formed { IsWellFormed reading.now.ix.now }
+    requires known { IsKnown reading.now.ix.now sight.txn sight.place reading.now.known }
+    requires seen { IsSeen reading.now.ix.now sight.txn sight.place sight.key seen }
+    requires number { (i : ℕ) → (number ≡ Some i) ↔ IsKeyAt reading.now.ix.now i sight.key }
+    ensures { MatchOption result ((at : ℕ × ℕ × ℕ) → ¬ LooksAt reading.now.ix.now sight at) (IsLookOfSight reading.now.ix.now sight) }
 {
     if sight.saw == sight.txn {
         return None;
     }
-    if !reader.committed {
-        return None;
-    }
-    let at = as_of_seen(ix, sight.saw, seen)?;
-    Some(Span {
-        txn: sight.txn,
-        key: sight.key,
+    let txn = reading.known.number?;
+    let key = number?;
+    let at = as_of_seen(reading.ix, sight.saw, seen)?;
+    Some(Look {
+        txn,
+        key,
         low: at,
         high: at,
     })
@@ -199,19 +177,11 @@ fn span_of(ix: &Index, reader: Reader, sight: Sight, seen: Seen) -> Option<Span>
 fn as_of_seen(ix: &Index, v: Version, seen: Seen) -> Option<u32>
     requires well_formed { IsWellFormed ix.now }
     requires seen { IsAsOf ix.now seen.version seen.commit }
-    ensures { MatchOption result ((c : ℕ) → ¬ IsAsOf ix.now v c) (λ c. IsAsOf ix.now v c × ((d : ℕ) → IsAsOf ix.now v d → c ≡ d)) }
+    ensures { (c : ℕ) → (result ≡ Some c) ↔ IsAsOf ix.now v c }
 {
     if v == seen.version {
         return Some(seen.commit);
     }
-    as_of(ix, v)
-}
-
-// The place as of which the version is.
-fn as_of(ix: &Index, v: Version) -> Option<u32>
-    requires { IsWellFormed ix.now }
-    ensures { MatchOption result ((c : ℕ) → ¬ IsAsOf ix.now v c) (λ c. IsAsOf ix.now v c × ((d : ℕ) → IsAsOf ix.now v d → c ≡ d)) }
-{
     if v == 0 {
         return Some(0);
     }

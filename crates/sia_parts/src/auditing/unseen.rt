@@ -1,32 +1,29 @@
-//! Range reads that see nothing of a part of the keys, since every version there was committed after they had started. A wide
-//! range read meets many parts, so that this has to be told without a look at their keys.
-ghost use Rattle.std.specs.Prelude.{◌≡◌, ◌≤◌, ◌<◌, ℕ, All, IsTrue, OnOk, false};
-ghost use Rattle.sia_events.specs.Transactions.{HasEvent};
-ghost use Rattle.sia_index.specs.Info.{IsReader};
-ghost use Rattle.sia_parts.specs.Gaps.{Spreads, InSomeGap, IsGapOf, IsBetween};
-ghost use Rattle.sia_parts.specs.Unseen.{CommitsFrom, IsLastReader};
+//! What is known of who reads. Some range reads see nothing of a part of the keys, since every version there was committed after
+//! they had started: a wide range read meets many parts, so that this has to be told without a look at their keys.
+ghost use Rattle.std.specs.Prelude.{◌≡◌, ◌≤◌, ◌<◌, ℕ, IsTrue, OnOk, false};
+ghost use Rattle.sia_events.specs.Lists.{ListsAscending};
+ghost use Rattle.sia_events.specs.Refusals.{IsWellFormed};
+ghost use Rattle.sia_events.specs.Transactions.{HasEvent, IsCommitted};
+ghost use Rattle.sia_parts.specs.Joining.{IsAbsentFrom, IsInAbsence, Spreads};
+ghost use Rattle.sia_parts.specs.Sights.{FromSome};
+ghost use Rattle.sia_parts.specs.Unseen.{CommitsFrom, IsKnown, IsLastKnown};
 
-use crate::auditing::gaps::{Gap, is_written_between, put_gap};
 use crate::cutting::Part;
-use sia_events::{Key, NoMemory, TxnId};
-use sia_index::{Index, KeyVersion, Reader};
+use crate::edges::committed::Committed;
+use crate::looks::Absence;
+use sia_events::{NoMemory, TxnId};
+use sia_index::{Index, Reader};
 
 /// The place of the first commit of a version of a key of the part. Each version there is looked at once.
 pub(crate) fn first_commit(ix: &Index, part: Part) -> u32
     ensures { CommitsFrom ix.now part result }
 {
-    least_commit(ix.versions_within(part.lo, part.hi))
-}
-
-// The least commit of these versions.
-fn least_commit(versions: &[KeyVersion]) -> u32
-    ensures { All (λ version. result ≤ version.commit) versions.now }
-{
-    let mut least: u32 = u32::MAX;
+    let versions = ix.versions_within(part.lo, part.hi);
+    let mut first: u32 = u32::MAX;
     for version in versions {
-        least = least.min(version.commit);
+        first = first.min(version.commit);
     }
-    least
+    first
 }
 
 /// Whether it is plain that the reader sees no version of some keys of a part, by the place of the first commit there. Where
@@ -42,57 +39,79 @@ pub(crate) fn sees_none(reader: Reader, own: bool, first: u32) -> bool
     reader.start < first
 }
 
+/// What is known of a transaction that reads, and its number among the committed ones, if it committed.
+#[derive(Clone, Copy)]
+pub(crate) struct Known {
+    pub(crate) reader: Reader,
+    pub(crate) number: Option<u32>,
+}
+
 /// What is known of a transaction that reads at the place. Where it read last, nothing is looked up.
 #[inline(always)]
-pub(crate) fn reader_after(ix: &Index, last: Option<Reader>, t: TxnId, place: u32) -> Reader
+pub(crate) fn known_after(
+    ix: &Index,
+    committed: &Committed,
+    last: Option<Known>,
+    t: TxnId,
+    place: u32,
+) -> Known
+    requires well_formed { IsWellFormed ix.now }
+    requires committed { ListsAscending (IsCommitted ix.now) committed.now }
     requires some { HasEvent ix.now t }
-    requires last { IsLastReader ix.now last }
-    ensures { IsReader ix.now t place result }
+    requires last { IsLastKnown ix.now last }
+    ensures { IsKnown ix.now t place result }
 {
-    if let Some(reader) = last {
+    if let Some(known) = last {
+        let reader = known.reader;
         if reader.txn == t {
-            return Reader {
-                txn: t,
-                place,
-                start: reader.start,
-                committed: reader.committed,
-                has_written: reader.has_written,
+            return Known {
+                reader: Reader {
+                    txn: t,
+                    place,
+                    start: reader.start,
+                    committed: reader.committed,
+                    has_written: reader.has_written,
+                },
+                number: known.number,
             };
         }
     }
-    ix.reader(t, place)
+    Known {
+        reader: ix.reader(t, place),
+        number: committed.number(ix, t),
+    }
 }
 
-/// Adds the gap of the keys from `lo` to `hi`, if the reader committed, some key there is written, and the last gap doesn't
-/// hold them all.
-pub(crate) fn put_unseen(
-    ix: &Index,
-    reader: Reader,
-    lo: Key,
-    hi: Key,
-    gaps: &mut Vec<Gap>,
+/// Adds the absence from one number of a key to before another, if the transaction has a number, and the last absence doesn't
+/// hold it all.
+pub(crate) fn put_absence(
+    number: Option<u32>,
+    from: u32,
+    to: u32,
+    absences: &mut Vec<Absence>,
 ) -> Result<(), NoMemory>
-    ensures { OnOk result (Spreads ix.now (IsGapOf reader (IsBetween lo hi)) gaps.old.items gaps.new.items) }
+    ensures { OnOk result (Spreads (IsAbsentFrom number from to) absences.old.items absences.new.items) }
 {
-    if !reader.committed {
-        return Ok(());
-    }
-    if is_held(gaps, reader.txn, lo, hi) {
-        return Ok(());
-    }
-    if is_written_between(ix, lo, hi, 0) {
-        put_gap(reader, lo, hi, gaps)?;
+    if let Some(txn) = number {
+        let absence = Absence { txn, from, to };
+        if is_held(absences, absence) {
+            return Ok(());
+        }
+        absences.push(absence)?;
     }
     Ok(())
 }
 
-// Whether the last gap holds all keys from `lo` to `hi`, for the transaction.
+// Whether the absence is of no key, or lies in the last one.
 #[inline(always)]
-fn is_held(gaps: &[Gap], t: TxnId, lo: Key, hi: Key) -> bool
-    ensures { IsTrue result → (k : ℕ) → IsBetween lo hi k → InSomeGap gaps.now (t, k) }
+fn is_held(absences: &[Absence], next: Absence) -> bool
+    ensures { IsTrue result → (at : ℕ × ℕ × ℕ) → IsInAbsence next at → FromSome IsInAbsence absences.now at }
 {
-    match gaps.last() {
-        Some(last) => last.txn == t && last.lo <= lo && hi <= last.hi,
+    if next.from >= next.to {
+        return true;
+    }
+    match absences.last() {
+        Some(last) => last.txn == next.txn && last.from <= next.from && next.to <= last.to,
         None => false,
     }
 }

@@ -1,5 +1,5 @@
 //! The committed transactions of a history, and the number of each among them.
-ghost use Rattle.std.specs.Prelude.{◌≡◌, ◌≢◌, ◌↔◌, ◌<◌, ℕ, All, AllPairs, IfOk, IsTrue, MatchOption, length, slice_index};
+ghost use Rattle.std.specs.Prelude.{◌≡◌, ◌↔◌, ◌<◌, ℕ, IfOk, IsTrue, Some, length, slice_index};
 ghost use Rattle.sia_events.specs.Lists.{ListsAscending};
 ghost use Rattle.sia_events.specs.Refusals.{IsWellFormed};
 ghost use Rattle.sia_events.specs.Transactions.{HasEvent, IsCommitted};
@@ -11,7 +11,7 @@ use std::alloc::Global;
 use std::marker::Model;
 
 /// The committed transactions of a history, ascending. The number of one is its place among them, counted from 0.
-#[derive(Debug, Drop)]
+#[derive(Drop)]
 pub struct Committed {
     ids: Vec<TxnId>,
     /// Where a transaction may stand among the committed ones, by its number among all. Each is checked where it is used.
@@ -55,23 +55,23 @@ impl Committed {
     pub(crate) fn number(&self, ix: &Index, t: TxnId) -> Option<u32>
         requires well_formed { IsWellFormed ix.now }
         requires committed { ListsAscending (IsCommitted ix.now) self.now }
-        ensures { MatchOption result (¬ IsCommitted ix.now t) (λ i. IsCommittedAt ix.now i t × (i < 1048576)) }
+        ensures { (i : ℕ) → (result ≡ Some i) ↔ IsCommittedAt ix.now i t }
     {
-        match find(self.ids.as_slice(), self.hint(ix, t), t) {
-            Some(i) => Some(i as u32),
-            None => None,
+        let ids = self.ids.as_slice();
+        let at = self.hint(ix, t);
+        if at < ids.len() && ids[at] == t {
+            return Some(at as u32);
+        }
+        match ids.binary_search(&t) {
+            Ok(i) => Some(i as u32),
+            Err(_) => None,
         }
     }
 
     // Where it may stand.
     fn hint(&self, ix: &Index, t: TxnId) -> usize {
-        match ix.txn_number(t) {
-            Some(number) => match self.places.get(number) {
-                Some(place) => *place as usize,
-                None => 0,
-            },
-            None => 0,
-        }
+        let number = ix.txn_number(t).unwrap_or(0);
+        self.places.get(number).copied().unwrap_or(0) as usize
     }
 }
 
@@ -87,27 +87,5 @@ fn has_committed(ix: &Index, txns: &[TxnId], i: usize) -> bool
         Fate::Committed => true,
         Fate::Aborted => false,
         Fate::Unfinished => false,
-    }
-}
-
-// Where the transaction stands among these. It may be at this place.
-fn find(ids: &[TxnId], at: usize, t: TxnId) -> Option<usize>
-    requires { AllPairs (λ x y. x < y) ids.now }
-    ensures { MatchOption result (All (λ id. id ≢ t) ids.now) (λ i. (i < length ids.now) × (slice_index ids.now i ≡ t)) }
-{
-    if at < ids.len() && ids[at] == t {
-        return Some(at);
-    }
-    search(ids, t)
-}
-
-// The same, by a search.
-fn search(ids: &[TxnId], t: TxnId) -> Option<usize>
-    requires { AllPairs (λ x y. x < y) ids.now }
-    ensures { MatchOption result (All (λ id. id ≢ t) ids.now) (λ i. (i < length ids.now) × (slice_index ids.now i ≡ t)) }
-{
-    match ids.binary_search(&t) {
-        Ok(i) => Some(i),
-        Err(_) => None,
     }
 }

@@ -1,11 +1,12 @@
 //! The numbers of fans' edges, one source after another: a source's numbers are few enough to be sorted at once.
 ghost use Rattle.std.specs.Prelude.{◌≡◌, ◌↔◌, ◌<◌, ◌≤◌, ℕ, All, OnOk, length};
+ghost use Rattle.sia_parts.specs.Entries.{kind_number};
 ghost use Rattle.sia_parts.specs.Packing.{AreDigits};
 ghost use Rattle.sia_parts.specs.Sights.{Adds, FromSome};
 ghost use Rattle.sia_parts.specs.Fans.{HasDigits, HaveDigits, IsFanNumber, IsNumberTo, looks_for};
 
 use crate::edges::fans::Fan;
-use crate::edges::packing::{BASE, number};
+use crate::edges::numbers::BASE;
 use crate::finding::Kind;
 use crate::looks::{Look, Looks};
 use sia_events::NoMemory;
@@ -124,10 +125,17 @@ fn number_to(src: u32, kind: Kind, look: Look) -> u64
     requires look { HasDigits look }
     ensures { AreDigits src look.txn kind look.key result }
 {
-    number(
-        u64::from(src),
-        u64::from(look.txn),
-        kind,
-        u64::from(look.key),
-    )
+    let pair = u64::from(src) * BASE + u64::from(look.txn);
+    (pair * 4 + number_of(kind)) * BASE + u64::from(look.key)
+}
+
+// The place of a kind among the kinds.
+fn number_of(kind: Kind) -> u64
+    ensures { result ≡ kind_number kind }
+{
+    match kind {
+        Kind::Ww => 0,
+        Kind::Wr => 1,
+        Kind::Rw => 2,
+    }
 }

@@ -26,7 +26,7 @@ use std::alloc::Global;
 
 /// The edges of one kind from a transaction, by its number, to the looks from one place to below another. Its looks are
 /// readers where the kind is wr, and else writers.
-#[derive(Clone, Copy, Debug)]
+#[derive(Clone, Copy)]
 pub(crate) struct Fan {
     pub(crate) src: u32,
     pub(crate) kind: Kind,
@@ -36,7 +36,7 @@ pub(crate) struct Fan {
 
 /// Edges, as fans in the order of their sources. Their numbers are made where they are asked for, so that workers can share
 /// the fans.
-#[derive(Debug, Drop)]
+#[derive(Drop)]
 pub struct Fans {
     /// Those that the fans lead to, the readers by rank too.
     pub(crate) looks: Looks,
@@ -184,22 +184,15 @@ fn put_reader_fans(writers: &[Look], readers: &[Look], fans: &mut Vec<Fan>) -> R
 {
     let mut near = 0;
     for look in readers {
-        near = put_fan(writers, reach_of_reader(*look), near, fans)?;
+        let reach = Reach {
+            src: look.txn,
+            kind: Kind::Rw,
+            from: rank(look.key, look.low) + 1,
+            to: rank_above(look.key),
+        };
+        near = put_fan(writers, reach, near, fans)?;
     }
     Ok(())
-}
-
-// What the reader missed.
-fn reach_of_reader(look: Look) -> Reach
-    requires { HasDigits look }
-    ensures { result ≡ record { src = look.txn; kind = Rw; from = rank_of look.key look.low + 1; to = rank_of (look.key + 1) 0 } }
-{
-    Reach {
-        src: look.txn,
-        kind: Kind::Rw,
-        from: rank(look.key, look.low) + 1,
-        to: rank_above(look.key),
-    }
 }
 
 // Adds the fans of the absences: to the versions of their keys.
@@ -213,21 +206,15 @@ fn put_absence_fans(
 {
     let mut near = 0;
     for absence in absences {
-        near = put_fan(writers, reach_of_absence(*absence), near, fans)?;
+        let reach = Reach {
+            src: absence.txn,
+            kind: Kind::Rw,
+            from: rank(absence.from, 0),
+            to: rank(absence.to, 0),
+        };
+        near = put_fan(writers, reach, near, fans)?;
     }
     Ok(())
-}
-
-// What the absent transaction missed.
-fn reach_of_absence(absence: Absence) -> Reach
-    ensures { result ≡ record { src = absence.txn; kind = Rw; from = rank_of absence.from 0; to = rank_of absence.to 0 } }
-{
-    Reach {
-        src: absence.txn,
-        kind: Kind::Rw,
-        from: rank(absence.from, 0),
-        to: rank(absence.to, 0),
-    }
 }
 
 // Adds the fan to those of the looks that are reached, if there are any. They are looked for from the place on. Answers where

@@ -4,10 +4,13 @@
 ghost use Rattle.std.specs.Prelude.{◌≡◌, map, IfOk};
 ghost use Rattle.sia_parts.specs.Packing.{unpacked, source_number, target_number, kind_digit, kind_at, key_number};
 
-use crate::edges::packing::{BASE, kind_of, unpack};
 use crate::finding::{Edge, Kind};
 use sia_events::{Key, NoMemory, TxnId};
 use std::alloc::Global;
+
+/// The number that follows the greatest digit for a transaction or a key. A history has at most 100,000 events, so its
+/// transactions and keys have lesser numbers.
+pub(crate) const BASE: u64 = 1_048_576;
 
 /// An edge as a number: of two of them the lesser is that of the edge that is listed first.
 pub type EdgeNumber = u64;
@@ -33,7 +36,14 @@ pub fn target_of(n: EdgeNumber) -> usize
 pub fn kind_in(n: EdgeNumber) -> Kind
     ensures { result ≡ kind_at (kind_digit n) }
 {
-    kind_of(n / BASE % 4)
+    let digit = n / BASE % 4;
+    if digit == 0 {
+        Kind::Ww
+    } else if digit == 1 {
+        Kind::Wr
+    } else {
+        Kind::Rw
+    }
 }
 
 /// The place of the edge's key among the written keys.
@@ -49,7 +59,12 @@ pub fn key_of(n: EdgeNumber) -> usize
 pub fn edge_of(txns: &[TxnId], keys: &[Key], n: EdgeNumber) -> Edge
     ensures { result ≡ unpacked txns.now keys.now n }
 {
-    unpack(txns, keys, n)
+    Edge {
+        src: txns.get(source_of(n)).copied().unwrap_or(0),
+        dst: txns.get(target_of(n)).copied().unwrap_or(0),
+        kind: kind_in(n),
+        key: keys.get(key_of(n)).copied().unwrap_or(0),
+    }
 }
 
 /// The edges that the numbers stand for, in the same order.
@@ -63,7 +78,7 @@ pub fn edges_of_numbers(
 {
     let mut edges = Vec::with_capacity(alloc, numbers.len())?;
     for n in numbers {
-        edges.push(unpack(txns, keys, *n))?;
+        edges.push(edge_of(txns, keys, *n))?;
     }
     Ok(edges)
 }

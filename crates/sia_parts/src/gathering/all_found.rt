@@ -17,7 +17,7 @@ use sia_index::ordering::merge_in_order;
 use std::alloc::Global;
 
 /// What was found at all keys.
-#[derive(Debug, Drop)]
+#[derive(Drop)]
 pub struct Gathering {
     pub bad_reads: Vec<BadRead>,
     pub bad_writes: Vec<BadWrite>,
@@ -44,7 +44,7 @@ impl Gathering {
             },
         };
         for part in parts {
-            put_part(part, &mut all)?;
+            put_part(&part, &mut all)?;
         }
         merge_in_order(&mut all.bad_reads)?;
         merge_in_order(&mut all.bad_writes)?;
@@ -54,14 +54,14 @@ impl Gathering {
     }
 }
 
-/// Adds the lists of the part behind those before, and lets go of them.
-fn put_part(part: PartFound, all: &mut Gathering) -> Result<(), NoMemory>
-    ensures bad_reads { OnOk result (Adds (Contains part.bad_reads.items) all.old.bad_reads.items all.new.bad_reads.items) }
-    ensures bad_writes { OnOk result (Adds (Contains part.bad_writes.items) all.old.bad_writes.items all.new.bad_writes.items) }
-    ensures unexplained { OnOk result (Adds (Contains part.unexplained.items) all.old.unexplained.items all.new.unexplained.items) }
-    ensures writers { OnOk result (Adds (Contains part.looks.writers.items) all.old.looks.writers.items all.new.looks.writers.items) }
-    ensures readers { OnOk result (Adds (Contains part.looks.readers.items) all.old.looks.readers.items all.new.looks.readers.items) }
-    ensures absences { OnOk result (Adds (Contains part.looks.absences.items) all.old.looks.absences.items all.new.looks.absences.items) }
+/// Adds the lists of the part behind those before.
+fn put_part(part: &PartFound, all: &mut Gathering) -> Result<(), NoMemory>
+    ensures bad_reads { OnOk result (Adds (Contains part.now.bad_reads.items) all.old.bad_reads.items all.new.bad_reads.items) }
+    ensures bad_writes { OnOk result (Adds (Contains part.now.bad_writes.items) all.old.bad_writes.items all.new.bad_writes.items) }
+    ensures unexplained { OnOk result (Adds (Contains part.now.unexplained.items) all.old.unexplained.items all.new.unexplained.items) }
+    ensures writers { OnOk result (Adds (Contains part.now.looks.writers.items) all.old.looks.writers.items all.new.looks.writers.items) }
+    ensures readers { OnOk result (Adds (Contains part.now.looks.readers.items) all.old.looks.readers.items all.new.looks.readers.items) }
+    ensures absences { OnOk result (Adds (Contains part.now.looks.absences.items) all.old.looks.absences.items all.new.looks.absences.items) }
 {
     all.bad_reads.extend_from_slice(&part.bad_reads)?;
     all.bad_writes.extend_from_slice(&part.bad_writes)?;

@@ -2,6 +2,7 @@
 ghost use Rattle.std.specs.Prelude.{◌≡◌, ◌+◌, ◌<◌, ◌≤◌, [], ◌∷◌, length, slice_index, All, AllPairs, IfOk, IsTrue, OnOk};
 ghost use Rattle.sia_parts.specs.Gathering.{AreChunkBounds};
 
+use crate::edges::fanning::count;
 use crate::edges::fans::{Fan, Fans};
 use sia_events::NoMemory;
 use std::alloc::Global;
@@ -10,7 +11,7 @@ use std::alloc::Global;
 const MOST: usize = 1024;
 
 /// The places of sources at which chunks start, ascending, and where the last one ends.
-#[derive(Debug, Drop)]
+#[derive(Drop)]
 pub struct ChunkBounds {
     pub places: Vec<usize>,
 }
@@ -26,7 +27,7 @@ impl ChunkBounds {
         places.push(0)?;
         if txns > 0 {
             let weights = weights_of(alloc, &fans.fans, txns)?;
-            let least = size.max(sum_of(&weights) / MOST + 1);
+            let least = size.max(count(&fans.fans) / MOST + 1);
             put_chunk_bounds(&weights, txns, least, &mut places)?;
             places.push(txns)?;
         }
@@ -34,29 +35,15 @@ impl ChunkBounds {
     }
 }
 
-// How many edges all sources have at most.
-fn sum_of(weights: &[usize]) -> usize {
-    let mut sum = 0usize;
-    for weight in weights {
-        sum = sum.saturating_add(*weight);
-    }
-    sum
-}
-
 // How many edges each source has at most. There are so many sources.
 fn weights_of(alloc: Global, fans: &[Fan], sources: usize) -> Result<Vec<usize>, NoMemory> {
     let mut weights = vec![in alloc; 0usize; sources]?;
     for fan in fans {
-        weigh(*fan, weights.as_mut_slice());
+        if let Some(weight) = weights.get_mut(fan.src as usize) {
+            *weight = weight.saturating_add(fan.to.saturating_sub(fan.from));
+        }
     }
     Ok(weights)
-}
-
-// Adds how many edges the fan has to the weight of its source.
-fn weigh(fan: Fan, weights: &mut [usize]) {
-    if let Some(weight) = weights.get_mut(fan.src as usize) {
-        *weight = weight.saturating_add(fan.to.saturating_sub(fan.from));
-    }
 }
 
 // Adds the places between which the sources have about so many edges each.

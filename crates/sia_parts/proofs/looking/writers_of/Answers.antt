@@ -10,8 +10,7 @@ loop-made-init c = rw c.in_ok-looks.ensures.items (from_none (IsVersionLook c.ar
 
 pub loop-made-preserved : goal.loop-made-preserved
 loop-made-preserved c =
-    from_more (IsVersionLook c.args.ix.now) c.args.versions.now c.loop-made.made-index (record { key = 0; commit = 0; txn = 0 }) [] _ _ c.loop-made-test.true c.loop-made.invariant
-    (rw c.span_of.ensures at c.in_ok-put_look.ensures)
+    from_more (IsVersionLook c.args.ix.now) c.args.versions.now c.loop-made.made-index (record { key = 0; commit = 0; txn = 0 }) [] _ _ c.loop-made-test.true c.loop-made.invariant c.in_ok-near.ensures
 
 pub returns-clause-looks : goal.returns-clause-looks
 returns-clause-looks c look =

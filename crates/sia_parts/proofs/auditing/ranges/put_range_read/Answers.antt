@@ -6,10 +6,10 @@ use Rattle.std.proofs.lemmas.List.Elements.{Contains-get_or}
 use Rattle.sia_events.specs.Transactions.{WroteBefore}
 use Rattle.sia_events.proofs.Ranges.{list_in_order}
 use Rattle.sia_parts.specs.Gaps.{IsUnlisted}
-use Rattle.sia_parts.specs.Sights.{IsBadOf, IsSpanOf, listed_sight}
-use Rattle.sia_parts.proofs.GapLemmas.{due_none}
+use Rattle.sia_parts.specs.Sights.{IsBadOf, LooksAt, listed_sight}
+use Rattle.sia_parts.proofs.GapLemmas.{due_none, gap_of_numbers}
 use Rattle.sia_parts.proofs.RangeSights.{list_at, apart_sights, apart_listed, apart_gaps, here_sight, unlisted_here_sight, listed_here, sights_here, gaps_here}
-use Rattle.sia_parts.proofs.Unsighted.{unseen_due, gap_of_all, none_give, none_join}
+use Rattle.sia_parts.proofs.Unsighted.{own_known, unseen_due, gap_of_all, none_give, none_join}
 use Rattle.sia_parts.proofs.auditing.ranges.put_range_read.Goals as goal
 
 pub returns-then-lo-hi-clause-bad : goal.returns-then-lo-hi-clause-bad
@@ -17,13 +17,13 @@ returns-then-lo-hi-clause-bad c =
     apart_sights c.args.scope.now.ix.now c.law.ensures c.args.scope.now.part c.args.range c.requires.range.0 c.requires.range.1
     _ _ c.max-lo.ensures c.min-hi.ensures c.if-lo-hi.true (IsBadOf c.args.scope.now.ix.now) _
 
-pub returns-then-lo-hi-clause-spans : goal.returns-then-lo-hi-clause-spans
-returns-then-lo-hi-clause-spans c =
+pub returns-then-lo-hi-clause-looks : goal.returns-then-lo-hi-clause-looks
+returns-then-lo-hi-clause-looks c =
     apart_listed c.args.scope.now.ix.now c.law.ensures c.args.scope.now.part c.args.range c.requires.range.0 c.requires.range.1
-    _ _ c.max-lo.ensures c.min-hi.ensures c.if-lo-hi.true (IsSpanOf c.args.scope.now.ix.now) _
+    _ _ c.max-lo.ensures c.min-hi.ensures c.if-lo-hi.true (LooksAt c.args.scope.now.ix.now) _
 
-pub returns-then-lo-hi-clause-gaps : goal.returns-then-lo-hi-clause-gaps
-returns-then-lo-hi-clause-gaps c =
+pub returns-then-lo-hi-clause-absences : goal.returns-then-lo-hi-clause-absences
+returns-then-lo-hi-clause-absences c =
     apart_gaps c.args.scope.now.ix.now c.law.ensures c.args.scope.now.part c.args.range c.requires.range.0 c.requires.range.1
     _ _ c.max-lo.ensures c.min-hi.ensures c.if-lo-hi.true _
 
@@ -31,34 +31,35 @@ returns-then-lo-hi-clause-gaps c =
 pub returns-then-sees_none-clause-bad : goal.returns-then-sees_none-clause-bad
 returns-then-sees_none-clause-bad c =
     let h = c.args.scope.now.ix.now in
-    let r = c.reader_after-reader.result in
+    let r = c.known_after-known.result.reader in
     let here = c.listed_within-listed.result.now in
     let none = nil_from_length here (let e = eqb-true _ _ (sym c.is_empty.ensures ∙ c.if-is_empty.true) in omega arith) in
     sights_here c.args.scope.now.ix.now c.law.ensures c.args.scope.now.part c.args.range _ (list_at _ _ c.requires.of c.args.range c.requires.range _ c.listed_at.ensures)
     _ _ c.max-lo.ensures c.min-hi.ensures _ c.listed_within-listed.ensures.each
-    r c.reader_after-reader.ensures (IsBadOf h) _ _ _
+    r c.known_after-known.ensures.reader (IsBadOf h) _ _ _
     (none_give (λ p. IsBadOf h (listed_sight c.args.range p)) here _ none)
     (due_none h r _ (IsUnlisted here c.max-lo.result c.min-hi.result) (λ k un.
     let low : c.args.scope.now.part.lo ≤ k = let a = un.0 in omega (arith, c.max-lo.ensures) in
     let high : k ≤ c.args.scope.now.part.hi = let a = un.1 in omega (arith, c.min-hi.ensures) in
-    unseen_due h c.args.scope.now.part c.args.scope.now.first c.requires.first c.args.range.txn c.args.range.place r c.reader_after-reader.ensures (c.sees_none.ensures.starts c.if-sees_none.true) k (low, high) (c.may_own-own.ensures (c.sees_none.ensures.none_own c.if-sees_none.true) k un.0 un.1)))
+    unseen_due h c.args.scope.now.part c.args.scope.now.first c.requires.first c.args.range.txn c.args.range.place r c.known_after-known.ensures.reader (c.sees_none.ensures.starts c.if-sees_none.true) k (low, high) (c.may_own-own.ensures (c.sees_none.ensures.none_own c.if-sees_none.true) k un.0 un.1)))
 
-pub returns-then-sees_none-clause-spans : goal.returns-then-sees_none-clause-spans
-returns-then-sees_none-clause-spans c =
+pub returns-then-sees_none-clause-looks : goal.returns-then-sees_none-clause-looks
+returns-then-sees_none-clause-looks c =
     let here = c.listed_within-listed.result.now in
     let none = nil_from_length here (let e = eqb-true _ _ (sym c.is_empty.ensures ∙ c.if-is_empty.true) in omega arith) in
     listed_here c.args.scope.now.ix.now c.law.ensures c.args.scope.now.part c.args.range _ (list_at _ _ c.requires.of c.args.range c.requires.range _ c.listed_at.ensures)
     _ _ c.max-lo.ensures c.min-hi.ensures _ c.listed_within-listed.ensures.each
-    (IsSpanOf c.args.scope.now.ix.now) _ _ (none_join (λ p. IsSpanOf c.args.scope.now.ix.now (listed_sight c.args.range p)) here _ none)
+    (LooksAt c.args.scope.now.ix.now) _ _ (none_join (λ p. LooksAt c.args.scope.now.ix.now (listed_sight c.args.range p)) here _ none)
 
-pub returns-then-sees_none-clause-gaps : goal.returns-then-sees_none-clause-gaps
-returns-then-sees_none-clause-gaps c =
-    let r = c.reader_after-reader.result in
+pub returns-then-sees_none-clause-absences : goal.returns-then-sees_none-clause-absences
+returns-then-sees_none-clause-absences c =
+    let r = c.known_after-known.result.reader in
     let here = c.listed_within-listed.result.now in
     let none = nil_from_length here (let e = eqb-true _ _ (sym c.is_empty.ensures ∙ c.if-is_empty.true) in omega arith) in
     gaps_here c.args.scope.now.ix.now c.law.ensures c.args.scope.now.part c.args.range _ (list_at _ _ c.requires.of c.args.range c.requires.range _ c.listed_at.ensures)
     _ _ c.max-lo.ensures c.min-hi.ensures _ c.listed_within-listed.ensures.each
-    r c.reader_after-reader.ensures _ _ (gap_of_all c.args.scope.now.ix.now r here c.max-lo.result c.min-hi.result _ _ none c.in_ok-put_unseen.ensures)
+    r c.known_after-known.ensures.reader _ _ (gap_of_all c.args.scope.now.ix.now r here c.max-lo.result c.min-hi.result _ _ none
+    (gap_of_numbers c.args.scope.now.ix.now r c.known_after-known.result.number (own_known _ _ _ _ c.known_after-known.ensures).number c.max-lo.result c.min-hi.result _ _ c.numbers_within-first.ensures.each _ _ c.in_ok-put_absence.ensures))
 
 pub listed_within-listed-requires : goal.listed_within-listed-requires
 listed_within-listed-requires c =
@@ -74,10 +75,13 @@ put_listed_keys-requires-clause-sights c k d below =
 pub put_listed_keys-requires-clause-own : goal.put_listed_keys-requires-clause-own
 put_listed_keys-requires-clause-own c nothing k d below before =
     let h = c.args.scope.now.ix.now in
-    let reader = c.reader_after-reader.ensures in
+    let reader = c.known_after-known.ensures.reader in
     let key = (get_or c.listed_within-listed.result.now k d).0 in
     let own = (c.listed_within-listed.ensures.each (get_or c.listed_within-listed.result.now k d)).0 (Contains-get_or c.listed_within-listed.result.now k d below) in
-    c.may_own-own.ensures nothing key own.1 own.2 (subst (λ t. WroteBefore h t key c.reader_after-reader.result.place) (sym reader.txn_is) (subst (λ p. WroteBefore h c.args.range.txn key p) (sym reader.place_is) before))
+    c.may_own-own.ensures nothing key own.1 own.2 (subst (λ t. WroteBefore h t key c.known_after-known.result.reader.place) (sym reader.txn_is) (subst (λ p. WroteBefore h c.args.range.txn key p) (sym reader.place_is) before))
+
+pub put_unlisted-requires-clause-known : goal.put_unlisted-requires-clause-known
+put_unlisted-requires-clause-known c = own_known _ _ _ _ c.known_after-known.ensures
 
 pub put_unlisted-requires-clause-within : goal.put_unlisted-requires-clause-within
 put_unlisted-requires-clause-within c k d below =
@@ -88,22 +92,22 @@ pub put_unlisted-requires-clause-sights : goal.put_unlisted-requires-clause-sigh
 put_unlisted-requires-clause-sights c k un =
     unlisted_here_sight c.args.scope.now.ix.now c.law.ensures c.args.scope.now.part c.args.range _ (list_at _ _ c.requires.of c.args.range c.requires.range _ c.listed_at.ensures)
     _ _ c.max-lo.ensures c.min-hi.ensures _ c.listed_within-listed.ensures.each
-    c.reader_after-reader.result c.reader_after-reader.ensures k un
+    c.known_after-known.result.reader c.known_after-known.ensures.reader k un
 
 pub returns-clause-bad : goal.returns-clause-bad
 returns-clause-bad c =
     sights_here c.args.scope.now.ix.now c.law.ensures c.args.scope.now.part c.args.range _ (list_at _ _ c.requires.of c.args.range c.requires.range _ c.listed_at.ensures)
     _ _ c.max-lo.ensures c.min-hi.ensures _ c.listed_within-listed.ensures.each
-    c.reader_after-reader.result c.reader_after-reader.ensures (IsBadOf c.args.scope.now.ix.now) _ _ _ c.in_ok-put_listed_keys.ensures.bad c.in_ok-put_unlisted.ensures.bad
+    c.known_after-known.result.reader c.known_after-known.ensures.reader (IsBadOf c.args.scope.now.ix.now) _ _ _ c.in_ok-put_listed_keys.ensures.bad c.in_ok-put_unlisted.ensures.bad
 
-pub returns-clause-spans : goal.returns-clause-spans
-returns-clause-spans c =
+pub returns-clause-looks : goal.returns-clause-looks
+returns-clause-looks c =
     listed_here c.args.scope.now.ix.now c.law.ensures c.args.scope.now.part c.args.range _ (list_at _ _ c.requires.of c.args.range c.requires.range _ c.listed_at.ensures)
     _ _ c.max-lo.ensures c.min-hi.ensures _ c.listed_within-listed.ensures.each
-    (IsSpanOf c.args.scope.now.ix.now) _ _ c.in_ok-put_listed_keys.ensures.spans
+    (LooksAt c.args.scope.now.ix.now) _ _ c.in_ok-put_listed_keys.ensures.looks
 
-pub returns-clause-gaps : goal.returns-clause-gaps
-returns-clause-gaps c =
+pub returns-clause-absences : goal.returns-clause-absences
+returns-clause-absences c =
     gaps_here c.args.scope.now.ix.now c.law.ensures c.args.scope.now.part c.args.range _ (list_at _ _ c.requires.of c.args.range c.requires.range _ c.listed_at.ensures)
     _ _ c.max-lo.ensures c.min-hi.ensures _ c.listed_within-listed.ensures.each
-    c.reader_after-reader.result c.reader_after-reader.ensures _ _ c.in_ok-put_unlisted.ensures.gaps
+    c.known_after-known.result.reader c.known_after-known.ensures.reader _ _ c.in_ok-put_unlisted.ensures.absences

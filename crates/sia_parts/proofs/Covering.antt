@@ -1,0 +1,97 @@
+-- Rows that are added one after another, where one may be joined with another, by the points that they rest on and hold.
+use Rattle.std.proofs.Common.{◌≡◌, ◌⊎◌, inl, inr, ℕ, ◌+◌, ◌<◌, ◌≤◌, List, [], ◌∷◌, ◌++◌, length, get_or, set, ap, sym, subst, ◌∙◌, arith}
+use Rattle.std.specs.Prelude.{Contains}
+use Rattle.std.proofs.lemmas.Bool.{cases_eq}
+use Rattle.std.proofs.lemmas.List.{take_all, get_or-set_same, get_or-set_other, length-set, get_or_default}
+use Rattle.std.proofs.lemmas.List.Elements.{Contains-get_or}
+use Rattle.sia_parts.specs.Joining.{Covers, IsJoined}
+use Rattle.sia_parts.specs.Sights.{FromSome}
+use Rattle.sia_parts.proofs.Adding.{FromFirst, first_more, some_push}
+
+-- nothing is in an empty list
+pub none_from : {A B : Type 0} (P : A → B → Type 0) (y : B) → ¬ FromSome P [] y
+none_from P y f = let below = f.1.1 in absurd (omega arith)
+
+module _ {A B : Type 0} (E H : A → B → Type 0) where
+  -- what lies in the rows already adds nothing
+  pub covers_held : (P : B → Type 0) (xs : List A) → ((y : B) → P y → FromSome H xs y) → Covers E H P P xs xs
+  covers_held P xs held = record {
+    ends = λ y f. inl f;
+    holds = λ y e. elim e [ inl f ↦ f | inr p ↦ held y p ];
+  }
+
+  pub covers_nothing : (P : B → Type 0) (xs : List A) → ((y : B) → ¬ P y) → Covers E H P P xs xs
+  covers_nothing P xs none = covers_held P xs (λ y p. absurd (none y p))
+
+  pub covers_same : (P Q R S : B → Type 0) (old new : List A) → ((y : B) → P y → R y) → ((y : B) → S y → Q y) → Covers E H P Q old new → Covers E H R S old new
+  covers_same P Q R S old new to from covers = record {
+    ends = λ y f. elim (covers.ends y f) [ inl before ↦ inl before | inr p ↦ inr (to y p) ];
+    holds = λ y e. covers.holds y (elim e [ inl f ↦ inl f | inr s ↦ inr (from y s) ]);
+  }
+
+  -- one after another
+  pub covers_both : (P R : B → Type 0) (old mid new : List A) → Covers E H P P old mid → Covers E H R R mid new → Covers E H (λ y. P y ⊎ R y) (λ y. P y ⊎ R y) old new
+  covers_both P R old mid new first second = record {
+    ends = λ y f. elim (second.ends y f) [
+      | inl before ↦ elim (first.ends y before) [ inl more ↦ inl more | inr p ↦ inr (inl p) ]
+      | inr r ↦ inr (inr r)
+    ];
+    holds = λ y e. second.holds y (elim e [
+      | inl before ↦ inl (first.holds y (inl before))
+      | inr either ↦ elim either [ inl p ↦ inl (first.holds y (inr p)) | inr r ↦ inr r ]
+    ]);
+  }
+
+  -- a row at the end
+  pub covers_push : (xs : List A) (x : A) → Covers E H (E x) (H x) xs (xs ++ x ∷ [])
+  covers_push xs x = record {
+    ends = λ y. (some_push E xs x y).1;
+    holds = λ y. (some_push H xs x y).0;
+  }
+
+  -- a row joined with the one at a place
+  module _ (xs : List A) (i : ℕ) (d x both : A) (below : i < length xs) (joint : IsJoined E H (get_or xs i d) x both) where
+    there : Contains (set xs i both) both
+    there = (i, omega (arith, length-set xs i both), get_or-set_same xs i both both below)
+
+    set_cases : (s : A) → Contains (set xs i both) s → Contains xs s ⊎ (both ≡ s)
+    set_cases s c = elim (cases_eq c.0 i) [
+      | inl here ↦ inr (sym (get_or-set_same xs i both s below) ∙ ap (λ j. get_or (set xs i both) j s) (sym here) ∙ c.2)
+      | inr other ↦ inl (c.0, (let within = c.1 in omega (arith, length-set xs i both)), sym (get_or-set_other xs i c.0 both s other) ∙ c.2)
+    ]
+
+    held : (y : B) (s : A) → Contains xs s → H s y → FromSome H (set xs i both) y
+    held y s c is = elim (cases_eq c.0 i) [
+      | inl here ↦
+          let own : get_or xs i d ≡ s = get_or_default xs i d s below ∙ ap (λ k. get_or xs k s) (sym here) ∙ c.2 in
+          (both, there, joint.holds y (inl (subst (λ z. H z y) (sym own) is)))
+      | inr other ↦ (s, (c.0, (let within = c.1 in omega (arith, length-set xs i both)), get_or-set_other xs i c.0 both s other ∙ c.2), is)
+    ]
+
+    pub covers_set : Covers E H (E x) (H x) xs (set xs i both)
+    covers_set = record {
+      ends = λ y f. elim (set_cases f.0 f.1) [
+        | inl old ↦ inl (f.0, old, f.2)
+        | inr same ↦ elim (joint.ends y (subst (λ z. E z y) (sym same) f.2)) [
+          | inl left ↦ inl (get_or xs i d, Contains-get_or xs i d below, left)
+          | inr right ↦ inr right
+        ]
+      ];
+      holds = λ y e. elim e [
+        | inl f ↦ held y f.0 f.1 f.2
+        | inr is ↦ (both, there, joint.holds y (inr is))
+      ];
+    }
+
+  module _ {C : Type 0} (P : C → B → Type 0) (zs : List C) where
+    pub cover_none : (old : List A) → Covers E H (FromFirst P zs 0) (FromFirst P zs 0) old old
+    cover_none old = covers_nothing (FromFirst P zs 0) old (none_from P)
+
+    pub cover_more : (i : ℕ) (d : C) (old mid new : List A) → i < length zs → Covers E H (FromFirst P zs i) (FromFirst P zs i) old mid → Covers E H (P (get_or zs i d)) (P (get_or zs i d)) mid new → Covers E H (FromFirst P zs (i + 1)) (FromFirst P zs (i + 1)) old new
+    cover_more i d old mid new below before here =
+        covers_same (λ y. FromFirst P zs i y ⊎ P (get_or zs i d) y) (λ y. FromFirst P zs i y ⊎ P (get_or zs i d) y) (FromFirst P zs (i + 1)) (FromFirst P zs (i + 1)) old new
+        (λ y. (first_more P zs i d below y).0) (λ y. (first_more P zs i d below y).1)
+        (covers_both (FromFirst P zs i) (P (get_or zs i d)) old mid new before here)
+
+    pub cover_all : (i : ℕ) (old new : List A) → length zs ≤ i → Covers E H (FromFirst P zs i) (FromFirst P zs i) old new → Covers E H (FromSome P zs) (FromSome P zs) old new
+    cover_all i old new all covers = subst (λ ws. Covers E H (FromSome P ws) (FromSome P ws) old new) (take_all i zs all) covers
