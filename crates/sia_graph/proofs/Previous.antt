@@ -9,7 +9,7 @@ use Rattle.sia_parts.specs.declared.looks.Looks.{Looks}
 use Rattle.sia_parts.specs.Sights.{FromSome}
 use Rattle.sia_parts.proofs.Adding.{first_more}
 use Rattle.sia_graph.specs.NumberEdges.{HasNumberEdge}
-use Rattle.sia_graph.specs.Previous.{AreLeastBefore, AreLeftRanks, AreWithin, IsBefore, IsLeftIn, IsLeftSource, IsPlaceOf, IsPreviousOf, IsRankTo}
+use Rattle.sia_graph.specs.Previous.{AreLeftRanks, AreWithin, IsBefore, IsLeftIn, IsLeftSource, IsPlaceOf, IsPreviousOf, IsRankTo}
 use Rattle.sia_graph.specs.Ranks.{AreRanks, IsLeastRank, IsRankBelow, IsRankOf}
 use Rattle.sia_graph.proofs.LeastRanks.{least_either, least_same}
 
@@ -26,33 +26,37 @@ ranks_are left ranks long few are i r = (
   (λ is. let e = is.0 in let l = is.1 in let b = (are i l).0 is.2 in (omega arith, omega arith, omega arith)),
 )
 
-module _ (rows : List Look) (ranks : List ℕ) (more : ℕ) (looks : List Look) (count n : ℕ) (d : Look) (within : n < length looks) (least : List ℕ)
-    (are : AreLeastBefore rows ranks more (take n looks) count least) (below : (get_or looks n d).txn < count) (r new : ℕ)
-    (here : IsLeastRank (λ q. IsRankBelow rows ranks (get_or looks n d).key ((get_or looks n d).high + more) q × (q ≢ (get_or looks n d).txn)) r)
-    (lesser : new ≡ min (get_or least (get_or looks n d).txn 0) r) where
+-- for each transaction the least that one of these looks tells of it
+abbrev pub AreLeastOf : (ℕ → Look → ℕ → Type 0) → List Look → ℕ → List ℕ → Type 0
+AreLeastOf T looks count least = (length least ≡ count) × ((t : ℕ) → t < count → IsLeastRank (FromSome (T t) looks) (get_or least t 0))
+
+-- one look more, which tells of its own transaction alone
+module _ (T : ℕ → Look → ℕ → Type 0) (few : (t r : ℕ) (look : Look) → T t look r → r < 4294967295) (of_own : (t r : ℕ) (look : Look) → T t look r → look.txn ≡ t)
+    (looks : List Look) (count n : ℕ) (d : Look) (within : n < length looks) (least : List ℕ) (are : AreLeastOf T (take n looks) count least) (below : (get_or looks n d).txn < count) (r new : ℕ)
+    (here : IsLeastRank (T (get_or looks n d).txn (get_or looks n d)) r) (lesser : new ≡ min (get_or least (get_or looks n d).txn 0) r) where
   abbrev own : ℕ
   own = (get_or looks n d).txn
 
   abbrev Before : ℕ → ℕ → ℕ → Type 0
-  Before t m q = FromSome (IsBefore rows ranks more t) (take m looks) q
+  Before t m q = FromSome (T t) (take m looks) q
 
   at_own : IsLeastRank (Before own (n + 1)) new
   at_own = subst (IsLeastRank (Before own (n + 1))) (sym lesser)
-      (least_either (Before own n) (λ q. IsRankBelow rows ranks (get_or looks n d).key ((get_or looks n d).high + more) q × (q ≢ own)) (Before own (n + 1)) (get_or least own 0) r
-      (λ q has. has.2.1.4.2)
-      (λ q has. (first_more (IsBefore rows ranks more own) looks n d within q).0 (inl has))
-      (λ q has. (first_more (IsBefore rows ranks more own) looks n d within q).0 (inr (refl, has.0, has.1)))
-      (λ q has. elim ((first_more (IsBefore rows ranks more own) looks n d within q).1 has) [ inl old ↦ inl old | inr it ↦ inr (it.1, it.2) ])
+      (least_either (Before own n) (T own (get_or looks n d)) (Before own (n + 1)) (get_or least own 0) r
+      (λ q has. few own q has.0 has.2)
+      (λ q has. (first_more (T own) looks n d within q).0 (inl has))
+      (λ q has. (first_more (T own) looks n d within q).0 (inr has))
+      (λ q has. (first_more (T own) looks n d within q).1 has)
       (are.1 own below) here)
 
   at_other : (t : ℕ) → t < count → t ≢ own → IsLeastRank (Before t (n + 1)) (get_or least t 0)
   at_other t l other = least_same (Before t n) (Before t (n + 1)) (get_or least t 0)
-      (λ q has. (first_more (IsBefore rows ranks more t) looks n d within q).0 (inl has))
-      (λ q has. elim ((first_more (IsBefore rows ranks more t) looks n d within q).1 has) [ inl old ↦ old | inr it ↦ absurd (other (sym it.0)) ])
+      (λ q has. (first_more (T t) looks n d within q).0 (inl has))
+      (λ q has. elim ((first_more (T t) looks n d within q).1 has) [ inl old ↦ old | inr it ↦ absurd (other (sym (of_own t q (get_or looks n d) it))) ])
       (are.1 t l)
 
-  pub before_more : AreLeastBefore rows ranks more (take (n + 1) looks) count (set least own new)
-  before_more = (
+  pub least_of_more : AreLeastOf T (take (n + 1) looks) count (set least own new)
+  least_of_more = (
     length-set least own new ∙ are.0,
     λ t l. elim (cases_eq t own) [
       | inl same ↦

@@ -16,19 +16,11 @@ use Rattle.sia_parts.proofs.Committing.{committed_number}
 use Rattle.sia_parts.proofs.FewNumbers.{few_keys}
 use Rattle.sia_graph.specs.Evidence.{IsEvidence}
 use Rattle.sia_graph.specs.Previous.{AreWithin, IsLeftIn, IsLeftSource, IsPreviousOf}
-use Rattle.sia_graph.specs.Walks.{AreLeastSources, IsSource, StaysWithin}
+use Rattle.sia_graph.specs.Walks.{AreLeastSources, IsSource}
 use Rattle.sia_graph.proofs.EvidenceEdges.{edge_at, leads_by_numbers}
 
 each_of : {A : Type 0} (P : A → Type 0) (xs : List A) → ((x : A) → Contains xs x → P x) → All P xs
 each_of P xs holds k d l = holds (get_or xs k d) (Contains-get_or xs k d l)
-
--- what leads to a source or to itself leads to a place in the list
-pub previous_within : (looks : Looks) (left : List Bool) (previous : List ℕ) → length previous ≡ length left → ((t : ℕ) → t < length left → IsPreviousOf looks left t (get_or previous t 0)) → StaysWithin previous
-previous_within looks left previous long each t l = of_one (each t (subst (λ n. t < n) long l))
-  where
-    of_one : IsPreviousOf looks left t (get_or previous t 0) → get_or previous t 0 < length previous
-    of_one (inl w) = subst (λ n. get_or previous t 0 < n) (sym long) w.0.0
-    of_one (inr w) = let e = w.0 in omega arith
 
 module _ (h : List Event) (txns keys : List ℕ) (looks : Looks) (is : IsEvidence h txns keys looks) where
   -- written keys are few

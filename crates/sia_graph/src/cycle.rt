@@ -99,7 +99,6 @@ pub(crate) fn cycle_of(
     requires long { (length left.now ≡ length ids.now) × (length previous.now ≡ length ids.now) }
     requires some { (i : ℕ) × (i < length left.now) × IsLeftIn left.now i }
     requires stuck { (stuck : List ℕ) × IsStuckSet (IsMemberIn ids.now edges.now) (IsEdgeIn edges.now) stuck × AreLeft ids.now (IsLeftIn left.now) stuck }
-    requires within { StaysWithin previous.now }
     requires least { AreLeastSources ids.now (IsEdgeIn edges.now) (IsLeftIn left.now) previous.now }
     ensures { IfOk result (λ steps. IsPrintedCycle (IsMemberIn ids.now edges.now) (IsEdgeIn edges.now) steps.items) }
 {

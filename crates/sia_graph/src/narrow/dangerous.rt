@@ -14,9 +14,9 @@ ghost use Rattle.sia_graph.specs.Sources.{IsSource};
 use crate::narrow::Evidence;
 use crate::narrow::by_transaction::looks_by_txn;
 use crate::narrow::least_edges::least_rw;
-use crate::narrow::limits::{least_early, limits_in, none_early};
+use crate::narrow::limits::{least_early, limits_in};
 use crate::narrow::previous::ranks_of;
-use crate::narrow::sources::Sources;
+use crate::narrow::sources::ranks_of_sources;
 use crate::narrow::two::NONE;
 use crate::pivoting::lifetimes::{Lifetime, lifetimes_of};
 use sia_events::{Key, NoMemory, TxnId};
@@ -45,8 +45,8 @@ fn least_pivot(alloc: Global, evidence: &Evidence, limits: &[u32]) -> Result<(u3
     let mut high = limits.len();
     'halving: while high - low > 1 {
         let middle = low + (high - low) / 2;
-        let none = none_early(alloc, evidence, &limits[..middle])?;
-        if none {
+        let early = least_early(alloc, evidence, &limits[..middle])?;
+        if early == NONE {
             low = middle;
         } else {
             high = middle;
@@ -75,15 +75,14 @@ fn least_first(
     pivot: u32,
 ) -> Result<u32, NoMemory>
     requires evidence { IsEvidence evidence.now.index.now evidence.now.txns.now evidence.now.keys.now evidence.now.looks.now }
-    requires few { length lifetimes.now ≤ 1000000000 }
+    requires long { length lifetimes.now ≡ length evidence.now.txns.now }
+    requires pivot { pivot < length lifetimes.now }
     ensures { IfOk result (IsLeastRank (λ t. IsSource evidence.now.looks.now t pivot × CommitsFrom lifetimes.now place t)) }
 {
-    let size = evidence.keys.len() as u32;
     let late = late_of(alloc, lifetimes, place)?;
     let ranks = ranks_of(alloc, &late)?;
-    let sources = Sources::of(alloc, evidence.looks, &ranks, size)?;
-    let first = sources.least(&ranks, pivot);
-    Ok(first)
+    let sources = ranks_of_sources(alloc, evidence, &ranks)?;
+    Ok(sources[pivot as usize])
 }
 
 /// The least key of an rw edge from one transaction to another. `own` holds the looks by transaction.

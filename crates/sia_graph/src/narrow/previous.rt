@@ -1,20 +1,18 @@
 //! For each transaction the least one that is left and has an edge to it.
 ghost use Rattle.std.specs.Prelude.{◌≡◌, ◌≢◌, ◌+◌, ◌<◌, ◌≤◌, ℕ, true, false, List, All, IfOk, length, min, slice_index};
 ghost use Rattle.sia_parts.specs.declared.looks.Look.{Look};
-ghost use Rattle.sia_parts.specs.declared.looks.Looks.{Looks};
 ghost use Rattle.sia_parts.specs.Entries.{IsEdge};
 ghost use Rattle.sia_graph.specs.Evidence.{IsEvidence};
-ghost use Rattle.sia_graph.specs.Previous.{AreLeastBefore, AreLeftRanks, AreWithin, IsLeftIn, IsPlaceOf, IsPreviousOf, IsRankTo};
-ghost use Rattle.sia_graph.specs.Ranks.{AreRanked, AreRanks, IsLeastRank};
-ghost use Rattle.sia_graph.specs.Sources.{AreSources};
-ghost use Rattle.sia_graph.specs.Walks.{AreLeastSources, StaysWithin};
+ghost use Rattle.sia_graph.specs.Previous.{AreLeastBefore, AreLeftRanks, IsLeftIn, IsPlaceOf};
+ghost use Rattle.sia_graph.specs.Ranks.{AreRanked};
+ghost use Rattle.sia_graph.specs.Walks.{AreLeastSources};
 
 use crate::narrow::Evidence;
 use crate::narrow::ranked::Ranked;
-use crate::narrow::sources::Sources;
+use crate::narrow::sources::ranks_of_sources;
 use crate::narrow::two::NONE;
 use sia_events::NoMemory;
-use sia_parts::{Look, Looks};
+use sia_parts::Look;
 use std::alloc::Global;
 
 /// A number as a rank, where it is left.
@@ -74,46 +72,17 @@ fn least_of_three(
     alloc: Global,
     written: &[u32],
     seen: &[u32],
-    sources: &Sources,
-    ranks: &[u32],
+    missed: &[u32],
 ) -> Result<Vec<usize>, NoMemory>
-    requires few { length ranks.now < 4294967295 }
-    requires long { (length written.now ≡ length ranks.now) × (length seen.now ≡ length ranks.now) }
-    requires are { (looks : Looks) × AreSources looks ranks.now sources.now }
-    requires apart { AreRanks ranks.now }
-    ensures long { IfOk result (λ previous. length previous.items ≡ length ranks.now) }
-    ensures each { IfOk result (λ previous. (t : ℕ) → t < length ranks.now → (rank : ℕ)
-        × ((looks : Looks) → AreSources looks ranks.now sources.now → IsLeastRank (IsRankTo looks ranks.now t) rank)
-        × IsPlaceOf (min (min (slice_index written.now t) (slice_index seen.now t)) rank) t (slice_index previous.items t)) }
+    requires { (length written.now ≡ length missed.now) × (length seen.now ≡ length missed.now) }
+    ensures long { IfOk result (λ previous. length previous.items ≡ length missed.now) }
+    ensures each { IfOk result (λ previous. (t : ℕ) → t < length missed.now
+        → IsPlaceOf (min (min (slice_index written.now t) (slice_index seen.now t)) (slice_index missed.now t)) t (slice_index previous.items t)) }
 {
-    let mut previous = Vec::with_capacity(alloc, ranks.len())?;
-    for t in 0..ranks.len() {
-        let missed = sources.least(ranks, t as u32);
-        previous.push(place(written[t].min(seen[t]).min(missed), t))?;
+    let mut previous = Vec::with_capacity(alloc, missed.len())?;
+    for t in 0..missed.len() {
+        previous.push(place(written[t].min(seen[t]).min(missed[t]), t))?;
     }
-    Ok(previous)
-}
-
-/// For each transaction the least one that is left and has an edge to it, by their numbers. What has none leads to itself.
-fn least_left(
-    alloc: Global,
-    looks: &Looks,
-    size: u32,
-    left: &[bool],
-) -> Result<Vec<usize>, NoMemory>
-    requires few { (length left.now < 4294967295) × (size ≤ 1000000000) }
-    requires within { AreWithin looks.now (length left.now) size }
-    ensures long { IfOk result (λ previous. length previous.items ≡ length left.now) }
-    ensures each { IfOk result (λ previous. (t : ℕ) → t < length left.now → IsPreviousOf looks.now left.now t (slice_index previous.items t)) }
-{
-    let owned = ranks_of(alloc, left)?;
-    let ranks = owned.as_slice();
-    let writers = looks.writers.as_slice();
-    let rows = Ranked::of(alloc, writers, ranks)?;
-    let sources = Sources::of(alloc, looks, ranks, size)?;
-    let written = least_before(alloc, writers, 0, &rows, left.len())?;
-    let seen = least_before(alloc, &looks.readers, 1, &rows, left.len())?;
-    let previous = least_of_three(alloc, &written, &seen, &sources, ranks)?;
     Ok(previous)
 }
 
@@ -126,10 +95,15 @@ pub(crate) fn previous_of(
     requires long { length left.now ≡ length evidence.now.txns.now }
     requires is { IsEvidence evidence.now.index.now evidence.now.txns.now evidence.now.keys.now evidence.now.looks.now }
     ensures long { IfOk result (λ previous. length previous.items ≡ length left.now) }
-    ensures within { IfOk result (λ previous. StaysWithin previous.items) }
     ensures least { IfOk result (λ previous. AreLeastSources evidence.now.txns.now (IsEdge evidence.now.index.now) (IsLeftIn left.now) previous.items) }
 {
-    let size = evidence.keys.len() as u32;
-    let previous = least_left(alloc, evidence.looks, size, left)?;
+    let owned = ranks_of(alloc, left)?;
+    let ranks = owned.as_slice();
+    let writers = evidence.looks.writers.as_slice();
+    let rows = Ranked::of(alloc, writers, ranks)?;
+    let written = least_before(alloc, writers, 0, &rows, left.len())?;
+    let seen = least_before(alloc, &evidence.looks.readers, 1, &rows, left.len())?;
+    let missed = ranks_of_sources(alloc, evidence, ranks)?;
+    let previous = least_of_three(alloc, &written, &seen, &missed)?;
     Ok(previous)
 }

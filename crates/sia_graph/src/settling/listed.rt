@@ -7,7 +7,7 @@ ghost use Rattle.sia_graph.specs.Cycles.{TakesLeastEdge};
 ghost use Rattle.sia_graph.specs.Orders.{Leads};
 ghost use Rattle.sia_graph.specs.Places.{AreStepsOf};
 ghost use Rattle.sia_graph.specs.Previous.{IsLeftIn};
-ghost use Rattle.sia_graph.specs.Walks.{AreLeastSources, StaysWithin, is_before};
+ghost use Rattle.sia_graph.specs.Walks.{AreLeastSources, is_before};
 
 use crate::settling::Step;
 use crate::taking::by_steps::target_place;
@@ -68,7 +68,6 @@ pub(crate) fn least_sources(
     requires steps { AreStepsOf ids.now edges.now steps.now }
     requires long { length left.now ≡ length ids.now }
     ensures long { IfOk result (λ previous. length previous.items ≡ length ids.now) }
-    ensures within { IfOk result (λ previous. StaysWithin previous.items) }
     ensures least { IfOk result (λ previous. AreLeastSources ids.now (Contains edges.now) (IsLeftIn left.now) previous.items) }
 {
     let mut previous = themselves(alloc, left.len())?;

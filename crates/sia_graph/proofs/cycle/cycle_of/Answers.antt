@@ -3,8 +3,14 @@ use Rattle.std.proofs.lemmas.Result.{IfOk-weaker}
 use Rattle.sia_graph.specs.Previous.{IsLeftIn}
 use Rattle.sia_graph.specs.Searched.{IsEdgeIn, IsMemberIn}
 use Rattle.sia_graph.specs.Walks.{ArePreviousFrom}
-use Rattle.sia_graph.proofs.PrintedCycle.{fed_by_stuck, previous_from, shifted, leads_all, printed}
+use Rattle.sia_graph.proofs.PrintedCycle.{fed_by_stuck, previous_from, shifted, leads_all, printed, stays_within}
 use Rattle.sia_graph.proofs.cycle.cycle_of.Goals as goal
+
+pub least_on_cycle-requires-clause-within : goal.least_on_cycle-requires-clause-within
+least_on_cycle-requires-clause-within c = stays_within c.args.ids.now (IsEdgeIn c.args.edges.now) (IsLeftIn c.args.left.now) c.args.previous.now c.requires.long.1 c.requires.least
+
+pub steps_round-requires-clause-within : goal.steps_round-requires-clause-within
+steps_round-requires-clause-within c = stays_within c.args.ids.now (IsEdgeIn c.args.edges.now) (IsLeftIn c.args.left.now) c.args.previous.now c.requires.long.1 c.requires.least
 
 pub steps_round-requires-clause-leads : goal.steps_round-requires-clause-leads
 steps_round-requires-clause-leads c =
