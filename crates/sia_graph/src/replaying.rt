@@ -43,11 +43,7 @@ impl From<NoMemory> for ReplayFault {
 }
 
 /// Replays the transactions of an order, up to the first event that isn't right.
-fn replay_order(
-    alloc: Global,
-    h: &History,
-    order: &[TxnId],
-) -> Result<Option<Mismatch>, NoMemory>
+fn replay_order(alloc: Global, h: &History, order: &[TxnId]) -> Result<Option<Mismatch>, NoMemory>
     ensures { IfOk result (Tells h.now (λ _. 0) (serial h.now order.now)) }
 {
     let commits = commit_places(alloc, h)?;
