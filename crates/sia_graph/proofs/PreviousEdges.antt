@@ -23,13 +23,6 @@ each_of : {A : Type 0} (P : A → Type 0) (xs : List A) → ((x : A) → Contain
 each_of P xs holds k d l = holds (get_or xs k d) (Contains-get_or xs k d l)
 
 module _ (h : List Event) (txns keys : List ℕ) (looks : Looks) (is : IsEvidence h txns keys looks) where
-  -- written keys are few
-  pub few_written : length keys ≤ 1000000000
-  few_written = elim (cases_lt 0 (length keys)) [
-    | inl some ↦ let n : length keys - 1 < length keys = omega arith in let f = few_keys h is.well_formed (length keys - 1) (get_or keys (length keys - 1) 0) (keys, is.keys_are, n, refl) in omega arith
-    | inr none ↦ omega arith
-  ]
-
   -- a version is as of a place of the history
   as_of_few : (v c : ℕ) → IsAsOf h v c → c ≤ 100000
   as_of_few v c (inl none) = let e = none.1 in omega arith

@@ -3,7 +3,7 @@ ghost use Rattle.std.specs.Prelude.{◌≡◌, ◌↔◌, ◌<◌, ◌≤◌, �
 ghost use Rattle.std.specs.List.Sorted.{IsNonDecreasingBy};
 ghost use Rattle.sia_parts.specs.declared.looks.Absence.{Absence};
 ghost use Rattle.sia_parts.specs.declared.looks.Look.{Look};
-ghost use Rattle.sia_parts.specs.declared.finding.Kind.TheVariants.{Rw, Wr, Ww};
+ghost use Rattle.sia_parts.specs.declared.finding.Kind.TheVariants.{Rw};
 ghost use Rattle.sia_parts.specs.Sights.{FromSome};
 ghost use Rattle.sia_graph.specs.NumberEdges.{AreByTxn, HasMeeting, HasNumberEdge, IsLeastEdge, IsMissedBy, Meets};
 ghost use Rattle.sia_graph.specs.Ranks.{IsLeastRank};
@@ -77,31 +77,7 @@ fn least_missed(absences: &[Absence], writes: &[Look]) -> u32
     least
 }
 
-/// The least key of a ww edge from one transaction to another. `NONE` where there is none, as below.
-fn least_ww(looks: &Looks, t: u32, u: u32) -> u32
-    requires { AreByTxn looks.now }
-    ensures { IsLeastRank (HasNumberEdge looks.now Ww t u) result }
-{
-    least_meeting(
-        Kind::Ww,
-        of_txn(&looks.writers, t),
-        of_txn(&looks.writers, u),
-    )
-}
-
-/// The least key of a wr edge from one transaction to another.
-fn least_wr(looks: &Looks, t: u32, u: u32) -> u32
-    requires { AreByTxn looks.now }
-    ensures { IsLeastRank (HasNumberEdge looks.now Wr t u) result }
-{
-    least_meeting(
-        Kind::Wr,
-        of_txn(&looks.writers, t),
-        of_txn(&looks.readers, u),
-    )
-}
-
-/// The least key of a rw edge from one transaction to another.
+/// The least key of an rw edge from one transaction to another, or `NONE`.
 pub(crate) fn least_rw(looks: &Looks, t: u32, u: u32) -> u32
     requires { AreByTxn looks.now }
     ensures { IsLeastRank (HasNumberEdge looks.now Rw t u) result }
@@ -118,11 +94,12 @@ pub(crate) fn least_edge(looks: &Looks, t: u32, u: u32) -> (Kind, u32)
     requires leads { (kind : Kind) × (k : ℕ) × HasNumberEdge looks.now kind t u k }
     ensures { IsLeastEdge looks.now t u result.0 result.1 }
 {
-    let ww = least_ww(looks, t, u);
+    let writes = of_txn(&looks.writers, t);
+    let ww = least_meeting(Kind::Ww, writes, of_txn(&looks.writers, u));
     if ww < NONE {
         return (Kind::Ww, ww);
     }
-    let wr = least_wr(looks, t, u);
+    let wr = least_meeting(Kind::Wr, writes, of_txn(&looks.readers, u));
     if wr < NONE {
         return (Kind::Wr, wr);
     }

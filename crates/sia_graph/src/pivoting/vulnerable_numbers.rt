@@ -12,7 +12,7 @@ use sia_events::{NoMemory, TxnId};
 use sia_index::Index;
 use sia_index::ordering::put_in_order;
 use sia_parts::{EdgeNumber, kind_in, source_of, target_of};
-use std::alloc::{AllocError, Global};
+use std::alloc::Global;
 
 /// Whether the edge is of the kind rw, and its ends overlap.
 #[inline(always)]
@@ -49,29 +49,12 @@ pub fn vulnerable_in(
     requires packed { (keys : List ℕ) × All (IsPacked txns.now keys) numbers.now }
     ensures { IfOk result (λ links. (keys : List ℕ) → AreEnds (Overlap ix.now) (map (unpacked txns.now keys) numbers.now) links.items) }
 {
-    let mut links = ends_of_numbers(alloc, ix, txns, lifetimes, numbers)?;
-    put_in_order(&mut links);
-    Ok(links)
-}
-
-/// The ends of each such edge.
-#[inline(never)]
-fn ends_of_numbers(
-    alloc: Global,
-    ix: &Index,
-    txns: &[TxnId],
-    lifetimes: &[Lifetime],
-    numbers: &[EdgeNumber],
-) -> Result<Vec<Link>, AllocError>
-    requires lifetimes { AreLifetimes ix.now txns.now lifetimes.now }
-    requires packed { (keys : List ℕ) × All (IsPacked txns.now keys) numbers.now }
-    ensures { IfOk result (λ links. (keys : List ℕ) → AreEnds (Overlap ix.now) (map (unpacked txns.now keys) numbers.now) links.items) }
-{
     let mut links = Vec::new(alloc);
     for n in numbers {
         if is_vulnerable(ix, txns, lifetimes, *n) {
             links.push(link_of(txns, *n))?;
         }
     }
+    put_in_order(&mut links);
     Ok(links)
 }
