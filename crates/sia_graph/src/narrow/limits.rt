@@ -43,18 +43,6 @@ fn limit_of(rank: u32, commit: u32) -> u32
     rank.max(LAST.saturating_sub(commit.saturating_sub(1)))
 }
 
-/// The same of each transaction.
-fn limits_of(alloc: Global, sources: &[u32], lifetimes: &[Lifetime]) -> Result<Vec<u32>, NoMemory>
-    requires { length sources.now ≡ length lifetimes.now }
-    ensures { IfOk result (λ limits. (looks : Looks) (ranks : List ℕ) → length ranks ≡ length lifetimes.now → AreLeastOfSources looks ranks sources.now → AreLimits looks ranks lifetimes.now limits.items) }
-{
-    let mut limits = Vec::with_capacity(alloc, lifetimes.len())?;
-    for t in 0..lifetimes.len() {
-        limits.push(limit_of(sources[t], lifetimes[t].commit))?;
-    }
-    Ok(limits)
-}
-
 /// Whether the version commits up to the limit of one who saw what was before it.
 fn is_within(earlier: &Earlier, made: Look) -> bool
     requires are { (looks : Looks) × (limits : List ℕ) × AreEarlier looks limits earlier.now }
@@ -66,22 +54,6 @@ fn is_within(earlier: &Earlier, made: Look) -> bool
         return false;
     }
     made.high <= LAST - rank
-}
-
-/// The least number that made a version that does, or `NONE`.
-fn least_within(earlier: &Earlier, writers: &[Look]) -> u32
-    requires are { (looks : Looks) × (limits : List ℕ) × AreEarlier looks limits earlier.now }
-    requires within { All (λ made. (made.key < earlier.now.size) × (made.txn < 4294967295)) writers.now }
-    ensures { (looks : Looks) (limits : List ℕ) → AreEarlier looks limits earlier.now
-        → IsLeastRank (λ j. (made : Look) × Contains writers.now made × (made.txn ≡ j) × IsWithinLimit looks limits made) result }
-{
-    let mut least = NONE;
-    for made in writers {
-        if is_within(earlier, *made) {
-            least = least.min(made.txn);
-        }
-    }
-    least
 }
 
 /// The limit of each transaction of a history that keeps isolation. These are their lifetimes.
@@ -96,8 +68,12 @@ pub(crate) fn limits_in(
     ensures { IfOk result (λ limits. TellFirsts evidence.now.index.now evidence.now.txns.now evidence.now.looks.now limits.items) }
 {
     let ranks = ranks_of(alloc, lifetimes)?;
-    let sources = ranks_of_sources(alloc, evidence, &ranks)?;
-    let limits = limits_of(alloc, &sources, lifetimes)?;
+    let owned = ranks_of_sources(alloc, evidence, &ranks)?;
+    let sources = owned.as_slice();
+    let mut limits = Vec::with_capacity(alloc, lifetimes.len())?;
+    for t in 0..lifetimes.len() {
+        limits.push(limit_of(sources[t], lifetimes[t].commit))?;
+    }
     Ok(limits)
 }
 
@@ -111,6 +87,12 @@ pub(crate) fn least_early(
     ensures { IfOk result (IsLeastRank (IsEarly evidence.now.looks.now limits.now)) }
 {
     let earlier = Earlier::of(alloc, evidence, limits)?;
-    let least = least_within(&earlier, &evidence.looks.writers);
+    let writers = evidence.looks.writers.as_slice();
+    let mut least = NONE;
+    for made in writers {
+        if is_within(&earlier, *made) {
+            least = least.min(made.txn);
+        }
+    }
     Ok(least)
 }

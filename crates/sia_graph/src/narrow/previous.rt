@@ -1,9 +1,9 @@
 //! For each transaction the least one that is left and has an edge to it.
-ghost use Rattle.std.specs.Prelude.{◌≡◌, ◌≢◌, ◌+◌, ◌<◌, ◌≤◌, ℕ, true, false, List, All, IfOk, length, min, slice_index};
+ghost use Rattle.std.specs.Prelude.{◌≡◌, ◌≢◌, ◌+◌, ◌<◌, ◌≤◌, ℕ, true, false, List, All, IfOk, length, slice_index};
 ghost use Rattle.sia_parts.specs.declared.looks.Look.{Look};
 ghost use Rattle.sia_parts.specs.Entries.{IsEdge};
 ghost use Rattle.sia_graph.specs.Evidence.{IsEvidence};
-ghost use Rattle.sia_graph.specs.Previous.{AreLeastBefore, AreLeftRanks, IsLeftIn, IsPlaceOf};
+ghost use Rattle.sia_graph.specs.Previous.{AreLeftRanks, AreLowered, IsLeftIn, IsPlaceOf};
 ghost use Rattle.sia_graph.specs.Ranks.{AreRanked};
 ghost use Rattle.sia_graph.specs.Walks.{AreLeastSources};
 
@@ -36,27 +36,18 @@ pub(crate) fn ranks_of(alloc: Global, left: &[bool]) -> Result<Vec<u32>, NoMemor
     Ok(ranks)
 }
 
-/// For each of so many transactions the least rank, but its own number, of a row at the key of one of its looks, before the
+/// Lowers for each transaction its rank to the least one, but its own number, of a row at the key of one of its looks, before the
 /// place that stands so many places behind the look's end.
-fn least_before(
-    alloc: Global,
-    looks: &[Look],
-    more: u32,
-    ranked: &Ranked,
-    count: usize,
-) -> Result<Vec<u32>, NoMemory>
+fn lower(ranked: &Ranked, looks: &[Look], more: u32, least: &mut [u32])
     requires ranked { (rows : List Look) × (ranks : List ℕ) × AreRanked rows ranks ranked.now }
-    requires within { All (λ look. (look.txn < count) × (look.high + more < 4294967296)) looks.now }
-    ensures { IfOk result (λ least. (rows : List Look) (ranks : List ℕ) → AreRanked rows ranks ranked.now
-        → AreLeastBefore rows ranks more looks.now count least.items) }
+    requires within { All (λ look. (look.txn < length least.old) × (look.high + more < 4294967296)) looks.now }
+    ensures { (rows : List Look) (ranks : List ℕ) → AreRanked rows ranks ranked.now → AreLowered rows ranks more looks.now least.old least.new }
 {
-    let mut least = vec![in alloc; NONE; count]?;
     for look in looks {
         let t = look.txn as usize;
         let rank = ranked.least(look.key, look.high + more, look.txn);
         least[t] = least[t].min(rank);
     }
-    Ok(least)
 }
 
 /// A rank as a place, or where there is none one's own.
@@ -66,27 +57,20 @@ fn place(rank: u32, own: usize) -> usize
     if rank < NONE { rank as usize } else { own }
 }
 
-/// For each transaction the least of three ranks as a place, or its own where there is none: of what wrote before it, of what it
-/// saw or what was before that, and of what saw a version before its own.
-fn least_of_three(
-    alloc: Global,
-    written: &[u32],
-    seen: &[u32],
-    missed: &[u32],
-) -> Result<Vec<usize>, NoMemory>
-    requires { (length written.now ≡ length missed.now) × (length seen.now ≡ length missed.now) }
-    ensures long { IfOk result (λ previous. length previous.items ≡ length missed.now) }
-    ensures each { IfOk result (λ previous. (t : ℕ) → t < length missed.now
-        → IsPlaceOf (min (min (slice_index written.now t) (slice_index seen.now t)) (slice_index missed.now t)) t (slice_index previous.items t)) }
+/// Each transaction's rank as a place.
+fn places(alloc: Global, ranks: &[u32]) -> Result<Vec<usize>, NoMemory>
+    ensures long { IfOk result (λ previous. length previous.items ≡ length ranks.now) }
+    ensures each { IfOk result (λ previous. (t : ℕ) → t < length ranks.now → IsPlaceOf (slice_index ranks.now t) t (slice_index previous.items t)) }
 {
-    let mut previous = Vec::with_capacity(alloc, missed.len())?;
-    for t in 0..missed.len() {
-        previous.push(place(written[t].min(seen[t]).min(missed[t]), t))?;
+    let mut previous = Vec::with_capacity(alloc, ranks.len())?;
+    for t in 0..ranks.len() {
+        previous.push(place(ranks[t], t))?;
     }
     Ok(previous)
 }
 
-/// For each transaction the least one that is left and has an edge to it. What has none leads to itself.
+/// For each transaction the least one that is left and has an edge to it: by what saw a version before its own, by what wrote
+/// before it, or by what it saw or what was before that. What has none leads to itself.
 pub(crate) fn previous_of(
     alloc: Global,
     evidence: &Evidence,
@@ -97,13 +81,13 @@ pub(crate) fn previous_of(
     ensures long { IfOk result (λ previous. length previous.items ≡ length left.now) }
     ensures least { IfOk result (λ previous. AreLeastSources evidence.now.txns.now (IsEdge evidence.now.index.now) (IsLeftIn left.now) previous.items) }
 {
-    let owned = ranks_of(alloc, left)?;
-    let ranks = owned.as_slice();
+    let ranks = ranks_of(alloc, left)?;
     let writers = evidence.looks.writers.as_slice();
-    let rows = Ranked::of(alloc, writers, ranks)?;
-    let written = least_before(alloc, writers, 0, &rows, left.len())?;
-    let seen = least_before(alloc, &evidence.looks.readers, 1, &rows, left.len())?;
-    let missed = ranks_of_sources(alloc, evidence, ranks)?;
-    let previous = least_of_three(alloc, &written, &seen, &missed)?;
+    let rows = Ranked::of(alloc, writers, &ranks)?;
+    let mut sources = ranks_of_sources(alloc, evidence, &ranks)?;
+    let least = sources.as_mut_slice();
+    lower(&rows, writers, 0, least);
+    lower(&rows, &evidence.looks.readers, 1, least);
+    let previous = places(alloc, least)?;
     Ok(previous)
 }
