@@ -10,7 +10,7 @@ ghost use Rattle.sia_graph.specs.Ranks.{IsLeastRank};
 
 use crate::narrow::by_transaction::of_txn;
 use crate::narrow::two::NONE;
-use crate::searching::{ByKey, ByTxn, rows_at};
+use crate::searching::{ByKey, ByTxn, place_from, rows_at};
 use sia_parts::{Absence, Kind, Look, Looks};
 
 /// Whether a write and another look at its key make an edge of this kind.
@@ -56,7 +56,7 @@ fn least_within(absence: &Absence, writes: &[Look]) -> u32
     requires { IsNonDecreasingBy (λ look. look.key) writes.now }
     ensures { IsLeastRank (IsMissedBy writes.now absence.now) result }
 {
-    let first = writes.partition_point(|write| write.key < absence.from);
+    let first = place_from::<Look, ByKey>(writes, u64::from(absence.from), 0);
     if first == writes.len() {
         return NONE;
     }

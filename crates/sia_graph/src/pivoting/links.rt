@@ -33,11 +33,7 @@ impl By<Link> for ByEnd {
 pub(crate) fn leads_rw(kind: Kind) -> bool
     ensures { result ≡ is_rw kind }
 {
-    match kind {
-        Kind::Ww => false,
-        Kind::Wr => false,
-        Kind::Rw => true,
-    }
+    matches!(kind, Kind::Rw)
 }
 
 /// Whether an edge is of the kind rw, and its ends overlap.

@@ -25,18 +25,6 @@ fn is_vulnerable(ix: &Index, txns: &[TxnId], lifetimes: &[Lifetime], n: EdgeNumb
     leads_rw(kind_in(n)) && overlap(lifetimes[source_of(n)], lifetimes[target_of(n)])
 }
 
-/// The link between the edge's ends.
-#[inline(always)]
-fn link_of(txns: &[TxnId], n: EdgeNumber) -> Link
-    requires { (keys : List ℕ) × IsPacked txns.now keys n }
-    ensures { result ≡ record { at = slice_index txns.now (source_number n); other = slice_index txns.now (target_number n) } }
-{
-    Link {
-        at: txns[source_of(n)],
-        other: txns[target_of(n)],
-    }
-}
-
 /// The rw edges between overlapping transactions, of edges that are kept as numbers: each pair once, as a link at its source.
 pub fn vulnerable_in(
     alloc: Global,
@@ -52,7 +40,10 @@ pub fn vulnerable_in(
     let mut links = Vec::new(alloc);
     for n in numbers {
         if is_vulnerable(ix, txns, lifetimes, *n) {
-            links.push(link_of(txns, *n))?;
+            links.push(Link {
+                at: txns[source_of(*n)],
+                other: txns[target_of(*n)],
+            })?;
         }
     }
     put_in_order(&mut links);

@@ -4,7 +4,8 @@ use Rattle.std.proofs.lemmas.Map.Keys.{non_decreasing_from_sorted}
 use Rattle.sia_parts.specs.declared.looks.Absence.{Absence}
 use Rattle.sia_parts.specs.declared.looks.Look.{Look}
 use Rattle.sia_parts.specs.Sights.{Adds, FromSome}
-use Rattle.sia_graph.specs.NarrowSteps.{AreNarrowSteps, CanSearch, HasAbsenceSteps, IsAbsenceStep, IsLeafStep, IsMemberStep, step_source, step_target}
+use Rattle.sia_parts.proofs.Adding.{adds_both}
+use Rattle.sia_graph.specs.NarrowSteps.{AreNarrowSteps, CanSearch, HasAbsenceSteps, IsAbsenceStep, IsLeafStep, IsLookStep, IsMemberStep, step_source, step_target}
 use Rattle.sia_graph.proofs.NarrowSteps.{all_steps, firsts_fit, steps_made}
 use Rattle.sia_graph.proofs.narrow.all_steps.steps_of.Goals as goal
 
@@ -32,8 +33,9 @@ returns-clause-are c =
     let d = c.put_absence_steps.new.steps.items in
     let steps = c.put_in_order.new.list.items in
     let order = c.put_in_order.ensures in
-    let all = all_steps size writers readers absences firsts c.put_member_steps.new.steps.items c.put_half_steps.new.steps.items c.put_leaf_steps.new.steps.items d c.in_ok-firsts.ensures
-    (subst (λ (l : List ℕ). Adds (IsMemberStep size writers readers) l c.put_member_steps.new.steps.items) c.in_ok-steps.ensures.items c.in_ok-put_member_steps.ensures)
+    let all = all_steps size writers readers absences firsts c.put_look_steps-2.new.steps.items c.put_half_steps.new.steps.items c.put_leaf_steps.new.steps.items d c.in_ok-firsts.ensures
+    (subst (λ (l : List ℕ). Adds (IsMemberStep size writers readers) l c.put_look_steps-2.new.steps.items) c.in_ok-steps.ensures.items
+    (adds_both (FromSome (IsLookStep size writers) writers) (FromSome (IsLookStep size writers) readers) _ _ _ c.in_ok-put_look_steps.ensures c.in_ok-put_look_steps-2.ensures))
     c.in_ok-put_half_steps.ensures
     (subst (λ (l : List ℕ). Adds (FromSome (IsLeafStep size) l) c.put_half_steps.new.steps.items c.put_leaf_steps.new.steps.items) c.deref.ensures.value c.in_ok-put_leaf_steps.ensures)
     last.kept

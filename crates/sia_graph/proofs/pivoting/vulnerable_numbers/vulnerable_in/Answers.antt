@@ -1,4 +1,4 @@
-use Rattle.std.proofs.Common.{ℕ, List, [], ◌∷◌, ◌++◌, ap, map, subst, sym, ◌∙◌, arith}
+use Rattle.std.proofs.Common.{ℕ, List, [], ◌∷◌, ◌++◌, ap, ap₂, get_or, map, subst, sym, ◌∙◌, arith}
 use Rattle.std.proofs.lemmas.List.{take_all}
 use Rattle.sia_events.specs.Transactions.{Overlap}
 use Rattle.sia_parts.specs.Packing.{unpacked}
@@ -20,7 +20,7 @@ loop-n-preserved c keys =
     elim c.if-is_vulnerable.branch [
       | then-is_vulnerable+in_ok-push w ↦
           mapped_more (Overlap h) edge numbers c.loop-n.n-index 0 c.loop-n-test.true links now (c.loop-n.invariant keys) (c.is_vulnerable.ensures.0 w.if-is_vulnerable.true)
-          (ap (λ v. v.items) w.links-is ∙ w.in_ok-push.ensures.items ∙ ap (λ l. links ++ l ∷ []) w.link_of.ensures)
+          (ap (λ v. v.items) w.links-is ∙ w.in_ok-push.ensures.items ∙ ap₂ (λ s t. links ++ record { at = s; other = t } ∷ []) (ap (λ k. get_or c.args.txns.now k 0) w.source_of.ensures) (ap (λ k. get_or c.args.txns.now k 0) w.target_of.ensures))
       | else-is_vulnerable w ↦
           mapped_same (Overlap h) edge numbers c.loop-n.n-index 0 c.loop-n-test.true links now (c.loop-n.invariant keys)
           (λ has. let told = c.is_vulnerable.ensures.1 has in let f = w.if-is_vulnerable.false in cc) (ap (λ v. v.items) w.links-is)
