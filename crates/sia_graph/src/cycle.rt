@@ -9,7 +9,7 @@ ghost use Rattle.sia_graph.specs.Walks.{AreLeastSources, AreLeft, GoesRoundFrom,
 
 pub(crate) mod walking;
 
-use crate::cycle::walking::least_on_cycle;
+use crate::cycle::walking::{least_within, reach_cycle};
 use crate::narrow::Evidence;
 use crate::narrow::cycle::seen_step;
 use crate::settling::Step;
@@ -103,6 +103,7 @@ pub(crate) fn cycle_of(
     ensures { IfOk result (λ steps. IsPrintedCycle (IsMemberIn ids.now edges.now) (IsEdgeIn edges.now) steps.items) }
 {
     let start = first_left(left);
-    let (home, period) = least_on_cycle(alloc, previous, start)?;
+    let (place, period) = reach_cycle(alloc, previous, start)?;
+    let home = least_within(previous, place, period);
     steps_round(alloc, edges, ids, previous, home, period)
 }

@@ -7,7 +7,6 @@ ghost use Rattle.sia_graph.specs.Dangerous.{IsDangerous, IsLeast};
 ghost use Rattle.sia_graph.specs.Early.{CommitsFrom, IsLeastPivot};
 ghost use Rattle.sia_graph.specs.Evidence.{IsEvidence};
 ghost use Rattle.sia_graph.specs.Extremes.{HasRwEdge};
-ghost use Rattle.sia_graph.specs.NumberEdges.{AreByTxn, HoldSame};
 ghost use Rattle.sia_graph.specs.Ranks.{IsLeastRank};
 ghost use Rattle.sia_graph.specs.Sources.{IsSource};
 
@@ -20,7 +19,6 @@ use crate::narrow::sources::ranks_of_sources;
 use crate::narrow::two::NONE;
 use crate::pivoting::lifetimes::{Lifetime, lifetimes_of};
 use sia_events::{Key, NoMemory, TxnId};
-use sia_parts::Looks;
 use std::alloc::{AllocError, Global};
 
 /// A dangerous structure whose last transaction commits first: an rw edge leads from the first transaction to the pivot, and one
@@ -85,19 +83,6 @@ fn least_first(
     Ok(sources[pivot as usize])
 }
 
-/// The least key of an rw edge from one transaction to another. `own` holds the looks by transaction.
-fn least_key(evidence: &Evidence, own: &Looks, t: u32, u: u32) -> Key
-    requires same { HoldSame own.now evidence.now.looks.now }
-    requires by_txn { AreByTxn own.now }
-    requires evidence { IsEvidence evidence.now.index.now evidence.now.txns.now evidence.now.keys.now evidence.now.looks.now }
-    requires within { (t < length evidence.now.txns.now) × (u < length evidence.now.txns.now) }
-    requires edge { HasRwEdge evidence.now.index.now (slice_index evidence.now.txns.now t) (slice_index evidence.now.txns.now u) }
-    ensures { IsLeast (RwEdge evidence.now.index.now (slice_index evidence.now.txns.now t) (slice_index evidence.now.txns.now u)) result }
-{
-    let key = least_rw(own, t, u);
-    evidence.keys[key as usize]
-}
-
 /// The structure of transactions of these numbers.
 fn with_keys(
     alloc: Global,
@@ -116,13 +101,13 @@ fn with_keys(
     ensures last_key { IfOk result (λ d. IsLeast (RwEdge evidence.now.index.now (slice_index evidence.now.txns.now pivot) (slice_index evidence.now.txns.now last)) d.last_key) }
 {
     let own = looks_by_txn(alloc, evidence.looks)?;
-    let first_key = least_key(evidence, &own, first, pivot);
-    let last_key = least_key(evidence, &own, pivot, last);
+    let into = least_rw(&own, first, pivot);
+    let out = least_rw(&own, pivot, last);
     Ok(Dangerous {
         first: evidence.txns[first as usize],
-        first_key,
+        first_key: evidence.keys[into as usize],
         pivot: evidence.txns[pivot as usize],
-        last_key,
+        last_key: evidence.keys[out as usize],
         last: evidence.txns[last as usize],
     })
 }
