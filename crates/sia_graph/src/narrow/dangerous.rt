@@ -7,6 +7,7 @@ ghost use Rattle.sia_graph.specs.Dangerous.{IsDangerous, IsLeast};
 ghost use Rattle.sia_graph.specs.Early.{CommitsFrom, IsLeastPivot};
 ghost use Rattle.sia_graph.specs.Evidence.{IsEvidence};
 ghost use Rattle.sia_graph.specs.Extremes.{HasRwEdge};
+ghost use Rattle.sia_graph.specs.Previous.{AreLeftRanks};
 ghost use Rattle.sia_graph.specs.Ranks.{IsLeastRank};
 ghost use Rattle.sia_graph.specs.Sources.{IsSource};
 
@@ -14,12 +15,12 @@ use crate::narrow::Evidence;
 use crate::narrow::by_transaction::looks_by_txn;
 use crate::narrow::least_edges::least_rw;
 use crate::narrow::limits::{least_early, limits_in};
-use crate::narrow::previous::ranks_of;
+use crate::narrow::previous::rank;
 use crate::narrow::sources::ranks_of_sources;
 use crate::narrow::two::NONE;
 use crate::pivoting::lifetimes::{Lifetime, lifetimes_of};
 use sia_events::{Key, NoMemory, TxnId};
-use std::alloc::{AllocError, Global};
+use std::alloc::Global;
 
 /// A dangerous structure whose last transaction commits first: an rw edge leads from the first transaction to the pivot, and one
 /// from that to the last.
@@ -54,14 +55,17 @@ fn least_pivot(alloc: Global, evidence: &Evidence, limits: &[u32]) -> Result<(u3
     Ok((low as u32, last))
 }
 
-/// Which of these commit at the place or after it.
-fn late_of(alloc: Global, lifetimes: &[Lifetime], place: u32) -> Result<Vec<bool>, AllocError>
-    ensures { IfOk result (λ late. late.items ≡ map (λ lifetime. leb place lifetime.commit) lifetimes.now) }
+/// The numbers of those that commit at the place or after it as their ranks.
+fn late_ranks(alloc: Global, lifetimes: &[Lifetime], place: u32) -> Result<Vec<u32>, NoMemory>
+    requires { length lifetimes.now < 4294967295 }
+    ensures long { IfOk result (λ ranks. length ranks.items ≡ length lifetimes.now) }
+    ensures each { IfOk result (λ ranks. AreLeftRanks (map (λ lifetime. leb place lifetime.commit) lifetimes.now) ranks.items) }
 {
-    lifetimes
-        .iter()
-        .map(|lifetime| place <= lifetime.commit)
-        .collect(alloc)
+    let mut ranks = Vec::with_capacity(alloc, lifetimes.len())?;
+    for i in 0..lifetimes.len() {
+        ranks.push(rank(place <= lifetimes[i].commit, i as u32))?;
+    }
+    Ok(ranks)
 }
 
 /// Of those with an rw edge to the pivot the least that commits at this place or after it, or `NONE`.
@@ -77,8 +81,7 @@ fn least_first(
     requires pivot { pivot < length lifetimes.now }
     ensures { IfOk result (IsLeastRank (λ t. IsSource evidence.now.looks.now t pivot × CommitsFrom lifetimes.now place t)) }
 {
-    let late = late_of(alloc, lifetimes, place)?;
-    let ranks = ranks_of(alloc, &late)?;
+    let ranks = late_ranks(alloc, lifetimes, place)?;
     let sources = ranks_of_sources(alloc, evidence, &ranks)?;
     Ok(sources[pivot as usize])
 }

@@ -16,7 +16,7 @@ use sia_parts::Look;
 use std::alloc::Global;
 
 /// A number as a rank, where it is left.
-fn rank(is_left: bool, number: u32) -> u32
+pub(crate) fn rank(is_left: bool, number: u32) -> u32
     ensures left { is_left ≡ true → result ≡ number }
     ensures gone { is_left ≡ false → result ≡ 4294967295 }
 {
@@ -24,7 +24,7 @@ fn rank(is_left: bool, number: u32) -> u32
 }
 
 /// The numbers of those that are left as their ranks.
-pub(crate) fn ranks_of(alloc: Global, left: &[bool]) -> Result<Vec<u32>, NoMemory>
+fn ranks_of(alloc: Global, left: &[bool]) -> Result<Vec<u32>, NoMemory>
     requires { length left.now < 4294967295 }
     ensures long { IfOk result (λ ranks. length ranks.items ≡ length left.now) }
     ensures each { IfOk result (λ ranks. AreLeftRanks left.now ranks.items) }
