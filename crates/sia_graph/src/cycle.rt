@@ -34,7 +34,12 @@ fn first_left(left: &[bool]) -> usize
     ensures left { IsLeftIn left.now result }
     ensures first { (i : ℕ) → i < result → ¬ IsLeftIn left.now i }
 {
-    left.iter().position(|is_left| *is_left).unwrap_or(0)
+    for i in 0..left.len() {
+        if left[i] {
+            return i;
+        }
+    }
+    0
 }
 
 /// The step by the least edge from one transaction to another, by their places.
