@@ -1,8 +1,9 @@
 -- The numbers in the evidence are those of its transactions and keys, so what is told by numbers is told of these.
-use Rattle.std.proofs.Common.{◌≡◌, inl, inr, ℕ, ◌-◌, ◌<◌, ◌≤◌, List, [], ◌∷◌, length, refl, subst, sym, ap, ◌∙◌, arith}
+use Rattle.std.proofs.Common.{◌≡◌, inl, inr, ℕ, ◌-◌, ◌<◌, ◌≤◌, List, [], ◌∷◌, get_or, length, refl, subst, sym, ap, ◌∙◌, arith}
 use Rattle.std.specs.Prelude.{◌↔◌, Contains, slice_index}
 use Rattle.std.proofs.lemmas.Bool.{cases_lt}
 use Rattle.std.proofs.lemmas.List.{get_or_default}
+use Rattle.std.proofs.lemmas.List.Elements.{Contains-get_or}
 use Rattle.sia_events.specs.declared.event.Event.{Event}
 use Rattle.sia_events.specs.Transactions.{CommitsAt, IsCommitted, Wrote}
 use Rattle.sia_events.proofs.OneList.{one_list_by}
@@ -44,6 +45,18 @@ module _ (h : List Event) (txns keys : List ℕ) (looks : Looks) (evidence : IsE
   pub writer_key : (look : Look) → Contains looks.writers.items look → look.key < length keys
   writer_key look has = let made = evidence.looks_are.made look has in key_below look.key made.1 made.3.0.1
 
+  pub made_commits : (made : Look) → Contains looks.writers.items made → (made.txn < length txns) × CommitsAt h (slice_index txns made.txn) made.high
+  made_commits made has =
+      let is = evidence.looks_are.made made has in
+      let at = at_txn made.txn is.0 is.3.0.0 in
+      (at.0, subst (λ t. CommitsAt h t made.high) (sym at.1) (subst (CommitsAt h is.0) (sym is.3.2) is.3.3.1))
+
+  pub made_at : (xs : List Look) → xs ≡ looks.writers.items → (n : ℕ) (d : Look) → n < length xs → ((get_or xs n d).key < length keys) × ((get_or xs n d).txn < length txns)
+  made_at xs is n d l =
+      let look = get_or xs n d in
+      let has = subst (λ ys. Contains ys look) is (Contains-get_or xs n d l) in
+      (writer_key look has, (made_commits look has).0)
+
   pub absent_keys : (absence : Absence) → Contains looks.absences.items absence → absence.from < absence.to → absence.to ≤ length keys
   absent_keys absence has some =
       let at = evidence.looks_are.absent absence has (absence.to - 1) (omega arith) (omega arith) in
@@ -52,12 +65,6 @@ module _ (h : List Event) (txns keys : List ℕ) (looks : Looks) (evidence : IsE
 
   pub number_of : (t : ℕ) → IsCommitted h t → (i : ℕ) × (i < length txns) × (slice_index txns i ≡ t)
   number_of t committed = let has = (evidence.txns_are.each t).1 committed in (has.0, has.1, get_or_default txns has.0 0 t has.1 ∙ has.2)
-
-  pub made_commits : (made : Look) → Contains looks.writers.items made → (made.txn < length txns) × CommitsAt h (slice_index txns made.txn) made.high
-  made_commits made has =
-      let is = evidence.looks_are.made made has in
-      let at = at_txn made.txn is.0 is.3.0.0 in
-      (at.0, subst (λ t. CommitsAt h t made.high) (sym at.1) (subst (CommitsAt h is.0) (sym is.3.2) is.3.3.1))
 
   -- what saw a version before one's own has an rw edge to it
   pub source_edges : (i j : ℕ) → i < length txns → j < length txns → IsSource looks i j ↔ HasRwEdge h (slice_index txns i) (slice_index txns j)

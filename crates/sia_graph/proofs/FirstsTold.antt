@@ -24,7 +24,7 @@ use Rattle.sia_graph.proofs.AscendingIds.{ids_no_less}
 use Rattle.sia_graph.proofs.EvidenceEdges.{edge_at, edge_by_numbers}
 use Rattle.sia_graph.proofs.EvidenceNumbers.{few_txns, made_commits, number_of, source_edges}
 use Rattle.sia_graph.proofs.Extremes.{entered_from}
-use Rattle.sia_graph.proofs.LeastRanks.{no_less}
+use Rattle.sia_graph.proofs.LeastRanks.{is_none, no_less}
 use Rattle.sia_graph.proofs.LooksPass.{commits_from}
 use Rattle.sia_graph.proofs.Vulnerable.{source_committed, target_committed}
 
@@ -89,11 +89,13 @@ module _ (h : List Event) (txns keys : List ℕ) (looks : Looks) (evidence : IsE
     none_told : ((i j : ℕ) → ¬ IsEarlyFor looks limits i j) → NoFirst h
     none_told none t u first = let w = early_of t u first in none w.0 w.1 w.6
 
-    pub passes_told : IsolationKept h → ((j : ℕ) → ¬ IsEarly looks limits j) ↔ PassesSsi h
-    passes_told kept = (
-      (λ none. (kept, none_told (λ i j is. none j (is.0, is.2, is.3, (i, is.1, is.4, is.5, is.6))))),
-      (λ passes j is. passes.1 _ _ (first_of is.3.0 j (is.0, is.3.1, is.1, is.2, is.3.2, is.3.3, is.3.4))),
-    )
+    pub passes_told : IsolationKept h → (last : ℕ) → IsLeastRank (IsEarly looks limits) last → (last ≡ 4294967295) ↔ PassesSsi h
+    passes_told kept last least =
+        let for_one : (j : ℕ) → (is : IsEarly looks limits j) → IsEarlyFor looks limits is.3.0 j = λ j is. (is.0, is.3.1, is.1, is.2, is.3.2, is.3.3, is.3.4) in
+        let none = is_none (IsEarly looks limits) (λ j is. early_few limits is.3.0 j (for_one j is)) last least in (
+          (λ e. (kept, none_told (λ i j is. none.0 e j (is.0, is.2, is.3, (i, is.1, is.4, is.5, is.6))))),
+          (λ passes. none.1 (λ j is. passes.1 _ _ (first_of is.3.0 j (for_one j is)))),
+        )
 
     module _ (pivot last : ℕ) (least : IsLeastPivot looks limits pivot last) where
       pub no_first_told : last ≡ 4294967295 → NoFirst h

@@ -1,11 +1,12 @@
 -- The least number whose limit some version is within, found by halving.
 use Rattle.std.proofs.Common.{◌≡◌, ◌⊎◌, inl, inr, ℕ, ◌-◌, ◌<◌, ◌≤◌, List, length, take, subst, sym, ◌∙◌, arith}
+use Rattle.std.specs.Prelude.{◌↔◌}
 use Rattle.std.proofs.lemmas.Bool.{cases_lt}
 use Rattle.std.proofs.lemmas.List.{get_or-take, length-take}
 use Rattle.sia_parts.specs.declared.looks.Looks.{Looks}
 use Rattle.sia_graph.specs.Early.{IsEarly, IsEarlyFor, IsLeastPivot}
 use Rattle.sia_graph.specs.Ranks.{IsLeastRank, IsRankOf}
-use Rattle.sia_graph.proofs.LeastRanks.{least_same}
+use Rattle.sia_graph.proofs.LeastRanks.{is_none, least_same}
 
 module _ (limits : List ℕ) (n i r : ℕ) where
   rank_in_front : IsRankOf (take n limits) i r → (i < n) × IsRankOf limits i r
@@ -68,11 +69,11 @@ module _ (looks : Looks) (limits : List ℕ) where
       some = λ none. absurd (has none);
     }
 
-  module _ (few : (i j : ℕ) → IsEarlyFor looks limits i j → j < 4294967295) (low high last : ℕ) (is : IsHalving low high) (least : IsLeastRank (IsEarlyTo high) last) where
-    no_early : IsLeastRank (IsEarlyTo high) last → last ≡ 4294967295 → (j : ℕ) → ¬ IsEarlyTo high j
-    no_early (inl has) e j early = let w = for_one high last has.0 in let l = few w.0 last w.2 in omega arith
-    no_early (inr lacks) e j early = lacks.1 j early
+  module _ (few : (i j : ℕ) → IsEarlyFor looks limits i j → j < 4294967295) where
+    pub none_to : (n last : ℕ) → IsLeastRank (IsEarlyTo n) last → (last ≡ 4294967295) ↔ ((j : ℕ) → ¬ IsEarlyTo n j)
+    none_to n last = is_none (IsEarlyTo n) (λ j early. let w = for_one n j early in few w.0 j w.2) last
 
+  module _ (few : (i j : ℕ) → IsEarlyFor looks limits i j → j < 4294967295) (low high last : ℕ) (is : IsHalving low high) (least : IsLeastRank (IsEarlyTo high) last) where
     pub halved : high - low ≤ 1 → IsLeastPivot looks limits low last
     halved near = record {
       before = λ i j less early. is.before j (of_one low i j less early);
@@ -85,5 +86,5 @@ module _ (looks : Looks) (limits : List ℕ) where
             | inr more ↦ let e : w.0 ≡ low = omega arith in subst (λ i. IsEarlyFor looks limits i j) e w.2
           ])
           (λ j early. of_one high low j (elim is.apart [ inl less ↦ less | inr empty ↦ absurd (let inside = early.5.0 in omega arith) ]) early) least;
-      none = λ e. is.some (no_early least e);
+      none = λ e. is.some ((none_to few high last least).0 e);
     }

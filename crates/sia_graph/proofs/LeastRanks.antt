@@ -1,5 +1,6 @@
 -- Least ranks, and the two least.
 use Rattle.std.proofs.Common.{◌≡◌, ◌≢◌, ◌⊎◌, inl, inr, ℕ, ◌<◌, ◌≤◌, min, refl, subst, sym, arith}
+use Rattle.std.specs.Prelude.{◌↔◌}
 use Rattle.std.proofs.lemmas.Bool.{cases_lt, cases_eq, cases_order}
 use Rattle.sia_graph.specs.declared.narrow.two.Two.{Two}
 use Rattle.sia_graph.specs.Ranks.{IsLeastRank, IsTwo}
@@ -25,6 +26,11 @@ two_same P Q two to back is =
 pub least_bound : (P : ℕ → Type 0) → ((q : ℕ) → P q → q < 4294967295) → (r : ℕ) → IsLeastRank P r → r ≤ 4294967295
 least_bound P few r (inl has) = let f = few r has.0 in omega arith
 least_bound P few r (inr lacks) = let e = lacks.0 in omega arith
+
+-- it is none exactly if nothing has one
+pub is_none : (P : ℕ → Type 0) → ((q : ℕ) → P q → q < 4294967295) → (r : ℕ) → IsLeastRank P r → (r ≡ 4294967295) ↔ ((q : ℕ) → ¬ P q)
+is_none P few r (inl has) = ((λ none. let f = few r has.0 in absurd (omega arith)), (λ none. absurd (none r has.0)))
+is_none P few r (inr lacks) = ((λ none. lacks.1), (λ none. lacks.0))
 
 pub no_less : (P : ℕ → Type 0) (r q : ℕ) → IsLeastRank P r → P q → r ≤ q
 no_less P r q (inl has) is = has.1 q is

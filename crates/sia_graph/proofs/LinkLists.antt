@@ -98,17 +98,17 @@ turned_listed links others found is sorted keeps adds_none =
       (λ c. subst (λ xs. Contains xs l) (sym is) ((mapped (λ (k : Link). record { at = k.other; other = k.at }) links l).1 (record { at = l.other; other = l.at }, c, refl))),
     )) found (listed_in_order link_rank by_link link_before others found sorted keeps adds_none)
 
--- the ends of links, put in order
-pub ends_listed : (links : List Link) (others found : List ℕ) → others ≡ map (λ l. l.at) links → IsStrictlySortedBy nat_cmp found
-    → ((t : ℕ) → Contains others t → Contains found t) → ((t : ℕ) → Contains found t → Contains others t) → ListsAscending (λ t. (u : ℕ) × AreLinked links t u) found
+-- the other ends of links, put in order
+pub ends_listed : (links : List Link) (others found : List ℕ) → others ≡ map (λ l. l.other) links → IsStrictlySortedBy nat_cmp found
+    → ((t : ℕ) → Contains others t → Contains found t) → ((t : ℕ) → Contains found t → Contains others t) → ListsAscending (λ t. (u : ℕ) × AreLinked links u t) found
 ends_listed links others found is sorted keeps adds_none =
-    listed_as (λ t. t ∷ []) (Contains others) (λ t. (u : ℕ) × AreLinked links t u) (λ t. (
+    listed_as (λ t. t ∷ []) (Contains others) (λ t. (u : ℕ) × AreLinked links u t) (λ t. (
       (λ c.
-          let w = (mapped (λ (k : Link). k.at) links t).0 (subst (λ xs. Contains xs t) is c) in
+          let w = (mapped (λ (k : Link). k.other) links t).0 (subst (λ xs. Contains xs t) is c) in
           let k : Link = w.0 in
-          let same : k ≡ record { at = t; other = k.other } = λ i. record { at = w.2 i; other = k.other } in
-          (k.other, subst (Contains links) same w.1)),
-      (λ (u, c). subst (λ xs. Contains xs t) (sym is) ((mapped (λ (k : Link). k.at) links t).1 (record { at = t; other = u }, c, refl))),
+          let same : k ≡ record { at = k.at; other = t } = λ i. record { at = k.at; other = w.2 i } in
+          (k.at, subst (Contains links) same w.1)),
+      (λ (u, c). subst (λ xs. Contains xs t) (sym is) ((mapped (λ (k : Link). k.other) links t).1 (record { at = u; other = t }, c, refl))),
     )) found (listed_in_order (λ t. t ∷ []) nat_cmp precedes_last others found sorted keeps adds_none)
 
 -- an empty group tells that there is no link

@@ -9,9 +9,9 @@ use Rattle.sia_parts.specs.declared.looks.Looks.{Looks}
 use Rattle.sia_parts.specs.Sights.{FromSome}
 use Rattle.sia_parts.proofs.Adding.{first_more}
 use Rattle.sia_graph.specs.NumberEdges.{HasNumberEdge}
-use Rattle.sia_graph.specs.Previous.{AreLeastBefore, AreLeftRanks, AreWithin, IsBefore, IsLeftIn, IsLeftSource, IsPlaceOf, IsPreviousOf, IsRankTo}
+use Rattle.sia_graph.specs.Previous.{AreLeftRanks, AreWithin, IsBefore, IsLeftIn, IsLeftSource, IsPlaceOf, IsPreviousOf, IsRankTo}
 use Rattle.sia_graph.specs.Ranks.{AreRanks, IsLeastRank, IsRankBelow, IsRankOf}
-use Rattle.sia_graph.proofs.LeastRanks.{least_either, least_same}
+use Rattle.sia_graph.proofs.LeastRanks.{least_either, least_none, least_same}
 
 -- the first n are numbers where they are left, and else say none
 abbrev pub AreRanksUpTo : List Bool → List ℕ → ℕ → Type 0
@@ -26,40 +26,57 @@ ranks_are left ranks long few are i r = (
   (λ is. let e = is.0 in let l = is.1 in let b = (are i l).0 is.2 in (omega arith, omega arith, omega arith)),
 )
 
-module _ (rows : List Look) (ranks : List ℕ) (more : ℕ) (looks : List Look) (count n : ℕ) (d : Look) (within : n < length looks) (least : List ℕ)
-    (are : AreLeastBefore rows ranks more (take n looks) count least) (below : (get_or looks n d).txn < count) (r new : ℕ)
-    (here : IsLeastRank (λ q. IsRankBelow rows ranks (get_or looks n d).key ((get_or looks n d).high + more) q × (q ≢ (get_or looks n d).txn)) r)
-    (lesser : new ≡ min (get_or least (get_or looks n d).txn 0) r) where
+-- each number is the lesser of the old one and the least that one of these looks tells of its transaction
+abbrev pub AreLoweredBy : (ℕ → Look → ℕ → Type 0) → List Look → List ℕ → List ℕ → Type 0
+AreLoweredBy T looks old new = (length new ≡ length old) × ((t : ℕ) → t < length old → (r : ℕ) × IsLeastRank (FromSome (T t) looks) r × (get_or new t 0 ≡ min (get_or old t 0) r))
+
+pub none_lowered : (T : ℕ → Look → ℕ → Type 0) (old : List ℕ) → ((t : ℕ) → t < length old → get_or old t 0 < 4294967296) → AreLoweredBy T [] old old
+none_lowered T old few = (refl, λ t l. (4294967295, least_none (FromSome (T t) []) (λ r has. let l = has.1.1 in omega arith), let f = few t l in omega arith))
+
+-- one look more, which tells of its own transaction alone
+module _ (T : ℕ → Look → ℕ → Type 0) (few : (t r : ℕ) (look : Look) → T t look r → r < 4294967295) (of_own : (t r : ℕ) (look : Look) → T t look r → look.txn ≡ t)
+    (looks : List Look) (old : List ℕ) (n : ℕ) (d : Look) (within : n < length looks) (least : List ℕ) (are : AreLoweredBy T (take n looks) old least) (below : (get_or looks n d).txn < length old) (r new : ℕ)
+    (here : IsLeastRank (T (get_or looks n d).txn (get_or looks n d)) r) (lesser : new ≡ min (get_or least (get_or looks n d).txn 0) r) where
   abbrev own : ℕ
   own = (get_or looks n d).txn
 
-  abbrev Before : ℕ → ℕ → ℕ → Type 0
-  Before t m q = FromSome (IsBefore rows ranks more t) (take m looks) q
+  abbrev Lowered : ℕ → ℕ → ℕ → Type 0
+  Lowered t m x = (q : ℕ) × IsLeastRank (FromSome (T t) (take m looks)) q × (x ≡ min (get_or old t 0) q)
 
-  at_own : IsLeastRank (Before own (n + 1)) new
-  at_own = subst (IsLeastRank (Before own (n + 1))) (sym lesser)
-      (least_either (Before own n) (λ q. IsRankBelow rows ranks (get_or looks n d).key ((get_or looks n d).high + more) q × (q ≢ own)) (Before own (n + 1)) (get_or least own 0) r
-      (λ q has. has.2.1.4.2)
-      (λ q has. (first_more (IsBefore rows ranks more own) looks n d within q).0 (inl has))
-      (λ q has. (first_more (IsBefore rows ranks more own) looks n d within q).0 (inr (refl, has.0, has.1)))
-      (λ q has. elim ((first_more (IsBefore rows ranks more own) looks n d within q).1 has) [ inl old ↦ inl old | inr it ↦ inr (it.1, it.2) ])
-      (are.1 own below) here)
+  at_own : Lowered own (n + 1) new
+  at_own =
+      let before = are.1 own below in
+      let e = before.2 in (
+        min before.0 r,
+        least_either (FromSome (T own) (take n looks)) (T own (get_or looks n d)) (FromSome (T own) (take (n + 1) looks)) before.0 r
+            (λ q has. few own q has.0 has.2)
+            (λ q has. (first_more (T own) looks n d within q).0 (inl has))
+            (λ q has. (first_more (T own) looks n d within q).0 (inr has))
+            (λ q has. (first_more (T own) looks n d within q).1 has)
+            before.1 here,
+        omega arith,
+      )
 
-  at_other : (t : ℕ) → t < count → t ≢ own → IsLeastRank (Before t (n + 1)) (get_or least t 0)
-  at_other t l other = least_same (Before t n) (Before t (n + 1)) (get_or least t 0)
-      (λ q has. (first_more (IsBefore rows ranks more t) looks n d within q).0 (inl has))
-      (λ q has. elim ((first_more (IsBefore rows ranks more t) looks n d within q).1 has) [ inl old ↦ old | inr it ↦ absurd (other (sym it.0)) ])
-      (are.1 t l)
+  at_other : (t : ℕ) → t < length old → t ≢ own → Lowered t (n + 1) (get_or least t 0)
+  at_other t l other =
+      let before = are.1 t l in (
+        before.0,
+        least_same (FromSome (T t) (take n looks)) (FromSome (T t) (take (n + 1) looks)) before.0
+            (λ q has. (first_more (T t) looks n d within q).0 (inl has))
+            (λ q has. elim ((first_more (T t) looks n d within q).1 has) [ inl old ↦ old | inr it ↦ absurd (other (sym (of_own t q (get_or looks n d) it))) ])
+            before.1,
+        before.2,
+      )
 
-  pub before_more : AreLeastBefore rows ranks more (take (n + 1) looks) count (set least own new)
-  before_more = (
+  pub lowered_more : AreLoweredBy T (take (n + 1) looks) old (set least own new)
+  lowered_more = (
     length-set least own new ∙ are.0,
     λ t l. elim (cases_eq t own) [
       | inl same ↦
           let long = are.0 in
           let at = get_or-set_same least own new 0 (omega arith) in
-          subst (λ s. IsLeastRank (Before s (n + 1)) (get_or (set least own new) s 0)) (sym same) (subst (IsLeastRank (Before own (n + 1))) (sym at) at_own)
-      | inr other ↦ subst (IsLeastRank (Before t (n + 1))) (sym (get_or-set_other least own t new 0 other)) (at_other t l other)
+          subst (λ s. Lowered s (n + 1) (get_or (set least own new) s 0)) (sym same) (subst (Lowered own (n + 1)) (sym at) at_own)
+      | inr other ↦ subst (Lowered t (n + 1)) (sym (get_or-set_other least own t new 0 other)) (at_other t l other)
     ],
   )
 

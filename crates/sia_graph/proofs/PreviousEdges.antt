@@ -16,28 +16,13 @@ use Rattle.sia_parts.proofs.Committing.{committed_number}
 use Rattle.sia_parts.proofs.FewNumbers.{few_keys}
 use Rattle.sia_graph.specs.Evidence.{IsEvidence}
 use Rattle.sia_graph.specs.Previous.{AreWithin, IsLeftIn, IsLeftSource, IsPreviousOf}
-use Rattle.sia_graph.specs.Walks.{AreLeastSources, IsSource, StaysWithin}
+use Rattle.sia_graph.specs.Walks.{AreLeastSources, IsSource}
 use Rattle.sia_graph.proofs.EvidenceEdges.{edge_at, leads_by_numbers}
 
 each_of : {A : Type 0} (P : A → Type 0) (xs : List A) → ((x : A) → Contains xs x → P x) → All P xs
 each_of P xs holds k d l = holds (get_or xs k d) (Contains-get_or xs k d l)
 
--- what leads to a source or to itself leads to a place in the list
-pub previous_within : (looks : Looks) (left : List Bool) (previous : List ℕ) → length previous ≡ length left → ((t : ℕ) → t < length left → IsPreviousOf looks left t (get_or previous t 0)) → StaysWithin previous
-previous_within looks left previous long each t l = of_one (each t (subst (λ n. t < n) long l))
-  where
-    of_one : IsPreviousOf looks left t (get_or previous t 0) → get_or previous t 0 < length previous
-    of_one (inl w) = subst (λ n. get_or previous t 0 < n) (sym long) w.0.0
-    of_one (inr w) = let e = w.0 in omega arith
-
 module _ (h : List Event) (txns keys : List ℕ) (looks : Looks) (is : IsEvidence h txns keys looks) where
-  -- written keys are few
-  pub few_written : length keys ≤ 1000000000
-  few_written = elim (cases_lt 0 (length keys)) [
-    | inl some ↦ let n : length keys - 1 < length keys = omega arith in let f = few_keys h is.well_formed (length keys - 1) (get_or keys (length keys - 1) 0) (keys, is.keys_are, n, refl) in omega arith
-    | inr none ↦ omega arith
-  ]
-
   -- a version is as of a place of the history
   as_of_few : (v c : ℕ) → IsAsOf h v c → c ≤ 100000
   as_of_few v c (inl none) = let e = none.1 in omega arith

@@ -7,7 +7,7 @@ use Rattle.sia_parts.specs.declared.finding.Edge.{Edge}
 use Rattle.sia_graph.specs.declared.settling.Step.{Step}
 use Rattle.sia_graph.specs.Orders.{Leads}
 use Rattle.sia_graph.specs.Cycles.{IsPrevious, GoesBack, IsStuckSet, IsPrintedCycle}
-use Rattle.sia_graph.specs.Walks.{AreLeastSources, AreLeft, ArePreviousFrom, IsFedBack, IsLeastSource, GoesRoundFrom, LeadsBack, back}
+use Rattle.sia_graph.specs.Walks.{AreLeastSources, AreLeft, ArePreviousFrom, IsFedBack, IsLeastSource, GoesRoundFrom, LeadsBack, StaysWithin, back}
 use Rattle.sia_graph.proofs.AscendingIds.{ids_no_less}
 use Rattle.sia_graph.proofs.Walks.{back_more, back_next, within_round, round_again}
 
@@ -18,6 +18,13 @@ fed_by_stuck ids IsMember IsEdge IsLeft stuck left set i l is =
     let s = set.self_fed (get_or ids i 0) ((left (get_or ids i 0)).1 (i, l, refl, is)) in
     let p = (left s.1).0 s.2 in
     (p.0, (p.1, p.3, subst (λ x. Leads IsEdge x (get_or ids i 0)) (sym p.2) s.3))
+
+-- what leads to a source or to itself leads to a place in the list
+pub stays_within : (ids : List ℕ) (IsEdge : Edge → Type 0) (IsLeft : ℕ → Type 0) (previous : List ℕ) → length previous ≡ length ids → AreLeastSources ids IsEdge IsLeft previous → StaysWithin previous
+stays_within ids IsEdge IsLeft previous long least i l = elim (least i (subst (λ n. i < n) long l)) [
+  | inl is ↦ subst (λ n. get_or previous i 0 < n) (sym long) is.0.0
+  | inr none ↦ let e = none.0 in omega arith
+]
 
 -- what is left leads back to least sources, on the whole way back from start, where all that is left has a source that is left
 module _ (ids : List ℕ) (IsEdge : Edge → Type 0) (IsLeft : ℕ → Type 0) (previous : List ℕ) (start : ℕ) (least : AreLeastSources ids IsEdge IsLeft previous) (within : start < length ids) (left : IsLeft start)

@@ -156,16 +156,6 @@ module _ (h : List Event) (wf : IsWellFormed h) where
           )),
     )
 
-    -- where none of those with an edge from the pivot does so, there is no first
-    pub none_by : (outs : List ℕ) → ListsAscending (IsVulnerable h txn) outs → All (λ t. (c : ℕ) → CommitsAt h t c → c < own → ¬ (c ≤ last)) outs → ListsAscending (IsFirst h txn) []
-    none_by outs are_outs none = record {
-      ascending = λ i j d less below. absurd (omega arith);
-      each = λ u. ((λ c. absurd (let below = c.1 in omega arith)), (λ first. absurd (by_parts u ((first_by u).1 first))));
-    }
-      where
-        by_parts : (u : ℕ) → IsVulnerable h txn u × CommitsBy h own last u → ⊥
-        by_parts u (v, (c, at, early, within)) = All-contains (λ t. (c : ℕ) → CommitsAt h t c → c < own → ¬ (c ≤ last)) outs u none ((are_outs.each u).1 v) c at early within
-
 -- what doesn't commit has no first
 pub none_first : (h : List Event) (txn : ℕ) → ¬ IsCommitted h txn → ListsAscending (IsFirst h txn) []
 none_first h txn none = record {

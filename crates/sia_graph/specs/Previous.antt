@@ -1,5 +1,5 @@
 -- The least transaction that is left and has an edge to another, found by ranks: what is left has its own number as its rank.
-use Rattle.std.specs.Prelude.{◌≡◌, ◌≢◌, ◌⊎◌, ◌↔◌, ℕ, ◌+◌, ◌<◌, ◌≤◌, Bool, false, List, All, Contains, IsTrue, length, slice_index, slice_index_or}
+use Rattle.std.specs.Prelude.{◌≡◌, ◌≢◌, ◌⊎◌, ◌↔◌, ℕ, ◌+◌, ◌<◌, ◌≤◌, Bool, false, List, All, Contains, IsTrue, length, min, slice_index, slice_index_or}
 use Rattle.sia_parts.specs.declared.finding.Kind.{Kind}
 use Rattle.sia_parts.specs.declared.looks.Absence.{Absence}
 use Rattle.sia_parts.specs.declared.looks.Look.{Look}
@@ -21,10 +21,10 @@ AreLeftRanks left ranks = (i r : ℕ) → IsRankOf ranks i r ↔ ((r ≡ i) × (
 abbrev pub IsBefore : List Look → List ℕ → ℕ → ℕ → Look → ℕ → Type 0
 IsBefore rows ranks more t look r = (look.txn ≡ t) × IsRankBelow rows ranks look.key (look.high + more) r × (r ≢ t)
 
--- for each transaction the least rank that is so by one of its looks
-abbrev pub AreLeastBefore : List Look → List ℕ → ℕ → List Look → ℕ → List ℕ → Type 0
-AreLeastBefore rows ranks more looks count least = (length least ≡ count)
-    × ((t : ℕ) → t < count → IsLeastRank (FromSome (IsBefore rows ranks more t) looks) (slice_index least t))
+-- each number is the lesser of the old one and the least rank that is so by one of the transaction's looks
+abbrev pub AreLowered : List Look → List ℕ → ℕ → List Look → List ℕ → List ℕ → Type 0
+AreLowered rows ranks more looks old new = (length new ≡ length old)
+    × ((t : ℕ) → t < length old → (r : ℕ) × IsLeastRank (FromSome (IsBefore rows ranks more t) looks) r × (slice_index new t ≡ min (slice_index old t) r))
 
 -- r is the rank of a transaction with a rw edge to t
 abbrev pub IsRankTo : Looks → List ℕ → ℕ → ℕ → Type 0

@@ -1,12 +1,10 @@
 -- From which transactions rw edges lead to one, by the numbers of all.
-use Rattle.std.specs.Prelude.{◌≡◌, ◌≢◌, ◌⊎◌, ◌↔◌, ℕ, ◌<◌, ◌≤◌, List, Contains}
+use Rattle.std.specs.Prelude.{◌≡◌, ◌≢◌, ◌⊎◌, ℕ, ◌<◌, ◌≤◌, List, Contains, length, slice_index}
 use Rattle.sia_parts.specs.declared.looks.Look.{Look}
 use Rattle.sia_parts.specs.declared.looks.Looks.{Looks}
 use Rattle.sia_graph.specs.declared.narrow.earlier.Earlier.{Earlier}
-use Rattle.sia_graph.specs.declared.narrow.sources.Sources.{Sources}
 use Rattle.sia_graph.specs.Absences.{AreNodes, IsAbsent}
-use Rattle.sia_graph.specs.Grouped.{RiseByTxn}
-use Rattle.sia_graph.specs.Ranks.{AreRanked}
+use Rattle.sia_graph.specs.Ranks.{AreRanked, IsLeastRank, IsRankOf}
 
 -- transaction number i saw a version of the key that was committed before that place, or none
 abbrev pub SeesBefore : Looks → ℕ → ℕ → ℕ → Type 0
@@ -22,9 +20,7 @@ pub record AreEarlier (looks : Looks) (ranks : List ℕ) (earlier : Earlier) : T
   pub nodes : AreNodes looks.absences.items ranks earlier.size earlier.nodes.items
   pub few : earlier.size ≤ 1000000000
 
--- the versions of each transaction beside them
-pub record AreSources (looks : Looks) (ranks : List ℕ) (sources : Sources) : Type 0 where
-  pub same : (look : Look) → Contains sources.own.items look ↔ Contains looks.writers.items look
-  pub rise : RiseByTxn sources.own.items
-  pub earlier : AreEarlier looks ranks sources.earlier
-  pub keys : (look : Look) → Contains looks.writers.items look → look.key < sources.earlier.size
+-- for each transaction the least rank of those with an rw edge to it
+abbrev pub AreLeastOfSources : Looks → List ℕ → List ℕ → Type 0
+AreLeastOfSources looks ranks least = (length least ≡ length ranks)
+    × ((t : ℕ) → t < length ranks → IsLeastRank (λ r. (i : ℕ) × IsSource looks i t × IsRankOf ranks i r) (slice_index least t))

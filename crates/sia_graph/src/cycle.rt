@@ -9,7 +9,7 @@ ghost use Rattle.sia_graph.specs.Walks.{AreLeastSources, AreLeft, GoesRoundFrom,
 
 pub(crate) mod walking;
 
-use crate::cycle::walking::least_on_cycle;
+use crate::cycle::walking::{least_within, reach_cycle};
 use crate::narrow::Evidence;
 use crate::narrow::cycle::seen_step;
 use crate::settling::Step;
@@ -34,7 +34,12 @@ fn first_left(left: &[bool]) -> usize
     ensures left { IsLeftIn left.now result }
     ensures first { (i : ℕ) → i < result → ¬ IsLeftIn left.now i }
 {
-    left.iter().position(|is_left| *is_left).unwrap_or(0)
+    for i in 0..left.len() {
+        if left[i] {
+            return i;
+        }
+    }
+    0
 }
 
 /// The step by the least edge from one transaction to another, by their places.
@@ -99,11 +104,11 @@ pub(crate) fn cycle_of(
     requires long { (length left.now ≡ length ids.now) × (length previous.now ≡ length ids.now) }
     requires some { (i : ℕ) × (i < length left.now) × IsLeftIn left.now i }
     requires stuck { (stuck : List ℕ) × IsStuckSet (IsMemberIn ids.now edges.now) (IsEdgeIn edges.now) stuck × AreLeft ids.now (IsLeftIn left.now) stuck }
-    requires within { StaysWithin previous.now }
     requires least { AreLeastSources ids.now (IsEdgeIn edges.now) (IsLeftIn left.now) previous.now }
     ensures { IfOk result (λ steps. IsPrintedCycle (IsMemberIn ids.now edges.now) (IsEdgeIn edges.now) steps.items) }
 {
     let start = first_left(left);
-    let (home, period) = least_on_cycle(alloc, previous, start)?;
+    let (place, period) = reach_cycle(alloc, previous, start)?;
+    let home = least_within(previous, place, period);
     steps_round(alloc, edges, ids, previous, home, period)
 }

@@ -6,7 +6,6 @@ mod by_transaction;
 pub(crate) mod cycle;
 pub(crate) mod dangerous;
 mod earlier;
-mod extremes;
 mod firsts;
 pub(crate) mod judging;
 mod least_edges;

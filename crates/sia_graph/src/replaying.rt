@@ -1,7 +1,7 @@
 //! The serial replay of a history by an order of its committed transactions.
 ghost use Rattle.std.specs.Prelude.{◌≡◌, Err, IfOk, MatchOption, OnOk};
 ghost use Rattle.sia_events.specs.Replay.{IsFirstMismatch, IsOrder, Replays, serial};
-ghost use Rattle.sia_graph.specs.Replaying.{AreCommits, Tells};
+ghost use Rattle.sia_graph.specs.Replaying.{Tells};
 ghost use Rattle.sia_graph.specs.declared.replaying.ReplayFault.TheVariants as faults;
 
 pub(crate) mod chains;
@@ -43,21 +43,16 @@ impl From<NoMemory> for ReplayFault {
 }
 
 /// Replays the transactions of an order, up to the first event that isn't right.
-fn replay_order(
-    alloc: Global,
-    h: &History,
-    commits: &BTreeMap<TxnId, u32>,
-    order: &[TxnId],
-) -> Result<Option<Mismatch>, NoMemory>
-    requires { AreCommits h.now commits.now }
+fn replay_order(alloc: Global, h: &History, order: &[TxnId]) -> Result<Option<Mismatch>, NoMemory>
     ensures { IfOk result (Tells h.now (λ _. 0) (serial h.now order.now)) }
 {
+    let commits = commit_places(alloc, h)?;
     let (firsts, next) = chains(alloc, h)?;
     let places = next.as_slice();
     let mut versions = BTreeMap::new(alloc);
     for txn in order {
         let first = firsts.get(txn).copied().unwrap_or(0);
-        if let Some(mismatch) = replay_txn(h, *txn, first, places, commits, &mut versions)? {
+        if let Some(mismatch) = replay_txn(h, *txn, first, places, &commits, &mut versions)? {
             return Ok(Some(mismatch));
         }
     }
@@ -71,10 +66,9 @@ pub fn replay(alloc: Global, h: &History, order: &[TxnId]) -> Result<Option<Mism
     ensures replays { IfOk result (λ found. MatchOption found (Replays h.now order.now)
         (λ m. IsFirstMismatch h.now order.now m.place m.key m.found)) }
 {
-    let commits = commit_places(alloc, h)?;
-    if !is_order(alloc, h, &commits, order)? {
+    if !is_order(alloc, h, order)? {
         return Err(ReplayFault::NotAnOrder);
     }
-    let found = replay_order(alloc, h, &commits, order)?;
+    let found = replay_order(alloc, h, order)?;
     Ok(found)
 }

@@ -66,7 +66,12 @@ fn first_left(counts: &[usize]) -> Option<usize>
     ensures { MatchOption result ((i : ℕ) → i < length counts.now → slice_index counts.now i ≡ 0)
         (λ start. (start < length counts.now) × (0 < slice_index counts.now start) × ((i : ℕ) → i < start → slice_index counts.now i ≡ 0)) }
 {
-    counts.iter().position(|count| *count > 0)
+    for i in 0..counts.len() {
+        if counts[i] > 0 {
+            return Some(i);
+        }
+    }
+    None
 }
 
 /// Takes the nodes, where blocks are over so many keys.

@@ -6,7 +6,11 @@ use sia_events::NoMemory;
 use std::alloc::Global;
 
 /// A position on the cycle that going back from `start` reaches, and a number of steps from it to itself.
-fn reach_cycle(alloc: Global, previous: &[usize], start: usize) -> Result<(usize, usize), NoMemory>
+pub(crate) fn reach_cycle(
+    alloc: Global,
+    previous: &[usize],
+    start: usize,
+) -> Result<(usize, usize), NoMemory>
     requires within { StaysWithin previous.now }
     requires start { start < length previous.now }
     ensures reached { IfOk result (λ r. (n : ℕ) × (back previous.now n start ≡ r.0)) }
@@ -28,7 +32,7 @@ fn reach_cycle(alloc: Global, previous: &[usize], start: usize) -> Result<(usize
 }
 
 /// The least position that some number of steps back reach, up to `count`.
-fn least_within(previous: &[usize], start: usize, count: usize) -> usize
+pub(crate) fn least_within(previous: &[usize], start: usize, count: usize) -> usize
     requires within { StaysWithin previous.now }
     requires start { start < length previous.now }
     ensures reached { (n : ℕ) × (n ≤ count) × (back previous.now n start ≡ result) }
@@ -43,22 +47,4 @@ fn least_within(previous: &[usize], start: usize, count: usize) -> usize
         }
     }
     least
-}
-
-/// The least position on the cycle that going back from `start` reaches, and a number of steps from it to itself.
-pub(crate) fn least_on_cycle(
-    alloc: Global,
-    previous: &[usize],
-    start: usize,
-) -> Result<(usize, usize), NoMemory>
-    requires within { StaysWithin previous.now }
-    requires start { start < length previous.now }
-    ensures inside { IfOk result (λ r. r.0 < length previous.now) }
-    ensures reached { IfOk result (λ r. (n : ℕ) × (back previous.now n start ≡ r.0)) }
-    ensures round { IfOk result (λ r. (0 < r.1) × (back previous.now r.1 r.0 ≡ r.0)) }
-    ensures least { IfOk result (λ r. (n : ℕ) → r.0 ≤ back previous.now n r.0) }
-{
-    let (place, period) = reach_cycle(alloc, previous, start)?;
-    let home = least_within(previous, place, period);
-    Ok((home, period))
 }

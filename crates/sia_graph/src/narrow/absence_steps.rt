@@ -70,30 +70,7 @@ fn put_steps_to(source: u32, targets: &[u32], steps: &mut Vec<u64>) -> Result<()
     Ok(())
 }
 
-/// Adds the steps from who was absent to blocks of the keys, but those of which it made the first version.
-fn put_absence(
-    size: u32,
-    firsts: &[u64],
-    absence: Absence,
-    blocks: &mut Vec<u32>,
-    steps: &mut Vec<u64>,
-) -> Result<(), NoMemory>
-    requires rise { IsNonDecreasing firsts.now }
-    requires fits { (size ≤ 1048576) × FitsKeys size absence }
-    ensures kept { OnOk result (KeepsAll steps.old.items steps.new.items) }
-    ensures each { OnOk result ((n : ℕ) → Contains steps.new.items n → Contains steps.old.items n ⊎ IsAbsenceStep size firsts.now absence n) }
-    ensures has { OnOk result (HasAbsenceSteps size firsts.now absence steps.new.items) }
-{
-    if absence.from >= absence.to {
-        return Ok(());
-    }
-    blocks.clear();
-    put_missed(size, firsts, absence, blocks)?;
-    put_steps_to(node(size, absence.txn), blocks, steps)?;
-    Ok(())
-}
-
-/// Adds the steps from who was absent at keys to blocks of these.
+/// Adds the steps from who was absent at keys to blocks of these, but those of which it made the first version.
 pub(crate) fn put_absence_steps(
     alloc: Global,
     size: u32,
@@ -109,7 +86,11 @@ pub(crate) fn put_absence_steps(
 {
     let mut blocks = Vec::new(alloc);
     for absence in absences {
-        put_absence(size, firsts, *absence, &mut blocks, steps)?;
+        if absence.from < absence.to {
+            blocks.clear();
+            put_missed(size, firsts, *absence, &mut blocks)?;
+            put_steps_to(node(size, absence.txn), &blocks, steps)?;
+        }
     }
     Ok(())
 }

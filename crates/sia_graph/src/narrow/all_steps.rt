@@ -1,55 +1,15 @@
 //! All the steps, in order.
-ghost use Rattle.std.specs.Prelude.{[], ◌≡◌, ◌<◌, ◌≤◌, All, IfOk, OnOk};
+ghost use Rattle.std.specs.Prelude.{◌<◌, ◌≤◌, All, IfOk};
 ghost use Rattle.std.specs.List.Sorted.{IsNonDecreasing};
-ghost use Rattle.sia_parts.specs.Sights.{Adds};
-ghost use Rattle.sia_graph.specs.NarrowSteps.{AreNarrowSteps, CanSearch, FitsKeys, IsMemberStep};
+ghost use Rattle.sia_graph.specs.NarrowSteps.{AreNarrowSteps, CanSearch, FitsKeys};
 
 use crate::narrow::absence_steps::put_absence_steps;
 use crate::narrow::firsts::firsts_of;
 use crate::narrow::steps::{put_half_steps, put_leaf_steps, put_look_steps};
 use sia_events::NoMemory;
 use sia_index::ordering::put_in_order;
-use sia_parts::{Absence, Look, Looks};
+use sia_parts::Looks;
 use std::alloc::Global;
-
-/// Adds the steps between transactions.
-fn put_member_steps(
-    size: u32,
-    writers: &[Look],
-    readers: &[Look],
-    steps: &mut Vec<u64>,
-) -> Result<(), NoMemory>
-    requires writers { CanSearch writers.now }
-    requires few { (size ≤ 1048576) × All (λ a. a.txn < 1048576) readers.now }
-    ensures { OnOk result (Adds (IsMemberStep size writers.now readers.now) steps.old.items steps.new.items) }
-{
-    put_look_steps(size, writers, writers, steps)?;
-    put_look_steps(size, writers, readers, steps)?;
-    Ok(())
-}
-
-/// Adds all steps.
-fn put_all_steps(
-    alloc: Global,
-    size: u32,
-    writers: &[Look],
-    readers: &[Look],
-    absences: &[Absence],
-    steps: &mut Vec<u64>,
-) -> Result<(), NoMemory>
-    requires empty { steps.old.items ≡ [] }
-    requires writers { CanSearch writers.now }
-    requires few { (size ≤ 1048576) × All (λ a. a.txn < 1048576) readers.now }
-    requires fits { All (FitsKeys size) absences.now }
-    ensures { OnOk result (AreNarrowSteps size writers.now readers.now absences.now steps.new.items) }
-{
-    put_member_steps(size, writers, readers, steps)?;
-    put_half_steps(size, steps)?;
-    let firsts = firsts_of(alloc, size, writers)?;
-    put_leaf_steps(size, &firsts, steps)?;
-    put_absence_steps(alloc, size, &firsts, absences, steps)?;
-    Ok(())
-}
 
 /// All steps, in order, where blocks are over so many keys.
 pub(crate) fn steps_of(alloc: Global, size: u32, looks: &Looks) -> Result<Vec<u64>, NoMemory>
@@ -63,7 +23,12 @@ pub(crate) fn steps_of(alloc: Global, size: u32, looks: &Looks) -> Result<Vec<u6
     let readers = looks.readers.as_slice();
     let absences = looks.absences.as_slice();
     let mut steps = Vec::with_capacity(alloc, readers.len())?;
-    put_all_steps(alloc, size, writers, readers, absences, &mut steps)?;
+    put_look_steps(size, writers, writers, &mut steps)?;
+    put_look_steps(size, writers, readers, &mut steps)?;
+    put_half_steps(size, &mut steps)?;
+    let firsts = firsts_of(alloc, size, writers)?;
+    put_leaf_steps(size, &firsts, &mut steps)?;
+    put_absence_steps(alloc, size, &firsts, absences, &mut steps)?;
     put_in_order(&mut steps);
     Ok(steps)
 }

@@ -7,21 +7,20 @@ ghost use Rattle.sia_graph.specs.Dangerous.{IsDangerous, IsLeast};
 ghost use Rattle.sia_graph.specs.Early.{CommitsFrom, IsLeastPivot};
 ghost use Rattle.sia_graph.specs.Evidence.{IsEvidence};
 ghost use Rattle.sia_graph.specs.Extremes.{HasRwEdge};
-ghost use Rattle.sia_graph.specs.NumberEdges.{AreByTxn, HoldSame};
+ghost use Rattle.sia_graph.specs.Previous.{AreLeftRanks};
 ghost use Rattle.sia_graph.specs.Ranks.{IsLeastRank};
 ghost use Rattle.sia_graph.specs.Sources.{IsSource};
 
 use crate::narrow::Evidence;
 use crate::narrow::by_transaction::looks_by_txn;
 use crate::narrow::least_edges::least_rw;
-use crate::narrow::limits::{least_early, limits_in, none_early};
-use crate::narrow::previous::ranks_of;
-use crate::narrow::sources::Sources;
+use crate::narrow::limits::{least_early, limits_in};
+use crate::narrow::previous::rank;
+use crate::narrow::sources::ranks_of_sources;
 use crate::narrow::two::NONE;
 use crate::pivoting::lifetimes::{Lifetime, lifetimes_of};
 use sia_events::{Key, NoMemory, TxnId};
-use sia_parts::Looks;
-use std::alloc::{AllocError, Global};
+use std::alloc::Global;
 
 /// A dangerous structure whose last transaction commits first: an rw edge leads from the first transaction to the pivot, and one
 /// from that to the last.
@@ -45,8 +44,8 @@ fn least_pivot(alloc: Global, evidence: &Evidence, limits: &[u32]) -> Result<(u3
     let mut high = limits.len();
     'halving: while high - low > 1 {
         let middle = low + (high - low) / 2;
-        let none = none_early(alloc, evidence, &limits[..middle])?;
-        if none {
+        let early = least_early(alloc, evidence, &limits[..middle])?;
+        if early == NONE {
             low = middle;
         } else {
             high = middle;
@@ -56,14 +55,17 @@ fn least_pivot(alloc: Global, evidence: &Evidence, limits: &[u32]) -> Result<(u3
     Ok((low as u32, last))
 }
 
-/// Which of these commit at the place or after it.
-fn late_of(alloc: Global, lifetimes: &[Lifetime], place: u32) -> Result<Vec<bool>, AllocError>
-    ensures { IfOk result (λ late. late.items ≡ map (λ lifetime. leb place lifetime.commit) lifetimes.now) }
+/// The numbers of those that commit at the place or after it as their ranks.
+fn late_ranks(alloc: Global, lifetimes: &[Lifetime], place: u32) -> Result<Vec<u32>, NoMemory>
+    requires { length lifetimes.now < 4294967295 }
+    ensures long { IfOk result (λ ranks. length ranks.items ≡ length lifetimes.now) }
+    ensures each { IfOk result (λ ranks. AreLeftRanks (map (λ lifetime. leb place lifetime.commit) lifetimes.now) ranks.items) }
 {
-    lifetimes
-        .iter()
-        .map(|lifetime| place <= lifetime.commit)
-        .collect(alloc)
+    let mut ranks = Vec::with_capacity(alloc, lifetimes.len())?;
+    for i in 0..lifetimes.len() {
+        ranks.push(rank(place <= lifetimes[i].commit, i as u32))?;
+    }
+    Ok(ranks)
 }
 
 /// Of those with an rw edge to the pivot the least that commits at this place or after it, or `NONE`.
@@ -75,28 +77,13 @@ fn least_first(
     pivot: u32,
 ) -> Result<u32, NoMemory>
     requires evidence { IsEvidence evidence.now.index.now evidence.now.txns.now evidence.now.keys.now evidence.now.looks.now }
-    requires few { length lifetimes.now ≤ 1000000000 }
+    requires long { length lifetimes.now ≡ length evidence.now.txns.now }
+    requires pivot { pivot < length lifetimes.now }
     ensures { IfOk result (IsLeastRank (λ t. IsSource evidence.now.looks.now t pivot × CommitsFrom lifetimes.now place t)) }
 {
-    let size = evidence.keys.len() as u32;
-    let late = late_of(alloc, lifetimes, place)?;
-    let ranks = ranks_of(alloc, &late)?;
-    let sources = Sources::of(alloc, evidence.looks, &ranks, size)?;
-    let first = sources.least(&ranks, pivot);
-    Ok(first)
-}
-
-/// The least key of an rw edge from one transaction to another. `own` holds the looks by transaction.
-fn least_key(evidence: &Evidence, own: &Looks, t: u32, u: u32) -> Key
-    requires same { HoldSame own.now evidence.now.looks.now }
-    requires by_txn { AreByTxn own.now }
-    requires evidence { IsEvidence evidence.now.index.now evidence.now.txns.now evidence.now.keys.now evidence.now.looks.now }
-    requires within { (t < length evidence.now.txns.now) × (u < length evidence.now.txns.now) }
-    requires edge { HasRwEdge evidence.now.index.now (slice_index evidence.now.txns.now t) (slice_index evidence.now.txns.now u) }
-    ensures { IsLeast (RwEdge evidence.now.index.now (slice_index evidence.now.txns.now t) (slice_index evidence.now.txns.now u)) result }
-{
-    let key = least_rw(own, t, u);
-    evidence.keys[key as usize]
+    let ranks = late_ranks(alloc, lifetimes, place)?;
+    let sources = ranks_of_sources(alloc, evidence, &ranks)?;
+    Ok(sources[pivot as usize])
 }
 
 /// The structure of transactions of these numbers.
@@ -117,13 +104,13 @@ fn with_keys(
     ensures last_key { IfOk result (λ d. IsLeast (RwEdge evidence.now.index.now (slice_index evidence.now.txns.now pivot) (slice_index evidence.now.txns.now last)) d.last_key) }
 {
     let own = looks_by_txn(alloc, evidence.looks)?;
-    let first_key = least_key(evidence, &own, first, pivot);
-    let last_key = least_key(evidence, &own, pivot, last);
+    let into = least_rw(&own, first, pivot);
+    let out = least_rw(&own, pivot, last);
     Ok(Dangerous {
         first: evidence.txns[first as usize],
-        first_key,
+        first_key: evidence.keys[into as usize],
         pivot: evidence.txns[pivot as usize],
-        last_key,
+        last_key: evidence.keys[out as usize],
         last: evidence.txns[last as usize],
     })
 }

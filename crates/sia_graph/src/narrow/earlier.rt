@@ -1,14 +1,15 @@
 //! The least rank of those who saw a version of a key from before a place.
-ghost use Rattle.std.specs.Prelude.{◌≡◌, ◌≢◌, ◌<◌, ◌≤◌, ℕ, List, All, IfOk};
+ghost use Rattle.std.specs.Prelude.{◌≡◌, ◌≢◌, ◌<◌, ℕ, List, IfOk, length};
 ghost use Rattle.sia_parts.specs.declared.looks.Looks.{Looks};
+ghost use Rattle.sia_graph.specs.Evidence.{IsEvidence};
 ghost use Rattle.sia_graph.specs.Ranks.{IsLeastRank, IsRankOf};
 ghost use Rattle.sia_graph.specs.Sources.{AreEarlier, SeesBefore};
 
+use crate::narrow::Evidence;
 use crate::narrow::nodes::{least_absent, nodes_of};
 use crate::narrow::ranked::Ranked;
 use crate::narrow::two::Two;
 use sia_events::NoMemory;
-use sia_parts::Looks;
 use std::alloc::Global;
 
 /// The ranks of those who saw versions, by the key and how early these were.
@@ -20,20 +21,15 @@ pub struct Earlier {
 }
 
 impl Earlier {
-    /// The tables for these ranks. There are `size` keys.
-    pub(crate) fn of(
-        alloc: Global,
-        looks: &Looks,
-        ranks: &[u32],
-        size: u32,
-    ) -> Result<Earlier, NoMemory>
-        requires few { size ≤ 1000000000 }
-        requires within { All (λ absence. absence.from < absence.to → absence.to ≤ size) looks.now.absences.items }
-        ensures made { IfOk result (AreEarlier looks.now ranks.now) }
-        ensures size { IfOk result (λ earlier. earlier.size ≡ size) }
+    /// The tables for these ranks.
+    pub(crate) fn of(alloc: Global, evidence: &Evidence, ranks: &[u32]) -> Result<Earlier, NoMemory>
+        requires { IsEvidence evidence.now.index.now evidence.now.txns.now evidence.now.keys.now evidence.now.looks.now }
+        ensures made { IfOk result (AreEarlier evidence.now.looks.now ranks.now) }
+        ensures size { IfOk result (λ earlier. earlier.size ≡ length evidence.now.keys.now) }
     {
-        let by_low = Ranked::of(alloc, &looks.readers, ranks)?;
-        let nodes = nodes_of(alloc, &looks.absences, ranks, size)?;
+        let size = evidence.keys.len() as u32;
+        let by_low = Ranked::of(alloc, &evidence.looks.readers, ranks)?;
+        let nodes = nodes_of(alloc, &evidence.looks.absences, ranks, size)?;
         Ok(Earlier {
             by_low,
             nodes,

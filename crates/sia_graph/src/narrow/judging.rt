@@ -9,8 +9,10 @@ ghost use Rattle.sia_graph.specs.Verdicts.{IsVerdict};
 
 use crate::narrow::Evidence;
 use crate::narrow::cycle::cycle_of_left;
-use crate::narrow::extremes::passes_looks;
+use crate::narrow::limits::{least_early, limits_in};
 use crate::narrow::ordering::take_members;
+use crate::narrow::two::NONE;
+use crate::pivoting::lifetimes::lifetimes_of;
 use crate::settling::txns::Txns;
 use crate::settling::{Steps, Verdict};
 use crate::taking::Taken;
@@ -34,7 +36,8 @@ pub fn settle_looks(alloc: Global, evidence: &Evidence) -> Result<Verdict, NoMem
 }
 
 /// Whether there is no bad read, no bad write, and no dangerous structure whose last transaction commits first, as `ssi_pass`
-/// tells it of all findings. The bad reads and the bad writes are those of the history at all keys.
+/// tells it of all findings: whether no version commits before one who saw what was before it, and no later than one that in turn
+/// saw a version before the reader's own. The bad reads and the bad writes are those of the history at all keys.
 pub fn passes(
     alloc: Global,
     evidence: &Evidence,
@@ -49,7 +52,10 @@ pub fn passes(
     if !are_none(bad_reads, bad_writes) {
         return Ok(false);
     }
-    passes_looks(alloc, evidence)
+    let lifetimes = lifetimes_of(alloc, evidence.index, evidence.txns)?;
+    let limits = limits_in(alloc, evidence, &lifetimes)?;
+    let early = least_early(alloc, evidence, &limits)?;
+    Ok(early == NONE)
 }
 
 /// Whether both lists are empty.

@@ -3,14 +3,14 @@ ghost use Rattle.std.specs.Prelude.{◌≡◌, ◌↔◌, ◌<◌, ◌≤◌, �
 ghost use Rattle.std.specs.List.Sorted.{IsNonDecreasingBy};
 ghost use Rattle.sia_parts.specs.declared.looks.Absence.{Absence};
 ghost use Rattle.sia_parts.specs.declared.looks.Look.{Look};
-ghost use Rattle.sia_parts.specs.declared.finding.Kind.TheVariants.{Rw, Wr, Ww};
+ghost use Rattle.sia_parts.specs.declared.finding.Kind.TheVariants.{Rw};
 ghost use Rattle.sia_parts.specs.Sights.{FromSome};
 ghost use Rattle.sia_graph.specs.NumberEdges.{AreByTxn, HasMeeting, HasNumberEdge, IsLeastEdge, IsMissedBy, Meets};
 ghost use Rattle.sia_graph.specs.Ranks.{IsLeastRank};
 
 use crate::narrow::by_transaction::of_txn;
 use crate::narrow::two::NONE;
-use crate::searching::{ByKey, ByTxn, rows_at};
+use crate::searching::{ByKey, ByTxn, place_from, rows_at};
 use sia_parts::{Absence, Kind, Look, Looks};
 
 /// Whether a write and another look at its key make an edge of this kind.
@@ -56,7 +56,7 @@ fn least_within(absence: &Absence, writes: &[Look]) -> u32
     requires { IsNonDecreasingBy (λ look. look.key) writes.now }
     ensures { IsLeastRank (IsMissedBy writes.now absence.now) result }
 {
-    let first = writes.partition_point(|write| write.key < absence.from);
+    let first = place_from::<Look, ByKey>(writes, u64::from(absence.from), 0);
     if first == writes.len() {
         return NONE;
     }
@@ -77,31 +77,7 @@ fn least_missed(absences: &[Absence], writes: &[Look]) -> u32
     least
 }
 
-/// The least key of a ww edge from one transaction to another. `NONE` where there is none, as below.
-fn least_ww(looks: &Looks, t: u32, u: u32) -> u32
-    requires { AreByTxn looks.now }
-    ensures { IsLeastRank (HasNumberEdge looks.now Ww t u) result }
-{
-    least_meeting(
-        Kind::Ww,
-        of_txn(&looks.writers, t),
-        of_txn(&looks.writers, u),
-    )
-}
-
-/// The least key of a wr edge from one transaction to another.
-fn least_wr(looks: &Looks, t: u32, u: u32) -> u32
-    requires { AreByTxn looks.now }
-    ensures { IsLeastRank (HasNumberEdge looks.now Wr t u) result }
-{
-    least_meeting(
-        Kind::Wr,
-        of_txn(&looks.writers, t),
-        of_txn(&looks.readers, u),
-    )
-}
-
-/// The least key of a rw edge from one transaction to another.
+/// The least key of an rw edge from one transaction to another, or `NONE`.
 pub(crate) fn least_rw(looks: &Looks, t: u32, u: u32) -> u32
     requires { AreByTxn looks.now }
     ensures { IsLeastRank (HasNumberEdge looks.now Rw t u) result }
@@ -118,11 +94,12 @@ pub(crate) fn least_edge(looks: &Looks, t: u32, u: u32) -> (Kind, u32)
     requires leads { (kind : Kind) × (k : ℕ) × HasNumberEdge looks.now kind t u k }
     ensures { IsLeastEdge looks.now t u result.0 result.1 }
 {
-    let ww = least_ww(looks, t, u);
+    let writes = of_txn(&looks.writers, t);
+    let ww = least_meeting(Kind::Ww, writes, of_txn(&looks.writers, u));
     if ww < NONE {
         return (Kind::Ww, ww);
     }
-    let wr = least_wr(looks, t, u);
+    let wr = least_meeting(Kind::Wr, writes, of_txn(&looks.readers, u));
     if wr < NONE {
         return (Kind::Wr, wr);
     }

@@ -7,12 +7,12 @@ ghost use Rattle.sia_graph.specs.Early.{IsEarly, TellFirsts};
 ghost use Rattle.sia_graph.specs.Evidence.{IsEvidence};
 ghost use Rattle.sia_graph.specs.Lifetimes.{AreLifetimes};
 ghost use Rattle.sia_graph.specs.Limits.{AreLimits, IsLimit, IsWithinLimit};
-ghost use Rattle.sia_graph.specs.Ranks.{AreRanks, IsLeastRank};
-ghost use Rattle.sia_graph.specs.Sources.{AreEarlier, AreSources};
+ghost use Rattle.sia_graph.specs.Ranks.{IsLeastRank, IsRankOf};
+ghost use Rattle.sia_graph.specs.Sources.{AreEarlier, AreLeastOfSources, IsSource};
 
 use crate::narrow::Evidence;
 use crate::narrow::earlier::Earlier;
-use crate::narrow::sources::Sources;
+use crate::narrow::sources::ranks_of_sources;
 use crate::narrow::two::NONE;
 use crate::pivoting::lifetimes::Lifetime;
 use sia_events::NoMemory;
@@ -32,36 +32,15 @@ fn ranks_of(alloc: Global, lifetimes: &[Lifetime]) -> Result<Vec<u32>, AllocErro
         .collect(alloc)
 }
 
-/// The rank of the last place before the commit of number `t`, up to that of its last source. `LAST` if it has none.
-fn limit_of(sources: &Sources, ranks: &[u32], t: u32, commit: u32) -> u32
-    requires are { (looks : Looks) × AreSources looks ranks.now sources.now }
-    requires apart { AreRanks ranks.now }
-    ensures { (looks : Looks) → AreSources looks ranks.now sources.now → IsLimit looks ranks.now t commit result }
+/// The rank of the last place before the commit of number `t`, up to that of its last source, whose rank is given. `LAST` if it
+/// has none.
+fn limit_of(rank: u32, commit: u32) -> u32
+    ensures { (looks : Looks) (ranks : List ℕ) (t : ℕ) → IsLeastRank (λ r. (i : ℕ) × IsSource looks i t × IsRankOf ranks i r) rank → IsLimit looks ranks t commit result }
 {
-    let rank = sources.least(ranks, t);
     if rank == NONE {
         return LAST;
     }
     rank.max(LAST.saturating_sub(commit.saturating_sub(1)))
-}
-
-/// The same of each transaction.
-fn limits_of(
-    alloc: Global,
-    sources: &Sources,
-    ranks: &[u32],
-    lifetimes: &[Lifetime],
-) -> Result<Vec<u32>, NoMemory>
-    requires are { (looks : Looks) × AreSources looks ranks.now sources.now }
-    requires apart { AreRanks ranks.now }
-    requires few { length lifetimes.now ≤ 1000000000 }
-    ensures { IfOk result (λ limits. (looks : Looks) → AreSources looks ranks.now sources.now → AreLimits looks ranks.now lifetimes.now limits.items) }
-{
-    let mut limits = Vec::with_capacity(alloc, lifetimes.len())?;
-    for t in 0..lifetimes.len() {
-        limits.push(limit_of(sources, ranks, t as u32, lifetimes[t].commit))?;
-    }
-    Ok(limits)
 }
 
 /// Whether the version commits up to the limit of one who saw what was before it.
@@ -77,36 +56,6 @@ fn is_within(earlier: &Earlier, made: Look) -> bool
     made.high <= LAST - rank
 }
 
-/// Whether no version does.
-fn none_within(earlier: &Earlier, writers: &[Look]) -> bool
-    requires are { (looks : Looks) × (limits : List ℕ) × AreEarlier looks limits earlier.now }
-    requires keys { All (λ made. made.key < earlier.now.size) writers.now }
-    ensures { (looks : Looks) (limits : List ℕ) → AreEarlier looks limits earlier.now → IsTrue result ↔ All (λ made. ¬ IsWithinLimit looks limits made) writers.now }
-{
-    for made in writers {
-        if is_within(earlier, *made) {
-            return false;
-        }
-    }
-    true
-}
-
-/// The least number that made a version that does, or `NONE`.
-fn least_within(earlier: &Earlier, writers: &[Look]) -> u32
-    requires are { (looks : Looks) × (limits : List ℕ) × AreEarlier looks limits earlier.now }
-    requires within { All (λ made. (made.key < earlier.now.size) × (made.txn < 4294967295)) writers.now }
-    ensures { (looks : Looks) (limits : List ℕ) → AreEarlier looks limits earlier.now
-        → IsLeastRank (λ j. (made : Look) × Contains writers.now made × (made.txn ≡ j) × IsWithinLimit looks limits made) result }
-{
-    let mut least = NONE;
-    for made in writers {
-        if is_within(earlier, *made) {
-            least = least.min(made.txn);
-        }
-    }
-    least
-}
-
 /// The limit of each transaction of a history that keeps isolation. These are their lifetimes.
 pub(crate) fn limits_in(
     alloc: Global,
@@ -118,29 +67,17 @@ pub(crate) fn limits_in(
     requires lived { AreLifetimes evidence.now.index.now evidence.now.txns.now lifetimes.now }
     ensures { IfOk result (λ limits. TellFirsts evidence.now.index.now evidence.now.txns.now evidence.now.looks.now limits.items) }
 {
-    let size = evidence.keys.len() as u32;
     let ranks = ranks_of(alloc, lifetimes)?;
-    let sources = Sources::of(alloc, evidence.looks, &ranks, size)?;
-    let limits = limits_of(alloc, &sources, &ranks, lifetimes)?;
+    let owned = ranks_of_sources(alloc, evidence, &ranks)?;
+    let sources = owned.as_slice();
+    let mut limits = Vec::with_capacity(alloc, lifetimes.len())?;
+    for t in 0..lifetimes.len() {
+        limits.push(limit_of(sources[t], lifetimes[t].commit))?;
+    }
     Ok(limits)
 }
 
-/// Whether no version commits up to one of these limits, of one who saw what was before it.
-pub(crate) fn none_early(
-    alloc: Global,
-    evidence: &Evidence,
-    limits: &[u32],
-) -> Result<bool, NoMemory>
-    requires { IsEvidence evidence.now.index.now evidence.now.txns.now evidence.now.keys.now evidence.now.looks.now }
-    ensures { IfOk result (λ none. IsTrue none ↔ ((j : ℕ) → ¬ IsEarly evidence.now.looks.now limits.now j)) }
-{
-    let size = evidence.keys.len() as u32;
-    let earlier = Earlier::of(alloc, evidence.looks, limits, size)?;
-    let none = none_within(&earlier, &evidence.looks.writers);
-    Ok(none)
-}
-
-/// The least number that made such a version, or `NONE`.
+/// The least number that made a version that commits up to one of these limits, of one who saw what was before it, or `NONE`.
 pub(crate) fn least_early(
     alloc: Global,
     evidence: &Evidence,
@@ -149,8 +86,13 @@ pub(crate) fn least_early(
     requires { IsEvidence evidence.now.index.now evidence.now.txns.now evidence.now.keys.now evidence.now.looks.now }
     ensures { IfOk result (IsLeastRank (IsEarly evidence.now.looks.now limits.now)) }
 {
-    let size = evidence.keys.len() as u32;
-    let earlier = Earlier::of(alloc, evidence.looks, limits, size)?;
-    let least = least_within(&earlier, &evidence.looks.writers);
+    let earlier = Earlier::of(alloc, evidence, limits)?;
+    let writers = evidence.looks.writers.as_slice();
+    let mut least = NONE;
+    for made in writers {
+        if is_within(&earlier, *made) {
+            least = least.min(made.txn);
+        }
+    }
     Ok(least)
 }

@@ -27,10 +27,10 @@ fn put_txn(blocks: &[u32], ranks: &[u32], txn: u32, nodes: &mut [Two])
 
 /// Adds the rank of what is absent to blocks over its keys.
 fn put_absence(
-    alloc: Global,
     absence: Absence,
     ranks: &[u32],
     size: u32,
+    blocks: &mut Vec<u32>,
     nodes: &mut [Two],
 ) -> Result<(), NoMemory>
     requires few { size ≤ 1000000000 }
@@ -42,9 +42,9 @@ fn put_absence(
     if absence.from >= absence.to {
         return Ok(());
     }
-    let mut blocks = Vec::new(alloc);
-    put_blocks(size, absence.from, absence.to, &mut blocks)?;
-    put_txn(&blocks, ranks, absence.txn, nodes);
+    blocks.clear();
+    put_blocks(size, absence.from, absence.to, blocks)?;
+    put_txn(blocks, ranks, absence.txn, nodes);
     Ok(())
 }
 
@@ -67,8 +67,9 @@ pub(crate) fn nodes_of(
         next: NONE,
     };
     let mut nodes = vec![in alloc; none; 2 * size as usize]?;
+    let mut blocks = Vec::new(alloc);
     for absence in absences {
-        put_absence(alloc, *absence, ranks, size, &mut nodes)?;
+        put_absence(*absence, ranks, size, &mut blocks, &mut nodes)?;
     }
     Ok(nodes)
 }

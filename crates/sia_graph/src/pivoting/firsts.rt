@@ -1,25 +1,13 @@
 //! Which transaction of a dangerous structure commits first.
-ghost use Rattle.std.specs.Prelude.{◌≡◌, ◌↔◌, ◌⊎◌, ℕ, ◌<◌, ◌≤◌, All, Contains, IfOk, IsTrue, MatchOption};
+ghost use Rattle.std.specs.Prelude.{◌≡◌, ◌↔◌, ◌⊎◌, ℕ, ◌<◌, ◌≤◌, All, Contains, IfOk, IsTrue};
 ghost use Rattle.sia_events.specs.DangerousStructures.{IsFirst, IsVulnerable};
 ghost use Rattle.sia_events.specs.Lists.{ListsAscending};
-ghost use Rattle.sia_events.specs.Transactions.{CommitsAt, IsCommitted};
+ghost use Rattle.sia_events.specs.Transactions.{CommitsAt};
 
+use crate::pivoting::lifetimes::lifetime_of;
 use sia_events::TxnId;
-use sia_index::{Fate, Index};
+use sia_index::Index;
 use std::alloc::{AllocError, Global};
-
-/// Where a transaction commits.
-pub(crate) fn commit_of(ix: &Index, txn: TxnId) -> Option<u32>
-    ensures { MatchOption result (¬ IsCommitted ix.now txn) (CommitsAt ix.now txn) }
-{
-    ix.law();
-    let info = ix.txn(txn)?;
-    match info.fate {
-        Fate::Committed => info.ended,
-        Fate::Aborted => None,
-        Fate::Unfinished => None,
-    }
-}
 
 /// The greatest commit among the transactions; 0 where none commits.
 fn last_commit(ix: &Index, txns: &[TxnId]) -> u32
@@ -29,8 +17,8 @@ fn last_commit(ix: &Index, txns: &[TxnId]) -> u32
     ix.law();
     let mut last = 0;
     for txn in txns {
-        if let Some(commit) = commit_of(ix, *txn) {
-            last = last.max(commit);
+        if let Some(lifetime) = lifetime_of(ix, *txn) {
+            last = last.max(lifetime.commit);
         }
     }
     last
@@ -41,22 +29,10 @@ fn commits_by(ix: &Index, txn: TxnId, before: u32, latest: u32) -> bool
     ensures { IsTrue result ↔ ((c : ℕ) × CommitsAt ix.now txn c × (c < before) × (c ≤ latest)) }
 {
     ix.law();
-    match commit_of(ix, txn) {
-        Some(commit) => commit < before && commit <= latest,
+    match lifetime_of(ix, txn) {
+        Some(lifetime) => lifetime.commit < before && lifetime.commit <= latest,
         None => false,
     }
-}
-
-/// Whether none of the transactions commits before one place and no later than another.
-fn none_commits(ix: &Index, txns: &[TxnId], before: u32, latest: u32) -> bool
-    ensures { IsTrue result → All (λ t. (c : ℕ) → CommitsAt ix.now t c → c < before → ¬ (c ≤ latest)) txns.now }
-{
-    for txn in txns {
-        if commits_by(ix, *txn, before, latest) {
-            return false;
-        }
-    }
-    true
 }
 
 /// Of the transactions to which `txn` has a vulnerable edge, those that commit before it and no later than some transaction
@@ -73,14 +49,15 @@ pub(crate) fn firsts(
     ensures { IfOk result (λ firsts. ListsAscending (λ t. IsFirst ix.now txn t) firsts.items) }
 {
     ix.law();
-    let Some(own) = commit_of(ix, txn) else {
-        return Ok(Vec::new(alloc));
+    let mut firsts = Vec::new(alloc);
+    let Some(own) = lifetime_of(ix, txn) else {
+        return Ok(firsts);
     };
     let last = last_commit(ix, ins);
-    if none_commits(ix, outs, own, last) {
-        return Ok(Vec::new(alloc));
+    for out in outs {
+        if commits_by(ix, *out, own.commit, last) {
+            firsts.push(*out)?;
+        }
     }
-    let mut firsts = Vec::from_slice(alloc, outs)?;
-    firsts.retain(|out| commits_by(ix, *out, own, last));
     Ok(firsts)
 }

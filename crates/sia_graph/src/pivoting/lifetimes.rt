@@ -14,7 +14,8 @@ pub struct Lifetime {
     pub commit: u32,
 }
 
-fn lifetime_of(ix: &Index, txn: TxnId) -> Option<Lifetime>
+/// When a transaction starts and commits, if it commits.
+pub(crate) fn lifetime_of(ix: &Index, txn: TxnId) -> Option<Lifetime>
     ensures { MatchOption result (¬ IsCommitted ix.now txn) (IsLifetime ix.now txn) }
 {
     ix.law();

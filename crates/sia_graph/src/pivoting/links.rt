@@ -33,11 +33,7 @@ impl By<Link> for ByEnd {
 pub(crate) fn leads_rw(kind: Kind) -> bool
     ensures { result ≡ is_rw kind }
 {
-    match kind {
-        Kind::Ww => false,
-        Kind::Wr => false,
-        Kind::Rw => true,
-    }
+    matches!(kind, Kind::Rw)
 }
 
 /// Whether an edge is of the kind rw, and its ends overlap.
@@ -86,31 +82,12 @@ pub(crate) fn turned(alloc: Global, links: &[Link]) -> Result<Vec<Link>, AllocEr
     Ok(turned)
 }
 
-/// Where the links at a transaction may start: the first place from `near` on that isn't too early.
-pub(crate) fn first_from(links: &[Link], near: usize, txn: TxnId) -> usize {
-    for i in near..links.len() {
-        if links[i].at >= txn {
-            return i;
-        }
-    }
-    links.len()
-}
-
-/// The links at a transaction, which are looked for from near a guess.
-pub(crate) fn links_at(links: &[Link], near: usize, txn: TxnId) -> &[Link]
+/// The links at a transaction, which are looked for from near a guess, and where they end.
+pub(crate) fn links_at(links: &[Link], txn: TxnId, near: usize) -> (&[Link], usize)
     requires { AllPairs (λ k l. Precedes (link_rank k) (link_rank l)) links.now }
-    ensures { AreLinksAt links.now txn result.now }
+    ensures { AreLinksAt links.now txn result.0.now }
 {
-    let (found, _) = rows_near::<Link, ByEnd>(links, u64::from(txn), near);
-    found
-}
-
-/// Whether there is a link at a transaction, perhaps at `near`.
-pub(crate) fn has_link(links: &[Link], near: usize, txn: TxnId) -> bool
-    requires { AllPairs (λ k l. Precedes (link_rank k) (link_rank l)) links.now }
-    ensures { IsTrue result ↔ ((u : ℕ) × AreLinked links.now txn u) }
-{
-    !links_at(links, near, txn).is_empty()
+    rows_near::<Link, ByEnd>(links, u64::from(txn), near)
 }
 
 /// The transactions at the other ends.
@@ -120,18 +97,11 @@ pub(crate) fn others(alloc: Global, links: &[Link]) -> Result<Vec<TxnId>, AllocE
     links.iter().map(|l| l.other).collect(alloc)
 }
 
-/// Where each link is.
-fn places(alloc: Global, links: &[Link]) -> Result<Vec<TxnId>, AllocError>
-    ensures { IfOk result (λ places. places.items ≡ map (λ l. l.at) links.now) }
-{
-    links.iter().map(|l| l.at).collect(alloc)
-}
-
-/// The transactions at which there is a link, ascending.
+/// The transactions at some other end, ascending.
 pub(crate) fn linked(alloc: Global, links: &[Link]) -> Result<Vec<TxnId>, AllocError>
-    ensures { IfOk result (λ linked. ListsAscending (λ t. (u : ℕ) × AreLinked links.now t u) linked.items) }
+    ensures { IfOk result (λ linked. ListsAscending (λ t. (u : ℕ) × AreLinked links.now u t) linked.items) }
 {
-    let mut linked = places(alloc, links)?;
+    let mut linked = others(alloc, links)?;
     put_in_order(&mut linked);
     Ok(linked)
 }

@@ -5,6 +5,7 @@ ghost use Rattle.sia_events.specs.DangerousStructures.{PassesSsi};
 ghost use Rattle.sia_parts.specs.Findings.{AreFindings};
 ghost use Rattle.sia_graph.specs.Pivots.{ArePivots};
 
+use crate::narrow::judging::are_none;
 use crate::pivot::Pivot;
 use sia_parts::{BadRead, BadWrite, Findings};
 
@@ -22,11 +23,5 @@ pub fn ssi_pass(f: &Findings, p: &[Pivot]) -> bool
 fn has_none(bad_reads: &[BadRead], bad_writes: &[BadWrite], p: &[Pivot]) -> bool
     ensures { IsTrue result ↔ ((bad_reads.now ≡ []) × (bad_writes.now ≡ []) × All (λ pivot. pivot.firsts ≡ []) p.now) }
 {
-    bad_reads.is_empty() && bad_writes.is_empty() && no_firsts(p)
-}
-
-fn no_firsts(p: &[Pivot]) -> bool
-    ensures { IsTrue result ↔ All (λ pivot. pivot.firsts ≡ []) p.now }
-{
-    p.iter().all(|pivot| pivot.firsts.as_slice().is_empty())
+    are_none(bad_reads, bad_writes) && p.iter().all(|pivot| pivot.firsts.as_slice().is_empty())
 }

@@ -12,7 +12,7 @@ use sia_events::{NoMemory, TxnId};
 use sia_index::Index;
 use sia_index::ordering::put_in_order;
 use sia_parts::{EdgeNumber, kind_in, source_of, target_of};
-use std::alloc::{AllocError, Global};
+use std::alloc::Global;
 
 /// Whether the edge is of the kind rw, and its ends overlap.
 #[inline(always)]
@@ -23,18 +23,6 @@ fn is_vulnerable(ix: &Index, txns: &[TxnId], lifetimes: &[Lifetime], n: EdgeNumb
 {
     ix.law();
     leads_rw(kind_in(n)) && overlap(lifetimes[source_of(n)], lifetimes[target_of(n)])
-}
-
-/// The link between the edge's ends.
-#[inline(always)]
-fn link_of(txns: &[TxnId], n: EdgeNumber) -> Link
-    requires { (keys : List ℕ) × IsPacked txns.now keys n }
-    ensures { result ≡ record { at = slice_index txns.now (source_number n); other = slice_index txns.now (target_number n) } }
-{
-    Link {
-        at: txns[source_of(n)],
-        other: txns[target_of(n)],
-    }
 }
 
 /// The rw edges between overlapping transactions, of edges that are kept as numbers: each pair once, as a link at its source.
@@ -49,29 +37,15 @@ pub fn vulnerable_in(
     requires packed { (keys : List ℕ) × All (IsPacked txns.now keys) numbers.now }
     ensures { IfOk result (λ links. (keys : List ℕ) → AreEnds (Overlap ix.now) (map (unpacked txns.now keys) numbers.now) links.items) }
 {
-    let mut links = ends_of_numbers(alloc, ix, txns, lifetimes, numbers)?;
-    put_in_order(&mut links);
-    Ok(links)
-}
-
-/// The ends of each such edge.
-#[inline(never)]
-fn ends_of_numbers(
-    alloc: Global,
-    ix: &Index,
-    txns: &[TxnId],
-    lifetimes: &[Lifetime],
-    numbers: &[EdgeNumber],
-) -> Result<Vec<Link>, AllocError>
-    requires lifetimes { AreLifetimes ix.now txns.now lifetimes.now }
-    requires packed { (keys : List ℕ) × All (IsPacked txns.now keys) numbers.now }
-    ensures { IfOk result (λ links. (keys : List ℕ) → AreEnds (Overlap ix.now) (map (unpacked txns.now keys) numbers.now) links.items) }
-{
     let mut links = Vec::new(alloc);
     for n in numbers {
         if is_vulnerable(ix, txns, lifetimes, *n) {
-            links.push(link_of(txns, *n))?;
+            links.push(Link {
+                at: txns[source_of(*n)],
+                other: txns[target_of(*n)],
+            })?;
         }
     }
+    put_in_order(&mut links);
     Ok(links)
 }

@@ -43,11 +43,7 @@ fn keep_write(event: &Event, versions: &mut BTreeMap<Key, TxnId>) -> Result<(), 
         Event::Write { txn, key } => {
             versions.insert(*key, *txn)?;
         }
-        Event::Begin { .. } => {}
-        Event::Read { .. } => {}
-        Event::Range { .. } => {}
-        Event::Commit { .. } => {}
-        Event::Abort { .. } => {}
+        _ => {}
     }
     Ok(())
 }

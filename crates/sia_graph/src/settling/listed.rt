@@ -7,14 +7,14 @@ ghost use Rattle.sia_graph.specs.Cycles.{TakesLeastEdge};
 ghost use Rattle.sia_graph.specs.Orders.{Leads};
 ghost use Rattle.sia_graph.specs.Places.{AreStepsOf};
 ghost use Rattle.sia_graph.specs.Previous.{IsLeftIn};
-ghost use Rattle.sia_graph.specs.Walks.{AreLeastSources, StaysWithin, is_before};
+ghost use Rattle.sia_graph.specs.Walks.{AreLeastSources, is_before};
 
 use crate::settling::Step;
 use crate::taking::by_steps::target_place;
 use crate::taking::numbers::{source_of, step};
 use sia_events::{NoMemory, TxnId};
 use sia_parts::Edge;
-use std::alloc::Global;
+use std::alloc::{AllocError, Global};
 
 /// The position of a transaction among the ids.
 pub(crate) fn position_of(ids: &[TxnId], txn: TxnId) -> u32
@@ -44,15 +44,11 @@ pub(crate) fn steps_between(
 }
 
 /// So many positions, each of which leads to itself.
-pub(crate) fn themselves(alloc: Global, count: usize) -> Result<Vec<usize>, NoMemory>
+pub(crate) fn themselves(alloc: Global, count: usize) -> Result<Vec<usize>, AllocError>
     ensures long { IfOk result (λ positions. length positions.items ≡ count) }
     ensures each { IfOk result (λ positions. (i : ℕ) → i < count → slice_index positions.items i ≡ i) }
 {
-    let mut positions = Vec::with_capacity(alloc, count)?;
-    for i in 0..count {
-        positions.push(i)?;
-    }
-    Ok(positions)
+    (0..count).collect(alloc)
 }
 
 /// For each place the least one that is left and from which a step leads to it. What has none leads to itself.
@@ -68,7 +64,6 @@ pub(crate) fn least_sources(
     requires steps { AreStepsOf ids.now edges.now steps.now }
     requires long { length left.now ≡ length ids.now }
     ensures long { IfOk result (λ previous. length previous.items ≡ length ids.now) }
-    ensures within { IfOk result (λ previous. StaysWithin previous.items) }
     ensures least { IfOk result (λ previous. AreLeastSources ids.now (Contains edges.now) (IsLeftIn left.now) previous.items) }
 {
     let mut previous = themselves(alloc, left.len())?;

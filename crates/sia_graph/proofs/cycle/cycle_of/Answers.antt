@@ -1,10 +1,47 @@
-use Rattle.std.proofs.Common.{◌<◌, length, subst, arith}
+use Rattle.std.proofs.Common.{◌≡◌, ◌+◌, ◌<◌, length, ap, subst, ◌∙◌, arith}
 use Rattle.std.proofs.lemmas.Result.{IfOk-weaker}
 use Rattle.sia_graph.specs.Previous.{IsLeftIn}
 use Rattle.sia_graph.specs.Searched.{IsEdgeIn, IsMemberIn}
-use Rattle.sia_graph.specs.Walks.{ArePreviousFrom}
-use Rattle.sia_graph.proofs.PrintedCycle.{fed_by_stuck, previous_from, shifted, leads_all, printed}
+use Rattle.sia_graph.specs.Walks.{ArePreviousFrom, back}
+use Rattle.sia_graph.proofs.PrintedCycle.{fed_by_stuck, least_home, previous_from, round_home, shifted, leads_all, printed, stays_within}
+use Rattle.sia_graph.proofs.Walks.{back_more, stays}
 use Rattle.sia_graph.proofs.cycle.cycle_of.Goals as goal
+
+pub reach_cycle-requires-clause-within : goal.reach_cycle-requires-clause-within
+reach_cycle-requires-clause-within c = (stays_within c.args.ids.now (IsEdgeIn c.args.edges.now) (IsLeftIn c.args.left.now) c.args.previous.now c.requires.long.1 c.requires.least)
+
+pub least_within-home-requires-clause-within : goal.least_within-home-requires-clause-within
+least_within-home-requires-clause-within c = (stays_within c.args.ids.now (IsEdgeIn c.args.edges.now) (IsLeftIn c.args.left.now) c.args.previous.now c.requires.long.1 c.requires.least)
+
+pub least_within-home-requires-clause-start : goal.least_within-home-requires-clause-start
+least_within-home-requires-clause-start c =
+    let w = c.in_ok-place.ensures.reached in
+    let start : c.first_left-start.result < length c.args.previous.now = let a = c.first_left-start.ensures.within in let b = c.requires.long in omega arith in
+    subst (λ i. i < length c.args.previous.now) w.1 (stays c.args.previous.now (stays_within c.args.ids.now (IsEdgeIn c.args.edges.now) (IsLeftIn c.args.left.now) c.args.previous.now c.requires.long.1 c.requires.least) w.0 c.first_left-start.result start)
+
+pub steps_round-requires-clause-within : goal.steps_round-requires-clause-within
+steps_round-requires-clause-within c = (stays_within c.args.ids.now (IsEdgeIn c.args.edges.now) (IsLeftIn c.args.left.now) c.args.previous.now c.requires.long.1 c.requires.least)
+
+pub steps_round-requires-clause-home : goal.steps_round-requires-clause-home
+steps_round-requires-clause-home c =
+    let previous = c.args.previous.now in
+    let within = (stays_within c.args.ids.now (IsEdgeIn c.args.edges.now) (IsLeftIn c.args.left.now) c.args.previous.now c.requires.long.1 c.requires.least) in
+    let w = c.in_ok-place.ensures.reached in
+    let v = c.least_within-home.ensures.reached in
+    let start : c.first_left-start.result < length c.args.previous.now = let a = c.first_left-start.ensures.within in let b = c.requires.long in omega arith in
+    subst (λ i. i < length previous) v.2 (stays previous within v.0 c.in_ok-place.place (subst (λ i. i < length previous) w.1 (stays previous within w.0 c.first_left-start.result start)))
+
+pub steps_round-requires-clause-round : goal.steps_round-requires-clause-round
+steps_round-requires-clause-round c =
+    let w = c.in_ok-place.ensures.round in
+    let v = c.least_within-home.ensures in
+    (w.0, round_home c.args.previous.now c.in_ok-place.place c.in_ok-place.period c.least_within-home.result w.0 w.1 v.reached v.least)
+
+pub steps_round-requires-clause-least : goal.steps_round-requires-clause-least
+steps_round-requires-clause-least c =
+    let w = c.in_ok-place.ensures.round in
+    let v = c.least_within-home.ensures in
+    least_home c.args.previous.now c.in_ok-place.place c.in_ok-place.period c.least_within-home.result w.0 w.1 v.reached v.least
 
 pub steps_round-requires-clause-leads : goal.steps_round-requires-clause-leads
 steps_round-requires-clause-leads c =
@@ -16,8 +53,10 @@ steps_round-requires-clause-leads c =
     let r = c.requires.stuck in
     let within : start < length ids = let a = c.first_left-start.ensures.within in let b = c.requires.long.0 in omega arith in
     let are = previous_from ids E L previous start c.requires.least within c.first_left-start.ensures.left (fed_by_stuck ids (IsMemberIn ids c.args.edges.now) E L r.0 r.2 r.1) in
-    let w = c.in_ok-home.ensures.reached in
-    leads_all ids E L previous c.in_ok-home.home (subst (ArePreviousFrom ids E L previous) w.1 (shifted ids E L previous w.0 start are))
+    let w = c.in_ok-place.ensures.reached in
+    let v = c.least_within-home.ensures.reached in
+    let reached = back_more previous w.0 v.0 start ∙ ap (back previous v.0) w.1 ∙ v.2 in
+    leads_all ids E L previous c.least_within-home.result (subst (ArePreviousFrom ids E L previous) reached (shifted ids E L previous (w.0 + v.0) start are))
 
 pub returns : goal.returns
 returns c =
@@ -30,8 +69,10 @@ returns c =
     let r = c.requires.stuck in
     let within : start < length ids = let a = c.first_left-start.ensures.within in let b = c.requires.long.0 in omega arith in
     let are = previous_from ids E L previous start c.requires.least within c.first_left-start.ensures.left (fed_by_stuck ids M E L r.0 r.2 r.1) in
-    let w = c.in_ok-home.ensures.reached in
+    let w = c.in_ok-place.ensures.reached in
+    let v = c.least_within-home.ensures.reached in
+    let reached = back_more previous w.0 v.0 start ∙ ap (back previous v.0) w.1 ∙ v.2 in
     IfOk-weaker c.steps_round.result _ _
-    (λ steps made. printed ids E L previous c.requires.ascending r.0 r.2 M start w.0 c.in_ok-home.home steps.items
-    are within c.first_left-start.ensures.left c.first_left-start.ensures.first w.1 (made r.0) r.1)
+    (λ steps made. printed ids E L previous c.requires.ascending r.0 r.2 M start (w.0 + v.0) c.least_within-home.result steps.items
+    are within c.first_left-start.ensures.left c.first_left-start.ensures.first reached (made r.0) r.1)
     c.steps_round.ensures

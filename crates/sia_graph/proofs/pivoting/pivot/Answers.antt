@@ -8,21 +8,21 @@ pub firsts-requires-clause-ins : goal.firsts-requires-clause-ins
 firsts-requires-clause-ins c =
     let h = c.args.ix.now in
     subst (λ (ts : List ℕ). ListsAscending (λ t. IsVulnerable h t c.args.txn) ts) (sym (c.deref.ensures.value ∙ c.in_ok-ins.ensures))
-    (others_listed (λ t u. IsVulnerable h u t) c.args.into.now c.requires.into c.args.txn c.links_at.result.now c.links_at.ensures)
+    (others_listed (λ t u. IsVulnerable h u t) c.requires.into.0 c.requires.into.1 c.args.txn c.args.into.now c.requires.into.2)
 
 pub firsts-requires-clause-outs : goal.firsts-requires-clause-outs
 firsts-requires-clause-outs c =
     let h = c.args.ix.now in
     subst (λ (ts : List ℕ). ListsAscending (IsVulnerable h c.args.txn) ts) (sym (c.deref-2.ensures.value ∙ c.in_ok-outs.ensures))
-    (others_listed (IsVulnerable h) c.args.out.now c.requires.out c.args.txn c.links_at-2.result.now c.links_at-2.ensures)
+    (others_listed (IsVulnerable h) c.requires.out.0 c.requires.out.1 c.args.txn c.args.out.now c.requires.out.2)
 
 pub returns-clause-neighbours : goal.returns-clause-neighbours
 returns-clause-neighbours c =
     let h = c.args.ix.now in
     record {
       ins = subst (λ (ts : List ℕ). ListsAscending (λ t. IsVulnerable h t c.args.txn) ts) (sym (c.new.ensures ∙ c.in_ok-ins.ensures))
-          (others_listed (λ t u. IsVulnerable h u t) c.args.into.now c.requires.into c.args.txn c.links_at.result.now c.links_at.ensures);
+          (others_listed (λ t u. IsVulnerable h u t) c.requires.into.0 c.requires.into.1 c.args.txn c.args.into.now c.requires.into.2);
       outs = subst (λ (ts : List ℕ). ListsAscending (IsVulnerable h c.args.txn) ts) (sym (c.new-2.ensures ∙ c.in_ok-outs.ensures))
-          (others_listed (IsVulnerable h) c.args.out.now c.requires.out c.args.txn c.links_at-2.result.now c.links_at-2.ensures);
+          (others_listed (IsVulnerable h) c.requires.out.0 c.requires.out.1 c.args.txn c.args.out.now c.requires.out.2);
       firsts = subst (λ (ts : List ℕ). ListsAscending (IsFirst h c.args.txn) ts) (sym c.new-3.ensures) c.in_ok-firsts.ensures;
     }

@@ -1,5 +1,5 @@
 -- The least structure by numbers is the least one.
-use Rattle.std.proofs.Common.{◌≤◌, length, get_or, subst, sym, arith}
+use Rattle.std.proofs.Common.{◌<◌, ◌≤◌, length, get_or, subst, sym, arith}
 use Rattle.std.proofs.lemmas.List.Elements.{All-contains_itself}
 use Rattle.sia_graph.specs.declared.pivoting.lifetimes.Lifetime.{Lifetime}
 use Rattle.sia_graph.specs.Early.{IsLeastPivot}
@@ -52,13 +52,22 @@ bounds-lifetimes-last c =
     let below = last_number h e.txns.now e.keys.now looks c.requires.evidence limits c.in_ok-limits.ensures pivot last least c.if-last.false in
     omega arith
 
-pub least_first-requires-clause-few : goal.least_first-requires-clause-few
-least_first-requires-clause-few c =
+pub least_first-requires-clause-long : goal.least_first-requires-clause-long
+least_first-requires-clause-long c =
+    let e = c.args.evidence.now in
+    (subst (AreLifetimes e.index.now e.txns.now) (sym c.as_slice-lifetimes.ensures.value) c.in_ok-spans.ensures).long
+
+pub least_first-requires-clause-pivot : goal.least_first-requires-clause-pivot
+least_first-requires-clause-pivot c =
     let e = c.args.evidence.now in
     let h = e.index.now in
-    let lifetimes = c.as_slice-lifetimes.result.now in
+    let looks = e.looks.now in
+    let limits = c.in_ok-limits.limits.items in
+    let pivot = c.in_ok-pivot.pivot in
+    let last = c.in_ok-pivot.last in
+    let least = subst (λ xs. IsLeastPivot looks xs pivot last) c.deref.ensures.value c.in_ok-pivot.ensures in
     let lived = subst (AreLifetimes h e.txns.now) (sym c.as_slice-lifetimes.ensures.value) c.in_ok-spans.ensures in
-    subst (λ n. n ≤ 1000000000) (sym lived.long) (few_txns h e.txns.now e.keys.now e.looks.now c.requires.evidence)
+    subst (λ n. pivot < n) (sym lived.long) (pivot_number h e.txns.now e.keys.now looks c.requires.evidence limits c.in_ok-limits.ensures pivot last least c.if-last.false)
 
 pub with_keys-requires-clause-within : goal.with_keys-requires-clause-within
 with_keys-requires-clause-within c =

@@ -1,45 +1,56 @@
--- By the least rank of those who saw what was before each version.
-use Rattle.std.proofs.Common.{◌≡◌, ◌<◌, get_or, subst, sym, arith}
-use Rattle.std.specs.Prelude.{All, Contains}
-use Rattle.std.proofs.lemmas.List.Elements.{All-contains_itself}
+-- One version more each time.
+use Rattle.std.proofs.Common.{◌+◌, ◌<◌, ◌≤◌, ℕ, List, get_or, subst, sym, take, ◌∙◌, arith}
+use Rattle.std.proofs.lemmas.Bool.{false≢true}
+use Rattle.std.proofs.lemmas.List.{take_all}
 use Rattle.sia_parts.specs.declared.looks.Look.{Look}
-use Rattle.sia_graph.specs.Limits.{IsWithinLimit}
+use Rattle.sia_parts.specs.Sights.{FromSome}
+use Rattle.sia_graph.specs.Early.{IsEarly}
 use Rattle.sia_graph.specs.Ranks.{IsLeastRank}
-use Rattle.sia_graph.proofs.EvidenceNumbers.{absent_keys, few_keys_here, few_txns, made_commits, writer_key}
+use Rattle.sia_graph.proofs.EvidenceNumbers.{few_txns, made_at}
+use Rattle.sia_graph.proofs.LeastRanks.{least_same}
+use Rattle.sia_graph.proofs.LimitRanks.{IsMadeWithin, made_more, made_same}
+use Rattle.sia_graph.proofs.narrow.limits.least_early.Goals.{then-is_within, else-is_within}
 use Rattle.sia_graph.proofs.narrow.limits.least_early.Goals as goal
 
-pub overflow_cast-size : goal.overflow_cast-size
-overflow_cast-size c =
+abbrev none : Look
+none = record { txn = 0; key = 0; low = 0; high = 0 }
+
+pub is_within-requires-clause-are : goal.is_within-requires-clause-are
+is_within-requires-clause-are c = (c.args.evidence.now.looks.now, c.args.limits.now, c.in_ok-earlier.ensures.made)
+
+pub is_within-requires-clause-key : goal.is_within-requires-clause-key
+is_within-requires-clause-key c =
     let e = c.args.evidence.now in
-    let few = few_keys_here e.index.now e.txns.now e.keys.now e.looks.now c.requires in
+    let at = made_at e.index.now e.txns.now e.keys.now e.looks.now c.requires c.as_slice-writers.result.now c.as_slice-writers.ensures.value c.loop-made.made-index none c.loop-made-test.true in
+    let size = c.in_ok-earlier.ensures.size in
+    let below = at.0 in
     omega arith
 
-pub of-requires-clause-few : goal.of-requires-clause-few
-of-requires-clause-few c = let e = c.args.evidence.now in few_keys_here e.index.now e.txns.now e.keys.now e.looks.now c.requires
-
-pub of-requires-clause-within : goal.of-requires-clause-within
-of-requires-clause-within c k d l =
+pub loop-made-preserved : goal.loop-made-preserved
+loop-made-preserved c =
     let e = c.args.evidence.now in
-    absent_keys e.index.now e.txns.now e.keys.now e.looks.now c.requires (get_or e.looks.now.absences.items k d) (All-contains_itself e.looks.now.absences.items k d l)
-
-pub least_within-least-requires-clause-are : goal.least_within-least-requires-clause-are
-least_within-least-requires-clause-are c = (c.args.evidence.now.looks.now, c.args.limits.now, c.in_ok-earlier.ensures.made)
-
-pub least_within-least-requires-clause-within : goal.least_within-least-requires-clause-within
-least_within-least-requires-clause-within c =
-    let e = c.args.evidence.now in
-    let earlier = c.in_ok-earlier.earlier in
-    subst (All (λ (made : Look). (made.key < earlier.size) × (made.txn < 4294967295))) (sym c.deref.ensures.value)
-    (λ k d l.
-    let has = All-contains_itself e.looks.now.writers.items k d l in
-    let made = get_or e.looks.now.writers.items k d in
-    let few = few_txns e.index.now e.txns.now e.keys.now e.looks.now c.requires in
-    let below = (made_commits e.index.now e.txns.now e.keys.now e.looks.now c.requires made has).0 in
-    (subst (λ n. made.key < n) (sym c.in_ok-earlier.ensures.size) (writer_key e.index.now e.txns.now e.keys.now e.looks.now c.requires made has), omega arith))
+    let looks = e.looks.now in
+    let limits = c.args.limits.now in
+    let n = c.loop-made.made-index in
+    let writers = c.as_slice-writers.result.now in
+    let below = c.loop-made-test.true in
+    let least = c.loop-made.least in
+    let before = c.loop-made.invariant in
+    let test = c.is_within.ensures looks limits c.in_ok-earlier.ensures.made in
+    let Made = λ (r : ℕ). IsLeastRank (FromSome (IsMadeWithin looks limits) (take (n + 1) writers)) r in
+    elim c.if-is_within.branch [
+      | then-is_within w ↦
+          let few = few_txns e.index.now e.txns.now e.keys.now looks c.requires in
+          let at = (made_at e.index.now e.txns.now e.keys.now looks c.requires writers c.as_slice-writers.ensures.value n none below).1 in
+          subst Made (sym (w.least-is ∙ w.min-least.ensures)) (made_more looks limits writers n none below least before (omega arith) (test.0 w.if-is_within.true))
+      | else-is_within w ↦ subst Made (sym w.least-is) (made_same looks limits writers n none below least before (λ within. false≢true (sym w.if-is_within.false ∙ test.1 within)))
+    ]
 
 pub returns : goal.returns
 returns c =
     let looks = c.args.evidence.now.looks.now in
     let limits = c.args.limits.now in
-    subst (λ xs. IsLeastRank (λ j. (made : Look) × Contains xs made × (made.txn ≡ j) × IsWithinLimit looks limits made) c.least_within-least.result) c.deref.ensures.value
-    (c.least_within-least.ensures looks limits c.in_ok-earlier.ensures.made)
+    let least = c.loop-made.least in
+    let all = subst (λ (xs : List Look). IsLeastRank (FromSome (IsMadeWithin looks limits) xs) least)
+    (take_all c.loop-made.made-index c.as_slice-writers.result.now c.loop-made-test.false ∙ c.as_slice-writers.ensures.value) c.loop-made.invariant in
+    least_same (FromSome (IsMadeWithin looks limits) looks.writers.items) (IsEarly looks limits) least (λ j has. (has.0, has.1, has.2.0, has.2.1)) (λ j has. (has.0, has.1, (has.2, has.3))) all

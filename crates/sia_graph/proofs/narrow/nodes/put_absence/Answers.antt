@@ -10,7 +10,7 @@ pub put_txn-requires : goal.put_txn-requires
 put_txn-requires c =
     subst (λ xs. All (λ (b : ℕ). b < length c.args.nodes.now) xs) (sym c.deref.ensures.value)
     (λ k d l. elim (c.in_ok-put_blocks.ensures.within _ (All-contains_itself c.put_blocks.new.blocks.items k d l)) [
-      | inl old ↦ absurd (let e = rw c.new-blocks.ensures.items at old in let none = e.1 in omega arith)
+      | inl old ↦ absurd (let e = rw c.clear.ensures.items at old in let none = e.1 in omega arith)
       | inr new ↦ let long = c.requires.long in omega arith
     ])
 
@@ -23,13 +23,13 @@ returns c absences are =
     nodes_more absences c.args.absence c.args.ranks.now c.args.size c.args.nodes.now c.put_txn.new.nodes blocks
     (λ j l. (
       (λ under. elim ((c.in_ok-put_blocks.ensures.over j l).0 under) [
-        | inl old ↦ absurd (let e = rw c.new-blocks.ensures.items at old.1 in let none = e.1 in omega arith)
+        | inl old ↦ absurd (let e = rw c.clear.ensures.items at old.1 in let none = e.1 in omega arith)
         | inr new ↦ new
       ]),
       (λ keys. (c.in_ok-put_blocks.ensures.over j l).1 (inr keys)),
     ))
     (λ b has. elim (c.in_ok-put_blocks.ensures.within b has) [
-      | inl old ↦ absurd (let e = rw c.new-blocks.ensures.items at old in let none = e.1 in omega arith)
+      | inl old ↦ absurd (let e = rw c.clear.ensures.items at old in let none = e.1 in omega arith)
       | inr new ↦ let long = c.requires.long in let same = c.put_txn.auto.nodes in (new.0, omega arith)
     ])
     (sym c.put_txn.auto.nodes)

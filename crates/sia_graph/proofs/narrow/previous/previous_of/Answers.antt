@@ -1,32 +1,79 @@
-use Rattle.std.proofs.Common.{length, subst, sym, arith}
-use Rattle.sia_graph.specs.Previous.{AreWithin}
+use Rattle.std.proofs.Common.{◌≡◌, ◌+◌, ◌<◌, ℕ, List, length, get_or, min, sym, ap, ◌∙◌, subst, arith}
+use Rattle.std.specs.Prelude.{All}
+use Rattle.sia_parts.specs.declared.looks.Look.{Look}
+use Rattle.sia_graph.specs.Previous.{AreLeftRanks, AreLowered, AreWithin, IsPlaceOf}
+use Rattle.sia_graph.specs.Sources.{AreLeastOfSources}
 use Rattle.sia_graph.proofs.EvidenceEdges.{few_txns}
-use Rattle.sia_graph.proofs.PreviousEdges.{few_written, are_within, least_sources_are, previous_within}
+use Rattle.sia_graph.proofs.Previous.{left_apart, previous_is}
+use Rattle.sia_graph.proofs.PreviousEdges.{are_within, least_sources_are}
 use Rattle.sia_graph.proofs.narrow.previous.previous_of.Goals as goal
 
-pub overflow_cast-size : goal.overflow_cast-size
-overflow_cast-size c =
+pub ranks_of-requires : goal.ranks_of-requires
+ranks_of-requires c =
     let e = c.args.evidence.now in
-    let few = few_written e.index.now e.txns.now e.keys.now e.looks.now c.requires.is in
+    let few = few_txns e.index.now e.txns.now e.keys.now e.looks.now c.requires.is in
+    let long = c.requires.long in
     omega arith
 
-pub least_left-requires-clause-few : goal.least_left-requires-clause-few
-least_left-requires-clause-few c =
-    let e = c.args.evidence.now in
-    let few = few_written e.index.now e.txns.now e.keys.now e.looks.now c.requires.is in
-    let also = few_txns e.index.now e.txns.now e.keys.now e.looks.now c.requires.is in
-    let long = c.requires.long in
-    (omega arith, few)
+pub ranks_of_sources-requires-clause-long : goal.ranks_of_sources-requires-clause-long
+ranks_of_sources-requires-clause-long c = ap (length {A = ℕ}) c.deref-2.ensures.value ∙ c.in_ok-ranks.ensures.long ∙ c.requires.long
 
-pub least_left-requires-clause-within : goal.least_left-requires-clause-within
-least_left-requires-clause-within c =
-    let e = c.args.evidence.now in
-    subst (λ n. AreWithin e.looks.now n (length e.keys.now)) (sym c.requires.long) (are_within e.index.now e.txns.now e.keys.now e.looks.now c.requires.is)
+pub ranks_of_sources-requires-clause-apart : goal.ranks_of_sources-requires-clause-apart
+ranks_of_sources-requires-clause-apart c =
+    left_apart c.args.left.now c.deref-2.result.now (subst (AreLeftRanks c.args.left.now) (sym c.deref-2.ensures.value) c.in_ok-ranks.ensures.each)
 
-pub returns-clause-within : goal.returns-clause-within
-returns-clause-within c = previous_within c.args.evidence.now.looks.now c.args.left.now c.in_ok-previous.previous.items c.in_ok-previous.ensures.long c.in_ok-previous.ensures.each
+pub lower-requires-clause-within : goal.lower-requires-clause-within
+lower-requires-clause-within c =
+    let e = c.args.evidence.now in
+    let within = are_within e.index.now e.txns.now e.keys.now e.looks.now c.requires.is in
+    let long = ap (length {A = ℕ}) c.as_mut_slice-least.ensures.value ∙ c.in_ok-sources.ensures.0 ∙ ap (length {A = ℕ}) c.deref-2.ensures.value ∙ c.in_ok-ranks.ensures.long ∙ c.requires.long in
+    subst (λ n. All (λ (look : Look). (look.txn < n) × (look.high + 0 < 4294967296)) c.as_slice-writers.result.now) (sym long)
+    (subst (All (λ (look : Look). (look.txn < length e.txns.now) × (look.high + 0 < 4294967296))) (sym c.as_slice-writers.ensures.value) within.writers)
+
+pub lower-requires-2-clause-within : goal.lower-requires-2-clause-within
+lower-requires-2-clause-within c =
+    let e = c.args.evidence.now in
+    let within = are_within e.index.now e.txns.now e.keys.now e.looks.now c.requires.is in
+    let first = c.lower.ensures c.as_slice-writers.result.now c.deref.result.now c.in_ok-rows.ensures in
+    let long = first.0 ∙ ap (length {A = ℕ}) c.as_mut_slice-least.ensures.value ∙ c.in_ok-sources.ensures.0 ∙ ap (length {A = ℕ}) c.deref-2.ensures.value ∙ c.in_ok-ranks.ensures.long ∙ c.requires.long in
+    subst (λ n. All (λ (look : Look). (look.txn < n) × (look.high + 1 < 4294967296)) c.deref-3.result.now) (sym long)
+    (subst (All (λ (look : Look). (look.txn < length e.txns.now) × (look.high + 1 < 4294967296))) (sym c.deref-3.ensures.value) within.readers)
+
+pub returns-clause-long : goal.returns-clause-long
+returns-clause-long c =
+    let first = c.lower.ensures c.as_slice-writers.result.now c.deref.result.now c.in_ok-rows.ensures in
+    let second = c.lower-2.ensures c.as_slice-writers.result.now c.deref.result.now c.in_ok-rows.ensures in
+    c.in_ok-previous.ensures.long ∙ second.0 ∙ first.0 ∙ ap (length {A = ℕ}) c.as_mut_slice-least.ensures.value ∙ c.in_ok-sources.ensures.0 ∙ ap (length {A = ℕ}) c.deref-2.ensures.value ∙ c.in_ok-ranks.ensures.long
 
 pub returns-clause-least : goal.returns-clause-least
 returns-clause-least c =
     let e = c.args.evidence.now in
-    least_sources_are e.index.now e.txns.now e.keys.now e.looks.now c.requires.is c.args.left.now c.requires.long c.in_ok-previous.previous.items c.in_ok-previous.ensures.each
+    let looks = e.looks.now in
+    let left = c.args.left.now in
+    let ranks = c.in_ok-ranks.ranks.items in
+    let old = c.as_mut_slice-least.result.now in
+    let mid = c.lower.new.least in
+    let new = c.lower-2.new.least in
+    let writers = c.as_slice-writers.result.now in
+    let sources = subst (AreLeastOfSources looks ranks) (sym c.as_mut_slice-least.ensures.value) (subst (λ rs. AreLeastOfSources looks rs c.in_ok-sources.sources.items) c.deref-2.ensures.value c.in_ok-sources.ensures) in
+    let first = subst (λ (ws : List Look). AreLowered ws ranks 0 ws old mid) c.as_slice-writers.ensures.value
+    (subst (λ rs. AreLowered writers rs 0 writers old mid) c.deref.ensures.value (c.lower.ensures writers c.deref.result.now c.in_ok-rows.ensures)) in
+    let second = subst (λ (ws : List Look). AreLowered ws ranks 1 looks.readers.items mid new) c.as_slice-writers.ensures.value
+    (subst (λ (ls : List Look). AreLowered writers ranks 1 ls mid new) c.deref-3.ensures.value
+    (subst (λ rs. AreLowered writers rs 1 c.deref-3.result.now mid new) c.deref.ensures.value (c.lower-2.ensures writers c.deref.result.now c.in_ok-rows.ensures))) in
+    let long_left = c.requires.long in
+    let few = few_txns e.index.now e.txns.now e.keys.now looks c.requires.is in
+    let within = subst (λ n. AreWithin looks n (length e.keys.now)) (sym c.requires.long) (are_within e.index.now e.txns.now e.keys.now looks c.requires.is) in
+    least_sources_are e.index.now e.txns.now e.keys.now looks c.requires.is left c.requires.long c.in_ok-previous.previous.items
+    (λ t l.
+    let at_ranks = subst (λ n. t < n) (sym c.in_ok-ranks.ensures.long) l in
+    let at_old = subst (λ n. t < n) (sym sources.0) at_ranks in
+    let at_mid = subst (λ n. t < n) (sym first.0) at_old in
+    let written = first.1 t at_old in
+    let seen = second.1 t at_mid in
+    let is_mid = written.2 in
+    let is_new = seen.2 in
+    let same : get_or new t 0 ≡ min (min written.0 seen.0) (get_or old t 0) = omega arith in
+    previous_is looks left (length e.keys.now) within (omega arith) ranks c.in_ok-ranks.ensures.each
+    t written.0 seen.0 (get_or old t 0) (get_or c.in_ok-previous.previous.items t 0) written.1 seen.1 (sources.1 t at_ranks)
+    (subst (λ m. IsPlaceOf m t (get_or c.in_ok-previous.previous.items t 0)) same (c.in_ok-previous.ensures.each t (subst (λ n. t < n) (sym second.0) at_mid))))

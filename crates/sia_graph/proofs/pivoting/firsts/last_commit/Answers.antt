@@ -6,8 +6,8 @@ use Rattle.sia_graph.proofs.pivoting.firsts.last_commit.Goals.{in-Some, in_defau
 pub loop-txn-preserved : goal.loop-txn-preserved
 loop-txn-preserved c =
     let h = c.args.ix.now in
-    elim c.match-commit_of.branch [
-      | in-Some w ↦ last_more h c.law.ensures c.args.txns.now c.loop-txn.txn-index c.loop-txn.last w.in-Some.commit c.match-commit_of.last c.loop-txn.invariant w.in-Some.ensures (subst (λ n. ((c.loop-txn.last ≤ w.in-Some.commit) × (n ≡ w.in-Some.commit)) ⊎ ((w.in-Some.commit ≤ c.loop-txn.last) × (n ≡ c.loop-txn.last))) (sym (w.last-is ∙ w.max-last.ensures)) (max_is c.loop-txn.last w.in-Some.commit))
+    elim c.match-lifetime_of.branch [
+      | in-Some w ↦ last_more h c.law.ensures c.args.txns.now c.loop-txn.txn-index c.loop-txn.last w.in-Some.lifetime.commit c.match-lifetime_of.last c.loop-txn.invariant w.in-Some.ensures.1 (subst (λ n. ((c.loop-txn.last ≤ w.in-Some.lifetime.commit) × (n ≡ w.in-Some.lifetime.commit)) ⊎ ((w.in-Some.lifetime.commit ≤ c.loop-txn.last) × (n ≡ c.loop-txn.last))) (sym (w.last-is ∙ w.max-last.ensures)) (max_is c.loop-txn.last w.in-Some.lifetime.commit))
       | in_default w ↦ subst (IsLastTo h c.args.txns.now (c.loop-txn.txn-index + 1)) (sym w.last-is) (last_same h c.law.ensures c.args.txns.now c.loop-txn.txn-index c.loop-txn.last c.loop-txn.invariant w.in_default.ensures)
     ]
 
