@@ -22,8 +22,7 @@ use crate::explain::sights::acts_of;
 use crate::explain::steps::push_steps;
 use crate::explain::versions::Recorded;
 use crate::report::lines::{
-    push_bad_read, push_bad_write, push_events, push_isolation, push_serializable, push_ssi,
-    push_unexplained, push_verdict,
+    push_bad_read, push_bad_write, push_events, push_unexplained, push_verdict, push_whether,
 };
 use crate::report::words::{Words, number, push_line};
 use sia_events::{Key, NoMemory, TxnId};
@@ -185,7 +184,8 @@ fn push_head(
         ++ lines.isolation_line (lines.is_empty bad_reads.now && lines.is_empty bad_writes.now)) }
 {
     push_events(out, counts)?;
-    push_isolation(out, bad_reads.is_empty() && bad_writes.is_empty())?;
+    let kept = bad_reads.is_empty() && bad_writes.is_empty();
+    push_whether(out, b"isolation", kept, b"kept", b"broken")?;
     Ok(())
 }
 
@@ -230,9 +230,9 @@ pub(crate) fn explained(
 {
     let mut out = Vec::new(alloc);
     push_findings(&mut out, of, j)?;
-    push_ssi(&mut out, j.pass)?;
+    push_whether(&mut out, b"ssi", j.pass, b"pass", b"fail")?;
     push_danger(alloc, &mut out, of, evidence, is_told(j))?;
-    push_serializable(&mut out, j.serializable)?;
+    push_whether(&mut out, b"serializable", j.serializable, b"yes", b"no")?;
     push_verdict_reasons(alloc, &mut out, of, &j.verdict)?;
     Ok(out)
 }

@@ -1,5 +1,5 @@
 // The lines of a report.
-ghost use Rattle.std.specs.Prelude.{◌≡◌, ◌++◌, flat_map, OnOk};
+ghost use Rattle.std.specs.Prelude.{◌≡◌, ◌++◌, ◌∷◌, [], if◌then◌else◌, flat_map, OnOk};
 ghost use Rattle.si_audit.specs.Lines as lines;
 ghost use Rattle.si_audit.specs.Spaced.{spaced};
 
@@ -42,28 +42,17 @@ pub(crate) fn push_events(out: &mut Vec<u8>, n: &Counts) -> Result<(), AllocErro
     push_line(out, b"events", &words)
 }
 
-/// Whether isolation was kept.
-pub(crate) fn push_isolation(out: &mut Vec<u8>, kept: bool) -> Result<(), AllocError>
-    ensures { OnOk result (out.new.items ≡ out.old.items ++ lines.isolation_line kept) }
+/// Whether something holds, by the one word or by the other.
+pub(crate) fn push_whether(
+    out: &mut Vec<u8>,
+    first: &[u8],
+    holds: bool,
+    yes: &[u8],
+    no: &[u8],
+) -> Result<(), AllocError>
+    ensures { OnOk result (out.new.items ≡ out.old.items ++ lines.line (first.now ∷ (if holds then yes.now else no.now) ∷ [])) }
 {
-    let word: &[u8] = if kept { b"kept" } else { b"broken" };
-    push_line(out, b"isolation", &[Words::Text(word)])
-}
-
-/// Whether the test of serializable snapshot isolation is passed.
-pub(crate) fn push_ssi(out: &mut Vec<u8>, pass: bool) -> Result<(), AllocError>
-    ensures { OnOk result (out.new.items ≡ out.old.items ++ lines.ssi_line pass) }
-{
-    let word: &[u8] = if pass { b"pass" } else { b"fail" };
-    push_line(out, b"ssi", &[Words::Text(word)])
-}
-
-/// Whether the history is serializable.
-pub(crate) fn push_serializable(out: &mut Vec<u8>, serializable: bool) -> Result<(), AllocError>
-    ensures { OnOk result (out.new.items ≡ out.old.items ++ lines.serializable_line serializable) }
-{
-    let word: &[u8] = if serializable { b"yes" } else { b"no" };
-    push_line(out, b"serializable", &[Words::Text(word)])
+    push_line(out, first, &[Words::Text(if holds { yes } else { no })])
 }
 
 /// One bad read.

@@ -11,8 +11,8 @@ use crate::audit::findings::Audit;
 use crate::audit::judgement::Judgement;
 use crate::cli::form::Form;
 use crate::report::lines::{
-    push_bad_read, push_bad_write, push_edge, push_events, push_isolation, push_pivot,
-    push_serializable, push_ssi, push_unexplained, push_verdict,
+    push_bad_read, push_bad_write, push_edge, push_events, push_pivot, push_unexplained,
+    push_verdict, push_whether,
 };
 use crate::report::listing::Listing;
 use sia_events::NoMemory;
@@ -84,7 +84,8 @@ fn push_front(
         ++ flat_map lines.unexplained_line unexplained.now) }
 {
     push_events(out, counts)?;
-    push_isolation(out, bad_reads.is_empty() && bad_writes.is_empty())?;
+    let kept = bad_reads.is_empty() && bad_writes.is_empty();
+    push_whether(out, b"isolation", kept, b"kept", b"broken")?;
     push_bad_reads(out, bad_reads)?;
     push_bad_writes(out, bad_writes)?;
     push_all_unexplained(out, unexplained)?;
@@ -106,8 +107,8 @@ fn push_back(
         ++ lines.verdict_line verdict.now) }
 {
     push_pivots(out, pivots)?;
-    push_ssi(out, pass)?;
-    push_serializable(out, serializable)?;
+    push_whether(out, b"ssi", pass, b"pass", b"fail")?;
+    push_whether(out, b"serializable", serializable, b"yes", b"no")?;
     push_verdict(out, verdict)?;
     Ok(())
 }
