@@ -1,7 +1,7 @@
 //! The lines of the explained report of a history.
-ghost use Rattle.std.specs.Prelude.{◌≡◌, ◌↔◌, ◌++◌, ◌∷◌, ◌&&◌, ℕ, All, false, List, [], IfOk, IsFalse, IsTrue, OnOk};
+ghost use Rattle.std.specs.Prelude.{◌≡◌, ◌↔◌, ◌++◌, ◌∷◌, ℕ, false, List, [], IfOk, IsFalse, IsTrue, OnOk};
 ghost use Rattle.sia_events.specs.DangerousStructures.{NoFirst};
-ghost use Rattle.sia_events.specs.Isolation.{IsBadRead, IsBadWrite, IsUnexplained, IsolationKept};
+ghost use Rattle.sia_events.specs.Isolation.{IsolationKept};
 ghost use Rattle.sia_events.specs.Transactions.{IsCommitted};
 ghost use Rattle.sia_parts.specs.declared.finding.Edge.{Edge as AnEdge};
 ghost use Rattle.sia_parts.specs.declared.finding.Kind.TheVariants.{Rw};
@@ -13,62 +13,19 @@ ghost use Rattle.sia_graph.specs.declared.pivot.Pivot.{Pivot};
 ghost use Rattle.si_audit.specs.Explained.{IsExplained, TellsAll, TellsDanger, TellsVerdict, WithReasons, dangerous_edges, dangerous_line, edges_round};
 ghost use Rattle.si_audit.specs.Judgements.{IsJudgement, account_with};
 ghost use Rattle.si_audit.specs.Lines as lines;
-ghost use Rattle.si_audit.specs.Reasons.{TellsBadRead, TellsBadWrite, TellsStep, TellsUnexplained};
+ghost use Rattle.si_audit.specs.Reasons.{TellsStep};
 
-use crate::audit::counts::Counts;
 use crate::audit::judgement::Judgement;
-use crate::explain::reads::{push_read_reasons, push_unexplained_reasons, push_write_reasons};
 use crate::explain::sights::acts_of;
 use crate::explain::steps::push_steps;
 use crate::explain::versions::Recorded;
-use crate::report::lines::{
-    push_bad_read, push_bad_write, push_events, push_unexplained, push_verdict, push_whether,
-};
+use crate::report::found::push_front;
+use crate::report::lines::{push_verdict, push_whether};
 use crate::report::words::{Words, number, push_line};
 use sia_events::{Key, NoMemory, TxnId};
 use sia_graph::{Dangerous, Evidence, Step, Verdict, dangerous_of};
-use sia_parts::{BadRead, BadWrite, Edge, Kind, Unexplained};
-use std::alloc::{AllocError, Global};
-
-fn push_bad_reads(out: &mut Vec<u8>, of: &Recorded, found: &[BadRead]) -> Result<(), NoMemory>
-    requires index { of.now.index.now ≡ of.now.history.now }
-    requires found { All (λ b. IsBadRead of.now.history.now b.place b.txn b.key b.saw b.due) found.now }
-    ensures { OnOk result ((bytes : List ℕ) × TellsAll (WithReasons lines.bad_read_line (TellsBadRead of.now.history.now)) found.now bytes × (out.new.items ≡ out.old.items ++ bytes)) }
-{
-    for b in found {
-        push_bad_read(out, b)?;
-        push_read_reasons(out, of, b)?;
-    }
-    Ok(())
-}
-
-fn push_bad_writes(out: &mut Vec<u8>, of: &Recorded, found: &[BadWrite]) -> Result<(), NoMemory>
-    requires index { of.now.index.now ≡ of.now.history.now }
-    requires found { All (λ b. IsBadWrite of.now.history.now b.key b.first b.second) found.now }
-    ensures { OnOk result ((bytes : List ℕ) × TellsAll (WithReasons lines.bad_write_line (TellsBadWrite of.now.history.now)) found.now bytes × (out.new.items ≡ out.old.items ++ bytes)) }
-{
-    for b in found {
-        push_bad_write(out, b)?;
-        push_write_reasons(out, of, b)?;
-    }
-    Ok(())
-}
-
-fn push_all_unexplained(
-    out: &mut Vec<u8>,
-    of: &Recorded,
-    found: &[Unexplained],
-) -> Result<(), NoMemory>
-    requires index { of.now.index.now ≡ of.now.history.now }
-    requires found { All (λ u. IsUnexplained of.now.history.now u.place u.txn u.key u.saw) found.now }
-    ensures { OnOk result ((bytes : List ℕ) × TellsAll (WithReasons lines.unexplained_line (TellsUnexplained of.now.history.now)) found.now bytes × (out.new.items ≡ out.old.items ++ bytes)) }
-{
-    for u in found {
-        push_unexplained(out, u)?;
-        push_unexplained_reasons(out, of, u)?;
-    }
-    Ok(())
-}
+use sia_parts::{Edge, Kind};
+use std::alloc::Global;
 
 /// A dangerous structure, with the reasons of its steps.
 fn push_dangerous(
@@ -172,42 +129,6 @@ fn push_verdict_reasons(
     }
 }
 
-/// The lines before the findings.
-fn push_head(
-    out: &mut Vec<u8>,
-    counts: &Counts,
-    bad_reads: &[BadRead],
-    bad_writes: &[BadWrite],
-) -> Result<(), AllocError>
-    ensures { OnOk result (out.new.items ≡ out.old.items
-        ++ lines.events_line counts.now.events counts.now.committed counts.now.aborted counts.now.unfinished
-        ++ lines.isolation_line (lines.is_empty bad_reads.now && lines.is_empty bad_writes.now)) }
-{
-    push_events(out, counts)?;
-    let kept = bad_reads.is_empty() && bad_writes.is_empty();
-    push_whether(out, b"isolation", kept, b"kept", b"broken")?;
-    Ok(())
-}
-
-/// The findings, with their reasons.
-fn push_findings(out: &mut Vec<u8>, of: &Recorded, j: &Judgement) -> Result<(), NoMemory>
-    requires index { of.now.index.now ≡ of.now.history.now }
-    requires judgement { IsJudgement of.now.history.now j.now }
-    ensures { OnOk result ((reads : List ℕ) × (writes : List ℕ) × (unexplained : List ℕ)
-        × TellsAll (WithReasons lines.bad_read_line (TellsBadRead of.now.history.now)) j.now.bad_reads.items reads
-        × TellsAll (WithReasons lines.bad_write_line (TellsBadWrite of.now.history.now)) j.now.bad_writes.items writes
-        × TellsAll (WithReasons lines.unexplained_line (TellsUnexplained of.now.history.now)) j.now.unexplained.items unexplained
-        × (out.new.items ≡ out.old.items
-        ++ lines.events_line j.now.counts.events j.now.counts.committed j.now.counts.aborted j.now.counts.unfinished
-        ++ lines.isolation_line (lines.is_empty j.now.bad_reads.items && lines.is_empty j.now.bad_writes.items)
-        ++ reads ++ writes ++ unexplained)) }
-{
-    push_head(out, &j.counts, &j.bad_reads, &j.bad_writes)?;
-    push_bad_reads(out, of, &j.bad_reads)?;
-    push_bad_writes(out, of, &j.bad_writes)?;
-    push_all_unexplained(out, of, &j.unexplained)
-}
-
 /// Whether a dangerous structure is told: isolation was kept, and the test fails.
 fn is_told(j: &Judgement) -> bool
     ensures { IsTrue result ↔ ((j.now.pass ≡ false) × (j.now.bad_reads.items ≡ []) × (j.now.bad_writes.items ≡ [])) }
@@ -229,7 +150,14 @@ pub(crate) fn explained(
     ensures { IfOk result (λ sheet. (edges : List AnEdge) (pivots : List Pivot) → IsExplained of.now.history.now (account_with j.now edges pivots) sheet.items) }
 {
     let mut out = Vec::new(alloc);
-    push_findings(&mut out, of, j)?;
+    push_front(
+        &mut out,
+        Some(of),
+        &j.counts,
+        &j.bad_reads,
+        &j.bad_writes,
+        &j.unexplained,
+    )?;
     push_whether(&mut out, b"ssi", j.pass, b"pass", b"fail")?;
     push_danger(alloc, &mut out, of, evidence, is_told(j))?;
     push_whether(&mut out, b"serializable", j.serializable, b"yes", b"no")?;

@@ -7,7 +7,7 @@ use crate::audit::counts::Counts;
 use crate::report::words::{Words, kind_word, number, push_line, push_words, reason_words};
 use sia_events::TextFault;
 use sia_graph::{Pivot, Step, Verdict};
-use sia_parts::{BadRead, BadWrite, Edge, Unexplained};
+use sia_parts::Edge;
 use std::alloc::AllocError;
 
 /// The line of a refused text. Want of memory has none.
@@ -53,43 +53,6 @@ pub(crate) fn push_whether(
     ensures { OnOk result (out.new.items ≡ out.old.items ++ lines.line (first.now ∷ (if holds then yes.now else no.now) ∷ [])) }
 {
     push_line(out, first, &[Words::Text(if holds { yes } else { no })])
-}
-
-/// One bad read.
-pub(crate) fn push_bad_read(out: &mut Vec<u8>, b: &BadRead) -> Result<(), AllocError>
-    ensures { OnOk result (out.new.items ≡ out.old.items ++ lines.bad_read_line b.now) }
-{
-    let words = [
-        number(b.place),
-        number(b.txn),
-        Words::Number(b.key),
-        Words::Text(b"saw"),
-        number(b.saw),
-        Words::Text(b"due"),
-        number(b.due),
-    ];
-    push_line(out, b"bad-read", &words)
-}
-
-/// One bad write.
-pub(crate) fn push_bad_write(out: &mut Vec<u8>, b: &BadWrite) -> Result<(), AllocError>
-    ensures { OnOk result (out.new.items ≡ out.old.items ++ lines.bad_write_line b.now) }
-{
-    let words = [Words::Number(b.key), number(b.first), number(b.second)];
-    push_line(out, b"bad-write", &words)
-}
-
-/// One unexplained read.
-pub(crate) fn push_unexplained(out: &mut Vec<u8>, b: &Unexplained) -> Result<(), AllocError>
-    ensures { OnOk result (out.new.items ≡ out.old.items ++ lines.unexplained_line b.now) }
-{
-    let words = [
-        number(b.place),
-        number(b.txn),
-        Words::Number(b.key),
-        number(b.saw),
-    ];
-    push_line(out, b"unexplained", &words)
 }
 
 /// One edge.

@@ -1,5 +1,5 @@
 // The report of an audit: all its lines.
-ghost use Rattle.std.specs.Prelude.{◌≡◌, ◌++◌, ◌&&◌, List, [], flat_map, IfOk, OnOk};
+ghost use Rattle.std.specs.Prelude.{◌≡◌, ◌++◌, ◌&&◌, List, flat_map, IfOk, OnOk};
 ghost use Rattle.si_audit.specs.Audits.{account_of};
 ghost use Rattle.si_audit.specs.Judgements.{account_with};
 ghost use Rattle.si_audit.specs.Lines as lines;
@@ -10,45 +10,13 @@ use crate::audit::counts::Counts;
 use crate::audit::findings::Audit;
 use crate::audit::judgement::Judgement;
 use crate::cli::form::Form;
-use crate::report::lines::{
-    push_bad_read, push_bad_write, push_edge, push_events, push_pivot, push_unexplained,
-    push_verdict, push_whether,
-};
+use crate::report::found::push_front;
+use crate::report::lines::{push_edge, push_pivot, push_verdict, push_whether};
 use crate::report::listing::Listing;
 use sia_events::NoMemory;
 use sia_graph::{Pivot, Verdict};
-use sia_parts::{BadRead, BadWrite, Edge, Unexplained};
+use sia_parts::Edge;
 use std::alloc::{AllocError, Global};
-
-/// How many bytes a line of the report mostly needs.
-const LINE: usize = 32;
-
-fn push_bad_reads(out: &mut Vec<u8>, found: &[BadRead]) -> Result<(), AllocError>
-    ensures { OnOk result (out.new.items ≡ out.old.items ++ flat_map lines.bad_read_line found.now) }
-{
-    for b in found {
-        push_bad_read(out, b)?;
-    }
-    Ok(())
-}
-
-fn push_bad_writes(out: &mut Vec<u8>, found: &[BadWrite]) -> Result<(), AllocError>
-    ensures { OnOk result (out.new.items ≡ out.old.items ++ flat_map lines.bad_write_line found.now) }
-{
-    for b in found {
-        push_bad_write(out, b)?;
-    }
-    Ok(())
-}
-
-fn push_all_unexplained(out: &mut Vec<u8>, found: &[Unexplained]) -> Result<(), AllocError>
-    ensures { OnOk result (out.new.items ≡ out.old.items ++ flat_map lines.unexplained_line found.now) }
-{
-    for b in found {
-        push_unexplained(out, b)?;
-    }
-    Ok(())
-}
 
 fn push_edges(out: &mut Vec<u8>, edges: &[Edge]) -> Result<(), AllocError>
     ensures { OnOk result (out.new.items ≡ out.old.items ++ flat_map lines.edge_line edges.now) }
@@ -65,30 +33,6 @@ fn push_pivots(out: &mut Vec<u8>, pivots: &[Pivot]) -> Result<(), AllocError>
     for p in pivots {
         push_pivot(out, p)?;
     }
-    Ok(())
-}
-
-/// The lines before those of the edges.
-fn push_front(
-    out: &mut Vec<u8>,
-    counts: &Counts,
-    bad_reads: &[BadRead],
-    bad_writes: &[BadWrite],
-    unexplained: &[Unexplained],
-) -> Result<(), AllocError>
-    ensures { OnOk result (out.new.items ≡ out.old.items
-        ++ lines.events_line counts.now.events counts.now.committed counts.now.aborted counts.now.unfinished
-        ++ lines.isolation_line (lines.is_empty bad_reads.now && lines.is_empty bad_writes.now)
-        ++ flat_map lines.bad_read_line bad_reads.now
-        ++ flat_map lines.bad_write_line bad_writes.now
-        ++ flat_map lines.unexplained_line unexplained.now) }
-{
-    push_events(out, counts)?;
-    let kept = bad_reads.is_empty() && bad_writes.is_empty();
-    push_whether(out, b"isolation", kept, b"kept", b"broken")?;
-    push_bad_reads(out, bad_reads)?;
-    push_bad_writes(out, bad_writes)?;
-    push_all_unexplained(out, unexplained)?;
     Ok(())
 }
 
@@ -114,7 +58,7 @@ fn push_back(
 }
 
 /// All lines of an audit.
-fn push_report(out: &mut Vec<u8>, a: &Audit) -> Result<(), AllocError>
+fn push_report(out: &mut Vec<u8>, a: &Audit) -> Result<(), NoMemory>
     ensures { OnOk result (out.new.items ≡ out.old.items ++ lines.report_text Form.Full (account_of a.now)) }
 {
     let counts = Counts {
@@ -126,6 +70,7 @@ fn push_report(out: &mut Vec<u8>, a: &Audit) -> Result<(), AllocError>
     let found = &a.findings;
     push_front(
         out,
+        None,
         &counts,
         &found.bad_reads,
         &found.bad_writes,
@@ -136,27 +81,18 @@ fn push_report(out: &mut Vec<u8>, a: &Audit) -> Result<(), AllocError>
     Ok(())
 }
 
-/// A buffer with room for most reports with so many edges and bad reads.
-fn buffer(alloc: Global, edges: usize, bad_reads: usize) -> Result<Vec<u8>, AllocError>
-    ensures { IfOk result (λ bytes. bytes.items ≡ []) }
-{
-    let lines = edges.saturating_add(bad_reads);
-    Vec::with_capacity(alloc, lines.saturating_mul(LINE))
-}
-
 /// The lines of the full report.
 pub fn report(alloc: Global, a: &Audit) -> Result<Vec<u8>, NoMemory>
     requires { CanBePrinted (account_of a.now) }
     ensures { IfOk result (λ bytes. bytes.items ≡ lines.report_text Form.Full (account_of a.now)) }
 {
-    let found = &a.findings;
-    let mut out = buffer(alloc, found.edges.len(), found.bad_reads.len())?;
+    let mut out = Vec::new(alloc);
     push_report(&mut out, a)?;
     Ok(out)
 }
 
 /// The lines of a judgement that stand before those of the edges.
-fn front_of(alloc: Global, j: &Judgement) -> Result<Vec<u8>, AllocError>
+fn front_of(alloc: Global, j: &Judgement) -> Result<Vec<u8>, NoMemory>
     ensures { IfOk result (λ sheet. sheet.items ≡
         lines.events_line j.now.counts.events j.now.counts.committed j.now.counts.aborted j.now.counts.unfinished
         ++ lines.isolation_line (lines.is_empty j.now.bad_reads.items && lines.is_empty j.now.bad_writes.items)
@@ -164,9 +100,10 @@ fn front_of(alloc: Global, j: &Judgement) -> Result<Vec<u8>, AllocError>
         ++ flat_map lines.bad_write_line j.now.bad_writes.items
         ++ flat_map lines.unexplained_line j.now.unexplained.items) }
 {
-    let mut sheet = buffer(alloc, j.unexplained.len(), j.bad_reads.len())?;
+    let mut sheet = Vec::new(alloc);
     push_front(
         &mut sheet,
+        None,
         &j.counts,
         &j.bad_reads,
         &j.bad_writes,
@@ -183,7 +120,7 @@ fn back_of(alloc: Global, j: &Judgement, pivots: &[Pivot]) -> Result<Vec<u8>, Al
         ++ lines.serializable_line j.now.serializable
         ++ lines.verdict_line j.now.verdict) }
 {
-    let mut sheet = buffer(alloc, j.counts.committed as usize, pivots.len())?;
+    let mut sheet = Vec::new(alloc);
     push_back(&mut sheet, pivots, j.pass, j.serializable, &j.verdict)?;
     Ok(sheet)
 }

@@ -1,9 +1,11 @@
-use Rattle.si_audit.proofs.Chains.{report_of_pieces}
+use Rattle.si_audit.proofs.Chains.{front_alone, report_of_pieces}
 use Rattle.si_audit.proofs.report.reporting.push_report.Goals as goal
 
 -- what stands before the edges, these, and what stands behind them
 pub returns : goal.returns
 returns c =
+    let told = c.in_ok-push_front.ensures in
     report_of_pieces c.args.out.now.items _ _ _ _ _ _ _ _ _ _ _ _ _ _ _ _ _
     c.deref.ensures.value c.deref-2.ensures.value c.deref-3.ensures.value c.deref-4.ensures.value c.deref-5.ensures.value
-    c.in_ok-push_front.ensures c.in_ok-push_edges.ensures c.in_ok-push_back.ensures
+    (front_alone c.args.out.now.items _ _ _ told.0 told.1 told.2 c.deref.result.now c.deref-2.result.now c.deref-3.result.now told.3 told.4 told.5 told.6)
+    c.in_ok-push_edges.ensures c.in_ok-push_back.ensures

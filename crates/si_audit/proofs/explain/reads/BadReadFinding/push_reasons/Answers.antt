@@ -4,24 +4,24 @@ use Rattle.sia_events.proofs.Seen.{saw_written}
 use Rattle.si_audit.specs.Reasons.{anomaly_words, event_words, reason, start_words}
 use Rattle.si_audit.proofs.Naming.{due_written}
 use Rattle.si_audit.proofs.Pushed.{three_words}
-use Rattle.si_audit.proofs.explain.reads.push_read_reasons.Goals as goal
+use Rattle.si_audit.proofs.explain.reads.BadReadFinding.push_reasons.Goals as goal
 
 pub anomaly_of-name-requires-clause-starts : goal.anomaly_of-name-requires-clause-starts
-anomaly_of-name-requires-clause-starts c = let known = c.in-Some.ensures in subst (λ g. StartsAt g c.args.b.now.txn c.in-Some.info.start) c.requires.index known.0
+anomaly_of-name-requires-clause-starts c = let known = c.in-Some.ensures in subst (λ g. StartsAt g c.args.self.now.txn c.in-Some.info.start) c.requires.index known.0
 
 pub push_unless-requires-clause-wrote : goal.push_unless-requires-clause-wrote
 push_unless-requires-clause-wrote c some =
-    let b = c.args.b.now in
-    let wrote = saw_written c.args.of.now.history.now c.law.ensures b.place b.txn b.key b.saw c.requires.bad.0 some in
+    let b = c.args.self.now in
+    let wrote = saw_written c.args.of.now.history.now c.law.ensures b.place b.txn b.key b.saw c.requires.found.0 some in
     (wrote.0, wrote.2)
 
 pub push_unless-requires-2-clause-wrote : goal.push_unless-requires-2-clause-wrote
-push_unless-requires-2-clause-wrote c some = let b = c.args.b.now in due_written c.args.of.now.history.now b.txn b.place b.key b.due c.requires.bad.1 some
+push_unless-requires-2-clause-wrote c some = let b = c.args.self.now in due_written c.args.of.now.history.now b.txn b.place b.key b.due c.requires.found.1 some
 
 pub returns : goal.returns
 returns c =
     let h = c.args.of.now.history.now in
-    let b = c.args.b.now in
+    let b = c.args.self.now in
     let s = c.in-Some.info.start in
     let name = c.anomaly_of-name.result in
     let saw = c.in_ok-push_unless.ensures in

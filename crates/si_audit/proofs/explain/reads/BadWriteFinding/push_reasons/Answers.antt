@@ -3,17 +3,17 @@ use Rattle.sia_events.specs.declared.event.Event.TheVariants.{Write}
 use Rattle.sia_events.specs.Transactions.{HasEvent, StartsAt}
 use Rattle.si_audit.specs.Reasons.{reason, start_words}
 use Rattle.si_audit.proofs.Pushed.{two_things}
-use Rattle.si_audit.proofs.explain.reads.push_write_reasons.Goals as goal
+use Rattle.si_audit.proofs.explain.reads.BadWriteFinding.push_reasons.Goals as goal
 
 pub returns-in_default : goal.returns-in_default
 returns-in_default c =
-    let b = c.args.b.now in
-    let wrote = c.requires.bad.1 in
+    let b = c.args.self.now in
+    let wrote = c.requires.found.1 in
     absurd (c.in_default.ensures (subst (λ h. HasEvent h b.second) (sym c.requires.index) (wrote.0, (Write b.second b.key, wrote.1, refl))))
 
 pub returns : goal.returns
 returns c =
-    let b = c.args.b.now in
+    let b = c.args.self.now in
     let s = c.in-Some.info.start in
     let first = c.in_ok-push_version.ensures in
     let second = c.in_ok-push_version-2.ensures in
