@@ -1,6 +1,6 @@
 //! The command line: how many workers share the parts of the keys, where the keys are cut, the form of the report, and the
 //! level that the status tells of.
-ghost use Rattle.std.specs.Prelude.{◌≡◌, ◌≢◌, ◌<◌, ◌≤◌, false, All, Err, IfErr, IfOk, None, Some, map, string_bytes};
+ghost use Rattle.std.specs.Prelude.{◌≡◌, ◌≢◌, ◌<◌, ◌≤◌, false, Err, IfErr, IfOk, None, Some, map, string_bytes};
 ghost use Rattle.clap.specs.Words.{IsUnsignedIn, app_of, found_of, kind_of, new_rule, rows_of, rule_of};
 ghost use Rattle.clap.specs.declared.builder.action.ArgAction.TheVariants.{Count};
 ghost use Rattle.clap.specs.declared.error.kind.ErrorKind.TheVariants.{OutOfMemory};
@@ -261,22 +261,14 @@ fn cuts_in(alloc: Global, matches: &ArgMatches<'_>) -> Result<Vec<Key>, AllocErr
     requires { HasNumbers (rows_of (found_of matches.now)) }
     ensures { IfOk result (λ cuts. cuts.items ≡ cuts_among (rows_of (found_of matches.now))) }
 {
-    match matches.get_strs("cut") {
-        Some(texts) => numbers(alloc, texts),
-        None => Ok(Vec::new(alloc)),
-    }
-}
-
-/// The numbers of texts, in their order.
-fn numbers(alloc: Global, texts: &[&str]) -> Result<Vec<u64>, AllocError>
-    requires { All (λ t. IsUnsignedIn 0 18446744073709551615 t.now) texts.now }
-    ensures { IfOk result (λ numbers. numbers.items ≡ map (λ t. number_in t.now) texts.now) }
-{
-    let mut numbers = Vec::with_capacity(alloc, texts.len())?;
+    let Some(texts) = matches.get_strs("cut") else {
+        return Ok(Vec::new(alloc));
+    };
+    let mut cuts = Vec::with_capacity(alloc, texts.len())?;
     for text in texts {
-        numbers.push(number(text))?;
+        cuts.push(number(text))?;
     }
-    Ok(numbers)
+    Ok(cuts)
 }
 
 /// The number that a text is.

@@ -1,50 +1,15 @@
 //! The lines of bad reads, bad writes and unexplained reads, and what stands below.
-ghost use Rattle.std.specs.Prelude.{◌≡◌, ◌++◌, OnOk, codes};
 ghost use Rattle.sia_events.specs.Isolation.{IsBadRead, IsBadWrite, IsUnexplained};
 ghost use Rattle.si_audit.specs.Lines as lines;
 ghost use Rattle.si_audit.specs.Reasons as reasons;
 
 use crate::explain::naming::{anomaly_of, anomaly_words};
-use crate::explain::versions::{
-    Around, Recorded, push_event, push_start, push_unless, push_version,
-};
+use crate::explain::versions::{Recorded, push_event, push_start, push_unless, push_version};
 use crate::report::found::Finding;
 use crate::report::words::{Words, number, push_line};
-use sia_events::{Anomaly, NoMemory};
+use sia_events::NoMemory;
 use sia_parts::{BadRead, BadWrite, Unexplained};
 use std::alloc::AllocError;
-
-const SAW: Around = Around {
-    before: b"  saw: ",
-    behind: b"\n",
-    known: 0,
-};
-
-const DUE: Around = Around {
-    before: b"  due: ",
-    behind: b"\n",
-    known: 0,
-};
-
-/// The name of a bad read, the read, and when its transaction started.
-fn push_name(
-    out: &mut Vec<u8>,
-    of: &Recorded,
-    b: &BadRead,
-    name: Anomaly,
-    start: u32,
-) -> Result<(), NoMemory>
-    ensures { OnOk result (out.new.items ≡ out.old.items ++ reasons.reason (reasons.anomaly_words name ++ codes ": " ++ reasons.event_words of.now.history.now b.now.key b.now.place ++ codes "; " ++ reasons.start_words b.now.txn start)) }
-{
-    out.extend_from_slice(b"  ")?;
-    out.extend_from_slice(anomaly_words(name))?;
-    out.extend_from_slice(b": ")?;
-    push_event(out, of.history, b.key, b.place)?;
-    out.extend_from_slice(b"; ")?;
-    push_start(out, b.txn, start)?;
-    out.extend_from_slice(b"\n")?;
-    Ok(())
-}
 
 impl Finding for BadRead {
     ghost line = { lines.bad_read_line };
@@ -72,9 +37,15 @@ impl Finding for BadRead {
             return Ok(());
         };
         let name = anomaly_of(of, self, info.start);
-        push_name(out, of, self, name, info.start)?;
-        push_unless(out, of, self.key, self.saw, &SAW)?;
-        push_unless(out, of, self.key, self.due, &DUE)?;
+        out.extend_from_slice(b"  ")?;
+        out.extend_from_slice(anomaly_words(name))?;
+        out.extend_from_slice(b": ")?;
+        push_event(out, of.history, self.key, self.place)?;
+        out.extend_from_slice(b"; ")?;
+        push_start(out, self.txn, info.start)?;
+        out.extend_from_slice(b"\n")?;
+        push_unless(out, of, self.key, self.saw, 0, (b"  saw: ", b"\n"))?;
+        push_unless(out, of, self.key, self.due, 0, (b"  due: ", b"\n"))?;
         Ok(())
     }
 }

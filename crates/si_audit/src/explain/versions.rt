@@ -65,31 +65,24 @@ pub(crate) fn push_version(
     Ok(())
 }
 
-/// The words around a version, and the version that wants no word.
-#[derive(Clone, Copy)]
-pub(crate) struct Around<'a> {
-    pub(crate) before: &'a [u8],
-    pub(crate) behind: &'a [u8],
-    pub(crate) known: Version,
-}
-
-/// The version between its words, unless it wants none.
+/// The version between these words, unless it is the one that is known.
 pub(crate) fn push_unless(
     out: &mut Vec<u8>,
     of: &Recorded,
     key: Key,
     version: Version,
-    around: &Around,
+    known: Version,
+    around: (&[u8], &[u8]),
 ) -> Result<(), NoMemory>
     requires index { of.now.index.now ≡ of.now.history.now }
-    requires wrote { version ≢ around.now.known → Wrote of.now.history.now version key }
-    ensures { OnOk result ((bytes : List ℕ) × TellsUnless around.now.known of.now.history.now around.now.before.now key version around.now.behind.now bytes × (out.new.items ≡ out.old.items ++ bytes)) }
+    requires wrote { version ≢ known → Wrote of.now.history.now version key }
+    ensures { OnOk result ((bytes : List ℕ) × TellsUnless known of.now.history.now around.entry.0.now key version around.entry.1.now bytes × (out.new.items ≡ out.old.items ++ bytes)) }
 {
-    if version == around.known {
+    if version == known {
         return Ok(());
     }
-    out.extend_from_slice(around.before)?;
+    out.extend_from_slice(around.0)?;
     push_version(out, of, key, version)?;
-    out.extend_from_slice(around.behind)?;
+    out.extend_from_slice(around.1)?;
     Ok(())
 }

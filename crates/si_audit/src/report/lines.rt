@@ -4,10 +4,9 @@ ghost use Rattle.si_audit.specs.Lines as lines;
 ghost use Rattle.si_audit.specs.Spaced.{spaced};
 
 use crate::audit::counts::Counts;
-use crate::report::words::{Words, kind_word, number, push_line, push_words, reason_words};
+use crate::report::words::{Words, number, push_line, push_words, reason_words};
 use sia_events::TextFault;
-use sia_graph::{Pivot, Step, Verdict};
-use sia_parts::Edge;
+use sia_graph::{Step, Verdict};
 use std::alloc::AllocError;
 
 /// The line of a refused text. Want of memory has none.
@@ -53,34 +52,6 @@ pub(crate) fn push_whether(
     ensures { OnOk result (out.new.items ≡ out.old.items ++ lines.line (first.now ∷ (if holds then yes.now else no.now) ∷ [])) }
 {
     push_line(out, first, &[Words::Text(if holds { yes } else { no })])
-}
-
-/// One edge.
-pub(crate) fn push_edge(out: &mut Vec<u8>, e: &Edge) -> Result<(), AllocError>
-    ensures { OnOk result (out.new.items ≡ out.old.items ++ lines.edge_line e.now) }
-{
-    let words = [
-        number(e.src),
-        Words::Text(kind_word(e.kind)),
-        number(e.dst),
-        Words::Number(e.key),
-    ];
-    push_line(out, b"edge", &words)
-}
-
-/// One pivot.
-pub(crate) fn push_pivot(out: &mut Vec<u8>, p: &Pivot) -> Result<(), AllocError>
-    ensures { OnOk result (out.new.items ≡ out.old.items ++ lines.pivot_line p.now) }
-{
-    let words = [
-        number(p.txn),
-        Words::Text(b"in"),
-        Words::Numbers(p.ins.as_slice()),
-        Words::Text(b"out"),
-        Words::Numbers(p.outs.as_slice()),
-        Words::Firsts(p.firsts.as_slice()),
-    ];
-    push_line(out, b"pivot", &words)
 }
 
 /// The order, or the cycle.

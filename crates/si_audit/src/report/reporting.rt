@@ -11,8 +11,9 @@ use crate::audit::findings::Audit;
 use crate::audit::judgement::Judgement;
 use crate::cli::form::Form;
 use crate::report::found::push_front;
-use crate::report::lines::{push_edge, push_pivot, push_verdict, push_whether};
+use crate::report::lines::{push_verdict, push_whether};
 use crate::report::listing::Listing;
+use crate::report::words::{Words, kind_word, number, push_line};
 use sia_events::NoMemory;
 use sia_graph::{Pivot, Verdict};
 use sia_parts::Edge;
@@ -22,9 +23,29 @@ fn push_edges(out: &mut Vec<u8>, edges: &[Edge]) -> Result<(), AllocError>
     ensures { OnOk result (out.new.items ≡ out.old.items ++ flat_map lines.edge_line edges.now) }
 {
     for e in edges {
-        push_edge(out, e)?;
+        let words = [
+            number(e.src),
+            Words::Text(kind_word(e.kind)),
+            number(e.dst),
+            Words::Number(e.key),
+        ];
+        push_line(out, b"edge", &words)?;
     }
     Ok(())
+}
+
+fn push_pivot(out: &mut Vec<u8>, p: &Pivot) -> Result<(), AllocError>
+    ensures { OnOk result (out.new.items ≡ out.old.items ++ lines.pivot_line p.now) }
+{
+    let words = [
+        number(p.txn),
+        Words::Text(b"in"),
+        Words::Numbers(p.ins.as_slice()),
+        Words::Text(b"out"),
+        Words::Numbers(p.outs.as_slice()),
+        Words::Firsts(p.firsts.as_slice()),
+    ];
+    push_line(out, b"pivot", &words)
 }
 
 fn push_pivots(out: &mut Vec<u8>, pivots: &[Pivot]) -> Result<(), AllocError>
@@ -57,9 +78,10 @@ fn push_back(
     Ok(())
 }
 
-/// All lines of an audit.
-fn push_report(out: &mut Vec<u8>, a: &Audit) -> Result<(), NoMemory>
-    ensures { OnOk result (out.new.items ≡ out.old.items ++ lines.report_text Form.Full (account_of a.now)) }
+/// The lines of the full report.
+pub fn report(alloc: Global, a: &Audit) -> Result<Vec<u8>, NoMemory>
+    requires { CanBePrinted (account_of a.now) }
+    ensures { IfOk result (λ bytes. bytes.items ≡ lines.report_text Form.Full (account_of a.now)) }
 {
     let counts = Counts {
         events: a.events,
@@ -68,61 +90,18 @@ fn push_report(out: &mut Vec<u8>, a: &Audit) -> Result<(), NoMemory>
         unfinished: a.unfinished,
     };
     let found = &a.findings;
+    let mut out = Vec::new(alloc);
     push_front(
-        out,
+        &mut out,
         None,
         &counts,
         &found.bad_reads,
         &found.bad_writes,
         &found.unexplained,
     )?;
-    push_edges(out, &found.edges)?;
-    push_back(out, &a.pivots, a.pass, a.serializable, &a.verdict)?;
-    Ok(())
-}
-
-/// The lines of the full report.
-pub fn report(alloc: Global, a: &Audit) -> Result<Vec<u8>, NoMemory>
-    requires { CanBePrinted (account_of a.now) }
-    ensures { IfOk result (λ bytes. bytes.items ≡ lines.report_text Form.Full (account_of a.now)) }
-{
-    let mut out = Vec::new(alloc);
-    push_report(&mut out, a)?;
+    push_edges(&mut out, &found.edges)?;
+    push_back(&mut out, &a.pivots, a.pass, a.serializable, &a.verdict)?;
     Ok(out)
-}
-
-/// The lines of a judgement that stand before those of the edges.
-fn front_of(alloc: Global, j: &Judgement) -> Result<Vec<u8>, NoMemory>
-    ensures { IfOk result (λ sheet. sheet.items ≡
-        lines.events_line j.now.counts.events j.now.counts.committed j.now.counts.aborted j.now.counts.unfinished
-        ++ lines.isolation_line (lines.is_empty j.now.bad_reads.items && lines.is_empty j.now.bad_writes.items)
-        ++ flat_map lines.bad_read_line j.now.bad_reads.items
-        ++ flat_map lines.bad_write_line j.now.bad_writes.items
-        ++ flat_map lines.unexplained_line j.now.unexplained.items) }
-{
-    let mut sheet = Vec::new(alloc);
-    push_front(
-        &mut sheet,
-        None,
-        &j.counts,
-        &j.bad_reads,
-        &j.bad_writes,
-        &j.unexplained,
-    )?;
-    Ok(sheet)
-}
-
-/// The lines of a judgement that stand behind those of the edges.
-fn back_of(alloc: Global, j: &Judgement, pivots: &[Pivot]) -> Result<Vec<u8>, AllocError>
-    ensures { IfOk result (λ sheet. sheet.items ≡
-        flat_map lines.pivot_line pivots.now
-        ++ lines.ssi_line j.now.pass
-        ++ lines.serializable_line j.now.serializable
-        ++ lines.verdict_line j.now.verdict) }
-{
-    let mut sheet = Vec::new(alloc);
-    push_back(&mut sheet, pivots, j.pass, j.serializable, &j.verdict)?;
-    Ok(sheet)
 }
 
 /// The lines of a judgement, with what its report tells of the edges and of the pivots.
@@ -130,8 +109,17 @@ pub(crate) fn report_of(alloc: Global, j: &Judgement, t: Listing) -> Result<Vec<
     ensures { IfOk result (λ all. (form : Form) (edges : List Edge) (pivots : List Pivot) → text_of t.sheets.items ≡ flat_map lines.edge_line (lines.told form edges)
         → t.pivots.items ≡ lines.told form pivots → text_of all.items ≡ lines.report_text form (account_with j.now edges pivots)) }
 {
-    let front = front_of(alloc, j)?;
-    let back = back_of(alloc, j, &t.pivots)?;
+    let mut front = Vec::new(alloc);
+    push_front(
+        &mut front,
+        None,
+        &j.counts,
+        &j.bad_reads,
+        &j.bad_writes,
+        &j.unexplained,
+    )?;
+    let mut back = Vec::new(alloc);
+    push_back(&mut back, &t.pivots, j.pass, j.serializable, &j.verdict)?;
     let mut sheets = t.sheets;
     sheets.insert(0, front)?;
     sheets.push(back)?;

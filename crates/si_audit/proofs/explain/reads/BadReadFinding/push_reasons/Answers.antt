@@ -1,9 +1,9 @@
-use Rattle.std.proofs.Common.{◌++◌, codes, refl, subst}
+use Rattle.std.proofs.Common.{◌≡◌, ◌++◌, codes, refl, subst}
 use Rattle.sia_events.specs.Transactions.{StartsAt}
 use Rattle.sia_events.proofs.Seen.{saw_written}
 use Rattle.si_audit.specs.Reasons.{anomaly_words, event_words, reason, start_words}
 use Rattle.si_audit.proofs.Naming.{due_written}
-use Rattle.si_audit.proofs.Pushed.{three_words}
+use Rattle.si_audit.proofs.Pushed.{seven_words, three_words}
 use Rattle.si_audit.proofs.explain.reads.BadReadFinding.push_reasons.Goals as goal
 
 pub anomaly_of-name-requires-clause-starts : goal.anomaly_of-name-requires-clause-starts
@@ -26,8 +26,19 @@ returns c =
     let name = c.anomaly_of-name.result in
     let saw = c.in_ok-push_unless.ensures in
     let due = c.in_ok-push_unless-2.ensures in
-    let known = c.in-Some.ensures in (
+    let known = c.in-Some.ensures in
+    let line : c.extend_from_slice-5.new.self.items ≡ c.args.out.now.items ++ reason (anomaly_words name ++ codes ": " ++ event_words h b.key b.place ++ codes "; " ++ start_words b.txn s) =
+    rw (
+      c.in_ok-extend_from_slice-5.ensures.items,
+      c.in_ok-push_start.ensures,
+      c.in_ok-extend_from_slice-4.ensures.items,
+      c.in_ok-push_event.ensures,
+      c.in_ok-extend_from_slice-3.ensures.items,
+      c.in_ok-extend_from_slice-2.ensures.items,
+      c.anomaly_words.ensures,
+      c.in_ok-extend_from_slice.ensures.items,
+    ) (seven_words c.args.out.now.items (codes "  ") (anomaly_words name) (codes ": ") (event_words h b.key b.place) (codes "; ") (start_words b.txn s) (codes "\n")) in (
       reason (anomaly_words name ++ codes ": " ++ event_words h b.key b.place ++ codes "; " ++ start_words b.txn s) ++ saw.0 ++ due.0,
       (name, s, saw.0, due.0, c.anomaly_of-name.ensures, subst (λ g. StartsAt g b.txn s) c.requires.index known.0, saw.1, due.1, refl),
-      three_words c.args.out.now.items _ _ _ _ _ _ c.in_ok-push_name.ensures saw.2 due.2,
+      three_words c.args.out.now.items _ _ _ _ _ _ line saw.2 due.2,
     )
