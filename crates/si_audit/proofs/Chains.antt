@@ -8,6 +8,8 @@ use Rattle.sia_graph.specs.declared.pivot.Pivot.{Pivot}
 use Rattle.si_audit.specs.Lines.{is_empty, isolation_line, bad_read_line, bad_write_line, unexplained_line, edge_line, pivot_line}
 use Rattle.std.proofs.Common.{◌≡◌, ℕ, ◌+◌, ◌<◌, List, [], ◌++◌, length, take, flat_map, get_or, ap, sym, ◌∙◌, append_assoc, append-nil}
 use Rattle.std.proofs.lemmas.List.{take_more, flat_map_more}
+use Rattle.si_audit.specs.Explained.{TellsAll, WithReasons}
+use Rattle.si_audit.proofs.Telling.{lines_alone}
 
 -- one more after what was written
 pub then : (o m n y : List ℕ) → n ≡ m ++ y → m ≡ o → n ≡ o ++ y
@@ -18,6 +20,17 @@ four_written o a b c d = simp append_assoc
 
 pub report_written : (o a b c d e f g s z v : List ℕ) → o ++ a ++ b ++ c ++ d ++ e ++ f ++ g ++ s ++ z ++ v ≡ o ++ (a ++ b ++ c ++ d ++ e ++ f ++ g ++ s ++ z ++ v)
 report_written o a b c d e f g s z v = simp append_assoc
+
+-- what stands before the edges, where no reasons are wanted
+pub front_alone : (o a b n r w u : List ℕ) (reads : List BadRead) (writes : List BadWrite) (odd : List Unexplained)
+    → TellsAll (WithReasons bad_read_line (λ x below. below ≡ [])) reads r → TellsAll (WithReasons bad_write_line (λ x below. below ≡ [])) writes w
+    → TellsAll (WithReasons unexplained_line (λ x below. below ≡ [])) odd u → n ≡ o ++ a ++ b ++ r ++ w ++ u
+    → n ≡ o ++ a ++ b ++ flat_map bad_read_line reads ++ flat_map bad_write_line writes ++ flat_map unexplained_line odd
+front_alone o a b n r w u reads writes odd some others rest all =
+    let first = lines_alone bad_read_line reads r some in
+    let second = lines_alone bad_write_line writes w others in
+    let third = lines_alone unexplained_line odd u rest in
+    all ∙ (λ i. o ++ a ++ b ++ first i ++ second i ++ third i)
 
 -- what stands before the edges, these, and what stands behind them, where the lists go by other names
 module _ (o m n r a s z v : List ℕ) (reads read : List BadRead) (writes written : List BadWrite) (odd odds : List Unexplained) (edges es : List Edge) (pivots ps : List Pivot)

@@ -20,3 +20,4 @@ pub mod LineAnswers
 pub mod Judgements
 pub mod Sheets
 pub mod Edges
+pub mod Wanted

@@ -1,12 +1,9 @@
 // What is written of a text, and how its run ends.
-ghost use Rattle.std.specs.Prelude.{◌≡◌, ◌↔◌, ⊤, ℕ, List, [], IfOk, IsTrue};
+ghost use Rattle.std.specs.Prelude.{◌≡◌, ◌↔◌, ℕ, List, [], IfOk, IsTrue};
 ghost use Rattle.sia_events.specs.declared.event.Event.{Event};
-ghost use Rattle.sia_events.specs.Lists.{ListsAscending};
 ghost use Rattle.sia_events.specs.Locating.{StandsForLocated};
 ghost use Rattle.sia_events.specs.Refusals.{IsRefusal, IsWellFormed};
 ghost use Rattle.sia_events.specs.Streaming.{Progress, StandsForRead};
-ghost use Rattle.sia_events.specs.Transactions.{IsCommitted};
-ghost use Rattle.sia_parts.specs.Looks.{AreLooks};
 ghost use Rattle.sia_events.specs.declared.fault.TextFault.{TextFault};
 ghost use Rattle.si_audit.specs.declared.cli.form.Form.{Form};
 ghost use Rattle.si_audit.specs.Receiving.{IsReceived};
@@ -22,16 +19,14 @@ use crate::cli::options::Options;
 use crate::engine::Outcome;
 use crate::explain::explaining::explained;
 use crate::explain::refused::push_place;
-use crate::explain::versions::Recorded;
 use crate::io::input::Received;
 use crate::report::lines::push_refusal;
 use crate::report::listing::told;
 use crate::report::reporting::report_of;
 use sia_events::{History, Locator, NoMemory, TextFault};
-use sia_graph::{Evidence, listing_law};
 use sia_index::Index;
 use sia_index::make::index;
-use sia_parts::{Committed, Looks};
+use sia_parts::Committed;
 use std::alloc::Global;
 use std::sync::Wait;
 use std::thread::Threads;
@@ -73,39 +68,6 @@ fn outcome_of(j: &Judgement, level: Level) -> Outcome
     }
 }
 
-/// The one sheet of the explained report.
-fn explained_sheets(
-    alloc: Global,
-    h: &History,
-    ix: &Index,
-    committed: &Committed,
-    j: &Judgement,
-    looks: &Looks,
-) -> Result<Vec<Vec<u8>>, NoMemory>
-    requires index { ix.now ≡ h.now }
-    requires committed { ListsAscending (IsCommitted ix.now) committed.now }
-    requires looks { AreLooks ix.now (λ _. ⊤) looks.now }
-    requires judgement { IsJudgement h.now j.now }
-    ensures { IfOk result (λ sheets. IsReportOf Form.Explained h.now (text_of sheets.items)) }
-{
-    ix.law();
-    listing_law();
-    let evidence = Evidence {
-        index: ix,
-        txns: committed.ids(),
-        keys: ix.written_keys(),
-        looks,
-    };
-    let of = Recorded {
-        history: h,
-        index: ix,
-    };
-    let sheet = explained(alloc, &of, &evidence, j)?;
-    let mut sheets = Vec::new(alloc);
-    sheets.push(sheet)?;
-    Ok(sheets)
-}
-
 /// The answer to a history by its index.
 fn answer_by_index<T: Threads + Wait + Sync>(
     rt: &T,
@@ -123,7 +85,7 @@ fn answer_by_index<T: Threads + Wait + Sync>(
     let (judgement, looks) = judged(rt, alloc, h, ix, &committed, o)?;
     let outcome = outcome_of(&judgement, o.level());
     if o.form().is_explained() {
-        let sheets = explained_sheets(alloc, h, ix, &committed, &judgement, &looks)?;
+        let sheets = explained(alloc, h, ix, &committed, &judgement, &looks)?;
         return Ok(Answer { sheets, outcome });
     }
     let listing = told(rt, alloc, ix, &committed, looks, o)?;

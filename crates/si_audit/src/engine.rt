@@ -9,7 +9,7 @@ use crate::io::device::{Failed, Sink, Source};
 use crate::io::input::read_text;
 use crate::io::output::write_whole;
 use sia_events::NoMemory;
-use std::alloc::{AllocError, AllocFailed, Global};
+use std::alloc::Global;
 use std::sync::Wait;
 use std::thread::Threads;
 use thiserror::Error;
@@ -34,28 +34,6 @@ pub enum RunFault {
     Write,
     #[error("no memory")]
     NoMemory,
-}
-
-impl<T: Drop> From<AllocFailed<T>> for RunFault {
-    ghost use Rattle.std.specs.Prelude.{◌≡◌};
-    ghost use Rattle.si_audit.specs.declared.engine.RunFault.TheVariants.{NoMemory};
-
-    ghost from_gives = { λ _ e. e ≡ NoMemory };
-
-    fn from(_refused: AllocFailed<T>) -> RunFault {
-        RunFault::NoMemory
-    }
-}
-
-impl From<AllocError> for RunFault {
-    ghost use Rattle.std.specs.Prelude.{◌≡◌};
-    ghost use Rattle.si_audit.specs.declared.engine.RunFault.TheVariants.{NoMemory};
-
-    ghost from_gives = { λ _ e. e ≡ NoMemory };
-
-    fn from(_refused: AllocError) -> RunFault {
-        RunFault::NoMemory
-    }
 }
 
 impl From<NoMemory> for RunFault {

@@ -19,6 +19,7 @@ use engine::{RunFault, run, status};
 use io::device::FromStd;
 use std::alloc::Global;
 use std::env::Env;
+use std::fmt::Display;
 use std::io::ErrorKind;
 use std::process::ExitCode;
 
@@ -31,17 +32,8 @@ const LINE_REFUSED: u8 = 2;
 /// The status where a device failed or memory ran out.
 const NOT_DONE: u8 = 4;
 
-/// The word of a fault, as standard error has it.
-fn words_of(fault: RunFault) -> &'static str {
-    match fault {
-        RunFault::Read => "read failed",
-        RunFault::Write => "write failed",
-        RunFault::NoMemory => "no memory",
-    }
-}
-
 /// Says a line on standard error, and answers the status. Where the line can't be written the status alone tells.
-fn say<R: Eprint>(rt: &R, line: &str, status: u8) -> u8 {
+fn say<R: Eprint, D: Display + Drop>(rt: &R, line: D, status: u8) -> u8 {
     let _ = eprintln!(rt; "si_audit: {line}");
     status
 }
@@ -51,7 +43,7 @@ fn tell<R: Print + Eprint>(rt: &R, fault: LineFault) -> u8 {
     match fault {
         LineFault::Help(text) => match rt.print(text) {
             Ok(()) => HELPED,
-            Err(_) => say(rt, words_of(RunFault::Write), NOT_DONE),
+            Err(_) => say(rt, RunFault::Write, NOT_DONE),
         },
         LineFault::Usage(text) => {
             let _ = rt.eprint(text);
@@ -63,7 +55,7 @@ fn tell<R: Print + Eprint>(rt: &R, fault: LineFault) -> u8 {
             "the level of --check is serializable, ssi or si",
             LINE_REFUSED,
         ),
-        LineFault::NoMemory => say(rt, words_of(RunFault::NoMemory), NOT_DONE),
+        LineFault::NoMemory => say(rt, RunFault::NoMemory, NOT_DONE),
     }
 }
 
@@ -80,7 +72,7 @@ fn options_given<R: Env + Alloc<A = Global> + Print + Eprint>(rt: &R) -> Result<
         Err(error) if error.kind() == ErrorKind::InvalidData => {
             Err(say(rt, "an argument is not UTF-8", LINE_REFUSED))
         }
-        Err(_) => Err(say(rt, words_of(RunFault::NoMemory), NOT_DONE)),
+        Err(_) => Err(say(rt, RunFault::NoMemory, NOT_DONE)),
     }
 }
 
@@ -94,7 +86,7 @@ fn main(rt: HostRuntime) -> ExitCode {
     let result = run(&rt, rt.alloc(), &mut reader, &mut writer, &options);
     let status = status(&result);
     if let Err(fault) = &result {
-        say(&rt, words_of(*fault), status);
+        say(&rt, *fault, status);
     }
     ExitCode::from(status)
 }

@@ -1,4 +1,5 @@
 //! The report: its lines, on one sheet after another.
+pub(crate) mod found;
 pub(crate) mod lines;
 pub(crate) mod listing;
 pub(crate) mod number_lines;

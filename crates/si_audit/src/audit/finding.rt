@@ -42,14 +42,6 @@ impl Job for Auditing<'_> {
     }
 }
 
-/// How many parts there are.
-fn count_of(parts: &[Part]) -> u32
-    requires { length parts.now ≤ 1024 }
-    ensures { result ≡ length parts.now }
-{
-    parts.len() as u32
-}
-
 /// For how many workers there are parts of the work.
 pub(crate) fn crew_of(o: &Options, count: u32) -> u32
     ensures { (0 < result) × (result ≤ 64) }
@@ -79,7 +71,7 @@ pub(crate) fn find<R: Threads + Wait + Sync>(
         committed,
         parts,
     };
-    let count = count_of(parts);
+    let count = parts.len() as u32;
     match work_off(rt, alloc, count, crew_of(o, count), &job, &OpenGate) {
         Ok(crew) => Gathering::of(alloc, crew.outs),
         Err(_) => Err(NoMemory),

@@ -1,13 +1,9 @@
 // What follows from what was found in a history.
 ghost use Rattle.std.specs.Prelude.{◌≡◌, ◌↔◌, [], ⊤, IfOk, IsTrue};
-ghost use Rattle.sia_events.specs.DangerousStructures.{PassesSsi};
 ghost use Rattle.sia_events.specs.Lists.{ListsAscending};
 ghost use Rattle.sia_events.specs.Refusals.{IsWellFormed};
 ghost use Rattle.sia_events.specs.Transactions.{IsCommitted};
-ghost use Rattle.sia_parts.specs.Entries.{IsEdge};
-ghost use Rattle.sia_parts.specs.Gathering.{IsGathering};
 ghost use Rattle.sia_parts.specs.Looks.{AreLooks};
-ghost use Rattle.sia_graph.specs.Verdicts.{IsVerdict};
 ghost use Rattle.si_audit.specs.Audits.{IsOrderVerdict};
 ghost use Rattle.si_audit.specs.Judgements.{IsJudgement};
 
@@ -17,7 +13,7 @@ use crate::cli::options::Options;
 use sia_events::{History, NoMemory};
 use sia_graph::{Evidence, Verdict, passes, replay_law, settle_looks, ssi_law};
 use sia_index::Index;
-use sia_parts::{BadRead, BadWrite, Committed, Gathering, Looks, Unexplained};
+use sia_parts::{BadRead, BadWrite, Committed, Looks, Unexplained};
 use std::alloc::Global;
 use std::sync::Wait;
 use std::thread::Threads;
@@ -42,39 +38,6 @@ fn is_serializable(verdict: &Verdict, unexplained: &[Unexplained]) -> bool
         Verdict::Order(_) => unexplained.is_empty(),
         Verdict::Cycle(_) => false,
     }
-}
-
-/// What follows from what was found, and what its edges are told by.
-fn judge(
-    h: &History,
-    ix: &Index,
-    found: Gathering,
-    verdict: Verdict,
-    pass: bool,
-) -> (Judgement, Looks)
-    requires index { ix.now ≡ h.now }
-    requires well_formed { IsWellFormed h.now }
-    requires found { IsGathering h.now found }
-    requires verdict { IsVerdict (IsCommitted h.now) (IsEdge h.now) verdict }
-    requires pass { IsTrue pass ↔ PassesSsi h.now }
-    ensures exact { IsJudgement h.now result.0 }
-    ensures pass { IsTrue result.0.pass → IsTrue result.0.serializable × IsOrderVerdict result.0.verdict }
-    ensures looks { result.1 ≡ found.looks }
-{
-    let counts = counted(h, ix);
-    let serializable = is_serializable(&verdict, &found.unexplained);
-    replay_law();
-    ssi_law();
-    let judgement = Judgement {
-        counts,
-        bad_reads: found.bad_reads,
-        bad_writes: found.bad_writes,
-        unexplained: found.unexplained,
-        pass,
-        serializable,
-        verdict,
-    };
-    (judgement, found.looks)
 }
 
 /// Judges a history by its index and by workers, and waits for them. Beside the judgement stands what its edges are told by.
@@ -102,5 +65,18 @@ pub(crate) fn judged<R: Threads + Wait + Sync>(
     };
     let verdict = settle_looks(alloc, &evidence)?;
     let pass = passes(alloc, &evidence, &found.bad_reads, &found.bad_writes)?;
-    Ok(judge(h, ix, found, verdict, pass))
+    let counts = counted(h, ix);
+    let serializable = is_serializable(&verdict, &found.unexplained);
+    replay_law();
+    ssi_law();
+    let judgement = Judgement {
+        counts,
+        bad_reads: found.bad_reads,
+        bad_writes: found.bad_writes,
+        unexplained: found.unexplained,
+        pass,
+        serializable,
+        verdict,
+    };
+    Ok((judgement, found.looks))
 }

@@ -1,11 +1,11 @@
 //! The command line: how many workers share the parts of the keys, where the keys are cut, the form of the report, and the
 //! level that the status tells of.
-ghost use Rattle.std.specs.Prelude.{◌≡◌, ◌≢◌, ◌<◌, ◌≤◌, false, All, Err, IfErr, IfOk, None, Some, codes, map, string_bytes};
-ghost use Rattle.clap.specs.Words.{IsUnsignedIn, app_of, found_of, kind_of, rows_of, rule_of};
-ghost use Rattle.clap.specs.declared.builder.value_parser.ValueParser.TheVariants.{Unsigned};
+ghost use Rattle.std.specs.Prelude.{◌≡◌, ◌≢◌, ◌<◌, ◌≤◌, false, Err, IfErr, IfOk, None, Some, map, string_bytes};
+ghost use Rattle.clap.specs.Words.{IsUnsignedIn, app_of, found_of, kind_of, new_rule, rows_of, rule_of};
+ghost use Rattle.clap.specs.declared.builder.action.ArgAction.TheVariants.{Count};
 ghost use Rattle.clap.specs.declared.error.kind.ErrorKind.TheVariants.{OutOfMemory};
 ghost use Rattle.si_audit.specs.LineAnswers.{HasNumbers, IsOwed, GivesOptions, StandsInTheWay, cuts_among, form_among, level_among, workers_among};
-ghost use Rattle.si_audit.specs.Words.{AreChosen, ChooseNoLevel, ChooseTooManyCuts, brief_rule, check_rule, cuts_rule, explain_rule, level_named as named, number_in, program, workers_rule};
+ghost use Rattle.si_audit.specs.Words.{AreChosen, ChooseNoLevel, ChooseTooManyCuts, check_rule, cuts_rule, level_named as named, number_in, program, workers_rule};
 
 use crate::cli::form::Form;
 use crate::cli::level::Level;
@@ -26,15 +26,9 @@ is read from standard input, and the report is written to standard output.";
 /// What is told where a word stands in the place of a cut and is no number: mostly it is the name of a file.
 const FILE_HINT: &str = "A history is read from standard input: si_audit <FILE\n";
 
-const WORKERS_HELP: &str = "How many workers audit the parts, from 1 to 64";
-
 const BRIEF_HELP: &str = "Leaves out the lines of edges and pivots";
 
 const EXPLAIN_HELP: &str = "The brief report with reasons: the events that show each finding";
-
-const CHECK_HELP: &str = "What status 0 says was kept: serializable, ssi or si";
-
-const CUT_HELP: &str = "A key at which a part starts, from 0 to 18446744073709551615";
 
 const MORE_HELP: &str =
     "The keys are cut into parts, which the workers audit side by side. Without a
@@ -110,8 +104,8 @@ fn command<'a>(alloc: Global) -> Result<Command<'a>, AllocError>
         .after_help(MORE_HELP)
         .arg(workers_option(alloc))?
         .arg(cuts_argument(alloc))?
-        .arg(brief_option(alloc))?
-        .arg(explain_option(alloc))?
+        .arg(flag(alloc, "brief", BRIEF_HELP))?
+        .arg(flag(alloc, "explain", EXPLAIN_HELP))?
         .arg(check_option(alloc))
 }
 
@@ -124,23 +118,9 @@ fn workers_option<'a>(alloc: Global) -> Arg<'a>
         .long("workers")
         .value_name("N")
         .action(ArgAction::Set)
-        .value_parser(numbers_of_workers())
-        .default_value(workers_by_default())
-        .help(WORKERS_HELP)
-}
-
-/// How many workers there may be.
-fn numbers_of_workers<'a>() -> ValueParser<'a>
-    ensures { result ≡ Unsigned 1 64 }
-{
-    ValueParser::Unsigned(1, 64)
-}
-
-/// How many workers there are where the words don't say.
-fn workers_by_default() -> &'static str
-    ensures { result.now ≡ codes "4" }
-{
-    "4"
+        .value_parser(ValueParser::Unsigned(1, 64))
+        .default_value("4")
+        .help("How many workers audit the parts, from 1 to 64")
 }
 
 /// The argument that takes the cuts.
@@ -152,29 +132,18 @@ fn cuts_argument<'a>(alloc: Global) -> Arg<'a>
         .value_name("CUT")
         .action(ArgAction::Append)
         .value_parser(value_parser!(u64))
-        .help(CUT_HELP)
+        .help("A key at which a part starts, from 0 to 18446744073709551615")
 }
 
-/// The option that asks for the brief report.
-fn brief_option<'a>(alloc: Global) -> Arg<'a>
-    ensures rule { rule_of result ≡ brief_rule }
+/// An option without a value.
+fn flag<'a>(alloc: Global, name: &'a str, help: &'a str) -> Arg<'a>
+    ensures rule { rule_of result ≡ record (new_rule name.now) { long = Some name.now; action = Some Count } }
     ensures local { result.global ≡ false }
 {
-    Arg::new(alloc, "brief")
-        .long("brief")
+    Arg::new(alloc, name)
+        .long(name)
         .action(ArgAction::Count)
-        .help(BRIEF_HELP)
-}
-
-/// The option that asks for the explained report.
-fn explain_option<'a>(alloc: Global) -> Arg<'a>
-    ensures rule { rule_of result ≡ explain_rule }
-    ensures local { result.global ≡ false }
-{
-    Arg::new(alloc, "explain")
-        .long("explain")
-        .action(ArgAction::Count)
-        .help(EXPLAIN_HELP)
+        .help(help)
 }
 
 /// The option that names the level.
@@ -186,15 +155,8 @@ fn check_option<'a>(alloc: Global) -> Arg<'a>
         .long("check")
         .value_name("LEVEL")
         .action(ArgAction::Set)
-        .default_value(level_by_default())
-        .help(CHECK_HELP)
-}
-
-/// The name of the level where the words don't say.
-fn level_by_default() -> &'static str
-    ensures { result.now ≡ codes "serializable" }
-{
-    "serializable"
+        .default_value("serializable")
+        .help("What status 0 says was kept: serializable, ssi or si")
 }
 
 /// What the program says in place of options.
@@ -299,22 +261,14 @@ fn cuts_in(alloc: Global, matches: &ArgMatches<'_>) -> Result<Vec<Key>, AllocErr
     requires { HasNumbers (rows_of (found_of matches.now)) }
     ensures { IfOk result (λ cuts. cuts.items ≡ cuts_among (rows_of (found_of matches.now))) }
 {
-    match matches.get_strs("cut") {
-        Some(texts) => numbers(alloc, texts),
-        None => Ok(Vec::new(alloc)),
-    }
-}
-
-/// The numbers of texts, in their order.
-fn numbers(alloc: Global, texts: &[&str]) -> Result<Vec<u64>, AllocError>
-    requires { All (λ t. IsUnsignedIn 0 18446744073709551615 t.now) texts.now }
-    ensures { IfOk result (λ numbers. numbers.items ≡ map (λ t. number_in t.now) texts.now) }
-{
-    let mut numbers = Vec::with_capacity(alloc, texts.len())?;
+    let Some(texts) = matches.get_strs("cut") else {
+        return Ok(Vec::new(alloc));
+    };
+    let mut cuts = Vec::with_capacity(alloc, texts.len())?;
     for text in texts {
-        numbers.push(number(text))?;
+        cuts.push(number(text))?;
     }
-    Ok(numbers)
+    Ok(cuts)
 }
 
 /// The number that a text is.

@@ -1,102 +1,33 @@
 //! The lines of the explained report of a history.
-ghost use Rattle.std.specs.Prelude.{◌≡◌, ◌↔◌, ◌++◌, ◌∷◌, ◌&&◌, ℕ, All, false, List, [], IfOk, IsFalse, IsTrue, OnOk};
+ghost use Rattle.std.specs.Prelude.{◌≡◌, ◌↔◌, ◌++◌, ◌∷◌, ⊤, ℕ, false, List, [], IfOk, IsFalse, IsTrue, OnOk};
 ghost use Rattle.sia_events.specs.DangerousStructures.{NoFirst};
-ghost use Rattle.sia_events.specs.Isolation.{IsBadRead, IsBadWrite, IsUnexplained, IsolationKept};
+ghost use Rattle.sia_events.specs.Isolation.{IsolationKept};
+ghost use Rattle.sia_events.specs.Lists.{ListsAscending};
 ghost use Rattle.sia_events.specs.Transactions.{IsCommitted};
-ghost use Rattle.sia_parts.specs.declared.finding.Edge.{Edge as AnEdge};
 ghost use Rattle.sia_parts.specs.declared.finding.Kind.TheVariants.{Rw};
 ghost use Rattle.sia_parts.specs.Entries.{IsEdge};
-ghost use Rattle.sia_graph.specs.Dangerous.{IsDangerous};
+ghost use Rattle.sia_parts.specs.Looks.{AreLooks};
 ghost use Rattle.sia_graph.specs.Evidence.{IsEvidence};
 ghost use Rattle.sia_graph.specs.Verdicts.{IsVerdict};
-ghost use Rattle.sia_graph.specs.declared.pivot.Pivot.{Pivot};
-ghost use Rattle.si_audit.specs.Explained.{IsExplained, TellsAll, TellsDanger, TellsVerdict, WithReasons, dangerous_edges, dangerous_line, edges_round};
-ghost use Rattle.si_audit.specs.Judgements.{IsJudgement, account_with};
+ghost use Rattle.si_audit.specs.Answering.{IsReportOf};
+ghost use Rattle.si_audit.specs.Explained.{TellsDanger, TellsVerdict, WithReasons, edges_round};
+ghost use Rattle.si_audit.specs.Judgements.{IsJudgement};
 ghost use Rattle.si_audit.specs.Lines as lines;
-ghost use Rattle.si_audit.specs.Reasons.{TellsBadRead, TellsBadWrite, TellsStep, TellsUnexplained};
+ghost use Rattle.si_audit.specs.Sheets.{text_of};
 
-use crate::audit::counts::Counts;
 use crate::audit::judgement::Judgement;
-use crate::explain::reads::{push_read_reasons, push_unexplained_reasons, push_write_reasons};
+use crate::cli::form::Form;
 use crate::explain::sights::acts_of;
 use crate::explain::steps::push_steps;
 use crate::explain::versions::Recorded;
-use crate::report::lines::{
-    push_bad_read, push_bad_write, push_events, push_isolation, push_serializable, push_ssi,
-    push_unexplained, push_verdict,
-};
+use crate::report::found::push_front;
+use crate::report::lines::{push_verdict, push_whether};
 use crate::report::words::{Words, number, push_line};
-use sia_events::{Key, NoMemory, TxnId};
-use sia_graph::{Dangerous, Evidence, Step, Verdict, dangerous_of};
-use sia_parts::{BadRead, BadWrite, Edge, Kind, Unexplained};
-use std::alloc::{AllocError, Global};
-
-fn push_bad_reads(out: &mut Vec<u8>, of: &Recorded, found: &[BadRead]) -> Result<(), NoMemory>
-    requires index { of.now.index.now ≡ of.now.history.now }
-    requires found { All (λ b. IsBadRead of.now.history.now b.place b.txn b.key b.saw b.due) found.now }
-    ensures { OnOk result ((bytes : List ℕ) × TellsAll (WithReasons lines.bad_read_line (TellsBadRead of.now.history.now)) found.now bytes × (out.new.items ≡ out.old.items ++ bytes)) }
-{
-    for b in found {
-        push_bad_read(out, b)?;
-        push_read_reasons(out, of, b)?;
-    }
-    Ok(())
-}
-
-fn push_bad_writes(out: &mut Vec<u8>, of: &Recorded, found: &[BadWrite]) -> Result<(), NoMemory>
-    requires index { of.now.index.now ≡ of.now.history.now }
-    requires found { All (λ b. IsBadWrite of.now.history.now b.key b.first b.second) found.now }
-    ensures { OnOk result ((bytes : List ℕ) × TellsAll (WithReasons lines.bad_write_line (TellsBadWrite of.now.history.now)) found.now bytes × (out.new.items ≡ out.old.items ++ bytes)) }
-{
-    for b in found {
-        push_bad_write(out, b)?;
-        push_write_reasons(out, of, b)?;
-    }
-    Ok(())
-}
-
-fn push_all_unexplained(
-    out: &mut Vec<u8>,
-    of: &Recorded,
-    found: &[Unexplained],
-) -> Result<(), NoMemory>
-    requires index { of.now.index.now ≡ of.now.history.now }
-    requires found { All (λ u. IsUnexplained of.now.history.now u.place u.txn u.key u.saw) found.now }
-    ensures { OnOk result ((bytes : List ℕ) × TellsAll (WithReasons lines.unexplained_line (TellsUnexplained of.now.history.now)) found.now bytes × (out.new.items ≡ out.old.items ++ bytes)) }
-{
-    for u in found {
-        push_unexplained(out, u)?;
-        push_unexplained_reasons(out, of, u)?;
-    }
-    Ok(())
-}
-
-/// A dangerous structure, with the reasons of its steps.
-fn push_dangerous(
-    alloc: Global,
-    out: &mut Vec<u8>,
-    of: &Recorded,
-    d: Dangerous,
-) -> Result<(), NoMemory>
-    requires index { of.now.index.now ≡ of.now.history.now }
-    requires dangerous { IsDangerous of.now.history.now d }
-    ensures { OnOk result ((bytes : List ℕ) × WithReasons dangerous_line (λ d. TellsAll (TellsStep of.now.history.now) (dangerous_edges d)) d bytes × (out.new.items ≡ out.old.items ++ bytes)) }
-{
-    let words = [
-        number(d.first),
-        Words::Edge(Kind::Rw, d.first_key),
-        number(d.pivot),
-        Words::Edge(Kind::Rw, d.last_key),
-        number(d.last),
-    ];
-    push_line(out, b"dangerous", &words)?;
-    let edges = [
-        rw_edge(d.first, d.pivot, d.first_key),
-        rw_edge(d.pivot, d.last, d.last_key),
-    ];
-    let acts = acts_of(alloc, of.history)?;
-    push_steps(out, of, &acts, &edges)
-}
+use sia_events::{History, Key, NoMemory, TxnId};
+use sia_graph::{Evidence, Step, Verdict, dangerous_of, listing_law};
+use sia_index::Index;
+use sia_parts::{Committed, Edge, Kind, Looks};
+use std::alloc::Global;
 
 fn rw_edge(src: TxnId, dst: TxnId, key: Key) -> Edge
     ensures { result ≡ record { src = src; dst = dst; kind = Rw; key = key } }
@@ -109,7 +40,8 @@ fn rw_edge(src: TxnId, dst: TxnId, key: Key) -> Edge
     }
 }
 
-/// The dangerous structure, where isolation was kept and the test of serializable snapshot isolation fails.
+/// The dangerous structure with the reasons of its steps, where isolation was kept and the test of serializable snapshot
+/// isolation fails.
 fn push_danger(
     alloc: Global,
     out: &mut Vec<u8>,
@@ -127,10 +59,23 @@ fn push_danger(
     if !fails {
         return Ok(());
     }
-    match dangerous_of(alloc, evidence)? {
-        None => Ok(()),
-        Some(d) => push_dangerous(alloc, out, of, d),
-    }
+    let Some(d) = dangerous_of(alloc, evidence)? else {
+        return Ok(());
+    };
+    let words = [
+        number(d.first),
+        Words::Edge(Kind::Rw, d.first_key),
+        number(d.pivot),
+        Words::Edge(Kind::Rw, d.last_key),
+        number(d.last),
+    ];
+    push_line(out, b"dangerous", &words)?;
+    let edges = [
+        rw_edge(d.first, d.pivot, d.first_key),
+        rw_edge(d.pivot, d.last, d.last_key),
+    ];
+    let acts = acts_of(alloc, of.history)?;
+    push_steps(out, of, &acts, &edges)
 }
 
 /// The edges of the steps of a cycle.
@@ -173,41 +118,6 @@ fn push_verdict_reasons(
     }
 }
 
-/// The lines before the findings.
-fn push_head(
-    out: &mut Vec<u8>,
-    counts: &Counts,
-    bad_reads: &[BadRead],
-    bad_writes: &[BadWrite],
-) -> Result<(), AllocError>
-    ensures { OnOk result (out.new.items ≡ out.old.items
-        ++ lines.events_line counts.now.events counts.now.committed counts.now.aborted counts.now.unfinished
-        ++ lines.isolation_line (lines.is_empty bad_reads.now && lines.is_empty bad_writes.now)) }
-{
-    push_events(out, counts)?;
-    push_isolation(out, bad_reads.is_empty() && bad_writes.is_empty())?;
-    Ok(())
-}
-
-/// The findings, with their reasons.
-fn push_findings(out: &mut Vec<u8>, of: &Recorded, j: &Judgement) -> Result<(), NoMemory>
-    requires index { of.now.index.now ≡ of.now.history.now }
-    requires judgement { IsJudgement of.now.history.now j.now }
-    ensures { OnOk result ((reads : List ℕ) × (writes : List ℕ) × (unexplained : List ℕ)
-        × TellsAll (WithReasons lines.bad_read_line (TellsBadRead of.now.history.now)) j.now.bad_reads.items reads
-        × TellsAll (WithReasons lines.bad_write_line (TellsBadWrite of.now.history.now)) j.now.bad_writes.items writes
-        × TellsAll (WithReasons lines.unexplained_line (TellsUnexplained of.now.history.now)) j.now.unexplained.items unexplained
-        × (out.new.items ≡ out.old.items
-        ++ lines.events_line j.now.counts.events j.now.counts.committed j.now.counts.aborted j.now.counts.unfinished
-        ++ lines.isolation_line (lines.is_empty j.now.bad_reads.items && lines.is_empty j.now.bad_writes.items)
-        ++ reads ++ writes ++ unexplained)) }
-{
-    push_head(out, &j.counts, &j.bad_reads, &j.bad_writes)?;
-    push_bad_reads(out, of, &j.bad_reads)?;
-    push_bad_writes(out, of, &j.bad_writes)?;
-    push_all_unexplained(out, of, &j.unexplained)
-}
-
 /// Whether a dangerous structure is told: isolation was kept, and the test fails.
 fn is_told(j: &Judgement) -> bool
     ensures { IsTrue result ↔ ((j.now.pass ≡ false) × (j.now.bad_reads.items ≡ []) × (j.now.bad_writes.items ≡ [])) }
@@ -215,24 +125,47 @@ fn is_told(j: &Judgement) -> bool
     !j.pass && j.bad_reads.is_empty() && j.bad_writes.is_empty()
 }
 
-/// The lines of the explained report.
+/// The lines of the explained report, on one sheet.
 pub(crate) fn explained(
     alloc: Global,
-    of: &Recorded,
-    evidence: &Evidence,
+    h: &History,
+    ix: &Index,
+    committed: &Committed,
     j: &Judgement,
-) -> Result<Vec<u8>, NoMemory>
-    requires index { of.now.index.now ≡ of.now.history.now }
-    requires same { evidence.now.index.now ≡ of.now.history.now }
-    requires evidence { IsEvidence evidence.now.index.now evidence.now.txns.now evidence.now.keys.now evidence.now.looks.now }
-    requires judgement { IsJudgement of.now.history.now j.now }
-    ensures { IfOk result (λ sheet. (edges : List AnEdge) (pivots : List Pivot) → IsExplained of.now.history.now (account_with j.now edges pivots) sheet.items) }
+    looks: &Looks,
+) -> Result<Vec<Vec<u8>>, NoMemory>
+    requires index { ix.now ≡ h.now }
+    requires committed { ListsAscending (IsCommitted ix.now) committed.now }
+    requires looks { AreLooks ix.now (λ _. ⊤) looks.now }
+    requires judgement { IsJudgement h.now j.now }
+    ensures { IfOk result (λ sheets. IsReportOf Form.Explained h.now (text_of sheets.items)) }
 {
+    ix.law();
+    listing_law();
+    let evidence = Evidence {
+        index: ix,
+        txns: committed.ids(),
+        keys: ix.written_keys(),
+        looks,
+    };
+    let of = Recorded {
+        history: h,
+        index: ix,
+    };
     let mut out = Vec::new(alloc);
-    push_findings(&mut out, of, j)?;
-    push_ssi(&mut out, j.pass)?;
-    push_danger(alloc, &mut out, of, evidence, is_told(j))?;
-    push_serializable(&mut out, j.serializable)?;
-    push_verdict_reasons(alloc, &mut out, of, &j.verdict)?;
-    Ok(out)
+    push_front(
+        &mut out,
+        Some(&of),
+        &j.counts,
+        &j.bad_reads,
+        &j.bad_writes,
+        &j.unexplained,
+    )?;
+    push_whether(&mut out, b"ssi", j.pass, b"pass", b"fail")?;
+    push_danger(alloc, &mut out, &of, &evidence, is_told(j))?;
+    push_whether(&mut out, b"serializable", j.serializable, b"yes", b"no")?;
+    push_verdict_reasons(alloc, &mut out, &of, &j.verdict)?;
+    let mut sheets = Vec::new(alloc);
+    sheets.push(out)?;
+    Ok(sheets)
 }

@@ -8,7 +8,7 @@ ghost use Rattle.si_audit.specs.Explained.{TellsAll};
 ghost use Rattle.si_audit.specs.Reasons.{TellsEvents, TellsSight, TellsStep, untold_of};
 
 use crate::explain::sights::{Act, first_sight};
-use crate::explain::versions::{Around, Recorded, push_event, push_unless, push_version};
+use crate::explain::versions::{Recorded, push_event, push_unless, push_version};
 use crate::report::words::{kind_word, push_number};
 use sia_events::{NoMemory, Version};
 use sia_parts::{Edge, Kind};
@@ -34,13 +34,9 @@ fn push_sight(out: &mut Vec<u8>, of: &Recorded, acts: &[Act], e: &Edge) -> Resul
     let Some(sight) = first_sight(of, acts, e) else {
         return Ok(());
     };
-    let around = Around {
-        before: b"; ",
-        behind: b"",
-        known: untold_of_edge(e),
-    };
     push_event(out, of.history, e.key, sight.place)?;
-    push_unless(out, of, e.key, sight.version, &around)?;
+    let known = untold_of_edge(e);
+    push_unless(out, of, e.key, sight.version, known, (b"; ", b""))?;
     Ok(())
 }
 

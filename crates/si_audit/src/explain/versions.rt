@@ -1,6 +1,5 @@
 //! Events, starts and versions in a line of reasons.
 ghost use Rattle.std.specs.Prelude.{◌≡◌, ◌≢◌, ◌++◌, ℕ, List, OnOk};
-ghost use Rattle.sia_events.specs.Text.{numeral};
 ghost use Rattle.sia_events.specs.Transactions.{Wrote};
 ghost use Rattle.si_audit.specs.Reasons.{TellsUnless, TellsVersion, event_words, start_words};
 
@@ -15,14 +14,6 @@ pub(crate) struct Recorded<'a> {
     pub(crate) index: &'a Index,
 }
 
-/// A number between some bytes.
-fn push_count(out: &mut Vec<u8>, before: &[u8], n: u32, behind: &[u8]) -> Result<(), NoMemory>
-    ensures { OnOk result (out.new.items ≡ out.old.items ++ before.now ++ numeral n ++ behind.now) }
-{
-    push_number(out, before, u64::from(n), behind)?;
-    Ok(())
-}
-
 /// The event at a place, as far as it is about the key.
 pub(crate) fn push_event(
     out: &mut Vec<u8>,
@@ -32,7 +23,7 @@ pub(crate) fn push_event(
 ) -> Result<(), NoMemory>
     ensures { OnOk result (out.new.items ≡ out.old.items ++ event_words h.now key place) }
 {
-    push_count(out, b"event ", place, b" ")?;
+    push_number(out, b"event ", u64::from(place), b" ")?;
     h.push_about(out, place, key)?;
     Ok(())
 }
@@ -41,8 +32,13 @@ pub(crate) fn push_event(
 pub(crate) fn push_start(out: &mut Vec<u8>, txn: TxnId, start: u32) -> Result<(), NoMemory>
     ensures { OnOk result (out.new.items ≡ out.old.items ++ start_words txn start) }
 {
-    push_count(out, b"transaction ", txn, b" starts after event ")?;
-    push_count(out, b"", start, b"")?;
+    push_number(
+        out,
+        b"transaction ",
+        u64::from(txn),
+        b" starts after event ",
+    )?;
+    push_number(out, b"", u64::from(start), b"")?;
     Ok(())
 }
 
@@ -69,31 +65,24 @@ pub(crate) fn push_version(
     Ok(())
 }
 
-/// The words around a version, and the version that wants no word.
-#[derive(Clone, Copy)]
-pub(crate) struct Around<'a> {
-    pub(crate) before: &'a [u8],
-    pub(crate) behind: &'a [u8],
-    pub(crate) known: Version,
-}
-
-/// The version between its words, unless it wants none.
+/// The version between these words, unless it is the one that is known.
 pub(crate) fn push_unless(
     out: &mut Vec<u8>,
     of: &Recorded,
     key: Key,
     version: Version,
-    around: &Around,
+    known: Version,
+    around: (&[u8], &[u8]),
 ) -> Result<(), NoMemory>
     requires index { of.now.index.now ≡ of.now.history.now }
-    requires wrote { version ≢ around.now.known → Wrote of.now.history.now version key }
-    ensures { OnOk result ((bytes : List ℕ) × TellsUnless around.now.known of.now.history.now around.now.before.now key version around.now.behind.now bytes × (out.new.items ≡ out.old.items ++ bytes)) }
+    requires wrote { version ≢ known → Wrote of.now.history.now version key }
+    ensures { OnOk result ((bytes : List ℕ) × TellsUnless known of.now.history.now around.entry.0.now key version around.entry.1.now bytes × (out.new.items ≡ out.old.items ++ bytes)) }
 {
-    if version == around.known {
+    if version == known {
         return Ok(());
     }
-    out.extend_from_slice(around.before)?;
+    out.extend_from_slice(around.0)?;
     push_version(out, of, key, version)?;
-    out.extend_from_slice(around.behind)?;
+    out.extend_from_slice(around.1)?;
     Ok(())
 }

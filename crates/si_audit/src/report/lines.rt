@@ -1,13 +1,12 @@
 // The lines of a report.
-ghost use Rattle.std.specs.Prelude.{◌≡◌, ◌++◌, flat_map, OnOk};
+ghost use Rattle.std.specs.Prelude.{◌≡◌, ◌++◌, ◌∷◌, [], if◌then◌else◌, flat_map, OnOk};
 ghost use Rattle.si_audit.specs.Lines as lines;
 ghost use Rattle.si_audit.specs.Spaced.{spaced};
 
 use crate::audit::counts::Counts;
-use crate::report::words::{Words, kind_word, number, push_line, push_words, reason_words};
+use crate::report::words::{Words, number, push_line, push_words, reason_words};
 use sia_events::TextFault;
-use sia_graph::{Pivot, Step, Verdict};
-use sia_parts::{BadRead, BadWrite, Edge, Unexplained};
+use sia_graph::{Step, Verdict};
 use std::alloc::AllocError;
 
 /// The line of a refused text. Want of memory has none.
@@ -42,93 +41,17 @@ pub(crate) fn push_events(out: &mut Vec<u8>, n: &Counts) -> Result<(), AllocErro
     push_line(out, b"events", &words)
 }
 
-/// Whether isolation was kept.
-pub(crate) fn push_isolation(out: &mut Vec<u8>, kept: bool) -> Result<(), AllocError>
-    ensures { OnOk result (out.new.items ≡ out.old.items ++ lines.isolation_line kept) }
+/// Whether something holds, by the one word or by the other.
+pub(crate) fn push_whether(
+    out: &mut Vec<u8>,
+    first: &[u8],
+    holds: bool,
+    yes: &[u8],
+    no: &[u8],
+) -> Result<(), AllocError>
+    ensures { OnOk result (out.new.items ≡ out.old.items ++ lines.line (first.now ∷ (if holds then yes.now else no.now) ∷ [])) }
 {
-    let word: &[u8] = if kept { b"kept" } else { b"broken" };
-    push_line(out, b"isolation", &[Words::Text(word)])
-}
-
-/// Whether the test of serializable snapshot isolation is passed.
-pub(crate) fn push_ssi(out: &mut Vec<u8>, pass: bool) -> Result<(), AllocError>
-    ensures { OnOk result (out.new.items ≡ out.old.items ++ lines.ssi_line pass) }
-{
-    let word: &[u8] = if pass { b"pass" } else { b"fail" };
-    push_line(out, b"ssi", &[Words::Text(word)])
-}
-
-/// Whether the history is serializable.
-pub(crate) fn push_serializable(out: &mut Vec<u8>, serializable: bool) -> Result<(), AllocError>
-    ensures { OnOk result (out.new.items ≡ out.old.items ++ lines.serializable_line serializable) }
-{
-    let word: &[u8] = if serializable { b"yes" } else { b"no" };
-    push_line(out, b"serializable", &[Words::Text(word)])
-}
-
-/// One bad read.
-pub(crate) fn push_bad_read(out: &mut Vec<u8>, b: &BadRead) -> Result<(), AllocError>
-    ensures { OnOk result (out.new.items ≡ out.old.items ++ lines.bad_read_line b.now) }
-{
-    let words = [
-        number(b.place),
-        number(b.txn),
-        Words::Number(b.key),
-        Words::Text(b"saw"),
-        number(b.saw),
-        Words::Text(b"due"),
-        number(b.due),
-    ];
-    push_line(out, b"bad-read", &words)
-}
-
-/// One bad write.
-pub(crate) fn push_bad_write(out: &mut Vec<u8>, b: &BadWrite) -> Result<(), AllocError>
-    ensures { OnOk result (out.new.items ≡ out.old.items ++ lines.bad_write_line b.now) }
-{
-    let words = [Words::Number(b.key), number(b.first), number(b.second)];
-    push_line(out, b"bad-write", &words)
-}
-
-/// One unexplained read.
-pub(crate) fn push_unexplained(out: &mut Vec<u8>, b: &Unexplained) -> Result<(), AllocError>
-    ensures { OnOk result (out.new.items ≡ out.old.items ++ lines.unexplained_line b.now) }
-{
-    let words = [
-        number(b.place),
-        number(b.txn),
-        Words::Number(b.key),
-        number(b.saw),
-    ];
-    push_line(out, b"unexplained", &words)
-}
-
-/// One edge.
-pub(crate) fn push_edge(out: &mut Vec<u8>, e: &Edge) -> Result<(), AllocError>
-    ensures { OnOk result (out.new.items ≡ out.old.items ++ lines.edge_line e.now) }
-{
-    let words = [
-        number(e.src),
-        Words::Text(kind_word(e.kind)),
-        number(e.dst),
-        Words::Number(e.key),
-    ];
-    push_line(out, b"edge", &words)
-}
-
-/// One pivot.
-pub(crate) fn push_pivot(out: &mut Vec<u8>, p: &Pivot) -> Result<(), AllocError>
-    ensures { OnOk result (out.new.items ≡ out.old.items ++ lines.pivot_line p.now) }
-{
-    let words = [
-        number(p.txn),
-        Words::Text(b"in"),
-        Words::Numbers(p.ins.as_slice()),
-        Words::Text(b"out"),
-        Words::Numbers(p.outs.as_slice()),
-        Words::Firsts(p.firsts.as_slice()),
-    ];
-    push_line(out, b"pivot", &words)
+    push_line(out, first, &[Words::Text(if holds { yes } else { no })])
 }
 
 /// The order, or the cycle.

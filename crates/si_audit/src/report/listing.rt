@@ -4,10 +4,9 @@ ghost use Rattle.sia_events.specs.Lists.{ListsAscending};
 ghost use Rattle.sia_events.specs.Refusals.{IsWellFormed};
 ghost use Rattle.sia_events.specs.Transactions.{IsCommitted};
 ghost use Rattle.sia_parts.specs.Looks.{AreLooks};
-ghost use Rattle.si_audit.specs.Edges.{AreLinesAndLinks, AreTold};
+ghost use Rattle.si_audit.specs.Edges.{AreTold};
 ghost use Rattle.si_audit.specs.Sheets.{text_of};
 
-use crate::audit::edges::edges_of;
 use crate::cli::form::Form;
 use crate::cli::options::Options;
 use crate::report::sheets::{Sheet, sheets_of_edges};
@@ -25,24 +24,6 @@ pub(crate) struct Listing {
     /// The lines of the edges, on one sheet after another.
     pub(crate) sheets: Vec<Vec<u8>>,
     pub(crate) pivots: Vec<Pivot>,
-}
-
-/// The lines and the links of all edges, by workers, and waits for them.
-fn made_of_all<R: Threads + Wait + Sync>(
-    rt: &R,
-    alloc: Global,
-    ix: &Index,
-    committed: &Committed,
-    looks: Looks,
-    o: &Options,
-) -> Result<Vec<Sheet>, NoMemory>
-    requires committed { ListsAscending (IsCommitted ix.now) committed.now }
-    requires looks { AreLooks ix.now (λ _. ⊤) looks }
-    ensures { IfOk result (λ made. AreLinesAndLinks ix.now (flat_map (λ s. s.lines.items) made.items) (flat_map (λ s. s.links.items) made.items)) }
-{
-    let edges = edges_of(alloc, ix, committed, looks)?;
-    let made = sheets_of_edges(rt, alloc, &edges, o)?;
-    Ok(made)
 }
 
 /// The lines, and all links together.
@@ -72,7 +53,7 @@ fn listed<R: Threads + Wait + Sync>(
     requires looks { AreLooks ix.now (λ _. ⊤) looks }
     ensures { IfOk result (λ t. AreTold Form.Full ix.now (text_of t.sheets.items) t.pivots.items) }
 {
-    let made = made_of_all(rt, alloc, ix, committed, looks, o)?;
+    let made = sheets_of_edges(rt, alloc, ix, committed, looks, o)?;
     let (sheets, links) = parted(alloc, made)?;
     let pivots = pivots_of_links(alloc, ix, links)?;
     Ok(Listing { sheets, pivots })

@@ -1,11 +1,11 @@
 // The lines of edges that are numbers, of which a report can have millions. Some lines at a time are put together in a block, from
 // its end to its start, so that nothing is counted before, and appended at once.
-ghost use Rattle.std.specs.Prelude.{◌≡◌, ◌+◌, ◌<◌, ◌≤◌, ◌∷◌, ◌++◌, [], length, drop, IfOk, OnOk};
+ghost use Rattle.std.specs.Prelude.{◌≡◌, ◌+◌, ◌≤◌, ◌∷◌, ◌++◌, [], length, drop, IfOk, OnOk};
 ghost use Rattle.sia_events.specs.Text.{numeral};
 ghost use Rattle.si_audit.specs.Lines as lines;
 ghost use Rattle.si_audit.specs.Sheets.{number_lines};
 
-use itoa::{Buffer, write_digits};
+use itoa::write_digits;
 use sia_events::{Key, TxnId};
 use sia_parts::{Edge, EdgeNumber, Kind, edge_of};
 use std::alloc::{AllocError, Global};
@@ -15,9 +15,6 @@ const LINES: usize = 64;
 
 /// Room for so many lines, each of less than 72 bytes.
 const ROOM: usize = 4608;
-
-/// How many bytes of a line are no digits: its two words, three spaces and LF.
-const WORDS: usize = 11;
 
 /// Puts the bytes right before `end`. Answers where they start. They are copied to a place of their own first: the compiler
 /// then needs no test whether they overlap with the block, and keeps them in registers.
@@ -102,42 +99,8 @@ fn push_block(
     out.extend_from_slice(&block[start..])
 }
 
-/// The edges of all these numbers, each on a line.
-fn push_numbers(
-    out: &mut Vec<u8>,
-    txns: &[TxnId],
-    keys: &[Key],
-    numbers: &[EdgeNumber],
-) -> Result<(), AllocError>
-    ensures { OnOk result (out.new.items ≡ out.old.items ++ number_lines txns.now keys.now numbers.now) }
-{
-    let mut block = [0; ROOM];
-    let mut rest = numbers;
-    while rest.len() > LINES {
-        push_block(out, &mut block, txns, keys, &rest[..LINES])?;
-        rest = &rest[LINES..];
-    }
-    push_block(out, &mut block, txns, keys, rest)
-}
-
-/// How many digits the number has.
-fn digits_of(n: u64) -> usize
-    ensures { result ≤ 40 }
-{
-    Buffer::new().format(n).len()
-}
-
-/// How many bytes a line has at most: those of the words, the digits of two transactions, and of a key. Both lists ascend, so
-/// that no digits are more than those of the last.
-fn longest_line(txns: &[TxnId], keys: &[Key]) -> usize
-    ensures { 0 < result }
-{
-    let txn = txns.last().map_or(0, |last| digits_of(Key::from(*last)));
-    let key = keys.last().map_or(0, |last| digits_of(*last));
-    WORDS + 2 * txn + key
-}
-
-/// The lines of the edges of these numbers, on a sheet of their own. It has the room for them from the start.
+/// The lines of the edges of these numbers, on a sheet of their own. It has the room for them from the start: both lists ascend,
+/// so that no line is longer than one with the last transaction twice and the last key.
 pub(crate) fn sheet_of(
     alloc: Global,
     txns: &[TxnId],
@@ -146,8 +109,21 @@ pub(crate) fn sheet_of(
 ) -> Result<Vec<u8>, AllocError>
     ensures { IfOk result (λ sheet. sheet.items ≡ number_lines txns.now keys.now numbers.now) }
 {
-    let room = numbers.len().saturating_mul(longest_line(txns, keys));
-    let mut sheet = Vec::with_capacity(alloc, room)?;
-    push_numbers(&mut sheet, txns, keys, numbers)?;
+    let txn = *txns.last().unwrap_or(&0);
+    let longest = Edge {
+        src: txn,
+        dst: txn,
+        kind: Kind::Rw,
+        key: *keys.last().unwrap_or(&0),
+    };
+    let mut block = [0; ROOM];
+    let most = ROOM - put_line(&mut block, &longest, ROOM);
+    let mut sheet = Vec::with_capacity(alloc, numbers.len().saturating_mul(most))?;
+    let mut rest = numbers;
+    while !rest.is_empty() {
+        let count = rest.len().min(LINES);
+        push_block(&mut sheet, &mut block, txns, keys, &rest[..count])?;
+        rest = &rest[count..];
+    }
     Ok(sheet)
 }

@@ -1,5 +1,5 @@
 // The report of an audit: all its lines.
-ghost use Rattle.std.specs.Prelude.{◌≡◌, ◌++◌, ◌&&◌, List, [], flat_map, IfOk, OnOk};
+ghost use Rattle.std.specs.Prelude.{◌≡◌, ◌++◌, ◌&&◌, List, flat_map, IfOk, OnOk};
 ghost use Rattle.si_audit.specs.Audits.{account_of};
 ghost use Rattle.si_audit.specs.Judgements.{account_with};
 ghost use Rattle.si_audit.specs.Lines as lines;
@@ -10,53 +10,42 @@ use crate::audit::counts::Counts;
 use crate::audit::findings::Audit;
 use crate::audit::judgement::Judgement;
 use crate::cli::form::Form;
-use crate::report::lines::{
-    push_bad_read, push_bad_write, push_edge, push_events, push_isolation, push_pivot,
-    push_serializable, push_ssi, push_unexplained, push_verdict,
-};
+use crate::report::found::push_front;
+use crate::report::lines::{push_verdict, push_whether};
 use crate::report::listing::Listing;
+use crate::report::words::{Words, kind_word, number, push_line};
 use sia_events::NoMemory;
 use sia_graph::{Pivot, Verdict};
-use sia_parts::{BadRead, BadWrite, Edge, Unexplained};
+use sia_parts::Edge;
 use std::alloc::{AllocError, Global};
-
-/// How many bytes a line of the report mostly needs.
-const LINE: usize = 32;
-
-fn push_bad_reads(out: &mut Vec<u8>, found: &[BadRead]) -> Result<(), AllocError>
-    ensures { OnOk result (out.new.items ≡ out.old.items ++ flat_map lines.bad_read_line found.now) }
-{
-    for b in found {
-        push_bad_read(out, b)?;
-    }
-    Ok(())
-}
-
-fn push_bad_writes(out: &mut Vec<u8>, found: &[BadWrite]) -> Result<(), AllocError>
-    ensures { OnOk result (out.new.items ≡ out.old.items ++ flat_map lines.bad_write_line found.now) }
-{
-    for b in found {
-        push_bad_write(out, b)?;
-    }
-    Ok(())
-}
-
-fn push_all_unexplained(out: &mut Vec<u8>, found: &[Unexplained]) -> Result<(), AllocError>
-    ensures { OnOk result (out.new.items ≡ out.old.items ++ flat_map lines.unexplained_line found.now) }
-{
-    for b in found {
-        push_unexplained(out, b)?;
-    }
-    Ok(())
-}
 
 fn push_edges(out: &mut Vec<u8>, edges: &[Edge]) -> Result<(), AllocError>
     ensures { OnOk result (out.new.items ≡ out.old.items ++ flat_map lines.edge_line edges.now) }
 {
     for e in edges {
-        push_edge(out, e)?;
+        let words = [
+            number(e.src),
+            Words::Text(kind_word(e.kind)),
+            number(e.dst),
+            Words::Number(e.key),
+        ];
+        push_line(out, b"edge", &words)?;
     }
     Ok(())
+}
+
+fn push_pivot(out: &mut Vec<u8>, p: &Pivot) -> Result<(), AllocError>
+    ensures { OnOk result (out.new.items ≡ out.old.items ++ lines.pivot_line p.now) }
+{
+    let words = [
+        number(p.txn),
+        Words::Text(b"in"),
+        Words::Numbers(p.ins.as_slice()),
+        Words::Text(b"out"),
+        Words::Numbers(p.outs.as_slice()),
+        Words::Firsts(p.firsts.as_slice()),
+    ];
+    push_line(out, b"pivot", &words)
 }
 
 fn push_pivots(out: &mut Vec<u8>, pivots: &[Pivot]) -> Result<(), AllocError>
@@ -65,29 +54,6 @@ fn push_pivots(out: &mut Vec<u8>, pivots: &[Pivot]) -> Result<(), AllocError>
     for p in pivots {
         push_pivot(out, p)?;
     }
-    Ok(())
-}
-
-/// The lines before those of the edges.
-fn push_front(
-    out: &mut Vec<u8>,
-    counts: &Counts,
-    bad_reads: &[BadRead],
-    bad_writes: &[BadWrite],
-    unexplained: &[Unexplained],
-) -> Result<(), AllocError>
-    ensures { OnOk result (out.new.items ≡ out.old.items
-        ++ lines.events_line counts.now.events counts.now.committed counts.now.aborted counts.now.unfinished
-        ++ lines.isolation_line (lines.is_empty bad_reads.now && lines.is_empty bad_writes.now)
-        ++ flat_map lines.bad_read_line bad_reads.now
-        ++ flat_map lines.bad_write_line bad_writes.now
-        ++ flat_map lines.unexplained_line unexplained.now) }
-{
-    push_events(out, counts)?;
-    push_isolation(out, bad_reads.is_empty() && bad_writes.is_empty())?;
-    push_bad_reads(out, bad_reads)?;
-    push_bad_writes(out, bad_writes)?;
-    push_all_unexplained(out, unexplained)?;
     Ok(())
 }
 
@@ -106,15 +72,16 @@ fn push_back(
         ++ lines.verdict_line verdict.now) }
 {
     push_pivots(out, pivots)?;
-    push_ssi(out, pass)?;
-    push_serializable(out, serializable)?;
+    push_whether(out, b"ssi", pass, b"pass", b"fail")?;
+    push_whether(out, b"serializable", serializable, b"yes", b"no")?;
     push_verdict(out, verdict)?;
     Ok(())
 }
 
-/// All lines of an audit.
-fn push_report(out: &mut Vec<u8>, a: &Audit) -> Result<(), AllocError>
-    ensures { OnOk result (out.new.items ≡ out.old.items ++ lines.report_text Form.Full (account_of a.now)) }
+/// The lines of the full report.
+pub fn report(alloc: Global, a: &Audit) -> Result<Vec<u8>, NoMemory>
+    requires { CanBePrinted (account_of a.now) }
+    ensures { IfOk result (λ bytes. bytes.items ≡ lines.report_text Form.Full (account_of a.now)) }
 {
     let counts = Counts {
         events: a.events,
@@ -123,68 +90,18 @@ fn push_report(out: &mut Vec<u8>, a: &Audit) -> Result<(), AllocError>
         unfinished: a.unfinished,
     };
     let found = &a.findings;
+    let mut out = Vec::new(alloc);
     push_front(
-        out,
+        &mut out,
+        None,
         &counts,
         &found.bad_reads,
         &found.bad_writes,
         &found.unexplained,
     )?;
-    push_edges(out, &found.edges)?;
-    push_back(out, &a.pivots, a.pass, a.serializable, &a.verdict)?;
-    Ok(())
-}
-
-/// A buffer with room for most reports with so many edges and bad reads.
-fn buffer(alloc: Global, edges: usize, bad_reads: usize) -> Result<Vec<u8>, AllocError>
-    ensures { IfOk result (λ bytes. bytes.items ≡ []) }
-{
-    let lines = edges.saturating_add(bad_reads);
-    Vec::with_capacity(alloc, lines.saturating_mul(LINE))
-}
-
-/// The lines of the full report.
-pub fn report(alloc: Global, a: &Audit) -> Result<Vec<u8>, NoMemory>
-    requires { CanBePrinted (account_of a.now) }
-    ensures { IfOk result (λ bytes. bytes.items ≡ lines.report_text Form.Full (account_of a.now)) }
-{
-    let found = &a.findings;
-    let mut out = buffer(alloc, found.edges.len(), found.bad_reads.len())?;
-    push_report(&mut out, a)?;
+    push_edges(&mut out, &found.edges)?;
+    push_back(&mut out, &a.pivots, a.pass, a.serializable, &a.verdict)?;
     Ok(out)
-}
-
-/// The lines of a judgement that stand before those of the edges.
-fn front_of(alloc: Global, j: &Judgement) -> Result<Vec<u8>, AllocError>
-    ensures { IfOk result (λ sheet. sheet.items ≡
-        lines.events_line j.now.counts.events j.now.counts.committed j.now.counts.aborted j.now.counts.unfinished
-        ++ lines.isolation_line (lines.is_empty j.now.bad_reads.items && lines.is_empty j.now.bad_writes.items)
-        ++ flat_map lines.bad_read_line j.now.bad_reads.items
-        ++ flat_map lines.bad_write_line j.now.bad_writes.items
-        ++ flat_map lines.unexplained_line j.now.unexplained.items) }
-{
-    let mut sheet = buffer(alloc, j.unexplained.len(), j.bad_reads.len())?;
-    push_front(
-        &mut sheet,
-        &j.counts,
-        &j.bad_reads,
-        &j.bad_writes,
-        &j.unexplained,
-    )?;
-    Ok(sheet)
-}
-
-/// The lines of a judgement that stand behind those of the edges.
-fn back_of(alloc: Global, j: &Judgement, pivots: &[Pivot]) -> Result<Vec<u8>, AllocError>
-    ensures { IfOk result (λ sheet. sheet.items ≡
-        flat_map lines.pivot_line pivots.now
-        ++ lines.ssi_line j.now.pass
-        ++ lines.serializable_line j.now.serializable
-        ++ lines.verdict_line j.now.verdict) }
-{
-    let mut sheet = buffer(alloc, j.counts.committed as usize, pivots.len())?;
-    push_back(&mut sheet, pivots, j.pass, j.serializable, &j.verdict)?;
-    Ok(sheet)
 }
 
 /// The lines of a judgement, with what its report tells of the edges and of the pivots.
@@ -192,8 +109,17 @@ pub(crate) fn report_of(alloc: Global, j: &Judgement, t: Listing) -> Result<Vec<
     ensures { IfOk result (λ all. (form : Form) (edges : List Edge) (pivots : List Pivot) → text_of t.sheets.items ≡ flat_map lines.edge_line (lines.told form edges)
         → t.pivots.items ≡ lines.told form pivots → text_of all.items ≡ lines.report_text form (account_with j.now edges pivots)) }
 {
-    let front = front_of(alloc, j)?;
-    let back = back_of(alloc, j, &t.pivots)?;
+    let mut front = Vec::new(alloc);
+    push_front(
+        &mut front,
+        None,
+        &j.counts,
+        &j.bad_reads,
+        &j.bad_writes,
+        &j.unexplained,
+    )?;
+    let mut back = Vec::new(alloc);
+    push_back(&mut back, &t.pivots, j.pass, j.serializable, &j.verdict)?;
     let mut sheets = t.sheets;
     sheets.insert(0, front)?;
     sheets.push(back)?;

@@ -1,15 +1,19 @@
 // The lines of all edges, which workers make side by side, those of a chunk on each sheet. Of the edges only the links of the
 // vulnerable ones are kept beside their lines.
-ghost use Rattle.std.specs.Prelude.{◌≡◌, ◌+◌, ◌-◌, ◌<◌, ◌≤◌, length, flat_map, slice_index, IfOk};
-ghost use Rattle.si_audit.specs.Edges.{AreAllEdges, IsSheet};
+ghost use Rattle.std.specs.Prelude.{◌≡◌, ⊤, ◌+◌, ◌-◌, ◌<◌, ◌≤◌, length, flat_map, slice_index, IfOk};
+ghost use Rattle.sia_events.specs.Lists.{ListsAscending};
+ghost use Rattle.sia_events.specs.Transactions.{IsCommitted};
+ghost use Rattle.sia_parts.specs.Looks.{AreLooks};
+ghost use Rattle.si_audit.specs.Edges.{AreAllEdges, AreLinesAndLinks, IsSheet};
 
-use crate::audit::edges::{AllEdges, chunk_of};
+use crate::audit::edges::{AllEdges, chunk_of, edges_of};
 use crate::audit::finding::crew_of;
 use crate::cli::options::Options;
 use crate::report::number_lines::sheet_of;
 use sia_events::NoMemory;
 use sia_graph::Link;
-use sia_parts::ChunkBounds;
+use sia_index::Index;
+use sia_parts::{ChunkBounds, Committed, Looks};
 use sia_pool::{Job, OpenGate, work_off};
 use std::alloc::Global;
 use std::sync::Wait;
@@ -76,17 +80,21 @@ fn count_of(chunk_bounds: &ChunkBounds) -> u32
 pub(crate) fn sheets_of_edges<R: Threads + Wait + Sync>(
     rt: &R,
     alloc: Global,
-    edges: &AllEdges,
+    ix: &Index,
+    committed: &Committed,
+    looks: Looks,
     o: &Options,
 ) -> Result<Vec<Sheet>, NoMemory>
-    requires { AreAllEdges edges.now }
-    ensures { IfOk result (λ sheets. IsSheet edges.now 0 (length edges.now.txns.now) (flat_map (λ s. s.lines.items) sheets.items) (flat_map (λ s. s.links.items) sheets.items)) }
+    requires committed { ListsAscending (IsCommitted ix.now) committed.now }
+    requires looks { AreLooks ix.now (λ _. ⊤) looks }
+    ensures { IfOk result (λ sheets. AreLinesAndLinks ix.now (flat_map (λ s. s.lines.items) sheets.items) (flat_map (λ s. s.links.items) sheets.items)) }
 {
+    let edges = edges_of(alloc, ix, committed, looks)?;
     let chunk_bounds = ChunkBounds::of(alloc, &edges.fans, edges.txns.len(), STRETCH)?;
     let count = count_of(&chunk_bounds);
     let job = Printing {
         alloc,
-        edges,
+        edges: &edges,
         chunk_bounds: &chunk_bounds,
     };
     match work_off(rt, alloc, count, crew_of(o, count), &job, &OpenGate) {

@@ -1,6 +1,10 @@
-use Rattle.std.proofs.Common.{◌↔◌, subst}
+use Rattle.std.proofs.Common.{◌↔◌, subst, sym}
 use Rattle.std.specs.Prelude.{IsTrue}
 use Rattle.sia_events.specs.DangerousStructures.{PassesSsi}
+use Rattle.sia_events.specs.Transactions.{IsCommitted}
+use Rattle.sia_parts.specs.Entries.{IsEdge}
+use Rattle.sia_graph.specs.Verdicts.{IsVerdict}
+use Rattle.si_audit.proofs.Judging.{passed_is_serializable, serializable_where}
 use Rattle.si_audit.proofs.audit.judgement.judged.Goals as goal
 
 pub settle_looks-requires : goal.settle_looks-requires
@@ -11,5 +15,29 @@ settle_looks-requires g c = record {
   looks_are = rw c.requires.index c.in_ok-found.ensures.looks;
 }
 
-pub judge-requires-clause-pass : goal.judge-requires-clause-pass
-judge-requires-clause-pass g c = subst (λ h. IsTrue c.in_ok-pass.pass ↔ PassesSsi h) c.requires.index c.in_ok-pass.ensures
+pub returns-clause-exact : goal.returns-clause-exact
+returns-clause-exact g c =
+    let h = c.args.h.now in
+    let wf = c.requires.well_formed in
+    let is = c.in_ok-found.ensures in
+    let verdict = c.in_ok-verdict.verdict in
+    let verdict_is = subst (λ i. IsVerdict (IsCommitted i) (IsEdge i) verdict) c.requires.index c.in_ok-verdict.ensures in
+    record {
+      counts = c.counted-counts.ensures;
+      bad_reads = is.bad_reads;
+      bad_writes = is.bad_writes;
+      unexplained = is.unexplained;
+      pass = subst (λ i. IsTrue c.in_ok-pass.pass ↔ PassesSsi i) c.requires.index c.in_ok-pass.ensures;
+      serializable = serializable_where h wf verdict verdict_is c.in_ok-found.found.unexplained.items is.unexplained (c.replay_law.ensures h wf) c.is_serializable-serializable.result (rw (sym c.deref-3.ensures.value) c.is_serializable-serializable.ensures);
+      verdict = verdict_is;
+    }
+
+pub returns-clause-pass : goal.returns-clause-pass
+returns-clause-pass g c =
+    let h = c.args.h.now in
+    let wf = c.requires.well_formed in
+    let verdict = c.in_ok-verdict.verdict in
+    let verdict_is = subst (λ i. IsVerdict (IsCommitted i) (IsEdge i) verdict) c.requires.index c.in_ok-verdict.ensures in
+    let pass_is = subst (λ i. IsTrue c.in_ok-pass.pass ↔ PassesSsi i) c.requires.index c.in_ok-pass.ensures in
+    passed_is_serializable h wf verdict verdict_is c.in_ok-found.found.unexplained.items c.in_ok-found.ensures.unexplained (c.ssi_law.ensures h wf)
+    c.is_serializable-serializable.result c.in_ok-pass.pass (rw (sym c.deref-3.ensures.value) c.is_serializable-serializable.ensures) pass_is

@@ -1,23 +1,55 @@
-use Rattle.std.proofs.Common.{inl, inr, [], refl, subst, sym, append-nil}
+use Rattle.std.proofs.Common.{◌≡◌, ℕ, List, inl, inr, [], ◌∷◌, ◌++◌, ◌∙◌, codes, refl, subst, sym, append-nil}
 use Rattle.std.specs.Prelude.{MatchOption}
+use Rattle.std.proofs.lemmas.List.Elements.{All-cons, All-nil}
 use Rattle.sia_events.specs.DangerousStructures.{NoFirst}
 use Rattle.sia_events.specs.Isolation.{IsolationKept}
+use Rattle.sia_parts.specs.declared.finding.Edge.{Edge}
+use Rattle.sia_parts.specs.declared.finding.Kind.TheVariants.{Rw}
+use Rattle.sia_parts.specs.Entries.{IsEdge}
 use Rattle.sia_graph.specs.Dangerous.{IsDangerous}
+use Rattle.si_audit.specs.Explained.{TellsAll, dangerous_edges, dangerous_line}
+use Rattle.si_audit.specs.Lines.{line, edge_word}
+use Rattle.si_audit.specs.Reasons.{TellsStep}
 use Rattle.si_audit.proofs.Results.{ok_map}
+use Rattle.si_audit.proofs.Telling.{IsToldBehind, with_reasons}
 use Rattle.si_audit.proofs.explain.explaining.push_danger.Goals as goal
 
 pub returns-then-not-fails : goal.returns-then-not-fails
 returns-then-not-fails c = ([], inl (c.requires.passes c.if-not-fails.true, refl), sym (append-nil c.args.out.now.items))
 
-pub returns-in-None : goal.returns-in-None
-returns-in-None c =
+pub returns-in_default : goal.returns-in_default
+returns-in_default c =
     let g = c.args.evidence.now.index.now in
-    let none : NoFirst g = subst (λ o. MatchOption o (NoFirst g) (IsDangerous g)) c.in-None.is c.in_ok-dangerous_of.ensures in
+    let none : NoFirst g = subst (λ o. MatchOption o (NoFirst g) (IsDangerous g)) c.in_default.is c.in_ok-d.ensures in
     ([], inl (λ kept. subst NoFirst c.requires.same none, refl), sym (append-nil c.args.out.now.items))
 
-pub returns-in-Some : goal.returns-in-Some
-returns-in-Some c =
+pub push_steps-requires-clause-edges : goal.push_steps-requires-clause-edges
+push_steps-requires-clause-edges c =
+    let E = IsEdge c.args.of.now.history.now in
     let g = c.args.evidence.now.index.now in
-    let is : IsDangerous g c.in-Some.d = subst (λ o. MatchOption o (NoFirst g) (IsDangerous g)) c.in-Some.is c.in_ok-dangerous_of.ensures in
+    let is : IsDangerous g c.in-Some.d = subst (λ o. MatchOption o (NoFirst g) (IsDangerous g)) c.in-Some.is c.in_ok-d.ensures in
+    let dangerous = subst (λ h. IsDangerous h c.in-Some.d) c.requires.same is in
+    All-cons E c.rw_edge.result (c.rw_edge-2.result ∷ []) (subst E (sym c.rw_edge.ensures) dangerous.first_key.0)
+    (All-cons E c.rw_edge-2.result [] (subst E (sym c.rw_edge-2.ensures) dangerous.last_key.0) (All-nil E))
+
+pub returns : goal.returns
+returns c =
+    let g = c.args.evidence.now.index.now in
+    let h = c.args.of.now.history.now in
+    let d = c.in-Some.d in
+    let is : IsDangerous g d = subst (λ o. MatchOption o (NoFirst g) (IsDangerous g)) c.in-Some.is c.in_ok-d.ensures in
     let kept = subst IsolationKept c.requires.same (c.requires.fails c.if-not-fails.false) in
-    ok_map _ _ c.push_dangerous.result (λ x told. (told.0, inr (kept, c.in-Some.d, subst (λ h. IsDangerous h c.in-Some.d) c.requires.same is, told.1), told.2)) c.push_dangerous.ensures
+    let o = c.args.out.now.items in
+    let told = λ (es : List Edge) (m n : List ℕ). IsToldBehind (TellsAll (TellsStep h) es) m n in
+    let behind : Edge = record { src = d.pivot; kind = Rw; dst = d.last; key = d.last_key } in
+    let m = c.push_line.new.out.items in
+    let n = c.push_steps.new.out.items in
+    let words : List (List ℕ) → List (List ℕ) → List (List ℕ) → List ℕ =
+    λ x y z. o ++ line (codes "dangerous" ∷ (x ++ edge_word Rw d.first_key ∷ (y ++ edge_word Rw d.last_key ∷ (z ++ [])))) in
+    let pushed : m ≡ o ++ dangerous_line d = c.in_ok-push_line.ensures ∙ (λ i. words (c.number.ensures i) (c.number-2.ensures i) (c.number-3.ensures i)) in
+    ok_map _ _ c.push_steps.result
+    (λ x steps.
+    let all = with_reasons dangerous_line (λ d. TellsAll (TellsStep h) (dangerous_edges d)) d o m n pushed
+    (subst (λ e. told (e ∷ behind ∷ []) m n) c.rw_edge.ensures (subst (λ e. told (c.rw_edge.result ∷ e ∷ []) m n) c.rw_edge-2.ensures steps)) in
+    (all.0, inr (kept, d, subst (λ h. IsDangerous h d) c.requires.same is, all.1), all.2))
+    c.push_steps.ensures

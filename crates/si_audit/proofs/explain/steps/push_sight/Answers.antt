@@ -21,7 +21,7 @@ returns c =
         sight.version,
         version.0,
         c.in-Some.ensures,
-        subst (λ known. TellsUnless known h (codes "; ") k sight.version [] version.0) c.untold_of_edge.ensures version.1,
+        subst (λ known. TellsUnless known h (codes "; ") k sight.version [] version.0) c.untold_of_edge-known.ensures version.1,
         refl,
       ),
       behind c.args.out.now.items _ _ (event_words h k sight.place) version.0 c.in_ok-push_event.ensures version.2,

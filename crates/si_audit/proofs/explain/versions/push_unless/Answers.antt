@@ -5,7 +5,7 @@ use Rattle.si_audit.proofs.explain.versions.push_unless.Goals as goal
 pub returns : goal.returns
 returns c =
     let told = c.in_ok-push_version.ensures in (
-      c.args.around.now.before.now ++ told.0 ++ c.args.around.now.behind.now,
-      inr (c.if-version-around.false, told.0, told.1, refl),
+      c.args.around.0.now ++ told.0 ++ c.args.around.1.now,
+      inr (c.if-version-known.false, told.0, told.1, refl),
       three_words c.args.out.now.items _ _ _ _ _ _ c.in_ok-extend_from_slice.ensures.items told.2 c.in_ok-extend_from_slice-2.ensures.items,
     )

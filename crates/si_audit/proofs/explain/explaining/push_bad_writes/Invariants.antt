@@ -1,9 +1,0 @@
-use Rattle.std.proofs.Common.{take}
-use Rattle.si_audit.specs.Explained.{TellsAll, WithReasons}
-use Rattle.si_audit.specs.Lines.{bad_write_line}
-use Rattle.si_audit.specs.Reasons.{TellsBadWrite}
-use Rattle.si_audit.proofs.Telling.{IsToldBehind}
-use Rattle.si_audit.proofs.explain.explaining.push_bad_writes.Given as goal
-
-abbrev pub invariant-loop-b : goal.invariant-loop-b
-invariant-loop-b l = IsToldBehind (TellsAll (WithReasons bad_write_line (TellsBadWrite l.fn.of.history.now)) (take l.b-index l.found)) l.fn.out.items l.out.items
