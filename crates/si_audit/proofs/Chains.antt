@@ -6,7 +6,7 @@ use Rattle.sia_parts.specs.declared.finding.Unexplained.{Unexplained}
 use Rattle.sia_parts.specs.declared.finding.Edge.{Edge}
 use Rattle.sia_graph.specs.declared.pivot.Pivot.{Pivot}
 use Rattle.si_audit.specs.Lines.{is_empty, isolation_line, bad_read_line, bad_write_line, unexplained_line, edge_line, pivot_line}
-use Rattle.std.proofs.Common.{◌≡◌, ℕ, ◌+◌, ◌<◌, List, [], ◌++◌, length, take, flat_map, get_or, ap, sym, ◌∙◌, append_assoc, append-nil}
+use Rattle.std.proofs.Common.{◌≡◌, ℕ, ◌+◌, ◌<◌, List, [], ◌++◌, length, take, flat_map, get_or, ap, sym, ◌∙◌, append_assoc}
 use Rattle.std.proofs.lemmas.List.{take_more, flat_map_more}
 use Rattle.si_audit.specs.Explained.{TellsAll, WithReasons}
 use Rattle.si_audit.proofs.Telling.{lines_alone}
@@ -51,7 +51,3 @@ next_line f o m n xs i d inside step before =
     then (o ++ flat_map f (take i xs)) m n (f (get_or xs i d)) step before
     ∙ flat_map_more f o (take i xs) (get_or xs i d)
     ∙ ap (λ ys. o ++ flat_map f ys) (sym (take_more xs i d inside))
-
--- the sheet before those of the edges, these, and the sheet behind them
-pub sheets_written : (a b c d e f g s z v : List ℕ) → (a ++ b ++ c ++ d ++ e) ++ (f ++ ((g ++ s ++ z ++ v) ++ [])) ≡ a ++ b ++ c ++ d ++ e ++ f ++ g ++ s ++ z ++ v
-sheets_written a b c d e f g s z v = simp (append_assoc, append-nil)

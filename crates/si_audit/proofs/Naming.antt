@@ -1,9 +1,9 @@
 -- The name of a bad read, tried in order.
-use Rattle.std.proofs.Common.{◌≡◌, ◌≢◌, ◌⊎◌, inl, inr, ℕ, ◌+◌, ◌<◌, ◌≤◌, List, refl, sym, subst, arith}
+use Rattle.std.proofs.Common.{◌≡◌, ◌≢◌, inl, inr, ℕ, ◌<◌, ◌≤◌, List, sym, subst, arith}
 use Rattle.sia_events.specs.declared.anomaly.Anomaly.{Anomaly}
 use Rattle.sia_events.specs.declared.anomaly.Anomaly.TheVariants.{OwnWriteMissed, AbortedRead, UncommittedRead, FutureRead, Phantom, StaleRead}
 use Rattle.sia_events.specs.declared.event.Event.{Event}
-use Rattle.sia_events.specs.Anomalies.{Fits, IsNamed, anomaly_number}
+use Rattle.sia_events.specs.Anomalies.{Fits, IsNamed}
 use Rattle.sia_events.specs.Isolation.{IsBadRead, IsUnexplained}
 use Rattle.sia_events.specs.Reads.{IsDue}
 use Rattle.sia_events.specs.Refusals.{IsWellFormed}

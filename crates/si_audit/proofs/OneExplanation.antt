@@ -1,13 +1,10 @@
 -- An account of a history has one explained report.
-use Rattle.std.proofs.Common.{◌≡◌, ◌≢◌, ◌⊎◌, inl, inr, ℕ, ◌≤◌, List, [], ◌∷◌, ◌++◌, codes, refl, ap, sym, subst, ◌∙◌, arith}
+use Rattle.std.proofs.Common.{◌≡◌, ◌⊎◌, inl, inr, ℕ, ◌≤◌, List, [], ◌∷◌, ◌++◌, codes, ap, sym, subst, ◌∙◌, arith}
 use Rattle.sia_events.specs.declared.event.Event.{Event}
 use Rattle.std.specs.Prelude.{◌&&◌}
-use Rattle.sia_events.specs.DangerousStructures.{IsFirst, NoFirst}
+use Rattle.sia_events.specs.DangerousStructures.{IsFirst}
 use Rattle.sia_events.specs.Dependencies.{RwEdge}
 use Rattle.sia_events.specs.Events.{Saw}
-use Rattle.sia_events.specs.Isolation.{IsolationKept}
-use Rattle.sia_events.specs.Places.{at_place}
-use Rattle.sia_events.specs.Reads.{SawAt}
 use Rattle.sia_events.specs.Refusals.{IsWellFormed}
 use Rattle.sia_events.specs.Text.{numeral}
 use Rattle.sia_events.specs.Transactions.{AbortsAt, CommitsAt, IsOpen}
@@ -17,7 +14,6 @@ use Rattle.sia_events.proofs.Endings.{one_abort, one_end}
 use Rattle.sia_events.proofs.Ranges.{one_version}
 use Rattle.sia_events.proofs.Starts.{one_event, one_start}
 use Rattle.sia_events.proofs.WellFormed.{one_commit}
-use Rattle.sia_index.specs.Info.{IsFirstWrite}
 use Rattle.sia_parts.specs.declared.finding.BadRead.{BadRead}
 use Rattle.sia_parts.specs.declared.finding.BadWrite.{BadWrite}
 use Rattle.sia_parts.specs.declared.finding.Edge.{Edge}
@@ -25,10 +21,8 @@ use Rattle.sia_parts.specs.declared.finding.Kind.{Kind}
 use Rattle.sia_parts.specs.declared.finding.Kind.TheVariants.{Ww, Wr, Rw}
 use Rattle.sia_parts.specs.declared.finding.Unexplained.{Unexplained}
 use Rattle.sia_graph.specs.declared.narrow.dangerous.Dangerous.{Dangerous}
-use Rattle.sia_graph.specs.declared.settling.Step.{Step}
 use Rattle.sia_graph.specs.declared.settling.Verdict.{Verdict}
 use Rattle.sia_graph.specs.declared.settling.Verdict.TheVariants.{Order, Cycle}
-use Rattle.sia_graph.specs.Cycles.{step_edge}
 use Rattle.sia_graph.specs.Dangerous.{IsDangerous, IsLeast, MayBeFirst}
 use Rattle.si_audit.specs.Account.{Account}
 use Rattle.si_audit.specs.Explained.{IsExplained, TellsAll, TellsDanger, TellsVerdict, WithReasons, dangerous_edges, dangerous_line, edges_round}

@@ -1,5 +1,5 @@
 -- What each form tells of a refusal and of an account.
-use Rattle.std.proofs.Common.{◌≡◌, ◌≢◌, refl, ap, ◌∙◌, List, ℕ, ◌++◌}
+use Rattle.std.proofs.Common.{◌≡◌, ◌≢◌, refl, List, ℕ, ◌++◌}
 use Rattle.sia_events.specs.declared.event.Event.{Event}
 use Rattle.sia_events.specs.declared.fault.TextFault.{TextFault}
 use Rattle.si_audit.specs.declared.cli.form.Form.{Form}

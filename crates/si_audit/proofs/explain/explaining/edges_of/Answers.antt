@@ -1,4 +1,4 @@
-use Rattle.std.proofs.Common.{◌≡◌, ◌+◌, length, ap, ◌∙◌, take_all, arith}
+use Rattle.std.proofs.Common.{◌≡◌, ◌+◌, length, ◌∙◌, take_all, arith}
 use Rattle.si_audit.specs.Explained.{edges_round}
 use Rattle.si_audit.proofs.Rounds.{as_many, edge_pushed, leads_on, leads_home}
 use Rattle.si_audit.proofs.explain.explaining.edges_of.Goals as goal

@@ -1,5 +1,5 @@
-use Rattle.std.proofs.Common.{◌≡◌, ◌≤◌, ◌++◌, ◌-◌, ℕ, List, flat_map, map, length, take, drop, ap, sym, ◌∙◌, append_assoc, take-append-drop, arith, rules}
-use Rattle.std.proofs.lemmas.List.{take_rest, map-append, length-take-le}
+use Rattle.std.proofs.Common.{◌≡◌, ◌++◌, ◌-◌, ℕ, List, flat_map, map, length, take, drop, ap, sym, ◌∙◌, append_assoc, take-append-drop}
+use Rattle.std.proofs.lemmas.List.{take_rest, map-append}
 use Rattle.std.proofs.lemmas.Grind.{flat_map-append}
 use Rattle.sia_parts.specs.Packing.{unpacked}
 use Rattle.si_audit.specs.Lines.{edge_line}

@@ -1,4 +1,4 @@
-use Rattle.std.proofs.Common.{◌≡◌, ap, ◌∙◌, [], ◌∷◌, ◌++◌, ◌&&◌, flat_map}
+use Rattle.std.proofs.Common.{ap, ◌∙◌, [], ◌∷◌, ◌++◌, ◌&&◌, flat_map}
 use Rattle.si_audit.specs.Lines as lines
 use Rattle.si_audit.specs.Sheets.{text_of}
 use Rattle.si_audit.proofs.Chains.{front_alone}
