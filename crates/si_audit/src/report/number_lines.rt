@@ -83,22 +83,6 @@ fn put_lines(block: &mut [u8; ROOM], txns: &[TxnId], keys: &[Key], numbers: &[Ed
     end
 }
 
-/// The edges of some numbers, by way of the block.
-#[inline]
-fn push_block(
-    out: &mut Vec<u8>,
-    block: &mut [u8; ROOM],
-    txns: &[TxnId],
-    keys: &[Key],
-    numbers: &[EdgeNumber],
-) -> Result<(), AllocError>
-    requires { length numbers.now ≤ 64 }
-    ensures { OnOk result (out.new.items ≡ out.old.items ++ number_lines txns.now keys.now numbers.now) }
-{
-    let start = put_lines(block, txns, keys, numbers);
-    out.extend_from_slice(&block[start..])
-}
-
 /// The lines of the edges of these numbers, on a sheet of their own. It has the room for them from the start: both lists ascend,
 /// so that no line is longer than one with the last transaction twice and the last key.
 pub(crate) fn sheet_of(
@@ -122,7 +106,8 @@ pub(crate) fn sheet_of(
     let mut rest = numbers;
     while !rest.is_empty() {
         let count = rest.len().min(LINES);
-        push_block(&mut sheet, &mut block, txns, keys, &rest[..count])?;
+        let start = put_lines(&mut block, txns, keys, &rest[..count]);
+        sheet.extend_from_slice(&block[start..])?;
         rest = &rest[count..];
     }
     Ok(sheet)

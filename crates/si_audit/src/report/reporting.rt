@@ -34,25 +34,19 @@ fn push_edges(out: &mut Vec<u8>, edges: &[Edge]) -> Result<(), AllocError>
     Ok(())
 }
 
-fn push_pivot(out: &mut Vec<u8>, p: &Pivot) -> Result<(), AllocError>
-    ensures { OnOk result (out.new.items ≡ out.old.items ++ lines.pivot_line p.now) }
-{
-    let words = [
-        number(p.txn),
-        Words::Text(b"in"),
-        Words::Numbers(p.ins.as_slice()),
-        Words::Text(b"out"),
-        Words::Numbers(p.outs.as_slice()),
-        Words::Firsts(p.firsts.as_slice()),
-    ];
-    push_line(out, b"pivot", &words)
-}
-
 fn push_pivots(out: &mut Vec<u8>, pivots: &[Pivot]) -> Result<(), AllocError>
     ensures { OnOk result (out.new.items ≡ out.old.items ++ flat_map lines.pivot_line pivots.now) }
 {
     for p in pivots {
-        push_pivot(out, p)?;
+        let words = [
+            number(p.txn),
+            Words::Text(b"in"),
+            Words::Numbers(p.ins.as_slice()),
+            Words::Text(b"out"),
+            Words::Numbers(p.outs.as_slice()),
+            Words::Firsts(p.firsts.as_slice()),
+        ];
+        push_line(out, b"pivot", &words)?;
     }
     Ok(())
 }

@@ -46,29 +46,22 @@ pub(crate) fn push_words(out: &mut Vec<u8>, words: &[Words]) -> Result<(), Alloc
     ensures { OnOk result (out.new.items ≡ out.old.items ++ spaced (flat_map words_of words.now)) }
 {
     for some in words {
-        push_some(out, some)?;
+        match some {
+            Words::Text(text) => {
+                out.extend_from_slice(b" ")?;
+                out.extend_from_slice(text)?;
+            }
+            Words::Number(n) => push_number(out, b" ", *n, b"")?,
+            Words::Token(n) => push_number(out, b" ", *n, b":")?,
+            Words::Edge(kind, key) => {
+                out.extend_from_slice(b" >")?;
+                out.extend_from_slice(kind_word(*kind))?;
+                push_number(out, b":", *key, b">")?;
+            }
+            Words::Numbers(numbers) => push_numbers(out, numbers)?,
+            Words::Firsts(firsts) => push_firsts(out, firsts)?,
+        }
     }
-    Ok(())
-}
-
-fn push_some(out: &mut Vec<u8>, words: &Words) -> Result<(), AllocError>
-    ensures { OnOk result (out.new.items ≡ out.old.items ++ spaced (words_of words.now)) }
-{
-    match words {
-        Words::Text(text) => push_word(out, text),
-        Words::Number(n) => push_number(out, b" ", *n, b""),
-        Words::Token(n) => push_number(out, b" ", *n, b":"),
-        Words::Edge(kind, key) => push_edge(out, *kind, *key),
-        Words::Numbers(numbers) => push_numbers(out, numbers),
-        Words::Firsts(firsts) => push_firsts(out, firsts),
-    }
-}
-
-fn push_word(out: &mut Vec<u8>, word: &[u8]) -> Result<(), AllocError>
-    ensures { OnOk result (out.new.items ≡ out.old.items ++ 32 ∷ word.now) }
-{
-    out.extend_from_slice(b" ")?;
-    out.extend_from_slice(word)?;
     Ok(())
 }
 
@@ -85,15 +78,6 @@ pub(crate) fn push_number(
     out.extend_from_slice(before)?;
     out.extend_from_slice(buffer.format(n).as_bytes())?;
     out.extend_from_slice(behind)?;
-    Ok(())
-}
-
-fn push_edge(out: &mut Vec<u8>, kind: Kind, key: Key) -> Result<(), AllocError>
-    ensures { OnOk result (out.new.items ≡ out.old.items ++ spaced (words_of (some.Edge kind key))) }
-{
-    out.extend_from_slice(b" >")?;
-    out.extend_from_slice(kind_word(kind))?;
-    push_number(out, b":", key, b">")?;
     Ok(())
 }
 

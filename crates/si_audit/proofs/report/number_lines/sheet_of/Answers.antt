@@ -1,4 +1,4 @@
-use Rattle.std.proofs.Common.{◌≡◌, ◌++◌, ◌-◌, ℕ, List, flat_map, map, length, take, drop, ap, sym, ◌∙◌, append_assoc, take-append-drop}
+use Rattle.std.proofs.Common.{◌≡◌, ◌++◌, ◌-◌, ℕ, List, flat_map, map, length, take, drop, ap, sym, ◌∙◌, append_assoc, take-append-drop, rules}
 use Rattle.std.proofs.lemmas.List.{take_rest, map-append}
 use Rattle.std.proofs.lemmas.Grind.{flat_map-append}
 use Rattle.sia_parts.specs.Packing.{unpacked}
@@ -17,7 +17,11 @@ loop-rest-preserved c =
     ∙ sym (flat_map-append edge_line (map f (take n rest)) (map f (drop n rest)))
     ∙ ap (flat_map edge_line) (sym (map-append f (take n rest) (drop n rest)))
     ∙ ap (λ (es : List ℕ). flat_map edge_line (map f es)) (take-append-drop n rest) in
-    ap (λ bs. bs ++ flat_map edge_line (map f (take (length rest - n) (drop n rest)))) c.in_ok-push_block.ensures
+    let block = c.put_lines-start.new.block in
+    let start = c.put_lines-start.result in
+    let long : length block ≡ 4608 = search rules in
+    let behind : take (4608 - start) (drop start block) ≡ drop start block = ap (λ (n : ℕ). take (n - start) (drop start block)) (sym long) ∙ take_rest block start in
+    ap (λ bs. bs ++ flat_map edge_line (map f (take (length rest - n) (drop n rest)))) (c.in_ok-extend_from_slice.ensures.items ∙ ap (λ bs. c.loop-rest.sheet.items ++ bs) (behind ∙ c.put_lines-start.ensures.bytes))
     ∙ append_assoc c.loop-rest.sheet.items front (flat_map edge_line (map f (take (length rest - n) (drop n rest))))
     ∙ ap (λ bs. c.loop-rest.sheet.items ++ bs) both
     ∙ c.loop-rest.invariant
