@@ -141,6 +141,6 @@ pub(crate) fn rows_at<T, O: By<T>>(rows: &[T], number: u32) -> &[T]
     ensures group { IsGroup O.by rows.now number result.now }
     ensures holds { (row : T) → Contains result.now row ↔ (Contains rows.now row × (O.by row ≡ number)) }
 {
-    let (found, _) = rows_near::<T, O>(rows, u64::from(number), 0);
+    let (found, _) = rows_near::<T, O>(rows, u64::from(number), number as usize);
     found
 }

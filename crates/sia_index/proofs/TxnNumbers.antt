@@ -1,5 +1,5 @@
 -- The numbers of transactions and of written keys.
-use Rattle.std.proofs.Common.{◌≡◌, ◌≢◌, ℕ, ◌<◌, List, Option, Some, None, length, refl, subst}
+use Rattle.std.proofs.Common.{◌≡◌, ◌≢◌, ℕ, ◌<◌, List, Option, Some, None, unwrap_or, length, refl, subst}
 use Rattle.std.specs.Prelude.{All, MatchOption, slice_index, slice_index_or}
 use Rattle.std.proofs.lemmas.List.Elements.{All-contains}
 use Rattle.sia_events.specs.declared.event.Event.{Event}
@@ -25,6 +25,11 @@ info_at h ids infos are i t at d = subst (λ u. IsInfo h u (slice_index_or infos
 pub txn_numbered : (h : List Event) (ids : List ℕ) → ListsAscending (HasEvent h) ids → (t : ℕ) (found : Option ℕ) → MatchOption found (All (λ id. id ≢ t) ids) (λ i. (i < length ids) × ((d : ℕ) → slice_index_or ids i d ≡ t)) → MatchOption found (¬ HasEvent h t) (λ i. IsTxnAt h i t)
 txn_numbered h ids are t None missing = λ has. All-contains (λ id. id ≢ t) ids t missing ((are.each t).1 has) refl
 txn_numbered h ids are t (Some i) at = (ids, are, at.0, at.1 0)
+
+-- a transaction that has an event has the number that is found
+pub number_found : (h : List Event) (t : ℕ) (found : Option ℕ) → MatchOption found (¬ HasEvent h t) (λ i. IsTxnAt h i t) → HasEvent h t → IsTxnAt h (unwrap_or found 0) t
+number_found h t (Some i) at has = at
+number_found h t None none has = absurd (none has)
 
 -- what was found among the written keys is the key's number, and what was not nothing wrote
 pub key_numbered : (h : List Event) (keys : List ℕ) → AreWrittenKeys h keys → (k : ℕ) (found : Option ℕ) → MatchOption found (All (λ key. key ≢ k) keys) (λ i. (i < length keys) × ((d : ℕ) → slice_index_or keys i d ≡ k)) → MatchOption found ((t : ℕ) → ¬ Wrote h t k) (λ i. IsKeyAt h i k)

@@ -16,6 +16,7 @@ use Rattle.sia_index.specs.declared.info.Reader.{Reader}
 use Rattle.sia_index.specs.declared.info.TxnInfo.{TxnInfo}
 use Rattle.sia_index.specs.declared.info.Fate.{Fate}
 use Rattle.sia_index.specs.declared.info.Fate.TheVariants.{Committed, Aborted, Unfinished}
+use Rattle.sia_index.specs.Numbers.{IsTxnAt}
 
 -- how t ended, and where
 abbrev pub EndsAs : List Event → ℕ → Fate → Option ℕ → Type 0
@@ -89,7 +90,7 @@ pub record IsReader (h : List Event) (t p : ℕ) (r : Reader) : Type 0 where
   pub txn_is : r.txn ≡ t
   pub place_is : r.place ≡ p
   pub starts : StartsAt h t r.start
-  pub committed : IsTrue r.committed ↔ IsCommitted h t
+  pub numbered : IsTxnAt h r.number t
   pub wrote_none : r.has_written ≡ false → (k : ℕ) → ¬ Wrote h t k
   pub wrote_some : r.has_written ≡ true → (k : ℕ) × Wrote h t k
 

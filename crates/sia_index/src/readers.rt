@@ -6,12 +6,12 @@ ghost use Rattle.sia_events.specs.Reads.{IsVisible, IsDue};
 ghost use Rattle.sia_index.specs.Info.{IsReader, NoneDue, IsNextDue};
 ghost use Rattle.sia_index.specs.Rows.{AscendsByCommit, IsLastWithin, PassesNone, HasDue};
 
+use crate::grouping::group_at;
 use crate::indexed::Index;
 use crate::info::{DueAt, KeyVersion, Made, Reader};
 use crate::keyed::{ByKey, ByPlace, place_above};
 use crate::minima::next_key;
 use crate::rows::WriteRow;
-use crate::versions::commit_of;
 use sia_events::{Key, TxnId, Version};
 
 impl Index {
@@ -21,18 +21,14 @@ impl Index {
         ensures { IsReader self.now t place result }
     {
         let _ = &self.of;
-        let (from, to) = self.stretch(t);
-        let has_written = from < to;
-        let (start, committed) = match self.txn(t) {
-            Some(info) => (info.start, commit_of(info).is_some()),
-            None => (0, false),
-        };
+        let number = self.txn_number(t).unwrap_or(0);
+        let (from, to) = group_at(&self.starts, number);
         Reader {
             txn: t,
+            number,
             place,
-            start,
-            committed,
-            has_written,
+            start: self.txn_at(number).start,
+            has_written: from < to,
         }
     }
 

@@ -34,9 +34,9 @@ commits_from h part versions first are least k u c within wrote commits =
     All-contains (λ v. first ≤ v.commit) versions version least ((are.each version).1 (wrote, commits, within.0, within.1))
 
 -- what is known of a reader is known of it at any place
-pub known_at : (h : List Event) (t p q : ℕ) (known : Known) → known.reader.txn ≡ t → IsKnown h known.reader.txn q known → IsKnown h t p (record { reader = record { txn = t; place = p; start = known.reader.start; committed = known.reader.committed; has_written = known.reader.has_written }; number = known.number })
-known_at h t p q known same is = subst (λ u. IsKnown h u p (record { reader = record { txn = u; place = p; start = known.reader.start; committed = known.reader.committed; has_written = known.reader.has_written }; number = known.number })) same
-    (record { reader = record { txn_is = refl; place_is = refl; starts = is.reader.starts; committed = is.reader.committed; wrote_none = is.reader.wrote_none; wrote_some = is.reader.wrote_some }; number = is.number })
+pub known_at : (h : List Event) (t p q : ℕ) (known : Known) → known.reader.txn ≡ t → IsKnown h known.reader.txn q known → IsKnown h t p (record { reader = record { txn = known.reader.txn; number = known.reader.number; place = p; start = known.reader.start; has_written = known.reader.has_written }; number = known.number })
+known_at h t p q known same is = subst (λ u. IsKnown h u p (record { reader = record { txn = known.reader.txn; number = known.reader.number; place = p; start = known.reader.start; has_written = known.reader.has_written }; number = known.number })) same
+    (record { reader = record { txn_is = refl; numbered = is.reader.numbered; place_is = refl; starts = is.reader.starts; wrote_none = is.reader.wrote_none; wrote_some = is.reader.wrote_some }; number = is.number })
 
 -- and by its own fields
 pub own_known : (h : List Event) (t p : ℕ) (known : Known) → IsKnown h t p known → IsKnown h known.reader.txn known.reader.place known

@@ -51,7 +51,8 @@ fn put_writer(
     let Some(key) = key_near(ix, made.key, near) else {
         return Ok(near);
     };
-    if let Some(txn) = committed.number(ix, made.txn) {
+    let number = ix.txn_number(made.txn).unwrap_or(0);
+    if let Some(txn) = committed.number(ix, made.txn, number) {
         looks.push(Look {
             txn,
             key,

@@ -37,14 +37,15 @@ impl Earlier {
         })
     }
 
-    /// Of the ranks but `me` the least of those who saw a version of the key from before the place.
-    pub(crate) fn least(&self, key: u32, place: u32, me: u32) -> u32
+    /// Of the ranks but `me` the least of those who saw a version of the key from before the place, looked for from near the row
+    /// that was found last.
+    pub(crate) fn least(&self, key: u32, place: u32, me: u32, near: &mut usize) -> u32
         requires are { (looks : Looks) × (ranks : List ℕ) × AreEarlier looks ranks self.now }
         requires key { key < self.now.size }
         ensures { (looks : Looks) (ranks : List ℕ) → AreEarlier looks ranks self.now
             → IsLeastRank (λ r. (i : ℕ) × SeesBefore looks key place i × IsRankOf ranks i r × (r ≢ me)) result }
     {
-        let seen = self.by_low.least(key, place, me);
+        let seen = self.by_low.least(key, place, me, near);
         seen.min(least_absent(&self.nodes, self.size, key, me))
     }
 }

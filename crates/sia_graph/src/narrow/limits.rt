@@ -43,13 +43,13 @@ fn limit_of(rank: u32, commit: u32) -> u32
     rank.max(LAST.saturating_sub(commit.saturating_sub(1)))
 }
 
-/// Whether the version commits up to the limit of one who saw what was before it.
-fn is_within(earlier: &Earlier, made: Look) -> bool
+/// Whether the version commits up to the limit of one who saw what was before it, looked for from near the row found last.
+fn is_within(earlier: &Earlier, made: Look, near: &mut usize) -> bool
     requires are { (looks : Looks) × (limits : List ℕ) × AreEarlier looks limits earlier.now }
     requires key { made.key < earlier.now.size }
     ensures { (looks : Looks) (limits : List ℕ) → AreEarlier looks limits earlier.now → IsTrue result ↔ IsWithinLimit looks limits made }
 {
-    let rank = earlier.least(made.key, made.high, NONE);
+    let rank = earlier.least(made.key, made.high, NONE, near);
     if rank == NONE {
         return false;
     }
@@ -89,8 +89,9 @@ pub(crate) fn least_early(
     let earlier = Earlier::of(alloc, evidence, limits)?;
     let writers = evidence.looks.writers.as_slice();
     let mut least = NONE;
+    let mut near = 0usize;
     for made in writers {
-        if is_within(&earlier, *made) {
+        if is_within(&earlier, *made, &mut near) {
             least = least.min(made.txn);
         }
     }

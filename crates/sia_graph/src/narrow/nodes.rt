@@ -92,6 +92,9 @@ pub(crate) fn least_absent(nodes: &[Two], size: u32, key: u32, me: u32) -> u32
     ensures { (absences : List Absence) (ranks : List ℕ) → AreNodes absences ranks size nodes.now
         → IsLeastRank (λ r. (i : ℕ) × IsAbsent absences i key × IsRankOf ranks i r × (r ≢ me)) result }
 {
+    if nodes.is_empty() {
+        return NONE;
+    }
     let mut least = NONE;
     let mut block = size + key;
     while block > 0 {

@@ -43,9 +43,10 @@ fn lower(ranked: &Ranked, looks: &[Look], more: u32, least: &mut [u32])
     requires within { All (λ look. (look.txn < length least.old) × (look.high + more < 4294967296)) looks.now }
     ensures { (rows : List Look) (ranks : List ℕ) → AreRanked rows ranks ranked.now → AreLowered rows ranks more looks.now least.old least.new }
 {
+    let mut near = 0usize;
     for look in looks {
         let t = look.txn as usize;
-        let rank = ranked.least(look.key, look.high + more, look.txn);
+        let rank = ranked.least(look.key, look.high + more, look.txn, &mut near);
         least[t] = least[t].min(rank);
     }
 }

@@ -6,6 +6,7 @@ ghost use Rattle.sia_graph.specs.Ranks.{AreRanked, AreTwos, IsLeastRank, IsRankB
 
 use crate::narrow::two::{NONE, Two, other, with};
 use sia_events::NoMemory;
+use sia_index::searching::partition_near;
 use sia_parts::Look;
 use std::alloc::Global;
 
@@ -79,13 +80,13 @@ fn stands_below(look: &Look, key: u32, bound: u32) -> bool
     look.key < key || look.key == key && look.low < bound
 }
 
-/// Where the looks end that stand below the key and the bound.
-pub(crate) fn place_of(looks: &[Look], key: u32, bound: u32) -> usize
+/// Where the looks end that stand below the key and the bound. They are counted from near a guess.
+pub(crate) fn place_of(looks: &[Look], key: u32, bound: u32, near: usize) -> usize
     requires { RiseByPlace looks.now }
     ensures within { result ≤ length looks.now }
     ensures point { IsPartitionPoint (λ look. is_below key bound look ≡ true) (λ look. is_below key bound look ≡ false) looks.now result }
 {
-    looks.partition_point(|look| stands_below(look, key, bound))
+    partition_near(looks, near, |look| stands_below(look, key, bound))
 }
 
 impl Ranked {
@@ -98,13 +99,15 @@ impl Ranked {
         Ok(Ranked { rows, twos })
     }
 
-    /// Of the ranks but `me` the least of a look at the key, from a place below the bound.
-    pub(crate) fn least(&self, key: u32, bound: u32, me: u32) -> u32
+    /// Of the ranks but `me` the least of a look at the key, from a place below the bound. Its row is looked for from near the one
+    /// that was found last.
+    pub(crate) fn least(&self, key: u32, bound: u32, me: u32, near: &mut usize) -> u32
         requires { (looks : List Look) × (ranks : List ℕ) × AreRanked looks ranks self.now }
         ensures { (looks : List Look) (ranks : List ℕ) → AreRanked looks ranks self.now
             → IsLeastRank (λ r. IsRankBelow looks ranks key bound r × (r ≢ me)) result }
     {
-        let end = place_of(&self.rows, key, bound);
+        let end = place_of(&self.rows, key, bound, *near);
+        *near = end;
         if end == 0 {
             return NONE;
         }

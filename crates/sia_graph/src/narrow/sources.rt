@@ -24,9 +24,10 @@ pub(crate) fn ranks_of_sources(
     let earlier = Earlier::of(alloc, evidence, ranks)?;
     let writers = evidence.looks.writers.as_slice();
     let mut least = vec![in alloc; NONE; ranks.len()]?;
+    let mut near = 0usize;
     for made in writers {
         let t = made.txn as usize;
-        let rank = earlier.least(made.key, made.high, ranks[t]);
+        let rank = earlier.least(made.key, made.high, ranks[t], &mut near);
         least[t] = least[t].min(rank);
     }
     Ok(least)

@@ -44,17 +44,17 @@ macro_rules! due {
     };
 }
 
-const fn reading(txn: TxnId, start: u32, committed: bool, has_written: bool) -> Option<Reader> {
+const fn reading(txn: TxnId, number: usize, start: u32, has_written: bool) -> Option<Reader> {
     Some(Reader {
         txn,
+        number,
         place: 7,
         start,
-        committed,
         has_written,
     })
 }
 
-// Where a transaction starts, whether it committed, and whether it wrote. What is seen of one key after another, whichever
+// The number of a transaction, where it starts, and whether it wrote. What is seen of one key after another, whichever
 // number is passed on.
 #[test]
 fn seen_by_readers(rt: HostRuntime) -> Result<(), Fail> {
@@ -74,9 +74,9 @@ fn seen_by_readers(rt: HostRuntime) -> Result<(), Fail> {
             reader(&index, 4, 7)
         ],
         [
-            reading(2, 3, true, true),
-            reading(3, 5, false, true),
-            reading(4, 6, false, false)
+            reading(2, 1, 3, true),
+            reading(3, 2, 5, true),
+            reading(4, 3, 6, false)
         ]
     );
     assert_eq!(rt;

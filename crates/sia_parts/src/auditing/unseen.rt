@@ -65,21 +65,14 @@ pub(crate) fn known_after(
         let reader = known.reader;
         if reader.txn == t {
             return Known {
-                reader: Reader {
-                    txn: t,
-                    place,
-                    start: reader.start,
-                    committed: reader.committed,
-                    has_written: reader.has_written,
-                },
+                reader: Reader { place, ..reader },
                 number: known.number,
             };
         }
     }
-    Known {
-        reader: ix.reader(t, place),
-        number: committed.number(ix, t),
-    }
+    let reader = ix.reader(t, place);
+    let number = committed.number(ix, t, reader.number);
+    Known { reader, number }
 }
 
 /// Adds the absence from one number of a key to before another, if the transaction has a number, and the last absence doesn't

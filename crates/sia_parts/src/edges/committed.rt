@@ -51,14 +51,15 @@ impl Committed {
         self.ids.as_slice()
     }
 
-    /// The number of a transaction, if it committed.
-    pub(crate) fn number(&self, ix: &Index, t: TxnId) -> Option<u32>
+    /// The number of a transaction, if it committed. It may be number `near` of all transactions.
+    pub(crate) fn number(&self, ix: &Index, t: TxnId, near: usize) -> Option<u32>
         requires well_formed { IsWellFormed ix.now }
         requires committed { ListsAscending (IsCommitted ix.now) self.now }
         ensures { (i : ℕ) → (result ≡ Some i) ↔ IsCommittedAt ix.now i t }
     {
+        let _ = ix;
         let ids = self.ids.as_slice();
-        let at = self.hint(ix, t);
+        let at = self.places.get(near).copied().unwrap_or(0) as usize;
         if at < ids.len() && ids[at] == t {
             return Some(at as u32);
         }
@@ -66,12 +67,6 @@ impl Committed {
             Ok(i) => Some(i as u32),
             Err(_) => None,
         }
-    }
-
-    // Where it may stand.
-    fn hint(&self, ix: &Index, t: TxnId) -> usize {
-        let number = ix.txn_number(t).unwrap_or(0);
-        self.places.get(number).copied().unwrap_or(0) as usize
     }
 }
 

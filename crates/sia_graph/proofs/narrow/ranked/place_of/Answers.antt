@@ -8,4 +8,4 @@ use Rattle.sia_graph.proofs.narrow.ranked.place_of.Goals as goal
 pub returns-clause-point : goal.returns-clause-point
 returns-clause-point c =
     let looks = c.args.looks.now in
-    IsPartitionPoint-from_clause (is_below c.args.key c.args.bound) looks _ c.partition_point.ensures.partitioned (parted looks c.requires c.args.key c.args.bound) (λ a r q k. search rules)
+    IsPartitionPoint-from_clause (is_below c.args.key c.args.bound) looks _ c.partition_near.ensures.partitioned (parted looks c.requires c.args.key c.args.bound) (λ a r q k. search rules)
