@@ -11,7 +11,6 @@ use crate::info::{DueAt, KeyVersion, Made, Reader};
 use crate::keyed::{ByKey, ByPlace, place_above};
 use crate::minima::next_key;
 use crate::rows::WriteRow;
-use crate::versions::commit_of;
 use sia_events::{Key, TxnId, Version};
 
 impl Index {
@@ -24,7 +23,7 @@ impl Index {
         let (from, to) = self.stretch(t);
         let has_written = from < to;
         let (start, committed) = match self.txn(t) {
-            Some(info) => (info.start, commit_of(info).is_some()),
+            Some(info) => (info.start, info.commit().is_some()),
             None => (0, false),
         };
         Reader {

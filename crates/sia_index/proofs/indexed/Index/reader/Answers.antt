@@ -16,7 +16,7 @@ returns-in-Some c =
       txn_is = refl;
       place_is = refl;
       starts = c.in-Some.ensures.0;
-      committed = committed_told _ c.args.t c.commit_of.result _ (c.commit_of.ensures _ c.args.t wf c.in-Some.ensures) c.is_some.ensures;
+      committed = committed_told _ c.args.t c.commit.result _ (c.commit.ensures _ c.args.t wf c.in-Some.ensures) c.is_some.ensures;
       wrote_none = λ none k wrote. let less : c.stretch-from.result.0 < c.stretch-from.result.1 = written_within _ _ are _ _ _ stretch k wrote in grind (arith, nat_tests, none, less);
       wrote_some = λ some. let less : c.stretch-from.result.0 < c.stretch-from.result.1 = grind (arith, nat_tests, some) in some_written _ _ are _ _ _ stretch less;
     }
