@@ -14,3 +14,4 @@ pub mod DueWithin
 pub mod TxnNumbers
 pub mod Blocks
 pub mod Finding
+pub mod PartedRows

@@ -1,61 +1,21 @@
--- The written keys and the versions that a search finds from a key on.
+-- The keys that a search finds from a key on.
 use Rattle.std.proofs.Common.{◌≡◌, ◌↔◌, ◌⊎◌, ℕ, ◌<◌, ◌≤◌, List, [], ◌∷◌, length, Option, Some, None, inl, inr, refl, ap, ◌+◌, ◌-◌, subst, ◌∙◌, arith}
 use Rattle.std.specs.List.{AllWithin}
-use Rattle.std.specs.Prelude.{Contains, slice_index, slice_index_or, slice_range}
+use Rattle.std.specs.Prelude.{slice_index_or, slice_range}
 use Rattle.std.proofs.lemmas.Bool.{cases_lt}
 use Rattle.std.proofs.lemmas.List.{get_or_default}
 use Rattle.std.proofs.lemmas.List.Edits.{length-between, get_or-between}
-use Rattle.std.proofs.lemmas.List.Elements.{Contains-get_or}
 use Rattle.sia_events.specs.declared.event.Event.{Event}
 use Rattle.sia_events.specs.Lists.{ListsBy}
 use Rattle.sia_events.specs.Reads.{IsVisible}
-use Rattle.sia_events.specs.Transactions.{StartsAt, Wrote, WroteBefore}
+use Rattle.sia_events.specs.Transactions.{StartsAt, WroteBefore}
 use Rattle.sia_events.proofs.Starts.{one_start}
 use Rattle.sia_index.specs.declared.info.KeyVersion.{KeyVersion}
-use Rattle.sia_index.specs.Info.{AreWrittenKeys, IsNextWritten}
 use Rattle.sia_index.specs.declared.rows.WriteRow.{WriteRow}
 use Rattle.sia_index.specs.Minima.{IsNextBelow, IsNextKey}
-use Rattle.sia_index.specs.Rows.{AreVersionRows, AreWrites, AscendsByVersion, IsPlaceFrom, IsStretch, PassesNone}
-use Rattle.sia_index.proofs.Ordered.{ascends, rises, first_rises}
+use Rattle.sia_index.specs.Rows.{AreVersionRows, AreWrites, AscendsByVersion, IsStretch, PassesNone}
+use Rattle.sia_index.proofs.Ordered.{first_rises}
 use Rattle.sia_index.proofs.ReadTables.{Rises, PointBelow, PointWithin, point_below, point_from, point_within, point_above}
-
--- what a search found
-pub place_found : (keys : List ℕ) (from at : ℕ) → PointBelow (λ (k : ℕ). k) keys from at → at ≤ length keys → IsPlaceFrom keys from at
-place_found keys from at low bound = record {
-  bound = bound;
-  below = λ i before. point_below (λ (k : ℕ). k) keys from at low i 0 (omega arith) before;
-  above = λ i after below. point_from (λ (k : ℕ). k) keys from at low i 0 after below;
-}
-
-module _ (h : List Event) (keys : List ℕ) (are : AreWrittenKeys h keys) (from at : ℕ) (place : IsPlaceFrom keys from at) where
-  -- a written key that is at least from doesn't stand before the point
-  from_point : (t j : ℕ) → from ≤ j → Wrote h t j → (c : Contains keys j) × (at ≤ c.0) × (slice_index keys c.0 ≡ j)
-  from_point t j le wrote =
-      let c = (are.each j).1 (t, wrote) in
-      let is : slice_index keys c.0 ≡ j = get_or_default keys c.0 0 j c.1 ∙ c.2 in (
-        c,
-        (elim (cases_lt c.0 at) [
-          | inl before ↦ let less = place.below c.0 before in absurd (omega arith)
-          | inr after ↦ after
-        ]),
-        is,
-      )
-
-  -- so at the end there is none
-  pub none_from : length keys ≤ at → (k t : ℕ) → from ≤ k → ¬ Wrote h t k
-  none_from end k t le wrote = let found = from_point t k le wrote in let after = found.1 in let below = found.0.1 in omega arith
-
-  -- and else the key at the point is the least
-  pub next_from : at < length keys → IsNextWritten h from (slice_index keys at)
-  next_from below = (
-    place.above at (omega arith) below,
-    (are.each (slice_index keys at)).0 (Contains-get_or keys at 0 below),
-    λ j le less t wrote.
-        let found = from_point t j le wrote in
-        let up = rises (λ (k : ℕ). k) keys (ascends (λ (k : ℕ). k) _ keys are) at found.0.0 0 found.1 found.0.1 in
-        let is = found.2 in
-        omega arith,
-  )
 
 -- what lists by one property lists by another that says the same
 pub listed_same : {A : Type 0} (rank : A → List ℕ) (P Q : A → Type 0) (xs : List A) → ((x : A) → P x ↔ Q x) → ListsBy rank P xs → ListsBy rank Q xs

@@ -1,12 +1,12 @@
 -- What is known of a transaction, and of a committed transaction's version of a key.
-use Rattle.std.specs.Prelude.{◌≡◌, ◌≢◌, ◌↔◌, ◌<◌, ◌≤◌, ℕ, true, false, IsTrue, List, [], ◌∷◌, Option, Some, None, slice_index, length, flat_map, All, Contains}
+use Rattle.std.specs.Prelude.{◌≡◌, ◌≢◌, ◌<◌, ◌≤◌, ℕ, true, false, List, [], ◌∷◌, Option, Some, None, slice_index, length, flat_map, All, Contains}
 use Rattle.std.specs.List.{AllZip}
 use Rattle.sia_events.specs.declared.event.Event.{Event}
 use Rattle.sia_events.specs.declared.event.Event.TheVariants.{Read, Range}
 use Rattle.sia_events.specs.Places.{at_place}
 use Rattle.sia_events.specs.Lists.{ListsBy, ListsAscending}
 use Rattle.sia_events.specs.Reads.{IsDue}
-use Rattle.sia_events.specs.Transactions.{StartsAt, CommitsAt, AbortsAt, IsCommitted, IsOpen, WritesAt, Wrote}
+use Rattle.sia_events.specs.Transactions.{StartsAt, CommitsAt, AbortsAt, IsOpen, WritesAt, Wrote}
 use Rattle.sia_index.specs.declared.info.DueAt.{DueAt}
 use Rattle.sia_index.specs.declared.info.KeyVersion.{KeyVersion}
 use Rattle.sia_index.specs.declared.info.Made.{Made}
@@ -30,10 +30,6 @@ EndsAs h t Unfinished (Some p) = ⊥
 -- where t starts, and how it ended
 abbrev pub IsInfo : List Event → ℕ → TxnInfo → Type 0
 IsInfo h t info = StartsAt h t info.start × EndsAs h t info.fate info.ended
-
--- of two transactions, of which this is known, the second committed after the first had started
-abbrev pub StartsBefore : TxnInfo → TxnInfo → Type 0
-StartsBefore first second = (c : ℕ) × (second.fate ≡ Committed) × (second.ended ≡ Some c) × (first.start < c)
 
 -- a committed writer of k, with its commit
 abbrev pub IsMade : List Event → ℕ → Made → Type 0
@@ -101,10 +97,6 @@ NoneDue h t p lo hi = (k : ℕ) → lo ≤ k → k ≤ hi → IsDue h t p k 0
 -- of the keys from lo to hi the least at which another version than 0 is due to t at place p, and that version
 abbrev pub IsNextDue : List Event → ℕ → ℕ → ℕ → ℕ → DueAt → Type 0
 IsNextDue h t p lo hi d = (lo ≤ d.key) × (d.key ≤ hi) × (d.due ≢ 0) × IsDue h t p d.key d.due × ((j : ℕ) → lo ≤ j → j < d.key → IsDue h t p j 0)
-
--- the least written key that is at least from
-abbrev pub IsNextWritten : List Event → ℕ → ℕ → Type 0
-IsNextWritten h from k = (from ≤ k) × ((t : ℕ) × Wrote h t k) × ((j : ℕ) → from ≤ j → j < k → (t : ℕ) → ¬ Wrote h t j)
 
 -- the versions that committed transactions made of the keys from lo to hi, by key and commit
 abbrev pub AreVersionsWithin : List Event → ℕ → ℕ → List KeyVersion → Type 0

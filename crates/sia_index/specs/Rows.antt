@@ -48,12 +48,6 @@ AreWrites h writes = ListsBy (λ w. w.txn ∷ w.key ∷ w.place ∷ []) (λ w. W
 abbrev pub AscendsByWrite : List WriteRow → Type 0
 AscendsByWrite writes = AllPairs (λ x y. Precedes (x.txn ∷ x.key ∷ x.place ∷ []) (y.txn ∷ y.key ∷ y.place ∷ [])) writes
 
--- the place parts what is below from in the list from the rest
-pub record IsPlaceFrom (keys : List ℕ) (from at : ℕ) : Type 0 where
-  pub bound : at ≤ length keys
-  pub below : (i : ℕ) → i < at → slice_index keys i < from
-  pub above : (i : ℕ) → at ≤ i → i < length keys → from ≤ slice_index keys i
-
 -- the rows from one place to below another are those of t
 pub record IsStretch (rows : List WriteRow) (t from to : ℕ) : Type 0 where
   pub le : from ≤ to

@@ -1,16 +1,17 @@
 //! An index of a history, and what it answers.
-ghost use Rattle.std.specs.Prelude.{◌≡◌, ◌↔◌, ◌≤◌, ◌<◌, ℕ, IsTrue, List, MatchOption};
-ghost use Rattle.sia_events.specs.Transactions.{HasEvent, Overlap, Wrote};
+ghost use Rattle.std.specs.Prelude.{◌↔◌, ℕ, IsTrue, List, MatchOption};
+ghost use Rattle.sia_events.specs.declared.event.Event.{Event};
+ghost use Rattle.sia_events.specs.Transactions.{HasEvent, Overlap, StartsBeforeCommit, Wrote};
 ghost use Rattle.sia_events.specs.Refusals.{IsWellFormed};
 ghost use Rattle.sia_index.specs.declared.rows.WriteRow.{WriteRow};
 ghost use Rattle.sia_index.specs.Rows.{AreWrites, IsStretch};
-ghost use Rattle.sia_index.specs.Info.{IsInfo, AreVersions, AreWrittenKeys, AreAllVersions, IsFirstWrite, HasKeyAt, IsKeyAt, StartsBefore, AreReadsWithin, AreRangesMeeting, AreWrittenWithin, IsNextWritten, AreVersionsWithin};
+ghost use Rattle.sia_index.specs.Info.{IsInfo, AreVersions, AreWrittenKeys, AreAllVersions, IsFirstWrite, HasKeyAt, IsKeyAt, AreReadsWithin, AreRangesMeeting, AreWrittenWithin, AreVersionsWithin};
 
 use crate::grouping::group_at;
 use crate::hints::find;
-use crate::info::{Fate, ItemRead, KeyVersion, Made, RangeRead, TxnInfo};
+use crate::info::{ItemRead, KeyVersion, Made, RangeRead, TxnInfo};
 use crate::keyed::{ByKey, between, place_from};
-use crate::reads::{key_from, ranges_meeting};
+use crate::reads::ranges_meeting;
 use crate::rows::WriteRow;
 use sia_events::{History, Key, TxnId};
 use std::marker::Model;
@@ -146,13 +147,6 @@ impl Index {
         between::<Key, ByKey>(&self.keys, lo, hi)
     }
 
-    /// The least written key that is at least `from`.
-    pub fn next_written(&self, from: Key) -> Option<Key>
-        ensures { MatchOption result ((k t : ℕ) → from ≤ k → ¬ Wrote self.now t k) (IsNextWritten self.now from) }
-    {
-        key_from(&self.keys, from)
-    }
-
     /// The versions that committed transactions made of the keys from `lo` to `hi`, by key and commit, found by two searches.
     pub fn versions_within(&self, lo: Key, hi: Key) -> &[KeyVersion]
         ensures { AreVersionsWithin self.now lo hi result.now }
@@ -178,10 +172,10 @@ impl Index {
 
 // Whether the second committed, after the first had started.
 fn starts_before_commit(a: TxnInfo, b: TxnInfo) -> bool
-    ensures { IsTrue result ↔ StartsBefore a b }
+    ensures { (h : List Event) (t u : ℕ) → IsWellFormed h → IsInfo h t a → IsInfo h u b → IsTrue result ↔ StartsBeforeCommit h t u }
 {
-    match (b.fate, b.ended) {
-        (Fate::Committed, Some(commit)) => a.start < commit,
-        _ => false,
+    match b.commit() {
+        Some(commit) => a.start < commit,
+        None => false,
     }
 }

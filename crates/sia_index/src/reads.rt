@@ -1,8 +1,7 @@
 //! Tables of the reads of a history, and what is found in them by key.
-ghost use Rattle.std.specs.Prelude.{◌≡◌, ◌<◌, ◌≤◌, ℕ, List, IfOk, IsTrue, MatchOption, AllPairs};
+ghost use Rattle.std.specs.Prelude.{List, IfOk};
 ghost use Rattle.sia_events.specs.declared.event.Event.{Event};
-ghost use Rattle.sia_events.specs.Transactions.{Wrote};
-ghost use Rattle.sia_index.specs.Info.{AreRangesMeeting, AreWrittenKeys, IsNextWritten};
+ghost use Rattle.sia_index.specs.Info.{AreRangesMeeting};
 ghost use Rattle.sia_index.specs.Rows.{AreRanges, AreReaches, AscendsByRange};
 
 use crate::info::RangeRead;
@@ -21,19 +20,6 @@ pub fn reaches_of(alloc: Global, ranges: &[RangeRead]) -> Result<Vec<Key>, Alloc
         reaches.push(reach)?;
     }
     Ok(reaches)
-}
-
-/// The least key that is at least `from`.
-pub fn key_from(keys: &[Key], from: Key) -> Option<Key>
-    requires { AllPairs (λ x y. x < y) keys.now }
-    ensures { (h : List Event) → AreWrittenKeys h keys.now → MatchOption result ((k t : ℕ) → from ≤ k → ¬ Wrote h t k) (IsNextWritten h from) }
-{
-    let at = place_from::<Key, ByKey>(keys, from);
-    if at < keys.len() {
-        Some(keys[at])
-    } else {
-        None
-    }
 }
 
 /// The ranges that start at `hi` or below, without the first ones that all end below `lo`.

@@ -6,10 +6,8 @@ ghost use Rattle.sia_index.specs.Info.{IsReader};
 ghost use Rattle.sia_index.specs.Rows.{AscendsByCommit, IsLastWithin};
 ghost use Rattle.sia_index.specs.Seen.{IsSeen, IsSeenOf};
 
-use crate::hints::find;
 use crate::indexed::Index;
 use crate::info::{Made, Reader};
-use crate::keyed::ByKey;
 use crate::readers::last_within;
 use sia_events::{Key, Version};
 
@@ -30,14 +28,6 @@ impl Index {
     {
         let _ = &self.of;
         seen_of(self.versions_near(k, near), reader.start)
-    }
-
-    /// A number that the key may have among the written keys: `near`, where it has that, and else one that is looked up.
-    pub fn number_near(&self, k: Key, near: usize) -> usize {
-        match find::<Key, ByKey>(&self.keys, k, near) {
-            Some(i) => i,
-            None => near,
-        }
     }
 
     /// Whether the reader may have written a key from `lo` to `hi` before its place.

@@ -96,7 +96,6 @@ fn seen_by_readers(rt: HostRuntime) -> Result<(), Fail> {
         ],
         [of_one, of_one, nothing, nothing]
     );
-    assert_eq!(rt; [index.number_near(5, 2), index.number_near(5, 0)], [2, 2]);
     assert_eq!(rt;
         [
             may_own(&index, 2, 7, 3, 4),

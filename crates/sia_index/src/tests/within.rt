@@ -1,5 +1,6 @@
 //! Reads and versions at some keys.
 use super::index_of;
+use crate::searching::partition_near;
 use crate::{ItemRead, KeyVersion, Made, RangeRead};
 use sia_events::Key;
 use std::test::*;
@@ -43,7 +44,6 @@ struct Within<'a> {
     ranges: &'a [(Key, Key, &'a [RangeRead])],
     versions: &'a [(Key, Key, &'a [KeyVersion])],
     all_versions: &'a [Made],
-    next_written: &'a [(Key, Option<Key>)],
 }
 
 const HISTORIES: &[Within<'static>] = &[
@@ -72,7 +72,6 @@ const HISTORIES: &[Within<'static>] = &[
         ranges: &[],
         versions: &[],
         all_versions: &[],
-        next_written: &[],
     },
     // A range read is found from the part of its first key, its last key and each between; one that lies elsewhere isn't.
     Within {
@@ -87,7 +86,6 @@ const HISTORIES: &[Within<'static>] = &[
         ],
         versions: &[],
         all_versions: &[],
-        next_written: &[(0, None)],
     },
     // Key 9 was written, and has no version.
     Within {
@@ -111,13 +109,6 @@ const HISTORIES: &[Within<'static>] = &[
             made!(1, 3),
             made!(2, 8),
         ],
-        next_written: &[
-            (0, Some(2)),
-            (3, Some(3)),
-            (6, Some(9)),
-            (9, Some(9)),
-            (10, None),
-        ],
     },
 ];
 
@@ -135,8 +126,24 @@ fn reads_and_versions(rt: HostRuntime) -> Result<(), Fail> {
             assert_eq!(rt; index.versions_within(*lo, *hi), *versions);
         }
         assert_eq!(rt; index.all_versions(), within.all_versions);
-        for (from, key) in within.next_written {
-            assert_eq!(rt; index.next_written(*from), *key);
+    }
+    Ok(())
+}
+
+/// Numbers that ascend.
+const NUMBERS: &[u64] = &[1, 3, 5, 5, 8, 13];
+
+/// Limits, and how many of the numbers are below each.
+const BELOW: &[(u64, usize)] = &[(0, 0), (1, 0), (5, 2), (6, 4), (13, 5), (14, 6)];
+
+#[test]
+fn places(rt: HostRuntime) -> Result<(), Fail> {
+    for near in 0..8 {
+        for (limit, count) in BELOW {
+            assert_eq!(rt;
+                partition_near(NUMBERS, near, |number| *number < *limit),
+                *count
+            );
         }
     }
     Ok(())

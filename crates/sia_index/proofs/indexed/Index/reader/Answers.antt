@@ -30,7 +30,7 @@ returns c =
     let from = c.group_at-from.ensures.from ∙ ap (λ xs. slice_index xs i) c.deref.ensures.value in
     let to = c.group_at-from.ensures.to ∙ ap (λ xs. slice_index xs (i + 1)) c.deref.ensures.value in
     let stretch : IsStretch c.self.inside.writes.items t c.group_at-from.result.0 c.group_at-from.result.1 =
-        rw (from, to) (subst (λ t. IsStretch c.self.inside.writes.items t (slice_index c.self.inside.starts.items i) (slice_index c.self.inside.starts.items (i + 1))) number.1 own) in
+    rw (from, to) (subst (λ t. IsStretch c.self.inside.writes.items t (slice_index c.self.inside.starts.items i) (slice_index c.self.inside.starts.items (i + 1))) number.1 own) in
     record {
       txn_is = refl;
       numbered = at;
