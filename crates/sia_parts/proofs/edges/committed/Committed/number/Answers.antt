@@ -15,7 +15,7 @@ overflow_cast-result c =
     let ids = c.as_slice-ids.result.now in
     let own = rw (← c.self.view_is) at c.requires.committed in
     let are = subst (ListsAscending (IsCommitted h)) (sym c.as_slice-ids.ensures.value) own in
-    let few = few_committed h c.requires.well_formed _ t (number_here h ids c.hint-at.result t are (c.if-at-ids.true, c.if-ids-at.true)) in
+    let few = few_committed h c.requires.well_formed _ t (number_here h ids c.unwrap_or-at.result t are (c.if-at-ids.true, c.if-ids-at.true)) in
     omega arith
 
 pub returns-then-ids-at : goal.returns-then-ids-at
@@ -25,7 +25,7 @@ returns-then-ids-at c =
     let ids = c.as_slice-ids.result.now in
     let own = rw (← c.self.view_is) at c.requires.committed in
     let are = subst (ListsAscending (IsCommitted h)) (sym c.as_slice-ids.ensures.value) own in
-    committed_some h _ t (number_here h ids c.hint-at.result t are (c.if-at-ids.true, c.if-ids-at.true))
+    committed_some h _ t (number_here h ids c.unwrap_or-at.result t are (c.if-at-ids.true, c.if-ids-at.true))
 
 pub overflow_cast-result-in-Ok : goal.overflow_cast-result-in-Ok
 overflow_cast-result-in-Ok c =
