@@ -1,6 +1,6 @@
 -- Steps of the maps and sets of a replay.
 use Rattle.std.proofs.Common.{◌≡◌, ◌≢◌, ◌⊎◌, inl, inr, ℕ, zero, suc, ◌+◌, ◌<◌, ◌≤◌, Bool, true, false, cond, List, [], ◌∷◌, length, get_or, set, drop, slice_get, Option, Some, None, unwrap_or, ap, sym, ◌∙◌, refl, subst, arith}
-use Rattle.std.specs.Prelude.{Contains, IsTrue, ◌↔◌}
+use Rattle.std.specs.Prelude.{IsTrue, ◌↔◌}
 use Rattle.std.specs.BTreeMap.{BTreeMap, btree_map_len, get, is_at, Updates}
 use Rattle.std.specs.Map.{lookup}
 use Rattle.std.specs.Option.{is_some}

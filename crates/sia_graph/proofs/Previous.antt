@@ -10,7 +10,7 @@ use Rattle.sia_parts.specs.Sights.{FromSome}
 use Rattle.sia_parts.proofs.Adding.{first_more}
 use Rattle.sia_graph.specs.NumberEdges.{HasNumberEdge}
 use Rattle.sia_graph.specs.Previous.{AreLeftRanks, AreWithin, IsBefore, IsLeftIn, IsLeftSource, IsPlaceOf, IsPreviousOf, IsRankTo}
-use Rattle.sia_graph.specs.Ranks.{AreRanks, IsLeastRank, IsRankBelow, IsRankOf}
+use Rattle.sia_graph.specs.Ranks.{AreRanks, IsLeastRank, IsRankOf}
 use Rattle.sia_graph.proofs.LeastRanks.{least_either, least_none, least_same}
 
 -- the first n are numbers where they are left, and else say none

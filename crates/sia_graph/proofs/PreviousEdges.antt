@@ -1,7 +1,6 @@
 -- The least sources by numbers are those of the history.
 use Rattle.std.proofs.Common.{◌≡◌, ◌⊎◌, inl, inr, ℕ, ◌+◌, ◌-◌, ◌<◌, ◌≤◌, Bool, List, length, get_or, refl, sym, ◌∙◌, subst, arith}
 use Rattle.std.specs.Prelude.{All, Contains}
-use Rattle.std.proofs.lemmas.Bool.{cases_lt}
 use Rattle.std.proofs.lemmas.List.Elements.{Contains-get_or}
 use Rattle.sia_events.specs.declared.event.Event.{Event}
 use Rattle.sia_events.specs.declared.event.Event.TheVariants.{Commit}
@@ -13,7 +12,6 @@ use Rattle.sia_parts.specs.declared.looks.Absence.{Absence}
 use Rattle.sia_parts.specs.declared.looks.Looks.{Looks}
 use Rattle.sia_parts.specs.Entries.{IsEdge}
 use Rattle.sia_parts.proofs.Committing.{committed_number}
-use Rattle.sia_parts.proofs.FewNumbers.{few_keys}
 use Rattle.sia_graph.specs.Evidence.{IsEvidence}
 use Rattle.sia_graph.specs.Previous.{AreWithin, IsLeftIn, IsLeftSource, IsPreviousOf}
 use Rattle.sia_graph.specs.Walks.{AreLeastSources, IsSource}

@@ -1,4 +1,4 @@
-use Rattle.std.proofs.Common.{sym, ◌∙◌, subst}
+use Rattle.std.proofs.Common.{sym, subst}
 use Rattle.sia_events.specs.DangerousStructures.{IsVulnerable}
 use Rattle.sia_graph.specs.Links.{ListsLinks}
 use Rattle.sia_graph.proofs.LinkLists.{links_in_order}

@@ -1,5 +1,5 @@
 -- One version more each time.
-use Rattle.std.proofs.Common.{◌+◌, ◌<◌, ◌≤◌, ℕ, List, get_or, subst, sym, take, ◌∙◌, arith}
+use Rattle.std.proofs.Common.{◌+◌, ℕ, List, subst, sym, take, ◌∙◌, arith}
 use Rattle.std.proofs.lemmas.Bool.{false≢true}
 use Rattle.std.proofs.lemmas.List.{take_all}
 use Rattle.sia_parts.specs.declared.looks.Look.{Look}

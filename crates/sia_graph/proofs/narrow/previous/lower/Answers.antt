@@ -1,5 +1,5 @@
 -- One look more each time.
-use Rattle.std.proofs.Common.{◌<◌, List, get_or, refl, subst, arith}
+use Rattle.std.proofs.Common.{List, get_or, refl, subst, arith}
 use Rattle.std.proofs.lemmas.List.{take_all}
 use Rattle.sia_parts.specs.declared.looks.Look.{Look}
 use Rattle.sia_graph.specs.Previous.{AreLowered, IsBefore}
