@@ -74,4 +74,3 @@ pub mod NarrowStands
 pub mod TakenNodes
 pub mod TakenMembers
 pub mod StepsOf
-pub mod BetweenTwo

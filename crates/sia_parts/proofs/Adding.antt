@@ -62,10 +62,6 @@ adds_list xs ys x = (
   (λ e. elim e [ inl c ↦ Contains-append_left xs ys x c | inr c ↦ Contains-append_right xs ys x c ]),
 )
 
--- what some member gives, where another list has all members
-pub from_members : {A B : Type 0} (P : A → B → Type 0) (xs ys : List A) → ((x : A) → Contains xs x → Contains ys x) → (y : B) → FromSome P xs y → FromSome P ys y
-from_members P xs ys to y f = (f.0, to f.0 f.1, f.2)
-
 -- some of the first n things gives y
 abbrev pub FromFirst : {A B : Type 0} → (A → B → Type 0) → List A → ℕ → B → Type 0
 FromFirst P xs n = FromSome P (take n xs)

@@ -1,5 +1,5 @@
 -- The committed transactions, put one after another, and the number of each.
-use Rattle.std.proofs.Common.{◌≡◌, ◌⊎◌, inl, inr, ℕ, ◌+◌, ◌<◌, ◌≤◌, List, [], ◌∷◌, ◌++◌, Option, Some, None, length, take, slice_index_or, refl, ap, sym, subst, ◌∙◌, arith, length-append}
+use Rattle.std.proofs.Common.{◌≡◌, ◌⊎◌, inl, inr, ℕ, ◌+◌, ◌<◌, ◌≤◌, List, [], ◌∷◌, ◌++◌, length, take, slice_index_or, refl, ap, sym, subst, ◌∙◌, arith, length-append}
 use Rattle.std.specs.Prelude.{◌↔◌, ◌≢◌, All, AllPairs, Contains, slice_index}
 use Rattle.std.proofs.lemmas.Bool.{cases_lt}
 use Rattle.std.proofs.lemmas.List.{get_or_append_left, get_or-append-add, take_more, take_all, get_or-take, length-take, get_or_default}
@@ -7,27 +7,13 @@ use Rattle.std.proofs.lemmas.List.Elements.{Contains-append_left, Contains-push,
 use Rattle.sia_events.specs.declared.event.Event.{Event}
 use Rattle.sia_events.specs.declared.event.Event.TheVariants.{Commit}
 use Rattle.sia_events.specs.Lists.{Precedes, ListsAscending}
-use Rattle.sia_events.specs.Refusals.{IsWellFormed}
 use Rattle.sia_events.specs.Transactions.{HasEvent, IsCommitted}
-use Rattle.sia_events.proofs.Endings.{one_end}
 use Rattle.sia_events.proofs.OneList.{one_list_by}
-use Rattle.sia_index.specs.declared.info.Fate.{Fate}
-use Rattle.sia_index.specs.declared.info.Fate.TheVariants.{Committed, Aborted, Unfinished}
-use Rattle.sia_index.specs.Info.{EndsAs}
 use Rattle.sia_parts.specs.EdgeNumbers.{IsCommittedAt}
 
 -- what committed has an event
 pub committed_has : (h : List Event) (t : ℕ) → IsCommitted h t → HasEvent h t
 committed_has h t is = (is.0, (Commit t, is.1, refl))
-
--- how a transaction ended tells whether it committed
-pub told : (h : List Event) → IsWellFormed h → (t : ℕ) (fate : Fate) (ended : Option ℕ) → EndsAs h t fate ended → (fate ≡ Committed) ↔ IsCommitted h t
-told h wf t Committed None is = absurd is
-told h wf t Committed (Some p) is = ((λ _. (p, is)), (λ _. refl))
-told h wf t Aborted None is = absurd is
-told h wf t Aborted (Some p) is = ((λ e. absurd cc), (λ c. absurd (one_end h wf t c.0 p c.1 is)))
-told h wf t Unfinished None is = ((λ e. absurd cc), (λ c. absurd (is.1 c)))
-told h wf t Unfinished (Some p) is = absurd is
 
 abbrev pub Rises : List ℕ → Type 0
 Rises = AllPairs (λ x y. Precedes (x ∷ []) (y ∷ []))

@@ -1,8 +1,7 @@
 -- Looks: their numbers, how they are in order, and which stand between two ranks.
-use Rattle.std.proofs.Common.{◌≡◌, inl, inr, ℕ, ◌+◌, ◌<◌, ◌≤◌, List, Some, None, length, ap, sym, subst, ◌∙◌, arith}
-use Rattle.std.specs.Prelude.{◌↔◌, AllPairs, Contains, slice_range, slice_index, slice_index_or}
+use Rattle.std.proofs.Common.{◌≡◌, inl, inr, ℕ, ◌<◌, ◌≤◌, List, Some, None, length, ap, sym, subst, ◌∙◌, arith}
+use Rattle.std.specs.Prelude.{◌↔◌, AllPairs, Contains, slice_range, slice_index}
 use Rattle.std.proofs.lemmas.Bool.{cases_lt}
-use Rattle.std.proofs.lemmas.List.{get_or_default}
 use Rattle.std.proofs.lemmas.Option.{same_Some}
 use Rattle.std.proofs.lemmas.List.Elements.{Contains-get_or}
 use Rattle.sia_events.specs.declared.event.Event.{Event}
@@ -11,12 +10,11 @@ use Rattle.sia_index.specs.Info.{IsKeyAt}
 use Rattle.sia_parts.specs.EdgeNumbers.{IsCommittedAt}
 use Rattle.sia_index.proofs.Ordered.{ascends}
 use Rattle.sia_index.proofs.KeyChains.{key_number}
-use Rattle.sia_index.proofs.ReadTables.{part_has, part_gives}
+use Rattle.sia_index.proofs.ReadTables.{PointBelow, part_has, part_gives, point_below, point_from}
 use Rattle.sia_index.specs.declared.info.KeyVersion.{KeyVersion}
 use Rattle.sia_parts.specs.declared.looks.Look.{Look}
-use Rattle.sia_parts.specs.Fans.{IsRankPlace}
 use Rattle.sia_parts.specs.Looking.{IsVersionLook}
-use Rattle.sia_parts.specs.Looks.{RiseByRank, look_rank}
+use Rattle.sia_parts.specs.Looks.{look_rank}
 use Rattle.sia_parts.proofs.Committing.{at_is_committed, committed_number}
 
 -- a key with a number is written
@@ -71,47 +69,20 @@ one_look h made x y is other =
     λ i. record { txn = txn i; key = key i; low = low i; high = high i }
 
 -- between the places of two ranks stand the looks from the one to below the other
-pub looks_between : (looks : List Look) (from to start end stop : ℕ) → IsRankPlace looks from start → IsRankPlace looks to end → start ≤ stop → end ≤ stop → stop ≤ length looks → ((k : ℕ) → start ≤ k → k < stop → k < end) → (x : Look) → Contains (slice_range looks start stop) x ↔ (Contains looks x × (from ≤ look_rank x) × (look_rank x < to))
+pub looks_between : (looks : List Look) (from to start end stop : ℕ) → PointBelow look_rank looks from start → PointBelow look_rank looks to end → start ≤ stop → end ≤ stop → stop ≤ length looks → ((k : ℕ) → start ≤ k → k < stop → k < end) → (x : Look) → Contains (slice_range looks start stop) x ↔ (Contains looks x × (from ≤ look_rank x) × (look_rank x < to))
 looks_between looks from to start end stop low high le most bound cut x = (
   (λ c.
       let at = part_gives looks start stop le bound x c in
       let below : at.0 < length looks = let b = at.2 in omega arith in
-      ((at.0, below, at.3), subst (λ (y : Look). from ≤ look_rank y) at.3 (low.above at.0 x at.1 below), subst (λ (y : Look). look_rank y < to) at.3 (high.below at.0 x (cut at.0 at.1 at.2)))),
+      ((at.0, below, at.3), subst (λ (y : Look). from ≤ look_rank y) at.3 (point_from look_rank looks from start low at.0 x at.1 below), subst (λ (y : Look). look_rank y < to) at.3 (point_below look_rank looks to end high at.0 x below (cut at.0 at.1 at.2)))),
   (λ (c, above, under).
       let after : start ≤ c.0 = elim (cases_lt c.0 start) [
-        | inl before ↦ let less : look_rank x < from = subst (λ (y : Look). look_rank y < from) c.2 (low.below c.0 x before) in absurd (omega arith)
+        | inl before ↦ let less : look_rank x < from = subst (λ (y : Look). look_rank y < from) c.2 (point_below look_rank looks from start low c.0 x c.1 before) in absurd (omega arith)
         | inr more ↦ more
       ] in
       let before : c.0 < end = elim (cases_lt c.0 end) [
         | inl less ↦ less
-        | inr more ↦ let over : to ≤ look_rank x = subst (λ (y : Look). to ≤ look_rank y) c.2 (high.above c.0 x more c.1) in absurd (omega arith)
+        | inr more ↦ let over : to ≤ look_rank x = subst (λ (y : Look). to ≤ look_rank y) c.2 (point_from look_rank looks to end high c.0 x more c.1) in absurd (omega arith)
       ] in
       part_has looks start stop le bound c.0 x after (omega arith) c.2),
 )
-
--- all looks below the place are below the rank, and from the other place on none is
-pub record IsBracket (looks : List Look) (from low high : ℕ) : Type 0 where
-  pub bound : high ≤ length looks
-  pub below : (i : ℕ) (d : Look) → i < low → look_rank (slice_index_or looks i d) < from
-  pub above : (i : ℕ) (d : Look) → high ≤ i → i < length looks → from ≤ look_rank (slice_index_or looks i d)
-
-module _ (looks : List Look) (from : ℕ) where
-  module _ (rise : RiseByRank looks) (low high at : ℕ) (e : Look) (is : IsBracket looks from low high) (under : at < high) where
-    pub bracket_up : look_rank (slice_index_or looks at e) < from → IsBracket looks from (at + 1) high
-    bracket_up less = record {
-      bound = is.bound;
-      below = λ i d before.
-          (let most = is.bound in
-          let le = rise i at d (omega arith) (omega arith) in
-          let same = subst (λ (x : Look). look_rank x < from) (get_or_default looks at e d (omega arith)) less in omega arith);
-      above = is.above;
-    }
-
-    pub bracket_down : from ≤ look_rank (slice_index_or looks at e) → IsBracket looks from low at
-    bracket_down more = record {
-      bound = let most = is.bound in omega arith;
-      below = is.below;
-      above = λ i d after before.
-          (let le = rise at i d after before in
-          let same = subst (λ (x : Look). from ≤ look_rank x) (get_or_default looks at e d (let most = is.bound in omega arith)) more in omega arith);
-    }

@@ -1,5 +1,5 @@
 -- Fans: edges of one kind from one transaction, as stretches of looks by rank, and the numbers of these edges.
-use Rattle.std.specs.Prelude.{◌≡◌, ◌≢◌, ◌⊎◌, ℕ, ◌+◌, ◌<◌, ◌≤◌, List, All, Contains, length, slice_range, slice_index_or}
+use Rattle.std.specs.Prelude.{◌≡◌, ◌≢◌, ◌⊎◌, ℕ, ◌+◌, ◌<◌, ◌≤◌, List, All, Contains, length, slice_range}
 use Rattle.sia_parts.specs.declared.edges.fans.Fan.{Fan}
 use Rattle.sia_parts.specs.declared.finding.Kind.{Kind}
 use Rattle.sia_parts.specs.declared.finding.Kind.TheVariants.{Ww, Wr, Rw}
@@ -23,12 +23,6 @@ abbrev pub looks_for : Looks → Kind → List Look
 looks_for looks Ww = looks.writers.items
 looks_for looks Wr = looks.readers.items
 looks_for looks Rw = looks.writers.items
-
--- the place parts the looks below the rank from the rest
-pub record IsRankPlace (looks : List Look) (from at : ℕ) : Type 0 where
-  pub bound : at ≤ length looks
-  pub below : (i : ℕ) (d : Look) → i < at → look_rank (slice_index_or looks i d) < from
-  pub above : (i : ℕ) (d : Look) → at ≤ i → i < length looks → from ≤ look_rank (slice_index_or looks i d)
 
 -- n is the number of an edge to the look's transaction, at its key
 abbrev pub IsNumberTo : ℕ → Kind → Look → ℕ → Type 0

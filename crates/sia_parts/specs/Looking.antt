@@ -1,5 +1,5 @@
 -- How the looks at the keys of a part come about: from versions, and from what reads saw.
-use Rattle.std.specs.Prelude.{◌≡◌, ◌⊎◌, ℕ, ◌<◌, ◌≤◌, List, length, slice_index}
+use Rattle.std.specs.Prelude.{◌≡◌, ◌⊎◌, ℕ, List}
 use Rattle.sia_events.specs.declared.event.Event.{Event}
 use Rattle.sia_events.specs.NarrowDependencies.{Looked}
 use Rattle.sia_index.specs.declared.info.KeyVersion.{KeyVersion}
@@ -25,9 +25,3 @@ IsLookedAt h part at = (t : ℕ) × (k : ℕ) × IsCommittedAt h at.0 t × IsKey
 pub record AreSeen (h : List Event) (part : Part) (looks : List Look) (absences : List Absence) : Type 0 where
   pub ends : (at : ℕ × ℕ × ℕ) → FromSome IsEnd looks at ⊎ FromSome IsInAbsence absences at → IsLookedAt h part at
   pub whole : (at : ℕ × ℕ × ℕ) → IsLookedAt h part at → FromSome IsInLook looks at ⊎ FromSome IsInAbsence absences at
-
--- the place parts the numbers below k from the rest
-pub record IsPlaceFrom (xs : List ℕ) (k at : ℕ) : Type 0 where
-  pub bound : at ≤ length xs
-  pub below : (i : ℕ) → i < at → slice_index xs i < k
-  pub above : (i : ℕ) → at ≤ i → i < length xs → k ≤ slice_index xs i

@@ -1,9 +1,9 @@
 //! The audit of a part of the keys.
-ghost use Rattle.std.specs.Prelude.{◌≡◌, ◌↔◌, All, IfOk, IsTrue};
+ghost use Rattle.std.specs.Prelude.{◌≡◌, ◌↔◌, IfOk, IsTrue};
 ghost use Rattle.sia_events.specs.Lists.{ListsAscending};
 ghost use Rattle.sia_events.specs.Refusals.{IsWellFormed};
 ghost use Rattle.sia_events.specs.Transactions.{IsCommitted};
-ghost use Rattle.sia_events.specs.Isolation.{IsBadRead, IsUnexplained};
+ghost use Rattle.sia_events.specs.Isolation.{IsUnexplained};
 ghost use Rattle.sia_events.specs.Reads.{SawAt};
 ghost use Rattle.sia_parts.specs.Findings.{ArePartFindings, ListsBadReads, ListsBadWrites, ListsUnexplained};
 ghost use Rattle.sia_parts.specs.Parts.{IsInPart};

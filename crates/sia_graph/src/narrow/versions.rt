@@ -5,8 +5,8 @@ ghost use Rattle.sia_parts.specs.declared.looks.Look.{Look};
 ghost use Rattle.sia_parts.specs.Looks.{RiseByRank, look_rank};
 ghost use Rattle.sia_graph.specs.NarrowSteps.{CanSearch, IsNewest, IsNext};
 
-use crate::searching::{ByCommit, place_above};
 use crate::taking::numbers::step;
+use sia_index::searching::partition_near;
 use sia_parts::Look;
 
 /// How many writers stand up to the key and the place. They are counted from near a guess.
@@ -16,7 +16,8 @@ fn count_up_to(writers: &[Look], key: u32, place: u32, near: usize) -> usize
     ensures before { AllWithin (λ a. look_rank a ≤ key * 4294967296 + place) writers.now 0 result }
     ensures after { AllWithin (λ a. key * 4294967296 + place < look_rank a) writers.now result (length writers.now) }
 {
-    place_above::<Look, ByCommit>(writers, step(key, place), near)
+    let most = step(key, place);
+    partition_near(writers, near, |look| step(look.key, look.high) <= most)
 }
 
 /// The look at a place, where it is one of the key.

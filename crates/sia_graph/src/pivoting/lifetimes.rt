@@ -4,7 +4,7 @@ ghost use Rattle.sia_events.specs.Transactions.{IsCommitted};
 ghost use Rattle.sia_graph.specs.Lifetimes.{AreLifetimes, IsLifetime};
 
 use sia_events::{NoMemory, TxnId};
-use sia_index::{Fate, Index};
+use sia_index::Index;
 use std::alloc::Global;
 
 /// When a committed transaction starts, and when it commits.
@@ -20,11 +20,7 @@ pub(crate) fn lifetime_of(ix: &Index, txn: TxnId) -> Option<Lifetime>
 {
     ix.law();
     let info = ix.txn(txn)?;
-    let commit = match info.fate {
-        Fate::Committed => info.ended?,
-        Fate::Aborted => return None,
-        Fate::Unfinished => return None,
-    };
+    let commit = info.commit()?;
     Some(Lifetime {
         start: info.start,
         commit,

@@ -1,12 +1,12 @@
 //! The numbers of keys among the written ones, counted from 0.
-ghost use Rattle.std.specs.Prelude.{◌≡◌, ◌↔◌, ◌+◌, ◌≤◌, ◌<◌, ℕ, AllPairs, Some};
+ghost use Rattle.std.specs.Prelude.{◌≡◌, ◌↔◌, ◌≤◌, ◌<◌, ℕ, Some};
 ghost use Rattle.sia_events.specs.Refusals.{IsWellFormed};
 ghost use Rattle.sia_events.specs.Transactions.{Wrote};
 ghost use Rattle.sia_index.specs.Info.{IsKeyAt};
-ghost use Rattle.sia_parts.specs.Looking.{IsPlaceFrom};
 
 use sia_events::Key;
 use sia_index::Index;
+use sia_index::keyed::{ByKey, place_above, place_from};
 
 /// The number of the key, if it is written. It may be `near`.
 pub(crate) fn key_near(ix: &Index, k: Key, near: u32) -> Option<u32>
@@ -34,27 +34,7 @@ pub(crate) fn numbers_within(ix: &Index, lo: Key, hi: Key, near: u32) -> (u32, u
         return (near, near);
     }
     let keys = ix.written_keys();
-    (place_from(keys, lo) as u32, place_above(keys, hi) as u32)
-}
-
-// The place of the first of the keys that is at least at this one.
-fn place_from(keys: &[Key], k: Key) -> usize
-    requires { AllPairs (λ x y. x < y) keys.now }
-    ensures { IsPlaceFrom keys.now k result }
-{
-    match keys.binary_search(&k) {
-        Ok(at) => at,
-        Err(at) => at,
-    }
-}
-
-// The place of the first of the keys that is above this one.
-fn place_above(keys: &[Key], k: Key) -> usize
-    requires { AllPairs (λ x y. x < y) keys.now }
-    ensures { IsPlaceFrom keys.now (k + 1) result }
-{
-    match keys.binary_search(&k) {
-        Ok(at) => at + 1,
-        Err(at) => at,
-    }
+    let from = place_from::<Key, ByKey>(keys, lo);
+    let to = place_above::<Key, ByKey>(keys, hi);
+    (from as u32, to as u32)
 }

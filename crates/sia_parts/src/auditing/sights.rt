@@ -19,7 +19,7 @@ use crate::edges::committed::Committed;
 use crate::finding::BadRead;
 use crate::looks::Look;
 use sia_events::{Key, NoMemory, TxnId, Version};
-use sia_index::{Fate, Index, ItemRead, Seen};
+use sia_index::{Index, ItemRead, Seen};
 
 /// A version of a key that a transaction saw at a place.
 #[derive(Clone, Copy)]
@@ -201,12 +201,5 @@ fn commit_of(ix: &Index, t: TxnId) -> Option<u32>
     requires { IsWellFormed ix.now }
     ensures { MatchOption result (¬ IsCommitted ix.now t) (CommitsAt ix.now t) }
 {
-    match ix.txn(t) {
-        Some(info) => match info.fate {
-            Fate::Committed => info.ended,
-            Fate::Aborted => None,
-            Fate::Unfinished => None,
-        },
-        None => None,
-    }
+    ix.txn(t)?.commit()
 }

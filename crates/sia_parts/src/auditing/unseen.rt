@@ -1,6 +1,6 @@
 //! What is known of who reads. Some range reads see nothing of a part of the keys, since every version there was committed after
 //! they had started: a wide range read meets many parts, so that this has to be told without a look at their keys.
-ghost use Rattle.std.specs.Prelude.{◌≡◌, ◌≤◌, ◌<◌, ℕ, IsTrue, OnOk, false};
+ghost use Rattle.std.specs.Prelude.{◌≡◌, ◌<◌, ℕ, IsTrue, OnOk, false};
 ghost use Rattle.sia_events.specs.Lists.{ListsAscending};
 ghost use Rattle.sia_events.specs.Refusals.{IsWellFormed};
 ghost use Rattle.sia_events.specs.Transactions.{HasEvent, IsCommitted};

@@ -1,12 +1,12 @@
 //! The committed transactions of a history, and the number of each among them.
-ghost use Rattle.std.specs.Prelude.{◌≡◌, ◌↔◌, ◌<◌, ℕ, IfOk, IsTrue, Some, length, slice_index};
+ghost use Rattle.std.specs.Prelude.{◌≡◌, ◌↔◌, ℕ, IfOk, Some};
 ghost use Rattle.sia_events.specs.Lists.{ListsAscending};
 ghost use Rattle.sia_events.specs.Refusals.{IsWellFormed};
-ghost use Rattle.sia_events.specs.Transactions.{HasEvent, IsCommitted};
+ghost use Rattle.sia_events.specs.Transactions.{IsCommitted};
 ghost use Rattle.sia_parts.specs.EdgeNumbers.{IsCommittedAt};
 
 use sia_events::{NoMemory, TxnId};
-use sia_index::{Fate, Index};
+use sia_index::Index;
 use std::alloc::Global;
 use std::marker::Model;
 
@@ -37,7 +37,7 @@ impl Committed {
         let mut places = Vec::with_capacity(alloc, txns.len())?;
         for i in 0..txns.len() {
             places.push(u32::try_from(ids.len()).unwrap_or(u32::MAX))?;
-            if has_committed(ix, txns, i) {
+            if ix.txn_at(i).commit().is_some() {
                 ids.push(txns[i])?;
             }
         }
@@ -67,20 +67,5 @@ impl Committed {
             Ok(i) => Some(i as u32),
             Err(_) => None,
         }
-    }
-}
-
-// Whether number `i` of all transactions, counted from 0, committed.
-fn has_committed(ix: &Index, txns: &[TxnId], i: usize) -> bool
-    requires well_formed { IsWellFormed ix.now }
-    requires txns { ListsAscending (HasEvent ix.now) txns.now }
-    requires within { i < length txns.now }
-    ensures { IsTrue result ↔ IsCommitted ix.now (slice_index txns.now i) }
-{
-    let _ = txns;
-    match ix.txn_at(i).fate {
-        Fate::Committed => true,
-        Fate::Aborted => false,
-        Fate::Unfinished => false,
     }
 }

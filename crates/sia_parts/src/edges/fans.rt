@@ -1,5 +1,5 @@
 //! Fans: the edges of one kind from one transaction, as stretches of looks.
-ghost use Rattle.std.specs.Prelude.{◌≡◌, ◌↔◌, ◌+◌, ◌<◌, ◌≤◌, [], ℕ, List, Option, All, Contains, IfOk, OnOk};
+ghost use Rattle.std.specs.Prelude.{◌↔◌, ◌+◌, ◌<◌, ◌≤◌, [], ℕ, List, Option, All, Contains, IfOk, OnOk};
 ghost use Rattle.sia_events.specs.Lists.{ListsAscending};
 ghost use Rattle.sia_events.specs.Transactions.{IsCommitted};
 ghost use Rattle.sia_index.specs.Info.{AreWrittenKeys};
@@ -9,7 +9,7 @@ ghost use Rattle.sia_parts.specs.declared.finding.Kind.TheVariants.{Rw};
 ghost use Rattle.sia_parts.specs.EdgeNumbers.{StandForEdges};
 ghost use Rattle.sia_parts.specs.Fans.{GivesTo, HasDigits, HaveDigits, IsAbsenceNumber, IsFanNumber, IsMissedNumber, IsNumberWithin, IsReaderNumber, IsWriterNumber};
 ghost use Rattle.sia_parts.specs.Gathering.{AreNumbersBetween, CanSpread, IsNumberIn, RiseBySource};
-ghost use Rattle.sia_parts.specs.Looks.{AreLooks, RiseByRank, rank_of};
+ghost use Rattle.sia_parts.specs.Looks.{AreLooks, RiseByRank};
 ghost use Rattle.sia_parts.specs.Parts.{IsWithin};
 ghost use Rattle.sia_parts.specs.Sights.{FromSome, Gives};
 

@@ -1,10 +1,10 @@
 //! The order of looks, by key and then by commit, and where looks stand in it.
 ghost use Rattle.std.specs.Prelude.{◌≡◌, ◌↔◌, ◌≤◌, ◌<◌, ◌+◌, Contains, OnOk, length, slice_range};
-ghost use Rattle.sia_parts.specs.Fans.{IsRankPlace};
 ghost use Rattle.sia_parts.specs.Looks.{RiseByRank, look_rank, rank_of};
 
 use crate::looks::Look;
 use sia_events::NoMemory;
+use sia_index::searching::partition_near;
 
 /// Puts the looks in the order of their ranks.
 pub(crate) fn rank_all(looks: &mut Vec<Look>) -> Result<(), NoMemory>
@@ -37,45 +37,7 @@ pub(crate) fn places(looks: &[Look], from: u64, to: u64, near: usize) -> (usize,
     ensures bound { result.1 ≤ length looks.now }
     ensures between { (look : Look) → Contains (slice_range looks.now result.0 result.1) look ↔ (Contains looks.now look × (from ≤ look_rank look) × (look_rank look < to)) }
 {
-    let start = place(looks, from, near);
-    let stop = place(looks, to, start);
+    let start = partition_near(looks, near, |look| rank(look.key, look.high) < from);
+    let stop = partition_near(looks, start, |look| rank(look.key, look.high) < to);
     (start, stop.max(start))
-}
-
-// Where the looks of at least this rank begin. Which places are tried makes no difference: first the one before `near`, then
-// others behind it, each step twice as long as the one before, and once one was too far, by halving.
-fn place(looks: &[Look], from: u64, near: usize) -> usize
-    requires { RiseByRank looks.now }
-    ensures { IsRankPlace looks.now from result }
-{
-    let mut low = 0;
-    let mut high = looks.len();
-    let mut guess = near.saturating_sub(1);
-    let mut step = 1usize;
-    while low < high {
-        let at = next_try(low, high, guess);
-        let look = looks[at];
-        if rank(look.key, look.high) < from {
-            low = at + 1;
-            guess = at.saturating_add(step);
-            step = step.saturating_mul(2);
-        } else {
-            high = at;
-            step = usize::MAX;
-        }
-    }
-    low
-}
-
-// The guess if it lies between the two, and else the middle.
-fn next_try(low: usize, high: usize, guess: usize) -> usize
-    requires { low < high }
-    ensures from { low ≤ result }
-    ensures below { result < high }
-{
-    if low <= guess && guess < high {
-        guess
-    } else {
-        low + (high - low) / 2
-    }
 }
