@@ -1,9 +1,11 @@
 -- What is known of a reader, and what is due to it over a range of keys.
-use Rattle.std.proofs.Common.{◌≡◌, inl, inr, ℕ, ◌+◌, ◌<◌, ◌≤◌, List, true, false, refl, sym, subst, arith}
+use Rattle.std.proofs.Common.{◌≡◌, ◌↔◌, inl, inr, ℕ, ◌+◌, ◌<◌, ◌≤◌, List, true, false, Option, Some, None, refl, sym, subst, arith}
+use Rattle.std.specs.Prelude.{Bool, MatchOption}
+use Rattle.std.specs.Option.{is_some}
 use Rattle.std.proofs.lemmas.Bool.{cases_lt}
 use Rattle.sia_events.specs.declared.event.Event.{Event}
 use Rattle.sia_events.specs.Reads.{IsDue}
-use Rattle.sia_events.specs.Transactions.{StartsAt, Wrote}
+use Rattle.sia_events.specs.Transactions.{StartsAt, CommitsAt, IsCommitted, Wrote}
 use Rattle.sia_index.specs.declared.info.Reader.{Reader}
 use Rattle.sia_index.specs.Info.{IsReader, NoneDue}
 use Rattle.sia_index.specs.Numbers.{IsTxnAt}
@@ -19,6 +21,11 @@ own_reader h t p r is = record {
   wrote_some = subst (λ u. r.has_written ≡ true → (k : ℕ) × Wrote h u k) (sym is.txn_is) is.wrote_some;
   wrote_none = subst (λ u. r.has_written ≡ false → (k : ℕ) → ¬ Wrote h u k) (sym is.txn_is) is.wrote_none;
 }
+
+-- what is told to have committed did, and nothing else
+pub committed_told : (h : List Event) (t : ℕ) (found : Option ℕ) (told : Bool) → MatchOption found (¬ IsCommitted h t) (CommitsAt h t) → told ≡ is_some found → (told ≡ true) ↔ IsCommitted h t
+committed_told h t (Some p) told commits is = ((λ yes. (p, commits)), (λ done. is))
+committed_told h t None told none is = ((λ yes. cc), (λ done. absurd (none done)))
 
 -- 0 is due where nothing else is
 pub zero_due : (h : List Event) (t p k : ℕ) → ¬ HasDue h t p k → IsDue h t p k 0
