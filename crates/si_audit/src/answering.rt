@@ -1,11 +1,12 @@
 // What is written of a text, and how its run ends.
-ghost use Rattle.std.specs.Prelude.{◌≡◌, ◌↔◌, ℕ, List, [], IfOk, IsTrue};
+ghost use Rattle.std.specs.Prelude.{◌≡◌, ◌≢◌, ◌↔◌, ℕ, List, [], IfOk, IsTrue};
 ghost use Rattle.sia_events.specs.declared.event.Event.{Event};
 ghost use Rattle.sia_events.specs.Locating.{StandsForLocated};
 ghost use Rattle.sia_events.specs.Refusals.{IsRefusal, IsWellFormed};
 ghost use Rattle.sia_events.specs.Streaming.{Progress, StandsForRead};
 ghost use Rattle.sia_events.specs.declared.fault.TextFault.{TextFault};
 ghost use Rattle.si_audit.specs.declared.cli.form.Form.{Form};
+ghost use Rattle.si_audit.specs.Lines.{refusal_line};
 ghost use Rattle.si_audit.specs.Receiving.{IsReceived};
 ghost use Rattle.si_audit.specs.Report.{IsReport, TellsRefusal};
 ghost use Rattle.si_audit.specs.Outcomes.{IsOutcome, Meets};
@@ -117,6 +118,7 @@ fn answer_to_refusal(
 ) -> Result<Answer, NoMemory>
     ensures report { (bytes : List ℕ) (reader : Progress) → StandsForRead reader bytes → (o.now.form ≡ Form.Explained → StandsForLocated locator.now reader bytes)
         → IsRefusal bytes fault.now → IfOk result (λ answer. TellsRefusal o.now.form bytes fault.now (text_of answer.sheets.items)) }
+    ensures line { o.now.form ≢ Form.Explained → IfOk result (λ answer. text_of answer.sheets.items ≡ refusal_line fault.now) }
     ensures outcome { IfOk result (λ answer. answer.outcome ≡ Outcome.Refused) }
 {
     let mut sheet = Vec::new(alloc);
