@@ -34,10 +34,7 @@ pub struct Judgement {
 fn is_serializable(verdict: &Verdict, unexplained: &[Unexplained]) -> bool
     ensures { IsTrue result ↔ (IsOrderVerdict verdict.now × (unexplained.now ≡ [])) }
 {
-    match verdict {
-        Verdict::Order(_) => unexplained.is_empty(),
-        Verdict::Cycle(_) => false,
-    }
+    matches!(verdict, Verdict::Order(_)) && unexplained.is_empty()
 }
 
 /// Judges a history by its index and by workers, and waits for them. Beside the judgement stands what its edges are told by.

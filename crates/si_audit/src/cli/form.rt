@@ -16,9 +16,6 @@ impl Form {
     pub(crate) fn is_explained(self) -> bool
         ensures { IsTrue result ↔ (self ≡ Form.Explained) }
     {
-        match self {
-            Form::Full | Form::Brief => false,
-            Form::Explained => true,
-        }
+        matches!(self, Form::Explained)
     }
 }

@@ -168,18 +168,12 @@ fn told(alloc: Global, error: &Error) -> LineFault
     if error.kind() == ErrorKind::OutOfMemory {
         return LineFault::NoMemory;
     }
-    match error.to_string(alloc) {
-        Ok(text) if error.use_stderr() => with_hint(text),
-        Ok(text) => LineFault::Help(text),
-        Err(_) => LineFault::NoMemory,
+    let Ok(mut text) = error.to_string(alloc) else {
+        return LineFault::NoMemory;
+    };
+    if !error.use_stderr() {
+        return LineFault::Help(text);
     }
-}
-
-/// What tells of words that the program doesn't take, with a hint where one of them may be meant for a file.
-fn with_hint(mut text: String) -> LineFault
-    ensures cuts { result ≢ LineFault.TooManyCuts }
-    ensures level { result ≢ LineFault.UnknownLevel }
-{
     if text.as_str().contains("for '[CUT]...'") && text.push_str(FILE_HINT).is_err() {
         return LineFault::NoMemory;
     }
@@ -212,10 +206,7 @@ fn workers_in(matches: &ArgMatches<'_>) -> u8
     ensures number { result ≡ workers_among (rows_of (found_of matches.now)) }
     ensures bounds { (0 < result) × (result ≤ 64) }
 {
-    match matches.get_str("workers") {
-        Some(text) => number(text) as u8,
-        None => unreachable!(),
-    }
+    number(matches.get_str("workers").unwrap()) as u8
 }
 
 /// The form of the report that the matches ask for.
@@ -235,24 +226,18 @@ fn form_in(matches: &ArgMatches<'_>) -> Form
 fn level_in(matches: &ArgMatches<'_>) -> Option<Level>
     ensures { result ≡ level_among (rows_of (found_of matches.now)) }
 {
-    match matches.get_str("check") {
-        Some(name) => level_named(name),
-        None => None,
-    }
+    level_named(matches.get_str("check")?)
 }
 
 /// The level of the name, if there is one.
 fn level_named(name: &str) -> Option<Level>
     ensures { result ≡ named name.now }
 {
-    if name == "serializable" {
-        Some(Level::Serializable)
-    } else if name == "ssi" {
-        Some(Level::Ssi)
-    } else if name == "si" {
-        Some(Level::Si)
-    } else {
-        None
+    match name {
+        "serializable" => Some(Level::Serializable),
+        "ssi" => Some(Level::Ssi),
+        "si" => Some(Level::Si),
+        _ => None,
     }
 }
 
@@ -276,8 +261,5 @@ fn number(text: &str) -> u64
     requires { IsUnsignedIn 0 18446744073709551615 text.now }
     ensures { result ≡ number_in text.now }
 {
-    match text.parse::<u64>() {
-        Ok(n) => n,
-        Err(_) => unreachable!(),
-    }
+    text.parse().unwrap()
 }

@@ -71,13 +71,10 @@ fn commits_before(ix: &Index, first: TxnId, second: TxnId) -> bool
     ensures { IsTrue result ↔ CommitsBefore ix.now first second }
 {
     ix.law();
-    let Some(one) = commit_of(ix, first) else {
-        return false;
-    };
-    let Some(other) = commit_of(ix, second) else {
-        return false;
-    };
-    one < other
+    match (commit_of(ix, first), commit_of(ix, second)) {
+        (Some(one), Some(other)) => one < other,
+        _ => false,
+    }
 }
 
 /// The one of both that reads, where the edge comes of a read.

@@ -67,22 +67,6 @@ fn push_events(out: &mut Vec<u8>, of: &Recorded, acts: &[Act], e: &Edge) -> Resu
     Ok(())
 }
 
-/// The line of a step along the edge.
-fn push_step(out: &mut Vec<u8>, of: &Recorded, acts: &[Act], e: &Edge) -> Result<(), NoMemory>
-    requires index { of.now.index.now ≡ of.now.history.now }
-    requires acts { AreActs of.now.history.now acts.now }
-    requires edge { IsEdge of.now.history.now e.now }
-    ensures { OnOk result ((bytes : List ℕ) × TellsStep of.now.history.now e.now bytes × (out.new.items ≡ out.old.items ++ bytes)) }
-{
-    push_number(out, b"  ", u64::from(e.src), b" >")?;
-    out.extend_from_slice(kind_word(e.kind))?;
-    push_number(out, b":", e.key, b"> ")?;
-    push_number(out, b"", u64::from(e.dst), b": ")?;
-    push_events(out, of, acts, e)?;
-    out.extend_from_slice(b"\n")?;
-    Ok(())
-}
-
 /// The lines of steps along these edges.
 pub(crate) fn push_steps(
     out: &mut Vec<u8>,
@@ -96,7 +80,12 @@ pub(crate) fn push_steps(
     ensures { OnOk result ((bytes : List ℕ) × TellsAll (TellsStep of.now.history.now) edges.now bytes × (out.new.items ≡ out.old.items ++ bytes)) }
 {
     for e in edges {
-        push_step(out, of, acts, e)?;
+        push_number(out, b"  ", u64::from(e.src), b" >")?;
+        out.extend_from_slice(kind_word(e.kind))?;
+        push_number(out, b":", e.key, b"> ")?;
+        push_number(out, b"", u64::from(e.dst), b": ")?;
+        push_events(out, of, acts, e)?;
+        out.extend_from_slice(b"\n")?;
     }
     Ok(())
 }

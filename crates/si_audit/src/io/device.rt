@@ -106,18 +106,14 @@ impl<D: Read> Source for FromStd<D> {
     ghost reads = { λ s. s.reads };
 
     fn read(&mut self, into: &mut [u8]) -> Result<usize, Failed> {
-        match self.device.read(into) {
-            Ok(n) => {
-                if n > 0 {
-                    self.reads = self.reads.saturating_add(1);
-                }
-                Ok(n)
-            }
-            Err(_) => {
-                self.refused = true;
-                Err(Failed)
-            }
+        let Ok(n) = self.device.read(into) else {
+            self.refused = true;
+            return Err(Failed);
+        };
+        if n > 0 {
+            self.reads = self.reads.saturating_add(1);
         }
+        Ok(n)
     }
 
     fn failed(&self) -> bool {
@@ -140,31 +136,23 @@ impl<D: Write> Sink for FromStd<D> {
 
     fn write(&mut self, bytes: &[u8]) -> Result<usize, Failed> {
         self.flushed = false;
-        match self.device.write(bytes) {
-            Ok(n) => {
-                if n == 0 && !bytes.is_empty() {
-                    self.refused = true;
-                }
-                Ok(n)
-            }
-            Err(_) => {
-                self.refused = true;
-                Err(Failed)
-            }
+        let Ok(n) = self.device.write(bytes) else {
+            self.refused = true;
+            return Err(Failed);
+        };
+        if n == 0 && !bytes.is_empty() {
+            self.refused = true;
         }
+        Ok(n)
     }
 
     fn flush(&mut self) -> Result<(), Failed> {
-        match self.device.flush() {
-            Ok(()) => {
-                self.flushed = true;
-                Ok(())
-            }
-            Err(_) => {
-                self.flush_failed = true;
-                Err(Failed)
-            }
+        if self.device.flush().is_err() {
+            self.flush_failed = true;
+            return Err(Failed);
         }
+        self.flushed = true;
+        Ok(())
     }
 
     fn failed(&self) -> bool {

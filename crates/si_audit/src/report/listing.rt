@@ -40,25 +40,6 @@ fn parted(alloc: Global, made: Vec<Sheet>) -> Result<(Vec<Vec<u8>>, Vec<Link>), 
     Ok((sheets, links))
 }
 
-/// The lines of all edges, and every pivot.
-fn listed<R: Threads + Wait + Sync>(
-    rt: &R,
-    alloc: Global,
-    ix: &Index,
-    committed: &Committed,
-    looks: Looks,
-    o: &Options,
-) -> Result<Listing, NoMemory>
-    requires committed { ListsAscending (IsCommitted ix.now) committed.now }
-    requires looks { AreLooks ix.now (λ _. ⊤) looks }
-    ensures { IfOk result (λ t. AreTold Form.Full ix.now (text_of t.sheets.items) t.pivots.items) }
-{
-    let made = sheets_of_edges(rt, alloc, ix, committed, looks, o)?;
-    let (sheets, links) = parted(alloc, made)?;
-    let pivots = pivots_of_links(alloc, ix, links)?;
-    Ok(Listing { sheets, pivots })
-}
-
 /// No lines and no pivots.
 fn nothing(alloc: Global, ix: &Index) -> Listing
     requires { IsWellFormed ix.now }
@@ -87,7 +68,12 @@ pub(crate) fn told<R: Threads + Wait + Sync>(
     ensures { IfOk result (λ t. AreTold o.now.form ix.now (text_of t.sheets.items) t.pivots.items) }
 {
     match o.form() {
-        Form::Full => listed(rt, alloc, ix, committed, looks, o),
+        Form::Full => {
+            let made = sheets_of_edges(rt, alloc, ix, committed, looks, o)?;
+            let (sheets, links) = parted(alloc, made)?;
+            let pivots = pivots_of_links(alloc, ix, links)?;
+            Ok(Listing { sheets, pivots })
+        }
         Form::Brief | Form::Explained => Ok(nothing(alloc, ix)),
     }
 }

@@ -10,12 +10,12 @@ use Rattle.si_audit.proofs.cli.line.level_in.Goals as goal
 text_is : (f : Found) (o : Option Text) → o ≡ first_value f (codes "check") → o ≡ first_of (codes "check") (rows_of f)
 text_is f o is = is ∙ first_value-rows f (codes "check")
 
-pub returns-in-Some : goal.returns-in-Some
-returns-in-Some c =
-    let is = text_is (found_of c.args.matches.now) (Some c.in-Some.name.now) c.in-Some.ensures in
+pub returns : goal.returns
+returns c =
+    let is = text_is (found_of c.args.matches.now) (Some c.in_ok-get_str.field-0.now) c.in_ok-get_str.ensures in
     c.level_named.ensures ∙ ap (λ (o : Option Text). level_named (unwrap_or o [])) is
 
-pub returns-in-None : goal.returns-in-None
-returns-in-None c =
-    let is = text_is (found_of c.args.matches.now) None c.in-None.ensures in
-    ap (λ (o : Option Text). level_named (unwrap_or o [])) is
+pub returns-in_err-get_str : goal.returns-in_err-get_str
+returns-in_err-get_str c =
+    let is = text_is (found_of c.args.matches.now) None c.in_err-get_str.ensures in
+    c.from_residual.ensures ∙ ap (λ (o : Option Text). level_named (unwrap_or o [])) is
