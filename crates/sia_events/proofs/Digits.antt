@@ -1,7 +1,8 @@
 -- The digits that bytes begin with.
-use Rattle.std.proofs.Common.{◌≡◌, ℕ, ◌<◌, ◌≤◌, ◌^◌, true, false, List, length, get_or, Some, None, refl, arith, nat_lt}
+use Rattle.std.proofs.Common.{◌≡◌, ℕ, zero, ◌<◌, ◌≤◌, ◌^◌, true, false, List, length, get_or, Some, None, refl, arith, nat_lt}
 use Rattle.std.proofs.lemmas.List.Sums.{prefix_len_is}
 use Rattle.std.proofs.lemmas.Bool.Decides.{nat_tests}
+use Rattle.std.proofs.Math.Nat.{pow-le-pow_right}
 use Rattle.sia_events.specs.Parsing.{is_digit, digits_len, narrow}
 
 -- a loop has passed digits, and stops at the end or at another byte
@@ -13,3 +14,11 @@ narrow_small n h = let e : nat_lt n (2 ^ 64) ≡ true = grind (arith, nat_tests)
 
 pub narrow_great : (n : ℕ) → 2 ^ 64 ≤ n → narrow n ≡ None
 narrow_great n h = let e : nat_lt n (2 ^ 64) ≡ false = grind (arith, nat_tests) in rw e refl
+
+-- a number of at most 18 digits
+pub few_digits : (n len : ℕ) → n < 10 ^ len → len < 19 → n < 1000000000000000000
+few_digits n len small few =
+    let some : zero < 10 = omega arith in
+    let most : 10 ^ len ≤ 10 ^ 18 = pow-le-pow_right {n = 10} some {i = len} {j = 18} (omega arith) in
+    let is : 10 ^ 18 ≡ 1000000000000000000 = refl in
+    omega arith

@@ -1,7 +1,9 @@
 -- Reading listed keys one after the other, as a loop does.
-use Rattle.std.proofs.Common.{◌≡◌, ℕ, zero, suc, ◌+◌, ◌<◌, ◌≤◌, true, false, List, [], length, drop, Option, Some, None, Result, Ok, Err, refl, sym, ap, ◌∙◌, append_assoc, arith}
-use Rattle.std.specs.Prelude.{Bool, ◌&&◌, ◌∷◌, ◌++◌, is_some, unwrap_or}
+use Rattle.std.proofs.Common.{◌≡◌, ℕ, zero, suc, ◌+◌, ◌<◌, ◌≤◌, true, false, List, [], length, take, drop, Option, Some, None, Result, Ok, Err, refl, sym, ap, ◌∙◌, append_assoc, arith}
+use Rattle.std.specs.Prelude.{Bool, ◌&&◌, ◌==◌, nat_eq, ◌∷◌, ◌++◌, is_some, unwrap_or}
 use Rattle.std.specs.Bool.{then_some}
+use Rattle.std.specs.Cmp.Lexicographic.{pointwise}
+use Rattle.std.proofs.Math.Bool.{and-true}
 use Rattle.std.specs.Global.{Vec}
 use Rattle.sia_events.specs.declared.fault.Reason.{Reason}
 use Rattle.sia_events.specs.declared.fault.Refusal.{Refusal}
@@ -39,6 +41,11 @@ starts bytes = nothing_before (pairs_within (length bytes + 1) bytes)
     nothing_before (Ok (None, rest)) = refl
     nothing_before (Ok (Some ps, rest)) = refl
     nothing_before (Err r) = refl
+
+-- whether a comma is ahead, as a search for it answers
+pub comma_ahead : (bytes : List ℕ) → pointwise nat_eq (take 1 bytes) (44 ∷ []) ≡ begins_with 44 bytes
+comma_ahead [] = refl
+comma_ahead (c ∷ rest) = and-true (c == 44)
 
 -- after a pair and a comma
 pub goes_on : (more : ℕ) (front : Option (List (ℕ × ℕ))) (bytes : List ℕ) (pair : Option (ℕ × ℕ)) (after : List ℕ) (total : Result (Option (List (ℕ × ℕ)) × List ℕ) Reason) → length bytes < more → length (drop 1 after) < length after → length after ≤ length bytes

@@ -1,6 +1,6 @@
 //! Numbers of a token, of any size.
-ghost use Rattle.std.specs.Prelude.{◌≡◌, ◌≤◌, length, take, IfOk};
-ghost use Rattle.sia_events.specs.Parsing.{Gives, digits_len, digits_value, narrow, number_at, version_of, txn_of};
+ghost use Rattle.std.specs.Prelude.{◌≡◌, ◌-◌, ◌<◌, ◌≤◌, true, false, length, take, slice_index, IfOk, MatchOption};
+ghost use Rattle.sia_events.specs.Parsing.{Gives, is_digit, digits_len, digits_value, narrow, number_at, version_of, txn_of};
 
 use crate::event::{TxnId, Version};
 use crate::fault::{Reason, Refusal};
@@ -8,34 +8,44 @@ use crate::fault::{Reason, Refusal};
 /// A number that was read: its value, or None where it takes more than 64 bits.
 pub(crate) type Number = Option<u64>;
 
-/// A number below this has room for one more digit in 64 bits.
-const HAS_ROOM: u64 = 1_844_674_407_370_955_161;
+/// So many digits have room in 64 bits, whatever they are.
+const SHORT: usize = 19;
 
-/// How many digits the bytes begin with, and the number that they stand for.
+/// The digit at the place, if one stands there.
+fn digit_at(text: &[u8], at: usize) -> Option<u64>
+    ensures { MatchOption result (is_digit (slice_index text.now at) ≡ false) (λ digit. (is_digit (slice_index text.now at) ≡ true) × (digit ≡ slice_index text.now at - 48) × (at < length text.now)) }
+{
+    let digit = u64::from(*text.get(at)?).wrapping_sub(u64::from(b'0'));
+    (digit < 10).then_some(digit)
+}
+
+/// How many digits the bytes begin with, and the number that they stand for. The first loop is unrolled by the compiler.
+#[inline(always)]
 fn digits(text: &[u8]) -> (usize, Number)
     ensures len { result.0 ≡ digits_len text.now }
     ensures value { result.1 ≡ narrow (digits_value (take (digits_len text.now) text.now)) }
     ensures within { result.0 ≤ length text.now }
 {
     let mut value: u64 = 0;
-    let mut fits = true;
     let mut len = 0;
-    while len < text.len() && text[len].is_ascii_digit() {
-        let digit = u64::from(text[len] - b'0');
-        if value < HAS_ROOM {
-            value = value * 10 + digit;
-        } else {
-            match value.checked_mul(10) {
-                Some(tens) if tens <= u64::MAX - digit => value = tens + digit,
-                _ => fits = false,
-            }
-        }
+    while len < SHORT {
+        let Some(digit) = digit_at(text, len) else {
+            return (len, Some(value));
+        };
+        value = value * 10 + digit;
+        len += 1;
+    }
+    let mut fits = true;
+    while let Some(digit) = digit_at(text, len) {
+        fits &= value <= (u64::MAX - digit) / 10;
+        value = value.wrapping_mul(10).wrapping_add(digit);
         len += 1;
     }
     (len, if fits { Some(value) } else { None })
 }
 
 /// The number that the bytes begin with, and what follows its last digit.
+#[inline(always)]
 #[tactic(auto, unfolding(crate::specs::Parsing::number_at))]
 pub(crate) fn number(text: &[u8]) -> Result<(Number, &[u8]), Refusal>
     ensures gives { Gives (λ x. (x.0, x.1.now)) result (number_at text.now) }

@@ -1,6 +1,6 @@
 //! One token: the event that it spells.
-ghost use Rattle.std.specs.Prelude.{◌≡◌, ◌<◌, ◌≤◌, Ok, Some, IfOk, IfSome, true, false, length, drop, MatchOption};
-ghost use Rattle.sia_events.specs.Parsing.{Gives, items_of, begins_with, after_byte, ended, begin_at, write_at, item_at, pair_at, pairs_at, list_at, list_of, range_at, read_at, commit_at, abort_at, event_at};
+ghost use Rattle.std.specs.Prelude.{◌≡◌, ◌≤◌, IfOk, length};
+ghost use Rattle.sia_events.specs.Parsing.{Gives, items_of, after_byte, ended, begin_at, write_at, item_at, pair_at, pairs_at, list_at, list_of, range_at, read_at, commit_at, abort_at, event_at};
 
 use crate::event::{Event, Key, Listed, Version};
 use crate::fault::{Reason, Refusal};
@@ -96,16 +96,6 @@ fn pair(text: &[u8]) -> Result<(Option<(Key, Version)>, &[u8]), Refusal>
     Ok((pair, rest))
 }
 
-/// What follows a comma, if there is one.
-fn after_comma(text: &[u8]) -> Option<&[u8]>
-    ensures { MatchOption result (begins_with 44 text.now ≡ false) (λ rest. (begins_with 44 text.now ≡ true) × (rest.now ≡ drop 1 text.now) × (length rest.now < length text.now)) }
-{
-    match text {
-        [b',', rest @ ..] => Some(rest),
-        _ => None,
-    }
-}
-
 /// The bytes of the shortest listed key with its comma.
 const LEAST_PAIR: usize = 4;
 
@@ -142,7 +132,7 @@ fn pairs(alloc: Global, text: &[u8]) -> Result<(Option<Vec<(Key, Version)>>, &[u
         let (next, after) = pair(rest)?;
         in_range &= next.is_some();
         found.push(next.unwrap_or((0, 0)))?;
-        match after_comma(after) {
+        match after.strip_prefix(b",") {
             Some(more) => rest = more,
             None => return Ok((in_range.then_some(found), after)),
         }

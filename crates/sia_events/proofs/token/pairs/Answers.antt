@@ -1,8 +1,8 @@
 -- A pair goes on the list, ends it, or has no form.
-use Rattle.std.proofs.Common.{◌≡◌, ℕ, ◌<◌, ◌≤◌, ◌+◌, List, Some, length, sym, subst, arith}
+use Rattle.std.proofs.Common.{◌≡◌, ℕ, ◌<◌, ◌≤◌, ◌+◌, List, Some, length, drop, sym, ◌∙◌, subst, arith}
 use Rattle.std.proofs.lemmas.Result.{err_from_is_err_and}
 use Rattle.sia_events.specs.Parsing.{kept, pairs_within, pairs_at}
-use Rattle.sia_events.proofs.Pairs.{with_front, one_pushed, items_of-then_some, starts, goes_on, is_done, fails}
+use Rattle.sia_events.proofs.Pairs.{with_front, one_pushed, comma_ahead, items_of-then_some, starts, goes_on, is_done, fails}
 use Rattle.sia_events.proofs.token.pairs.Goals as goal
 
 pub loop-found-init : goal.loop-found-init
@@ -19,14 +19,14 @@ returns-in_err-next c =
 pub returns-in-None : goal.returns-in-None
 returns-in-None c =
     let i = c.loop-found.invariant in
-    let e = is_done i.0 (kept c.loop-found.in_range c.loop-found.found.items) c.loop-found.rest.now c.in_ok-next.next c.in_ok-next.after.now (pairs_at c.args.text.now) i.1 c.in_ok-next.ensures.gives (c.in-None.ensures) i.2 in
+    let e = is_done i.0 (kept c.loop-found.in_range c.loop-found.found.items) c.loop-found.rest.now c.in_ok-next.next c.in_ok-next.after.now (pairs_at c.args.text.now) i.1 c.in_ok-next.ensures.gives (sym (comma_ahead c.in_ok-next.after.now) ∙ c.in-None.ensures.cases) i.2 in
     let pushed = one_pushed c.loop-found.in_range c.loop-found.found.items c.in_ok-next.next c.is_some-in_range.ensures c.unwrap_or.ensures c.in_ok-push.ensures.items in
     rw (c.then_some.ensures, items_of-then_some, pushed) e
 
 pub loop-found-smaller : goal.loop-found-smaller
 loop-found-smaller c =
     let s : length c.in_ok-next.after.now ≤ length c.loop-found.rest.now = c.in_ok-next.ensures.shorter in
-    let t : length c.in-Some.more.now < length c.in_ok-next.after.now = c.in-Some.ensures.2 in
+    let t : length c.in-Some.more.now + 1 ≡ length c.in_ok-next.after.now = c.in-Some.ensures.cases.2 in
     let goes_down : length c.in-Some.more.now < length c.loop-found.rest.now = omega arith in
     goes_down
 
@@ -34,6 +34,8 @@ pub loop-found-preserved : goal.loop-found-preserved
 loop-found-preserved c =
     let i = c.loop-found.invariant in
     let s : length c.in_ok-next.after.now ≤ length c.loop-found.rest.now = c.in_ok-next.ensures.shorter in
-    let m = c.in-Some.ensures in
+    let m = c.in-Some.ensures.cases in
+    let is : c.in-Some.more.now ≡ drop 1 c.in_ok-next.after.now = m.1 in
+    let shorter : length c.in-Some.more.now < length c.in_ok-next.after.now = omega (arith, m.2) in
     let pushed = one_pushed c.loop-found.in_range c.loop-found.found.items c.in_ok-next.next c.is_some-in_range.ensures c.unwrap_or.ensures c.in_ok-push.ensures.items in
-    rw (m.1, pushed) (goes_on i.0 (kept c.loop-found.in_range c.loop-found.found.items) c.loop-found.rest.now c.in_ok-next.next c.in_ok-next.after.now (pairs_at c.args.text.now) i.1 (rw (← m.1) m.2) s c.in_ok-next.ensures.gives m.0 i.2)
+    rw (is, pushed) (goes_on i.0 (kept c.loop-found.in_range c.loop-found.found.items) c.loop-found.rest.now c.in_ok-next.next c.in_ok-next.after.now (pairs_at c.args.text.now) i.1 (rw (← is) shorter) s c.in_ok-next.ensures.gives (sym (comma_ahead c.in_ok-next.after.now) ∙ m.0) i.2)
