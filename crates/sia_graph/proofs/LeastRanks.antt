@@ -160,3 +160,70 @@ module _ (P : ℕ → Type 0) (few : (q : ℕ) → P q → q < 4294967295) where
         | inr beyond ↦ let m : two.least ≤ rank = omega arith in subst (λ t. IsTwo Q t) (sym (same m (inr beyond))) (two_stay m (inr beyond))
       ]
     ]
+
+-- more ranks, of each of which two less ones are there already
+pub two_enough : (S R : ℕ → Type 0) (two : Two) → ((q : ℕ) → S q → R q)
+    → ((q : ℕ) → R q → S q ⊎ ((a : ℕ) × (b : ℕ) × S a × S b × (a ≢ b) × (a ≤ q) × (b ≤ q))) → IsTwo S two → IsTwo R two
+two_enough S R two to enough (first, second) = (least first, next second)
+  where
+    least : IsLeastRank S two.least → IsLeastRank R two.least
+    least (inl has) = inl (to two.least has.0, λ q is. elim (enough q is) [ inl own ↦ has.1 q own | inr more ↦ let l = has.1 more.0 more.2 in let m = more.5 in omega arith ])
+    least (inr lacks) = inr (lacks.0, λ q is. elim (enough q is) [ inl own ↦ lacks.1 q own | inr more ↦ lacks.1 more.0 more.2 ])
+
+    another : (q : ℕ) → R q → q ≢ two.least → (c : ℕ) × S c × (c ≢ two.least) × (c ≤ q)
+    another q is differs = elim (enough q is) [
+      | inl own ↦ (q, own, differs, omega arith)
+      | inr more ↦ elim (cases_eq more.0 two.least) [
+        | inl same ↦ (more.1, more.3, (λ e. more.4 (omega arith)), more.6)
+        | inr other ↦ (more.0, more.2, other, more.5)
+      ]
+    ]
+
+    next : IsLeastRank (λ r. S r × (r ≢ two.least)) two.next → IsLeastRank (λ r. R r × (r ≢ two.least)) two.next
+    next (inl has) = inl ((to two.next has.0.0, has.0.1), λ q (is, differs). let c = another q is differs in let l = has.1 c.0 (c.1, c.2) in let m = c.3 in omega arith)
+    next (inr lacks) = inr (lacks.0, λ q (is, differs). let c = another q is differs in lacks.1 c.0 (c.1, c.2))
+
+-- what `with` gives of two and one more rank
+abbrev pub IsWith : Two → ℕ → Two → Type 0
+IsWith two rank new = (rank < two.least → (new.least ≡ rank) × (new.next ≡ two.least))
+    × (two.least < rank → rank < two.next → (new.least ≡ two.least) × (new.next ≡ rank))
+    × (two.least ≤ rank → (rank ≡ two.least) ⊎ (two.next ≤ rank) → new ≡ two)
+
+-- the two least of either
+module _ (P Q R : ℕ → Type 0) (few : (q : ℕ) → P q → q < 4294967295) (few_too : (q : ℕ) → Q q → q < 4294967295)
+    (left : (q : ℕ) → P q → R q) (right : (q : ℕ) → Q q → R q) (either : (q : ℕ) → R q → P q ⊎ Q q) where
+  abbrev With : (ℕ → Type 0) → ℕ → ℕ → Type 0
+  With S rank q = S q ⊎ ((q ≡ rank) × (q < 4294967295))
+
+  one_with : (S : ℕ → Type 0) → ((q : ℕ) → S q → q < 4294967295) → (rank : ℕ) → rank ≤ 4294967295 → (two new : Two) → IsWith two rank new → IsTwo S two → IsTwo (With S rank) new
+  one_with S below rank bound two new is has =
+      two_with S below (With S rank) rank bound (λ q s. inl s) (λ l. inr (refl, l)) (λ q w. elim w [ inl s ↦ inl s | inr e ↦ inr e.0 ])
+      (λ q w. elim w [ inl s ↦ below q s | inr e ↦ e.1 ]) two has new is.0 is.1 is.2
+
+  pub two_merged : (a b mid new : Two) → IsWith a b.least mid → IsWith mid b.next new → IsTwo P a → IsTwo Q b → IsTwo R new
+  two_merged a b mid new one two p q =
+      let first = one_with P few b.least (least_bound Q few_too b.least q.0) a mid one p in
+      let next_few = λ (r : ℕ) (s : Q r × (r ≢ b.least)). few_too r s.0 in
+      let second = one_with (With P b.least) (λ r w. elim w [ inl s ↦ few r s | inr e ↦ e.1 ]) b.next (least_bound (λ r. Q r × (r ≢ b.least)) next_few b.next q.1) mid new two first in
+      two_enough (With (With P b.least) b.next) R new to enough second
+    where
+      to : (r : ℕ) → With (With P b.least) b.next r → R r
+      to r (inl (inl s)) = left r s
+      to r (inl (inr (e, l))) = right r (subst Q (sym e) (there_if Q b.least q.0 (omega arith)))
+      to r (inr (e, l)) = right r (subst Q (sym e) (there_if (λ r. Q r × (r ≢ b.least)) b.next q.1 (omega arith)).0)
+
+      of_right : (r : ℕ) → Q r → With (With P b.least) b.next r
+          ⊎ ((x : ℕ) × (y : ℕ) × With (With P b.least) b.next x × With (With P b.least) b.next y × (x ≢ y) × (x ≤ r) × (y ≤ r))
+      of_right r has = elim (cases_eq r b.least) [
+        | inl same ↦ inl (inl (inr (same, few_too r has)))
+        | inr other ↦
+            let l = few_too r has in
+            let m = no_less Q b.least r q.0 has in
+            let n = no_less (λ s. Q s × (s ≢ b.least)) b.next r q.1 (has, other) in
+            let next = there_if (λ s. Q s × (s ≢ b.least)) b.next q.1 (omega arith) in
+            inr (b.least, b.next, inl (inr (refl, omega arith)), inr (refl, omega arith), (λ e. next.1 (sym e)), m, n)
+      ]
+
+      enough : (r : ℕ) → R r → With (With P b.least) b.next r
+          ⊎ ((x : ℕ) × (y : ℕ) × With (With P b.least) b.next x × With (With P b.least) b.next y × (x ≢ y) × (x ≤ r) × (y ≤ r))
+      enough r is = elim (either r is) [ inl s ↦ inl (inl (inl s)) | inr s ↦ of_right r s ]

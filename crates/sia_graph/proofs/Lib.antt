@@ -24,7 +24,6 @@ pub mod Previous
 pub mod PreviousEdges
 pub mod EvidenceEdges
 pub mod Walks
-pub mod RankedRows
 pub mod Rounds
 pub mod LeastEdges
 pub mod PrintedCycle
@@ -43,6 +42,7 @@ pub mod Picked
 pub mod Groups
 pub mod LinkLists
 pub mod LifetimeTables
+pub mod VersionRanks
 pub mod Vulnerable
 pub mod PivotLists
 pub mod Places

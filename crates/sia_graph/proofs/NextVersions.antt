@@ -1,17 +1,32 @@
 -- Which writer of a key is the first after a place, and which the last up to it, of writers that stand by key and commit.
-use Rattle.std.proofs.Common.{◌≡◌, ◌≢◌, inl, inr, ℕ, ◌+◌, ◌*◌, ◌<◌, ◌≤◌, List, Option, Some, None, length, get_or, ap, ◌∙◌, arith}
-use Rattle.std.specs.Prelude.{All, Contains, MatchOption}
+use Rattle.std.proofs.Common.{◌≡◌, ◌≢◌, inl, inr, ℕ, ◌+◌, ◌*◌, ◌<◌, ◌≤◌, List, true, false, Option, Some, None, sym, length, get_or, ap, ◌∙◌, arith}
+use Rattle.std.specs.Prelude.{All, Contains, IfSome, MatchOption}
 use Rattle.std.specs.List.{AllWithin}
-use Rattle.std.proofs.lemmas.Bool.{cases_lt}
+use Rattle.std.specs.Option.{is_some}
+use Rattle.std.proofs.lemmas.Bool.{cases_lt, false≢true}
 use Rattle.std.proofs.lemmas.List.{get_or_default}
 use Rattle.sia_parts.specs.declared.looks.Look.{Look}
 use Rattle.sia_parts.specs.Looks.{RiseByRank, look_rank}
 use Rattle.sia_graph.specs.NarrowSteps.{IsNewest, IsNext}
+use Rattle.sia_graph.specs.VersionRanks.{IsNextAt}
 
 -- what an option tells, said otherwise
 pub match_both : {A : Type 0} (P R : Type 0) (Q S : A → Type 0) (o : Option A) → (P → R) → ((a : A) → Q a → S a) → MatchOption o P Q → MatchOption o R S
 match_both P R Q S None f g m = f m
 match_both P R Q S (Some a) f g m = g a m
+
+pub some_of : {A : Type 0} (P : Type 0) (Q S : A → Type 0) (o : Option A) → ((a : A) → Q a → S a) → MatchOption o P Q → IfSome o S
+some_of P Q S None g m = tt
+some_of P Q S (Some a) g m = g a m
+
+-- what is told of an option that is there, and of one that isn't
+pub if_there : {A : Type 0} (P : Type 0) (o : Option A) → is_some o ≡ true → IfSome o (λ a. P) → P
+if_there P None is some = absurd (false≢true is)
+if_there P (Some a) is some = some
+
+pub if_not_there : {A : Type 0} (P : Type 0) (Q : A → Type 0) (o : Option A) → is_some o ≡ false → MatchOption o P Q → P
+if_not_there P Q None is m = m
+if_not_there P Q (Some a) is m = absurd (false≢true (sym is))
 
 module _ (writers : List Look) (rise : RiseByRank writers) (small : All (λ a. a.high < 4294967296) writers) (key place : ℕ) (fits : place < 4294967296) (at : ℕ)
     (before : AllWithin (λ a. look_rank a ≤ key * 4294967296 + place) writers 0 at) (after : AllWithin (λ a. key * 4294967296 + place < look_rank a) writers at (length writers)) where
@@ -80,3 +95,15 @@ module _ (writers : List Look) (rise : RiseByRank writers) (small : All (λ a. a
       | inr l ↦ let r = stands_after b c l in absurd (omega arith)
     ],
   )
+
+  -- where it is of the key, the first one after the place stands there
+  pub next_stands : (x : Look) → at < length writers → get_or writers at x ≡ x → x.key ≡ key → IsNextAt writers key place at
+  next_stands x within is same = record {
+    within = within;
+    same = λ d. key_there d;
+    later = λ d. let s = after at d (omega arith) within in let e = key_there d in omega arith;
+    first = λ j d l e. let s = before j d (omega arith) l in omega arith;
+  }
+    where
+      key_there : (d : Look) → (get_or writers at d).key ≡ key
+      key_there d = ap (λ (y : Look). y.key) (get_or_default writers at d x within ∙ is) ∙ same

@@ -99,14 +99,14 @@ left_apart left ranks are i j r a b = let e = ((are i r).0 a).0 in let f = ((are
 
 module _ (looks : Looks) (left : List Bool) (size : ℕ) (within : AreWithin looks (length left) size) (few : length left < 4294967295) (ranks : List ℕ) (are : AreLeftRanks left ranks)
     (t written seen missed p : ℕ)
-    (first : IsLeastRank (FromSome (IsBefore looks.writers.items ranks 0 t) looks.writers.items) written)
-    (second : IsLeastRank (FromSome (IsBefore looks.writers.items ranks 1 t) looks.readers.items) seen)
+    (first : IsLeastRank (FromSome (IsBefore looks.writers.items ranks t) looks.writers.items) written)
+    (second : IsLeastRank (FromSome (IsBefore looks.writers.items ranks t) looks.readers.items) seen)
     (third : IsLeastRank (IsRankTo looks ranks t) missed) (place : IsPlaceOf (min (min written seen) missed) t p) where
   abbrev First : ℕ → Type 0
-  First = FromSome (IsBefore looks.writers.items ranks 0 t) looks.writers.items
+  First = FromSome (IsBefore looks.writers.items ranks t) looks.writers.items
 
   abbrev Second : ℕ → Type 0
-  Second = FromSome (IsBefore looks.writers.items ranks 1 t) looks.readers.items
+  Second = FromSome (IsBefore looks.writers.items ranks t) looks.readers.items
 
   abbrev Both : ℕ → Type 0
   Both r = First r ⊎ Second r
@@ -130,6 +130,7 @@ module _ (looks : Looks) (left : List Bool) (size : ℕ) (within : AreWithin loo
       let r = ranked a.txn q below.4 in
       let v = within.versions a below.1 in
       let less = below.3 in
+      let own : a.high ≢ b.high = λ same. other (r.0 ∙ within.one a b below.1 c below.2 same ∙ e) in
       (r.1, r.2, other, Ww, b.key, (a, b, (below.1, sym r.0), (c, e), below.2, refl, omega arith))
 
   of_second : (q : ℕ) → Second q → IsLeftSource looks left t q
@@ -162,7 +163,7 @@ module _ (looks : Looks) (left : List Bool) (size : ℕ) (within : AreWithin loo
       of_kind : (kind : Kind) → HasNumberEdge looks kind q t k → Both q ⊎ IsRankTo looks ranks t q
       of_kind Ww (a, b, x, y, e, f, m) =
           let v = within.versions a x.0 in
-          let less : a.low < b.high + 0 = omega arith in
+          let less : a.low < b.high + 1 = omega arith in
           inl (inl (b, y.0, (y.1, (a, x.0, e ∙ sym f, less, rank_of_left q l is a.txn x.1), other)))
       of_kind Wr (a, b, x, y, e, f, m) =
           let v = within.versions a x.0 in

@@ -1,50 +1,40 @@
 -- The least sources by numbers are those of the history.
-use Rattle.std.proofs.Common.{◌≡◌, ◌⊎◌, inl, inr, ℕ, ◌+◌, ◌-◌, ◌<◌, ◌≤◌, Bool, List, length, get_or, refl, sym, ◌∙◌, subst, arith}
+use Rattle.std.proofs.Common.{◌≡◌, ◌⊎◌, inl, inr, ℕ, ◌-◌, ◌<◌, ◌≤◌, Bool, List, length, get_or, refl, sym, ◌∙◌, subst, arith}
 use Rattle.std.specs.Prelude.{All, Contains}
 use Rattle.std.proofs.lemmas.List.Elements.{Contains-get_or}
 use Rattle.sia_events.specs.declared.event.Event.{Event}
-use Rattle.sia_events.specs.declared.event.Event.TheVariants.{Commit}
-use Rattle.sia_events.specs.NarrowDependencies.{IsAsOf}
-use Rattle.sia_events.proofs.TransactionDecisions.{place_within}
-use Rattle.sia_events.proofs.WellFormed.{few_events}
 use Rattle.sia_index.proofs.KeyChains.{key_number}
 use Rattle.sia_parts.specs.declared.looks.Absence.{Absence}
+use Rattle.sia_parts.specs.declared.looks.Look.{Look}
 use Rattle.sia_parts.specs.declared.looks.Looks.{Looks}
 use Rattle.sia_parts.specs.Entries.{IsEdge}
 use Rattle.sia_parts.proofs.Committing.{committed_number}
 use Rattle.sia_graph.specs.Evidence.{IsEvidence}
 use Rattle.sia_graph.specs.Previous.{AreWithin, IsLeftIn, IsLeftSource, IsPreviousOf}
+use Rattle.sia_graph.specs.VersionRanks.{AreVersions}
 use Rattle.sia_graph.specs.Walks.{AreLeastSources, IsSource}
 use Rattle.sia_graph.proofs.EvidenceEdges.{edge_at, leads_by_numbers}
+use Rattle.sia_graph.proofs.NarrowStands.{can_search}
 
 each_of : {A : Type 0} (P : A → Type 0) (xs : List A) → ((x : A) → Contains xs x → P x) → All P xs
 each_of P xs holds k d l = holds (get_or xs k d) (Contains-get_or xs k d l)
 
 module _ (h : List Event) (txns keys : List ℕ) (looks : Looks) (is : IsEvidence h txns keys looks) where
-  -- a version is as of a place of the history
-  as_of_few : (v c : ℕ) → IsAsOf h v c → c ≤ 100000
-  as_of_few v c (inl none) = let e = none.1 in omega arith
-  as_of_few v c (inr at) = let l = (place_within h c (Commit v) at).1 in let f = few_events h is.well_formed in omega arith
-
   pub are_within : AreWithin looks (length txns) (length keys)
   are_within = record {
-    writers = each_of (λ look. (look.txn < length txns) × (look.high + 0 < 4294967296)) looks.writers.items (λ look c.
-        let m = is.looks_are.made look c in
-        let l = (place_within h m.2 (Commit m.0) m.3.3.1).1 in
-        let f = few_events h is.well_formed in
-        let e = m.3.2 in
-        ((committed_number h txns is.txns_are look.txn m.0 m.3.0.0).0, omega arith));
-    readers = each_of (λ look. (look.txn < length txns) × (look.high + 1 < 4294967296)) looks.readers.items (λ look c.
-        let m = is.looks_are.seen look c in
-        let f = as_of_few m.2.2.2 look.high m.2.2.5 in
-        ((committed_number h txns is.txns_are look.txn m.0 m.2.0.0).0, omega arith));
+    writers = each_of (λ look. look.txn < length txns) looks.writers.items (λ look c. let m = is.looks_are.made look c in (committed_number h txns is.txns_are look.txn m.0 m.3.0.0).0);
+    readers = each_of (λ look. look.txn < length txns) looks.readers.items (λ look c. let m = is.looks_are.seen look c in (committed_number h txns is.txns_are look.txn m.0 m.2.0.0).0);
     versions = λ look c. let m = is.looks_are.made look c in m.3.1 ∙ sym m.3.2;
+    one = (can_search h txns keys looks is).one;
     keys = each_of (λ look. look.key < length keys) looks.writers.items (λ look c. let m = is.looks_are.made look c in (key_number h keys is.keys_are look.key m.1 m.3.0.1).0);
     absences = each_of (λ (s : Absence). s.from < s.to → s.to ≤ length keys) looks.absences.items (λ s c less.
         let m = is.looks_are.absent s c (s.to - 1) (omega arith) (omega arith) in
         let l = (key_number h keys is.keys_are (s.to - 1) m.1 m.3).0 in
         omega arith);
   }
+
+  pub are_versions : (xs : List Look) → xs ≡ looks.writers.items → AreVersions xs
+  are_versions xs same = subst AreVersions (sym same) (record { search = can_search h txns keys looks is; at_once = are_within.versions })
 
   -- what is a source by numbers is one
   module _ (left : List Bool) (long : length left ≡ length txns) (t : ℕ) (tl : t < length left) where

@@ -17,14 +17,14 @@ IsLeftIn left i = IsTrue (slice_index_or left i false)
 abbrev pub AreLeftRanks : List Bool → List ℕ → Type 0
 AreLeftRanks left ranks = (i r : ℕ) → IsRankOf ranks i r ↔ ((r ≡ i) × (i < length left) × IsLeftIn left i)
 
--- r is the rank of another transaction than t with a row at the look's key, before the place that stands so many places behind its end
-abbrev pub IsBefore : List Look → List ℕ → ℕ → ℕ → Look → ℕ → Type 0
-IsBefore rows ranks more t look r = (look.txn ≡ t) × IsRankBelow rows ranks look.key (look.high + more) r × (r ≢ t)
+-- r is the rank of another transaction than t that made a version of the look's key, up to its end
+abbrev pub IsBefore : List Look → List ℕ → ℕ → Look → ℕ → Type 0
+IsBefore versions ranks t look r = (look.txn ≡ t) × IsRankBelow versions ranks look.key (look.high + 1) r × (r ≢ t)
 
 -- each number is the lesser of the old one and the least rank that is so by one of the transaction's looks
-abbrev pub AreLowered : List Look → List ℕ → ℕ → List Look → List ℕ → List ℕ → Type 0
-AreLowered rows ranks more looks old new = (length new ≡ length old)
-    × ((t : ℕ) → t < length old → (r : ℕ) × IsLeastRank (FromSome (IsBefore rows ranks more t) looks) r × (slice_index new t ≡ min (slice_index old t) r))
+abbrev pub AreLowered : List Look → List ℕ → List Look → List ℕ → List ℕ → Type 0
+AreLowered versions ranks looks old new = (length new ≡ length old)
+    × ((t : ℕ) → t < length old → (r : ℕ) × IsLeastRank (FromSome (IsBefore versions ranks t) looks) r × (slice_index new t ≡ min (slice_index old t) r))
 
 -- r is the rank of a transaction with a rw edge to t
 abbrev pub IsRankTo : Looks → List ℕ → ℕ → ℕ → Type 0
@@ -42,10 +42,11 @@ IsLeftSource looks left t p = (p < length left) × IsLeftIn left p × (p ≢ t) 
 abbrev pub IsPreviousOf : Looks → List Bool → ℕ → ℕ → Type 0
 IsPreviousOf looks left t p = (IsLeftSource looks left t p × ((q : ℕ) → IsLeftSource looks left t q → p ≤ q)) ⊎ ((p ≡ t) × ((q : ℕ) → ¬ IsLeftSource looks left t q))
 
--- transactions and keys have numbers below these, a version is as of one place, and no place is the greatest of 32 bits
+-- transactions and keys have numbers below these, a version is as of one place, and two of a key at one place are one's
 pub record AreWithin (looks : Looks) (count size : ℕ) : Type 0 where
-  pub writers : All (λ look. (look.txn < count) × (look.high + 0 < 4294967296)) looks.writers.items
-  pub readers : All (λ look. (look.txn < count) × (look.high + 1 < 4294967296)) looks.readers.items
+  pub writers : All (λ look. look.txn < count) looks.writers.items
+  pub readers : All (λ look. look.txn < count) looks.readers.items
   pub versions : (look : Look) → Contains looks.writers.items look → look.low ≡ look.high
+  pub one : (a b : Look) → Contains looks.writers.items a → Contains looks.writers.items b → a.key ≡ b.key → a.high ≡ b.high → a.txn ≡ b.txn
   pub keys : All (λ look. look.key < size) looks.writers.items
   pub absences : All (λ (absence : Absence). absence.from < absence.to → absence.to ≤ size) looks.absences.items

@@ -1,10 +1,8 @@
 -- The two least ranks that something has, so that the least one but one's own is at hand. A rank is less than 4294967295,
 -- which stands for none.
-use Rattle.std.specs.Prelude.{◌≡◌, ◌≢◌, ◌⊎◌, ◌↔◌, Bool, ◌||◌, ◌&&◌, ◌==◌, nat_lt, ℕ, ◌+◌, ◌<◌, ◌≤◌, List, Contains, length, slice_index, slice_index_or}
+use Rattle.std.specs.Prelude.{◌≡◌, ◌≢◌, ◌⊎◌, ℕ, ◌<◌, ◌≤◌, List, Contains, length, slice_index}
 use Rattle.sia_parts.specs.declared.looks.Look.{Look}
-use Rattle.sia_graph.specs.declared.narrow.ranked.Ranked.{Ranked}
 use Rattle.sia_graph.specs.declared.narrow.two.Two.{Two}
-use Rattle.sia_graph.specs.Grouped.{RiseBy}
 
 -- r is the least that has P, or says that nothing has
 abbrev pub IsLeastRank : (ℕ → Type 0) → ℕ → Type 0
@@ -25,26 +23,3 @@ AreRanks ranks = (i j r : ℕ) → IsRankOf ranks i r → IsRankOf ranks j r →
 -- r is the rank of a look at the key, from a place below the bound
 abbrev pub IsRankBelow : List Look → List ℕ → ℕ → ℕ → ℕ → Type 0
 IsRankBelow looks ranks key bound r = (look : Look) × Contains looks look × (look.key ≡ key) × (look.low < bound) × IsRankOf ranks look.txn r
-
--- r is the rank of one of the first n looks, at the key
-abbrev pub IsRankWithin : List Look → List ℕ → ℕ → ℕ → ℕ → Type 0
-IsRankWithin looks ranks n key r = (i : ℕ) × (look : Look) × (i < n) × (i < length looks) × (slice_index_or looks i look ≡ look) × (look.key ≡ key) × IsRankOf ranks look.txn r
-
--- the look is at a lesser key, or at this one from a place below the bound
-abbrev pub is_below : ℕ → ℕ → Look → Bool
-is_below key bound look = nat_lt look.key key || look.key == key && nat_lt look.low bound
-
--- by key, and then by place
-abbrev pub RiseByPlace : List Look → Type 0
-RiseByPlace looks = RiseBy (λ look. look.key) (λ look. look.low) looks
-
--- with each look the two least ranks of those at its key up to it
-abbrev pub AreTwos : List Look → List ℕ → List Two → Type 0
-AreTwos looks ranks twos = (length twos ≡ length looks)
-    × ((i : ℕ) (d : Look) (e : Two) → i < length looks → IsTwo (IsRankWithin looks ranks (i + 1) (slice_index_or looks i d).key) (slice_index_or twos i e))
-
--- the looks by key and place, each with these two
-pub record AreRanked (looks : List Look) (ranks : List ℕ) (ranked : Ranked) : Type 0 where
-  pub same : (look : Look) → Contains ranked.rows.items look ↔ Contains looks look
-  pub rise : RiseByPlace ranked.rows.items
-  pub twos : AreTwos ranked.rows.items ranks ranked.twos.items

@@ -4,7 +4,8 @@ use Rattle.sia_parts.specs.declared.looks.Look.{Look}
 use Rattle.sia_parts.specs.declared.looks.Looks.{Looks}
 use Rattle.sia_graph.specs.declared.narrow.earlier.Earlier.{Earlier}
 use Rattle.sia_graph.specs.Absences.{AreNodes, IsAbsent}
-use Rattle.sia_graph.specs.Ranks.{AreRanked, IsLeastRank, IsRankOf}
+use Rattle.sia_graph.specs.Ranks.{IsLeastRank, IsRankOf}
+use Rattle.sia_graph.specs.VersionRanks.{AreTwos}
 
 -- transaction number i saw a version of the key that was committed before that place, or none
 abbrev pub SeesBefore : Looks → ℕ → ℕ → ℕ → Type 0
@@ -16,7 +17,7 @@ IsSource looks i j = (i ≢ j) × (made : Look) × Contains looks.writers.items 
 
 -- the tables in which the ranks of these are searched
 pub record AreEarlier (looks : Looks) (ranks : List ℕ) (earlier : Earlier) : Type 0 where
-  pub low : AreRanked looks.readers.items ranks earlier.by_low
+  pub twos : AreTwos looks.writers.items looks.readers.items ranks 0 earlier.twos.items
   pub nodes : AreNodes looks.absences.items ranks earlier.size earlier.nodes.items
   pub few : earlier.size ≤ 1000000000
 

@@ -1,5 +1,6 @@
 //! The least rank of those who saw a version of a key from before a place.
-ghost use Rattle.std.specs.Prelude.{◌≡◌, ◌≢◌, ◌<◌, ℕ, List, IfOk, length};
+ghost use Rattle.std.specs.Prelude.{◌≡◌, ◌≢◌, ◌<◌, ℕ, List, IfOk, length, slice_index_or};
+ghost use Rattle.sia_parts.specs.declared.looks.Look.{Look};
 ghost use Rattle.sia_parts.specs.declared.looks.Looks.{Looks};
 ghost use Rattle.sia_graph.specs.Evidence.{IsEvidence};
 ghost use Rattle.sia_graph.specs.Ranks.{IsLeastRank, IsRankOf};
@@ -7,15 +8,15 @@ ghost use Rattle.sia_graph.specs.Sources.{AreEarlier, SeesBefore};
 
 use crate::narrow::Evidence;
 use crate::narrow::nodes::{least_absent, nodes_of};
-use crate::narrow::ranked::Ranked;
-use crate::narrow::two::Two;
+use crate::narrow::ranked::twos_of_readers;
+use crate::narrow::two::{Two, other};
 use sia_events::NoMemory;
 use std::alloc::Global;
 
-/// The ranks of those who saw versions, by the key and how early these were.
+/// The ranks of those who saw versions, by the version that each was before.
 #[derive(Drop)]
 pub struct Earlier {
-    by_low: Ranked,
+    twos: Vec<Two>,
     nodes: Vec<Two>,
     size: u32,
 }
@@ -27,25 +28,23 @@ impl Earlier {
         ensures made { IfOk result (AreEarlier evidence.now.looks.now ranks.now) }
         ensures size { IfOk result (λ earlier. earlier.size ≡ length evidence.now.keys.now) }
     {
+        let looks = evidence.looks;
         let size = evidence.keys.len() as u32;
-        let by_low = Ranked::of(alloc, &evidence.looks.readers, ranks)?;
-        let nodes = nodes_of(alloc, &evidence.looks.absences, ranks, size)?;
-        Ok(Earlier {
-            by_low,
-            nodes,
-            size,
-        })
+        let twos = twos_of_readers(alloc, &looks.writers, &looks.readers, ranks)?;
+        let nodes = nodes_of(alloc, &looks.absences, ranks, size)?;
+        Ok(Earlier { twos, nodes, size })
     }
 
-    /// Of the ranks but `me` the least of those who saw a version of the key from before the place, looked for from near the row
-    /// that was found last.
-    pub(crate) fn least(&self, key: u32, place: u32, me: u32, near: &mut usize) -> u32
+    /// Of the ranks but `me` the least of those who saw a version of the key before the one at the place.
+    pub(crate) fn least(&self, at: usize, key: u32, me: u32) -> u32
         requires are { (looks : Looks) × (ranks : List ℕ) × AreEarlier looks ranks self.now }
         requires key { key < self.now.size }
-        ensures { (looks : Looks) (ranks : List ℕ) → AreEarlier looks ranks self.now
-            → IsLeastRank (λ r. (i : ℕ) × SeesBefore looks key place i × IsRankOf ranks i r × (r ≢ me)) result }
+        requires within { at < length self.now.twos.items }
+        ensures { (looks : Looks) (ranks : List ℕ) (made : Look) → AreEarlier looks ranks self.now
+            → ((d : Look) → slice_index_or looks.writers.items at d ≡ made) → made.key ≡ key
+            → IsLeastRank (λ r. (i : ℕ) × SeesBefore looks key made.high i × IsRankOf ranks i r × (r ≢ me)) result }
     {
-        let seen = self.by_low.least(key, place, me, near);
+        let seen = other(self.twos[at], me);
         seen.min(least_absent(&self.nodes, self.size, key, me))
     }
 }

@@ -1,5 +1,5 @@
 //! Up to which commit a version is too early for one who saw what was before it.
-ghost use Rattle.std.specs.Prelude.{◌≡◌, ◌↔◌, ◌-◌, ◌<◌, ◌≤◌, ℕ, List, All, Contains, IfOk, IsTrue, length, map};
+ghost use Rattle.std.specs.Prelude.{◌≡◌, ◌↔◌, ◌-◌, ◌<◌, ◌≤◌, ℕ, List, All, Contains, IfOk, IsTrue, length, map, slice_index_or};
 ghost use Rattle.sia_events.specs.Isolation.{IsolationKept};
 ghost use Rattle.sia_parts.specs.declared.looks.Look.{Look};
 ghost use Rattle.sia_parts.specs.declared.looks.Looks.{Looks};
@@ -43,13 +43,15 @@ fn limit_of(rank: u32, commit: u32) -> u32
     rank.max(LAST.saturating_sub(commit.saturating_sub(1)))
 }
 
-/// Whether the version commits up to the limit of one who saw what was before it, looked for from near the row found last.
-fn is_within(earlier: &Earlier, made: Look, near: &mut usize) -> bool
+/// Whether the version at the place commits up to the limit of one who saw what was before it.
+fn is_within(earlier: &Earlier, at: usize, made: Look) -> bool
     requires are { (looks : Looks) × (limits : List ℕ) × AreEarlier looks limits earlier.now }
     requires key { made.key < earlier.now.size }
-    ensures { (looks : Looks) (limits : List ℕ) → AreEarlier looks limits earlier.now → IsTrue result ↔ IsWithinLimit looks limits made }
+    requires within { at < length earlier.now.twos.items }
+    ensures { (looks : Looks) (limits : List ℕ) → AreEarlier looks limits earlier.now
+        → ((d : Look) → slice_index_or looks.writers.items at d ≡ made) → IsTrue result ↔ IsWithinLimit looks limits made }
 {
-    let rank = earlier.least(made.key, made.high, NONE, near);
+    let rank = earlier.least(at, made.key, NONE);
     if rank == NONE {
         return false;
     }
@@ -89,9 +91,9 @@ pub(crate) fn least_early(
     let earlier = Earlier::of(alloc, evidence, limits)?;
     let writers = evidence.looks.writers.as_slice();
     let mut least = NONE;
-    let mut near = 0usize;
-    for made in writers {
-        if is_within(&earlier, *made, &mut near) {
+    for at in 0..writers.len() {
+        let made = writers[at];
+        if is_within(&earlier, at, made) {
             least = least.min(made.txn);
         }
     }

@@ -5,8 +5,8 @@ ghost use Rattle.sia_graph.specs.Absences.{AreNodes, AreTwosAt, IsAbsent, IsRank
 ghost use Rattle.sia_graph.specs.Ranks.{IsLeastRank, IsRankOf};
 
 use crate::narrow::blocks::put_blocks;
-use crate::narrow::ranked::rank_of;
-use crate::narrow::two::{NONE, Two, other, with};
+use crate::narrow::ranked::put_rank;
+use crate::narrow::two::{NO_RANKS, NONE, Two, other};
 use sia_events::NoMemory;
 use sia_parts::Absence;
 use std::alloc::Global;
@@ -17,11 +17,8 @@ fn put_txn(blocks: &[u32], ranks: &[u32], txn: u32, nodes: &mut [Two])
     ensures { (entries : List (ℕ × ℕ)) → AreTwosAt entries ranks.now nodes.old
         → AreTwosAt (entries ++ map (λ block. (block, txn)) blocks.now) ranks.now nodes.new }
 {
-    let rank = rank_of(ranks, txn);
     for block in blocks {
-        let at = *block as usize;
-        let two = with(nodes[at], rank);
-        nodes[at] = two;
+        put_rank(nodes, *block as usize, ranks, txn);
     }
 }
 
@@ -62,11 +59,7 @@ pub(crate) fn nodes_of(
     if absences.is_empty() {
         return Ok(Vec::new(alloc));
     }
-    let none = Two {
-        least: NONE,
-        next: NONE,
-    };
-    let mut nodes = vec![in alloc; none; 2 * size as usize]?;
+    let mut nodes = vec![in alloc; NO_RANKS; 2 * size as usize]?;
     let mut blocks = Vec::new(alloc);
     for absence in absences {
         put_absence(*absence, ranks, size, &mut blocks, &mut nodes)?;

@@ -4,13 +4,15 @@ ghost use Rattle.sia_parts.specs.declared.looks.Look.{Look};
 ghost use Rattle.sia_parts.specs.Entries.{IsEdge};
 ghost use Rattle.sia_graph.specs.Evidence.{IsEvidence};
 ghost use Rattle.sia_graph.specs.Previous.{AreLeftRanks, AreLowered, IsLeftIn, IsPlaceOf};
-ghost use Rattle.sia_graph.specs.Ranks.{AreRanked};
+ghost use Rattle.sia_graph.specs.Ranks.{IsLeastRank, IsRankBelow};
+ghost use Rattle.sia_graph.specs.VersionRanks.{AreTwos, AreVersions};
 ghost use Rattle.sia_graph.specs.Walks.{AreLeastSources};
 
 use crate::narrow::Evidence;
-use crate::narrow::ranked::Ranked;
+use crate::narrow::ranked::twos_of_writers;
 use crate::narrow::sources::ranks_of_sources;
-use crate::narrow::two::NONE;
+use crate::narrow::two::{NONE, Two, other};
+use crate::narrow::versions::newest_place;
 use sia_events::NoMemory;
 use sia_parts::Look;
 use std::alloc::Global;
@@ -36,17 +38,35 @@ fn ranks_of(alloc: Global, left: &[bool]) -> Result<Vec<u32>, NoMemory>
     Ok(ranks)
 }
 
-/// Lowers for each transaction its rank to the least one, but its own number, of a row at the key of one of its looks, before the
-/// place that stands so many places behind the look's end.
-fn lower(ranked: &Ranked, looks: &[Look], more: u32, least: &mut [u32])
-    requires ranked { (rows : List Look) × (ranks : List ℕ) × AreRanked rows ranks ranked.now }
-    requires within { All (λ look. (look.txn < length least.old) × (look.high + more < 4294967296)) looks.now }
-    ensures { (rows : List Look) (ranks : List ℕ) → AreRanked rows ranks ranked.now → AreLowered rows ranks more looks.now least.old least.new }
+/// The least rank, but the look's own number, of those who made the versions of its key up to its end, which are looked for from
+/// near the place that was found last.
+fn least_up_to(versions: &[Look], twos: &[Two], look: Look, near: &mut usize) -> u32
+    requires versions { AreVersions versions.now }
+    requires long { length twos.now ≡ length versions.now }
+    ensures { (ranks : List ℕ) → AreTwos versions.now versions.now ranks 1 twos.now
+        → IsLeastRank (λ r. IsRankBelow versions.now ranks look.key (look.high + 1) r × (r ≢ look.txn)) result }
+{
+    match newest_place(versions, look.key, look.high, *near) {
+        Some(at) => {
+            *near = at + 1;
+            other(twos[at], look.txn)
+        }
+        None => NONE,
+    }
+}
+
+/// Lowers for each transaction its rank to the least one, but its own number, of those who made the versions of a key up to where
+/// one of its looks ends.
+fn lower(versions: &[Look], twos: &[Two], looks: &[Look], least: &mut [u32])
+    requires versions { AreVersions versions.now }
+    requires long { length twos.now ≡ length versions.now }
+    requires within { All (λ look. look.txn < length least.old) looks.now }
+    ensures { (ranks : List ℕ) → AreTwos versions.now versions.now ranks 1 twos.now → AreLowered versions.now ranks looks.now least.old least.new }
 {
     let mut near = 0usize;
     for look in looks {
         let t = look.txn as usize;
-        let rank = ranked.least(look.key, look.high + more, look.txn, &mut near);
+        let rank = least_up_to(versions, twos, *look, &mut near);
         least[t] = least[t].min(rank);
     }
 }
@@ -84,11 +104,11 @@ pub(crate) fn previous_of(
 {
     let ranks = ranks_of(alloc, left)?;
     let writers = evidence.looks.writers.as_slice();
-    let rows = Ranked::of(alloc, writers, &ranks)?;
+    let twos = twos_of_writers(alloc, writers, &ranks)?;
     let mut sources = ranks_of_sources(alloc, evidence, &ranks)?;
     let least = sources.as_mut_slice();
-    lower(&rows, writers, 0, least);
-    lower(&rows, &evidence.looks.readers, 1, least);
+    lower(writers, &twos, writers, least);
+    lower(writers, &twos, &evidence.looks.readers, least);
     let previous = places(alloc, least)?;
     Ok(previous)
 }

@@ -1,21 +1,15 @@
-//! Looks by key and place, so that the least rank of those at a key below a place is found by a search.
-ghost use Rattle.std.specs.Prelude.{◌≡◌, ◌≢◌, ◌↔◌, ◌<◌, ◌≤◌, ℕ, true, false, List, Contains, IfOk, length, slice_index_or};
-ghost use Rattle.std.specs.List.Sorted.{IsPartitionPoint};
-ghost use Rattle.sia_parts.specs.declared.looks.Look.{Look};
-ghost use Rattle.sia_graph.specs.Ranks.{AreRanked, AreTwos, IsLeastRank, IsRankBelow, IsRankOf, RiseByPlace, is_below};
+//! With each version of a key the two least ranks of those who saw or made an earlier one.
+ghost use Rattle.std.specs.Prelude.{◌≡◌, ◌↔◌, ◌++◌, ◌∷◌, [], ◌<◌, ℕ, List, IfOk, length};
+ghost use Rattle.sia_graph.specs.Absences.{AreTwosAt};
+ghost use Rattle.sia_graph.specs.NarrowSteps.{CanSearch};
+ghost use Rattle.sia_graph.specs.Ranks.{IsRankOf};
+ghost use Rattle.sia_graph.specs.VersionRanks.{AreTwos, AreTwosUpTo, AreVersions};
 
-use crate::narrow::two::{NONE, Two, other, with};
+use crate::narrow::two::{NO_RANKS, NONE, Two, with};
+use crate::narrow::versions::next_after;
 use sia_events::NoMemory;
-use sia_index::searching::partition_near;
 use sia_parts::Look;
 use std::alloc::Global;
-
-/// The looks by key and the place where each begins, and for each the two least ranks of those at its key up to it.
-#[derive(Drop)]
-pub struct Ranked {
-    rows: Vec<Look>,
-    twos: Vec<Two>,
-}
 
 /// The rank of the transaction of that number, or `NONE`.
 pub(crate) fn rank_of(ranks: &[u32], i: u32) -> u32
@@ -27,93 +21,64 @@ pub(crate) fn rank_of(ranks: &[u32], i: u32) -> u32
     }
 }
 
-/// The looks by key and place.
-fn by_place(alloc: Global, looks: &[Look]) -> Result<Vec<Look>, NoMemory>
-    ensures same { IfOk result (λ sorted. (look : Look) → Contains sorted.items look ↔ Contains looks.now look) }
-    ensures rise { IfOk result (λ sorted. RiseByPlace sorted.items) }
+/// Adds the transaction's rank to those that stand at the place.
+pub(crate) fn put_rank(twos: &mut [Two], at: usize, ranks: &[u32], txn: u32)
+    requires { at < length twos.old }
+    ensures { (entries : List (ℕ × ℕ)) → AreTwosAt entries ranks.now twos.old → AreTwosAt (entries ++ (at, txn) ∷ []) ranks.now twos.new }
 {
-    let mut sorted = Vec::from_slice(alloc, looks)?;
-    sorted.sort_unstable_by_key(|look| (look.key, look.low));
-    Ok(sorted)
+    twos[at] = with(twos[at], rank_of(ranks, txn));
 }
 
-/// These two, where the next look is at the same key.
-fn kept(two: Two, key: u32, next: u32) -> Two
-    ensures same { next ≡ key → result ≡ two }
-    ensures differs { next ≢ key → result ≡ record { least = 4294967295; next = 4294967295 } }
+/// Adds to the ranks at each version those at earlier versions of its key.
+fn add_earlier(versions: &[Look], twos: &mut [Two])
+    requires search { CanSearch versions.now }
+    requires long { length twos.old ≡ length versions.now }
+    ensures { (entries : List (ℕ × ℕ)) (ranks : List ℕ) → AreTwosAt entries ranks twos.old → AreTwosUpTo versions.now entries ranks twos.new }
 {
-    if next == key {
-        two
-    } else {
-        Two {
-            least: NONE,
-            next: NONE,
+    for i in 1..versions.len() {
+        if versions[i].key == versions[i - 1].key {
+            let before = twos[i - 1];
+            twos[i] = with(with(twos[i], before.least), before.next);
         }
     }
 }
 
-/// For each look the two least ranks of those at its key up to it.
-fn twos_of(alloc: Global, looks: &[Look], ranks: &[u32]) -> Result<Vec<Two>, NoMemory>
-    requires { RiseByPlace looks.now }
-    ensures { IfOk result (λ twos. AreTwos looks.now ranks.now twos.items) }
+/// The ranks of those who saw an earlier version of its key, or none: at each version the two least.
+pub(crate) fn twos_of_readers(
+    alloc: Global,
+    versions: &[Look],
+    readers: &[Look],
+    ranks: &[u32],
+) -> Result<Vec<Two>, NoMemory>
+    requires { CanSearch versions.now }
+    ensures { IfOk result (λ twos. AreTwos versions.now readers.now ranks.now 0 twos.items) }
 {
-    let mut twos = Vec::with_capacity(alloc, looks.len())?;
-    let mut key = 0;
-    let mut two = Two {
-        least: NONE,
-        next: NONE,
-    };
-    for look in looks {
-        let before = kept(two, key, look.key);
-        let rank = rank_of(ranks, look.txn);
-        two = with(before, rank);
-        key = look.key;
-        twos.push(two)?;
+    let mut twos = vec![in alloc; NO_RANKS; versions.len()]?;
+    let mut near = 0usize;
+    for look in readers {
+        let (next, at) = next_after(versions, look.key, look.low, near);
+        if next.is_some() {
+            put_rank(&mut twos, at, ranks, look.txn);
+        }
+        near = at;
     }
+    add_earlier(versions, &mut twos);
     Ok(twos)
 }
 
-/// Whether the look is at a lesser key, or at this one from a place below the bound.
-fn stands_below(look: &Look, key: u32, bound: u32) -> bool
-    ensures { result ≡ is_below key bound look.now }
+/// The ranks of those who made it or an earlier version of its key: at each version the two least.
+pub(crate) fn twos_of_writers(
+    alloc: Global,
+    versions: &[Look],
+    ranks: &[u32],
+) -> Result<Vec<Two>, NoMemory>
+    requires { AreVersions versions.now }
+    ensures { IfOk result (λ twos. AreTwos versions.now versions.now ranks.now 1 twos.items) }
 {
-    look.key < key || look.key == key && look.low < bound
-}
-
-/// Where the looks end that stand below the key and the bound. They are counted from near a guess.
-pub(crate) fn place_of(looks: &[Look], key: u32, bound: u32, near: usize) -> usize
-    requires { RiseByPlace looks.now }
-    ensures within { result ≤ length looks.now }
-    ensures point { IsPartitionPoint (λ look. is_below key bound look ≡ true) (λ look. is_below key bound look ≡ false) looks.now result }
-{
-    partition_near(looks, near, |look| stands_below(look, key, bound))
-}
-
-impl Ranked {
-    /// The looks with the ranks of their transactions.
-    pub(crate) fn of(alloc: Global, looks: &[Look], ranks: &[u32]) -> Result<Ranked, NoMemory>
-        ensures { IfOk result (AreRanked looks.now ranks.now) }
-    {
-        let rows = by_place(alloc, looks)?;
-        let twos = twos_of(alloc, &rows, ranks)?;
-        Ok(Ranked { rows, twos })
+    let mut twos = vec![in alloc; NO_RANKS; versions.len()]?;
+    for i in 0..versions.len() {
+        put_rank(&mut twos, i, ranks, versions[i].txn);
     }
-
-    /// Of the ranks but `me` the least of a look at the key, from a place below the bound. Its row is looked for from near the one
-    /// that was found last.
-    pub(crate) fn least(&self, key: u32, bound: u32, me: u32, near: &mut usize) -> u32
-        requires { (looks : List Look) × (ranks : List ℕ) × AreRanked looks ranks self.now }
-        ensures { (looks : List Look) (ranks : List ℕ) → AreRanked looks ranks self.now
-            → IsLeastRank (λ r. IsRankBelow looks ranks key bound r × (r ≢ me)) result }
-    {
-        let end = place_of(&self.rows, key, bound, *near);
-        *near = end;
-        if end == 0 {
-            return NONE;
-        }
-        if self.rows[end - 1].key != key {
-            return NONE;
-        }
-        other(self.twos[end - 1], me)
-    }
+    add_earlier(versions, &mut twos);
+    Ok(twos)
 }

@@ -24,10 +24,10 @@ pub(crate) fn ranks_of_sources(
     let earlier = Earlier::of(alloc, evidence, ranks)?;
     let writers = evidence.looks.writers.as_slice();
     let mut least = vec![in alloc; NONE; ranks.len()]?;
-    let mut near = 0usize;
-    for made in writers {
+    for at in 0..writers.len() {
+        let made = writers[at];
         let t = made.txn as usize;
-        let rank = earlier.least(made.key, made.high, ranks[t], &mut near);
+        let rank = earlier.least(at, made.key, ranks[t]);
         least[t] = least[t].min(rank);
     }
     Ok(least)

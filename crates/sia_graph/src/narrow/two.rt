@@ -11,6 +11,12 @@ pub struct Two {
     pub next: u32,
 }
 
+/// Where there is no rank.
+pub(crate) const NO_RANKS: Two = Two {
+    least: NONE,
+    next: NONE,
+};
+
 /// The two least of these and of one more rank.
 pub(crate) fn with(two: Two, rank: u32) -> Two
     ensures less { rank < two.least → (result.least ≡ rank) × (result.next ≡ two.least) }

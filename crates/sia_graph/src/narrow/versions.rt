@@ -1,9 +1,10 @@
 //! The version of a key before or after a place, by who made it.
-ghost use Rattle.std.specs.Prelude.{◌≡◌, ◌≢◌, ◌+◌, ◌*◌, ◌<◌, ◌≤◌, Contains, MatchOption, length, slice_index_or};
+ghost use Rattle.std.specs.Prelude.{◌≡◌, ◌≢◌, ◌+◌, ◌*◌, ◌<◌, ◌≤◌, Contains, IfSome, MatchOption, length, slice_index_or};
 ghost use Rattle.std.specs.List.{AllWithin};
 ghost use Rattle.sia_parts.specs.declared.looks.Look.{Look};
 ghost use Rattle.sia_parts.specs.Looks.{RiseByRank, look_rank};
 ghost use Rattle.sia_graph.specs.NarrowSteps.{CanSearch, IsNewest, IsNext};
+ghost use Rattle.sia_graph.specs.VersionRanks.{IsNextAt};
 
 use crate::taking::numbers::step;
 use sia_index::searching::partition_near;
@@ -37,10 +38,24 @@ pub(crate) fn next_after(
     near: usize,
 ) -> (Option<Look>, usize)
     requires { CanSearch writers.now }
-    ensures { MatchOption result.0 ((a : Look) → Contains writers.now a → a.key ≡ key → a.high ≤ place) (IsNext writers.now key place) }
+    ensures next { MatchOption result.0 ((a : Look) → Contains writers.now a → a.key ≡ key → a.high ≤ place) (IsNext writers.now key place) }
+    ensures at { IfSome result.0 (λ a. IsNextAt writers.now key place result.1) }
 {
     let at = count_up_to(writers, key, place, near);
     (look_at(writers, at, key), at)
+}
+
+/// Where the last version of the key up to the place stands.
+pub(crate) fn newest_place(writers: &[Look], key: u32, place: u32, near: usize) -> Option<usize>
+    requires { CanSearch writers.now }
+    ensures { MatchOption result ((a : Look) → Contains writers.now a → a.key ≡ key → place < a.high)
+        (λ i. (i < length writers.now) × ((d : Look) → IsNewest writers.now key place (slice_index_or writers.now i d))) }
+{
+    let at = count_up_to(writers, key, place, near).checked_sub(1)?;
+    match look_at(writers, at, key) {
+        Some(_) => Some(at),
+        None => None,
+    }
 }
 
 /// Who made the last version of the key up to the place.
@@ -48,6 +63,5 @@ pub(crate) fn newest_at(writers: &[Look], key: u32, place: u32, near: usize) -> 
     requires { CanSearch writers.now }
     ensures { MatchOption result ((a : Look) → Contains writers.now a → a.key ≡ key → place < a.high) (IsNewest writers.now key place) }
 {
-    let after = count_up_to(writers, key, place, near);
-    look_at(writers, after.checked_sub(1)?, key)
+    Some(writers[newest_place(writers, key, place, near)?])
 }

@@ -1,5 +1,5 @@
 -- One version more each time.
-use Rattle.std.proofs.Common.{◌+◌, ℕ, List, subst, sym, take, ◌∙◌, arith}
+use Rattle.std.proofs.Common.{◌+◌, ℕ, List, ap, length, subst, sym, take, ◌∙◌, arith}
 use Rattle.std.proofs.lemmas.Bool.{false≢true}
 use Rattle.std.proofs.lemmas.List.{take_all}
 use Rattle.sia_parts.specs.declared.looks.Look.{Look}
@@ -9,6 +9,7 @@ use Rattle.sia_graph.specs.Ranks.{IsLeastRank}
 use Rattle.sia_graph.proofs.EvidenceNumbers.{few_txns, made_at}
 use Rattle.sia_graph.proofs.LeastRanks.{least_same}
 use Rattle.sia_graph.proofs.LimitRanks.{IsMadeWithin, made_more, made_same}
+use Rattle.sia_graph.proofs.VersionRanks.{row_at}
 use Rattle.sia_graph.proofs.narrow.limits.least_early.Goals.{then-is_within, else-is_within}
 use Rattle.sia_graph.proofs.narrow.limits.least_early.Goals as goal
 
@@ -18,25 +19,32 @@ none = record { txn = 0; key = 0; low = 0; high = 0 }
 pub is_within-requires-clause-are : goal.is_within-requires-clause-are
 is_within-requires-clause-are c = (c.args.evidence.now.looks.now, c.args.limits.now, c.in_ok-earlier.ensures.made)
 
+pub is_within-requires-clause-within : goal.is_within-requires-clause-within
+is_within-requires-clause-within c =
+    let long = ap (length {A = Look}) c.as_slice-writers.ensures.value in
+    let twos = c.in_ok-earlier.ensures.made.twos.0 in
+    let below = c.loop-at-test.true in
+    omega arith
+
 pub is_within-requires-clause-key : goal.is_within-requires-clause-key
 is_within-requires-clause-key c =
     let e = c.args.evidence.now in
-    let at = made_at e.index.now e.txns.now e.keys.now e.looks.now c.requires c.as_slice-writers.result.now c.as_slice-writers.ensures.value c.loop-made.made-index none c.loop-made-test.true in
+    let at = made_at e.index.now e.txns.now e.keys.now e.looks.now c.requires c.as_slice-writers.result.now c.as_slice-writers.ensures.value c.loop-at.at none c.loop-at-test.true in
     let size = c.in_ok-earlier.ensures.size in
     let below = at.0 in
     omega arith
 
-pub loop-made-preserved : goal.loop-made-preserved
-loop-made-preserved c =
+pub loop-at-preserved : goal.loop-at-preserved
+loop-at-preserved c =
     let e = c.args.evidence.now in
     let looks = e.looks.now in
     let limits = c.args.limits.now in
-    let n = c.loop-made.made-index in
+    let n = c.loop-at.at in
     let writers = c.as_slice-writers.result.now in
-    let below = c.loop-made-test.true in
-    let least = c.loop-made.least in
-    let before = c.loop-made.invariant in
-    let test = c.is_within.ensures looks limits c.in_ok-earlier.ensures.made in
+    let below = c.loop-at-test.true in
+    let least = c.loop-at.least in
+    let before = c.loop-at.invariant in
+    let test = c.is_within.ensures looks limits c.in_ok-earlier.ensures.made (row_at writers looks.writers.items c.as_slice-writers.ensures.value n none below) in
     let Made = λ (r : ℕ). IsLeastRank (FromSome (IsMadeWithin looks limits) (take (n + 1) writers)) r in
     elim c.if-is_within.branch [
       | then-is_within w ↦
@@ -50,7 +58,7 @@ pub returns : goal.returns
 returns c =
     let looks = c.args.evidence.now.looks.now in
     let limits = c.args.limits.now in
-    let least = c.loop-made.least in
+    let least = c.loop-at.least in
     let all = subst (λ (xs : List Look). IsLeastRank (FromSome (IsMadeWithin looks limits) xs) least)
-    (take_all c.loop-made.made-index c.as_slice-writers.result.now c.loop-made-test.false ∙ c.as_slice-writers.ensures.value) c.loop-made.invariant in
+    (take_all c.loop-at.at c.as_slice-writers.result.now c.loop-at-test.false ∙ c.as_slice-writers.ensures.value) c.loop-at.invariant in
     least_same (FromSome (IsMadeWithin looks limits) looks.writers.items) (IsEarly looks limits) least (λ j has. (has.0, has.1, has.2.0, has.2.1)) (λ j has. (has.0, has.1, (has.2, has.3))) all

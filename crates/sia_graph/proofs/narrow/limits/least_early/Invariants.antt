@@ -4,5 +4,5 @@ use Rattle.sia_graph.specs.Ranks.{IsLeastRank}
 use Rattle.sia_graph.proofs.LimitRanks.{IsMadeWithin}
 use Rattle.sia_graph.proofs.narrow.limits.least_early.Given as goal
 
-abbrev pub invariant-loop-made : goal.invariant-loop-made
-invariant-loop-made l = IsLeastRank (FromSome (IsMadeWithin l.evidence.looks.now l.limits) (take l.made-index l.writers)) l.least
+abbrev pub invariant-loop-at : goal.invariant-loop-at
+invariant-loop-at l = IsLeastRank (FromSome (IsMadeWithin l.evidence.looks.now l.limits) (take l.at l.writers)) l.least

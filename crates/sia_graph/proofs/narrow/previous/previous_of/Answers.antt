@@ -1,11 +1,13 @@
-use Rattle.std.proofs.Common.{◌≡◌, ◌+◌, ◌<◌, ℕ, List, length, get_or, min, sym, ap, ◌∙◌, subst, arith}
+use Rattle.std.proofs.Common.{◌≡◌, ◌<◌, ℕ, List, length, get_or, min, sym, ap, ◌∙◌, subst, arith}
 use Rattle.std.specs.Prelude.{All}
 use Rattle.sia_parts.specs.declared.looks.Look.{Look}
+use Rattle.sia_graph.specs.declared.narrow.two.Two.{Two}
 use Rattle.sia_graph.specs.Previous.{AreLeftRanks, AreLowered, AreWithin, IsPlaceOf}
 use Rattle.sia_graph.specs.Sources.{AreLeastOfSources}
+use Rattle.sia_graph.specs.VersionRanks.{AreTwos}
 use Rattle.sia_graph.proofs.EvidenceEdges.{few_txns}
 use Rattle.sia_graph.proofs.Previous.{left_apart, previous_is}
-use Rattle.sia_graph.proofs.PreviousEdges.{are_within, least_sources_are}
+use Rattle.sia_graph.proofs.PreviousEdges.{are_versions, are_within, least_sources_are}
 use Rattle.sia_graph.proofs.narrow.previous.previous_of.Goals as goal
 
 pub ranks_of-requires : goal.ranks_of-requires
@@ -22,28 +24,40 @@ pub ranks_of_sources-requires-clause-apart : goal.ranks_of_sources-requires-clau
 ranks_of_sources-requires-clause-apart c =
     left_apart c.args.left.now c.deref-2.result.now (subst (AreLeftRanks c.args.left.now) (sym c.deref-2.ensures.value) c.in_ok-ranks.ensures.each)
 
+pub twos_of_writers-requires : goal.twos_of_writers-requires
+twos_of_writers-requires c = let e = c.args.evidence.now in are_versions e.index.now e.txns.now e.keys.now e.looks.now c.requires.is c.as_slice-writers.result.now c.as_slice-writers.ensures.value
+
+pub lower-requires-clause-versions : goal.lower-requires-clause-versions
+lower-requires-clause-versions c = let e = c.args.evidence.now in are_versions e.index.now e.txns.now e.keys.now e.looks.now c.requires.is c.as_slice-writers.result.now c.as_slice-writers.ensures.value
+
+pub lower-requires-clause-long : goal.lower-requires-clause-long
+lower-requires-clause-long c = ap (length {A = Two}) c.deref-3.ensures.value ∙ c.in_ok-twos.ensures.0
+
 pub lower-requires-clause-within : goal.lower-requires-clause-within
 lower-requires-clause-within c =
     let e = c.args.evidence.now in
     let within = are_within e.index.now e.txns.now e.keys.now e.looks.now c.requires.is in
     let long = ap (length {A = ℕ}) c.as_mut_slice-least.ensures.value ∙ c.in_ok-sources.ensures.0 ∙ ap (length {A = ℕ}) c.deref-2.ensures.value ∙ c.in_ok-ranks.ensures.long ∙ c.requires.long in
-    subst (λ n. All (λ (look : Look). (look.txn < n) × (look.high + 0 < 4294967296)) c.as_slice-writers.result.now) (sym long)
-    (subst (All (λ (look : Look). (look.txn < length e.txns.now) × (look.high + 0 < 4294967296))) (sym c.as_slice-writers.ensures.value) within.writers)
+    subst (λ n. All (λ (look : Look). look.txn < n) c.as_slice-writers.result.now) (sym long)
+    (subst (All (λ (look : Look). look.txn < length e.txns.now)) (sym c.as_slice-writers.ensures.value) within.writers)
+
+pub lower-requires-2-clause-versions : goal.lower-requires-2-clause-versions
+lower-requires-2-clause-versions c = let e = c.args.evidence.now in are_versions e.index.now e.txns.now e.keys.now e.looks.now c.requires.is c.as_slice-writers.result.now c.as_slice-writers.ensures.value
+
+pub lower-requires-2-clause-long : goal.lower-requires-2-clause-long
+lower-requires-2-clause-long c = ap (length {A = Two}) c.deref-4.ensures.value ∙ c.in_ok-twos.ensures.0
 
 pub lower-requires-2-clause-within : goal.lower-requires-2-clause-within
 lower-requires-2-clause-within c =
     let e = c.args.evidence.now in
     let within = are_within e.index.now e.txns.now e.keys.now e.looks.now c.requires.is in
-    let first = c.lower.ensures c.as_slice-writers.result.now c.deref.result.now c.in_ok-rows.ensures in
-    let long = first.0 ∙ ap (length {A = ℕ}) c.as_mut_slice-least.ensures.value ∙ c.in_ok-sources.ensures.0 ∙ ap (length {A = ℕ}) c.deref-2.ensures.value ∙ c.in_ok-ranks.ensures.long ∙ c.requires.long in
-    subst (λ n. All (λ (look : Look). (look.txn < n) × (look.high + 1 < 4294967296)) c.deref-3.result.now) (sym long)
-    (subst (All (λ (look : Look). (look.txn < length e.txns.now) × (look.high + 1 < 4294967296))) (sym c.deref-3.ensures.value) within.readers)
+    let long = c.lower.auto.least ∙ ap (length {A = ℕ}) c.as_mut_slice-least.ensures.value ∙ c.in_ok-sources.ensures.0 ∙ ap (length {A = ℕ}) c.deref-2.ensures.value ∙ c.in_ok-ranks.ensures.long ∙ c.requires.long in
+    subst (λ n. All (λ (look : Look). look.txn < n) c.deref-5.result.now) (sym long)
+    (subst (All (λ (look : Look). look.txn < length e.txns.now)) (sym c.deref-5.ensures.value) within.readers)
 
 pub returns-clause-long : goal.returns-clause-long
 returns-clause-long c =
-    let first = c.lower.ensures c.as_slice-writers.result.now c.deref.result.now c.in_ok-rows.ensures in
-    let second = c.lower-2.ensures c.as_slice-writers.result.now c.deref.result.now c.in_ok-rows.ensures in
-    c.in_ok-previous.ensures.long ∙ second.0 ∙ first.0 ∙ ap (length {A = ℕ}) c.as_mut_slice-least.ensures.value ∙ c.in_ok-sources.ensures.0 ∙ ap (length {A = ℕ}) c.deref-2.ensures.value ∙ c.in_ok-ranks.ensures.long
+    c.in_ok-previous.ensures.long ∙ c.lower-2.auto.least ∙ c.lower.auto.least ∙ ap (length {A = ℕ}) c.as_mut_slice-least.ensures.value ∙ c.in_ok-sources.ensures.0 ∙ ap (length {A = ℕ}) c.deref-2.ensures.value ∙ c.in_ok-ranks.ensures.long
 
 pub returns-clause-least : goal.returns-clause-least
 returns-clause-least c =
@@ -55,12 +69,12 @@ returns-clause-least c =
     let mid = c.lower.new.least in
     let new = c.lower-2.new.least in
     let writers = c.as_slice-writers.result.now in
+    let twos = c.in_ok-twos.twos.items in
     let sources = subst (AreLeastOfSources looks ranks) (sym c.as_mut_slice-least.ensures.value) (subst (λ rs. AreLeastOfSources looks rs c.in_ok-sources.sources.items) c.deref-2.ensures.value c.in_ok-sources.ensures) in
-    let first = subst (λ (ws : List Look). AreLowered ws ranks 0 ws old mid) c.as_slice-writers.ensures.value
-    (subst (λ rs. AreLowered writers rs 0 writers old mid) c.deref.ensures.value (c.lower.ensures writers c.deref.result.now c.in_ok-rows.ensures)) in
-    let second = subst (λ (ws : List Look). AreLowered ws ranks 1 looks.readers.items mid new) c.as_slice-writers.ensures.value
-    (subst (λ (ls : List Look). AreLowered writers ranks 1 ls mid new) c.deref-3.ensures.value
-    (subst (λ rs. AreLowered writers rs 1 c.deref-3.result.now mid new) c.deref.ensures.value (c.lower-2.ensures writers c.deref.result.now c.in_ok-rows.ensures))) in
+    let are = subst (λ rs. AreTwos writers writers rs 1 twos) c.deref.ensures.value c.in_ok-twos.ensures in
+    let first = subst (λ (ws : List Look). AreLowered ws ranks ws old mid) c.as_slice-writers.ensures.value (c.lower.ensures ranks (subst (AreTwos writers writers ranks 1) (sym c.deref-3.ensures.value) are)) in
+    let second = subst (λ (ws : List Look). AreLowered ws ranks looks.readers.items mid new) c.as_slice-writers.ensures.value
+    (subst (λ (ls : List Look). AreLowered writers ranks ls mid new) c.deref-5.ensures.value (c.lower-2.ensures ranks (subst (AreTwos writers writers ranks 1) (sym c.deref-4.ensures.value) are))) in
     let long_left = c.requires.long in
     let few = few_txns e.index.now e.txns.now e.keys.now looks c.requires.is in
     let within = subst (λ n. AreWithin looks n (length e.keys.now)) (sym c.requires.long) (are_within e.index.now e.txns.now e.keys.now looks c.requires.is) in

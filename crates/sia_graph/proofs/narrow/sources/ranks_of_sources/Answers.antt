@@ -8,6 +8,7 @@ use Rattle.sia_graph.proofs.EvidenceNumbers.{made_at}
 use Rattle.sia_graph.proofs.LeastRanks.{least_bound, least_same}
 use Rattle.sia_graph.proofs.Previous.{AreLoweredBy, lowered_more, none_lowered}
 use Rattle.sia_graph.proofs.SourceRanks.{IsSourceBy, from_all}
+use Rattle.sia_graph.proofs.VersionRanks.{row_at}
 use Rattle.sia_graph.proofs.narrow.sources.ranks_of_sources.Goals as goal
 
 min_bound : (r : ℕ) → r ≤ 4294967295 → min 4294967295 r ≡ r
@@ -16,18 +17,25 @@ min_bound r bound = omega arith
 abbrev none : Look
 none = record { txn = 0; key = 0; low = 0; high = 0 }
 
-pub loop-made-init : goal.loop-made-init
-loop-made-init c =
+pub loop-at-init : goal.loop-at-init
+loop-at-init c =
     let n = length c.args.ranks.now in
     let all = replicate n 4294967295 in
     let none = c.in_ok-least.ensures.items_if_clones_equal (λ y k. search rules) in
     subst (AreLoweredBy (IsSourceBy c.args.evidence.now.looks.now c.args.ranks.now) [] all) (sym none)
     (none_lowered (IsSourceBy c.args.evidence.now.looks.now c.args.ranks.now) all (λ t l. let e : get_or all t 0 ≡ 4294967295 = get_or-replicate n t 4294967295 0 (subst (λ m. t < m) (length-replicate n 4294967295) l) in omega arith))
 
+pub least-rank-requires-clause-within : goal.least-rank-requires-clause-within
+least-rank-requires-clause-within c =
+    let long = ap (length {A = Look}) c.as_slice-writers.ensures.value in
+    let twos = c.in_ok-earlier.ensures.made.twos.0 in
+    let below = c.loop-at-test.true in
+    omega arith
+
 pub least-rank-requires-clause-key : goal.least-rank-requires-clause-key
 least-rank-requires-clause-key c =
     let e = c.args.evidence.now in
-    let at = made_at e.index.now e.txns.now e.keys.now e.looks.now c.requires.is c.as_slice-writers.result.now c.as_slice-writers.ensures.value c.loop-made.made-index none c.loop-made-test.true in
+    let at = made_at e.index.now e.txns.now e.keys.now e.looks.now c.requires.is c.as_slice-writers.result.now c.as_slice-writers.ensures.value c.loop-at.at none c.loop-at-test.true in
     let size = c.in_ok-earlier.ensures.size in
     let below = at.0 in
     omega arith
@@ -35,7 +43,7 @@ least-rank-requires-clause-key c =
 pub bounds-ranks-t : goal.bounds-ranks-t
 bounds-ranks-t c =
     let e = c.args.evidence.now in
-    let at = made_at e.index.now e.txns.now e.keys.now e.looks.now c.requires.is c.as_slice-writers.result.now c.as_slice-writers.ensures.value c.loop-made.made-index none c.loop-made-test.true in
+    let at = made_at e.index.now e.txns.now e.keys.now e.looks.now c.requires.is c.as_slice-writers.result.now c.as_slice-writers.ensures.value c.loop-at.at none c.loop-at-test.true in
     let long = c.requires.long in
     let below = at.1 in
     omega arith
@@ -43,49 +51,50 @@ bounds-ranks-t c =
 pub index-requires : goal.index-requires
 index-requires c =
     let e = c.args.evidence.now in
-    let at = made_at e.index.now e.txns.now e.keys.now e.looks.now c.requires.is c.as_slice-writers.result.now c.as_slice-writers.ensures.value c.loop-made.made-index none c.loop-made-test.true in
+    let at = made_at e.index.now e.txns.now e.keys.now e.looks.now c.requires.is c.as_slice-writers.result.now c.as_slice-writers.ensures.value c.loop-at.at none c.loop-at-test.true in
     let long = c.requires.long in
     let below = at.1 in
-    let same = c.loop-made.invariant.0 ∙ length-replicate (length c.args.ranks.now) 4294967295 in
-    let ok = c.loop-made.least.ok in
+    let same = c.loop-at.invariant.0 ∙ length-replicate (length c.args.ranks.now) 4294967295 in
+    let ok = c.loop-at.least.ok in
     omega arith
 
 pub index_mut-requires : goal.index_mut-requires
 index_mut-requires c =
     let e = c.args.evidence.now in
-    let at = made_at e.index.now e.txns.now e.keys.now e.looks.now c.requires.is c.as_slice-writers.result.now c.as_slice-writers.ensures.value c.loop-made.made-index none c.loop-made-test.true in
+    let at = made_at e.index.now e.txns.now e.keys.now e.looks.now c.requires.is c.as_slice-writers.result.now c.as_slice-writers.ensures.value c.loop-at.at none c.loop-at-test.true in
     let long = c.requires.long in
     let below = at.1 in
-    let same = c.loop-made.invariant.0 ∙ length-replicate (length c.args.ranks.now) 4294967295 in
-    let ok = c.loop-made.least.ok in
+    let same = c.loop-at.invariant.0 ∙ length-replicate (length c.args.ranks.now) 4294967295 in
+    let ok = c.loop-at.least.ok in
     omega arith
 
-pub loop-made-preserved : goal.loop-made-preserved
-loop-made-preserved c =
+pub loop-at-preserved : goal.loop-at-preserved
+loop-at-preserved c =
     let e = c.args.evidence.now in
     let looks = e.looks.now in
     let ranks = c.args.ranks.now in
     let writers = c.as_slice-writers.result.now in
-    let n = c.loop-made.made-index in
+    let n = c.loop-at.at in
     let made = get_or writers n none in
-    let least = c.loop-made.least.items in
-    let before = c.loop-made.invariant in
-    let at = made_at e.index.now e.txns.now e.keys.now looks c.requires.is writers c.as_slice-writers.ensures.value n none c.loop-made-test.true in
+    let least = c.loop-at.least.items in
+    let before = c.loop-at.invariant in
+    let at = made_at e.index.now e.txns.now e.keys.now looks c.requires.is writers c.as_slice-writers.ensures.value n none c.loop-at-test.true in
+    let at_made = row_at writers looks.writers.items c.as_slice-writers.ensures.value n none c.loop-at-test.true in
     let full = length-replicate (length ranks) 4294967295 in
     let own = subst (λ n. made.txn < n) (sym (full ∙ c.requires.long)) at.1 in
     let below = subst (λ n. made.txn < n) (sym before.0) own in
-    lowered_more (IsSourceBy looks ranks) (λ t r look is. is.1.2.2) (λ t r look is. is.0) writers (replicate (length ranks) 4294967295) n none c.loop-made-test.true least before own c.least-rank.result c.min.result
-    (least_same _ (IsSourceBy looks ranks made.txn made) c.least-rank.result (λ r is. (refl, is)) (λ r is. is.1) (c.least-rank.ensures looks ranks c.in_ok-earlier.ensures.made))
+    lowered_more (IsSourceBy looks ranks) (λ t r look is. is.1.2.2) (λ t r look is. is.0) writers (replicate (length ranks) 4294967295) n none c.loop-at-test.true least before own c.least-rank.result c.min.result
+    (least_same _ (IsSourceBy looks ranks made.txn made) c.least-rank.result (λ r is. (refl, is)) (λ r is. is.1) (c.least-rank.ensures looks ranks made c.in_ok-earlier.ensures.made at_made refl))
     (c.min.ensures ∙ ap (λ m. min m c.least-rank.result) (c.index.ensures ∙ get_or_default least made.txn _ 0 below))
 
 pub returns : goal.returns
 returns c =
     let looks = c.args.evidence.now.looks.now in
     let ranks = c.args.ranks.now in
-    let least = c.loop-made.least.items in
+    let least = c.loop-at.least.items in
     let full = length-replicate (length ranks) 4294967295 in
     let all = subst (λ (xs : List Look). AreLoweredBy (IsSourceBy looks ranks) xs (replicate (length ranks) 4294967295) least)
-    (take_all c.loop-made.made-index c.as_slice-writers.result.now c.loop-made-test.false ∙ c.as_slice-writers.ensures.value) c.loop-made.invariant in (
+    (take_all c.loop-at.at c.as_slice-writers.result.now c.loop-at-test.false ∙ c.as_slice-writers.ensures.value) c.loop-at.invariant in (
       all.0 ∙ full,
       λ t l.
           let at = all.1 t (subst (λ m. t < m) (sym full) l) in

@@ -3,5 +3,5 @@ use Rattle.sia_graph.proofs.Previous.{AreLoweredBy}
 use Rattle.sia_graph.proofs.SourceRanks.{IsSourceBy}
 use Rattle.sia_graph.proofs.narrow.sources.ranks_of_sources.Given as goal
 
-abbrev pub invariant-loop-made : goal.invariant-loop-made
-invariant-loop-made l = AreLoweredBy (IsSourceBy l.evidence.looks.now l.ranks) (take l.made-index l.writers) (replicate (length l.ranks) 4294967295) l.least.items
+abbrev pub invariant-loop-at : goal.invariant-loop-at
+invariant-loop-at l = AreLoweredBy (IsSourceBy l.evidence.looks.now l.ranks) (take l.at l.writers) (replicate (length l.ranks) 4294967295) l.least.items

@@ -1,0 +1,31 @@
+-- What stands before those behind the place, if it is of the key.
+use Rattle.std.proofs.Common.{◌≡◌, ◌+◌, ◌<◌, length, subst, sym, ◌∙◌, arith}
+use Rattle.std.proofs.lemmas.List.{get_or_default}
+use Rattle.sia_graph.specs.NarrowSteps.{IsNewest}
+use Rattle.sia_graph.proofs.NextVersions.{none_newest, is_newest}
+use Rattle.sia_graph.proofs.narrow.versions.newest_place.Goals as goal
+
+pub returns-in-None : goal.returns-in-None
+returns-in-None c =
+    let writers = c.args.writers.now in
+    let after = c.count_up_to.result in
+    let n = c.count_up_to.ensures in
+    let some = c.in_ok-at.ensures in
+    let one : c.in_ok-at.at + 1 ≡ after = omega arith in
+    let within : c.in_ok-at.at < length writers = let b = n.bound in omega arith in
+    none_newest writers c.requires.rise c.requires.small c.args.key c.args.place c.ranges.place.fits after n.before n.after c.in_ok-at.at one within c.in-None.ensures
+
+pub returns-in-Some : goal.returns-in-Some
+returns-in-Some c =
+    let writers = c.args.writers.now in
+    let at = c.in_ok-at.at in
+    let look = c.in-Some.field-0 in
+    let has = c.in-Some.ensures in
+    let n = c.count_up_to.ensures in
+    let some = c.in_ok-at.ensures in
+    let one : at + 1 ≡ c.count_up_to.result = omega arith in (
+      has.0,
+      λ d.
+          subst (IsNewest writers c.args.key c.args.place) (sym (get_or_default writers at d look has.0 ∙ has.1))
+          (is_newest writers c.requires.rise c.requires.small c.args.key c.args.place c.ranges.place.fits c.count_up_to.result n.before n.after look (at, has.0, has.1) one has.2),
+    )
