@@ -10,6 +10,7 @@ mod firsts;
 pub(crate) mod judging;
 mod least_edges;
 mod limits;
+mod nearby;
 mod nodes;
 mod ordering;
 mod previous;

@@ -5,6 +5,7 @@ ghost use Rattle.sia_graph.specs.NarrowSteps.{AreNarrowSteps, CanSearch, FitsKey
 
 use crate::narrow::absence_steps::put_absence_steps;
 use crate::narrow::firsts::firsts_of;
+use crate::narrow::nearby::Nearby;
 use crate::narrow::steps::{put_half_steps, put_leaf_steps, put_look_steps};
 use sia_events::NoMemory;
 use sia_index::ordering::put_in_order;
@@ -23,8 +24,9 @@ pub(crate) fn steps_of(alloc: Global, size: u32, looks: &Looks) -> Result<Vec<u6
     let readers = looks.readers.as_slice();
     let absences = looks.absences.as_slice();
     let mut steps = Vec::with_capacity(alloc, readers.len())?;
-    put_look_steps(size, writers, writers, &mut steps)?;
-    put_look_steps(size, writers, readers, &mut steps)?;
+    let mut nearby = Nearby::of(alloc, writers)?;
+    put_look_steps(size, writers, writers, &mut nearby, &mut steps)?;
+    put_look_steps(size, writers, readers, &mut nearby, &mut steps)?;
     put_half_steps(size, &mut steps)?;
     let firsts = firsts_of(alloc, size, writers)?;
     put_leaf_steps(size, &firsts, &mut steps)?;

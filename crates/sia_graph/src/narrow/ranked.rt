@@ -5,6 +5,7 @@ ghost use Rattle.sia_graph.specs.NarrowSteps.{CanSearch};
 ghost use Rattle.sia_graph.specs.Ranks.{IsRankOf};
 ghost use Rattle.sia_graph.specs.VersionRanks.{AreTwos, AreTwosUpTo, AreVersions};
 
+use crate::narrow::nearby::Nearby;
 use crate::narrow::two::{NO_RANKS, NONE, Two, with};
 use crate::narrow::versions::next_after;
 use sia_events::NoMemory;
@@ -54,13 +55,13 @@ pub(crate) fn twos_of_readers(
     ensures { IfOk result (λ twos. AreTwos versions.now readers.now ranks.now 0 twos.items) }
 {
     let mut twos = vec![in alloc; NO_RANKS; versions.len()]?;
-    let mut near = 0usize;
+    let mut nearby = Nearby::of(alloc, versions)?;
     for look in readers {
-        let (next, at) = next_after(versions, look.key, look.low, near);
+        let (next, at) = next_after(versions, look.key, look.low, nearby.place(look.key));
         if next.is_some() {
             put_rank(&mut twos, at, ranks, look.txn);
         }
-        near = at;
+        nearby.note(look.key, at);
     }
     add_earlier(versions, &mut twos);
     Ok(twos)

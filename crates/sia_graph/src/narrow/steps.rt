@@ -3,6 +3,7 @@ ghost use Rattle.std.specs.Prelude.{◌≡◌, ◌≢◌, ◌⊎◌, ℕ, ◌+�
 ghost use Rattle.sia_parts.specs.Sights.{Adds, FromSome};
 ghost use Rattle.sia_graph.specs.NarrowSteps.{CanSearch, IsHalfStep, IsLeafStep, IsLookStep, IsNewestStep, IsNextStep, node_of, step_number, step_source, step_target};
 
+use crate::narrow::nearby::Nearby;
 use crate::narrow::versions::{newest_at, next_after};
 use crate::taking::numbers::{source_of, step, target_of};
 use sia_events::NoMemory;
@@ -65,21 +66,23 @@ fn put_newest(
     }
 }
 
-/// Adds the steps of those who made or saw versions. Where they stand by key and commit, each is found near the one before.
+/// Adds the steps of those who made or saw versions. What follows in time mostly saw a version of a key near the one that was
+/// seen last.
 pub(crate) fn put_look_steps(
     size: u32,
     writers: &[Look],
     looks: &[Look],
+    nearby: &mut Nearby,
     steps: &mut Vec<u64>,
 ) -> Result<(), NoMemory>
     requires writers { CanSearch writers.now }
     requires few { (size ≤ 1048576) × All (λ a. a.txn < 1048576) looks.now }
     ensures { OnOk result (Adds (FromSome (IsLookStep size writers.now) looks.now) steps.old.items steps.new.items) }
 {
-    let mut near = 0usize;
     for look in looks {
-        near = put_next(size, writers, *look, near, steps)?;
+        let near = put_next(size, writers, *look, nearby.place(look.key), steps)?;
         put_newest(size, writers, *look, near, steps)?;
+        nearby.note(look.key, near);
     }
     Ok(())
 }
