@@ -52,7 +52,7 @@ impl By<Look> for ByKey {
     }
 }
 
-/// The first place of a row that is at least at the number.
+/// The first place of a row that is at least at the number, which is looked for from near a guess.
 pub(crate) fn place_from<T, O: By<T>>(rows: &[T], least: u64, near: usize) -> usize
     requires { IsNonDecreasingBy O.by rows.now }
     ensures bound { result ≤ length rows.now }
@@ -64,11 +64,12 @@ pub(crate) fn place_from<T, O: By<T>>(rows: &[T], least: u64, near: usize) -> us
 
 /// The rows at the number, which are looked for from near a guess, and where they end.
 pub(crate) fn rows_near<T, O: By<T>>(rows: &[T], number: u64, near: usize) -> (&[T], usize)
-    requires { IsNonDecreasingBy O.by rows.now }
+    requires rise { IsNonDecreasingBy O.by rows.now }
+    requires below { number < 18446744073709551615 }
     ensures { IsGroup O.by rows.now number result.0.now }
 {
     let start = place_from::<T, O>(rows, number, near);
-    let stop = partition_near(rows, start, |row| O::number(row) <= number).max(start);
+    let stop = place_from::<T, O>(rows, number + 1, start).max(start);
     (&rows[start..stop], stop)
 }
 

@@ -14,7 +14,7 @@ use sia_events::{NoMemory, TxnId};
 use std::alloc::Global;
 
 /// How taking one transaction after another ends.
-#[derive(Debug, Drop)]
+#[derive(Drop)]
 pub(crate) enum Taken {
     /// The least order that keeps every edge.
     Whole(Vec<TxnId>),

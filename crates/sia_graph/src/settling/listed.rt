@@ -13,6 +13,7 @@ use crate::settling::Step;
 use crate::taking::by_steps::target_place;
 use crate::taking::numbers::{source_of, step};
 use sia_events::{NoMemory, TxnId};
+use sia_index::keyed::{ByTxn, place_from};
 use sia_parts::Edge;
 use std::alloc::{AllocError, Global};
 
@@ -23,7 +24,7 @@ pub(crate) fn position_of(ids: &[TxnId], txn: TxnId) -> u32
     ensures within { result < length ids.now }
     ensures is { slice_index ids.now result ≡ txn }
 {
-    ids.partition_point(|id| *id < txn) as u32
+    place_from::<TxnId, ByTxn>(ids, u64::from(txn)) as u32
 }
 
 /// For each edge, at its place, the step between the places of its ends.
