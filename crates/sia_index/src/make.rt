@@ -9,7 +9,7 @@ use crate::keyed::{ByKey, ByPlace, ByTxn};
 use crate::minima::minima_of;
 use crate::reads::reaches_of;
 use crate::rows::WriteRow;
-use crate::txns::{Txns, table_of};
+use crate::txns::{Txns, txns_of};
 use crate::versions::{made_of, version_rows_of};
 use sia_events::{History, Key, NoMemory, TxnId};
 use std::alloc::Global;
@@ -20,7 +20,7 @@ pub fn index(alloc: Global, h: &History) -> Result<Index, NoMemory>
     ensures { IfOk result (λ ix. ix ≡ h.now) }
 {
     h.law();
-    let Txns { ids, infos } = table_of(alloc, h)?;
+    let Txns { ids, infos } = txns_of(alloc, h)?;
     let EventRows {
         writes,
         reads,

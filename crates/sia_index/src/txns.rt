@@ -6,7 +6,7 @@ ghost use Rattle.sia_events.specs.Refusals.{IsWellFormed};
 ghost use Rattle.sia_events.specs.Transactions.{IsFirstEvent, StartsAt};
 ghost use Rattle.sia_index.specs.Info.{IsInfo};
 ghost use Rattle.sia_index.specs.declared.rows.SpanRow.{SpanRow};
-ghost use Rattle.sia_index.specs.Rows.{AreSpans, AreTxns, IsSpan};
+ghost use Rattle.sia_index.specs.Rows.{AreTxns, IsSpan};
 
 use crate::grouping::end_of;
 use crate::info::{Fate, TxnInfo};
@@ -22,21 +22,13 @@ pub struct Txns {
     pub infos: Vec<TxnInfo>,
 }
 
-/// The transactions of the history.
-pub fn table_of(alloc: Global, h: &History) -> Result<Txns, AllocError>
+/// The transactions of the history, made of the rows that span their events.
+pub fn txns_of(alloc: Global, h: &History) -> Result<Txns, AllocError>
     requires { IsWellFormed h.now }
     ensures { IfOk result (λ txns. AreTxns h.now txns.ids.items txns.infos.items) }
 {
-    let spans = spans_of(alloc, h)?;
-    txns_of(alloc, h, &spans)
-}
-
-// The same, made of the rows that span the events.
-fn txns_of(alloc: Global, h: &History, spans: &[SpanRow]) -> Result<Txns, AllocError>
-    requires well_formed { IsWellFormed h.now }
-    requires spans_are { AreSpans h.now spans.now }
-    ensures { IfOk result (λ txns. AreTxns h.now txns.ids.items txns.infos.items) }
-{
+    let rows = spans_of(alloc, h)?;
+    let spans = rows.as_slice();
     let mut ids = Vec::new(alloc);
     let mut infos = Vec::new(alloc);
     let mut from = 0;
