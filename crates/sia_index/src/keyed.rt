@@ -133,7 +133,7 @@ pub fn place_above<T, O: By<T>>(rows: &[T], to: u64) -> usize
 }
 
 /// The rows from `lo` to `hi`.
-pub(crate) fn between<T, O: By<T>>(rows: &[T], lo: u64, hi: u64) -> &[T]
+pub fn between<T, O: By<T>>(rows: &[T], lo: u64, hi: u64) -> &[T]
     requires { IsNonDecreasingBy O.by rows.now }
     ensures { IsBetween O.by rows.now lo hi result.now }
 {

@@ -55,8 +55,8 @@ impl Index {
         }
     }
 
-    // Whether the reader wrote the key before its place.
-    fn wrote_before(&self, reader: Reader, k: Key) -> bool
+    /// Whether the reader wrote the key before its place.
+    pub fn wrote_before(&self, reader: Reader, k: Key) -> bool
         requires { IsReader self.now reader.txn reader.place reader }
         ensures { IsTrue result ↔ WroteBefore self.now reader.txn k reader.place }
     {

@@ -25,32 +25,28 @@ pub(crate) fn are_apart(ascend: bool, looks: &[Look], end: usize) -> bool {
 /// transaction and key, and the last of them is of no greater transaction.
 pub(crate) fn first_near(looks: &[Look], t: u32, key: u32) -> usize {
     match looks.last() {
-        Some(last) if last.txn == t && key <= last.key => {
-            looks.partition_point(|look| look.txn < t || (look.txn == t && look.key < key))
-        }
+        Some(last) if last.txn == t && key <= last.key => { place_of(looks, t, key) }
         _ => looks.len(),
     }
 }
 
-/// The first of the looks from one place to another whose key isn't below this one, where they ascend by key.
-pub(crate) fn next_near(looks: &[Look], from: usize, to: usize, key: u32) -> usize {
-    if !is_below(looks, from, to, key) {
-        return from;
-    }
-    let next = from.saturating_add(1);
-    if !is_below(looks, next, to, key) {
-        return next;
-    }
-    match looks.get(next..to) {
-        Some(rest) => next.saturating_add(rest.partition_point(|look| look.key < key)),
-        None => next,
-    }
+// The first of the looks of this transaction and key, or of greater ones.
+fn place_of(looks: &[Look], t: u32, key: u32) -> usize {
+    looks.partition_point(|look| look.txn < t || (look.txn == t && look.key < key))
 }
 
-// Whether the place lies before `to`, and the key of its look is below this one.
-fn is_below(looks: &[Look], at: usize, to: usize, key: u32) -> bool {
-    match looks.get(at) {
-        Some(look) => at < to && look.key < key,
-        None => false,
+/// The first of a transaction's looks from one place to another whose key isn't below this one, where they ascend by key.
+pub(crate) fn next_near(looks: &[Look], from: usize, to: usize, key: u32) -> usize {
+    match looks.get(from) {
+        Some(look) if from < to && look.key < key => {}
+        _ => return from,
+    }
+    let next = from.saturating_add(1);
+    match looks.get(next..to) {
+        Some(rest) => match rest.first() {
+            Some(look) if look.key < key => next.saturating_add(place_of(rest, look.txn, key)),
+            _ => next,
+        },
+        None => next,
     }
 }

@@ -5,6 +5,7 @@ ghost use Rattle.sia_parts.specs.Sights.{Adds, FromSome, FromPair, IsPairBad, Is
 
 use crate::finding::BadWrite;
 use sia_events::{Key, NoMemory};
+use sia_index::keyed::{ByPlace, place_above};
 use sia_index::{Index, Made};
 
 /// Adds the bad writes of the keys.
@@ -80,6 +81,6 @@ fn committed_after(place: u32, versions: &[Made]) -> &[Made]
     requires { AscendsByCommit versions.now }
     ensures { (version : made) → Contains result.now version ↔ (Contains versions.now version × (place < version.commit)) }
 {
-    let from = versions.partition_point(|version| version.commit <= place);
+    let from = place_above::<Made, ByPlace>(versions, u64::from(place));
     &versions[from..]
 }

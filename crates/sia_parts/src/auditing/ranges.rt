@@ -23,6 +23,7 @@ use crate::edges::committed::Committed;
 use crate::finding::BadRead;
 use crate::looks::{Absence, Look};
 use sia_events::{Event, History, Key, NoMemory, Version};
+use sia_index::keyed::{By, between};
 use sia_index::{Index, RangeRead};
 use std::alloc::Global;
 
@@ -172,6 +173,17 @@ fn listed_at(h: &History, place: u32) -> &[(Key, Version)]
     }
 }
 
+/// Listed keys, each with a version.
+struct ByListed;
+
+impl By<(Key, Version)> for ByListed {
+    ghost by = { λ pair. pair.0 };
+
+    fn number(pair: &(Key, Version)) -> u64 {
+        pair.0
+    }
+}
+
 // Of listed keys those from `lo` to `hi`.
 fn listed_within(listed: &[(Key, Version)], lo: Key, hi: Key) -> &[(Key, Version)]
     requires { IsStrictlyIncreasing (map (λ p. p.0) listed.now) }
@@ -181,9 +193,7 @@ fn listed_within(listed: &[(Key, Version)], lo: Key, hi: Key) -> &[(Key, Version
     if are_within(listed, lo, hi) {
         return listed;
     }
-    let from = listed.partition_point(|pair| pair.0 < lo);
-    let to = listed.partition_point(|pair| pair.0 <= hi);
-    &listed[from..to.max(from)]
+    between::<(Key, Version), ByListed>(listed, lo, hi)
 }
 
 // Whether the first and the last of the listed keys show that all are from `lo` to `hi`.

@@ -21,6 +21,7 @@ use crate::finding::Kind;
 use crate::looks::{Absence, Look, Looks};
 use sia_events::NoMemory;
 use sia_index::Index;
+use sia_index::keyed::{By, place_from};
 use sia_index::ordering::merge_in_order;
 use std::alloc::Global;
 
@@ -41,6 +42,17 @@ pub struct Fans {
     /// Those that the fans lead to, the readers by rank too.
     pub(crate) looks: Looks,
     pub(crate) fans: Vec<Fan>,
+}
+
+/// By source.
+struct BySource;
+
+impl By<Fan> for BySource {
+    ghost by = { λ f. f.src };
+
+    fn number(f: &Fan) -> u64 {
+        u64::from(f.src)
+    }
 }
 
 /// The edges of one kind from a transaction, by its number, to the looks from one rank to below another.
@@ -94,9 +106,9 @@ fn fans_between(fans: &[Fan], from: usize, to: usize) -> &[Fan]
     requires { RiseBySource fans.now }
     ensures { (f : fan) → Contains result.now f ↔ (Contains fans.now f × (from ≤ f.src) × (f.src < to)) }
 {
-    let first = fans.partition_point(|f| (f.src as usize) < from);
+    let first = place_from::<Fan, BySource>(fans, from as u64);
     let rest = &fans[first..];
-    let count = rest.partition_point(|f| (f.src as usize) < to);
+    let count = place_from::<Fan, BySource>(rest, to as u64);
     &rest[..count]
 }
 

@@ -1,5 +1,6 @@
 //! The order of looks, by key and then by commit, and where looks stand in it.
-ghost use Rattle.std.specs.Prelude.{◌≡◌, ◌↔◌, ◌≤◌, ◌<◌, ◌+◌, Contains, OnOk, length, slice_range};
+ghost use Rattle.std.specs.Prelude.{◌≡◌, ◌↔◌, ◌≤◌, ◌<◌, ◌+◌, true, false, Contains, OnOk, length, ltb, slice_range};
+ghost use Rattle.std.specs.List.Sorted.{IsPartitionPoint};
 ghost use Rattle.sia_parts.specs.Looks.{RiseByRank, look_rank, rank_of};
 
 use crate::looks::Look;
@@ -37,7 +38,16 @@ pub(crate) fn places(looks: &[Look], from: u64, to: u64, near: usize) -> (usize,
     ensures bound { result.1 ≤ length looks.now }
     ensures between { (look : Look) → Contains (slice_range looks.now result.0 result.1) look ↔ (Contains looks.now look × (from ≤ look_rank look) × (look_rank look < to)) }
 {
-    let start = partition_near(looks, near, |look| rank(look.key, look.high) < from);
-    let stop = partition_near(looks, start, |look| rank(look.key, look.high) < to);
+    let start = place_from(looks, from, near);
+    let stop = place_from(looks, to, start);
     (start, stop.max(start))
+}
+
+// The first place of a look of at least this rank, which is looked for from a place on.
+fn place_from(looks: &[Look], least: u64, near: usize) -> usize
+    requires { RiseByRank looks.now }
+    ensures bound { result ≤ length looks.now }
+    ensures point { IsPartitionPoint (λ look. ltb (look_rank look) least ≡ true) (λ look. ltb (look_rank look) least ≡ false) looks.now result }
+{
+    partition_near(looks, near, |look| rank(look.key, look.high) < least)
 }
