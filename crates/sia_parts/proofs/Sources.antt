@@ -20,7 +20,7 @@ use Rattle.sia_index.specs.Info.{AreVersions, AreWrittenWithin}
 use Rattle.sia_parts.specs.declared.cutting.Part.{Part}
 use Rattle.sia_parts.specs.declared.finding.BadWrite.{BadWrite}
 use Rattle.sia_parts.specs.Parts.{IsInPart}
-use Rattle.sia_parts.specs.Sights.{Adds, FromSome, FromPair, KeyPair, IsLateBad, IsPairBad, AscendsByCommit}
+use Rattle.sia_parts.specs.Sights.{Adds, FromSome, FromPair, KeyPair, IsPairBad, AscendsByCommit}
 use Rattle.sia_parts.proofs.Adding.{adds_same, adds_nothing}
 
 -- what pairs of a key's versions give
@@ -33,13 +33,6 @@ key_pairs h P k versions are old new adds = adds_same (FromPair (P k) versions) 
 -- versions ascend by commit
 pub versions_ascend : (h : List Event) (k : ℕ) (versions : List Made) → AreVersions h k versions → AscendsByCommit versions
 versions_ascend h k versions are i j d less below = elim (are.ascending i j d less below) [ inl under ↦ under | inr same ↦ absurd same.1 ]
-
--- the place is the start, so what is late by it is a bad pair
-pub late_bad : (h : List Event) (k s : ℕ) (second : Made) (earlier : List Made) → StartsAt h second.txn s → (old new : List BadWrite) → Adds (FromSome (IsLateBad s k second) earlier) old new → Adds (FromSome (IsPairBad h k second) earlier) old new
-late_bad h k s second earlier start old new adds = adds_same (FromSome (IsLateBad s k second) earlier) (FromSome (IsPairBad h k second) earlier) old new
-    (λ b f. (f.0, f.1, (s, start, f.2)))
-    (λ b f. (f.0, f.1, subst (λ r. IsLateBad r k second f.0 b) (one_start h second.txn f.2.0 s f.2.1 start) f.2.2))
-    adds
 
 -- what has no event has no start
 pub no_late_bad : (h : List Event) (k : ℕ) (second : Made) (earlier : List Made) → ¬ HasEvent h second.txn → (old : List BadWrite) → Adds (FromSome (IsPairBad h k second) earlier) old old

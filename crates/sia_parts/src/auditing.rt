@@ -20,9 +20,9 @@ pub(crate) mod unseen;
 
 use crate::auditing::joining::joined;
 use crate::auditing::nearby::are_apart;
-use crate::auditing::pairs::put_bad_writes;
+use crate::auditing::pairs::put_key_bad;
 use crate::auditing::ranges::{Scope, put_range_reads, ranges_in_turn};
-use crate::auditing::sights::{is_committed, put_item_reads, wrote_before};
+use crate::auditing::sights::{is_committed, put_item_reads};
 use crate::auditing::unseen::first_commit;
 use crate::cutting::Part;
 use crate::edges::committed::Committed;
@@ -120,8 +120,11 @@ pub(crate) fn bad_writes_of(
     requires { IsWellFormed ix.now }
     ensures { IfOk result (λ bad. ListsBadWrites ix.now (IsInPart part) bad.items) }
 {
+    let keys = ix.written_within(part.lo, part.hi);
     let mut bad = Vec::new(alloc);
-    put_bad_writes(ix, ix.written_within(part.lo, part.hi), &mut bad)?;
+    for key in keys {
+        put_key_bad(ix, *key, ix.versions(*key), &mut bad)?;
+    }
     put_in_order(&mut bad);
     Ok(bad)
 }
@@ -166,7 +169,7 @@ fn is_unexplained(ix: &Index, read: BadRead) -> bool
     if read.saw == read.txn {
         return false;
     }
-    if wrote_before(ix, read.txn, read.place, read.key) {
+    if ix.wrote_before(ix.reader(read.txn, read.place), read.key) {
         return true;
     }
     read.saw != 0 && !is_committed(ix, read.saw)

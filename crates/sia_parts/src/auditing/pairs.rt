@@ -1,29 +1,15 @@
 //! Pairs of a key's versions: bad writes.
 ghost use Rattle.std.specs.Prelude.{◌↔◌, ◌<◌, OnOk, Contains};
 ghost use Rattle.sia_index.specs.declared.info.Made.{Made as made};
-ghost use Rattle.sia_parts.specs.Sights.{Adds, FromSome, FromPair, IsPairBad, IsLateBad, AscendsByCommit, KeyPair};
+ghost use Rattle.sia_parts.specs.Sights.{Adds, FromSome, FromPair, IsPairBad, AscendsByCommit};
 
 use crate::finding::BadWrite;
 use sia_events::{Key, NoMemory};
 use sia_index::keyed::{ByPlace, place_above};
 use sia_index::{Index, Made};
 
-/// Adds the bad writes of the keys.
-pub(crate) fn put_bad_writes(
-    ix: &Index,
-    keys: &[Key],
-    bad: &mut Vec<BadWrite>,
-) -> Result<(), NoMemory>
-    ensures { OnOk result (Adds (FromSome (KeyPair ix.now (IsPairBad ix.now)) keys.now) bad.old.items bad.new.items) }
-{
-    for key in keys {
-        put_key_bad(ix, *key, ix.versions(*key), bad)?;
-    }
-    Ok(())
-}
-
-// Adds the bad writes of a key's versions.
-fn put_key_bad(
+/// Adds the bad writes of a key's versions.
+pub(crate) fn put_key_bad(
     ix: &Index,
     key: Key,
     versions: &[Made],
@@ -52,21 +38,7 @@ fn put_bad_with(
     let Some(info) = ix.txn(second.txn) else {
         return Ok(());
     };
-    put_bad_after(info.start, key, second, earlier, bad)
-}
-
-// Adds the bad writes of this version, whose transaction started at the place, with the earlier ones.
-fn put_bad_after(
-    start: u32,
-    key: Key,
-    second: Made,
-    earlier: &[Made],
-    bad: &mut Vec<BadWrite>,
-) -> Result<(), NoMemory>
-    requires { AscendsByCommit earlier.now }
-    ensures { OnOk result (Adds (FromSome (IsLateBad start key second) earlier.now) bad.old.items bad.new.items) }
-{
-    for first in committed_after(start, earlier) {
+    for first in committed_after(info.start, earlier) {
         bad.push(BadWrite {
             key,
             first: first.txn,

@@ -102,7 +102,7 @@ pub(crate) fn put_sight(
     let ix = reading.ix;
     let near = number.unwrap_or(0) as usize;
     let seen = ix.seen_near(reading.known.reader, sight.key, near);
-    let due = due_at(ix, sight, reading.own, seen);
+    let due = due_at(reading, sight, seen);
     put_bad_read(sight, due, bad)?;
     if let Some(look) = look_of(reading, sight, seen, number) {
         put_joined(looks, look, place)?;
@@ -111,27 +111,18 @@ pub(crate) fn put_sight(
 }
 
 // The version due at a sight.
-fn due_at(ix: &Index, sight: Sight, own: bool, seen: Seen) -> Version
-    requires own { own ≡ false → ¬ WroteBefore ix.now sight.txn sight.key sight.place }
-    requires seen { IsSeen ix.now sight.txn sight.place sight.key seen }
-    ensures { IsDue ix.now sight.txn sight.place sight.key result }
+fn due_at(reading: &Reading, sight: Sight, seen: Seen) -> Version
+    requires known { IsKnown reading.now.ix.now sight.txn sight.place reading.now.known }
+    requires own { reading.now.own ≡ false → ¬ WroteBefore reading.now.ix.now sight.txn sight.key sight.place }
+    requires seen { IsSeen reading.now.ix.now sight.txn sight.place sight.key seen }
+    ensures { IsDue reading.now.ix.now sight.txn sight.place sight.key result }
 {
-    if own {
-        if wrote_before(ix, sight.txn, sight.place, sight.key) {
+    if reading.own {
+        if reading.ix.wrote_before(reading.known.reader, sight.key) {
             return sight.txn;
         }
     }
     seen.version
-}
-
-/// Whether the transaction wrote the key before the place.
-pub(crate) fn wrote_before(ix: &Index, t: TxnId, place: u32, k: Key) -> bool
-    ensures { IsTrue result ↔ WroteBefore ix.now t k place }
-{
-    match ix.first_write(t, k) {
-        Some(first) => first < place,
-        None => false,
-    }
 }
 
 // Adds the bad read of a sight at which this version is due, if it is one.

@@ -80,10 +80,13 @@ impl Fans {
     {
         ix.law();
         let _ = committed;
-        let mut fans = missed_fans(alloc, &looks.writers, &looks.readers, &looks.absences)?;
+        let mut fans = Vec::new(alloc);
+        put_reader_fans(&looks.writers, &looks.readers, &mut fans)?;
+        put_absence_fans(&looks.writers, &looks.absences, &mut fans)?;
         rank_all(&mut looks.readers)?;
         looks.absences = Vec::new(alloc);
-        complete(&looks, &mut fans)?;
+        put_writer_fans(&looks, &mut fans)?;
+        fans.sort_by_key(|fan| fan.src)?;
         Ok(Fans { looks, fans })
     }
 
@@ -110,36 +113,6 @@ fn fans_between(fans: &[Fan], from: usize, to: usize) -> &[Fan]
     let rest = &fans[first..];
     let count = place_from::<Fan, BySource>(rest, to as u64);
     &rest[..count]
-}
-
-// The fans to versions that reads missed: of the readers, in any order, and of the absences.
-fn missed_fans(
-    alloc: Global,
-    writers: &[Look],
-    readers: &[Look],
-    absences: &[Absence],
-) -> Result<Vec<Fan>, NoMemory>
-    requires writers { RiseByRank writers.now }
-    requires readers { All HasDigits readers.now }
-    ensures { IfOk result (λ fans. GivesTo Rw writers.now (IsMissedNumber writers.now readers.now absences.now) [] fans.items) }
-{
-    let mut fans = Vec::new(alloc);
-    put_reader_fans(writers, readers, &mut fans)?;
-    put_absence_fans(writers, absences, &mut fans)?;
-    Ok(fans)
-}
-
-// Adds the fans of the versions, and puts all in the order of their sources.
-fn complete(looks: &Looks, fans: &mut Vec<Fan>) -> Result<(), NoMemory>
-    requires writers { RiseByRank looks.now.writers.items }
-    requires readers { RiseByRank looks.now.readers.items }
-    requires digits { HaveDigits looks.now }
-    ensures each { OnOk result (Gives (IsFanNumber looks.now) (FromSome (IsWriterNumber looks.now) looks.now.writers.items) fans.old.items fans.new.items) }
-    ensures rise { OnOk result (RiseBySource fans.new.items) }
-{
-    put_writer_fans(looks, fans)?;
-    fans.sort_by_key(|fan| fan.src)?;
-    Ok(())
 }
 
 // Adds the fans of the versions: to later ones of the same key, and to readers of it who saw it or a later one.
