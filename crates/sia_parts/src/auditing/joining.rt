@@ -1,6 +1,6 @@
 //! Looks of one transaction and key that are joined, and absences of one transaction that overlap.
 ghost use Rattle.std.specs.Prelude.{◌<◌, ⊤, IfOk, OnOk, MatchOption, length, slice_index_or};
-ghost use Rattle.sia_parts.specs.Joining.{Covers, Keeps, IsJoined, IsEnd, IsInLook};
+ghost use Rattle.sia_parts.specs.Joining.{Covers, Keeps, IsJoined};
 
 use crate::looks::{Absence, Look};
 use sia_events::NoMemory;
@@ -73,29 +73,33 @@ impl Join for Absence {
     }
 }
 
-/// Adds the look, or joins it with the one at the place, if that is of its transaction and key.
-pub(crate) fn put_joined(looks: &mut Vec<Look>, look: Look, at: usize) -> Result<(), NoMemory>
-    ensures { OnOk result (Covers IsEnd IsInLook (IsEnd look) (IsInLook look) looks.old.items looks.new.items) }
+/// Adds the row, or joins it with the one at the place, if they belong together.
+pub(crate) fn put_joined<T: Join + Drop>(
+    rows: &mut Vec<T>,
+    row: T,
+    at: usize,
+) -> Result<(), NoMemory>
+    ensures { OnOk result (Covers T.ends T.holds (T.ends row) (T.holds row) rows.old.items rows.new.items) }
 {
-    match joined_at(looks, look, at) {
-        Some(both) => looks[at] = both,
-        None => looks.push(look)?,
+    match joined_at(rows, row, at) {
+        Some(both) => rows[at] = both,
+        None => rows.push(row)?,
     }
     Ok(())
 }
 
-// The look joined with the one at the place, if that is of its transaction and key.
-fn joined_at(looks: &[Look], look: Look, at: usize) -> Option<Look>
-    ensures { MatchOption result ⊤ (λ both. (at < length looks.now) × IsJoined IsEnd IsInLook (slice_index_or looks.now at look) look both) }
+// The row joined with the one at the place, if they belong together.
+fn joined_at<T: Join + Drop>(rows: &[T], row: T, at: usize) -> Option<T>
+    ensures { MatchOption result ⊤ (λ both. (at < length rows.now) × IsJoined T.ends T.holds (slice_index_or rows.now at row) row both) }
 {
-    if at < looks.len() {
-        looks[at].join(&look)
+    if at < rows.len() {
+        rows[at].join(&row)
     } else {
         None
     }
 }
 
-/// The rows with those joined that belong together. Where `apart` is true, there are none of these.
+/// The rows with neighbours joined that belong together, in order. Where `apart` is true, there are none of these.
 pub(crate) fn joined<T: Join + Drop>(
     alloc: Global,
     mut rows: Vec<T>,
@@ -107,28 +111,10 @@ pub(crate) fn joined<T: Join + Drop>(
         return Ok(rows);
     }
     rows.sort_unstable();
-    let wide = join_neighbours(alloc, &rows)?;
-    Ok(wide)
-}
-
-// The rows with neighbours joined that belong together.
-fn join_neighbours<T: Join + Drop>(alloc: Global, rows: &[T]) -> Result<Vec<T>, NoMemory>
-    ensures { IfOk result (λ wide. Keeps T.ends T.holds rows.now wide.items) }
-{
-    let mut wide = Vec::new(alloc);
-    let Some(first) = rows.first() else {
-        return Ok(wide);
-    };
-    let mut last = *first;
-    for row in rows {
-        match last.join(row) {
-            Some(both) => last = both,
-            None => {
-                wide.push(last)?;
-                last = *row;
-            }
-        }
+    let mut wide: Vec<T> = Vec::new(alloc);
+    for row in &rows {
+        let last = wide.len().saturating_sub(1);
+        put_joined(&mut wide, *row, last)?;
     }
-    wide.push(last)?;
     Ok(wide)
 }
