@@ -3,11 +3,10 @@
 ghost use Rattle.std.specs.Prelude.{◌≡◌, ◌⊎◌, ◌<◌, ◌≤◌, ℕ, false, IsTrue, AllPairs, All, length, slice_index};
 ghost use Rattle.sia_events.specs.Transactions.{Wrote, WroteBefore};
 ghost use Rattle.sia_index.specs.Info.{IsReader};
-ghost use Rattle.sia_index.specs.Rows.{AscendsByCommit, IsLastWithin};
-ghost use Rattle.sia_index.specs.Seen.{IsSeen, IsSeenOf};
+ghost use Rattle.sia_index.specs.Seen.{IsSeen};
 
 use crate::indexed::Index;
-use crate::info::{Made, Reader};
+use crate::info::Reader;
 use crate::readers::last_within;
 use sia_events::{Key, Version};
 
@@ -27,7 +26,16 @@ impl Index {
         ensures { IsSeen self.now reader.txn reader.place k result }
     {
         let _ = &self.of;
-        seen_of(self.versions_near(k, near), reader.start)
+        match last_within(self.versions_near(k, near), reader.start) {
+            Some(made) => Seen {
+                version: made.txn,
+                commit: made.commit,
+            },
+            None => Seen {
+                version: 0,
+                commit: 0,
+            },
+        }
     }
 
     /// Whether the reader may have written a key from `lo` to `hi` before its place.
@@ -47,23 +55,6 @@ impl Index {
     {
         let _ = &self.of;
         lie_around(&self.keys, near, lo, hi)
-    }
-}
-
-// What is seen of versions by commit.
-fn seen_of(versions: &[Made], start: u32) -> Seen
-    requires { AscendsByCommit versions.now }
-    ensures { IsSeenOf versions.now start result }
-{
-    match last_within(versions, start) {
-        Some(made) => Seen {
-            version: made.txn,
-            commit: made.commit,
-        },
-        None => Seen {
-            version: 0,
-            commit: 0,
-        },
     }
 }
 
