@@ -4,6 +4,7 @@ ghost use Rattle.sia_events.specs.declared.event.Event.{Event};
 ghost use Rattle.sia_events.specs.Transactions.{HasEvent, Overlap, StartsBeforeCommit, Wrote};
 ghost use Rattle.sia_events.specs.Refusals.{IsWellFormed};
 ghost use Rattle.sia_index.specs.declared.rows.WriteRow.{WriteRow};
+ghost use Rattle.sia_index.specs.Numbers.{IsTxnAt};
 ghost use Rattle.sia_index.specs.Rows.{AreWrites, IsStretch};
 ghost use Rattle.sia_index.specs.Info.{IsInfo, AreVersions, AreWrittenKeys, AreAllVersions, IsFirstWrite, HasKeyAt, IsKeyAt, AreReadsWithin, AreRangesMeeting, AreWrittenWithin, AreVersionsWithin};
 
@@ -114,7 +115,18 @@ impl Index {
     pub fn first_write(&self, t: TxnId, k: Key) -> Option<u32>
         ensures { MatchOption result (¬ Wrote self.now t k) (IsFirstWrite self.now t k) }
     {
-        let (from, to) = self.stretch(t);
+        match self.txn_number(t) {
+            Some(i) => self.first_write_at(t, i, k),
+            None => None,
+        }
+    }
+
+    // The same of transaction number `i`.
+    pub(crate) fn first_write_at(&self, t: TxnId, i: usize, k: Key) -> Option<u32>
+        requires { IsTxnAt self.now i t }
+        ensures { MatchOption result (¬ Wrote self.now t k) (IsFirstWrite self.now t k) }
+    {
+        let (from, to) = self.stretch_at(t, i);
         let at = from + place_from::<WriteRow, ByKey>(&self.writes[from..to], k);
         if at < to && self.writes[at].key == k {
             Some(self.writes[at].place)
@@ -123,14 +135,13 @@ impl Index {
         }
     }
 
-    // Where the rows of the transaction start and end among those of all writes.
-    pub(crate) fn stretch(&self, t: TxnId) -> (usize, usize)
+    // Where the rows of transaction number `i` start and end among those of all writes.
+    pub(crate) fn stretch_at(&self, t: TxnId, i: usize) -> (usize, usize)
+        requires { IsTxnAt self.now i t }
         ensures { (rows : List WriteRow) → AreWrites self.now rows → IsStretch rows t result.0 result.1 }
     {
-        match self.txn_number(t) {
-            Some(i) => group_at(&self.starts, i),
-            None => (0, 0),
-        }
+        let _ = t;
+        group_at(&self.starts, i)
     }
 
     /// Each key that some write event names, committed or not, ascending.

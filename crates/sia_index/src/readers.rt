@@ -6,7 +6,6 @@ ghost use Rattle.sia_events.specs.Reads.{IsVisible, IsDue};
 ghost use Rattle.sia_index.specs.Info.{IsReader, NoneDue, IsNextDue};
 ghost use Rattle.sia_index.specs.Rows.{AscendsByCommit, IsLastWithin, PassesNone, HasDue};
 
-use crate::grouping::group_at;
 use crate::indexed::Index;
 use crate::info::{DueAt, KeyVersion, Made, Reader};
 use crate::keyed::{ByKey, ByPlace, place_above};
@@ -22,7 +21,7 @@ impl Index {
     {
         let _ = &self.of;
         let number = self.txn_number(t).unwrap_or(0);
-        let (from, to) = group_at(&self.starts, number);
+        let (from, to) = self.stretch_at(t, number);
         Reader {
             txn: t,
             number,
@@ -61,7 +60,7 @@ impl Index {
         ensures { IsTrue result ↔ WroteBefore self.now reader.txn k reader.place }
     {
         if reader.has_written {
-            match self.first_write(reader.txn, k) {
+            match self.first_write_at(reader.txn, reader.number, k) {
                 Some(first) => first < reader.place,
                 None => false,
             }
@@ -115,7 +114,7 @@ impl Index {
             next_key::<WriteRow, ByKey, ByPlace>(
                 &self.writes,
                 &self.place_minima,
-                self.stretch(reader.txn),
+                self.stretch_at(reader.txn, reader.number),
                 lo,
                 hi,
                 u64::from(reader.place),
