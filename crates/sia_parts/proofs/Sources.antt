@@ -6,12 +6,11 @@ use Rattle.sia_events.specs.declared.event.Event.{Event}
 use Rattle.sia_events.specs.declared.event.Event.TheVariants.{Commit}
 use Rattle.sia_events.specs.NarrowDependencies.{IsAsOf, Looked}
 use Rattle.sia_events.specs.Refusals.{IsWellFormed}
-use Rattle.sia_events.specs.Transactions.{IsCommitted, CommitsAt, StartsAt, Wrote, HasEvent}
+use Rattle.sia_events.specs.Transactions.{IsCommitted, CommitsAt, Wrote, HasEvent}
 use Rattle.sia_events.specs.Isolation.{IsBadWrite}
 use Rattle.sia_events.specs.Dependencies.{IsVersionBefore, WrEdge, RwEdge}
 use Rattle.sia_events.proofs.WellFormed.{one_commit}
 use Rattle.sia_events.proofs.Endings.{one_committer}
-use Rattle.sia_events.proofs.Starts.{one_start}
 use Rattle.sia_events.proofs.Seen.{saw_written, actor_is_txn}
 use Rattle.sia_events.proofs.Versions.{writer_not_zero}
 use Rattle.sia_events.proofs.TransactionDecisions.{place_within}
