@@ -7,16 +7,14 @@ use Rattle.std.proofs.lemmas.List.Folds.{concat-append}
 use Rattle.std.proofs.lemmas.List.Sorted.{IsPermutation-refl, IsPermutation-append}
 use Rattle.atomic_blocks.specs.Lent.{RowsId}
 use Rattle.std.specs.Global.{Global, Vec}
-use Rattle.crossbeam_deque.specs.Handles.{worker_view, worker_deque}
 use Rattle.sia_pool.specs.declared.view.View.{View}
-use Rattle.sia_pool.specs.declared.owner.Owner.{Owner}
 use Rattle.sia_pool.specs.declared.taker.Taker.{Taker}
-use Rattle.sia_pool.specs.View.{owner_view, stealer_view, with_share}
+use Rattle.sia_pool.specs.View.{stealer_view, with_share, with_back}
 use Rattle.sia_pool.specs.Taker.{taker_view, taker_deque}
 use Rattle.sia_pool.specs.Line.{IsLine}
 use Rattle.sia_pool.specs.Answers.{lists_of, parts_of, Owed}
 use Rattle.sia_pool.specs.Work.{HasWorked}
-use Rattle.sia_pool.specs.Threads.{IsReady, IsDone, ComesBack, AllDone}
+use Rattle.sia_pool.specs.Threads.{IsReady, count_of, IsDone, AllDone}
 
 pub length-lists_of : (vs : List (Vec ℕ)) → length (lists_of vs) ≡ length vs
 length-lists_of [] = refl
@@ -39,24 +37,22 @@ module _ {Out : Type 0} where
   parts-append [] ys = refl
   parts-append (x ∷ xs) ys = ap (λ l. x.0 ∷ l) (parts-append xs ys)
 
-  pub done_more : (owes : ℕ → Out → Type 0) (d : RowsId × Global) (count workers : ℕ) (o p : Owner) (s : List ℕ) (later last : List (Vec ℕ)) (v : Vec ℕ) (xs ys zs : List (ℕ × Out))
-      → IsDone owes d count workers o later xs → worker_deque p.end ≡ worker_deque o.end
-      → worker_view p.end ≡ owner_view (worker_view o.end).count (worker_view o.end).workers (worker_view o.end).share (worker_view o.end).given ((worker_view o.end).back ++ s ∷ [])
-      → v.items ≡ s → last ≡ later ++ v ∷ [] → s ≡ parts_of ys → Owed owes ys → zs ≡ xs ++ ys → IsDone owes d count workers p last zs
-  done_more owes d count workers o p s later last v xs ys zs f same seen share pushed parts owed all =
-      let back : (worker_view p.end).back ≡ (worker_view o.end).back ++ s ∷ [] = ap (λ (m : View). m.back) seen in
-      let mine : (worker_view p.end).share ≡ (worker_view o.end).share = ap (λ (m : View). m.share) seen in
+  done_more : (owes : ℕ → Out → Type 0) (d : RowsId × Global) (v : View) (n : ℕ) (t p : Taker) (s : List ℕ) (xs ys zs : List (ℕ × Out))
+      → IsDone owes d v n t xs → taker_deque p ≡ taker_deque t → taker_view p ≡ with_back (taker_view t) (s ∷ []) → s ≡ parts_of ys → Owed owes ys → zs ≡ xs ++ ys → IsDone owes d v (suc n) p zs
+  done_more owes d v n t p s xs ys zs f same seen parts owed all =
+      let o = taker_view t in
+      let long : length (taker_view p).back ≡ length (o.back ++ s ∷ []) = ap (λ (m : View). length m.back) seen in
       record {
         same = same ∙ f.same;
+        number = ap (λ (m : View). m.number) seen;
         counted = ap (λ (m : View). m.count) seen ∙ f.counted;
         sized = ap (λ (m : View). m.workers) seen ∙ f.sized;
-        back = back ∙ ap (λ l. l ++ s ∷ []) f.back ∙ ap (λ t. lists_of later ++ t ∷ []) (sym share) ∙ sym (lists_push later v) ∙ ap (λ l. lists_of l) (sym pushed);
+        back = omega (arith, long, length-append o.back (s ∷ []), f.back);
         parts =
             let more : parts_of zs ≡ parts_of xs ++ parts_of ys = ap (λ l. parts_of l) all ∙ parts-append xs ys in
-            let both = IsPermutation-append (concat ((worker_view o.end).share ∷ (worker_view o.end).back)) (parts_of xs) (parts_of ys) (parts_of ys) f.parts (IsPermutation-refl (parts_of ys)) in
-            let held : concat ((worker_view p.end).share ∷ (worker_view p.end).back) ≡ concat ((worker_view o.end).share ∷ (worker_view o.end).back) ++ parts_of ys =
-            ap (λ (m : View). concat (m.share ∷ m.back)) seen ∙ concat_push (worker_view o.end).share (worker_view o.end).back s ∙ ap (λ l. concat ((worker_view o.end).share ∷ (worker_view o.end).back) ++ l) parts in
-            subst (λ l. IsPermutation l (parts_of zs)) (sym held) (subst (IsPermutation (concat ((worker_view o.end).share ∷ (worker_view o.end).back) ++ parts_of ys)) (sym more) both);
+            let both = IsPermutation-append (concat (o.share ∷ o.back)) (parts_of xs) (parts_of ys) (parts_of ys) f.parts (IsPermutation-refl (parts_of ys)) in
+            let held : concat ((taker_view p).share ∷ (taker_view p).back) ≡ concat (o.share ∷ o.back) ++ parts_of ys = ap (λ (m : View). concat (m.share ∷ m.back)) seen ∙ concat_push o.share o.back s ∙ ap (λ l. concat (o.share ∷ o.back) ++ l) parts in
+            subst (λ l. IsPermutation l (parts_of zs)) (sym held) (subst (IsPermutation (concat (o.share ∷ o.back) ++ parts_of ys)) (sym more) both);
         owed = subst (Owed owes) (sym all) (each-append (λ a. owes a.0 a.1) xs ys f.owed owed);
       }
 
@@ -65,63 +61,72 @@ line_last d c n j [] t h = let z : j ≡ j + 0 = omega arith in (tt, h.0, h.1 �
 line_last d c n j (u ∷ ts) t h = let z : suc j + length ts ≡ j + suc (length ts) = omega arith in let r = line_last d c n (suc j) ts t h.2 in ((h.0, h.1, r.0), r.1, r.2 ∙ ap (λ i. stealer_view i c n []) z)
 
 module _ {Out : Type 0} where
-  pub alone_done : (owes : ℕ → Out → Type 0) (count workers : ℕ) (t w : Taker) (o : Owner) (later : List (Vec ℕ)) (ys : List (ℕ × Out))
-      → IsReady count workers (t ∷ []) → HasWorked owes (taker_deque t) (taker_view t) [] w ys → worker_view o.end ≡ taker_view w → worker_deque o.end ≡ taker_deque w → later ≡ [] → AllDone owes count workers (t ∷ []) o later ys
-  alone_done owes count workers t w o later ys h f a b e =
-      let seen = a ∙ f.view ∙ ap (λ (m : View). with_share m (m.share ++ f.more)) h.0 in (
-        record {
-          same = b ∙ f.same;
-          counted = ap (λ (m : View). m.count) seen;
-          sized = ap (λ (m : View). m.workers) seen;
-          back = ap (λ (m : View). m.back) seen ∙ sym (ap (λ l. lists_of l) e);
-          parts = subst (λ l. IsPermutation l (parts_of ys)) (sym (ap (λ (m : View). concat (m.share ∷ m.back)) seen ∙ append-nil f.more ∙ sym f.parts)) (IsPermutation-refl (parts_of ys));
-          owed = f.owed;
-        },
-        ap length e,
-      )
+  pub alone_done : (owes : ℕ → Out → Type 0) (t w : Taker) (ys : List (ℕ × Out)) → IsReady (t ∷ []) → HasWorked owes (taker_deque t) (taker_view t) [] w ys → AllDone owes (t ∷ []) w ys
+  alone_done owes t w ys h f =
+      let seen = f.view ∙ ap (λ (m : View). with_share m (m.share ++ f.more)) h.0 in
+      record {
+        same = f.same;
+        number = ap (λ (m : View). m.number) seen;
+        counted = ap (λ (m : View). m.count) seen;
+        sized = ap (λ (m : View). m.workers) seen;
+        back = ap (λ (m : View). length m.back) seen;
+        parts = subst (λ l. IsPermutation l (parts_of ys)) (sym (ap (λ (m : View). concat (m.share ∷ m.back)) seen ∙ append-nil f.more ∙ sym f.parts)) (IsPermutation-refl (parts_of ys));
+        owed = f.owed;
+      }
 
-pub ready_front : (count workers : ℕ) (ts : List Taker) (t : Taker) → 0 < length ts → IsReady count workers (ts ++ t ∷ []) → IsReady count workers ts
-ready_front count workers [] t l h = absurd (omega arith)
-ready_front count workers (u ∷ ts) t l h = (h.0, (line_last (taker_deque u) count workers 1 ts t h.1).0)
+pub ready_front : (ts : List Taker) (t : Taker) → 0 < length ts → IsReady (ts ++ t ∷ []) → IsReady ts
+ready_front [] t l h = absurd (omega arith)
+ready_front (u ∷ ts) t l h = (h.0, (line_last (taker_deque u) (taker_view u).count (taker_view u).workers 1 ts t h.1).0)
 
-pub ready_count : (count workers : ℕ) (ts : List Taker) (t : Taker) → IsReady count workers (ts ++ t ∷ []) → (taker_view t).count ≡ count
-ready_count count workers [] t h = ap (λ (m : View). m.count) h.0
-ready_count count workers (u ∷ ts) t h = ap (λ (m : View). m.count) (line_last (taker_deque u) count workers 1 ts t h.1).2
+pub front_count : (ts : List Taker) (t : Taker) → 0 < length ts → count_of ts ≡ count_of (ts ++ t ∷ [])
+front_count [] t l = absurd (omega arith)
+front_count (u ∷ ts) t l = refl
 
-module _ {Out : Type 0} where
-  crew_step : (owes : ℕ → Out → Type 0) (count workers : ℕ) (ts : List Taker) (t w : Taker) (ys : List (ℕ × Out)) (o : Owner) (later : List (Vec ℕ)) (xs : List (ℕ × Out))
-      → IsReady count workers (ts ++ t ∷ []) → HasWorked owes (taker_deque t) (taker_view t) [] w ys → AllDone owes count workers ts o later xs → ComesBack owes count workers o later xs w ys
-  crew_step owes count workers [] t w ys o later xs h f d = absurd d
-  crew_step owes count workers (u ∷ ts) t w ys o later xs h f d =
-      let l = line_last (taker_deque u) count workers 1 ts t h.1 in
-      let n : 1 + length ts ≡ suc (length later) = omega (arith, d.1) in (
-        subst (λ q. IsDone owes q count workers o later xs) (sym (f.same ∙ l.1)) d.0,
-        f.view ∙ ap (λ (m : View). with_share m (m.share ++ f.more)) l.2 ∙ ap (λ k. stealer_view k count workers f.more) n ∙ ap (stealer_view (suc (length later)) count workers) (sym f.parts),
-        f.owed,
-      )
+pub last_count : (ts : List Taker) (t : Taker) → IsReady (ts ++ t ∷ []) → (taker_view t).count ≡ count_of (ts ++ t ∷ [])
+last_count [] t h = refl
+last_count (u ∷ ts) t h = ap (λ (m : View). m.count) (line_last (taker_deque u) (taker_view u).count (taker_view u).workers 1 ts t h.1).2
 
-  crew_end : (owes : ℕ → Out → Type 0) (count workers : ℕ) (ts : List Taker) (t w : Taker) (ys : List (ℕ × Out)) (o p : Owner) (later last : List (Vec ℕ)) (xs zs : List (ℕ × Out))
-      → IsReady count workers (ts ++ t ∷ []) → HasWorked owes (taker_deque t) (taker_view t) [] w ys → AllDone owes count workers ts o later xs
-      → IsDone owes (taker_deque w) count workers p last zs → length last ≡ suc (length later) → AllDone owes count workers (ts ++ t ∷ []) p last zs
-  crew_end owes count workers [] t w ys o p later last xs zs h f d e n = absurd d
-  crew_end owes count workers (u ∷ ts) t w ys o p later last xs zs h f d e n =
-      let l = line_last (taker_deque u) count workers 1 ts t h.1 in
-      (subst (λ q. IsDone owes q count workers p last zs) (f.same ∙ l.1) e, omega (arith, n, d.1, length-append ts (t ∷ [])))
+-- what the owner asks of a stealer whose view it takes back
+pub record IsNext (o t : Taker) : Type 0 where
+  pub owner : (taker_view o).number ≡ 0
+  pub deque : taker_deque t ≡ taker_deque o
+  pub next : (taker_view t).number ≡ suc (length (taker_view o).back)
 
-module _ {Out : Type 0} (owes : ℕ → Out → Type 0) (count workers : ℕ) (all ts : List Taker) (t : Taker) (is : all ≡ ts ++ t ∷ []) (ready : IsReady count workers all) where
-  pub last_back : (w : Taker) (ys : List (ℕ × Out)) (o : Owner) (later : List (Vec ℕ)) (xs : List (ℕ × Out))
-      → HasWorked owes (taker_deque t) (taker_view t) [] w ys → AllDone owes count workers ts o later xs → ComesBack owes count workers o later xs w ys
-  last_back w ys o later xs f d = crew_step owes count workers ts t w ys o later xs (subst (IsReady count workers) is ready) f d
+module _ {Out : Type 0} (owes : ℕ → Out → Type 0) where
+  crew_step : (ts : List Taker) (t w r : Taker) (ys xs : List (ℕ × Out)) → IsReady (ts ++ t ∷ []) → HasWorked owes (taker_deque t) (taker_view t) [] w ys → AllDone owes ts r xs → IsNext r w
+  crew_step [] t w r ys xs h f d = absurd d
+  crew_step (u ∷ ts) t w r ys xs h f d =
+      let l = line_last (taker_deque u) (taker_view u).count (taker_view u).workers 1 ts t h.1 in
+      let n : (taker_view w).number ≡ 1 + length ts = ap (λ (m : View). m.number) f.view ∙ ap (λ (m : View). m.number) l.2 in
+      record { owner = d.number; deque = f.same ∙ l.1 ∙ sym d.same; next = omega (arith, n, d.back) }
 
-  pub all_ended : (w : Taker) (ys : List (ℕ × Out)) (o p : Owner) (later last : List (Vec ℕ)) (xs zs : List (ℕ × Out)) → HasWorked owes (taker_deque t) (taker_view t) [] w ys → AllDone owes count workers ts o later xs
-      → IsDone owes (taker_deque w) count workers p last zs → length last ≡ suc (length later) → AllDone owes count workers all p last zs
-  all_ended w ys o p later last xs zs f d e n = subst (λ l. AllDone owes count workers l p last zs) (sym is) (crew_end owes count workers ts t w ys o p later last xs zs (subst (IsReady count workers) is ready) f d e n)
+  crew_end : (ts : List Taker) (t w r p : Taker) (ys xs zs : List (ℕ × Out)) → IsReady (ts ++ t ∷ []) → HasWorked owes (taker_deque t) (taker_view t) [] w ys → AllDone owes ts r xs
+      → taker_deque p ≡ taker_deque r → taker_view p ≡ with_back (taker_view r) ((taker_view w).share ∷ []) → zs ≡ xs ++ ys → AllDone owes (ts ++ t ∷ []) p zs
+  crew_end [] t w r p ys xs zs h f d same seen all = absurd d
+  crew_end (u ∷ ts) t w r p ys xs zs h f d same seen all =
+      let l = line_last (taker_deque u) (taker_view u).count (taker_view u).workers 1 ts t h.1 in
+      let n : suc (length ts) ≡ length (ts ++ t ∷ []) = omega (arith, length-append ts (t ∷ [])) in
+      let took : (taker_view w).share ≡ parts_of ys = ap (λ (m : View). m.share) f.view ∙ ap (λ (m : View). m.share ++ f.more) l.2 ∙ sym f.parts in
+      subst (λ k. IsDone owes (taker_deque u) (taker_view u) k p zs) n (done_more owes (taker_deque u) (taker_view u) (length ts) r p (taker_view w).share xs ys zs d same seen took f.owed all)
+
+  module _ (all ts : List Taker) (t : Taker) (is : all ≡ ts ++ t ∷ []) (ready : IsReady all) where
+    pub last_back : (w r : Taker) (ys xs : List (ℕ × Out)) → HasWorked owes (taker_deque t) (taker_view t) [] w ys → AllDone owes ts r xs → IsNext r w
+    last_back w r ys xs f d = crew_step ts t w r ys xs (subst IsReady is ready) f d
+
+    pub all_ended : (w r p : Taker) (ys xs zs : List (ℕ × Out)) → HasWorked owes (taker_deque t) (taker_view t) [] w ys → AllDone owes ts r xs
+        → taker_deque p ≡ taker_deque r → taker_view p ≡ with_back (taker_view r) ((taker_view w).share ∷ []) → zs ≡ xs ++ ys → AllDone owes all p zs
+    all_ended w r p ys xs zs f d same seen more = subst (λ l. AllDone owes l p zs) (sym is) (crew_end ts t w r p ys xs zs (subst IsReady is ready) f d same seen more)
 
 -- what holds of an answer that is there
 pub ok_there : {A E : Type 0} (P : A → Type 0) (a : Result A E) (x : A) → a ≡ Ok x → IfOk a P → P x
 ok_there P a x is p = subst (λ r. IfOk r P) is p
 
--- what follows from both
-pub ok_both : {A E : Type 0} (P Q T : A → Type 0) (a : Result A E) → ((x : A) → P x → Q x → T x) → IfOk a P → IfOk a Q → IfOk a T
-ok_both P Q T (Ok x) f p q = f x p q
-ok_both P Q T (Err e) f p q = tt
+-- what follows from all three
+pub ok_all : {A E : Type 0} (P Q S T : A → Type 0) (a : Result A E) → ((x : A) → P x → Q x → S x → T x) → IfOk a P → IfOk a Q → IfOk a S → IfOk a T
+ok_all P Q S T (Ok x) f p q s = f x p q s
+ok_all P Q S T (Err e) f p q s = tt
+
+-- what follows from one
+pub ok_map : {A E : Type 0} (P T : A → Type 0) (a : Result A E) → ((x : A) → P x → T x) → IfOk a P → IfOk a T
+ok_map P T (Ok x) f p = f x p
+ok_map P T (Err e) f p = tt

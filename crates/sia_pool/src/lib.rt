@@ -5,7 +5,6 @@
 #![tactic(auto)]
 
 mod fault;
-mod finish;
 mod gate;
 mod job;
 mod laws;

@@ -72,7 +72,11 @@ pub fn line_up(alloc: Global, count: u32, workers: u32) -> Result<Vec<Taker>, No
     }
     let share = Vec::with_capacity(alloc, count as usize)?;
     let owner = Taker {
-        side: Side::Owner(Owner { end, share }),
+        side: Side::Owner(Owner {
+            end,
+            share,
+            later: Vec::new(alloc),
+        }),
     };
     takers.insert(0, owner)?;
     Ok(takers)

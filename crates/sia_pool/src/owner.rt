@@ -1,26 +1,30 @@
 // The taker that owns the deque.
-ghost use Rattle.std.specs.Prelude.{◌≡◌, [], ◌∷◌, ◌++◌, suc, length, false, ◌≤◌, vec_capacity};
+ghost use Rattle.std.specs.Prelude.{◌≡◌, [], ◌∷◌, suc, length, false, ◌≤◌, vec_capacity, OnOk};
 ghost use Rattle.crossbeam_deque.specs.Handles.{view, worker_view, worker_deque, stealer_deque, worker_flavor};
+ghost use Rattle.sia_pool.specs.Answers.{lists_of};
 
+use crate::fault::NoMemory;
 use crate::rule::{OwnerEnd, PartTaken, ViewBack};
 use crate::stealer::Stealer;
 use crate::taker::Taken;
 
-/// The owner's end of the deque and what it took, as its view records it. The room of the share is there from the start,
-/// so that a take needs no memory.
+/// The owner's end of the deque, what it took, and the shares of the stealers whose views it has back, as its view records
+/// them. The room of its own share is there from the start, so that a take needs no memory.
 #[derive(Drop)]
 pub(crate) struct Owner {
     pub(crate) end: OwnerEnd,
     pub(crate) share: Vec<u32>,
+    pub(crate) later: Vec<Vec<u32>>,
     ghost fifo: { worker_flavor end ≡ 0 },
     ghost number: { (worker_view end).number ≡ 0 },
     ghost live: { (worker_view end).spent ≡ false },
     ghost recorded: { share.items ≡ (worker_view end).share },
+    ghost returned: { lists_of later.items ≡ (worker_view end).back },
     ghost room: { (worker_view end).count ≤ vec_capacity share },
 }
 
 impl Owner {
-    ghost use Rattle.sia_pool.specs.View.{owner_view};
+    ghost use Rattle.sia_pool.specs.View.{with_back};
     ghost use Rattle.sia_pool.specs.Steps.{Stepped};
 
     /// One pop.
@@ -39,13 +43,12 @@ impl Owner {
         }
     }
 
-    /// Takes the view of the next stealer back, and hands out its share.
-    pub(crate) fn take_back(&mut self, stealer: Stealer) -> Vec<u32>
-        requires deque { worker_deque self.old.end ≡ stealer_deque stealer.end }
+    /// Takes the view of the next stealer back, and keeps its share.
+    pub(crate) fn take_back(&mut self, stealer: Stealer) -> Result<(), NoMemory>
+        requires deque { stealer_deque stealer.end ≡ worker_deque self.old.end }
         requires next { (view stealer.pass).number ≡ suc (length (worker_view self.old.end).back) }
         ensures deque { worker_deque self.new.end ≡ worker_deque self.old.end }
-        ensures view { let v = worker_view self.old.end in worker_view self.new.end ≡ owner_view v.count v.workers v.share v.given (v.back ++ (view stealer.pass).share ∷ []) }
-        ensures share { result.items ≡ (view stealer.pass).share }
+        ensures view { OnOk result (worker_view self.new.end ≡ with_back (worker_view self.old.end) ((view stealer.pass).share ∷ [])) }
     {
         let Stealer {
             end,
@@ -54,7 +57,8 @@ impl Owner {
             number: _,
         } = stealer;
         drop(end);
+        self.later.push(share)?;
         self.end.absorb::<ViewBack>(pass);
-        share
+        Ok(())
     }
 }

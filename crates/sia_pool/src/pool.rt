@@ -6,11 +6,12 @@ ghost use Rattle.sia_pool.specs.Core.{Reached};
 ghost use Rattle.sia_pool.specs.Answers.{lists_of, AnswersEach};
 
 use crate::fault::NoMemory;
-use crate::finish::{finish, with_idle};
 use crate::gate::Gate;
 use crate::job::Job;
 use crate::line::line_up;
+use crate::order::in_order;
 use crate::threads::run_all;
+use crate::work::{Worked, work};
 use std::alloc::Global;
 use std::sync::Wait;
 use std::thread::Threads;
@@ -52,9 +53,16 @@ where
 {
     let mut takers = line_up(alloc, count, workers)?;
     let idle = takers.split_off(start as usize)?;
-    let done = run_all(rt, alloc, count, workers, takers, job, gate)?;
-    let done = with_idle(alloc, job, count, workers, done, idle)?;
-    finish(rt, alloc, count, workers, done, job, gate)
+    let Worked {
+        mut taker,
+        mut answers,
+    } = run_all(rt, alloc, takers, job, gate)?;
+    taker.take_idle_back(idle)?;
+    // The owner, which has all views back, takes what is left. Its last pop shows that nothing is.
+    work(rt, &mut taker, &mut answers, job, gate)?;
+    let outs = in_order(alloc, answers)?;
+    let shares = taker.into_shares()?;
+    Ok(Crew { outs, shares })
 }
 
 /// Runs the job once on each part below `count`, by up to `workers` threads, of which the calling thread is worker 0.

@@ -1,9 +1,12 @@
 // One who takes parts: the owner of the deque, which pops, or a stealer.
-ghost use Rattle.std.specs.Prelude.{◌≡◌, ◌<◌};
-ghost use Rattle.crossbeam_deque.specs.Handles.{view, worker_view, worker_deque, stealer_deque};
+ghost use Rattle.std.specs.Prelude.{◌≡◌, suc, [], ◌∷◌, length, replicate, IfOk, OnOk};
 ghost use Rattle.sia_pool.specs.Steps.{Stepped};
 ghost use Rattle.sia_pool.specs.Taker.{taker_view, taker_deque};
+ghost use Rattle.sia_pool.specs.View.{with_back};
+ghost use Rattle.sia_pool.specs.Line.{IsLine};
+ghost use Rattle.sia_pool.specs.Answers.{lists_of};
 
+use crate::fault::NoMemory;
 use crate::owner::Owner;
 use crate::stealer::Stealer;
 
@@ -55,55 +58,51 @@ impl Taker {
         }
     }
 
-    /// The same parts, of a taker that takes no more.
-    pub(crate) fn into_share(self) -> Vec<u32>
-        ensures { result.items ≡ (taker_view self).share }
+    /// The owner takes the view of the next stealer back, and keeps its share.
+    pub(crate) fn take_back(&mut self, other: Taker) -> Result<(), NoMemory>
+        requires owner { (taker_view self.old).number ≡ 0 }
+        requires deque { taker_deque other ≡ taker_deque self.old }
+        requires next { (taker_view other).number ≡ suc (length (taker_view self.old).back) }
+        ensures deque { taker_deque self.new ≡ taker_deque self.old }
+        ensures view { OnOk result (taker_view self.new ≡ with_back (taker_view self.old) ((taker_view other).share ∷ [])) }
     {
-        let Taker { side } = self;
-        match side {
-            Side::Owner(owner) => {
-                let Owner { end, share } = owner;
-                drop(end);
-                share
-            }
-            Side::Stealer(stealer) => {
-                let Stealer {
-                    end,
-                    pass,
-                    share,
-                    ..
-                } = stealer;
-                drop(end);
-                drop(pass);
-                share
-            }
-        }
+        let Side::Owner(owner) = &mut self.side else {
+            unreachable!()
+        };
+        let Side::Stealer(stealer) = other.side else {
+            unreachable!()
+        };
+        owner.take_back(stealer)
     }
 
-    // The first taker as what it is.
-    pub(crate) fn into_owner(self) -> Owner
+    /// The owner takes back the views of those that never ran, whose shares are empty.
+    pub(crate) fn take_idle_back(&mut self, idle: Vec<Taker>) -> Result<(), NoMemory>
+        requires owner { (taker_view self.old).number ≡ 0 }
+        requires line { let v = taker_view self.old in IsLine (taker_deque self.old) v.count v.workers (suc (length v.back)) idle.items }
+        ensures { OnOk result (taker_view self.new ≡ with_back (taker_view self.old) (replicate (length idle.items) [])) }
+    {
+        'backing: for taker in idle {
+            self.take_back(taker)?;
+        }
+        Ok(())
+    }
+
+    /// The shares of all takers, of an owner that has all views back.
+    pub(crate) fn into_shares(self) -> Result<Vec<Vec<u32>>, NoMemory>
         requires { (taker_view self).number ≡ 0 }
-        ensures view { worker_view result.end ≡ taker_view self }
-        ensures deque { worker_deque result.end ≡ taker_deque self }
+        ensures { IfOk result (λ shares. lists_of shares.items ≡ (taker_view self).share ∷ (taker_view self).back) }
     {
-        let Taker { side } = self;
-        match side {
-            Side::Owner(owner) => owner,
-            Side::Stealer(_) => unreachable!(),
-        }
-    }
-
-    // Any other taker as what it is.
-    pub(crate) fn into_stealer(self) -> Stealer
-        requires { 0 < (taker_view self).number }
-        ensures view { view result.pass ≡ taker_view self }
-        ensures deque { stealer_deque result.end ≡ taker_deque self }
-    {
-        let Taker { side } = self;
-        match side {
-            Side::Owner(_) => unreachable!(),
-            Side::Stealer(stealer) => stealer,
-        }
+        let Side::Owner(owner) = self.side else {
+            unreachable!()
+        };
+        let Owner {
+            end,
+            share,
+            mut later,
+        } = owner;
+        drop(end);
+        later.insert(0, share)?;
+        Ok(later)
     }
 
     // The number of the worker, for the gate.
