@@ -119,17 +119,24 @@ pub record IsFinished {Out : Type 0} (owes : ℕ → Out → Type 0) (count work
 
 module _ {Out : Type 0} (owes : ℕ → Out → Type 0) (count workers start : ℕ) (idle : List Taker) (o b new : Taker) (xs ys : List (ℕ × Out)) (deque : RowsId × Global) (h : HaveRun owes count workers start idle o xs)
     (seen : taker_view b ≡ with_back (taker_view o) (replicate (length idle) [])) (w : WorkedOff owes deque (taker_view b) xs new ys) where
-  -- with all views back, the last pop shows all shares
+  view_last : taker_view new ≡ with_share (with_back (taker_view o) (replicate (length idle) [])) ((taker_view b).share ++ w.0.more)
+  view_last = w.0.view ∙ ap (λ (v : View). with_share v ((taker_view b).share ++ w.0.more)) seen
+
+  -- all views are back
+  pub all_back : suc (length (taker_view new).back) ≡ (taker_view new).workers
+  all_back =
+      let sized : (taker_view new).workers ≡ workers = ap (λ (v : View). v.workers) view_last ∙ h.sized in
+      let back : length (taker_view new).back ≡ length ((taker_view o).back ++ replicate {A = List ℕ} (length idle) []) = ap (λ (v : View). length v.back) view_last in
+      let none : length (replicate {A = List ℕ} (length idle) []) ≡ length idle = length-replicate {A = List ℕ} (length idle) [] in
+      omega (arith, back, length-append (taker_view o).back (replicate {A = List ℕ} (length idle) []), none, h.back, h.long, sized)
+
+  -- so the last pop shows all shares
   ends_reached : Reached count workers [] ((taker_view new).share ∷ (taker_view new).back)
   ends_reached =
       let m = taker_view new in
-      let is : m ≡ with_share (with_back (taker_view o) (replicate (length idle) [])) ((taker_view b).share ++ w.0.more) = w.0.view ∙ ap (λ (v : View). with_share v ((taker_view b).share ++ w.0.more)) seen in
-      let sized : m.workers ≡ workers = ap (λ (v : View). v.workers) is ∙ h.sized in
-      let counted : m.count ≡ count = ap (λ (v : View). v.count) is ∙ h.counted in
-      let back : length m.back ≡ length ((taker_view o).back ++ replicate {A = List ℕ} (length idle) []) = ap (λ (v : View). length v.back) is in
-      let none : length (replicate {A = List ℕ} (length idle) []) ≡ length idle = length-replicate {A = List ℕ} (length idle) [] in
-      let all : suc (length m.back) ≡ m.workers = omega (arith, back, length-append (taker_view o).back (replicate {A = List ℕ} (length idle) []), none, h.back, h.long, sized) in
-      subst (Reached count workers []) (w.1.all (ap (λ (v : View). v.number) is) all) (subst (λ n. Reached count n [] w.1.shares) sized (subst (λ c. Reached c m.workers [] w.1.shares) counted w.1.ended))
+      let sized : m.workers ≡ workers = ap (λ (v : View). v.workers) view_last ∙ h.sized in
+      let counted : m.count ≡ count = ap (λ (v : View). v.count) view_last ∙ h.counted in
+      subst (Reached count workers []) (w.1.all (ap (λ (v : View). v.number) view_last) all_back) (subst (λ n. Reached count n [] w.1.shares) sized (subst (λ c. Reached c m.workers [] w.1.shares) counted w.1.ended))
 
   -- each part has one answer
   ends_once : IsPermutation (range_with_len 0 count) (parts_of ys)

@@ -9,7 +9,7 @@ use Rattle.atomic_blocks.specs.Lent.{RowsId}
 use Rattle.std.specs.Global.{Global, Vec}
 use Rattle.sia_pool.specs.declared.view.View.{View}
 use Rattle.sia_pool.specs.declared.taker.Taker.{Taker}
-use Rattle.sia_pool.specs.View.{stealer_view, with_share, with_back}
+use Rattle.sia_pool.specs.View.{stealer_view, with_share, with_back, IsNext}
 use Rattle.sia_pool.specs.Taker.{taker_view, taker_deque}
 use Rattle.sia_pool.specs.Line.{IsLine}
 use Rattle.sia_pool.specs.Answers.{lists_of, parts_of, Owed}
@@ -86,19 +86,26 @@ pub last_count : (ts : List Taker) (t : Taker) → IsReady (ts ++ t ∷ []) → 
 last_count [] t h = refl
 last_count (u ∷ ts) t h = ap (λ (m : View). m.count) (line_last (taker_deque u) (taker_view u).count (taker_view u).workers 1 ts t h.1).2
 
--- what the owner asks of a stealer whose view it takes back
-pub record IsNext (o t : Taker) : Type 0 where
+-- the owner, and the stealer whose view it takes back next
+pub record ComesBack (o t : Taker) : Type 0 where
   pub owner : (taker_view o).number ≡ 0
   pub deque : taker_deque t ≡ taker_deque o
-  pub next : (taker_view t).number ≡ suc (length (taker_view o).back)
+  pub next : IsNext (taker_view o) (taker_view t)
 
 module _ {Out : Type 0} (owes : ℕ → Out → Type 0) where
-  crew_step : (ts : List Taker) (t w r : Taker) (ys xs : List (ℕ × Out)) → IsReady (ts ++ t ∷ []) → HasWorked owes (taker_deque t) (taker_view t) [] w ys → AllDone owes ts r xs → IsNext r w
+  crew_step : (ts : List Taker) (t w r : Taker) (ys xs : List (ℕ × Out)) → IsReady (ts ++ t ∷ []) → HasWorked owes (taker_deque t) (taker_view t) [] w ys → AllDone owes ts r xs → ComesBack r w
   crew_step [] t w r ys xs h f d = absurd d
   crew_step (u ∷ ts) t w r ys xs h f d =
       let l = line_last (taker_deque u) (taker_view u).count (taker_view u).workers 1 ts t h.1 in
-      let n : (taker_view w).number ≡ 1 + length ts = ap (λ (m : View). m.number) f.view ∙ ap (λ (m : View). m.number) l.2 in
-      record { owner = d.number; deque = f.same ∙ l.1 ∙ sym d.same; next = omega (arith, n, d.back) }
+      let seen : taker_view w ≡ stealer_view (1 + length ts) (taker_view u).count (taker_view u).workers f.more = f.view ∙ ap (λ (m : View). with_share m (m.share ++ f.more)) l.2 in
+      let share : f.more ≡ (taker_view w).share = sym (ap (λ (m : View). m.share) seen) in
+      let n : 1 + length ts ≡ suc (length (taker_view r).back) = omega (arith, d.back) in
+      record {
+        owner = d.number;
+        deque = f.same ∙ l.1 ∙ sym d.same;
+        next = seen ∙ ap (stealer_view (1 + length ts) (taker_view u).count (taker_view u).workers) share ∙ ap (λ k. stealer_view k (taker_view u).count (taker_view u).workers (taker_view w).share) n
+            ∙ ap (λ k. stealer_view (suc (length (taker_view r).back)) k (taker_view u).workers (taker_view w).share) (sym d.counted) ∙ ap (λ k. stealer_view (suc (length (taker_view r).back)) (taker_view r).count k (taker_view w).share) (sym d.sized);
+      }
 
   crew_end : (ts : List Taker) (t w r p : Taker) (ys xs zs : List (ℕ × Out)) → IsReady (ts ++ t ∷ []) → HasWorked owes (taker_deque t) (taker_view t) [] w ys → AllDone owes ts r xs
       → taker_deque p ≡ taker_deque r → taker_view p ≡ with_back (taker_view r) ((taker_view w).share ∷ []) → zs ≡ xs ++ ys → AllDone owes (ts ++ t ∷ []) p zs
@@ -110,7 +117,7 @@ module _ {Out : Type 0} (owes : ℕ → Out → Type 0) where
       subst (λ k. IsDone owes (taker_deque u) (taker_view u) k p zs) n (done_more owes (taker_deque u) (taker_view u) (length ts) r p (taker_view w).share xs ys zs d same seen took f.owed all)
 
   module _ (all ts : List Taker) (t : Taker) (is : all ≡ ts ++ t ∷ []) (ready : IsReady all) where
-    pub last_back : (w r : Taker) (ys xs : List (ℕ × Out)) → HasWorked owes (taker_deque t) (taker_view t) [] w ys → AllDone owes ts r xs → IsNext r w
+    pub last_back : (w r : Taker) (ys xs : List (ℕ × Out)) → HasWorked owes (taker_deque t) (taker_view t) [] w ys → AllDone owes ts r xs → ComesBack r w
     last_back w r ys xs f d = crew_step ts t w r ys xs (subst IsReady is ready) f d
 
     pub all_ended : (w r p : Taker) (ys xs zs : List (ℕ × Out)) → HasWorked owes (taker_deque t) (taker_view t) [] w ys → AllDone owes ts r xs
@@ -120,11 +127,6 @@ module _ {Out : Type 0} (owes : ℕ → Out → Type 0) where
 -- what holds of an answer that is there
 pub ok_there : {A E : Type 0} (P : A → Type 0) (a : Result A E) (x : A) → a ≡ Ok x → IfOk a P → P x
 ok_there P a x is p = subst (λ r. IfOk r P) is p
-
--- what follows from all three
-pub ok_all : {A E : Type 0} (P Q S T : A → Type 0) (a : Result A E) → ((x : A) → P x → Q x → S x → T x) → IfOk a P → IfOk a Q → IfOk a S → IfOk a T
-ok_all P Q S T (Ok x) f p q s = f x p q s
-ok_all P Q S T (Err e) f p q s = tt
 
 -- what follows from one
 pub ok_map : {A E : Type 0} (P T : A → Type 0) (a : Result A E) → ((x : A) → P x → T x) → IfOk a P → IfOk a T

@@ -71,12 +71,9 @@ pub fn line_up(alloc: Global, count: u32, workers: u32) -> Result<Vec<Taker>, No
         takers.push(new_stealer::<Brand>(alloc, count, workers, number, &mut end)?)?;
     }
     let share = Vec::with_capacity(alloc, count as usize)?;
+    let later = Vec::with_capacity(alloc, workers as usize)?;
     let owner = Taker {
-        side: Side::Owner(Owner {
-            end,
-            share,
-            later: Vec::new(alloc),
-        }),
+        side: Side::Owner(Owner { end, share, later }),
     };
     takers.insert(0, owner)?;
     Ok(takers)

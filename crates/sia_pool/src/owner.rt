@@ -1,15 +1,14 @@
 // The taker that owns the deque.
-ghost use Rattle.std.specs.Prelude.{◌≡◌, [], ◌∷◌, suc, length, false, ◌≤◌, vec_capacity, OnOk};
+ghost use Rattle.std.specs.Prelude.{◌≡◌, [], ◌∷◌, false, ◌≤◌, vec_capacity};
 ghost use Rattle.crossbeam_deque.specs.Handles.{view, worker_view, worker_deque, stealer_deque, worker_flavor};
 ghost use Rattle.sia_pool.specs.Answers.{lists_of};
 
-use crate::fault::NoMemory;
 use crate::rule::{OwnerEnd, PartTaken, ViewBack};
 use crate::stealer::Stealer;
 use crate::taker::Taken;
 
 /// The owner's end of the deque, what it took, and the shares of the stealers whose views it has back, as its view records
-/// them. The room of its own share is there from the start, so that a take needs no memory.
+/// them. The room for all of that is there from the start, so that no take needs memory.
 #[derive(Drop)]
 pub(crate) struct Owner {
     pub(crate) end: OwnerEnd,
@@ -21,10 +20,11 @@ pub(crate) struct Owner {
     ghost recorded: { share.items ≡ (worker_view end).share },
     ghost returned: { lists_of later.items ≡ (worker_view end).back },
     ghost room: { (worker_view end).count ≤ vec_capacity share },
+    ghost shelf: { (worker_view end).workers ≤ vec_capacity later },
 }
 
 impl Owner {
-    ghost use Rattle.sia_pool.specs.View.{with_back};
+    ghost use Rattle.sia_pool.specs.View.{with_back, IsNext};
     ghost use Rattle.sia_pool.specs.Steps.{Stepped};
 
     /// One pop.
@@ -44,11 +44,11 @@ impl Owner {
     }
 
     /// Takes the view of the next stealer back, and keeps its share.
-    pub(crate) fn take_back(&mut self, stealer: Stealer) -> Result<(), NoMemory>
+    pub(crate) fn take_back(&mut self, stealer: Stealer)
         requires deque { stealer_deque stealer.end ≡ worker_deque self.old.end }
-        requires next { (view stealer.pass).number ≡ suc (length (worker_view self.old.end).back) }
+        requires next { IsNext (worker_view self.old.end) (view stealer.pass) }
         ensures deque { worker_deque self.new.end ≡ worker_deque self.old.end }
-        ensures view { OnOk result (worker_view self.new.end ≡ with_back (worker_view self.old.end) ((view stealer.pass).share ∷ [])) }
+        ensures view { worker_view self.new.end ≡ with_back (worker_view self.old.end) ((view stealer.pass).share ∷ []) }
     {
         let Stealer {
             end,
@@ -57,8 +57,9 @@ impl Owner {
             number: _,
         } = stealer;
         drop(end);
-        self.later.push(share)?;
+        let Ok(()) = self.later.push(share) else {
+            unreachable!()
+        };
         self.end.absorb::<ViewBack>(pass);
-        Ok(())
     }
 }

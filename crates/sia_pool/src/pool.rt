@@ -57,12 +57,14 @@ where
         mut taker,
         mut answers,
     } = run_all(rt, alloc, takers, job, gate)?;
-    taker.take_idle_back(idle)?;
+    taker.take_idle_back(idle);
     // The owner, which has all views back, takes what is left. Its last pop shows that nothing is.
     work(rt, &mut taker, &mut answers, job, gate)?;
     let outs = in_order(alloc, answers)?;
-    let shares = taker.into_shares()?;
-    Ok(Crew { outs, shares })
+    Ok(Crew {
+        outs,
+        shares: taker.into_shares(),
+    })
 }
 
 /// Runs the job once on each part below `count`, by up to `workers` threads, of which the calling thread is worker 0.

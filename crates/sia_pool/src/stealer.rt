@@ -16,6 +16,7 @@ pub(crate) struct Stealer {
     ghost fifo: { stealer_flavor end ≡ 0 },
     ghost tied: { IsPassOf (stealer_deque end) pass },
     ghost later: { 0 < (view pass).number },
+    ghost one: { (view pass).number < (view pass).workers },
     ghost live: { (view pass).spent ≡ false },
     ghost recorded: { share.items ≡ (view pass).share },
     ghost room: { (view pass).count ≤ vec_capacity share },

@@ -1,12 +1,11 @@
 // One who takes parts: the owner of the deque, which pops, or a stealer.
-ghost use Rattle.std.specs.Prelude.{◌≡◌, suc, [], ◌∷◌, length, replicate, IfOk, OnOk};
+ghost use Rattle.std.specs.Prelude.{◌≡◌, suc, [], ◌∷◌, length, replicate};
 ghost use Rattle.sia_pool.specs.Steps.{Stepped};
 ghost use Rattle.sia_pool.specs.Taker.{taker_view, taker_deque};
-ghost use Rattle.sia_pool.specs.View.{with_back};
+ghost use Rattle.sia_pool.specs.View.{with_back, IsNext};
 ghost use Rattle.sia_pool.specs.Line.{IsLine};
 ghost use Rattle.sia_pool.specs.Answers.{lists_of};
 
-use crate::fault::NoMemory;
 use crate::owner::Owner;
 use crate::stealer::Stealer;
 
@@ -59,12 +58,12 @@ impl Taker {
     }
 
     /// The owner takes the view of the next stealer back, and keeps its share.
-    pub(crate) fn take_back(&mut self, other: Taker) -> Result<(), NoMemory>
+    pub(crate) fn take_back(&mut self, other: Taker)
         requires owner { (taker_view self.old).number ≡ 0 }
         requires deque { taker_deque other ≡ taker_deque self.old }
-        requires next { (taker_view other).number ≡ suc (length (taker_view self.old).back) }
+        requires next { IsNext (taker_view self.old) (taker_view other) }
         ensures deque { taker_deque self.new ≡ taker_deque self.old }
-        ensures view { OnOk result (taker_view self.new ≡ with_back (taker_view self.old) ((taker_view other).share ∷ [])) }
+        ensures view { taker_view self.new ≡ with_back (taker_view self.old) ((taker_view other).share ∷ []) }
     {
         let Side::Owner(owner) = &mut self.side else {
             unreachable!()
@@ -72,25 +71,25 @@ impl Taker {
         let Side::Stealer(stealer) = other.side else {
             unreachable!()
         };
-        owner.take_back(stealer)
+        owner.take_back(stealer);
     }
 
     /// The owner takes back the views of those that never ran, whose shares are empty.
-    pub(crate) fn take_idle_back(&mut self, idle: Vec<Taker>) -> Result<(), NoMemory>
+    pub(crate) fn take_idle_back(&mut self, idle: Vec<Taker>)
         requires owner { (taker_view self.old).number ≡ 0 }
         requires line { let v = taker_view self.old in IsLine (taker_deque self.old) v.count v.workers (suc (length v.back)) idle.items }
-        ensures { OnOk result (taker_view self.new ≡ with_back (taker_view self.old) (replicate (length idle.items) [])) }
+        ensures { taker_view self.new ≡ with_back (taker_view self.old) (replicate (length idle.items) []) }
     {
         'backing: for taker in idle {
-            self.take_back(taker)?;
+            self.take_back(taker);
         }
-        Ok(())
     }
 
     /// The shares of all takers, of an owner that has all views back.
-    pub(crate) fn into_shares(self) -> Result<Vec<Vec<u32>>, NoMemory>
-        requires { (taker_view self).number ≡ 0 }
-        ensures { IfOk result (λ shares. lists_of shares.items ≡ (taker_view self).share ∷ (taker_view self).back) }
+    pub(crate) fn into_shares(self) -> Vec<Vec<u32>>
+        requires owner { (taker_view self).number ≡ 0 }
+        requires all { suc (length (taker_view self).back) ≡ (taker_view self).workers }
+        ensures { lists_of result.items ≡ (taker_view self).share ∷ (taker_view self).back }
     {
         let Side::Owner(owner) = self.side else {
             unreachable!()
@@ -101,8 +100,10 @@ impl Taker {
             mut later,
         } = owner;
         drop(end);
-        later.insert(0, share)?;
-        Ok(later)
+        let Ok(()) = later.insert(0, share) else {
+            unreachable!()
+        };
+        later
     }
 
     // The number of the worker, for the gate.

@@ -83,5 +83,9 @@ pub(crate) fn run_all<
     };
     // All workers have ended before an answer is looked at, so a refusal is told when none runs any more.
     let (worked, done) = thread::join(rt, there, here);
-    done?.with(worked?)
+    let mut done = done?;
+    let Worked { taker, mut answers } = worked?;
+    done.taker.take_back(taker);
+    done.answers.append(&mut answers)?;
+    Ok(done)
 }

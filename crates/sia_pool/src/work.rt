@@ -1,6 +1,5 @@
 // What one worker does.
-ghost use Rattle.std.specs.Prelude.{◌≡◌, ℕ, suc, ◌<◌, [], ◌∷◌, ◌++◌, length, IfOk, OnOk};
-ghost use Rattle.sia_pool.specs.View.{with_back};
+ghost use Rattle.std.specs.Prelude.{ℕ, ◌<◌, OnOk};
 ghost use Rattle.sia_pool.specs.Taker.{taker_view, taker_deque};
 ghost use Rattle.sia_pool.specs.Answers.{Owed};
 ghost use Rattle.sia_pool.specs.Work.{WorkedOff};
@@ -16,23 +15,6 @@ use std::sync::Wait;
 pub(crate) struct Worked<Out> {
     pub(crate) taker: Taker,
     pub(crate) answers: Vec<(u32, Out)>,
-}
-
-impl<Out: Drop> Worked<Out> {
-    /// One more worker has ended: the owner takes its view back, and its answers join those that are there.
-    pub(crate) fn with(mut self, other: Worked<Out>) -> Result<Worked<Out>, NoMemory>
-        requires owner { (taker_view self.taker).number ≡ 0 }
-        requires deque { taker_deque other.taker ≡ taker_deque self.taker }
-        requires next { (taker_view other.taker).number ≡ suc (length (taker_view self.taker).back) }
-        ensures deque { IfOk result (λ r. taker_deque r.taker ≡ taker_deque self.taker) }
-        ensures view { IfOk result (λ r. taker_view r.taker ≡ with_back (taker_view self.taker) ((taker_view other.taker).share ∷ [])) }
-        ensures answers { IfOk result (λ r. r.answers.items ≡ self.answers.items ++ other.answers.items) }
-    {
-        let Worked { taker, mut answers } = other;
-        self.answers.append(&mut answers)?;
-        self.taker.take_back(taker)?;
-        Ok(self)
-    }
 }
 
 /// Takes parts until nothing is left, and adds an answer for each.

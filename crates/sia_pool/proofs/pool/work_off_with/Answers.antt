@@ -1,7 +1,7 @@
 use Rattle.std.proofs.Common.{◌<◌, ap, sym, subst, ◌∙◌}
 use Rattle.sia_pool.specs.declared.view.View.{View}
 use Rattle.sia_pool.specs.Threads.{IsReady, count_of}
-use Rattle.sia_pool.proofs.FinishLemmas.{ready_take, count_take, have_run, finished}
+use Rattle.sia_pool.proofs.FinishLemmas.{ready_take, count_take, have_run, all_back, finished}
 use Rattle.sia_pool.proofs.pool.work_off_with.Goals as goal
 
 pub run_all-requires-clause-ready : goal.run_all-requires-clause-ready
@@ -19,46 +19,52 @@ take_idle_back-requires-clause-line g c = (have_run (g.J.Job.owes c.args.job.now
 pub work-requires-clause-takes : goal.work-requires-clause-takes
 work-requires-clause-takes g c =
     let run = have_run (g.J.Job.owes c.args.job.now) _ _ _ c.in_ok-takers.takers.items c.split_off.new.self.items c.in_ok-idle.idle.items _ _ (c.requires.bounds.1, c.requires.bounds.2) c.in_ok-takers.ensures c.in_ok-idle.ensures.items c.in_ok-idle.ensures.tail c.in_ok-taker.ensures in
-    λ p h. c.requires.takes p (subst (λ n. p < n) (ap (λ (v : View). v.count) c.in_ok-take_idle_back.ensures ∙ run.counted) h)
+    λ p h. c.requires.takes p (subst (λ n. p < n) (ap (λ (v : View). v.count) c.take_idle_back.ensures ∙ run.counted) h)
+
+pub into_shares-requires-clause-all : goal.into_shares-requires-clause-all
+into_shares-requires-clause-all g c =
+    all_back (g.J.Job.owes c.args.job.now) c.args.count c.args.workers c.args.start c.in_ok-idle.idle.items c.in_ok-taker.field-0.taker c.take_idle_back.new.self c.work.new.taker c.in_ok-taker.field-0.answers.items c.work.new.answers.items _
+    (have_run (g.J.Job.owes c.args.job.now) _ _ _ c.in_ok-takers.takers.items c.split_off.new.self.items c.in_ok-idle.idle.items _ _ (c.requires.bounds.1, c.requires.bounds.2) c.in_ok-takers.ensures c.in_ok-idle.ensures.items c.in_ok-idle.ensures.tail c.in_ok-taker.ensures)
+    c.take_idle_back.ensures c.in_ok-work.ensures
 
 pub returns-clause-len : goal.returns-clause-len
 returns-clause-len g c =
     (finished (g.J.Job.owes c.args.job.now) c.args.count c.args.workers c.args.start c.in_ok-idle.idle.items c.in_ok-taker.field-0.taker c.take_idle_back.new.self c.work.new.taker c.in_ok-taker.field-0.answers.items c.work.new.answers.items _
     (have_run _ _ _ _ c.in_ok-takers.takers.items c.split_off.new.self.items c.in_ok-idle.idle.items _ _ (c.requires.bounds.1, c.requires.bounds.2) c.in_ok-takers.ensures c.in_ok-idle.ensures.items c.in_ok-idle.ensures.tail c.in_ok-taker.ensures)
-    c.in_ok-take_idle_back.ensures c.in_ok-work.ensures c.in_ok-outs.outs.items c.in_ok-shares.shares.items c.in_ok-outs.ensures c.in_ok-shares.ensures).len
+    c.take_idle_back.ensures c.in_ok-work.ensures c.in_ok-outs.outs.items c.into_shares.result.items c.in_ok-outs.ensures c.into_shares.ensures).len
 
 pub returns-clause-owed : goal.returns-clause-owed
 returns-clause-owed g c =
     (finished (g.J.Job.owes c.args.job.now) c.args.count c.args.workers c.args.start c.in_ok-idle.idle.items c.in_ok-taker.field-0.taker c.take_idle_back.new.self c.work.new.taker c.in_ok-taker.field-0.answers.items c.work.new.answers.items _
     (have_run _ _ _ _ c.in_ok-takers.takers.items c.split_off.new.self.items c.in_ok-idle.idle.items _ _ (c.requires.bounds.1, c.requires.bounds.2) c.in_ok-takers.ensures c.in_ok-idle.ensures.items c.in_ok-idle.ensures.tail c.in_ok-taker.ensures)
-    c.in_ok-take_idle_back.ensures c.in_ok-work.ensures c.in_ok-outs.outs.items c.in_ok-shares.shares.items c.in_ok-outs.ensures c.in_ok-shares.ensures).owed
+    c.take_idle_back.ensures c.in_ok-work.ensures c.in_ok-outs.outs.items c.into_shares.result.items c.in_ok-outs.ensures c.into_shares.ensures).owed
 
 pub returns-clause-reached : goal.returns-clause-reached
 returns-clause-reached g c =
     (finished (g.J.Job.owes c.args.job.now) c.args.count c.args.workers c.args.start c.in_ok-idle.idle.items c.in_ok-taker.field-0.taker c.take_idle_back.new.self c.work.new.taker c.in_ok-taker.field-0.answers.items c.work.new.answers.items _
     (have_run _ _ _ _ c.in_ok-takers.takers.items c.split_off.new.self.items c.in_ok-idle.idle.items _ _ (c.requires.bounds.1, c.requires.bounds.2) c.in_ok-takers.ensures c.in_ok-idle.ensures.items c.in_ok-idle.ensures.tail c.in_ok-taker.ensures)
-    c.in_ok-take_idle_back.ensures c.in_ok-work.ensures c.in_ok-outs.outs.items c.in_ok-shares.shares.items c.in_ok-outs.ensures c.in_ok-shares.ensures).reached
+    c.take_idle_back.ensures c.in_ok-work.ensures c.in_ok-outs.outs.items c.into_shares.result.items c.in_ok-outs.ensures c.into_shares.ensures).reached
 
 pub returns-clause-workers : goal.returns-clause-workers
 returns-clause-workers g c =
     (finished (g.J.Job.owes c.args.job.now) c.args.count c.args.workers c.args.start c.in_ok-idle.idle.items c.in_ok-taker.field-0.taker c.take_idle_back.new.self c.work.new.taker c.in_ok-taker.field-0.answers.items c.work.new.answers.items _
     (have_run _ _ _ _ c.in_ok-takers.takers.items c.split_off.new.self.items c.in_ok-idle.idle.items _ _ (c.requires.bounds.1, c.requires.bounds.2) c.in_ok-takers.ensures c.in_ok-idle.ensures.items c.in_ok-idle.ensures.tail c.in_ok-taker.ensures)
-    c.in_ok-take_idle_back.ensures c.in_ok-work.ensures c.in_ok-outs.outs.items c.in_ok-shares.shares.items c.in_ok-outs.ensures c.in_ok-shares.ensures).sized
+    c.take_idle_back.ensures c.in_ok-work.ensures c.in_ok-outs.outs.items c.into_shares.result.items c.in_ok-outs.ensures c.into_shares.ensures).sized
 
 pub returns-clause-once : goal.returns-clause-once
 returns-clause-once g c =
     (finished (g.J.Job.owes c.args.job.now) c.args.count c.args.workers c.args.start c.in_ok-idle.idle.items c.in_ok-taker.field-0.taker c.take_idle_back.new.self c.work.new.taker c.in_ok-taker.field-0.answers.items c.work.new.answers.items _
     (have_run _ _ _ _ c.in_ok-takers.takers.items c.split_off.new.self.items c.in_ok-idle.idle.items _ _ (c.requires.bounds.1, c.requires.bounds.2) c.in_ok-takers.ensures c.in_ok-idle.ensures.items c.in_ok-idle.ensures.tail c.in_ok-taker.ensures)
-    c.in_ok-take_idle_back.ensures c.in_ok-work.ensures c.in_ok-outs.outs.items c.in_ok-shares.shares.items c.in_ok-outs.ensures c.in_ok-shares.ensures).once
+    c.take_idle_back.ensures c.in_ok-work.ensures c.in_ok-outs.outs.items c.into_shares.result.items c.in_ok-outs.ensures c.into_shares.ensures).once
 
 pub returns-clause-ascending : goal.returns-clause-ascending
 returns-clause-ascending g c =
     (finished (g.J.Job.owes c.args.job.now) c.args.count c.args.workers c.args.start c.in_ok-idle.idle.items c.in_ok-taker.field-0.taker c.take_idle_back.new.self c.work.new.taker c.in_ok-taker.field-0.answers.items c.work.new.answers.items _
     (have_run _ _ _ _ c.in_ok-takers.takers.items c.split_off.new.self.items c.in_ok-idle.idle.items _ _ (c.requires.bounds.1, c.requires.bounds.2) c.in_ok-takers.ensures c.in_ok-idle.ensures.items c.in_ok-idle.ensures.tail c.in_ok-taker.ensures)
-    c.in_ok-take_idle_back.ensures c.in_ok-work.ensures c.in_ok-outs.outs.items c.in_ok-shares.shares.items c.in_ok-outs.ensures c.in_ok-shares.ensures).ascending
+    c.take_idle_back.ensures c.in_ok-work.ensures c.in_ok-outs.outs.items c.into_shares.result.items c.in_ok-outs.ensures c.into_shares.ensures).ascending
 
 pub returns-clause-idle : goal.returns-clause-idle
 returns-clause-idle g c =
     (finished (g.J.Job.owes c.args.job.now) c.args.count c.args.workers c.args.start c.in_ok-idle.idle.items c.in_ok-taker.field-0.taker c.take_idle_back.new.self c.work.new.taker c.in_ok-taker.field-0.answers.items c.work.new.answers.items _
     (have_run _ _ _ _ c.in_ok-takers.takers.items c.split_off.new.self.items c.in_ok-idle.idle.items _ _ (c.requires.bounds.1, c.requires.bounds.2) c.in_ok-takers.ensures c.in_ok-idle.ensures.items c.in_ok-idle.ensures.tail c.in_ok-taker.ensures)
-    c.in_ok-take_idle_back.ensures c.in_ok-work.ensures c.in_ok-outs.outs.items c.in_ok-shares.shares.items c.in_ok-outs.ensures c.in_ok-shares.ensures).idle
+    c.take_idle_back.ensures c.in_ok-work.ensures c.in_ok-outs.outs.items c.into_shares.result.items c.in_ok-outs.ensures c.into_shares.ensures).idle

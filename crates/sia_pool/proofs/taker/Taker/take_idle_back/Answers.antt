@@ -17,13 +17,13 @@ backing-preserved c =
     let now = taker_view c.take_back.new.self in
     let share = (taker_view c.in-Some.taker).share in
     let line = subst (IsLine (taker_deque c.backing.self) old.count old.workers (suc (length old.back))) step inv.line in
-    let seen : now ≡ with_back old (share ∷ []) = c.in_ok-take_back.ensures.view in
+    let seen : now ≡ with_back old (share ∷ []) = c.take_back.ensures.view in
     let long : length now.back ≡ length (old.back ++ share ∷ []) = ap (λ (m : View). length m.back) seen in
     let cut : length (into_iter_items c.backing.taker-iterator) ≡ suc (length rest) = ap length step in
     let so_far = inv.later.2 in
     record {
       owner = ap (λ (m : View). m.number) seen;
       line = line_same (taker_deque c.backing.self) (taker_deque c.take_back.new.self) old.count now.count old.workers now.workers (suc (suc (length old.back))) (suc (length now.back)) rest
-          (sym c.in_ok-take_back.ensures.deque) (sym (ap (λ (m : View). m.count) seen)) (sym (ap (λ (m : View). m.workers) seen)) (omega (arith, long, length-append old.back (share ∷ []))) line.2;
+          (sym c.take_back.ensures.deque) (sym (ap (λ (m : View). m.count) seen)) (sym (ap (λ (m : View). m.workers) seen)) (omega (arith, long, length-append old.back (share ∷ []))) line.2;
       later = (suc inv.later.0, one_more_idle (taker_view c.args.self.now) old now inv.later.0 share inv.later.1 seen (ap (λ (m : View). m.share) line.1), omega (arith, so_far, cut));
     }
