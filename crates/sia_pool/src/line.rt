@@ -13,22 +13,6 @@ use crate::taker::{Side, Taker};
 use std::alloc::Global;
 use std::marker::Brand;
 
-/// A deque with all parts, in ascending order.
-fn deque_of_parts(alloc: Global, count: u32) -> Result<OwnerEnd, NoMemory>
-    requires { count ≤ 1024 }
-    ensures { IfOk result (λ end. (worker_flavor end ≡ 0) × (worker_view end ≡ owner_view count 1 [] 0 [])) }
-{
-    let mut end = OwnerEnd::fifo_as(alloc, count as usize)?;
-    for part in 0..count {
-        // The deque began with a slot for each part, so none is handed back.
-        match end.push_as::<PartPlaced>(part) {
-            Ok(()) => {}
-            Err(_) => unreachable!(),
-        }
-    }
-    Ok(end)
-}
-
 /// One more taker, which steals. What can fail comes before its view is given out.
 fn new_stealer<K: LineSize>(
     alloc: Global,
@@ -65,7 +49,14 @@ pub fn line_up(alloc: Global, count: u32, workers: u32) -> Result<Vec<Taker>, No
     requires { (count ≤ 1024) × (0 < workers) × (workers ≤ 64) }
     ensures { IfOk result (λ takers. LinedUp count workers takers.items) }
 {
-    let mut end = deque_of_parts(alloc, count)?;
+    let mut end = OwnerEnd::fifo_as(alloc, count as usize)?;
+    for part in 0..count {
+        // The deque began with a slot for each part, so none is handed back.
+        match end.push_as::<PartPlaced>(part) {
+            Ok(()) => {}
+            Err(_) => unreachable!(),
+        }
+    }
     let mut takers = Vec::new(alloc);
     'giving: for number in 1..workers {
         takers.push(new_stealer::<Brand>(alloc, count, workers, number, &mut end)?)?;

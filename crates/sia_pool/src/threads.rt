@@ -35,10 +35,9 @@ where
 {
     let mut taker = taker;
     let mut answers = Vec::new(alloc);
-    if ended.load(Ordering::SeqCst) {
-        return Ok(Worked { taker, answers });
+    if !ended.load(Ordering::SeqCst) {
+        work(rt, &mut taker, &mut answers, job, gate)?;
     }
-    work(rt, &mut taker, &mut answers, job, gate)?;
     Ok(Worked { taker, answers })
 }
 

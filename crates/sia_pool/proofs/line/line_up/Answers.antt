@@ -5,6 +5,7 @@ use Rattle.sia_pool.specs.declared.taker.Taker.{Taker}
 use Rattle.sia_pool.specs.View.{owner_view, stealer_view, line_size}
 use Rattle.sia_pool.specs.Line.{IsLine}
 use Rattle.sia_pool.proofs.LineLemmas.{line_push}
+use Rattle.sia_pool.proofs.RuleLemmas.{begins, pushes}
 use Rattle.sia_pool.proofs.line.line_up.Goals as goal
 
 pub giving-preserved : goal.giving-preserved
@@ -27,3 +28,9 @@ giving-preserved c =
           (c.in_ok-new_stealer.ensures.taker.1 ∙ ap (λ k. stealer_view k c.args.count c.args.workers []) one)));
       so_far = omega (arith, inv.so_far, ap length now, long);
     }
+
+pub fifo_as-requires : goal.fifo_as-requires
+fifo_as-requires c = begins
+
+pub push_as-requires-clause-pushes : goal.push_as-requires-clause-pushes
+push_as-requires-clause-pushes c = pushes _ _ _ c.loop-part.invariant.view

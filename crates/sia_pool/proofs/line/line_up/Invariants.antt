@@ -1,5 +1,5 @@
-use Rattle.std.proofs.Common.{◌≡◌, suc, [], length}
-use Rattle.crossbeam_deque.specs.Handles.{worker_view, worker_flavor, worker_deque}
+use Rattle.std.proofs.Common.{◌≡◌, ◌≤◌, suc, [], length}
+use Rattle.crossbeam_deque.specs.Handles.{worker_view, worker_flavor, worker_deque, worker_capacity, worker_index}
 use Rattle.sia_pool.specs.View.{owner_view, line_size}
 use Rattle.sia_pool.specs.Line.{IsLine}
 use Rattle.sia_pool.proofs.line.line_up.Given as goal
@@ -9,3 +9,6 @@ invariant-giving l = record { flavor : worker_flavor l.end ≡ 0; view : worker_
 
 abbrev pub ghosts-new_stealer : goal.ghosts-new_stealer
 ghosts-new_stealer a = record { workers = a.workers }
+
+abbrev pub invariant-loop-part : goal.invariant-loop-part
+invariant-loop-part l = record { flavor : worker_flavor l.end ≡ 0; view : worker_view l.end ≡ owner_view l.part 1 [] 0 []; room : l.fn.count ≤ worker_capacity l.end; index : worker_index l.end ≡ l.part }
