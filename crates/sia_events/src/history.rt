@@ -9,7 +9,7 @@ use std::marker::Model;
 /// A well-formed history: its events, in the order in which they were recorded.
 #[derive(Drop)]
 pub struct History {
-    events: Vec<Event>,
+    pub(crate) events: Vec<Event>,
 }
 
 impl Model for History {
@@ -25,13 +25,6 @@ impl Model for History {
 }
 
 impl History {
-    pub(crate) fn new(events: Vec<Event>) -> Self
-        requires { IsWellFormed events.items }
-        ensures { result ≡ events.items }
-    {
-        History { events }
-    }
-
     /// A law of every history, and nothing else: it is well-formed.
     pub fn law(&self)
         ensures { IsWellFormed self.now }
