@@ -49,10 +49,4 @@ impl History {
         }
         self.events.get(place as usize - 1)
     }
-
-    pub(crate) fn events(&self) -> &[Event]
-        ensures { result.now ≡ self.now }
-    {
-        &self.events
-    }
 }

@@ -24,8 +24,7 @@ fn push_marked(out: &mut Vec<u8>, mark: u8, n: u64) -> Result<(), AllocError>
 {
     let mut buffer = Buffer::new();
     out.push(mark)?;
-    out.extend_from_slice(buffer.format(n).as_bytes())?;
-    Ok(())
+    out.extend_from_slice(buffer.format(n).as_bytes())
 }
 
 fn push_list(out: &mut Vec<u8>, listed: &[(Key, Version)]) -> Result<(), AllocError>
@@ -115,7 +114,7 @@ pub fn write_history(alloc: Global, h: &History) -> Result<Vec<u8>, NoMemory>
     ensures { IfOk result (λ text. text.items ≡ canonical h.now) }
 {
     let mut out = Vec::new(alloc);
-    for (i, event) in h.events().iter().enumerate() {
+    for (i, event) in h.events.iter().enumerate() {
         if i > 0 {
             out.push(b' ')?;
         }

@@ -10,7 +10,7 @@ use Rattle.sia_events.proofs.writer.write_history.Goals.{then-i-gt0+in_ok-push, 
 pub loop-i-preserved : goal.loop-i-preserved
 loop-i-preserved c =
     let i = c.loop-i.i in
-    let events = c.events-event-items.result.now in
+    let events = c.deref-event-items.result.now in
     let e = c.event-item.result in
     let below : i < length events = c.loop-i-test.true in
     let len : length (take i events) ≡ i = omega (arith, length-take i events) in
