@@ -11,12 +11,12 @@ use Rattle.std.specs.Global.{Global, Vec}
 use Rattle.sia_pool.specs.declared.view.View.{View}
 use Rattle.sia_pool.specs.declared.taker.Taker.{Taker}
 use Rattle.sia_pool.specs.Core.{Reached}
-use Rattle.sia_pool.specs.View.{owner_view, with_share, with_back}
+use Rattle.sia_pool.specs.View.{owner_view, with_share}
 use Rattle.sia_pool.specs.Taker.{taker_view, taker_deque}
 use Rattle.sia_pool.specs.Line.{IsLine, LinedUp}
-use Rattle.sia_pool.specs.Answers.{lists_of, parts_of, Owed, AnswersEach, IsInOrder}
+use Rattle.sia_pool.specs.Answers.{lists_of, parts_of, Owed, AnswersEach}
 use Rattle.sia_pool.specs.Work.{WorkedOff}
-use Rattle.sia_pool.specs.Threads.{IsReady, count_of, AllDone}
+use Rattle.sia_pool.specs.Threads.{with_back, IsReady, count_of, AllDone, IsInOrder}
 use Rattle.sia_pool.proofs.CoreLemmas.{all_dealt, replicate_push}
 use Rattle.sia_pool.proofs.OrderLemmas.{in_order, owed_each}
 use Rattle.sia_pool.proofs.ThreadLemmas.{length-lists_of}

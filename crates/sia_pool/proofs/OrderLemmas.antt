@@ -10,7 +10,7 @@ use Rattle.std.proofs.lemmas.List.Elements.{recursion_from_All, All-from_recursi
 use Rattle.std.proofs.lemmas.List.Sorted.{sum_by-IsPermutation, length_permutation, All-permutation, IsPermutation-map, IsPermutation-trans}
 use Rattle.std.proofs.lemmas.Bool.Decides.{nat_tests}
 use Rattle.std.proofs.lemmas.Bool.{cases_eq}
-use Rattle.sia_pool.specs.Answers.{parts_of, Owed, OwedFrom, AnswersEach}
+use Rattle.sia_pool.specs.Answers.{parts_of, Owed, AnswersEach}
 use Rattle.sia_pool.proofs.CoreLemmas.{each_map, each_true}
 
 -- how often the part k stands in a list
@@ -86,6 +86,12 @@ in_turn a (x ∷ ps) r b once =
     let none : times a ps ≡ 0 = omega (arith, n, times-cons a x ps, one) in
     let rest = in_turn (a + 1) ps r.1 (above a ps b.1 none) (λ k l u. omega (arith, once k (omega arith) (omega arith), times-cons k x ps, off k x (λ z. omega (arith, z, e, l)))) in
     ap (λ y. y ∷ ps) e ∙ ap (λ l. a ∷ l) rest
+
+module _ {Out : Type 0} where
+  -- the answers are owed to the parts from j on, one each
+  abbrev pub OwedFrom : (ℕ → Out → Type 0) → ℕ → List Out → Type 0
+  OwedFrom owes j [] = Unit {0}
+  OwedFrom owes j (x ∷ xs) = owes j x × OwedFrom owes (suc j) xs
 
 module _ {Out : Type 0} where
   low : (p : ℕ) (xs : List (ℕ × Out)) → ((j : ℕ) (d : ℕ × Out) → j < length xs → p ≤ (slice_index_or xs j d).0) → AllByRecursion (λ y. p ≤ y) (parts_of xs)

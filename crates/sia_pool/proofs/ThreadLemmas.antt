@@ -9,12 +9,12 @@ use Rattle.atomic_blocks.specs.Lent.{RowsId}
 use Rattle.std.specs.Global.{Global, Vec}
 use Rattle.sia_pool.specs.declared.view.View.{View}
 use Rattle.sia_pool.specs.declared.taker.Taker.{Taker}
-use Rattle.sia_pool.specs.View.{stealer_view, with_share, with_back, IsNext}
+use Rattle.sia_pool.specs.View.{stealer_view, with_share}
 use Rattle.sia_pool.specs.Taker.{taker_view, taker_deque}
 use Rattle.sia_pool.specs.Line.{IsLine}
 use Rattle.sia_pool.specs.Answers.{lists_of, parts_of, Owed}
 use Rattle.sia_pool.specs.Work.{HasWorked}
-use Rattle.sia_pool.specs.Threads.{IsReady, count_of, IsDone, AllDone}
+use Rattle.sia_pool.specs.Threads.{with_back, IsNext, IsReady, count_of, IsDone, AllDone}
 
 pub length-lists_of : (vs : List (Vec ℕ)) → length (lists_of vs) ≡ length vs
 length-lists_of [] = refl

@@ -1,7 +1,6 @@
 -- Answers, and the parts to which they are owed. `owes` is the job's relation.
-use Rattle.std.specs.Prelude.{◌≡◌, ℕ, suc, ◌<◌, List, [], ◌∷◌, map, slice_index_or, IsPermutation}
+use Rattle.std.specs.Prelude.{ℕ, ◌<◌, List, map, slice_index_or}
 use Rattle.std.specs.List.{AllByRecursion}
-use Rattle.std.specs.List.Sorted.{IsNonDecreasingBy}
 use Rattle.std.specs.Global.{Vec}
 
 -- the items of each of these vectors
@@ -20,12 +19,3 @@ module _ {Out : Type 0} where
   -- each of these answers is owed to the part beside it
   abbrev pub Owed : (ℕ → Out → Type 0) → List (ℕ × Out) → Type 0
   Owed owes answers = AllByRecursion (λ a. owes a.0 a.1) answers
-
-  -- the answers are owed to the parts from j on, one each
-  abbrev pub OwedFrom : (ℕ → Out → Type 0) → ℕ → List Out → Type 0
-  OwedFrom owes j [] = Unit {0}
-  OwedFrom owes j (x ∷ xs) = owes j x × OwedFrom owes (suc j) xs
-
-  -- these are the answers without their parts, in the order of the parts
-  abbrev pub IsInOrder : List (ℕ × Out) → List Out → Type 0
-  IsInOrder answers outs = (sorted : List (ℕ × Out)) × IsPermutation answers sorted × IsNonDecreasingBy (λ a. a.0) sorted × (outs ≡ map (λ a. a.1) sorted)

@@ -1,14 +1,23 @@
 -- What is known once some workers have ended and the owner has their views back.
-use Rattle.std.specs.Prelude.{◌≡◌, ℕ, List, [], ◌∷◌, length, IsPermutation}
+use Rattle.std.specs.Prelude.{◌≡◌, ℕ, suc, List, [], ◌∷◌, ◌++◌, length, map, IsPermutation}
 use Rattle.std.specs.List.{concat}
+use Rattle.std.specs.List.Sorted.{IsNonDecreasingBy}
 use Rattle.atomic_blocks.specs.Lent.{RowsId}
 use Rattle.std.specs.Global.{Global}
 use Rattle.sia_pool.specs.declared.view.View.{View}
 use Rattle.sia_pool.specs.declared.taker.Taker.{Taker}
-use Rattle.sia_pool.specs.View.{owner_view}
+use Rattle.sia_pool.specs.View.{owner_view, stealer_view}
 use Rattle.sia_pool.specs.Taker.{taker_view, taker_deque}
 use Rattle.sia_pool.specs.Line.{IsLine}
 use Rattle.sia_pool.specs.Answers.{parts_of, Owed}
+
+-- the view of an owner that took some more views back, whose shares are these
+abbrev pub with_back : View → List (List ℕ) → View
+with_back v more = owner_view v.count v.workers v.share v.given (v.back ++ more)
+
+-- the second view is the next one that an owner with the first one takes back
+abbrev pub IsNext : View → View → Type 0
+IsNext v w = w ≡ stealer_view (suc (length v.back)) v.count v.workers w.share
 
 -- the owner of a line, and some of its stealers, from the first one on
 abbrev pub IsReady : List Taker → Type 0
@@ -35,3 +44,7 @@ module _ {Out : Type 0} where
   abbrev pub AllDone : (ℕ → Out → Type 0) → List Taker → Taker → List (ℕ × Out) → Type 0
   AllDone owes [] new answers = ⊥
   AllDone owes (t ∷ ts) new answers = IsDone owes (taker_deque t) (taker_view t) (length ts) new answers
+
+  -- these are the answers without their parts, in the order of the parts
+  abbrev pub IsInOrder : List (ℕ × Out) → List Out → Type 0
+  IsInOrder answers outs = (sorted : List (ℕ × Out)) × IsPermutation answers sorted × IsNonDecreasingBy (λ a. a.0) sorted × (outs ≡ map (λ a. a.1) sorted)

@@ -1,5 +1,5 @@
 -- The views of the takers: of the owner, of a stealer, and one that was taken back.
-use Rattle.std.specs.Prelude.{◌≡◌, ℕ, zero, suc, true, false, List, [], ◌++◌, length}
+use Rattle.std.specs.Prelude.{ℕ, zero, suc, true, false, List, []}
 use Rattle.sia_pool.specs.declared.view.View.{View}
 
 -- the owner knows its share, how many views it gave out, and the shares of those that it has back, in order
@@ -22,11 +22,3 @@ line_size workers (suc given) = workers
 -- the same view with another share
 abbrev pub with_share : View → List ℕ → View
 with_share v share = record { number = v.number; spent = v.spent; count = v.count; workers = v.workers; share = share; given = v.given; back = v.back }
-
--- the view of an owner that took some more views back, whose shares are these
-abbrev pub with_back : View → List (List ℕ) → View
-with_back v more = owner_view v.count v.workers v.share v.given (v.back ++ more)
-
--- an owner with the first view asks for the second one next
-abbrev pub IsNext : View → View → Type 0
-IsNext v w = w ≡ stealer_view (suc (length v.back)) v.count v.workers w.share

@@ -1,6 +1,6 @@
 // The answers, in order of their parts.
 ghost use Rattle.std.specs.Prelude.{IfOk};
-ghost use Rattle.sia_pool.specs.Answers.{IsInOrder};
+ghost use Rattle.sia_pool.specs.Threads.{IsInOrder};
 
 use std::alloc::{AllocError, Global};
 

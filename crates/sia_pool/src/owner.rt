@@ -24,7 +24,7 @@ pub(crate) struct Owner {
 }
 
 impl Owner {
-    ghost use Rattle.sia_pool.specs.View.{with_back, IsNext};
+    ghost use Rattle.sia_pool.specs.Threads.{with_back, IsNext};
     ghost use Rattle.sia_pool.specs.Steps.{Stepped};
 
     /// One pop.

@@ -2,7 +2,7 @@
 ghost use Rattle.std.specs.Prelude.{◌≡◌, suc, [], ◌∷◌, length, replicate};
 ghost use Rattle.sia_pool.specs.Steps.{Stepped};
 ghost use Rattle.sia_pool.specs.Taker.{taker_view, taker_deque};
-ghost use Rattle.sia_pool.specs.View.{with_back, IsNext};
+ghost use Rattle.sia_pool.specs.Threads.{with_back, IsNext};
 ghost use Rattle.sia_pool.specs.Line.{IsLine};
 ghost use Rattle.sia_pool.specs.Answers.{lists_of};
 

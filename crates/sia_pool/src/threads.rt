@@ -49,13 +49,7 @@ pub(crate) fn run_all<
     J: Job<Out = Out> + Sync,
     G: Gate + Sync,
     R: Threads + Wait + Sync,
->(
-    rt: &R,
-    alloc: Global,
-    mut takers: Vec<Taker>,
-    job: &J,
-    gate: &G,
-) -> Result<Worked<Out>, NoMemory>
+>(rt: &R, alloc: Global, mut takers: Vec<Taker>, job: &J, gate: &G) -> Result<Worked<Out>, NoMemory>
     requires ready { IsReady takers.items }
     requires takes { (p : ℕ) → p < count_of takers.items → J.takes job.now p }
     ensures { IfOk result (λ r. AllDone (J.owes job.now) takers.items r.taker r.answers.items) }

@@ -3,7 +3,7 @@ use Rattle.std.proofs.lemmas.Iterator.{items_from_collect, YieldsList-from_map}
 use Rattle.std.proofs.lemmas.Iterator.Adapters.{YieldsList-from_vec}
 use Rattle.std.proofs.lemmas.Iterator.Consumers.{YieldsList-at}
 use Rattle.std.proofs.lemmas.List.Sorted.{IsNonDecreasingBy-from_sort_by_key}
-use Rattle.sia_pool.specs.Answers.{IsInOrder}
+use Rattle.sia_pool.specs.Threads.{IsInOrder}
 use Rattle.sia_pool.proofs.ThreadLemmas.{ok_map}
 use Rattle.sia_pool.proofs.order.in_order.Goals as goal
 

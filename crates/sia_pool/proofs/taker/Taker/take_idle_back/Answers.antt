@@ -2,7 +2,7 @@ use Rattle.std.proofs.Common.{◌≡◌, ◌++◌, ◌∷◌, [], suc, length, a
 use Rattle.std.specs.Vec.Iter.{into_iter_items}
 use Rattle.sia_pool.specs.declared.view.View.{View}
 use Rattle.sia_pool.specs.Taker.{taker_view, taker_deque}
-use Rattle.sia_pool.specs.View.{with_back}
+use Rattle.sia_pool.specs.Threads.{with_back}
 use Rattle.sia_pool.specs.Line.{IsLine}
 use Rattle.sia_pool.proofs.LineLemmas.{line_same}
 use Rattle.sia_pool.proofs.FinishLemmas.{one_more_idle}

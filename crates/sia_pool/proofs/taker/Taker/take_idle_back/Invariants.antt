@@ -1,7 +1,7 @@
 use Rattle.std.proofs.Common.{◌≡◌, ℕ, suc, ◌+◌, [], length, replicate}
 use Rattle.std.specs.Vec.Iter.{into_iter_items}
 use Rattle.sia_pool.specs.Taker.{taker_view, taker_deque}
-use Rattle.sia_pool.specs.View.{with_back}
+use Rattle.sia_pool.specs.Threads.{with_back}
 use Rattle.sia_pool.specs.Line.{IsLine}
 use Rattle.sia_pool.proofs.taker.Taker.take_idle_back.Given as goal
 
