@@ -68,7 +68,10 @@ fn words_given<R: Env + Alloc<A = Global>>(rt: &R) -> std::io::Result<Vec<String
 /// The options that the program's words give, or the status where they give none, which is told.
 fn options_given<R: Env + Alloc<A = Global> + Print + Eprint>(rt: &R) -> Result<Options, u8> {
     match words_given(rt) {
-        Ok(words) => options_from(rt.alloc(), words.as_slice()).map_err(|fault| tell(rt, fault)),
+        Ok(words) => match options_from(rt.alloc(), words.as_slice()) {
+            Ok(options) => Ok(options),
+            Err(fault) => Err(tell(rt, fault)),
+        },
         Err(error) if error.kind() == ErrorKind::InvalidData => {
             Err(say(rt, "an argument is not UTF-8", LINE_REFUSED))
         }

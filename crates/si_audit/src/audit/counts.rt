@@ -9,13 +9,13 @@ use sia_events::{History, TxnId};
 use sia_index::{Fate, Index};
 
 /// The numbers of the report's first line.
-#[derive(Clone, Copy, Debug)]
-pub struct Counts {
-    pub events: u32,
-    pub committed: u32,
-    pub aborted: u32,
+#[derive(Clone, Copy)]
+pub(crate) struct Counts {
+    pub(crate) events: u32,
+    pub(crate) committed: u32,
+    pub(crate) aborted: u32,
     /// How many transactions are open.
-    pub unfinished: u32,
+    pub(crate) unfinished: u32,
 }
 
 /// The counts of a history.

@@ -19,15 +19,15 @@ use std::sync::Wait;
 use std::thread::Threads;
 
 /// All that the audit of a history found, but for its edges and its pivots.
-#[derive(Debug, Drop)]
-pub struct Judgement {
-    pub counts: Counts,
-    pub bad_reads: Vec<BadRead>,
-    pub bad_writes: Vec<BadWrite>,
-    pub unexplained: Vec<Unexplained>,
-    pub pass: bool,
-    pub serializable: bool,
-    pub verdict: Verdict,
+#[derive(Drop)]
+pub(crate) struct Judgement {
+    pub(crate) counts: Counts,
+    pub(crate) bad_reads: Vec<BadRead>,
+    pub(crate) bad_writes: Vec<BadWrite>,
+    pub(crate) unexplained: Vec<Unexplained>,
+    pub(crate) pass: bool,
+    pub(crate) serializable: bool,
+    pub(crate) verdict: Verdict,
 }
 
 /// Whether the verdict is an order and no read is unexplained.

@@ -12,7 +12,8 @@ ghost use Rattle.si_audit.specs.Reasons.{Gives, IsFirstSight, reader_of};
 
 use crate::explain::versions::Recorded;
 use sia_events::{History, NoMemory, TxnId, Version};
-use sia_index::{Fate, Index};
+use sia_index::Index;
+use sia_index::keyed::{By, ByTxn, place_above, place_from};
 use sia_parts::{Edge, Kind};
 use std::alloc::Global;
 
@@ -21,6 +22,14 @@ use std::alloc::Global;
 pub(crate) struct Act {
     pub(crate) txn: TxnId,
     pub(crate) place: u32,
+}
+
+impl By<Act> for ByTxn {
+    ghost by = { λ act. act.txn };
+
+    fn number(act: &Act) -> u64 {
+        u64::from(act.txn)
+    }
 }
 
 /// All events, by transaction and place.
@@ -47,9 +56,9 @@ fn acts_by(acts: &[Act], txn: TxnId) -> &[Act]
     ensures holds { (act : Act) → Contains result.now act ↔ (Contains acts.now act × (act.txn ≡ txn)) }
     ensures rise { RiseBy (λ act. act.txn) (λ act. act.place) result.now }
 {
-    let first = acts.partition_point(|act| act.txn < txn);
+    let first = place_from::<Act, ByTxn>(acts, u64::from(txn));
     let rest = &acts[first..];
-    let count = rest.partition_point(|act| act.txn <= txn);
+    let count = place_above::<Act, ByTxn>(rest, u64::from(txn));
     &rest[..count]
 }
 
@@ -58,12 +67,7 @@ pub(crate) fn commit_of(ix: &Index, txn: TxnId) -> Option<u32>
     ensures { MatchOption result (¬ IsCommitted ix.now txn) (CommitsAt ix.now txn) }
 {
     ix.law();
-    let info = ix.txn(txn)?;
-    match info.fate {
-        Fate::Committed => info.ended,
-        Fate::Aborted => None,
-        Fate::Unfinished => None,
-    }
+    ix.txn(txn)?.commit()
 }
 
 /// Whether the first committed before the second.

@@ -8,7 +8,8 @@ ghost use Rattle.si_audit.specs.Wanted.{TellsIf};
 
 use crate::audit::counts::Counts;
 use crate::explain::versions::Recorded;
-use crate::report::lines::{push_events, push_whether};
+use crate::report::lines::push_whether;
+use crate::report::words::{Words, number, push_line};
 use sia_events::NoMemory;
 use sia_parts::{BadRead, BadWrite, Unexplained};
 use std::alloc::AllocError;
@@ -61,7 +62,16 @@ fn push_head(
         ++ lines.events_line counts.now.events counts.now.committed counts.now.aborted counts.now.unfinished
         ++ lines.isolation_line (lines.is_empty bad_reads.now && lines.is_empty bad_writes.now)) }
 {
-    push_events(out, counts)?;
+    let words = [
+        number(counts.events),
+        Words::Text(b"committed"),
+        number(counts.committed),
+        Words::Text(b"aborted"),
+        number(counts.aborted),
+        Words::Text(b"open"),
+        number(counts.unfinished),
+    ];
+    push_line(out, b"events", &words)?;
     let kept = bad_reads.is_empty() && bad_writes.is_empty();
     push_whether(out, b"isolation", kept, b"kept", b"broken")?;
     Ok(())

@@ -3,7 +3,6 @@ ghost use Rattle.std.specs.Prelude.{◌≡◌, ◌++◌, ◌∷◌, [], if◌the
 ghost use Rattle.si_audit.specs.Lines as lines;
 ghost use Rattle.si_audit.specs.Spaced.{spaced};
 
-use crate::audit::counts::Counts;
 use crate::report::words::{Words, number, push_line, push_words, reason_words};
 use sia_events::TextFault;
 use sia_graph::{Step, Verdict};
@@ -22,23 +21,6 @@ pub(crate) fn push_refusal(out: &mut Vec<u8>, fault: &TextFault) -> Result<(), A
             push_line(out, b"refused: token", &[token, reason])
         }
     }
-}
-
-/// The numbers of events, and of committed, aborted and open transactions.
-pub(crate) fn push_events(out: &mut Vec<u8>, n: &Counts) -> Result<(), AllocError>
-    ensures { OnOk result (out.new.items ≡ out.old.items
-        ++ lines.events_line n.now.events n.now.committed n.now.aborted n.now.unfinished) }
-{
-    let words = [
-        number(n.events),
-        Words::Text(b"committed"),
-        number(n.committed),
-        Words::Text(b"aborted"),
-        number(n.aborted),
-        Words::Text(b"open"),
-        number(n.unfinished),
-    ];
-    push_line(out, b"events", &words)
 }
 
 /// Whether something holds, by the one word or by the other.
