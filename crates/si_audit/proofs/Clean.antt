@@ -82,12 +82,3 @@ kept_where h j is = (to, from)
       empty_list bad_read_rank (λ b. IsBadRead h b.place b.txn b.key b.saw b.due × ⊤) j.bad_reads.items is.bad_reads (λ b bad. e.reads b.place b.txn b.key b.saw b.due bad.0),
       empty_list bad_write_rank (λ b. IsBadWrite h b.key b.first b.second × ⊤) j.bad_writes.items is.bad_writes (λ b bad. e.writes b.key b.first b.second bad.0),
     )
-
--- no dangerous structure is told only where the test is passed, or isolation was not kept
-pub passes_where : (h : List Event) (j : Judgement) → IsJudgement h j → (told : Bool)
-    → ((j.pass ≡ false) × (j.bad_reads.items ≡ []) × (j.bad_writes.items ≡ []) → IsTrue told) → IsFalse told → IsolationKept h → NoFirst h
-passes_where h j is told shows quiet kept = by_pass j.pass refl
-  where
-    by_pass : (b : Bool) → j.pass ≡ b → NoFirst h
-    by_pass true e = (is.pass.0 e).1
-    by_pass false e = let empty = (kept_where h j is).1 kept in absurd (both_ways told quiet (shows (e, empty.0, empty.1)))

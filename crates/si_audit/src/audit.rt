@@ -5,3 +5,4 @@ pub(crate) mod finding;
 pub(crate) mod findings;
 pub(crate) mod judgement;
 pub(crate) mod make;
+pub(crate) mod recorded;

@@ -9,11 +9,11 @@ ghost use Rattle.si_audit.specs.Judgements.{IsJudgement};
 
 use crate::audit::counts::{Counts, counted};
 use crate::audit::finding::find;
+use crate::audit::recorded::Recorded;
 use crate::cli::options::Options;
-use sia_events::{History, NoMemory};
+use sia_events::NoMemory;
 use sia_graph::{Evidence, Verdict, passes, replay_law, settle_looks, ssi_law};
-use sia_index::Index;
-use sia_parts::{BadRead, BadWrite, Committed, Looks, Unexplained};
+use sia_parts::{BadRead, BadWrite, Looks, Unexplained};
 use std::alloc::Global;
 use std::sync::Wait;
 use std::thread::Threads;
@@ -30,6 +30,15 @@ pub(crate) struct Judgement {
     pub(crate) verdict: Verdict,
 }
 
+impl Judgement {
+    /// Whether isolation was kept.
+    pub(crate) fn is_kept(&self) -> bool
+        ensures { IsTrue result ↔ ((self.now.bad_reads.items ≡ []) × (self.now.bad_writes.items ≡ [])) }
+    {
+        self.bad_reads.is_empty() && self.bad_writes.is_empty()
+    }
+}
+
 /// Whether the verdict is an order and no read is unexplained.
 fn is_serializable(verdict: &Verdict, unexplained: &[Unexplained]) -> bool
     ensures { IsTrue result ↔ (IsOrderVerdict verdict.now × (unexplained.now ≡ [])) }
@@ -41,28 +50,26 @@ fn is_serializable(verdict: &Verdict, unexplained: &[Unexplained]) -> bool
 pub(crate) fn judged<R: Threads + Wait + Sync>(
     rt: &R,
     alloc: Global,
-    h: &History,
-    ix: &Index,
-    committed: &Committed,
+    of: &Recorded,
     o: &Options,
 ) -> Result<(Judgement, Looks), NoMemory>
-    requires index { ix.now ≡ h.now }
-    requires well_formed { IsWellFormed h.now }
-    requires committed { ListsAscending (IsCommitted ix.now) committed.now }
-    ensures exact { IfOk result (λ (j, looks). IsJudgement h.now j) }
+    requires index { of.now.index.now ≡ of.now.history.now }
+    requires well_formed { IsWellFormed of.now.history.now }
+    requires committed { ListsAscending (IsCommitted of.now.index.now) of.now.committed.now }
+    ensures exact { IfOk result (λ (j, looks). IsJudgement of.now.history.now j) }
     ensures pass { IfOk result (λ (j, looks). IsTrue j.pass → IsTrue j.serializable × IsOrderVerdict j.verdict) }
-    ensures looks { IfOk result (λ (j, looks). AreLooks ix.now (λ _. ⊤) looks) }
+    ensures looks { IfOk result (λ (j, looks). AreLooks of.now.index.now (λ _. ⊤) looks) }
 {
-    let found = find(rt, alloc, h, ix, committed, o)?;
+    let found = find(rt, alloc, of.history, of.index, of.committed, o)?;
     let evidence = Evidence {
-        index: ix,
-        txns: committed.ids(),
-        keys: ix.written_keys(),
+        index: of.index,
+        txns: of.committed.ids(),
+        keys: of.index.written_keys(),
         looks: &found.looks,
     };
-    let verdict = settle_looks(alloc, &evidence)?;
     let pass = passes(alloc, &evidence, &found.bad_reads, &found.bad_writes)?;
-    let counts = counted(h, ix);
+    let verdict = settle_looks(alloc, &evidence)?;
+    let counts = counted(of.history, of.index);
     let serializable = is_serializable(&verdict, &found.unexplained);
     replay_law();
     ssi_law();

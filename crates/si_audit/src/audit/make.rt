@@ -1,17 +1,18 @@
 // How a history is audited.
 ghost use Rattle.std.specs.Prelude.{◌≡◌, ⊤, IfOk, IsTrue};
 ghost use Rattle.sia_events.specs.Lists.{ListsAscending};
+ghost use Rattle.sia_events.specs.Refusals.{IsWellFormed};
 ghost use Rattle.sia_events.specs.Transactions.{IsCommitted};
 ghost use Rattle.sia_parts.specs.Findings.{ListsEdges};
 ghost use Rattle.sia_parts.specs.Looks.{AreLooks};
 ghost use Rattle.sia_graph.specs.Pivots.{ArePivots};
 ghost use Rattle.si_audit.specs.Accounts.{IsAccount};
 ghost use Rattle.si_audit.specs.Audits.{account_of, IsOrderVerdict};
-ghost use Rattle.si_audit.specs.Judgements.{account_with};
 
 use crate::audit::edges::{chunk_of, edges_of};
 use crate::audit::findings::Audit;
-use crate::audit::judgement::{Judgement, judged};
+use crate::audit::judgement::judged;
+use crate::audit::recorded::Recorded;
 use crate::cli::options::Options;
 use sia_events::{History, NoMemory};
 use sia_graph::{Pivot, pivots_of_links};
@@ -41,16 +42,26 @@ pub(crate) fn listed(
     Ok((edges, pivots))
 }
 
-/// The judgement with these edges and pivots.
-fn with_edges(j: Judgement, edges: Vec<Edge>, pivots: Vec<Pivot>) -> Audit
-    ensures { account_of result ≡ account_with j edges.items pivots.items }
+/// Audits a history by its index and by workers, and waits for them.
+fn audited<R: Threads + Wait + Sync>(
+    rt: &R,
+    alloc: Global,
+    of: &Recorded,
+    o: &Options,
+) -> Result<Audit, NoMemory>
+    requires index { of.now.index.now ≡ of.now.history.now }
+    requires well_formed { IsWellFormed of.now.history.now }
+    requires committed { ListsAscending (IsCommitted of.now.index.now) of.now.committed.now }
+    ensures exact { IfOk result (λ a. IsAccount of.now.history.now (account_of a)) }
+    ensures pass { IfOk result (λ a. IsTrue a.pass → IsTrue a.serializable × IsOrderVerdict a.verdict) }
 {
-    let counts = j.counts;
-    Audit {
-        events: counts.events,
-        committed: counts.committed,
-        aborted: counts.aborted,
-        unfinished: counts.unfinished,
+    let (j, looks) = judged(rt, alloc, of, o)?;
+    let (edges, pivots) = listed(alloc, of.index, of.committed, looks)?;
+    Ok(Audit {
+        events: j.counts.events,
+        committed: j.counts.committed,
+        aborted: j.counts.aborted,
+        unfinished: j.counts.unfinished,
         findings: Findings {
             bad_reads: j.bad_reads,
             bad_writes: j.bad_writes,
@@ -61,7 +72,7 @@ fn with_edges(j: Judgement, edges: Vec<Edge>, pivots: Vec<Pivot>) -> Audit
         pass: j.pass,
         serializable: j.serializable,
         verdict: j.verdict,
-    }
+    })
 }
 
 /// Audits a history by workers, and waits for them. What it answers depends on the history alone.
@@ -77,7 +88,10 @@ pub fn audit<R: Threads + Wait + Sync>(
     h.law();
     let ix = index(alloc, h)?;
     let committed = Committed::of(alloc, &ix)?;
-    let (judgement, looks) = judged(rt, alloc, h, &ix, &committed, o)?;
-    let (edges, pivots) = listed(alloc, &ix, &committed, looks)?;
-    Ok(with_edges(judgement, edges, pivots))
+    let of = Recorded {
+        history: h,
+        index: &ix,
+        committed: &committed,
+    };
+    audited(rt, alloc, &of, o)
 }

@@ -1,7 +1,5 @@
 //! The lines of the explained report of a history.
-ghost use Rattle.std.specs.Prelude.{◌≡◌, ◌↔◌, ◌++◌, ◌∷◌, ⊤, ℕ, false, List, [], IfOk, IsFalse, IsTrue, OnOk};
-ghost use Rattle.sia_events.specs.DangerousStructures.{NoFirst};
-ghost use Rattle.sia_events.specs.Isolation.{IsolationKept};
+ghost use Rattle.std.specs.Prelude.{◌≡◌, ◌++◌, ◌∷◌, ⊤, ℕ, List, IfOk, OnOk};
 ghost use Rattle.sia_events.specs.Lists.{ListsAscending};
 ghost use Rattle.sia_events.specs.Transactions.{IsCommitted};
 ghost use Rattle.sia_parts.specs.declared.finding.Kind.TheVariants.{Rw};
@@ -13,20 +11,18 @@ ghost use Rattle.si_audit.specs.Answering.{IsReportOf};
 ghost use Rattle.si_audit.specs.Explained.{TellsDanger, TellsVerdict, WithReasons, edges_round};
 ghost use Rattle.si_audit.specs.Judgements.{IsJudgement};
 ghost use Rattle.si_audit.specs.Lines as lines;
-ghost use Rattle.si_audit.specs.Sheets.{text_of};
 
 use crate::audit::judgement::Judgement;
+use crate::audit::recorded::Recorded;
 use crate::cli::form::Form;
 use crate::explain::sights::acts_of;
 use crate::explain::steps::push_steps;
-use crate::explain::versions::Recorded;
 use crate::report::found::push_front;
 use crate::report::lines::{push_verdict, push_whether};
 use crate::report::words::{Words, number, push_line};
-use sia_events::{History, Key, NoMemory, TxnId};
+use sia_events::{Key, NoMemory, TxnId};
 use sia_graph::{Evidence, Step, Verdict, dangerous_of, listing_law};
-use sia_index::Index;
-use sia_parts::{Committed, Edge, Kind, Looks};
+use sia_parts::{Edge, Kind, Looks};
 use std::alloc::Global;
 
 fn rw_edge(src: TxnId, dst: TxnId, key: Key) -> Edge
@@ -47,16 +43,18 @@ fn push_danger(
     out: &mut Vec<u8>,
     of: &Recorded,
     evidence: &Evidence,
-    fails: bool,
+    j: &Judgement,
 ) -> Result<(), NoMemory>
     requires index { of.now.index.now ≡ of.now.history.now }
     requires same { evidence.now.index.now ≡ of.now.history.now }
     requires evidence { IsEvidence evidence.now.index.now evidence.now.txns.now evidence.now.keys.now evidence.now.looks.now }
-    requires fails { IsTrue fails → IsolationKept evidence.now.index.now }
-    requires passes { IsFalse fails → IsolationKept of.now.history.now → NoFirst of.now.history.now }
+    requires judgement { IsJudgement of.now.history.now j.now }
     ensures { OnOk result ((bytes : List ℕ) × TellsDanger of.now.history.now bytes × (out.new.items ≡ out.old.items ++ bytes)) }
 {
-    if !fails {
+    if j.pass {
+        return Ok(());
+    }
+    if !j.is_kept() {
         return Ok(());
     }
     let Some(d) = dangerous_of(alloc, evidence)? else {
@@ -118,54 +116,38 @@ fn push_verdict_reasons(
     }
 }
 
-/// Whether a dangerous structure is told: isolation was kept, and the test fails.
-fn is_told(j: &Judgement) -> bool
-    ensures { IsTrue result ↔ ((j.now.pass ≡ false) × (j.now.bad_reads.items ≡ []) × (j.now.bad_writes.items ≡ [])) }
-{
-    !j.pass && j.bad_reads.is_empty() && j.bad_writes.is_empty()
-}
-
-/// The lines of the explained report, on one sheet.
-pub(crate) fn explained(
+/// The lines of the explained report.
+pub(crate) fn push_explained(
     alloc: Global,
-    h: &History,
-    ix: &Index,
-    committed: &Committed,
+    out: &mut Vec<u8>,
+    of: &Recorded,
     j: &Judgement,
     looks: &Looks,
-) -> Result<Vec<Vec<u8>>, NoMemory>
-    requires index { ix.now ≡ h.now }
-    requires committed { ListsAscending (IsCommitted ix.now) committed.now }
-    requires looks { AreLooks ix.now (λ _. ⊤) looks.now }
-    requires judgement { IsJudgement h.now j.now }
-    ensures { IfOk result (λ sheets. IsReportOf Form.Explained h.now (text_of sheets.items)) }
+) -> Result<(), NoMemory>
+    requires index { of.now.index.now ≡ of.now.history.now }
+    requires committed { ListsAscending (IsCommitted of.now.index.now) of.now.committed.now }
+    requires looks { AreLooks of.now.index.now (λ _. ⊤) looks.now }
+    requires judgement { IsJudgement of.now.history.now j.now }
+    ensures { OnOk result ((bytes : List ℕ) × IsReportOf Form.Explained of.now.history.now bytes × (out.new.items ≡ out.old.items ++ bytes)) }
 {
-    ix.law();
+    of.history.law();
     listing_law();
     let evidence = Evidence {
-        index: ix,
-        txns: committed.ids(),
-        keys: ix.written_keys(),
+        index: of.index,
+        txns: of.committed.ids(),
+        keys: of.index.written_keys(),
         looks,
     };
-    let of = Recorded {
-        history: h,
-        index: ix,
-    };
-    let mut out = Vec::new(alloc);
     push_front(
-        &mut out,
-        Some(&of),
+        out,
+        Some(of),
         &j.counts,
         &j.bad_reads,
         &j.bad_writes,
         &j.unexplained,
     )?;
-    push_whether(&mut out, b"ssi", j.pass, b"pass", b"fail")?;
-    push_danger(alloc, &mut out, &of, &evidence, is_told(j))?;
-    push_whether(&mut out, b"serializable", j.serializable, b"yes", b"no")?;
-    push_verdict_reasons(alloc, &mut out, &of, &j.verdict)?;
-    let mut sheets = Vec::new(alloc);
-    sheets.push(out)?;
-    Ok(sheets)
+    push_whether(out, b"ssi", j.pass, b"pass", b"fail")?;
+    push_danger(alloc, out, of, &evidence, j)?;
+    push_whether(out, b"serializable", j.serializable, b"yes", b"no")?;
+    push_verdict_reasons(alloc, out, of, &j.verdict)
 }

@@ -7,8 +7,8 @@ ghost use Rattle.sia_events.specs.Transactions.{StartsAt};
 ghost use Rattle.si_audit.specs.Reasons as reasons;
 ghost use Rattle.si_audit.specs.Wrong.{IsWrong};
 
+use crate::audit::recorded::Recorded;
 use crate::explain::sights::commit_of;
-use crate::explain::versions::Recorded;
 use sia_events::{Anomaly, Version};
 use sia_index::{Fate, Index};
 use sia_parts::BadRead;

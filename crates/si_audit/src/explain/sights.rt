@@ -10,7 +10,7 @@ ghost use Rattle.si_audit.specs.declared.explain.sights.Act.{Act};
 ghost use Rattle.si_audit.specs.Acts.{AreActs};
 ghost use Rattle.si_audit.specs.Reasons.{Gives, IsFirstSight, reader_of};
 
-use crate::explain::versions::Recorded;
+use crate::audit::recorded::Recorded;
 use sia_events::{History, NoMemory, TxnId, Version};
 use sia_index::Index;
 use sia_index::keyed::{By, ByTxn, place_above, place_from};

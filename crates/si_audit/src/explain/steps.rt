@@ -7,8 +7,9 @@ ghost use Rattle.si_audit.specs.Acts.{AreActs};
 ghost use Rattle.si_audit.specs.Explained.{TellsAll};
 ghost use Rattle.si_audit.specs.Reasons.{TellsEvents, TellsSight, TellsStep, untold_of};
 
+use crate::audit::recorded::Recorded;
 use crate::explain::sights::{Act, first_sight};
-use crate::explain::versions::{Recorded, push_event, push_unless, push_version};
+use crate::explain::versions::{push_event, push_unless, push_version};
 use crate::report::words::{kind_word, push_number};
 use sia_events::{NoMemory, Version};
 use sia_parts::{Edge, Kind};

@@ -3,16 +3,9 @@ ghost use Rattle.std.specs.Prelude.{◌≡◌, ◌≢◌, ◌++◌, ℕ, List, O
 ghost use Rattle.sia_events.specs.Transactions.{Wrote};
 ghost use Rattle.si_audit.specs.Reasons.{TellsUnless, TellsVersion, event_words, start_words};
 
+use crate::audit::recorded::Recorded;
 use crate::report::words::push_number;
 use sia_events::{History, Key, NoMemory, TxnId, Version};
-use sia_index::Index;
-
-/// What reasons are told from.
-#[derive(Clone, Copy)]
-pub(crate) struct Recorded<'a> {
-    pub(crate) history: &'a History,
-    pub(crate) index: &'a Index,
-}
 
 /// The event at a place, as far as it is about the key.
 pub(crate) fn push_event(

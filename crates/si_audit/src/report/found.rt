@@ -7,7 +7,7 @@ ghost use Rattle.si_audit.specs.Reasons.{TellsBadRead, TellsBadWrite, TellsUnexp
 ghost use Rattle.si_audit.specs.Wanted.{TellsIf};
 
 use crate::audit::counts::Counts;
-use crate::explain::versions::Recorded;
+use crate::audit::recorded::Recorded;
 use crate::report::lines::push_whether;
 use crate::report::words::{Words, number, push_line};
 use sia_events::NoMemory;

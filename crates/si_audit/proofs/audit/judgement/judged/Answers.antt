@@ -17,7 +17,7 @@ settle_looks-requires g c = record {
 
 pub returns-clause-exact : goal.returns-clause-exact
 returns-clause-exact g c =
-    let h = c.args.h.now in
+    let h = c.args.of.now.history.now in
     let wf = c.requires.well_formed in
     let is = c.in_ok-found.ensures in
     let verdict = c.in_ok-verdict.verdict in
@@ -34,7 +34,7 @@ returns-clause-exact g c =
 
 pub returns-clause-pass : goal.returns-clause-pass
 returns-clause-pass g c =
-    let h = c.args.h.now in
+    let h = c.args.of.now.history.now in
     let wf = c.requires.well_formed in
     let verdict = c.in_ok-verdict.verdict in
     let verdict_is = subst (λ i. IsVerdict (IsCommitted i) (IsEdge i) verdict) c.requires.index c.in_ok-verdict.ensures in

@@ -1,5 +1,6 @@
 use Rattle.std.proofs.Common.{◌≡◌, ℕ, List, inl, inr, [], ◌∷◌, ◌++◌, ◌∙◌, codes, refl, subst, sym, append-nil}
 use Rattle.std.specs.Prelude.{MatchOption}
+use Rattle.std.proofs.lemmas.Bool.{both_ways}
 use Rattle.std.proofs.lemmas.List.Elements.{All-cons, All-nil}
 use Rattle.sia_events.specs.DangerousStructures.{NoFirst}
 use Rattle.sia_events.specs.Isolation.{IsolationKept}
@@ -10,12 +11,22 @@ use Rattle.sia_graph.specs.Dangerous.{IsDangerous}
 use Rattle.si_audit.specs.Explained.{TellsAll, dangerous_edges, dangerous_line}
 use Rattle.si_audit.specs.Lines.{line, edge_word}
 use Rattle.si_audit.specs.Reasons.{TellsStep}
+use Rattle.si_audit.proofs.Clean.{kept_where}
 use Rattle.si_audit.proofs.Results.{ok_map}
 use Rattle.si_audit.proofs.Telling.{IsToldBehind, with_reasons}
 use Rattle.si_audit.proofs.explain.explaining.push_danger.Goals as goal
 
-pub returns-then-not-fails : goal.returns-then-not-fails
-returns-then-not-fails c = ([], inl (c.requires.passes c.if-not-fails.true, refl), sym (append-nil c.args.out.now.items))
+pub returns-then-j : goal.returns-then-j
+returns-then-j c = ([], inl ((λ kept. (c.requires.judgement.pass.0 c.if-j.true).1), refl), sym (append-nil c.args.out.now.items))
+
+pub returns-then-not-is_kept : goal.returns-then-not-is_kept
+returns-then-not-is_kept c =
+    let same = kept_where c.args.of.now.history.now c.args.j.now c.requires.judgement in
+    ([], inl ((λ kept. absurd (both_ways _ c.if-not-is_kept.true (c.is_kept.ensures.1 (same.1 kept)))), refl), sym (append-nil c.args.out.now.items))
+
+pub dangerous_of-requires-clause-kept : goal.dangerous_of-requires-clause-kept
+dangerous_of-requires-clause-kept c =
+    subst IsolationKept (sym c.requires.same) ((kept_where c.args.of.now.history.now c.args.j.now c.requires.judgement).0 (c.is_kept.ensures.0 c.if-not-is_kept.false))
 
 pub returns-in_default : goal.returns-in_default
 returns-in_default c =
@@ -38,7 +49,7 @@ returns c =
     let h = c.args.of.now.history.now in
     let d = c.in-Some.d in
     let is : IsDangerous g d = subst (λ o. MatchOption o (NoFirst g) (IsDangerous g)) c.in-Some.is c.in_ok-d.ensures in
-    let kept = subst IsolationKept c.requires.same (c.requires.fails c.if-not-fails.false) in
+    let kept = (kept_where h c.args.j.now c.requires.judgement).0 (c.is_kept.ensures.0 c.if-not-is_kept.false) in
     let o = c.args.out.now.items in
     let told = λ (es : List Edge) (m n : List ℕ). IsToldBehind (TellsAll (TellsStep h) es) m n in
     let behind : Edge = record { src = d.pivot; kind = Rw; dst = d.last; key = d.last_key } in

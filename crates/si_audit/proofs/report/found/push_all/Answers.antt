@@ -1,6 +1,6 @@
 use Rattle.std.proofs.Common.{Option, Bor, subst, sym}
 use Rattle.std.specs.Prelude.{All, IfSome}
-use Rattle.si_audit.specs.declared.explain.versions.Recorded.{Recorded}
+use Rattle.si_audit.specs.declared.audit.recorded.Recorded.{Recorded}
 use Rattle.si_audit.specs.Explained.{WithReasons}
 use Rattle.si_audit.specs.Wanted.{TellsIf}
 use Rattle.si_audit.proofs.Telling.{next_item_told, told_if_none, told_if_some, told_none, with_reasons}
