@@ -40,10 +40,8 @@ impl Finding for BadRead {
         let name = anomaly_of(of, self, info.start);
         out.extend_from_slice(b"  ")?;
         out.extend_from_slice(anomaly_words(name))?;
-        out.extend_from_slice(b": ")?;
-        push_event(out, of.history, self.key, self.place)?;
-        out.extend_from_slice(b"; ")?;
-        push_start(out, self.txn, info.start)?;
+        push_event(out, b": ", of.history, self.key, self.place)?;
+        push_start(out, b"; ", self.txn, info.start)?;
         out.extend_from_slice(b"\n")?;
         push_unless(out, of, self.key, self.saw, 0, (b"  saw: ", b"\n"))?;
         push_unless(out, of, self.key, self.due, 0, (b"  due: ", b"\n"))?;
@@ -71,12 +69,9 @@ impl Finding for BadWrite {
         let Some(info) = of.index.txn(self.second) else {
             return Ok(());
         };
-        out.extend_from_slice(b"  both write and overlap: ")?;
-        push_start(out, self.second, info.start)?;
-        out.extend_from_slice(b"; ")?;
-        push_version(out, of, self.key, self.first)?;
-        out.extend_from_slice(b"; ")?;
-        push_version(out, of, self.key, self.second)?;
+        push_start(out, b"  both write and overlap: ", self.second, info.start)?;
+        push_version(out, b"; ", of, self.key, self.first)?;
+        push_version(out, b"; ", of, self.key, self.second)?;
         out.extend_from_slice(b"\n")?;
         Ok(())
     }

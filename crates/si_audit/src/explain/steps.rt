@@ -24,18 +24,24 @@ fn untold_of_edge(e: &Edge) -> Version
     }
 }
 
-/// The first read at which a version was seen that gives the edge, and this version.
-fn push_sight(out: &mut Vec<u8>, of: &Recorded, acts: &[Act], e: &Edge) -> Result<(), NoMemory>
+/// Some words, the first read at which a version was seen that gives the edge, and this version.
+fn push_sight(
+    out: &mut Vec<u8>,
+    before: &[u8],
+    of: &Recorded,
+    acts: &[Act],
+    e: &Edge,
+) -> Result<(), NoMemory>
     requires index { of.now.index.now ≡ of.now.history.now }
     requires acts { AreActs of.now.history.now acts.now }
     requires edge { IsEdge of.now.history.now e.now }
     requires read { e.now.kind ≢ Ww }
-    ensures { OnOk result ((words : List ℕ) × TellsSight of.now.history.now e.now words × (out.new.items ≡ out.old.items ++ words)) }
+    ensures { OnOk result ((words : List ℕ) × TellsSight of.now.history.now e.now words × (out.new.items ≡ out.old.items ++ before.now ++ words)) }
 {
     let Some(sight) = first_sight(of, acts, e) else {
         return Ok(());
     };
-    push_event(out, of.history, e.key, sight.place)?;
+    push_event(out, before, of.history, e.key, sight.place)?;
     let known = untold_of_edge(e);
     push_unless(out, of, e.key, sight.version, known, (b"; ", b""))?;
     Ok(())
@@ -50,19 +56,16 @@ fn push_events(out: &mut Vec<u8>, of: &Recorded, acts: &[Act], e: &Edge) -> Resu
 {
     match e.kind {
         Kind::Ww => {
-            push_version(out, of, e.key, e.src)?;
-            out.extend_from_slice(b"; ")?;
-            push_version(out, of, e.key, e.dst)?;
+            push_version(out, b"", of, e.key, e.src)?;
+            push_version(out, b"; ", of, e.key, e.dst)?;
         }
         Kind::Wr => {
-            push_version(out, of, e.key, e.src)?;
-            out.extend_from_slice(b"; ")?;
-            push_sight(out, of, acts, e)?;
+            push_version(out, b"", of, e.key, e.src)?;
+            push_sight(out, b"; ", of, acts, e)?;
         }
         Kind::Rw => {
-            push_sight(out, of, acts, e)?;
-            out.extend_from_slice(b"; ")?;
-            push_version(out, of, e.key, e.dst)?;
+            push_sight(out, b"", of, acts, e)?;
+            push_version(out, b"; ", of, e.key, e.dst)?;
         }
     }
     Ok(())

@@ -7,24 +7,32 @@ use crate::audit::recorded::Recorded;
 use crate::report::words::push_number;
 use sia_events::{History, Key, NoMemory, TxnId, Version};
 
-/// The event at a place, as far as it is about the key.
+/// Some words, and the event at a place, as far as it is about the key.
 pub(crate) fn push_event(
     out: &mut Vec<u8>,
+    before: &[u8],
     h: &History,
     key: Key,
     place: u32,
 ) -> Result<(), NoMemory>
-    ensures { OnOk result (out.new.items ≡ out.old.items ++ event_words h.now key place) }
+    ensures { OnOk result (out.new.items ≡ out.old.items ++ before.now ++ event_words h.now key place) }
 {
+    out.extend_from_slice(before)?;
     push_number(out, b"event ", u64::from(place), b" ")?;
     h.push_about(out, place, key)?;
     Ok(())
 }
 
-/// When the transaction started.
-pub(crate) fn push_start(out: &mut Vec<u8>, txn: TxnId, start: u32) -> Result<(), NoMemory>
-    ensures { OnOk result (out.new.items ≡ out.old.items ++ start_words txn start) }
+/// Some words, and when the transaction started.
+pub(crate) fn push_start(
+    out: &mut Vec<u8>,
+    before: &[u8],
+    txn: TxnId,
+    start: u32,
+) -> Result<(), NoMemory>
+    ensures { OnOk result (out.new.items ≡ out.old.items ++ before.now ++ start_words txn start) }
 {
+    out.extend_from_slice(before)?;
     push_number(
         out,
         b"transaction ",
@@ -35,25 +43,25 @@ pub(crate) fn push_start(out: &mut Vec<u8>, txn: TxnId, start: u32) -> Result<()
     Ok(())
 }
 
-/// Where the transaction first wrote the key, and where it ended if it did.
+/// Some words, where the transaction first wrote the key, and where it ended if it did.
 pub(crate) fn push_version(
     out: &mut Vec<u8>,
+    before: &[u8],
     of: &Recorded,
     key: Key,
     version: Version,
 ) -> Result<(), NoMemory>
     requires index { of.now.index.now ≡ of.now.history.now }
     requires wrote { Wrote of.now.history.now version key }
-    ensures { OnOk result ((words : List ℕ) × TellsVersion of.now.history.now key version words × (out.new.items ≡ out.old.items ++ words)) }
+    ensures { OnOk result ((words : List ℕ) × TellsVersion of.now.history.now key version words × (out.new.items ≡ out.old.items ++ before.now ++ words)) }
 {
     let (Some(write), Some(info)) = (of.index.first_write(version, key), of.index.txn(version))
     else {
         return Ok(());
     };
-    push_event(out, of.history, key, write)?;
+    push_event(out, before, of.history, key, write)?;
     if let Some(end) = info.ended {
-        out.extend_from_slice(b", ")?;
-        push_event(out, of.history, key, end)?;
+        push_event(out, b", ", of.history, key, end)?;
     }
     Ok(())
 }
@@ -74,8 +82,7 @@ pub(crate) fn push_unless(
     if version == known {
         return Ok(());
     }
-    out.extend_from_slice(around.0)?;
-    push_version(out, of, key, version)?;
+    push_version(out, around.0, of, key, version)?;
     out.extend_from_slice(around.1)?;
     Ok(())
 }

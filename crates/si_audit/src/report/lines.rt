@@ -51,25 +51,17 @@ fn push_cycle(out: &mut Vec<u8>, steps: &[Step]) -> Result<(), AllocError>
 {
     out.extend_from_slice(b"cycle")?;
     push_steps(out, steps)?;
-    push_home(out, steps)?;
     out.extend_from_slice(b"\n")?;
     Ok(())
 }
 
-/// The transactions of a cycle, each with the edge from it to the next.
+/// The transactions of a cycle, each with the edge from it to the next, and the first one, where it comes again.
 fn push_steps(out: &mut Vec<u8>, steps: &[Step]) -> Result<(), AllocError>
-    ensures { OnOk result (out.new.items ≡ out.old.items ++ flat_map (λ s. spaced (lines.step_words s)) steps.now) }
+    ensures { OnOk result (out.new.items ≡ out.old.items ++ flat_map (λ s. spaced (lines.step_words s)) steps.now ++ spaced (lines.home_word steps.now)) }
 {
     for s in steps {
         push_words(out, &[number(s.txn), Words::Edge(s.kind, s.key)])?;
     }
-    Ok(())
-}
-
-/// The first transaction of a cycle, where it comes again.
-fn push_home(out: &mut Vec<u8>, steps: &[Step]) -> Result<(), AllocError>
-    ensures { OnOk result (out.new.items ≡ out.old.items ++ spaced (lines.home_word steps.now)) }
-{
     match steps.first() {
         None => Ok(()),
         Some(first) => push_words(out, &[number(first.txn)]),

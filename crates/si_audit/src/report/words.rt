@@ -59,7 +59,12 @@ pub(crate) fn push_words(out: &mut Vec<u8>, words: &[Words]) -> Result<(), Alloc
                 push_number(out, b":", *key, b">")?;
             }
             Words::Numbers(numbers) => push_numbers(out, numbers)?,
-            Words::Firsts(firsts) => push_firsts(out, firsts)?,
+            Words::Firsts(firsts) => {
+                if !firsts.is_empty() {
+                    out.extend_from_slice(b" first")?;
+                }
+                push_numbers(out, firsts)?;
+            }
         }
     }
     Ok(())
@@ -87,17 +92,6 @@ fn push_numbers(out: &mut Vec<u8>, numbers: &[TxnId]) -> Result<(), AllocError>
     for n in numbers {
         push_number(out, b" ", u64::from(*n), b"")?;
     }
-    Ok(())
-}
-
-fn push_firsts(out: &mut Vec<u8>, firsts: &[TxnId]) -> Result<(), AllocError>
-    ensures { OnOk result (out.new.items ≡ out.old.items ++ spaced (lines.first_words firsts.now)) }
-{
-    if firsts.is_empty() {
-        return Ok(());
-    }
-    out.extend_from_slice(b" first")?;
-    push_numbers(out, firsts)?;
     Ok(())
 }
 

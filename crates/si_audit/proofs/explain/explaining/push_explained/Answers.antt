@@ -42,19 +42,23 @@ returns c =
     ok_map _ _ c.push_verdict_reasons.result
     (λ x verdict. (
       _,
-      (account_with j edges.0 pivots.0, account_is h j c.requires.judgement edges.0 edges.1 pivots.0 pivots.1, (
-        told.0,
-        told.1,
-        told.2,
-        danger.0,
-        verdict.0,
-        subst (λ xs. TellsAll (WithReasons lines.bad_read_line (TellsBadRead h)) xs told.0) reads told.3,
-        subst (λ xs. TellsAll (WithReasons lines.bad_write_line (TellsBadWrite h)) xs told.1) writes told.4,
-        subst (λ xs. TellsAll (WithReasons lines.unexplained_line (TellsUnexplained h)) xs told.2) c.deref-3.ensures.value told.5,
-        danger.1,
-        verdict.1,
-        refl,
-      )),
+      (
+        account_with j edges.0 pivots.0,
+        account_is h j c.requires.judgement edges.0 edges.1 pivots.0 pivots.1,
+        (
+          told.0,
+          told.1,
+          told.2,
+          danger.0,
+          verdict.0,
+          subst (λ xs. TellsAll (WithReasons lines.bad_read_line (TellsBadRead h)) xs told.0) reads told.3,
+          subst (λ xs. TellsAll (WithReasons lines.bad_write_line (TellsBadWrite h)) xs told.1) writes told.4,
+          subst (λ xs. TellsAll (WithReasons lines.unexplained_line (TellsUnexplained h)) xs told.2) c.deref-3.ensures.value told.5,
+          danger.1,
+          verdict.1,
+          refl,
+        ),
+      ),
       explained_pushed o _ _ _ _ _ _ _ _ _ _ _ _ _ _ front c.in_ok-push_whether.ensures danger.2 c.in_ok-push_whether-2.ensures verdict.2,
     ))
     c.push_verdict_reasons.ensures

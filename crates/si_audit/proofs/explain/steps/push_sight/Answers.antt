@@ -24,5 +24,5 @@ returns c =
         subst (λ known. TellsUnless known h (codes "; ") k sight.version [] version.0) c.untold_of_edge-known.ensures version.1,
         refl,
       ),
-      behind c.args.out.now.items _ _ (event_words h k sight.place) version.0 c.in_ok-push_event.ensures version.2,
+      behind (c.args.out.now.items ++ c.args.before.now) _ _ (event_words h k sight.place) version.0 c.in_ok-push_event.ensures version.2,
     )

@@ -27,13 +27,11 @@ returns c =
     let saw = c.in_ok-push_unless.ensures in
     let due = c.in_ok-push_unless-2.ensures in
     let known = c.in-Some.ensures in
-    let line : c.extend_from_slice-5.new.self.items ≡ c.args.out.now.items ++ reason (anomaly_words name ++ codes ": " ++ event_words h b.key b.place ++ codes "; " ++ start_words b.txn s) =
+    let line : c.extend_from_slice-3.new.self.items ≡ c.args.out.now.items ++ reason (anomaly_words name ++ codes ": " ++ event_words h b.key b.place ++ codes "; " ++ start_words b.txn s) =
     rw (
-      c.in_ok-extend_from_slice-5.ensures.items,
-      c.in_ok-push_start.ensures,
-      c.in_ok-extend_from_slice-4.ensures.items,
-      c.in_ok-push_event.ensures,
       c.in_ok-extend_from_slice-3.ensures.items,
+      c.in_ok-push_start.ensures,
+      c.in_ok-push_event.ensures,
       c.in_ok-extend_from_slice-2.ensures.items,
       c.anomaly_words.ensures,
       c.in_ok-extend_from_slice.ensures.items,

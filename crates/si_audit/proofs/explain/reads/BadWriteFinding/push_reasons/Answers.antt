@@ -21,12 +21,9 @@ returns c =
       reason (codes "both write and overlap: " ++ start_words b.second s ++ codes "; " ++ first.0 ++ codes "; " ++ second.0),
       (s, first.0, second.0, subst (λ h. StartsAt h b.second s) c.requires.index known.0, first.1, second.1, refl),
       rw (
-        c.in_ok-extend_from_slice-4.ensures.items,
-        second.2,
-        c.in_ok-extend_from_slice-3.ensures.items,
-        first.2,
-        c.in_ok-extend_from_slice-2.ensures.items,
-        c.in_ok-push_start.ensures,
         c.in_ok-extend_from_slice.ensures.items,
+        second.2,
+        first.2,
+        c.in_ok-push_start.ensures,
       ) (two_things c.args.out.now.items (codes "  ") (codes "both write and overlap: ") (start_words b.second s) (codes "; ") first.0 second.0 (codes "\n")),
     )
