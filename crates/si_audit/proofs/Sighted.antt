@@ -7,8 +7,12 @@ use Rattle.std.proofs.lemmas.List.Elements.{All-contains, Contains-get_or}
 use Rattle.sia_events.specs.declared.event.Event.{Event}
 use Rattle.sia_events.specs.Events.{actor, Saw}
 use Rattle.sia_events.specs.Places.{at_place}
+use Rattle.sia_events.specs.Dependencies.{RwEdge, WrEdge}
 use Rattle.sia_events.specs.Reads.{SawAt}
 use Rattle.sia_events.specs.Refusals.{IsWellFormed}
+use Rattle.sia_events.specs.Transactions.{CommitsBefore, Wrote}
+use Rattle.sia_events.specs.declared.event.Event.TheVariants.{Commit, Write}
+use Rattle.sia_events.proofs.Seen.{actor_is_txn}
 use Rattle.sia_events.proofs.Ranges.{one_version}
 use Rattle.sia_parts.specs.declared.finding.Edge.{Edge}
 use Rattle.sia_parts.specs.declared.finding.Kind.{Kind}
@@ -78,3 +82,36 @@ seen_by_kind Rw h t u k edge other = (edge.3, edge.4, edge.5, (edge.6, edge.7, e
 -- an edge that comes of a read has a sight that gives it
 pub edge_is_seen : (h : List Event) (e : Edge) → IsEdge h e → e.kind ≢ Ww → ¬ ((p v : ℕ) → SawAt h p (reader_of e.kind e.src e.dst) e.key v → ¬ Gives e.kind h e.src e.dst e.key v)
 edge_is_seen h e edge other none = let s = seen_by_kind e.kind h e.src e.dst e.key edge other in none s.0 s.1 s.2 s.3
+
+-- a version of the reader's own gives no edge
+pub own_gives_none : (kind : Kind) (h : List Event) (t u k v : ℕ) → v ≡ reader_of kind t u → ¬ Gives kind h t u k v
+own_gives_none Ww h t u k v own given = given
+own_gives_none Wr h t u k v own given = given.1 own
+own_gives_none Rw h t u k v own given = given.1 own
+
+module _ (h : List Event) (wf : IsWellFormed h) (t u k v : ℕ) (written : v ≢ 0 → Wrote h v k) where
+  -- a version of a writer that isn't the edge's own source gives the wr edge where it is a later one
+  pub wr_given : WrEdge h t u k → v ≢ u → v ≢ t → CommitsBefore h t v ↔ Gives Wr h t u k v
+  wr_given edge other later = (
+    (λ before.
+        let some : 0 < v = (actor_is_txn h wf v before.1 (Commit v, before.3, refl)).0 in
+        ((before.1, before.3), other, inr (inr (edge.1.0, written (λ e. omega arith), before)))),
+    (λ given. elim given.2 [
+      | inl same ↦ absurd (later (sym same))
+      | inr after ↦ elim after [
+        | inl none ↦
+            let wrote = edge.1.0 in
+            let some : 0 < t = (actor_is_txn h wf t wrote.0 (Write t k, wrote.1, refl)).0 in
+            let e = none.0 in
+            absurd (omega arith)
+        | inr then ↦ then.2
+      ]
+    ]),
+  )
+
+  -- and one that was written gives the rw edge where it is an earlier one
+  pub rw_given : RwEdge h t u k → v ≢ t → v ≢ 0 → CommitsBefore h v u ↔ Gives Rw h t u k v
+  rw_given edge other some = (
+    (λ before. (inr (before.0, before.2), other, inr (written some, edge.2.0, before))),
+    (λ given. elim given.2 [ inl none ↦ absurd (some none.0) | inr then ↦ then.2 ]),
+  )

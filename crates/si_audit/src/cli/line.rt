@@ -1,11 +1,11 @@
 //! The command line: how many workers share the parts of the keys, where the keys are cut, the form of the report, and the
 //! level that the status tells of.
-ghost use Rattle.std.specs.Prelude.{◌≡◌, ◌≢◌, ◌<◌, ◌≤◌, false, Err, IfErr, IfOk, None, Some, map, string_bytes};
+ghost use Rattle.std.specs.Prelude.{◌≡◌, ◌≢◌, ◌<◌, ◌≤◌, ◌∷◌, [], false, Err, IfErr, IfOk, None, Some, map, string_bytes};
 ghost use Rattle.clap.specs.Words.{IsUnsignedIn, app_of, found_of, kind_of, new_rule, rows_of, rule_of};
-ghost use Rattle.clap.specs.declared.builder.action.ArgAction.TheVariants.{Count};
+ghost use Rattle.clap.specs.declared.builder.action.ArgAction.TheVariants.{Count, Set};
 ghost use Rattle.clap.specs.declared.error.kind.ErrorKind.TheVariants.{OutOfMemory};
 ghost use Rattle.si_audit.specs.LineAnswers.{HasNumbers, IsOwed, GivesOptions, StandsInTheWay, cuts_among, form_among, level_among, workers_among};
-ghost use Rattle.si_audit.specs.Words.{AreChosen, ChooseNoLevel, ChooseTooManyCuts, check_rule, cuts_rule, level_named as named, number_in, program, workers_rule};
+ghost use Rattle.si_audit.specs.Words.{AreChosen, ChooseNoLevel, ChooseTooManyCuts, cuts_rule, level_named as named, number_in, program, workers_rule};
 
 use crate::cli::form::Form;
 use crate::cli::level::Level;
@@ -29,6 +29,10 @@ const FILE_HINT: &str = "A history is read from standard input: si_audit <FILE\n
 const BRIEF_HELP: &str = "Leaves out the lines of edges and pivots";
 
 const EXPLAIN_HELP: &str = "The brief report with reasons: the events that show each finding";
+
+const WORKERS_HELP: &str = "How many workers audit the parts, from 1 to 64";
+
+const CHECK_HELP: &str = "What status 0 says was kept: serializable, ssi or si";
 
 const MORE_HELP: &str =
     "The keys are cut into parts, which the workers audit side by side. Without a
@@ -106,7 +110,26 @@ fn command<'a>(alloc: Global) -> Result<Command<'a>, AllocError>
         .arg(cuts_argument(alloc))?
         .arg(flag(alloc, "brief", BRIEF_HELP))?
         .arg(flag(alloc, "explain", EXPLAIN_HELP))?
-        .arg(check_option(alloc))
+        .arg(option(alloc, "check", "LEVEL", "serializable", CHECK_HELP))
+}
+
+/// An option with a value, which is the usual one where the words don't have the option.
+fn option<'a>(
+    alloc: Global,
+    name: &'a str,
+    value: &'a str,
+    usual: &'a str,
+    help: &'a str,
+) -> Arg<'a>
+    ensures rule { rule_of result ≡ record (new_rule name.now) { long = Some name.now; action = Some Set; value_names = 1; defaults = usual.now ∷ [] } }
+    ensures local { result.global ≡ false }
+{
+    Arg::new(alloc, name)
+        .long(name)
+        .value_name(value)
+        .action(ArgAction::Set)
+        .default_value(usual)
+        .help(help)
 }
 
 /// The option that says how many workers there are.
@@ -114,13 +137,7 @@ fn workers_option<'a>(alloc: Global) -> Arg<'a>
     ensures rule { rule_of result ≡ workers_rule }
     ensures local { result.global ≡ false }
 {
-    Arg::new(alloc, "workers")
-        .long("workers")
-        .value_name("N")
-        .action(ArgAction::Set)
-        .value_parser(ValueParser::Unsigned(1, 64))
-        .default_value("4")
-        .help("How many workers audit the parts, from 1 to 64")
+    option(alloc, "workers", "N", "4", WORKERS_HELP).value_parser(ValueParser::Unsigned(1, 64))
 }
 
 /// The argument that takes the cuts.
@@ -144,19 +161,6 @@ fn flag<'a>(alloc: Global, name: &'a str, help: &'a str) -> Arg<'a>
         .long(name)
         .action(ArgAction::Count)
         .help(help)
-}
-
-/// The option that names the level.
-fn check_option<'a>(alloc: Global) -> Arg<'a>
-    ensures rule { rule_of result ≡ check_rule }
-    ensures local { result.global ≡ false }
-{
-    Arg::new(alloc, "check")
-        .long("check")
-        .value_name("LEVEL")
-        .action(ArgAction::Set)
-        .default_value("serializable")
-        .help("What status 0 says was kept: serializable, ssi or si")
 }
 
 /// What the program says in place of options.
@@ -249,7 +253,7 @@ fn cuts_in(alloc: Global, matches: &ArgMatches<'_>) -> Result<Vec<Key>, AllocErr
     let Some(texts) = matches.get_strs("cut") else {
         return Ok(Vec::new(alloc));
     };
-    let mut cuts = Vec::with_capacity(alloc, texts.len())?;
+    let mut cuts = Vec::new(alloc);
     for text in texts {
         cuts.push(number(text))?;
     }

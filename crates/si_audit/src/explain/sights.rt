@@ -1,9 +1,7 @@
 //! Where a transaction first saw a version of a key that gives an edge.
-ghost use Rattle.std.specs.Prelude.{◌≡◌, ◌≢◌, ◌↔◌, ℕ, Contains, IfOk, IsTrue, MatchOption};
-ghost use Rattle.sia_events.specs.Dependencies.{IsCommittedWriter};
+ghost use Rattle.std.specs.Prelude.{◌≡◌, ◌↔◌, ℕ, Contains, IfOk, IsTrue, MatchOption};
 ghost use Rattle.sia_events.specs.Reads.{SawAt};
-ghost use Rattle.sia_events.specs.Transactions.{CommitsAt, CommitsBefore, IsCommitted, Wrote};
-ghost use Rattle.sia_parts.specs.declared.finding.Kind.TheVariants.{Rw, Wr};
+ghost use Rattle.sia_events.specs.Transactions.{CommitsAt, CommitsBefore, IsCommitted};
 ghost use Rattle.sia_parts.specs.Entries.{IsEdge};
 ghost use Rattle.sia_graph.specs.Grouped.{RiseBy};
 ghost use Rattle.si_audit.specs.declared.explain.sights.Act.{Act};
@@ -91,37 +89,6 @@ fn reader_of_edge(e: &Edge) -> TxnId
     }
 }
 
-/// Whether the version, seen by the target, gives a wr edge.
-fn gives_wr(ix: &Index, e: &Edge, version: Version) -> bool
-    requires wrote { Wrote ix.now e.now.src e.now.key }
-    requires seen { version ≢ 0 → Wrote ix.now version e.now.key }
-    ensures { IsTrue result ↔ Gives Wr ix.now e.now.src e.now.dst e.now.key version }
-{
-    ix.law();
-    if version == e.dst {
-        return false;
-    }
-    if version == e.src {
-        return commit_of(ix, version).is_some();
-    }
-    commits_before(ix, e.src, version)
-}
-
-/// Whether the version, seen by the source, gives a rw edge.
-fn gives_rw(ix: &Index, e: &Edge, version: Version) -> bool
-    requires wrote { IsCommittedWriter ix.now e.now.key e.now.dst }
-    requires seen { version ≢ 0 → Wrote ix.now version e.now.key }
-    ensures { IsTrue result ↔ Gives Rw ix.now e.now.src e.now.dst e.now.key version }
-{
-    if version == e.src {
-        return false;
-    }
-    if version == 0 {
-        return true;
-    }
-    commits_before(ix, version, e.dst)
-}
-
 /// Whether the version, seen by the one that reads, gives the edge.
 fn gives(ix: &Index, e: &Edge, version: Version) -> bool
     requires edge { IsEdge ix.now e.now }
@@ -129,10 +96,23 @@ fn gives(ix: &Index, e: &Edge, version: Version) -> bool
     ensures { IsTrue result ↔ Gives e.now.kind ix.now e.now.src e.now.dst e.now.key version }
 {
     ix.law();
+    if version == reader_of_edge(e) {
+        return false;
+    }
     match e.kind {
         Kind::Ww => false,
-        Kind::Wr => gives_wr(ix, e, version),
-        Kind::Rw => gives_rw(ix, e, version),
+        Kind::Wr => {
+            if version == e.src {
+                return true;
+            }
+            commits_before(ix, e.src, version)
+        }
+        Kind::Rw => {
+            if version == 0 {
+                return true;
+            }
+            commits_before(ix, version, e.dst)
+        }
     }
 }
 

@@ -31,7 +31,7 @@ fn parted(alloc: Global, made: Vec<Sheet>) -> Result<(Vec<Vec<u8>>, Vec<Link>), 
     ensures lines { IfOk result (λ (sheets, links). text_of sheets.items ≡ flat_map (λ s. s.lines.items) made.items) }
     ensures links { IfOk result (λ (sheets, links). links.items ≡ flat_map (λ s. s.links.items) made.items) }
 {
-    let mut sheets = Vec::with_capacity(alloc, made.len())?;
+    let mut sheets = Vec::new(alloc);
     let mut links = Vec::new(alloc);
     for sheet in made {
         links.extend_from_slice(&sheet.links)?;

@@ -18,4 +18,4 @@ returns c =
     c.in_ok-arg-3.ensures.shape c.flag.ensures.local ∙ ap₂ with_rule two_are c.flag.ensures.rule in
     let four_are : app_of c.in_ok-arg-4.field-0 ≡ with_rule (with_rule (with_rule (with_rule (with_version (new_app (codes "si_audit"))) workers_rule) cuts_rule) brief_rule) explain_rule =
     c.in_ok-arg-4.ensures.shape c.flag-2.ensures.local ∙ ap₂ with_rule three_are c.flag-2.ensures.rule in
-    IfOk-weaker c.arg-5.result _ _ (λ r added. added.shape c.check_option.ensures.local ∙ ap₂ with_rule four_are c.check_option.ensures.rule) c.arg-5.ensures
+    IfOk-weaker c.arg-5.result _ _ (λ r added. added.shape c.option.ensures.local ∙ ap₂ with_rule four_are c.option.ensures.rule) c.arg-5.ensures
