@@ -1,12 +1,9 @@
 // What is written of a text, and how its run ends.
-ghost use Rattle.std.specs.Prelude.{◌≡◌, ◌≢◌, ◌↔◌, ⊤, ℕ, List, IfOk, IsTrue};
+ghost use Rattle.std.specs.Prelude.{◌≡◌, ◌≢◌, ◌↔◌, ℕ, List, IfOk, IsTrue};
 ghost use Rattle.sia_events.specs.declared.event.Event.{Event};
-ghost use Rattle.sia_events.specs.Lists.{ListsAscending};
 ghost use Rattle.sia_events.specs.Locating.{StandsForLocated};
 ghost use Rattle.sia_events.specs.Refusals.{IsRefusal, IsWellFormed};
 ghost use Rattle.sia_events.specs.Streaming.{Progress, StandsForRead};
-ghost use Rattle.sia_events.specs.Transactions.{IsCommitted};
-ghost use Rattle.sia_parts.specs.Looks.{AreLooks};
 ghost use Rattle.sia_events.specs.declared.fault.TextFault.{TextFault};
 ghost use Rattle.si_audit.specs.declared.cli.form.Form.{Form};
 ghost use Rattle.si_audit.specs.Lines.{refusal_line};
@@ -22,16 +19,15 @@ use crate::audit::recorded::Recorded;
 use crate::cli::level::Level;
 use crate::cli::options::Options;
 use crate::engine::Outcome;
-use crate::explain::explaining::push_explained;
 use crate::explain::refused::push_place;
 use crate::io::input::Received;
 use crate::report::lines::push_refusal;
-use crate::report::listing::told;
-use crate::report::reporting::report_of;
+use crate::report::listing::sheets_of;
 use sia_events::{History, Locator, NoMemory, TextFault};
+use sia_index::Index;
 use sia_index::make::index;
-use sia_parts::{Committed, Looks};
-use std::alloc::{AllocError, Global};
+use sia_parts::Committed;
+use std::alloc::Global;
 use std::sync::Wait;
 use std::thread::Threads;
 
@@ -65,56 +61,28 @@ fn outcome_of(j: &Judgement, level: Level) -> Outcome
     }
 }
 
-/// The bytes on one sheet.
-fn on_one_sheet(alloc: Global, bytes: Vec<u8>) -> Result<Vec<Vec<u8>>, AllocError>
-    ensures { IfOk result (λ sheets. text_of sheets.items ≡ bytes.items) }
-{
-    let mut sheets = Vec::new(alloc);
-    sheets.push(bytes)?;
-    Ok(sheets)
-}
-
-/// The report of a history, of which this is the judgement, on one sheet after another.
-fn sheets_of<T: Threads + Wait + Sync>(
-    rt: &T,
-    alloc: Global,
-    of: &Recorded,
-    j: &Judgement,
-    looks: Looks,
-    o: &Options,
-) -> Result<Vec<Vec<u8>>, NoMemory>
-    requires index { of.now.index.now ≡ of.now.history.now }
-    requires committed { ListsAscending (IsCommitted of.now.index.now) of.now.committed.now }
-    requires looks { AreLooks of.now.index.now (λ _. ⊤) looks }
-    requires judgement { IsJudgement of.now.history.now j.now }
-    ensures { IfOk result (λ sheets. IsReportOf o.now.form of.now.history.now (text_of sheets.items)) }
-{
-    of.history.law();
-    if o.form().is_explained() {
-        let mut sheet = Vec::new(alloc);
-        push_explained(alloc, &mut sheet, of, j, &looks)?;
-        return Ok(on_one_sheet(alloc, sheet)?);
-    }
-    let listing = told(rt, alloc, of.index, of.committed, looks, o)?;
-    report_of(alloc, j, listing)
-}
-
 /// The answer to a history by its index.
 fn answer_by_index<T: Threads + Wait + Sync>(
     rt: &T,
     alloc: Global,
-    of: &Recorded,
+    h: &History,
+    ix: &Index,
     o: &Options,
 ) -> Result<Answer, NoMemory>
-    requires index { of.now.index.now ≡ of.now.history.now }
-    requires well_formed { IsWellFormed of.now.history.now }
-    requires committed { ListsAscending (IsCommitted of.now.index.now) of.now.committed.now }
-    ensures report { IfOk result (λ answer. IsReportOf o.now.form of.now.history.now (text_of answer.sheets.items)) }
-    ensures outcome { IfOk result (λ answer. IsOutcomeOf o.now.level of.now.history.now answer.outcome) }
+    requires index { ix.now ≡ h.now }
+    requires well_formed { IsWellFormed h.now }
+    ensures report { IfOk result (λ answer. IsReportOf o.now.form h.now (text_of answer.sheets.items)) }
+    ensures outcome { IfOk result (λ answer. IsOutcomeOf o.now.level h.now answer.outcome) }
 {
-    let (judgement, looks) = judged(rt, alloc, of, o)?;
+    let committed = Committed::of(alloc, ix)?;
+    let of = Recorded {
+        history: h,
+        index: ix,
+        committed: &committed,
+    };
+    let (judgement, looks) = judged(rt, alloc, &of, o)?;
     let outcome = outcome_of(&judgement, o.level());
-    let sheets = sheets_of(rt, alloc, of, &judgement, looks, o)?;
+    let sheets = sheets_of(rt, alloc, &of, &judgement, looks, o)?;
     Ok(Answer { sheets, outcome })
 }
 
@@ -130,13 +98,7 @@ pub(crate) fn answer_to_history<T: Threads + Wait + Sync>(
 {
     h.law();
     let ix = index(alloc, h)?;
-    let committed = Committed::of(alloc, &ix)?;
-    let of = Recorded {
-        history: h,
-        index: &ix,
-        committed: &committed,
-    };
-    answer_by_index(rt, alloc, &of, o)
+    answer_by_index(rt, alloc, h, &ix, o)
 }
 
 /// The answer to a refused text, of which the locator tells where the refused token is.
@@ -156,7 +118,8 @@ fn answer_to_refusal(
     if o.form().is_explained() {
         push_place(&mut sheet, fault, locator)?;
     }
-    let sheets = on_one_sheet(alloc, sheet)?;
+    let mut sheets = Vec::new(alloc);
+    sheets.push(sheet)?;
     Ok(Answer {
         sheets,
         outcome: Outcome::Refused,

@@ -46,17 +46,23 @@ pub(crate) fn listed(
 fn audited<R: Threads + Wait + Sync>(
     rt: &R,
     alloc: Global,
-    of: &Recorded,
+    h: &History,
+    ix: &Index,
     o: &Options,
 ) -> Result<Audit, NoMemory>
-    requires index { of.now.index.now ≡ of.now.history.now }
-    requires well_formed { IsWellFormed of.now.history.now }
-    requires committed { ListsAscending (IsCommitted of.now.index.now) of.now.committed.now }
-    ensures exact { IfOk result (λ a. IsAccount of.now.history.now (account_of a)) }
+    requires index { ix.now ≡ h.now }
+    requires well_formed { IsWellFormed h.now }
+    ensures exact { IfOk result (λ a. IsAccount h.now (account_of a)) }
     ensures pass { IfOk result (λ a. IsTrue a.pass → IsTrue a.serializable × IsOrderVerdict a.verdict) }
 {
-    let (j, looks) = judged(rt, alloc, of, o)?;
-    let (edges, pivots) = listed(alloc, of.index, of.committed, looks)?;
+    let committed = Committed::of(alloc, ix)?;
+    let of = Recorded {
+        history: h,
+        index: ix,
+        committed: &committed,
+    };
+    let (j, looks) = judged(rt, alloc, &of, o)?;
+    let (edges, pivots) = listed(alloc, ix, &committed, looks)?;
     Ok(Audit {
         events: j.counts.events,
         committed: j.counts.committed,
@@ -87,11 +93,5 @@ pub fn audit<R: Threads + Wait + Sync>(
 {
     h.law();
     let ix = index(alloc, h)?;
-    let committed = Committed::of(alloc, &ix)?;
-    let of = Recorded {
-        history: h,
-        index: &ix,
-        committed: &committed,
-    };
-    audited(rt, alloc, &of, o)
+    audited(rt, alloc, h, &ix, o)
 }

@@ -10,6 +10,7 @@ ghost use Rattle.si_audit.specs.Answering.{IsReportOf};
 ghost use Rattle.si_audit.specs.Explained.{TellsDanger, TellsVerdict, WithReasons, edges_round};
 ghost use Rattle.si_audit.specs.Judgements.{IsJudgement};
 ghost use Rattle.si_audit.specs.Lines as lines;
+ghost use Rattle.si_audit.specs.Sheets.{text_of};
 
 use crate::audit::judgement::Judgement;
 use crate::audit::recorded::Recorded;
@@ -114,19 +115,18 @@ fn push_verdict_reasons(
     }
 }
 
-/// The lines of the explained report.
-pub(crate) fn push_explained(
+/// The lines of the explained report, on one sheet.
+pub(crate) fn explained(
     alloc: Global,
-    out: &mut Vec<u8>,
     of: &Recorded,
     j: &Judgement,
     looks: &Looks,
-) -> Result<(), NoMemory>
+) -> Result<Vec<Vec<u8>>, NoMemory>
     requires index { of.now.index.now ≡ of.now.history.now }
     requires committed { ListsAscending (IsCommitted of.now.index.now) of.now.committed.now }
     requires looks { AreLooks of.now.index.now (λ _. ⊤) looks.now }
     requires judgement { IsJudgement of.now.history.now j.now }
-    ensures { OnOk result ((bytes : List ℕ) × IsReportOf Form.Explained of.now.history.now bytes × (out.new.items ≡ out.old.items ++ bytes)) }
+    ensures { IfOk result (λ sheets. IsReportOf Form.Explained of.now.history.now (text_of sheets.items)) }
 {
     of.history.law();
     listing_law();
@@ -136,16 +136,20 @@ pub(crate) fn push_explained(
         keys: of.index.written_keys(),
         looks,
     };
+    let mut out = Vec::new(alloc);
     push_front(
-        out,
+        &mut out,
         Some(of),
         &j.counts,
         &j.bad_reads,
         &j.bad_writes,
         &j.unexplained,
     )?;
-    push_whether(out, b"ssi", j.pass, b"pass", b"fail")?;
-    push_danger(alloc, out, of, &evidence, j)?;
-    push_whether(out, b"serializable", j.serializable, b"yes", b"no")?;
-    push_verdict_reasons(alloc, out, of, &j.verdict)
+    push_whether(&mut out, b"ssi", j.pass, b"pass", b"fail")?;
+    push_danger(alloc, &mut out, of, &evidence, j)?;
+    push_whether(&mut out, b"serializable", j.serializable, b"yes", b"no")?;
+    push_verdict_reasons(alloc, &mut out, of, &j.verdict)?;
+    let mut sheets = Vec::new(alloc);
+    sheets.push(out)?;
+    Ok(sheets)
 }

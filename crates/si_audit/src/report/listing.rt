@@ -1,30 +1,25 @@
-// What a report tells of the edges and of the pivots of a history.
+// The report of a history, on one sheet after another.
 ghost use Rattle.std.specs.Prelude.{◌≡◌, ⊤, flat_map, IfOk};
 ghost use Rattle.sia_events.specs.Lists.{ListsAscending};
-ghost use Rattle.sia_events.specs.Refusals.{IsWellFormed};
 ghost use Rattle.sia_events.specs.Transactions.{IsCommitted};
 ghost use Rattle.sia_parts.specs.Looks.{AreLooks};
-ghost use Rattle.si_audit.specs.Edges.{AreTold};
+ghost use Rattle.si_audit.specs.Answering.{IsReportOf};
+ghost use Rattle.si_audit.specs.Judgements.{IsJudgement};
 ghost use Rattle.si_audit.specs.Sheets.{text_of};
 
+use crate::audit::judgement::Judgement;
+use crate::audit::recorded::Recorded;
 use crate::cli::form::Form;
 use crate::cli::options::Options;
+use crate::explain::explaining::explained;
+use crate::report::reporting::report_of;
 use crate::report::sheets::{Sheet, sheets_of_edges};
 use sia_events::NoMemory;
-use sia_graph::{Link, Pivot, listing_law, pivots_of_links};
-use sia_index::Index;
-use sia_parts::{Committed, Looks};
+use sia_graph::{Link, listing_law, pivots_of_links};
+use sia_parts::Looks;
 use std::alloc::Global;
 use std::sync::Wait;
 use std::thread::Threads;
-
-/// What a report tells of the edges and of the pivots.
-#[derive(Drop)]
-pub(crate) struct Listing {
-    /// The lines of the edges, on one sheet after another.
-    pub(crate) sheets: Vec<Vec<u8>>,
-    pub(crate) pivots: Vec<Pivot>,
-}
 
 /// The lines, and all links together.
 fn parted(alloc: Global, made: Vec<Sheet>) -> Result<(Vec<Vec<u8>>, Vec<Link>), NoMemory>
@@ -40,40 +35,31 @@ fn parted(alloc: Global, made: Vec<Sheet>) -> Result<(Vec<Vec<u8>>, Vec<Link>), 
     Ok((sheets, links))
 }
 
-/// No lines and no pivots.
-fn nothing(alloc: Global, ix: &Index) -> Listing
-    requires { IsWellFormed ix.now }
-    ensures { AreTold Form.Brief ix.now (text_of result.sheets.items) result.pivots.items }
-{
-    let _ = ix;
-    listing_law();
-    Listing {
-        sheets: Vec::new(alloc),
-        pivots: Vec::new(alloc),
-    }
-}
-
-/// What a report of the form asked for tells. Makes no edge for a brief one.
-pub(crate) fn told<R: Threads + Wait + Sync>(
+/// The report of a history of which this is the judgement, in the form asked for. Makes no edge for a brief one.
+pub(crate) fn sheets_of<R: Threads + Wait + Sync>(
     rt: &R,
     alloc: Global,
-    ix: &Index,
-    committed: &Committed,
+    of: &Recorded,
+    j: &Judgement,
     looks: Looks,
     o: &Options,
-) -> Result<Listing, NoMemory>
-    requires well_formed { IsWellFormed ix.now }
-    requires committed { ListsAscending (IsCommitted ix.now) committed.now }
-    requires looks { AreLooks ix.now (λ _. ⊤) looks }
-    ensures { IfOk result (λ t. AreTold o.now.form ix.now (text_of t.sheets.items) t.pivots.items) }
+) -> Result<Vec<Vec<u8>>, NoMemory>
+    requires index { of.now.index.now ≡ of.now.history.now }
+    requires committed { ListsAscending (IsCommitted of.now.index.now) of.now.committed.now }
+    requires looks { AreLooks of.now.index.now (λ _. ⊤) looks }
+    requires judgement { IsJudgement of.now.history.now j.now }
+    ensures { IfOk result (λ sheets. IsReportOf o.now.form of.now.history.now (text_of sheets.items)) }
 {
+    of.history.law();
+    listing_law();
     match o.form() {
         Form::Full => {
-            let made = sheets_of_edges(rt, alloc, ix, committed, looks, o)?;
+            let made = sheets_of_edges(rt, alloc, of.index, of.committed, looks, o)?;
             let (sheets, links) = parted(alloc, made)?;
-            let pivots = pivots_of_links(alloc, ix, links)?;
-            Ok(Listing { sheets, pivots })
+            let pivots = pivots_of_links(alloc, of.index, links)?;
+            report_of(alloc, j, sheets, &pivots)
         }
-        Form::Brief | Form::Explained => Ok(nothing(alloc, ix)),
+        Form::Brief => report_of(alloc, j, Vec::new(alloc), &[]),
+        Form::Explained => explained(alloc, of, j, &looks),
     }
 }

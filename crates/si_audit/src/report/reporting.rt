@@ -12,7 +12,6 @@ use crate::audit::judgement::Judgement;
 use crate::cli::form::Form;
 use crate::report::found::push_front;
 use crate::report::lines::{push_verdict, push_whether};
-use crate::report::listing::Listing;
 use crate::report::words::{Words, kind_word, number, push_line};
 use sia_events::NoMemory;
 use sia_graph::{Pivot, Verdict};
@@ -98,10 +97,15 @@ pub fn report(alloc: Global, a: &Audit) -> Result<Vec<u8>, NoMemory>
     Ok(out)
 }
 
-/// The lines of a judgement, with what its report tells of the edges and of the pivots.
-pub(crate) fn report_of(alloc: Global, j: &Judgement, t: Listing) -> Result<Vec<Vec<u8>>, NoMemory>
-    ensures { IfOk result (λ all. (form : Form) (edges : List Edge) (pivots : List Pivot) → text_of t.sheets.items ≡ flat_map lines.edge_line (lines.told form edges)
-        → t.pivots.items ≡ lines.told form pivots → text_of all.items ≡ lines.report_text form (account_with j.now edges pivots)) }
+/// The lines of a judgement: those of its edges stand on these sheets, and these pivots are told.
+pub(crate) fn report_of(
+    alloc: Global,
+    j: &Judgement,
+    edges: Vec<Vec<u8>>,
+    pivots: &[Pivot],
+) -> Result<Vec<Vec<u8>>, NoMemory>
+    ensures { IfOk result (λ all. (form : Form) (es : List Edge) (ps : List Pivot) → text_of edges.items ≡ flat_map lines.edge_line (lines.told form es)
+        → pivots.now ≡ lines.told form ps → text_of all.items ≡ lines.report_text form (account_with j.now es ps)) }
 {
     let mut front = Vec::new(alloc);
     push_front(
@@ -113,8 +117,8 @@ pub(crate) fn report_of(alloc: Global, j: &Judgement, t: Listing) -> Result<Vec<
         &j.unexplained,
     )?;
     let mut back = Vec::new(alloc);
-    push_back(&mut back, &t.pivots, j.pass, j.serializable, &j.verdict)?;
-    let mut sheets = t.sheets;
+    push_back(&mut back, pivots, j.pass, j.serializable, &j.verdict)?;
+    let mut sheets = edges;
     sheets.insert(0, front)?;
     sheets.push(back)?;
     Ok(sheets)

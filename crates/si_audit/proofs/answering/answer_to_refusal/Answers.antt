@@ -15,7 +15,7 @@ returns-clause-report c bytes reader stands located refusal =
     let form = c.args.o.now.form in
     let fault = c.args.fault.now in
     let written : c.push_refusal.new.out.items ≡ refusal_line fault = c.in_ok-push_refusal.ensures ∙ ap (λ (o : List ℕ). o ++ refusal_line fault) c.new-sheet.ensures.items in
-    subst (TellsRefusal form bytes fault) (sym c.in_ok-sheets.ensures)
+    subst (TellsRefusal form bytes fault) (sym (ap text_of c.in_ok-push.ensures.items ∙ ap (λ xs. text_of (xs ++ sheet ∷ [])) c.new-sheets.ensures.items ∙ append-nil sheet.items))
     (elim c.if-is_explained.branch [
       | then-is_explained+in_ok-push_place w ↦
           let is : form ≡ Explained = sym c.form.ensures ∙ c.is_explained.ensures.0 w.if-is_explained.true in
@@ -31,7 +31,7 @@ returns-clause-line c other =
     let sheet = c.if-is_explained.sheet in
     let fault = c.args.fault.now in
     let written : c.push_refusal.new.out.items ≡ refusal_line fault = c.in_ok-push_refusal.ensures ∙ ap (λ (o : List ℕ). o ++ refusal_line fault) c.new-sheet.ensures.items in
-    c.in_ok-sheets.ensures
+    ap text_of c.in_ok-push.ensures.items ∙ ap (λ xs. text_of (xs ++ sheet ∷ [])) c.new-sheets.ensures.items ∙ append-nil sheet.items
     ∙ elim c.if-is_explained.branch [
       | then-is_explained+in_ok-push_place w ↦ absurd (other (sym c.form.ensures ∙ c.is_explained.ensures.0 w.if-is_explained.true))
       | else-is_explained w ↦ ap (λ (v : Vec ℕ). v.items) w.sheet-is ∙ written

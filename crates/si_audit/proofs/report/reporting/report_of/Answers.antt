@@ -6,7 +6,7 @@ use Rattle.si_audit.proofs.OnSheets.{between, report_on_sheets}
 use Rattle.si_audit.proofs.report.reporting.report_of.Goals as goal
 
 pub returns : goal.returns
-returns c form edges pivots lines_are pivots_are =
+returns c form es ps edges_are pivots_are =
     let j = c.args.j.now in
     let n = j.counts in
     let told = c.in_ok-push_front.ensures in
@@ -17,12 +17,11 @@ returns c form edges pivots lines_are pivots_are =
     let reads = c.deref.ensures.value in
     let writes = c.deref-2.ensures.value in
     let others = c.deref-3.ensures.value in
-    let some = c.deref-4.ensures.value ∙ pivots_are in
     let front_is =
     front_alone c.new-front.result.items _ _ _ told.0 told.1 told.2 c.deref.result.now c.deref-2.result.now c.deref-3.result.now told.3 told.4 told.5 told.6
     ∙ (λ i. none i ++ lines.events_line n.events n.committed n.aborted n.unfinished ++ lines.isolation_line (lines.is_empty (reads i) && lines.is_empty (writes i))
     ++ flat_map lines.bad_read_line (reads i) ++ flat_map lines.bad_write_line (writes i) ++ flat_map lines.unexplained_line (others i)) in
-    let back_is = c.in_ok-push_back.ensures ∙ (λ i. nothing i ++ flat_map lines.pivot_line (some i) ++ lines.ssi_line j.pass ++ lines.serializable_line j.serializable ++ lines.verdict_line j.verdict) in
+    let back_is = c.in_ok-push_back.ensures ∙ (λ i. nothing i ++ flat_map lines.pivot_line (pivots_are i) ++ lines.ssi_line j.pass ++ lines.serializable_line j.serializable ++ lines.verdict_line j.verdict) in
     ap text_of (c.in_ok-push.ensures.items ∙ ap (λ xs. xs ++ back ∷ []) c.in_ok-insert.ensures.items)
-    ∙ between front back c.args.t.sheets.items
-    ∙ report_on_sheets j form edges pivots front.items back.items (text_of c.args.t.sheets.items) front_is back_is lines_are
+    ∙ between front back c.args.edges.items
+    ∙ report_on_sheets j form es ps front.items back.items (text_of c.args.edges.items) front_is back_is edges_are

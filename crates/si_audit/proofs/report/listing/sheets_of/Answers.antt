@@ -1,0 +1,48 @@
+use Rattle.std.proofs.Common.{◌∙◌, ap, refl, subst, sym}
+use Rattle.si_audit.specs.declared.cli.form.Form.{Form}
+use Rattle.si_audit.specs.declared.cli.form.Form.TheVariants.{Full, Brief}
+use Rattle.si_audit.specs.Answering.{IsReportOf}
+use Rattle.si_audit.specs.Judgements.{account_with}
+use Rattle.si_audit.specs.Sheets.{text_of}
+use Rattle.si_audit.proofs.Clean.{account_is}
+use Rattle.si_audit.proofs.Results.{ok_map}
+use Rattle.si_audit.proofs.report.listing.sheets_of.Goals as goal
+
+pub pivots_of_links-requires : goal.pivots_of_links-requires
+pivots_of_links-requires g c = rw c.in_ok-sheets-in-Full.ensures.links c.in_ok-made-in-Full.ensures.1
+
+pub returns-in_ok-pivots-in-Full : goal.returns-in_ok-pivots-in-Full
+returns-in_ok-pivots-in-Full g c =
+    let h = c.args.of.now.history.now in
+    let j = c.args.j.now in
+    let edges = rw c.requires.index at c.in_ok-made-in-Full.ensures.0 in
+    let pivots = rw c.requires.index at c.in_ok-pivots-in-Full.ensures in
+    let all = c.in_ok-pivots-in-Full.pivots.items in
+    ok_map _ _ c.report_of.result
+    (λ sheets is. subst (λ (form : Form). IsReportOf form h (text_of sheets.items)) (sym (sym c.form.ensures ∙ c.in-Full.is)) (
+      account_with j edges.0 all,
+      account_is h j c.requires.judgement edges.0 edges.1 all pivots,
+      is Full edges.0 all (c.in_ok-sheets-in-Full.ensures.lines ∙ edges.2) c.deref.ensures.value,
+    ))
+    c.report_of.ensures
+
+pub returns-in-Brief : goal.returns-in-Brief
+returns-in-Brief g c =
+    let h = c.args.of.now.history.now in
+    let j = c.args.j.now in
+    let law = c.listing_law.ensures h c.law.ensures in
+    let edges = law.0 in
+    let pivots = law.1 in
+    ok_map _ _ c.report_of-in-Brief.result
+    (λ sheets is. subst (λ (form : Form). IsReportOf form h (text_of sheets.items)) (sym (sym c.form.ensures ∙ c.in-Brief.is)) (
+      account_with j edges.0 pivots.0,
+      account_is h j c.requires.judgement edges.0 edges.1 pivots.0 pivots.1,
+      is Brief edges.0 pivots.0 (ap text_of c.new.ensures.items) refl,
+    ))
+    c.report_of-in-Brief.ensures
+
+pub returns-in-Explained : goal.returns-in-Explained
+returns-in-Explained g c =
+    ok_map _ _ c.explained.result
+    (λ sheets is. subst (λ (form : Form). IsReportOf form c.args.of.now.history.now (text_of sheets.items)) (sym (sym c.form.ensures ∙ c.in-Explained.is)) is)
+    c.explained.ensures
