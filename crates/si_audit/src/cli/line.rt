@@ -5,7 +5,7 @@ ghost use Rattle.clap.specs.Words.{IsUnsignedIn, app_of, found_of, kind_of, new_
 ghost use Rattle.clap.specs.declared.builder.action.ArgAction.TheVariants.{Count, Set};
 ghost use Rattle.clap.specs.declared.error.kind.ErrorKind.TheVariants.{OutOfMemory};
 ghost use Rattle.si_audit.specs.LineAnswers.{HasNumbers, IsOwed, GivesOptions, StandsInTheWay, cuts_among, form_among, level_among, workers_among};
-ghost use Rattle.si_audit.specs.Words.{AreChosen, ChooseNoLevel, ChooseTooManyCuts, cuts_rule, level_named as named, number_in, program, workers_rule};
+ghost use Rattle.si_audit.specs.Words.{AreChosen, ChooseNoLevel, ChooseTooManyCuts, cuts_rule, number_in, program};
 
 use crate::cli::form::Form;
 use crate::cli::level::Level;
@@ -102,11 +102,12 @@ pub fn options_from(alloc: Global, words: &[String]) -> Result<Options, LineFaul
 fn command<'a>(alloc: Global) -> Result<Command<'a>, AllocError>
     ensures { IfOk result (λ c. app_of c ≡ program) }
 {
+    let workers = option(alloc, "workers", "N", "4", WORKERS_HELP);
     Command::new(alloc, "si_audit")
         .version(VERSION)
         .about(ABOUT)
         .after_help(MORE_HELP)
-        .arg(workers_option(alloc))?
+        .arg(workers.value_parser(ValueParser::Unsigned(1, 64)))?
         .arg(cuts_argument(alloc))?
         .arg(flag(alloc, "brief", BRIEF_HELP))?
         .arg(flag(alloc, "explain", EXPLAIN_HELP))?
@@ -130,14 +131,6 @@ fn option<'a>(
         .action(ArgAction::Set)
         .default_value(usual)
         .help(help)
-}
-
-/// The option that says how many workers there are.
-fn workers_option<'a>(alloc: Global) -> Arg<'a>
-    ensures rule { rule_of result ≡ workers_rule }
-    ensures local { result.global ≡ false }
-{
-    option(alloc, "workers", "N", "4", WORKERS_HELP).value_parser(ValueParser::Unsigned(1, 64))
 }
 
 /// The argument that takes the cuts.
@@ -230,14 +223,7 @@ fn form_in(matches: &ArgMatches<'_>) -> Form
 fn level_in(matches: &ArgMatches<'_>) -> Option<Level>
     ensures { result ≡ level_among (rows_of (found_of matches.now)) }
 {
-    level_named(matches.get_str("check")?)
-}
-
-/// The level of the name, if there is one.
-fn level_named(name: &str) -> Option<Level>
-    ensures { result ≡ named name.now }
-{
-    match name {
+    match matches.get_str("check")? {
         "serializable" => Some(Level::Serializable),
         "ssi" => Some(Level::Ssi),
         "si" => Some(Level::Si),

@@ -42,17 +42,13 @@ pub(crate) fn push_verdict(out: &mut Vec<u8>, verdict: &Verdict) -> Result<(), A
 {
     match verdict {
         Verdict::Order(order) => push_line(out, b"order", &[Words::Numbers(order.as_slice())]),
-        Verdict::Cycle(steps) => push_cycle(out, steps.as_slice()),
+        Verdict::Cycle(steps) => {
+            out.extend_from_slice(b"cycle")?;
+            push_steps(out, steps.as_slice())?;
+            out.extend_from_slice(b"\n")?;
+            Ok(())
+        }
     }
-}
-
-fn push_cycle(out: &mut Vec<u8>, steps: &[Step]) -> Result<(), AllocError>
-    ensures { OnOk result (out.new.items ≡ out.old.items ++ lines.cycle_line steps.now) }
-{
-    out.extend_from_slice(b"cycle")?;
-    push_steps(out, steps)?;
-    out.extend_from_slice(b"\n")?;
-    Ok(())
 }
 
 /// The transactions of a cycle, each with the edge from it to the next, and the first one, where it comes again.

@@ -33,23 +33,6 @@ fn push_edges(out: &mut Vec<u8>, edges: &[Edge]) -> Result<(), AllocError>
     Ok(())
 }
 
-fn push_pivots(out: &mut Vec<u8>, pivots: &[Pivot]) -> Result<(), AllocError>
-    ensures { OnOk result (out.new.items ≡ out.old.items ++ flat_map lines.pivot_line pivots.now) }
-{
-    for p in pivots {
-        let words = [
-            number(p.txn),
-            Words::Text(b"in"),
-            Words::Numbers(p.ins.as_slice()),
-            Words::Text(b"out"),
-            Words::Numbers(p.outs.as_slice()),
-            Words::Firsts(p.firsts.as_slice()),
-        ];
-        push_line(out, b"pivot", &words)?;
-    }
-    Ok(())
-}
-
 /// The lines behind those of the edges.
 fn push_back(
     out: &mut Vec<u8>,
@@ -64,7 +47,17 @@ fn push_back(
         ++ lines.serializable_line serializable
         ++ lines.verdict_line verdict.now) }
 {
-    push_pivots(out, pivots)?;
+    for p in pivots {
+        let words = [
+            number(p.txn),
+            Words::Text(b"in"),
+            Words::Numbers(p.ins.as_slice()),
+            Words::Text(b"out"),
+            Words::Numbers(p.outs.as_slice()),
+            Words::Firsts(p.firsts.as_slice()),
+        ];
+        push_line(out, b"pivot", &words)?;
+    }
     push_whether(out, b"ssi", pass, b"pass", b"fail")?;
     push_whether(out, b"serializable", serializable, b"yes", b"no")?;
     push_verdict(out, verdict)?;

@@ -68,14 +68,6 @@ fn sheet_between(alloc: Global, edges: &AllEdges, from: usize, to: usize) -> Res
     Ok(Sheet { lines, links })
 }
 
-/// How many chunks there are.
-fn count_of(chunk_bounds: &ChunkBounds) -> u32
-    requires { length chunk_bounds.now.places.items ≤ 1025 }
-    ensures { result ≡ length chunk_bounds.now.places.items - 1 }
-{
-    chunk_bounds.places.len().saturating_sub(1) as u32
-}
-
 /// What is made of all edges, by workers, and waits for them.
 pub(crate) fn sheets_of_edges<R: Threads + Wait + Sync>(
     rt: &R,
@@ -91,7 +83,7 @@ pub(crate) fn sheets_of_edges<R: Threads + Wait + Sync>(
 {
     let edges = edges_of(alloc, ix, committed, looks)?;
     let chunk_bounds = ChunkBounds::of(alloc, &edges.fans, edges.txns.len(), STRETCH)?;
-    let count = count_of(&chunk_bounds);
+    let count = chunk_bounds.places.len().saturating_sub(1) as u32;
     let job = Printing {
         alloc,
         edges: &edges,

@@ -1,4 +1,4 @@
-use Rattle.std.proofs.Common.{◌<◌, subst, ◌∙◌}
+use Rattle.std.proofs.Common.{◌<◌, subst, ◌∙◌, rules}
 use Rattle.si_audit.proofs.SheetsInTurn.{all_in_turn, all_made}
 use Rattle.si_audit.proofs.report.sheets.sheets_of_edges.Goals as goal
 
@@ -8,5 +8,5 @@ returns-in-Ok g c =
     let edges = c.in_ok-edges.edges in
     rw (← c.in_ok-edges.ensures.index)
     (all_made edges c.in_ok-edges.ensures.are _ _
-    (all_in_turn edges c.in_ok-chunk_bounds.chunk_bounds.places.items c.in_ok-chunk_bounds.ensures.are c.in-Ok.crew.outs.items (c.in-Ok.ensures.len ∙ c.count_of-count.ensures)
+    (all_in_turn edges c.in_ok-chunk_bounds.chunk_bounds.places.items c.in_ok-chunk_bounds.ensures.are c.in-Ok.crew.outs.items (c.in-Ok.ensures.len ∙ search rules)
     (λ k d below. c.in-Ok.ensures.owed k d (subst (λ n. k < n) c.in-Ok.ensures.len below))))
