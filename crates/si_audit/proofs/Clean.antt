@@ -1,12 +1,11 @@
 -- What an account and a judgement say of how a run ends, and that an account can be printed.
-use Rattle.std.proofs.Common.{◌≡◌, ◌≢◌, ◌↔◌, ℕ, Bool, true, false, List, [], ◌∷◌, length, map, get_or, refl, subst, arith}
-use Rattle.std.specs.Prelude.{⊤, All, Contains, IsFalse, IsTrue}
-use Rattle.std.proofs.lemmas.Bool.{both_ways}
+use Rattle.std.proofs.Common.{◌≡◌, ◌≢◌, ◌↔◌, ℕ, List, [], ◌∷◌, length, map, get_or, subst, arith}
+use Rattle.std.specs.Prelude.{⊤, All, Contains}
 use Rattle.std.proofs.lemmas.List.{get_or-map, length-map}
 use Rattle.std.proofs.lemmas.List.Elements.{All-contains_itself}
 use Rattle.sia_events.specs.declared.event.Event.{Event}
 use Rattle.sia_events.specs.Isolation.{IsBadRead, IsBadWrite, IsolationKept}
-use Rattle.sia_events.specs.DangerousStructures.{IsPivot, NoFirst}
+use Rattle.sia_events.specs.DangerousStructures.{IsPivot}
 use Rattle.sia_parts.specs.declared.finding.Edge.{Edge}
 use Rattle.sia_parts.specs.Entries.{bad_read_rank, bad_write_rank}
 use Rattle.sia_parts.specs.Findings.{ListsEdges}

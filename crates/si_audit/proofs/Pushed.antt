@@ -33,7 +33,7 @@ three_words o l m n a b c first second third = behind o m n (a ++ b) c (behind o
 pub two_things : (o p a b s c d q : List ℕ) → ((((((o ++ (p ++ a)) ++ b) ++ s) ++ c) ++ s) ++ d) ++ q ≡ o ++ (p ++ (a ++ b ++ s ++ c ++ s ++ d) ++ q)
 two_things o p a b s c d q = simp append_assoc
 
-pub seven_words : (o a b c d e f g : List ℕ) → ((((((o ++ a) ++ b) ++ c) ++ d) ++ e) ++ f) ++ g ≡ o ++ (a ++ (b ++ c ++ d ++ e ++ f) ++ g)
+pub seven_words : (o a b c d e f g : List ℕ) → ((((o ++ (a ++ b ++ c)) ++ d) ++ e) ++ f) ++ g ≡ o ++ (a ++ (b ++ c ++ d ++ e ++ f) ++ g)
 seven_words o a b c d e f g = simp append_assoc
 
 -- the words of a step

@@ -83,12 +83,6 @@ seen_by_kind Rw h t u k edge other = (edge.3, edge.4, edge.5, (edge.6, edge.7, e
 pub edge_is_seen : (h : List Event) (e : Edge) → IsEdge h e → e.kind ≢ Ww → ¬ ((p v : ℕ) → SawAt h p (reader_of e.kind e.src e.dst) e.key v → ¬ Gives e.kind h e.src e.dst e.key v)
 edge_is_seen h e edge other none = let s = seen_by_kind e.kind h e.src e.dst e.key edge other in none s.0 s.1 s.2 s.3
 
--- a version of the reader's own gives no edge
-pub own_gives_none : (kind : Kind) (h : List Event) (t u k v : ℕ) → v ≡ reader_of kind t u → ¬ Gives kind h t u k v
-own_gives_none Ww h t u k v own given = given
-own_gives_none Wr h t u k v own given = given.1 own
-own_gives_none Rw h t u k v own given = given.1 own
-
 module _ (h : List Event) (wf : IsWellFormed h) (t u k v : ℕ) (written : v ≢ 0 → Wrote h v k) where
   -- a version of a writer that isn't the edge's own source gives the wr edge where it is a later one
   pub wr_given : WrEdge h t u k → v ≢ u → v ≢ t → CommitsBefore h t v ↔ Gives Wr h t u k v

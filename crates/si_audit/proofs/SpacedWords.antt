@@ -1,10 +1,9 @@
 -- A line is its first word, and each other word after a space.
-use Rattle.std.proofs.Common.{◌≡◌, ◌≢◌, ℕ, List, [], ◌∷◌, ◌++◌, map, flat_map, codes, refl, ap, sym, ◌∙◌, append-nil}
+use Rattle.std.proofs.Common.{◌≡◌, ℕ, List, [], ◌∷◌, ◌++◌, flat_map, codes, refl, ap, sym, ◌∙◌, append-nil}
 use Rattle.std.specs.List.{join_with_byte}
 use Rattle.std.proofs.lemmas.Grind.{flat_map-append}
-use Rattle.sia_events.specs.Text.{numeral}
 use Rattle.sia_graph.specs.declared.settling.Step.{Step}
-use Rattle.si_audit.specs.Lines.{first_words, step_words, home_word, cycle_line}
+use Rattle.si_audit.specs.Lines.{step_words, home_word, cycle_line}
 use Rattle.si_audit.specs.Spaced.{spaced}
 
 pub join_spaced : (w : List ℕ) (ws : List (List ℕ)) → join_with_byte 32 (w ∷ ws) ≡ w ++ spaced ws
@@ -13,11 +12,6 @@ join_spaced w (v ∷ ws) = ap (λ (xs : List ℕ). w ++ (32 ∷ xs)) (join_space
 
 spaced-append : (xs ys : List (List ℕ)) → spaced (xs ++ ys) ≡ spaced xs ++ spaced ys
 spaced-append xs ys = flat_map-append (λ (word : List ℕ). 32 ∷ word) xs ys
-
--- the word `first` and numbers, where there are any
-pub spaced_firsts : (ts : List ℕ) → ts ≢ [] → spaced (first_words ts) ≡ codes " first" ++ spaced (map numeral ts)
-spaced_firsts [] some = absurd (some refl)
-spaced_firsts (t ∷ ts) some = refl
 
 -- the words of all steps
 spaced_steps : (steps : List Step) → spaced (flat_map step_words steps) ≡ flat_map (λ s. spaced (step_words s)) steps

@@ -1,13 +1,11 @@
 -- What each form tells of a refusal and of an account.
 use Rattle.std.proofs.Common.{◌≡◌, ◌≢◌, refl, List, ℕ, ◌++◌}
-use Rattle.sia_events.specs.declared.event.Event.{Event}
 use Rattle.sia_events.specs.declared.fault.TextFault.{TextFault}
 use Rattle.si_audit.specs.declared.cli.form.Form.{Form}
 use Rattle.si_audit.specs.declared.cli.form.Form.TheVariants.{Full, Brief, Explained}
-use Rattle.si_audit.specs.Account.{Account}
-use Rattle.si_audit.specs.Lines.{refusal_line, report_text}
+use Rattle.si_audit.specs.Lines.{refusal_line}
 use Rattle.si_audit.specs.RefusedPlaces.{TellsToken}
-use Rattle.si_audit.specs.Report.{TellsAccount, TellsRefusal}
+use Rattle.si_audit.specs.Report.{TellsRefusal}
 
 -- the explained one the place, too
 pub told_of_explained : (form : Form) (text : List ℕ) (fault : TextFault) (place bytes : List ℕ) → form ≡ Explained → TellsToken text fault place → bytes ≡ refusal_line fault ++ place → TellsRefusal form text fault bytes
@@ -20,9 +18,3 @@ pub told_of_others : (form : Form) (text : List ℕ) (fault : TextFault) (bytes 
 told_of_others Full text fault bytes is_not all = all
 told_of_others Brief text fault bytes is_not all = all
 told_of_others Explained text fault bytes is_not all = absurd (is_not refl)
-
--- of an account the others tell the lines of their form
-pub told_of_account : (form : Form) (h : List Event) (a : Account) (bytes : List ℕ) → form ≢ Explained → bytes ≡ report_text form a → TellsAccount form h a bytes
-told_of_account Full h a bytes is_not all = all
-told_of_account Brief h a bytes is_not all = all
-told_of_account Explained h a bytes is_not all = absurd (is_not refl)

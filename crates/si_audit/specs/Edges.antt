@@ -7,14 +7,11 @@ use Rattle.sia_parts.specs.EdgeNumbers.{AreEdgeTables, StandForEdges}
 use Rattle.sia_parts.specs.Findings.{ListsEdges}
 use Rattle.sia_parts.specs.Gathering.{AreNumbersBetween, CanSpread, IsNumberIn}
 use Rattle.sia_parts.specs.Packing.{unpacked}
-use Rattle.sia_graph.specs.declared.pivot.Pivot.{Pivot}
 use Rattle.sia_graph.specs.declared.pivoting.links.Link.{Link}
 use Rattle.sia_graph.specs.Lifetimes.{AreLifetimes}
 use Rattle.sia_graph.specs.Links.{AreEnds, AreVulnerable}
-use Rattle.sia_graph.specs.Pivots.{ArePivots}
 use Rattle.si_audit.specs.declared.audit.edges.AllEdges.{AllEdges}
-use Rattle.si_audit.specs.declared.cli.form.Form.{Form}
-use Rattle.si_audit.specs.Lines.{edge_line, told}
+use Rattle.si_audit.specs.Lines.{edge_line}
 use Rattle.si_audit.specs.Sheets.{number_lines}
 
 -- the fans have all edges of the index's history, by its committed transactions, whose lifetimes these are, and its written keys
@@ -32,8 +29,3 @@ IsSheet e from to lines links = (numbers : List ℕ) × AreNumbersBetween e.fans
 -- the lines of all edges, and the links of the vulnerable ones
 abbrev pub AreLinesAndLinks : List Event → List ℕ → List Link → Type 0
 AreLinesAndLinks h lines links = ((edges : List Edge) × ListsEdges h (λ _. ⊤) edges × (lines ≡ flat_map edge_line edges)) × AreVulnerable h links
-
--- what a report of this form tells of the edges and of the pivots
-abbrev pub AreTold : Form → List Event → List ℕ → List Pivot → Type 0
-AreTold form h lines pivots = ((edges : List Edge) × ListsEdges h (λ _. ⊤) edges × (lines ≡ flat_map edge_line (told form edges)))
-    × ((all : List Pivot) × ArePivots h all × (pivots ≡ told form all))

@@ -1,5 +1,5 @@
 //! The name of a bad read.
-ghost use Rattle.std.specs.Prelude.{◌≡◌, MatchOption};
+ghost use Rattle.std.specs.Prelude.{◌≡◌, ◌++◌, MatchOption, codes};
 ghost use Rattle.sia_events.specs.declared.anomaly.Anomaly.{Anomaly as AnAnomaly};
 ghost use Rattle.sia_events.specs.Anomalies.{IsNamed};
 ghost use Rattle.sia_events.specs.Isolation.{IsBadRead};
@@ -55,16 +55,16 @@ pub(crate) fn anomaly_of(of: &Recorded, b: &BadRead, start: u32) -> Anomaly
     Anomaly::StaleRead
 }
 
-/// The words of a name.
+/// How a line of reasons begins that is of a bad read of this name.
 pub(crate) fn anomaly_words(name: Anomaly) -> &'static [u8]
-    ensures { result.now ≡ reasons.anomaly_words name }
+    ensures { result.now ≡ codes "  " ++ reasons.anomaly_words name ++ codes ": " }
 {
     match name {
-        Anomaly::OwnWriteMissed => b"own write missed",
-        Anomaly::AbortedRead => b"aborted read",
-        Anomaly::UncommittedRead => b"uncommitted read",
-        Anomaly::FutureRead => b"future read",
-        Anomaly::Phantom => b"phantom",
-        Anomaly::StaleRead => b"stale read",
+        Anomaly::OwnWriteMissed => b"  own write missed: ",
+        Anomaly::AbortedRead => b"  aborted read: ",
+        Anomaly::UncommittedRead => b"  uncommitted read: ",
+        Anomaly::FutureRead => b"  future read: ",
+        Anomaly::Phantom => b"  phantom: ",
+        Anomaly::StaleRead => b"  stale read: ",
     }
 }

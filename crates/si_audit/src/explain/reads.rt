@@ -38,9 +38,7 @@ impl Finding for BadRead {
             return Ok(());
         };
         let name = anomaly_of(of, self, info.start);
-        out.extend_from_slice(b"  ")?;
-        out.extend_from_slice(anomaly_words(name))?;
-        push_event(out, b": ", of.history, self.key, self.place)?;
+        push_event(out, anomaly_words(name), of.history, self.key, self.place)?;
         push_start(out, b"; ", self.txn, info.start)?;
         out.extend_from_slice(b"\n")?;
         push_unless(out, of, self.key, self.saw, 0, (b"  saw: ", b"\n"))?;

@@ -40,10 +40,8 @@ push_steps-requires-clause-edges c =
     let g = c.args.evidence.now.index.now in
     let is : IsDangerous g c.in-Some.d = subst (λ o. MatchOption o (NoFirst g) (IsDangerous g)) c.in-Some.is c.in_ok-d.ensures in
     let dangerous = subst (λ h. IsDangerous h c.in-Some.d) c.requires.same is in
-    let d = c.in-Some.d in
-    let one : Edge = record { src = d.first; kind = Rw; dst = d.pivot; key = d.first_key } in
-    let other : Edge = record { src = d.pivot; kind = Rw; dst = d.last; key = d.last_key } in
-    All-cons E one (other ∷ []) dangerous.first_key.0 (All-cons E other [] dangerous.last_key.0 (All-nil E))
+    All-cons E c.rw_edge.result (c.rw_edge-2.result ∷ []) (subst E (sym c.rw_edge.ensures) dangerous.first_key.0)
+    (All-cons E c.rw_edge-2.result [] (subst E (sym c.rw_edge-2.ensures) dangerous.last_key.0) (All-nil E))
 
 pub returns : goal.returns
 returns c =
@@ -53,6 +51,8 @@ returns c =
     let is : IsDangerous g d = subst (λ o. MatchOption o (NoFirst g) (IsDangerous g)) c.in-Some.is c.in_ok-d.ensures in
     let kept = (kept_where h c.args.j.now c.requires.judgement).0 (c.is_kept.ensures.0 c.if-not-is_kept.false) in
     let o = c.args.out.now.items in
+    let told = λ (es : List Edge) (m n : List ℕ). IsToldBehind (TellsAll (TellsStep h) es) m n in
+    let behind : Edge = record { src = d.pivot; kind = Rw; dst = d.last; key = d.last_key } in
     let m = c.push_line.new.out.items in
     let n = c.push_steps.new.out.items in
     let words : List (List ℕ) → List (List ℕ) → List (List ℕ) → List ℕ =
@@ -60,6 +60,7 @@ returns c =
     let pushed : m ≡ o ++ dangerous_line d = c.in_ok-push_line.ensures ∙ (λ i. words (c.number.ensures i) (c.number-2.ensures i) (c.number-3.ensures i)) in
     ok_map _ _ c.push_steps.result
     (λ x steps.
-    let all = with_reasons dangerous_line (λ d. TellsAll (TellsStep h) (dangerous_edges d)) d o m n pushed steps in
+    let all = with_reasons dangerous_line (λ d. TellsAll (TellsStep h) (dangerous_edges d)) d o m n pushed
+    (subst (λ e. told (e ∷ behind ∷ []) m n) c.rw_edge.ensures (subst (λ e. told (c.rw_edge.result ∷ e ∷ []) m n) c.rw_edge-2.ensures steps)) in
     (all.0, inr (kept, d, subst (λ h. IsDangerous h d) c.requires.same is, all.1), all.2))
     c.push_steps.ensures

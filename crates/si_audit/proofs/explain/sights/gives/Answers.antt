@@ -1,5 +1,5 @@
 -- What was seen was written.
-use Rattle.std.proofs.Common.{◌≢◌, ◌↔◌, ℕ, sym, subst, ◌∙◌}
+use Rattle.std.proofs.Common.{◌≢◌, ◌↔◌, ℕ, sym, subst}
 use Rattle.std.specs.Prelude.{IsTrue}
 use Rattle.sia_events.proofs.Seen.{saw_written}
 use Rattle.sia_events.specs.Dependencies.{RwEdge, WrEdge}

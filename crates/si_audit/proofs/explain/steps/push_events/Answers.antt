@@ -1,7 +1,7 @@
 use Rattle.std.proofs.Common.{List, ℕ, ◌++◌, ◌∙◌, ap, append-nil, codes, refl, subst, sym}
 use Rattle.sia_parts.specs.declared.finding.Kind.{Kind}
 use Rattle.si_audit.specs.Reasons.{TellsEvents}
-use Rattle.si_audit.proofs.Pushed.{behind, three_words}
+use Rattle.si_audit.proofs.Pushed.{three_words}
 use Rattle.si_audit.proofs.explain.steps.push_events.Goals as goal
 
 pub returns-in_ok-push_version-in-Rw : goal.returns-in_ok-push_version-in-Rw

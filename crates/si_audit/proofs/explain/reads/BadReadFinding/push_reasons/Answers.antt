@@ -27,14 +27,12 @@ returns c =
     let saw = c.in_ok-push_unless.ensures in
     let due = c.in_ok-push_unless-2.ensures in
     let known = c.in-Some.ensures in
-    let line : c.extend_from_slice-3.new.self.items ≡ c.args.out.now.items ++ reason (anomaly_words name ++ codes ": " ++ event_words h b.key b.place ++ codes "; " ++ start_words b.txn s) =
+    let line : c.extend_from_slice.new.self.items ≡ c.args.out.now.items ++ reason (anomaly_words name ++ codes ": " ++ event_words h b.key b.place ++ codes "; " ++ start_words b.txn s) =
     rw (
-      c.in_ok-extend_from_slice-3.ensures.items,
+      c.in_ok-extend_from_slice.ensures.items,
       c.in_ok-push_start.ensures,
       c.in_ok-push_event.ensures,
-      c.in_ok-extend_from_slice-2.ensures.items,
       c.anomaly_words.ensures,
-      c.in_ok-extend_from_slice.ensures.items,
     ) (seven_words c.args.out.now.items (codes "  ") (anomaly_words name) (codes ": ") (event_words h b.key b.place) (codes "; ") (start_words b.txn s) (codes "\n")) in (
       reason (anomaly_words name ++ codes ": " ++ event_words h b.key b.place ++ codes "; " ++ start_words b.txn s) ++ saw.0 ++ due.0,
       (name, s, saw.0, due.0, c.anomaly_of-name.ensures, subst (λ g. StartsAt g b.txn s) c.requires.index known.0, saw.1, due.1, refl),
