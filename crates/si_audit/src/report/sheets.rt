@@ -1,6 +1,6 @@
 // The lines of all edges, which workers make side by side, those of a chunk on each sheet. Of the edges only the links of the
 // vulnerable ones are kept beside their lines.
-ghost use Rattle.std.specs.Prelude.{◌≡◌, ⊤, ◌+◌, ◌-◌, ◌<◌, ◌≤◌, length, flat_map, slice_index, IfOk};
+ghost use Rattle.std.specs.Prelude.{⊤, ◌+◌, ◌<◌, length, flat_map, slice_index, IfOk};
 ghost use Rattle.sia_events.specs.Lists.{ListsAscending};
 ghost use Rattle.sia_events.specs.Transactions.{IsCommitted};
 ghost use Rattle.sia_parts.specs.Looks.{AreLooks};
