@@ -39,18 +39,15 @@ fn ranks_of(alloc: Global, left: &[bool]) -> Result<Vec<u32>, NoMemory>
 }
 
 /// The least rank, but the look's own number, of those who made the versions of its key up to its end, which are looked for from
-/// near the place that was found last.
+/// near where the last search ended.
 fn least_up_to(versions: &[Look], twos: &[Two], look: Look, near: &mut usize) -> u32
     requires versions { AreVersions versions.now }
     requires long { length twos.now ≡ length versions.now }
     ensures { (ranks : List ℕ) → AreTwos versions.now versions.now ranks 1 twos.now
         → IsLeastRank (λ r. IsRankBelow versions.now ranks look.key (look.high + 1) r × (r ≢ look.txn)) result }
 {
-    match newest_place(versions, look.key, look.high, *near) {
-        Some(at) => {
-            *near = at + 1;
-            other(twos[at], look.txn)
-        }
+    match newest_place(versions, look.key, look.high, near) {
+        Some(at) => other(twos[at], look.txn),
         None => NONE,
     }
 }

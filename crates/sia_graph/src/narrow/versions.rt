@@ -45,13 +45,20 @@ pub(crate) fn next_after(
     (look_at(writers, at, key), at)
 }
 
-/// Where the last version of the key up to the place stands.
-pub(crate) fn newest_place(writers: &[Look], key: u32, place: u32, near: usize) -> Option<usize>
+/// Where the last version of the key up to the place stands. It is looked for from near where the last search ended.
+pub(crate) fn newest_place(
+    writers: &[Look],
+    key: u32,
+    place: u32,
+    near: &mut usize,
+) -> Option<usize>
     requires { CanSearch writers.now }
     ensures { MatchOption result ((a : Look) → Contains writers.now a → a.key ≡ key → place < a.high)
         (λ i. (i < length writers.now) × ((d : Look) → IsNewest writers.now key place (slice_index_or writers.now i d))) }
 {
-    let at = count_up_to(writers, key, place, near).checked_sub(1)?;
+    let end = count_up_to(writers, key, place, *near);
+    *near = end;
+    let at = end.checked_sub(1)?;
     match look_at(writers, at, key) {
         Some(_) => Some(at),
         None => None,
@@ -59,9 +66,9 @@ pub(crate) fn newest_place(writers: &[Look], key: u32, place: u32, near: usize) 
 }
 
 /// Who made the last version of the key up to the place.
-pub(crate) fn newest_at(writers: &[Look], key: u32, place: u32, near: usize) -> Option<Look>
+pub(crate) fn newest_at(writers: &[Look], key: u32, place: u32, mut near: usize) -> Option<Look>
     requires { CanSearch writers.now }
     ensures { MatchOption result ((a : Look) → Contains writers.now a → a.key ≡ key → place < a.high) (IsNewest writers.now key place) }
 {
-    Some(writers[newest_place(writers, key, place, near)?])
+    Some(writers[newest_place(writers, key, place, &mut near)?])
 }

@@ -8,8 +8,8 @@ use Rattle.sia_graph.proofs.narrow.versions.newest_place.Goals as goal
 pub returns-in-None : goal.returns-in-None
 returns-in-None c =
     let writers = c.args.writers.now in
-    let after = c.count_up_to.result in
-    let n = c.count_up_to.ensures in
+    let after = c.count_up_to-end.result in
+    let n = c.count_up_to-end.ensures in
     let some = c.in_ok-at.ensures in
     let one : c.in_ok-at.at + 1 ≡ after = omega arith in
     let within : c.in_ok-at.at < length writers = let b = n.bound in omega arith in
@@ -21,11 +21,11 @@ returns-in-Some c =
     let at = c.in_ok-at.at in
     let look = c.in-Some.field-0 in
     let has = c.in-Some.ensures in
-    let n = c.count_up_to.ensures in
+    let n = c.count_up_to-end.ensures in
     let some = c.in_ok-at.ensures in
-    let one : at + 1 ≡ c.count_up_to.result = omega arith in (
+    let one : at + 1 ≡ c.count_up_to-end.result = omega arith in (
       has.0,
       λ d.
           subst (IsNewest writers c.args.key c.args.place) (sym (get_or_default writers at d look has.0 ∙ has.1))
-          (is_newest writers c.requires.rise c.requires.small c.args.key c.args.place c.ranges.place.fits c.count_up_to.result n.before n.after look (at, has.0, has.1) one has.2),
+          (is_newest writers c.requires.rise c.requires.small c.args.key c.args.place c.ranges.place.fits c.count_up_to-end.result n.before n.after look (at, has.0, has.1) one has.2),
     )
