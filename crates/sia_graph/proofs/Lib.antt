@@ -74,3 +74,4 @@ pub mod NarrowStands
 pub mod TakenNodes
 pub mod TakenMembers
 pub mod StepsOf
+pub mod ReadyHeaps

@@ -1,10 +1,8 @@
 -- One more transaction is taken: the least that is ready, with what it releases.
-use Rattle.std.proofs.Common.{◌≡◌, ◌≢◌, ◌⊎◌, inl, inr, ℕ, ◌+◌, ◌<◌, ◌≤◌, true, false, List, [], ◌∷◌, ◌++◌, length, get_or, slice_get, Some, refl, ap, sym, ◌∙◌, subst, arith}
+use Rattle.std.proofs.Common.{◌≡◌, ◌≢◌, ◌⊎◌, inl, inr, ℕ, ◌+◌, ◌<◌, ◌≤◌, List, [], ◌∷◌, ◌++◌, length, get_or, slice_get, Some, refl, ap, sym, ◌∙◌, subst, arith}
 use Rattle.std.specs.Prelude.{Contains, All, IsTrue, ◌↔◌, not}
-use Rattle.std.specs.BTreeSet.{BTreeSet, contains}
-use Rattle.std.specs.Ordering.{nat_cmp, is_gt}
 use Rattle.std.specs.List.Sorted.{IsStrictlyIncreasing}
-use Rattle.std.proofs.lemmas.Bool.{cases_Bool, cases_lt, le-ltb, ne_eqb, not-true, not_from_false, eqb-true}
+use Rattle.std.proofs.lemmas.Bool.{cases_Bool, cases_lt, not-true, not_from_false, eqb-true}
 use Rattle.std.proofs.lemmas.List.{get_or_default}
 use Rattle.std.proofs.lemmas.Option.{slice_get-get_or, get_or_from_slice_get, slice_get_within}
 use Rattle.sia_parts.specs.declared.finding.Edge.{Edge}
@@ -13,23 +11,6 @@ use Rattle.sia_graph.specs.Fronts.{arriving, waiting, stands, leads_to, AreEdges
 use Rattle.sia_graph.proofs.Positions.{Stands, contains_stands, stands_contains, true_stands, stands_false, false_stands, stands_more, stands_last, stands_cases, get_left, get_right}
 use Rattle.sia_graph.proofs.Fronts.{front_more, front_none}
 use Rattle.sia_graph.proofs.Waiting.{none_waits, none_wait_if, some_counted, all_at, released, fewer_left}
-
-pub no_greater : (k q : ℕ) → is_gt (nat_cmp k q) ≡ false → k ≤ q
-no_greater k q e = elim (cases_lt q k) [
-  | inr more ↦ more
-  | inl less ↦
-      let a = le-ltb k q (omega arith) in
-      let b = ne_eqb k q (λ same. omega arith) in
-      let f : is_gt (nat_cmp k q) ≡ true = rw (a, b) in
-      absurd (let g = sym f ∙ e in cc)
-]
-
--- t is in the set
-abbrev pub IsIn : BTreeSet ℕ → ℕ → Type 0
-IsIn s t = IsTrue (contains nat_cmp s t)
-
-pub none_in : (s : BTreeSet ℕ) → s.keys ≡ [] → (t : ℕ) → ¬ IsIn s t
-none_in s none t r = let e = rw none at r in cc
 
 -- what holds of each edge holds of those from t
 pub group_all : (P : Edge → Type 0) (edges group : List Edge) (t : ℕ) → AreEdgesFrom edges t group → All P edges → All P group

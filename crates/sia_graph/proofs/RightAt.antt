@@ -2,7 +2,7 @@
 use Rattle.std.proofs.Common.{◌≡◌, ◌≢◌, ◌⊎◌, inl, inr, ℕ, ◌+◌, ◌<◌, ◌≤◌, true, false, List, ◌∷◌, length, get_or, map, Option, Some, None, ltb, eqb, unwrap_or, ap, sym, ◌∙◌, refl, subst, arith}
 use Rattle.std.specs.Prelude.{All, Contains, IsTrue, ◌↔◌, MatchOption}
 use Rattle.std.specs.List.Sorted.{IsStrictlyIncreasing, IsNonDecreasingBy, IsPartitionPoint}
-use Rattle.std.proofs.lemmas.Bool.{cases_lt, cases_eq, cases_order, ltb-true, ltb-false, lt-ltb, le-ltb, eqb-true, eq-eqb}
+use Rattle.std.proofs.lemmas.Bool.{cases_lt, cases_eq, cases_order, ne_eqb, ltb-true, ltb-false, lt-ltb, le-ltb, eqb-true, eq-eqb}
 use Rattle.std.proofs.lemmas.List.{get_or-map, get_or_default, length-map}
 use Rattle.std.proofs.lemmas.List.Kept.{AllPairs-from_increasing}
 use Rattle.sia_events.specs.declared.event.Event.{Event}
@@ -16,8 +16,17 @@ use Rattle.std.specs.Ordering.{nat_cmp, is_gt}
 use Rattle.std.specs.Option.{IsSome, is_some}
 use Rattle.sia_events.specs.declared.event.Event.TheVariants.{Read, Range, Write}
 use Rattle.sia_graph.specs.Replaying.{Agrees, IsRight, version_in}
-use Rattle.sia_graph.proofs.OneTaken.{no_greater}
 use Rattle.sia_graph.proofs.Facts.{commits_lt}
+
+no_greater : (k q : ℕ) → is_gt (nat_cmp k q) ≡ false → k ≤ q
+no_greater k q e = elim (cases_lt q k) [
+  | inr more ↦ more
+  | inl less ↦
+      let a = le-ltb k q (omega arith) in
+      let b = ne_eqb k q (λ same. omega arith) in
+      let f : is_gt (nat_cmp k q) ≡ true = rw (a, b) in
+      absurd (let g = sym f ∙ e in cc)
+]
 
 module _ (listed : List (ℕ × ℕ)) (up : IsStrictlyIncreasing (map (λ p. p.0) listed)) where
   pub keys_less : (i j : ℕ) (d : ℕ × ℕ) → i < j → j < length listed → (get_or listed i d).0 < (get_or listed j d).0

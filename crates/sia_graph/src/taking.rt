@@ -8,6 +8,7 @@ ghost use Rattle.sia_graph.specs.Taken.{AreTakenNodes, node_list};
 
 pub(crate) mod by_steps;
 pub(crate) mod numbers;
+pub(crate) mod ready;
 
 use crate::taking::by_steps::{count_steps, take_steps};
 use sia_events::{NoMemory, TxnId};

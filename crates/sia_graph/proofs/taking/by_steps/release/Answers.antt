@@ -1,8 +1,8 @@
 use Rattle.std.proofs.Common.{◌≡◌, ◌⊎◌, ◌-◌, ◌<◌, length, get_or, sym, subst, arith}
 use Rattle.std.specs.Prelude.{◌↔◌}
+use Rattle.sia_graph.specs.ReadyHeaps.{HasReady}
 use Rattle.std.proofs.lemmas.List.{get_or-set_same, length-set}
 use Rattle.sia_graph.proofs.Arrivals.{some_left, released_more, freed_more}
-use Rattle.sia_graph.proofs.OneTaken.{IsIn}
 use Rattle.sia_graph.proofs.taking.by_steps.release.Goals as goal
 
 pub overflow_sub-counts : goal.overflow_sub-counts
@@ -27,6 +27,6 @@ loop-n-preserved c =
     let set_at = get_or-set_same counts j v 0 below in
     let same = length-set counts j v in (
       (λ i l. released_more leaving c.loop-n.n-index 0 c.loop-n-test.true j at counts below c.args.counts.now c.loop-n.invariant.0 some i (omega arith)),
-      freed_more leaving c.loop-n.n-index 0 c.loop-n-test.true j at counts below (IsIn c.args.behind.now) (IsIn c.loop-n.behind) (IsIn c.note_freed.new.behind) c.args.end v some c.loop-n.invariant.1
-          (λ i. subst (λ u. IsIn c.note_freed.new.behind i ↔ (IsIn c.loop-n.behind i ⊎ ((j ≡ i) × (j < c.args.end) × (u ≡ 0)))) set_at (c.in_ok-note_freed.ensures i)),
+      freed_more leaving c.loop-n.n-index 0 c.loop-n-test.true j at counts below (HasReady c.args.behind.now) (HasReady c.loop-n.behind) (HasReady c.note_freed.new.behind) c.args.end v some c.loop-n.invariant.1
+          (λ i. subst (λ u. HasReady c.note_freed.new.behind i ↔ (HasReady c.loop-n.behind i ⊎ ((j ≡ i) × (j < c.args.end) × (u ≡ 0)))) set_at (c.in_ok-note_freed.ensures i)),
     )

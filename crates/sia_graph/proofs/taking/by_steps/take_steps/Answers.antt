@@ -1,10 +1,12 @@
 use Rattle.std.proofs.Common.{◌≡◌, inl, inr, ◌<◌, ◌++◌, ◌∷◌, [], length, ap, ◌∙◌, refl, sym, subst, arith}
-use Rattle.std.proofs.lemmas.List.{nil_from_length}
+use Rattle.sia_graph.specs.ReadyHeaps.{HasReady}
+use Rattle.std.proofs.lemmas.List.FromFn.{length-range_with_len}
+use Rattle.sia_graph.proofs.ReadyHeaps.{none_ready}
 use Rattle.sia_graph.specs.Fronts.{IsTaking, left_over}
 use Rattle.sia_graph.specs.Places.{IsReadyAt, StandsWhere}
 use Rattle.sia_graph.specs.NarrowSteps.{edges_of_steps}
 use Rattle.std.specs.List.{range_with_len}
-use Rattle.sia_graph.proofs.OneTaken.{IsIn, none_in, smaller, none_left}
+use Rattle.sia_graph.proofs.OneTaken.{smaller, none_left}
 use Rattle.sia_graph.proofs.Places.{group_joins}
 use Rattle.sia_graph.proofs.ReadyPlaces.{ready_released, ready_within}
 use Rattle.sia_graph.proofs.TakenPlaces.{no_place_taken, place_fits, taken_place}
@@ -16,9 +18,9 @@ loop-place-init c =
     let counts = c.args.counts.now in
     let behind = c.new-behind.result in
     let long = c.requires.counted.0 in
-    let none = none_in behind (nil_from_length behind.keys c.new-behind.ensures.len) in (
-      subst (λ l. IsTaking ids (edges_of_steps c.args.steps.now) counts l (StandsWhere ids (IsReadyAt (IsIn behind) 0 counts))) (sym c.in_ok-order.ensures.items)
-          (no_place_taken ids c.args.steps.now c.requires.steps counts (IsReadyAt (IsIn behind) 0 counts) c.requires.counted
+    let none = none_ready behind c.new-behind.ensures in (
+      subst (λ l. IsTaking ids (edges_of_steps c.args.steps.now) counts l (StandsWhere ids (IsReadyAt (HasReady behind) 0 counts))) (sym c.in_ok-order.ensures.items)
+          (no_place_taken ids c.args.steps.now c.requires.steps counts (IsReadyAt (HasReady behind) 0 counts) c.requires.counted
           (λ i l. ((λ r. elim r [ inl b ↦ absurd (none i b) | inr w ↦ w.2 ]), (λ z. inr (omega arith, omega arith, z))))),
       (λ i b. absurd (none i b)),
       omega arith,
@@ -37,8 +39,8 @@ release-requires-clause-enough c i l =
     let counts = c.loop-place.counts in
     let long = c.loop-place.invariant.0.counted.0 in
     let p = c.in-Some.place in
-    let below = ready_within (IsIn c.loop-place.behind) c.loop-place.end counts ids c.loop-place.invariant.1 c.loop-place.invariant.2 long p c.in-Some.ensures.member in
-    place_fits ids c.args.steps.now c.requires.steps counts c.loop-place.order.items (IsReadyAt (IsIn c.loop-place.behind) c.loop-place.end counts) c.loop-place.invariant.0
+    let below = ready_within (HasReady c.loop-place.behind) c.loop-place.end counts ids c.loop-place.invariant.1 c.loop-place.invariant.2 long p c.in-Some.ensures.member in
+    place_fits ids c.args.steps.now c.requires.steps counts c.loop-place.order.items (IsReadyAt (HasReady c.loop-place.behind) c.loop-place.end counts) c.loop-place.invariant.0
     p below c.in-Some.ensures.member c.rows_near-stop.result.0.now c.rows_near-stop.ensures i (omega arith)
 
 pub loop-place-smaller : goal.loop-place-smaller
@@ -48,10 +50,10 @@ loop-place-smaller c =
     let order = c.loop-place.order.items in
     let long = c.loop-place.invariant.0.counted.0 in
     let p = c.in-Some.place in
-    let below = ready_within (IsIn c.loop-place.behind) c.loop-place.end counts ids c.loop-place.invariant.1 c.loop-place.invariant.2 long p c.in-Some.ensures.member in
+    let below = ready_within (HasReady c.loop-place.behind) c.loop-place.end counts ids c.loop-place.invariant.1 c.loop-place.invariant.2 long p c.in-Some.ensures.member in
     let pushed = c.in_ok-push.ensures.items ∙ ap (λ n. order ++ n ∷ []) (sym (c.requires.steps.are_places p below)) in
     subst (λ l. left_over ids l < left_over ids order) (sym pushed)
-    (smaller ids (edges_of_steps c.args.steps.now) counts order (StandsWhere ids (IsReadyAt (IsIn c.loop-place.behind) c.loop-place.end counts)) c.loop-place.invariant.0 _
+    (smaller ids (edges_of_steps c.args.steps.now) counts order (StandsWhere ids (IsReadyAt (HasReady c.loop-place.behind) c.loop-place.end counts)) c.loop-place.invariant.0 _
     (p, below, refl, c.in-Some.ensures.member))
 
 pub loop-place-preserved : goal.loop-place-preserved
@@ -64,7 +66,7 @@ loop-place-preserved c =
     let group = c.rows_near-stop.result.0.now in
     let from = c.rows_near-stop.ensures in
     let was : length counts ≡ length ids = c.loop-place.invariant.0.counted.0 in
-    let below = ready_within (IsIn c.loop-place.behind) c.loop-place.end counts ids c.loop-place.invariant.1 c.loop-place.invariant.2 was p c.in-Some.ensures.member in
+    let below = ready_within (HasReady c.loop-place.behind) c.loop-place.end counts ids c.loop-place.invariant.1 c.loop-place.invariant.2 was p c.in-Some.ensures.member in
     let same : length less ≡ length counts = let b = c.release.auto.counts in omega arith in
     let long : length less ≡ length ids = omega arith in
     let end = c.next_ready.new.end in
@@ -72,12 +74,12 @@ loop-place-preserved c =
     let after = c.release.new.behind in
     let pushed = c.in_ok-push.ensures.items ∙ ap (λ n. c.loop-place.order.items ++ n ∷ []) (sym (c.requires.steps.are_places p below)) in
     let noted = c.in_ok-release.ensures.behind in (
-      subst (λ l. IsTaking ids (edges_of_steps steps) less l (StandsWhere ids (IsReadyAt (IsIn after) end less))) (sym pushed)
-          (taken_place ids steps c.requires.steps counts c.loop-place.order.items (IsReadyAt (IsIn c.loop-place.behind) c.loop-place.end counts) c.loop-place.invariant.0
-          p below c.in-Some.ensures.member group from (IsReadyAt (IsIn next) end counts) (IsReadyAt (IsIn after) end less) less long
+      subst (λ l. IsTaking ids (edges_of_steps steps) less l (StandsWhere ids (IsReadyAt (HasReady after) end less))) (sym pushed)
+          (taken_place ids steps c.requires.steps counts c.loop-place.order.items (IsReadyAt (HasReady c.loop-place.behind) c.loop-place.end counts) c.loop-place.invariant.0
+          p below c.in-Some.ensures.member group from (IsReadyAt (HasReady next) end counts) (IsReadyAt (HasReady after) end less) less long
           c.in-Some.ensures.least (λ q l. c.in-Some.ensures.taken q)
           (λ i l. c.in_ok-release.ensures.fewer i (omega arith))
-          (λ i l. ready_released (IsIn next) (IsIn after) end counts less group same c.in_ok-release.ensures.fewer noted i (omega arith))),
+          (λ i l. ready_released (HasReady next) (HasReady after) end counts less group same c.in_ok-release.ensures.fewer noted i (omega arith))),
       (λ i r. elim ((noted i).0 r) [ inl n ↦ c.in-Some.ensures.behind i n | inr f ↦ f.0 ]),
       (let a = c.in-Some.ensures.within in omega arith),
     )
@@ -86,5 +88,15 @@ pub returns : goal.returns
 returns c =
     let ids = range_with_len 0 c.args.places in
     let counts = c.loop-place.counts in
-    none_left ids (edges_of_steps c.args.steps.now) counts c.loop-place.order.items (StandsWhere ids (IsReadyAt (IsIn c.loop-place.behind) c.loop-place.end counts)) c.loop-place.invariant.0
+    none_left ids (edges_of_steps c.args.steps.now) counts c.loop-place.order.items (StandsWhere ids (IsReadyAt (HasReady c.loop-place.behind) c.loop-place.end counts)) c.loop-place.invariant.0
     (λ t w. c.in_default.ensures.empty w.0 w.3)
+
+pub rows_near-stop-requires-clause-below : goal.rows_near-stop-requires-clause-below
+rows_near-stop-requires-clause-below c =
+    let ids = range_with_len 0 c.args.places in
+    let counts = c.loop-place.counts in
+    let long = c.loop-place.invariant.0.counted.0 in
+    let below = ready_within (HasReady c.loop-place.behind) c.loop-place.end counts ids c.loop-place.invariant.1 c.loop-place.invariant.2 long c.in-Some.place c.in-Some.ensures.member in
+    let fits = c.ranges.places.fits in
+    let same = length-range_with_len 0 c.args.places in
+    omega arith
