@@ -215,8 +215,8 @@ module _ (h : List Event) (reader : Reader) where
   due_none old Within zero = adds_nothing (FromKeys Within IsBadAt) old (λ b f. none_bad f.0 (zero f.0 f.1) b f.2)
 
   -- where no key is written there is none
-  pub unwritten_bad : (lo hi : ℕ) → ((k u : ℕ) → IsBetween lo hi k → ¬ Wrote h u k) → (old : List BadRead) → Adds (FromKeys (IsBetween lo hi) IsBadAt) old old
-  unwritten_bad lo hi none old = adds_nothing (FromKeys (IsBetween lo hi) IsBadAt) old
+  pub unwritten_bad : (Within : ℕ → Type 0) → ((k u : ℕ) → Within k → ¬ Wrote h u k) → (old : List BadRead) → Adds (FromKeys Within IsBadAt) old old
+  unwritten_bad Within none old = adds_nothing (FromKeys Within IsBadAt) old
       (λ b f.
       let same = f.2.0 in
       let key : b.key ≡ f.0 = ap (λ x. x.key) same in
