@@ -20,18 +20,6 @@ struct Meeting<'a> {
     held: u64,
 }
 
-impl<'a> Meeting<'a> {
-    fn new(clock: &'a HostRuntime, all: u64, held: u64) -> Meeting<'a> {
-        Meeting {
-            clock,
-            flags: AtomicU64::new(0),
-            seen: AtomicU64::new(0),
-            all,
-            held,
-        }
-    }
-}
-
 impl Gate for Meeting<'_> {
     fn pass(&self, _worker: u32, part: u32, _taker: &Taker) {
         if part >= 8 {
@@ -53,34 +41,34 @@ impl Gate for Meeting<'_> {
     }
 }
 
-#[test]
-fn two_workers_meet(rt: HostRuntime) -> Result<(), Fail> {
-    let gate = Meeting::new(&rt, 0b11, 0b11);
-    let crew = work_off(&rt, rt.alloc(), 2, 2, &Plus, &gate)?;
-    assert_eq!(rt; gate.seen.load(Ordering::SeqCst), 0b11);
-    assert_eq!(rt; crew.outs.as_slice(), [100, 101].as_slice());
-    for share in &crew.shares {
-        assert_eq!(rt; share.len(), 1);
-    }
-    Ok(())
-}
+/// So many parts and workers, the flags of all parts, and those of the parts that are held. Then the answers, and how many parts
+/// each worker takes, where that is known.
+const MEETINGS: &[(u32, u32, u64, u64, &[u32], Option<usize>)] = &[
+    (2, 2, 0b11, 0b11, &[100, 101], Some(1)),
+    (4, 4, 0b1111, 0b1111, &[100, 101, 102, 103], Some(1)),
+    (3, 2, 0b111, 0b001, &[100, 101, 102], None),
+    (3, 2, 0b111, 0b010, &[100, 101, 102], None),
+    (3, 2, 0b111, 0b100, &[100, 101, 102], None),
+];
 
 #[test]
-fn four_workers_meet(rt: HostRuntime) -> Result<(), Fail> {
-    let gate = Meeting::new(&rt, 0b1111, 0b1111);
-    let crew = work_off(&rt, rt.alloc(), 4, 4, &Plus, &gate)?;
-    assert_eq!(rt; gate.seen.load(Ordering::SeqCst), 0b1111);
-    assert_eq!(rt; crew.outs.as_slice(), [100, 101, 102, 103].as_slice());
-    Ok(())
-}
-
-#[test]
-fn a_free_worker_takes_the_rest(rt: HostRuntime) -> Result<(), Fail> {
-    for held in [0b001, 0b010, 0b100] {
-        let gate = Meeting::new(&rt, 0b111, held);
-        let crew = work_off(&rt, rt.alloc(), 3, 2, &Plus, &gate)?;
-        assert_eq!(rt; gate.seen.load(Ordering::SeqCst), 0b111, "held {held}");
-        assert_eq!(rt; crew.outs.as_slice(), [100, 101, 102].as_slice());
+fn workers_meet(rt: HostRuntime) -> Result<(), Fail> {
+    for (count, workers, all, held, outs, each) in MEETINGS {
+        let (count, workers) = (*count, *workers);
+        assert!(rt; count <= 1024 && 0 < workers && workers <= 64);
+        let gate = Meeting {
+            clock: &rt,
+            flags: AtomicU64::new(0),
+            seen: AtomicU64::new(0),
+            all: *all,
+            held: *held,
+        };
+        let crew = work_off(&rt, rt.alloc(), count, workers, &Plus, &gate)?;
+        assert_eq!(rt; gate.seen.load(Ordering::SeqCst), *all, "held {held}");
+        assert!(rt; crew.outs.as_slice() == *outs);
+        for share in &crew.shares {
+            assert!(rt; each.is_none() || *each == Some(share.len()));
+        }
     }
     Ok(())
 }

@@ -55,23 +55,46 @@ fn parts_held(alloc: Global, crew: &Crew<u32>) -> Result<Vec<u32>, NoMemory> {
     Ok(all)
 }
 
-#[test]
-fn more_workers_than_parts(rt: HostRuntime) -> Result<(), Fail> {
-    let crew = work_off(&rt, rt.alloc(), 3, 64, &Plus, &OpenGate)?;
-    assert_eq!(rt; crew.outs.as_slice(), [100, 101, 102].as_slice());
-    assert_eq!(rt; crew.shares.len(), 64);
-    assert_eq!(rt;
-        parts_held(rt.alloc(), &crew)?.as_slice(),
-        [0, 1, 2].as_slice()
-    );
-    Ok(())
+/// Whether the numbers are so many, and each is one more than the one before.
+fn are_in_row(numbers: &[u32], first: u32, count: u32) -> bool {
+    let mut wanted = first;
+    for number in numbers {
+        if *number != wanted {
+            return false;
+        }
+        wanted = wanted.saturating_add(1);
+    }
+    numbers.len() == count as usize
 }
 
+/// So many parts and workers, and how many of these run: 0 where all do. Then what the first takes, where that is known.
+const CREWS: &[(u32, u32, u32, Option<&[u32]>)] = &[
+    (3, 64, 0, None),
+    (0, 3, 0, Some(&[])),
+    (1024, 64, 0, None),
+    (3, 4, 1, Some(&[0, 1, 2])),
+    (0, 2, 2, Some(&[])),
+];
+
 #[test]
-fn no_parts(rt: HostRuntime) -> Result<(), Fail> {
-    let crew = work_off(&rt, rt.alloc(), 0, 3, &Plus, &OpenGate)?;
-    assert_eq!(rt; (crew.outs.len(), crew.shares.len()), (0, 3));
-    assert_eq!(rt; parts_held(rt.alloc(), &crew)?.len(), 0);
+fn crews(rt: HostRuntime) -> Result<(), Fail> {
+    for (count, workers, start, first) in CREWS {
+        let (count, workers, start) = (*count, *workers, *start);
+        assert!(rt; count <= 1024 && 0 < workers && start <= workers && workers <= 64);
+        let worked = if start == 0 {
+            work_off(&rt, rt.alloc(), count, workers, &Plus, &OpenGate)
+        } else {
+            work_off_with(&rt, rt.alloc(), count, workers, start, &Plus, &OpenGate)
+        };
+        let crew = worked?;
+        let held = parts_held(rt.alloc(), &crew)?;
+        assert!(rt; are_in_row(&crew.outs, 100, count), "{count} parts");
+        assert!(rt; are_in_row(&held, 0, count));
+        assert!(rt; crew.shares.len() == workers as usize);
+        if let Some(first) = first {
+            assert!(rt; crew.shares[0].as_slice() == *first);
+        }
+    }
     Ok(())
 }
 
@@ -79,84 +102,74 @@ fn no_parts(rt: HostRuntime) -> Result<(), Fail> {
 fn a_job_without_memory(rt: HostRuntime) -> Result<(), Fail> {
     let refused = work_off(&rt, rt.alloc(), 3, 2, &Refusing { part: 1 }, &OpenGate);
     assert!(rt; matches!(refused, Err(NoMemory)));
-    assert_eq!(rt; format!(in rt.alloc(); "{NoMemory}")?.as_str(), "no memory");
+    assert!(rt; format!(in rt.alloc(); "{NoMemory}")?.as_str() == "no memory");
     Ok(())
 }
 
-#[test]
-fn all_parts_and_all_workers(rt: HostRuntime) -> Result<(), Fail> {
-    let crew = work_off(&rt, rt.alloc(), 1024, 64, &Plus, &OpenGate)?;
-    assert_eq!(rt; crew.outs.len(), 1024);
-    let mut wanted = 100;
-    for out in &crew.outs {
-        assert_eq!(rt; *out, wanted);
-        wanted = out.saturating_add(1);
-    }
-    let held = parts_held(rt.alloc(), &crew)?;
-    assert_eq!(rt; held.len(), 1024);
-    assert_eq!(rt;
-        (held.first().copied(), held.last().copied()),
-        (Some(0), Some(1023))
-    );
-    Ok(())
-}
-
-#[test]
-fn some_workers_never_run(rt: HostRuntime) -> Result<(), Fail> {
-    let crew = work_off_with(&rt, rt.alloc(), 3, 4, 1, &Plus, &OpenGate)?;
-    assert_eq!(rt; crew.outs.as_slice(), [100, 101, 102].as_slice());
-    assert_eq!(rt; crew.shares.len(), 4);
-    assert_eq!(rt; crew.shares[0].as_slice(), [0, 1, 2].as_slice());
-    assert_eq!(rt; parts_held(rt.alloc(), &crew)?.len(), 3);
-    let crew = work_off_with(&rt, rt.alloc(), 0, 2, 2, &Plus, &OpenGate)?;
-    assert_eq!(rt; (crew.outs.len(), crew.shares.len()), (0, 2));
-    assert_eq!(rt; parts_held(rt.alloc(), &crew)?.len(), 0);
-    Ok(())
-}
-
-/// The next answer that is not `Lost`, of at most 1,000. On one thread a steal may lose only to a step of its own past.
-fn settled(taker: &mut Taker) -> Taken {
+/// The next answer of a taker that is not `Lost`, of at most 1,000. On one thread a steal may lose only to a step of its own past.
+fn settled(takers: &mut [Taker], who: usize) -> Option<Taken> {
+    let taker = takers.get_mut(who)?;
     for _ in 0..1000 {
         match taker.next_part() {
             Taken::Lost => {}
-            taken => return taken,
+            taken => return Some(taken),
         }
     }
-    Taken::Lost
+    None
 }
+
+/// So many parts and workers, whose turn it is and what it takes, and the shares after that.
+type Line = (
+    u32,
+    u32,
+    &'static [(usize, Taken)],
+    &'static [&'static [u32]],
+);
+
+const LINES: &[Line] = &[
+    (
+        3,
+        2,
+        &[
+            (0, Taken::Part(0)),
+            (1, Taken::Part(1)),
+            (0, Taken::Part(2)),
+            (0, Taken::Nothing),
+            (1, Taken::Nothing),
+        ],
+        &[&[0, 2], &[1]],
+    ),
+    (
+        0,
+        2,
+        &[(0, Taken::Nothing), (1, Taken::Nothing)],
+        &[&[], &[]],
+    ),
+    (
+        2,
+        1,
+        &[
+            (0, Taken::Part(0)),
+            (0, Taken::Part(1)),
+            (0, Taken::Nothing),
+        ],
+        &[&[0, 1]],
+    ),
+];
 
 #[test]
 fn takers_in_turn(rt: HostRuntime) -> Result<(), Fail> {
-    let mut takers = line_up(rt.alloc(), 3, 2)?;
-    assert_eq!(rt; takers.len(), 2);
-    assert_eq!(rt; settled(&mut takers[0]), Taken::Part(0));
-    assert_eq!(rt; settled(&mut takers[1]), Taken::Part(1));
-    assert_eq!(rt; settled(&mut takers[0]), Taken::Part(2));
-    assert_eq!(rt; settled(&mut takers[0]), Taken::Nothing);
-    assert_eq!(rt; settled(&mut takers[1]), Taken::Nothing);
-    assert_eq!(rt; takers[0].share(), [0, 2].as_slice());
-    assert_eq!(rt; takers[1].share(), [1].as_slice());
-    Ok(())
-}
-
-#[test]
-fn takers_of_no_parts(rt: HostRuntime) -> Result<(), Fail> {
-    let mut takers = line_up(rt.alloc(), 0, 2)?;
-    assert_eq!(rt; takers.len(), 2);
-    for taker in takers.iter_mut() {
-        assert_eq!(rt; settled(taker), Taken::Nothing);
-        assert_eq!(rt; taker.share().len(), 0);
+    for (count, workers, turns, shares) in LINES {
+        let (count, workers) = (*count, *workers);
+        assert!(rt; count <= 1024 && 0 < workers && workers <= 64);
+        let mut takers = line_up(rt.alloc(), count, workers)?;
+        assert!(rt; takers.len() == shares.len());
+        for (who, taken) in turns.iter() {
+            assert_eq!(rt; settled(&mut takers, *who), Some(*taken));
+        }
+        for (taker, share) in takers.iter().zip(shares.iter()) {
+            assert!(rt; taker.share() == *share);
+        }
     }
-    Ok(())
-}
-
-#[test]
-fn an_only_taker(rt: HostRuntime) -> Result<(), Fail> {
-    let mut takers = line_up(rt.alloc(), 2, 1)?;
-    assert_eq!(rt; takers.len(), 1);
-    assert_eq!(rt; settled(&mut takers[0]), Taken::Part(0));
-    assert_eq!(rt; settled(&mut takers[0]), Taken::Part(1));
-    assert_eq!(rt; settled(&mut takers[0]), Taken::Nothing);
-    assert_eq!(rt; takers[0].share(), [0, 1].as_slice());
     Ok(())
 }
