@@ -25,3 +25,8 @@ fn read(alloc: Global, text: &[u8], size: usize) -> Result<History, TextFault> {
     }
     reader.finish()
 }
+
+/// The canonical text of what a text was read as.
+fn written(alloc: Global, read: Result<History, TextFault>) -> Result<Vec<u8>, Fail> {
+    Ok(write_history(alloc, &read?)?)
+}

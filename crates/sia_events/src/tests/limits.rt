@@ -50,9 +50,8 @@ fn long_texts(rt: HostRuntime) -> Result<(), Fail> {
     let mut text = Vec::with_capacity(rt.alloc(), 16_777_217)?;
     for (front, again, times, fault) in LONG {
         text.clear();
-        text.extend_from_slice(front)?;
-        for _ in 0..*times {
-            text.extend_from_slice(again)?;
+        for at in 0..=*times {
+            text.extend_from_slice(if at == 0 { front } else { again })?;
         }
         for size in [0, 65_536] {
             assert_eq!(rt; read(rt.alloc(), text.as_slice(), size).err(), *fault);

@@ -3,9 +3,8 @@ use super::*;
 use std::fmt::Write;
 
 /// 1,200 writes of keys in an order of their own, by seven transactions, and range reads of these keys. The first lists all,
-/// and the others each second, each twelfth and each thousandth.
-fn lists_that_jump(alloc: Global) -> Result<String, Fail> {
-    let mut text = String::new(alloc);
+/// and the others each second, each twelfth and each thousandth. Then many writes of two keys, and reads of each of them.
+fn push_many(text: &mut String) -> Result<(), Fail> {
     for i in 0u64..1200 {
         let key = i * 37 % 1200;
         let txn = key % 7 + 1;
@@ -21,12 +20,6 @@ fn lists_that_jump(alloc: Global) -> Result<String, Fail> {
         }
         text.push_str("] ")?;
     }
-    Ok(text)
-}
-
-#[test]
-fn many_writes(rt: HostRuntime) -> Result<(), Fail> {
-    let mut text = lists_that_jump(rt.alloc())?;
     for txn in 1..100 {
         write!(text, "w{txn}[5005] w{txn}[5006] ")?;
     }
@@ -37,18 +30,32 @@ fn many_writes(rt: HostRuntime) -> Result<(), Fail> {
             "r200[5005..5006;5005:{txn},5006:{other}] r200[5005:{txn}] "
         )?;
     }
-    let history = read_history(rt.alloc(), text.as_bytes())?;
-    assert_eq!(rt; history.len(), 1600);
-    for unwritten in ["r9[0..9;0:1,1:3]", "r200[5005..5006;5005:99,5006:100]"] {
-        let mut more = text.clone()?;
-        more.push_str(unwritten)?;
-        assert_eq!(rt;
-            read_history(rt.alloc(), more.as_bytes()).err(),
-            Some(TextFault::Refused {
-                token: 1601,
-                reason: Reason::NotWritten
-            })
-        );
+    Ok(())
+}
+
+/// What follows the many writes and their reads, and why the text is refused, if it is.
+const ENDS: &[(&str, Option<TextFault>)] = &[
+    ("", None),
+    ("r9[0..9;0:1,1:3]", UNWRITTEN),
+    ("r200[5005..5006;5005:99,5006:100]", UNWRITTEN),
+];
+
+const UNWRITTEN: Option<TextFault> = Some(TextFault::Refused {
+    token: 1601,
+    reason: Reason::NotWritten,
+});
+
+#[test]
+fn many_writes(rt: HostRuntime) -> Result<(), Fail> {
+    for (end, fault) in ENDS {
+        let mut text = String::new(rt.alloc());
+        push_many(&mut text)?;
+        text.push_str(end)?;
+        let read = read_history(rt.alloc(), text.as_bytes());
+        if let Ok(history) = &read {
+            assert!(rt; history.len() == 1600);
+        }
+        assert_eq!(rt; read.err(), *fault);
     }
     Ok(())
 }
