@@ -23,8 +23,7 @@ fn late_and_in_time(rt: HostRuntime) -> Result<(), Fail> {
         let stealer = takers.pop().unwrap();
         let ended = AtomicBool::new(*have_ended);
         let worked = work_in_time(&rt, rt.alloc(), stealer, &ended, &Plus, &OpenGate)?;
-        assert!(rt; worked.answers.as_slice() == *answers);
-        assert!(rt; worked.taker.share() == *share);
+        assert!(rt; worked.answers.as_slice() == *answers && worked.taker.share() == *share);
         assert!(rt; takers[0].next_part() == *left);
     }
     Ok(())
