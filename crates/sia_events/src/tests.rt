@@ -1,32 +1,38 @@
 //! Texts and what they are read as, whole and in pieces.
 use super::*;
 use std::alloc::Global;
+use std::process::Abort;
 use std::test::*;
 
 mod limits;
 mod locating;
-mod pieces;
 mod telling;
 mod texts;
 mod writes;
 
-/// What a text is read as that comes in pieces of so many bytes, or whole where the size is 0.
-fn read(alloc: Global, text: &[u8], size: usize) -> Result<History, TextFault> {
+/// What a text is read as that comes in pieces of so many bytes, or whole where the size is 0. A locator goes beside the pieces.
+/// Where one found no memory, the later ones and the end must say so too.
+fn read<R: Abort + AllocGlobal>(
+    rt: &R,
+    text: &[u8],
+    size: usize,
+    locator: &mut Locator,
+) -> Result<History, TextFault> {
     if size == 0 {
-        return read_history(alloc, text);
+        return read_history(rt.alloc(), text);
     }
-    let mut reader = TextReader::new(alloc);
+    let mut reader = TextReader::new(rt.alloc());
     let mut rest = text;
+    let mut is_lost = false;
     for _ in 0..=text.len() / size {
         let (piece, after) = rest.split_at(rest.len().min(size));
-        // Where it found no memory, the answer at the end says so.
-        let _ = reader.feed(piece);
+        let is_fed = reader.feed(piece).is_ok();
+        assert!(rt; !is_fed || !is_lost);
+        is_lost = !is_fed;
+        locator.feed(piece, reader.refused());
         rest = after;
     }
-    reader.finish()
-}
-
-/// The canonical text of what a text was read as.
-fn written(alloc: Global, read: Result<History, TextFault>) -> Result<Vec<u8>, Fail> {
-    Ok(write_history(alloc, &read?)?)
+    let read = reader.finish();
+    assert!(rt; !is_lost || matches!(read, Err(TextFault::NoMemory)));
+    read
 }

@@ -53,8 +53,9 @@ fn long_texts(rt: HostRuntime) -> Result<(), Fail> {
         for at in 0..=*times {
             text.extend_from_slice(if at == 0 { front } else { again })?;
         }
-        for size in [0, 65_536] {
-            assert_eq!(rt; read(rt.alloc(), text.as_slice(), size).err(), *fault);
+        for size in &[0, 65_536] {
+            let read = read(&rt, text.as_slice(), *size, &mut Locator::new());
+            assert_eq!(rt; read.err(), *fault);
         }
     }
     Ok(())

@@ -3,8 +3,9 @@ use super::*;
 use std::fmt::Write;
 
 /// 1,200 writes of keys in an order of their own, by seven transactions, and range reads of these keys. The first lists all,
-/// and the others each second, each twelfth and each thousandth. Then many writes of two keys, and reads of each of them.
-fn push_many(text: &mut String) -> Result<(), Fail> {
+/// and the others each second, each twelfth and each thousandth. Then many writes of two keys, and reads of each of them, and
+/// then the end.
+fn push_many(text: &mut String, end: &str) -> Result<(), Fail> {
     for i in 0u64..1200 {
         let key = i * 37 % 1200;
         let txn = key % 7 + 1;
@@ -30,6 +31,7 @@ fn push_many(text: &mut String) -> Result<(), Fail> {
             "r200[5005..5006;5005:{txn},5006:{other}] r200[5005:{txn}] "
         )?;
     }
+    text.push_str(end)?;
     Ok(())
 }
 
@@ -49,8 +51,7 @@ const UNWRITTEN: Option<TextFault> = Some(TextFault::Refused {
 fn many_writes(rt: HostRuntime) -> Result<(), Fail> {
     for (end, fault) in ENDS {
         let mut text = String::new(rt.alloc());
-        push_many(&mut text)?;
-        text.push_str(end)?;
+        push_many(&mut text, end)?;
         let read = read_history(rt.alloc(), text.as_bytes());
         if let Ok(history) = &read {
             assert!(rt; history.len() == 1600);
