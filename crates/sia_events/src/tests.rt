@@ -4,11 +4,9 @@ use std::alloc::Global;
 use std::process::Abort;
 use std::test::*;
 
-mod limits;
-mod locating;
+mod long;
 mod telling;
 mod texts;
-mod writes;
 
 /// What a text is read as that comes in pieces of so many bytes, or whole where the size is 0. A locator goes beside the pieces.
 /// Where one found no memory, the later ones and the end must say so too.

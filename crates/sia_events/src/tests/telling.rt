@@ -19,65 +19,57 @@ const PIECES: Text = (&[b"  r1[1", b":0]\n\tw1[4]\r\nc", b"", b"1 "], 3);
 /// What a read, a write or a commit has of a transaction, a key and a version.
 type Parts = (TxnId, Option<Key>, Option<Version>);
 
-/// A text, a place and a key. Then the event as it is shown behind a word, what it saw of the key, whether it leaves the key out, and
-/// its parts.
-const EVENTS: &[(Text, u32, Key, &[u8], Option<Version>, bool, Option<Parts>)] = &[
-    (LISTED, 3, 3, b"event r2[1..9;3:1]", Some(1), false, None),
-    (LISTED, 3, 4, b"event r2[1..9]", Some(0), true, None),
-    (LISTED, 3, 5, b"event r2[1..9;5:3]", Some(3), false, None),
-    (LISTED, 3, 0, b"event r2[1..9]", None, true, None),
-    (LISTED, 3, 10, b"event r2[1..9]", None, true, None),
-    (PHANTOM, 4, 15, b"event r2[10..20]", Some(0), true, None),
-    (STALE, 4, 5, b"event r2[0..9;5:0]", Some(0), false, None),
+/// What an event saw of a key, whether it leaves the key out, and its parts.
+type Told = (Option<Version>, bool, Option<Parts>);
+
+/// A text, a place and a key. Then the event as it is shown behind a word, and what it tells.
+const EVENTS: &[(Text, u32, Key, &[u8], Told)] = &[
+    (LISTED, 3, 3, b"event r2[1..9;3:1]", (Some(1), false, None)),
+    (LISTED, 3, 4, b"event r2[1..9]", (Some(0), true, None)),
+    (LISTED, 3, 5, b"event r2[1..9;5:3]", (Some(3), false, None)),
+    (LISTED, 3, 0, b"event r2[1..9]", (None, true, None)),
+    (LISTED, 3, 10, b"event r2[1..9]", (None, true, None)),
+    (PHANTOM, 4, 15, b"event r2[10..20]", (Some(0), true, None)),
+    (STALE, 4, 5, b"event r2[0..9;5:0]", (Some(0), false, None)),
     (
         ABORTED,
         2,
         1,
         b"event r2[1:1]",
-        Some(1),
-        false,
-        Some((2, Some(1), Some(1))),
+        (Some(1), false, Some((2, Some(1), Some(1)))),
     ),
     (
         ABORTED,
         2,
         2,
         b"event r2[1:1]",
-        None,
-        false,
-        Some((2, Some(1), Some(1))),
+        (None, false, Some((2, Some(1), Some(1)))),
     ),
-    (ABORTED, 5, 1, b"event ", None, false, None),
-    (STARTED, 3, 1, b"event b2@0", None, false, None),
-    (PIECES, 0, 1, b"event ", None, false, None),
+    (ABORTED, 5, 1, b"event ", (None, false, None)),
+    (STARTED, 3, 1, b"event b2@0", (None, false, None)),
+    (PIECES, 0, 1, b"event ", (None, false, None)),
     (
         PIECES,
         1,
         1,
         b"event r1[1:0]",
-        Some(0),
-        false,
-        Some((1, Some(1), Some(0))),
+        (Some(0), false, Some((1, Some(1), Some(0)))),
     ),
     (
         PIECES,
         2,
         4,
         b"event w1[4]",
-        None,
-        false,
-        Some((1, Some(4), None)),
+        (None, false, Some((1, Some(4), None))),
     ),
     (
         PIECES,
         3,
         4,
         b"event c1",
-        None,
-        false,
-        Some((1, None, None)),
+        (None, false, Some((1, None, None))),
     ),
-    (PIECES, 4, 4, b"event ", None, false, None),
+    (PIECES, 4, 4, b"event ", (None, false, None)),
 ];
 
 fn parts(event: Option<&Event>) -> Option<Parts> {
@@ -93,7 +85,7 @@ fn parts(event: Option<&Event>) -> Option<Parts> {
 fn events_about_a_key(rt: HostRuntime) -> Result<(), Fail> {
     let mut out = Vec::new(rt.alloc());
     out.extend_from_slice(b"event ")?;
-    for (text, place, key, told, saw, leaves_out, has) in EVENTS {
+    for (text, place, key, shown, wanted) in EVENTS {
         let (place, key) = (*place, *key);
         let mut reader = TextReader::new(rt.alloc());
         for piece in text.0 {
@@ -102,11 +94,12 @@ fn events_about_a_key(rt: HostRuntime) -> Result<(), Fail> {
         let history = reader.finish()?;
         out.truncate(6);
         history.push_about(&mut out, place, key)?;
-        assert!(rt; out.as_slice() == *told && history.len() == text.1);
-        assert!(rt;
-            history.saw(place, key) == *saw && history.leaves_out(place, key) == *leaves_out
+        let told = (
+            history.saw(place, key),
+            history.leaves_out(place, key),
+            parts(history.event(place)),
         );
-        assert!(rt; parts(history.event(place)) == *has);
+        assert!(rt; out.as_slice() == *shown && told == *wanted && history.len() == text.1);
     }
     Ok(())
 }

@@ -1,37 +1,45 @@
-//! Texts that are read, with their canonical texts, and texts that are refused: the same however they are cut.
+//! Texts that are read, with their canonical texts, and texts that are refused, and where: the same however they are cut.
 use super::*;
+
+/// The line and the column of a refused token, and what is shown of it.
+type Located = (u32, u32, &'static [u8]);
 
 /// A text that is canonical already.
 macro_rules! same {
     ($text:literal) => {
-        ($text, Ok($text))
+        ($text, Ok($text), None)
     };
 }
 
-/// A text, its refused token, and why it is refused.
+/// A text, its refused token, and why it is refused. Then where the token stands, if that is looked at.
 macro_rules! refused {
     ($text:literal, $token:literal, $reason:ident) => {
+        refused!($text, $token, $reason, None)
+    };
+    ($text:literal, $token:literal, $reason:ident, $located:expr) => {
         (
             $text,
             Err(TextFault::Refused {
                 token: $token,
                 reason: Reason::$reason,
             }),
+            $located,
         )
     };
 }
 
-/// Of those that are read the last two have writes that share a bucket and a tag of the table of guesses. Of those that are refused
-/// the four before the last two have transactions whose numbers share a group of slots, which has room for eight, and in the last
-/// two one of two writes that share a bucket and a tag is read and was not written. Memory that is refused to the tests one call at a
-/// time is refused in each call of the first rows, so these are of each kind.
-const TEXTS: &[(&[u8], Result<&[u8], TextFault>)] = &[
+/// Of those that are read the last two have writes that share a bucket and a tag of the table of guesses. Of those that are
+/// refused with no place the four before the last two have transactions whose numbers share a group of slots, which has room for
+/// eight, and in the last two one of two writes that share a bucket and a tag is read and was not written. Where memory is refused
+/// to the tests one call at a time, each call of the first rows is refused, so these are of each kind.
+const TEXTS: &[(&[u8], Result<&[u8], TextFault>, Option<Located>)] = &[
     refused!(b"r1[9..3]", 1, EmptyRange),
-    (b"b1@0  c1", Ok(b"b1@0 c1")),
+    (b"b1@0  c1", Ok(b"b1@0 c1"), None),
     same!(b"w1[1] w1[2] c1 b2@0 r2[0..9;1:1,2:0] b4294967295 c2"),
     (
         b"  r1[3..9;5:0]\n\tw1[4]\r\nc1 ",
         Ok(b"r1[3..9;5:0] w1[4] c1"),
+        None,
     ),
     same!(b""),
     same!(b"r1[1:0] c1"),
@@ -116,6 +124,34 @@ const TEXTS: &[(&[u8], Result<&[u8], TextFault>)] = &[
     ),
     refused!(b"w2[2715] r9[3269:3]", 2, NotWritten),
     refused!(b"w3[3269] r9[0..5000;2715:2]", 2, NotWritten),
+    refused!(b"r1[5:2] w2[5]\n", 1, NotWritten, Some((1, 1, b"r1[5:2]"))),
+    refused!(
+        b"b1 r1[7:0]\nw1[7] c1\n\tb2 r2[cl\xc3\xa9:1] c2\n",
+        6,
+        BadEvent,
+        Some((3, 5, b"r2[cl\\xc3\\xa9:1]"))
+    ),
+    refused!(b"\n\n \r\t\x0b", 1, BadEvent, Some((3, 4, b"\\x0b"))),
+    refused!(b"c1\nx", 2, BadEvent, Some((2, 1, b"x"))),
+    refused!(
+        b"c1\r\n\\\x7e\x7f!",
+        2,
+        BadEvent,
+        Some((2, 1, b"\\x5c~\\x7f!"))
+    ),
+    refused!(b"c1 x c1\nx x", 2, BadEvent, Some((1, 4, b"x"))),
+    refused!(b"\x00\xff \n", 1, BadEvent, Some((1, 1, b"\\x00\\xff"))),
+    refused!(
+        b"c1 1234567890123456789012345678901234567890123456789012345678901",
+        2,
+        BadEvent,
+        Some((
+            1,
+            4,
+            b"123456789012345678901234567890123456789012345678901234567890"
+        ))
+    ),
+    refused!(b"c1 r2[9..3]\n", 2, EmptyRange, Some((1, 4, b"r2[9..3]"))),
 ];
 
 /// The canonical text of what a text was read as.
@@ -127,14 +163,22 @@ fn written(alloc: Global, read: Result<History, TextFault>) -> Result<Vec<u8>, T
 }
 
 #[test]
-fn texts_however_cut(rt: HostRuntime) {
-    for (text, wanted) in TEXTS {
-        for size in 0..=text.len() {
-            let read = read(&rt, text, size, &mut Locator::new());
+fn texts_however_cut(rt: HostRuntime) -> Result<(), Fail> {
+    let mut shown = Vec::new(rt.alloc());
+    for (text, wanted, located) in TEXTS {
+        for size in 0..=text.len() + 1 {
+            let mut locator = Locator::new();
+            let read = read(&rt, text, size, &mut locator);
             match written(rt.alloc(), read) {
                 Ok(canonical) => assert!(rt; Ok(canonical.as_slice()) == *wanted),
                 Err(fault) => assert_eq!(rt; Err(fault), *wanted),
             }
+            shown.clear();
+            push_shown(&mut shown, locator.token())?;
+            let Place { line, column } = locator.place();
+            let found = Some((line, column, shown.as_slice()));
+            assert!(rt; size == 0 || located.is_none() || found == *located);
         }
     }
+    Ok(())
 }
