@@ -21,13 +21,13 @@ impl Job for Plus {
     }
 }
 
-/// The same, but it has no memory for one part.
+/// The same, but it may have no memory for one part.
 #[derive(Drop)]
-pub(crate) struct Refusing {
-    pub(crate) part: u32,
+struct Lacking {
+    part: Option<u32>,
 }
 
-impl Job for Refusing {
+impl Job for Lacking {
     type Out = u32;
 
     ghost takes = { λ _ part. part < 1024 };
@@ -35,7 +35,7 @@ impl Job for Refusing {
     ghost owes = { λ _ part out. out ≡ part + 100 };
 
     fn run(&self, part: u32) -> Result<u32, NoMemory> {
-        if part == self.part {
+        if self.part == Some(part) {
             Err(NoMemory)
         } else {
             Ok(part + 100)
@@ -67,39 +67,38 @@ fn are_in_row(numbers: &[u32], first: u32, count: u32) -> bool {
     numbers.len() == count as usize
 }
 
-/// So many parts and workers, and how many of these run: 0 where all do. Then what the first takes first,
-/// as far as that is known.
-const CREWS: &[(u32, u32, u32, &[u32])] = &[
-    (3, 64, 0, &[]),
-    (0, 3, 0, &[]),
-    (1024, 64, 0, &[]),
-    (3, 4, 1, &[0, 1, 2]),
-    (0, 2, 2, &[]),
+/// So many parts and workers, and how many of these run: 0 where all do. Then the part that there is no memory for, and what the
+/// first worker takes first, as far as that is known.
+const CREWS: &[(u32, u32, u32, Option<u32>, &[u32])] = &[
+    (3, 64, 0, None, &[]),
+    (0, 3, 0, None, &[]),
+    (1024, 64, 0, None, &[]),
+    (3, 4, 1, None, &[0, 1, 2]),
+    (0, 2, 2, None, &[]),
+    (3, 2, 0, Some(1), &[]),
 ];
 
 #[test]
 fn crews(rt: HostRuntime) -> Result<(), Fail> {
-    for (count, workers, start, first) in CREWS {
+    assert!(rt; format!(in rt.alloc(); "{NoMemory}")?.as_str() == "no memory");
+    for (count, workers, start, part, first) in CREWS {
         let (count, workers, start) = (*count, *workers, *start);
         assert!(rt; count <= 1024 && 0 < workers && start <= workers && workers <= 64);
+        let job = Lacking { part: *part };
         let worked = if start == 0 {
-            work_off(&rt, rt.alloc(), count, workers, &Plus, &OpenGate)
+            work_off(&rt, rt.alloc(), count, workers, &job, &OpenGate)
         } else {
-            work_off_with(&rt, rt.alloc(), count, workers, start, &Plus, &OpenGate)
+            work_off_with(&rt, rt.alloc(), count, workers, start, &job, &OpenGate)
         };
+        if part.is_some() {
+            assert!(rt; matches!(worked, Err(NoMemory)));
+            continue;
+        }
         let crew = worked?;
         let held = parts_held(rt.alloc(), &crew)?;
         assert!(rt; are_in_row(&crew.outs, 100, count) && are_in_row(&held, 0, count));
         assert!(rt; crew.shares.len() == workers as usize && crew.shares[0].starts_with(first));
     }
-    Ok(())
-}
-
-#[test]
-fn a_job_without_memory(rt: HostRuntime) -> Result<(), Fail> {
-    assert!(rt; format!(in rt.alloc(); "{NoMemory}")?.as_str() == "no memory");
-    let refused = work_off(&rt, rt.alloc(), 3, 2, &Refusing { part: 1 }, &OpenGate);
-    assert!(rt; matches!(refused, Err(NoMemory)));
     Ok(())
 }
 
