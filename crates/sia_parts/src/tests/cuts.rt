@@ -1,8 +1,6 @@
-//! Cuttings, and what is found in single parts.
-use super::histories::{PHANTOMS, WIDE_RANGE};
+//! Cuttings of the keys, and an edge as a number.
 use crate::*;
-use sia_events::{Key, read_history};
-use sia_index::make::index;
+use sia_events::Key;
 use std::test::*;
 
 const CUTTINGS: &[(&[Key], &[Part])] = &[
@@ -13,48 +11,28 @@ const CUTTINGS: &[(&[Key], &[Part])] = &[
     ),
 ];
 
+// At most there are 1,024 parts.
 #[test]
 fn parts_of_points(rt: HostRuntime) -> Result<(), Fail> {
     for (points, wanted) in CUTTINGS {
         let parts = cut(rt.alloc(), points)?;
-        assert_eq!(rt; parts.as_slice(), *wanted);
+        assert!(rt; parts.as_slice() == *wanted, "{points:?}");
     }
-    Ok(())
-}
-
-#[test]
-fn most_cuts(rt: HostRuntime) -> Result<(), Fail> {
     let mut points = Vec::new(rt.alloc());
     for point in 1..1024 {
         points.push(point)?;
     }
-    let parts = cut(rt.alloc(), &points)?;
-    assert_eq!(rt; parts.len(), 1024);
+    assert!(rt; cut(rt.alloc(), &points)?.len() == 1024);
     points.push(1024)?;
     assert_eq!(rt; cut(rt.alloc(), &points).err(), Some(CutFault::TooMany));
     Ok(())
 }
 
-/// A history, a part, and the edges at its keys. There is no other finding.
-const PARTS: &[(&[u8], Part, &[Edge])] = &[
-    (PHANTOMS, part!(0, 13), &[edge!(2, Rw, 1, 12)]),
-    (PHANTOMS, part!(14, Key::MAX), &[edge!(1, Rw, 2, 15)]),
-    (WIDE_RANGE, part!(11, 19), &[edge!(1, Rw, 2, 19)]),
-    (WIDE_RANGE, part!(20, 9), &[]),
-];
-
+// Of the committed 2 and 5 the first is number 0, and the second is number 1: the edge from 2 to 5, of the second kind, at the
+// only key.
 #[test]
-fn edges_in_parts(rt: HostRuntime) -> Result<(), Fail> {
-    for (text, part, edges) in PARTS {
-        let history = read_history(rt.alloc(), text)?;
-        let index = index(rt.alloc(), &history)?;
-        let found = audit_part(rt.alloc(), &history, &index, *part)?;
-        assert!(rt;
-            found.bad_reads.is_empty()
-                && found.bad_writes.is_empty()
-                && found.unexplained.is_empty()
-        );
-        assert_eq!(rt; found.edges.as_slice(), *edges);
-    }
+fn number_of_an_edge(rt: HostRuntime) -> Result<(), Fail> {
+    let edges = edges_of_numbers(rt.alloc(), &[2, 5], &[7], &[5 * 1_048_576])?;
+    assert!(rt; edges.as_slice() == [edge!(2, Wr, 5, 7)].as_slice());
     Ok(())
 }

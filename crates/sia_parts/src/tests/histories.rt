@@ -1,6 +1,27 @@
 //! Small histories, worked out by hand from the definitions.
 use crate::*;
-use sia_events::Key;
+use sia_events::{Key, TxnId};
+
+macro_rules! look {
+    ($txn:expr, $key:expr, $low:expr, $high:expr) => {
+        Look {
+            txn: $txn,
+            key: $key,
+            low: $low,
+            high: $high,
+        }
+    };
+}
+
+macro_rules! absence {
+    ($txn:expr, $from:expr, $to:expr) => {
+        Absence {
+            txn: $txn,
+            from: $from,
+            to: $to,
+        }
+    };
+}
 
 /// A history, the ways its keys are cut, and what is to be found.
 pub struct Worked<'a> {
@@ -13,7 +34,7 @@ pub struct Worked<'a> {
 }
 
 /// No event.
-pub const NOTHING: Worked<'static> = Worked {
+const NOTHING: Worked<'static> = Worked {
     text: b"",
     cuttings: &[&[], &[5]],
     bad_reads: &[],
@@ -22,17 +43,34 @@ pub const NOTHING: Worked<'static> = Worked {
     edges: &[],
 };
 
-/// No finding but edges, however the keys are cut.
-pub const NOTHING_ELSE: &Worked<'static> = &Worked {
-    cuttings: &[&[], &[5], &[2, 500, 1002]],
-    ..NOTHING
+/// What else is to be found in some of the histories.
+pub struct More<'a> {
+    /// Behind the edges, more that lead from one to each target up to before another, and what their keys rise by.
+    pub edges: &'a [(Edge, TxnId, Key)],
+    /// How many places chunks of about 48 edges lie between at least.
+    pub places: usize,
+    /// The committed transactions, where any are named.
+    pub committed: &'a [TxnId],
+    /// Who wrote and saw keys, where anyone is named.
+    pub writers: &'a [Look],
+    pub readers: &'a [Look],
+    pub absences: &'a [Absence],
+    /// Single parts of the keys, and the edges in each. There is no other finding.
+    pub parts: &'a [(Part, &'a [Edge])],
+}
+
+/// No more than that.
+const NO_MORE: More<'static> = More {
+    edges: &[],
+    places: 0,
+    committed: &[],
+    writers: &[],
+    readers: &[],
+    absences: &[],
+    parts: &[],
 };
 
-/// Two ranges across a cut: each part has the edge of its own key.
-pub const PHANTOMS: &[u8] = b"b1 b2 r1[10..20] r2[10..20] w1[12] w2[15] c1 c2";
-
-/// A range that begins and ends at parts' ends covers its first key and its last, and none beside them.
-pub const WIDE_RANGE: &[u8] = b"r1[10..19] w2[9] w2[10] w2[19] w2[20] c2 c1";
+pub const NOTHING_MORE: &More<'static> = &NO_MORE;
 
 pub const HISTORIES: &[Worked<'static>] = &[
     NOTHING,
@@ -234,23 +272,11 @@ pub const HISTORIES: &[Worked<'static>] = &[
         edges: &[edge!(1, Wr, 2, Key::MAX)],
         ..NOTHING
     },
-    Worked {
-        text: PHANTOMS,
-        cuttings: &[&[], &[14], &[15, 15, 0, 11]],
-        edges: &[edge!(1, Rw, 2, 15), edge!(2, Rw, 1, 12)],
-        ..NOTHING
-    },
     // The least key and the greatest.
     Worked {
         text: b"r1[0..18446744073709551615] w2[0] w2[18446744073709551615] c2 c1",
         cuttings: &[&[], &[0, Key::MAX]],
         edges: &[edge!(1, Rw, 2, 0), edge!(1, Rw, 2, Key::MAX)],
-        ..NOTHING
-    },
-    Worked {
-        text: WIDE_RANGE,
-        cuttings: &[&[], &[10, 20], &[9, 11, 19]],
-        edges: &[edge!(1, Rw, 2, 10), edge!(1, Rw, 2, 19)],
         ..NOTHING
     },
     // Wide ranges that are read again: by 1 before any version was committed, by 3 after that, and by 4 after its own write.
@@ -311,3 +337,148 @@ pub const HISTORIES: &[Worked<'static>] = &[
         ..NOTHING
     },
 ];
+
+pub const MORE: &[(Worked<'static>, More<'static>)] = &[
+    // 1 aborted, 3 is open, and the greatest comes first.
+    (
+        Worked {
+            text: b"c9 w1[7] w2[7] r3[7:0] a1 c2",
+            ..NOTHING
+        },
+        More {
+            committed: &[2, 9],
+            ..NO_MORE
+        },
+    ),
+    // 1 is number 0, and 2 number 1. 2 saw version 0 and then 1's version of key 3, 1's version of key 5, which its range lists,
+    // and version 0 of keys 4 and 6, which its range passes over: these have the numbers 1 and 3. Key 3, with number 0, lies
+    // before the range, and nobody wrote key 7.
+    (
+        Worked {
+            text: b"r2[3:0] w1[3] w1[4] w1[5] w1[6] c1 r2[3:1] r2[4..7;5:1] w2[5] c2",
+            bad_reads: &[bad_read!(7, 2, 3, 1, 0), bad_read!(8, 2, 5, 1, 0)],
+            bad_writes: &[bad_write!(5, 1, 2)],
+            edges: &[
+                edge!(1, Ww, 2, 5),
+                edge!(1, Wr, 2, 3),
+                edge!(1, Wr, 2, 5),
+                edge!(2, Rw, 1, 3),
+                edge!(2, Rw, 1, 4),
+                edge!(2, Rw, 1, 6),
+            ],
+            ..NOTHING
+        },
+        More {
+            writers: &[
+                look!(0, 0, 6, 6),
+                look!(0, 1, 6, 6),
+                look!(0, 2, 6, 6),
+                look!(1, 2, 10, 10),
+                look!(0, 3, 6, 6),
+            ],
+            readers: &[look!(1, 0, 0, 6), look!(1, 2, 6, 6)],
+            absences: &[absence!(1, 1, 2), absence!(1, 3, 4)],
+            ..NO_MORE
+        },
+    ),
+    // Two ranges across a cut: each part has the edge of its own key.
+    (
+        Worked {
+            text: b"b1 b2 r1[10..20] r2[10..20] w1[12] w2[15] c1 c2",
+            cuttings: &[&[], &[14], &[15, 15, 0, 11]],
+            edges: &[edge!(1, Rw, 2, 15), edge!(2, Rw, 1, 12)],
+            ..NOTHING
+        },
+        More {
+            parts: &[
+                (part!(0, 13), &[edge!(2, Rw, 1, 12)]),
+                (part!(14, Key::MAX), &[edge!(1, Rw, 2, 15)]),
+            ],
+            ..NO_MORE
+        },
+    ),
+    // A range that begins and ends at parts' ends covers its first key and its last, and none beside them.
+    (
+        Worked {
+            text: b"r1[10..19] w2[9] w2[10] w2[19] w2[20] c2 c1",
+            cuttings: &[&[], &[10, 20], &[9, 11, 19]],
+            edges: &[edge!(1, Rw, 2, 10), edge!(1, Rw, 2, 19)],
+            ..NOTHING
+        },
+        More {
+            parts: &[(part!(11, 19), &[edge!(1, Rw, 2, 19)]), (part!(20, 9), &[])],
+            ..NO_MORE
+        },
+    ),
+    // Twenty versions of a key, by 1 to 20. 31 saw the last of them and another key, and two saw version 0, one of them by a range
+    // read.
+    (
+        Worked {
+            text: b"b32 b33 w1[7] c1 w2[7] c2 w3[7] c3 w4[7] c4 w5[7] c5 w6[7] c6 w7[7] c7 w8[7] c8 w9[7] c9 w10[7] c10 w11[7] c11 \
+                w12[7] c12 w13[7] c13 w14[7] c14 w15[7] c15 w16[7] c16 w17[7] c17 w18[7] c18 w19[7] c19 w20[7] c20 \
+                w30[1] c30 r31[1:30] r31[7:20] c31 r32[7:0] c32 r33[6..8] c33",
+            cuttings: &[&[], &[5], &[2, 500, 1002]],
+            ..NOTHING
+        },
+        More {
+            edges: &[
+                (edge!(1, Ww, 2, 7), 21, 0),
+                (edge!(1, Wr, 31, 7), 32, 0),
+                (edge!(2, Ww, 3, 7), 21, 0),
+                (edge!(2, Wr, 31, 7), 32, 0),
+                (edge!(3, Ww, 4, 7), 21, 0),
+                (edge!(3, Wr, 31, 7), 32, 0),
+                (edge!(4, Ww, 5, 7), 21, 0),
+                (edge!(4, Wr, 31, 7), 32, 0),
+                (edge!(5, Ww, 6, 7), 21, 0),
+                (edge!(5, Wr, 31, 7), 32, 0),
+                (edge!(6, Ww, 7, 7), 21, 0),
+                (edge!(6, Wr, 31, 7), 32, 0),
+                (edge!(7, Ww, 8, 7), 21, 0),
+                (edge!(7, Wr, 31, 7), 32, 0),
+                (edge!(8, Ww, 9, 7), 21, 0),
+                (edge!(8, Wr, 31, 7), 32, 0),
+                (edge!(9, Ww, 10, 7), 21, 0),
+                (edge!(9, Wr, 31, 7), 32, 0),
+                (edge!(10, Ww, 11, 7), 21, 0),
+                (edge!(10, Wr, 31, 7), 32, 0),
+                (edge!(11, Ww, 12, 7), 21, 0),
+                (edge!(11, Wr, 31, 7), 32, 0),
+                (edge!(12, Ww, 13, 7), 21, 0),
+                (edge!(12, Wr, 31, 7), 32, 0),
+                (edge!(13, Ww, 14, 7), 21, 0),
+                (edge!(13, Wr, 31, 7), 32, 0),
+                (edge!(14, Ww, 15, 7), 21, 0),
+                (edge!(14, Wr, 31, 7), 32, 0),
+                (edge!(15, Ww, 16, 7), 21, 0),
+                (edge!(15, Wr, 31, 7), 32, 0),
+                (edge!(16, Ww, 17, 7), 21, 0),
+                (edge!(16, Wr, 31, 7), 32, 0),
+                (edge!(17, Ww, 18, 7), 21, 0),
+                (edge!(17, Wr, 31, 7), 32, 0),
+                (edge!(18, Ww, 19, 7), 21, 0),
+                (edge!(18, Wr, 31, 7), 32, 0),
+                (edge!(19, Ww, 20, 7), 21, 0),
+                (edge!(19, Wr, 31, 7), 32, 0),
+                (edge!(20, Wr, 31, 7), 32, 0),
+                (edge!(30, Wr, 31, 1), 32, 0),
+                (edge!(32, Rw, 1, 7), 21, 0),
+                (edge!(33, Rw, 1, 7), 21, 0),
+            ],
+            places: 3,
+            ..NO_MORE
+        },
+    ),
+];
+
+/// A range over all keys, with a thousand keys that were written before it and not listed. Its text is made where it is read.
+pub const MANY_MISSED: &(Worked<'static>, More<'static>) = &(
+    Worked {
+        cuttings: &[&[], &[5], &[2, 500, 1002]],
+        ..NOTHING
+    },
+    More {
+        edges: &[(edge!(1, Rw, 2, 2), 1002, 1)],
+        ..NO_MORE
+    },
+);

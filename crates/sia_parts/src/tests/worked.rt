@@ -1,135 +1,189 @@
 //! Findings of worked histories, of audited parts, and the same edges from what was seen.
 ghost use Rattle.std.specs.Prelude.{◌≡◌, IfOk};
 ghost use Rattle.std.specs.List.{AllZip};
+ghost use Rattle.sia_events.specs.Lists.{ListsAscending};
+ghost use Rattle.sia_events.specs.Transactions.{IsCommitted};
 ghost use Rattle.sia_parts.specs.Findings.{ArePartFindings};
+ghost use Rattle.sia_parts.specs.Gathering.{CanSpread, IsPartFound};
+ghost use Rattle.sia_parts.specs.Parts.{IsInPart};
 
-use super::chunked::chunked;
-use super::histories::{HISTORIES, NOTHING_ELSE, Worked};
+use super::histories::{HISTORIES, MANY_MISSED, MORE, More, NOTHING_MORE, Worked};
 use crate::*;
-use sia_events::{History, Key, NoMemory, read_history};
+use sia_events::{History, Key, NoMemory, TxnId, read_history};
 use sia_index::Index;
 use sia_index::make::index;
 use std::alloc::Global;
 use std::fmt::Write;
-use std::process::Abort;
 use std::test::*;
 
-// The findings of the history of the text, part by part of the cutting and gathered.
-fn findings_of(alloc: Global, text: &[u8], points: &[Key]) -> Result<Findings, Fail> {
-    let history = read_history(alloc, text)?;
-    let index = index(alloc, &history)?;
-    let findings = gathered(alloc, &history, &index, points)?;
-    Ok(findings)
+// What is found in each part, in order: with edges, and with looks.
+fn found_in_parts(
+    alloc: Global,
+    h: &History,
+    ix: &Index,
+    committed: &Committed,
+    parts: &[Part],
+) -> Result<(Vec<PartFindings>, Vec<PartFound>), NoMemory>
+    requires index { ix.now ≡ h.now }
+    requires committed { ListsAscending (IsCommitted ix.now) committed.now }
+    ensures { IfOk result (λ (audited, seen). AllZip (ArePartFindings h.now) parts.now audited.items
+        × AllZip (λ part found. IsPartFound h.now (IsInPart part) found) parts.now seen.items) }
+{
+    let mut audited = Vec::new(alloc);
+    let mut seen = Vec::new(alloc);
+    for part in parts {
+        let audit = audit_part(alloc, h, ix, *part)?;
+        audited.push(audit)?;
+        let found = find_in_part(alloc, h, ix, committed, *part)?;
+        seen.push(found)?;
+    }
+    Ok((audited, seen))
 }
 
-// The findings of the history by its index, part by part of the cutting and gathered.
-fn gathered(alloc: Global, h: &History, ix: &Index, points: &[Key]) -> Result<Findings, Fail>
+fn edges_of(alloc: Global, edges: &[Edge], more: &More<'_>) -> Result<Vec<Edge>, NoMemory> {
+    let mut all = Vec::new(alloc);
+    all.extend_from_slice(edges)?;
+    for (first, end, step) in more.edges {
+        let mut key = first.key;
+        for dst in first.dst..*end {
+            all.push(Edge { dst, key, ..*first })?;
+            key = key.wrapping_add(*step);
+        }
+    }
+    Ok(all)
+}
+
+fn are_findings(found: &Findings, edges: &[Edge], it: &Worked<'_>) -> bool {
+    found.bad_reads.as_slice() == it.bad_reads
+        && found.bad_writes.as_slice() == it.bad_writes
+        && found.unexplained.as_slice() == it.unexplained
+        && found.edges.as_slice() == edges
+}
+
+// The readers stand in any order.
+fn are_looks(looks: &Looks, it: &More<'_>) -> bool {
+    for reader in it.readers {
+        if !looks.readers.contains(reader) {
+            return false;
+        }
+    }
+    looks.readers.len() == it.readers.len()
+        && looks.writers.as_slice() == it.writers
+        && looks.absences.as_slice() == it.absences
+}
+
+// How many places the chunks of about the size lie between, and whether they have the edges, one after another.
+fn in_chunks(
+    alloc: Global,
+    fans: &Fans,
+    ids: &[TxnId],
+    keys: &[Key],
+    size: usize,
+    wanted: &[Edge],
+) -> Result<(usize, bool), NoMemory>
+    requires { CanSpread fans.now }
+{
+    let bounds = ChunkBounds::of(alloc, fans, ids.len(), size)?;
+    let places = bounds.places.as_slice();
+    let mut numbers = Vec::new(alloc);
+    for i in 1..places.len() {
+        let some = fans.chunk(alloc, places[i - 1], places[i])?;
+        numbers.extend_from_slice(&some)?;
+    }
+    let edges = edges_of_numbers(alloc, ids, keys, &numbers)?;
+    Ok((places.len(), edges.as_slice() == wanted))
+}
+
+// Whether all that is wanted is found, with these edges, part by part of the cutting and gathered, and the same edges in chunks.
+fn is_found(
+    alloc: Global,
+    h: &History,
+    ix: &Index,
+    points: &[Key],
+    edges: &[Edge],
+    it: &Worked<'_>,
+    more: &More<'_>,
+) -> Result<bool, Fail>
     requires { ix.now ≡ h.now }
 {
     ix.law();
     let parts = cut(alloc, points)?;
-    let found = audited(alloc, h, ix, &parts)?;
-    let findings = gather(alloc, found)?;
-    Ok(findings)
+    let committed = Committed::of(alloc, ix)?;
+    let (audited, seen) = found_in_parts(alloc, h, ix, &committed, &parts)?;
+    let findings = gather(alloc, audited)?;
+    let gathering = Gathering::of(alloc, seen)?;
+    let mut is_so = are_findings(&findings, edges, it)
+        && (more.committed.is_empty() || committed.ids() == more.committed)
+        && (more.writers.is_empty() || are_looks(&gathering.looks, more));
+    let fans = Fans::of(alloc, ix, &committed, gathering.looks)?;
+    for size in [1, 7, 48, 1000] {
+        let (places, is_same) = in_chunks(
+            alloc,
+            &fans,
+            committed.ids(),
+            ix.written_keys(),
+            size,
+            edges,
+        )?;
+        is_so &= is_same && (size != 48 || places >= more.places);
+    }
+    Ok(is_so)
 }
 
-// The findings of each part, in order.
-fn audited(
+// The same, cut in each of the ways, and in the single parts.
+fn is_told(
     alloc: Global,
     h: &History,
     ix: &Index,
-    parts: &[Part],
-) -> Result<Vec<PartFindings>, NoMemory>
+    it: &Worked<'_>,
+    more: &More<'_>,
+) -> Result<bool, Fail>
     requires { ix.now ≡ h.now }
-    ensures { IfOk result (λ found. AllZip (ArePartFindings h.now) parts.now found.items) }
 {
-    let mut found = Vec::new(alloc);
-    for part in parts {
-        let audit = audit_part(alloc, h, ix, *part)?;
-        found.push(audit)?;
+    let edges = edges_of(alloc, it.edges, more)?;
+    let mut is_so = true;
+    for points in it.cuttings {
+        is_so &= is_found(alloc, h, ix, points, &edges, it, more)?;
     }
-    Ok(found)
+    for (part, edges) in more.parts {
+        let found = audit_part(alloc, h, ix, *part)?;
+        is_so &= found.edges.as_slice() == *edges
+            && found.bad_reads.is_empty()
+            && found.bad_writes.is_empty()
+            && found.unexplained.is_empty();
+    }
+    Ok(is_so)
 }
 
-// That these edges are found in the history of the text, and else what is wanted, cut in each of the ways; and the same edges in
-// chunks of each of some sizes.
-fn expect<R: Abort + AllocGlobal>(
-    rt: &R,
-    text: &[u8],
-    edges: &[Edge],
-    it: &Worked<'_>,
-) -> Result<(), Fail> {
-    for points in it.cuttings {
-        for size in [1, 7, 48, 1000] {
-            let (_, found) = chunked(rt.alloc(), text, points, size)?;
-            assert_eq!(rt; found.as_slice(), edges);
-        }
-        let found = findings_of(rt.alloc(), text, points)?;
-        assert_eq!(rt; found.bad_reads.as_slice(), it.bad_reads);
-        assert_eq!(rt; found.bad_writes.as_slice(), it.bad_writes);
-        assert_eq!(rt; found.unexplained.as_slice(), it.unexplained);
-        assert_eq!(rt; found.edges.as_slice(), edges);
-    }
-    Ok(())
+// The same, of the text.
+fn is_worked(alloc: Global, text: &[u8], it: &Worked<'_>, more: &More<'_>) -> Result<bool, Fail> {
+    let history = read_history(alloc, text)?;
+    let index = index(alloc, &history)?;
+    is_told(alloc, &history, &index, it, more)
 }
 
 #[test]
 fn histories(rt: HostRuntime) -> Result<(), Fail> {
-    for it in HISTORIES {
-        expect(&rt, it.text, it.edges, it)?;
+    for (i, it) in HISTORIES.iter().enumerate() {
+        assert!(rt;
+            is_worked(rt.alloc(), it.text, it, NOTHING_MORE)?,
+            "history {i}"
+        );
     }
     Ok(())
 }
 
-// Twenty versions of a key, by 1 to 20. 31 saw the last of them and another key, and two saw version 0, one of them by a range
-// read.
-fn busy(alloc: Global) -> Result<String, Fail> {
-    let mut text = String::from_str(alloc, "b32 b33 ")?;
-    for i in 1..21 {
-        write!(text, "w{i}[7] c{i} ")?;
-    }
-    text.push_str("w30[1] c30 r31[1:30] r31[7:20] c31 r32[7:0] c32 r33[6..8] c33")?;
-    Ok(text)
-}
-
-fn edges_of_busy(alloc: Global) -> Result<Vec<Edge>, Fail> {
-    let mut edges = Vec::new(alloc);
-    for src in 1..21 {
-        for dst in src + 1..21 {
-            edges.push(edge!(src, Ww, dst, 7))?;
-        }
-        edges.push(edge!(src, Wr, 31, 7))?;
-    }
-    edges.push(edge!(30, Wr, 31, 1))?;
-    for src in [32, 33] {
-        for dst in 1..21 {
-            edges.push(edge!(src, Rw, dst, 7))?;
-        }
-    }
-    Ok(edges)
-}
-
 #[test]
-fn many_versions(rt: HostRuntime) -> Result<(), Fail> {
-    let text = busy(rt.alloc())?;
-    let edges = edges_of_busy(rt.alloc())?;
-    assert_eq!(rt; edges.len(), 251);
-    expect(&rt, text.as_bytes(), &edges, NOTHING_ELSE)?;
-    let (chunks, _) = chunked(rt.alloc(), text.as_bytes(), &[], 48)?;
-    assert!(rt; chunks > 1);
-    Ok(())
-}
-
-// A range over all keys, with a thousand keys that were written before it and not listed.
-#[test]
-fn range_over_many_keys(rt: HostRuntime) -> Result<(), Fail> {
+fn histories_and_more(rt: HostRuntime) -> Result<(), Fail> {
+    for (i, (it, more)) in MORE.iter().enumerate() {
+        assert!(rt; is_worked(rt.alloc(), it.text, it, more)?, "history {i}");
+    }
     let mut text = String::from_str(rt.alloc(), "b1")?;
-    let mut edges = Vec::new(rt.alloc());
     for i in 2..1002 {
         write!(text, " w{i}[{i}] c{i}")?;
-        edges.push(edge!(1, Rw, i, Key::from(i)))?;
     }
     text.push_str(" r1[0..18446744073709551615] c1")?;
-    expect(&rt, text.as_bytes(), &edges, NOTHING_ELSE)?;
+    let (it, more) = MANY_MISSED;
+    assert!(rt; is_worked(rt.alloc(), text.as_bytes(), it, more)?);
     Ok(())
 }

@@ -1,9 +1,0 @@
--- What is found in the parts so far.
-use Rattle.std.proofs.Common.{take}
-use Rattle.std.specs.List.{AllZip}
-use Rattle.sia_parts.specs.Gathering.{IsPartFound}
-use Rattle.sia_parts.specs.Parts.{IsInPart}
-use Rattle.sia_parts.proofs.tests.seen.found_in_parts.Given as goal
-
-abbrev pub invariant-loop-part : goal.invariant-loop-part
-invariant-loop-part l = AllZip (λ part found. IsPartFound l.h (IsInPart part) found) (take l.part-index l.parts) l.all.items
