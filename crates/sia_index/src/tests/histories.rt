@@ -1,0 +1,427 @@
+//! Small histories, and what an index is to answer of them, worked out by hand.
+use crate::*;
+use sia_events::{Key, TxnId, Version};
+
+/// What is known of a transaction that ended.
+macro_rules! ended {
+    ($start:expr, $ended:expr, $fate:ident) => {
+        TxnInfo {
+            start: $start,
+            ended: Some($ended),
+            fate: Fate::$fate,
+        }
+    };
+}
+
+/// What is known of a transaction that is open.
+macro_rules! open {
+    ($start:expr) => {
+        TxnInfo {
+            start: $start,
+            ended: None,
+            fate: Fate::Unfinished,
+        }
+    };
+}
+
+macro_rules! made {
+    ($txn:expr, $commit:expr) => {
+        Made {
+            txn: $txn,
+            commit: $commit,
+        }
+    };
+}
+
+macro_rules! item {
+    ($key:expr, $txn:expr, $place:expr, $saw:expr) => {
+        ItemRead {
+            key: $key,
+            txn: $txn,
+            place: $place,
+            saw: $saw,
+        }
+    };
+}
+
+macro_rules! range {
+    ($lo:expr, $hi:expr, $txn:expr, $place:expr) => {
+        RangeRead {
+            lo: $lo,
+            hi: $hi,
+            txn: $txn,
+            place: $place,
+        }
+    };
+}
+
+macro_rules! version {
+    ($key:expr, $commit:expr, $txn:expr) => {
+        KeyVersion {
+            key: $key,
+            commit: $commit,
+            txn: $txn,
+        }
+    };
+}
+
+/// A transaction, its number, a place, where it starts, and whether it wrote.
+macro_rules! reader {
+    ($txn:expr, $number:expr, $place:expr, $start:expr, $has_written:expr) => {
+        Reader {
+            txn: $txn,
+            number: $number,
+            place: $place,
+            start: $start,
+            has_written: $has_written,
+        }
+    };
+}
+
+macro_rules! due {
+    ($key:expr, $due:expr) => {
+        Some(DueAt {
+            key: $key,
+            due: $due,
+        })
+    };
+}
+
+/// What an index of the text's history is to answer.
+pub struct Answers<'a> {
+    pub text: &'a [u8],
+    /// All transactions.
+    pub txns: &'a [(TxnId, TxnInfo)],
+    /// All written keys, each with its versions.
+    pub keys: &'a [(Key, &'a [Made])],
+    pub all_versions: &'a [Made],
+    pub asked: &'a [Asked<'a>],
+    pub readers: &'a [(Reader, &'a [Due])],
+}
+
+/// What an index is asked, and its answer.
+pub enum Asked<'a> {
+    NoTxn(TxnId),
+    NoKey(Key),
+    Overlap(TxnId, TxnId, bool),
+    FirstWrite(TxnId, Key, Option<u32>),
+    /// From one key to another, with the number of a key: whether none of them was written.
+    IsUnwritten(Key, Key, usize, bool),
+    /// The versions at the keys from one to another, and the reads.
+    Versions(Key, Key, &'a [KeyVersion]),
+    Reads(Key, Key, &'a [ItemRead]),
+    Ranges(Key, Key, &'a [RangeRead]),
+}
+
+/// What an index is asked of a transaction that reads at a place, and its answer.
+pub enum Due {
+    /// The version due at a key.
+    At(Key, Version),
+    /// What is seen of a key, whichever number of a key is passed on.
+    Near(Key, usize, Seen),
+    /// Whether it may have written a key from one to another.
+    MayOwn(Key, Key, bool),
+    /// The least key from one to another at which something is due.
+    Next(Key, Key, Option<DueAt>),
+}
+
+const NONE: Answers<'static> = Answers {
+    text: b"",
+    txns: &[],
+    keys: &[],
+    all_versions: &[],
+    asked: &[],
+    readers: &[],
+};
+
+const OF_ONE: Seen = Seen {
+    version: 1,
+    commit: 3,
+};
+
+const UNSEEN: Seen = Seen {
+    version: 0,
+    commit: 0,
+};
+
+pub const HISTORIES: &[Answers<'static>] = &[
+    Answers {
+        asked: &[Asked::NoTxn(1)],
+        ..NONE
+    },
+    // A read-only anomaly: 3 sees 1's write of 2 and not 2's of 1.
+    Answers {
+        text: b"r2[1:0] r2[2:0] r1[2:0] w1[2] c1 r3[1:0] r3[2:1] c3 w2[1] c2",
+        txns: &[
+            (1, ended!(2, 5, Committed)),
+            (2, ended!(0, 10, Committed)),
+            (3, ended!(5, 8, Committed)),
+        ],
+        keys: &[(1, &[made!(2, 10)]), (2, &[made!(1, 5)])],
+        all_versions: &[made!(2, 10), made!(1, 5)],
+        asked: &[
+            Asked::NoTxn(9),
+            Asked::Overlap(2, 1, true),
+            Asked::Overlap(1, 3, false),
+            Asked::Overlap(3, 3, true),
+            Asked::NoKey(9),
+            Asked::FirstWrite(2, 1, Some(9)),
+            Asked::FirstWrite(2, 2, None),
+        ],
+        readers: &[
+            (reader!(3, 2, 7, 5, false), &[Due::At(2, 1)]),
+            (reader!(2, 1, 2, 0, true), &[Due::At(2, 0)]),
+        ],
+        ..NONE
+    },
+    // Numbers that lie near, and far.
+    Answers {
+        text: b"w5[8] r3[9:0] c5 r7[8:5] w7[6] a7",
+        txns: &[
+            (3, open!(1)),
+            (5, ended!(0, 3, Committed)),
+            (7, ended!(3, 6, Aborted)),
+        ],
+        keys: &[(6, &[]), (8, &[made!(5, 3)])],
+        all_versions: &[made!(5, 3)],
+        asked: &[Asked::NoTxn(4), Asked::NoKey(9)],
+        ..NONE
+    },
+    Answers {
+        text: b"w4294967295[18446744073709551615] w2[0] r1[7:0]",
+        txns: &[(1, open!(2)), (2, open!(1)), (TxnId::MAX, open!(0))],
+        keys: &[(0, &[]), (Key::MAX, &[])],
+        asked: &[Asked::NoTxn(1000), Asked::NoKey(7)],
+        ..NONE
+    },
+    // A key that open transactions alone wrote is a written key without versions.
+    Answers {
+        text: b"r1[1:0] w2[1] r3[1:2]",
+        txns: &[(1, open!(0)), (2, open!(1)), (3, open!(2))],
+        keys: &[(1, &[])],
+        asked: &[Asked::Overlap(2, 2, false)],
+        readers: &[
+            (reader!(2, 1, 2, 1, true), &[Due::At(1, 0)]),
+            (reader!(2, 1, 3, 1, true), &[Due::At(1, 2)]),
+        ],
+        ..NONE
+    },
+    // The start that a begin names counts, and not the place of the begin.
+    Answers {
+        text: b"w1[1] c1 b2@0 r2[1:0] c2",
+        txns: &[(1, ended!(0, 2, Committed)), (2, ended!(0, 5, Committed))],
+        keys: &[(1, &[made!(1, 2)])],
+        all_versions: &[made!(1, 2)],
+        asked: &[Asked::Overlap(1, 2, true)],
+        readers: &[(reader!(2, 1, 4, 0, false), &[Due::At(1, 0)])],
+        ..NONE
+    },
+    Answers {
+        text: b"w1[1] c1 b2 r2[1:1] c2",
+        txns: &[(1, ended!(0, 2, Committed)), (2, ended!(2, 5, Committed))],
+        keys: &[(1, &[made!(1, 2)])],
+        all_versions: &[made!(1, 2)],
+        asked: &[Asked::Overlap(1, 2, false)],
+        readers: &[(reader!(2, 1, 4, 2, false), &[Due::At(1, 1)])],
+        ..NONE
+    },
+    // Versions go by commit and not by start, an aborted writer has none, and of several writes the first is told.
+    Answers {
+        text: b"w1[7] w2[7] w3[7] w2[7] a3 c2 w1[7] c1",
+        txns: &[
+            (1, ended!(0, 8, Committed)),
+            (2, ended!(1, 6, Committed)),
+            (3, ended!(2, 5, Aborted)),
+        ],
+        keys: &[(7, &[made!(2, 6), made!(1, 8)])],
+        all_versions: &[made!(2, 6), made!(1, 8)],
+        asked: &[
+            Asked::NoTxn(4),
+            Asked::FirstWrite(2, 7, Some(2)),
+            Asked::FirstWrite(3, 7, Some(3)),
+            Asked::FirstWrite(4, 7, None),
+        ],
+        ..NONE
+    },
+    // The reads of some keys go by key, then by transaction and place; a range read isn't one of them.
+    Answers {
+        text: b"w1[3] r2[9:0] r1[3:1] r2[3:0] r1[3:1] r3[0..9] r3[4:0]",
+        txns: &[(1, open!(0)), (2, open!(1)), (3, open!(5))],
+        keys: &[(3, &[])],
+        asked: &[
+            Asked::Reads(
+                3,
+                3,
+                &[item!(3, 1, 3, 1), item!(3, 1, 5, 1), item!(3, 2, 4, 0)],
+            ),
+            Asked::Reads(
+                0,
+                8,
+                &[
+                    item!(3, 1, 3, 1),
+                    item!(3, 1, 5, 1),
+                    item!(3, 2, 4, 0),
+                    item!(4, 3, 7, 0),
+                ],
+            ),
+            Asked::Reads(5, 8, &[]),
+            Asked::Reads(9, 3, &[]),
+        ],
+        ..NONE
+    },
+    // A range read is found from the part of its first key, its last key and each between; one that lies elsewhere isn't.
+    Answers {
+        text: b"r1[5..20] r2[1..2] r3[15..18446744073709551615]",
+        txns: &[(1, open!(0)), (2, open!(1)), (3, open!(2))],
+        asked: &[
+            Asked::Ranges(0, 4, &[range!(1, 2, 2, 2)]),
+            Asked::Ranges(3, 5, &[range!(5, 20, 1, 1)]),
+            Asked::Ranges(7, 9, &[range!(5, 20, 1, 1)]),
+            Asked::Ranges(20, 20, &[range!(5, 20, 1, 1), range!(15, Key::MAX, 3, 3)]),
+            Asked::Ranges(21, Key::MAX, &[range!(15, Key::MAX, 3, 3)]),
+        ],
+        ..NONE
+    },
+    // Key 9 was written, and has no version.
+    Answers {
+        text: b"w1[2] w1[5] c1 w2[4] w3[9] w2[3] w2[5] c2 a3",
+        txns: &[
+            (1, ended!(0, 3, Committed)),
+            (2, ended!(3, 8, Committed)),
+            (3, ended!(4, 9, Aborted)),
+        ],
+        keys: &[
+            (2, &[made!(1, 3)]),
+            (3, &[made!(2, 8)]),
+            (4, &[made!(2, 8)]),
+            (5, &[made!(1, 3), made!(2, 8)]),
+            (9, &[]),
+        ],
+        all_versions: &[
+            made!(1, 3),
+            made!(2, 8),
+            made!(2, 8),
+            made!(1, 3),
+            made!(2, 8),
+        ],
+        asked: &[
+            Asked::Versions(
+                2,
+                4,
+                &[version!(2, 3, 1), version!(3, 8, 2), version!(4, 8, 2)],
+            ),
+            Asked::Versions(5, 5, &[version!(5, 3, 1), version!(5, 8, 2)]),
+            Asked::Versions(6, Key::MAX, &[]),
+            Asked::Versions(5, 4, &[]),
+        ],
+        ..NONE
+    },
+    // What is seen of one key after another, whichever number is passed on.
+    Answers {
+        text: b"w1[2] w1[5] c1 b2 w2[4] w3[9] r4[2:1] c2 a3",
+        txns: &[
+            (1, ended!(0, 3, Committed)),
+            (2, ended!(3, 8, Committed)),
+            (3, ended!(5, 9, Aborted)),
+            (4, open!(6)),
+        ],
+        keys: &[
+            (2, &[made!(1, 3)]),
+            (4, &[made!(2, 8)]),
+            (5, &[made!(1, 3)]),
+            (9, &[]),
+        ],
+        all_versions: &[made!(1, 3), made!(2, 8), made!(1, 3)],
+        asked: &[
+            Asked::IsUnwritten(6, 8, 3, true),
+            Asked::IsUnwritten(6, 9, 3, false),
+            Asked::IsUnwritten(5, 8, 3, false),
+        ],
+        readers: &[
+            (
+                reader!(2, 1, 7, 3, true),
+                &[
+                    Due::At(4, 2),
+                    Due::MayOwn(3, 4, true),
+                    Due::MayOwn(5, Key::MAX, false),
+                ],
+            ),
+            (reader!(3, 2, 7, 5, true), &[]),
+            (
+                reader!(4, 3, 7, 6, false),
+                &[
+                    Due::At(2, 1),
+                    Due::At(4, 0),
+                    Due::Near(2, 0, OF_ONE),
+                    Due::Near(5, 9, OF_ONE),
+                    Due::Near(4, 1, UNSEEN),
+                    Due::Near(7, 0, UNSEEN),
+                    Due::MayOwn(0, Key::MAX, false),
+                ],
+            ),
+        ],
+        ..NONE
+    },
+    // A range's first and its last key count, and own writes from their place on.
+    Answers {
+        text: b"w1[2] w1[5] c1 b2 w2[4] w3[9] r2[1:0] w2[3] c2 a3 r4[2:1]",
+        txns: &[
+            (1, ended!(0, 3, Committed)),
+            (2, ended!(3, 9, Committed)),
+            (3, ended!(5, 10, Aborted)),
+            (4, open!(10)),
+        ],
+        keys: &[
+            (2, &[made!(1, 3)]),
+            (3, &[made!(2, 9)]),
+            (4, &[made!(2, 9)]),
+            (5, &[made!(1, 3)]),
+            (9, &[]),
+        ],
+        all_versions: &[made!(1, 3), made!(2, 9), made!(2, 9), made!(1, 3)],
+        readers: &[
+            (
+                reader!(2, 1, 7, 3, true),
+                &[
+                    Due::Next(0, 9, due!(2, 1)),
+                    Due::Next(3, 9, due!(4, 2)),
+                    Due::Next(5, 5, due!(5, 1)),
+                    Due::Next(3, 3, None),
+                    Due::Next(6, Key::MAX, None),
+                    Due::Next(9, 3, None),
+                ],
+            ),
+            (reader!(2, 1, 9, 3, true), &[Due::Next(3, 9, due!(3, 2))]),
+            (
+                reader!(3, 2, 10, 5, true),
+                &[Due::Next(6, Key::MAX, due!(9, 3)), Due::Next(3, 4, None)],
+            ),
+            (reader!(1, 0, 1, 0, true), &[Due::Next(0, 9, None)]),
+            (reader!(1, 0, 2, 0, true), &[Due::Next(0, 9, due!(2, 1))]),
+            (reader!(4, 3, 11, 10, false), &[Due::Next(3, 9, due!(3, 2))]),
+        ],
+        ..NONE
+    },
+];
+
+/// Of `w2[350] c2`, five hundred keys of the open 1, and ` w3[480] r3[350:2]`. One key of a committed transaction and one own key
+/// are found: both lie far from the start of the range and from each other.
+pub const OF_MANY: &[(Reader, &[Due])] = &[
+    (
+        reader!(3, 2, 504, 502, true),
+        &[
+            Due::Next(0, 999, due!(350, 2)),
+            Due::Next(351, 999, due!(480, 3)),
+            Due::Next(481, 999, None),
+        ],
+    ),
+    (reader!(3, 2, 503, 502, true), &[Due::Next(351, 999, None)]),
+    (
+        reader!(1, 0, 303, 2, true),
+        &[
+            Due::Next(299, 999, due!(299, 1)),
+            Due::Next(300, 999, due!(350, 2)),
+            Due::Next(351, 999, None),
+        ],
+    ),
+];
