@@ -13,7 +13,7 @@ const CUTTINGS: &[(&[Key], &[Part])] = &[
 
 // At most there are 1,024 parts.
 #[test]
-fn parts_of_points(rt: HostRuntime) -> Result<(), Fail> {
+fn parts_and_numbers(rt: HostRuntime) -> Result<(), Fail> {
     for (points, wanted) in CUTTINGS {
         let parts = cut(rt.alloc(), points)?;
         assert!(rt; parts.as_slice() == *wanted, "{points:?}");
@@ -25,13 +25,8 @@ fn parts_of_points(rt: HostRuntime) -> Result<(), Fail> {
     assert!(rt; cut(rt.alloc(), &points)?.len() == 1024);
     points.push(1024)?;
     assert_eq!(rt; cut(rt.alloc(), &points).err(), Some(CutFault::TooMany));
-    Ok(())
-}
-
-// Of the committed 2 and 5 the first is number 0, and the second is number 1: the edge from 2 to 5, of the second kind, at the
-// only key.
-#[test]
-fn number_of_an_edge(rt: HostRuntime) -> Result<(), Fail> {
+    // Of the committed 2 and 5 the first is number 0, and the second is number 1: the edge from 2 to 5, of the second kind, at
+    // the only key.
     let edges = edges_of_numbers(rt.alloc(), &[2, 5], &[7], &[5 * 1_048_576])?;
     assert!(rt; edges.as_slice() == [edge!(2, Wr, 5, 7)].as_slice());
     Ok(())
