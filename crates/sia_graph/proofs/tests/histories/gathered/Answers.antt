@@ -8,7 +8,7 @@ use Rattle.sia_parts.specs.declared.findings.PartFound.{PartFound}
 use Rattle.sia_parts.specs.Gathering.{IsGathering, IsPartFound}
 use Rattle.sia_parts.specs.Parts.{IsInPart}
 use Rattle.sia_graph.proofs.Uncut.{uncut, whole}
-use Rattle.sia_graph.proofs.tests.dangerous_structures.gathered.Goals as goal
+use Rattle.sia_graph.proofs.tests.histories.gathered.Goals as goal
 
 pub of-requires : goal.of-requires
 of-requires c =

@@ -1,6 +1,6 @@
 use Rattle.std.proofs.Common.{sym, ◌∙◌}
 use Rattle.sia_graph.proofs.NoFirsts.{kept}
-use Rattle.sia_graph.proofs.tests.dangerous_structures.told.Goals as goal
+use Rattle.sia_graph.proofs.tests.histories.dangerous.Goals as goal
 
 pub dangerous_of-requires-clause-evidence : goal.dangerous_of-requires-clause-evidence
 dangerous_of-requires-clause-evidence c = record {
@@ -15,4 +15,4 @@ dangerous_of-requires-clause-kept c =
     let found = c.in_ok-found.found in
     let are = c.in_ok-found.ensures in
     let none = c.are_none.ensures.0 c.if-not-are_none.false in
-    kept c.in_ok-ix.ix found.bad_reads.items found.bad_writes.items are.bad_reads are.bad_writes (sym c.deref.ensures.value ∙ none.0) (sym c.deref-2.ensures.value ∙ none.1)
+    kept c.args.ix.now found.bad_reads.items found.bad_writes.items are.bad_reads are.bad_writes (sym c.deref.ensures.value ∙ none.0) (sym c.deref-2.ensures.value ∙ none.1)

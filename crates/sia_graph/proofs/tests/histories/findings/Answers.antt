@@ -6,7 +6,7 @@ use Rattle.sia_events.specs.Refusals.{IsWellFormed}
 use Rattle.sia_parts.specs.declared.findings.PartFindings.{PartFindings}
 use Rattle.sia_parts.specs.Findings.{AreFindings, ArePartFindings}
 use Rattle.sia_graph.proofs.Uncut.{uncut, whole}
-use Rattle.sia_graph.proofs.tests.structures.findings.Goals as goal
+use Rattle.sia_graph.proofs.tests.histories.findings.Goals as goal
 
 pub gather-requires : goal.gather-requires
 gather-requires c =
