@@ -25,7 +25,9 @@ impl Read for Giving<'_> {
         let n = n.min(self.before.unwrap_or(n));
         into[..n].copy_from_slice(&self.rest[..n]);
         self.rest = &self.rest[n..];
-        self.before = self.before.map(|before| before.saturating_sub(n));
+        if let Some(before) = self.before {
+            self.before = Some(before.saturating_sub(n));
+        }
         Ok(n)
     }
 }

@@ -2,256 +2,259 @@
 use crate::cli::form::Form;
 use crate::cli::level::Level;
 use crate::cli::line::{LineFault, options_from};
+use crate::cli::options::Options;
 use sia_events::Key;
 use sia_parts::Part;
 use std::alloc::{AllocError, Global};
 use std::test::*;
 
-/// The program's words, its name first.
-fn words(alloc: Global, line: &[&str]) -> Result<Vec<String>, AllocError> {
+/// How many parts there are, the first, and the last.
+type Parts = (usize, Part, Part);
+
+/// What options give: the number of workers, the parts, the form and the level.
+type Given = (u8, Parts, Form, Level);
+
+/// Words, up to which number each is a word behind them, and what they give, or else the kind of their answer and what its
+/// text contains.
+type Row = (
+    &'static [&'static str],
+    Key,
+    Result<Given, (&'static str, &'static str)>,
+);
+
+macro_rules! part {
+    ($lo:expr, $hi:expr) => {
+        Part { lo: $lo, hi: $hi }
+    };
+}
+
+const WHOLE: Parts = (1, part!(0, Key::MAX), part!(0, Key::MAX));
+
+const CUT_AT_14: Parts = (2, part!(0, 13), part!(14, Key::MAX));
+
+const CUT_AT_THE_END: Parts = (2, part!(0, Key::MAX - 1), part!(Key::MAX, Key::MAX));
+
+const CUT_OFTEN: Parts = (1024, part!(0, 0), part!(1023, Key::MAX));
+
+const LINES: &[Row] = &[
+    (
+        &["si_audit"],
+        0,
+        Ok((4, WHOLE, Form::Full, Level::Serializable)),
+    ),
+    (
+        &["si_audit", "--brief"],
+        0,
+        Ok((4, WHOLE, Form::Brief, Level::Serializable)),
+    ),
+    (
+        &["si_audit", "--brief", "14", "--brief"],
+        0,
+        Ok((4, CUT_AT_14, Form::Brief, Level::Serializable)),
+    ),
+    (
+        &["si_audit", "--check", "si"],
+        0,
+        Ok((4, WHOLE, Form::Full, Level::Si)),
+    ),
+    (
+        &["si_audit", "--check=ssi", "--brief"],
+        0,
+        Ok((4, WHOLE, Form::Brief, Level::Ssi)),
+    ),
+    (
+        &["si_audit", "--check", "serializable"],
+        0,
+        Ok((4, WHOLE, Form::Full, Level::Serializable)),
+    ),
+    (
+        &["si_audit", "--workers", "64", "14"],
+        0,
+        Ok((64, CUT_AT_14, Form::Full, Level::Serializable)),
+    ),
+    (
+        &["si_audit", "14", "--workers=64"],
+        0,
+        Ok((64, CUT_AT_14, Form::Full, Level::Serializable)),
+    ),
+    (
+        &["si_audit", "--workers", "+64", "--", "+014", "0", "14"],
+        0,
+        Ok((64, CUT_AT_14, Form::Full, Level::Serializable)),
+    ),
+    (
+        &["", "0", "14", "--workers", "64", "14"],
+        0,
+        Ok((64, CUT_AT_14, Form::Full, Level::Serializable)),
+    ),
+    (
+        &["si_audit", "--workers", "0064", "00014"],
+        0,
+        Ok((64, CUT_AT_14, Form::Full, Level::Serializable)),
+    ),
+    (
+        &["si_audit", "18446744073709551615", "0"],
+        0,
+        Ok((4, CUT_AT_THE_END, Form::Full, Level::Serializable)),
+    ),
+    (
+        &["si_audit", "--check", "SI"],
+        0,
+        Err(("unknown level", "")),
+    ),
+    (&["si_audit", "--check", ""], 0, Err(("unknown level", ""))),
+    (
+        &["si_audit", "--check", "snapshot"],
+        0,
+        Err(("unknown level", "")),
+    ),
+    (
+        &["si_audit", "--help"],
+        0,
+        Err(("help", "Usage: si_audit [OPTIONS] [CUT]...")),
+    ),
+    (&["si_audit", "-h"], 0, Err(("help", "--workers <N>"))),
+    (
+        &["si_audit", "--workers", "64", "14", "--help", "x"],
+        0,
+        Err(("help", "[default: 4]")),
+    ),
+    (
+        &["si_audit", "--version"],
+        0,
+        Err(("help", "si_audit 0.2.0 (Rattle logic ")),
+    ),
+    (
+        &["si_audit", "-V"],
+        0,
+        Err(("help", "si_audit 0.2.0 (Rattle logic ")),
+    ),
+    (
+        &["si_audit", "--workers", "65"],
+        0,
+        Err(("usage", "65 is not in 1..=64")),
+    ),
+    (
+        &["si_audit", "--workers", "0"],
+        0,
+        Err(("usage", "0 is not in 1..=64")),
+    ),
+    (
+        &["si_audit", "--workers", "four"],
+        0,
+        Err(("usage", "'four' for '--workers <N>'")),
+    ),
+    (
+        &["si_audit", "--workers"],
+        0,
+        Err(("usage", "a value is required for '--workers <N>'")),
+    ),
+    (
+        &["si_audit", "--workers", "4", "--workers", "4"],
+        0,
+        Err(("usage", "cannot be used multiple times")),
+    ),
+    (
+        &["si_audit", "--check"],
+        0,
+        Err(("usage", "a value is required for '--check <LEVEL>'")),
+    ),
+    (
+        &["si_audit", "--check", "si", "--check", "si"],
+        0,
+        Err(("usage", "cannot be used multiple times")),
+    ),
+    (
+        &["si_audit", "--brief=yes"],
+        0,
+        Err(("usage", "unexpected value 'yes' for '--brief...'")),
+    ),
+    (
+        &["si_audit", "14", "x"],
+        0,
+        Err(("usage", "'x' for '[CUT]...'")),
+    ),
+    (
+        &["si_audit", "run.history"],
+        0,
+        Err(("usage", "si_audit <FILE")),
+    ),
+    (
+        &["si_audit", "18446744073709551616"],
+        0,
+        Err(("usage", "'18446744073709551616' for '[CUT]...'")),
+    ),
+    (&["si_audit", ""], 0, Err(("usage", "'' for '[CUT]...'"))),
+    (
+        &["si_audit", "-1"],
+        0,
+        Err(("usage", "unexpected argument '-1'")),
+    ),
+    (
+        &["si_audit", "--", "-1"],
+        0,
+        Err(("usage", "'-1' for '[CUT]...'")),
+    ),
+    (
+        &["si_audit", "--worker", "4"],
+        0,
+        Err(("usage", "unexpected argument '--worker'")),
+    ),
+    // The most cuts, and one more.
+    (
+        &["si_audit"],
+        1023,
+        Ok((4, CUT_OFTEN, Form::Full, Level::Serializable)),
+    ),
+    (&["si_audit"], 1024, Err(("too many cuts", ""))),
+];
+
+/// The words of a line, and then the numbers up to the last one.
+fn words(alloc: Global, line: &[&str], last: Key) -> Result<Vec<String>, AllocError> {
     let mut words = Vec::new(alloc);
     for word in line {
         words.push(String::from_str(alloc, word)?)?;
     }
+    for cut in 0..last {
+        words.push(format!(in alloc; "{}", cut + 1)?)?;
+    }
     Ok(words)
 }
 
-const WHOLE: &[Part] = &[Part {
-    lo: 0,
-    hi: Key::MAX,
-}];
-
-const CUT_AT_14: &[Part] = &[
-    Part { lo: 0, hi: 13 },
-    Part {
-        lo: 14,
-        hi: Key::MAX,
-    },
-];
-
-const CUT_AT_THE_END: &[Part] = &[
-    Part {
-        lo: 0,
-        hi: Key::MAX - 1,
-    },
-    Part {
-        lo: Key::MAX,
-        hi: Key::MAX,
-    },
-];
-
-const GIVEN: &[(&[&str], u8, &[Part], Form, Level)] = &[
-    (&["si_audit"], 4, WHOLE, Form::Full, Level::Serializable),
-    (
-        &["si_audit", "--brief"],
-        4,
-        WHOLE,
-        Form::Brief,
-        Level::Serializable,
-    ),
-    (
-        &["si_audit", "--brief", "14", "--brief"],
-        4,
-        CUT_AT_14,
-        Form::Brief,
-        Level::Serializable,
-    ),
-    (
-        &["si_audit", "--check", "si"],
-        4,
-        WHOLE,
-        Form::Full,
-        Level::Si,
-    ),
-    (
-        &["si_audit", "--check=ssi", "--brief"],
-        4,
-        WHOLE,
-        Form::Brief,
-        Level::Ssi,
-    ),
-    (
-        &["si_audit", "--check", "serializable"],
-        4,
-        WHOLE,
-        Form::Full,
-        Level::Serializable,
-    ),
-    (
-        &["si_audit", "--workers", "64", "14"],
-        64,
-        CUT_AT_14,
-        Form::Full,
-        Level::Serializable,
-    ),
-    (
-        &["si_audit", "14", "--workers=64"],
-        64,
-        CUT_AT_14,
-        Form::Full,
-        Level::Serializable,
-    ),
-    (
-        &["si_audit", "--workers", "+64", "--", "+014", "0", "14"],
-        64,
-        CUT_AT_14,
-        Form::Full,
-        Level::Serializable,
-    ),
-    (
-        &["", "0", "14", "--workers", "64", "14"],
-        64,
-        CUT_AT_14,
-        Form::Full,
-        Level::Serializable,
-    ),
-    (
-        &["si_audit", "--workers", "0064", "00014"],
-        64,
-        CUT_AT_14,
-        Form::Full,
-        Level::Serializable,
-    ),
-    (
-        &["si_audit", "18446744073709551615", "0"],
-        4,
-        CUT_AT_THE_END,
-        Form::Full,
-        Level::Serializable,
-    ),
-];
-
-#[test]
-fn words_that_give_options(rt: HostRuntime) -> Result<(), Fail> {
-    for (line, workers, parts, form, level) in GIVEN {
-        let line = words(rt.alloc(), line)?;
-        let options = options_from(rt.alloc(), line.as_slice())?;
-        assert_eq!(rt;
-            (
-                options.workers(),
-                options.parts(),
-                options.form(),
-                options.level()
-            ),
-            (*workers, *parts, *form, *level)
-        );
-    }
-    Ok(())
+fn given(options: &Options) -> Option<Given> {
+    let parts = options.parts();
+    let (first, last) = (parts.first()?, parts.last()?);
+    let parts = (parts.len(), *first, *last);
+    Some((options.workers(), parts, options.form(), options.level()))
 }
 
-/// What kind of answer the words get, and its text, if it has one.
-fn told(alloc: Global, words: &[String]) -> Result<(&'static str, String), Fail> {
-    match options_from(alloc, words) {
-        Ok(_) => Ok(("options", String::new(alloc))),
-        Err(LineFault::TooManyCuts) => Ok(("too many cuts", String::new(alloc))),
-        Err(LineFault::UnknownLevel) => Ok(("unknown level", String::new(alloc))),
-        Err(LineFault::Help(text)) => Ok(("help", text)),
-        Err(LineFault::Usage(text)) => Ok(("usage", text)),
-        Err(LineFault::NoMemory) => Err(Fail::from(LineFault::NoMemory)),
+/// Whether the words give what the row says.
+fn is_answered(alloc: Global, row: &Row) -> Result<bool, Fail> {
+    let (line, last, wanted) = *row;
+    let words = words(alloc, line, last)?;
+    let (kind, text) = match options_from(alloc, words.as_slice()) {
+        Ok(options) => return Ok(given(&options) == wanted.ok()),
+        Err(LineFault::NoMemory) => return Err(Fail::from(LineFault::NoMemory)),
+        Err(LineFault::TooManyCuts) => ("too many cuts", String::new(alloc)),
+        Err(LineFault::UnknownLevel) => ("unknown level", String::new(alloc)),
+        Err(LineFault::Help(text)) => ("help", text),
+        Err(LineFault::Usage(text)) => ("usage", text),
+    };
+    let said = text.as_str();
+    match wanted {
+        Ok(_) => Ok(false),
+        Err((which, part)) => Ok(
+            kind == which
+                && said.contains(part)
+                && said.starts_with("error: ") == (kind == "usage"),
+        ),
     }
 }
 
-/// Words, the kind of their answer, and what its text contains.
-const NOT_GIVEN: &[(&[&str], &str, &str)] = &[
-    (&["si_audit", "--check", "SI"], "unknown level", ""),
-    (&["si_audit", "--check", ""], "unknown level", ""),
-    (&["si_audit", "--check", "snapshot"], "unknown level", ""),
-    (
-        &["si_audit", "--help"],
-        "help",
-        "Usage: si_audit [OPTIONS] [CUT]...",
-    ),
-    (&["si_audit", "-h"], "help", "--workers <N>"),
-    (
-        &["si_audit", "--workers", "64", "14", "--help", "x"],
-        "help",
-        "[default: 4]",
-    ),
-    (
-        &["si_audit", "--version"],
-        "help",
-        "si_audit 0.2.0 (Rattle logic ",
-    ),
-    (&["si_audit", "-V"], "help", "si_audit 0.2.0 (Rattle logic "),
-    (
-        &["si_audit", "--workers", "65"],
-        "usage",
-        "65 is not in 1..=64",
-    ),
-    (
-        &["si_audit", "--workers", "0"],
-        "usage",
-        "0 is not in 1..=64",
-    ),
-    (
-        &["si_audit", "--workers", "four"],
-        "usage",
-        "'four' for '--workers <N>'",
-    ),
-    (
-        &["si_audit", "--workers"],
-        "usage",
-        "a value is required for '--workers <N>'",
-    ),
-    (
-        &["si_audit", "--workers", "4", "--workers", "4"],
-        "usage",
-        "cannot be used multiple times",
-    ),
-    (
-        &["si_audit", "--check"],
-        "usage",
-        "a value is required for '--check <LEVEL>'",
-    ),
-    (
-        &["si_audit", "--check", "si", "--check", "si"],
-        "usage",
-        "cannot be used multiple times",
-    ),
-    (
-        &["si_audit", "--brief=yes"],
-        "usage",
-        "unexpected value 'yes' for '--brief...'",
-    ),
-    (&["si_audit", "14", "x"], "usage", "'x' for '[CUT]...'"),
-    (&["si_audit", "run.history"], "usage", "si_audit <FILE"),
-    (
-        &["si_audit", "18446744073709551616"],
-        "usage",
-        "'18446744073709551616' for '[CUT]...'",
-    ),
-    (&["si_audit", ""], "usage", "'' for '[CUT]...'"),
-    (&["si_audit", "-1"], "usage", "unexpected argument '-1'"),
-    (&["si_audit", "--", "-1"], "usage", "'-1' for '[CUT]...'"),
-    (
-        &["si_audit", "--worker", "4"],
-        "usage",
-        "unexpected argument '--worker'",
-    ),
-];
-
 #[test]
-fn words_that_give_none(rt: HostRuntime) -> Result<(), Fail> {
-    for (line, kind, said) in NOT_GIVEN {
-        let line = words(rt.alloc(), line)?;
-        let (found, text) = told(rt.alloc(), line.as_slice())?;
-        assert_eq!(rt; found, *kind);
-        assert!(rt; text.as_str().contains(*said), "{text}");
-        assert!(rt; text.as_str().starts_with("error: ") == (found == "usage"));
+fn command_lines(rt: HostRuntime) -> Result<(), Fail> {
+    for row in LINES {
+        assert!(rt; is_answered(rt.alloc(), row)?, "{row:?}");
     }
-    Ok(())
-}
-
-#[test]
-fn the_most_cuts(rt: HostRuntime) -> Result<(), Fail> {
-    let mut line = words(rt.alloc(), &["si_audit"])?;
-    for cut in 1..1024 {
-        line.push(format!(in rt.alloc(); "{cut}")?)?;
-    }
-    let options = options_from(rt.alloc(), line.as_slice())?;
-    assert_eq!(rt; (options.workers(), options.parts().len()), (4, 1024));
-    line.push(String::from_str(rt.alloc(), "1024")?)?;
-    let (kind, _) = told(rt.alloc(), line.as_slice())?;
-    assert_eq!(rt; kind, "too many cuts");
     Ok(())
 }
