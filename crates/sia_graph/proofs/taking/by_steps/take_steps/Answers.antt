@@ -1,6 +1,5 @@
 use Rattle.std.proofs.Common.{◌≡◌, inl, inr, ◌<◌, ◌++◌, ◌∷◌, [], length, ap, ◌∙◌, refl, sym, subst, arith}
 use Rattle.sia_graph.specs.ReadyHeaps.{HasReady}
-use Rattle.std.proofs.lemmas.List.FromFn.{length-range_with_len}
 use Rattle.sia_graph.proofs.ReadyHeaps.{none_ready}
 use Rattle.sia_graph.specs.Fronts.{IsTaking, left_over}
 use Rattle.sia_graph.specs.Places.{IsReadyAt, StandsWhere}
@@ -90,13 +89,3 @@ returns c =
     let counts = c.loop-place.counts in
     none_left ids (edges_of_steps c.args.steps.now) counts c.loop-place.order.items (StandsWhere ids (IsReadyAt (HasReady c.loop-place.behind) c.loop-place.end counts)) c.loop-place.invariant.0
     (λ t w. c.in_default.ensures.empty w.0 w.3)
-
-pub rows_near-stop-requires-clause-below : goal.rows_near-stop-requires-clause-below
-rows_near-stop-requires-clause-below c =
-    let ids = range_with_len 0 c.args.places in
-    let counts = c.loop-place.counts in
-    let long = c.loop-place.invariant.0.counted.0 in
-    let below = ready_within (HasReady c.loop-place.behind) c.loop-place.end counts ids c.loop-place.invariant.1 c.loop-place.invariant.2 long c.in-Some.place c.in-Some.ensures.member in
-    let fits = c.ranges.places.fits in
-    let same = length-range_with_len 0 c.args.places in
-    omega arith
