@@ -86,6 +86,7 @@ impl Index {
     }
 
     // The same. The key may have this number among the written keys.
+    #[inline(always)]
     pub(crate) fn versions_near(&self, k: Key, near: usize) -> &[Made]
         ensures { AreVersions self.now k result.now }
     {

@@ -13,7 +13,18 @@ pub fn partition_near<T, P: Fn(&T) -> bool>(rows: &[T], near: usize, below: P) -
 {
     let mut low = 0;
     let mut high = rows.len();
-    let mut guess = near;
+    // Mostly the guess is right, which two looks tell.
+    if near < high && !below(&rows[near]) {
+        high = near;
+    }
+    if 0 < near && near <= high && below(&rows[near - 1]) {
+        low = near;
+    }
+    let mut guess = if high == near {
+        near.saturating_sub(1)
+    } else {
+        near
+    };
     let mut step = 1usize;
     while low < high {
         let at = next_try(low, high, guess);
