@@ -6,6 +6,7 @@ ghost use Rattle.sia_graph.specs.NarrowSteps.{name_of};
 ghost use Rattle.sia_graph.specs.Places.{AreSteps};
 ghost use Rattle.sia_graph.specs.Taken.{AreTakenNodes, node_list};
 
+mod adjacency;
 pub(crate) mod by_steps;
 pub(crate) mod numbers;
 pub(crate) mod ready;
