@@ -83,6 +83,7 @@ impl Tables {
     /// Whether the version of the key is 0 or was written, where its write may well follow the one at the position. Where it was
     /// written, the position may become its own.
     #[tactic(auto, unfolding(crate::specs::Known::is_explained))]
+    #[inline(always)]
     fn is_explained_after(&self, position: &mut usize, key: Key, saw: Version) -> bool
         ensures { (events : List AnEvent) → Knows self.now events → result ≡ is_explained events (key, saw) }
     {

@@ -83,6 +83,7 @@ pub(crate) fn put_item_reads(
 
 /// Adds the bad read of a sight, if it is one, and its look, if it has one, joined with the one at the place, if that is of its
 /// transaction and key. Its key has the number among the written ones, if it is written.
+#[inline(always)]
 pub(crate) fn put_sight(
     reading: &Reading,
     sight: Sight,

@@ -44,7 +44,7 @@ impl Gathering {
             },
         };
         for part in parts {
-            put_part(&part, &mut all)?;
+            put_part(part, &mut all)?;
         }
         merge_in_order(&mut all.bad_reads)?;
         merge_in_order(&mut all.bad_writes)?;
@@ -54,20 +54,41 @@ impl Gathering {
     }
 }
 
+/// Adds the list behind the other, or puts it in its place where that is empty.
+fn put_list<T: Copy + Drop>(list: Vec<T>, all: &mut Vec<T>) -> Result<(), NoMemory>
+    ensures { OnOk result (Adds (Contains list.items) all.old.items all.new.items) }
+{
+    if all.is_empty() {
+        *all = list;
+    } else {
+        all.extend_from_slice(&list)?;
+    }
+    Ok(())
+}
+
+/// Adds the looks behind those before.
+fn put_looks(looks: Looks, all: &mut Looks) -> Result<(), NoMemory>
+    ensures writers { OnOk result (Adds (Contains looks.writers.items) all.old.writers.items all.new.writers.items) }
+    ensures readers { OnOk result (Adds (Contains looks.readers.items) all.old.readers.items all.new.readers.items) }
+    ensures absences { OnOk result (Adds (Contains looks.absences.items) all.old.absences.items all.new.absences.items) }
+{
+    put_list(looks.writers, &mut all.writers)?;
+    put_list(looks.readers, &mut all.readers)?;
+    put_list(looks.absences, &mut all.absences)
+}
+
 /// Adds the lists of the part behind those before.
-fn put_part(part: &PartFound, all: &mut Gathering) -> Result<(), NoMemory>
-    ensures bad_reads { OnOk result (Adds (Contains part.now.bad_reads.items) all.old.bad_reads.items all.new.bad_reads.items) }
-    ensures bad_writes { OnOk result (Adds (Contains part.now.bad_writes.items) all.old.bad_writes.items all.new.bad_writes.items) }
-    ensures unexplained { OnOk result (Adds (Contains part.now.unexplained.items) all.old.unexplained.items all.new.unexplained.items) }
-    ensures writers { OnOk result (Adds (Contains part.now.looks.writers.items) all.old.looks.writers.items all.new.looks.writers.items) }
-    ensures readers { OnOk result (Adds (Contains part.now.looks.readers.items) all.old.looks.readers.items all.new.looks.readers.items) }
-    ensures absences { OnOk result (Adds (Contains part.now.looks.absences.items) all.old.looks.absences.items all.new.looks.absences.items) }
+fn put_part(part: PartFound, all: &mut Gathering) -> Result<(), NoMemory>
+    ensures bad_reads { OnOk result (Adds (Contains part.bad_reads.items) all.old.bad_reads.items all.new.bad_reads.items) }
+    ensures bad_writes { OnOk result (Adds (Contains part.bad_writes.items) all.old.bad_writes.items all.new.bad_writes.items) }
+    ensures unexplained { OnOk result (Adds (Contains part.unexplained.items) all.old.unexplained.items all.new.unexplained.items) }
+    ensures writers { OnOk result (Adds (Contains part.looks.writers.items) all.old.looks.writers.items all.new.looks.writers.items) }
+    ensures readers { OnOk result (Adds (Contains part.looks.readers.items) all.old.looks.readers.items all.new.looks.readers.items) }
+    ensures absences { OnOk result (Adds (Contains part.looks.absences.items) all.old.looks.absences.items all.new.looks.absences.items) }
 {
     all.bad_reads.extend_from_slice(&part.bad_reads)?;
     all.bad_writes.extend_from_slice(&part.bad_writes)?;
     all.unexplained.extend_from_slice(&part.unexplained)?;
-    all.looks.writers.extend_from_slice(&part.looks.writers)?;
-    all.looks.readers.extend_from_slice(&part.looks.readers)?;
-    all.looks.absences.extend_from_slice(&part.looks.absences)?;
+    put_looks(part.looks, &mut all.looks)?;
     Ok(())
 }
