@@ -70,7 +70,6 @@ pub mod Uncut
 pub mod NextVersions
 pub mod NarrowSteps
 pub mod AbsenceBlocks
-pub mod Adjacency
 pub mod NarrowStands
 pub mod TakenNodes
 pub mod TakenMembers

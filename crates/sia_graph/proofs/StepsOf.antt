@@ -117,8 +117,8 @@ module _ (ids : List ℕ) (up : IsStrictlyIncreasing ids) (edges : List Edge) (s
     many : length (node_list 0 ids) ≡ length ids
     many = let m = length-range_with_len 0 (2 * 0 + length ids) in omega arith
 
-    pub list_steps : AreSteps (node_list 0 ids) steps
-    list_steps = record {
+    pub list_steps : IsNonDecreasing steps → AreSteps (node_list 0 ids) steps
+    list_steps rise = record {
       ids_up = range_up (2 * 0 + length ids);
       are_places = range_is (2 * 0 + length ids);
       joins = λ k d l.
@@ -129,6 +129,7 @@ module _ (ids : List ℕ) (up : IsStrictlyIncreasing ids) (edges : List Edge) (s
           let a = w.1 in
           let b = w.2 in
           (omega arith, omega arith, differ n c);
+      rise = rise;
     }
 
     abbrev Step : ℕ → ℕ → Type 0

@@ -1,14 +1,16 @@
 -- Steps between places, which are the nodes 0, 1, 2 and so on.
-use Rattle.std.specs.Prelude.{◌≡◌, ◌≢◌, ◌⊎◌, ℕ, ◌<◌, ◌≤◌, ◌==◌, ◌&&◌, Bool, List, All, Contains, count_by, length, slice_index, slice_index_or}
-use Rattle.std.specs.List.Sorted.{IsStrictlyIncreasing}
+use Rattle.std.specs.Prelude.{◌≡◌, ◌≢◌, ◌⊎◌, ℕ, ◌<◌, ◌≤◌, ◌==◌, Bool, List, All, count_by, length, slice_index, slice_index_or}
+use Rattle.std.specs.List.Sorted.{IsNonDecreasing, IsStrictlyIncreasing}
 use Rattle.sia_parts.specs.declared.finding.Edge.{Edge}
+use Rattle.sia_graph.specs.Groups.{IsGroup}
 use Rattle.sia_graph.specs.NarrowSteps.{step_source, step_target}
 
--- the ids are the places, and each step is between two of them
+-- the ids are the places, and the steps are in order, each between two of the places
 pub record AreSteps (ids steps : List ℕ) : Type 0 where
   pub ids_up : IsStrictlyIncreasing ids
   pub are_places : (i : ℕ) → i < length ids → slice_index ids i ≡ i
   pub joins : All (λ n. (step_source n < length ids) × (step_target n < length ids) × (step_source n ≢ step_target n)) steps
+  pub rise : IsNonDecreasing steps
 
 -- n leads from the place of the edge's source to that of its target
 abbrev pub IsStepOf : List ℕ → Edge → ℕ → Type 0
@@ -30,14 +32,9 @@ arriving_at steps i = count_by (aims_at i) steps
 abbrev pub AreArriving : ℕ → List ℕ → List ℕ → Type 0
 AreArriving places steps counts = (length counts ≡ places) × ((i : ℕ) → i < places → slice_index counts i ≡ arriving_at steps i)
 
--- n leads from one place to the other
-abbrev pub leads_between : ℕ → ℕ → ℕ → Bool
-leads_between place i n = step_source n == place && step_target n == i
-
--- these steps are those that lead from the place, in any order
+-- these steps are those that lead from the place, which stand side by side
 abbrev pub AreStepsFrom : List ℕ → ℕ → List ℕ → Type 0
-AreStepsFrom steps place group = ((n : ℕ) → Contains group n → Contains steps n × (step_source n ≡ place))
-    × ((i : ℕ) → arriving_at group i ≡ count_by (leads_between place i) steps)
+AreStepsFrom steps place group = IsGroup step_source steps place group
 
 -- the last of the steps that lead to i is among these
 abbrev pub IsFreedAt : List ℕ → List ℕ → ℕ → Type 0

@@ -4,9 +4,23 @@ ghost use Rattle.std.specs.List.{AllWithin};
 ghost use Rattle.std.specs.List.Sorted.{IsNonDecreasingBy};
 ghost use Rattle.sia_graph.specs.Groups.{IsGroup};
 
+use crate::taking::numbers::source_of;
 pub(crate) use sia_index::keyed::By;
 use sia_index::searching::partition_near;
 use sia_parts::{Absence, Look};
+
+/// Steps by the place from which they lead.
+pub(crate) struct BySource;
+
+impl By<u64> for BySource {
+    ghost use Rattle.sia_graph.specs.NarrowSteps.{step_source};
+
+    ghost by = { step_source };
+
+    fn number(row: &u64) -> u64 {
+        u64::from(source_of(*row))
+    }
+}
 
 /// By transaction.
 pub(crate) struct ByTxn;

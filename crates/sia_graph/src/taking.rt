@@ -6,7 +6,6 @@ ghost use Rattle.sia_graph.specs.NarrowSteps.{name_of};
 ghost use Rattle.sia_graph.specs.Places.{AreSteps};
 ghost use Rattle.sia_graph.specs.Taken.{AreTakenNodes, node_list};
 
-mod adjacency;
 pub(crate) mod by_steps;
 pub(crate) mod numbers;
 pub(crate) mod ready;

@@ -2,7 +2,7 @@ use Rattle.std.proofs.Common.{ℕ, List, subst, sym}
 use Rattle.std.specs.Prelude.{Contains}
 use Rattle.sia_graph.specs.Orders.{IsLeastOrder}
 use Rattle.sia_graph.specs.Taken.{AreTakenNodes, IsTaken}
-use Rattle.sia_graph.proofs.StepsOf.{list_steps, list_taken}
+use Rattle.sia_graph.proofs.StepsOf.{list_steps, list_taken, steps_rise}
 use Rattle.sia_graph.proofs.settling.settle.Goals as goal
 
 pub take_nodes-requires-clause-steps : goal.take_nodes-requires-clause-steps
@@ -11,7 +11,7 @@ take_nodes-requires-clause-steps c =
     let steps = c.in_ok-steps.steps.items in
     let are = c.in_ok-steps.ensures in
     rw c.deref.ensures.value
-    (list_steps ids c.requires.ids c.args.edges.now steps are c.requires.joins)
+    (list_steps ids c.requires.ids c.args.edges.now steps are c.requires.joins (steps_rise ids c.requires.ids c.args.edges.now steps are c.requires.sorted))
 
 pub returns-in-Whole : goal.returns-in-Whole
 returns-in-Whole c =

@@ -2,10 +2,9 @@ use Rattle.std.proofs.Common.{◌≡◌, inl, inr, ◌<◌, ◌++◌, ◌∷◌,
 use Rattle.sia_graph.specs.ReadyHeaps.{HasReady}
 use Rattle.sia_graph.proofs.ReadyHeaps.{none_ready}
 use Rattle.sia_graph.specs.Fronts.{IsTaking, left_over}
-use Rattle.sia_graph.specs.Places.{AreStepsFrom, IsReadyAt, StandsWhere}
+use Rattle.sia_graph.specs.Places.{IsReadyAt, StandsWhere}
 use Rattle.sia_graph.specs.NarrowSteps.{edges_of_steps}
 use Rattle.std.specs.List.{range_with_len}
-use Rattle.std.proofs.lemmas.List.FromFn.{length-range_with_len}
 use Rattle.sia_graph.proofs.OneTaken.{smaller, none_left}
 use Rattle.sia_graph.proofs.Places.{group_joins}
 use Rattle.sia_graph.proofs.ReadyPlaces.{ready_released, ready_within}
@@ -26,24 +25,11 @@ loop-place-init c =
       omega arith,
     )
 
-pub of-requires : goal.of-requires
-of-requires c k d l = (let long = length-range_with_len 0 c.args.places in let a = (c.requires.steps.joins k d l).0 in omega arith)
-
-pub put_leaving-requires : goal.put_leaving-requires
-put_leaving-requires c =
-    let ids = range_with_len 0 c.args.places in
-    let counts = c.loop-place.counts in
-    let long = c.loop-place.invariant.0.counted.0 in
-    let p = c.in-Some.place in
-    let below = ready_within (HasReady c.loop-place.behind) c.loop-place.end counts ids c.loop-place.invariant.1 c.loop-place.invariant.2 long p c.in-Some.ensures.member in
-    let many = length-range_with_len 0 c.args.places in
-    (c.args.places, c.in_ok-lists.ensures, omega arith)
-
 pub release-requires-clause-within : goal.release-requires-clause-within
 release-requires-clause-within c k d l =
     let ids = range_with_len 0 c.args.places in
     let long = c.loop-place.invariant.0.counted.0 in
-    let a = group_joins ids c.args.steps.now c.requires.steps c.in-Some.place c.deref.result.now (subst (AreStepsFrom c.args.steps.now c.in-Some.place) (sym c.deref.ensures.value) c.in_ok-put_leaving.ensures) k d l in
+    let a = group_joins ids c.args.steps.now c.requires.steps c.in-Some.place c.rows_near-stop.result.0.now c.rows_near-stop.ensures k d l in
     omega arith
 
 pub release-requires-clause-enough : goal.release-requires-clause-enough
@@ -54,7 +40,7 @@ release-requires-clause-enough c i l =
     let p = c.in-Some.place in
     let below = ready_within (HasReady c.loop-place.behind) c.loop-place.end counts ids c.loop-place.invariant.1 c.loop-place.invariant.2 long p c.in-Some.ensures.member in
     place_fits ids c.args.steps.now c.requires.steps counts c.loop-place.order.items (IsReadyAt (HasReady c.loop-place.behind) c.loop-place.end counts) c.loop-place.invariant.0
-    p below c.in-Some.ensures.member c.deref.result.now (subst (AreStepsFrom c.args.steps.now c.in-Some.place) (sym c.deref.ensures.value) c.in_ok-put_leaving.ensures) i (omega arith)
+    p below c.in-Some.ensures.member c.rows_near-stop.result.0.now c.rows_near-stop.ensures i (omega arith)
 
 pub loop-place-smaller : goal.loop-place-smaller
 loop-place-smaller c =
@@ -76,8 +62,8 @@ loop-place-preserved c =
     let counts = c.loop-place.counts in
     let less = c.release.new.counts in
     let p = c.in-Some.place in
-    let group = c.deref.result.now in
-    let from = subst (AreStepsFrom steps p) (sym c.deref.ensures.value) c.in_ok-put_leaving.ensures in
+    let group = c.rows_near-stop.result.0.now in
+    let from = c.rows_near-stop.ensures in
     let was : length counts ≡ length ids = c.loop-place.invariant.0.counted.0 in
     let below = ready_within (HasReady c.loop-place.behind) c.loop-place.end counts ids c.loop-place.invariant.1 c.loop-place.invariant.2 was p c.in-Some.ensures.member in
     let same : length less ≡ length counts = let b = c.release.auto.counts in omega arith in
