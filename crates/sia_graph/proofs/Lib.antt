@@ -75,3 +75,4 @@ pub mod TakenNodes
 pub mod TakenMembers
 pub mod StepsOf
 pub mod ReadyHeaps
+pub mod NoPivotal

@@ -13,6 +13,7 @@ mod limits;
 mod nearby;
 mod nodes;
 mod ordering;
+mod pivotal;
 mod previous;
 mod ranked;
 mod sources;

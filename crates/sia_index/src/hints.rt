@@ -1,7 +1,7 @@
 //! Where a number stands in rows that ascend by it. A hint saves a search. It is checked, so nothing rests on it.
 ghost use Rattle.std.specs.Prelude.{◌≡◌, ◌≢◌, ◌<◌, false, All, AllPairs, IsTrue, MatchOption, length, slice_index_or};
 
-use crate::keyed::{By, place_from};
+use crate::keyed::{By, place_from_near};
 
 /// Spans of at least so many numbers lose bits, so that no product is too great.
 const WIDE: u64 = 1 << 46;
@@ -9,7 +9,8 @@ const WIDE: u64 = 1 << 46;
 /// How many bits they lose.
 const LOST: u32 = 18;
 
-/// The place of the row of the number, which may be `near`, or where it would stand if all lay evenly.
+/// The place of the row of the number. It is looked for from `near`, or where that is 0 from where the number would stand if
+/// all lay evenly.
 pub fn find<T, O: By<T>>(rows: &[T], number: u64, near: usize) -> Option<usize>
     requires { AllPairs (λ x y. O.by x < O.by y) rows.now }
     ensures { MatchOption result (All (λ row. O.by row ≢ number) rows.now) (λ i. (i < length rows.now) × ((d : T) → O.by (slice_index_or rows.now i d) ≡ number)) }
@@ -17,11 +18,12 @@ pub fn find<T, O: By<T>>(rows: &[T], number: u64, near: usize) -> Option<usize>
     if stands_at::<T, O>(rows, number, near) {
         return Some(near);
     }
-    let hint = hint_in::<T, O>(rows, number);
-    if stands_at::<T, O>(rows, number, hint) {
-        return Some(hint);
-    }
-    let at = place_from::<T, O>(rows, number);
+    let hint = if near > 0 {
+        near
+    } else {
+        hint_in::<T, O>(rows, number)
+    };
+    let at = place_from_near::<T, O>(rows, number, hint);
     if stands_at::<T, O>(rows, number, at) {
         Some(at)
     } else {
@@ -40,8 +42,8 @@ fn stands_at<T, O: By<T>>(rows: &[T], number: u64, at: usize) -> bool
     }
 }
 
-// Where the number would stand if those of the rows lay evenly.
-fn hint_in<T, O: By<T>>(rows: &[T], number: u64) -> usize {
+/// Where the number would stand if those of the rows lay evenly.
+pub fn hint_in<T, O: By<T>>(rows: &[T], number: u64) -> usize {
     let (Some(first), Some(last)) = (rows.first(), rows.last()) else {
         return 0;
     };

@@ -85,9 +85,9 @@ impl Index {
         self.versions_near(k, 0)
     }
 
-    // The same. The key may have this number among the written keys.
+    /// The same. The key is looked for from number `near` of the written keys, if that isn't 0.
     #[inline(always)]
-    pub(crate) fn versions_near(&self, k: Key, near: usize) -> &[Made]
+    pub fn versions_near(&self, k: Key, near: usize) -> &[Made]
         ensures { AreVersions self.now k result.now }
     {
         match find::<Key, ByKey>(&self.keys, k, near) {

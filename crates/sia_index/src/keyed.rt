@@ -5,6 +5,7 @@ ghost use Rattle.sia_index.specs.Between.{IsBetween};
 
 use crate::info::{ItemRead, KeyVersion, Made, RangeRead};
 use crate::rows::{SpanRow, WriteRow};
+use crate::searching::partition_near;
 use sia_events::{Key, TxnId};
 
 /// The number that a list of rows goes by.
@@ -130,6 +131,24 @@ pub fn place_above<T, O: By<T>>(rows: &[T], to: u64) -> usize
     ensures point { IsPartitionPoint (λ row. leb (O.by row) to ≡ true) (λ row. leb (O.by row) to ≡ false) rows.now result }
 {
     rows.partition_point(|row| O::number(row) <= to)
+}
+
+/// The first place of a row that is at least at `from`, looked for from near a place.
+pub fn place_from_near<T, O: By<T>>(rows: &[T], from: u64, near: usize) -> usize
+    requires { IsNonDecreasingBy O.by rows.now }
+    ensures bound { result ≤ length rows.now }
+    ensures point { IsPartitionPoint (λ row. ltb (O.by row) from ≡ true) (λ row. ltb (O.by row) from ≡ false) rows.now result }
+{
+    partition_near(rows, near, |row| O::number(row) < from)
+}
+
+/// The first place of a row that is above `to`, looked for from near a place.
+pub fn place_above_near<T, O: By<T>>(rows: &[T], to: u64, near: usize) -> usize
+    requires { IsNonDecreasingBy O.by rows.now }
+    ensures bound { result ≤ length rows.now }
+    ensures point { IsPartitionPoint (λ row. leb (O.by row) to ≡ true) (λ row. leb (O.by row) to ≡ false) rows.now result }
+{
+    partition_near(rows, near, |row| O::number(row) <= to)
 }
 
 /// The rows from `lo` to `hi`.

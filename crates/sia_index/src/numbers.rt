@@ -5,7 +5,7 @@ ghost use Rattle.sia_events.specs.Transactions.{HasEvent, Wrote};
 ghost use Rattle.sia_index.specs.Info.{IsInfo, IsKeyAt};
 ghost use Rattle.sia_index.specs.Numbers.{HasTxnAt, IsTxnAt};
 
-use crate::hints::find;
+use crate::hints::{find, hint_in};
 use crate::indexed::Index;
 use crate::info::TxnInfo;
 use crate::keyed::{ByKey, ByTxn};
@@ -34,10 +34,16 @@ impl Index {
         self.infos[i]
     }
 
-    /// The number of a key among the written ones, counted from 0.
-    pub fn key_number(&self, k: Key) -> Option<usize>
+    /// The number of a key among the written ones, counted from 0. It is looked for from `near`, if that isn't 0, and no answer
+    /// depends on it.
+    pub fn key_number(&self, k: Key, near: usize) -> Option<usize>
         ensures { MatchOption result ((t : ℕ) → ¬ Wrote self.now t k) (λ i. IsKeyAt self.now i k) }
     {
-        find::<Key, ByKey>(&self.keys, k, 0)
+        find::<Key, ByKey>(&self.keys, k, near)
+    }
+
+    /// The number that the key would have if the written keys lay evenly: near that it may be looked for.
+    pub fn key_hint(&self, k: Key) -> usize {
+        hint_in::<Key, ByKey>(&self.keys, k)
     }
 }

@@ -1,7 +1,7 @@
 //! What a reader sees of the versions that others made, for many keys one after another. A number of a written key that is
 //! passed on from one key to the next saves searches, and no answer depends on it.
-ghost use Rattle.std.specs.Prelude.{◌≡◌, ◌⊎◌, ◌<◌, ◌≤◌, ℕ, false, IsTrue, AllPairs, All, length, slice_index};
-ghost use Rattle.sia_events.specs.Transactions.{Wrote, WroteBefore};
+ghost use Rattle.std.specs.Prelude.{◌≡◌, ◌≤◌, ℕ, false};
+ghost use Rattle.sia_events.specs.Transactions.{WroteBefore};
 ghost use Rattle.sia_index.specs.Info.{IsReader};
 ghost use Rattle.sia_index.specs.Seen.{IsSeen};
 
@@ -47,25 +47,5 @@ impl Index {
             Some(_) => true,
             None => false,
         }
-    }
-
-    /// Whether a look at the keys around number `near` shows that no key from `lo` to `hi` is written.
-    pub fn is_unwritten_near(&self, lo: Key, hi: Key, near: usize) -> bool
-        ensures { IsTrue result → (k u : ℕ) → lo ≤ k → k ≤ hi → ¬ Wrote self.now u k }
-    {
-        let _ = &self.of;
-        lie_around(&self.keys, near, lo, hi)
-    }
-}
-
-// Whether the key at the place lies above `hi`, and the one before it below `lo`.
-fn lie_around(keys: &[Key], at: usize, lo: Key, hi: Key) -> bool
-    requires { AllPairs (λ x y. x < y) keys.now }
-    ensures { IsTrue result → All (λ key. (key < lo) ⊎ (hi < key)) keys.now }
-{
-    if 0 < at && at < keys.len() {
-        keys[at - 1] < lo && hi < keys[at]
-    } else {
-        false
     }
 }

@@ -33,7 +33,8 @@ fn has_keys(index: &Index, keys: &[(Key, &[Made])]) -> bool {
     let mut is_so = index.written_keys().len() == keys.len();
     for (i, (k, versions)) in keys.iter().enumerate() {
         is_so &= index.written_keys().get(i) == Some(k)
-            && index.key_number(*k) == Some(i)
+            && index.key_number(*k, i / 2) == Some(i)
+            && index.key_number(*k, 0) == Some(i)
             && index.versions(*k) == *versions
             && i < index.written_keys().len()
             && index.versions_at(i) == *versions;
@@ -44,12 +45,9 @@ fn has_keys(index: &Index, keys: &[(Key, &[Made])]) -> bool {
 fn is_answered(index: &Index, asked: &Asked<'_>) -> bool {
     match asked {
         Asked::NoTxn(t) => index.txn(*t).is_none() && index.txn_number(*t).is_none(),
-        Asked::NoKey(k) => index.key_number(*k).is_none() && index.versions(*k).is_empty(),
+        Asked::NoKey(k) => index.key_number(*k, 0).is_none() && index.versions(*k).is_empty(),
         Asked::Overlap(t, u, is_told) => index.overlap(*t, *u) == *is_told,
         Asked::FirstWrite(t, k, place) => index.first_write(*t, *k) == *place,
-        Asked::IsUnwritten(lo, hi, near, is_told) => {
-            index.is_unwritten_near(*lo, *hi, *near) == *is_told
-        }
         Asked::Versions(lo, hi, versions) => index.versions_within(*lo, *hi) == *versions,
         Asked::Reads(lo, hi, reads) => index.reads_within(*lo, *hi) == *reads,
         Asked::Ranges(lo, hi, ranges) => index.ranges_meeting(*lo, *hi) == *ranges,

@@ -19,6 +19,7 @@ pub(crate) mod sights;
 pub(crate) mod unseen;
 
 use crate::auditing::joining::joined;
+use crate::auditing::keys::numbers_within;
 use crate::auditing::nearby::are_apart;
 use crate::auditing::pairs::put_key_bad;
 use crate::auditing::ranges::{Scope, put_range_reads, ranges_in_turn};
@@ -122,8 +123,11 @@ pub(crate) fn bad_writes_of(
 {
     let keys = ix.written_within(part.lo, part.hi);
     let mut bad = Vec::new(alloc);
+    let (first, _) = numbers_within(ix, part.lo, part.hi, ix.key_hint(part.lo), keys.len());
+    let mut near = first as usize;
     for key in keys {
-        put_key_bad(ix, *key, ix.versions(*key), &mut bad)?;
+        put_key_bad(ix, *key, ix.versions_near(*key, near), &mut bad)?;
+        near = near.saturating_add(1);
     }
     put_in_order(&mut bad);
     Ok(bad)

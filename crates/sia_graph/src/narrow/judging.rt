@@ -11,6 +11,7 @@ use crate::narrow::Evidence;
 use crate::narrow::cycle::cycle_of_left;
 use crate::narrow::limits::{least_early, limits_in};
 use crate::narrow::ordering::take_members;
+use crate::narrow::pivotal::may_have_pivot;
 use crate::narrow::two::NONE;
 use crate::pivoting::lifetimes::lifetimes_of;
 use crate::settling::txns::Txns;
@@ -51,6 +52,10 @@ pub fn passes(
 {
     if !are_none(bad_reads, bad_writes) {
         return Ok(false);
+    }
+    let may = may_have_pivot(alloc, evidence)?;
+    if !may {
+        return Ok(true);
     }
     let lifetimes = lifetimes_of(alloc, evidence.index, evidence.txns)?;
     let limits = limits_in(alloc, evidence, &lifetimes)?;

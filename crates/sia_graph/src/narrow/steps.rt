@@ -1,5 +1,5 @@
 //! Steps between committed transactions, and through blocks of keys, that lead wherever the edges of a history lead.
-ghost use Rattle.std.specs.Prelude.{◌≡◌, ◌≢◌, ◌⊎◌, ℕ, ◌+◌, ◌*◌, ◌<◌, ◌≤◌, All, OnOk};
+ghost use Rattle.std.specs.Prelude.{◌≡◌, ◌≢◌, ◌⊎◌, ℕ, ◌+◌, ◌*◌, ◌<◌, ◌≤◌, All, Contains, IsTrue, OnOk};
 ghost use Rattle.sia_parts.specs.Sights.{Adds, FromSome};
 ghost use Rattle.sia_graph.specs.NarrowSteps.{CanSearch, IsHalfStep, IsLeafStep, IsLookStep, IsNewestStep, IsNextStep, node_of, step_number, step_source, step_target};
 
@@ -17,13 +17,28 @@ pub(crate) fn node(size: u32, txn: u32) -> u32
     2 * size + txn
 }
 
-/// Adds the step from one transaction to another, where they differ.
+/// Whether the step is one of the last two.
+fn is_among_last(steps: &[u64], step: u64) -> bool
+    ensures { IsTrue result → Contains steps.now step }
+{
+    match steps {
+        [.., first, last] => *first == step || *last == step,
+        _ => false,
+    }
+}
+
+/// Adds the step from one transaction to another, where they differ. What a transaction saw of keys side by side mostly gives
+/// the same two steps again and again, which are added once.
 fn put_between(size: u32, source: u32, target: u32, steps: &mut Vec<u64>) -> Result<(), NoMemory>
     requires few { (size ≤ 1048576) × (source < 1048576) × (target < 1048576) }
     ensures { OnOk result (Adds (λ n. (source ≢ target) × (n ≡ step_number (node_of size source) (node_of size target))) steps.old.items steps.new.items) }
 {
-    if source != target {
-        steps.push(step(node(size, source), node(size, target)))?;
+    if source == target {
+        return Ok(());
+    }
+    let next = step(node(size, source), node(size, target));
+    if !is_among_last(steps, next) {
+        steps.push(next)?;
     }
     Ok(())
 }

@@ -105,8 +105,6 @@ pub enum Asked<'a> {
     NoKey(Key),
     Overlap(TxnId, TxnId, bool),
     FirstWrite(TxnId, Key, Option<u32>),
-    /// From one key to another, with the number of a key: whether none of them was written.
-    IsUnwritten(Key, Key, usize, bool),
     /// The versions at the keys from one to another, and the reads.
     Versions(Key, Key, &'a [KeyVersion]),
     Reads(Key, Key, &'a [ItemRead]),
@@ -332,11 +330,7 @@ pub const HISTORIES: &[Answers<'static>] = &[
             (9, &[]),
         ],
         all_versions: &[made!(1, 3), made!(2, 8), made!(1, 3)],
-        asked: &[
-            Asked::IsUnwritten(6, 8, 3, true),
-            Asked::IsUnwritten(6, 9, 3, false),
-            Asked::IsUnwritten(5, 8, 3, false),
-        ],
+        asked: &[Asked::NoKey(6), Asked::NoKey(8)],
         readers: &[
             (
                 reader!(2, 1, 7, 3, true),

@@ -111,7 +111,7 @@ fn put_stretch(
     ensures bad { OnOk result (Adds (FromKeys (IsBetween lo hi) (λ k. IsBadOf reading.now.ix.now (unlisted_sight reading.now.known.reader k))) bad.old.items bad.new.items) }
     ensures absences { OnOk result (Spreads (IsGapOf reading.now.ix.now reading.now.known.reader (IsBetween lo hi)) absences.old.items absences.new.items) }
 {
-    let (from, to) = numbers_within(reading.ix, lo, hi, near);
+    let (from, to) = numbers_within(reading.ix, lo, hi, near as usize, 0);
     if from < to {
         put_due(reading.ix, reading.known.reader, lo, hi, bad)?;
         put_absence(reading.known.number, from, to, absences)?;

@@ -6,7 +6,7 @@ ghost use Rattle.sia_index.specs.Info.{IsKeyAt};
 
 use sia_events::Key;
 use sia_index::Index;
-use sia_index::keyed::{ByKey, place_above, place_from};
+use sia_index::keyed::{ByKey, place_above_near, place_from_near};
 
 /// The number of the key, if it is written. It may be `near`.
 pub(crate) fn key_near(ix: &Index, k: Key, near: u32) -> Option<u32>
@@ -18,23 +18,21 @@ pub(crate) fn key_near(ix: &Index, k: Key, near: u32) -> Option<u32>
     if at < keys.len() && keys[at] == k {
         return Some(near);
     }
-    match ix.key_number(k) {
+    match ix.key_number(k, at) {
         Some(i) => Some(i as u32),
         None => None,
     }
 }
 
-/// The number of the first written key from `lo` to `hi`, and that behind the last one. The first may be number `near`.
-pub(crate) fn numbers_within(ix: &Index, lo: Key, hi: Key, near: u32) -> (u32, u32)
+/// The number of the first written key from `lo` to `hi`, and that behind the last one. The first may be number `near`, and there
+/// may be so many.
+pub(crate) fn numbers_within(ix: &Index, lo: Key, hi: Key, near: usize, count: usize) -> (u32, u32)
     requires { IsWellFormed ix.now }
     ensures each { (j : ℕ) → ((result.0 ≤ j) × (j < result.1)) ↔ ((k : ℕ) × IsKeyAt ix.now j k × (lo ≤ k) × (k ≤ hi)) }
     ensures none { result.1 ≤ result.0 → (k u : ℕ) → lo ≤ k → k ≤ hi → ¬ Wrote ix.now u k }
 {
-    if ix.is_unwritten_near(lo, hi, near as usize) {
-        return (near, near);
-    }
     let keys = ix.written_keys();
-    let from = place_from::<Key, ByKey>(keys, lo);
-    let to = place_above::<Key, ByKey>(keys, hi);
+    let from = place_from_near::<Key, ByKey>(keys, lo, near);
+    let to = place_above_near::<Key, ByKey>(keys, hi, from.saturating_add(count));
     (from as u32, to as u32)
 }

@@ -35,6 +35,9 @@ fn put_bad_with(
     requires { AscendsByCommit earlier.now }
     ensures { OnOk result (Adds (FromSome (IsPairBad ix.now key second) earlier.now) bad.old.items bad.new.items) }
 {
+    if earlier.is_empty() {
+        return Ok(());
+    }
     let Some(info) = ix.txn(second.txn) else {
         return Ok(());
     };

@@ -108,7 +108,7 @@ fn put_range_read(
     let listed = listed_within(listed_at(scope.h, range.place), lo, hi);
     let known = known_after(ix, scope.committed, last, range.txn, range.place);
     let own = ix.may_own(known.reader, lo, hi);
-    let (first, end) = numbers_within(ix, lo, hi, 0);
+    let (first, end) = numbers_within(ix, lo, hi, ix.key_hint(lo), listed.len());
     if listed.is_empty() {
         if sees_none(known.reader, own, scope.first) {
             put_absence(known.number, first, end, absences)?;

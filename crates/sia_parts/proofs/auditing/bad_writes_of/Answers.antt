@@ -11,7 +11,7 @@ use Rattle.sia_parts.proofs.Sources.{bad_writes_are, key_pairs, versions_ascend}
 use Rattle.sia_parts.proofs.auditing.bad_writes_of.Goals as goal
 
 pub put_key_bad-requires : goal.put_key_bad-requires
-put_key_bad-requires c = versions_ascend _ _ _ c.versions.ensures
+put_key_bad-requires c = versions_ascend _ _ _ c.versions_near.ensures
 
 pub loop-key-init : goal.loop-key-init
 loop-key-init c = rw c.new-bad.ensures.items (from_none (KeyPair c.args.ix.now (IsPairBad c.args.ix.now)) c.written_within-keys.result.now [])
@@ -19,7 +19,7 @@ loop-key-init c = rw c.new-bad.ensures.items (from_none (KeyPair c.args.ix.now (
 pub loop-key-preserved : goal.loop-key-preserved
 loop-key-preserved c =
     from_more (KeyPair c.args.ix.now (IsPairBad c.args.ix.now)) c.written_within-keys.result.now c.loop-key.key-index 0 [] _ _ c.loop-key-test.true c.loop-key.invariant
-    (key_pairs c.args.ix.now (IsPairBad c.args.ix.now) _ _ c.versions.ensures _ _ c.in_ok-put_key_bad.ensures)
+    (key_pairs c.args.ix.now (IsPairBad c.args.ix.now) _ _ c.versions_near.ensures _ _ c.in_ok-put_key_bad.ensures)
 
 pub returns : goal.returns
 returns c =

@@ -1,4 +1,4 @@
-use Rattle.std.proofs.Common.{subst, sym, ◌∙◌}
+use Rattle.std.proofs.Common.{refl, subst, sym, ◌∙◌}
 use Rattle.std.proofs.lemmas.Bool.{eqb-true, eq-eqb}
 use Rattle.std.proofs.lemmas.List.Elements.{All-contains_itself}
 use Rattle.sia_graph.specs.Early.{IsEarly}
@@ -6,6 +6,7 @@ use Rattle.sia_graph.specs.Lifetimes.{AreLifetimes}
 use Rattle.sia_graph.specs.Ranks.{IsLeastRank}
 use Rattle.sia_graph.proofs.FirstsTold.{passes_told}
 use Rattle.sia_graph.proofs.NoFirsts.{kept, no_bad_reads, no_bad_writes}
+use Rattle.sia_graph.proofs.NoPivotal.{none_pivotal}
 use Rattle.sia_graph.proofs.narrow.judging.passes.Goals as goal
 
 pub returns-then-not-are_none : goal.returns-then-not-are_none
@@ -17,6 +18,13 @@ returns-then-not-are_none c = (
       let writes = no_bad_writes h c.args.bad_reads.now c.args.bad_writes.now c.requires.bad_reads c.requires.bad_writes passes.0 in
       sym c.if-not-are_none.true ∙ c.are_none.ensures.1 (reads, writes)),
 )
+
+pub returns-then-not-may : goal.returns-then-not-may
+returns-then-not-may c =
+    let e = c.args.evidence.now in
+    let none = c.are_none.ensures.0 c.if-not-are_none.false in
+    let isolated = kept e.index.now c.args.bad_reads.now c.args.bad_writes.now c.requires.bad_reads c.requires.bad_writes none.0 none.1 in
+    ((λ is. (isolated, none_pivotal e.index.now e.txns.now e.keys.now e.looks.now c.requires.evidence (c.in_ok-may.ensures c.if-not-may.true))), (λ passes. refl))
 
 pub lifetimes_of-requires : goal.lifetimes_of-requires
 lifetimes_of-requires c k d l = (c.requires.evidence.txns_are.each _).0 (All-contains_itself c.args.evidence.now.txns.now k d l)

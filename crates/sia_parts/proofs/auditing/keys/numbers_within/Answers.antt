@@ -3,29 +3,22 @@ use Rattle.std.proofs.Common.{ℕ, arith}
 use Rattle.sia_index.proofs.Ordered.{ascends, rises}
 use Rattle.sia_parts.proofs.FewNumbers.{few_written}
 use Rattle.sia_parts.proofs.KeyNumbers.{numbers_each, numbers_none}
-use Rattle.sia_parts.proofs.LookLemmas.{at_is_written}
 use Rattle.sia_parts.proofs.auditing.keys.numbers_within.Goals as goal
 
-pub returns-then-is_unwritten_near-clause-each : goal.returns-then-is_unwritten_near-clause-each
-returns-then-is_unwritten_near-clause-each c j = (
-  (λ w. absurd (let a = w.0 in let b = w.1 in omega arith)),
-  (λ w. let wrote = at_is_written c.args.ix.now j w.0 w.1 in absurd (c.is_unwritten_near.ensures c.if-is_unwritten_near.true w.0 wrote.0 w.2 w.3 wrote.1)),
-)
+pub place_from_near-from-requires : goal.place_from_near-from-requires
+place_from_near-from-requires c = rises (λ (k : ℕ). k) _ (ascends (λ (k : ℕ). k) _ _ c.written_keys-keys.ensures)
 
-pub place_from-from-requires : goal.place_from-from-requires
-place_from-from-requires c = rises (λ (k : ℕ). k) _ (ascends (λ (k : ℕ). k) _ _ c.written_keys-keys.ensures)
-
-pub place_above-to-requires : goal.place_above-to-requires
-place_above-to-requires c = rises (λ (k : ℕ). k) _ (ascends (λ (k : ℕ). k) _ _ c.written_keys-keys.ensures)
+pub place_above_near-to-requires : goal.place_above_near-to-requires
+place_above_near-to-requires c = rises (λ (k : ℕ). k) _ (ascends (λ (k : ℕ). k) _ _ c.written_keys-keys.ensures)
 
 pub overflow_cast-result : goal.overflow_cast-result
-overflow_cast-result c = let few = few_written c.args.ix.now c.requires c.written_keys-keys.result.now c.written_keys-keys.ensures in let b = c.place_from-from.ensures.bound in omega arith
+overflow_cast-result c = let few = few_written c.args.ix.now c.requires c.written_keys-keys.result.now c.written_keys-keys.ensures in let b = c.place_from_near-from.ensures.bound in omega arith
 
 pub overflow_cast-result-2 : goal.overflow_cast-result-2
-overflow_cast-result-2 c = let few = few_written c.args.ix.now c.requires c.written_keys-keys.result.now c.written_keys-keys.ensures in let b = c.place_above-to.ensures.bound in omega arith
+overflow_cast-result-2 c = let few = few_written c.args.ix.now c.requires c.written_keys-keys.result.now c.written_keys-keys.ensures in let b = c.place_above_near-to.ensures.bound in omega arith
 
 pub returns-clause-each : goal.returns-clause-each
-returns-clause-each c = numbers_each c.args.ix.now c.written_keys-keys.result.now c.written_keys-keys.ensures c.args.lo c.args.hi _ _ c.place_from-from.ensures.point c.place_above-to.ensures.point c.place_above-to.ensures.bound
+returns-clause-each c = numbers_each c.args.ix.now c.written_keys-keys.result.now c.written_keys-keys.ensures c.args.lo c.args.hi _ _ c.place_from_near-from.ensures.point c.place_above_near-to.ensures.point c.place_above_near-to.ensures.bound
 
 pub returns-clause-none : goal.returns-clause-none
-returns-clause-none c = numbers_none c.args.ix.now c.written_keys-keys.result.now c.written_keys-keys.ensures c.args.lo c.args.hi _ _ c.place_from-from.ensures.point c.place_above-to.ensures.point c.place_above-to.ensures.bound
+returns-clause-none c = numbers_none c.args.ix.now c.written_keys-keys.result.now c.written_keys-keys.ensures c.args.lo c.args.hi _ _ c.place_from_near-from.ensures.point c.place_above_near-to.ensures.point c.place_above_near-to.ensures.bound
