@@ -79,10 +79,13 @@ impl Guesses {
         if self.found(start, tag_of(mixed)) < POSITIONS {
             return false;
         }
-        for way in 0..WAYS {
-            let at = start.wrapping_add(way);
-            if at < self.slots.len() && self.slots[at] == EMPTY {
-                self.slots[at] = tag_of(mixed) | position.min(LAST_POSITION) as u32;
+        let end = start.saturating_add(WAYS);
+        if end > self.slots.len() {
+            return false;
+        }
+        for slot in &mut self.slots[start..end] {
+            if *slot == EMPTY {
+                *slot = tag_of(mixed) | position.min(LAST_POSITION) as u32;
                 return true;
             }
         }
@@ -94,9 +97,9 @@ impl Guesses {
         self.slots.len() / 8 * 5 < count
     }
 
-    /// An empty table with twice the room.
+    /// An empty table with four times the room, so that few guesses are made anew.
     pub(crate) fn restart(&mut self) -> Result<(), AllocError> {
-        let slots = self.slots.len().saturating_mul(2).max(LEAST_SLOTS);
+        let slots = self.slots.len().saturating_mul(4).max(LEAST_SLOTS);
         self.slots = vec![in self.alloc; EMPTY; slots]?;
         Ok(())
     }

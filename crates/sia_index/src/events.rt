@@ -21,9 +21,10 @@ pub fn rows_of(alloc: Global, h: &History) -> Result<EventRows, AllocError>
     ensures reads { IfOk result (λ rows. AreReads h.now rows.reads.items) }
     ensures ranges { IfOk result (λ rows. AreRanges h.now rows.ranges.items) }
 {
-    let mut writes = Vec::new(alloc);
-    let mut reads = Vec::new(alloc);
-    let mut ranges = Vec::new(alloc);
+    let count = h.len() as usize;
+    let mut writes = Vec::with_capacity(alloc, count)?;
+    let mut reads = Vec::with_capacity(alloc, count)?;
+    let mut ranges = Vec::with_capacity(alloc, count)?;
     for before in 0..h.len() {
         let place = before + 1;
         if let Some(event) = h.event(place) {

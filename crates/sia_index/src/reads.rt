@@ -13,7 +13,7 @@ use std::alloc::{AllocError, Global};
 pub fn reaches_of(alloc: Global, ranges: &[RangeRead]) -> Result<Vec<Key>, AllocError>
     ensures { IfOk result (λ reaches. AreReaches ranges.now reaches.items) }
 {
-    let mut reaches = Vec::new(alloc);
+    let mut reaches = Vec::with_capacity(alloc, ranges.len())?;
     let mut reach: Key = 0;
     for range in ranges {
         reach = reach.max(range.hi);

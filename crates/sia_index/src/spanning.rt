@@ -17,7 +17,7 @@ pub fn spans_of(alloc: Global, h: &History) -> Result<Vec<SpanRow>, AllocError>
     ensures { IfOk result (λ spans. AreSpans h.now spans.items) }
 {
     let mut slots = slots_of(alloc)?;
-    let mut spans = Vec::new(alloc);
+    let mut spans = Vec::with_capacity(alloc, h.len() as usize)?;
     for before in 0..h.len() {
         let place = before + 1;
         if let Some(event) = h.event(place) {

@@ -29,8 +29,8 @@ pub fn txns_of(alloc: Global, h: &History) -> Result<Txns, AllocError>
 {
     let rows = spans_of(alloc, h)?;
     let spans = rows.as_slice();
-    let mut ids = Vec::new(alloc);
-    let mut infos = Vec::new(alloc);
+    let mut ids = Vec::with_capacity(alloc, spans.len())?;
+    let mut infos = Vec::with_capacity(alloc, spans.len())?;
     let mut from = 0;
     while from < spans.len() {
         let txn = spans[from].txn;

@@ -85,8 +85,9 @@ pub(crate) fn seen_of(
     ensures seen { IfOk result (λ seen. AreSeen ix.now part seen.looks.items seen.absences.items) }
 {
     ix.law();
+    let reads = ix.reads_within(part.lo, part.hi);
     let mut bad_reads = Vec::new(alloc);
-    let mut looks = Vec::new(alloc);
+    let mut looks = Vec::with_capacity(alloc, reads.len())?;
     let mut absences = Vec::new(alloc);
     let first = first_commit(ix, part);
     let scope = Scope {
@@ -99,7 +100,6 @@ pub(crate) fn seen_of(
     let turns = ranges_in_turn(alloc, ix, part)?;
     let ascend = put_range_reads(&scope, &turns, &mut bad_reads, &mut looks, &mut absences)?;
     let end = looks.len();
-    let reads = ix.reads_within(part.lo, part.hi);
     put_item_reads(ix, committed, reads, &mut bad_reads, &mut looks)?;
     put_in_order(&mut bad_reads);
     let apart = are_apart(ascend, &looks, end);

@@ -8,9 +8,9 @@ use Rattle.sia_index.proofs.events.rows_of.Goals.{in-Some+in-Write+in_ok-push-in
 
 pub loop-before-init : goal.loop-before-init
 loop-before-init c = (
-  rw c.new-writes.ensures.items (holds_none (IsWriteAt c.args.h.now) (λ w is. let none = is.1 in cc)),
-  rw c.new-reads.ensures.items (holds_none (IsReadAt c.args.h.now) (λ r is. let place = is.0 in let at = is.1 in let none = rw place at at in cc)),
-  rw c.new-ranges.ensures.items (holds_none (IsRangeAt c.args.h.now) (λ r is. let place = is.0 in let at = is.1.1 in let none = rw place at at in cc)),
+  rw c.in_ok-writes.ensures.items (holds_none (IsWriteAt c.args.h.now) (λ w is. let none = is.1 in cc)),
+  rw c.in_ok-reads.ensures.items (holds_none (IsReadAt c.args.h.now) (λ r is. let place = is.0 in let at = is.1 in let none = rw place at at in cc)),
+  rw c.in_ok-ranges.ensures.items (holds_none (IsRangeAt c.args.h.now) (λ r is. let place = is.0 in let at = is.1.1 in let none = rw place at at in cc)),
 )
 
 pub loop-before-preserved : goal.loop-before-preserved

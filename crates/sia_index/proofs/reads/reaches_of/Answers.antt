@@ -6,7 +6,7 @@ use Rattle.sia_index.proofs.ReadTables.{reaches_none, reaches_more, reaches_all}
 use Rattle.sia_index.proofs.reads.reaches_of.Goals as goal
 
 pub loop-range-init : goal.loop-range-init
-loop-range-init c = rw c.new-reaches.ensures.items (reaches_none _)
+loop-range-init c = rw c.in_ok-reaches.ensures.items (reaches_none _)
 
 pub loop-range-preserved : goal.loop-range-preserved
 loop-range-preserved c =

@@ -5,7 +5,7 @@ use Rattle.sia_index.proofs.spanning.spans_of.Goals as goal
 use Rattle.sia_index.proofs.spanning.spans_of.Goals.{in-Some+then-not-reach+in_ok-push, in-Some+else-not-reach, in_default}
 
 pub loop-before-init : goal.loop-before-init
-loop-before-init c = rw c.new-spans.ensures.items (spans_none c.args.h.now)
+loop-before-init c = rw c.in_ok-spans.ensures.items (spans_none c.args.h.now)
 
 pub loop-before-preserved : goal.loop-before-preserved
 loop-before-preserved c = elim c.match-event.branch [

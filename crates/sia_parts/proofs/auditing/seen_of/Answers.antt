@@ -54,6 +54,6 @@ returns-clause-seen c =
     let reads = FromSome (λ read. LooksAt h (read_sight read)) c.reads_within-reads.result.now in
     let ranges = FromSome (λ range. FromSight (IsListedSight h c.args.part range) (LooksAt h)) c.deref.result.now in
     let missed = FromSome (IsUnlistedBy h c.args.part) c.deref.result.now in
-    let joins = covers_both IsEnd IsInLook ranges reads [] _ _ (subst (λ old. JoinsTo ranges old c.put_range_reads.new.looks.items) c.new-looks.ensures.items c.in_ok-ascend.ensures.looks) c.in_ok-put_item_reads.ensures.looks in
+    let joins = covers_both IsEnd IsInLook ranges reads [] _ _ (subst (λ old. JoinsTo ranges old c.put_range_reads.new.looks.items) c.in_ok-looks.ensures.items c.in_ok-ascend.ensures.looks) c.in_ok-put_item_reads.ensures.looks in
     let spread = subst (λ old. Spreads missed old c.put_range_reads.new.absences.items) c.new-absences.ensures.items c.in_ok-ascend.ensures.absences in
-    seen_are h c.law.ensures c.args.part _ _ c.reads_within-reads.ensures (rw (← c.deref.ensures.value) at c.in_ok-turns.ensures) _ joins _ spread _ _ c.in_ok-looks.ensures c.in_ok-absences.ensures
+    seen_are h c.law.ensures c.args.part _ _ c.reads_within-reads.ensures (rw (← c.deref.ensures.value) at c.in_ok-turns.ensures) _ joins _ spread _ _ c.in_ok-looks-2.ensures c.in_ok-absences.ensures
