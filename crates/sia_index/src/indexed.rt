@@ -57,6 +57,13 @@ impl Index {
         let _ = &self.of;
     }
 
+    /// A law of every index, and nothing else: its written keys make a list.
+    pub fn keys_law(&self)
+        ensures { (keys : List ℕ) × AreWrittenKeys self.now keys }
+    {
+        let _ = &self.keys;
+    }
+
     /// What is known of a transaction.
     pub fn txn(&self, t: TxnId) -> Option<TxnInfo>
         ensures { MatchOption result (¬ HasEvent self.now t) (IsInfo self.now t) }

@@ -28,7 +28,7 @@ pub fn find_in_part(
     ensures { IfOk result (IsPartFound h.now (IsInPart part)) }
 {
     ix.law();
-    let _ = ix.written_keys();
+    ix.keys_law();
     let seen = seen_of(alloc, h, ix, committed, part)?;
     let bad_writes = bad_writes_of(alloc, ix, part)?;
     let unexplained = unexplained_of(alloc, h, ix, part, &seen.bad_reads)?;

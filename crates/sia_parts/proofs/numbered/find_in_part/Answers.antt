@@ -11,6 +11,6 @@ pub returns : goal.returns
 returns c =
     let looks : Looks = record { writers = c.in_ok-writers.writers; readers = c.in_ok-seen.seen.looks; absences = c.in_ok-seen.seen.absences } in
     let found : PartFound = record { bad_reads = c.in_ok-seen.seen.bad_reads; bad_writes = c.in_ok-bad_writes.bad_writes; unexplained = c.in_ok-unexplained.unexplained; looks = looks } in
-    let are = looks_are c.args.ix.now c.args.committed.now c.written_keys.result.now c.requires.committed c.written_keys.ensures c.args.part c.versions_within.result.now c.versions_within.ensures looks c.in_ok-seen.ensures.seen c.in_ok-writers.ensures.looks c.in_ok-writers.ensures.rise in
+    let are = looks_are c.args.ix.now c.args.committed.now c.keys_law.ensures.0 c.requires.committed c.keys_law.ensures.1 c.args.part c.versions_within.result.now c.versions_within.ensures looks c.in_ok-seen.ensures.seen c.in_ok-writers.ensures.looks c.in_ok-writers.ensures.rise in
     subst (λ h. IsPartFound h (IsInPart c.args.part) found) c.requires.index
     (record { bad_reads = c.in_ok-seen.ensures.bad_reads; bad_writes = c.in_ok-bad_writes.ensures; unexplained = c.in_ok-unexplained.ensures; looks = are })
