@@ -4,7 +4,7 @@ use Rattle.std.specs.Prelude.{Contains, IsTrue, slice_index}
 use Rattle.std.proofs.lemmas.Bool.{cases_eq}
 use Rattle.std.proofs.lemmas.List.{get_or-set_other, get_or-set_same}
 use Rattle.sia_events.specs.declared.event.Event.{Event}
-use Rattle.sia_events.specs.DangerousStructures.{IsFirst, IsVulnerable, NoFirst}
+use Rattle.sia_events.specs.DangerousStructures.{IsVulnerable, NoFirst}
 use Rattle.sia_parts.specs.declared.looks.Absence.{Absence}
 use Rattle.sia_parts.specs.declared.looks.Look.{Look}
 use Rattle.sia_parts.specs.declared.looks.Looks.{Looks}
