@@ -15,7 +15,7 @@ use std::thread::Threads;
 use thiserror::Error;
 
 /// How a run ended that met no fault.
-#[derive(Clone, Copy, Debug, PartialEq, Eq)]
+#[derive(Clone, Copy, PartialEq, Eq)]
 pub enum Outcome {
     /// The history meets the level.
     Clean,

@@ -1,6 +1,6 @@
 /// What went wrong at a bad read. The first that fits is its name. Of which rule of the papers each is a breach,
 /// docs/FORMAT.md says.
-#[derive(Clone, Copy, Debug, PartialEq, Eq)]
+#[derive(Clone, Copy, PartialEq, Eq)]
 pub enum Anomaly {
     /// The reader had written the key before, so its own version was due.
     OwnWriteMissed,

@@ -2,7 +2,7 @@ use crate::settling::txns::Txns;
 use sia_events::TxnId;
 
 /// The transaction in the middle of a dangerous structure, with all the transactions at its other ends.
-#[derive(Debug, Drop)]
+#[derive(Drop)]
 pub struct Pivot {
     pub txn: TxnId,
     /// The overlapping transactions that have an rw edge to it.

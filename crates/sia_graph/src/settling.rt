@@ -18,7 +18,7 @@ use std::alloc::Global;
 use std::marker::Model;
 
 /// A step of a cycle: from a transaction by an edge to the next.
-#[derive(Clone, Copy, Debug, PartialEq, Eq)]
+#[derive(Clone, Copy, PartialEq, Eq)]
 pub struct Step {
     pub txn: TxnId,
     pub kind: Kind,
@@ -26,7 +26,7 @@ pub struct Step {
 }
 
 /// The steps of a cycle.
-#[derive(Debug, Drop)]
+#[derive(Drop)]
 pub struct Steps {
     steps: Vec<Step>,
 }
@@ -55,7 +55,7 @@ impl Steps {
 }
 
 /// How the dependencies are settled.
-#[derive(Debug, Drop)]
+#[derive(Drop)]
 pub enum Verdict {
     /// The least order that keeps every edge.
     Order(Txns),

@@ -261,7 +261,7 @@ const GRAPHS: &[(&[TxnId], &[Edge], Result<&[TxnId], &[Step]>)] = &[
 #[test]
 fn settled_graphs(rt: HostRuntime) -> Result<(), Fail> {
     for (ids, edges, wanted) in GRAPHS {
-        assert!(rt; is_settled(rt.alloc(), ids, edges, *wanted)?, "{wanted:?}");
+        assert!(rt; is_settled(rt.alloc(), ids, edges, *wanted)?, "{ids:?}");
     }
     Ok(())
 }

@@ -12,7 +12,7 @@ use sia_events::{Key, Version};
 
 /// What a transaction that reads sees of a key: the last version of others that was committed as it started, and the place
 /// of that commit. Both are 0 where there is none.
-#[derive(Clone, Copy, Debug, PartialEq, Eq)]
+#[derive(Clone, Copy, PartialEq, Eq)]
 pub struct Seen {
     pub version: Version,
     pub commit: u32,

@@ -1,7 +1,7 @@
 use sia_events::{Key, TxnId, Version};
 
 /// A read of `key` by `txn` at `place`, which saw another version than the one due.
-#[derive(Clone, Copy, Debug, PartialEq, Eq, PartialOrd, Ord)]
+#[derive(Clone, Copy, PartialEq, Eq, PartialOrd, Ord)]
 pub struct BadRead {
     pub place: u32,
     pub txn: TxnId,
@@ -12,7 +12,7 @@ pub struct BadRead {
 
 /// Two committed writers of `key`: `first` committed after `second` had started and before it committed, so that by
 /// first-committer-wins `second` had to abort.
-#[derive(Clone, Copy, Debug, PartialEq, Eq, PartialOrd, Ord)]
+#[derive(Clone, Copy, PartialEq, Eq, PartialOrd, Ord)]
 pub struct BadWrite {
     pub key: Key,
     pub first: TxnId,
@@ -20,7 +20,7 @@ pub struct BadWrite {
 }
 
 /// A read of `key` by the committed `txn` at `place`, whose version no serial order explains.
-#[derive(Clone, Copy, Debug, PartialEq, Eq, PartialOrd, Ord)]
+#[derive(Clone, Copy, PartialEq, Eq, PartialOrd, Ord)]
 pub struct Unexplained {
     pub place: u32,
     pub txn: TxnId,
@@ -29,7 +29,7 @@ pub struct Unexplained {
 }
 
 /// The kinds of dependency, in the order in which edges are listed.
-#[derive(Clone, Copy, Debug, PartialEq, Eq, PartialOrd, Ord)]
+#[derive(Clone, Copy, PartialEq, Eq, PartialOrd, Ord)]
 pub enum Kind {
     /// Both wrote the key, the source's version first.
     Ww,
@@ -40,7 +40,7 @@ pub enum Kind {
 }
 
 /// A dependency of `dst` on `src`, two committed transactions, by `key`.
-#[derive(Clone, Copy, Debug, PartialEq, Eq, PartialOrd, Ord)]
+#[derive(Clone, Copy, PartialEq, Eq, PartialOrd, Ord)]
 pub struct Edge {
     pub src: TxnId,
     pub dst: TxnId,

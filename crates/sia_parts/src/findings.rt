@@ -11,7 +11,7 @@ pub struct PartFindings {
 }
 
 /// What was found at all keys.
-#[derive(Debug, Drop)]
+#[derive(Drop)]
 pub struct Findings {
     pub bad_reads: Vec<BadRead>,
     pub bad_writes: Vec<BadWrite>,

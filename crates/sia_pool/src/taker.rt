@@ -10,7 +10,7 @@ use crate::owner::Owner;
 use crate::stealer::Stealer;
 
 /// The answer of one pop or one steal.
-#[derive(Clone, Copy, PartialEq, Eq, Debug)]
+#[derive(Clone, Copy, PartialEq, Eq)]
 pub enum Taken {
     /// The front of what was left. It is now the last of the taker's share.
     Part(u32),

@@ -3,7 +3,7 @@ use sia_graph::{Pivot, Verdict};
 use sia_parts::Findings;
 
 /// All that the audit of a history found.
-#[derive(Debug, Drop)]
+#[derive(Drop)]
 pub struct Audit {
     pub events: u32,
     pub committed: u32,

@@ -1,7 +1,7 @@
 // The levels of isolation that a history is held against.
 
 /// What a history must have kept for the status 0. What passes `Ssi` passes `Serializable`, and what passes that passes `Si`.
-#[derive(Clone, Copy, Debug, PartialEq, Eq)]
+#[derive(Clone, Copy, PartialEq, Eq)]
 pub enum Level {
     /// Snapshot isolation, and some serial order replays the history.
     Serializable,

@@ -14,7 +14,7 @@ const MAX_WORKERS: u8 = 64;
 
 /// How many workers audit which parts, the form of the report, and the level that the status tells of. Neither workers nor
 /// parts change the report or the status.
-#[derive(Debug, Drop)]
+#[derive(Drop)]
 pub struct Options {
     workers: u8,
     parts: Vec<Part>,

@@ -66,7 +66,7 @@ pub trait Sink {
 }
 
 /// One of std's readers or writers. Each call is passed on, and any error is a failure, an interrupted call included.
-#[derive(Debug, Drop)]
+#[derive(Drop)]
 pub struct FromStd<D> {
     device: D,
     refused: bool,

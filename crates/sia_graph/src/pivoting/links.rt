@@ -13,7 +13,7 @@ use sia_parts::{Edge, Kind};
 use std::alloc::{AllocError, Global};
 
 /// Two transactions that are linked, of which one is looked for: of an edge, its source.
-#[derive(Clone, Copy, Debug, PartialEq, Eq, PartialOrd, Ord)]
+#[derive(Clone, Copy, PartialEq, Eq, PartialOrd, Ord)]
 pub struct Link {
     pub at: TxnId,
     pub other: TxnId,
