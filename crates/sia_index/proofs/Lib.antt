@@ -4,6 +4,7 @@ pub mod KeyChains
 pub mod Due
 pub mod Writes
 pub mod Collected
+pub mod EventKinds
 pub mod SpanRows
 pub mod Runs
 pub mod Spans

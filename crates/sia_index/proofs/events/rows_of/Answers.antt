@@ -1,8 +1,8 @@
 -- Each place adds the row of its event, if it has one.
-use Rattle.std.proofs.Common.{◌≡◌, Some, refl, ap, sym, ◌∙◌, arith}
-use Rattle.sia_events.specs.declared.event.Event.TheVariants.{Write, Read, Range}
+use Rattle.std.proofs.Common.{Some, refl, ap, sym, ◌∙◌, arith}
 use Rattle.sia_index.proofs.Collected.{IsWriteAt, holds_none, write_more, write_same, writes_listed}
 use Rattle.sia_index.proofs.ReadTables.{IsReadAt, IsRangeAt, read_more, read_same, reads_listed, range_more, range_same, ranges_listed}
+use Rattle.sia_index.proofs.EventKinds.{one_event, none_here, write_no_read, write_no_range, read_no_write, read_no_range, range_no_write, range_no_read}
 use Rattle.sia_index.proofs.events.rows_of.Goals as goal
 use Rattle.sia_index.proofs.events.rows_of.Goals.{in-Some+in-Write+in_ok-push-in-Write, in-Some+in-Read+in_ok-push-in-Read, in-Some+in-Range+in_ok-push-in-Range, in-Some+in_default-event, in_default}
 
@@ -18,31 +18,31 @@ loop-before-preserved c = elim c.match-event.branch [
   | in-Some+in-Write+in_ok-push-in-Write w ↦
       let at = sym w.in-Some.ensures ∙ ap Some w.in-Write.is in (
         rw (w.writes-is, w.in_ok-push-in-Write.ensures.items) (write_more _ _ _ _ c.loop-before.invariant.0 (refl, at)),
-        rw w.reads-is (read_same _ _ _ c.loop-before.invariant.1 (λ t k s is. cc)),
-        rw w.ranges-is (range_same _ _ _ c.loop-before.invariant.2 (λ t lo hi listed is. cc)),
+        rw w.reads-is (read_same _ _ _ c.loop-before.invariant.1 (λ t k s. write_no_read at)),
+        rw w.ranges-is (range_same _ _ _ c.loop-before.invariant.2 (λ t lo hi listed. write_no_range at)),
       )
   | in-Some+in-Read+in_ok-push-in-Read w ↦
       let at = sym w.in-Some.ensures ∙ ap Some w.in-Read.is in (
-        rw w.writes-is (write_same _ _ _ c.loop-before.invariant.0 (λ t k is. cc)),
+        rw w.writes-is (write_same _ _ _ c.loop-before.invariant.0 (λ t k. read_no_write at)),
         rw (w.reads-is, w.in_ok-push-in-Read.ensures.items) (read_more _ _ _ _ c.loop-before.invariant.1 (refl, at)),
-        rw w.ranges-is (range_same _ _ _ c.loop-before.invariant.2 (λ t lo hi listed is. cc)),
+        rw w.ranges-is (range_same _ _ _ c.loop-before.invariant.2 (λ t lo hi listed. read_no_range at)),
       )
   | in-Some+in-Range+in_ok-push-in-Range w ↦
       let at = sym w.in-Some.ensures ∙ ap Some w.in-Range.is in (
-        rw w.writes-is (write_same _ _ _ c.loop-before.invariant.0 (λ t k is. cc)),
-        rw w.reads-is (read_same _ _ _ c.loop-before.invariant.1 (λ t k s is. cc)),
+        rw w.writes-is (write_same _ _ _ c.loop-before.invariant.0 (λ t k. range_no_write at)),
+        rw w.reads-is (read_same _ _ _ c.loop-before.invariant.1 (λ t k s. range_no_read at)),
         rw (w.ranges-is, w.in_ok-push-in-Range.ensures.items) (range_more _ _ _ _ c.loop-before.invariant.2 (refl, (_, at))),
       )
   | in-Some+in_default-event w ↦
       let at = sym w.in-Some.ensures in (
-        rw w.writes-is (write_same _ _ _ c.loop-before.invariant.0 (λ t k is. let same : w.in-Some.event.now ≡ Write t k = cc in w.in_default-event.not-Write t k same)),
-        rw w.reads-is (read_same _ _ _ c.loop-before.invariant.1 (λ t k s is. let same : w.in-Some.event.now ≡ Read t k s = cc in w.in_default-event.not-Read t k s same)),
-        rw w.ranges-is (range_same _ _ _ c.loop-before.invariant.2 (λ t lo hi listed is. let same : w.in-Some.event.now ≡ Range t lo hi listed = cc in w.in_default-event.not-Range t lo hi listed same)),
+        rw w.writes-is (write_same _ _ _ c.loop-before.invariant.0 (λ t k is. w.in_default-event.not-Write t k (one_event at is))),
+        rw w.reads-is (read_same _ _ _ c.loop-before.invariant.1 (λ t k s is. w.in_default-event.not-Read t k s (one_event at is))),
+        rw w.ranges-is (range_same _ _ _ c.loop-before.invariant.2 (λ t lo hi listed is. w.in_default-event.not-Range t lo hi listed (one_event at is))),
       )
   | in_default w ↦ (
-    rw w.writes-is (write_same _ _ _ c.loop-before.invariant.0 (λ t k is. let none = w.in_default.ensures in cc)),
-    rw w.reads-is (read_same _ _ _ c.loop-before.invariant.1 (λ t k s is. let none = w.in_default.ensures in cc)),
-    rw w.ranges-is (range_same _ _ _ c.loop-before.invariant.2 (λ t lo hi listed is. let none = w.in_default.ensures in cc)),
+    rw w.writes-is (write_same _ _ _ c.loop-before.invariant.0 (λ t k. none_here (sym w.in_default.ensures))),
+    rw w.reads-is (read_same _ _ _ c.loop-before.invariant.1 (λ t k s. none_here (sym w.in_default.ensures))),
+    rw w.ranges-is (range_same _ _ _ c.loop-before.invariant.2 (λ t lo hi listed. none_here (sym w.in_default.ensures))),
   )
 ]
 

@@ -1,12 +1,30 @@
 -- The tables are those of the history.
-use Rattle.std.proofs.Common.{length, subst}
+use Rattle.std.proofs.Common.{[], ◌∷◌, length, subst}
 use Rattle.std.proofs.lemmas.List.{map-id}
 use Rattle.sia_index.specs.declared.info.KeyVersion.{KeyVersion}
 use Rattle.sia_index.specs.declared.rows.WriteRow.{WriteRow}
 use Rattle.sia_index.specs.Tables.{AreOffsets}
-use Rattle.sia_index.proofs.Ordered.{numbers_ascend}
+use Rattle.sia_index.proofs.Ordered.{first_rises, numbers_ascend}
 use Rattle.sia_index.proofs.Offsets.{chains_are}
 use Rattle.sia_index.proofs.make.index.Goals as goal
+
+pub txns_of-requires : goal.txns_of-requires
+txns_of-requires c = c.law.ensures
+
+pub version_rows_of-requires-clause-txns_are : goal.version_rows_of-requires-clause-txns_are
+version_rows_of-requires-clause-txns_are c = rw (c.deref.ensures.value, c.deref-2.ensures.value) c.in_ok-ids.ensures
+
+pub version_rows_of-requires-clause-writes_are : goal.version_rows_of-requires-clause-writes_are
+version_rows_of-requires-clause-writes_are c = rw c.deref-3.ensures.value c.in_ok-writes.ensures.writes
+
+pub offsets_of-requires-clause-rows_rise : goal.offsets_of-requires-clause-rows_rise
+offsets_of-requires-clause-rows_rise c = rw c.deref-6.ensures.value (first_rises (λ (v : KeyVersion). v.key) (λ v. v.commit ∷ v.txn ∷ []) _ c.in_ok-rows.ensures.ascending)
+
+pub offsets_of-requires-2-clause-numbers_ascend : goal.offsets_of-requires-2-clause-numbers_ascend
+offsets_of-requires-2-clause-numbers_ascend c = rw c.deref-9.ensures.value (numbers_ascend _ _ c.in_ok-ids.ensures.ids_are)
+
+pub offsets_of-requires-2-clause-rows_rise : goal.offsets_of-requires-2-clause-rows_rise
+offsets_of-requires-2-clause-rows_rise c = rw c.deref-10.ensures.value (first_rises (λ (w : WriteRow). w.txn) (λ w. w.key ∷ w.place ∷ []) _ c.in_ok-writes.ensures.writes.ascending)
 
 pub offsets_of-requires-clause-numbers_ascend : goal.offsets_of-requires-clause-numbers_ascend
 offsets_of-requires-clause-numbers_ascend c =

@@ -1,9 +1,21 @@
 -- Each turn adds the row of one run.
-use Rattle.std.proofs.Common.{ap}
+use Rattle.std.proofs.Common.{[], ◌∷◌, ap, arith}
 use Rattle.std.proofs.lemmas.List.{get_or_default}
 use Rattle.sia_index.specs.declared.rows.SpanRow.{SpanRow}
+use Rattle.sia_index.proofs.Ordered.{first_rises}
 use Rattle.sia_index.proofs.Runs.{rows_all, rows_more, run_has_span, span}
 use Rattle.sia_index.proofs.txns.txns_of.Goals as goal
+
+pub end_of-to-requires-clause-rise : goal.end_of-to-requires-clause-rise
+end_of-to-requires-clause-rise c = first_rises (λ (s : SpanRow). s.txn) (λ s. s.first ∷ s.last ∷ []) _ (rw c.as_slice-spans.ensures.value c.in_ok-rows.ensures.ascending)
+
+pub end_of-to-requires-clause-before : goal.end_of-to-requires-clause-before
+end_of-to-requires-clause-before c k d _ before =
+    let none : SpanRow = record { txn = 0; first = 0; last = 0 } in
+    let from = c.from.ensures in
+    let same = ap (λ (s : SpanRow). s.txn) (get_or_default c.as_slice-spans.result.now c.loop-from.from d none c.loop-from-test.true) in
+    let less = c.loop-from.invariant.passed k c.loop-from.from d before (omega arith) c.loop-from-test.true in
+    omega arith
 
 pub last_of-last-requires-clause-some : goal.last_of-last-requires-clause-some
 last_of-last-requires-clause-some c =

@@ -5,9 +5,30 @@ use Rattle.std.proofs.lemmas.List.{get_or_default}
 use Rattle.sia_index.specs.declared.rows.WriteRow.{WriteRow}
 use Rattle.sia_index.specs.Rows.{AreWrites}
 use Rattle.sia_index.proofs.NextKeys.{point_from_in}
-use Rattle.sia_index.proofs.Writes.{first_at, none_at, first_written, none_written}
+use Rattle.sia_index.proofs.Writes.{first_at, none_at, first_written, none_written, part_rises}
 use Rattle.sia_index.proofs.indexed.Index.first_write_at.Goals as goal
 use Rattle.sia_index.proofs.indexed.Index.first_write_at.Goals.{else-at-to-via-then-at-to+else-index-k, else-at-to-via-else-at-to}
+
+pub stretch_at-from-requires : goal.stretch_at-from-requires
+stretch_at-from-requires c = c.requires
+
+pub slice_bounds-place_from-start : goal.slice_bounds-place_from-start
+slice_bounds-place_from-start c =
+    let rows = c.self.inside.writes.items in
+    let are = subst (λ h. AreWrites h rows) c.self.view_is c.self.invariant.writes_are in
+    (c.stretch_at-from.ensures rows are).le
+
+pub slice_bounds-place_from-end : goal.slice_bounds-place_from-end
+slice_bounds-place_from-end c =
+    let rows = c.self.inside.writes.items in
+    let are = subst (λ h. AreWrites h rows) c.self.view_is c.self.invariant.writes_are in
+    rw c.deref.ensures.value ((c.stretch_at-from.ensures rows are).bound)
+
+pub place_from-requires : goal.place_from-requires
+place_from-requires c =
+    let rows = c.self.inside.writes.items in
+    let are = subst (λ h. AreWrites h rows) c.self.view_is c.self.invariant.writes_are in
+    rw c.deref.ensures.value (part_rises rows are.ascending _ _ _ (c.stretch_at-from.ensures rows are))
 
 pub returns-then-index-k : goal.returns-then-index-k
 returns-then-index-k c =

@@ -4,6 +4,22 @@ use Rattle.sia_index.specs.Rows.{AreWrites}
 use Rattle.sia_index.proofs.NextKeys.{own_next}
 use Rattle.sia_index.proofs.indexed.Index.next_own.Goals as goal
 
+pub stretch_at-requires : goal.stretch_at-requires
+stretch_at-requires c = c.requires.numbered
+
+pub next_key-requires-clause-forward : goal.next_key-requires-clause-forward
+next_key-requires-clause-forward c =
+    let are = subst (λ h. AreWrites h c.self.inside.writes.items) c.self.view_is c.self.invariant.writes_are in
+    (c.stretch_at.ensures _ are).le
+
+pub next_key-requires-clause-within : goal.next_key-requires-clause-within
+next_key-requires-clause-within c =
+    let are = subst (λ h. AreWrites h c.self.inside.writes.items) c.self.view_is c.self.invariant.writes_are in
+    rw c.deref.ensures.value ((c.stretch_at.ensures _ are).bound)
+
+pub next_key-requires-clause-minima_are : goal.next_key-requires-clause-minima_are
+next_key-requires-clause-minima_are c = rw (c.deref.ensures.value, c.deref-then-reader.ensures.value) c.self.invariant.place_minima_are
+
 pub returns-then-reader : goal.returns-then-reader
 returns-then-reader c =
     let are = subst (λ h. AreWrites h c.self.inside.writes.items) c.self.view_is c.self.invariant.writes_are in
