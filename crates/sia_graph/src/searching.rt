@@ -5,6 +5,7 @@ ghost use Rattle.std.specs.List.Sorted.{IsNonDecreasingBy};
 ghost use Rattle.sia_graph.specs.Groups.{IsGroup};
 
 use crate::taking::numbers::source_of;
+use sia_events::{Key, Version};
 pub(crate) use sia_index::keyed::By;
 use sia_index::searching::partition_near;
 use sia_parts::{Absence, Look};
@@ -43,6 +44,14 @@ impl By<Absence> for ByTxn {
 
 /// By key.
 pub(crate) struct ByKey;
+
+impl By<(Key, Version)> for ByKey {
+    ghost by = { λ pair. pair.0 };
+
+    fn number(row: &(Key, Version)) -> u64 {
+        row.0
+    }
+}
 
 impl By<Look> for ByKey {
     ghost by = { λ look. look.key };

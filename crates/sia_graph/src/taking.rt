@@ -55,7 +55,7 @@ fn left_of(
     ensures long { IfOk result (λ left. length left.items ≡ count) }
     ensures each { IfOk result (λ left. (i : ℕ) → i < count → IsTrue (slice_index_or left.items i false) ↔ (0 < slice_index counts.now (floor + i))) }
 {
-    let mut left = Vec::with_capacity(alloc, count)?;
+    let mut left = Vec::new(alloc);
     for i in 0..count {
         left.push(counts[floor + i] > 0)?;
     }

@@ -10,6 +10,7 @@ use crate::narrow::blocks::put_blocks;
 use crate::narrow::steps::node;
 use crate::taking::numbers::{step, target_of};
 use sia_events::NoMemory;
+use sia_index::keyed::{ByKey, place_from};
 use sia_parts::Absence;
 use std::alloc::Global;
 
@@ -21,7 +22,7 @@ fn first_from(numbers: &[u64], start: u64, end: u64) -> u64
     ensures before { (n : ℕ) → start ≤ n → n < result → ¬ Contains numbers.now n }
     ensures own { result < end → Contains numbers.now result }
 {
-    let at = numbers.partition_point(|n| *n < start);
+    let at = place_from::<u64, ByKey>(numbers, start);
     match numbers.get(at) {
         Some(n) => end.min(*n),
         None => end,

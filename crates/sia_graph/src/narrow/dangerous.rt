@@ -61,7 +61,7 @@ fn late_ranks(alloc: Global, lifetimes: &[Lifetime], place: u32) -> Result<Vec<u
     ensures long { IfOk result (λ ranks. length ranks.items ≡ length lifetimes.now) }
     ensures each { IfOk result (λ ranks. AreLeftRanks (map (λ lifetime. leb place lifetime.commit) lifetimes.now) ranks.items) }
 {
-    let mut ranks = Vec::with_capacity(alloc, lifetimes.len())?;
+    let mut ranks = Vec::new(alloc);
     for i in 0..lifetimes.len() {
         ranks.push(rank(place <= lifetimes[i].commit, i as u32))?;
     }

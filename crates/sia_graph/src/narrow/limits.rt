@@ -26,10 +26,11 @@ const LAST: u32 = u32::MAX - 1;
 fn ranks_of(alloc: Global, lifetimes: &[Lifetime]) -> Result<Vec<u32>, AllocError>
     ensures { IfOk result (λ ranks. ranks.items ≡ map (λ lifetime. 4294967294 - lifetime.commit) lifetimes.now) }
 {
-    lifetimes
-        .iter()
-        .map(|lifetime| LAST.saturating_sub(lifetime.commit))
-        .collect(alloc)
+    let mut ranks = Vec::new(alloc);
+    for lifetime in lifetimes {
+        ranks.push(LAST.saturating_sub(lifetime.commit))?;
+    }
+    Ok(ranks)
 }
 
 /// The rank of the last place before the commit of number `t`, up to that of its last source, whose rank is given. `LAST` if it
@@ -72,7 +73,7 @@ pub(crate) fn limits_in(
     let ranks = ranks_of(alloc, lifetimes)?;
     let owned = ranks_of_sources(alloc, evidence, &ranks)?;
     let sources = owned.as_slice();
-    let mut limits = Vec::with_capacity(alloc, lifetimes.len())?;
+    let mut limits = Vec::new(alloc);
     for t in 0..lifetimes.len() {
         limits.push(limit_of(sources[t], lifetimes[t].commit))?;
     }

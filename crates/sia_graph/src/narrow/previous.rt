@@ -31,7 +31,7 @@ fn ranks_of(alloc: Global, left: &[bool]) -> Result<Vec<u32>, NoMemory>
     ensures long { IfOk result (λ ranks. length ranks.items ≡ length left.now) }
     ensures each { IfOk result (λ ranks. AreLeftRanks left.now ranks.items) }
 {
-    let mut ranks = Vec::with_capacity(alloc, left.len())?;
+    let mut ranks = Vec::new(alloc);
     for i in 0..left.len() {
         ranks.push(rank(left[i], i as u32))?;
     }
@@ -80,7 +80,7 @@ fn places(alloc: Global, ranks: &[u32]) -> Result<Vec<usize>, NoMemory>
     ensures long { IfOk result (λ previous. length previous.items ≡ length ranks.now) }
     ensures each { IfOk result (λ previous. (t : ℕ) → t < length ranks.now → IsPlaceOf (slice_index ranks.now t) t (slice_index previous.items t)) }
 {
-    let mut previous = Vec::with_capacity(alloc, ranks.len())?;
+    let mut previous = Vec::new(alloc);
     for t in 0..ranks.len() {
         previous.push(place(ranks[t], t))?;
     }

@@ -8,7 +8,7 @@ use sia_index::Index;
 use std::alloc::Global;
 
 /// When a committed transaction starts, and when it commits.
-#[derive(Clone, Copy, PartialEq, Eq)]
+#[derive(Clone, Copy)]
 pub struct Lifetime {
     pub start: u32,
     pub commit: u32,

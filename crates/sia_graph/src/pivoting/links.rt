@@ -64,13 +64,14 @@ pub(crate) fn vulnerable(alloc: Global, edges: &[Edge], ix: &Index) -> Result<Ve
 fn reversed(alloc: Global, links: &[Link]) -> Result<Vec<Link>, AllocError>
     ensures { IfOk result (λ others. others.items ≡ map (λ l. record { at = l.other; other = l.at }) links.now) }
 {
-    links
-        .iter()
-        .map(|l| Link {
+    let mut others = Vec::new(alloc);
+    for l in links {
+        others.push(Link {
             at: l.other,
             other: l.at,
-        })
-        .collect(alloc)
+        })?;
+    }
+    Ok(others)
 }
 
 /// The same links at their other ends, in order.
@@ -94,7 +95,11 @@ pub(crate) fn links_at(links: &[Link], txn: TxnId, near: usize) -> (&[Link], usi
 pub(crate) fn others(alloc: Global, links: &[Link]) -> Result<Vec<TxnId>, AllocError>
     ensures { IfOk result (λ others. others.items ≡ map (λ l. l.other) links.now) }
 {
-    links.iter().map(|l| l.other).collect(alloc)
+    let mut others = Vec::new(alloc);
+    for l in links {
+        others.push(l.other)?;
+    }
+    Ok(others)
 }
 
 /// The transactions at some other end, ascending.

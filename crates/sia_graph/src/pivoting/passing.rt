@@ -23,5 +23,10 @@ pub fn ssi_pass(f: &Findings, p: &[Pivot]) -> bool
 fn has_none(bad_reads: &[BadRead], bad_writes: &[BadWrite], p: &[Pivot]) -> bool
     ensures { IsTrue result ↔ ((bad_reads.now ≡ []) × (bad_writes.now ≡ []) × All (λ pivot. pivot.firsts ≡ []) p.now) }
 {
-    are_none(bad_reads, bad_writes) && p.iter().all(|pivot| pivot.firsts.as_slice().is_empty())
+    for pivot in p {
+        if !pivot.firsts.as_slice().is_empty() {
+            return false;
+        }
+    }
+    are_none(bad_reads, bad_writes)
 }

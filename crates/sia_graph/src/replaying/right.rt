@@ -8,7 +8,9 @@ ghost use Rattle.sia_events.specs.Replay.{MayFollow};
 ghost use Rattle.sia_events.specs.Transactions.{Wrote};
 ghost use Rattle.sia_graph.specs.Replaying.{Agrees, AreCommits, AreWritten, IsRight, IsWrongAt, version_in};
 
+use crate::searching::ByKey;
 use sia_events::{Event, History, Key, TxnId, Version};
+use sia_index::keyed::place_from;
 use std::collections::BTreeMap;
 
 /// The version of a key that the replay has.
@@ -61,7 +63,7 @@ fn is_listed(listed: &[(Key, Version)], key: Key) -> bool
     requires { IsStrictlyIncreasing (map (λ p. p.0) listed.now) }
     ensures { IsTrue result ↔ ((v : ℕ) × Contains listed.now (key, v)) }
 {
-    let i = listed.partition_point(|pair| pair.0 < key);
+    let i = place_from::<(Key, Version), ByKey>(listed, key);
     i < listed.len() && listed[i].0 == key
 }
 

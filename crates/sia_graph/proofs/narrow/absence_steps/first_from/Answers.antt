@@ -1,16 +1,18 @@
-use Rattle.std.proofs.Common.{◌≡◌, subst, ltb, length, rules, sym, arith}
+use Rattle.std.proofs.Common.{◌≡◌, subst, length, rules, sym, arith}
 use Rattle.std.specs.Prelude.{Contains}
 use Rattle.std.proofs.lemmas.Bool.{ltb-true, ltb-false}
-use Rattle.std.proofs.lemmas.List.Sorted.{IsPartitionPoint-from_clause, IsPartitionedBy-ltb}
 use Rattle.sia_graph.proofs.AbsenceBlocks.{none_from, rest_from, above}
 use Rattle.sia_graph.proofs.narrow.absence_steps.first_from.Goals as goal
+
+pub place_from-at-requires : goal.place_from-at-requires
+place_from-at-requires c = c.requires.rise
 
 pub returns-in-Some : goal.returns-in-Some
 returns-in-Some c =
     let numbers = c.args.numbers.now in
     let start = c.args.start in
-    let at = c.partition_point-at.result in
-    let point = IsPartitionPoint-from_clause (λ n. ltb n start) numbers _ c.partition_point-at.ensures.partitioned (IsPartitionedBy-ltb (λ n. n) numbers start c.requires.rise) (λ a r q k. search rules) in
+    let at = c.place_from-at.result in
+    let point = c.place_from-at.ensures.point in
     let found = c.in-Some.ensures.lookup in
     let inside = ltb-true at (length numbers) (sym found.0) in
     let rest = rest_from numbers c.requires.rise start at point c.in-Some.n.now inside found.1 in
@@ -25,8 +27,8 @@ pub returns-in-None : goal.returns-in-None
 returns-in-None c =
     let numbers = c.args.numbers.now in
     let start = c.args.start in
-    let at = c.partition_point-at.result in
-    let point = IsPartitionPoint-from_clause (λ n. ltb n start) numbers _ c.partition_point-at.ensures.partitioned (IsPartitionedBy-ltb (λ n. n) numbers start c.requires.rise) (λ a r q k. search rules) in
+    let at = c.place_from-at.result in
+    let point = c.place_from-at.ensures.point in
     let past = ltb-false at (length numbers) (sym c.in-None.ensures.lookup.0) in
     record {
       within = search rules;

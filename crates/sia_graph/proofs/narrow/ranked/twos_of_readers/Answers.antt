@@ -20,6 +20,16 @@ loop-look-init c =
     let yet = none_yet c.args.ranks.now c.in_ok-twos.twos.items (length c.args.versions.now) (c.in_ok-twos.ensures.items_if_clones_equal (λ y k. search rules)) in
     (yet.0, [], no_marks c.args.versions.now c.requires, yet.1)
 
+pub put_rank-requires : goal.put_rank-requires
+put_rank-requires c =
+    let look = get_or c.args.readers.now c.loop-look.look-index none in
+    let at = c.next_after-next.result.1 in
+    let next = if_there (IsNextAt c.args.versions.now look.key look.low at) c.next_after-next.result.0 (sym c.is_some.ensures ∙ c.if-is_some.true) c.next_after-next.ensures.at in
+    let within = next.within in
+    let long = c.loop-look.invariant.0 in
+    let lent = ap (length {A = Two}) c.deref_mut.ensures.value in
+    omega arith
+
 pub loop-look-preserved : goal.loop-look-preserved
 loop-look-preserved c =
     let versions = c.args.versions.now in
