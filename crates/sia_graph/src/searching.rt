@@ -7,7 +7,7 @@ ghost use Rattle.sia_graph.specs.Groups.{IsGroup};
 use crate::taking::numbers::source_of;
 use sia_events::{Key, Version};
 pub(crate) use sia_index::keyed::By;
-use sia_index::searching::partition_near;
+use sia_index::keyed::place_from_near;
 use sia_parts::{Absence, Look};
 
 /// Steps by the place from which they lead.
@@ -62,13 +62,14 @@ impl By<Look> for ByKey {
 }
 
 /// The first place of a row that is at least at the number, which is looked for from near a guess.
+#[inline(always)]
 pub(crate) fn place_from<T, O: By<T>>(rows: &[T], least: u64, near: usize) -> usize
     requires { IsNonDecreasingBy O.by rows.now }
     ensures bound { result ≤ length rows.now }
     ensures before { AllWithin (λ row. O.by row < least) rows.now 0 result }
     ensures after { AllWithin (λ row. least ≤ O.by row) rows.now result (length rows.now) }
 {
-    partition_near(rows, near, |row| O::number(row) < least)
+    place_from_near::<T, O>(rows, least, near)
 }
 
 /// The rows at the number, which are looked for from near a guess, and where they end.

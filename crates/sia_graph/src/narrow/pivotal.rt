@@ -23,22 +23,12 @@ fn makers_of(alloc: Global, count: usize, versions: &[Look]) -> Result<Vec<bool>
     Ok(makers)
 }
 
-/// Whether the transaction of that number is marked.
-fn is_marked(marks: &[bool], number: u64) -> bool
-    ensures { result ≡ slice_index_or marks.now number false }
-{
-    match marks.get(number as usize) {
-        Some(mark) => *mark,
-        None => false,
-    }
-}
-
 /// Whether no row is of a transaction that is marked.
 fn are_of_others<T, O: By<T>>(marks: &[bool], rows: &[T]) -> bool
     ensures { IsTrue result → (row : T) → Contains rows.now row → ¬ IsTrue (slice_index_or marks.now (O.by row) false) }
 {
     for row in rows {
-        if is_marked(marks, O::number(row)) {
+        if marks.get(O::number(row) as usize).copied().unwrap_or(false) {
             return false;
         }
     }

@@ -7,8 +7,21 @@ ghost use Rattle.sia_graph.specs.NarrowSteps.{CanSearch, IsNewest, IsNext};
 ghost use Rattle.sia_graph.specs.VersionRanks.{IsNextAt};
 
 use crate::taking::numbers::step;
-use sia_index::searching::partition_near;
+use sia_index::keyed::{By, place_above_near};
 use sia_parts::Look;
+
+/// By key and commit.
+struct ByRank;
+
+impl By<Look> for ByRank {
+    ghost use Rattle.sia_parts.specs.Looks.{look_rank};
+
+    ghost by = { look_rank };
+
+    fn number(row: &Look) -> u64 {
+        step(row.key, row.high)
+    }
+}
 
 /// How many writers stand up to the key and the place. They are counted from near a guess.
 fn count_up_to(writers: &[Look], key: u32, place: u32, near: usize) -> usize
@@ -18,7 +31,7 @@ fn count_up_to(writers: &[Look], key: u32, place: u32, near: usize) -> usize
     ensures after { AllWithin (λ a. key * 4294967296 + place < look_rank a) writers.now result (length writers.now) }
 {
     let most = step(key, place);
-    partition_near(writers, near, |look| step(look.key, look.high) <= most)
+    place_above_near::<Look, ByRank>(writers, most, near)
 }
 
 /// The look at a place, where it is one of the key.

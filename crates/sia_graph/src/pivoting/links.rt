@@ -60,25 +60,17 @@ pub(crate) fn vulnerable(alloc: Global, edges: &[Edge], ix: &Index) -> Result<Ve
     Ok(links)
 }
 
-/// Each link turned round.
-fn reversed(alloc: Global, links: &[Link]) -> Result<Vec<Link>, AllocError>
-    ensures { IfOk result (λ others. others.items ≡ map (λ l. record { at = l.other; other = l.at }) links.now) }
-{
-    let mut others = Vec::new(alloc);
-    for l in links {
-        others.push(Link {
-            at: l.other,
-            other: l.at,
-        })?;
-    }
-    Ok(others)
-}
-
 /// The same links at their other ends, in order.
 pub(crate) fn turned(alloc: Global, links: &[Link]) -> Result<Vec<Link>, AllocError>
     ensures { IfOk result (λ turned. ListsLinks (λ t u. AreLinked links.now u t) turned.items) }
 {
-    let mut turned = reversed(alloc, links)?;
+    let mut turned = Vec::new(alloc);
+    for l in links {
+        turned.push(Link {
+            at: l.other,
+            other: l.at,
+        })?;
+    }
     merge_in_order(&mut turned)?;
     Ok(turned)
 }

@@ -10,8 +10,7 @@ ghost use Rattle.sia_graph.specs.Previous.{IsLeftIn};
 ghost use Rattle.sia_graph.specs.Walks.{AreLeastSources, is_before};
 
 use crate::settling::Step;
-use crate::taking::by_steps::target_place;
-use crate::taking::numbers::{source_of, step};
+use crate::taking::numbers::{source_of, step, target_of};
 use sia_events::{NoMemory, TxnId};
 use sia_index::keyed::{ByTxn, place_from};
 use sia_parts::Edge;
@@ -71,7 +70,7 @@ pub(crate) fn least_sources(
     for i in (0..steps.len()).rev() {
         let source = source_of(steps[i]) as usize;
         if left[source] {
-            previous[target_place(steps[i])] = source;
+            previous[target_of(steps[i]) as usize] = source;
         }
     }
     Ok(previous)

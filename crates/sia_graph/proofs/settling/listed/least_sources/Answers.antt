@@ -19,7 +19,7 @@ index_mut-requires c =
     let i = c.loop-i.i - 1 in
     let below : i < length c.args.steps.now = let a = c.loop-i.auto.i in let b = c.loop-i-test.true in omega arith in
     let w = steps_within c.args.ids.now c.requires.ascending c.args.edges.now c.args.steps.now c.requires.steps i below in
-    let e = c.target_place.ensures in
+    let e = c.target_of.ensures in
     let l = w.1 in
     let long = c.loop-i.invariant.0 in
     let ok = c.loop-i.previous.ok in
@@ -38,8 +38,8 @@ loop-i-preserved-then-left-source c =
     let n = get_or steps i 0 in
     let below : i < length steps = let a = c.loop-i.auto.i in let b = c.loop-i-test.true in omega arith in
     let back : i + 1 ≡ c.loop-i.i = let b = c.loop-i-test.true in omega arith in
-    subst (λ s. AreLeastFrom ids steps left i (set previous c.target_place.result s)) (sym c.source_of-source.ensures)
-    (subst (λ t. AreLeastFrom ids steps left i (set previous t (step_source n))) (sym c.target_place.ensures)
+    subst (λ s. AreLeastFrom ids steps left i (set previous c.target_of.result s)) (sym c.source_of-source.ensures)
+    (subst (λ t. AreLeastFrom ids steps left i (set previous t (step_source n))) (sym c.target_of.ensures)
     (led_back ids up edges steps are left i previous (steps_rise ids up edges steps are c.requires.sorted) below (subst (IsLeftIn left) c.source_of-source.ensures c.if-left-source.true)
     (subst (λ m. AreLeastFrom ids steps left m previous) (sym back) c.loop-i.invariant)))
 

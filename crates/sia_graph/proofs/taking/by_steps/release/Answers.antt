@@ -8,20 +8,20 @@ use Rattle.sia_graph.proofs.taking.by_steps.release.Goals as goal
 pub overflow_sub-counts : goal.overflow_sub-counts
 overflow_sub-counts c =
     let counts = c.loop-n.counts in
-    let j = c.target_place-i.result in
+    let j = c.target_of-i.result in
     let long : length counts ≡ length c.args.counts.now = let a = c.loop-n.auto.counts in omega arith in
-    let below : j < length counts = let a = c.requires.within c.loop-n.n-index 0 c.loop-n-test.true in let b = c.target_place-i.ensures in omega arith in
-    some_left c.args.leaving.now c.loop-n.n-index 0 c.loop-n-test.true j (sym c.target_place-i.ensures) counts below c.args.counts.now c.loop-n.invariant.0
+    let below : j < length counts = let a = c.requires.within c.loop-n.n-index 0 c.loop-n-test.true in let b = c.target_of-i.ensures in omega arith in
+    some_left c.args.leaving.now c.loop-n.n-index 0 c.loop-n-test.true j (sym c.target_of-i.ensures) counts below c.args.counts.now c.loop-n.invariant.0
     (λ i l. c.requires.enough i (omega arith))
 
 pub loop-n-preserved : goal.loop-n-preserved
 loop-n-preserved c =
     let leaving = c.args.leaving.now in
     let counts = c.loop-n.counts in
-    let j = c.target_place-i.result in
+    let j = c.target_of-i.result in
     let long : length counts ≡ length c.args.counts.now = let a = c.loop-n.auto.counts in omega arith in
-    let below : j < length counts = let a = c.requires.within c.loop-n.n-index 0 c.loop-n-test.true in let b = c.target_place-i.ensures in omega arith in
-    let at = sym c.target_place-i.ensures in
+    let below : j < length counts = let a = c.requires.within c.loop-n.n-index 0 c.loop-n-test.true in let b = c.target_of-i.ensures in omega arith in
+    let at = sym c.target_of-i.ensures in
     let some = some_left leaving c.loop-n.n-index 0 c.loop-n-test.true j at counts below c.args.counts.now c.loop-n.invariant.0 (λ i l. c.requires.enough i (omega arith)) in
     let v = get_or counts j 0 - 1 in
     let set_at = get_or-set_same counts j v 0 below in
