@@ -14,7 +14,7 @@ pub(crate) mod vulnerable_numbers;
 
 use crate::pivot::Pivot;
 use crate::pivoting::firsts::firsts;
-use crate::pivoting::links::{Link, linked, links_at, others, turned, vulnerable};
+use crate::pivoting::links::{Link, links_at, others, turned, vulnerable};
 use crate::settling::txns::Txns;
 use sia_events::{NoMemory, TxnId};
 use sia_index::Index;
@@ -52,7 +52,8 @@ fn entries(alloc: Global, ix: &Index, into: &[Link], out: &[Link]) -> Result<Vec
     requires out { ListsLinks (IsVulnerable ix.now) out.now }
     ensures { IfOk result (λ found. ArePivots ix.now found.items) }
 {
-    let linked = linked(alloc, into)?;
+    let mut linked = others(alloc, into)?;
+    put_in_order(&mut linked);
     let mut found = Vec::new(alloc);
     let mut near_in = 0usize;
     let mut near_out = 0usize;

@@ -14,21 +14,6 @@ use sia_index::keyed::{ByKey, place_from};
 use sia_parts::Absence;
 use std::alloc::Global;
 
-/// The first of some numbers from one to before another, or the other.
-fn first_from(numbers: &[u64], start: u64, end: u64) -> u64
-    requires rise { IsNonDecreasing numbers.now }
-    requires order { start ≤ end }
-    ensures within { (start ≤ result) × (result ≤ end) }
-    ensures before { (n : ℕ) → start ≤ n → n < result → ¬ Contains numbers.now n }
-    ensures own { result < end → Contains numbers.now result }
-{
-    let at = place_from::<u64, ByKey>(numbers, start);
-    match numbers.get(at) {
-        Some(n) => end.min(*n),
-        None => end,
-    }
-}
-
 /// The first key from one to before another whose first version the transaction made, or the other.
 fn next_own(firsts: &[u64], txn: u32, from: u32, to: u32) -> u32
     requires rise { IsNonDecreasing firsts.now }
@@ -37,7 +22,11 @@ fn next_own(firsts: &[u64], txn: u32, from: u32, to: u32) -> u32
     ensures before { (j : ℕ) → from ≤ j → j < result → ¬ Contains firsts.now (step_number txn j) }
     ensures own { result < to → Contains firsts.now (step_number txn result) }
 {
-    target_of(first_from(firsts, step(txn, from), step(txn, to)))
+    let at = place_from::<u64, ByKey>(firsts, step(txn, from));
+    match firsts.get(at) {
+        Some(first) => target_of(step(txn, to).min(*first)),
+        None => to,
+    }
 }
 
 /// Adds blocks that are over the keys of the absence, but those of which its transaction made the first version.

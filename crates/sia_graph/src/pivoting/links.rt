@@ -1,6 +1,6 @@
 //! The overlapping transactions between which an rw edge leads, in lists that are searched by one end.
 ghost use Rattle.std.specs.Prelude.{◌≡◌, ◌↔◌, ℕ, AllPairs, IfOk, IsTrue, map};
-ghost use Rattle.sia_events.specs.Lists.{ListsAscending, Precedes};
+ghost use Rattle.sia_events.specs.Lists.{Precedes};
 ghost use Rattle.sia_events.specs.Transactions.{Overlap};
 ghost use Rattle.sia_parts.specs.declared.finding.Kind.TheVariants.{Rw};
 ghost use Rattle.sia_graph.specs.Links.{AreEnds, AreLinked, AreLinksAt, ListsLinks, is_rw, link_rank};
@@ -8,7 +8,7 @@ ghost use Rattle.sia_graph.specs.Links.{AreEnds, AreLinked, AreLinksAt, ListsLin
 use crate::searching::{By, rows_near};
 use sia_events::TxnId;
 use sia_index::Index;
-use sia_index::ordering::{merge_in_order, put_in_order};
+use sia_index::ordering::merge_in_order;
 use sia_parts::{Edge, Kind};
 use std::alloc::{AllocError, Global};
 
@@ -92,13 +92,4 @@ pub(crate) fn others(alloc: Global, links: &[Link]) -> Result<Vec<TxnId>, AllocE
         others.push(l.other)?;
     }
     Ok(others)
-}
-
-/// The transactions at some other end, ascending.
-pub(crate) fn linked(alloc: Global, links: &[Link]) -> Result<Vec<TxnId>, AllocError>
-    ensures { IfOk result (λ linked. ListsAscending (λ t. (u : ℕ) × AreLinked links.now u t) linked.items) }
-{
-    let mut linked = others(alloc, links)?;
-    put_in_order(&mut linked);
-    Ok(linked)
 }

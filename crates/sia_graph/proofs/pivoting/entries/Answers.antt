@@ -8,7 +8,7 @@ use Rattle.sia_graph.specs.declared.pivot.Pivot.{Pivot}
 use Rattle.sia_graph.specs.Links.{AreLinked}
 use Rattle.sia_graph.specs.Pivots.{ListsNeighbours}
 use Rattle.sia_graph.proofs.Listed.{listed_as}
-use Rattle.sia_graph.proofs.LinkLists.{IsLinked, linked_by}
+use Rattle.sia_graph.proofs.LinkLists.{IsLinked, ends_listed, linked_by}
 use Rattle.sia_graph.proofs.Picked.{ArePicked, none_picked, picked_more, picked_same, all_picked}
 use Rattle.sia_graph.proofs.PivotLists.{is_middle}
 use Rattle.sia_graph.proofs.pivoting.entries.Goals.{then-not-is_empty+in_ok-pivot+in_ok-push, else-not-is_empty}
@@ -28,7 +28,8 @@ pub loop-txn-preserved : goal.loop-txn-preserved
 loop-txn-preserved c =
     let into = c.args.into.now in
     let linked = c.as_slice-txn-items.result.now in
-    let are = subst (ListsAscending (λ t. (u : ℕ) × AreLinked into u t)) (sym c.as_slice-txn-items.ensures.value) c.in_ok-linked.ensures in
+    let all = ends_listed into c.in_ok-linked.linked.items c.put_in_order.new.list.items c.in_ok-linked.ensures c.put_in_order.ensures.sorted c.put_in_order.ensures.keeps c.put_in_order.ensures.adds_none in
+    let are = subst (ListsAscending (λ t. (u : ℕ) × AreLinked into u t)) (sym c.as_slice-txn-items.ensures.value) all in
     let n = c.loop-txn.txn-index in
     let found = c.loop-txn.found.items in
     let now = c.if-not-is_empty.found.items in
@@ -54,7 +55,8 @@ returns c =
     let h = c.args.ix.now in
     let into = c.args.into.now in
     let linked = c.as_slice-txn-items.result.now in
-    let are = subst (ListsAscending (λ t. (u : ℕ) × AreLinked into u t)) (sym c.as_slice-txn-items.ensures.value) c.in_ok-linked.ensures in
+    let all = ends_listed into c.in_ok-linked.linked.items c.put_in_order.new.list.items c.in_ok-linked.ensures c.put_in_order.ensures.sorted c.put_in_order.ensures.keeps c.put_in_order.ensures.adds_none in
+    let are = subst (ListsAscending (λ t. (u : ℕ) × AreLinked into u t)) (sym c.as_slice-txn-items.ensures.value) all in
     let middle = is_middle h into c.requires.into in
     record {
       txns = listed_as (λ t. t ∷ []) _ (IsPivot h) (λ t. ((λ w. (middle t).0 ((are.each t).0 w.0, w.1)), (λ is. let w = (middle t).1 is in ((are.each t).1 w.0, w.1)))) _
