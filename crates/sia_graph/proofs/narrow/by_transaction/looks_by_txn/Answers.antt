@@ -2,6 +2,7 @@ use Rattle.std.proofs.Common.{subst}
 use Rattle.std.specs.Prelude.{◌↔◌, Contains}
 use Rattle.sia_parts.specs.declared.looks.Absence.{Absence}
 use Rattle.sia_parts.specs.declared.looks.Look.{Look}
+use Rattle.sia_graph.proofs.InTwoNumbers.{firsts_rise}
 use Rattle.sia_graph.proofs.narrow.by_transaction.looks_by_txn.Goals as goal
 
 pub returns-clause-same : goal.returns-clause-same
@@ -15,6 +16,6 @@ pub returns-clause-by_txn : goal.returns-clause-by_txn
 returns-clause-by_txn c = record {
   writers = c.in_ok-writers.ensures.rise;
   readers = c.in_ok-readers.ensures.rise;
-  absences = c.in_ok-absences.ensures.rise;
+  absences = firsts_rise (λ (s : Absence). s.txn) (λ s. s.txn) c.in_ok-absences.absences.items c.in_ok-absences.ensures.rise;
   few = λ a has. c.requires a (subst (λ l. Contains l a) c.deref.ensures.value ((c.in_ok-writers.ensures.same a).0 has));
 }
