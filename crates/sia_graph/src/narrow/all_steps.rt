@@ -24,9 +24,11 @@ pub(crate) fn steps_of(alloc: Global, size: u32, looks: &Looks) -> Result<Vec<u6
     let readers = looks.readers.as_slice();
     let absences = looks.absences.as_slice();
     let mut steps = Vec::with_capacity(alloc, readers.len())?;
-    let mut nearby = Nearby::of(alloc, writers)?;
-    put_look_steps(size, writers, writers, &mut nearby, &mut steps)?;
-    put_look_steps(size, writers, readers, &mut nearby, &mut steps)?;
+    {
+        let mut nearby = Nearby::of(alloc, writers)?;
+        put_look_steps(size, writers, writers, &mut nearby, &mut steps)?;
+        put_look_steps(size, writers, readers, &mut nearby, &mut steps)?;
+    }
     put_half_steps(size, &mut steps)?;
     let firsts = firsts_of(alloc, size, writers)?;
     put_leaf_steps(size, &firsts, &mut steps)?;

@@ -1,7 +1,6 @@
 //! Who made the first version of each key.
-ghost use Rattle.std.specs.Prelude.{IfOk, OnOk};
-ghost use Rattle.sia_parts.specs.Sights.{Adds};
-ghost use Rattle.sia_graph.specs.NarrowSteps.{AreFirsts, CanSearch, IsFirstOf};
+ghost use Rattle.std.specs.Prelude.{IfOk};
+ghost use Rattle.sia_graph.specs.NarrowSteps.{AreFirsts, CanSearch};
 
 use crate::narrow::versions::next_after;
 use crate::taking::numbers::step;
@@ -9,24 +8,6 @@ use sia_events::NoMemory;
 use sia_index::ordering::put_in_order;
 use sia_parts::Look;
 use std::alloc::Global;
-
-/// Adds who made the first version of the key, with the key, and gives near which place that stands.
-fn put_first(
-    writers: &[Look],
-    key: u32,
-    near: usize,
-    firsts: &mut Vec<u64>,
-) -> Result<usize, NoMemory>
-    requires { CanSearch writers.now }
-    ensures { OnOk result (Adds (IsFirstOf writers.now key) firsts.old.items firsts.new.items) }
-{
-    let (first, at) = next_after(writers, key, 0, near);
-    match first {
-        Some(a) => firsts.push(step(a.txn, key))?,
-        None => {}
-    }
-    Ok(at)
-}
 
 /// Who made the first version of each of the keys, by transaction and key.
 pub(crate) fn firsts_of(alloc: Global, size: u32, writers: &[Look]) -> Result<Vec<u64>, NoMemory>
@@ -36,7 +17,12 @@ pub(crate) fn firsts_of(alloc: Global, size: u32, writers: &[Look]) -> Result<Ve
     let mut firsts = Vec::new(alloc);
     let mut near = 0usize;
     for key in 0..size {
-        near = put_first(writers, key, near, &mut firsts)?;
+        let (first, at) = next_after(writers, key, 0, near);
+        match first {
+            Some(a) => firsts.push(step(a.txn, key))?,
+            None => {}
+        }
+        near = at;
     }
     put_in_order(&mut firsts);
     Ok(firsts)

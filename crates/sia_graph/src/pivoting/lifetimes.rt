@@ -32,7 +32,7 @@ pub fn lifetimes_of(alloc: Global, ix: &Index, txns: &[TxnId]) -> Result<Vec<Lif
     requires { All (IsCommitted ix.now) txns.now }
     ensures { IfOk result (λ lifetimes. AreLifetimes ix.now txns.now lifetimes.items) }
 {
-    let mut lifetimes = Vec::with_capacity(alloc, txns.len())?;
+    let mut lifetimes = Vec::new(alloc);
     for txn in txns {
         if let Some(lifetime) = lifetime_of(ix, *txn) {
             lifetimes.push(lifetime)?;

@@ -1,11 +1,30 @@
-use Rattle.std.proofs.Common.{◌≡◌, [], subst, arith}
+use Rattle.std.proofs.Common.{◌≡◌, ◌≤◌, ◌+◌, ℕ, List, Option, [], ap, subst, sym, ◌∙◌, arith}
+use Rattle.std.specs.Prelude.{Contains, MatchOption}
+use Rattle.sia_parts.specs.declared.looks.Look.{Look}
 use Rattle.sia_parts.specs.Sights.{Adds}
-use Rattle.sia_graph.specs.NarrowSteps.{IsFirstNumber}
-use Rattle.sia_graph.proofs.NarrowSteps.{firsts_more, firsts_made}
+use Rattle.sia_graph.specs.NarrowSteps.{IsFirstNumber, IsNext, step_number}
+use Rattle.sia_graph.proofs.NarrowSteps.{adds_one, first_put, firsts_made, firsts_more, no_first}
+use Rattle.sia_graph.proofs.narrow.firsts.firsts_of.Goals.{in-Some+in_ok-push-in-Some, in-None}
 use Rattle.sia_graph.proofs.narrow.firsts.firsts_of.Goals as goal
 
 pub loop-key-preserved : goal.loop-key-preserved
-loop-key-preserved c = firsts_more c.args.writers.now c.loop-key.key [] c.loop-key.firsts.items c.put_first.new.firsts.items c.loop-key.invariant c.in_ok-near.ensures
+loop-key-preserved c =
+    let writers = c.args.writers.now in
+    let key = c.loop-key.key in
+    let old = c.loop-key.firsts.items in
+    let Found = λ (o : Option Look). MatchOption o ((a : Look) → Contains writers a → a.key ≡ key → a.high ≤ 0) (IsNext writers key 0) in
+    let More = λ (l : List ℕ). Adds (IsFirstNumber (key + 1) writers) [] l in
+    elim c.match-first.branch [
+      | in-Some+in_ok-push-in-Some w ↦
+          let new = w.push.new.self.items in
+          subst More (sym (ap (λ v. v.items) w.firsts-is))
+          (firsts_more writers key [] old new c.loop-key.invariant
+          (first_put writers c.requires key old new w.in-Some.a (subst Found w.in-Some.is c.next_after-first.ensures.next)
+          (adds_one (λ n. n ≡ step_number w.in-Some.a.txn key) w.step.result _ _ w.in_ok-push-in-Some.ensures.items w.step.ensures (λ n e. w.step.ensures ∙ sym e))))
+      | in-None w ↦
+          subst More (sym (ap (λ v. v.items) w.firsts-is))
+          (firsts_more writers key [] old old c.loop-key.invariant (no_first writers key old (subst Found w.in-None.is c.next_after-first.ensures.next)))
+    ]
 
 pub returns : goal.returns
 returns c =
