@@ -172,7 +172,7 @@ fn range(alloc: Global, txn: Number, lo: Number, text: &[u8]) -> Result<Event, R
 }
 
 /// A read, from the bracket on.
-#[tactic(auto, unfolding(crate::specs::Parsing::read_at))]
+#[tactic(auto, unfolding(crate::specs::Parsing::read_at, crate::specs::Parsing::after_byte))]
 fn read(alloc: Global, txn: Number, text: &[u8]) -> Result<Event, Refusal>
     ensures { Gives (λ x. x) result (read_at txn text.now) }
 {
@@ -180,11 +180,8 @@ fn read(alloc: Global, txn: Number, text: &[u8]) -> Result<Event, Refusal>
     let (first, rest) = number(rest)?;
     match rest {
         [b':', rest @ ..] => item(txn, first, rest),
-        _ => {
-            let rest = after(rest, b'.')?;
-            let rest = after(rest, b'.')?;
-            range(alloc, txn, first, rest)
-        }
+        [b'.', b'.', rest @ ..] => range(alloc, txn, first, rest),
+        _ => Err(Refusal::Bad(Reason::BadEvent)),
     }
 }
 

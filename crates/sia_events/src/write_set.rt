@@ -75,24 +75,8 @@ impl WriteSet {
         is_among(&self.writes, write)
     }
 
-    /// Makes a guess of the write at the position, or takes it into the tree.
-    #[tactic(auto, unfolding(crate::specs::WriteSets::IsSound))]
-    fn place(&mut self, position: usize) -> Result<(), AllocError>
-        ensures same { OnOk result (self.new.writes.items ≡ self.old.writes.items) }
-        ensures sound { IsSound self.old → OnOk result (IsSound self.new) }
-    {
-        let Some(write) = self.writes.get(position) else {
-            return Ok(());
-        };
-        let write = *write;
-        if self.guesses.put(write, position) {
-            return Ok(());
-        }
-        self.tree.insert(write)?;
-        Ok(())
-    }
-
-    /// Takes in the write. Where the table of guesses is crowded, all guesses are made anew, in a greater one.
+    /// Takes in the write, with a guess of where it stands, or into the tree. Where the table of guesses is crowded, all
+    /// guesses are made anew, in a greater one.
     #[tactic(auto, unfolding(crate::specs::WriteSets::IsSound))]
     pub(crate) fn insert(&mut self, write: (Key, TxnId)) -> Result<(), AllocError>
         ensures wrote { IsSound self.old → OnOk result ((p : ℕ × ℕ) → wrote self.new p ≡ (wrote self.old p || same p write)) }
@@ -100,13 +84,21 @@ impl WriteSet {
     {
         self.writes.push(write)?;
         let count = self.writes.len();
+        let mut first = count - 1;
         if self.guesses.is_crowded(count) {
             self.guesses.restart()?;
-            for position in 0..count {
-                self.place(position)?;
-            }
-            return Ok(());
+            first = 0;
         }
-        self.place(count - 1)
+        for position in first..count {
+            let Some(write) = self.writes.get(position) else {
+                return Ok(());
+            };
+            let write = *write;
+            if self.guesses.put(write, position) {
+                continue;
+            }
+            self.tree.insert(write)?;
+        }
+        Ok(())
     }
 }
