@@ -30,23 +30,27 @@ fn end(text: &[u8]) -> Result<(), Refusal>
     }
 }
 
-#[tactic(auto, unfolding(crate::specs::Parsing::begin_at))]
+#[tactic(auto, unfolding(crate::specs::Parsing::begin_at, crate::specs::Parsing::after_byte))]
 fn begin(txn: Number, text: &[u8]) -> Result<Event, Refusal>
     ensures { Gives (λ x. x) result (begin_at txn text.now) }
 {
-    if text.is_empty() {
-        let txn = txn_in(txn)?;
-        return Ok(Event::Begin { txn, start: None });
+    match text {
+        [] => {
+            let txn = txn_in(txn)?;
+            Ok(Event::Begin { txn, start: None })
+        }
+        [b'@', rest @ ..] => {
+            let (start, rest) = number(rest)?;
+            end(rest)?;
+            let txn = txn_in(txn)?;
+            let start = version_in(start)?;
+            Ok(Event::Begin {
+                txn,
+                start: Some(start),
+            })
+        }
+        _ => Err(Refusal::Bad(Reason::BadEvent)),
     }
-    let rest = after(text, b'@')?;
-    let (start, rest) = number(rest)?;
-    end(rest)?;
-    let txn = txn_in(txn)?;
-    let start = version_in(start)?;
-    Ok(Event::Begin {
-        txn,
-        start: Some(start),
-    })
 }
 
 #[tactic(auto, unfolding(crate::specs::Parsing::write_at, crate::specs::Parsing::key_of))]
