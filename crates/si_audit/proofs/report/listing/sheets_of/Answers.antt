@@ -8,6 +8,18 @@ use Rattle.si_audit.proofs.Clean.{account_is}
 use Rattle.si_audit.proofs.Results.{ok_map}
 use Rattle.si_audit.proofs.report.listing.sheets_of.Goals as goal
 
+pub explained-requires-clause-index : goal.explained-requires-clause-index
+explained-requires-clause-index g c = c.requires.index
+
+pub explained-requires-clause-committed : goal.explained-requires-clause-committed
+explained-requires-clause-committed g c = c.requires.committed
+
+pub explained-requires-clause-looks : goal.explained-requires-clause-looks
+explained-requires-clause-looks g c = c.requires.looks
+
+pub explained-requires-clause-judgement : goal.explained-requires-clause-judgement
+explained-requires-clause-judgement g c = c.requires.judgement
+
 pub pivots_of_links-requires : goal.pivots_of_links-requires
 pivots_of_links-requires g c = rw c.in_ok-sheets-in-Full.ensures.links c.in_ok-made-in-Full.ensures.1
 
