@@ -29,9 +29,6 @@ on p = grind (arith, nat_tests)
 times-cons : (k p : ℕ) (ps : List ℕ) → times k (p ∷ ps) ≡ tick k p + times k ps
 times-cons k p ps = sum_by-cons (tick k) p ps
 
-times_other : (k p : ℕ) (ps : List ℕ) → k ≢ p → times k (p ∷ ps) ≡ times k ps
-times_other k p ps n = omega (arith, times-cons k p ps, off k p n)
-
 -- a part from a on, below a + n, stands once in n numbers from a on, and a part below a does not
 times_before : (k a n : ℕ) → k < a → times k (range_with_len a n) ≡ 0
 times_before k a zero h = refl
