@@ -86,8 +86,9 @@ pub(crate) fn seen_of(
 {
     ix.law();
     let reads = ix.reads_within(part.lo, part.hi);
-    let mut bad_reads = Vec::new(alloc);
+    let turns = ranges_in_turn(alloc, ix, part)?;
     let mut looks = Vec::with_capacity(alloc, reads.len())?;
+    let mut bad_reads = Vec::new(alloc);
     let mut absences = Vec::new(alloc);
     let first = first_commit(ix, part);
     let scope = Scope {
@@ -97,7 +98,6 @@ pub(crate) fn seen_of(
         part,
         first,
     };
-    let turns = ranges_in_turn(alloc, ix, part)?;
     let ascend = put_range_reads(&scope, &turns, &mut bad_reads, &mut looks, &mut absences)?;
     let end = looks.len();
     put_item_reads(ix, committed, reads, &mut bad_reads, &mut looks)?;
