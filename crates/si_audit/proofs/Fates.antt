@@ -1,9 +1,9 @@
 -- How a transaction ended, by what is known of it.
-use Rattle.std.proofs.Common.{◌≡◌, ℕ, List, Option, Some, None, refl}
+use Rattle.std.proofs.Common.{◌≡◌, ◌⊎◌, ℕ, List, Option, Some, None, inl, inr, refl}
 use Rattle.sia_events.specs.declared.event.Event.{Event}
 use Rattle.sia_events.specs.Refusals.{IsWellFormed}
 use Rattle.sia_events.specs.declared.event.Event.TheVariants.{Commit, Abort}
-use Rattle.sia_events.specs.Transactions.{HasEvent, IsCommitted, IsAborted, IsOpen}
+use Rattle.sia_events.specs.Transactions.{AbortsAt, CommitsAt, HasEvent, IsCommitted, IsAborted, IsOpen}
 use Rattle.sia_events.proofs.Endings.{one_end}
 use Rattle.sia_index.specs.declared.info.Fate.{Fate}
 use Rattle.sia_index.specs.declared.info.Fate.TheVariants.{Committed, Aborted, Unfinished}
@@ -46,3 +46,9 @@ pub open_without_end : (h : List Event) (t : ℕ) (fate : Fate) → EndsAs h t f
 open_without_end h t Committed ends = absurd ends
 open_without_end h t Aborted ends = absurd ends
 open_without_end h t Unfinished ends = ends
+
+-- and what has an end committed there, or aborted
+pub ended_at : (h : List Event) (t : ℕ) (fate : Fate) (p : ℕ) → EndsAs h t fate (Some p) → CommitsAt h t p ⊎ AbortsAt h t p
+ended_at h t Committed p ends = inl ends
+ended_at h t Aborted p ends = inr ends
+ended_at h t Unfinished p ends = absurd ends

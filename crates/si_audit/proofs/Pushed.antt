@@ -26,6 +26,10 @@ place_pushed o first second third all a b c kept token l x row y column same_row
 pub number_and_words : (o a t b s m n : List ℕ) → m ≡ o ++ a ++ t ++ b → n ≡ m ++ s → n ≡ o ++ (a ++ t ++ b ++ s)
 number_and_words o a t b s m n first second = second ∙ ap (λ (x : List ℕ). x ++ s) first ∙ simp append_assoc
 
+-- words between words, and more words behind what came before
+pub and_more : (o a t b s m n : List ℕ) → m ≡ o ++ a ++ t → n ≡ m ++ b ++ s → n ≡ o ++ a ++ (t ++ b ++ s)
+and_more o a t b s m n first second = second ∙ ap (λ (x : List ℕ). x ++ b ++ s) first ∙ simp append_assoc
+
 pub three_words : (o l m n a b c : List ℕ) → l ≡ o ++ a → m ≡ l ++ b → n ≡ m ++ c → n ≡ o ++ (a ++ b ++ c)
 three_words o l m n a b c first second third = behind o m n (a ++ b) c (behind o l m a b first second) third
 

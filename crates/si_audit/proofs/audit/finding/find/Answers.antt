@@ -1,4 +1,3 @@
-use Rattle.std.proofs.Common.{rules}
 use Rattle.sia_parts.specs.declared.cutting.Part.{Part}
 use Rattle.sia_parts.specs.declared.findings.PartFound.{PartFound}
 use Rattle.sia_parts.specs.Gathering.{IsGathering, IsPartFound}
@@ -10,12 +9,12 @@ use Rattle.si_audit.proofs.audit.finding.find.Goals as goal
 pub of-requires : goal.of-requires
 of-requires g c =
     let h = c.args.h.now in
-    let owed = each_owed (λ (part : Part) (found : PartFound). IsPartFound h (IsInPart part) found) c.parts-parts.result.now c.in-Ok.crew.outs.items (search rules) (search rules) in
+    let owed = each_owed (λ (part : Part) (found : PartFound). IsPartFound h (IsInPart part) found) c.parts-parts.result.now c.in-Ok.crew.outs.items c.in-Ok.ensures.len c.in-Ok.ensures.owed in
     (h, c.parts-parts.ensures.cutting.0, c.parts-parts.result.now, c.requires.well_formed, c.parts-parts.ensures.cutting.1, owed)
 
 pub returns-in-Ok : goal.returns-in-Ok
 returns-in-Ok g c =
     let h = c.args.h.now in
-    let owed = each_owed (λ (part : Part) (found : PartFound). IsPartFound h (IsInPart part) found) c.parts-parts.result.now c.in-Ok.crew.outs.items (search rules) (search rules) in
+    let owed = each_owed (λ (part : Part) (found : PartFound). IsPartFound h (IsInPart part) found) c.parts-parts.result.now c.in-Ok.crew.outs.items c.in-Ok.ensures.len c.in-Ok.ensures.owed in
     ok_map _ (IsGathering h) c.of.result
     (λ found f. f h c.parts-parts.ensures.cutting.0 c.parts-parts.result.now c.requires.well_formed c.parts-parts.ensures.cutting.1 owed) c.of.ensures
