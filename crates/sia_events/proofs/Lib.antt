@@ -37,6 +37,10 @@ pub mod WorkedStarts
 pub mod Digits
 pub mod NumberLaws
 pub mod Tokens
+mod TxnSlots
+mod Flattened
+mod OneToken
+mod TokenSteps
 pub mod Locations
 pub mod Following
 pub mod Stopping

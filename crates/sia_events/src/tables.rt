@@ -62,7 +62,7 @@ impl Tables {
 
     /// Whether the transaction that acts has an event already.
     pub(crate) fn has_begun(&self, event: &Event) -> bool
-        ensures { result ≡ has self.now.begun (actor event.now) }
+        ensures { (events : List AnEvent) → Knows self.now events → result ≡ has self.now.begun (actor event.now) }
     {
         self.begun.contains(event.txn())
     }

@@ -4,4 +4,4 @@ use Rattle.std.specs.List.{list_any}
 use Rattle.sia_events.proofs.txn_set.is_in.Given as goal
 
 abbrev pub invariant-loop-slot : goal.invariant-loop-slot
-invariant-loop-slot l = l.found ≡ list_any (λ t. t == l.txn) (take l.slot-index l.group)
+invariant-loop-slot l = l.found ≡ list_any (λ t. t == l.number) (take l.slot-index l.group)

@@ -10,4 +10,4 @@ with_number t v some (x ∷ xs) zero within empty = grind (arith, nat_tests)
 with_number t v some (x ∷ xs) (suc way) within empty = grind (arith, nat_tests, with_number t v some xs way (omega arith) empty)
 
 pub returns-then-group-way-eq0-clause-put : goal.returns-then-group-way-eq0-clause-put
-returns-then-group-way-eq0-clause-put c = λ done t some. rw (← c.loop-way.invariant) (with_number t c.args.txn some c.loop-way.group c.loop-way.way (omega arith) c.if-group-way-eq0.true)
+returns-then-group-way-eq0-clause-put c = λ done t some. rw (← c.loop-way.invariant.same) (with_number t c.args.number some c.loop-way.group c.loop-way.way (omega arith) c.if-group-way-eq0.true)

@@ -1,5 +1,5 @@
 -- A transaction that has no event yet hasn't ended.
-use Rattle.std.proofs.Common.{◌≡◌, ℕ, false, List, [], ◌∷◌, refl}
+use Rattle.std.proofs.Common.{◌≡◌, ℕ, false, List, [], ◌∷◌, refl, sym, ◌∙◌}
 use Rattle.std.specs.List.{list_any}
 use Rattle.std.proofs.lemmas.Bool.{or_from, or_parts}
 use Rattle.sia_events.specs.declared.event.Event.{Event as AnEvent}
@@ -29,7 +29,7 @@ returns c = λ events knows.
     let ended = knows.ended t in
     let is = c.requires in
     let none : list_any (ends t) events ≡ false = elim c.else-has_begun.branch [
-      | else-has_begun-via-then-has_begun+else-contains w ↦ (let acts_now = w.txn.ensures in cc)
-      | else-has_begun-via-else-has_begun w ↦ not_ended t events cc
+      | else-has_begun-via-then-has_begun+else-contains w ↦ sym (rw (w.txn.ensures, ended) at (w.if-contains.ensures knows.ended_sound))
+      | else-has_begun-via-else-has_begun w ↦ not_ended t events (sym begun ∙ sym is ∙ w.if-has_begun.false)
     ] in
     rw none (c.own_fault.ensures events knows)
