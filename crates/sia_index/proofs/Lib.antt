@@ -16,3 +16,4 @@ pub mod TxnNumbers
 pub mod Blocks
 pub mod Finding
 pub mod PartedRows
+pub mod Columns

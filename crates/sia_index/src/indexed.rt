@@ -6,7 +6,7 @@ ghost use Rattle.sia_events.specs.Refusals.{IsWellFormed};
 ghost use Rattle.sia_index.specs.declared.rows.WriteRow.{WriteRow};
 ghost use Rattle.sia_index.specs.Numbers.{IsTxnAt};
 ghost use Rattle.sia_index.specs.Rows.{AreWrites, IsStretch};
-ghost use Rattle.sia_index.specs.Info.{IsInfo, AreVersions, AreWrittenKeys, AreAllVersions, IsFirstWrite, HasKeyAt, IsKeyAt, AreReadsWithin, AreRangesMeeting, AreWrittenWithin, AreVersionsWithin};
+ghost use Rattle.sia_index.specs.Info.{IsInfo, AreVersions, AreWrittenKeys, IsFirstWrite, HasKeyAt, IsKeyAt, AreReadsWithin, AreRangesMeeting, AreWrittenWithin, AreVersionsWithin};
 
 use crate::grouping::group_at;
 use crate::hints::find;
@@ -14,6 +14,7 @@ use crate::info::{ItemRead, KeyVersion, Made, RangeRead, TxnInfo};
 use crate::keyed::{ByKey, between, place_from};
 use crate::reads::ranges_meeting;
 use crate::rows::WriteRow;
+use crate::slots::Slots;
 use sia_events::{History, Key, TxnId};
 use std::marker::Model;
 use std::snapshot::Snapshot;
@@ -24,6 +25,7 @@ pub struct Index {
     pub(crate) of: Snapshot<History>,
     pub(crate) ids: Vec<TxnId>,
     pub(crate) infos: Vec<TxnInfo>,
+    pub(crate) slots: Slots,
     pub(crate) writes: Vec<WriteRow>,
     pub(crate) starts: Vec<usize>,
     pub(crate) place_minima: Vec<u64>,
@@ -110,13 +112,6 @@ impl Index {
     {
         let (from, to) = group_at(&self.offsets, i);
         &self.made[from..to]
-    }
-
-    /// The versions of all written keys, those of the least key first, each key's by commit.
-    pub fn all_versions(&self) -> &[Made]
-        ensures { AreAllVersions self.now result.now }
-    {
-        &self.made
     }
 
     /// The place where a transaction wrote a key first.

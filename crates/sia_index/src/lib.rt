@@ -16,6 +16,7 @@ mod reads;
 mod rows;
 pub mod searching;
 mod seen;
+mod slots;
 mod spanning;
 mod txns;
 mod versions;

@@ -20,7 +20,7 @@ pub fn index(alloc: Global, h: &History) -> Result<Index, NoMemory>
     ensures { IfOk result (λ ix. ix ≡ h.now) }
 {
     h.law();
-    let Txns { ids, infos } = txns_of(alloc, h)?;
+    let Txns { ids, infos, slots } = txns_of(alloc, h)?;
     let EventRows {
         writes,
         reads,
@@ -38,6 +38,7 @@ pub fn index(alloc: Global, h: &History) -> Result<Index, NoMemory>
         of: Snapshot::of(h),
         ids,
         infos,
+        slots,
         writes,
         starts,
         place_minima,

@@ -19,11 +19,11 @@ impl Index {
         &self.ids
     }
 
-    /// The number of a transaction among all of them, counted from 0.
+    /// The number of a transaction among all of them, counted from 0. Mostly its slot tells it.
     pub fn txn_number(&self, t: TxnId) -> Option<usize>
         ensures { MatchOption result (¬ HasEvent self.now t) (λ i. IsTxnAt self.now i t) }
     {
-        find::<TxnId, ByTxn>(&self.ids, u64::from(t), 0)
+        find::<TxnId, ByTxn>(&self.ids, u64::from(t), self.slots.guess(t))
     }
 
     /// What is known of transaction number `i`, counted from 0: no search is needed.

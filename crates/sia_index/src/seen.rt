@@ -1,8 +1,7 @@
-//! What a reader sees of the versions that others made, for many keys one after another. A number of a written key that is
-//! passed on from one key to the next saves searches, and no answer depends on it.
+//! What a reader sees of the versions that others made, key by key.
 ghost use Rattle.std.specs.Prelude.{◌≡◌, ◌≤◌, ℕ, false};
 ghost use Rattle.sia_events.specs.Transactions.{WroteBefore};
-ghost use Rattle.sia_index.specs.Info.{IsReader};
+ghost use Rattle.sia_index.specs.Info.{HasKeyAt, IsKeyAt, IsReader};
 ghost use Rattle.sia_index.specs.Seen.{IsSeen};
 
 use crate::indexed::Index;
@@ -19,14 +18,15 @@ pub struct Seen {
 }
 
 impl Index {
-    /// What the reader sees of the key, which may have number `near` among the written keys. Where the reader wrote the key
-    /// before its place, the contract says only that the version is 0 or that of a commit: what is due then is its own.
-    pub fn seen_near(&self, reader: Reader, k: Key, near: usize) -> Seen
-        requires { IsReader self.now reader.txn reader.place reader }
-        ensures { IsSeen self.now reader.txn reader.place k result }
+    /// What the reader sees of written key number `i`, counted from 0. Where the reader wrote the key before its place, the
+    /// contract says only that the version is 0 or that of a commit: what is due then is its own.
+    pub fn seen_at(&self, reader: Reader, i: usize) -> Seen
+        requires reader { IsReader self.now reader.txn reader.place reader }
+        requires written { HasKeyAt self.now i }
+        ensures { (k : ℕ) → IsKeyAt self.now i k → IsSeen self.now reader.txn reader.place k result }
     {
         let _ = &self.of;
-        match last_within(self.versions_near(k, near), reader.start) {
+        match last_within(self.versions_at(i), reader.start) {
             Some(made) => Seen {
                 version: made.txn,
                 commit: made.commit,

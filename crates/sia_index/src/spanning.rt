@@ -4,25 +4,22 @@ ghost use Rattle.sia_index.specs.Rows.{AreSpans, IsLonger};
 
 use crate::ordering::put_in_order;
 use crate::rows::SpanRow;
+use crate::slots::Slots;
 use sia_events::{History, TxnId};
 use std::alloc::{AllocError, Global};
 
-/// More slots than there are transactions in a history.
-const SLOTS: usize = 131_072;
-
-/// Rows that span the events of every transaction, by transaction. Mostly each has one row. A slot tells where it may stand,
-/// and what it tells is checked. A transaction has more rows where its slot was another's for a while, in the worst case one
+/// Rows that span the events of every transaction, by transaction. Mostly each has one. A slot tells where it may stand, and
+/// what it tells is checked. A transaction has more rows where its slot was another's for a while, in the worst case one
 /// for each event.
-pub fn spans_of(alloc: Global, h: &History) -> Result<Vec<SpanRow>, AllocError>
+pub fn spans_of(alloc: Global, h: &History, slots: &mut Slots) -> Result<Vec<SpanRow>, AllocError>
     ensures { IfOk result (λ spans. AreSpans h.now spans.items) }
 {
-    let mut slots = slots_of(alloc)?;
     let mut spans = Vec::with_capacity(alloc, h.len() as usize)?;
     for before in 0..h.len() {
         let place = before + 1;
         if let Some(event) = h.event(place) {
             let txn = event.txn();
-            if !reach(&mut spans, &mut slots, txn, place) {
+            if !reach(&mut spans, slots, txn, place) {
                 spans.push(SpanRow {
                     txn,
                     first: place,
@@ -35,27 +32,17 @@ pub fn spans_of(alloc: Global, h: &History) -> Result<Vec<SpanRow>, AllocError>
     Ok(spans)
 }
 
-// Slots of no row yet.
-fn slots_of(alloc: Global) -> Result<Vec<u32>, AllocError> {
-    vec![in alloc; 0u32; SLOTS]
-}
-
 // Makes the row of the transaction's slot reach to the place, if it is its own. Else its next row has the slot.
-fn reach(spans: &mut Vec<SpanRow>, slots: &mut Vec<u32>, t: TxnId, place: u32) -> bool
+fn reach(spans: &mut Vec<SpanRow>, slots: &mut Slots, t: TxnId, place: u32) -> bool
     ensures longer { IsTrue result → IsLonger spans.old.items t place spans.new.items }
     ensures same { result ≡ false → spans.new.items ≡ spans.old.items }
 {
-    // The low bits of its name, mixed with the high ones.
-    let at = (t ^ t.wrapping_shr(16)) as usize & (SLOTS - 1);
-    let Some(slot) = slots.get_mut(at) else {
-        return false;
-    };
-    let number = *slot as usize;
+    let number = slots.guess(t);
     if number < spans.len() && spans[number].txn == t {
         spans[number].last = place;
         true
     } else {
-        *slot = spans.len().min(u32::MAX as usize) as u32;
+        slots.put(t, spans.len());
         false
     }
 }

@@ -12,6 +12,7 @@ use crate::grouping::end_of;
 use crate::info::{Fate, TxnInfo};
 use crate::keyed::ByTxn;
 use crate::rows::SpanRow;
+use crate::slots::Slots;
 use crate::spanning::spans_of;
 use sia_events::{Event, History, TxnId};
 use std::alloc::{AllocError, Global};
@@ -20,6 +21,8 @@ use std::alloc::{AllocError, Global};
 pub struct Txns {
     pub ids: Vec<TxnId>,
     pub infos: Vec<TxnInfo>,
+    /// The number that a transaction may have among them, counted from 0.
+    pub slots: Slots,
 }
 
 /// The transactions of the history, made of the rows that span their events.
@@ -27,7 +30,8 @@ pub fn txns_of(alloc: Global, h: &History) -> Result<Txns, AllocError>
     requires { IsWellFormed h.now }
     ensures { IfOk result (λ txns. AreTxns h.now txns.ids.items txns.infos.items) }
 {
-    let rows = spans_of(alloc, h)?;
+    let mut slots = Slots::new(alloc)?;
+    let rows = spans_of(alloc, h, &mut slots)?;
     let spans = rows.as_slice();
     let mut ids = Vec::with_capacity(alloc, spans.len())?;
     let mut infos = Vec::with_capacity(alloc, spans.len())?;
@@ -37,11 +41,12 @@ pub fn txns_of(alloc: Global, h: &History) -> Result<Txns, AllocError>
         let to = end_of::<SpanRow, ByTxn>(spans, from, u64::from(txn));
         let last = last_of(spans, from, to);
         let info = info_of(h, spans[from].first, last);
+        slots.put(txn, ids.len());
         ids.push(txn)?;
         infos.push(info)?;
         from = to;
     }
-    Ok(Txns { ids, infos })
+    Ok(Txns { ids, infos, slots })
 }
 
 // The greatest of the last places of the rows from one to below another.

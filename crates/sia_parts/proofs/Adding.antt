@@ -96,6 +96,13 @@ module _ {A B : Type 0} (P : A → B → Type 0) (xs : List A) where
   pub from_all : (n : ℕ) (old new : List B) → length xs ≤ n → Adds (FromFirst P xs n) old new → Adds (FromSome P xs) old new
   from_all n old new all adds = subst (λ zs. Adds (FromSome P zs) old new) (take_all n xs all) adds
 
+-- the first n of versions that ascend
+pub ascend_before : (versions : List Made) → AscendsByCommit versions → (n : ℕ) → AscendsByCommit (take n versions)
+ascend_before versions up n i j d less below =
+    let long = length-take n versions in
+    let before : j < n = omega arith in
+    rw (get_or-take n versions i d (omega arith), get_or-take n versions j d before) (up i j d less (omega arith))
+
 -- two versions, the second among the first n, give it
 abbrev pub FromFirstPairs : {B : Type 0} → (Made → Made → B → Type 0) → List Made → ℕ → B → Type 0
 FromFirstPairs {B} P versions n b = (first : Made) × (second : Made) × Contains versions first × Contains (take n versions) second × (first.commit < second.commit) × P second first b

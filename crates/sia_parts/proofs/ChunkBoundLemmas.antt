@@ -1,8 +1,9 @@
 -- Places of sources that ascend, put one after another.
-use Rattle.std.proofs.Common.{◌≡◌, ◌⊎◌, inl, inr, ℕ, zero, suc, ◌+◌, ◌<◌, ◌≤◌, List, [], ◌∷◌, ◌++◌, length, get_or, refl, ap, sym, ◌∙◌, arith}
+use Rattle.std.proofs.Common.{◌≡◌, ◌⊎◌, inl, inr, ℕ, zero, suc, ◌+◌, ◌-◌, ◌<◌, ◌≤◌, List, [], ◌∷◌, ◌++◌, length, get_or, refl, ◌∙◌, arith}
 use Rattle.std.specs.Prelude.{All, AllPairs, slice_index}
 use Rattle.std.proofs.lemmas.Bool.{cases_lt}
-use Rattle.std.proofs.lemmas.List.{get_or_append_left, get_or-append-add, length-append}
+use Rattle.std.proofs.lemmas.List.{get_or_append_left, get_or_push, length-append}
+use Rattle.sia_parts.specs.Gathering.{AreChunkBounds}
 
 -- places that stand below one
 pub record ChunkBoundsBelow (place : ℕ) (places : List ℕ) : Type 0 where
@@ -31,34 +32,57 @@ chunk_bounds_same place places s = record {
   ascending = s.ascending;
 }
 
-pub chunk_bounds_more : (place : ℕ) (places : List ℕ) → length places < 1024 → ChunkBoundsBelow place places → ChunkBoundsBelow (place + 1) (places ++ place ∷ [])
-chunk_bounds_more place places room s = record {
-  few = omega (arith, long);
-  first = (omega (arith, long), get_or_append_left places (place ∷ []) 0 0 s.first.0 ∙ s.first.1);
-  below = λ k d under. below_at k d (cases_lt k (length places)) under;
-  ascending = λ i j d less under. pair i j d less (cases_lt j (length places)) under;
+-- one more place behind lesser ones
+module _ (place : ℕ) (places : List ℕ) where
+  long : length (places ++ place ∷ []) ≡ length places + 1
+  long = length-append places (place ∷ [])
+
+  last : (j d : ℕ) → length places ≤ j → j < length (places ++ place ∷ []) → get_or (places ++ place ∷ []) j d ≡ place
+  last j d after under = get_or_push places place d j (let l = long in omega arith)
+
+  rises_more : All (λ p. p < place) places → AllPairs (λ a b. a < b) places → AllPairs (λ a b. a < b) (places ++ place ∷ [])
+  rises_more below up i j d less under = pair (cases_lt j (length places))
+    where
+      pair : (j < length places) ⊎ (length places ≤ j) → get_or (places ++ place ∷ []) i d < get_or (places ++ place ∷ []) j d
+      pair (inl left) =
+          let a = get_or_append_left places (place ∷ []) d i (omega arith) in
+          let b = get_or_append_left places (place ∷ []) d j left in
+          let more = up i j d less left in
+          omega arith
+      pair (inr right) =
+          let l = long in
+          let left : i < length places = omega arith in
+          let a = get_or_append_left places (place ∷ []) d i left in
+          let b = last j d right under in
+          let low = below i d left in
+          omega arith
+
+  pub chunk_bounds_more : length places < 1024 → ChunkBoundsBelow place places → ChunkBoundsBelow (place + 1) (places ++ place ∷ [])
+  chunk_bounds_more room s = record {
+    few = omega (arith, long);
+    first = (omega (arith, long), get_or_append_left places (place ∷ []) 0 0 s.first.0 ∙ s.first.1);
+    below = λ k d under. below_at k d (cases_lt k (length places)) under;
+    ascending = rises_more s.below s.ascending;
+  }
+    where
+      below_at : (k d : ℕ) → (k < length places) ⊎ (length places ≤ k) → k < length (places ++ place ∷ []) → get_or (places ++ place ∷ []) k d < place + 1
+      below_at k d (inl left) under = let e = get_or_append_left places (place ∷ []) d k left in let b = s.below k d left in omega arith
+      below_at k d (inr right) under = let e = last k d right under in omega arith
+
+  -- the end of the sources behind all places
+  pub chunk_bounds_end : (0 < length places) × (slice_index places 0 ≡ 0) → All (λ p. p < place) places → AllPairs (λ a b. a < b) places → AreChunkBounds place (places ++ place ∷ [])
+  chunk_bounds_end first below up = record {
+    some = omega (arith, long);
+    first = get_or_append_left places (place ∷ []) 0 0 first.0 ∙ first.1;
+    last = last (length (places ++ place ∷ []) - 1) 0 (omega (arith, long)) (omega (arith, long));
+    ascending = rises_more below up;
+  }
+
+-- where there is no source
+pub chunk_bounds_none : (sources : ℕ) → sources ≤ 0 → AreChunkBounds sources (0 ∷ [])
+chunk_bounds_none sources none = record {
+  some = omega arith;
+  first = refl;
+  last = omega arith;
+  ascending = λ i j d less under. absurd (omega arith);
 }
-  where
-    long : length (places ++ place ∷ []) ≡ length places + 1
-    long = length-append places (place ∷ [])
-
-    last : (j d : ℕ) → length places ≤ j → j < length (places ++ place ∷ []) → get_or (places ++ place ∷ []) j d ≡ place
-    last j d after under = let same : length places + 0 ≡ j = let l = long in omega arith in ap (λ n. get_or (places ++ place ∷ []) n d) (sym same) ∙ get_or-append-add places (place ∷ []) 0 d
-
-    below_at : (k d : ℕ) → (k < length places) ⊎ (length places ≤ k) → k < length (places ++ place ∷ []) → get_or (places ++ place ∷ []) k d < place + 1
-    below_at k d (inl left) under = let e = get_or_append_left places (place ∷ []) d k left in let b = s.below k d left in omega arith
-    below_at k d (inr right) under = let e = last k d right under in omega arith
-
-    pair : (i j d : ℕ) → i < j → (j < length places) ⊎ (length places ≤ j) → j < length (places ++ place ∷ []) → get_or (places ++ place ∷ []) i d < get_or (places ++ place ∷ []) j d
-    pair i j d less (inl left) under =
-        let a = get_or_append_left places (place ∷ []) d i (omega arith) in
-        let b = get_or_append_left places (place ∷ []) d j left in
-        let up = s.ascending i j d less left in
-        omega arith
-    pair i j d less (inr right) under =
-        let l = long in
-        let left : i < length places = omega arith in
-        let a = get_or_append_left places (place ∷ []) d i left in
-        let b = last j d right under in
-        let low = s.below i d left in
-        omega arith

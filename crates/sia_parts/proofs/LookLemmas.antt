@@ -50,6 +50,9 @@ pub one_committed : (h : List Event) (i t u : ℕ) → IsCommittedAt h i t → I
 one_committed h i t u at other = sym at.3 ∙ (committed_number h at.0 at.1 i u other).1
 
 -- by an option
+pub none_some : (i : ℕ) → None ≡ Some i → ⊥
+none_some i same = cc
+
 pub committed_some : (h : List Event) (i t : ℕ) → IsCommittedAt h i t → (j : ℕ) → (Some i ≡ Some j) ↔ IsCommittedAt h j t
 committed_some h i t at j = ((λ same. subst (λ n. IsCommittedAt h n t) (same_Some i j same) at), (λ other. ap Some (one_committed_number h i j t at other)))
 

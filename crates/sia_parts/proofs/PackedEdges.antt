@@ -1,9 +1,9 @@
 -- Edges as numbers: a number stands for one edge, and of two numbers the lesser stands for the edge that is listed first.
-use Rattle.std.proofs.Common.{◌≡◌, ◌⊎◌, inl, inr, ℕ, zero, suc, ◌+◌, ◌*◌, ◌/◌, ◌%◌, ◌<◌, List, length, map, refl, ap, sym, subst, ◌∙◌, arith}
+use Rattle.std.proofs.Common.{◌≡◌, ◌⊎◌, inl, inr, ℕ, zero, suc, ◌+◌, ◌*◌, ◌/◌, ◌%◌, ◌<◌, List, [], ◌∷◌, ◌++◌, length, map, take, get_or, refl, ap, sym, subst, ◌∙◌, arith}
 use Rattle.std.specs.Prelude.{All, AllPairs, slice_index, slice_index_or}
 use Rattle.std.proofs.Math.Arith.{digits_div, digits_mod}
 use Rattle.std.proofs.lemmas.Bool.{cases_lt}
-use Rattle.std.proofs.lemmas.List.{get_or-map, length-map}
+use Rattle.std.proofs.lemmas.List.{get_or-map, length-map, map_more}
 use Rattle.std.proofs.lemmas.Nat.{div-add-mod', mod_below}
 use Rattle.sia_events.specs.Lists.{Precedes}
 use Rattle.sia_parts.specs.declared.finding.Edge.{Edge}
@@ -132,3 +132,7 @@ module _ (txns keys : List ℕ) (txns_up : AllPairs (λ x y. x < y) txns) (keys_
       let under : n < m = rise i j 0 less in_numbers in
       let before = unpacked_before n m (each i 0 (omega arith)) (each j 0 in_numbers) under in
       subst (λ e. Precedes (edge_rank e) (edge_rank (slice_index_or (map (unpacked txns keys) numbers) j d))) (sym first) (subst (λ e. Precedes (edge_rank (unpacked txns keys n)) (edge_rank e)) (sym second) before)
+
+-- one more thing that is made of a number
+pub made_more : {A : Type 0} (f : ℕ → A) (numbers : List ℕ) (i : ℕ) → i < length numbers → (old new : List A) (made : A) → new ≡ old ++ made ∷ [] → made ≡ f (get_or numbers i 0) → old ≡ map f (take i numbers) → new ≡ map f (take (i + 1) numbers)
+made_more f numbers i below old new made pushed is before = rw (pushed, is, before) (sym (map_more f numbers i 0 below))

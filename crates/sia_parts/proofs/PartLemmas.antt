@@ -1,6 +1,8 @@
 -- The parts that starts give, one after another.
-use Rattle.std.proofs.Common.{◌≡◌, inl, inr, ℕ, zero, suc, ◌-◌, ◌<◌, ◌≤◌, ◌^◌, List, [], ◌∷◌, length, slice_get, Option, Some, None, refl, ap, sym, subst, ◌∙◌, arith}
+use Rattle.std.proofs.Common.{◌≡◌, inl, inr, ℕ, zero, suc, ◌+◌, ◌-◌, ◌<◌, ◌≤◌, ◌^◌, List, [], ◌∷◌, length, drop, slice_get, Option, Some, None, refl, ap, sym, subst, ◌∙◌, arith}
+use Rattle.std.specs.Prelude.{slice_index}
 use Rattle.std.proofs.lemmas.Bool.{cases_lt}
+use Rattle.std.proofs.lemmas.List.{drop_all, drop_more}
 use Rattle.sia_parts.specs.declared.cutting.Part.{Part}
 use Rattle.sia_parts.specs.Parts.{parts_from, IsInPartAt, OnePartLaw}
 use Rattle.sia_parts.proofs.Members.{contains_first}
@@ -17,6 +19,13 @@ part_before s next = record { lo = s; hi = last_key next }
 first_part : (s : ℕ) (rest : List ℕ) → parts_from (s ∷ rest) ≡ part_before s (slice_get rest 0) ∷ parts_from rest
 first_part s [] = refl
 first_part s (next ∷ rest) = refl
+
+-- the part that starts at number i, and those behind it
+pub part_then : (starts : List ℕ) (i : ℕ) → i + 1 < length starts → parts_from (drop i starts) ≡ record { lo = slice_index starts i; hi = slice_index starts (i + 1) - 1 } ∷ parts_from (drop (i + 1) starts)
+part_then starts i below = rw (drop_more starts i 0 (omega arith), drop_more starts (i + 1) 0 below) refl
+
+pub part_last : (starts : List ℕ) (i : ℕ) → i < length starts → length starts ≤ i + 1 → parts_from (drop i starts) ≡ record { lo = slice_index starts i; hi = 18446744073709551615 } ∷ parts_from (drop (i + 1) starts)
+part_last starts i below last = rw (drop_more starts i 0 below, drop_all (i + 1) starts last) refl
 
 pub length-parts_from : (starts : List ℕ) → length (parts_from starts) ≡ length starts
 length-parts_from [] = refl

@@ -1,6 +1,6 @@
 -- What reads saw of keys: the sights of read events, and what comes of a sight.
-use Rattle.std.proofs.Common.{◌≡◌, ◌≢◌, ◌⊎◌, inl, inr, ℕ, ◌-◌, ◌<◌, ◌≤◌, List, [], ◌∷◌, length, get_or, map, Option, Some, None, refl, ap, sym, subst, ◌∙◌, arith}
-use Rattle.std.specs.Prelude.{◌↔◌, All, Contains, MatchOption}
+use Rattle.std.proofs.Common.{◌≡◌, ◌≢◌, ◌⊎◌, inl, inr, ℕ, ◌-◌, ◌<◌, ◌≤◌, List, [], ◌∷◌, length, get_or, map, Option, Some, None, Bool, true, false, not, ◌==◌, refl, ap, sym, subst, ◌∙◌, arith}
+use Rattle.std.specs.Prelude.{◌↔◌, All, Contains, IsTrue, MatchOption}
 use Rattle.std.proofs.lemmas.Bool.{cases_eq}
 use Rattle.std.specs.List.Sorted.{IsStrictlyIncreasing}
 use Rattle.std.proofs.lemmas.List.{get_or-map, get_or_default, length-map}
@@ -10,7 +10,7 @@ use Rattle.sia_events.specs.declared.event.Event.{Event}
 use Rattle.sia_events.specs.declared.event.Event.TheVariants.{Read}
 use Rattle.sia_events.specs.Lists.{ListsBy}
 use Rattle.sia_events.specs.Refusals.{IsWellFormed}
-use Rattle.sia_events.specs.Transactions.{IsCommitted, CommitsAt}
+use Rattle.sia_events.specs.Transactions.{IsCommitted, CommitsAt, WroteBefore}
 use Rattle.sia_events.specs.Reads.{IsDue}
 use Rattle.sia_events.proofs.Due.{one_due}
 use Rattle.sia_index.specs.declared.info.ItemRead.{ItemRead}
@@ -58,6 +58,22 @@ as_of_commit h wf v other None none d = (
   (λ is. elim is [ inl zero ↦ absurd (other zero.0) | inr commits ↦ absurd (none (d, commits)) ]),
 )
 as_of_commit h wf v other (Some c) commits d = as_of_this h wf v c (inr commits) d
+
+-- that a transaction didn't commit, by a test that says whether it did
+pub other_told : (h : List Event) (v : ℕ) (told : Bool) → (IsTrue told ↔ IsCommitted h v) → IsTrue (not told) ↔ (¬ IsCommitted h v)
+other_told h v true same = ((λ no. absurd cc), (λ other. absurd (other (same.0 refl))))
+other_told h v false same = ((λ no is. let yes = same.1 is in absurd cc), (λ other. refl))
+
+-- that a reader wrote a key before, by a test of the reader
+pub wrote_told : (h : List Event) (t p k : ℕ) (r : Reader) → IsReader h t p r → (told : Bool) → (IsTrue told ↔ WroteBefore h r.txn k r.place) → IsTrue told ↔ WroteBefore h t k p
+wrote_told h t p k r is told same = subst (λ u. IsTrue told ↔ WroteBefore h u k p) is.txn_is (subst (λ q. IsTrue told ↔ WroteBefore h r.txn k q) is.place_is same)
+
+-- no test says both
+pub not_both : (told : Bool) → told ≡ true → told ≡ false → ⊥
+not_both told is other = cc
+
+pub not_zero : (v : ℕ) → v ≡ 0 → not (v == 0) ≡ true → ⊥
+not_zero v zero other = let none : not (0 == 0) ≡ true = subst (λ n. not (n == 0) ≡ true) zero other in cc
 
 -- listed keys that ascend, pair by pair
 pub listed_ascend : (listed : List (ℕ × ℕ)) → IsStrictlyIncreasing (map (λ p. p.0) listed) → AscendsByKey listed

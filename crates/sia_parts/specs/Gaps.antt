@@ -1,5 +1,5 @@
 -- Keys that range reads covered and didn't list, so that they saw version 0 of each.
-use Rattle.std.specs.Prelude.{◌≡◌, ℕ, ◌<◌, ◌≤◌, List, Contains, Some}
+use Rattle.std.specs.Prelude.{◌≡◌, ℕ, ◌<◌, ◌≤◌, ◌+◌, List, Contains, Some, length, slice_index_or}
 use Rattle.sia_events.specs.declared.event.Event.{Event}
 use Rattle.sia_events.specs.declared.event.Event.TheVariants.{Range}
 use Rattle.sia_events.specs.Places.{at_place}
@@ -19,6 +19,10 @@ IsBelow from key k = (from ≤ k) × (k < key)
 -- a key from lo to hi that isn't among the listed ones
 abbrev pub IsUnlisted : List (ℕ × ℕ) → ℕ → ℕ → ℕ → Type 0
 IsUnlisted listed lo hi k = (lo ≤ k) × (k ≤ hi) × ((v : ℕ) → ¬ Contains listed (k, v))
+
+-- the listed keys are the written ones from this number on, side by side
+abbrev pub AreWrittenFrom : List Event → ℕ → List (ℕ × ℕ) → Type 0
+AreWrittenFrom h first listed = (i : ℕ) (d : ℕ × ℕ) → i < length listed → IsKeyAt h (first + i) (slice_index_or listed i d).0
 
 -- some key of these gives y
 abbrev pub FromKeys : {B : Type 0} → (ℕ → Type 0) → (ℕ → B → Type 0) → B → Type 0

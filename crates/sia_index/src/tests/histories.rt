@@ -94,7 +94,6 @@ pub struct Answers<'a> {
     pub txns: &'a [(TxnId, TxnInfo)],
     /// All written keys, each with its versions.
     pub keys: &'a [(Key, &'a [Made])],
-    pub all_versions: &'a [Made],
     pub asked: &'a [Asked<'a>],
     pub readers: &'a [(Reader, &'a [Due])],
 }
@@ -115,8 +114,8 @@ pub enum Asked<'a> {
 pub enum Due {
     /// The version due at a key.
     At(Key, Version),
-    /// What is seen of a key, whichever number of a key is passed on.
-    Near(Key, usize, Seen),
+    /// What is seen of the written key with a number.
+    Seen(usize, Seen),
     /// Whether it may have written a key from one to another.
     MayOwn(Key, Key, bool),
     /// The least key from one to another at which something is due.
@@ -127,7 +126,6 @@ const NONE: Answers<'static> = Answers {
     text: b"",
     txns: &[],
     keys: &[],
-    all_versions: &[],
     asked: &[],
     readers: &[],
 };
@@ -156,7 +154,6 @@ pub const HISTORIES: &[Answers<'static>] = &[
             (3, ended!(5, 8, Committed)),
         ],
         keys: &[(1, &[made!(2, 10)]), (2, &[made!(1, 5)])],
-        all_versions: &[made!(2, 10), made!(1, 5)],
         asked: &[
             Asked::NoTxn(9),
             Asked::Overlap(2, 1, true),
@@ -181,7 +178,6 @@ pub const HISTORIES: &[Answers<'static>] = &[
             (7, ended!(3, 6, Aborted)),
         ],
         keys: &[(6, &[]), (8, &[made!(5, 3)])],
-        all_versions: &[made!(5, 3)],
         asked: &[Asked::NoTxn(4), Asked::NoKey(9)],
         ..NONE
     },
@@ -209,7 +205,6 @@ pub const HISTORIES: &[Answers<'static>] = &[
         text: b"w1[1] c1 b2@0 r2[1:0] c2",
         txns: &[(1, ended!(0, 2, Committed)), (2, ended!(0, 5, Committed))],
         keys: &[(1, &[made!(1, 2)])],
-        all_versions: &[made!(1, 2)],
         asked: &[Asked::Overlap(1, 2, true)],
         readers: &[(reader!(2, 1, 4, 0, false), &[Due::At(1, 0)])],
         ..NONE
@@ -218,7 +213,6 @@ pub const HISTORIES: &[Answers<'static>] = &[
         text: b"w1[1] c1 b2 r2[1:1] c2",
         txns: &[(1, ended!(0, 2, Committed)), (2, ended!(2, 5, Committed))],
         keys: &[(1, &[made!(1, 2)])],
-        all_versions: &[made!(1, 2)],
         asked: &[Asked::Overlap(1, 2, false)],
         readers: &[(reader!(2, 1, 4, 2, false), &[Due::At(1, 1)])],
         ..NONE
@@ -232,7 +226,6 @@ pub const HISTORIES: &[Answers<'static>] = &[
             (3, ended!(2, 5, Aborted)),
         ],
         keys: &[(7, &[made!(2, 6), made!(1, 8)])],
-        all_versions: &[made!(2, 6), made!(1, 8)],
         asked: &[
             Asked::NoTxn(4),
             Asked::FirstWrite(2, 7, Some(2)),
@@ -295,13 +288,6 @@ pub const HISTORIES: &[Answers<'static>] = &[
             (5, &[made!(1, 3), made!(2, 8)]),
             (9, &[]),
         ],
-        all_versions: &[
-            made!(1, 3),
-            made!(2, 8),
-            made!(2, 8),
-            made!(1, 3),
-            made!(2, 8),
-        ],
         asked: &[
             Asked::Versions(
                 2,
@@ -314,7 +300,7 @@ pub const HISTORIES: &[Answers<'static>] = &[
         ],
         ..NONE
     },
-    // What is seen of one key after another, whichever number is passed on.
+    // What is seen of one written key after another.
     Answers {
         text: b"w1[2] w1[5] c1 b2 w2[4] w3[9] r4[2:1] c2 a3",
         txns: &[
@@ -329,7 +315,6 @@ pub const HISTORIES: &[Answers<'static>] = &[
             (5, &[made!(1, 3)]),
             (9, &[]),
         ],
-        all_versions: &[made!(1, 3), made!(2, 8), made!(1, 3)],
         asked: &[Asked::NoKey(6), Asked::NoKey(8)],
         readers: &[
             (
@@ -346,10 +331,10 @@ pub const HISTORIES: &[Answers<'static>] = &[
                 &[
                     Due::At(2, 1),
                     Due::At(4, 0),
-                    Due::Near(2, 0, OF_ONE),
-                    Due::Near(5, 9, OF_ONE),
-                    Due::Near(4, 1, UNSEEN),
-                    Due::Near(7, 0, UNSEEN),
+                    Due::Seen(0, OF_ONE),
+                    Due::Seen(1, UNSEEN),
+                    Due::Seen(2, OF_ONE),
+                    Due::Seen(3, UNSEEN),
                     Due::MayOwn(0, Key::MAX, false),
                 ],
             ),
@@ -372,7 +357,6 @@ pub const HISTORIES: &[Answers<'static>] = &[
             (5, &[made!(1, 3)]),
             (9, &[]),
         ],
-        all_versions: &[made!(1, 3), made!(2, 9), made!(2, 9), made!(1, 3)],
         readers: &[
             (
                 reader!(2, 1, 7, 3, true),

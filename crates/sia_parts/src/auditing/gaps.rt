@@ -1,7 +1,6 @@
 //! Keys that a range read covered and didn't list, so that it saw version 0 of each.
-ghost use Rattle.std.specs.Prelude.{◌≡◌, ◌≤◌, ◌<◌, ◌+◌, ℕ, All, IsTrue, OnOk, length, slice_index, slice_index_or};
+ghost use Rattle.std.specs.Prelude.{◌≤◌, ℕ, All, OnOk};
 ghost use Rattle.sia_events.specs.Refusals.{IsWellFormed};
-ghost use Rattle.sia_events.specs.Transactions.{Wrote};
 ghost use Rattle.sia_index.specs.Info.{IsReader};
 ghost use Rattle.sia_parts.specs.Gaps.{FromKeys, IsGapOf, IsBetween, IsUnlisted};
 ghost use Rattle.sia_parts.specs.Joining.{Spreads};
@@ -34,9 +33,6 @@ pub(crate) fn put_unlisted(
     ensures bad { OnOk result (Adds (FromKeys (IsUnlisted listed.now lo hi) (λ k. IsBadOf reading.now.ix.now (unlisted_sight reading.now.known.reader k))) bad.old.items bad.new.items) }
     ensures absences { OnOk result (Spreads (IsGapOf reading.now.ix.now reading.now.known.reader (IsUnlisted listed.now lo hi)) absences.old.items absences.new.items) }
 {
-    if lists_all(reading, listed, lo, hi) {
-        return Ok(());
-    }
     let mut from = lo;
     let mut near = reading.first;
     for pair in listed {
@@ -53,46 +49,6 @@ pub(crate) fn put_unlisted(
     }
     put_stretch(reading, from, hi, near, bad, absences)?;
     Ok(())
-}
-
-// Whether all written keys from `lo` to `hi` are listed.
-fn lists_all(reading: &Reading, listed: &[(Key, Version)], lo: Key, hi: Key) -> bool
-    requires { IsWellFormed reading.now.ix.now }
-    ensures { IsTrue result → (k u : ℕ) → IsUnlisted listed.now lo hi k → ¬ Wrote reading.now.ix.now u k }
-{
-    let keys = reading.ix.written_keys();
-    let start = reading.first as usize;
-    if start > keys.len() {
-        return false;
-    }
-    if listed.len() > keys.len() - start {
-        return false;
-    }
-    let end = start + listed.len();
-    if start > 0 {
-        if lo <= keys[start - 1] {
-            return false;
-        }
-    }
-    if end < keys.len() {
-        if keys[end] <= hi {
-            return false;
-        }
-    }
-    are_keys(listed, keys, start)
-}
-
-// Whether the listed keys are those from one place on.
-fn are_keys(listed: &[(Key, Version)], keys: &[Key], start: usize) -> bool
-    requires { start + length listed.now ≤ length keys.now }
-    ensures { IsTrue result → (i : ℕ) (d : ℕ × ℕ) → i < length listed.now → (slice_index_or listed.now i d).0 ≡ slice_index keys.now (start + i) }
-{
-    for i in 0..listed.len() {
-        if listed[i].0 != keys[start + i] {
-            return false;
-        }
-    }
-    true
 }
 
 // The same for the keys from `lo` to `hi`, none of which the range read listed. The first written key from `lo` on may have

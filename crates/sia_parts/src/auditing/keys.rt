@@ -1,5 +1,5 @@
 //! The numbers of keys among the written ones, counted from 0.
-ghost use Rattle.std.specs.Prelude.{◌≡◌, ◌↔◌, ◌≤◌, ◌<◌, ℕ, Some};
+ghost use Rattle.std.specs.Prelude.{◌↔◌, ◌≤◌, ◌<◌, ℕ, MatchOption};
 ghost use Rattle.sia_events.specs.Refusals.{IsWellFormed};
 ghost use Rattle.sia_events.specs.Transactions.{Wrote};
 ghost use Rattle.sia_index.specs.Info.{IsKeyAt};
@@ -11,7 +11,7 @@ use sia_index::keyed::{ByKey, place_above_near, place_from_near};
 /// The number of the key, if it is written. It may be `near`.
 pub(crate) fn key_near(ix: &Index, k: Key, near: u32) -> Option<u32>
     requires { IsWellFormed ix.now }
-    ensures { (i : ℕ) → (result ≡ Some i) ↔ IsKeyAt ix.now i k }
+    ensures { MatchOption result ((u : ℕ) → ¬ Wrote ix.now u k) (λ i. IsKeyAt ix.now i k) }
 {
     let keys = ix.written_keys();
     let at = near as usize;

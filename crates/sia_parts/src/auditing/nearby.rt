@@ -22,11 +22,11 @@ pub(crate) fn are_apart(ascend: bool, looks: &[Look], end: usize) -> bool {
 }
 
 /// The first of the looks that a transaction's sights from this key on may be joined with, where the looks ascend by
-/// transaction and key, and the last of them is of no greater transaction.
+/// transaction and key, and the last of them is of no greater transaction. Where there is none it is a place that no look has.
 pub(crate) fn first_near(looks: &[Look], t: u32, key: u32) -> usize {
     match looks.last() {
         Some(last) if last.txn == t && key <= last.key => { place_of(looks, t, key) }
-        _ => looks.len(),
+        _ => usize::MAX,
     }
 }
 
@@ -37,8 +37,11 @@ fn place_of(looks: &[Look], t: u32, key: u32) -> usize {
 
 /// The first of a transaction's looks from one place to another whose key isn't below this one, where they ascend by key.
 pub(crate) fn next_near(looks: &[Look], from: usize, to: usize, key: u32) -> usize {
+    if from >= to {
+        return from;
+    }
     match looks.get(from) {
-        Some(look) if from < to && look.key < key => {}
+        Some(look) if look.key < key => {}
         _ => return from,
     }
     let next = from.saturating_add(1);

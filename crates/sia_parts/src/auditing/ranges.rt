@@ -9,14 +9,14 @@ ghost use Rattle.sia_events.specs.Transactions.{IsCommitted, WroteBefore};
 ghost use Rattle.sia_index.specs.declared.info.RangeRead.{RangeRead};
 ghost use Rattle.sia_index.specs.Info.{AreRangesMeeting, IsRangeRead};
 ghost use Rattle.sia_parts.specs.Sights.{Adds, FromSome, FromSight, IsSight, IsRangeSight, IsListedSight, IsBadOf, LooksAt, listed_sight, AscendsByKey};
-ghost use Rattle.sia_parts.specs.Gaps.{IsUnlistedBy};
+ghost use Rattle.sia_parts.specs.Gaps.{AreWrittenFrom, IsUnlistedBy};
 ghost use Rattle.sia_parts.specs.Joining.{JoinsTo, Spreads};
 ghost use Rattle.sia_parts.specs.Unseen.{CommitsFrom, IsKnown, IsLastKnown};
 
 use crate::auditing::gaps::put_unlisted;
 use crate::auditing::keys::{key_near, numbers_within};
 use crate::auditing::nearby::{first_near, next_near, still_ascend};
-use crate::auditing::sights::{Reading, Sight, put_sight};
+use crate::auditing::sights::{Reading, Sight, put_bad_read, put_sight};
 use crate::auditing::unseen::{Known, known_after, put_absence, sees_none};
 use crate::cutting::Part;
 use crate::edges::committed::Committed;
@@ -100,6 +100,7 @@ fn put_range_read(
 {
     let ix = scope.ix;
     ix.law();
+    ix.keys_law();
     let lo = scope.part.lo.max(range.lo);
     let hi = scope.part.hi.min(range.hi);
     if lo > hi {
@@ -121,43 +122,61 @@ fn put_range_read(
         first,
         own,
     };
-    put_listed_keys(&reading, range, listed, bad, looks)?;
+    let side_by_side = put_listed_keys(&reading, range, listed, bad, looks)?;
+    if side_by_side {
+        if listed.len() == end.saturating_sub(first) as usize {
+            return Ok(Some(known));
+        }
+    }
     put_unlisted(&reading, listed, lo, hi, bad, absences)?;
     Ok(Some(known))
 }
 
-// Adds the bad reads and the looks of keys that a range read listed.
+// Adds the bad reads and the looks of keys that a range read listed. Says whether these are the written keys from the first number
+// on, side by side.
 fn put_listed_keys(
     reading: &Reading,
     range: RangeRead,
     listed: &[(Key, Version)],
     bad: &mut Vec<BadRead>,
     looks: &mut Vec<Look>,
-) -> Result<(), NoMemory>
+) -> Result<bool, NoMemory>
     requires well_formed { IsWellFormed reading.now.ix.now }
     requires known { IsKnown reading.now.ix.now range.txn range.place reading.now.known }
     requires sights { All (λ pair. IsSight reading.now.ix.now (listed_sight range pair)) listed.now }
     requires own { reading.now.own ≡ false → All (λ pair. ¬ WroteBefore reading.now.ix.now range.txn pair.0 range.place) listed.now }
+    ensures side_by_side { IfOk result (λ so. IsTrue so → AreWrittenFrom reading.now.ix.now reading.now.first listed.now) }
     ensures bad { OnOk result (Adds (FromSome (λ pair. IsBadOf reading.now.ix.now (listed_sight range pair)) listed.now) bad.old.items bad.new.items) }
     ensures looks { OnOk result (JoinsTo (FromSome (λ pair. LooksAt reading.now.ix.now (listed_sight range pair)) listed.now) looks.old.items looks.new.items) }
 {
-    let mut first = reading.first;
-    let mut place = first_near(looks, reading.known.number.unwrap_or(0), first);
+    let mut near = reading.first;
+    let mut side_by_side = true;
+    let mut place = first_near(looks, reading.known.number.unwrap_or(0), near);
     let end = looks.len();
     for pair in listed {
-        let number = key_near(reading.ix, pair.0, first);
-        first = number.unwrap_or(first);
-        place = next_near(looks, place, end, first);
         let sight = Sight {
             place: range.place,
             txn: range.txn,
             key: pair.0,
             saw: pair.1,
         };
-        put_sight(reading, sight, number, place, bad, looks)?;
-        first = first.saturating_add(1);
+        match key_near(reading.ix, pair.0, near) {
+            Some(number) => {
+                if number != near {
+                    side_by_side = false;
+                }
+                place = next_near(looks, place, end, number);
+                put_sight(reading, sight, number, place, bad, looks)?;
+                near = number + 1;
+            }
+            // Version 0 of a key that isn't written is due to everyone.
+            None => {
+                side_by_side = false;
+                put_bad_read(sight, 0, bad)?;
+            }
+        }
     }
-    Ok(())
+    Ok(side_by_side)
 }
 
 // The keys that the range read at the place listed.

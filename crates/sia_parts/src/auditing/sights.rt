@@ -64,30 +64,35 @@ pub(crate) fn put_item_reads(
             saw: read.saw,
         };
         let known = known_after(ix, committed, last, read.txn, read.place);
-        let number = key_near(ix, read.key, first);
-        first = number.unwrap_or(first);
-        // Reads of one transaction and key stand side by side.
-        let place = looks.len().saturating_sub(1);
-        let own = known.reader.has_written;
-        let reading = Reading {
-            ix,
-            known,
-            first,
-            own,
-        };
-        put_sight(&reading, sight, number, place, bad, looks)?;
         last = Some(known);
+        let own = known.reader.has_written;
+        match key_near(ix, read.key, first) {
+            Some(number) => {
+                first = number;
+                // Reads of one transaction and key stand side by side.
+                let place = looks.len().saturating_sub(1);
+                let reading = Reading {
+                    ix,
+                    known,
+                    first,
+                    own,
+                };
+                put_sight(&reading, sight, number, place, bad, looks)?;
+            }
+            // Version 0 of a key that isn't written is due to everyone.
+            None => put_bad_read(sight, 0, bad)?,
+        }
     }
     Ok(())
 }
 
 /// Adds the bad read of a sight, if it is one, and its look, if it has one, joined with the one at the place, if that is of its
-/// transaction and key. Its key has the number among the written ones, if it is written.
+/// transaction and key. Its key has the number among the written ones.
 #[inline(always)]
 pub(crate) fn put_sight(
     reading: &Reading,
     sight: Sight,
-    number: Option<u32>,
+    number: u32,
     place: usize,
     bad: &mut Vec<BadRead>,
     looks: &mut Vec<Look>,
@@ -95,14 +100,12 @@ pub(crate) fn put_sight(
     requires well_formed { IsWellFormed reading.now.ix.now }
     requires known { IsKnown reading.now.ix.now sight.txn sight.place reading.now.known }
     requires sight { IsSight reading.now.ix.now sight }
-    requires number { (i : ℕ) → (number ≡ Some i) ↔ IsKeyAt reading.now.ix.now i sight.key }
+    requires number { IsKeyAt reading.now.ix.now number sight.key }
     requires own { reading.now.own ≡ false → ¬ WroteBefore reading.now.ix.now sight.txn sight.key sight.place }
     ensures bad { OnOk result (Adds (IsBadOf reading.now.ix.now sight) bad.old.items bad.new.items) }
     ensures looks { OnOk result (JoinsTo (LooksAt reading.now.ix.now sight) looks.old.items looks.new.items) }
 {
-    let ix = reading.ix;
-    let near = number.unwrap_or(0) as usize;
-    let seen = ix.seen_near(reading.known.reader, sight.key, near);
+    let seen = reading.ix.seen_at(reading.known.reader, number as usize);
     let due = due_at(reading, sight, seen);
     put_bad_read(sight, due, bad)?;
     if let Some(look) = look_of(reading, sight, seen, number) {
@@ -126,8 +129,12 @@ fn due_at(reading: &Reading, sight: Sight, seen: Seen) -> Version
     seen.version
 }
 
-// Adds the bad read of a sight at which this version is due, if it is one.
-fn put_bad_read(sight: Sight, due: Version, bad: &mut Vec<BadRead>) -> Result<(), NoMemory>
+/// Adds the bad read of a sight at which this version is due, if it is one.
+pub(crate) fn put_bad_read(
+    sight: Sight,
+    due: Version,
+    bad: &mut Vec<BadRead>,
+) -> Result<(), NoMemory>
     ensures { (h : List Event) → IsSight h sight → IsDue h sight.txn sight.place sight.key due → OnOk result (Adds (IsBadOf h sight) bad.old.items bad.new.items) }
 {
     if due != sight.saw {
@@ -142,24 +149,23 @@ fn put_bad_read(sight: Sight, due: Version, bad: &mut Vec<BadRead>) -> Result<()
     Ok(())
 }
 
-// The look of a sight by a committed transaction, of a written key and of a version that isn't its own and that 0 or a committed
-// one made.
-fn look_of(reading: &Reading, sight: Sight, seen: Seen, number: Option<u32>) -> Option<Look>
+// The look of a sight by a committed transaction, of a written key, which has the number, and of a version that isn't its own and
+// that 0 or a committed one made.
+fn look_of(reading: &Reading, sight: Sight, seen: Seen, number: u32) -> Option<Look>
     requires well_formed { IsWellFormed reading.now.ix.now }
     requires known { IsKnown reading.now.ix.now sight.txn sight.place reading.now.known }
     requires seen { IsSeen reading.now.ix.now sight.txn sight.place sight.key seen }
-    requires number { (i : ℕ) → (number ≡ Some i) ↔ IsKeyAt reading.now.ix.now i sight.key }
+    requires number { IsKeyAt reading.now.ix.now number sight.key }
     ensures { MatchOption result ((at : ℕ × ℕ × ℕ) → ¬ LooksAt reading.now.ix.now sight at) (IsLookOfSight reading.now.ix.now sight) }
 {
     if sight.saw == sight.txn {
         return None;
     }
     let txn = reading.known.number?;
-    let key = number?;
     let at = as_of_seen(reading.ix, sight.saw, seen)?;
     Some(Look {
         txn,
-        key,
+        key: number,
         low: at,
         high: at,
     })

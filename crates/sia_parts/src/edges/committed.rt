@@ -7,6 +7,7 @@ ghost use Rattle.sia_parts.specs.EdgeNumbers.{IsCommittedAt};
 
 use sia_events::{NoMemory, TxnId};
 use sia_index::Index;
+use sia_index::keyed::{ByTxn, place_from_near};
 use std::alloc::Global;
 use std::marker::Model;
 
@@ -59,13 +60,12 @@ impl Committed {
     {
         let _ = ix;
         let ids = self.ids.as_slice();
-        let at = self.places.get(near).copied().unwrap_or(0) as usize;
+        let near = self.places.get(near).copied().unwrap_or(0) as usize;
+        let at = place_from_near::<TxnId, ByTxn>(ids, u64::from(t), near);
         if at < ids.len() && ids[at] == t {
-            return Some(at as u32);
-        }
-        match ids.binary_search(&t) {
-            Ok(i) => Some(i as u32),
-            Err(_) => None,
+            Some(at as u32)
+        } else {
+            None
         }
     }
 }

@@ -86,9 +86,8 @@ fn put_part(part: PartFound, all: &mut Gathering) -> Result<(), NoMemory>
     ensures readers { OnOk result (Adds (Contains part.looks.readers.items) all.old.looks.readers.items all.new.looks.readers.items) }
     ensures absences { OnOk result (Adds (Contains part.looks.absences.items) all.old.looks.absences.items all.new.looks.absences.items) }
 {
-    all.bad_reads.extend_from_slice(&part.bad_reads)?;
-    all.bad_writes.extend_from_slice(&part.bad_writes)?;
-    all.unexplained.extend_from_slice(&part.unexplained)?;
-    put_looks(part.looks, &mut all.looks)?;
-    Ok(())
+    put_list(part.bad_reads, &mut all.bad_reads)?;
+    put_list(part.bad_writes, &mut all.bad_writes)?;
+    put_list(part.unexplained, &mut all.unexplained)?;
+    put_looks(part.looks, &mut all.looks)
 }

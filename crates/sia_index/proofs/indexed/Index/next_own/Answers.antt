@@ -2,6 +2,7 @@
 use Rattle.std.proofs.Common.{subst}
 use Rattle.sia_index.specs.Rows.{AreWrites}
 use Rattle.sia_index.proofs.NextKeys.{own_next}
+use Rattle.sia_index.proofs.Writes.{part_rises}
 use Rattle.sia_index.proofs.indexed.Index.next_own.Goals as goal
 
 pub stretch_at-requires : goal.stretch_at-requires
@@ -16,6 +17,11 @@ pub next_key-requires-clause-within : goal.next_key-requires-clause-within
 next_key-requires-clause-within c =
     let are = subst (λ h. AreWrites h c.self.inside.writes.items) c.self.view_is c.self.invariant.writes_are in
     rw c.deref.ensures.value ((c.stretch_at.ensures _ are).bound)
+
+pub next_key-requires-clause-keys_rise : goal.next_key-requires-clause-keys_rise
+next_key-requires-clause-keys_rise c =
+    let are = subst (λ h. AreWrites h c.self.inside.writes.items) c.self.view_is c.self.invariant.writes_are in
+    rw c.deref.ensures.value (part_rises _ are.ascending _ _ _ (c.stretch_at.ensures _ are))
 
 pub next_key-requires-clause-minima_are : goal.next_key-requires-clause-minima_are
 next_key-requires-clause-minima_are c = rw (c.deref.ensures.value, c.deref-then-reader.ensures.value) c.self.invariant.place_minima_are

@@ -1,9 +1,8 @@
 -- Between one listed key and the next, and behind the last one, none is listed.
-use Rattle.std.proofs.Common.{ℕ, get_or, refl, arith}
+use Rattle.std.proofs.Common.{ℕ, get_or, arith}
 use Rattle.sia_parts.specs.Sights.{IsBadOf, unlisted_sight}
-use Rattle.sia_parts.proofs.GapLemmas.{below_bad, below_gap, IsPassed, keys_split, gap_split, keys_of_none, gap_of_none, unwritten_bad, passed_none, passed_split, passed_more, last_split, last_new, rest_split, rest_new}
-use Rattle.sia_parts.proofs.LookLemmas.{at_is_written}
-use Rattle.sia_parts.specs.Gaps.{IsBelow, IsUnlisted}
+use Rattle.sia_parts.proofs.GapLemmas.{below_bad, below_gap, IsPassed, keys_split, gap_split, keys_of_none, gap_of_none, passed_none, passed_split, passed_more, last_split, last_new, rest_split, rest_new}
+use Rattle.sia_parts.specs.Gaps.{IsBelow}
 use Rattle.sia_parts.proofs.auditing.gaps.put_unlisted.Goals as goal
 use Rattle.sia_parts.proofs.auditing.gaps.put_unlisted.Goals.{then-from-key+in_ok-put_stretch, else-from-key}
 
@@ -62,12 +61,3 @@ returns c =
       bad = keys_split split (λ k. IsBadOf c.args.reading.now.ix.now (unlisted_sight c.args.reading.now.known.reader k)) _ _ _ c.loop-pair.invariant.bad c.in_ok-put_stretch-2.ensures.bad;
       absences = gap_split split c.args.reading.now.ix.now c.args.reading.now.known.reader _ _ _ c.loop-pair.invariant.absences c.in_ok-put_stretch-2.ensures.absences;
     }
-
-pub returns-then-lists_all-clause-bad : goal.returns-then-lists_all-clause-bad
-returns-then-lists_all-clause-bad c =
-    unwritten_bad c.args.reading.now.ix.now c.args.reading.now.known.reader (IsUnlisted c.args.listed.now c.args.lo c.args.hi) (c.if-lists_all.ensures refl) _
-
-pub returns-then-lists_all-clause-absences : goal.returns-then-lists_all-clause-absences
-returns-then-lists_all-clause-absences c =
-    gap_of_none c.args.reading.now.ix.now c.args.reading.now.known.reader (IsUnlisted c.args.listed.now c.args.lo c.args.hi)
-    (λ i k at is. let wrote = at_is_written c.args.reading.now.ix.now i k at in c.if-lists_all.ensures refl k wrote.0 is wrote.1) _

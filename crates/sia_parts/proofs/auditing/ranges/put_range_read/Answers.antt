@@ -1,16 +1,36 @@
 -- The listed keys of the part and the others are all keys that the range read covers there.
-use Rattle.std.proofs.Common.{◌≤◌, get_or, subst, sym, ◌∙◌, arith}
+use Rattle.std.proofs.Common.{◌≤◌, get_or, refl, subst, sym, ◌∙◌, arith}
 use Rattle.std.proofs.lemmas.Bool.{eqb-true}
 use Rattle.std.proofs.lemmas.List.{nil_from_length}
 use Rattle.std.proofs.lemmas.List.Elements.{Contains-get_or}
+use Rattle.sia_events.specs.declared.event.Event.TheVariants.{Range}
 use Rattle.sia_events.specs.Transactions.{WroteBefore}
 use Rattle.sia_events.proofs.Ranges.{list_in_order}
 use Rattle.sia_parts.specs.Gaps.{IsUnlisted}
 use Rattle.sia_parts.specs.Sights.{IsBadOf, LooksAt, listed_sight}
-use Rattle.sia_parts.proofs.GapLemmas.{due_none, gap_of_numbers}
+use Rattle.sia_parts.proofs.GapLemmas.{due_none, gap_of_none, gap_of_numbers, unwritten_bad}
+use Rattle.sia_parts.proofs.KeyNumbers.{none_unlisted}
+use Rattle.sia_parts.proofs.LookLemmas.{at_is_written}
 use Rattle.sia_parts.proofs.RangeSights.{list_at, apart_sights, apart_listed, apart_gaps, here_sight, unlisted_here_sight, listed_here, sights_here, gaps_here}
 use Rattle.sia_parts.proofs.Unsighted.{own_known, unseen_due, gap_of_all, none_give, none_join}
 use Rattle.sia_parts.proofs.auditing.ranges.put_range_read.Goals as goal
+
+pub known_after-known-requires-clause-some : goal.known_after-known-requires-clause-some
+known_after-known-requires-clause-some c =
+    let r = c.args.range in
+    (r.place, (Range r.txn r.lo r.hi c.requires.range.0, c.requires.range.1, refl))
+
+pub may_own-own-requires : goal.may_own-own-requires
+may_own-own-requires c = (own_known _ _ _ _ c.known_after-known.ensures).reader
+
+pub returns-clause-last : goal.returns-clause-last
+returns-clause-last c = own_known _ _ _ _ c.known_after-known.ensures
+
+pub returns-then-listed-saturating_sub-clause-last : goal.returns-then-listed-saturating_sub-clause-last
+returns-then-listed-saturating_sub-clause-last c = own_known _ _ _ _ c.known_after-known.ensures
+
+pub returns-then-sees_none-clause-last : goal.returns-then-sees_none-clause-last
+returns-then-sees_none-clause-last c = own_known _ _ _ _ c.known_after-known.ensures
 
 pub returns-then-lo-hi-clause-bad : goal.returns-then-lo-hi-clause-bad
 returns-then-lo-hi-clause-bad c =
@@ -98,16 +118,43 @@ pub returns-clause-bad : goal.returns-clause-bad
 returns-clause-bad c =
     sights_here c.args.scope.now.ix.now c.law.ensures c.args.scope.now.part c.args.range _ (list_at _ _ c.requires.of c.args.range c.requires.range _ c.listed_at.ensures)
     _ _ c.max-lo.ensures c.min-hi.ensures _ c.listed_within-listed.ensures.each
-    c.known_after-known.result.reader c.known_after-known.ensures.reader (IsBadOf c.args.scope.now.ix.now) _ _ _ c.in_ok-put_listed_keys.ensures.bad c.in_ok-put_unlisted.ensures.bad
+    c.known_after-known.result.reader c.known_after-known.ensures.reader (IsBadOf c.args.scope.now.ix.now) _ _ _ c.in_ok-side_by_side.ensures.bad c.in_ok-put_unlisted.ensures.bad
 
 pub returns-clause-looks : goal.returns-clause-looks
 returns-clause-looks c =
     listed_here c.args.scope.now.ix.now c.law.ensures c.args.scope.now.part c.args.range _ (list_at _ _ c.requires.of c.args.range c.requires.range _ c.listed_at.ensures)
     _ _ c.max-lo.ensures c.min-hi.ensures _ c.listed_within-listed.ensures.each
-    (LooksAt c.args.scope.now.ix.now) _ _ c.in_ok-put_listed_keys.ensures.looks
+    (LooksAt c.args.scope.now.ix.now) _ _ c.in_ok-side_by_side.ensures.looks
 
 pub returns-clause-absences : goal.returns-clause-absences
 returns-clause-absences c =
     gaps_here c.args.scope.now.ix.now c.law.ensures c.args.scope.now.part c.args.range _ (list_at _ _ c.requires.of c.args.range c.requires.range _ c.listed_at.ensures)
     _ _ c.max-lo.ensures c.min-hi.ensures _ c.listed_within-listed.ensures.each
     c.known_after-known.result.reader c.known_after-known.ensures.reader _ _ c.in_ok-put_unlisted.ensures.absences
+
+-- where the listed keys are all that are written, the others give nothing
+pub returns-then-listed-saturating_sub-clause-bad : goal.returns-then-listed-saturating_sub-clause-bad
+returns-then-listed-saturating_sub-clause-bad c =
+    let h = c.args.scope.now.ix.now in
+    let here = c.listed_within-listed.result.now in
+    let none = none_unlisted h c.keys_law.ensures here c.max-lo.result c.min-hi.result _ _ c.numbers_within-first.ensures.each (omega arith) (c.in_ok-side_by_side.ensures.side_by_side c.if-side_by_side.true) in
+    sights_here h c.law.ensures c.args.scope.now.part c.args.range _ (list_at _ _ c.requires.of c.args.range c.requires.range _ c.listed_at.ensures)
+    _ _ c.max-lo.ensures c.min-hi.ensures _ c.listed_within-listed.ensures.each
+    c.known_after-known.result.reader c.known_after-known.ensures.reader (IsBadOf h) _ _ _ c.in_ok-side_by_side.ensures.bad
+    (unwritten_bad h c.known_after-known.result.reader (IsUnlisted here c.max-lo.result c.min-hi.result) none _)
+
+pub returns-then-listed-saturating_sub-clause-looks : goal.returns-then-listed-saturating_sub-clause-looks
+returns-then-listed-saturating_sub-clause-looks c =
+    listed_here c.args.scope.now.ix.now c.law.ensures c.args.scope.now.part c.args.range _ (list_at _ _ c.requires.of c.args.range c.requires.range _ c.listed_at.ensures)
+    _ _ c.max-lo.ensures c.min-hi.ensures _ c.listed_within-listed.ensures.each
+    (LooksAt c.args.scope.now.ix.now) _ _ c.in_ok-side_by_side.ensures.looks
+
+pub returns-then-listed-saturating_sub-clause-absences : goal.returns-then-listed-saturating_sub-clause-absences
+returns-then-listed-saturating_sub-clause-absences c =
+    let h = c.args.scope.now.ix.now in
+    let here = c.listed_within-listed.result.now in
+    let none = none_unlisted h c.keys_law.ensures here c.max-lo.result c.min-hi.result _ _ c.numbers_within-first.ensures.each (omega arith) (c.in_ok-side_by_side.ensures.side_by_side c.if-side_by_side.true) in
+    gaps_here h c.law.ensures c.args.scope.now.part c.args.range _ (list_at _ _ c.requires.of c.args.range c.requires.range _ c.listed_at.ensures)
+    _ _ c.max-lo.ensures c.min-hi.ensures _ c.listed_within-listed.ensures.each
+    c.known_after-known.result.reader c.known_after-known.ensures.reader _ _
+    (gap_of_none h c.known_after-known.result.reader (IsUnlisted here c.max-lo.result c.min-hi.result) (λ i k at is. let wrote = at_is_written h i k at in none k wrote.0 is wrote.1) _)
