@@ -38,6 +38,7 @@ pub mod Replayed
 pub mod Listed
 pub mod FiniteLists
 pub mod FiniteHistories
+pub mod Mapped
 pub mod Picked
 pub mod Groups
 pub mod LinkLists
@@ -70,6 +71,7 @@ pub mod Uncut
 pub mod NextVersions
 pub mod NarrowSteps
 pub mod AbsenceBlocks
+pub mod Adjacency
 pub mod NarrowStands
 pub mod TakenNodes
 pub mod TakenMembers

@@ -1,11 +1,11 @@
 -- Lists of links: those at one transaction, and the transactions at their ends.
-use Rattle.std.proofs.Common.{◌≡◌, ◌↔◌, inl, inr, ℕ, ◌+◌, ◌<◌, ◌==◌, Bool, true, false, not, List, [], ◌∷◌, ◌++◌, length, get_or, map, take, refl, ap, sym, ◌∙◌, subst, arith}
-use Rattle.std.specs.Prelude.{All, AllPairs, Contains, IsTrue}
+use Rattle.std.proofs.Common.{◌≡◌, ◌↔◌, inl, inr, ℕ, ◌+◌, ◌<◌, ◌==◌, Bool, true, false, not, List, [], ◌∷◌, ◌++◌, length, get_or, map, take, eqb, refl, ap, sym, ◌∙◌, subst, arith}
+use Rattle.std.specs.Prelude.{All, AllPairs, Contains, IsTrue, ◌&&◌}
 use Rattle.std.specs.List.Sorted.{IsStrictlySortedBy}
 use Rattle.std.specs.Ordering.{ordering_then, nat_cmp}
 use Rattle.std.specs.declared.cmp.Ordering.{Ordering}
 use Rattle.std.specs.declared.cmp.Ordering.TheVariants.{Less}
-use Rattle.std.proofs.lemmas.Bool.{ne_eqb}
+use Rattle.std.proofs.lemmas.Bool.{and_parts, eqb-true, ne_eqb}
 use Rattle.std.proofs.lemmas.List.{take_more, map-append, get_or-map, length-map, length-append, get_or-append-add, get_or_append_left}
 use Rattle.std.proofs.lemmas.List.Elements.{All-contains, Contains-append_left, Contains-append_right, Contains-append_cases}
 use Rattle.sia_events.specs.Lists.{Precedes, ListsAscending}
@@ -16,6 +16,14 @@ use Rattle.sia_parts.specs.declared.finding.Kind.TheVariants.{Ww, Wr, Rw}
 use Rattle.sia_graph.specs.Links.{ListsLinks, AreEnds, AreLinksAt, AreLinked, is_rw, link_rank}
 use Rattle.sia_graph.proofs.Positions.{only_one_in}
 use Rattle.sia_graph.proofs.Listed.{listed_as, listed_in_order, mapped, precedes_last, precedes_then}
+
+-- what the test of two links finds the same is one link
+pub one_link : (x y : Link) → (eqb x.at y.at && eqb x.other y.other) ≡ true → x ≡ y
+one_link x y e =
+    let parts = and_parts (eqb x.at y.at) (eqb x.other y.other) e in
+    let a = eqb-true x.at y.at parts.0 in
+    let b = eqb-true x.other y.other parts.1 in
+    (λ i. record { at = a i; other = b i })
 
 module _ (R : ℕ → ℕ → Type 0) (links : List Link) (l : ListsLinks R links) (t : ℕ) (group : List Link) (at : AreLinksAt links t group) where
   abbrev before : List Link

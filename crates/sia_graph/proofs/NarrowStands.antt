@@ -1,7 +1,7 @@
 -- Narrow steps reach what the edges of a history reach.
 use Rattle.std.proofs.Common.{◌≡◌, ◌≢◌, ◌⊎◌, inl, inr, ℕ, zero, suc, ◌+◌, ◌-◌, ◌*◌, ◌^◌, ◌<◌, ◌≤◌, List, [], ◌∷◌, length, get_or, refl, ap, sym, subst, ◌∙◌, arith}
 use Rattle.std.specs.Prelude.{All, Contains}
-use Rattle.std.specs.List.Sorted.{IsNonDecreasing, IsStrictlyIncreasing}
+use Rattle.std.specs.List.Sorted.{IsStrictlyIncreasing}
 use Rattle.std.proofs.Math.Nat.{mul_assoc, mul_comm, mul-le-mul_left, mul-le-mul_right, pow-succ'}
 use Rattle.std.proofs.lemmas.Bool.{cases_lt}
 use Rattle.std.proofs.lemmas.List.{get_or-map, get_or_default, length-map}
@@ -619,13 +619,12 @@ module _ (h : List Event) (txns keys : List ℕ) (looks : Looks) (is : IsEvidenc
         reach = reaches;
       }
 
-      pub are_steps : IsStrictlyIncreasing ids → IsNonDecreasing steps → AreSteps ids steps
-      are_steps up rise = record {
+      pub are_steps : IsStrictlyIncreasing ids → AreSteps ids steps
+      are_steps up = record {
         ids_up = up;
         are_places = at;
         joins = λ k d l.
             let n = get_or steps k d in
             let w = joined (step_source n) (step_target n) (step_ends steps n (k, l, get_or_default steps k n d l)) in
             (omega arith, omega arith, w.2);
-        rise = rise;
       }

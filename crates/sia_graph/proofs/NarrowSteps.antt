@@ -11,7 +11,6 @@ use Rattle.sia_parts.specs.declared.looks.Look.{Look}
 use Rattle.sia_parts.specs.Sights.{Adds, FromSome}
 use Rattle.sia_parts.proofs.Adding.{added_to_none, adds_both, adds_nothing, adds_push, adds_same}
 use Rattle.sia_graph.specs.NarrowSteps.{AreFirsts, AreNarrowSteps, CanSearch, HasAbsenceSteps, IsAbsenceStep, IsFirstNumber, IsFirstOf, IsHalfStep, IsLeafStep, IsMemberStep, IsNewest, IsNext, IsNewestStep, IsNextStep, KeepsAll, node_of, step_number, step_source, step_target}
-use Rattle.sia_graph.proofs.AbsenceBlocks.{still_has}
 
 pub one_next_at : (writers : List Look) (can : CanSearch writers) (key place : ℕ) (a b : Look) → IsNext writers key place a → IsNext writers key place b → a.txn ≡ b.txn
 one_next_at writers can key place a b n m =
@@ -103,18 +102,6 @@ pub firsts_made : (size : ℕ) (writers : List Look) (made firsts : List ℕ) �
 firsts_made size writers made firsts adds sorted keeps alone = record {
   rise = non_decreasing_from_sorted firsts sorted;
   each = λ n. let a = added_to_none (IsFirstNumber size writers) made adds n in ((λ c. a.0 (alone n c)), (λ p. keeps n (a.1 p)));
-}
-
-pub steps_made : (size : ℕ) (writers readers : List Look) (absences : List Absence) (made steps : List ℕ) → AreNarrowSteps size writers readers absences made
-    → ((n : ℕ) → Contains made n → Contains steps n) → ((n : ℕ) → Contains steps n → Contains made n) → AreNarrowSteps size writers readers absences steps
-steps_made size writers readers absences made steps are keeps alone = record {
-  firsts = are.firsts;
-  firsts_are = are.firsts_are;
-  each = λ n c. are.each n (alone n c);
-  members = λ n p. keeps n (are.members n p);
-  halves = λ n p. keeps n (are.halves n p);
-  leaves = λ n p. keeps n (are.leaves n p);
-  absent = λ s c. still_has size are.firsts s made steps keeps (are.absent s c);
 }
 
 -- all that was added, one kind after another

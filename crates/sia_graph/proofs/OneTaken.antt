@@ -1,36 +1,25 @@
 -- One more transaction is taken: the least that is ready, with what it releases.
-use Rattle.std.proofs.Common.{◌≡◌, ◌≢◌, ◌⊎◌, inl, inr, ℕ, ◌+◌, ◌<◌, ◌≤◌, List, [], ◌∷◌, ◌++◌, length, get_or, slice_get, Some, refl, ap, sym, ◌∙◌, subst, arith}
+use Rattle.std.proofs.Common.{◌≡◌, ◌≢◌, ◌⊎◌, inl, inr, ℕ, ◌+◌, ◌<◌, ◌≤◌, List, [], ◌∷◌, ◌++◌, length, get_or, Some, eqb, refl, ap, sym, ◌∙◌, subst, arith}
 use Rattle.std.specs.Prelude.{Contains, All, IsTrue, ◌↔◌, not}
 use Rattle.std.specs.List.Sorted.{IsStrictlyIncreasing}
-use Rattle.std.proofs.lemmas.Bool.{cases_Bool, cases_lt, not-true, not_from_false, eqb-true}
+use Rattle.std.proofs.lemmas.Bool.{cases_Bool, cases_lt, and_parts, not-true, not_from_false, eqb-true}
 use Rattle.std.proofs.lemmas.List.{get_or_default}
-use Rattle.std.proofs.lemmas.Option.{slice_get-get_or, get_or_from_slice_get, slice_get_within}
+use Rattle.std.proofs.lemmas.Option.{slice_get-get_or}
 use Rattle.sia_parts.specs.declared.finding.Edge.{Edge}
 use Rattle.sia_graph.specs.Orders.{Leads}
-use Rattle.sia_graph.specs.Fronts.{arriving, waiting, stands, leads_to, AreEdgesFrom, AreWaiting, IsFreed, IsTaking, IsLastFront, left_over}
-use Rattle.sia_graph.proofs.Positions.{Stands, contains_stands, stands_contains, true_stands, stands_false, false_stands, stands_more, stands_last, stands_cases, get_left, get_right}
+use Rattle.sia_graph.specs.Fronts.{arriving, waiting, stands, joins_both, AreEdgesFrom, AreWaiting, IsFreed, IsTaking, IsLastFront, left_over}
+use Rattle.sia_graph.proofs.Positions.{Stands, contains_stands, stands_contains, true_stands, stands_false, false_stands, stands_more, stands_last, stands_cases}
 use Rattle.sia_graph.proofs.Fronts.{front_more, front_none}
-use Rattle.sia_graph.proofs.Waiting.{none_waits, none_wait_if, some_counted, all_at, released, fewer_left}
-
--- what holds of each edge holds of those from t
-pub group_all : (P : Edge → Type 0) (edges group : List Edge) (t : ℕ) → AreEdgesFrom edges t group → All P edges → All P group
-group_all P edges group t from all k d l =
-    let whole = from.0 ++ (group ++ from.1) in
-    let at = get_right from.0 (group ++ from.1) k (get_or group k d) (get_left group from.1 k (get_or group k d) (slice_get-get_or group k d l)) in
-    let there : slice_get edges (length from.0 + k) ≡ Some (get_or group k d) = ap (λ xs. slice_get xs (length from.0 + k)) from.2 ∙ at in
-    subst P (get_or_from_slice_get edges (length from.0 + k) (get_or group k d) d there) (all (length from.0 + k) d (slice_get_within edges (length from.0 + k) (get_or group k d) there))
+use Rattle.sia_graph.proofs.Waiting.{none_waits, none_wait_if, some_counted, released, fewer_left}
 
 -- an edge from t that leads to u
 pub group_leads : (edges group : List Edge) (t u : ℕ) → AreEdgesFrom edges t group → 0 < arriving group u → Leads (Contains edges) t u
 group_leads edges group t u from some =
-    let w = some_counted (leads_to u) group some in
-    let e = w.1 in (
-      e,
-      subst (Contains edges) (get_or_from_slice_get group w.0 e e w.2)
-          (group_all (Contains edges) edges group t from (λ k d l. (k, l, get_or_default edges k (get_or edges k d) d l)) w.0 e (slice_get_within group w.0 e w.2)),
-      all_at (λ e. e.src ≡ t) group from.4 w.0 e w.2,
-      eqb-true e.dst u w.3,
-    )
+    let c = from u in
+    let w = some_counted (joins_both t u) edges (omega arith) in
+    let e = w.1 in
+    let ends = and_parts (eqb e.src t) (eqb e.dst u) w.3 in
+    (e, stands_contains edges e (w.0, w.2), eqb-true e.src t ends.0, eqb-true e.dst u ends.1)
 
 abbrev pub Joins : List ℕ → List Edge → Type 0
 Joins ids edges = All (λ e. Contains ids e.src × Contains ids e.dst × (e.src ≢ e.dst)) edges

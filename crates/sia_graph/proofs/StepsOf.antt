@@ -117,8 +117,8 @@ module _ (ids : List ℕ) (up : IsStrictlyIncreasing ids) (edges : List Edge) (s
     many : length (node_list 0 ids) ≡ length ids
     many = let m = length-range_with_len 0 (2 * 0 + length ids) in omega arith
 
-    pub list_steps : IsNonDecreasing steps → AreSteps (node_list 0 ids) steps
-    list_steps rise = record {
+    pub list_steps : AreSteps (node_list 0 ids) steps
+    list_steps = record {
       ids_up = range_up (2 * 0 + length ids);
       are_places = range_is (2 * 0 + length ids);
       joins = λ k d l.
@@ -129,7 +129,6 @@ module _ (ids : List ℕ) (up : IsStrictlyIncreasing ids) (edges : List Edge) (s
           let a = w.1 in
           let b = w.2 in
           (omega arith, omega arith, differ n c);
-      rise = rise;
     }
 
     abbrev Step : ℕ → ℕ → Type 0
@@ -243,6 +242,10 @@ module _ (ids : List ℕ) (up : IsStrictlyIncreasing ids) (edges : List Edge) (s
                 (passed i j (get_or previous j 0) (λ aims. absurd (other (sym aims))) (before.2 j l))
           ],
         )
+
+    -- a step from what isn't left changes nothing
+    pub kept_back : (i : ℕ) (previous : List ℕ) → ¬ IsLeftIn left (step_source (get_or steps i 0)) → AreLeastFrom ids steps left (i + 1) previous → AreLeastFrom ids steps left i previous
+    kept_back i previous out before = (before.0, before.1, λ j l. passed i j (get_or previous j 0) (λ aims. out) (before.2 j l))
 
     source_leads : (p j k : ℕ) → k < length steps → step_target (get_or steps k 0) ≡ j → step_source (get_or steps k 0) ≡ p → IsLeftIn left p → IsSource ids (Contains edges) (IsLeftIn left) j p
     source_leads p j k within to from is =

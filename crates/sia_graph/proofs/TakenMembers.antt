@@ -2,7 +2,7 @@
 use Rattle.std.proofs.Common.{◌≡◌, ℕ, ◌+◌, ◌-◌, ◌*◌, ◌<◌, ◌≤◌, List, Bool, false, length, get_or, map, ap, sym, subst, ◌∙◌, arith}
 use Rattle.std.specs.Prelude.{Contains, IsTrue}
 use Rattle.std.specs.List.{range_with_len}
-use Rattle.std.specs.List.Sorted.{IsNonDecreasing, IsStrictlyIncreasing}
+use Rattle.std.specs.List.Sorted.{IsStrictlyIncreasing}
 use Rattle.std.proofs.lemmas.List.{get_or-map, get_or_default, length-map}
 use Rattle.std.proofs.lemmas.List.FromFn.{get_or-range_with_len, length-range_with_len}
 use Rattle.sia_events.specs.declared.event.Event.{Event}
@@ -96,9 +96,9 @@ module _ (M : ℕ → Type 0) (E : Edge → Type 0) (size : ℕ) (txns steps : L
 
 module _ (h : List Event) (txns keys : List ℕ) (looks : Looks) (is : IsEvidence h txns keys looks) (size : ℕ) (sized : IsSizeFor size keys looks.absences.items)
     (steps : List ℕ) (narrow : AreNarrowSteps size looks.writers.items looks.readers.items looks.absences.items steps) where
-  pub nodes_are_steps : IsNonDecreasing steps → AreSteps (node_list size txns) steps
-  nodes_are_steps rise =
-      are_steps h txns keys looks is size sized steps narrow (node_list size txns) (length-range_with_len 0 (2 * size + length txns)) (range_is (2 * size + length txns)) (range_up (2 * size + length txns)) rise
+  pub nodes_are_steps : AreSteps (node_list size txns) steps
+  nodes_are_steps =
+      are_steps h txns keys looks is size sized steps narrow (node_list size txns) (length-range_with_len 0 (2 * size + length txns)) (range_is (2 * size + length txns)) (range_up (2 * size + length txns))
 
   pub nodes_stand : StandFor (IsCommitted h) (IsEdge h) (2 * size) (node_list size txns) (edges_of_steps steps) (name_of size txns)
   nodes_stand =

@@ -2,12 +2,12 @@
 use Rattle.std.proofs.Common.{◌≡◌, ◌≢◌, ◌⊎◌, inl, inr, ℕ, zero, suc, ◌+◌, ◌<◌, ◌≤◌, Bool, true, false, cond, List, [], ◌∷◌, ◌++◌, slice_get, Some, eqb, ap, sym, ◌∙◌, refl, subst, arith}
 use Rattle.std.specs.Prelude.{Contains, All, not, ◌&&◌}
 use Rattle.std.specs.List.{count_by}
-use Rattle.std.proofs.lemmas.Bool.{cases_Bool, cases_lt, and_parts, and_from, not-true, not_from_true, not_from_false, eqb-true, eq-eqb}
-use Rattle.std.proofs.lemmas.List.Sums.{sum_by-append, sum_by-cons}
+use Rattle.std.proofs.lemmas.Bool.{cases_Bool, cases_eq, cases_lt, and_parts, and_from, not-true, not_from_true, not_from_false, eqb-true, eq-eqb, ne_eqb}
+use Rattle.std.proofs.lemmas.List.Sums.{sum_by-cons}
 use Rattle.std.proofs.lemmas.Option.{same_Some, slice_get_within, get_or_from_slice_get}
 use Rattle.sia_parts.specs.declared.finding.Edge.{Edge}
 use Rattle.sia_graph.specs.Orders.{Leads}
-use Rattle.sia_graph.specs.Fronts.{stands, leads_to, arriving, holds_back, waiting, AreEdgesFrom, left_over}
+use Rattle.sia_graph.specs.Fronts.{stands, arriving, holds_back, joins_both, waiting, AreEdgesFrom, left_over}
 use Rattle.sia_graph.proofs.Positions.{Stands, contains_stands, stands_contains, stands_true, true_stands, stands_false, false_stands, stands_more, stands_last, stands_cases}
 
 module _ {A : Type 0} (p : A → Bool) where
@@ -37,13 +37,6 @@ module _ {A : Type 0} (p : A → Bool) where
   ]
 
 module _ {A : Type 0} (p q : A → Bool) where
-  pub counts_agree : (xs : List A) → ((i : ℕ) (x : A) → slice_get xs i ≡ Some x → p x ≡ q x) → count_by p xs ≡ count_by q xs
-  counts_agree [] same = refl
-  counts_agree (x ∷ xs) same =
-      sum_by-cons (λ y. cond (p y) 1 0) x xs
-      ∙ (λ i. cond (same 0 x refl i) 1 0 + counts_agree xs (λ k y at. same (suc k) y at) i)
-      ∙ sym (sum_by-cons (λ y. cond (q y) 1 0) x xs)
-
   module _ (under : (x : A) → q x ≡ true → p x ≡ true) where
     first_fewer : (m n : ℕ) (x : A) → m ≤ n → cond (q x) 1 0 + m ≤ cond (p x) 1 0 + n
     first_fewer m n x l = by_tests (q x) (p x) (under x)
@@ -112,37 +105,39 @@ same_test front t s other = elim (cases_Bool (stands front s)) [
 pub all_at : {A : Type 0} (P : A → Type 0) (xs : List A) → All P xs → (i : ℕ) (x : A) → slice_get xs i ≡ Some x → P x
 all_at P xs all i x at = subst P (get_or_from_slice_get xs i x x at) (all i x (slice_get_within xs i x at))
 
--- a count over three parts
-count_parts : (p : Edge → Bool) (edges before group after : List Edge) → edges ≡ before ++ (group ++ after) → count_by p edges ≡ count_by p before + (count_by p group + count_by p after)
-count_parts p edges before group after e =
-    ap (count_by p) e
-    ∙ sum_by-append (λ x. cond (p x) 1 0) before (group ++ after)
-    ∙ ap (λ n. count_by p before + n) (sum_by-append (λ x. cond (p x) 1 0) group after)
+abbrev pub one : Bool → ℕ
+one b = cond b 1 0
+
+-- what held an edge back holds it still, or the edge leads from t
+module _ (front : List ℕ) (t u : ℕ) (outside : ¬ Stands front t) where
+  held_once : (e : Edge) → one (holds_back front u e) ≡ one (holds_back (front ++ t ∷ []) u e) + one (joins_both t u e)
+  held_once e = elim (cases_eq e.src t) [
+    | inl same ↦
+        let a : one (holds_back front u e) ≡ one (eqb e.dst u) = ap (λ b. one (not b && eqb e.dst u)) (ap (stands front) same ∙ stands_false front t outside) in
+        let b : one (holds_back (front ++ t ∷ []) u e) ≡ 0 =
+        ap (λ b. one (not b && eqb e.dst u)) (ap (stands (front ++ t ∷ [])) same ∙ stands_true (front ++ t ∷ []) t (stands_last front t)) in
+        let c : one (joins_both t u e) ≡ one (eqb e.dst u) = ap (λ b. one (b && eqb e.dst u)) (eq-eqb e.src t same) in
+        omega arith
+    | inr other ↦
+        let a : one (holds_back (front ++ t ∷ []) u e) ≡ one (holds_back front u e) = ap (λ b. one (not b && eqb e.dst u)) (same_test front t e.src other) in
+        let b : one (joins_both t u e) ≡ 0 = ap (λ b. one (b && eqb e.dst u)) (ne_eqb e.src t other) in
+        omega arith
+  ]
+
+  held_all : (edges : List Edge) → waiting front edges u ≡ waiting (front ++ t ∷ []) edges u + count_by (joins_both t u) edges
+  held_all [] = refl
+  held_all (e ∷ edges) =
+      let a = sum_by-cons (λ x. one (holds_back front u x)) e edges in
+      let b = sum_by-cons (λ x. one (holds_back (front ++ t ∷ []) u x)) e edges in
+      let c = sum_by-cons (λ x. one (joins_both t u x)) e edges in
+      let one = held_once e in
+      let rest = held_all edges in
+      omega arith
 
 -- once t is in the front, its edges hold nothing back
 pub released : (front : List ℕ) (edges group : List Edge) (t u : ℕ) → AreEdgesFrom edges t group → ¬ Stands front t
     → waiting front edges u ≡ waiting (front ++ t ∷ []) edges u + arriving group u
-released front edges group t u from outside =
-    let before = from.0 in
-    let after = from.1 in
-    let more = front ++ t ∷ [] in
-    let p = holds_back front u in
-    let q = holds_back more u in
-    let other = λ (e : Edge) (n : e.src ≢ t). ap (λ b. not b && eqb e.dst u) (sym (same_test front t e.src n)) in
-    let a = counts_agree p q before (λ i e at. other e (λ same. let l : e.src < t = all_at (λ e. e.src < t) before from.3 i e at in omega arith)) in
-    let b = counts_agree p q after (λ i e at. other e (λ same. let l : t < e.src = all_at (λ e. t < e.src) after from.5 i e at in omega arith)) in
-    let c = counts_agree p (leads_to u) group
-    (λ i e at. ap (λ b. not b && eqb e.dst u) (ap (stands front) (all_at (λ e. e.src ≡ t) group from.4 i e at) ∙ stands_false front t outside)) in
-    let d = counts_agree q (λ e. false) group
-    (λ i e at. ap (λ b. not b && eqb e.dst u) (ap (stands more) (all_at (λ e. e.src ≡ t) group from.4 i e at) ∙ stands_true more t (stands_last front t))) in
-    let z = none_of group in
-    let x = count_parts p edges before group after from.2 in
-    let y = count_parts q edges before group after from.2 in
-    omega arith
-  where
-    none_of : (xs : List Edge) → count_by (λ e. false) xs ≡ 0
-    none_of [] = refl
-    none_of (x ∷ xs) = count_later (λ e. false) x xs refl ∙ none_of xs
+released front edges group t u from outside = let a = held_all front t u outside edges in let b = from u in omega arith
 
 -- one fewer is left over
 pub fewer_left : (ids front : List ℕ) (t : ℕ) → Stands ids t → ¬ Stands front t → left_over ids (front ++ t ∷ []) < left_over ids front

@@ -2,7 +2,6 @@
 -- each transaction from outside the front.
 use Rattle.std.specs.Prelude.{◌≡◌, ◌⊎◌, ℕ, ◌<◌, ◌==◌, ◌&&◌, ◌||◌, Bool, false, not, List, [], ◌∷◌, slice_get, slice_index, length, count_by, Contains, Some, ⊤, IsTrue, ◌↔◌}
 use Rattle.sia_parts.specs.declared.finding.Edge.{Edge}
-use Rattle.sia_graph.specs.Groups.{IsGroup}
 use Rattle.sia_graph.specs.Orders.{Leads, IsKeepingOrder}
 
 -- t is in the list
@@ -44,9 +43,13 @@ abbrev pub AreWaiting : List ℕ → List ℕ → List Edge → List ℕ → Typ
 AreWaiting front ids edges counts = (length counts ≡ length ids)
     × ((i : ℕ) → i < length ids → slice_index counts i ≡ waiting front edges (slice_index ids i))
 
--- these edges are those from t, which stand side by side
+-- the edge leads from t to u
+abbrev pub joins_both : ℕ → ℕ → Edge → Bool
+joins_both t u e = e.src == t && e.dst == u
+
+-- as many of these edges lead to each as edges lead there from t
 abbrev pub AreEdgesFrom : List Edge → ℕ → List Edge → Type 0
-AreEdgesFrom edges t group = IsGroup (λ e. e.src) edges t group
+AreEdgesFrom edges t group = (u : ℕ) → arriving group u ≡ count_by (joins_both t u) edges
 
 -- the last of the edges that lead to t is among these
 abbrev pub IsFreed : List ℕ → List Edge → List ℕ → ℕ → Type 0

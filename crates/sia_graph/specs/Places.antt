@@ -1,16 +1,14 @@
 -- Steps between places, which are the nodes 0, 1, 2 and so on.
-use Rattle.std.specs.Prelude.{◌≡◌, ◌≢◌, ◌⊎◌, ℕ, ◌<◌, ◌≤◌, ◌==◌, Bool, List, All, count_by, length, slice_index, slice_index_or}
-use Rattle.std.specs.List.Sorted.{IsNonDecreasing, IsStrictlyIncreasing}
+use Rattle.std.specs.Prelude.{◌≡◌, ◌≢◌, ◌⊎◌, ℕ, ◌<◌, ◌≤◌, ◌==◌, ◌&&◌, Bool, List, All, count_by, length, slice_index, slice_index_or}
+use Rattle.std.specs.List.Sorted.{IsStrictlyIncreasing}
 use Rattle.sia_parts.specs.declared.finding.Edge.{Edge}
-use Rattle.sia_graph.specs.Groups.{IsGroup}
 use Rattle.sia_graph.specs.NarrowSteps.{step_source, step_target}
 
--- the ids are the places, and the steps are in order, each between two of the places
+-- the ids are the places, and each step is between two of them
 pub record AreSteps (ids steps : List ℕ) : Type 0 where
   pub ids_up : IsStrictlyIncreasing ids
   pub are_places : (i : ℕ) → i < length ids → slice_index ids i ≡ i
   pub joins : All (λ n. (step_source n < length ids) × (step_target n < length ids) × (step_source n ≢ step_target n)) steps
-  pub rise : IsNonDecreasing steps
 
 -- n leads from the place of the edge's source to that of its target
 abbrev pub IsStepOf : List ℕ → Edge → ℕ → Type 0
@@ -20,21 +18,25 @@ IsStepOf ids e n = (step_source n < length ids) × (slice_index ids (step_source
 abbrev pub AreStepsOf : List ℕ → List Edge → List ℕ → Type 0
 AreStepsOf ids edges steps = (length steps ≡ length edges) × ((i : ℕ) (d : Edge) → i < length edges → IsStepOf ids (slice_index_or edges i d) (slice_index steps i))
 
--- n leads to the place i
-abbrev pub aims_at : ℕ → ℕ → Bool
-aims_at i n = step_target n == i
+-- how many of the steps have i at one of their ends
+abbrev pub meeting_at : (ℕ → ℕ) → List ℕ → ℕ → ℕ
+meeting_at end_of steps i = count_by (λ n. end_of n == i) steps
 
--- how many of the steps do
+-- one count for each place
+abbrev pub AreMeeting : (ℕ → ℕ) → ℕ → List ℕ → List ℕ → Type 0
+AreMeeting end_of places steps counts = (length counts ≡ places) × ((i : ℕ) → i < places → slice_index counts i ≡ meeting_at end_of steps i)
+
+-- how many of the steps lead to i
 abbrev pub arriving_at : List ℕ → ℕ → ℕ
-arriving_at steps i = count_by (aims_at i) steps
+arriving_at steps i = meeting_at step_target steps i
 
--- one count for each place, of the steps that lead to it
-abbrev pub AreArriving : ℕ → List ℕ → List ℕ → Type 0
-AreArriving places steps counts = (length counts ≡ places) × ((i : ℕ) → i < places → slice_index counts i ≡ arriving_at steps i)
+-- n leads from one place to the other
+abbrev pub leads_between : ℕ → ℕ → ℕ → Bool
+leads_between place i n = step_source n == place && step_target n == i
 
--- these steps are those that lead from the place, which stand side by side
+-- as many of these lead to a place as steps lead there from the one: they are the steps from there, or the targets of these
 abbrev pub AreStepsFrom : List ℕ → ℕ → List ℕ → Type 0
-AreStepsFrom steps place group = IsGroup step_source steps place group
+AreStepsFrom steps place group = (i : ℕ) → arriving_at group i ≡ count_by (leads_between place i) steps
 
 -- the last of the steps that lead to i is among these
 abbrev pub IsFreedAt : List ℕ → List ℕ → ℕ → Type 0

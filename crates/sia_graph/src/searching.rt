@@ -4,7 +4,7 @@ ghost use Rattle.std.specs.List.{AllWithin};
 ghost use Rattle.std.specs.List.Sorted.{IsNonDecreasingBy};
 ghost use Rattle.sia_graph.specs.Groups.{IsGroup};
 
-use crate::taking::numbers::source_of;
+use crate::taking::numbers::{source_of, target_of};
 use sia_events::{Key, Version};
 pub(crate) use sia_index::keyed::By;
 use sia_index::keyed::place_from_near;
@@ -20,6 +20,19 @@ impl By<u64> for BySource {
 
     fn number(row: &u64) -> u64 {
         u64::from(source_of(*row))
+    }
+}
+
+/// Steps by the place to which they lead.
+pub(crate) struct ByTarget;
+
+impl By<u64> for ByTarget {
+    ghost use Rattle.sia_graph.specs.NarrowSteps.{step_target};
+
+    ghost by = { step_target };
+
+    fn number(row: &u64) -> u64 {
+        u64::from(target_of(*row))
     }
 }
 

@@ -6,10 +6,12 @@ ghost use Rattle.sia_graph.specs.NarrowSteps.{name_of};
 ghost use Rattle.sia_graph.specs.Places.{AreSteps};
 ghost use Rattle.sia_graph.specs.Taken.{AreTakenNodes, node_list};
 
+mod adjacency;
 pub(crate) mod by_steps;
 pub(crate) mod numbers;
 pub(crate) mod ready;
 
+use crate::searching::ByTarget;
 use crate::taking::by_steps::{count_steps, take_steps};
 use sia_events::{NoMemory, TxnId};
 use std::alloc::Global;
@@ -88,7 +90,7 @@ pub(crate) fn take_nodes(
 {
     let floor = 2 * size as usize;
     let places = floor + txns.len();
-    let mut counted = count_steps(alloc, places, steps)?;
+    let mut counted = count_steps::<ByTarget>(alloc, places, steps)?;
     let counts = counted.as_mut_slice();
     let order = take_steps(alloc, places, steps, counts)?;
     match first_left(counts) {

@@ -1,6 +1,5 @@
-//! All the steps, in order.
+//! All the steps.
 ghost use Rattle.std.specs.Prelude.{◌<◌, ◌≤◌, All, IfOk};
-ghost use Rattle.std.specs.List.Sorted.{IsNonDecreasing};
 ghost use Rattle.sia_graph.specs.NarrowSteps.{AreNarrowSteps, CanSearch, FitsKeys};
 
 use crate::narrow::absence_steps::put_absence_steps;
@@ -8,17 +7,15 @@ use crate::narrow::firsts::firsts_of;
 use crate::narrow::nearby::Nearby;
 use crate::narrow::steps::{put_half_steps, put_leaf_steps, put_look_steps};
 use sia_events::NoMemory;
-use sia_index::ordering::put_in_order;
 use sia_parts::Looks;
 use std::alloc::Global;
 
-/// All steps, in order, where blocks are over so many keys.
+/// All steps, where blocks are over so many keys.
 pub(crate) fn steps_of(alloc: Global, size: u32, looks: &Looks) -> Result<Vec<u64>, NoMemory>
     requires writers { CanSearch looks.now.writers.items }
     requires few { (size ≤ 1048576) × All (λ a. a.txn < 1048576) looks.now.readers.items }
     requires fits { All (FitsKeys size) looks.now.absences.items }
-    ensures rise { IfOk result (λ steps. IsNonDecreasing steps.items) }
-    ensures are { IfOk result (λ steps. AreNarrowSteps size looks.now.writers.items looks.now.readers.items looks.now.absences.items steps.items) }
+    ensures { IfOk result (λ steps. AreNarrowSteps size looks.now.writers.items looks.now.readers.items looks.now.absences.items steps.items) }
 {
     let writers = looks.writers.as_slice();
     let readers = looks.readers.as_slice();
@@ -33,6 +30,5 @@ pub(crate) fn steps_of(alloc: Global, size: u32, looks: &Looks) -> Result<Vec<u6
     let firsts = firsts_of(alloc, size, writers)?;
     put_leaf_steps(size, &firsts, &mut steps)?;
     put_absence_steps(alloc, size, &firsts, absences, &mut steps)?;
-    put_in_order(&mut steps);
     Ok(steps)
 }

@@ -1,8 +1,10 @@
-use Rattle.std.proofs.Common.{ℕ, List, subst, sym}
+use Rattle.std.proofs.Common.{ℕ, Bool, List, subst, sym, ◌∙◌}
 use Rattle.std.specs.Prelude.{Contains}
 use Rattle.sia_graph.specs.Orders.{IsLeastOrder}
+use Rattle.sia_graph.specs.Previous.{IsLeftIn}
+use Rattle.sia_graph.specs.Walks.{AreLeastSources}
 use Rattle.sia_graph.specs.Taken.{AreTakenNodes, IsTaken}
-use Rattle.sia_graph.proofs.StepsOf.{list_steps, list_taken, steps_rise}
+use Rattle.sia_graph.proofs.StepsOf.{list_steps, list_taken}
 use Rattle.sia_graph.proofs.settling.settle.Goals as goal
 
 pub take_nodes-requires-clause-steps : goal.take_nodes-requires-clause-steps
@@ -11,7 +13,7 @@ take_nodes-requires-clause-steps c =
     let steps = c.in_ok-steps.steps.items in
     let are = c.in_ok-steps.ensures in
     rw c.deref.ensures.value
-    (list_steps ids c.requires.ids c.args.edges.now steps are c.requires.joins (steps_rise ids c.requires.ids c.args.edges.now steps are c.requires.sorted))
+    (list_steps ids c.requires.ids c.args.edges.now steps are c.requires.joins)
 
 pub returns-in-Whole : goal.returns-in-Whole
 returns-in-Whole c =
@@ -50,3 +52,34 @@ returns c =
     (subst (λ (l : List ℕ). AreTakenNodes 0 ids l c.in_ok-taken.taken) c.deref.ensures.value c.in_ok-taken.ensures) in
     let left = subst (IsTaken (Contains ids) (Contains edges) ids) c.in-Rest.is taken in
     (left.none_keeps, c.in_ok-cycle-in-Rest.ensures)
+
+pub steps_between-requires-clause-joins : goal.steps_between-requires-clause-joins
+steps_between-requires-clause-joins c = c.requires.joins
+
+pub least_sources-requires-clause-ascending : goal.least_sources-requires-clause-ascending
+least_sources-requires-clause-ascending c = c.requires.ids
+
+pub least_sources-requires-clause-sorted : goal.least_sources-requires-clause-sorted
+least_sources-requires-clause-sorted c = c.requires.sorted
+
+pub least_sources-requires-clause-long : goal.least_sources-requires-clause-long
+least_sources-requires-clause-long c =
+    let left = subst (AreTakenNodes 0 c.args.ids.now c.deref.result.now) c.in-Rest.is c.in_ok-taken.ensures in
+    rw c.deref-in-Rest-2.ensures.value left.long
+
+pub cycle_of-requires-clause-can : goal.cycle_of-requires-clause-can
+cycle_of-requires-clause-can c = c.requires.sorted
+
+pub cycle_of-requires-clause-ascending : goal.cycle_of-requires-clause-ascending
+cycle_of-requires-clause-ascending c = c.requires.ids
+
+pub cycle_of-requires-clause-long : goal.cycle_of-requires-clause-long
+cycle_of-requires-clause-long c =
+    let left = subst (AreTakenNodes 0 c.args.ids.now c.deref.result.now) c.in-Rest.is c.in_ok-taken.ensures in
+    (rw c.deref-in-Rest-3.ensures.value left.long, rw c.deref-in-Rest-4.ensures.value c.in_ok-previous-in-Rest.ensures.long)
+
+pub cycle_of-requires-clause-least : goal.cycle_of-requires-clause-least
+cycle_of-requires-clause-least c =
+    let same = c.deref-in-Rest-2.ensures.value ∙ sym c.deref-in-Rest-3.ensures.value in
+    subst (λ (l : List ℕ). AreLeastSources c.args.ids.now (Contains c.args.edges.now) (IsLeftIn c.deref-in-Rest-3.result.now) l) (sym c.deref-in-Rest-4.ensures.value)
+    (subst (λ (l : List Bool). AreLeastSources c.args.ids.now (Contains c.args.edges.now) (IsLeftIn l) c.in_ok-previous-in-Rest.previous.items) same c.in_ok-previous-in-Rest.ensures.least)

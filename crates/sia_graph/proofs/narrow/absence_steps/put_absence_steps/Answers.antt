@@ -39,3 +39,18 @@ loop-absence-preserved c =
 
 pub returns-clause-has : goal.returns-clause-has
 returns-clause-has c = steps_all c.args.size c.args.firsts.now c.args.absences.now c.args.steps.now.items c.loop-absence.steps.items c.loop-absence.absence-index (omega arith) c.loop-absence.invariant
+
+pub put_missed-requires-clause-rise : goal.put_missed-requires-clause-rise
+put_missed-requires-clause-rise c = c.requires.rise
+
+pub put_missed-requires-clause-fits : goal.put_missed-requires-clause-fits
+put_missed-requires-clause-fits c = (c.requires.fits.0, c.requires.fits.1 c.loop-absence.absence-index (record { txn = 0; from = 0; to = 0 }) c.loop-absence-test.true)
+
+pub returns-clause-kept : goal.returns-clause-kept
+returns-clause-kept c = c.loop-absence.invariant.kept
+
+pub returns-clause-each : goal.returns-clause-each
+returns-clause-each c = c.loop-absence.invariant.each
+
+pub loop-absence-init : goal.loop-absence-init
+loop-absence-init c = record { kept = λ m has. has; each = λ m has. inl has; has = λ k d l. absurd (omega arith) }

@@ -1,12 +1,12 @@
 use Rattle.std.proofs.Common.{ℕ, List, ◌⊎◌, ◌<◌, sym, subst}
 use Rattle.std.specs.Prelude.{All, Contains}
-use Rattle.std.proofs.lemmas.Map.Keys.{non_decreasing_from_sorted}
+use Rattle.std.specs.List.Sorted.{IsNonDecreasing}
 use Rattle.sia_parts.specs.declared.looks.Absence.{Absence}
 use Rattle.sia_parts.specs.declared.looks.Look.{Look}
 use Rattle.sia_parts.specs.Sights.{Adds, FromSome}
 use Rattle.sia_parts.proofs.Adding.{adds_both}
-use Rattle.sia_graph.specs.NarrowSteps.{AreNarrowSteps, CanSearch, HasAbsenceSteps, IsAbsenceStep, IsLeafStep, IsLookStep, IsMemberStep, step_source, step_target}
-use Rattle.sia_graph.proofs.NarrowSteps.{all_steps, firsts_fit, steps_made}
+use Rattle.sia_graph.specs.NarrowSteps.{AreNarrowSteps, CanSearch, FitsKeys, HasAbsenceSteps, IsAbsenceStep, IsLeafStep, IsLookStep, IsMemberStep, step_source, step_target}
+use Rattle.sia_graph.proofs.NarrowSteps.{all_steps, firsts_fit}
 use Rattle.sia_graph.proofs.narrow.all_steps.steps_of.Goals as goal
 
 pub put_leaf_steps-requires : goal.put_leaf_steps-requires
@@ -18,11 +18,8 @@ put_leaf_steps-requires c = record {
   );
 }
 
-pub returns-clause-rise : goal.returns-clause-rise
-returns-clause-rise c = non_decreasing_from_sorted c.put_in_order.new.list.items c.put_in_order.ensures.sorted
-
-pub returns-clause-are : goal.returns-clause-are
-returns-clause-are c =
+pub returns : goal.returns
+returns c =
     let size = c.args.size in
     let looks = c.args.looks.now in
     let writers = c.as_slice-writers.result.now in
@@ -31,8 +28,6 @@ returns-clause-are c =
     let firsts = c.in_ok-firsts.firsts.items in
     let last = c.in_ok-put_absence_steps.ensures in
     let d = c.put_absence_steps.new.steps.items in
-    let steps = c.put_in_order.new.list.items in
-    let order = c.put_in_order.ensures in
     let all = all_steps size writers readers absences firsts c.put_look_steps-2.new.steps.items c.put_half_steps.new.steps.items c.put_leaf_steps.new.steps.items d c.in_ok-firsts.ensures
     (subst (λ (l : List ℕ). Adds (IsMemberStep size writers readers) l c.put_look_steps-2.new.steps.items) c.in_ok-steps.ensures.items
     (adds_both (FromSome (IsLookStep size writers) writers) (FromSome (IsLookStep size writers) readers) _ _ _ c.in_ok-put_look_steps.ensures c.in_ok-put_look_steps-2.ensures))
@@ -41,7 +36,25 @@ returns-clause-are c =
     last.kept
     (subst (λ (l : List ℕ). (n : ℕ) → Contains d n → Contains c.put_leaf_steps.new.steps.items n ⊎ FromSome (IsAbsenceStep size l) absences n) c.deref-2.ensures.value last.each)
     (subst (λ (l : List ℕ). (s : Absence) → Contains absences s → HasAbsenceSteps size l s d) c.deref-2.ensures.value last.has) in
-    subst (λ (l : List Look). AreNarrowSteps size l looks.readers.items looks.absences.items steps) c.as_slice-writers.ensures.value
-    (subst (λ (l : List Look). AreNarrowSteps size writers l looks.absences.items steps) c.as_slice-readers.ensures.value
-    (subst (λ (l : List Absence). AreNarrowSteps size writers readers l steps) c.as_slice-absences.ensures.value
-    (steps_made size writers readers absences d steps all order.keeps order.adds_none)))
+    subst (λ (l : List Look). AreNarrowSteps size l looks.readers.items looks.absences.items d) c.as_slice-writers.ensures.value
+    (subst (λ (l : List Look). AreNarrowSteps size writers l looks.absences.items d) c.as_slice-readers.ensures.value
+    (subst (λ (l : List Absence). AreNarrowSteps size writers readers l d) c.as_slice-absences.ensures.value
+    all))
+
+pub put_look_steps-requires-clause-few : goal.put_look_steps-requires-clause-few
+put_look_steps-requires-clause-few c =
+    (c.requires.few.0, subst (λ (l : List Look). All (λ a. a.txn < 1048576) l) (sym c.as_slice-writers.ensures.value) c.requires.writers.few)
+
+pub put_look_steps-requires-2-clause-few : goal.put_look_steps-requires-2-clause-few
+put_look_steps-requires-2-clause-few c =
+    (c.requires.few.0, subst (λ (l : List Look). All (λ a. a.txn < 1048576) l) (sym c.as_slice-readers.ensures.value) c.requires.few.1)
+
+pub firsts_of-requires : goal.firsts_of-requires
+firsts_of-requires c = subst CanSearch (sym c.as_slice-writers.ensures.value) c.requires.writers
+
+pub put_absence_steps-requires-clause-rise : goal.put_absence_steps-requires-clause-rise
+put_absence_steps-requires-clause-rise c = subst IsNonDecreasing (sym c.deref-2.ensures.value) c.in_ok-firsts.ensures.rise
+
+pub put_absence_steps-requires-clause-fits : goal.put_absence_steps-requires-clause-fits
+put_absence_steps-requires-clause-fits c =
+    (c.requires.few.0, subst (λ (l : List Absence). All (FitsKeys c.args.size) l) (sym c.as_slice-absences.ensures.value) c.requires.fits)

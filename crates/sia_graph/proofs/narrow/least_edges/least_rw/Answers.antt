@@ -1,3 +1,4 @@
+use Rattle.sia_graph.specs.Grouped.{RiseByTxn}
 use Rattle.std.proofs.Common.{◌≡◌, List, subst, sym}
 use Rattle.std.specs.Prelude.{◌↔◌, Contains}
 use Rattle.sia_parts.specs.declared.finding.Kind.TheVariants.{Rw}
@@ -22,3 +23,18 @@ returns c =
     (least_joined Rw looks.writers.items looks.readers.items c.of_txn-writes.result.now c.of_txn.result.now c.args.u c.args.t c.least_meeting-seen.result mine
     (subst (λ l. HoldsBy l c.args.t c.of_txn.result.now) c.deref-2.ensures.value c.of_txn.ensures.holds) c.least_meeting-seen.ensures)
     c.least_missed-missed.ensures)
+
+pub of_txn-writes-requires : goal.of_txn-writes-requires
+of_txn-writes-requires c = subst RiseByTxn (sym c.deref.ensures.value) c.requires.writers
+
+pub of_txn-requires : goal.of_txn-requires
+of_txn-requires c = subst RiseByTxn (sym c.deref-2.ensures.value) c.requires.readers
+
+pub least_meeting-seen-requires-clause-writes : goal.least_meeting-seen-requires-clause-writes
+least_meeting-seen-requires-clause-writes c = c.of_txn-writes.ensures.rise
+
+pub least_meeting-seen-requires-clause-others : goal.least_meeting-seen-requires-clause-others
+least_meeting-seen-requires-clause-others c = c.of_txn.ensures.rise
+
+pub least_missed-missed-requires-clause-rise : goal.least_missed-missed-requires-clause-rise
+least_missed-missed-requires-clause-rise c = c.of_txn-writes.ensures.rise

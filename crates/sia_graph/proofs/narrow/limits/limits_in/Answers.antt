@@ -66,3 +66,9 @@ returns c =
     let are : AreLimits looks (map rank_of lifetimes) lifetimes limits = (c.loop-t.invariant.0 ∙ same, λ i d f l. c.loop-t.invariant.1 i d f (subst (λ n. i < n) (sym same) l)) in
     limits_tell e.index.now e.txns.now e.keys.now looks c.requires.evidence lifetimes c.requires.lived c.in_ok-ranks.ranks.items c.in_ok-ranks.ensures limits
     (subst (λ xs. AreLimits looks xs lifetimes limits) (sym c.in_ok-ranks.ensures) are) c.requires.kept
+
+pub ranks_of_sources-requires-clause-is : goal.ranks_of_sources-requires-clause-is
+ranks_of_sources-requires-clause-is c = c.requires.evidence
+
+pub loop-t-init : goal.loop-t-init
+loop-t-init c = (ap (length {A = ℕ}) c.new-limits.ensures.items, λ i d e l. absurd (omega arith))

@@ -30,7 +30,7 @@ take_nodes-requires-clause-steps c =
     let e = c.args.evidence.now in
     let steps = c.in_ok-steps in
     subst (λ (l : List ℕ). AreSteps (node_list c.size_for-size.result e.txns.now) l) (sym c.deref.ensures.value)
-    (nodes_are_steps e.index.now e.txns.now e.keys.now e.looks.now c.requires c.size_for-size.result c.size_for-size.ensures steps.steps.items steps.ensures.are steps.ensures.rise)
+    (nodes_are_steps e.index.now e.txns.now e.keys.now e.looks.now c.requires c.size_for-size.result c.size_for-size.ensures steps.steps.items steps.ensures)
 
 pub returns : goal.returns
 returns c =
@@ -38,5 +38,5 @@ returns c =
     let steps = c.in_ok-steps in
     let h = e.index.now in
     taken_members (IsCommitted h) (IsEdge h) c.size_for-size.result e.txns.now steps.steps.items
-    (nodes_stand h e.txns.now e.keys.now e.looks.now c.requires c.size_for-size.result c.size_for-size.ensures steps.steps.items steps.ensures.are) c.in_ok-taken.taken
+    (nodes_stand h e.txns.now e.keys.now e.looks.now c.requires c.size_for-size.result c.size_for-size.ensures steps.steps.items steps.ensures) c.in_ok-taken.taken
     (subst (λ (l : List ℕ). AreTakenNodes c.size_for-size.result e.txns.now l c.in_ok-taken.taken) c.deref.ensures.value c.in_ok-taken.ensures)

@@ -1,10 +1,22 @@
-use Rattle.std.proofs.Common.{ap, map, ◌∙◌}
-use Rattle.std.proofs.lemmas.List.{take_all}
+use Rattle.std.proofs.Common.{refl}
 use Rattle.sia_graph.specs.declared.pivoting.links.Link.{Link}
-use Rattle.sia_graph.proofs.LinkLists.{turned_listed}
+use Rattle.sia_graph.proofs.LinkLists.{one_link, turned_listed}
+use Rattle.sia_graph.proofs.Mapped.{made_all, made_more}
 use Rattle.sia_graph.proofs.pivoting.links.turned.Goals as goal
+
+pub loop-l-init : goal.loop-l-init
+loop-l-init c = c.new-turned.ensures.items
+
+pub loop-l-preserved : goal.loop-l-preserved
+loop-l-preserved c =
+    made_more (λ (k : Link). record { at = k.other; other = k.at }) c.args.links.now c.loop-l.l-index c.loop-l.turned.items c.loop-l.invariant (record { at = 0; other = 0 }) c.loop-l-test.true _ refl
+    c.push.new.self.items c.in_ok-push.ensures.items
+
+pub merge_in_order-requires : goal.merge_in_order-requires
+merge_in_order-requires c = one_link
 
 pub returns : goal.returns
 returns c =
-    let all = take_all c.loop-l.l-index c.args.links.now c.loop-l-test.false in
-    turned_listed c.args.links.now c.loop-l.turned.items c.merge_in_order.new.list.items (c.loop-l.invariant ∙ ap (map (λ (k : Link). record { at = k.other; other = k.at })) all) c.in_ok-merge_in_order.ensures.sorted c.in_ok-merge_in_order.ensures.keeps c.in_ok-merge_in_order.ensures.adds_none
+    turned_listed c.args.links.now c.loop-l.turned.items c.merge_in_order.new.list.items
+    (made_all (λ (k : Link). record { at = k.other; other = k.at }) c.args.links.now c.loop-l.l-index c.loop-l.turned.items c.loop-l.invariant c.loop-l-test.false)
+    c.in_ok-merge_in_order.ensures.sorted c.in_ok-merge_in_order.ensures.keeps c.in_ok-merge_in_order.ensures.adds_none

@@ -3,7 +3,7 @@ use Rattle.std.proofs.lemmas.List.{take_all}
 use Rattle.sia_events.specs.Transactions.{Overlap}
 use Rattle.sia_parts.specs.Packing.{unpacked}
 use Rattle.sia_graph.specs.Links.{AreEnds}
-use Rattle.sia_graph.proofs.LinkLists.{ends_none, mapped_more, mapped_same}
+use Rattle.sia_graph.proofs.LinkLists.{ends_none, mapped_more, mapped_same, one_link}
 use Rattle.sia_graph.proofs.pivoting.vulnerable_numbers.vulnerable_in.Goals as goal
 use Rattle.sia_graph.proofs.pivoting.vulnerable_numbers.vulnerable_in.Goals.{then-is_vulnerable+in_ok-push, else-is_vulnerable}
 
@@ -32,3 +32,9 @@ returns c keys l =
     let e = c.loop-n-test.false in
     let are = subst (λ (xs : List ℕ). AreEnds (Overlap c.args.ix.now) (map (unpacked c.args.txns.now keys) xs) c.loop-n.links.items) (take_all c.loop-n.n-index numbers (omega arith)) (c.loop-n.invariant keys) in
     ((λ has. (are l).0 (c.put_in_order.ensures.adds_none l has)), (λ is. c.put_in_order.ensures.keeps l ((are l).1 is)))
+
+pub is_vulnerable-requires-clause-packed : goal.is_vulnerable-requires-clause-packed
+is_vulnerable-requires-clause-packed c = (c.requires.packed.0, c.requires.packed.1 c.loop-n.n-index 0 c.loop-n-test.true)
+
+pub put_in_order-requires : goal.put_in_order-requires
+put_in_order-requires c = one_link

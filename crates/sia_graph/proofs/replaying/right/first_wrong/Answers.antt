@@ -43,3 +43,9 @@ returns-then-may_follow c =
     let txn = c.in-Write.txn in
     let f = subst (λ v. MayFollow h key v txn) c.version_of-found-in-Write.ensures (c.may_follow.ensures.0 c.if-may_follow.true) in
     subst (λ (e : Event). (k : ℕ) → IsRight h found e k) (sym c.in-Write.is) (write_right h found txn key f)
+
+pub may_follow-requires-clause-commits : goal.may_follow-requires-clause-commits
+may_follow-requires-clause-commits c = c.requires.commits
+
+pub may_follow-requires-clause-writes : goal.may_follow-requires-clause-writes
+may_follow-requires-clause-writes c = (c.requires.event.0, c.requires.event.1 ∙ ap Some c.in-Write.is)

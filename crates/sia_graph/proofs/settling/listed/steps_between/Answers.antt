@@ -1,5 +1,6 @@
-use Rattle.std.proofs.Common.{◌≡◌, ◌∙◌, arith, get_or, length}
+use Rattle.std.proofs.Common.{◌≡◌, ◌∙◌, ℕ, ap, arith, get_or, length}
 use Rattle.sia_parts.specs.declared.finding.Edge.{Edge}
+use Rattle.sia_parts.specs.declared.finding.Kind.TheVariants.{Ww}
 use Rattle.sia_graph.specs.Places.{IsStepOf}
 use Rattle.sia_graph.proofs.AscendingIds.{place_below}
 use Rattle.sia_graph.proofs.Previous.{more_by_place}
@@ -26,3 +27,12 @@ pub returns : goal.returns
 returns c =
     let end : c.loop-e.e-index ≡ length c.args.edges.now = let a = c.loop-e-test.false in let b = c.loop-e.auto.e-index-end in omega arith in
     (c.loop-e.invariant.0 ∙ end, λ i d l. c.loop-e.invariant.1 i (omega arith) d)
+
+pub loop-e-init : goal.loop-e-init
+loop-e-init c = (ap (length {A = ℕ}) c.in_ok-steps.ensures.items, λ i l. absurd (omega arith))
+
+pub position_of-requires-clause-member : goal.position_of-requires-clause-member
+position_of-requires-clause-member c = (c.requires.joins c.loop-e.e-index (record { src = 0; dst = 0; kind = Ww; key = 0 }) c.loop-e-test.true).0
+
+pub position_of-requires-in-loop-e-clause-member : goal.position_of-requires-in-loop-e-clause-member
+position_of-requires-in-loop-e-clause-member c = (c.requires.joins c.loop-e.e-index (record { src = 0; dst = 0; kind = Ww; key = 0 }) c.loop-e-test.true).1

@@ -5,6 +5,7 @@ use Rattle.sia_graph.specs.Fronts.{IsTaking, left_over}
 use Rattle.sia_graph.specs.Places.{IsReadyAt, StandsWhere}
 use Rattle.sia_graph.specs.NarrowSteps.{edges_of_steps}
 use Rattle.std.specs.List.{range_with_len}
+use Rattle.std.proofs.lemmas.List.FromFn.{length-range_with_len}
 use Rattle.sia_graph.proofs.OneTaken.{smaller, none_left}
 use Rattle.sia_graph.proofs.Places.{group_joins}
 use Rattle.sia_graph.proofs.ReadyPlaces.{ready_released, ready_within}
@@ -25,11 +26,31 @@ loop-place-init c =
       omega arith,
     )
 
+pub of-requires-clause-few : goal.of-requires-clause-few
+of-requires-clause-few c = let long = length-range_with_len 0 c.args.places in let same = c.requires.counted.0 in omega arith
+
+pub of-requires-clause-within : goal.of-requires-clause-within
+of-requires-clause-within c k d l = let long = length-range_with_len 0 c.args.places in let a = (c.requires.steps.joins k d l).0 in omega arith
+
+pub leaving-requires : goal.leaving-requires
+leaving-requires c =
+    let ids = range_with_len 0 c.args.places in
+    let counts = c.loop-place.counts in
+    let long = c.loop-place.invariant.0.counted.0 in
+    let p = c.in-Some.place in
+    let below = ready_within (HasReady c.loop-place.behind) c.loop-place.end counts ids c.loop-place.invariant.1 c.loop-place.invariant.2 long p c.in-Some.ensures.member in
+    let many = length-range_with_len 0 c.args.places in
+    (c.args.places, c.args.steps.now, c.in_ok-rows.ensures, omega arith)
+
 pub release-requires-clause-within : goal.release-requires-clause-within
 release-requires-clause-within c k d l =
     let ids = range_with_len 0 c.args.places in
+    let counts = c.loop-place.counts in
     let long = c.loop-place.invariant.0.counted.0 in
-    let a = group_joins ids c.args.steps.now c.requires.steps c.in-Some.place c.rows_near-stop.result.0.now c.rows_near-stop.ensures k d l in
+    let p = c.in-Some.place in
+    let below = ready_within (HasReady c.loop-place.behind) c.loop-place.end counts ids c.loop-place.invariant.1 c.loop-place.invariant.2 long p c.in-Some.ensures.member in
+    let many = length-range_with_len 0 c.args.places in
+    let a = group_joins ids c.args.steps.now c.requires.steps c.in-Some.place c.leaving.result.now (c.leaving.ensures c.args.places c.args.steps.now c.in_ok-rows.ensures (omega arith)) k d l in
     omega arith
 
 pub release-requires-clause-enough : goal.release-requires-clause-enough
@@ -39,8 +60,9 @@ release-requires-clause-enough c i l =
     let long = c.loop-place.invariant.0.counted.0 in
     let p = c.in-Some.place in
     let below = ready_within (HasReady c.loop-place.behind) c.loop-place.end counts ids c.loop-place.invariant.1 c.loop-place.invariant.2 long p c.in-Some.ensures.member in
+    let many = length-range_with_len 0 c.args.places in
     place_fits ids c.args.steps.now c.requires.steps counts c.loop-place.order.items (IsReadyAt (HasReady c.loop-place.behind) c.loop-place.end counts) c.loop-place.invariant.0
-    p below c.in-Some.ensures.member c.rows_near-stop.result.0.now c.rows_near-stop.ensures i (omega arith)
+    p below c.in-Some.ensures.member c.leaving.result.now (c.leaving.ensures c.args.places c.args.steps.now c.in_ok-rows.ensures (omega arith)) i (omega arith)
 
 pub loop-place-smaller : goal.loop-place-smaller
 loop-place-smaller c =
@@ -62,10 +84,11 @@ loop-place-preserved c =
     let counts = c.loop-place.counts in
     let less = c.release.new.counts in
     let p = c.in-Some.place in
-    let group = c.rows_near-stop.result.0.now in
-    let from = c.rows_near-stop.ensures in
+    let group = c.leaving.result.now in
     let was : length counts ≡ length ids = c.loop-place.invariant.0.counted.0 in
     let below = ready_within (HasReady c.loop-place.behind) c.loop-place.end counts ids c.loop-place.invariant.1 c.loop-place.invariant.2 was p c.in-Some.ensures.member in
+    let many = length-range_with_len 0 c.args.places in
+    let from = c.leaving.ensures c.args.places steps c.in_ok-rows.ensures (omega arith) in
     let same : length less ≡ length counts = let b = c.release.auto.counts in omega arith in
     let long : length less ≡ length ids = omega arith in
     let end = c.next_ready.new.end in
@@ -89,3 +112,9 @@ returns c =
     let counts = c.loop-place.counts in
     none_left ids (edges_of_steps c.args.steps.now) counts c.loop-place.order.items (StandsWhere ids (IsReadyAt (HasReady c.loop-place.behind) c.loop-place.end counts)) c.loop-place.invariant.0
     (λ t w. c.in_default.ensures.empty w.0 w.3)
+
+pub next_ready-requires-clause-behind : goal.next_ready-requires-clause-behind
+next_ready-requires-clause-behind c = c.loop-place.invariant.1
+
+pub next_ready-requires-clause-within : goal.next_ready-requires-clause-within
+next_ready-requires-clause-within c = let a = c.loop-place.invariant.2 in let long = c.loop-place.invariant.0.counted.0 in omega arith
