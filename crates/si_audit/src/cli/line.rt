@@ -2,17 +2,17 @@
 //! level that the status tells of.
 ghost use Rattle.std.specs.Prelude.{◌≡◌, ◌≢◌, ◌<◌, ◌≤◌, ◌∷◌, [], false, Err, IfErr, IfOk, None, Some, map, string_bytes};
 ghost use Rattle.clap.specs.Words.{IsUnsignedIn, app_of, found_of, kind_of, new_rule, rows_of, rule_of};
-ghost use Rattle.clap.specs.declared.builder.action.ArgAction.TheVariants.{Count, Set};
+ghost use Rattle.clap.specs.declared.builder.action.ArgAction.TheVariants.{Set};
 ghost use Rattle.clap.specs.declared.error.kind.ErrorKind.TheVariants.{OutOfMemory};
 ghost use Rattle.si_audit.specs.LineAnswers.{HasNumbers, IsOwed, GivesOptions, StandsInTheWay, cuts_among, form_among, level_among, workers_among};
-ghost use Rattle.si_audit.specs.Words.{AreChosen, ChooseNoLevel, ChooseTooManyCuts, cuts_rule, number_in, program};
+ghost use Rattle.si_audit.specs.Words.{AreChosen, ChooseNoLevel, ChooseTooManyCuts, number_in, program};
 
 use crate::cli::form::Form;
 use crate::cli::level::Level;
 use crate::cli::options::{Options, OptionsFault};
 use clap::builder::ValueParser;
 use clap::error::ErrorKind;
-use clap::{Arg, ArgAction, ArgMatches, Command, Error, value_parser};
+use clap::{Arg, ArgAction, ArgMatches, Command, Error};
 use sia_events::Key;
 use std::alloc::{AllocError, Global};
 
@@ -25,6 +25,8 @@ is read from standard input, and the report is written to standard output.";
 
 /// What is told where a word stands in the place of a cut and is no number: mostly it is the name of a file.
 const FILE_HINT: &str = "A history is read from standard input: si_audit <FILE\n";
+
+const CUTS_HELP: &str = "A key at which a part starts, from 0 to 18446744073709551615";
 
 const BRIEF_HELP: &str = "Leaves out the lines of edges and pivots";
 
@@ -59,7 +61,7 @@ Examples:
   si_audit --workers 8 1000 2000 3000 <run.history >run.report";
 
 /// Why the words give no options.
-#[derive(Debug, Drop)]
+#[derive(Drop)]
 pub enum LineFault {
     /// A growth was refused.
     NoMemory,
@@ -98,20 +100,30 @@ pub fn options_from(alloc: Global, words: &[String]) -> Result<Options, LineFaul
     }
 }
 
-/// The one command of the program.
+/// The one command of the program. Its arguments are added at once: each one that is added by itself may fail by itself.
 fn command<'a>(alloc: Global) -> Result<Command<'a>, AllocError>
     ensures { IfOk result (λ c. app_of c ≡ program) }
 {
-    let workers = option(alloc, "workers", "N", "4", WORKERS_HELP);
+    let workers = option(alloc, "workers", "N", "4", WORKERS_HELP).value_parser(
+        ValueParser::Unsigned(1, 64),
+    );
+    let cuts = Arg::new(alloc, "cut")
+        .value_name("CUT")
+        .action(ArgAction::Append)
+        .help(CUTS_HELP)
+        .value_parser(ValueParser::Unsigned(0, u64::MAX));
+    let arguments = vec![in alloc;
+        workers,
+        cuts,
+        named(alloc, "brief", ArgAction::Count, BRIEF_HELP),
+        named(alloc, "explain", ArgAction::Count, EXPLAIN_HELP),
+        option(alloc, "check", "LEVEL", "serializable", CHECK_HELP),
+    ]?;
     Command::new(alloc, "si_audit")
         .version(VERSION)
         .about(ABOUT)
         .after_help(MORE_HELP)
-        .arg(workers.value_parser(ValueParser::Unsigned(1, 64)))?
-        .arg(cuts_argument(alloc))?
-        .arg(flag(alloc, "brief", BRIEF_HELP))?
-        .arg(flag(alloc, "explain", EXPLAIN_HELP))?
-        .arg(option(alloc, "check", "LEVEL", "serializable", CHECK_HELP))
+        .args(arguments)
 }
 
 /// An option with a value, which is the usual one where the words don't have the option.
@@ -125,35 +137,17 @@ fn option<'a>(
     ensures rule { rule_of result ≡ record (new_rule name.now) { long = Some name.now; action = Some Set; value_names = 1; defaults = usual.now ∷ [] } }
     ensures local { result.global ≡ false }
 {
-    Arg::new(alloc, name)
-        .long(name)
+    named(alloc, name, ArgAction::Set, help)
         .value_name(value)
-        .action(ArgAction::Set)
         .default_value(usual)
-        .help(help)
 }
 
-/// The argument that takes the cuts.
-fn cuts_argument<'a>(alloc: Global) -> Arg<'a>
-    ensures rule { rule_of result ≡ cuts_rule }
+/// An argument that its name stands before, and that does this.
+fn named<'a>(alloc: Global, name: &'a str, action: ArgAction, help: &'a str) -> Arg<'a>
+    ensures rule { rule_of result ≡ record (new_rule name.now) { long = Some name.now; action = Some action } }
     ensures local { result.global ≡ false }
 {
-    Arg::new(alloc, "cut")
-        .value_name("CUT")
-        .action(ArgAction::Append)
-        .value_parser(value_parser!(u64))
-        .help("A key at which a part starts, from 0 to 18446744073709551615")
-}
-
-/// An option without a value.
-fn flag<'a>(alloc: Global, name: &'a str, help: &'a str) -> Arg<'a>
-    ensures rule { rule_of result ≡ record (new_rule name.now) { long = Some name.now; action = Some Count } }
-    ensures local { result.global ≡ false }
-{
-    Arg::new(alloc, name)
-        .long(name)
-        .action(ArgAction::Count)
-        .help(help)
+    Arg::new(alloc, name).long(name).action(action).help(help)
 }
 
 /// What the program says in place of options.

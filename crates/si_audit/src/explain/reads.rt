@@ -42,8 +42,7 @@ impl Finding for BadRead {
         push_start(out, b"; ", self.txn, info.start)?;
         out.extend_from_slice(b"\n")?;
         push_unless(out, of, self.key, self.saw, 0, (b"  saw: ", b"\n"))?;
-        push_unless(out, of, self.key, self.due, 0, (b"  due: ", b"\n"))?;
-        Ok(())
+        push_unless(out, of, self.key, self.due, 0, (b"  due: ", b"\n"))
     }
 }
 
@@ -101,7 +100,6 @@ impl Finding for Unexplained {
             saw: self.saw,
             due: of.index.due(self.txn, self.place, self.key),
         };
-        bad.push_reasons(out, of)?;
-        Ok(())
+        bad.push_reasons(out, of)
     }
 }

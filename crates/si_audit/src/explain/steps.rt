@@ -43,8 +43,7 @@ fn push_sight(
     };
     push_event(out, before, of.history, e.key, sight.place)?;
     let known = untold_of_edge(e);
-    push_unless(out, of, e.key, sight.version, known, (b"; ", b""))?;
-    Ok(())
+    push_unless(out, of, e.key, sight.version, known, (b"; ", b""))
 }
 
 /// The events by which the edge is there.
@@ -57,18 +56,17 @@ fn push_events(out: &mut Vec<u8>, of: &Recorded, acts: &[Act], e: &Edge) -> Resu
     match e.kind {
         Kind::Ww => {
             push_version(out, b"", of, e.key, e.src)?;
-            push_version(out, b"; ", of, e.key, e.dst)?;
+            push_version(out, b"; ", of, e.key, e.dst)
         }
         Kind::Wr => {
             push_version(out, b"", of, e.key, e.src)?;
-            push_sight(out, b"; ", of, acts, e)?;
+            push_sight(out, b"; ", of, acts, e)
         }
         Kind::Rw => {
             push_sight(out, b"", of, acts, e)?;
-            push_version(out, b"; ", of, e.key, e.dst)?;
+            push_version(out, b"; ", of, e.key, e.dst)
         }
     }
-    Ok(())
 }
 
 /// The lines of steps along these edges.

@@ -19,8 +19,7 @@ pub(crate) fn push_event(
 {
     out.extend_from_slice(before)?;
     push_number(out, b"event ", u64::from(place), b" ")?;
-    h.push_about(out, place, key)?;
-    Ok(())
+    h.push_about(out, place, key)
 }
 
 /// Some words, and when the transaction started.
@@ -60,10 +59,10 @@ pub(crate) fn push_version(
         return Ok(());
     };
     push_event(out, before, of.history, key, write)?;
-    if let Some(end) = info.ended {
-        push_event(out, b", ", of.history, key, end)?;
+    match info.ended {
+        Some(end) => push_event(out, b", ", of.history, key, end),
+        None => Ok(()),
     }
-    Ok(())
 }
 
 /// The version between these words, unless it is the one that is known.

@@ -60,8 +60,7 @@ fn push_back(
     }
     push_whether(out, b"ssi", pass, b"pass", b"fail")?;
     push_whether(out, b"serializable", serializable, b"yes", b"no")?;
-    push_verdict(out, verdict)?;
-    Ok(())
+    push_verdict(out, verdict)
 }
 
 /// The lines of the full report.

@@ -46,28 +46,36 @@ pub(crate) fn push_words(out: &mut Vec<u8>, words: &[Words]) -> Result<(), Alloc
     ensures { OnOk result (out.new.items ≡ out.old.items ++ spaced (flat_map words_of words.now)) }
 {
     for some in words {
-        match some {
-            Words::Text(text) => {
-                out.extend_from_slice(b" ")?;
-                out.extend_from_slice(text)?;
-            }
-            Words::Number(n) => push_number(out, b" ", *n, b"")?,
-            Words::Token(n) => push_number(out, b" ", *n, b":")?,
-            Words::Edge(kind, key) => {
-                out.extend_from_slice(b" >")?;
-                out.extend_from_slice(kind_word(*kind))?;
-                push_number(out, b":", *key, b">")?;
-            }
-            Words::Numbers(numbers) => push_numbers(out, numbers)?,
-            Words::Firsts(firsts) => {
-                if !firsts.is_empty() {
-                    out.extend_from_slice(b" first")?;
-                }
-                push_numbers(out, firsts)?;
-            }
-        }
+        push_some(out, some)?;
     }
     Ok(())
+}
+
+/// Some words, each after a space.
+fn push_some(out: &mut Vec<u8>, some: &Words) -> Result<(), AllocError>
+    ensures { OnOk result (out.new.items ≡ out.old.items ++ spaced (words_of some.now)) }
+{
+    match some {
+        Words::Text(text) => {
+            out.extend_from_slice(b" ")?;
+            out.extend_from_slice(text)
+        }
+        Words::Number(n) => push_number(out, b" ", *n, b""),
+        Words::Token(n) => push_number(out, b" ", *n, b":"),
+        Words::Edge(kind, key) => {
+            out.extend_from_slice(b" >")?;
+            out.extend_from_slice(kind_word(*kind))?;
+            push_number(out, b":", *key, b">")
+        }
+        Words::Numbers(numbers) => push_numbers(out, numbers),
+        Words::Firsts(firsts) => {
+            if firsts.is_empty() {
+                return Ok(());
+            }
+            out.extend_from_slice(b" first")?;
+            push_numbers(out, firsts)
+        }
+    }
 }
 
 /// A number between some bytes.

@@ -3,7 +3,7 @@ use crate::cli::form::Form;
 use crate::cli::level::Level;
 use crate::cli::line::{LineFault, options_from};
 use crate::cli::options::Options;
-use sia_events::Key;
+use sia_events::{Key, NoMemory};
 use sia_parts::Part;
 use std::alloc::{AllocError, Global};
 use std::test::*;
@@ -234,7 +234,7 @@ fn is_answered(alloc: Global, row: &Row) -> Result<bool, Fail> {
     let words = words(alloc, line, last)?;
     let (kind, text) = match options_from(alloc, words.as_slice()) {
         Ok(options) => return Ok(given(&options) == wanted.ok()),
-        Err(LineFault::NoMemory) => return Err(Fail::from(LineFault::NoMemory)),
+        Err(LineFault::NoMemory) => return Err(Fail::from(NoMemory)),
         Err(LineFault::TooManyCuts) => ("too many cuts", String::new(alloc)),
         Err(LineFault::UnknownLevel) => ("unknown level", String::new(alloc)),
         Err(LineFault::Help(text)) => ("help", text),

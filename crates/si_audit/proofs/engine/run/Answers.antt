@@ -7,6 +7,12 @@ use Rattle.si_audit.specs.Sheets.{text_of}
 use Rattle.si_audit.proofs.OfSource.{of_source, front_written}
 use Rattle.si_audit.proofs.engine.run.Goals as goal
 
+pub read_text-requires : goal.read_text-requires
+read_text-requires g c = c.requires.reader
+
+pub write_whole-requires : goal.write_whole-requires
+write_whole-requires g c = c.requires.writer
+
 pub returns-in-Ok-clause-report : goal.returns-in-Ok-clause-report
 returns-in-Ok-clause-report g c = of_source
     (λ (text : List ℕ). IsOutcome c.args.o.now.level text c.in_ok-answer.answer.outcome

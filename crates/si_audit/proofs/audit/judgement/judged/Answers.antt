@@ -7,6 +7,18 @@ use Rattle.sia_graph.specs.Verdicts.{IsVerdict}
 use Rattle.si_audit.proofs.Judging.{passed_is_serializable, serializable_where}
 use Rattle.si_audit.proofs.audit.judgement.judged.Goals as goal
 
+pub passes-requires : goal.passes-requires
+passes-requires g c = record {
+  evidence = record {
+    well_formed = rw c.requires.index c.requires.well_formed;
+    txns_are = rw c.ids.ensures c.requires.committed;
+    keys_are = c.written_keys.ensures;
+    looks_are = rw c.requires.index c.in_ok-found.ensures.looks;
+  };
+  bad_reads = rw (c.requires.index, c.deref.ensures.value) c.in_ok-found.ensures.bad_reads;
+  bad_writes = rw (c.requires.index, c.deref-2.ensures.value) c.in_ok-found.ensures.bad_writes;
+}
+
 pub settle_looks-requires : goal.settle_looks-requires
 settle_looks-requires g c = record {
   well_formed = rw c.requires.index c.requires.well_formed;

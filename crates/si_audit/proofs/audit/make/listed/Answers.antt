@@ -4,6 +4,12 @@ use Rattle.sia_graph.proofs.Vulnerable.{all_vulnerable}
 use Rattle.si_audit.proofs.SheetsInTurn.{all_listed}
 use Rattle.si_audit.proofs.audit.make.listed.Goals as goal
 
+pub edges_of-requires : goal.edges_of-requires
+edges_of-requires c = record { committed = c.requires.committed; looks = c.requires.looks }
+
+pub chunk_of-requires : goal.chunk_of-requires
+chunk_of-requires c = c.in_ok-all.ensures.are
+
 pub pivots_of_links-requires : goal.pivots_of_links-requires
 pivots_of_links-requires c =
     let all = c.in_ok-all.all in

@@ -10,6 +10,25 @@ use Rattle.si_audit.proofs.Clean.{account_is}
 use Rattle.si_audit.proofs.Pushed.{explained_pushed}
 use Rattle.si_audit.proofs.explain.explaining.explained.Goals as goal
 
+pub push_front-requires-clause-index : goal.push_front-requires-clause-index
+push_front-requires-clause-index c = c.requires.index
+
+pub push_danger-requires : goal.push_danger-requires
+push_danger-requires c = record {
+  index = c.requires.index;
+  same = c.requires.index;
+  evidence = record {
+    well_formed = rw c.requires.index c.law.ensures;
+    txns_are = rw c.ids.ensures c.requires.committed;
+    keys_are = c.written_keys.ensures;
+    looks_are = c.requires.looks;
+  };
+  judgement = c.requires.judgement;
+}
+
+pub push_verdict_reasons-requires : goal.push_verdict_reasons-requires
+push_verdict_reasons-requires c = record { index = c.requires.index; verdict = c.requires.judgement.verdict }
+
 pub push_front-requires-clause-reads : goal.push_front-requires-clause-reads
 push_front-requires-clause-reads c k d below =
     let x = get_or c.deref.result.now k d in

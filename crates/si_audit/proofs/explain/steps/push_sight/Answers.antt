@@ -1,6 +1,7 @@
 -- The read, and the version behind it.
 use Rattle.std.proofs.Common.{[], ◌++◌, refl, subst}
 use Rattle.std.specs.Prelude.{codes}
+use Rattle.std.proofs.lemmas.Result.{on_ok_weaker}
 use Rattle.si_audit.specs.Reasons.{TellsUnless, event_words}
 use Rattle.si_audit.proofs.Pushed.{behind}
 use Rattle.si_audit.proofs.Sighted.{edge_is_seen}
@@ -14,7 +15,7 @@ returns c =
     let h = c.args.of.now.history.now in
     let k = c.args.e.now.key in
     let sight = c.in-Some.sight in
-    let version = c.in_ok-push_unless.ensures in (
+    on_ok_weaker c.push_unless.result (λ version. (
       event_words h k sight.place ++ version.0,
       (
         sight.place,
@@ -25,4 +26,4 @@ returns c =
         refl,
       ),
       behind (c.args.out.now.items ++ c.args.before.now) _ _ (event_words h k sight.place) version.0 c.in_ok-push_event.ensures version.2,
-    )
+    )) c.push_unless.ensures

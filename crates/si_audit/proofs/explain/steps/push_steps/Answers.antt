@@ -10,6 +10,13 @@ use Rattle.si_audit.proofs.Pushed.{step_words_behind}
 use Rattle.si_audit.proofs.Telling.{next_told}
 use Rattle.si_audit.proofs.explain.steps.push_steps.Goals as goal
 
+pub push_events-requires : goal.push_events-requires
+push_events-requires c = record {
+  index = c.requires.index;
+  acts = c.requires.acts;
+  edge = c.requires.edges c.loop-e.e-index _ c.loop-e-test.true;
+}
+
 pub loop-e-preserved : goal.loop-e-preserved
 loop-e-preserved c =
     let e : Edge = get_or c.args.edges.now c.loop-e.e-index (record { src = 0; dst = 0; kind = Ww; key = 0 }) in

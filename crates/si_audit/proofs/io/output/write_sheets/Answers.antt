@@ -4,6 +4,9 @@ use Rattle.si_audit.specs.Sheets.{text_of}
 use Rattle.si_audit.proofs.OnSheets.{broken_off, on_err}
 use Rattle.si_audit.proofs.io.output.write_sheets.Goals as goal
 
+pub write_bytes-requires : goal.write_bytes-requires
+write_bytes-requires g c = c.loop-sheet.invariant.sound
+
 -- the sheets before the one that is refused, and what was written of it
 pub returns-in_err-write_bytes-clause-err : goal.returns-in_err-write_bytes-clause-err
 returns-in_err-write_bytes-clause-err g c =

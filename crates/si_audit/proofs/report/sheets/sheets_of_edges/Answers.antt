@@ -2,6 +2,9 @@ use Rattle.std.proofs.Common.{◌<◌, subst, ◌∙◌, rules}
 use Rattle.si_audit.proofs.SheetsInTurn.{all_in_turn, all_made}
 use Rattle.si_audit.proofs.report.sheets.sheets_of_edges.Goals as goal
 
+pub edges_of-requires : goal.edges_of-requires
+edges_of-requires g c = record { committed = c.requires.committed; looks = c.requires.looks }
+
 -- the sheets together have all lines and all links
 pub returns-in-Ok : goal.returns-in-Ok
 returns-in-Ok g c =

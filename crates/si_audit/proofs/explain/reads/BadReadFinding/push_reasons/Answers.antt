@@ -1,4 +1,5 @@
 use Rattle.std.proofs.Common.{◌≡◌, ◌++◌, codes, refl, subst}
+use Rattle.std.proofs.lemmas.Result.{on_ok_weaker}
 use Rattle.sia_events.specs.Transactions.{StartsAt}
 use Rattle.sia_events.proofs.Seen.{saw_written}
 use Rattle.si_audit.specs.Reasons.{anomaly_words, event_words, reason, start_words}
@@ -25,7 +26,6 @@ returns c =
     let s = c.in-Some.info.start in
     let name = c.anomaly_of-name.result in
     let saw = c.in_ok-push_unless.ensures in
-    let due = c.in_ok-push_unless-2.ensures in
     let known = c.in-Some.ensures in
     let line : c.extend_from_slice.new.self.items ≡ c.args.out.now.items ++ reason (anomaly_words name ++ codes ": " ++ event_words h b.key b.place ++ codes "; " ++ start_words b.txn s) =
     rw (
@@ -33,8 +33,9 @@ returns c =
       c.in_ok-push_start.ensures,
       c.in_ok-push_event.ensures,
       c.anomaly_words.ensures,
-    ) (seven_words c.args.out.now.items (codes "  ") (anomaly_words name) (codes ": ") (event_words h b.key b.place) (codes "; ") (start_words b.txn s) (codes "\n")) in (
+    ) (seven_words c.args.out.now.items (codes "  ") (anomaly_words name) (codes ": ") (event_words h b.key b.place) (codes "; ") (start_words b.txn s) (codes "\n")) in
+    on_ok_weaker c.push_unless-2.result (λ due. (
       reason (anomaly_words name ++ codes ": " ++ event_words h b.key b.place ++ codes "; " ++ start_words b.txn s) ++ saw.0 ++ due.0,
       (name, s, saw.0, due.0, c.anomaly_of-name.ensures, subst (λ g. StartsAt g b.txn s) c.requires.index known.0, saw.1, due.1, refl),
       three_words c.args.out.now.items _ _ _ _ _ _ line saw.2 due.2,
-    )
+    )) c.push_unless-2.ensures

@@ -1,4 +1,5 @@
 use Rattle.std.proofs.Common.{subst}
+use Rattle.std.proofs.lemmas.Result.{on_ok_weaker}
 use Rattle.sia_events.specs.Reads.{IsDue}
 use Rattle.si_audit.proofs.Naming.{unexplained_is_bad}
 use Rattle.si_audit.proofs.explain.reads.UnexplainedFinding.push_reasons.Goals as goal
@@ -12,8 +13,7 @@ push_reasons-requires-clause-found c =
 pub returns : goal.returns
 returns c =
     let u = c.args.self.now in
-    let told = c.in_ok-push_reasons.ensures in
     let bad =
     unexplained_is_bad c.args.of.now.history.now c.law.ensures u.place u.txn u.key u.saw c.due.result c.requires.found
     (subst (λ g. IsDue g u.txn u.place u.key c.due.result) c.requires.index c.due.ensures) in
-    (told.0, (c.due.result, bad, told.1), told.2)
+    on_ok_weaker c.push_reasons.result (λ told. (told.0, (c.due.result, bad, told.1), told.2)) c.push_reasons.ensures
