@@ -1,6 +1,7 @@
 //! The events of a text so far, and the judgement of its next token.
-ghost use Rattle.std.specs.Prelude.{◌≡◌, ◌+◌, ◌≤◌, ℕ, ◌<◌, length, List, [], ◌∷◌, ◌++◌, Ok, true, false, drop, All, IsTrue, slice_index, OnOk, OnErr, IfOk, IfErr, IfSome, IfNone};
+ghost use Rattle.std.specs.Prelude.{◌≡◌, ◌+◌, ◌≤◌, ℕ, ◌<◌, length, List, [], ◌∷◌, ◌++◌, Ok, true, false, drop, All, slice_index, nat_le, OnOk, OnErr, IfOk, IfErr, IfSome, IfNone};
 ghost use Rattle.std.specs.List.{AllByRecursion, position_or_len};
+ghost use Rattle.std.specs.Simd.Lanes.{chunk};
 ghost use Rattle.sia_events.specs.declared.event.Event.{Event as AnEvent};
 ghost use Rattle.sia_events.specs.Parsing.{Fails};
 ghost use Rattle.sia_events.specs.Known.{Knows};
@@ -13,6 +14,7 @@ use crate::fault::{Reason, Refusal};
 use crate::tables::Tables;
 use crate::token::event_of;
 use std::alloc::Global;
+use std::simd::prelude::*;
 
 /// The greatest number of events.
 pub(crate) const MAX_EVENTS: usize = 100_000;
@@ -139,28 +141,35 @@ fn past_separators(text: &[u8]) -> &[u8]
     &text[len..]
 }
 
-/// How many bytes are looked at together.
-const BLOCK: usize = 32;
+/// How many bytes are looked at together: most tokens are shorter.
+const BLOCK: usize = 16;
 
-/// Whether each byte is greater than every separator.
-fn is_plain(block: &[u8]) -> bool
-    ensures { IsTrue result → All (λ c. 32 < c) block.now }
+/// How many bytes of the block that starts there come before the first that is no greater than a space.
+fn plain_at(text: &[u8], start: usize) -> usize
+    requires { start + 16 ≤ length text.now }
+    ensures { result ≡ position_or_len (λ c. nat_le c 32) (chunk start 16 text.now) }
 {
-    let mut least = u8::MAX;
-    for byte in block {
-        least = least.min(*byte);
+    let low = u8x16::from_slice(&text[start..])
+        .simd_le(u8x16::splat(b' '))
+        .to_bitmask();
+    if low == 0 {
+        return BLOCK;
     }
-    b' ' < least
+    low.trailing_zeros() as usize
 }
 
-/// How many bytes are passed in blocks that hold no separator.
+/// How many bytes are passed in blocks, up to the first byte that may be a separator.
 fn plain_len(text: &[u8]) -> usize
     ensures within { result ≤ length text.now }
     ensures passed { (k : ℕ) → k < result → is_separator (slice_index text.now k) ≡ false }
 {
     let mut len = 0;
-    while len + BLOCK <= text.len() && is_plain(&text[len..len + BLOCK]) {
-        len += BLOCK;
+    while len + BLOCK <= text.len() {
+        let plain = plain_at(text, len);
+        len += plain;
+        if plain < BLOCK {
+            break;
+        }
     }
     len
 }
