@@ -10,14 +10,17 @@ use Rattle.sia_events.specs.Text.{is_separator}
 above_32 : (c : ℕ) → nat_le c 32 ≡ false → is_separator c ≡ false
 above_32 c above = grind (arith, nat_tests)
 
--- r of the 16 bytes from number len on come before the first that is at most 32
-module _ (bytes : List ℕ) (len r : ℕ) (room : len + 16 ≤ length bytes) (counted : r ≡ position_or_len (λ c. nat_le c 32) (chunk len 16 bytes)) where
-  pub plain_within : len + r ≤ length bytes
-  plain_within = let few = run_in_chunk_le (λ c. nat_le c 32) bytes len 16 r 0 room counted in omega arith
+-- none of the first len bytes is a separator
+pub record IsUnbroken (bytes : List ℕ) (len : ℕ) : Type 0 where
+  pub within : len ≤ length bytes
+  pub passed : (k : ℕ) → k < len → is_separator (get_or bytes k 0) ≡ false
 
-  -- no separator below number len, and none in the r bytes after
-  pub none_within : ((k : ℕ) → k < len → is_separator (get_or bytes k 0) ≡ false) → (k : ℕ) → k < len + r → is_separator (get_or bytes k 0) ≡ false
-  none_within before k below = elim (cases_lt k len) [
-    | inl less ↦ before k less
+-- r of the next 16 bytes come before the first that is at most 32
+pub unbroken_further : (bytes : List ℕ) (len r : ℕ) → len + 16 ≤ length bytes → r ≡ position_or_len (λ c. nat_le c 32) (chunk len 16 bytes) → IsUnbroken bytes len → IsUnbroken bytes (len + r)
+unbroken_further bytes len r room counted before = record {
+  within = (let few = run_in_chunk_le (λ c. nat_le c 32) bytes len 16 r 0 room counted in omega arith);
+  passed = λ k below. elim (cases_lt k len) [
+    | inl less ↦ before.passed k less
     | inr from ↦ above_32 (get_or bytes k 0) (run_in_chunk_fails (λ c. nat_le c 32) bytes len 16 r 0 room counted k from below)
-  ]
+  ];
+}

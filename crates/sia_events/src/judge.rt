@@ -158,10 +158,10 @@ fn plain_at(text: &[u8], start: usize) -> usize
     low.trailing_zeros() as usize
 }
 
-/// How many bytes are passed in blocks, up to the first byte that may be a separator.
-fn plain_len(text: &[u8]) -> usize
+/// How many bytes come before the first separator, or at all. Where a block has it, the second loop ends at once.
+fn token_len(text: &[u8]) -> usize
+    ensures len { result ≡ position_or_len is_separator text.now }
     ensures within { result ≤ length text.now }
-    ensures passed { (k : ℕ) → k < result → is_separator (slice_index text.now k) ≡ false }
 {
     let mut len = 0;
     while len + BLOCK <= text.len() {
@@ -171,15 +171,6 @@ fn plain_len(text: &[u8]) -> usize
             break;
         }
     }
-    len
-}
-
-/// How many bytes come before the first separator, or at all.
-fn token_len(text: &[u8]) -> usize
-    ensures len { result ≡ position_or_len is_separator text.now }
-    ensures within { result ≤ length text.now }
-{
-    let mut len = plain_len(text);
     while len < text.len() && !is_separator(text[len]) {
         len += 1;
     }

@@ -1,13 +1,16 @@
 -- No separator among the bytes passed.
-use Rattle.std.proofs.Common.{◌≡◌, ℕ, ◌-◌, ◌<◌, ◌≤◌, false, length, get_or}
-use Rattle.sia_events.specs.Text.{is_separator}
+use Rattle.std.proofs.Common.{length, ◌-◌}
+use Rattle.sia_events.proofs.PlainBytes.{IsUnbroken}
 use Rattle.sia_events.proofs.judge.token_len.Given as goal
 
 abbrev pub invariant-loop-len : goal.invariant-loop-len
-invariant-loop-len l = record {
-  within : l.len ≤ length l.text;
-  passed : (k : ℕ) → k < l.len → is_separator (get_or l.text k 0) ≡ false;
-}
+invariant-loop-len l = IsUnbroken l.text l.len
 
 abbrev pub decreases-loop-len : goal.decreases-loop-len
 decreases-loop-len l = length l.text - l.len
+
+abbrev pub invariant-loop-len-2 : goal.invariant-loop-len-2
+invariant-loop-len-2 l = IsUnbroken l.text l.len
+
+abbrev pub decreases-loop-len-2 : goal.decreases-loop-len-2
+decreases-loop-len-2 l = length l.text - l.len
