@@ -82,9 +82,9 @@ def far_apart() -> Case:
 
 
 def sharing_slots() -> Case:
-    """Numbers that share two groups of slots of the reader's table (txn_set.rt), which has 32,768 for eight numbers each.
-    Each of the transactions reads a key."""
-    ids = [262_144 * it + slot for it in range(1, 2**14) for slot in (0, 8)]
+    """Numbers that share four groups of slots of the reader's table (txn_states.rt), which has 131,089 for four numbers in
+    a row. Each of the transactions reads a key."""
+    ids = [524_356 * it + slot for it in range(1, 8_190) for slot in (0, 4, 8, 12)]
     tokens = [f"r{it}[{it}:0]" for it in ids] + [f"b{it}" for it in range(1, 10_000)] + [f"c{it}" for it in ids]
     return Case(joined(tokens), clean(len(tokens), ids, still_open=9_999))
 

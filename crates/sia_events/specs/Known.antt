@@ -7,7 +7,7 @@ use Rattle.sia_events.specs.declared.fault.Reason.{Reason}
 use Rattle.sia_events.specs.declared.fault.Reason.TheVariants.{AlreadyEnded, AlreadyBegun, EmptyRange, BadList, NotWritten, BadStart}
 use Rattle.sia_events.specs.declared.tables.Tables.{Tables}
 use Rattle.sia_events.specs.Events.{actor}
-use Rattle.sia_events.specs.TxnSets.{has, IsSound as IsSoundSet}
+use Rattle.sia_events.specs.TxnStates.{has_begun, has_ended, IsSound as IsSoundTxns}
 use Rattle.sia_events.specs.WriteSets.{wrote, IsSound}
 
 -- the event is one of t
@@ -34,12 +34,11 @@ writes p (Abort u) = false
 
 -- the tables hold what these events are
 pub record Knows (tables : Tables) (events : List Event) : Type 0 where
-  pub begun : (t : ℕ) → has tables.begun t ≡ list_any (acts t) events
-  pub ended : (t : ℕ) → has tables.ended t ≡ list_any (ends t) events
+  pub begun : (t : ℕ) → has_begun tables.txns t ≡ list_any (acts t) events
+  pub ended : (t : ℕ) → has_ended tables.txns t ≡ list_any (ends t) events
   pub written : (p : ℕ × ℕ) → wrote tables.written p ≡ list_any (writes p) events
   pub sound : IsSound tables.written
-  pub begun_sound : IsSoundSet tables.begun
-  pub ended_sound : IsSoundSet tables.ended
+  pub txns_sound : IsSoundTxns tables.txns
 
 -- the version of that key is 0 or was written
 unfoldable pub is_explained : List Event → ℕ × ℕ → Bool

@@ -5,7 +5,7 @@ pub mod Spelled
 pub mod Events
 pub mod Refusals
 pub mod Parsing
-pub mod TxnSets
+pub mod TxnStates
 pub mod WriteSets
 pub mod Known
 pub mod Reading

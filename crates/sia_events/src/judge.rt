@@ -51,11 +51,11 @@ impl Judge {
             return Err(Refusal::Bad(Reason::TooManyEvents));
         }
         let event = event_of(self.alloc, token)?;
-        let has_begun = self.tables.has_begun(&event);
-        if let Some(reason) = self.tables.fault(&event, has_begun, self.events.len()) {
+        let past = self.tables.past(&event);
+        if let Some(reason) = self.tables.fault(&event, past, self.events.len()) {
             return Err(Refusal::Bad(reason));
         }
-        self.tables.add(&event, has_begun)?;
+        self.tables.add(&event, past.0)?;
         self.events.push(event)?;
         Ok(())
     }

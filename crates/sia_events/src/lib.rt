@@ -15,7 +15,7 @@ mod shown;
 mod tables;
 mod telling;
 mod token;
-mod txn_set;
+mod txn_states;
 mod write_set;
 mod writer;
 

@@ -1,24 +1,23 @@
 //! What the reader keeps of the events so far, to judge the next one without going over them.
-ghost use Rattle.std.specs.Prelude.{◌≡◌, ℕ, ◌||◌, ◌&&◌, not, nat_lt, List, [], ◌∷◌, ◌++◌, ◌<◌, ◌≤◌, length, take, drop, true, IsTrue, OnOk};
+ghost use Rattle.std.specs.Prelude.{◌≡◌, ℕ, ◌||◌, ◌&&◌, not, nat_lt, List, [], ◌∷◌, ◌++◌, ◌<◌, ◌≤◌, length, take, drop, true, false, IsTrue, OnOk};
 ghost use Rattle.std.specs.List.{list_any, list_all, AllByRecursion};
 ghost use Rattle.std.specs.BTreeSet.{contains};
 ghost use Rattle.sia_events.specs.declared.event.Event.{Event as AnEvent};
 ghost use Rattle.sia_events.specs.Events.{actor};
-ghost use Rattle.sia_events.specs.TxnSets.{has};
+ghost use Rattle.sia_events.specs.TxnStates.{has_begun, has_ended};
 ghost use Rattle.sia_events.specs.WriteSets.{wrote, IsSound, pair_cmp};
 ghost use Rattle.sia_events.specs.Known.{Knows, acts, ends, writes, is_explained, least_after, goes_up, own_fault, fault_of};
 
 use crate::event::{Event, Key, TxnId, Version};
 use crate::fault::Reason;
-use crate::txn_set::TxnSet;
+use crate::txn_states::TxnStates;
 use crate::write_set::WriteSet;
 use std::alloc::{AllocError, Global};
 
 /// Which transactions have an event, which have ended, and who has written which key.
 #[derive(Drop)]
 pub(crate) struct Tables {
-    begun: TxnSet,
-    ended: TxnSet,
+    txns: TxnStates,
     written: WriteSet,
 }
 
@@ -54,27 +53,30 @@ impl Tables {
         ensures { Knows result [] }
     {
         Tables {
-            begun: TxnSet::new(alloc),
-            ended: TxnSet::new(alloc),
+            txns: TxnStates::new(alloc),
             written: WriteSet::new(alloc),
         }
     }
 
-    /// Whether the transaction that acts has an event already.
-    pub(crate) fn has_begun(&self, event: &Event) -> bool
-        ensures { (events : List AnEvent) → Knows self.now events → result ≡ has self.now.begun (actor event.now) }
+    /// Whether the transaction that acts has an event already, and whether one of them ended it.
+    pub(crate) fn past(&self, event: &Event) -> (bool, bool)
+        ensures begun { (events : List AnEvent) → Knows self.now events → result.0 ≡ has_begun self.now.txns (actor event.now) }
+        ensures ended { (events : List AnEvent) → Knows self.now events → result.1 ≡ has_ended self.now.txns (actor event.now) }
     {
-        self.begun.contains(event.txn())
+        self.txns.past(event.txn())
     }
 
-    /// Takes in the next event.
-    pub(crate) fn add(&mut self, event: &Event, has_begun: bool) -> Result<(), AllocError>
-        requires { has_begun ≡ has self.old.begun (actor event.now) }
+    /// Takes in the next event, whose transaction has not ended.
+    pub(crate) fn add(&mut self, event: &Event, is_begun: bool) -> Result<(), AllocError>
+        requires begun { is_begun ≡ has_begun self.old.txns (actor event.now) }
+        requires open { has_ended self.old.txns (actor event.now) ≡ false }
         ensures { (events : List AnEvent) → Knows self.old events → OnOk result (Knows self.new (events ++ event.now ∷ [])) }
     {
-        self.begun.insert(event.txn(), has_begun)?;
+        if !is_begun {
+            self.txns.begin(event.txn())?;
+        }
         match event {
-            Event::Commit { txn } | Event::Abort { txn } => self.ended.insert(*txn, false),
+            Event::Commit { txn } | Event::Abort { txn } => self.txns.end(*txn),
             Event::Write { txn, key } => self.written.insert((*key, *txn)),
             _ => Ok(()),
         }
@@ -106,13 +108,16 @@ impl Tables {
         true
     }
 
-    #[tactic(auto, unfolding(crate::specs::Known::own_fault, crate::specs::Known::begin_fault, crate::specs::Known::read_fault, crate::specs::Known::range_fault))]
-    fn own_fault(&self, event: &Event, has_begun: bool, count: usize) -> Option<Reason>
-        requires { has_begun ≡ has self.now.begun (actor event.now) }
-        ensures { (events : List AnEvent) → Knows self.now events → result ≡ own_fault events count event.now }
+    /// The first reason why an event whose numbers are in their ranges can't come after `count` events, if there is one.
+    #[tactic(auto, unfolding(crate::specs::Known::fault_of, crate::specs::Known::own_fault, crate::specs::Known::begin_fault, crate::specs::Known::read_fault, crate::specs::Known::range_fault))]
+    pub(crate) fn fault(&self, event: &Event, past: (bool, bool), count: usize) -> Option<Reason>
+        requires begun { past.0 ≡ has_begun self.now.txns (actor event.now) }
+        requires ended { past.1 ≡ has_ended self.now.txns (actor event.now) }
+        ensures { (events : List AnEvent) → Knows self.now events → result ≡ fault_of events count event.now }
     {
         match event {
-            Event::Begin { .. } if has_begun => Some(Reason::AlreadyBegun),
+            _ if past.1 => Some(Reason::AlreadyEnded),
+            Event::Begin { .. } if past.0 => Some(Reason::AlreadyBegun),
             Event::Begin {
                 start: Some(start),
                 ..
@@ -129,17 +134,5 @@ impl Tables {
             ),
             _ => None,
         }
-    }
-
-    /// The first reason why an event whose numbers are in their ranges can't come after `count` events, if there is one.
-    #[tactic(auto, unfolding(crate::specs::Known::fault_of))]
-    pub(crate) fn fault(&self, event: &Event, has_begun: bool, count: usize) -> Option<Reason>
-        requires { has_begun ≡ has self.now.begun (actor event.now) }
-        ensures { (events : List AnEvent) → Knows self.now events → result ≡ fault_of events count event.now }
-    {
-        if has_begun && self.ended.contains(event.txn()) {
-            return Some(Reason::AlreadyEnded);
-        }
-        self.own_fault(event, has_begun, count)
     }
 }

@@ -58,6 +58,7 @@ impl WriteSet {
     /// Whether the write is one, which may well follow the one at the position. The position becomes its own, where that is
     /// guessed.
     #[tactic(auto, unfolding(crate::specs::WriteSets::IsSound))]
+    #[inline(always)]
     pub(crate) fn contains_after(&self, position: &mut usize, write: (Key, TxnId)) -> bool
         ensures { IsSound self.now → result ≡ wrote self.now write }
     {

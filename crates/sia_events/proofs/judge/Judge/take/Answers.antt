@@ -1,16 +1,34 @@
 -- The tables take in the event that is pushed.
-use Rattle.std.proofs.Common.{◌≡◌, length, arith, sym, subst, ap, ◌∙◌, List, Some, None}
+use Rattle.std.proofs.Common.{◌≡◌, length, arith, refl, sym, subst, ap, ◌∙◌, Bool, true, false, if◌then◌else◌, List, Option, Some, None}
+use Rattle.std.specs.List.{list_any}
 use Rattle.sia_events.specs.declared.event.Event.{Event}
-use Rattle.sia_events.specs.Known.{Knows, fault_of}
+use Rattle.sia_events.specs.declared.fault.Reason.{Reason}
+use Rattle.sia_events.specs.declared.fault.Reason.TheVariants.{AlreadyEnded}
+use Rattle.sia_events.specs.Events.{actor}
+use Rattle.sia_events.specs.Known.{Knows, ends, own_fault, fault_of}
 use Rattle.std.proofs.lemmas.Result.{err_from_is_err_and}
 use Rattle.sia_events.proofs.OneToken.{judged_read, judged_unread}
 use Rattle.sia_events.proofs.judge.Judge.take.Goals as goal
 
-pub fault-requires : goal.fault-requires
-fault-requires c = c.has_begun-has_begun.ensures _ c.requires
+pub fault-requires-clause-begun : goal.fault-requires-clause-begun
+fault-requires-clause-begun c = c.past-past.ensures.begun _ c.requires
 
-pub add-requires : goal.add-requires
-add-requires c = c.has_begun-has_begun.ensures _ c.requires
+pub fault-requires-clause-ended : goal.fault-requires-clause-ended
+fault-requires-clause-ended c = c.past-past.ensures.ended _ c.requires
+
+pub add-requires-clause-begun : goal.add-requires-clause-begun
+add-requires-clause-begun c = c.past-past.ensures.begun _ c.requires
+
+no_fault : (ended : Bool) (other : Option Reason) → None ≡ (if ended then Some AlreadyEnded else other) → ended ≡ false
+no_fault true other fine = absurd cc
+no_fault false other fine = refl
+
+pub add-requires-clause-open : goal.add-requires-clause-open
+unfolding fault_of
+add-requires-clause-open c =
+    let events = c.args.self.now.events.items in
+    let t = actor c.in_ok-event.event in
+    c.requires.ended t ∙ no_fault (list_any (ends t) events) (own_fault events c.len-2.result c.in_ok-event.event) (c.in_default.ensures events c.requires)
 
 pub returns-clause-knows : goal.returns-clause-knows
 returns-clause-knows c = subst (λ (events : List Event). Knows c.add.new.self events) (sym c.in_ok-push.ensures.items) (c.in_ok-add.ensures _ c.requires)
