@@ -70,6 +70,8 @@ pub mod LateRanks
 pub mod Uncut
 pub mod NextVersions
 pub mod NarrowSteps
+pub mod WriterSteps
+pub mod LookPlaces
 pub mod AbsenceBlocks
 pub mod Adjacency
 pub mod NarrowStands

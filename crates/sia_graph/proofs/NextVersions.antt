@@ -1,5 +1,5 @@
 -- Which writer of a key is the first after a place, and which the last up to it, of writers that stand by key and commit.
-use Rattle.std.proofs.Common.{◌≡◌, ◌≢◌, inl, inr, ℕ, ◌+◌, ◌*◌, ◌<◌, ◌≤◌, List, true, false, Option, Some, None, sym, length, get_or, ap, ◌∙◌, arith}
+use Rattle.std.proofs.Common.{◌≡◌, ◌≢◌, inl, inr, ℕ, ◌+◌, ◌*◌, ◌<◌, ◌≤◌, List, true, false, Option, Some, None, refl, sym, length, get_or, ap, ◌∙◌, arith}
 use Rattle.std.specs.Prelude.{All, Contains, IfSome, MatchOption}
 use Rattle.std.specs.List.{AllWithin}
 use Rattle.std.specs.Option.{is_some}
@@ -11,10 +11,6 @@ use Rattle.sia_graph.specs.NarrowSteps.{IsNewest, IsNext}
 use Rattle.sia_graph.specs.VersionRanks.{IsNextAt}
 
 -- what an option tells, said otherwise
-pub match_both : {A : Type 0} (P R : Type 0) (Q S : A → Type 0) (o : Option A) → (P → R) → ((a : A) → Q a → S a) → MatchOption o P Q → MatchOption o R S
-match_both P R Q S None f g m = f m
-match_both P R Q S (Some a) f g m = g a m
-
 pub some_of : {A : Type 0} (P : Type 0) (Q S : A → Type 0) (o : Option A) → ((a : A) → Q a → S a) → MatchOption o P Q → IfSome o S
 some_of P Q S None g m = tt
 some_of P Q S (Some a) g m = g a m
@@ -28,7 +24,7 @@ pub if_not_there : {A : Type 0} (P : Type 0) (Q : A → Type 0) (o : Option A) �
 if_not_there P Q None is m = m
 if_not_there P Q (Some a) is m = absurd (false≢true (sym is))
 
-module _ (writers : List Look) (rise : RiseByRank writers) (small : All (λ a. a.high < 4294967296) writers) (key place : ℕ) (fits : place < 4294967296) (at : ℕ)
+module _ (writers : List Look) (rise : RiseByRank writers) (small : All (λ a. a.high < 4294967296) writers) (key place at : ℕ)
     (before : AllWithin (λ a. look_rank a ≤ key * 4294967296 + place) writers 0 at) (after : AllWithin (λ a. key * 4294967296 + place < look_rank a) writers at (length writers)) where
   stands_before : (a : Look) (c : Contains writers a) → c.0 < at → look_rank a ≤ key * 4294967296 + place
   stands_before a c l = let r = before c.0 a (omega arith) l in let e = ap look_rank c.2 in omega arith
@@ -72,8 +68,8 @@ module _ (writers : List Look) (rise : RiseByRank writers) (small : All (λ a. a
     ],
   )
 
-  pub none_newest : (m : ℕ) → m + 1 ≡ at → m < length writers → ((d : Look) → m < length writers → (get_or writers m d).key ≢ key) → (a : Look) → Contains writers a → a.key ≡ key → place < a.high
-  none_newest m one within other a c same = elim (cases_lt c.0 at) [
+  pub none_newest : place < 4294967296 → (m : ℕ) → m + 1 ≡ at → m < length writers → ((d : Look) → m < length writers → (get_or writers m d).key ≢ key) → (a : Look) → Contains writers a → a.key ≡ key → place < a.high
+  none_newest fits m one within other a c same = elim (cases_lt c.0 at) [
     | inl l ↦
         let x = get_or writers m a in
         let there : Contains writers x = (m, within, get_or_default writers m x a within) in
@@ -95,6 +91,12 @@ module _ (writers : List Look) (rise : RiseByRank writers) (small : All (λ a. a
       | inr l ↦ let r = stands_after b c l in absurd (omega arith)
     ],
   )
+
+  -- what stands there, if it is of the key, is the first one after the place
+  pub look_next : (o : Option Look) → MatchOption o ((d : Look) → at < length writers → (get_or writers at d).key ≢ key) (λ a. (at < length writers) × (get_or writers at a ≡ a) × (a.key ≡ key))
+      → MatchOption o ((a : Look) → Contains writers a → a.key ≡ key → a.high ≤ place) (IsNext writers key place)
+  look_next None m = none_next m
+  look_next (Some x) m = is_next x (at, m.0, m.1) refl m.2
 
   -- where it is of the key, the first one after the place stands there
   pub next_stands : (x : Look) → at < length writers → get_or writers at x ≡ x → x.key ≡ key → IsNextAt writers key place at

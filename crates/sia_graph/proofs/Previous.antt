@@ -33,6 +33,22 @@ AreLoweredBy T looks old new = (length new ≡ length old) × ((t : ℕ) → t <
 pub none_lowered : (T : ℕ → Look → ℕ → Type 0) (old : List ℕ) → ((t : ℕ) → t < length old → get_or old t 0 < 4294967296) → AreLoweredBy T [] old old
 none_lowered T old few = (refl, λ t l. (4294967295, least_none (FromSome (T t) []) (λ r has. let l = has.1.1 in omega arith), let f = few t l in omega arith))
 
+-- one look more, which tells nothing
+pub lowered_same : (T : ℕ → Look → ℕ → Type 0) (looks : List Look) (old : List ℕ) (n : ℕ) (d : Look) → n < length looks → (least : List ℕ) → AreLoweredBy T (take n looks) old least
+    → ((t r : ℕ) → ¬ T t (get_or looks n d) r) → AreLoweredBy T (take (n + 1) looks) old least
+lowered_same T looks old n d within least are none = (
+  are.0,
+  λ t l.
+      let before = are.1 t l in (
+        before.0,
+        least_same (FromSome (T t) (take n looks)) (FromSome (T t) (take (n + 1) looks)) before.0
+            (λ q has. (first_more (T t) looks n d within q).0 (inl has))
+            (λ q has. elim ((first_more (T t) looks n d within q).1 has) [ inl old ↦ old | inr it ↦ absurd (none t q it) ])
+            before.1,
+        before.2,
+      ),
+)
+
 -- one look more, which tells of its own transaction alone
 module _ (T : ℕ → Look → ℕ → Type 0) (few : (t r : ℕ) (look : Look) → T t look r → r < 4294967295) (of_own : (t r : ℕ) (look : Look) → T t look r → look.txn ≡ t)
     (looks : List Look) (old : List ℕ) (n : ℕ) (d : Look) (within : n < length looks) (least : List ℕ) (are : AreLoweredBy T (take n looks) old least) (below : (get_or looks n d).txn < length old) (r new : ℕ)

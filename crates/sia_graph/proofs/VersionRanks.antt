@@ -49,14 +49,14 @@ written xs ys n long = ap (λ m. take m (xs ++ ys)) (sym long) ∙ take-append_s
 
 module _ (versions : List Look) (search : CanSearch versions) where
   -- of two versions the earlier one is at no greater key, and at the same key commits no later
-  key_up : (i j : ℕ) (d : Look) → i ≤ j → j < length versions → (get_or versions i d).key ≤ (get_or versions j d).key
+  pub key_up : (i j : ℕ) (d : Look) → i ≤ j → j < length versions → (get_or versions i d).key ≤ (get_or versions j d).key
   key_up i j d l b =
       let r = search.rise i j d l b in
       let f = search.small i d (omega arith) in
       let g = search.small j d b in
       omega arith
 
-  commit_up : (i j : ℕ) (d : Look) → i ≤ j → j < length versions → (get_or versions i d).key ≡ (get_or versions j d).key → (get_or versions i d).high ≤ (get_or versions j d).high
+  pub commit_up : (i j : ℕ) (d : Look) → i ≤ j → j < length versions → (get_or versions i d).key ≡ (get_or versions j d).key → (get_or versions i d).high ≤ (get_or versions j d).high
   commit_up i j d l b same = let r = search.rise i j d l b in omega arith
 
   module _ (entries : List (ℕ × ℕ)) (ranks : List ℕ) where

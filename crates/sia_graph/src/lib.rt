@@ -17,6 +17,7 @@ pub use laws::{
 pub use narrow::Evidence;
 pub use narrow::dangerous::{Dangerous, dangerous_of};
 pub use narrow::judging::{passes, settle_looks};
+pub use narrow::placing::places_of;
 pub use pivot::Pivot;
 pub use pivoting::lifetimes::{Lifetime, lifetimes_of};
 pub use pivoting::links::Link;

@@ -10,10 +10,10 @@ mod firsts;
 pub(crate) mod judging;
 mod least_edges;
 mod limits;
-mod nearby;
 mod nodes;
 mod ordering;
 mod pivotal;
+pub(crate) mod placing;
 mod previous;
 mod ranked;
 mod sources;
@@ -26,11 +26,12 @@ use sia_index::Index;
 use sia_parts::Looks;
 
 /// What the verdict on a history rests on: its committed transactions and its written keys, both ascending, and what those
-/// transactions wrote and saw at all these keys, by the numbers of both.
+/// transactions wrote and saw at all these keys, by the numbers of both, with the places of those who saw (`places_of`).
 #[derive(Clone, Copy)]
 pub struct Evidence<'a> {
     pub index: &'a Index,
     pub txns: &'a [TxnId],
     pub keys: &'a [Key],
     pub looks: &'a Looks,
+    pub places: &'a [usize],
 }

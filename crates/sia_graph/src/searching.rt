@@ -92,7 +92,7 @@ pub(crate) fn rows_near<T, O: By<T>>(rows: &[T], number: u64, near: usize) -> (&
     ensures { IsGroup O.by rows.now number result.0.now }
 {
     let start = place_from::<T, O>(rows, number, near);
-    let stop = place_from::<T, O>(rows, number + 1, start).max(start);
+    let stop = place_from::<T, O>(rows, number + 1, start.saturating_add(1)).max(start);
     (&rows[start..stop], stop)
 }
 

@@ -12,7 +12,7 @@ use crate::audit::finding::find;
 use crate::audit::recorded::Recorded;
 use crate::cli::options::Options;
 use sia_events::NoMemory;
-use sia_graph::{Evidence, Verdict, passes, replay_law, settle_looks, ssi_law};
+use sia_graph::{Evidence, Verdict, passes, places_of, replay_law, settle_looks, ssi_law};
 use sia_parts::{BadRead, BadWrite, Looks, Unexplained};
 use std::alloc::Global;
 use std::sync::Wait;
@@ -61,11 +61,13 @@ pub(crate) fn judged<R: Threads + Wait + Sync>(
     ensures looks { IfOk result (λ (j, looks). AreLooks of.now.index.now (λ _. ⊤) looks) }
 {
     let found = find(rt, alloc, of.history, of.index, of.committed, o)?;
+    let places = places_of(alloc, &found.looks)?;
     let evidence = Evidence {
         index: of.index,
         txns: of.committed.ids(),
         keys: of.index.written_keys(),
         looks: &found.looks,
+        places: places.as_slice(),
     };
     let pass = passes(alloc, &evidence, &found.bad_reads, &found.bad_writes)?;
     let verdict = settle_looks(alloc, &evidence)?;

@@ -5,7 +5,7 @@ ghost use Rattle.sia_events.specs.Transactions.{IsCommitted};
 ghost use Rattle.sia_parts.specs.declared.finding.Kind.TheVariants.{Rw};
 ghost use Rattle.sia_parts.specs.Entries.{IsEdge};
 ghost use Rattle.sia_parts.specs.Looks.{AreLooks};
-ghost use Rattle.sia_graph.specs.Evidence.{IsEvidence};
+ghost use Rattle.sia_graph.specs.Evidence.{ArePlaced, IsEvidence};
 ghost use Rattle.sia_graph.specs.Verdicts.{IsVerdict};
 ghost use Rattle.si_audit.specs.Answering.{IsReportOf};
 ghost use Rattle.si_audit.specs.Explained.{TellsDanger, TellsVerdict, WithReasons, edges_round};
@@ -22,7 +22,7 @@ use crate::report::found::push_front;
 use crate::report::lines::{push_verdict, push_whether};
 use crate::report::words::{Words, number, push_line};
 use sia_events::{Key, NoMemory, TxnId};
-use sia_graph::{Evidence, Step, Verdict, dangerous_of, listing_law};
+use sia_graph::{Evidence, Step, Verdict, dangerous_of, listing_law, places_of};
 use sia_parts::{Edge, Kind, Looks};
 use std::alloc::Global;
 
@@ -49,6 +49,7 @@ fn push_danger(
     requires index { of.now.index.now ≡ of.now.history.now }
     requires same { evidence.now.index.now ≡ of.now.history.now }
     requires evidence { IsEvidence evidence.now.index.now evidence.now.txns.now evidence.now.keys.now evidence.now.looks.now }
+    requires places { ArePlaced evidence.now.looks.now evidence.now.places.now }
     requires judgement { IsJudgement of.now.history.now j.now }
     ensures { OnOk result ((bytes : List ℕ) × TellsDanger of.now.history.now bytes × (out.new.items ≡ out.old.items ++ bytes)) }
 {
@@ -132,11 +133,13 @@ pub(crate) fn explained(
 {
     of.history.law();
     listing_law();
+    let places = places_of(alloc, looks)?;
     let evidence = Evidence {
         index: of.index,
         txns: of.committed.ids(),
         keys: of.index.written_keys(),
         looks,
+        places: places.as_slice(),
     };
     let mut out = Vec::new(alloc);
     push_front(

@@ -3,7 +3,7 @@ ghost use Rattle.std.specs.Prelude.{◌≡◌, ◌<◌, ℕ, List, IfOk, length,
 ghost use Rattle.sia_events.specs.Transactions.{IsCommitted};
 ghost use Rattle.sia_parts.specs.Entries.{IsEdge};
 ghost use Rattle.sia_graph.specs.Cycles.{IsPrintedCycle, TakesLeastEdge};
-ghost use Rattle.sia_graph.specs.Evidence.{IsEvidence};
+ghost use Rattle.sia_graph.specs.Evidence.{ArePlaced, IsEvidence};
 ghost use Rattle.sia_graph.specs.NumberEdges.{AreByTxn, HoldSame};
 ghost use Rattle.sia_graph.specs.Orders.{Leads};
 ghost use Rattle.sia_graph.specs.Taken.{AreLeftOver};
@@ -43,16 +43,12 @@ pub(crate) fn cycle_of_left(
     left: &[bool],
 ) -> Result<Vec<Step>, NoMemory>
     requires is { IsEvidence evidence.now.index.now evidence.now.txns.now evidence.now.keys.now evidence.now.looks.now }
+    requires places { ArePlaced evidence.now.looks.now evidence.now.places.now }
     requires left { AreLeftOver (IsCommitted evidence.now.index.now) (IsEdge evidence.now.index.now) evidence.now.txns.now left.now }
     ensures { IfOk result (λ steps. IsPrintedCycle (IsCommitted evidence.now.index.now) (IsEdge evidence.now.index.now) steps.items) }
 {
     let previous = previous_of(alloc, evidence, left)?;
     let own = looks_by_txn(alloc, evidence.looks)?;
-    cycle_of(
-        alloc,
-        &EdgesIn::Seen(evidence, &own),
-        evidence.txns,
-        left,
-        &previous,
-    )
+    let edges = EdgesIn::Seen(evidence, &own);
+    cycle_of(alloc, &edges, evidence.txns, left, &previous)
 }

@@ -5,7 +5,7 @@ ghost use Rattle.sia_events.specs.Dependencies.{RwEdge};
 ghost use Rattle.sia_events.specs.Isolation.{IsolationKept};
 ghost use Rattle.sia_graph.specs.Dangerous.{IsDangerous, IsLeast};
 ghost use Rattle.sia_graph.specs.Early.{CommitsFrom, IsLeastPivot};
-ghost use Rattle.sia_graph.specs.Evidence.{IsEvidence};
+ghost use Rattle.sia_graph.specs.Evidence.{ArePlaced, IsEvidence};
 ghost use Rattle.sia_graph.specs.Extremes.{HasRwEdge};
 ghost use Rattle.sia_graph.specs.Previous.{AreLeftRanks};
 ghost use Rattle.sia_graph.specs.Ranks.{IsLeastRank};
@@ -37,6 +37,7 @@ pub struct Dangerous {
 /// `NONE`.
 fn least_pivot(alloc: Global, evidence: &Evidence, limits: &[u32]) -> Result<(u32, u32), NoMemory>
     requires evidence { IsEvidence evidence.now.index.now evidence.now.txns.now evidence.now.keys.now evidence.now.looks.now }
+    requires places { ArePlaced evidence.now.looks.now evidence.now.places.now }
     requires few { length limits.now ≤ 1000000000 }
     ensures { IfOk result (λ (pivot, last). IsLeastPivot evidence.now.looks.now limits.now pivot last) }
 {
@@ -77,6 +78,7 @@ fn least_first(
     pivot: u32,
 ) -> Result<u32, NoMemory>
     requires evidence { IsEvidence evidence.now.index.now evidence.now.txns.now evidence.now.keys.now evidence.now.looks.now }
+    requires places { ArePlaced evidence.now.looks.now evidence.now.places.now }
     requires long { length lifetimes.now ≡ length evidence.now.txns.now }
     requires pivot { pivot < length lifetimes.now }
     ensures { IfOk result (IsLeastRank (λ t. IsSource evidence.now.looks.now t pivot × CommitsFrom lifetimes.now place t)) }
@@ -119,6 +121,7 @@ fn with_keys(
 /// history passes the test of serializable snapshot isolation.
 pub fn dangerous_of(alloc: Global, evidence: &Evidence) -> Result<Option<Dangerous>, NoMemory>
     requires evidence { IsEvidence evidence.now.index.now evidence.now.txns.now evidence.now.keys.now evidence.now.looks.now }
+    requires places { ArePlaced evidence.now.looks.now evidence.now.places.now }
     requires kept { IsolationKept evidence.now.index.now }
     ensures { IfOk result (λ found. MatchOption found (NoFirst evidence.now.index.now) (IsDangerous evidence.now.index.now)) }
 {

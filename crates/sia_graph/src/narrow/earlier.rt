@@ -2,7 +2,7 @@
 ghost use Rattle.std.specs.Prelude.{◌≡◌, ◌≢◌, ◌<◌, ℕ, List, IfOk, length, slice_index_or};
 ghost use Rattle.sia_parts.specs.declared.looks.Look.{Look};
 ghost use Rattle.sia_parts.specs.declared.looks.Looks.{Looks};
-ghost use Rattle.sia_graph.specs.Evidence.{IsEvidence};
+ghost use Rattle.sia_graph.specs.Evidence.{ArePlaced, IsEvidence};
 ghost use Rattle.sia_graph.specs.Ranks.{IsLeastRank, IsRankOf};
 ghost use Rattle.sia_graph.specs.Sources.{AreEarlier, SeesBefore};
 
@@ -24,13 +24,20 @@ pub struct Earlier {
 impl Earlier {
     /// The tables for these ranks.
     pub(crate) fn of(alloc: Global, evidence: &Evidence, ranks: &[u32]) -> Result<Earlier, NoMemory>
-        requires { IsEvidence evidence.now.index.now evidence.now.txns.now evidence.now.keys.now evidence.now.looks.now }
+        requires evidence { IsEvidence evidence.now.index.now evidence.now.txns.now evidence.now.keys.now evidence.now.looks.now }
+        requires places { ArePlaced evidence.now.looks.now evidence.now.places.now }
         ensures made { IfOk result (AreEarlier evidence.now.looks.now ranks.now) }
         ensures size { IfOk result (λ earlier. earlier.size ≡ length evidence.now.keys.now) }
     {
         let looks = evidence.looks;
         let size = evidence.keys.len() as u32;
-        let twos = twos_of_readers(alloc, &looks.writers, &looks.readers, ranks)?;
+        let twos = twos_of_readers(
+            alloc,
+            &looks.writers,
+            &looks.readers,
+            evidence.places,
+            ranks,
+        )?;
         let nodes = nodes_of(alloc, &looks.absences, ranks, size)?;
         Ok(Earlier { twos, nodes, size })
     }

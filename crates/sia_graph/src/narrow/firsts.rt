@@ -2,7 +2,7 @@
 ghost use Rattle.std.specs.Prelude.{IfOk};
 ghost use Rattle.sia_graph.specs.NarrowSteps.{AreFirsts, CanSearch};
 
-use crate::narrow::versions::next_after;
+use crate::narrow::versions::{count_up_to, look_at};
 use crate::taking::numbers::step;
 use sia_events::NoMemory;
 use sia_index::ordering::put_in_order;
@@ -17,12 +17,11 @@ pub(crate) fn firsts_of(alloc: Global, size: u32, writers: &[Look]) -> Result<Ve
     let mut firsts = Vec::new(alloc);
     let mut near = 0usize;
     for key in 0..size {
-        let (first, at) = next_after(writers, key, 0, near);
-        match first {
+        near = count_up_to(writers, key, 0, near);
+        match look_at(writers, near, key) {
             Some(a) => firsts.push(step(a.txn, key))?,
             None => {}
         }
-        near = at;
     }
     put_in_order(&mut firsts);
     Ok(firsts)

@@ -4,7 +4,7 @@ ghost use Rattle.sia_events.specs.DangerousStructures.{PassesSsi};
 ghost use Rattle.sia_events.specs.Transactions.{IsCommitted};
 ghost use Rattle.sia_parts.specs.Entries.{IsEdge};
 ghost use Rattle.sia_parts.specs.Findings.{ListsBadReads, ListsBadWrites};
-ghost use Rattle.sia_graph.specs.Evidence.{IsEvidence};
+ghost use Rattle.sia_graph.specs.Evidence.{ArePlaced, IsEvidence};
 ghost use Rattle.sia_graph.specs.Verdicts.{IsVerdict};
 
 use crate::narrow::Evidence;
@@ -24,7 +24,8 @@ use std::alloc::Global;
 /// The least order of the committed transactions that keeps every edge of the history, or where none does the cycle that is
 /// printed, as `settle` tells it of a list of edges. No edge is made: a few steps lead wherever the edges lead.
 pub fn settle_looks(alloc: Global, evidence: &Evidence) -> Result<Verdict, NoMemory>
-    requires { IsEvidence evidence.now.index.now evidence.now.txns.now evidence.now.keys.now evidence.now.looks.now }
+    requires evidence { IsEvidence evidence.now.index.now evidence.now.txns.now evidence.now.keys.now evidence.now.looks.now }
+    requires places { ArePlaced evidence.now.looks.now evidence.now.places.now }
     ensures { IfOk result (IsVerdict (IsCommitted evidence.now.index.now) (IsEdge evidence.now.index.now)) }
 {
     match take_members(alloc, evidence)? {
@@ -46,6 +47,7 @@ pub fn passes(
     bad_writes: &[BadWrite],
 ) -> Result<bool, NoMemory>
     requires evidence { IsEvidence evidence.now.index.now evidence.now.txns.now evidence.now.keys.now evidence.now.looks.now }
+    requires places { ArePlaced evidence.now.looks.now evidence.now.places.now }
     requires bad_reads { ListsBadReads evidence.now.index.now (λ _. ⊤) bad_reads.now }
     requires bad_writes { ListsBadWrites evidence.now.index.now (λ _. ⊤) bad_writes.now }
     ensures { IfOk result (λ passes. IsTrue passes ↔ PassesSsi evidence.now.index.now) }

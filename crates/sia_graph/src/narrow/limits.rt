@@ -4,7 +4,7 @@ ghost use Rattle.sia_events.specs.Isolation.{IsolationKept};
 ghost use Rattle.sia_parts.specs.declared.looks.Look.{Look};
 ghost use Rattle.sia_parts.specs.declared.looks.Looks.{Looks};
 ghost use Rattle.sia_graph.specs.Early.{IsEarly, TellFirsts};
-ghost use Rattle.sia_graph.specs.Evidence.{IsEvidence};
+ghost use Rattle.sia_graph.specs.Evidence.{ArePlaced, IsEvidence};
 ghost use Rattle.sia_graph.specs.Lifetimes.{AreLifetimes};
 ghost use Rattle.sia_graph.specs.Limits.{AreLimits, IsLimit, IsWithinLimit};
 ghost use Rattle.sia_graph.specs.Ranks.{IsLeastRank, IsRankOf};
@@ -66,6 +66,7 @@ pub(crate) fn limits_in(
     lifetimes: &[Lifetime],
 ) -> Result<Vec<u32>, NoMemory>
     requires evidence { IsEvidence evidence.now.index.now evidence.now.txns.now evidence.now.keys.now evidence.now.looks.now }
+    requires places { ArePlaced evidence.now.looks.now evidence.now.places.now }
     requires kept { IsolationKept evidence.now.index.now }
     requires lived { AreLifetimes evidence.now.index.now evidence.now.txns.now lifetimes.now }
     ensures { IfOk result (λ limits. TellFirsts evidence.now.index.now evidence.now.txns.now evidence.now.looks.now limits.items) }
@@ -86,7 +87,8 @@ pub(crate) fn least_early(
     evidence: &Evidence,
     limits: &[u32],
 ) -> Result<u32, NoMemory>
-    requires { IsEvidence evidence.now.index.now evidence.now.txns.now evidence.now.keys.now evidence.now.looks.now }
+    requires evidence { IsEvidence evidence.now.index.now evidence.now.txns.now evidence.now.keys.now evidence.now.looks.now }
+    requires places { ArePlaced evidence.now.looks.now evidence.now.places.now }
     ensures { IfOk result (IsLeastRank (IsEarly evidence.now.looks.now limits.now)) }
 {
     let earlier = Earlier::of(alloc, evidence, limits)?;

@@ -2,7 +2,7 @@
 ghost use Rattle.std.specs.Prelude.{IfOk};
 ghost use Rattle.sia_events.specs.Transactions.{IsCommitted};
 ghost use Rattle.sia_parts.specs.Entries.{IsEdge};
-ghost use Rattle.sia_graph.specs.Evidence.{IsEvidence};
+ghost use Rattle.sia_graph.specs.Evidence.{ArePlaced, IsEvidence};
 ghost use Rattle.sia_graph.specs.NarrowSteps.{IsSizeFor};
 ghost use Rattle.sia_graph.specs.Taken.{IsTaken};
 
@@ -26,11 +26,12 @@ fn size_for(evidence: &Evidence) -> u32
 
 /// The least order of the committed transactions that keeps every edge, or who is left where none does.
 pub(crate) fn take_members(alloc: Global, evidence: &Evidence) -> Result<Taken, NoMemory>
-    requires { IsEvidence evidence.now.index.now evidence.now.txns.now evidence.now.keys.now evidence.now.looks.now }
+    requires evidence { IsEvidence evidence.now.index.now evidence.now.txns.now evidence.now.keys.now evidence.now.looks.now }
+    requires places { ArePlaced evidence.now.looks.now evidence.now.places.now }
     ensures { IfOk result (IsTaken (IsCommitted evidence.now.index.now) (IsEdge evidence.now.index.now) evidence.now.txns.now) }
 {
     let size = size_for(evidence);
-    let steps = steps_of(alloc, size, evidence.looks)?;
+    let steps = steps_of(alloc, size, evidence.looks, evidence.places)?;
     let taken = take_nodes(alloc, size, evidence.txns, &steps)?;
     Ok(taken)
 }

@@ -2,7 +2,7 @@
 ghost use Rattle.std.specs.Prelude.{◌≡◌, ◌≢◌, ◌+◌, ◌<◌, ◌≤◌, ℕ, true, false, List, All, IfOk, length, slice_index};
 ghost use Rattle.sia_parts.specs.declared.looks.Look.{Look};
 ghost use Rattle.sia_parts.specs.Entries.{IsEdge};
-ghost use Rattle.sia_graph.specs.Evidence.{IsEvidence};
+ghost use Rattle.sia_graph.specs.Evidence.{ArePlaced, ArePlaces, IsEvidence};
 ghost use Rattle.sia_graph.specs.Previous.{AreLeftRanks, AreLowered, IsLeftIn, IsPlaceOf};
 ghost use Rattle.sia_graph.specs.Ranks.{IsLeastRank, IsRankBelow};
 ghost use Rattle.sia_graph.specs.VersionRanks.{AreTwos, AreVersions};
@@ -38,33 +38,39 @@ fn ranks_of(alloc: Global, left: &[bool]) -> Result<Vec<u32>, NoMemory>
     Ok(ranks)
 }
 
-/// The least rank, but the look's own number, of those who made the versions of its key up to its end, which are looked for from
-/// near where the last search ended.
-fn least_up_to(versions: &[Look], twos: &[Two], look: Look, near: &mut usize) -> u32
-    requires versions { AreVersions versions.now }
-    requires long { length twos.now ≡ length versions.now }
-    ensures { (ranks : List ℕ) → AreTwos versions.now versions.now ranks 1 twos.now
-        → IsLeastRank (λ r. IsRankBelow versions.now ranks look.key (look.high + 1) r × (r ≢ look.txn)) result }
-{
-    match newest_place(versions, look.key, look.high, near) {
-        Some(at) => other(twos[at], look.txn),
-        None => NONE,
-    }
-}
-
 /// Lowers for each transaction its rank to the least one, but its own number, of those who made the versions of a key up to where
-/// one of its looks ends.
-fn lower(versions: &[Look], twos: &[Two], looks: &[Look], least: &mut [u32])
+/// one of its looks ends, by the places of these.
+fn lower_by_seen(
+    versions: &[Look],
+    twos: &[Two],
+    looks: &[Look],
+    places: &[usize],
+    least: &mut [u32],
+)
     requires versions { AreVersions versions.now }
     requires long { length twos.now ≡ length versions.now }
     requires within { All (λ look. look.txn < length least.old) looks.now }
+    requires places { ArePlaces versions.now looks.now places.now }
     ensures { (ranks : List ℕ) → AreTwos versions.now versions.now ranks 1 twos.now → AreLowered versions.now ranks looks.now least.old least.new }
 {
-    let mut near = 0usize;
-    for look in looks {
-        let t = look.txn as usize;
-        let rank = least_up_to(versions, twos, *look, &mut near);
-        least[t] = least[t].min(rank);
+    for i in 0..looks.len() {
+        let t = looks[i].txn;
+        if let Some(at) = newest_place(versions, looks[i], places[i]) {
+            least[t as usize] = least[t as usize].min(other(twos[at], t));
+        }
+    }
+}
+
+/// The same, up to each version that it made.
+fn lower_by_made(versions: &[Look], twos: &[Two], least: &mut [u32])
+    requires versions { AreVersions versions.now }
+    requires long { length twos.now ≡ length versions.now }
+    requires within { All (λ look. look.txn < length least.old) versions.now }
+    ensures { (ranks : List ℕ) → AreTwos versions.now versions.now ranks 1 twos.now → AreLowered versions.now ranks versions.now least.old least.new }
+{
+    for i in 0..versions.len() {
+        let t = versions[i].txn;
+        least[t as usize] = least[t as usize].min(other(twos[i], t));
     }
 }
 
@@ -96,6 +102,7 @@ pub(crate) fn previous_of(
 ) -> Result<Vec<usize>, NoMemory>
     requires long { length left.now ≡ length evidence.now.txns.now }
     requires is { IsEvidence evidence.now.index.now evidence.now.txns.now evidence.now.keys.now evidence.now.looks.now }
+    requires places { ArePlaced evidence.now.looks.now evidence.now.places.now }
     ensures long { IfOk result (λ previous. length previous.items ≡ length left.now) }
     ensures least { IfOk result (λ previous. AreLeastSources evidence.now.txns.now (IsEdge evidence.now.index.now) (IsLeftIn left.now) previous.items) }
 {
@@ -104,8 +111,9 @@ pub(crate) fn previous_of(
     let twos = twos_of_writers(alloc, writers, &ranks)?;
     let mut sources = ranks_of_sources(alloc, evidence, &ranks)?;
     let least = sources.as_mut_slice();
-    lower(writers, &twos, writers, least);
-    lower(writers, &twos, &evidence.looks.readers, least);
+    let readers = evidence.looks.readers.as_slice();
+    lower_by_made(writers, &twos, least);
+    lower_by_seen(writers, &twos, readers, evidence.places, least);
     let previous = places(alloc, least)?;
     Ok(previous)
 }

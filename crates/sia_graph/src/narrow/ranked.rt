@@ -1,13 +1,13 @@
 //! With each version of a key the two least ranks of those who saw or made an earlier one.
 ghost use Rattle.std.specs.Prelude.{◌≡◌, ◌↔◌, ◌++◌, ◌∷◌, [], ◌<◌, ℕ, List, IfOk, length};
 ghost use Rattle.sia_graph.specs.Absences.{AreTwosAt};
+ghost use Rattle.sia_graph.specs.Evidence.{ArePlaces};
 ghost use Rattle.sia_graph.specs.NarrowSteps.{CanSearch};
 ghost use Rattle.sia_graph.specs.Ranks.{IsRankOf};
 ghost use Rattle.sia_graph.specs.VersionRanks.{AreTwos, AreTwosUpTo, AreVersions};
 
-use crate::narrow::nearby::Nearby;
 use crate::narrow::two::{NO_RANKS, NONE, Two, with};
-use crate::narrow::versions::next_after;
+use crate::narrow::versions::look_at;
 use sia_events::NoMemory;
 use sia_parts::Look;
 use std::alloc::Global;
@@ -49,19 +49,18 @@ pub(crate) fn twos_of_readers(
     alloc: Global,
     versions: &[Look],
     readers: &[Look],
+    places: &[usize],
     ranks: &[u32],
 ) -> Result<Vec<Two>, NoMemory>
-    requires { CanSearch versions.now }
+    requires search { CanSearch versions.now }
+    requires places { ArePlaces versions.now readers.now places.now }
     ensures { IfOk result (λ twos. AreTwos versions.now readers.now ranks.now 0 twos.items) }
 {
     let mut twos = vec![in alloc; NO_RANKS; versions.len()]?;
-    let mut nearby = Nearby::of(alloc, versions)?;
-    for look in readers {
-        let (next, at) = next_after(versions, look.key, look.low, nearby.place(look.key));
-        if next.is_some() {
-            put_rank(&mut twos, at, ranks, look.txn);
+    for i in 0..readers.len() {
+        if look_at(versions, places[i], readers[i].key).is_some() {
+            put_rank(&mut twos, places[i], ranks, readers[i].txn);
         }
-        nearby.note(look.key, at);
     }
     add_earlier(versions, &mut twos);
     Ok(twos)

@@ -1,6 +1,6 @@
 //! The least ranks of those with an rw edge to transactions.
 ghost use Rattle.std.specs.Prelude.{◌≡◌, IfOk, length};
-ghost use Rattle.sia_graph.specs.Evidence.{IsEvidence};
+ghost use Rattle.sia_graph.specs.Evidence.{ArePlaced, IsEvidence};
 ghost use Rattle.sia_graph.specs.Ranks.{AreRanks};
 ghost use Rattle.sia_graph.specs.Sources.{AreLeastOfSources};
 
@@ -17,6 +17,7 @@ pub(crate) fn ranks_of_sources(
     ranks: &[u32],
 ) -> Result<Vec<u32>, NoMemory>
     requires is { IsEvidence evidence.now.index.now evidence.now.txns.now evidence.now.keys.now evidence.now.looks.now }
+    requires places { ArePlaced evidence.now.looks.now evidence.now.places.now }
     requires long { length ranks.now ≡ length evidence.now.txns.now }
     requires apart { AreRanks ranks.now }
     ensures { IfOk result (λ least. AreLeastOfSources evidence.now.looks.now ranks.now least.items) }

@@ -1,10 +1,11 @@
 //! Steps between committed transactions, and through blocks of keys, that lead wherever the edges of a history lead.
 ghost use Rattle.std.specs.Prelude.{◌≡◌, ◌≢◌, ◌⊎◌, ℕ, ◌+◌, ◌*◌, ◌<◌, ◌≤◌, All, Contains, IsTrue, OnOk};
 ghost use Rattle.sia_parts.specs.Sights.{Adds, FromSome};
-ghost use Rattle.sia_graph.specs.NarrowSteps.{CanSearch, IsHalfStep, IsLeafStep, IsLookStep, IsNewestStep, IsNextStep, node_of, step_number, step_source, step_target};
+ghost use Rattle.sia_graph.specs.Evidence.{ArePlaces};
+ghost use Rattle.sia_graph.specs.NarrowSteps.{CanSearch, IsHalfStep, IsLeafStep, IsLookStep, node_of, step_number, step_source, step_target};
+ghost use Rattle.sia_graph.specs.VersionRanks.{AreVersions};
 
-use crate::narrow::nearby::Nearby;
-use crate::narrow::versions::{newest_at, next_after};
+use crate::narrow::versions::{look_at, newest_place};
 use crate::taking::numbers::{source_of, step, target_of};
 use sia_events::NoMemory;
 use sia_parts::Look;
@@ -43,61 +44,45 @@ fn put_between(size: u32, source: u32, target: u32, steps: &mut Vec<u64>) -> Res
     Ok(())
 }
 
-/// Adds the step from who made or saw a version to the next version, and gives near which place that stands.
-fn put_next(
+/// Adds the steps of those who saw versions: to the next version, and from who made the newest one that was seen, or the one before.
+pub(crate) fn put_reader_steps(
     size: u32,
     writers: &[Look],
-    look: Look,
-    near: usize,
-    steps: &mut Vec<u64>,
-) -> Result<usize, NoMemory>
-    requires writers { CanSearch writers.now }
-    requires few { (size ≤ 1048576) × (look.txn < 1048576) }
-    ensures { OnOk result (Adds (IsNextStep size writers.now look) steps.old.items steps.new.items) }
-{
-    let (next, at) = next_after(writers, look.key, look.low, near);
-    match next {
-        Some(a) => put_between(size, look.txn, a.txn, steps)?,
-        None => {}
-    }
-    Ok(at)
-}
-
-/// Adds the step to who saw a version from who made it, or the one before.
-fn put_newest(
-    size: u32,
-    writers: &[Look],
-    look: Look,
-    near: usize,
+    readers: &[Look],
+    places: &[usize],
     steps: &mut Vec<u64>,
 ) -> Result<(), NoMemory>
     requires writers { CanSearch writers.now }
-    requires few { (size ≤ 1048576) × (look.txn < 1048576) }
-    ensures { OnOk result (Adds (IsNewestStep size writers.now look) steps.old.items steps.new.items) }
+    requires few { (size ≤ 1048576) × All (λ a. a.txn < 1048576) readers.now }
+    requires places { ArePlaces writers.now readers.now places.now }
+    ensures { OnOk result (Adds (FromSome (IsLookStep size writers.now) readers.now) steps.old.items steps.new.items) }
 {
-    match newest_at(writers, look.key, look.high, near) {
-        Some(a) => put_between(size, a.txn, look.txn, steps),
-        None => Ok(()),
+    for i in 0..readers.len() {
+        let look = readers[i];
+        if let Some(a) = look_at(writers, places[i], look.key) {
+            put_between(size, look.txn, a.txn, steps)?;
+        }
+        if let Some(at) = newest_place(writers, look, places[i]) {
+            put_between(size, writers[at].txn, look.txn, steps)?;
+        }
     }
+    Ok(())
 }
 
-/// Adds the steps of those who made or saw versions. What follows in time mostly saw a version of a key near the one that was
-/// seen last.
-pub(crate) fn put_look_steps(
+/// Adds the steps of those who made versions: from each to who made the next one of its key, which stands behind it.
+pub(crate) fn put_writer_steps(
     size: u32,
-    writers: &[Look],
-    looks: &[Look],
-    nearby: &mut Nearby,
+    versions: &[Look],
     steps: &mut Vec<u64>,
 ) -> Result<(), NoMemory>
-    requires writers { CanSearch writers.now }
-    requires few { (size ≤ 1048576) × All (λ a. a.txn < 1048576) looks.now }
-    ensures { OnOk result (Adds (FromSome (IsLookStep size writers.now) looks.now) steps.old.items steps.new.items) }
+    requires versions { AreVersions versions.now }
+    requires few { size ≤ 1048576 }
+    ensures { OnOk result (Adds (FromSome (IsLookStep size versions.now) versions.now) steps.old.items steps.new.items) }
 {
-    for look in looks {
-        let near = put_next(size, writers, *look, nearby.place(look.key), steps)?;
-        put_newest(size, writers, *look, near, steps)?;
-        nearby.note(look.key, near);
+    for i in 1..versions.len() {
+        if versions[i].key == versions[i - 1].key {
+            put_between(size, versions[i - 1].txn, versions[i].txn, steps)?;
+        }
     }
     Ok(())
 }

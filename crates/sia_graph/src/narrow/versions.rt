@@ -1,10 +1,9 @@
 //! The version of a key before or after a place, by who made it.
-ghost use Rattle.std.specs.Prelude.{◌≡◌, ◌≢◌, ◌+◌, ◌*◌, ◌<◌, ◌≤◌, Contains, IfSome, MatchOption, length, slice_index_or};
-ghost use Rattle.std.specs.List.{AllWithin};
+ghost use Rattle.std.specs.Prelude.{◌≡◌, ◌≢◌, ◌<◌, ◌≤◌, Contains, MatchOption, length, slice_index_or};
 ghost use Rattle.sia_parts.specs.declared.looks.Look.{Look};
 ghost use Rattle.sia_parts.specs.Looks.{RiseByRank, look_rank};
-ghost use Rattle.sia_graph.specs.NarrowSteps.{CanSearch, IsNewest, IsNext};
-ghost use Rattle.sia_graph.specs.VersionRanks.{IsNextAt};
+ghost use Rattle.sia_graph.specs.Evidence.{IsPlace};
+ghost use Rattle.sia_graph.specs.NarrowSteps.{CanSearch, IsNewest};
 
 use crate::taking::numbers::step;
 use sia_index::keyed::{By, place_above_near};
@@ -24,18 +23,16 @@ impl By<Look> for ByRank {
 }
 
 /// How many writers stand up to the key and the place. They are counted from near a guess.
-fn count_up_to(writers: &[Look], key: u32, place: u32, near: usize) -> usize
+pub(crate) fn count_up_to(writers: &[Look], key: u32, place: u32, near: usize) -> usize
     requires { RiseByRank writers.now }
-    ensures bound { result ≤ length writers.now }
-    ensures before { AllWithin (λ a. look_rank a ≤ key * 4294967296 + place) writers.now 0 result }
-    ensures after { AllWithin (λ a. key * 4294967296 + place < look_rank a) writers.now result (length writers.now) }
+    ensures { IsPlace writers.now key place result }
 {
     let most = step(key, place);
     place_above_near::<Look, ByRank>(writers, most, near)
 }
 
 /// The look at a place, where it is one of the key.
-fn look_at(writers: &[Look], at: usize, key: u32) -> Option<Look>
+pub(crate) fn look_at(writers: &[Look], at: usize, key: u32) -> Option<Look>
     ensures { MatchOption result ((d : Look) → at < length writers.now → (slice_index_or writers.now at d).key ≢ key)
         (λ a. (at < length writers.now) × (slice_index_or writers.now at a ≡ a) × (a.key ≡ key)) }
 {
@@ -43,45 +40,29 @@ fn look_at(writers: &[Look], at: usize, key: u32) -> Option<Look>
     (look.key == key).then_some(look)
 }
 
-/// Who made the first version of the key after the place, and near which place that stands.
-pub(crate) fn next_after(
-    writers: &[Look],
-    key: u32,
-    place: u32,
-    near: usize,
-) -> (Option<Look>, usize)
-    requires { CanSearch writers.now }
-    ensures next { MatchOption result.0 ((a : Look) → Contains writers.now a → a.key ≡ key → a.high ≤ place) (IsNext writers.now key place) }
-    ensures at { IfSome result.0 (λ a. IsNextAt writers.now key place result.1) }
+/// How many writers stand up to the newest version that the look saw of its key, where so many stand up to the oldest one. Mostly
+/// both are the same.
+fn count_to_newest(writers: &[Look], look: Look, at: usize) -> usize
+    requires rise { RiseByRank writers.now }
+    requires at { IsPlace writers.now look.key look.low at }
+    ensures { IsPlace writers.now look.key look.high result }
 {
-    let at = count_up_to(writers, key, place, near);
-    (look_at(writers, at, key), at)
+    if look.low == look.high {
+        return at;
+    }
+    count_up_to(writers, look.key, look.high, at)
 }
 
-/// Where the last version of the key up to the place stands. It is looked for from near where the last search ended.
-pub(crate) fn newest_place(
-    writers: &[Look],
-    key: u32,
-    place: u32,
-    near: &mut usize,
-) -> Option<usize>
-    requires { CanSearch writers.now }
-    ensures { MatchOption result ((a : Look) → Contains writers.now a → a.key ≡ key → place < a.high)
-        (λ i. (i < length writers.now) × ((d : Look) → IsNewest writers.now key place (slice_index_or writers.now i d))) }
+/// Where the last version of its key up to the newest one that the look saw stands, where so many stand up to the oldest one.
+pub(crate) fn newest_place(writers: &[Look], look: Look, at: usize) -> Option<usize>
+    requires search { CanSearch writers.now }
+    requires at { IsPlace writers.now look.key look.low at }
+    ensures { MatchOption result ((a : Look) → Contains writers.now a → a.key ≡ look.key → look.high < a.high)
+        (λ i. (i < length writers.now) × ((d : Look) → IsNewest writers.now look.key look.high (slice_index_or writers.now i d))) }
 {
-    let end = count_up_to(writers, key, place, *near);
-    *near = end;
-    let at = end.checked_sub(1)?;
-    match look_at(writers, at, key) {
-        Some(_) => Some(at),
+    let last = count_to_newest(writers, look, at).checked_sub(1)?;
+    match look_at(writers, last, look.key) {
+        Some(_) => Some(last),
         None => None,
     }
-}
-
-/// Who made the last version of the key up to the place.
-pub(crate) fn newest_at(writers: &[Look], key: u32, place: u32, mut near: usize) -> Option<Look>
-    requires { CanSearch writers.now }
-    ensures { MatchOption result ((a : Look) → Contains writers.now a → a.key ≡ key → place < a.high) (IsNewest writers.now key place) }
-{
-    Some(writers[newest_place(writers, key, place, &mut near)?])
 }

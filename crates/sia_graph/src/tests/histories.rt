@@ -9,6 +9,7 @@ ghost use Rattle.sia_parts.specs.Gathering.{IsGathering};
 use crate::narrow::Evidence;
 use crate::narrow::dangerous::dangerous_of;
 use crate::narrow::judging::are_none;
+use crate::narrow::placing::places_of;
 use crate::pivot::Pivot;
 use crate::pivoting::passing::ssi_pass;
 use crate::pivoting::pivots;
@@ -80,11 +81,13 @@ fn dangerous(alloc: Global, h: &History, ix: &Index) -> Result<Option<Structure>
     if !are_none(&found.bad_reads, &found.bad_writes) {
         return Ok(None);
     }
+    let places = places_of(alloc, &found.looks)?;
     let evidence = Evidence {
         index: ix,
         txns: committed.ids(),
         keys: ix.written_keys(),
         looks: &found.looks,
+        places: &places,
     };
     match dangerous_of(alloc, &evidence)? {
         Some(it) => Ok(Some((it.first, it.first_key, it.pivot, it.last_key, it.last))),

@@ -3,9 +3,13 @@ use Rattle.std.specs.Prelude.{IsTrue}
 use Rattle.sia_events.specs.DangerousStructures.{PassesSsi}
 use Rattle.sia_events.specs.Transactions.{IsCommitted}
 use Rattle.sia_parts.specs.Entries.{IsEdge}
+use Rattle.sia_graph.specs.Evidence.{ArePlaced}
 use Rattle.sia_graph.specs.Verdicts.{IsVerdict}
 use Rattle.si_audit.proofs.Judging.{passed_is_serializable, serializable_where}
 use Rattle.si_audit.proofs.audit.judgement.judged.Goals as goal
+
+pub places_of-requires : goal.places_of-requires
+places_of-requires g c = c.in_ok-found.ensures.looks.rise
 
 pub passes-requires : goal.passes-requires
 passes-requires g c = record {
@@ -15,16 +19,20 @@ passes-requires g c = record {
     keys_are = c.written_keys.ensures;
     looks_are = rw c.requires.index c.in_ok-found.ensures.looks;
   };
+  places = subst (ArePlaced c.in_ok-found.found.looks) (sym c.as_slice.ensures.value) c.in_ok-places.ensures;
   bad_reads = rw (c.requires.index, c.deref.ensures.value) c.in_ok-found.ensures.bad_reads;
   bad_writes = rw (c.requires.index, c.deref-2.ensures.value) c.in_ok-found.ensures.bad_writes;
 }
 
 pub settle_looks-requires : goal.settle_looks-requires
 settle_looks-requires g c = record {
-  well_formed = rw c.requires.index c.requires.well_formed;
-  txns_are = rw c.ids.ensures c.requires.committed;
-  keys_are = c.written_keys.ensures;
-  looks_are = rw c.requires.index c.in_ok-found.ensures.looks;
+  evidence = record {
+    well_formed = rw c.requires.index c.requires.well_formed;
+    txns_are = rw c.ids.ensures c.requires.committed;
+    keys_are = c.written_keys.ensures;
+    looks_are = rw c.requires.index c.in_ok-found.ensures.looks;
+  };
+  places = subst (ArePlaced c.in_ok-found.found.looks) (sym c.as_slice.ensures.value) c.in_ok-places.ensures;
 }
 
 pub returns-clause-exact : goal.returns-clause-exact

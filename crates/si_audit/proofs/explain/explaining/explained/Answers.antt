@@ -8,6 +8,7 @@ use Rattle.si_audit.specs.Reasons.{TellsBadRead, TellsBadWrite, TellsUnexplained
 use Rattle.si_audit.specs.Sheets.{text_of}
 use Rattle.si_audit.proofs.Clean.{account_is}
 use Rattle.si_audit.proofs.Pushed.{explained_pushed}
+use Rattle.sia_graph.specs.Evidence.{ArePlaced}
 use Rattle.si_audit.proofs.explain.explaining.explained.Goals as goal
 
 pub push_front-requires-clause-index : goal.push_front-requires-clause-index
@@ -23,6 +24,7 @@ push_danger-requires c = record {
     keys_are = c.written_keys.ensures;
     looks_are = c.requires.looks;
   };
+  places = subst (ArePlaced c.args.looks.now) (sym c.as_slice.ensures.value) c.in_ok-places.ensures;
   judgement = c.requires.judgement;
 }
 

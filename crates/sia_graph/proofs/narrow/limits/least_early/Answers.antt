@@ -29,7 +29,7 @@ is_within-requires-clause-within c =
 pub is_within-requires-clause-key : goal.is_within-requires-clause-key
 is_within-requires-clause-key c =
     let e = c.args.evidence.now in
-    let at = made_at e.index.now e.txns.now e.keys.now e.looks.now c.requires c.as_slice-writers.result.now c.as_slice-writers.ensures.value c.loop-at.at none c.loop-at-test.true in
+    let at = made_at e.index.now e.txns.now e.keys.now e.looks.now c.requires.evidence c.as_slice-writers.result.now c.as_slice-writers.ensures.value c.loop-at.at none c.loop-at-test.true in
     let size = c.in_ok-earlier.ensures.size in
     let below = at.0 in
     omega arith
@@ -48,8 +48,8 @@ loop-at-preserved c =
     let Made = λ (r : ℕ). IsLeastRank (FromSome (IsMadeWithin looks limits) (take (n + 1) writers)) r in
     elim c.if-is_within.branch [
       | then-is_within w ↦
-          let few = few_txns e.index.now e.txns.now e.keys.now looks c.requires in
-          let at = (made_at e.index.now e.txns.now e.keys.now looks c.requires writers c.as_slice-writers.ensures.value n none below).1 in
+          let few = few_txns e.index.now e.txns.now e.keys.now looks c.requires.evidence in
+          let at = (made_at e.index.now e.txns.now e.keys.now looks c.requires.evidence writers c.as_slice-writers.ensures.value n none below).1 in
           subst Made (sym (w.least-is ∙ w.min-least.ensures)) (made_more looks limits writers n none below least before (omega arith) (test.0 w.if-is_within.true))
       | else-is_within w ↦ subst Made (sym w.least-is) (made_same looks limits writers n none below least before (λ within. false≢true (sym w.if-is_within.false ∙ test.1 within)))
     ]

@@ -4,6 +4,7 @@ use Rattle.sia_parts.specs.declared.looks.Look.{Look}
 use Rattle.sia_graph.specs.declared.narrow.two.Two.{Two}
 use Rattle.sia_graph.specs.Previous.{AreLeftRanks, AreLowered, AreWithin, IsPlaceOf}
 use Rattle.sia_graph.specs.Sources.{AreLeastOfSources}
+use Rattle.sia_graph.specs.Evidence.{ArePlaces}
 use Rattle.sia_graph.specs.VersionRanks.{AreTwos}
 use Rattle.sia_graph.proofs.EvidenceEdges.{few_txns}
 use Rattle.sia_graph.proofs.Previous.{left_apart, previous_is}
@@ -27,37 +28,43 @@ ranks_of_sources-requires-clause-apart c =
 pub twos_of_writers-requires : goal.twos_of_writers-requires
 twos_of_writers-requires c = let e = c.args.evidence.now in are_versions e.index.now e.txns.now e.keys.now e.looks.now c.requires.is c.as_slice-writers.result.now c.as_slice-writers.ensures.value
 
-pub lower-requires-clause-versions : goal.lower-requires-clause-versions
-lower-requires-clause-versions c = let e = c.args.evidence.now in are_versions e.index.now e.txns.now e.keys.now e.looks.now c.requires.is c.as_slice-writers.result.now c.as_slice-writers.ensures.value
+pub lower_by_made-requires-clause-versions : goal.lower_by_made-requires-clause-versions
+lower_by_made-requires-clause-versions c = let e = c.args.evidence.now in are_versions e.index.now e.txns.now e.keys.now e.looks.now c.requires.is c.as_slice-writers.result.now c.as_slice-writers.ensures.value
 
-pub lower-requires-clause-long : goal.lower-requires-clause-long
-lower-requires-clause-long c = ap (length {A = Two}) c.deref-3.ensures.value ∙ c.in_ok-twos.ensures.0
+pub lower_by_made-requires-clause-long : goal.lower_by_made-requires-clause-long
+lower_by_made-requires-clause-long c = ap (length {A = Two}) c.deref-3.ensures.value ∙ c.in_ok-twos.ensures.0
 
-pub lower-requires-clause-within : goal.lower-requires-clause-within
-lower-requires-clause-within c =
+pub lower_by_made-requires-clause-within : goal.lower_by_made-requires-clause-within
+lower_by_made-requires-clause-within c =
     let e = c.args.evidence.now in
     let within = are_within e.index.now e.txns.now e.keys.now e.looks.now c.requires.is in
     let long = ap (length {A = ℕ}) c.as_mut_slice-least.ensures.value ∙ c.in_ok-sources.ensures.0 ∙ ap (length {A = ℕ}) c.deref-2.ensures.value ∙ c.in_ok-ranks.ensures.long ∙ c.requires.long in
     subst (λ n. All (λ (look : Look). look.txn < n) c.as_slice-writers.result.now) (sym long)
     (subst (All (λ (look : Look). look.txn < length e.txns.now)) (sym c.as_slice-writers.ensures.value) within.writers)
 
-pub lower-requires-2-clause-versions : goal.lower-requires-2-clause-versions
-lower-requires-2-clause-versions c = let e = c.args.evidence.now in are_versions e.index.now e.txns.now e.keys.now e.looks.now c.requires.is c.as_slice-writers.result.now c.as_slice-writers.ensures.value
+pub lower_by_seen-requires-clause-versions : goal.lower_by_seen-requires-clause-versions
+lower_by_seen-requires-clause-versions c = let e = c.args.evidence.now in are_versions e.index.now e.txns.now e.keys.now e.looks.now c.requires.is c.as_slice-writers.result.now c.as_slice-writers.ensures.value
 
-pub lower-requires-2-clause-long : goal.lower-requires-2-clause-long
-lower-requires-2-clause-long c = ap (length {A = Two}) c.deref-4.ensures.value ∙ c.in_ok-twos.ensures.0
+pub lower_by_seen-requires-clause-long : goal.lower_by_seen-requires-clause-long
+lower_by_seen-requires-clause-long c = ap (length {A = Two}) c.deref-4.ensures.value ∙ c.in_ok-twos.ensures.0
 
-pub lower-requires-2-clause-within : goal.lower-requires-2-clause-within
-lower-requires-2-clause-within c =
+pub lower_by_seen-requires-clause-within : goal.lower_by_seen-requires-clause-within
+lower_by_seen-requires-clause-within c =
     let e = c.args.evidence.now in
     let within = are_within e.index.now e.txns.now e.keys.now e.looks.now c.requires.is in
-    let long = c.lower.auto.least ∙ ap (length {A = ℕ}) c.as_mut_slice-least.ensures.value ∙ c.in_ok-sources.ensures.0 ∙ ap (length {A = ℕ}) c.deref-2.ensures.value ∙ c.in_ok-ranks.ensures.long ∙ c.requires.long in
-    subst (λ n. All (λ (look : Look). look.txn < n) c.deref-5.result.now) (sym long)
-    (subst (All (λ (look : Look). look.txn < length e.txns.now)) (sym c.deref-5.ensures.value) within.readers)
+    let long = c.lower_by_made.auto.least ∙ ap (length {A = ℕ}) c.as_mut_slice-least.ensures.value ∙ c.in_ok-sources.ensures.0 ∙ ap (length {A = ℕ}) c.deref-2.ensures.value ∙ c.in_ok-ranks.ensures.long ∙ c.requires.long in
+    subst (λ n. All (λ (look : Look). look.txn < n) c.as_slice-readers.result.now) (sym long)
+    (subst (All (λ (look : Look). look.txn < length e.txns.now)) (sym c.as_slice-readers.ensures.value) within.readers)
+
+pub lower_by_seen-requires-clause-places : goal.lower_by_seen-requires-clause-places
+lower_by_seen-requires-clause-places c =
+    let e = c.args.evidence.now in
+    subst (λ (ws : List Look). ArePlaces ws c.as_slice-readers.result.now e.places.now) (sym c.as_slice-writers.ensures.value)
+    (subst (λ (rs : List Look). ArePlaces e.looks.now.writers.items rs e.places.now) (sym c.as_slice-readers.ensures.value) c.requires.places)
 
 pub returns-clause-long : goal.returns-clause-long
 returns-clause-long c =
-    c.in_ok-previous.ensures.long ∙ c.lower-2.auto.least ∙ c.lower.auto.least ∙ ap (length {A = ℕ}) c.as_mut_slice-least.ensures.value ∙ c.in_ok-sources.ensures.0 ∙ ap (length {A = ℕ}) c.deref-2.ensures.value ∙ c.in_ok-ranks.ensures.long
+    c.in_ok-previous.ensures.long ∙ c.lower_by_seen.auto.least ∙ c.lower_by_made.auto.least ∙ ap (length {A = ℕ}) c.as_mut_slice-least.ensures.value ∙ c.in_ok-sources.ensures.0 ∙ ap (length {A = ℕ}) c.deref-2.ensures.value ∙ c.in_ok-ranks.ensures.long
 
 pub returns-clause-least : goal.returns-clause-least
 returns-clause-least c =
@@ -66,15 +73,15 @@ returns-clause-least c =
     let left = c.args.left.now in
     let ranks = c.in_ok-ranks.ranks.items in
     let old = c.as_mut_slice-least.result.now in
-    let mid = c.lower.new.least in
-    let new = c.lower-2.new.least in
+    let mid = c.lower_by_made.new.least in
+    let new = c.lower_by_seen.new.least in
     let writers = c.as_slice-writers.result.now in
     let twos = c.in_ok-twos.twos.items in
     let sources = subst (AreLeastOfSources looks ranks) (sym c.as_mut_slice-least.ensures.value) (subst (λ rs. AreLeastOfSources looks rs c.in_ok-sources.sources.items) c.deref-2.ensures.value c.in_ok-sources.ensures) in
     let are = subst (λ rs. AreTwos writers writers rs 1 twos) c.deref.ensures.value c.in_ok-twos.ensures in
-    let first = subst (λ (ws : List Look). AreLowered ws ranks ws old mid) c.as_slice-writers.ensures.value (c.lower.ensures ranks (subst (AreTwos writers writers ranks 1) (sym c.deref-3.ensures.value) are)) in
+    let first = subst (λ (ws : List Look). AreLowered ws ranks ws old mid) c.as_slice-writers.ensures.value (c.lower_by_made.ensures ranks (subst (AreTwos writers writers ranks 1) (sym c.deref-3.ensures.value) are)) in
     let second = subst (λ (ws : List Look). AreLowered ws ranks looks.readers.items mid new) c.as_slice-writers.ensures.value
-    (subst (λ (ls : List Look). AreLowered writers ranks ls mid new) c.deref-5.ensures.value (c.lower-2.ensures ranks (subst (AreTwos writers writers ranks 1) (sym c.deref-4.ensures.value) are))) in
+    (subst (λ (ls : List Look). AreLowered writers ranks ls mid new) c.as_slice-readers.ensures.value (c.lower_by_seen.ensures ranks (subst (AreTwos writers writers ranks 1) (sym c.deref-4.ensures.value) are))) in
     let long_left = c.requires.long in
     let few = few_txns e.index.now e.txns.now e.keys.now looks c.requires.is in
     let within = subst (λ n. AreWithin looks n (length e.keys.now)) (sym c.requires.long) (are_within e.index.now e.txns.now e.keys.now looks c.requires.is) in

@@ -15,6 +15,7 @@ returns c =
     let point = c.place_above_near.ensures.point in
     record {
       bound = c.place_above_near.ensures.bound;
+      fits = c.ranges.place.fits;
       before = subst (λ m. AllWithin (λ a. look_rank a ≤ m) writers 0 at) c.step-most.ensures (λ k d a b. leb-true (look_rank (get_or writers k d)) most (point.0 k d a b));
       after = subst (λ m. AllWithin (λ a. m < look_rank a) writers at (length writers)) c.step-most.ensures (λ k d a b. leb-false (look_rank (get_or writers k d)) most (point.1 k d a b));
     }

@@ -8,24 +8,24 @@ use Rattle.sia_graph.proofs.narrow.versions.newest_place.Goals as goal
 pub returns-in-None : goal.returns-in-None
 returns-in-None c =
     let writers = c.args.writers.now in
-    let after = c.count_up_to-end.result in
-    let n = c.count_up_to-end.ensures in
-    let some = c.in_ok-at.ensures in
-    let one : c.in_ok-at.at + 1 ≡ after = omega arith in
-    let within : c.in_ok-at.at < length writers = let b = n.bound in omega arith in
-    none_newest writers c.requires.rise c.requires.small c.args.key c.args.place c.ranges.place.fits after n.before n.after c.in_ok-at.at one within c.in-None.ensures
+    let after = c.count_to_newest.result in
+    let n = c.count_to_newest.ensures in
+    let some = c.in_ok-last.ensures in
+    let one : c.in_ok-last.last + 1 ≡ after = omega arith in
+    let within : c.in_ok-last.last < length writers = let b = n.bound in omega arith in
+    none_newest writers c.requires.search.rise c.requires.search.small c.args.look.key c.args.look.high after n.before n.after n.fits c.in_ok-last.last one within c.in-None.ensures
 
 pub returns-in-Some : goal.returns-in-Some
 returns-in-Some c =
     let writers = c.args.writers.now in
-    let at = c.in_ok-at.at in
+    let at = c.in_ok-last.last in
     let look = c.in-Some.field-0 in
     let has = c.in-Some.ensures in
-    let n = c.count_up_to-end.ensures in
-    let some = c.in_ok-at.ensures in
-    let one : at + 1 ≡ c.count_up_to-end.result = omega arith in (
+    let n = c.count_to_newest.ensures in
+    let some = c.in_ok-last.ensures in
+    let one : at + 1 ≡ c.count_to_newest.result = omega arith in (
       has.0,
       λ d.
-          subst (IsNewest writers c.args.key c.args.place) (sym (get_or_default writers at d look has.0 ∙ has.1))
-          (is_newest writers c.requires.rise c.requires.small c.args.key c.args.place c.ranges.place.fits c.count_up_to-end.result n.before n.after look (at, has.0, has.1) one has.2),
+          subst (IsNewest writers c.args.look.key c.args.look.high) (sym (get_or_default writers at d look has.0 ∙ has.1))
+          (is_newest writers c.requires.search.rise c.requires.search.small c.args.look.key c.args.look.high c.count_to_newest.result n.before n.after look (at, has.0, has.1) one has.2),
     )
