@@ -40,13 +40,12 @@ two_things o p a b s c d q = simp append_assoc
 pub seven_words : (o a b c d e f g : List ℕ) → ((((o ++ (a ++ b ++ c)) ++ d) ++ e) ++ f) ++ g ≡ o ++ (a ++ (b ++ c ++ d ++ e ++ f) ++ g)
 seven_words o a b c d e f g = simp append_assoc
 
--- the words of a step
-pub step_words_behind : (o a s b c w d k e f t g words z m n p q r y : List ℕ)
-    → m ≡ o ++ a ++ s ++ (b ++ c) → n ≡ m ++ w → p ≡ n ++ d ++ k ++ (e ++ f) → q ≡ p ++ [] ++ t ++ g → r ≡ q ++ words → y ≡ r ++ z
-    → y ≡ o ++ (a ++ (s ++ b ++ (c ++ w ++ d ++ k ++ e) ++ f ++ t ++ g ++ words) ++ z)
-step_words_behind o a s b c w d k e f t g words z m n p q r y first second third fourth fifth sixth =
-    sixth ∙ ap (λ (x : List ℕ). x ++ z) (fifth ∙ ap (λ (x : List ℕ). x ++ words) (fourth ∙ ap (λ (x : List ℕ). x ++ [] ++ t ++ g)
-    (third ∙ ap (λ (x : List ℕ). x ++ d ++ k ++ (e ++ f)) (second ∙ ap (λ (x : List ℕ). x ++ w) first)))) ∙ simp (append_assoc, append-nil)
+-- the words of a step, with a space between two of them
+pub step_words_behind : (o a s e w t d words z m r y : List ℕ)
+    → m ≡ o ++ (a ++ (s ++ (e ++ (w ++ (e ++ ((t ++ d) ++ e)))))) → r ≡ m ++ words → y ≡ r ++ z
+    → y ≡ o ++ (a ++ (s ++ e ++ w ++ e ++ t ++ (d ++ e) ++ words) ++ z)
+step_words_behind o a s e w t d words z m r y first second third =
+    third ∙ ap (λ (x : List ℕ). x ++ z) (second ∙ ap (λ (x : List ℕ). x ++ words) first) ∙ simp append_assoc
 
 -- what is told of three lists, behind what was pushed before
 pub findings_pushed : (o a b k l m n r w u : List ℕ) → k ≡ o ++ a ++ b → l ≡ k ++ r → m ≡ l ++ w → n ≡ m ++ u → n ≡ o ++ a ++ b ++ r ++ w ++ u

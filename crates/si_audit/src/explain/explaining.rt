@@ -2,7 +2,6 @@
 ghost use Rattle.std.specs.Prelude.{◌≡◌, ◌++◌, ◌∷◌, ⊤, ℕ, List, IfOk, OnOk};
 ghost use Rattle.sia_events.specs.Lists.{ListsAscending};
 ghost use Rattle.sia_events.specs.Transactions.{IsCommitted};
-ghost use Rattle.sia_parts.specs.declared.finding.Kind.TheVariants.{Rw};
 ghost use Rattle.sia_parts.specs.Entries.{IsEdge};
 ghost use Rattle.sia_parts.specs.Looks.{AreLooks};
 ghost use Rattle.sia_graph.specs.Evidence.{ArePlaced, IsEvidence};
@@ -21,21 +20,10 @@ use crate::explain::steps::push_steps;
 use crate::report::found::push_front;
 use crate::report::lines::{push_verdict, push_whether};
 use crate::report::words::{Words, number, push_line};
-use sia_events::{Key, NoMemory, TxnId};
+use sia_events::NoMemory;
 use sia_graph::{Evidence, Step, Verdict, dangerous_of, listing_law, places_of};
 use sia_parts::{Edge, Kind, Looks};
 use std::alloc::Global;
-
-fn rw_edge(src: TxnId, dst: TxnId, key: Key) -> Edge
-    ensures { result ≡ record { src = src; dst = dst; kind = Rw; key = key } }
-{
-    Edge {
-        src,
-        dst,
-        kind: Kind::Rw,
-        key,
-    }
-}
 
 /// The dangerous structure with the reasons of its steps, where isolation was kept and the test of serializable snapshot
 /// isolation fails.
@@ -71,8 +59,18 @@ fn push_danger(
     ];
     push_line(out, b"dangerous", &words)?;
     let edges = [
-        rw_edge(d.first, d.pivot, d.first_key),
-        rw_edge(d.pivot, d.last, d.last_key),
+        Edge {
+            src: d.first,
+            dst: d.pivot,
+            kind: Kind::Rw,
+            key: d.first_key,
+        },
+        Edge {
+            src: d.pivot,
+            dst: d.last,
+            kind: Kind::Rw,
+            key: d.last_key,
+        },
     ];
     let acts = acts_of(alloc, of.history)?;
     push_steps(out, of, &acts, &edges)
@@ -82,7 +80,7 @@ fn push_danger(
 fn edges_of(alloc: Global, steps: &[Step]) -> Result<Vec<Edge>, NoMemory>
     ensures { IfOk result (λ edges. (home : Step) (rest : List Step) → steps.now ≡ home ∷ rest → edges.items ≡ edges_round steps.now home.txn) }
 {
-    let mut edges = Vec::with_capacity(alloc, steps.len())?;
+    let mut edges = Vec::new(alloc);
     for i in 0..steps.len() {
         let step = steps[i];
         let next = if i + 1 < steps.len() { i + 1 } else { 0 };

@@ -10,7 +10,7 @@ ghost use Rattle.si_audit.specs.Reasons.{TellsEvents, TellsSight, TellsStep, unt
 use crate::audit::recorded::Recorded;
 use crate::explain::sights::{Act, first_sight};
 use crate::explain::versions::{push_event, push_unless, push_version};
-use crate::report::words::{kind_word, push_number};
+use crate::report::words::{Words, number, push_words};
 use sia_events::{NoMemory, Version};
 use sia_parts::{Edge, Kind};
 
@@ -82,10 +82,14 @@ pub(crate) fn push_steps(
     ensures { OnOk result ((bytes : List ℕ) × TellsAll (TellsStep of.now.history.now) edges.now bytes × (out.new.items ≡ out.old.items ++ bytes)) }
 {
     for e in edges {
-        push_number(out, b"  ", u64::from(e.src), b" >")?;
-        out.extend_from_slice(kind_word(e.kind))?;
-        push_number(out, b":", e.key, b"> ")?;
-        push_number(out, b"", u64::from(e.dst), b": ")?;
+        let words = [
+            Words::Text(b""),
+            number(e.src),
+            Words::Edge(e.kind, e.key),
+            Words::Token(u64::from(e.dst)),
+            Words::Text(b""),
+        ];
+        push_words(out, &words)?;
         push_events(out, of, acts, e)?;
         out.extend_from_slice(b"\n")?;
     }

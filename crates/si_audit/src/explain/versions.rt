@@ -6,6 +6,7 @@ ghost use Rattle.si_audit.specs.Reasons.{TellsUnless, TellsVersion, event_words,
 use crate::audit::recorded::Recorded;
 use crate::report::words::push_number;
 use sia_events::{History, Key, NoMemory, TxnId, Version};
+use std::alloc::AllocError;
 
 /// Some words, and the event at a place, as far as it is about the key.
 pub(crate) fn push_event(
@@ -28,7 +29,7 @@ pub(crate) fn push_start(
     before: &[u8],
     txn: TxnId,
     start: u32,
-) -> Result<(), NoMemory>
+) -> Result<(), AllocError>
     ensures { OnOk result (out.new.items ≡ out.old.items ++ before.now ++ start_words txn start) }
 {
     out.extend_from_slice(before)?;
@@ -38,8 +39,7 @@ pub(crate) fn push_start(
         u64::from(txn),
         b" starts after event ",
     )?;
-    push_number(out, b"", u64::from(start), b"")?;
-    Ok(())
+    push_number(out, b"", u64::from(start), b"")
 }
 
 /// Some words, where the transaction first wrote the key, and where it ended if it did.

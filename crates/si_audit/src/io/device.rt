@@ -5,7 +5,7 @@ ghost use Rattle.si_audit.specs.Devices.{device_of, given_of, IsSound, reads_aft
 use std::io::{Read, Write};
 
 /// A call on a device failed.
-#[derive(Clone, Copy, Debug, PartialEq, Eq)]
+#[derive(Clone, Copy, PartialEq, Eq)]
 pub struct Failed;
 
 /// What a text is read from.

@@ -45,8 +45,7 @@ pub(crate) fn push_verdict(out: &mut Vec<u8>, verdict: &Verdict) -> Result<(), A
         Verdict::Cycle(steps) => {
             out.extend_from_slice(b"cycle")?;
             push_steps(out, steps.as_slice())?;
-            out.extend_from_slice(b"\n")?;
-            Ok(())
+            out.extend_from_slice(b"\n")
         }
     }
 }

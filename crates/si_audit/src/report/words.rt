@@ -15,7 +15,7 @@ use std::alloc::AllocError;
 pub(crate) enum Words<'a> {
     Text(&'a [u8]),
     Number(u64),
-    /// The number of a refused token, and a colon.
+    /// The number of a token or of a transaction, and a colon.
     Token(u64),
     /// The edge of a step of a cycle.
     Edge(Kind, Key),
@@ -37,8 +37,7 @@ pub(crate) fn push_line(out: &mut Vec<u8>, first: &[u8], words: &[Words]) -> Res
 {
     out.extend_from_slice(first)?;
     push_words(out, words)?;
-    out.extend_from_slice(b"\n")?;
-    Ok(())
+    out.extend_from_slice(b"\n")
 }
 
 /// Each of these words after a space.
@@ -90,8 +89,7 @@ pub(crate) fn push_number(
     let mut buffer = Buffer::new();
     out.extend_from_slice(before)?;
     out.extend_from_slice(buffer.format(n).as_bytes())?;
-    out.extend_from_slice(behind)?;
-    Ok(())
+    out.extend_from_slice(behind)
 }
 
 fn push_numbers(out: &mut Vec<u8>, numbers: &[TxnId]) -> Result<(), AllocError>

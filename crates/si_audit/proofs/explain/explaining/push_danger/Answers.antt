@@ -13,7 +13,7 @@ use Rattle.si_audit.specs.Lines.{line, edge_word}
 use Rattle.si_audit.specs.Reasons.{TellsStep}
 use Rattle.si_audit.proofs.Clean.{kept_where}
 use Rattle.si_audit.proofs.Results.{ok_map}
-use Rattle.si_audit.proofs.Telling.{IsToldBehind, with_reasons}
+use Rattle.si_audit.proofs.Telling.{with_reasons}
 use Rattle.si_audit.proofs.explain.explaining.push_danger.Goals as goal
 
 pub returns-then-j : goal.returns-then-j
@@ -40,8 +40,10 @@ push_steps-requires-clause-edges c =
     let g = c.args.evidence.now.index.now in
     let is : IsDangerous g c.in-Some.d = subst (λ o. MatchOption o (NoFirst g) (IsDangerous g)) c.in-Some.is c.in_ok-d.ensures in
     let dangerous = subst (λ h. IsDangerous h c.in-Some.d) c.requires.same is in
-    All-cons E c.rw_edge.result (c.rw_edge-2.result ∷ []) (subst E (sym c.rw_edge.ensures) dangerous.first_key.0)
-    (All-cons E c.rw_edge-2.result [] (subst E (sym c.rw_edge-2.ensures) dangerous.last_key.0) (All-nil E))
+    let d = c.in-Some.d in
+    let ahead : Edge = record { src = d.first; kind = Rw; dst = d.pivot; key = d.first_key } in
+    let behind : Edge = record { src = d.pivot; kind = Rw; dst = d.last; key = d.last_key } in
+    All-cons E ahead (behind ∷ []) dangerous.first_key.0 (All-cons E behind [] dangerous.last_key.0 (All-nil E))
 
 pub returns : goal.returns
 returns c =
@@ -51,8 +53,6 @@ returns c =
     let is : IsDangerous g d = subst (λ o. MatchOption o (NoFirst g) (IsDangerous g)) c.in-Some.is c.in_ok-d.ensures in
     let kept = (kept_where h c.args.j.now c.requires.judgement).0 (c.is_kept.ensures.0 c.if-not-is_kept.false) in
     let o = c.args.out.now.items in
-    let told = λ (es : List Edge) (m n : List ℕ). IsToldBehind (TellsAll (TellsStep h) es) m n in
-    let behind : Edge = record { src = d.pivot; kind = Rw; dst = d.last; key = d.last_key } in
     let m = c.push_line.new.out.items in
     let n = c.push_steps.new.out.items in
     let words : List (List ℕ) → List (List ℕ) → List (List ℕ) → List ℕ =
@@ -60,7 +60,6 @@ returns c =
     let pushed : m ≡ o ++ dangerous_line d = c.in_ok-push_line.ensures ∙ (λ i. words (c.number.ensures i) (c.number-2.ensures i) (c.number-3.ensures i)) in
     ok_map _ _ c.push_steps.result
     (λ x steps.
-    let all = with_reasons dangerous_line (λ d. TellsAll (TellsStep h) (dangerous_edges d)) d o m n pushed
-    (subst (λ e. told (e ∷ behind ∷ []) m n) c.rw_edge.ensures (subst (λ e. told (c.rw_edge.result ∷ e ∷ []) m n) c.rw_edge-2.ensures steps)) in
+    let all = with_reasons dangerous_line (λ d. TellsAll (TellsStep h) (dangerous_edges d)) d o m n pushed steps in
     (all.0, inr (kept, d, subst (λ h. IsDangerous h d) c.requires.same is, all.1), all.2))
     c.push_steps.ensures

@@ -1,13 +1,13 @@
-use Rattle.std.proofs.Common.{append_assoc, ◌∙◌, sym}
+use Rattle.std.proofs.Common.{◌++◌, ◌∙◌, List, ℕ, ap, sym}
+use Rattle.std.proofs.lemmas.Result.{on_ok_weaker}
 use Rattle.sia_events.proofs.Decimals.{numeral_decimal}
+use Rattle.si_audit.proofs.Results.{when_ok}
 use Rattle.si_audit.proofs.report.words.push_number.Goals as goal
 
 -- one step after another, from the last back to the first
 pub returns : goal.returns
 returns c =
-    rw (
-      c.in_ok-extend_from_slice-3.ensures.items,
-      c.in_ok-extend_from_slice-2.ensures.items,
-      c.as_bytes.ensures.value ∙ c.format.ensures.text ∙ sym (numeral_decimal c.args.n c.ranges.n.fits),
-      c.in_ok-extend_from_slice.ensures.items,
-    ) (simp append_assoc)
+    let digits = c.as_bytes.ensures.value ∙ c.format.ensures.text ∙ sym (numeral_decimal c.args.n c.ranges.n.fits) in
+    on_ok_weaker c.extend_from_slice-3.result
+    (λ told. told ∙ ap (λ (x : List ℕ). x ++ c.args.behind.now) (c.in_ok-extend_from_slice-2.ensures.items ∙ (λ i. c.in_ok-extend_from_slice.ensures.items i ++ digits i)))
+    (when_ok _ _ _ _ c.extend_from_slice-3.ensures.items)
