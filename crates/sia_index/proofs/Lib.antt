@@ -1,6 +1,7 @@
 pub mod Ordered
 pub mod Table
 pub mod KeyChains
+pub mod AllChains
 pub mod Due
 pub mod Writes
 pub mod Collected

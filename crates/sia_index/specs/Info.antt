@@ -1,5 +1,6 @@
 -- What is known of a transaction, and of a committed transaction's version of a key.
-use Rattle.std.specs.Prelude.{◌≡◌, ◌≢◌, ◌<◌, ◌≤◌, ℕ, true, false, List, [], ◌∷◌, Option, Some, None, slice_index, length, All, Contains}
+use Rattle.std.specs.Prelude.{◌≡◌, ◌≢◌, ◌<◌, ◌≤◌, ℕ, true, false, List, [], ◌∷◌, Option, Some, None, slice_index, length, flat_map, All, Contains}
+use Rattle.std.specs.List.{AllZip}
 use Rattle.sia_events.specs.declared.event.Event.{Event}
 use Rattle.sia_events.specs.declared.event.Event.TheVariants.{Read, Range}
 use Rattle.sia_events.specs.Places.{at_place}
@@ -57,6 +58,11 @@ HasKeyAt h i = (keys : List ℕ) × AreWrittenKeys h keys × (i < length keys)
 -- k is number i of the written keys, counted from 0
 abbrev pub IsKeyAt : List Event → ℕ → ℕ → Type 0
 IsKeyAt h i k = (keys : List ℕ) × AreWrittenKeys h keys × (i < length keys) × (slice_index keys i ≡ k)
+
+-- the versions of each written key, one key after another
+abbrev pub AreAllVersions : List Event → List Made → Type 0
+AreAllVersions h versions = (keys : List ℕ) × (chains : List (List Made)) × AreWrittenKeys h keys
+    × AllZip (AreVersions h) keys chains × (versions ≡ flat_map (λ chain. chain) chains)
 
 -- the read event stands in the history
 abbrev pub IsItemRead : List Event → ItemRead → Type 0

@@ -6,7 +6,7 @@ ghost use Rattle.sia_events.specs.Refusals.{IsWellFormed};
 ghost use Rattle.sia_index.specs.declared.rows.WriteRow.{WriteRow};
 ghost use Rattle.sia_index.specs.Numbers.{IsTxnAt};
 ghost use Rattle.sia_index.specs.Rows.{AreWrites, IsStretch};
-ghost use Rattle.sia_index.specs.Info.{IsInfo, AreVersions, AreWrittenKeys, IsFirstWrite, HasKeyAt, IsKeyAt, AreReadsWithin, AreRangesMeeting, AreWrittenWithin, AreVersionsWithin};
+ghost use Rattle.sia_index.specs.Info.{IsInfo, AreVersions, AreWrittenKeys, AreAllVersions, IsFirstWrite, HasKeyAt, IsKeyAt, AreReadsWithin, AreRangesMeeting, AreWrittenWithin, AreVersionsWithin};
 
 use crate::grouping::group_at;
 use crate::hints::find;
@@ -112,6 +112,13 @@ impl Index {
     {
         let (from, to) = group_at(&self.offsets, i);
         &self.made[from..to]
+    }
+
+    /// The versions of all written keys, those of the least key first, each key's by commit.
+    pub fn all_versions(&self) -> &[Made]
+        ensures { AreAllVersions self.now result.now }
+    {
+        &self.made
     }
 
     /// The place where a transaction wrote a key first.

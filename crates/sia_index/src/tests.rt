@@ -81,7 +81,9 @@ fn is_due(index: &Index, wanted: &Reader, dues: &[Due]) -> bool {
 fn worked_histories(rt: HostRuntime) -> Result<(), Fail> {
     for (i, it) in HISTORIES.iter().enumerate() {
         let index = index_of(rt.alloc(), it.text)?;
-        let mut is_so = has_txns(&index, it.txns) && has_keys(&index, it.keys);
+        let mut is_so = has_txns(&index, it.txns)
+            && has_keys(&index, it.keys)
+            && index.all_versions() == it.all_versions;
         for asked in it.asked {
             is_so &= is_answered(&index, asked);
         }

@@ -94,6 +94,7 @@ pub struct Answers<'a> {
     pub txns: &'a [(TxnId, TxnInfo)],
     /// All written keys, each with its versions.
     pub keys: &'a [(Key, &'a [Made])],
+    pub all_versions: &'a [Made],
     pub asked: &'a [Asked<'a>],
     pub readers: &'a [(Reader, &'a [Due])],
 }
@@ -126,6 +127,7 @@ const NONE: Answers<'static> = Answers {
     text: b"",
     txns: &[],
     keys: &[],
+    all_versions: &[],
     asked: &[],
     readers: &[],
 };
@@ -154,6 +156,7 @@ pub const HISTORIES: &[Answers<'static>] = &[
             (3, ended!(5, 8, Committed)),
         ],
         keys: &[(1, &[made!(2, 10)]), (2, &[made!(1, 5)])],
+        all_versions: &[made!(2, 10), made!(1, 5)],
         asked: &[
             Asked::NoTxn(9),
             Asked::Overlap(2, 1, true),
@@ -178,6 +181,7 @@ pub const HISTORIES: &[Answers<'static>] = &[
             (7, ended!(3, 6, Aborted)),
         ],
         keys: &[(6, &[]), (8, &[made!(5, 3)])],
+        all_versions: &[made!(5, 3)],
         asked: &[Asked::NoTxn(4), Asked::NoKey(9)],
         ..NONE
     },
@@ -205,6 +209,7 @@ pub const HISTORIES: &[Answers<'static>] = &[
         text: b"w1[1] c1 b2@0 r2[1:0] c2",
         txns: &[(1, ended!(0, 2, Committed)), (2, ended!(0, 5, Committed))],
         keys: &[(1, &[made!(1, 2)])],
+        all_versions: &[made!(1, 2)],
         asked: &[Asked::Overlap(1, 2, true)],
         readers: &[(reader!(2, 1, 4, 0, false), &[Due::At(1, 0)])],
         ..NONE
@@ -213,6 +218,7 @@ pub const HISTORIES: &[Answers<'static>] = &[
         text: b"w1[1] c1 b2 r2[1:1] c2",
         txns: &[(1, ended!(0, 2, Committed)), (2, ended!(2, 5, Committed))],
         keys: &[(1, &[made!(1, 2)])],
+        all_versions: &[made!(1, 2)],
         asked: &[Asked::Overlap(1, 2, false)],
         readers: &[(reader!(2, 1, 4, 2, false), &[Due::At(1, 1)])],
         ..NONE
@@ -226,6 +232,7 @@ pub const HISTORIES: &[Answers<'static>] = &[
             (3, ended!(2, 5, Aborted)),
         ],
         keys: &[(7, &[made!(2, 6), made!(1, 8)])],
+        all_versions: &[made!(2, 6), made!(1, 8)],
         asked: &[
             Asked::NoTxn(4),
             Asked::FirstWrite(2, 7, Some(2)),
@@ -288,6 +295,13 @@ pub const HISTORIES: &[Answers<'static>] = &[
             (5, &[made!(1, 3), made!(2, 8)]),
             (9, &[]),
         ],
+        all_versions: &[
+            made!(1, 3),
+            made!(2, 8),
+            made!(2, 8),
+            made!(1, 3),
+            made!(2, 8),
+        ],
         asked: &[
             Asked::Versions(
                 2,
@@ -315,6 +329,7 @@ pub const HISTORIES: &[Answers<'static>] = &[
             (5, &[made!(1, 3)]),
             (9, &[]),
         ],
+        all_versions: &[made!(1, 3), made!(2, 8), made!(1, 3)],
         asked: &[Asked::NoKey(6), Asked::NoKey(8)],
         readers: &[
             (
@@ -357,6 +372,7 @@ pub const HISTORIES: &[Answers<'static>] = &[
             (5, &[made!(1, 3)]),
             (9, &[]),
         ],
+        all_versions: &[made!(1, 3), made!(2, 9), made!(2, 9), made!(1, 3)],
         readers: &[
             (
                 reader!(2, 1, 7, 3, true),
