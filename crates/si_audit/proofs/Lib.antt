@@ -4,9 +4,6 @@ pub mod Telling
 pub mod Pushed
 pub mod ToldByForms
 pub mod Rounds
-pub mod Sighted
-pub mod TakenEvents
-pub mod Naming
 pub mod OneExplanation
 pub mod OneReport
 pub mod ReadSoFar

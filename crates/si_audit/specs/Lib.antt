@@ -5,8 +5,6 @@ pub mod Accounts
 pub mod Audits
 pub mod Lines
 pub mod Reasons
-pub mod Acts
-pub mod Wrong
 pub mod Explained
 pub mod RefusedPlaces
 pub mod Receiving

@@ -1,16 +1,14 @@
 -- What an explained report says below a finding: the events that make it. Words and their order are this project's own
 -- format (docs/FORMAT.md).
-use Rattle.std.specs.Prelude.{◌≡◌, ◌≢◌, ◌⊎◌, ◌≤◌, ℕ, List, [], ◌++◌, codes}
+use Rattle.std.specs.Prelude.{◌≡◌, ◌≢◌, ◌⊎◌, ℕ, List, [], ◌++◌, codes}
 use Rattle.sia_events.specs.declared.anomaly.Anomaly.{Anomaly}
 use Rattle.sia_events.specs.declared.anomaly.Anomaly.TheVariants.{OwnWriteMissed, AbortedRead, UncommittedRead, FutureRead, Phantom, StaleRead}
 use Rattle.sia_events.specs.declared.event.Event.{Event}
 use Rattle.sia_events.specs.Anomalies.{IsNamed}
-use Rattle.sia_events.specs.Dependencies.{IsVersionBefore}
 use Rattle.sia_events.specs.Isolation.{IsBadRead}
-use Rattle.sia_events.specs.Reads.{SawAt}
 use Rattle.sia_events.specs.Telling.{told_about}
 use Rattle.sia_events.specs.Text.{numeral}
-use Rattle.sia_events.specs.Transactions.{AbortsAt, CommitsAt, IsCommitted, IsOpen, StartsAt}
+use Rattle.sia_events.specs.Transactions.{AbortsAt, CommitsAt, IsOpen, StartsAt}
 use Rattle.sia_index.specs.Info.{IsFirstWrite}
 use Rattle.sia_parts.specs.declared.finding.BadRead.{BadRead}
 use Rattle.sia_parts.specs.declared.finding.BadWrite.{BadWrite}
@@ -18,6 +16,7 @@ use Rattle.sia_parts.specs.declared.finding.Unexplained.{Unexplained}
 use Rattle.sia_parts.specs.declared.finding.Edge.{Edge}
 use Rattle.sia_parts.specs.declared.finding.Kind.{Kind}
 use Rattle.sia_parts.specs.declared.finding.Kind.TheVariants.{Ww, Wr, Rw}
+use Rattle.sia_graph.specs.Sightings.{Gives, IsFirstSight, reader_of}
 use Rattle.si_audit.specs.Lines.{edge_word}
 
 -- a line of reasons
@@ -68,27 +67,11 @@ TellsBadWrite h b bytes = (s : ℕ) × (first : List ℕ) × (second : List ℕ)
     × StartsAt h b.second s × TellsVersion h b.key b.first first × TellsVersion h b.key b.second second
     × (bytes ≡ reason (codes "both write and overlap: " ++ start_words b.second s ++ codes "; " ++ first ++ codes "; " ++ second))
 
--- version v of k, seen by one of both, gives the edge from t to u
-abbrev pub Gives : Kind → List Event → ℕ → ℕ → ℕ → ℕ → Type 0
-Gives Ww h t u k v = ⊥
-Gives Wr h t u k v = IsCommitted h v × (v ≢ u) × ((t ≡ v) ⊎ IsVersionBefore h k t v)
-Gives Rw h t u k v = ((v ≡ 0) ⊎ IsCommitted h v) × (v ≢ t) × IsVersionBefore h k v u
-
--- which of both reads
-abbrev pub reader_of : Kind → ℕ → ℕ → ℕ
-reader_of Ww t u = t
-reader_of Wr t u = u
-reader_of Rw t u = t
-
 -- the version that wants no word: where u saw t's own it is told already, and version 0 has no writer
 abbrev pub untold_of : Kind → ℕ → ℕ
 untold_of Ww t = 0
 untold_of Wr t = t
 untold_of Rw t = 0
-
--- t saw a version of k that has P first at place p, and it was v
-abbrev pub IsFirstSight : (ℕ → Type 0) → List Event → ℕ → ℕ → ℕ → ℕ → Type 0
-IsFirstSight P h t k p v = SawAt h p t k v × P v × ((q w : ℕ) → SawAt h q t k w → P w → p ≤ q)
 
 -- the first read at which a version was seen that gives the edge, and this version
 abbrev pub TellsSight : List Event → Edge → List ℕ → Type 0

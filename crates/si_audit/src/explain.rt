@@ -3,6 +3,5 @@ pub(crate) mod explaining;
 pub(crate) mod naming;
 pub(crate) mod reads;
 pub(crate) mod refused;
-pub(crate) mod sights;
 pub(crate) mod steps;
 pub(crate) mod versions;

@@ -80,3 +80,5 @@ pub mod TakenMembers
 pub mod StepsOf
 pub mod ReadyHeaps
 pub mod NoPivotal
+pub mod Sighted
+pub mod TakenEvents

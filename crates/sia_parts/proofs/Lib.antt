@@ -27,3 +27,4 @@ pub mod StandingNumbers
 pub mod BetweenPlaces
 pub mod KeyNumbers
 pub mod ChunkBoundLemmas
+pub mod Named

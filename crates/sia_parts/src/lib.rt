@@ -10,9 +10,11 @@ mod gathering;
 mod laws;
 mod looking;
 mod looks;
+mod naming;
 mod numbered;
 
 pub use auditing::audit_part;
+pub use auditing::sights::commit_of;
 pub use cutting::{CutFault, Part, cut};
 pub use edges::committed::Committed;
 pub use edges::fans::Fans;
@@ -26,6 +28,7 @@ pub use gathering::chunking::ChunkBounds;
 pub use gathering::gather;
 pub use laws::one_part;
 pub use looks::{Absence, Look, Looks};
+pub use naming::anomaly_of;
 pub use numbered::find_in_part;
 
 #[cfg(test)]

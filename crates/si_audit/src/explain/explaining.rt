@@ -15,13 +15,12 @@ ghost use Rattle.si_audit.specs.Sheets.{text_of};
 use crate::audit::judgement::Judgement;
 use crate::audit::recorded::Recorded;
 use crate::cli::form::Form;
-use crate::explain::sights::acts_of;
 use crate::explain::steps::push_steps;
 use crate::report::found::push_front;
 use crate::report::lines::{push_verdict, push_whether};
 use crate::report::words::{Words, number, push_line};
 use sia_events::NoMemory;
-use sia_graph::{Evidence, Step, Verdict, dangerous_of, listing_law, places_of};
+use sia_graph::{Evidence, Step, Verdict, acts_of, dangerous_of, listing_law, places_of};
 use sia_parts::{Edge, Kind, Looks};
 use std::alloc::Global;
 

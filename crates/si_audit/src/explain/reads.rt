@@ -4,12 +4,12 @@ ghost use Rattle.si_audit.specs.Lines as lines;
 ghost use Rattle.si_audit.specs.Reasons as reasons;
 
 use crate::audit::recorded::Recorded;
-use crate::explain::naming::{anomaly_of, anomaly_words};
+use crate::explain::naming::anomaly_words;
 use crate::explain::versions::{push_event, push_start, push_unless, push_version};
 use crate::report::found::Finding;
 use crate::report::words::{Words, number, push_line};
 use sia_events::NoMemory;
-use sia_parts::{BadRead, BadWrite, Unexplained};
+use sia_parts::{BadRead, BadWrite, Unexplained, anomaly_of};
 use std::alloc::AllocError;
 
 impl Finding for BadRead {
@@ -37,7 +37,7 @@ impl Finding for BadRead {
         let Some(info) = of.index.txn(self.txn) else {
             return Ok(());
         };
-        let name = anomaly_of(of, self, info.start);
+        let name = anomaly_of(of.history, of.index, self, info.start);
         push_event(out, anomaly_words(name), of.history, self.key, self.place)?;
         push_start(out, b"; ", self.txn, info.start)?;
         out.extend_from_slice(b"\n")?;

@@ -3,15 +3,15 @@ ghost use Rattle.std.specs.Prelude.{◌≡◌, ◌≢◌, ◌++◌, ℕ, All, Li
 ghost use Rattle.sia_events.specs.Transactions.{Wrote};
 ghost use Rattle.sia_parts.specs.declared.finding.Kind.TheVariants.{Ww};
 ghost use Rattle.sia_parts.specs.Entries.{IsEdge};
-ghost use Rattle.si_audit.specs.Acts.{AreActs};
+ghost use Rattle.sia_graph.specs.Acts.{AreActs};
 ghost use Rattle.si_audit.specs.Explained.{TellsAll};
 ghost use Rattle.si_audit.specs.Reasons.{TellsEvents, TellsSight, TellsStep, untold_of};
 
 use crate::audit::recorded::Recorded;
-use crate::explain::sights::{Act, first_sight};
 use crate::explain::versions::{push_event, push_unless, push_version};
 use crate::report::words::{Words, number, push_words};
 use sia_events::{NoMemory, Version};
+use sia_graph::{Act, first_sight};
 use sia_parts::{Edge, Kind};
 
 /// The version that is told already, or has no writer.
@@ -38,7 +38,7 @@ fn push_sight(
     requires read { e.now.kind ≢ Ww }
     ensures { OnOk result ((words : List ℕ) × TellsSight of.now.history.now e.now words × (out.new.items ≡ out.old.items ++ before.now ++ words)) }
 {
-    let Some(sight) = first_sight(of, acts, e) else {
+    let Some(sight) = first_sight(of.history, of.index, acts, e) else {
         return Ok(());
     };
     push_event(out, before, of.history, e.key, sight.place)?;

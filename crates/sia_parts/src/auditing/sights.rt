@@ -194,10 +194,10 @@ pub(crate) fn is_committed(ix: &Index, t: TxnId) -> bool
     commit_of(ix, t).is_some()
 }
 
-// Where the transaction committed.
-fn commit_of(ix: &Index, t: TxnId) -> Option<u32>
-    requires { IsWellFormed ix.now }
-    ensures { MatchOption result (¬ IsCommitted ix.now t) (CommitsAt ix.now t) }
+/// Where the transaction commits, if it does.
+pub fn commit_of(ix: &Index, txn: TxnId) -> Option<u32>
+    ensures { MatchOption result (¬ IsCommitted ix.now txn) (CommitsAt ix.now txn) }
 {
-    ix.txn(t)?.commit()
+    ix.law();
+    ix.txn(txn)?.commit()
 }

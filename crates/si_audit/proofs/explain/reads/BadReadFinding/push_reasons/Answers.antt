@@ -3,7 +3,7 @@ use Rattle.std.proofs.lemmas.Result.{on_ok_weaker}
 use Rattle.sia_events.specs.Transactions.{StartsAt}
 use Rattle.sia_events.proofs.Seen.{saw_written}
 use Rattle.si_audit.specs.Reasons.{anomaly_words, event_words, reason, start_words}
-use Rattle.si_audit.proofs.Naming.{due_written}
+use Rattle.sia_parts.proofs.Named.{due_written}
 use Rattle.si_audit.proofs.Pushed.{seven_words, three_words}
 use Rattle.si_audit.proofs.explain.reads.BadReadFinding.push_reasons.Goals as goal
 

@@ -1,7 +1,7 @@
 use Rattle.std.proofs.Common.{subst}
 use Rattle.std.proofs.lemmas.Result.{on_ok_weaker}
 use Rattle.sia_events.specs.Reads.{IsDue}
-use Rattle.si_audit.proofs.Naming.{unexplained_is_bad}
+use Rattle.sia_parts.proofs.Named.{unexplained_is_bad}
 use Rattle.si_audit.proofs.explain.reads.UnexplainedFinding.push_reasons.Goals as goal
 
 pub push_reasons-requires-clause-found : goal.push_reasons-requires-clause-found

@@ -3,11 +3,11 @@ use Rattle.std.proofs.Common.{ℕ, get_or, sym, subst, ◌∙◌}
 use Rattle.std.proofs.lemmas.List.{take_all}
 use Rattle.std.proofs.lemmas.List.Elements.{All-more, Contains-get_or}
 use Rattle.sia_events.specs.Reads.{SawAt}
-use Rattle.si_audit.specs.declared.explain.sights.Act.{Act}
-use Rattle.si_audit.specs.Reasons.{Gives, reader_of}
-use Rattle.si_audit.proofs.Sighted.{NoneGives, first_found, none_found, sees_other, sight_at}
-use Rattle.si_audit.proofs.explain.sights.first_sight.Goals as goal
-use Rattle.si_audit.proofs.explain.sights.first_sight.Goals.{in-Some+else-gives, in_default}
+use Rattle.sia_graph.specs.declared.sighting.Act.{Act}
+use Rattle.sia_graph.specs.Sightings.{Gives, reader_of}
+use Rattle.sia_graph.proofs.Sighted.{NoneGives, first_found, none_found, sees_other, sight_at}
+use Rattle.sia_graph.proofs.sighting.first_sight.Goals as goal
+use Rattle.sia_graph.proofs.sighting.first_sight.Goals.{in-Some+else-gives, in_default}
 
 pub gives-requires-clause-seen : goal.gives-requires-clause-seen
 gives-requires-clause-seen c =
@@ -18,7 +18,7 @@ gives-requires-clause-seen c =
     let saw = c.in-Some.ensures in (
       act.place,
       subst (λ h. SawAt h act.place t e.key c.in-Some.version) (sym c.requires.index)
-          (sight_at (Gives e.kind c.args.of.now.history.now e.src e.dst e.key) c.args.of.now.history.now t e.key c.args.acts.now group c.requires.acts _ c.reader_of_edge.ensures c.acts_by-act-items.ensures.holds
+          (sight_at (Gives e.kind c.args.h.now e.src e.dst e.key) c.args.h.now t e.key c.args.acts.now group c.requires.acts _ c.reader_of_edge.ensures c.acts_by-act-items.ensures.holds
           act (Contains-get_or group c.loop-act.act-index _ c.loop-act-test.true) saw.0 c.in-Some.version saw.1 saw.2),
     )
 
@@ -26,7 +26,7 @@ pub returns-then-gives : goal.returns-then-gives
 returns-then-gives c =
     let e = c.args.e.now in
     let t = reader_of e.kind e.src e.dst in
-    let h = c.args.of.now.history.now in
+    let h = c.args.h.now in
     let P = Gives e.kind h e.src e.dst e.key in
     let group = c.acts_by-act-items.result.now in
     let act : Act = get_or group c.loop-act.act-index (record { txn = 0; place = 0 }) in
@@ -40,7 +40,7 @@ pub loop-act-preserved : goal.loop-act-preserved
 loop-act-preserved c =
     let e = c.args.e.now in
     let t = reader_of e.kind e.src e.dst in
-    let h = c.args.of.now.history.now in
+    let h = c.args.h.now in
     let P = Gives e.kind h e.src e.dst e.key in
     let group = c.acts_by-act-items.result.now in
     let act : Act = get_or group c.loop-act.act-index (record { txn = 0; place = 0 }) in
@@ -57,7 +57,7 @@ pub returns : goal.returns
 returns c =
     let e = c.args.e.now in
     let t = reader_of e.kind e.src e.dst in
-    let h = c.args.of.now.history.now in
+    let h = c.args.h.now in
     let P = Gives e.kind h e.src e.dst e.key in
     let group = c.acts_by-act-items.result.now in
     none_found P h t e.key c.args.acts.now group c.requires.acts _ c.reader_of_edge.ensures c.acts_by-act-items.ensures.holds

@@ -13,7 +13,7 @@ use Rattle.sia_events.proofs.Due.{one_due}
 use Rattle.sia_events.proofs.Endings.{one_end}
 use Rattle.sia_events.proofs.Starts.{one_start}
 use Rattle.sia_events.proofs.WellFormed.{one_commit}
-use Rattle.si_audit.specs.Wrong.{IsWrong}
+use Rattle.sia_parts.specs.Wrong.{IsWrong}
 
 module _ (h : List Event) (wf : IsWellFormed h) (p t k saw due start : ℕ) (bad : IsBadRead h p t k saw due) (starts : StartsAt h t start) where
   -- its own version was due

@@ -1,6 +1,6 @@
 use Rattle.std.proofs.Common.{◌≤◌, arith}
-use Rattle.si_audit.proofs.Naming.{early_enough}
-use Rattle.si_audit.proofs.explain.naming.wrong_with.Goals as goal
+use Rattle.sia_parts.proofs.Named.{early_enough}
+use Rattle.sia_parts.proofs.naming.wrong_with.Goals as goal
 
 pub returns-else-start-end : goal.returns-else-start-end
 returns-else-start-end c =

@@ -3,7 +3,7 @@ use Rattle.std.specs.Prelude.{◌↔◌, List, Contains}
 use Rattle.sia_events.specs.declared.event.Event.{Event}
 use Rattle.sia_events.specs.Transactions.{ActsAt}
 use Rattle.sia_graph.specs.Grouped.{RiseBy}
-use Rattle.si_audit.specs.declared.explain.sights.Act.{Act}
+use Rattle.sia_graph.specs.declared.sighting.Act.{Act}
 
 -- each event with its transaction, by transaction and place
 pub record AreActs (h : List Event) (acts : List Act) : Type 0 where

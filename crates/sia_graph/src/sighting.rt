@@ -1,25 +1,24 @@
 //! Where a transaction first saw a version of a key that gives an edge.
 ghost use Rattle.std.specs.Prelude.{◌≡◌, ◌↔◌, ℕ, Contains, IfOk, IsTrue, MatchOption};
 ghost use Rattle.sia_events.specs.Reads.{SawAt};
-ghost use Rattle.sia_events.specs.Transactions.{CommitsAt, CommitsBefore, IsCommitted};
+ghost use Rattle.sia_events.specs.Transactions.{CommitsBefore};
 ghost use Rattle.sia_parts.specs.Entries.{IsEdge};
+ghost use Rattle.sia_graph.specs.Acts.{AreActs};
 ghost use Rattle.sia_graph.specs.Grouped.{RiseBy};
-ghost use Rattle.si_audit.specs.declared.explain.sights.Act.{Act};
-ghost use Rattle.si_audit.specs.Acts.{AreActs};
-ghost use Rattle.si_audit.specs.Reasons.{Gives, IsFirstSight, reader_of};
+ghost use Rattle.sia_graph.specs.Sightings.{Gives, IsFirstSight, reader_of};
+ghost use Rattle.sia_graph.specs.declared.sighting.Act.{Act};
 
-use crate::audit::recorded::Recorded;
 use sia_events::{History, NoMemory, TxnId, Version};
 use sia_index::Index;
 use sia_index::keyed::{By, ByTxn, place_above, place_from};
-use sia_parts::{Edge, Kind};
+use sia_parts::{Edge, Kind, commit_of};
 use std::alloc::Global;
 
 /// A transaction, and the place of an event of it.
 #[derive(Clone, Copy)]
-pub(crate) struct Act {
-    pub(crate) txn: TxnId,
-    pub(crate) place: u32,
+pub struct Act {
+    pub txn: TxnId,
+    pub place: u32,
 }
 
 impl By<Act> for ByTxn {
@@ -31,7 +30,7 @@ impl By<Act> for ByTxn {
 }
 
 /// All events, by transaction and place.
-pub(crate) fn acts_of(alloc: Global, h: &History) -> Result<Vec<Act>, NoMemory>
+pub fn acts_of(alloc: Global, h: &History) -> Result<Vec<Act>, NoMemory>
     ensures { IfOk result (λ acts. AreActs h.now acts.items) }
 {
     let count = h.len();
@@ -58,14 +57,6 @@ fn acts_by(acts: &[Act], txn: TxnId) -> &[Act]
     let rest = &acts[first..];
     let count = place_above::<Act, ByTxn>(rest, u64::from(txn));
     &rest[..count]
-}
-
-/// Where the transaction commits, if it does.
-pub(crate) fn commit_of(ix: &Index, txn: TxnId) -> Option<u32>
-    ensures { MatchOption result (¬ IsCommitted ix.now txn) (CommitsAt ix.now txn) }
-{
-    ix.law();
-    ix.txn(txn)?.commit()
 }
 
 /// Whether the first committed before the second.
@@ -118,23 +109,23 @@ fn gives(ix: &Index, e: &Edge, version: Version) -> bool
 
 /// A version of a key that was seen at a place.
 #[derive(Clone, Copy)]
-pub(crate) struct FirstSight {
-    pub(crate) place: u32,
-    pub(crate) version: Version,
+pub struct FirstSight {
+    pub place: u32,
+    pub version: Version,
 }
 
 /// The first sight that gives the edge, if it comes of a read.
-pub(crate) fn first_sight(of: &Recorded, acts: &[Act], e: &Edge) -> Option<FirstSight>
-    requires index { of.now.index.now ≡ of.now.history.now }
-    requires acts { AreActs of.now.history.now acts.now }
-    requires edge { IsEdge of.now.history.now e.now }
-    ensures { MatchOption result ((p v : ℕ) → SawAt of.now.history.now p (reader_of e.now.kind e.now.src e.now.dst) e.now.key v → ¬ Gives e.now.kind of.now.history.now e.now.src e.now.dst e.now.key v)
-        (λ sight. IsFirstSight (Gives e.now.kind of.now.history.now e.now.src e.now.dst e.now.key) of.now.history.now (reader_of e.now.kind e.now.src e.now.dst) e.now.key sight.place sight.version) }
+pub fn first_sight(h: &History, ix: &Index, acts: &[Act], e: &Edge) -> Option<FirstSight>
+    requires index { ix.now ≡ h.now }
+    requires acts { AreActs h.now acts.now }
+    requires edge { IsEdge h.now e.now }
+    ensures { MatchOption result ((p v : ℕ) → SawAt h.now p (reader_of e.now.kind e.now.src e.now.dst) e.now.key v → ¬ Gives e.now.kind h.now e.now.src e.now.dst e.now.key v)
+        (λ sight. IsFirstSight (Gives e.now.kind h.now e.now.src e.now.dst e.now.key) h.now (reader_of e.now.kind e.now.src e.now.dst) e.now.key sight.place sight.version) }
 {
-    of.history.law();
+    h.law();
     for act in acts_by(acts, reader_of_edge(e)) {
-        if let Some(version) = of.history.saw(act.place, e.key) {
-            if gives(of.index, e, version) {
+        if let Some(version) = h.saw(act.place, e.key) {
+            if gives(ix, e, version) {
                 return Some(FirstSight {
                     place: act.place,
                     version,
