@@ -15,12 +15,13 @@ use Rattle.sia_graph.specs.declared.settling.Verdict.{Verdict}
 use Rattle.sia_graph.specs.declared.settling.Verdict.TheVariants.{Order, Cycle}
 use Rattle.sia_graph.specs.Pivots.{ArePivots}
 use Rattle.sia_graph.specs.Verdicts.{IsVerdict}
-use Rattle.si_audit.specs.declared.audit.judgement.Judgement.{Judgement}
+use Rattle.sia_graph.specs.declared.judgement.Judgement.{Judgement}
 use Rattle.si_audit.specs.Account.{Account}
 use Rattle.si_audit.specs.Accounts.{IsAccount}
-use Rattle.si_audit.specs.Judgements.{IsJudgement, account_with}
+use Rattle.sia_graph.specs.Judgements.{IsJudgement}
+use Rattle.si_audit.specs.Audits.{account_with}
 use Rattle.si_audit.specs.Report.{HasStep, CanBePrinted}
-use Rattle.si_audit.proofs.Judging.{none_listed, empty_list}
+use Rattle.sia_graph.proofs.Judging.{none_listed, empty_list}
 
 has_step : (M : ℕ → Type 0) (E : _ → Type 0) (v : Verdict) → IsVerdict M E v → HasStep v
 has_step M E (Order order) is = tt

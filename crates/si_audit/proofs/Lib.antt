@@ -9,11 +9,7 @@ pub mod OneReport
 pub mod ReadSoFar
 pub mod OfSource
 pub mod SpacedWords
-pub mod Judging
-pub mod Tallies
-pub mod Fates
 pub mod Owed
-pub mod KeptTransactions
 pub mod Results
 pub mod Chains
 pub mod Clean

@@ -5,9 +5,9 @@ use Rattle.std.proofs.lemmas.List.{take_more, flat_map_more}
 use Rattle.std.proofs.lemmas.Grind.{flat_map-append}
 use Rattle.sia_parts.specs.declared.finding.Edge.{Edge}
 use Rattle.sia_graph.specs.declared.pivot.Pivot.{Pivot}
-use Rattle.si_audit.specs.declared.audit.judgement.Judgement.{Judgement}
+use Rattle.sia_graph.specs.declared.judgement.Judgement.{Judgement}
 use Rattle.si_audit.specs.declared.cli.form.Form.{Form}
-use Rattle.si_audit.specs.Judgements.{account_with}
+use Rattle.si_audit.specs.Audits.{account_with}
 use Rattle.si_audit.specs.Lines as lines
 use Rattle.si_audit.specs.Sheets.{text_of}
 

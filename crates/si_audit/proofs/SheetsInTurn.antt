@@ -9,19 +9,19 @@ use Rattle.std.proofs.lemmas.Nat.{le-div}
 use Rattle.std.proofs.lemmas.List.Elements.{Contains-get_or, Contains-append_left, Contains-append_right, Contains-append_cases}
 use Rattle.sia_events.specs.Transactions.{Overlap}
 use Rattle.sia_parts.specs.declared.finding.Edge.{Edge}
-use Rattle.sia_parts.specs.Findings.{ListsEdges}
-use Rattle.sia_parts.specs.Gathering.{AreChunkBounds, AreNumbersBetween, IsNumberIn}
+use Rattle.sia_parts.specs.Gathering.{AreChunkBounds, AreNumbersBetween}
 use Rattle.sia_parts.specs.Packing.{source_number, unpacked}
 use Rattle.sia_parts.proofs.FanEdges.{joined_rise, none_rise}
-use Rattle.sia_parts.proofs.StandingNumbers.{listed}
 use Rattle.sia_graph.specs.declared.pivoting.links.Link.{Link}
 use Rattle.sia_graph.specs.Links.{AreEnds}
 use Rattle.sia_graph.proofs.LinkLists.{ends_joined, ends_none}
 use Rattle.sia_graph.proofs.Vulnerable.{all_vulnerable}
-use Rattle.si_audit.specs.declared.audit.edges.AllEdges.{AllEdges}
+use Rattle.sia_graph.specs.declared.listing.AllEdges.{AllEdges}
 use Rattle.si_audit.specs.declared.report.sheets.Sheet.{Sheet}
 use Rattle.si_audit.specs.Lines.{edge_line}
-use Rattle.si_audit.specs.Edges.{AreAllEdges, AreLinesAndLinks, IsSheet}
+use Rattle.sia_graph.specs.AllEdges.{AreAllEdges}
+use Rattle.sia_graph.proofs.ListedEdges.{all_listed}
+use Rattle.si_audit.specs.Edges.{AreLinesAndLinks, IsSheet}
 
 -- a greater number has no lesser quotient
 div_rises : (k n m : ℕ) → 0 < k → n ≤ m → n / k ≤ m / k
@@ -35,15 +35,9 @@ module _ (e : AllEdges) where
   abbrev edge : ℕ → Edge
   edge = unpacked e.txns.now e.keys.now
 
-  -- the edges between the first and the last transaction are all
-  pub all_listed : AreAllEdges e → (numbers : List ℕ) → AreNumbersBetween e.fans 0 (length e.txns.now) numbers → ListsEdges e.index.now (λ _. ⊤) (map edge numbers)
-  all_listed all numbers are =
-      (listed e.index.now e.txns.now e.keys.now all.tables (λ _. ⊤) (IsNumberIn e.fans) numbers all.stand are.ascending
-      (λ n. ((λ c. ((are.each n).0 c).0), (λ is. (are.each n).1 (is, omega arith, (all.stand.packed n is).source))))).edges
-
   pub all_made : AreAllEdges e → (lines : List ℕ) (links : List Link) → IsSheet e 0 (length e.txns.now) lines links → AreLinesAndLinks e.index.now lines links
   all_made all lines links (numbers, are, is, ends) =
-      let lists = all_listed all numbers are in
+      let lists = all_listed e all numbers are in
       ((map edge numbers, lists, is), all_vulnerable e.index.now (map edge numbers) lists links ends)
 
   module _ (from mid to : ℕ) (low : from ≤ mid) (high : mid ≤ to) where

@@ -1,13 +1,10 @@
 -- What an audit says.
-use Rattle.std.specs.Prelude.{⊤}
-use Rattle.sia_graph.specs.declared.settling.Verdict.{Verdict}
-use Rattle.sia_graph.specs.declared.settling.Verdict.TheVariants.{Order, Cycle}
+use Rattle.std.specs.Prelude.{List}
+use Rattle.sia_parts.specs.declared.finding.Edge.{Edge}
+use Rattle.sia_graph.specs.declared.judgement.Judgement.{Judgement}
+use Rattle.sia_graph.specs.declared.pivot.Pivot.{Pivot}
 use Rattle.si_audit.specs.declared.audit.findings.Audit.{Audit}
 use Rattle.si_audit.specs.Account.{Account}
-
-abbrev pub IsOrderVerdict : Verdict → Type 0
-IsOrderVerdict (Order order) = ⊤
-IsOrderVerdict (Cycle steps) = ⊥
 
 -- an audit without where its lists lie in memory
 abbrev pub account_of : Audit → Account
@@ -24,4 +21,21 @@ account_of a = record {
   pass = a.pass;
   serializable = a.serializable;
   verdict = a.verdict;
+}
+
+-- the account that a judgement is with these edges and pivots
+abbrev pub account_with : Judgement → List Edge → List Pivot → Account
+account_with j edges pivots = record {
+  events = j.counts.events;
+  committed = j.counts.committed;
+  aborted = j.counts.aborted;
+  unfinished = j.counts.unfinished;
+  bad_reads = j.bad_reads.items;
+  bad_writes = j.bad_writes.items;
+  unexplained = j.unexplained.items;
+  edges = edges;
+  pivots = pivots;
+  pass = j.pass;
+  serializable = j.serializable;
+  verdict = j.verdict;
 }

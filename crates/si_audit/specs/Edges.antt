@@ -1,25 +1,16 @@
--- All edges of a history, what is made of a chunk of them, and what a report tells of them.
+-- What is made of a chunk of the edges, and what a report tells of all of them.
 use Rattle.std.specs.Prelude.{◌≡◌, ℕ, List, flat_map, map, ⊤}
 use Rattle.sia_events.specs.declared.event.Event.{Event}
 use Rattle.sia_events.specs.Transactions.{Overlap}
 use Rattle.sia_parts.specs.declared.finding.Edge.{Edge}
-use Rattle.sia_parts.specs.EdgeNumbers.{AreEdgeTables, StandForEdges}
 use Rattle.sia_parts.specs.Findings.{ListsEdges}
-use Rattle.sia_parts.specs.Gathering.{AreNumbersBetween, CanSpread, IsNumberIn}
+use Rattle.sia_parts.specs.Gathering.{AreNumbersBetween}
 use Rattle.sia_parts.specs.Packing.{unpacked}
 use Rattle.sia_graph.specs.declared.pivoting.links.Link.{Link}
-use Rattle.sia_graph.specs.Lifetimes.{AreLifetimes}
 use Rattle.sia_graph.specs.Links.{AreEnds, AreVulnerable}
-use Rattle.si_audit.specs.declared.audit.edges.AllEdges.{AllEdges}
+use Rattle.sia_graph.specs.declared.listing.AllEdges.{AllEdges}
 use Rattle.si_audit.specs.Lines.{edge_line}
 use Rattle.si_audit.specs.Sheets.{number_lines}
-
--- the fans have all edges of the index's history, by its committed transactions, whose lifetimes these are, and its written keys
-pub record AreAllEdges (e : AllEdges) : Type 0 where
-  pub tables : AreEdgeTables e.index.now e.txns.now e.keys.now
-  pub lifetimes_are : AreLifetimes e.index.now e.txns.now e.lifetimes.items
-  pub stand : StandForEdges e.index.now e.txns.now e.keys.now (λ _. ⊤) (IsNumberIn e.fans)
-  pub spread : CanSpread e.fans
 
 -- the lines of the edges whose sources stand from the one place to before the other, and the links of the vulnerable ones
 abbrev pub IsSheet : AllEdges → ℕ → ℕ → List ℕ → List Link → Type 0

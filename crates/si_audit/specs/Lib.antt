@@ -11,11 +11,9 @@ pub mod Receiving
 pub mod Report
 pub mod Outcomes
 pub mod Devices
-pub mod Counting
 pub mod Spaced
 pub mod Answering
 pub mod LineAnswers
-pub mod Judgements
 pub mod Sheets
 pub mod Edges
 pub mod Wanted

@@ -1,8 +1,5 @@
 //! The audit: what is found in a history by workers, and what follows from it.
-pub(crate) mod counts;
-pub(crate) mod edges;
 pub(crate) mod finding;
 pub(crate) mod findings;
-pub(crate) mod judgement;
 pub(crate) mod make;
 pub(crate) mod recorded;

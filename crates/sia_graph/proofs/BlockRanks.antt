@@ -12,7 +12,7 @@ use Rattle.sia_graph.specs.KeyBlocks.{IsOver, IsUnderSome}
 use Rattle.sia_graph.specs.Ranks.{IsLeastRank, IsRankOf, IsTwo}
 use Rattle.sia_graph.proofs.KeyBlocks.{doubled}
 use Rattle.sia_graph.proofs.LeastRanks.{least_either, least_none, least_same, two_none, two_same, two_with}
-use Rattle.sia_graph.proofs.Listed.{mapped}
+use Rattle.sia_graph.proofs.ListedAs.{mapped}
 
 -- one transaction more at a block
 module _ (entries : List (ℕ × ℕ)) (ranks : List ℕ) (nodes : List Two) (block i rank : ℕ) (is_rank : (r : ℕ) → IsRankOf ranks i r ↔ ((r ≡ rank) × (r < 4294967295))) where

@@ -24,7 +24,7 @@ use Rattle.sia_graph.proofs.Deciding.{three_decided, either_decided, event_decid
 use Rattle.sia_graph.proofs.EdgesDecided.{edge_decided}
 use Rattle.sia_graph.proofs.Facts.{commits_before_decided}
 use Rattle.sia_graph.proofs.FiniteLists.{contains_flat, list_of}
-use Rattle.sia_graph.proofs.Listed.{mapped}
+use Rattle.sia_graph.proofs.ListedAs.{mapped}
 use Rattle.sia_graph.proofs.NoStuckSet.{vulnerable_decided}
 use Rattle.sia_graph.proofs.OneVerdict.{same_kind}
 use Rattle.sia_graph.proofs.Positions.{stands_contains}

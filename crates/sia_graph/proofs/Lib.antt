@@ -35,7 +35,7 @@ pub mod RightAt
 pub mod ChainOf
 pub mod MapSteps
 pub mod Replayed
-pub mod Listed
+pub mod ListedAs
 pub mod FiniteLists
 pub mod FiniteHistories
 pub mod Mapped
@@ -82,3 +82,5 @@ pub mod ReadyHeaps
 pub mod NoPivotal
 pub mod Sighted
 pub mod TakenEvents
+pub mod ListedEdges
+pub mod Judging

@@ -15,7 +15,7 @@ use Rattle.sia_parts.specs.declared.finding.Kind.{Kind}
 use Rattle.sia_parts.specs.declared.finding.Kind.TheVariants.{Ww, Wr, Rw}
 use Rattle.sia_graph.specs.Links.{ListsLinks, AreEnds, AreLinksAt, AreLinked, is_rw, link_rank}
 use Rattle.sia_graph.proofs.Positions.{only_one_in}
-use Rattle.sia_graph.proofs.Listed.{listed_as, listed_in_order, mapped, precedes_last, precedes_then}
+use Rattle.sia_graph.proofs.ListedAs.{listed_as, listed_in_order, mapped, precedes_last, precedes_then}
 
 -- what the test of two links finds the same is one link
 pub one_link : (x y : Link) → (eqb x.at y.at && eqb x.other y.other) ≡ true → x ≡ y

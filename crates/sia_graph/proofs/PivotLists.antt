@@ -4,7 +4,7 @@ use Rattle.sia_events.specs.declared.event.Event.{Event}
 use Rattle.sia_events.specs.DangerousStructures.{IsVulnerable, IsPivot}
 use Rattle.sia_graph.specs.declared.pivoting.links.Link.{Link}
 use Rattle.sia_graph.specs.Links.{ListsLinks, AreLinked, link_rank}
-use Rattle.sia_graph.proofs.Listed.{listed_as}
+use Rattle.sia_graph.proofs.ListedAs.{listed_as}
 use Rattle.sia_graph.proofs.LinkLists.{IsLinked}
 
 -- the vulnerable edges at their other ends

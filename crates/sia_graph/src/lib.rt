@@ -2,7 +2,9 @@
 #![tactic(auto)]
 
 mod cycle;
+mod judgement;
 mod laws;
+mod listing;
 mod narrow;
 mod pivot;
 mod pivoting;
@@ -12,9 +14,11 @@ mod settling;
 mod sighting;
 mod taking;
 
+pub use judgement::{Judgement, judge};
 pub use laws::{
     blocks_law, closure_law, firsts_law, listing_law, pivot_law, replay_law, ssi_law, stand_in_law,
 };
+pub use listing::{AllEdges, Chunk, chunk_of, edges_of, listed};
 pub use narrow::Evidence;
 pub use narrow::dangerous::{Dangerous, dangerous_of};
 pub use narrow::judging::{passes, settle_looks};

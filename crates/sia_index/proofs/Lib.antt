@@ -18,3 +18,6 @@ pub mod Blocks
 pub mod Finding
 pub mod PartedRows
 pub mod Columns
+pub mod Fates
+pub mod Tallies
+pub mod KeptTransactions

@@ -5,3 +5,4 @@ pub mod Tables
 pub mod Numbers
 pub mod Seen
 pub mod Between
+pub mod Counting

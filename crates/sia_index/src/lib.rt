@@ -1,6 +1,7 @@
 //! What an index of a history answers: where a transaction starts and how it ends, and the versions of a key.
 #![tactic(auto)]
 
+mod counts;
 mod events;
 mod grouping;
 mod hints;
@@ -21,6 +22,7 @@ mod spanning;
 mod txns;
 mod versions;
 
+pub use counts::{Counts, counted};
 pub use indexed::Index;
 pub use info::{DueAt, Fate, ItemRead, KeyVersion, Made, RangeRead, Reader, TxnInfo};
 pub use seen::Seen;

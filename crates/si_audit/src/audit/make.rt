@@ -1,46 +1,22 @@
 // How a history is audited.
-ghost use Rattle.std.specs.Prelude.{◌≡◌, ⊤, IfOk, IsTrue};
-ghost use Rattle.sia_events.specs.Lists.{ListsAscending};
+ghost use Rattle.std.specs.Prelude.{◌≡◌, IfOk, IsTrue};
 ghost use Rattle.sia_events.specs.Refusals.{IsWellFormed};
-ghost use Rattle.sia_events.specs.Transactions.{IsCommitted};
-ghost use Rattle.sia_parts.specs.Findings.{ListsEdges};
-ghost use Rattle.sia_parts.specs.Looks.{AreLooks};
-ghost use Rattle.sia_graph.specs.Pivots.{ArePivots};
+ghost use Rattle.sia_graph.specs.Verdicts.{IsOrderVerdict};
 ghost use Rattle.si_audit.specs.Accounts.{IsAccount};
-ghost use Rattle.si_audit.specs.Audits.{account_of, IsOrderVerdict};
+ghost use Rattle.si_audit.specs.Audits.{account_of};
 
-use crate::audit::edges::{chunk_of, edges_of};
+use crate::audit::finding::judged;
 use crate::audit::findings::Audit;
-use crate::audit::judgement::judged;
 use crate::audit::recorded::Recorded;
 use crate::cli::options::Options;
 use sia_events::{History, NoMemory};
-use sia_graph::{Pivot, pivots_of_links};
+use sia_graph::listed;
 use sia_index::Index;
 use sia_index::make::index;
-use sia_parts::{Committed, Edge, Findings, Looks, edges_of_numbers};
+use sia_parts::{Committed, Findings};
 use std::alloc::Global;
 use std::sync::Wait;
 use std::thread::Threads;
-
-/// All edges of a history and all pivots, in order.
-pub(crate) fn listed(
-    alloc: Global,
-    ix: &Index,
-    committed: &Committed,
-    looks: Looks,
-) -> Result<(Vec<Edge>, Vec<Pivot>), NoMemory>
-    requires committed { ListsAscending (IsCommitted ix.now) committed.now }
-    requires looks { AreLooks ix.now (λ _. ⊤) looks }
-    ensures edges { IfOk result (λ (edges, pivots). ListsEdges ix.now (λ _. ⊤) edges.items) }
-    ensures pivots { IfOk result (λ (edges, pivots). ArePivots ix.now pivots.items) }
-{
-    let all = edges_of(alloc, ix, committed, looks)?;
-    let chunk = chunk_of(alloc, &all, 0, all.txns.len())?;
-    let edges = edges_of_numbers(alloc, all.txns, all.keys, &chunk.numbers)?;
-    let pivots = pivots_of_links(alloc, ix, chunk.links)?;
-    Ok((edges, pivots))
-}
 
 /// Audits a history by its index and by workers, and waits for them.
 fn audited<R: Threads + Wait + Sync>(

@@ -8,11 +8,10 @@ ghost use Rattle.sia_graph.specs.Evidence.{ArePlaced, IsEvidence};
 ghost use Rattle.sia_graph.specs.Verdicts.{IsVerdict};
 ghost use Rattle.si_audit.specs.Answering.{IsReportOf};
 ghost use Rattle.si_audit.specs.Explained.{TellsDanger, TellsVerdict, WithReasons, edges_round};
-ghost use Rattle.si_audit.specs.Judgements.{IsJudgement};
+ghost use Rattle.sia_graph.specs.Judgements.{IsJudgement};
 ghost use Rattle.si_audit.specs.Lines as lines;
 ghost use Rattle.si_audit.specs.Sheets.{text_of};
 
-use crate::audit::judgement::Judgement;
 use crate::audit::recorded::Recorded;
 use crate::cli::form::Form;
 use crate::explain::steps::push_steps;
@@ -20,7 +19,9 @@ use crate::report::found::push_front;
 use crate::report::lines::{push_verdict, push_whether};
 use crate::report::words::{Words, number, push_line};
 use sia_events::NoMemory;
-use sia_graph::{Evidence, Step, Verdict, acts_of, dangerous_of, listing_law, places_of};
+use sia_graph::{
+    Evidence, Judgement, Step, Verdict, acts_of, dangerous_of, listing_law, places_of,
+};
 use sia_parts::{Edge, Kind, Looks};
 use std::alloc::Global;
 

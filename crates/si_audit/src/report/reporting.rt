@@ -1,20 +1,18 @@
 // The report of an audit: all its lines.
 ghost use Rattle.std.specs.Prelude.{◌≡◌, ◌++◌, ◌&&◌, List, flat_map, IfOk, OnOk};
-ghost use Rattle.si_audit.specs.Audits.{account_of};
-ghost use Rattle.si_audit.specs.Judgements.{account_with};
+ghost use Rattle.si_audit.specs.Audits.{account_of, account_with};
 ghost use Rattle.si_audit.specs.Lines as lines;
 ghost use Rattle.si_audit.specs.Report.{CanBePrinted};
 ghost use Rattle.si_audit.specs.Sheets.{text_of};
 
-use crate::audit::counts::Counts;
 use crate::audit::findings::Audit;
-use crate::audit::judgement::Judgement;
 use crate::cli::form::Form;
 use crate::report::found::push_front;
 use crate::report::lines::{push_verdict, push_whether};
 use crate::report::words::{Words, kind_word, number, push_line};
 use sia_events::NoMemory;
-use sia_graph::{Pivot, Verdict};
+use sia_graph::{Judgement, Pivot, Verdict};
+use sia_index::Counts;
 use sia_parts::Edge;
 use std::alloc::{AllocError, Global};
 

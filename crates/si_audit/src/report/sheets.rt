@@ -4,14 +4,14 @@ ghost use Rattle.std.specs.Prelude.{⊤, ◌+◌, ◌<◌, length, flat_map, sli
 ghost use Rattle.sia_events.specs.Lists.{ListsAscending};
 ghost use Rattle.sia_events.specs.Transactions.{IsCommitted};
 ghost use Rattle.sia_parts.specs.Looks.{AreLooks};
-ghost use Rattle.si_audit.specs.Edges.{AreAllEdges, AreLinesAndLinks, IsSheet};
+ghost use Rattle.sia_graph.specs.AllEdges.{AreAllEdges};
+ghost use Rattle.si_audit.specs.Edges.{AreLinesAndLinks, IsSheet};
 
-use crate::audit::edges::{AllEdges, chunk_of, edges_of};
 use crate::audit::finding::crew_of;
 use crate::cli::options::Options;
 use crate::report::number_lines::sheet_of;
 use sia_events::NoMemory;
-use sia_graph::Link;
+use sia_graph::{AllEdges, Link, chunk_of, edges_of};
 use sia_index::Index;
 use sia_parts::{ChunkBounds, Committed, Looks};
 use sia_pool::{Job, OpenGate, work_off};

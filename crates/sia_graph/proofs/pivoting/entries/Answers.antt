@@ -7,7 +7,7 @@ use Rattle.sia_events.specs.Lists.{ListsAscending}
 use Rattle.sia_graph.specs.declared.pivot.Pivot.{Pivot}
 use Rattle.sia_graph.specs.Links.{AreLinked}
 use Rattle.sia_graph.specs.Pivots.{ListsNeighbours}
-use Rattle.sia_graph.proofs.Listed.{listed_as}
+use Rattle.sia_graph.proofs.ListedAs.{listed_as}
 use Rattle.sia_graph.proofs.LinkLists.{IsLinked, ends_listed, linked_by}
 use Rattle.sia_graph.proofs.Picked.{ArePicked, none_picked, picked_more, picked_same, all_picked}
 use Rattle.sia_graph.proofs.PivotLists.{is_middle}

@@ -2,7 +2,7 @@ use Rattle.std.proofs.Common.{[], ◌∷◌, ◌++◌, ◌&&◌, ◌∙◌, ap, 
 use Rattle.std.specs.Prelude.{Contains}
 use Rattle.std.proofs.lemmas.List.Elements.{All-contains_itself}
 use Rattle.si_audit.specs.Explained.{IsExplained, TellsAll, WithReasons}
-use Rattle.si_audit.specs.Judgements.{account_with}
+use Rattle.si_audit.specs.Audits.{account_with}
 use Rattle.si_audit.specs.Lines as lines
 use Rattle.si_audit.specs.Reasons.{TellsBadRead, TellsBadWrite, TellsUnexplained}
 use Rattle.si_audit.specs.Sheets.{text_of}

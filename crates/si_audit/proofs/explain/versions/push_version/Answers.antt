@@ -4,7 +4,7 @@ use Rattle.sia_events.specs.Transactions.{HasEvent}
 use Rattle.sia_events.specs.declared.event.Event.TheVariants.{Write}
 use Rattle.sia_index.specs.Info.{EndsAs, IsFirstWrite, IsInfo}
 use Rattle.si_audit.specs.Reasons.{event_words}
-use Rattle.si_audit.proofs.Fates.{ended_at, open_without_end}
+use Rattle.sia_index.proofs.Fates.{ended_at, open_without_end}
 use Rattle.si_audit.proofs.Pushed.{and_more}
 use Rattle.si_audit.proofs.explain.versions.push_version.Goals as goal
 

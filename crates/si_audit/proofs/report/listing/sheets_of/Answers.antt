@@ -2,7 +2,7 @@ use Rattle.std.proofs.Common.{◌∙◌, ap, refl, subst, sym}
 use Rattle.si_audit.specs.declared.cli.form.Form.{Form}
 use Rattle.si_audit.specs.declared.cli.form.Form.TheVariants.{Full, Brief}
 use Rattle.si_audit.specs.Answering.{IsReportOf}
-use Rattle.si_audit.specs.Judgements.{account_with}
+use Rattle.si_audit.specs.Audits.{account_with}
 use Rattle.si_audit.specs.Sheets.{text_of}
 use Rattle.si_audit.proofs.Clean.{account_is}
 use Rattle.si_audit.proofs.Results.{ok_map}

@@ -1,8 +1,8 @@
 use Rattle.std.proofs.Common.{map}
 use Rattle.sia_parts.specs.Packing.{unpacked}
 use Rattle.sia_graph.proofs.Vulnerable.{all_vulnerable}
-use Rattle.si_audit.proofs.SheetsInTurn.{all_listed}
-use Rattle.si_audit.proofs.audit.make.listed.Goals as goal
+use Rattle.sia_graph.proofs.ListedEdges.{all_listed}
+use Rattle.sia_graph.proofs.listing.listed.Goals as goal
 
 pub edges_of-requires : goal.edges_of-requires
 edges_of-requires c = record { committed = c.requires.committed; looks = c.requires.looks }

@@ -5,10 +5,11 @@ use Rattle.sia_events.specs.Lists.{CountsAll}
 use Rattle.sia_events.specs.Refusals.{IsWellFormed}
 use Rattle.sia_events.specs.Transactions.{IsCommitted, IsAborted, IsOpen}
 use Rattle.sia_index.specs.declared.info.Fate.TheVariants.{Committed, Aborted, Unfinished}
-use Rattle.si_audit.specs.Counting.{EndedSo}
-use Rattle.si_audit.proofs.Tallies.{next_committed, next_aborted, next_unfinished, all_counted, few_transactions}
-use Rattle.si_audit.proofs.audit.counts.counted.Goals as goal
-use Rattle.si_audit.proofs.audit.counts.counted.Goals.{in-Committed, in-Aborted, in-Unfinished}
+use Rattle.sia_index.specs.Counting.{EndedSo}
+use Rattle.sia_index.proofs.Fates.{ended_so}
+use Rattle.sia_index.proofs.Tallies.{next_committed, next_aborted, next_unfinished, all_counted, few_transactions}
+use Rattle.sia_index.proofs.counts.counted.Goals as goal
+use Rattle.sia_index.proofs.counts.counted.Goals.{in-Committed, in-Aborted, in-Unfinished}
 
 pub overflow_add-committed : goal.overflow_add-committed
 overflow_add-committed c =
@@ -37,22 +38,27 @@ overflow_add-unfinished c =
     let same = ap length c.requires.index in
     omega (arith, c.len-events.ensures.len)
 
+pub txn_at-requires : goal.txn_at-requires
+txn_at-requires c = (c.txns-txns.result.now, c.txns-txns.ensures, c.loop-i-test.true)
+
 pub loop-i-preserved : goal.loop-i-preserved
 loop-i-preserved c =
     let wf = subst IsWellFormed (sym c.requires.index) c.requires.well_formed in
     let txns = c.txns-txns.result.now in
     let x = slice_index txns c.loop-i.i in
-    elim c.match-fate_at.branch [
+    let known = c.txn_at.ensures x (txns, c.txns-txns.ensures, c.loop-i-test.true, refl) in
+    let so = ended_so c.args.ix.now wf x c.txn_at.result.fate c.txn_at.result.ended known.1 in
+    elim c.match-txn_at.branch [
       | in-Committed w ↦
-          let ended = subst (λ f. EndedSo c.args.ix.now f x) w.in-Committed.is c.fate_at.ensures in
+          let ended = subst (λ f. EndedSo c.args.ix.now f x) w.in-Committed.is so in
           rw (w.committed-is, w.aborted-is, w.unfinished-is)
           (next_committed c.args.ix.now wf txns c.txns-txns.ensures.ascending c.loop-i.i x 0 c.loop-i-test.true refl _ _ _ c.loop-i.invariant ended)
       | in-Aborted w ↦
-          let ended = subst (λ f. EndedSo c.args.ix.now f x) w.in-Aborted.is c.fate_at.ensures in
+          let ended = subst (λ f. EndedSo c.args.ix.now f x) w.in-Aborted.is so in
           rw (w.committed-is, w.aborted-is, w.unfinished-is)
           (next_aborted c.args.ix.now wf txns c.txns-txns.ensures.ascending c.loop-i.i x 0 c.loop-i-test.true refl _ _ _ c.loop-i.invariant ended)
       | in-Unfinished w ↦
-          let ended = subst (λ f. EndedSo c.args.ix.now f x) w.in-Unfinished.is c.fate_at.ensures in
+          let ended = subst (λ f. EndedSo c.args.ix.now f x) w.in-Unfinished.is so in
           rw (w.committed-is, w.aborted-is, w.unfinished-is)
           (next_unfinished c.args.ix.now wf txns c.txns-txns.ensures.ascending c.loop-i.i x 0 c.loop-i-test.true refl _ _ _ c.loop-i.invariant ended)
     ]

@@ -15,9 +15,9 @@ use Rattle.sia_events.specs.Refusals.{IsWellFormed}
 use Rattle.sia_events.specs.Transactions.{HasEvent}
 use Rattle.sia_index.specs.declared.info.Fate.{Fate}
 use Rattle.sia_index.specs.declared.info.Fate.TheVariants.{Committed, Aborted, Unfinished}
-use Rattle.si_audit.specs.Counting.{EndedSo}
-use Rattle.si_audit.proofs.Fates.{one_fate, ended_has_event}
-use Rattle.si_audit.proofs.KeptTransactions.{Rises, AreKept, kept_next, skipped_next, kept_of_all}
+use Rattle.sia_index.specs.Counting.{EndedSo}
+use Rattle.sia_index.proofs.Fates.{one_fate, ended_has_event}
+use Rattle.sia_index.proofs.KeptTransactions.{Rises, AreKept, kept_next, skipped_next, kept_of_all}
 
 -- so many of the first n transactions ended so
 abbrev pub HasTally : List Event → List ℕ → Fate → ℕ → ℕ → Type 0

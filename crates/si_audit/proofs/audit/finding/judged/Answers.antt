@@ -1,20 +1,18 @@
 use Rattle.sia_parts.specs.declared.cutting.Part.{Part}
 use Rattle.sia_parts.specs.declared.findings.PartFound.{PartFound}
-use Rattle.sia_parts.specs.Gathering.{IsGathering, IsPartFound}
+use Rattle.sia_parts.specs.Gathering.{IsPartFound}
 use Rattle.sia_parts.specs.Parts.{IsInPart}
 use Rattle.si_audit.proofs.Owed.{each_owed}
-use Rattle.si_audit.proofs.Results.{ok_map}
-use Rattle.si_audit.proofs.audit.finding.find.Goals as goal
+use Rattle.si_audit.proofs.audit.finding.judged.Goals as goal
 
 pub of-requires : goal.of-requires
 of-requires g c =
-    let h = c.args.h.now in
+    let h = c.args.of.now.history.now in
     let owed = each_owed (λ (part : Part) (found : PartFound). IsPartFound h (IsInPart part) found) c.parts-parts.result.now c.in-Ok.crew.outs.items c.in-Ok.ensures.len c.in-Ok.ensures.owed in
     (h, c.parts-parts.ensures.cutting.0, c.parts-parts.result.now, c.requires.well_formed, c.parts-parts.ensures.cutting.1, owed)
 
-pub returns-in-Ok : goal.returns-in-Ok
-returns-in-Ok g c =
-    let h = c.args.h.now in
+pub judge-requires-clause-found : goal.judge-requires-clause-found
+judge-requires-clause-found g c =
+    let h = c.args.of.now.history.now in
     let owed = each_owed (λ (part : Part) (found : PartFound). IsPartFound h (IsInPart part) found) c.parts-parts.result.now c.in-Ok.crew.outs.items c.in-Ok.ensures.len c.in-Ok.ensures.owed in
-    ok_map _ (IsGathering h) c.of.result
-    (λ found f. f h c.parts-parts.ensures.cutting.0 c.parts-parts.result.now c.requires.well_formed c.parts-parts.ensures.cutting.1 owed) c.of.ensures
+    c.in_ok-found-in-Ok.ensures h c.parts-parts.ensures.cutting.0 c.parts-parts.result.now c.requires.well_formed c.parts-parts.ensures.cutting.1 owed

@@ -1,5 +1,5 @@
 use Rattle.std.proofs.lemmas.List.Elements.{All-contains_itself}
-use Rattle.si_audit.proofs.audit.edges.chunk_of.Goals as goal
+use Rattle.sia_graph.proofs.listing.chunk_of.Goals as goal
 
 pub vulnerable_in-requires-clause-packed : goal.vulnerable_in-requires-clause-packed
 vulnerable_in-requires-clause-packed c =

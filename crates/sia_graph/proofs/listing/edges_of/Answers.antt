@@ -1,6 +1,6 @@
 use Rattle.std.proofs.Common.{None}
 use Rattle.std.proofs.lemmas.List.Elements.{All-contains_itself}
-use Rattle.si_audit.proofs.audit.edges.edges_of.Goals as goal
+use Rattle.sia_graph.proofs.listing.edges_of.Goals as goal
 
 pub lifetimes_of-requires : goal.lifetimes_of-requires
 lifetimes_of-requires c = rw c.ids-txns.ensures (λ k d below. (c.requires.committed.each _).0 (All-contains_itself c.args.committed.now k d below))

@@ -1,32 +1,38 @@
-// All edges of a history, which are told chunk by chunk.
+//! All edges of a history, which are told chunk by chunk, and all its pivots.
 ghost use Rattle.std.specs.Prelude.{◌≡◌, ⊤, map, IfOk};
 ghost use Rattle.sia_events.specs.Lists.{ListsAscending};
 ghost use Rattle.sia_events.specs.Transactions.{IsCommitted, Overlap};
+ghost use Rattle.sia_parts.specs.Findings.{ListsEdges};
 ghost use Rattle.sia_parts.specs.Gathering.{AreNumbersBetween};
 ghost use Rattle.sia_parts.specs.Looks.{AreLooks};
 ghost use Rattle.sia_parts.specs.Packing.{unpacked};
+ghost use Rattle.sia_graph.specs.AllEdges.{AreAllEdges};
 ghost use Rattle.sia_graph.specs.Links.{AreEnds};
-ghost use Rattle.si_audit.specs.Edges.{AreAllEdges};
+ghost use Rattle.sia_graph.specs.Pivots.{ArePivots};
 
+use crate::pivot::Pivot;
+use crate::pivoting::lifetimes::{Lifetime, lifetimes_of};
+use crate::pivoting::links::Link;
+use crate::pivoting::pivots_of_links;
+use crate::pivoting::vulnerable_numbers::vulnerable_in;
 use sia_events::{Key, NoMemory, TxnId};
-use sia_graph::{Lifetime, Link, lifetimes_of, vulnerable_in};
 use sia_index::Index;
-use sia_parts::{Committed, EdgeNumber, Fans, Looks};
+use sia_parts::{Committed, Edge, EdgeNumber, Fans, Looks, edges_of_numbers};
 use std::alloc::Global;
 
 /// All edges of a history as fans, by the places of the committed transactions and of the written keys, and the lifetimes of
 /// these transactions.
 #[derive(Drop)]
-pub(crate) struct AllEdges<'a> {
-    pub(crate) index: &'a Index,
-    pub(crate) txns: &'a [TxnId],
-    pub(crate) keys: &'a [Key],
-    pub(crate) lifetimes: Vec<Lifetime>,
-    pub(crate) fans: Fans,
+pub struct AllEdges<'a> {
+    pub index: &'a Index,
+    pub txns: &'a [TxnId],
+    pub keys: &'a [Key],
+    pub lifetimes: Vec<Lifetime>,
+    pub fans: Fans,
 }
 
 /// The edges that are told by what was written and seen.
-pub(crate) fn edges_of<'a>(
+pub fn edges_of<'a>(
     alloc: Global,
     ix: &'a Index,
     committed: &'a Committed,
@@ -51,19 +57,14 @@ pub(crate) fn edges_of<'a>(
 
 /// Some of the edges.
 #[derive(Drop)]
-pub(crate) struct Chunk {
-    pub(crate) numbers: Vec<EdgeNumber>,
+pub struct Chunk {
+    pub numbers: Vec<EdgeNumber>,
     /// The vulnerable ones, each as a link at its source.
-    pub(crate) links: Vec<Link>,
+    pub links: Vec<Link>,
 }
 
 /// The edges whose sources stand from the one place to before the other.
-pub(crate) fn chunk_of(
-    alloc: Global,
-    edges: &AllEdges,
-    from: usize,
-    to: usize,
-) -> Result<Chunk, NoMemory>
+pub fn chunk_of(alloc: Global, edges: &AllEdges, from: usize, to: usize) -> Result<Chunk, NoMemory>
     requires { AreAllEdges edges.now }
     ensures numbers { IfOk result (λ chunk. AreNumbersBetween edges.now.fans from to chunk.numbers.items) }
     ensures links { IfOk result (λ chunk. AreEnds (Overlap edges.now.index.now) (map (unpacked edges.now.txns.now edges.now.keys.now) chunk.numbers.items) chunk.links.items) }
@@ -71,4 +72,23 @@ pub(crate) fn chunk_of(
     let numbers = edges.fans.chunk(alloc, from, to)?;
     let links = vulnerable_in(alloc, edges.index, edges.txns, &edges.lifetimes, &numbers)?;
     Ok(Chunk { numbers, links })
+}
+
+/// All edges of a history and all pivots, in order.
+pub fn listed(
+    alloc: Global,
+    ix: &Index,
+    committed: &Committed,
+    looks: Looks,
+) -> Result<(Vec<Edge>, Vec<Pivot>), NoMemory>
+    requires committed { ListsAscending (IsCommitted ix.now) committed.now }
+    requires looks { AreLooks ix.now (λ _. ⊤) looks }
+    ensures edges { IfOk result (λ (edges, pivots). ListsEdges ix.now (λ _. ⊤) edges.items) }
+    ensures pivots { IfOk result (λ (edges, pivots). ArePivots ix.now pivots.items) }
+{
+    let all = edges_of(alloc, ix, committed, looks)?;
+    let chunk = chunk_of(alloc, &all, 0, all.txns.len())?;
+    let edges = edges_of_numbers(alloc, all.txns, all.keys, &chunk.numbers)?;
+    let pivots = pivots_of_links(alloc, ix, chunk.links)?;
+    Ok((edges, pivots))
 }

@@ -5,41 +5,41 @@ use Rattle.sia_events.specs.Transactions.{IsCommitted}
 use Rattle.sia_parts.specs.Entries.{IsEdge}
 use Rattle.sia_graph.specs.Evidence.{ArePlaced}
 use Rattle.sia_graph.specs.Verdicts.{IsVerdict}
-use Rattle.si_audit.proofs.Judging.{passed_is_serializable, serializable_where}
-use Rattle.si_audit.proofs.audit.judgement.judged.Goals as goal
+use Rattle.sia_graph.proofs.Judging.{passed_is_serializable, serializable_where}
+use Rattle.sia_graph.proofs.judgement.judge.Goals as goal
 
 pub places_of-requires : goal.places_of-requires
-places_of-requires g c = c.in_ok-found.ensures.looks.rise
+places_of-requires c = c.requires.found.looks.rise
 
 pub passes-requires : goal.passes-requires
-passes-requires g c = record {
+passes-requires c = record {
   evidence = record {
-    well_formed = rw c.requires.index c.requires.well_formed;
+    well_formed = rw c.requires.index c.law.ensures;
     txns_are = rw c.ids.ensures c.requires.committed;
     keys_are = c.written_keys.ensures;
-    looks_are = rw c.requires.index c.in_ok-found.ensures.looks;
+    looks_are = rw c.requires.index c.requires.found.looks;
   };
-  places = subst (ArePlaced c.in_ok-found.found.looks) (sym c.as_slice.ensures.value) c.in_ok-places.ensures;
-  bad_reads = rw (c.requires.index, c.deref.ensures.value) c.in_ok-found.ensures.bad_reads;
-  bad_writes = rw (c.requires.index, c.deref-2.ensures.value) c.in_ok-found.ensures.bad_writes;
+  places = subst (ArePlaced c.args.found.looks) (sym c.as_slice.ensures.value) c.in_ok-places.ensures;
+  bad_reads = rw (c.requires.index, c.deref.ensures.value) c.requires.found.bad_reads;
+  bad_writes = rw (c.requires.index, c.deref-2.ensures.value) c.requires.found.bad_writes;
 }
 
 pub settle_looks-requires : goal.settle_looks-requires
-settle_looks-requires g c = record {
+settle_looks-requires c = record {
   evidence = record {
-    well_formed = rw c.requires.index c.requires.well_formed;
+    well_formed = rw c.requires.index c.law.ensures;
     txns_are = rw c.ids.ensures c.requires.committed;
     keys_are = c.written_keys.ensures;
-    looks_are = rw c.requires.index c.in_ok-found.ensures.looks;
+    looks_are = rw c.requires.index c.requires.found.looks;
   };
-  places = subst (ArePlaced c.in_ok-found.found.looks) (sym c.as_slice.ensures.value) c.in_ok-places.ensures;
+  places = subst (ArePlaced c.args.found.looks) (sym c.as_slice.ensures.value) c.in_ok-places.ensures;
 }
 
 pub returns-clause-exact : goal.returns-clause-exact
-returns-clause-exact g c =
-    let h = c.args.of.now.history.now in
-    let wf = c.requires.well_formed in
-    let is = c.in_ok-found.ensures in
+returns-clause-exact c =
+    let h = c.args.h.now in
+    let wf = c.law.ensures in
+    let is = c.requires.found in
     let verdict = c.in_ok-verdict.verdict in
     let verdict_is = subst (λ i. IsVerdict (IsCommitted i) (IsEdge i) verdict) c.requires.index c.in_ok-verdict.ensures in
     record {
@@ -48,16 +48,16 @@ returns-clause-exact g c =
       bad_writes = is.bad_writes;
       unexplained = is.unexplained;
       pass = subst (λ i. IsTrue c.in_ok-pass.pass ↔ PassesSsi i) c.requires.index c.in_ok-pass.ensures;
-      serializable = serializable_where h wf verdict verdict_is c.in_ok-found.found.unexplained.items is.unexplained (c.replay_law.ensures h wf) c.is_serializable-serializable.result (rw (sym c.deref-3.ensures.value) c.is_serializable-serializable.ensures);
+      serializable = serializable_where h wf verdict verdict_is c.args.found.unexplained.items is.unexplained (c.replay_law.ensures h wf) c.is_serializable-serializable.result (rw (sym c.deref-3.ensures.value) c.is_serializable-serializable.ensures);
       verdict = verdict_is;
     }
 
 pub returns-clause-pass : goal.returns-clause-pass
-returns-clause-pass g c =
-    let h = c.args.of.now.history.now in
-    let wf = c.requires.well_formed in
+returns-clause-pass c =
+    let h = c.args.h.now in
+    let wf = c.law.ensures in
     let verdict = c.in_ok-verdict.verdict in
     let verdict_is = subst (λ i. IsVerdict (IsCommitted i) (IsEdge i) verdict) c.requires.index c.in_ok-verdict.ensures in
     let pass_is = subst (λ i. IsTrue c.in_ok-pass.pass ↔ PassesSsi i) c.requires.index c.in_ok-pass.ensures in
-    passed_is_serializable h wf verdict verdict_is c.in_ok-found.found.unexplained.items c.in_ok-found.ensures.unexplained (c.ssi_law.ensures h wf)
+    passed_is_serializable h wf verdict verdict_is c.args.found.unexplained.items c.requires.found.unexplained (c.ssi_law.ensures h wf)
     c.is_serializable-serializable.result c.in_ok-pass.pass (rw (sym c.deref-3.ensures.value) c.is_serializable-serializable.ensures) pass_is

@@ -20,7 +20,7 @@ use Rattle.sia_graph.specs.declared.settling.Verdict.{Verdict}
 use Rattle.sia_graph.specs.declared.settling.Verdict.TheVariants.{Order, Cycle}
 use Rattle.sia_graph.specs.Orders.{Leads, IsKeepingOrder}
 use Rattle.sia_graph.specs.Verdicts.{IsVerdict}
-use Rattle.si_audit.specs.Audits.{IsOrderVerdict}
+use Rattle.sia_graph.specs.Verdicts.{IsOrderVerdict}
 
 module _ {A : Type 0} (rank : A → List ℕ) (P : A → Type 0) where
   -- nothing has P where the list is empty

@@ -8,7 +8,7 @@ use Rattle.sia_events.proofs.Endings.{one_end}
 use Rattle.sia_index.specs.declared.info.Fate.{Fate}
 use Rattle.sia_index.specs.declared.info.Fate.TheVariants.{Committed, Aborted, Unfinished}
 use Rattle.sia_index.specs.Info.{EndsAs}
-use Rattle.si_audit.specs.Counting.{EndedSo}
+use Rattle.sia_index.specs.Counting.{EndedSo}
 
 module _ (h : List Event) (wf : IsWellFormed h) (t : ℕ) where
   not_both : IsCommitted h t → ¬ IsAborted h t

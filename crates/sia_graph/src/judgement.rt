@@ -1,0 +1,88 @@
+//! What follows from what was found in a history.
+ghost use Rattle.std.specs.Prelude.{◌≡◌, ◌↔◌, [], ⊤, IfOk, IsTrue};
+ghost use Rattle.sia_events.specs.Lists.{ListsAscending};
+ghost use Rattle.sia_events.specs.Transactions.{IsCommitted};
+ghost use Rattle.sia_parts.specs.Gathering.{IsGathering};
+ghost use Rattle.sia_parts.specs.Looks.{AreLooks};
+ghost use Rattle.sia_graph.specs.Judgements.{IsJudgement};
+ghost use Rattle.sia_graph.specs.Verdicts.{IsOrderVerdict};
+
+use crate::laws::{replay_law, ssi_law};
+use crate::narrow::Evidence;
+use crate::narrow::judging::{passes, settle_looks};
+use crate::narrow::placing::places_of;
+use crate::settling::Verdict;
+use sia_events::{History, NoMemory};
+use sia_index::{Counts, Index, counted};
+use sia_parts::{BadRead, BadWrite, Committed, Gathering, Looks, Unexplained};
+use std::alloc::Global;
+
+/// All that the audit of a history found, but for its edges and its pivots.
+#[derive(Drop)]
+pub struct Judgement {
+    pub counts: Counts,
+    pub bad_reads: Vec<BadRead>,
+    pub bad_writes: Vec<BadWrite>,
+    pub unexplained: Vec<Unexplained>,
+    pub pass: bool,
+    pub serializable: bool,
+    pub verdict: Verdict,
+}
+
+impl Judgement {
+    /// Whether isolation was kept.
+    pub fn is_kept(&self) -> bool
+        ensures { IsTrue result ↔ ((self.now.bad_reads.items ≡ []) × (self.now.bad_writes.items ≡ [])) }
+    {
+        self.bad_reads.is_empty() && self.bad_writes.is_empty()
+    }
+}
+
+/// Whether the verdict is an order and no read is unexplained.
+fn is_serializable(verdict: &Verdict, unexplained: &[Unexplained]) -> bool
+    ensures { IsTrue result ↔ (IsOrderVerdict verdict.now × (unexplained.now ≡ [])) }
+{
+    matches!(verdict, Verdict::Order(_)) && unexplained.is_empty()
+}
+
+/// Judges a history by what was found at all its keys. Beside the judgement stands what its edges are told by.
+pub fn judge(
+    alloc: Global,
+    h: &History,
+    ix: &Index,
+    committed: &Committed,
+    found: Gathering,
+) -> Result<(Judgement, Looks), NoMemory>
+    requires index { ix.now ≡ h.now }
+    requires committed { ListsAscending (IsCommitted ix.now) committed.now }
+    requires found { IsGathering h.now found }
+    ensures exact { IfOk result (λ (j, looks). IsJudgement h.now j) }
+    ensures pass { IfOk result (λ (j, looks). IsTrue j.pass → IsTrue j.serializable × IsOrderVerdict j.verdict) }
+    ensures looks { IfOk result (λ (j, looks). AreLooks ix.now (λ _. ⊤) looks) }
+{
+    h.law();
+    let places = places_of(alloc, &found.looks)?;
+    let evidence = Evidence {
+        index: ix,
+        txns: committed.ids(),
+        keys: ix.written_keys(),
+        looks: &found.looks,
+        places: places.as_slice(),
+    };
+    let pass = passes(alloc, &evidence, &found.bad_reads, &found.bad_writes)?;
+    let verdict = settle_looks(alloc, &evidence)?;
+    let counts = counted(h, ix);
+    let serializable = is_serializable(&verdict, &found.unexplained);
+    replay_law();
+    ssi_law();
+    let judgement = Judgement {
+        counts,
+        bad_reads: found.bad_reads,
+        bad_writes: found.bad_writes,
+        unexplained: found.unexplained,
+        pass,
+        serializable,
+        verdict,
+    };
+    Ok((judgement, found.looks))
+}

@@ -1,0 +1,45 @@
+//! How many events there are, and how many transactions committed, aborted, or are open.
+ghost use Rattle.std.specs.Prelude.{◌≡◌};
+ghost use Rattle.sia_events.specs.Refusals.{IsWellFormed};
+ghost use Rattle.sia_index.specs.Counting.{AreCounts};
+
+use crate::indexed::Index;
+use crate::info::Fate;
+use sia_events::History;
+
+/// How many events a history has, and how many transactions ended in which way.
+#[derive(Clone, Copy)]
+pub struct Counts {
+    pub events: u32,
+    pub committed: u32,
+    pub aborted: u32,
+    /// How many transactions are open.
+    pub unfinished: u32,
+}
+
+/// The counts of a history.
+pub fn counted(h: &History, ix: &Index) -> Counts
+    requires index { ix.now ≡ h.now }
+    requires well_formed { IsWellFormed h.now }
+    ensures { AreCounts h.now result }
+{
+    let events = h.len();
+    let txns = ix.txns();
+    let mut committed: u32 = 0;
+    let mut aborted: u32 = 0;
+    let mut unfinished: u32 = 0;
+    for i in 0..txns.len() {
+        let _ = txns;
+        match ix.txn_at(i).fate {
+            Fate::Committed => committed += 1,
+            Fate::Aborted => aborted += 1,
+            Fate::Unfinished => unfinished += 1,
+        }
+    }
+    Counts {
+        events,
+        committed,
+        aborted,
+        unfinished,
+    }
+}
