@@ -33,5 +33,5 @@ pub struct Evidence<'a> {
     pub txns: &'a [TxnId],
     pub keys: &'a [Key],
     pub looks: &'a Looks,
-    pub places: &'a [usize],
+    pub places: &'a [u32],
 }

@@ -16,7 +16,7 @@ pub(crate) fn steps_of(
     alloc: Global,
     size: u32,
     looks: &Looks,
-    places: &[usize],
+    places: &[u32],
 ) -> Result<Vec<u64>, NoMemory>
     requires writers { AreVersions looks.now.writers.items }
     requires places { ArePlaced looks.now places.now }

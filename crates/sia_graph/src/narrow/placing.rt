@@ -25,7 +25,7 @@ fn guesses(alloc: Global, versions: &[Look]) -> Result<Vec<usize>, NoMemory> {
 
 /// For each of those who saw versions how many versions stand up to the oldest one that it saw of its key. What follows in time
 /// mostly saw a version of a key near the one that was seen last.
-pub fn places_of(alloc: Global, looks: &Looks) -> Result<Vec<usize>, NoMemory>
+pub fn places_of(alloc: Global, looks: &Looks) -> Result<Vec<u32>, NoMemory>
     requires { RiseByRank looks.now.writers.items }
     ensures { IfOk result (λ places. ArePlaced looks.now places.items) }
 {
@@ -36,7 +36,8 @@ pub fn places_of(alloc: Global, looks: &Looks) -> Result<Vec<usize>, NoMemory>
     for look in readers {
         let near = nearby.get(look.key as usize).copied().unwrap_or(0);
         let at = count_up_to(versions, look.key, look.low, near);
-        places.push(at)?;
+        // More versions than a `u32` counts never fit.
+        places.push(u32::try_from(at).ok().ok_or(NoMemory)?)?;
         if let Some(near) = nearby.get_mut(look.key as usize) {
             *near = at;
         }

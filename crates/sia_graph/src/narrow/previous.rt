@@ -40,13 +40,7 @@ fn ranks_of(alloc: Global, left: &[bool]) -> Result<Vec<u32>, NoMemory>
 
 /// Lowers for each transaction its rank to the least one, but its own number, of those who made the versions of a key up to where
 /// one of its looks ends, by the places of these.
-fn lower_by_seen(
-    versions: &[Look],
-    twos: &[Two],
-    looks: &[Look],
-    places: &[usize],
-    least: &mut [u32],
-)
+fn lower_by_seen(versions: &[Look], twos: &[Two], looks: &[Look], places: &[u32], least: &mut [u32])
     requires versions { AreVersions versions.now }
     requires long { length twos.now ≡ length versions.now }
     requires within { All (λ look. look.txn < length least.old) looks.now }
@@ -55,7 +49,7 @@ fn lower_by_seen(
 {
     for i in 0..looks.len() {
         let t = looks[i].txn;
-        if let Some(at) = newest_place(versions, looks[i], places[i]) {
+        if let Some(at) = newest_place(versions, looks[i], places[i] as usize) {
             least[t as usize] = least[t as usize].min(other(twos[at], t));
         }
     }

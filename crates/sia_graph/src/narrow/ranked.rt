@@ -49,7 +49,7 @@ pub(crate) fn twos_of_readers(
     alloc: Global,
     versions: &[Look],
     readers: &[Look],
-    places: &[usize],
+    places: &[u32],
     ranks: &[u32],
 ) -> Result<Vec<Two>, NoMemory>
     requires search { CanSearch versions.now }
@@ -58,8 +58,8 @@ pub(crate) fn twos_of_readers(
 {
     let mut twos = vec![in alloc; NO_RANKS; versions.len()]?;
     for i in 0..readers.len() {
-        if look_at(versions, places[i], readers[i].key).is_some() {
-            put_rank(&mut twos, places[i], ranks, readers[i].txn);
+        if look_at(versions, places[i] as usize, readers[i].key).is_some() {
+            put_rank(&mut twos, places[i] as usize, ranks, readers[i].txn);
         }
     }
     add_earlier(versions, &mut twos);

@@ -49,7 +49,7 @@ pub(crate) fn put_reader_steps(
     size: u32,
     writers: &[Look],
     readers: &[Look],
-    places: &[usize],
+    places: &[u32],
     steps: &mut Vec<u64>,
 ) -> Result<(), NoMemory>
     requires writers { CanSearch writers.now }
@@ -59,10 +59,10 @@ pub(crate) fn put_reader_steps(
 {
     for i in 0..readers.len() {
         let look = readers[i];
-        if let Some(a) = look_at(writers, places[i], look.key) {
+        if let Some(a) = look_at(writers, places[i] as usize, look.key) {
             put_between(size, look.txn, a.txn, steps)?;
         }
-        if let Some(at) = newest_place(writers, look, places[i]) {
+        if let Some(at) = newest_place(writers, look, places[i] as usize) {
             put_between(size, writers[at].txn, look.txn, steps)?;
         }
     }

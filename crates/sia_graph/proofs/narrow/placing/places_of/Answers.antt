@@ -1,5 +1,5 @@
 -- One look more each time.
-use Rattle.std.proofs.Common.{◌≡◌, List, get_or, length, subst, arith}
+use Rattle.std.proofs.Common.{◌≡◌, List, get_or, length, rules, subst, arith}
 use Rattle.std.proofs.lemmas.List.{get_or_default}
 use Rattle.sia_parts.specs.declared.looks.Look.{Look}
 use Rattle.sia_graph.specs.Evidence.{ArePlaces}
@@ -13,7 +13,8 @@ pub loop-look-preserved : goal.loop-look-preserved
 loop-look-preserved c =
     let readers = c.as_slice-readers.result.now in
     let n = c.loop-look.look-index in
-    place_more c.as_slice-versions.result.now readers n (get_or readers n none) (λ d l. get_or_default readers n d none l) _ _ c.count_up_to-at.result c.in_ok-push.ensures.items c.count_up_to-at.ensures c.loop-look.invariant
+    let is : c.in_ok-ok_or.field-0 ≡ c.count_up_to-at.result = search rules in
+    place_more c.as_slice-versions.result.now readers n (get_or readers n none) (λ d l. get_or_default readers n d none l) _ _ c.count_up_to-at.result (rw is at c.in_ok-push.ensures.items) c.count_up_to-at.ensures c.loop-look.invariant
 
 pub returns : goal.returns
 returns c =
