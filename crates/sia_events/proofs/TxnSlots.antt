@@ -149,5 +149,15 @@ pub unheld : (room x y : Bool) → x ≡ true → (room ≡ true → (x || y) �
 unheld true x y held lacks = let wrong : true ≡ false = sym held ∙ (or_parts x y (lacks refl)).0 in absurd cc
 unheld false x y held lacks = refl
 
+-- one number more in a tree
+pub tree_more : (u t : ℕ) (held before after all : Bool) → ((t == u) ≡ true → after ≡ true) → ((t == u) ≡ false → after ≡ before) → (held || before) ≡ all → (held || after) ≡ (all || (t == u))
+tree_more u t held before after all same other is = by_number (t == u) refl where
+  by_number : (x : Bool) → (t == u) ≡ x → (held || after) ≡ (all || (t == u))
+  by_number true e = rw (same e, e) (or-true held ∙ sym (or-true all))
+  by_number false e = rw (other e, e, is) (sym (or-false all))
+
 pub other_in_tree : (u t : ℕ) → (t == u) ≡ false → is_at (nat_cmp u) t ≡ false
 other_in_tree u t other = grind (arith, nat_tests)
+
+pub itself_in_tree : (u t : ℕ) → (t == u) ≡ true → is_at (nat_cmp u) t ≡ true
+itself_in_tree u t same = grind (arith, nat_tests)

@@ -35,3 +35,6 @@ loop-position-preserved-then-put c = record {
 pub returns-clause-wrote : goal.returns-clause-wrote
 returns-clause-wrote c = λ sound p.
     ap (λ (ws : List (ℕ × ℕ)). list_any (same p) ws) c.loop-position.invariant.same ∙ list_any-append (same p) c.args.self.now.writes.items (c.args.write ∷ []) ∙ ap (λ (b : Bool). wrote c.args.self.now p || b) (or-false (same p c.args.write))
+
+pub returns-clause-sound : goal.returns-clause-sound
+returns-clause-sound c = c.loop-position.invariant.sound
