@@ -1,9 +1,10 @@
 use Rattle.std.proofs.Common.{◌≡◌, Option, Bor, subst, sym}
 use Rattle.std.specs.Prelude.{All, IfSome}
 use Rattle.si_audit.specs.declared.audit.recorded.Recorded.{Recorded}
-use Rattle.si_audit.specs.Explained.{WithReasons}
+use Rattle.std.proofs.lemmas.List.{take_all}
+use Rattle.si_audit.specs.Explained.{TellsAll, WithReasons}
 use Rattle.si_audit.specs.Wanted.{TellsIf}
-use Rattle.si_audit.proofs.Telling.{next_item_told, told_if_none, told_if_some, told_none, with_reasons}
+use Rattle.si_audit.proofs.Telling.{IsToldBehind, next_item_told, told_if_none, told_if_some, told_none, with_reasons}
 use Rattle.si_audit.proofs.report.found.push_all.Goals as goal
 use Rattle.si_audit.proofs.report.found.push_all.Goals.{in-Some+in_ok-push_reasons, in_default}
 
@@ -33,3 +34,8 @@ loop-x-preserved g c =
           (next_item_told (WithReasons line (TellsIf c.args.of tells)) c.args.found.now c.loop-x.x-index c.x-item.result _ _ _ c.loop-x-test.true c.x-item.is c.loop-x.invariant
           (with_reasons line (TellsIf c.args.of tells) _ _ _ _ c.in_ok-push_line.ensures (told_if_none c.args.of tells _ _ w.in_default.is)))
     ]
+
+pub returns : goal.returns
+returns g c =
+    subst (λ xs. IsToldBehind (TellsAll (WithReasons g.T.Finding.line (TellsIf c.args.of g.T.Finding.tells)) xs) c.args.out.now.items c.loop-x.out.items)
+    (take_all c.loop-x.x-index c.args.found.now c.loop-x-test.false) c.loop-x.invariant

@@ -1,8 +1,11 @@
-use Rattle.std.proofs.Common.{◌≡◌, ◌++◌, ◌-◌, ℕ, List, flat_map, map, length, take, drop, ap, sym, ◌∙◌, append_assoc, take-append-drop, rules}
-use Rattle.std.proofs.lemmas.List.{take_rest, map-append}
+use Rattle.std.proofs.Common.{◌≡◌, ◌++◌, ◌-◌, ℕ, List, flat_map, map, length, take, drop, ap, sym, ◌∙◌, append_assoc, append-nil, take-append-drop, arith, rules}
+use Rattle.std.proofs.lemmas.Bool.{eqb-true}
+use Rattle.std.proofs.lemmas.List.{length-take, take_rest, map-append}
 use Rattle.std.proofs.lemmas.Grind.{flat_map-append}
 use Rattle.sia_parts.specs.Packing.{unpacked}
 use Rattle.si_audit.specs.Lines.{edge_line}
+use Rattle.si_audit.specs.Sheets.{number_lines}
+use Rattle.si_audit.proofs.Chains.{nothing_left}
 use Rattle.si_audit.proofs.report.number_lines.sheet_of.Goals as goal
 
 -- the lines of the first numbers, and those of the rest
@@ -25,3 +28,18 @@ loop-rest-preserved c =
     ∙ append_assoc c.loop-rest.sheet.items front (flat_map edge_line (map f (take (length rest - n) (drop n rest))))
     ∙ ap (λ bs. c.loop-rest.sheet.items ++ bs) both
     ∙ c.loop-rest.invariant
+
+pub loop-rest-init : goal.loop-rest-init
+loop-rest-init c = ap (λ (bs : List ℕ). bs ++ number_lines c.args.txns.now c.args.keys.now c.args.numbers.now) c.in_ok-sheet.ensures.items
+
+pub put_lines-start-requires : goal.put_lines-start-requires
+put_lines-start-requires c =
+    let len = length-take c.min-count.result c.loop-rest.rest.now in
+    let few = c.min-count.ensures in
+    omega arith
+
+pub returns : goal.returns
+returns c =
+    let sheet = c.loop-rest.sheet.items in
+    let none = nothing_left c.loop-rest.rest.now (eqb-true (length c.loop-rest.rest.now) 0 (sym c.loop-rest-test.ensures)) in
+    sym (append-nil sheet) ∙ ap (λ (ns : List ℕ). sheet ++ number_lines c.args.txns.now c.args.keys.now ns) (sym none) ∙ c.loop-rest.invariant
