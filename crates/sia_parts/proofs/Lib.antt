@@ -5,6 +5,7 @@ pub mod FindingLemmas
 pub mod KeyLemmas
 pub mod FieldLemmas
 pub mod Adding
+pub mod SortedTails
 pub mod Sources
 pub mod Listing
 pub mod Joins

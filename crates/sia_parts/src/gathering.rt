@@ -13,7 +13,7 @@ pub(crate) mod chunking;
 
 use crate::findings::{Findings, PartFindings};
 use sia_events::NoMemory;
-use sia_index::ordering::merge_in_order;
+use sia_index::ordering::put_in_order;
 use std::alloc::Global;
 
 /// The findings at all keys, of those of the parts in order.
@@ -30,10 +30,10 @@ pub fn gather(alloc: Global, parts: Vec<PartFindings>) -> Result<Findings, NoMem
         edges: Vec::new(alloc),
     };
     put_parts(&parts, &mut all)?;
-    merge_in_order(&mut all.bad_reads)?;
-    merge_in_order(&mut all.bad_writes)?;
-    merge_in_order(&mut all.unexplained)?;
-    merge_in_order(&mut all.edges)?;
+    put_in_order(&mut all.bad_reads);
+    put_in_order(&mut all.bad_writes);
+    put_in_order(&mut all.unexplained);
+    put_in_order(&mut all.edges);
     Ok(all)
 }
 

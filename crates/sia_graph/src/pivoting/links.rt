@@ -8,7 +8,7 @@ ghost use Rattle.sia_graph.specs.Links.{AreEnds, AreLinked, AreLinksAt, ListsLin
 use crate::searching::{By, rows_near};
 use sia_events::TxnId;
 use sia_index::Index;
-use sia_index::ordering::merge_in_order;
+use sia_index::ordering::put_in_order;
 use sia_parts::{Edge, Kind};
 use std::alloc::{AllocError, Global};
 
@@ -71,7 +71,7 @@ pub(crate) fn turned(alloc: Global, links: &[Link]) -> Result<Vec<Link>, AllocEr
             other: l.at,
         })?;
     }
-    merge_in_order(&mut turned)?;
+    put_in_order(&mut turned);
     Ok(turned)
 }
 

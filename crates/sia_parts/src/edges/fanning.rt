@@ -10,7 +10,7 @@ use crate::edges::numbers::BASE;
 use crate::finding::Kind;
 use crate::looks::{Look, Looks};
 use sia_events::NoMemory;
-use sia_index::ordering::merge_in_order;
+use std::alloc::Global;
 
 /// How many edges the fans have at most.
 pub(crate) fn count(fans: &[Fan]) -> usize {
@@ -21,11 +21,11 @@ pub(crate) fn count(fans: &[Fan]) -> usize {
     count
 }
 
-/// Adds the numbers of the fans, those of each source in order. The run is room for them.
+/// Adds the numbers of the fans, those of each source in order.
 pub(crate) fn put_runs(
+    alloc: Global,
     looks: &Looks,
     fans: &[Fan],
-    run: &mut Vec<u64>,
     numbers: &mut Vec<u64>,
 ) -> Result<(), NoMemory>
     requires { HaveDigits looks.now }
@@ -34,7 +34,7 @@ pub(crate) fn put_runs(
     let mut from = 0;
     while from < fans.len() {
         let to = run_end(fans, from);
-        put_run(looks, &fans[from..to], run, numbers)?;
+        put_run(alloc, looks, &fans[from..to], numbers)?;
         from = to;
     }
     Ok(())
@@ -54,22 +54,21 @@ fn run_end(fans: &[Fan], from: usize) -> usize
     to
 }
 
-// Adds the numbers of these fans in order. The run is room for them.
+// Adds the numbers of these fans in order.
 fn put_run(
+    alloc: Global,
     looks: &Looks,
     fans: &[Fan],
-    run: &mut Vec<u64>,
     numbers: &mut Vec<u64>,
 ) -> Result<(), NoMemory>
     requires { HaveDigits looks.now }
     ensures { OnOk result (Adds (FromSome (IsFanNumber looks.now) fans.now) numbers.old.items numbers.new.items) }
 {
-    run.clear();
+    let start = numbers.len();
     for fan in fans {
-        put_numbers_to(fan.src, fan.kind, looks_of_fan(looks, *fan), run)?;
+        put_numbers_to(fan.src, fan.kind, looks_of_fan(looks, *fan), numbers)?;
     }
-    merge_in_order(run)?;
-    numbers.extend_from_slice(run.as_slice())?;
+    numbers[start..].sort(alloc)?;
     Ok(())
 }
 
@@ -106,7 +105,8 @@ fn put_numbers_to(
     numbers: &mut Vec<u64>,
 ) -> Result<(), NoMemory>
     requires { All HasDigits looks.now }
-    ensures { OnOk result (Adds (FromSome (IsNumberTo src kind) looks.now) numbers.old.items numbers.new.items) }
+    ensures adds { OnOk result (Adds (FromSome (IsNumberTo src kind) looks.now) numbers.old.items numbers.new.items) }
+    ensures longer { length numbers.old.items ≤ length numbers.new.items }
 {
     if u64::from(src) >= BASE {
         return Ok(());

@@ -22,7 +22,7 @@ use crate::looks::{Absence, Look, Looks};
 use sia_events::NoMemory;
 use sia_index::Index;
 use sia_index::keyed::{By, place_from};
-use sia_index::ordering::merge_in_order;
+use sia_index::ordering::put_in_order;
 use std::alloc::Global;
 
 /// The edges of one kind from a transaction, by its number, to the looks from one place to below another. Its looks are
@@ -96,10 +96,9 @@ impl Fans {
         ensures { IfOk result (λ numbers. AreNumbersBetween self.now from to numbers.items) }
     {
         let fans = fans_between(&self.fans, from, to);
-        let mut run = Vec::new(alloc);
         let mut numbers = Vec::with_capacity(alloc, count(fans))?;
-        put_runs(&self.looks, fans, &mut run, &mut numbers)?;
-        merge_in_order(&mut numbers)?;
+        put_runs(alloc, &self.looks, fans, &mut numbers)?;
+        put_in_order(&mut numbers);
         Ok(numbers)
     }
 }

@@ -13,7 +13,7 @@ use crate::finding::{BadRead, BadWrite, Unexplained};
 use crate::findings::PartFound;
 use crate::looks::Looks;
 use sia_events::NoMemory;
-use sia_index::ordering::merge_in_order;
+use sia_index::ordering::put_in_order;
 use std::alloc::Global;
 
 /// What was found at all keys.
@@ -46,9 +46,9 @@ impl Gathering {
         for part in parts {
             put_part(part, &mut all)?;
         }
-        merge_in_order(&mut all.bad_reads)?;
-        merge_in_order(&mut all.bad_writes)?;
-        merge_in_order(&mut all.unexplained)?;
+        put_in_order(&mut all.bad_reads);
+        put_in_order(&mut all.bad_writes);
+        put_in_order(&mut all.unexplained);
         rank_all(&mut all.looks.writers)?;
         Ok(all)
     }

@@ -12,11 +12,11 @@ loop-l-preserved c =
     made_more (λ (k : Link). record { at = k.other; other = k.at }) c.args.links.now c.loop-l.l-index c.loop-l.turned.items c.loop-l.invariant (record { at = 0; other = 0 }) c.loop-l-test.true _ refl
     c.push.new.self.items c.in_ok-push.ensures.items
 
-pub merge_in_order-requires : goal.merge_in_order-requires
-merge_in_order-requires c = one_link
+pub put_in_order-requires : goal.put_in_order-requires
+put_in_order-requires c = one_link
 
 pub returns : goal.returns
 returns c =
-    turned_listed c.args.links.now c.loop-l.turned.items c.merge_in_order.new.list.items
+    turned_listed c.args.links.now c.loop-l.turned.items c.put_in_order.new.list.items
     (made_all (λ (k : Link). record { at = k.other; other = k.at }) c.args.links.now c.loop-l.l-index c.loop-l.turned.items c.loop-l.invariant c.loop-l-test.false)
-    c.in_ok-merge_in_order.ensures.sorted c.in_ok-merge_in_order.ensures.keeps c.in_ok-merge_in_order.ensures.adds_none
+    c.put_in_order.ensures.sorted c.put_in_order.ensures.keeps c.put_in_order.ensures.adds_none

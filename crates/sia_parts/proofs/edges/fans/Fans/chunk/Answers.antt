@@ -14,10 +14,10 @@ returns c =
     let P = FromSome (IsFanNumber fans.looks) some in
     let added = added_to_none P _ (subst (λ old. Adds P old c.put_runs.new.numbers.items) c.in_ok-numbers.ensures.items c.in_ok-put_runs.ensures) in
     record {
-      ascending = sorted_rise _ c.in_ok-merge_in_order.ensures.sorted;
+      ascending = sorted_rise _ c.put_in_order.ensures.sorted;
       each = λ n.
           (let same = fans_of_sources fans.looks fans.fans.items some c.args.from c.args.to (rw c.deref.ensures.value at c.fans_between-fans.ensures) n in (
-            (λ has. same.0 ((added n).0 (c.in_ok-merge_in_order.ensures.adds_none n has))),
-            (λ is. c.in_ok-merge_in_order.ensures.keeps n ((added n).1 (same.1 is))),
+            (λ has. same.0 ((added n).0 (c.put_in_order.ensures.adds_none n has))),
+            (λ is. c.put_in_order.ensures.keeps n ((added n).1 (same.1 is))),
           ));
     }

@@ -45,9 +45,9 @@ returns c h points cutting wf cuts zip =
     let made = added_to_none (FromSome (λ (part : PartFound). Contains part.looks.writers.items) parts) _ puts.writers in
     let same = c.in_ok-rank_all.ensures.same in
     record {
-      bad_reads = bad_reads_all h points cutting wf cuts R parts each (λ part. part.bad_reads.items) (λ part found a. a.bad_reads) _ _ puts.bad_reads (record { sorted = c.in_ok-merge_in_order.ensures.sorted; keeps = c.in_ok-merge_in_order.ensures.keeps; adds_none = c.in_ok-merge_in_order.ensures.adds_none });
-      bad_writes = bad_writes_all h points cutting wf cuts R parts each (λ part. part.bad_writes.items) (λ part found a. a.bad_writes) _ _ puts.bad_writes (record { sorted = c.in_ok-merge_in_order-2.ensures.sorted; keeps = c.in_ok-merge_in_order-2.ensures.keeps; adds_none = c.in_ok-merge_in_order-2.ensures.adds_none });
-      unexplained = unexplained_all h points cutting wf cuts R parts each (λ part. part.unexplained.items) (λ part found a. a.unexplained) _ _ puts.unexplained (record { sorted = c.in_ok-merge_in_order-3.ensures.sorted; keeps = c.in_ok-merge_in_order-3.ensures.keeps; adds_none = c.in_ok-merge_in_order-3.ensures.adds_none });
+      bad_reads = bad_reads_all h points cutting wf cuts R parts each (λ part. part.bad_reads.items) (λ part found a. a.bad_reads) _ _ puts.bad_reads (record { sorted = c.put_in_order.ensures.sorted; keeps = c.put_in_order.ensures.keeps; adds_none = c.put_in_order.ensures.adds_none });
+      bad_writes = bad_writes_all h points cutting wf cuts R parts each (λ part. part.bad_writes.items) (λ part found a. a.bad_writes) _ _ puts.bad_writes (record { sorted = c.put_in_order-2.ensures.sorted; keeps = c.put_in_order-2.ensures.keeps; adds_none = c.put_in_order-2.ensures.adds_none });
+      unexplained = unexplained_all h points cutting wf cuts R parts each (λ part. part.unexplained.items) (λ part found a. a.unexplained) _ _ puts.unexplained (record { sorted = c.put_in_order-3.ensures.sorted; keeps = c.put_in_order-3.ensures.keeps; adds_none = c.put_in_order-3.ensures.adds_none });
       looks = all_looks h wf points cutting cuts parts each (record { writers = c.rank_all.new.looks; readers = c.loop-part.all.looks.readers; absences = c.loop-part.all.looks.absences })
           (λ x. ((λ has. (made x).0 ((same x).0 has)), (λ f. (same x).1 ((made x).1 f)))) c.in_ok-rank_all.ensures.rise
           (added_to_none (FromSome (λ (part : PartFound). Contains part.looks.readers.items) parts) _ puts.readers)
