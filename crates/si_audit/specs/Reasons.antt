@@ -16,7 +16,7 @@ use Rattle.sia_parts.specs.declared.finding.Unexplained.{Unexplained}
 use Rattle.sia_parts.specs.declared.finding.Edge.{Edge}
 use Rattle.sia_parts.specs.declared.finding.Kind.{Kind}
 use Rattle.sia_parts.specs.declared.finding.Kind.TheVariants.{Ww, Wr, Rw}
-use Rattle.sia_graph.specs.Sightings.{Gives, IsFirstSight, reader_of}
+use Rattle.sia_parts.specs.Sightings.{Gives, IsFirstSight, reader_of}
 use Rattle.si_audit.specs.Lines.{edge_word}
 
 -- a line of reasons

@@ -30,7 +30,6 @@ pub mod PrintedCycle
 pub mod StuckSets
 pub mod NoFirsts
 pub mod InOrder
-pub mod InTwoNumbers
 pub mod RightAt
 pub mod ChainOf
 pub mod MapSteps
@@ -40,7 +39,6 @@ pub mod FiniteLists
 pub mod FiniteHistories
 pub mod Mapped
 pub mod Picked
-pub mod Groups
 pub mod LinkLists
 pub mod LifetimeTables
 pub mod VersionRanks
@@ -80,7 +78,5 @@ pub mod TakenMembers
 pub mod StepsOf
 pub mod ReadyHeaps
 pub mod NoPivotal
-pub mod Sighted
-pub mod TakenEvents
 pub mod ListedEdges
 pub mod Judging

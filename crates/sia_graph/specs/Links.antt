@@ -6,7 +6,7 @@ use Rattle.sia_events.specs.Lists.{ListsBy}
 use Rattle.sia_parts.specs.declared.finding.Edge.{Edge}
 use Rattle.sia_parts.specs.declared.finding.Kind.{Kind}
 use Rattle.sia_parts.specs.declared.finding.Kind.TheVariants.{Ww, Wr, Rw}
-use Rattle.sia_graph.specs.Groups.{IsGroup}
+use Rattle.sia_parts.specs.Groups.{IsGroup}
 use Rattle.sia_graph.specs.declared.pivoting.links.Link.{Link}
 
 abbrev pub link_rank : Link → List ℕ

@@ -8,7 +8,7 @@ use Rattle.sia_parts.specs.declared.looks.Absence.{Absence}
 use Rattle.sia_parts.specs.declared.looks.Look.{Look}
 use Rattle.sia_parts.specs.declared.looks.Looks.{Looks}
 use Rattle.sia_parts.specs.Entries.{kind_number}
-use Rattle.sia_graph.specs.Grouped.{RiseByTxn}
+use Rattle.sia_parts.specs.Grouped.{RiseByTxn}
 
 -- at one key, a write comes before another one or before what was seen last, or after what was seen first
 abbrev pub Meets : Kind → Look → Look → Type 0

@@ -11,7 +11,6 @@ mod pivoting;
 mod replaying;
 mod searching;
 mod settling;
-mod sighting;
 mod taking;
 
 pub use judgement::{Judgement, judge};
@@ -32,7 +31,6 @@ pub use pivoting::{pivots, pivots_of_links};
 pub use replaying::{Mismatch, ReplayFault, replay};
 pub use settling::txns::Txns;
 pub use settling::{Step, Steps, Verdict, settle};
-pub use sighting::{Act, FirstSight, acts_of, first_sight};
 
 #[cfg(test)]
 mod tests;

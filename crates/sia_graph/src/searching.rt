@@ -2,7 +2,7 @@
 ghost use Rattle.std.specs.Prelude.{◌≡◌, ◌↔◌, ◌<◌, ◌≤◌, Contains, length};
 ghost use Rattle.std.specs.List.{AllWithin};
 ghost use Rattle.std.specs.List.Sorted.{IsNonDecreasingBy};
-ghost use Rattle.sia_graph.specs.Groups.{IsGroup};
+ghost use Rattle.sia_parts.specs.Groups.{IsGroup};
 
 use crate::taking::numbers::{source_of, target_of};
 use sia_events::{Key, Version};

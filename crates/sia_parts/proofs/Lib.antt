@@ -29,3 +29,7 @@ pub mod BetweenPlaces
 pub mod KeyNumbers
 pub mod ChunkBoundLemmas
 pub mod Named
+pub mod InTwoNumbers
+pub mod Groups
+pub mod Sighted
+pub mod TakenEvents

@@ -12,6 +12,7 @@ mod looking;
 mod looks;
 mod naming;
 mod numbered;
+mod sighting;
 
 pub use auditing::audit_part;
 pub use auditing::sights::commit_of;
@@ -30,6 +31,7 @@ pub use laws::one_part;
 pub use looks::{Absence, Look, Looks};
 pub use naming::anomaly_of;
 pub use numbered::find_in_part;
+pub use sighting::{Act, FirstSight, acts_of, first_sight};
 
 #[cfg(test)]
 mod tests;

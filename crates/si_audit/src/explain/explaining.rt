@@ -19,10 +19,8 @@ use crate::report::found::push_front;
 use crate::report::lines::{push_verdict, push_whether};
 use crate::report::words::{Words, number, push_line};
 use sia_events::NoMemory;
-use sia_graph::{
-    Evidence, Judgement, Step, Verdict, acts_of, dangerous_of, listing_law, places_of,
-};
-use sia_parts::{Edge, Kind, Looks};
+use sia_graph::{Evidence, Judgement, Step, Verdict, dangerous_of, listing_law, places_of};
+use sia_parts::{Edge, Kind, Looks, acts_of};
 use std::alloc::Global;
 
 /// The dangerous structure with the reasons of its steps, where isolation was kept and the test of serializable snapshot

@@ -3,7 +3,7 @@ ghost use Rattle.std.specs.Prelude.{◌≡◌, ◌≢◌, ◌++◌, ℕ, All, Li
 ghost use Rattle.sia_events.specs.Transactions.{Wrote};
 ghost use Rattle.sia_parts.specs.declared.finding.Kind.TheVariants.{Ww};
 ghost use Rattle.sia_parts.specs.Entries.{IsEdge};
-ghost use Rattle.sia_graph.specs.Acts.{AreActs};
+ghost use Rattle.sia_parts.specs.Acts.{AreActs};
 ghost use Rattle.si_audit.specs.Explained.{TellsAll};
 ghost use Rattle.si_audit.specs.Reasons.{TellsEvents, TellsSight, TellsStep, untold_of};
 
@@ -11,8 +11,7 @@ use crate::audit::recorded::Recorded;
 use crate::explain::versions::{push_event, push_unless, push_version};
 use crate::report::words::{Words, number, push_words};
 use sia_events::{NoMemory, Version};
-use sia_graph::{Act, first_sight};
-use sia_parts::{Edge, Kind};
+use sia_parts::{Act, Edge, Kind, first_sight};
 
 /// The version that is told already, or has no writer.
 fn untold_of_edge(e: &Edge) -> Version

@@ -3,7 +3,7 @@ ghost use Rattle.std.specs.Prelude.{◌≡◌, ◌↔◌, ◌<◌, Contains, IfO
 ghost use Rattle.std.specs.List.Sorted.{IsNonDecreasingBy};
 ghost use Rattle.sia_parts.specs.declared.looks.Absence.{Absence};
 ghost use Rattle.sia_parts.specs.declared.looks.Look.{Look};
-ghost use Rattle.sia_graph.specs.Grouped.{RiseBy, RiseByTxn};
+ghost use Rattle.sia_parts.specs.Grouped.{RiseBy, RiseByTxn};
 ghost use Rattle.sia_graph.specs.NumberEdges.{AreByTxn, HoldSame};
 
 use crate::searching::{By, ByKey, ByTxn, rows_at};

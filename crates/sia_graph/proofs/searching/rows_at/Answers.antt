@@ -1,6 +1,6 @@
 use Rattle.std.proofs.Common.{subst}
-use Rattle.sia_graph.specs.Groups.{IsGroup}
-use Rattle.sia_graph.proofs.InTwoNumbers.{group_holds}
+use Rattle.sia_parts.specs.Groups.{IsGroup}
+use Rattle.sia_parts.proofs.InTwoNumbers.{group_holds}
 use Rattle.sia_graph.proofs.searching.rows_at.Goals as goal
 
 pub returns : goal.returns

@@ -1,5 +1,5 @@
 use Rattle.std.proofs.Common.{arith}
-use Rattle.sia_graph.proofs.Groups.{between}
+use Rattle.sia_parts.proofs.Groups.{between}
 use Rattle.sia_graph.proofs.searching.rows_near.Goals as goal
 
 pub returns : goal.returns

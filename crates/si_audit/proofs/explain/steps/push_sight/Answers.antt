@@ -4,7 +4,7 @@ use Rattle.std.specs.Prelude.{codes}
 use Rattle.std.proofs.lemmas.Result.{on_ok_weaker}
 use Rattle.si_audit.specs.Reasons.{TellsUnless, event_words}
 use Rattle.si_audit.proofs.Pushed.{behind}
-use Rattle.sia_graph.proofs.Sighted.{edge_is_seen}
+use Rattle.sia_parts.proofs.Sighted.{edge_is_seen}
 use Rattle.si_audit.proofs.explain.steps.push_sight.Goals as goal
 
 pub returns-in_default : goal.returns-in_default

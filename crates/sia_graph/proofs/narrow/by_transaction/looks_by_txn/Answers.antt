@@ -2,7 +2,7 @@ use Rattle.std.proofs.Common.{subst}
 use Rattle.std.specs.Prelude.{◌↔◌, Contains}
 use Rattle.sia_parts.specs.declared.looks.Absence.{Absence}
 use Rattle.sia_parts.specs.declared.looks.Look.{Look}
-use Rattle.sia_graph.proofs.InTwoNumbers.{firsts_rise}
+use Rattle.sia_parts.proofs.InTwoNumbers.{firsts_rise}
 use Rattle.sia_graph.proofs.narrow.by_transaction.looks_by_txn.Goals as goal
 
 pub returns-clause-same : goal.returns-clause-same

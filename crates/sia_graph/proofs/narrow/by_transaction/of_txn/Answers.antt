@@ -1,5 +1,5 @@
 use Rattle.sia_parts.specs.declared.looks.Look.{Look}
-use Rattle.sia_graph.proofs.InTwoNumbers.{group_rises}
+use Rattle.sia_parts.proofs.InTwoNumbers.{group_rises}
 use Rattle.sia_graph.proofs.narrow.by_transaction.of_txn.Goals as goal
 
 pub returns : goal.returns

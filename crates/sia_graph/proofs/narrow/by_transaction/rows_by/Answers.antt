@@ -2,7 +2,7 @@ use Rattle.std.specs.Prelude.{Contains}
 -- What the sort leaves.
 use Rattle.std.proofs.Common.{◌≡◌, rules, sym, subst}
 use Rattle.std.proofs.lemmas.List.Sorted.{answers_always, Contains-permutation, IsPermutation-sym}
-use Rattle.sia_graph.proofs.InTwoNumbers.{rise_from_sort}
+use Rattle.sia_parts.proofs.InTwoNumbers.{rise_from_sort}
 use Rattle.sia_graph.proofs.narrow.by_transaction.rows_by.Goals as goal
 
 pub returns-clause-rise : goal.returns-clause-rise

@@ -1,4 +1,4 @@
-use Rattle.sia_graph.specs.Grouped.{RiseByTxn}
+use Rattle.sia_parts.specs.Grouped.{RiseByTxn}
 use Rattle.std.proofs.Common.{subst, sym}
 use Rattle.sia_parts.specs.declared.finding.Kind.TheVariants.{Wr, Ww}
 use Rattle.sia_graph.proofs.NumberEdges.{HoldsBy, least_is_ww, least_is_wr, least_is_rw, least_joined}

@@ -1,4 +1,4 @@
-use Rattle.sia_graph.specs.Grouped.{RiseByTxn}
+use Rattle.sia_parts.specs.Grouped.{RiseByTxn}
 use Rattle.std.proofs.Common.{◌≡◌, List, subst, sym}
 use Rattle.std.specs.Prelude.{◌↔◌, Contains}
 use Rattle.sia_parts.specs.declared.finding.Kind.TheVariants.{Rw}

@@ -1,6 +1,6 @@
 use Rattle.std.proofs.Common.{◌∷◌, []}
 use Rattle.sia_graph.specs.declared.pivoting.links.Link.{Link}
-use Rattle.sia_graph.proofs.Groups.{heads_rise}
+use Rattle.sia_parts.proofs.Groups.{heads_rise}
 use Rattle.sia_graph.proofs.pivoting.links.links_at.Goals as goal
 
 pub rows_near-requires-clause-rise : goal.rows_near-requires-clause-rise

@@ -1,7 +1,7 @@
 use Rattle.std.proofs.Common.{◌≡◌, ◌<◌, arith}
 use Rattle.std.proofs.lemmas.Bool.{lt-ltb, ltb-true}
 use Rattle.sia_events.proofs.WellFormed.{one_commit}
-use Rattle.sia_graph.proofs.sighting.commits_before.Goals as goal
+use Rattle.sia_parts.proofs.sighting.commits_before.Goals as goal
 
 pub returns-in-Some-Some : goal.returns-in-Some-Some
 returns-in-Some-Some c =

@@ -3,15 +3,16 @@ ghost use Rattle.std.specs.Prelude.{◌≡◌, ◌↔◌, ℕ, Contains, IfOk, I
 ghost use Rattle.sia_events.specs.Reads.{SawAt};
 ghost use Rattle.sia_events.specs.Transactions.{CommitsBefore};
 ghost use Rattle.sia_parts.specs.Entries.{IsEdge};
-ghost use Rattle.sia_graph.specs.Acts.{AreActs};
-ghost use Rattle.sia_graph.specs.Grouped.{RiseBy};
-ghost use Rattle.sia_graph.specs.Sightings.{Gives, IsFirstSight, reader_of};
-ghost use Rattle.sia_graph.specs.declared.sighting.Act.{Act};
+ghost use Rattle.sia_parts.specs.Acts.{AreActs};
+ghost use Rattle.sia_parts.specs.Grouped.{RiseBy};
+ghost use Rattle.sia_parts.specs.Sightings.{Gives, IsFirstSight, reader_of};
+ghost use Rattle.sia_parts.specs.declared.sighting.Act.{Act};
 
+use crate::auditing::sights::commit_of;
+use crate::finding::{Edge, Kind};
 use sia_events::{History, NoMemory, TxnId, Version};
 use sia_index::Index;
 use sia_index::keyed::{By, ByTxn, place_above, place_from};
-use sia_parts::{Edge, Kind, commit_of};
 use std::alloc::Global;
 
 /// A transaction, and the place of an event of it.

@@ -8,7 +8,7 @@ use Rattle.sia_events.specs.Events.{actor}
 use Rattle.sia_events.specs.Places.{at_place}
 use Rattle.sia_events.specs.Transactions.{ActsAt}
 use Rattle.sia_events.proofs.TransactionDecisions.{place_within}
-use Rattle.sia_graph.specs.declared.sighting.Act.{Act}
+use Rattle.sia_parts.specs.declared.sighting.Act.{Act}
 
 -- the events up to place n, and nothing else
 abbrev pub TakenTo : List Event → ℕ → List Act → Type 0

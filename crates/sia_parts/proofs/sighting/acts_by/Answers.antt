@@ -3,10 +3,10 @@ use Rattle.std.proofs.Common.{◌-◌, inr, length, take, drop, subst, sym, ◌�
 use Rattle.std.specs.List.Sorted.{IsNonDecreasingBy}
 use Rattle.std.proofs.lemmas.List.{take_rest}
 use Rattle.std.proofs.lemmas.List.Sorted.{IsNonDecreasingBy-drop}
-use Rattle.sia_graph.specs.declared.sighting.Act.{Act}
-use Rattle.sia_graph.proofs.Groups.{cut_out}
-use Rattle.sia_graph.proofs.InTwoNumbers.{firsts_rise, group_holds, group_rises}
-use Rattle.sia_graph.proofs.sighting.acts_by.Goals as goal
+use Rattle.sia_parts.specs.declared.sighting.Act.{Act}
+use Rattle.sia_parts.proofs.Groups.{cut_out}
+use Rattle.sia_parts.proofs.InTwoNumbers.{firsts_rise, group_holds, group_rises}
+use Rattle.sia_parts.proofs.sighting.acts_by.Goals as goal
 
 pub place_from-first-requires : goal.place_from-first-requires
 place_from-first-requires c = firsts_rise (λ (l : Act). l.txn) (λ l. l.place) c.args.acts.now c.requires

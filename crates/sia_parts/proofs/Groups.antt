@@ -6,7 +6,7 @@ use Rattle.std.specs.List.Sorted.{IsNonDecreasingBy, IsPartitionPoint}
 use Rattle.std.proofs.lemmas.Bool.{cases_lt, lt-ltb, le-ltb, le-leb, lt-leb, ltb-true, ltb-false, leb-true, leb-false}
 use Rattle.std.proofs.lemmas.List.{take-append-drop, get_or-take, get_or-drop, length-take, length-drop}
 use Rattle.sia_events.specs.Lists.{Precedes}
-use Rattle.sia_graph.specs.Groups.{IsGroup}
+use Rattle.sia_parts.specs.Groups.{IsGroup}
 
 -- what is in order by ranks doesn't descend by the first number of these
 pub heads_rise : {A : Type 0} (key : A → ℕ) (others : A → List ℕ) (xs : List A) → AllPairs (λ x y. Precedes (key x ∷ others x) (key y ∷ others y)) xs → IsNonDecreasingBy key xs

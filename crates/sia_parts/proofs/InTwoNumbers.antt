@@ -7,8 +7,8 @@ use Rattle.std.proofs.lemmas.Bool.{cases_lt}
 use Rattle.std.proofs.lemmas.Bool.Decides.{nat_tests}
 use Rattle.std.proofs.lemmas.List.{get_or_append_left, get_or-append-add, length-append}
 use Rattle.std.proofs.lemmas.List.Elements.{All-contains, Contains-append_left, Contains-append_right, Contains-append_cases}
-use Rattle.sia_graph.specs.Groups.{IsGroup}
-use Rattle.sia_graph.specs.Grouped.{StandsBy, RiseBy}
+use Rattle.sia_parts.specs.Groups.{IsGroup}
+use Rattle.sia_parts.specs.Grouped.{StandsBy, RiseBy}
 
 not_less : (a b c d : ℕ) → is_lt (ordering_then (nat_cmp c a) (nat_cmp d b)) ≡ false → (a < c) ⊎ ((a ≡ c) × (b ≤ d))
 not_less a b c d kept = grind (arith, nat_tests)

@@ -6,9 +6,9 @@ use Rattle.sia_events.specs.Dependencies.{RwEdge, WrEdge}
 use Rattle.sia_events.specs.Transactions.{Wrote}
 use Rattle.sia_parts.specs.declared.finding.Kind.{Kind}
 use Rattle.sia_parts.specs.Entries.{EdgeOfKind}
-use Rattle.sia_graph.specs.Sightings.{Gives, reader_of}
-use Rattle.sia_graph.proofs.Sighted.{rw_given, wr_given}
-use Rattle.sia_graph.proofs.sighting.gives.Goals as goal
+use Rattle.sia_parts.specs.Sightings.{Gives, reader_of}
+use Rattle.sia_parts.proofs.Sighted.{rw_given, wr_given}
+use Rattle.sia_parts.proofs.sighting.gives.Goals as goal
 
 pub returns-else-version-e : goal.returns-else-version-e
 returns-else-version-e c =

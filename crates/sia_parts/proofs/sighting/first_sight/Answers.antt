@@ -3,11 +3,11 @@ use Rattle.std.proofs.Common.{ℕ, get_or, sym, subst, ◌∙◌}
 use Rattle.std.proofs.lemmas.List.{take_all}
 use Rattle.std.proofs.lemmas.List.Elements.{All-more, Contains-get_or}
 use Rattle.sia_events.specs.Reads.{SawAt}
-use Rattle.sia_graph.specs.declared.sighting.Act.{Act}
-use Rattle.sia_graph.specs.Sightings.{Gives, reader_of}
-use Rattle.sia_graph.proofs.Sighted.{NoneGives, first_found, none_found, sees_other, sight_at}
-use Rattle.sia_graph.proofs.sighting.first_sight.Goals as goal
-use Rattle.sia_graph.proofs.sighting.first_sight.Goals.{in-Some+else-gives, in_default}
+use Rattle.sia_parts.specs.declared.sighting.Act.{Act}
+use Rattle.sia_parts.specs.Sightings.{Gives, reader_of}
+use Rattle.sia_parts.proofs.Sighted.{NoneGives, first_found, none_found, sees_other, sight_at}
+use Rattle.sia_parts.proofs.sighting.first_sight.Goals as goal
+use Rattle.sia_parts.proofs.sighting.first_sight.Goals.{in-Some+else-gives, in_default}
 
 pub gives-requires-clause-seen : goal.gives-requires-clause-seen
 gives-requires-clause-seen c =

@@ -1,11 +1,11 @@
 -- One event more, and what the sort leaves.
 use Rattle.std.proofs.Common.{◌≡◌, rules, arith}
 use Rattle.std.proofs.lemmas.List.Sorted.{Contains-permutation, IsPermutation-sym, answers_always}
-use Rattle.sia_graph.proofs.InTwoNumbers.{rise_from_sort}
-use Rattle.sia_graph.specs.declared.sighting.Act.{Act}
-use Rattle.sia_graph.proofs.TakenEvents.{all_taken, next_taken, none_taken}
-use Rattle.sia_graph.proofs.sighting.acts_of.Goals as goal
-use Rattle.sia_graph.proofs.sighting.acts_of.Goals.{in-Some+in_ok-push, in_default}
+use Rattle.sia_parts.proofs.InTwoNumbers.{rise_from_sort}
+use Rattle.sia_parts.specs.declared.sighting.Act.{Act}
+use Rattle.sia_parts.proofs.TakenEvents.{all_taken, next_taken, none_taken}
+use Rattle.sia_parts.proofs.sighting.acts_of.Goals as goal
+use Rattle.sia_parts.proofs.sighting.acts_of.Goals.{in-Some+in_ok-push, in_default}
 
 pub loop-before-preserved : goal.loop-before-preserved
 loop-before-preserved c = elim c.match-event.branch [

@@ -1,5 +1,5 @@
-use Rattle.sia_graph.proofs.TakenEvents.{TakenTo}
-use Rattle.sia_graph.proofs.sighting.acts_of.Given as goal
+use Rattle.sia_parts.proofs.TakenEvents.{TakenTo}
+use Rattle.sia_parts.proofs.sighting.acts_of.Given as goal
 
 abbrev pub invariant-loop-before : goal.invariant-loop-before
 invariant-loop-before l = TakenTo l.h l.before l.acts.items

@@ -18,10 +18,10 @@ use Rattle.sia_parts.specs.declared.finding.Edge.{Edge}
 use Rattle.sia_parts.specs.declared.finding.Kind.{Kind}
 use Rattle.sia_parts.specs.declared.finding.Kind.TheVariants.{Ww, Wr, Rw}
 use Rattle.sia_parts.specs.Entries.{EdgeOfKind, IsEdge}
-use Rattle.sia_graph.specs.Grouped.{RiseBy, StandsBy}
-use Rattle.sia_graph.specs.declared.sighting.Act.{Act}
-use Rattle.sia_graph.specs.Acts.{AreActs}
-use Rattle.sia_graph.specs.Sightings.{Gives, IsFirstSight, reader_of}
+use Rattle.sia_parts.specs.Grouped.{RiseBy, StandsBy}
+use Rattle.sia_parts.specs.declared.sighting.Act.{Act}
+use Rattle.sia_parts.specs.Acts.{AreActs}
+use Rattle.sia_parts.specs.Sightings.{Gives, IsFirstSight, reader_of}
 
 -- none of these events is a sight of a version that has P
 abbrev pub NoneGives : (ℕ → Type 0) → List Event → ℕ → ℕ → List Act → Type 0
