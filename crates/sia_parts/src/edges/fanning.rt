@@ -16,7 +16,7 @@ use std::alloc::Global;
 pub(crate) fn count(fans: &[Fan]) -> usize {
     let mut count: usize = 0;
     for fan in fans {
-        count = count.saturating_add(fan.to.saturating_sub(fan.from));
+        count = count.saturating_add(fan.to.saturating_sub(fan.from) as usize);
     }
     count
 }
@@ -90,8 +90,9 @@ fn looks_of_fan(looks: &Looks, fan: Fan) -> &[Look]
     ensures each { (n : ℕ) → FromSome (IsNumberTo fan.src fan.kind) result.now n ↔ IsFanNumber looks.now fan n }
 {
     let all = of_kind(looks, fan.kind);
-    if fan.from <= fan.to && fan.to <= all.len() {
-        &all[fan.from..fan.to]
+    let (from, to) = (fan.from as usize, fan.to as usize);
+    if from <= to && to <= all.len() {
+        &all[from..to]
     } else {
         &[]
     }

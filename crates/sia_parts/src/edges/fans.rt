@@ -31,8 +31,8 @@ use std::alloc::Global;
 pub(crate) struct Fan {
     pub(crate) src: u32,
     pub(crate) kind: Kind,
-    pub(crate) from: usize,
-    pub(crate) to: usize,
+    pub(crate) from: u32,
+    pub(crate) to: u32,
 }
 
 /// Edges, as fans in the order of their sources. Their numbers are made where they are asked for, so that workers can share
@@ -217,8 +217,8 @@ fn put_fan(
         fans.push(Fan {
             src: reach.src,
             kind: reach.kind,
-            from: start,
-            to: stop,
+            from: u32::try_from(start).ok().ok_or(NoMemory)?,
+            to: u32::try_from(stop).ok().ok_or(NoMemory)?,
         })?;
     }
     Ok(stop)

@@ -40,7 +40,7 @@ fn weights_of(alloc: Global, fans: &[Fan], sources: usize) -> Result<Vec<usize>,
     let mut weights = vec![in alloc; 0usize; sources]?;
     for fan in fans {
         if let Some(weight) = weights.get_mut(fan.src as usize) {
-            *weight = weight.saturating_add(fan.to.saturating_sub(fan.from));
+            *weight = weight.saturating_add(fan.to.saturating_sub(fan.from) as usize);
         }
     }
     Ok(weights)
