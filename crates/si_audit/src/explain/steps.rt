@@ -1,6 +1,5 @@
 //! The reasons of the steps of a cycle and of a dangerous structure.
-ghost use Rattle.std.specs.Prelude.{◌≡◌, ◌≢◌, ◌++◌, ℕ, All, List, IfOk, OnOk};
-ghost use Rattle.sia_events.specs.Transactions.{Wrote};
+ghost use Rattle.std.specs.Prelude.{◌≡◌, ◌≢◌, ◌++◌, ℕ, All, List, OnOk};
 ghost use Rattle.sia_parts.specs.declared.finding.Kind.TheVariants.{Ww};
 ghost use Rattle.sia_parts.specs.Entries.{IsEdge};
 ghost use Rattle.sia_parts.specs.Acts.{AreActs};

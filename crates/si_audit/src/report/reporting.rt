@@ -1,5 +1,5 @@
 // The report of an audit: all its lines.
-ghost use Rattle.std.specs.Prelude.{◌≡◌, ◌++◌, ◌&&◌, List, flat_map, IfOk, OnOk};
+ghost use Rattle.std.specs.Prelude.{◌≡◌, ◌++◌, List, flat_map, IfOk, OnOk};
 ghost use Rattle.si_audit.specs.Audits.{account_of, account_with};
 ghost use Rattle.si_audit.specs.Lines as lines;
 ghost use Rattle.si_audit.specs.Report.{CanBePrinted};

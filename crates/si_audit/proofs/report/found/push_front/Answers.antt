@@ -17,3 +17,21 @@ returns c =
       findings_pushed c.args.out.now.items _ _ _ _ _ _ _ _ _ c.in_ok-push_head.ensures reads.2 writes.2 others.2,
     ))
     c.push_all-3.ensures
+
+pub push_all-requires-clause-index : goal.push_all-requires-clause-index
+push_all-requires-clause-index c = c.requires.index
+
+pub push_all-requires-clause-found : goal.push_all-requires-clause-found
+push_all-requires-clause-found c = c.requires.reads
+
+pub push_all-requires-2-clause-index : goal.push_all-requires-2-clause-index
+push_all-requires-2-clause-index c = c.requires.index
+
+pub push_all-requires-2-clause-found : goal.push_all-requires-2-clause-found
+push_all-requires-2-clause-found c = c.requires.writes
+
+pub push_all-requires-3-clause-index : goal.push_all-requires-3-clause-index
+push_all-requires-3-clause-index c = c.requires.index
+
+pub push_all-requires-3-clause-found : goal.push_all-requires-3-clause-found
+push_all-requires-3-clause-found c = c.requires.unexplained
