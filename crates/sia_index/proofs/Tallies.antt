@@ -84,7 +84,7 @@ module _ (h : List Event) (txns : List ℕ) (all : ListsAscending (HasEvent h) t
   all_counted fate count w = (w.0, all_kept fate w.0 w.1, w.2)
 
 -- each transaction has an event of its own
-pub few_transactions : (h : List Event) (txns : List ℕ) → ListsAscending (HasEvent h) txns → length txns ≤ length h
+few_transactions : (h : List Event) (txns : List ℕ) → ListsAscending (HasEvent h) txns → length txns ≤ length h
 few_transactions h txns all =
     let few : length txns ≤ length (map actor h) = length-le_from_is_member nat_eq_equiv txns (map actor h) distinct member in
     let len = length-map h actor in
@@ -107,3 +107,11 @@ few_transactions h txns all =
 
     member : (t : ℕ) → is_member eqb txns t ≡ true → is_member eqb (map actor h) t ≡ true
     member t is = (is_member-Decides unsigned_Decides (map actor h) t).1 (acts t ((all.each t).0 ((is_member-Decides unsigned_Decides txns t).0 is)))
+
+-- so a count has room for one more, while a transaction is left
+pub tally_within : (h : List Event) (txns : List ℕ) → ListsAscending (HasEvent h) txns → (fate : Fate) (n count : ℕ) → HasTally h txns fate n count → n < length txns → count < length h
+tally_within h txns all fate n count w left =
+    let kept = w.1.few in
+    let is = w.2 in
+    let few = few_transactions h txns all in
+    omega arith

@@ -1,6 +1,5 @@
 //! How many events there are, and how many transactions committed, aborted, or are open.
 ghost use Rattle.std.specs.Prelude.{◌≡◌};
-ghost use Rattle.sia_events.specs.Refusals.{IsWellFormed};
 ghost use Rattle.sia_index.specs.Counting.{AreCounts};
 
 use crate::indexed::Index;
@@ -19,17 +18,16 @@ pub struct Counts {
 
 /// The counts of a history.
 pub fn counted(h: &History, ix: &Index) -> Counts
-    requires index { ix.now ≡ h.now }
-    requires well_formed { IsWellFormed h.now }
+    requires { ix.now ≡ h.now }
     ensures { AreCounts h.now result }
 {
+    ix.law();
     let events = h.len();
     let txns = ix.txns();
     let mut committed: u32 = 0;
     let mut aborted: u32 = 0;
     let mut unfinished: u32 = 0;
-    for i in 0..txns.len() {
-        let _ = txns;
+    for (i, _) in txns.iter().enumerate() {
         match ix.txn_at(i).fate {
             Fate::Committed => committed += 1,
             Fate::Aborted => aborted += 1,

@@ -118,7 +118,7 @@ impl Index {
     pub fn all_versions(&self) -> &[Made]
         ensures { AreAllVersions self.now result.now }
     {
-        &self.made
+        self.made.as_slice()
     }
 
     /// The place where a transaction wrote a key first.

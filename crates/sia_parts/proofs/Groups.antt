@@ -6,6 +6,7 @@ use Rattle.std.specs.List.Sorted.{IsNonDecreasingBy, IsPartitionPoint}
 use Rattle.std.proofs.lemmas.Bool.{cases_lt, lt-ltb, le-ltb, le-leb, lt-leb, ltb-true, ltb-false, leb-true, leb-false}
 use Rattle.std.proofs.lemmas.List.{take-append-drop, get_or-take, get_or-drop, length-take, length-drop}
 use Rattle.sia_events.specs.Lists.{Precedes}
+use Rattle.sia_index.specs.Between.{IsBetween}
 use Rattle.sia_parts.specs.Groups.{IsGroup}
 
 -- what is in order by ranks doesn't descend by the first number of these
@@ -45,6 +46,22 @@ cut_out {A} key xs rest t first count is a b =
           let f = leb-false (key (get_or rest (count + k) d)) t (b.1 (count + k) d (omega arith) (omega arith)) in
           subst (λ (x : A). t < key x) (sym e) f,
     )
+
+-- what a search for one number finds
+pub group_between : {A : Type 0} (key : A → ℕ) (xs ys : List A) (t : ℕ) → IsBetween key xs t t ys → IsGroup key xs t ys
+group_between {A} key xs ys t found =
+    let first = found.from in
+    let end = found.end in
+    let rest = drop first xs in
+    let long = length-drop first xs in
+    let most = found.most in
+    let bound = found.bound in
+    let forward = found.forward in
+    let at = λ (k : ℕ) (d : A). ap (λ x. leb (key x) t) (get_or-drop first xs k d) in
+    subst (λ l. IsGroup key xs t l) (sym found.is) (cut_out key xs rest t first (end - first) refl found.low (
+      (λ k d a b. at k d ∙ found.high.0 (first + k) d (omega arith) (elim found.no_more [ inl under ↦ omega arith | inr none ↦ absurd (omega arith) ])),
+      (λ k d a b. at k d ∙ found.high.1 (first + k) d (omega arith) (omega arith)),
+    ))
 
 -- what stands between two places, where what is before is less, and what is after greater
 pub between : {A : Type 0} (key : A → ℕ) (xs : List A) (t first end : ℕ) → first ≤ end → end ≤ length xs

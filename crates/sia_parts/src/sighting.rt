@@ -12,7 +12,7 @@ use crate::auditing::sights::commit_of;
 use crate::finding::{Edge, Kind};
 use sia_events::{History, NoMemory, TxnId, Version};
 use sia_index::Index;
-use sia_index::keyed::{By, ByTxn, place_above, place_from};
+use sia_index::keyed::{By, ByTxn, between};
 use std::alloc::Global;
 
 /// A transaction, and the place of an event of it.
@@ -54,10 +54,7 @@ fn acts_by(acts: &[Act], txn: TxnId) -> &[Act]
     ensures holds { (act : Act) → Contains result.now act ↔ (Contains acts.now act × (act.txn ≡ txn)) }
     ensures rise { RiseBy (λ act. act.txn) (λ act. act.place) result.now }
 {
-    let first = place_from::<Act, ByTxn>(acts, u64::from(txn));
-    let rest = &acts[first..];
-    let count = place_above::<Act, ByTxn>(rest, u64::from(txn));
-    &rest[..count]
+    between::<Act, ByTxn>(acts, u64::from(txn), u64::from(txn))
 }
 
 /// Whether the first committed before the second.

@@ -2,48 +2,35 @@ use Rattle.std.proofs.Common.{length, ap, sym, subst, refl, arith}
 use Rattle.std.specs.Prelude.{slice_index}
 use Rattle.std.proofs.lemmas.List.{take_all}
 use Rattle.sia_events.specs.Lists.{CountsAll}
-use Rattle.sia_events.specs.Refusals.{IsWellFormed}
 use Rattle.sia_events.specs.Transactions.{IsCommitted, IsAborted, IsOpen}
 use Rattle.sia_index.specs.declared.info.Fate.TheVariants.{Committed, Aborted, Unfinished}
 use Rattle.sia_index.specs.Counting.{EndedSo}
 use Rattle.sia_index.proofs.Fates.{ended_so}
-use Rattle.sia_index.proofs.Tallies.{next_committed, next_aborted, next_unfinished, all_counted, few_transactions}
+use Rattle.sia_index.proofs.Tallies.{next_committed, next_aborted, next_unfinished, all_counted, tally_within}
 use Rattle.sia_index.proofs.counts.counted.Goals as goal
 use Rattle.sia_index.proofs.counts.counted.Goals.{in-Committed, in-Aborted, in-Unfinished}
 
 pub overflow_add-committed : goal.overflow_add-committed
 overflow_add-committed c =
-    let so = c.loop-i.invariant.committed_are in
-    let kept = so.1.few in
-    let count = so.2 in
-    let few = few_transactions c.args.ix.now c.txns-txns.result.now c.txns-txns.ensures in
-    let same = ap length c.requires.index in
-    omega (arith, c.len-events.ensures.len)
+    let within = tally_within _ _ c.txns-txns.ensures Committed _ _ c.loop-i.invariant.committed_are c.loop-i-test.true in
+    omega (arith, c.len-events.ensures.len, ap length c.requires)
 
 pub overflow_add-aborted : goal.overflow_add-aborted
 overflow_add-aborted c =
-    let so = c.loop-i.invariant.aborted_are in
-    let kept = so.1.few in
-    let count = so.2 in
-    let few = few_transactions c.args.ix.now c.txns-txns.result.now c.txns-txns.ensures in
-    let same = ap length c.requires.index in
-    omega (arith, c.len-events.ensures.len)
+    let within = tally_within _ _ c.txns-txns.ensures Aborted _ _ c.loop-i.invariant.aborted_are c.loop-i-test.true in
+    omega (arith, c.len-events.ensures.len, ap length c.requires)
 
 pub overflow_add-unfinished : goal.overflow_add-unfinished
 overflow_add-unfinished c =
-    let so = c.loop-i.invariant.unfinished_are in
-    let kept = so.1.few in
-    let count = so.2 in
-    let few = few_transactions c.args.ix.now c.txns-txns.result.now c.txns-txns.ensures in
-    let same = ap length c.requires.index in
-    omega (arith, c.len-events.ensures.len)
+    let within = tally_within _ _ c.txns-txns.ensures Unfinished _ _ c.loop-i.invariant.unfinished_are c.loop-i-test.true in
+    omega (arith, c.len-events.ensures.len, ap length c.requires)
 
 pub txn_at-requires : goal.txn_at-requires
 txn_at-requires c = (c.txns-txns.result.now, c.txns-txns.ensures, c.loop-i-test.true)
 
 pub loop-i-preserved : goal.loop-i-preserved
 loop-i-preserved c =
-    let wf = subst IsWellFormed (sym c.requires.index) c.requires.well_formed in
+    let wf = c.law.ensures in
     let txns = c.txns-txns.result.now in
     let x = slice_index txns c.loop-i.i in
     let known = c.txn_at.ensures x (txns, c.txns-txns.ensures, c.loop-i-test.true, refl) in
@@ -70,7 +57,7 @@ returns c =
     let all = all_counted c.args.ix.now txns c.txns-txns.ensures c.loop-i.i whole in
     record {
       events = c.len-events.ensures.len;
-      committed = subst (λ h. CountsAll (IsCommitted h) c.loop-i.committed) c.requires.index (all Committed _ c.loop-i.invariant.committed_are);
-      aborted = subst (λ h. CountsAll (IsAborted h) c.loop-i.aborted) c.requires.index (all Aborted _ c.loop-i.invariant.aborted_are);
-      unfinished = subst (λ h. CountsAll (IsOpen h) c.loop-i.unfinished) c.requires.index (all Unfinished _ c.loop-i.invariant.unfinished_are);
+      committed = subst (λ h. CountsAll (IsCommitted h) c.loop-i.committed) c.requires (all Committed _ c.loop-i.invariant.committed_are);
+      aborted = subst (λ h. CountsAll (IsAborted h) c.loop-i.aborted) c.requires (all Aborted _ c.loop-i.invariant.aborted_are);
+      unfinished = subst (λ h. CountsAll (IsOpen h) c.loop-i.unfinished) c.requires (all Unfinished _ c.loop-i.invariant.unfinished_are);
     }

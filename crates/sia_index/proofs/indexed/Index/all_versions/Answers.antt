@@ -7,4 +7,4 @@ use Rattle.sia_index.proofs.indexed.Index.all_versions.Goals as goal
 pub returns : goal.returns
 returns c =
     let all = all_chains _ _ _ _ c.self.invariant.keys_are c.self.invariant.chains_are in
-    rw c.deref.ensures.value (subst (λ h. AreAllVersions h c.self.inside.made.items) c.self.view_is all)
+    rw c.as_slice.ensures.value (subst (λ h. AreAllVersions h c.self.inside.made.items) c.self.view_is all)
