@@ -66,19 +66,3 @@ account_is h j is edges edges_are pivots pivots_are = record {
   serializable = is.serializable;
   verdict = is.verdict;
 }
-
--- a history kept isolation exactly where its judgement has no bad read and no bad write
-pub kept_where : (h : List Event) (j : Judgement) → IsJudgement h j → ((j.bad_reads.items ≡ []) × (j.bad_writes.items ≡ [])) ↔ IsolationKept h
-kept_where h j is = (to, from)
-  where
-    to : (j.bad_reads.items ≡ []) × (j.bad_writes.items ≡ []) → IsolationKept h
-    to e = record {
-      reads = λ p t k saw due bad. none_listed bad_read_rank (λ b. IsBadRead h b.place b.txn b.key b.saw b.due × ⊤) j.bad_reads.items is.bad_reads e.0 (record { place = p; txn = t; key = k; saw = saw; due = due }) (bad, tt);
-      writes = λ k first second bad. none_listed bad_write_rank (λ b. IsBadWrite h b.key b.first b.second × ⊤) j.bad_writes.items is.bad_writes e.1 (record { key = k; first = first; second = second }) (bad, tt);
-    }
-
-    from : IsolationKept h → (j.bad_reads.items ≡ []) × (j.bad_writes.items ≡ [])
-    from e = (
-      empty_list bad_read_rank (λ b. IsBadRead h b.place b.txn b.key b.saw b.due × ⊤) j.bad_reads.items is.bad_reads (λ b bad. e.reads b.place b.txn b.key b.saw b.due bad.0),
-      empty_list bad_write_rank (λ b. IsBadWrite h b.key b.first b.second × ⊤) j.bad_writes.items is.bad_writes (λ b bad. e.writes b.key b.first b.second bad.0),
-    )

@@ -1,6 +1,7 @@
 -- What is made of the chunks of the edges, one after another, is what is made of all edges.
 use Rattle.std.proofs.Common.{◌≡◌, inl, inr, ℕ, suc, ◌+◌, ◌-◌, ◌/◌, ◌<◌, ◌≤◌, List, [], ◌∷◌, ◌++◌, length, map, flat_map, refl, ap, sym, subst, ◌∙◌, arith}
-use Rattle.std.specs.Prelude.{slice_index, slice_index_or}
+use Rattle.std.specs.Global.{Vec}
+use Rattle.std.specs.Prelude.{Err, IfOk, Ok, Result, slice_index, slice_index_or}
 use Rattle.std.proofs.Math.Nat.{div-mul-le_self}
 use Rattle.std.proofs.lemmas.Bool.{cases_lt}
 use Rattle.std.proofs.lemmas.Grind.{flat_map-append}
@@ -22,6 +23,7 @@ use Rattle.si_audit.specs.Lines.{edge_line}
 use Rattle.sia_graph.specs.AllEdges.{AreAllEdges}
 use Rattle.sia_graph.proofs.ListedEdges.{all_listed}
 use Rattle.si_audit.specs.Edges.{AreLinesAndLinks, IsSheet}
+use Rattle.si_audit.specs.Sheets.{text_of}
 
 -- a greater number has no lesser quotient
 div_rises : (k n m : ℕ) → 0 < k → n ≤ m → n / k ≤ m / k
@@ -112,3 +114,9 @@ module _ (e : AllEdges) where
         let end : slice_index places (0 + length sheets) ≡ length e.txns.now = ap (slice_index places) (let same : 0 + length sheets ≡ length places - 1 = omega arith in same) ∙ bounds.last in
         subst (λ n. IsSheet e 0 n (flat_map (λ s. s.lines.items) sheets) (flat_map (λ s. s.links.items) sheets)) end
         (subst (λ n. IsSheet e n (slice_index places (0 + length sheets)) (flat_map (λ s. s.lines.items) sheets) (flat_map (λ s. s.links.items) sheets)) bounds.first all)
+
+-- what is told of some lines and links is told of what they were parted into
+pub as_parted : {E : Type 0} (lines : List ℕ) (links : List Link) (r : Result (Vec (Vec ℕ) × Vec Link) E) (P : List ℕ → List Link → Type 0) → P lines links
+    → IfOk r (λ x. text_of x.0.items ≡ lines) → IfOk r (λ x. x.1.items ≡ links) → IfOk r (λ x. P (text_of x.0.items) x.1.items)
+as_parted lines links (Ok x) P p one two = subst (λ l. P l x.1.items) (sym one) (subst (λ l. P lines l) (sym two) p)
+as_parted lines links (Err e) P p one two = tt

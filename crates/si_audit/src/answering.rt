@@ -23,6 +23,7 @@ use crate::explain::refused::push_place;
 use crate::io::input::Received;
 use crate::report::lines::push_refusal;
 use crate::report::listing::sheets_of;
+use crate::report::sheets::one_sheet;
 use sia_events::{History, Locator, NoMemory, TextFault};
 use sia_graph::Judgement;
 use sia_index::Index;
@@ -119,10 +120,8 @@ fn answer_to_refusal(
     if o.form().is_explained() {
         push_place(&mut sheet, fault, locator)?;
     }
-    let mut sheets = Vec::new(alloc);
-    sheets.push(sheet)?;
     Ok(Answer {
-        sheets,
+        sheets: one_sheet(alloc, sheet)?,
         outcome: Outcome::Refused,
     })
 }

@@ -1,23 +1,27 @@
 -- What follows from the findings of a history: what is settled, and whether a serial order replays it.
 use Rattle.std.proofs.Common.{◌≡◌, ◌↔◌, ◌⊎◌, inl, inr, ℕ, Bool, List, [], ◌∷◌, refl, subst, arith}
-use Rattle.std.specs.Prelude.{IsTrue, ⊤}
+use Rattle.std.specs.Prelude.{IsTrue, IfOk, MatchOption, None, Option, Result, Some, Err, Ok, ⊤}
 use Rattle.sia_events.specs.declared.event.Event.{Event}
 use Rattle.sia_events.specs.Lists.{ListsBy}
 use Rattle.sia_events.specs.Refusals.{IsWellFormed}
 use Rattle.sia_events.specs.Transactions.{IsCommitted}
-use Rattle.sia_events.specs.Isolation.{IsUnexplained, NoneUnexplained}
+use Rattle.sia_events.specs.Isolation.{IsBadRead, IsBadWrite, IsUnexplained, IsolationKept, NoneUnexplained}
 use Rattle.sia_events.specs.Dependencies.{WwEdge, WrEdge, RwEdge, HasEdge}
-use Rattle.sia_events.specs.DangerousStructures.{PassesSsi}
+use Rattle.sia_events.specs.DangerousStructures.{NoFirst, PassesSsi}
 use Rattle.sia_events.specs.Replay.{IsOrder, Keeps, IsSerializable}
 use Rattle.sia_events.specs.Laws.{ReplayLaw, SsiLaw}
 use Rattle.sia_parts.specs.declared.finding.Edge.{Edge}
 use Rattle.sia_parts.specs.declared.finding.Kind.{Kind}
 use Rattle.sia_parts.specs.declared.finding.Kind.TheVariants.{Ww, Wr, Rw}
 use Rattle.sia_parts.specs.declared.finding.Unexplained.{Unexplained}
-use Rattle.sia_parts.specs.Entries.{EdgeOfKind, IsEdge, unexplained_rank}
+use Rattle.sia_parts.specs.Entries.{EdgeOfKind, IsEdge, bad_read_rank, bad_write_rank, unexplained_rank}
 use Rattle.sia_parts.specs.Findings.{ListsUnexplained}
 use Rattle.sia_graph.specs.declared.settling.Verdict.{Verdict}
 use Rattle.sia_graph.specs.declared.settling.Verdict.TheVariants.{Order, Cycle}
+use Rattle.sia_graph.specs.Dangerous.{IsDangerous}
+use Rattle.sia_graph.specs.declared.narrow.dangerous.Dangerous.{Dangerous}
+use Rattle.sia_graph.specs.declared.judgement.Judgement.{Judgement}
+use Rattle.sia_graph.specs.Judgements.{IsJudgement}
 use Rattle.sia_graph.specs.Orders.{Leads, IsKeepingOrder}
 use Rattle.sia_graph.specs.Verdicts.{IsVerdict}
 use Rattle.sia_graph.specs.Verdicts.{IsOrderVerdict}
@@ -97,3 +101,26 @@ module _ (h : List Event) where
           let serial = law (p.0 is) in
           let ordered = order_verdict serial.kept.0 serial.kept.1 serial.kept.2 in
           (e.1 (ordered, none_unexplained serial.explained), ordered)
+
+-- a history kept isolation exactly where its judgement has no bad read and no bad write
+pub kept_where : (h : List Event) (j : Judgement) → IsJudgement h j → ((j.bad_reads.items ≡ []) × (j.bad_writes.items ≡ [])) ↔ IsolationKept h
+kept_where h j is = (to, from)
+  where
+    to : (j.bad_reads.items ≡ []) × (j.bad_writes.items ≡ []) → IsolationKept h
+    to e = record {
+      reads = λ p t k saw due bad. none_listed bad_read_rank (λ b. IsBadRead h b.place b.txn b.key b.saw b.due × ⊤) j.bad_reads.items is.bad_reads e.0 (record { place = p; txn = t; key = k; saw = saw; due = due }) (bad, tt);
+      writes = λ k first second bad. none_listed bad_write_rank (λ b. IsBadWrite h b.key b.first b.second × ⊤) j.bad_writes.items is.bad_writes e.1 (record { key = k; first = first; second = second }) (bad, tt);
+    }
+
+    from : IsolationKept h → (j.bad_reads.items ≡ []) × (j.bad_writes.items ≡ [])
+    from e = (
+      empty_list bad_read_rank (λ b. IsBadRead h b.place b.txn b.key b.saw b.due × ⊤) j.bad_reads.items is.bad_reads (λ b bad. e.reads b.place b.txn b.key b.saw b.due bad.0),
+      empty_list bad_write_rank (λ b. IsBadWrite h b.key b.first b.second × ⊤) j.bad_writes.items is.bad_writes (λ b bad. e.writes b.key b.first b.second bad.0),
+    )
+
+-- of a history that kept isolation what is dangerous is told as it is
+pub where_kept : {E : Type 0} (h : List Event) (r : Result (Option Dangerous) E) → IsolationKept h → IfOk r (λ found. MatchOption found (NoFirst h) (IsDangerous h))
+    → IfOk r (λ found. MatchOption found (IsolationKept h → NoFirst h) (λ d. IsolationKept h × IsDangerous h d))
+where_kept h (Err e) kept is = tt
+where_kept h (Ok None) kept is = λ k. is
+where_kept h (Ok (Some d)) kept is = (kept, is)

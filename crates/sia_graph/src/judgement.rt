@@ -1,14 +1,18 @@
 //! What follows from what was found in a history.
-ghost use Rattle.std.specs.Prelude.{◌≡◌, ◌↔◌, [], ⊤, IfOk, IsTrue};
+ghost use Rattle.std.specs.Prelude.{◌≡◌, ◌↔◌, [], ⊤, IfOk, IsTrue, MatchOption};
+ghost use Rattle.sia_events.specs.DangerousStructures.{NoFirst};
+ghost use Rattle.sia_events.specs.Isolation.{IsolationKept};
 ghost use Rattle.sia_events.specs.Lists.{ListsAscending};
 ghost use Rattle.sia_events.specs.Transactions.{IsCommitted};
 ghost use Rattle.sia_parts.specs.Gathering.{IsGathering};
 ghost use Rattle.sia_parts.specs.Looks.{AreLooks};
+ghost use Rattle.sia_graph.specs.Dangerous.{IsDangerous};
 ghost use Rattle.sia_graph.specs.Judgements.{IsJudgement};
 ghost use Rattle.sia_graph.specs.Verdicts.{IsOrderVerdict};
 
 use crate::laws::{replay_law, ssi_law};
 use crate::narrow::Evidence;
+use crate::narrow::dangerous::{Dangerous, dangerous_of};
 use crate::narrow::judging::{passes, settle_looks};
 use crate::narrow::placing::places_of;
 use crate::settling::Verdict;
@@ -85,4 +89,33 @@ pub fn judge(
         verdict,
     };
     Ok((judgement, found.looks))
+}
+
+/// The dangerous structure that is told of the history of which this is the judgement, if isolation was kept and the test of
+/// serializable snapshot isolation fails.
+pub fn danger_of(
+    alloc: Global,
+    ix: &Index,
+    committed: &Committed,
+    looks: &Looks,
+    j: &Judgement,
+) -> Result<Option<Dangerous>, NoMemory>
+    requires committed { ListsAscending (IsCommitted ix.now) committed.now }
+    requires looks { AreLooks ix.now (λ _. ⊤) looks.now }
+    requires judgement { IsJudgement ix.now j.now }
+    ensures { IfOk result (λ found. MatchOption found (IsolationKept ix.now → NoFirst ix.now) (λ d. IsolationKept ix.now × IsDangerous ix.now d)) }
+{
+    ix.law();
+    if j.pass || !j.is_kept() {
+        return Ok(None);
+    }
+    let places = places_of(alloc, looks)?;
+    let evidence = Evidence {
+        index: ix,
+        txns: committed.ids(),
+        keys: ix.written_keys(),
+        looks,
+        places: places.as_slice(),
+    };
+    dangerous_of(alloc, &evidence)
 }

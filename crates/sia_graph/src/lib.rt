@@ -13,7 +13,7 @@ mod searching;
 mod settling;
 mod taking;
 
-pub use judgement::{Judgement, judge};
+pub use judgement::{Judgement, danger_of, judge};
 pub use laws::{
     blocks_law, closure_law, firsts_law, listing_law, pivot_law, replay_law, ssi_law, stand_in_law,
 };

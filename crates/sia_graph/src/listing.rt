@@ -17,11 +17,11 @@ use crate::pivoting::pivots_of_links;
 use crate::pivoting::vulnerable_numbers::vulnerable_in;
 use sia_events::{Key, NoMemory, TxnId};
 use sia_index::Index;
-use sia_parts::{Committed, Edge, EdgeNumber, Fans, Looks, edges_of_numbers};
+use sia_parts::{ChunkBounds, Committed, Edge, EdgeNumber, Fans, Looks, edges_of_numbers};
 use std::alloc::Global;
 
-/// All edges of a history as fans, by the places of the committed transactions and of the written keys, and the lifetimes of
-/// these transactions.
+/// All edges of a history as fans, by the places of the committed transactions and of the written keys, the lifetimes of these
+/// transactions, and where the edges are cut into chunks by their sources.
 #[derive(Drop)]
 pub struct AllEdges<'a> {
     pub index: &'a Index,
@@ -29,14 +29,16 @@ pub struct AllEdges<'a> {
     pub keys: &'a [Key],
     pub lifetimes: Vec<Lifetime>,
     pub fans: Fans,
+    pub chunk_bounds: ChunkBounds,
 }
 
-/// The edges that are told by what was written and seen.
+/// The edges that are told by what was written and seen, in chunks that mostly have about so many.
 pub fn edges_of<'a>(
     alloc: Global,
     ix: &'a Index,
     committed: &'a Committed,
     looks: Looks,
+    size: usize,
 ) -> Result<AllEdges<'a>, NoMemory>
     requires committed { ListsAscending (IsCommitted ix.now) committed.now }
     requires looks { AreLooks ix.now (λ _. ⊤) looks }
@@ -46,12 +48,14 @@ pub fn edges_of<'a>(
     let txns = committed.ids();
     let lifetimes = lifetimes_of(alloc, ix, txns)?;
     let fans = Fans::of(alloc, ix, committed, looks)?;
+    let chunk_bounds = ChunkBounds::of(alloc, &fans, txns.len(), size)?;
     Ok(AllEdges {
         index: ix,
         txns,
         keys: ix.written_keys(),
         lifetimes,
         fans,
+        chunk_bounds,
     })
 }
 
@@ -86,7 +90,7 @@ pub fn listed(
     ensures edges { IfOk result (λ (edges, pivots). ListsEdges ix.now (λ _. ⊤) edges.items) }
     ensures pivots { IfOk result (λ (edges, pivots). ArePivots ix.now pivots.items) }
 {
-    let all = edges_of(alloc, ix, committed, looks)?;
+    let all = edges_of(alloc, ix, committed, looks, usize::MAX)?;
     let chunk = chunk_of(alloc, &all, 0, all.txns.len())?;
     let edges = edges_of_numbers(alloc, all.txns, all.keys, &chunk.numbers)?;
     let pivots = pivots_of_links(alloc, ix, chunk.links)?;

@@ -4,13 +4,11 @@ ghost use Rattle.sia_events.specs.Lists.{ListsAscending};
 ghost use Rattle.sia_events.specs.Transactions.{IsCommitted};
 ghost use Rattle.sia_parts.specs.Entries.{IsEdge};
 ghost use Rattle.sia_parts.specs.Looks.{AreLooks};
-ghost use Rattle.sia_graph.specs.Evidence.{ArePlaced, IsEvidence};
 ghost use Rattle.sia_graph.specs.Verdicts.{IsVerdict};
 ghost use Rattle.si_audit.specs.Answering.{IsReportOf};
 ghost use Rattle.si_audit.specs.Explained.{TellsDanger, TellsVerdict, WithReasons, edges_round};
 ghost use Rattle.sia_graph.specs.Judgements.{IsJudgement};
 ghost use Rattle.si_audit.specs.Lines as lines;
-ghost use Rattle.si_audit.specs.Sheets.{text_of};
 
 use crate::audit::recorded::Recorded;
 use crate::cli::form::Form;
@@ -19,7 +17,7 @@ use crate::report::found::push_front;
 use crate::report::lines::{push_verdict, push_whether};
 use crate::report::words::{Words, number, push_line};
 use sia_events::NoMemory;
-use sia_graph::{Evidence, Judgement, Step, Verdict, dangerous_of, listing_law, places_of};
+use sia_graph::{Judgement, Step, Verdict, danger_of, listing_law};
 use sia_parts::{Edge, Kind, Looks, acts_of};
 use std::alloc::Global;
 
@@ -29,23 +27,16 @@ fn push_danger(
     alloc: Global,
     out: &mut Vec<u8>,
     of: &Recorded,
-    evidence: &Evidence,
     j: &Judgement,
+    looks: &Looks,
 ) -> Result<(), NoMemory>
     requires index { of.now.index.now ≡ of.now.history.now }
-    requires same { evidence.now.index.now ≡ of.now.history.now }
-    requires evidence { IsEvidence evidence.now.index.now evidence.now.txns.now evidence.now.keys.now evidence.now.looks.now }
-    requires places { ArePlaced evidence.now.looks.now evidence.now.places.now }
+    requires committed { ListsAscending (IsCommitted of.now.index.now) of.now.committed.now }
+    requires looks { AreLooks of.now.index.now (λ _. ⊤) looks.now }
     requires judgement { IsJudgement of.now.history.now j.now }
     ensures { OnOk result ((bytes : List ℕ) × TellsDanger of.now.history.now bytes × (out.new.items ≡ out.old.items ++ bytes)) }
 {
-    if j.pass {
-        return Ok(());
-    }
-    if !j.is_kept() {
-        return Ok(());
-    }
-    let Some(d) = dangerous_of(alloc, evidence)? else {
+    let Some(d) = danger_of(alloc, of.index, of.committed, looks, j)? else {
         return Ok(());
     };
     let words = [
@@ -114,29 +105,21 @@ fn push_verdict_reasons(
     }
 }
 
-/// The lines of the explained report, on one sheet.
+/// The lines of the explained report.
 pub(crate) fn explained(
     alloc: Global,
     of: &Recorded,
     j: &Judgement,
     looks: &Looks,
-) -> Result<Vec<Vec<u8>>, NoMemory>
+) -> Result<Vec<u8>, NoMemory>
     requires index { of.now.index.now ≡ of.now.history.now }
     requires committed { ListsAscending (IsCommitted of.now.index.now) of.now.committed.now }
     requires looks { AreLooks of.now.index.now (λ _. ⊤) looks.now }
     requires judgement { IsJudgement of.now.history.now j.now }
-    ensures { IfOk result (λ sheets. IsReportOf Form.Explained of.now.history.now (text_of sheets.items)) }
+    ensures { IfOk result (λ sheet. IsReportOf Form.Explained of.now.history.now sheet.items) }
 {
     of.history.law();
     listing_law();
-    let places = places_of(alloc, looks)?;
-    let evidence = Evidence {
-        index: of.index,
-        txns: of.committed.ids(),
-        keys: of.index.written_keys(),
-        looks,
-        places: places.as_slice(),
-    };
     let mut out = Vec::new(alloc);
     push_front(
         &mut out,
@@ -147,10 +130,8 @@ pub(crate) fn explained(
         &j.unexplained,
     )?;
     push_whether(&mut out, b"ssi", j.pass, b"pass", b"fail")?;
-    push_danger(alloc, &mut out, of, &evidence, j)?;
+    push_danger(alloc, &mut out, of, j, looks)?;
     push_whether(&mut out, b"serializable", j.serializable, b"yes", b"no")?;
     push_verdict_reasons(alloc, &mut out, of, &j.verdict)?;
-    let mut sheets = Vec::new(alloc);
-    sheets.push(out)?;
-    Ok(sheets)
+    Ok(out)
 }

@@ -1,5 +1,5 @@
 // The report of a history, on one sheet after another.
-ghost use Rattle.std.specs.Prelude.{◌≡◌, ⊤, flat_map, IfOk};
+ghost use Rattle.std.specs.Prelude.{◌≡◌, ⊤, IfOk};
 ghost use Rattle.sia_events.specs.Lists.{ListsAscending};
 ghost use Rattle.sia_events.specs.Transactions.{IsCommitted};
 ghost use Rattle.sia_parts.specs.Looks.{AreLooks};
@@ -12,27 +12,13 @@ use crate::cli::form::Form;
 use crate::cli::options::Options;
 use crate::explain::explaining::explained;
 use crate::report::reporting::report_of;
-use crate::report::sheets::{Sheet, sheets_of_edges};
+use crate::report::sheets::{one_sheet, sheets_of_edges};
 use sia_events::NoMemory;
-use sia_graph::{Judgement, Link, listing_law, pivots_of_links};
+use sia_graph::{Judgement, listing_law, pivots_of_links};
 use sia_parts::Looks;
 use std::alloc::Global;
 use std::sync::Wait;
 use std::thread::Threads;
-
-/// The lines, and all links together.
-fn parted(alloc: Global, made: Vec<Sheet>) -> Result<(Vec<Vec<u8>>, Vec<Link>), NoMemory>
-    ensures lines { IfOk result (λ (sheets, links). text_of sheets.items ≡ flat_map (λ s. s.lines.items) made.items) }
-    ensures links { IfOk result (λ (sheets, links). links.items ≡ flat_map (λ s. s.links.items) made.items) }
-{
-    let mut sheets = Vec::new(alloc);
-    let mut links = Vec::new(alloc);
-    for sheet in made {
-        links.extend_from_slice(&sheet.links)?;
-        sheets.push(sheet.lines)?;
-    }
-    Ok((sheets, links))
-}
 
 /// The report of a history of which this is the judgement, in the form asked for. Makes no edge for a brief one.
 pub(crate) fn sheets_of<R: Threads + Wait + Sync>(
@@ -53,12 +39,14 @@ pub(crate) fn sheets_of<R: Threads + Wait + Sync>(
     listing_law();
     match o.form() {
         Form::Full => {
-            let made = sheets_of_edges(rt, alloc, of.index, of.committed, looks, o)?;
-            let (sheets, links) = parted(alloc, made)?;
+            let (sheets, links) = sheets_of_edges(rt, alloc, of.index, of.committed, looks, o)?;
             let pivots = pivots_of_links(alloc, of.index, links)?;
             report_of(alloc, j, sheets, &pivots)
         }
         Form::Brief => report_of(alloc, j, Vec::new(alloc), &[]),
-        Form::Explained => explained(alloc, of, j, &looks),
+        Form::Explained => {
+            let sheet = explained(alloc, of, j, &looks)?;
+            one_sheet(alloc, sheet)
+        }
     }
 }

@@ -1,11 +1,12 @@
 // The lines of all edges, which workers make side by side, those of a chunk on each sheet. Of the edges only the links of the
 // vulnerable ones are kept beside their lines.
-ghost use Rattle.std.specs.Prelude.{⊤, ◌+◌, ◌<◌, length, flat_map, slice_index, IfOk};
+ghost use Rattle.std.specs.Prelude.{◌≡◌, ⊤, ◌+◌, ◌<◌, length, flat_map, slice_index, IfOk};
 ghost use Rattle.sia_events.specs.Lists.{ListsAscending};
 ghost use Rattle.sia_events.specs.Transactions.{IsCommitted};
 ghost use Rattle.sia_parts.specs.Looks.{AreLooks};
 ghost use Rattle.sia_graph.specs.AllEdges.{AreAllEdges};
 ghost use Rattle.si_audit.specs.Edges.{AreLinesAndLinks, IsSheet};
+ghost use Rattle.si_audit.specs.Sheets.{text_of};
 
 use crate::audit::finding::crew_of;
 use crate::cli::options::Options;
@@ -13,7 +14,7 @@ use crate::report::number_lines::sheet_of;
 use sia_events::NoMemory;
 use sia_graph::{AllEdges, Link, chunk_of, edges_of};
 use sia_index::Index;
-use sia_parts::{ChunkBounds, Committed, Looks};
+use sia_parts::{Committed, Looks};
 use sia_pool::{Job, OpenGate, work_off};
 use std::alloc::Global;
 use std::sync::Wait;
@@ -36,19 +37,18 @@ pub(crate) struct Sheet {
 struct Printing<'a> {
     alloc: Global,
     edges: &'a AllEdges<'a>,
-    chunk_bounds: &'a ChunkBounds,
 }
 
 impl Job for Printing<'_> {
     type Out = Sheet;
 
-    ghost takes = { λ job number. AreAllEdges job.edges.now × (number + 1 < length job.chunk_bounds.now.places.items) };
+    ghost takes = { λ job number. AreAllEdges job.edges.now × (number + 1 < length job.edges.now.chunk_bounds.places.items) };
 
-    ghost owes = { λ job number sheet. IsSheet job.edges.now (slice_index job.chunk_bounds.now.places.items number) (slice_index job.chunk_bounds.now.places.items (number + 1))
+    ghost owes = { λ job number sheet. IsSheet job.edges.now (slice_index job.edges.now.chunk_bounds.places.items number) (slice_index job.edges.now.chunk_bounds.places.items (number + 1))
         sheet.lines.items sheet.links.items };
 
     fn run(&self, number: u32) -> Result<Sheet, sia_pool::NoMemory> {
-        let places = &self.chunk_bounds.places;
+        let places = &self.edges.chunk_bounds.places;
         let number = number as usize;
         match sheet_between(self.alloc, self.edges, places[number], places[number + 1]) {
             Ok(sheet) => Ok(sheet),
@@ -68,7 +68,29 @@ fn sheet_between(alloc: Global, edges: &AllEdges, from: usize, to: usize) -> Res
     Ok(Sheet { lines, links })
 }
 
-/// What is made of all edges, by workers, and waits for them.
+/// The sheet alone.
+pub(crate) fn one_sheet(alloc: Global, sheet: Vec<u8>) -> Result<Vec<Vec<u8>>, NoMemory>
+    ensures { IfOk result (λ sheets. text_of sheets.items ≡ sheet.items) }
+{
+    let sheets = vec![in alloc; sheet]?;
+    Ok(sheets)
+}
+
+/// The lines, and all links together.
+fn parted(alloc: Global, made: Vec<Sheet>) -> Result<(Vec<Vec<u8>>, Vec<Link>), NoMemory>
+    ensures lines { IfOk result (λ (sheets, links). text_of sheets.items ≡ flat_map (λ s. s.lines.items) made.items) }
+    ensures links { IfOk result (λ (sheets, links). links.items ≡ flat_map (λ s. s.links.items) made.items) }
+{
+    let mut sheets = Vec::new(alloc);
+    let mut links = Vec::new(alloc);
+    for sheet in made {
+        links.extend_from_slice(&sheet.links)?;
+        sheets.push(sheet.lines)?;
+    }
+    Ok((sheets, links))
+}
+
+/// The lines of all edges, by workers, and the links of the vulnerable ones. Waits for the workers.
 pub(crate) fn sheets_of_edges<R: Threads + Wait + Sync>(
     rt: &R,
     alloc: Global,
@@ -76,21 +98,19 @@ pub(crate) fn sheets_of_edges<R: Threads + Wait + Sync>(
     committed: &Committed,
     looks: Looks,
     o: &Options,
-) -> Result<Vec<Sheet>, NoMemory>
+) -> Result<(Vec<Vec<u8>>, Vec<Link>), NoMemory>
     requires committed { ListsAscending (IsCommitted ix.now) committed.now }
     requires looks { AreLooks ix.now (λ _. ⊤) looks }
-    ensures { IfOk result (λ sheets. AreLinesAndLinks ix.now (flat_map (λ s. s.lines.items) sheets.items) (flat_map (λ s. s.links.items) sheets.items)) }
+    ensures { IfOk result (λ (sheets, links). AreLinesAndLinks ix.now (text_of sheets.items) links.items) }
 {
-    let edges = edges_of(alloc, ix, committed, looks)?;
-    let chunk_bounds = ChunkBounds::of(alloc, &edges.fans, edges.txns.len(), STRETCH)?;
-    let count = chunk_bounds.places.len().saturating_sub(1) as u32;
+    let edges = edges_of(alloc, ix, committed, looks, STRETCH)?;
+    let count = edges.chunk_bounds.places.len().saturating_sub(1) as u32;
     let job = Printing {
         alloc,
         edges: &edges,
-        chunk_bounds: &chunk_bounds,
     };
     match work_off(rt, alloc, count, crew_of(o, count), &job, &OpenGate) {
-        Ok(crew) => Ok(crew.outs),
+        Ok(crew) => parted(alloc, crew.outs),
         Err(_) => Err(NoMemory),
     }
 }

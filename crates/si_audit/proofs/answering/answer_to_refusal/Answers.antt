@@ -1,10 +1,9 @@
-use Rattle.std.proofs.Common.{◌≡◌, ap, sym, subst, ◌∙◌, List, ℕ, [], ◌∷◌, ◌++◌, append-nil}
+use Rattle.std.proofs.Common.{◌≡◌, ap, sym, subst, ◌∙◌, List, ℕ, ◌++◌}
 use Rattle.std.specs.Global.{Vec}
 use Rattle.std.proofs.lemmas.Bool.{both_ways}
 use Rattle.si_audit.specs.declared.cli.form.Form.TheVariants.{Explained}
 use Rattle.si_audit.specs.Lines.{refusal_line}
 use Rattle.si_audit.specs.Report.{TellsRefusal}
-use Rattle.si_audit.specs.Sheets.{text_of}
 use Rattle.si_audit.proofs.ToldByForms.{told_of_explained, told_of_others}
 use Rattle.si_audit.proofs.answering.answer_to_refusal.Goals as goal
 use Rattle.si_audit.proofs.answering.answer_to_refusal.Goals.{then-is_explained+in_ok-push_place, else-is_explained}
@@ -15,7 +14,7 @@ returns-clause-report c bytes reader stands located refusal =
     let form = c.args.o.now.form in
     let fault = c.args.fault.now in
     let written : c.push_refusal.new.out.items ≡ refusal_line fault = c.in_ok-push_refusal.ensures ∙ ap (λ (o : List ℕ). o ++ refusal_line fault) c.new-sheet.ensures.items in
-    subst (TellsRefusal form bytes fault) (sym (ap text_of c.in_ok-push.ensures.items ∙ ap (λ xs. text_of (xs ++ sheet ∷ [])) c.new-sheets.ensures.items ∙ append-nil sheet.items))
+    subst (TellsRefusal form bytes fault) (sym c.in_ok-one_sheet.ensures)
     (elim c.if-is_explained.branch [
       | then-is_explained+in_ok-push_place w ↦
           let is : form ≡ Explained = sym c.form.ensures ∙ c.is_explained.ensures.0 w.if-is_explained.true in
@@ -31,8 +30,7 @@ returns-clause-line c other =
     let sheet = c.if-is_explained.sheet in
     let fault = c.args.fault.now in
     let written : c.push_refusal.new.out.items ≡ refusal_line fault = c.in_ok-push_refusal.ensures ∙ ap (λ (o : List ℕ). o ++ refusal_line fault) c.new-sheet.ensures.items in
-    ap text_of c.in_ok-push.ensures.items ∙ ap (λ xs. text_of (xs ++ sheet ∷ [])) c.new-sheets.ensures.items ∙ append-nil sheet.items
-    ∙ elim c.if-is_explained.branch [
+    c.in_ok-one_sheet.ensures ∙ elim c.if-is_explained.branch [
       | then-is_explained+in_ok-push_place w ↦ absurd (other (sym c.form.ensures ∙ c.is_explained.ensures.0 w.if-is_explained.true))
       | else-is_explained w ↦ ap (λ (v : Vec ℕ). v.items) w.sheet-is ∙ written
     ]

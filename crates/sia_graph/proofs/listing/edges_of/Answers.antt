@@ -11,4 +11,6 @@ returns-clause-are c = record {
   lifetimes_are = c.in_ok-lifetimes.ensures;
   stand = rw c.ids-txns.ensures (c.in_ok-fans.ensures.stand None c.requires.looks c.written_keys.result.now c.written_keys.ensures);
   spread = c.in_ok-fans.ensures.spread;
+  bounds = c.in_ok-chunk_bounds.ensures.are;
+  few = c.in_ok-chunk_bounds.ensures.few;
 }

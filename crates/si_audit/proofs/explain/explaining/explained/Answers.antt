@@ -1,14 +1,12 @@
-use Rattle.std.proofs.Common.{[], ◌∷◌, ◌++◌, ◌&&◌, ◌∙◌, ap, append-nil, get_or, subst, sym}
+use Rattle.std.proofs.Common.{◌++◌, ◌&&◌, ◌∙◌, get_or, subst}
 use Rattle.std.specs.Prelude.{Contains}
 use Rattle.std.proofs.lemmas.List.Elements.{All-contains_itself}
 use Rattle.si_audit.specs.Explained.{IsExplained, TellsAll, WithReasons}
 use Rattle.si_audit.specs.Audits.{account_with}
 use Rattle.si_audit.specs.Lines as lines
 use Rattle.si_audit.specs.Reasons.{TellsBadRead, TellsBadWrite, TellsUnexplained}
-use Rattle.si_audit.specs.Sheets.{text_of}
 use Rattle.si_audit.proofs.Clean.{account_is}
 use Rattle.si_audit.proofs.Pushed.{explained_pushed}
-use Rattle.sia_graph.specs.Evidence.{ArePlaced}
 use Rattle.si_audit.proofs.explain.explaining.explained.Goals as goal
 
 pub push_front-requires-clause-index : goal.push_front-requires-clause-index
@@ -17,14 +15,8 @@ push_front-requires-clause-index c = c.requires.index
 pub push_danger-requires : goal.push_danger-requires
 push_danger-requires c = record {
   index = c.requires.index;
-  same = c.requires.index;
-  evidence = record {
-    well_formed = rw c.requires.index c.law.ensures;
-    txns_are = rw c.ids.ensures c.requires.committed;
-    keys_are = c.written_keys.ensures;
-    looks_are = c.requires.looks;
-  };
-  places = subst (ArePlaced c.args.looks.now) (sym c.as_slice.ensures.value) c.in_ok-places.ensures;
+  committed = c.requires.committed;
+  looks = c.requires.looks;
   judgement = c.requires.judgement;
 }
 
@@ -76,5 +68,4 @@ returns c =
       verdict.1,
       explained_pushed o _ _ _ _ _ _ _ _ _ _ _ _ _ _ c.new-out.ensures.items front c.in_ok-push_whether.ensures danger.2 c.in_ok-push_whether-2.ensures verdict.2,
     ) in
-    let text = ap text_of (c.in_ok-push.ensures.items ∙ ap (λ xs. xs ++ sheet ∷ []) c.new-sheets.ensures.items) ∙ append-nil sheet.items in
-    (a, account_is h j c.requires.judgement edges.0 edges.1 pivots.0 pivots.1, subst (IsExplained h a) (sym text) all)
+    (a, account_is h j c.requires.judgement edges.0 edges.1 pivots.0 pivots.1, all)

@@ -1,6 +1,6 @@
-use Rattle.std.proofs.Common.{◌∙◌, ap, refl, subst, sym}
+use Rattle.std.proofs.Common.{ℕ, List, ◌∙◌, ap, refl, subst, sym}
 use Rattle.si_audit.specs.declared.cli.form.Form.{Form}
-use Rattle.si_audit.specs.declared.cli.form.Form.TheVariants.{Full, Brief}
+use Rattle.si_audit.specs.declared.cli.form.Form.TheVariants.{Full, Brief, Explained}
 use Rattle.si_audit.specs.Answering.{IsReportOf}
 use Rattle.si_audit.specs.Audits.{account_with}
 use Rattle.si_audit.specs.Sheets.{text_of}
@@ -21,20 +21,20 @@ pub explained-requires-clause-judgement : goal.explained-requires-clause-judgeme
 explained-requires-clause-judgement g c = c.requires.judgement
 
 pub pivots_of_links-requires : goal.pivots_of_links-requires
-pivots_of_links-requires g c = rw c.in_ok-sheets-in-Full.ensures.links c.in_ok-made-in-Full.ensures.1
+pivots_of_links-requires g c = c.in_ok-sheets-in-Full.ensures.1
 
 pub returns-in_ok-pivots-in-Full : goal.returns-in_ok-pivots-in-Full
 returns-in_ok-pivots-in-Full g c =
     let h = c.args.of.now.history.now in
     let j = c.args.j.now in
-    let edges = rw c.requires.index at c.in_ok-made-in-Full.ensures.0 in
+    let edges = rw c.requires.index at c.in_ok-sheets-in-Full.ensures.0 in
     let pivots = rw c.requires.index at c.in_ok-pivots-in-Full.ensures in
     let all = c.in_ok-pivots-in-Full.pivots.items in
     ok_map _ _ c.report_of.result
     (λ sheets is. subst (λ (form : Form). IsReportOf form h (text_of sheets.items)) (sym (sym c.form.ensures ∙ c.in-Full.is)) (
       account_with j edges.0 all,
       account_is h j c.requires.judgement edges.0 edges.1 all pivots,
-      is Full edges.0 all (c.in_ok-sheets-in-Full.ensures.lines ∙ edges.2) c.deref.ensures.value,
+      is Full edges.0 all edges.2 c.deref.ensures.value,
     ))
     c.report_of.ensures
 
@@ -53,8 +53,9 @@ returns-in-Brief g c =
     ))
     c.report_of-in-Brief.ensures
 
-pub returns-in-Explained : goal.returns-in-Explained
-returns-in-Explained g c =
-    ok_map _ _ c.explained.result
-    (λ sheets is. subst (λ (form : Form). IsReportOf form c.args.of.now.history.now (text_of sheets.items)) (sym (sym c.form.ensures ∙ c.in-Explained.is)) is)
-    c.explained.ensures
+pub returns-in_ok-sheet-in-Explained : goal.returns-in_ok-sheet-in-Explained
+returns-in_ok-sheet-in-Explained g c =
+    let report = λ (form : Form) (bytes : List ℕ). IsReportOf form c.args.of.now.history.now bytes in
+    ok_map _ _ c.one_sheet.result
+    (λ sheets is. subst (λ (form : Form). report form (text_of sheets.items)) (sym (sym c.form.ensures ∙ c.in-Explained.is)) (subst (report Explained) (sym is) c.in_ok-sheet-in-Explained.ensures))
+    c.one_sheet.ensures

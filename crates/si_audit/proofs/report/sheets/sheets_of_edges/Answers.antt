@@ -1,5 +1,6 @@
 use Rattle.std.proofs.Common.{◌<◌, subst, ◌∙◌, rules}
-use Rattle.si_audit.proofs.SheetsInTurn.{all_in_turn, all_made}
+use Rattle.si_audit.specs.Edges.{AreLinesAndLinks}
+use Rattle.si_audit.proofs.SheetsInTurn.{all_in_turn, all_made, as_parted}
 use Rattle.si_audit.proofs.report.sheets.sheets_of_edges.Goals as goal
 
 pub edges_of-requires : goal.edges_of-requires
@@ -9,7 +10,9 @@ edges_of-requires g c = record { committed = c.requires.committed; looks = c.req
 pub returns-in-Ok : goal.returns-in-Ok
 returns-in-Ok g c =
     let edges = c.in_ok-edges.edges in
-    rw (← c.in_ok-edges.ensures.index)
+    as_parted _ _ c.parted.result (λ lines links. AreLinesAndLinks c.args.ix.now lines links)
+    (rw (← c.in_ok-edges.ensures.index)
     (all_made edges c.in_ok-edges.ensures.are _ _
-    (all_in_turn edges c.in_ok-chunk_bounds.chunk_bounds.places.items c.in_ok-chunk_bounds.ensures.are c.in-Ok.crew.outs.items (c.in-Ok.ensures.len ∙ search rules)
-    (λ k d below. c.in-Ok.ensures.owed k d (subst (λ n. k < n) c.in-Ok.ensures.len below))))
+    (all_in_turn edges edges.chunk_bounds.places.items c.in_ok-edges.ensures.are.bounds c.in-Ok.crew.outs.items (c.in-Ok.ensures.len ∙ search rules)
+    (λ k d below. c.in-Ok.ensures.owed k d (subst (λ n. k < n) c.in-Ok.ensures.len below)))))
+    c.parted.ensures.lines c.parted.ensures.links

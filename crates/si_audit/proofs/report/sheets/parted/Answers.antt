@@ -3,7 +3,7 @@ use Rattle.std.specs.Global.{Vec}
 use Rattle.si_audit.specs.declared.report.sheets.Sheet.{Sheet}
 use Rattle.si_audit.specs.Sheets.{text_of}
 use Rattle.si_audit.proofs.Chains.{one_more_mapped}
-use Rattle.si_audit.proofs.report.listing.parted.Goals as goal
+use Rattle.si_audit.proofs.report.sheets.parted.Goals as goal
 
 -- the lines and the links of one sheet more
 pub loop-sheet-preserved : goal.loop-sheet-preserved
