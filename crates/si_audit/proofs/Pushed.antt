@@ -2,9 +2,9 @@
 use Rattle.std.proofs.Common.{◌≡◌, ℕ, List, [], ◌++◌, ap, ◌∙◌, append_assoc, append-nil}
 use Rattle.sia_events.specs.Text.{numeral}
 
--- a number between words, and another number
-pub two_numbers : (o a t b s m n : List ℕ) → m ≡ o ++ a ++ t ++ b → n ≡ m ++ [] ++ s ++ [] → n ≡ o ++ (a ++ t ++ b ++ s)
-two_numbers o a t b s m n first second = second ∙ ap (λ (x : List ℕ). x ++ [] ++ s ++ []) first ∙ simp (append_assoc, append-nil)
+-- a number between words, and another number before words
+pub two_numbers : (o a t b s c m n : List ℕ) → m ≡ o ++ a ++ t ++ b → n ≡ m ++ [] ++ s ++ c → n ≡ o ++ a ++ t ++ b ++ s ++ c
+two_numbers o a t b s c m n first second = second ∙ ap (λ (x : List ℕ). x ++ [] ++ s ++ c) first ∙ simp (append_assoc, append-nil)
 
 -- what comes next stands behind what came before
 pub behind : (o m n a b : List ℕ) → m ≡ o ++ a → n ≡ m ++ b → n ≡ o ++ (a ++ b)
@@ -33,12 +33,13 @@ and_more o a t b s m n first second = second ∙ ap (λ (x : List ℕ). x ++ b +
 pub three_words : (o l m n a b c : List ℕ) → l ≡ o ++ a → m ≡ l ++ b → n ≡ m ++ c → n ≡ o ++ (a ++ b ++ c)
 three_words o l m n a b c first second third = behind o m n (a ++ b) c (behind o l m a b first second) third
 
--- two things behind a start, with the same word before each
-pub two_things : (o p a b s c d q : List ℕ) → ((((((o ++ (p ++ a)) ++ b) ++ s) ++ c) ++ s) ++ d) ++ q ≡ o ++ (p ++ (a ++ b ++ s ++ c ++ s ++ d) ++ q)
-two_things o p a b s c d q = simp append_assoc
+-- a start, and two things with the same word before each
+pub two_things : (o p a t x m y s c d q : List ℕ) → (((((((o ++ (p ++ a ++ t)) ++ x) ++ m) ++ y) ++ s) ++ [] ++ c) ++ (s ++ d ++ q)) ≡ o ++ (p ++ (a ++ (t ++ x ++ m ++ y) ++ s ++ c ++ s ++ d) ++ q)
+two_things o p a t x m y s c d q = simp (append_assoc, append-nil)
 
-pub seven_words : (o a b c d e f g : List ℕ) → ((((o ++ (a ++ b ++ c)) ++ d) ++ e) ++ f) ++ g ≡ o ++ (a ++ (b ++ c ++ d ++ e ++ f) ++ g)
-seven_words o a b c d e f g = simp append_assoc
+-- a name, an event, and a start behind it
+pub named_event : (o p a b e s t x m y q : List ℕ) → ((((((o ++ (p ++ a ++ b)) ++ e) ++ (s ++ t)) ++ x) ++ m) ++ y) ++ q ≡ o ++ (p ++ (a ++ b ++ e ++ s ++ (t ++ x ++ m ++ y)) ++ q)
+named_event o p a b e s t x m y q = simp append_assoc
 
 -- the words of a step, with a space between two of them
 pub step_words_behind : (o a s e w t d words z m r y : List ℕ)

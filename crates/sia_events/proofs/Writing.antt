@@ -1,6 +1,7 @@
 -- A text that is written from left to right, one more part at its end.
 use Rattle.std.proofs.Common.{◌≡◌, ◌≢◌, ℕ, suc, ◌<◌, List, [], ◌∷◌, ◌++◌, map, length, refl, ap, sym, ◌∙◌, append_assoc, arith}
 use Rattle.std.specs.List.{join_with_byte}
+use Rattle.std.specs.Prelude.{Err, Ok, OnOk, Result, if◌then◌else◌, is_ok}
 use Rattle.sia_events.specs.declared.event.Event.{Event}
 use Rattle.sia_events.specs.Text.{spell_pair, spell_list, spell, canonical}
 
@@ -35,3 +36,8 @@ canonical_first (f ∷ es) e none = absurd (omega arith)
 pub canonical_later : (es : List Event) (e : Event) → 0 < length es → canonical (es ++ e ∷ []) ≡ (canonical es ++ 32 ∷ []) ++ spell e
 canonical_later [] e some = absurd (omega arith)
 canonical_later (f ∷ es) e some = canonical_push f es e ∙ sym (append_assoc (canonical (f ∷ es)) (32 ∷ []) (spell e))
+
+-- what is there where the call succeeded
+pub when_ok : {A E X : Type 0} (r : Result A E) (n a b : X) → n ≡ (if is_ok r then a else b) → OnOk r (n ≡ a)
+when_ok (Ok x) n a b e = e
+when_ok (Err e) n a b f = tt

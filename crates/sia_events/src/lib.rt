@@ -30,7 +30,7 @@ pub use laws::{
 pub use locating::{Locator, Place};
 pub use reader::{TextReader, read_history};
 pub use shown::push_shown;
-pub use writer::write_history;
+pub use writer::{push_number, write_history};
 
 #[cfg(test)]
 mod tests;

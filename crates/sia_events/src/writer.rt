@@ -19,12 +19,25 @@ pub(crate) enum Piece<'a> {
     Listed(&'a [(Key, Version)]),
 }
 
+/// Writes a number between some bytes.
+pub fn push_number(
+    out: &mut Vec<u8>,
+    before: &[u8],
+    n: u64,
+    behind: &[u8],
+) -> Result<(), AllocError>
+    ensures { OnOk result (out.new.items ≡ out.old.items ++ before.now ++ numeral n ++ behind.now) }
+{
+    let mut buffer = Buffer::new();
+    out.extend_from_slice(before)?;
+    out.extend_from_slice(buffer.format(n).as_bytes())?;
+    out.extend_from_slice(behind)
+}
+
 fn push_marked(out: &mut Vec<u8>, mark: u8, n: u64) -> Result<(), AllocError>
     ensures { OnOk result (out.new.items ≡ out.old.items ++ (mark ∷ numeral n)) }
 {
-    let mut buffer = Buffer::new();
-    out.push(mark)?;
-    out.extend_from_slice(buffer.format(n).as_bytes())
+    push_number(out, &[mark], n, b"")
 }
 
 fn push_list(out: &mut Vec<u8>, listed: &[(Key, Version)]) -> Result<(), AllocError>

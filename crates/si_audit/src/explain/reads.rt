@@ -39,8 +39,7 @@ impl Finding for BadRead {
         };
         let name = anomaly_of(of.history, of.index, self, info.start);
         push_event(out, anomaly_words(name), of.history, self.key, self.place)?;
-        push_start(out, b"; ", self.txn, info.start)?;
-        out.extend_from_slice(b"\n")?;
+        push_start(out, b"; transaction ", self.txn, info.start, b"\n")?;
         push_unless(out, of, self.key, self.saw, 0, (b"  saw: ", b"\n"))?;
         push_unless(out, of, self.key, self.due, 0, (b"  due: ", b"\n"))
     }
@@ -63,14 +62,14 @@ impl Finding for BadWrite {
     }
 
     fn push_reasons(&self, out: &mut Vec<u8>, of: &Recorded) -> Result<(), NoMemory> {
+        of.history.law();
         let Some(info) = of.index.txn(self.second) else {
             return Ok(());
         };
-        push_start(out, b"  both write and overlap: ", self.second, info.start)?;
-        push_version(out, b"; ", of, self.key, self.first)?;
-        push_version(out, b"; ", of, self.key, self.second)?;
-        out.extend_from_slice(b"\n")?;
-        Ok(())
+        let words = b"  both write and overlap: transaction ";
+        push_start(out, words, self.second, info.start, b"; ")?;
+        push_version(out, b"", of, self.key, self.first)?;
+        push_unless(out, of, self.key, self.second, self.first, (b"; ", b"\n"))
     }
 }
 

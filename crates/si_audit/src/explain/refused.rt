@@ -5,8 +5,7 @@ ghost use Rattle.sia_events.specs.Refusals.{IsRefusal};
 ghost use Rattle.sia_events.specs.Streaming.{Progress, StandsForRead};
 ghost use Rattle.si_audit.specs.RefusedPlaces.{TellsToken};
 
-use crate::report::words::push_number;
-use sia_events::{Locator, NoMemory, TextFault, push_shown};
+use sia_events::{Locator, NoMemory, TextFault, push_number, push_shown};
 
 /// What stands below the line of a refused text.
 pub(crate) fn push_place(

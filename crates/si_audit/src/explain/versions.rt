@@ -1,11 +1,11 @@
 //! Events, starts and versions in a line of reasons.
-ghost use Rattle.std.specs.Prelude.{◌≡◌, ◌≢◌, ◌++◌, ℕ, List, OnOk};
+ghost use Rattle.std.specs.Prelude.{◌≡◌, ◌≢◌, ◌++◌, ℕ, List, OnOk, codes};
+ghost use Rattle.sia_events.specs.Text.{numeral};
 ghost use Rattle.sia_events.specs.Transactions.{Wrote};
-ghost use Rattle.si_audit.specs.Reasons.{TellsUnless, TellsVersion, event_words, start_words};
+ghost use Rattle.si_audit.specs.Reasons.{TellsUnless, TellsVersion, event_words};
 
 use crate::audit::recorded::Recorded;
-use crate::report::words::push_number;
-use sia_events::{History, Key, NoMemory, TxnId, Version};
+use sia_events::{History, Key, NoMemory, TxnId, Version, push_number};
 use std::alloc::AllocError;
 
 /// Some words, and the event at a place, as far as it is about the key.
@@ -23,23 +23,18 @@ pub(crate) fn push_event(
     h.push_about(out, place, key)
 }
 
-/// Some words, and when the transaction started.
+/// Some words, a transaction, when it started, and some more words.
 pub(crate) fn push_start(
     out: &mut Vec<u8>,
     before: &[u8],
     txn: TxnId,
     start: u32,
+    behind: &[u8],
 ) -> Result<(), AllocError>
-    ensures { OnOk result (out.new.items ≡ out.old.items ++ before.now ++ start_words txn start) }
+    ensures { OnOk result (out.new.items ≡ out.old.items ++ before.now ++ numeral txn ++ codes " starts after event " ++ numeral start ++ behind.now) }
 {
-    out.extend_from_slice(before)?;
-    push_number(
-        out,
-        b"transaction ",
-        u64::from(txn),
-        b" starts after event ",
-    )?;
-    push_number(out, b"", u64::from(start), b"")
+    push_number(out, before, u64::from(txn), b" starts after event ")?;
+    push_number(out, b"", u64::from(start), behind)
 }
 
 /// Some words, where the transaction first wrote the key, and where it ended if it did.

@@ -73,8 +73,7 @@ fn push_head(
     ];
     push_line(out, b"events", &words)?;
     let kept = bad_reads.is_empty() && bad_writes.is_empty();
-    push_whether(out, b"isolation", kept, b"kept", b"broken")?;
-    Ok(())
+    push_whether(out, b"isolation", kept, b"kept", b"broken")
 }
 
 /// The lines before those of the edges, with reasons from what was recorded, where it is given.

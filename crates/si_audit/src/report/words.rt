@@ -5,8 +5,7 @@ ghost use Rattle.si_audit.specs.Lines as lines;
 ghost use Rattle.si_audit.specs.Spaced.{spaced, words_of};
 ghost use Rattle.si_audit.specs.declared.report.words.Words.TheVariants as some;
 
-use itoa::Buffer;
-use sia_events::{Key, Reason, TxnId};
+use sia_events::{Key, Reason, TxnId, push_number};
 use sia_parts::Kind;
 use std::alloc::AllocError;
 
@@ -75,21 +74,6 @@ fn push_some(out: &mut Vec<u8>, some: &Words) -> Result<(), AllocError>
             push_numbers(out, firsts)
         }
     }
-}
-
-/// A number between some bytes.
-pub(crate) fn push_number(
-    out: &mut Vec<u8>,
-    before: &[u8],
-    n: u64,
-    behind: &[u8],
-) -> Result<(), AllocError>
-    ensures { OnOk result (out.new.items ≡ out.old.items ++ before.now ++ numeral n ++ behind.now) }
-{
-    let mut buffer = Buffer::new();
-    out.extend_from_slice(before)?;
-    out.extend_from_slice(buffer.format(n).as_bytes())?;
-    out.extend_from_slice(behind)
 }
 
 fn push_numbers(out: &mut Vec<u8>, numbers: &[TxnId]) -> Result<(), AllocError>

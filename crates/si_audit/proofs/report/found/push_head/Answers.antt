@@ -1,4 +1,5 @@
 use Rattle.std.proofs.Common.{◌≡◌, ◌++◌, ◌∷◌, ◌∙◌, ◌&&◌, [], ℕ, List, codes, arith}
+use Rattle.std.proofs.lemmas.Result.{on_ok_weaker}
 use Rattle.si_audit.specs.Lines as lines
 use Rattle.si_audit.proofs.report.found.push_head.Goals as goal
 
@@ -12,4 +13,4 @@ returns c =
     let pushed : c.push_line.new.out.items ≡ o ++ lines.events_line n.events n.committed n.aborted n.unfinished =
     c.in_ok-push_line.ensures ∙ (λ i. words (c.number.ensures i) (c.number-2.ensures i) (c.number-3.ensures i) (c.number-4.ensures i)) in
     let kept : c.if-is_empty.kept ≡ (lines.is_empty c.args.bad_reads.now && lines.is_empty c.args.bad_writes.now) = grind arith in
-    c.in_ok-push_whether.ensures ∙ (λ i. pushed i ++ lines.isolation_line (kept i))
+    on_ok_weaker c.push_whether.result (λ told. told ∙ (λ i. pushed i ++ lines.isolation_line (kept i))) c.push_whether.ensures

@@ -6,7 +6,7 @@ use Rattle.sia_graph.specs.declared.settling.Verdict.TheVariants.{Cycle}
 use Rattle.si_audit.specs.Lines.{home_word, step_words, verdict_line}
 use Rattle.si_audit.specs.Spaced.{spaced}
 use Rattle.si_audit.proofs.Chains.{four_written}
-use Rattle.si_audit.proofs.Results.{when_ok}
+use Rattle.sia_events.proofs.Writing.{when_ok}
 use Rattle.si_audit.proofs.SpacedWords.{cycle_bytes}
 use Rattle.si_audit.proofs.report.lines.push_verdict.Goals as goal
 

@@ -2,7 +2,7 @@ use Rattle.std.proofs.Common.{◌∷◌, ◌++◌, ◌∙◌, List, ℕ, ap, cod
 use Rattle.std.specs.List.{join_with_byte}
 use Rattle.std.proofs.lemmas.Result.{on_ok_weaker}
 use Rattle.si_audit.specs.Spaced.{spaced, words_of}
-use Rattle.si_audit.proofs.Results.{when_ok}
+use Rattle.sia_events.proofs.Writing.{when_ok}
 use Rattle.si_audit.proofs.SpacedWords.{join_spaced}
 use Rattle.si_audit.proofs.report.words.push_line.Goals as goal
 

@@ -1,10 +1,11 @@
 use Rattle.std.proofs.Common.{◌≡◌, ◌++◌, codes, refl, subst}
 use Rattle.std.proofs.lemmas.Result.{on_ok_weaker}
+use Rattle.sia_events.specs.Text.{numeral}
 use Rattle.sia_events.specs.Transactions.{StartsAt}
 use Rattle.sia_events.proofs.Seen.{saw_written}
 use Rattle.si_audit.specs.Reasons.{anomaly_words, event_words, reason, start_words}
 use Rattle.sia_parts.proofs.Named.{due_written}
-use Rattle.si_audit.proofs.Pushed.{seven_words, three_words}
+use Rattle.si_audit.proofs.Pushed.{named_event, three_words}
 use Rattle.si_audit.proofs.explain.reads.BadReadFinding.push_reasons.Goals as goal
 
 pub anomaly_of-name-requires-clause-starts : goal.anomaly_of-name-requires-clause-starts
@@ -27,13 +28,12 @@ returns c =
     let name = c.anomaly_of-name.result in
     let saw = c.in_ok-push_unless.ensures in
     let known = c.in-Some.ensures in
-    let line : c.extend_from_slice.new.self.items ≡ c.args.out.now.items ++ reason (anomaly_words name ++ codes ": " ++ event_words h b.key b.place ++ codes "; " ++ start_words b.txn s) =
+    let line : c.push_start.new.out.items ≡ c.args.out.now.items ++ reason (anomaly_words name ++ codes ": " ++ event_words h b.key b.place ++ codes "; " ++ start_words b.txn s) =
     rw (
-      c.in_ok-extend_from_slice.ensures.items,
       c.in_ok-push_start.ensures,
       c.in_ok-push_event.ensures,
       c.anomaly_words.ensures,
-    ) (seven_words c.args.out.now.items (codes "  ") (anomaly_words name) (codes ": ") (event_words h b.key b.place) (codes "; ") (start_words b.txn s) (codes "\n")) in
+    ) (named_event c.args.out.now.items (codes "  ") (anomaly_words name) (codes ": ") (event_words h b.key b.place) (codes "; ") (codes "transaction ") (numeral b.txn) (codes " starts after event ") (numeral s) (codes "\n")) in
     on_ok_weaker c.push_unless-2.result (λ due. (
       reason (anomaly_words name ++ codes ": " ++ event_words h b.key b.place ++ codes "; " ++ start_words b.txn s) ++ saw.0 ++ due.0,
       (name, s, saw.0, due.0, c.anomaly_of-name.ensures, subst (λ g. StartsAt g b.txn s) c.requires.index known.0, saw.1, due.1, refl),

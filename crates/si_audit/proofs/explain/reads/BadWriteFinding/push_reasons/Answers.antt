@@ -1,9 +1,15 @@
-use Rattle.std.proofs.Common.{◌++◌, codes, refl, subst, sym}
+use Rattle.std.proofs.Common.{◌≡◌, ◌++◌, codes, inl, inr, refl, subst, sym, arith}
+use Rattle.std.proofs.lemmas.Result.{on_ok_weaker}
 use Rattle.sia_events.specs.declared.event.Event.TheVariants.{Write}
-use Rattle.sia_events.specs.Transactions.{HasEvent, StartsAt}
+use Rattle.sia_events.specs.Text.{numeral}
+use Rattle.sia_events.specs.Transactions.{CommitsAt, HasEvent, StartsAt}
+use Rattle.sia_events.proofs.WellFormed.{one_commit}
 use Rattle.si_audit.specs.Reasons.{reason, start_words}
 use Rattle.si_audit.proofs.Pushed.{two_things}
 use Rattle.si_audit.proofs.explain.reads.BadWriteFinding.push_reasons.Goals as goal
+
+pub push_unless-requires-clause-wrote : goal.push_unless-requires-clause-wrote
+push_unless-requires-clause-wrote c other = c.requires.found.1
 
 pub returns-in_default : goal.returns-in_default
 returns-in_default c =
@@ -14,16 +20,24 @@ returns-in_default c =
 pub returns : goal.returns
 returns c =
     let b = c.args.self.now in
+    let h = c.args.of.now.history.now in
     let s = c.in-Some.info.start in
     let first = c.in_ok-push_version.ensures in
-    let second = c.in_ok-push_version-2.ensures in
-    let known = c.in-Some.ensures in (
-      reason (codes "both write and overlap: " ++ start_words b.second s ++ codes "; " ++ first.0 ++ codes "; " ++ second.0),
-      (s, first.0, second.0, subst (λ h. StartsAt h b.second s) c.requires.index known.0, first.1, second.1, refl),
-      rw (
-        c.in_ok-extend_from_slice.ensures.items,
-        second.2,
-        first.2,
-        c.in_ok-push_start.ensures,
-      ) (two_things c.args.out.now.items (codes "  ") (codes "both write and overlap: ") (start_words b.second s) (codes "; ") first.0 second.0 (codes "\n")),
-    )
+    let known = c.in-Some.ensures in
+    let before = c.requires.found.3 in
+    on_ok_weaker c.push_unless.result (λ told. elim told.1 [
+      | inl same ↦ absurd (
+          let one : before.0 ≡ before.1 = one_commit h c.law.ensures b.first before.0 before.1 before.2 (subst (λ t. CommitsAt h t before.1) same.0 before.3) in
+          let less = before.4 in
+          omega arith)
+      | inr second ↦ (
+          reason (codes "both write and overlap: " ++ start_words b.second s ++ codes "; " ++ first.0 ++ codes "; " ++ second.1),
+          (s, first.0, second.1, subst (λ h. StartsAt h b.second s) c.requires.index known.0, first.1, second.2, refl),
+          rw (
+            told.2,
+            second.3,
+            first.2,
+            c.in_ok-push_start.ensures,
+          ) (two_things c.args.out.now.items (codes "  ") (codes "both write and overlap: ") (codes "transaction ") (numeral b.second) (codes " starts after event ") (numeral s) (codes "; ") first.0 second.1 (codes "\n")),
+        )
+    ]) c.push_unless.ensures
