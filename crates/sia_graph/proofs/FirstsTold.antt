@@ -10,13 +10,13 @@ use Rattle.sia_events.specs.Transactions.{CommitsAt, CommitsBefore}
 use Rattle.sia_parts.specs.declared.finding.Kind.TheVariants.{Rw}
 use Rattle.sia_parts.specs.declared.looks.Looks.{Looks}
 use Rattle.sia_parts.proofs.StartLemmas.{increasing}
+use Rattle.sia_parts.specs.declared.lifetimes.Lifetime.{Lifetime}
+use Rattle.sia_parts.specs.Lifetimes.{AreLifetimes}
 use Rattle.sia_graph.specs.declared.narrow.dangerous.Dangerous.{Dangerous}
-use Rattle.sia_graph.specs.declared.pivoting.lifetimes.Lifetime.{Lifetime}
 use Rattle.sia_graph.specs.Dangerous.{HasFirst, IsDangerous, IsLeast, MayBeFirst}
 use Rattle.sia_graph.specs.Early.{CommitsFrom, IsEarly, IsEarlyFor, IsLeastPivot, TellFirsts}
 use Rattle.sia_graph.specs.Evidence.{IsEvidence}
 use Rattle.sia_graph.specs.Extremes.{HasRwEdge}
-use Rattle.sia_graph.specs.Lifetimes.{AreLifetimes}
 use Rattle.sia_graph.specs.NumberEdges.{HasNumberEdge}
 use Rattle.sia_graph.specs.Ranks.{IsLeastRank}
 use Rattle.sia_graph.specs.Sources.{IsSource}

@@ -40,7 +40,6 @@ pub mod FiniteHistories
 pub mod Mapped
 pub mod Picked
 pub mod LinkLists
-pub mod LifetimeTables
 pub mod VersionRanks
 pub mod Vulnerable
 pub mod PivotLists
@@ -66,10 +65,8 @@ pub mod FirstsTold
 pub mod Halving
 pub mod LateRanks
 pub mod Uncut
-pub mod NextVersions
 pub mod NarrowSteps
 pub mod WriterSteps
-pub mod LookPlaces
 pub mod AbsenceBlocks
 pub mod Adjacency
 pub mod NarrowStands

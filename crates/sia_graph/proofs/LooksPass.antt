@@ -13,11 +13,11 @@ use Rattle.sia_parts.specs.EdgeNumbers.{IsCommittedAt}
 use Rattle.sia_parts.specs.declared.looks.Look.{Look}
 use Rattle.sia_parts.specs.declared.looks.Looks.{Looks}
 use Rattle.sia_parts.proofs.LookLemmas.{one_committed_number}
-use Rattle.sia_graph.specs.declared.pivoting.lifetimes.Lifetime.{Lifetime}
+use Rattle.sia_parts.specs.declared.lifetimes.Lifetime.{Lifetime}
+use Rattle.sia_parts.specs.Lifetimes.{AreLifetimes}
 use Rattle.sia_graph.specs.Early.{CommitsFrom, IsEarlyFor, TellFirsts}
 use Rattle.sia_graph.specs.Evidence.{IsEvidence}
 use Rattle.sia_graph.specs.Extremes.{HasRwEdge, IsFirstByCommits}
-use Rattle.sia_graph.specs.Lifetimes.{AreLifetimes}
 use Rattle.sia_graph.specs.Limits.{AreLimits, IsLimit}
 use Rattle.sia_graph.specs.Ranks.{AreRanks, IsRankOf}
 use Rattle.sia_graph.proofs.EvidenceNumbers.{made_commits, number_of, source_edges, txn_at}

@@ -31,10 +31,11 @@ use Rattle.sia_parts.specs.declared.looks.Looks.{Looks}
 use Rattle.sia_parts.specs.EdgeNumbers.{IsCommittedAt}
 use Rattle.sia_parts.specs.Looks.{IsLookOf}
 use Rattle.sia_parts.specs.Sights.{FromSome}
+use Rattle.sia_parts.specs.Versions.{CanSearch, IsNewest, IsNext}
 use Rattle.sia_graph.specs.Blocks.{IsWayThrough, LeadsThrough}
 use Rattle.sia_graph.specs.Evidence.{IsEvidence}
 use Rattle.sia_graph.specs.KeyBlocks.{IsOver}
-use Rattle.sia_graph.specs.NarrowSteps.{AreNarrowSteps, CanSearch, FitsKeys, IsAbsenceStep, IsHalfStep, IsLeafStep, IsMemberStep, IsNewest, IsNewestStep, IsNext, IsNextStep, IsSizeFor, edge_of_step, edges_of_steps, name_of, node_of, step_number, step_source, step_target}
+use Rattle.sia_graph.specs.NarrowSteps.{AreNarrowSteps, FitsKeys, IsAbsenceStep, IsHalfStep, IsLeafStep, IsMemberStep, IsNewestStep, IsNextStep, IsSizeFor, edge_of_step, edges_of_steps, name_of, node_of, step_number, step_source, step_target}
 use Rattle.sia_graph.specs.Orders.{Leads}
 use Rattle.sia_graph.specs.Places.{AreSteps}
 use Rattle.sia_graph.specs.StandIns.{LeadsByName, StandForAll}

@@ -10,7 +10,8 @@ use Rattle.sia_parts.specs.declared.looks.Absence.{Absence}
 use Rattle.sia_parts.specs.declared.looks.Look.{Look}
 use Rattle.sia_parts.specs.Sights.{Adds, FromSome}
 use Rattle.sia_parts.proofs.Adding.{added_to_none, adds_both, adds_nothing, adds_push, adds_same}
-use Rattle.sia_graph.specs.NarrowSteps.{AreFirsts, AreNarrowSteps, CanSearch, HasAbsenceSteps, IsAbsenceStep, IsFirstNumber, IsFirstOf, IsHalfStep, IsLeafStep, IsMemberStep, IsNewest, IsNext, IsNewestStep, IsNextStep, KeepsAll, node_of, step_number, step_source, step_target}
+use Rattle.sia_parts.specs.Versions.{CanSearch, IsNewest, IsNext}
+use Rattle.sia_graph.specs.NarrowSteps.{AreFirsts, AreNarrowSteps, HasAbsenceSteps, IsAbsenceStep, IsFirstNumber, IsFirstOf, IsHalfStep, IsLeafStep, IsMemberStep, IsNewestStep, IsNextStep, KeepsAll, node_of, step_number, step_source, step_target}
 
 pub one_next_at : (writers : List Look) (can : CanSearch writers) (key place : ℕ) (a b : Look) → IsNext writers key place a → IsNext writers key place b → a.txn ≡ b.txn
 one_next_at writers can key place a b n m =

@@ -6,11 +6,11 @@ use Rattle.std.proofs.lemmas.Bool.{cases_lt}
 use Rattle.std.proofs.lemmas.List.{get_or_default, get_or-replicate, get_or-set_same, get_or-set_other, length-replicate, length-set}
 use Rattle.std.proofs.lemmas.List.Elements.{Contains-append_left, Contains-get_or, Contains-push, Contains-push_cases}
 use Rattle.sia_parts.specs.declared.looks.Look.{Look}
+use Rattle.sia_parts.specs.Versions.{CanSearch, IsNewest, IsNextAt}
 use Rattle.sia_graph.specs.declared.narrow.two.Two.{Two}
 use Rattle.sia_graph.specs.Absences.{AreTwosAt, IsRankAt}
-use Rattle.sia_graph.specs.NarrowSteps.{CanSearch, IsNewest}
 use Rattle.sia_graph.specs.Ranks.{IsRankBelow, IsRankOf, IsTwo}
-use Rattle.sia_graph.specs.VersionRanks.{AreTwos, AreTwosUpTo, IsNextAt, IsRankUpTo}
+use Rattle.sia_graph.specs.VersionRanks.{AreTwos, AreTwosUpTo, IsRankUpTo}
 use Rattle.sia_graph.proofs.LeastRanks.{IsWith, two_merged, two_none, two_same}
 
 -- before version number n those of earlier versions are added, and from there on not yet

@@ -7,7 +7,8 @@ use Rattle.std.proofs.lemmas.List.Elements.{Contains-get_or}
 use Rattle.sia_parts.specs.declared.looks.Look.{Look}
 use Rattle.sia_parts.specs.Sights.{Adds, FromSome}
 use Rattle.sia_parts.proofs.Adding.{adds_both, adds_nothing, adds_same}
-use Rattle.sia_graph.specs.NarrowSteps.{IsLookStep, IsNext, node_of, step_number}
+use Rattle.sia_parts.specs.Versions.{IsNext}
+use Rattle.sia_graph.specs.NarrowSteps.{IsLookStep, node_of, step_number}
 use Rattle.sia_graph.specs.VersionRanks.{AreVersions}
 use Rattle.sia_graph.proofs.VersionRanks.{commit_up, key_up}
 

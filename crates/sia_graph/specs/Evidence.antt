@@ -1,6 +1,5 @@
 -- What the verdict on a history rests on, and its edges as they are told from that.
-use Rattle.std.specs.Prelude.{◌≡◌, ◌≢◌, ◌⊎◌, ℕ, ◌<◌, ◌≤◌, List, Contains, ⊤, length, slice_index, slice_index_or}
-use Rattle.std.specs.List.{AllWithin}
+use Rattle.std.specs.Prelude.{◌≢◌, ◌⊎◌, ℕ, ◌<◌, ◌≤◌, List, Contains, ⊤}
 use Rattle.sia_events.specs.declared.event.Event.{Event}
 use Rattle.sia_events.specs.Lists.{ListsAscending}
 use Rattle.sia_events.specs.Refusals.{IsWellFormed}
@@ -9,7 +8,7 @@ use Rattle.sia_index.specs.Info.{AreWrittenKeys}
 use Rattle.sia_parts.specs.declared.looks.Absence.{Absence}
 use Rattle.sia_parts.specs.declared.looks.Look.{Look}
 use Rattle.sia_parts.specs.declared.looks.Looks.{Looks}
-use Rattle.sia_parts.specs.Looks.{AreLooks, IsAbsentAt, IsLookOf, look_rank, rank_of}
+use Rattle.sia_parts.specs.Looks.{AreLooks, IsAbsentAt, IsLookOf}
 
 -- the committed transactions, the written keys, and what was written and seen at all of these
 pub record IsEvidence (h : List Event) (txns keys : List ℕ) (looks : Looks) : Type 0 where
@@ -17,22 +16,6 @@ pub record IsEvidence (h : List Event) (txns keys : List ℕ) (looks : Looks) : 
   pub txns_are : ListsAscending (IsCommitted h) txns
   pub keys_are : AreWrittenKeys h keys
   pub looks_are : AreLooks h (λ _. ⊤) looks
-
--- of the versions, which stand by key and commit, so many stand up to the key and the place
-pub record IsPlace (versions : List Look) (key place at : ℕ) : Type 0 where
-  pub bound : at ≤ length versions
-  pub fits : place < 4294967296
-  pub before : AllWithin (λ a. look_rank a ≤ rank_of key place) versions 0 at
-  pub after : AllWithin (λ a. rank_of key place < look_rank a) versions at (length versions)
-
--- for each of these looks how many versions stand up to the oldest one that it saw of its key
-pub record ArePlaces (versions looks : List Look) (places : List ℕ) : Type 0 where
-  pub long : length places ≡ length looks
-  pub each : (i : ℕ) (d : Look) → i < length looks → IsPlace versions (slice_index_or looks i d).key (slice_index_or looks i d).low (slice_index places i)
-
--- the same of all who saw versions
-abbrev pub ArePlaced : Looks → List ℕ → Type 0
-ArePlaced looks places = ArePlaces looks.writers.items looks.readers.items places
 
 -- t and u wrote k, t first
 abbrev pub HasWwLooks : List Event → Looks → ℕ → ℕ → ℕ → Type 0

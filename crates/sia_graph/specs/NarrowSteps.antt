@@ -1,13 +1,13 @@
 -- Steps that lead wherever the edges of a history lead. Between blocks of keys, each of them over some of `size` keys, and the
 -- committed transactions: block h is node h, and transaction number i is node 2 * size + i.
-use Rattle.std.specs.Prelude.{◌≡◌, ◌≢◌, ◌↔◌, ◌⊎◌, ℕ, ◌+◌, ◌-◌, ◌*◌, ◌/◌, ◌%◌, ◌<◌, ◌≤◌, List, All, Contains, length, map, slice_index}
+use Rattle.std.specs.Prelude.{◌≡◌, ◌≢◌, ◌↔◌, ◌⊎◌, ℕ, ◌+◌, ◌-◌, ◌*◌, ◌/◌, ◌%◌, ◌<◌, ◌≤◌, List, Contains, length, map, slice_index}
 use Rattle.std.specs.List.Sorted.{IsNonDecreasing}
 use Rattle.sia_parts.specs.declared.finding.Edge.{Edge}
 use Rattle.sia_parts.specs.declared.finding.Kind.TheVariants.{Ww}
 use Rattle.sia_parts.specs.declared.looks.Absence.{Absence}
 use Rattle.sia_parts.specs.declared.looks.Look.{Look}
-use Rattle.sia_parts.specs.Looks.{RiseByRank}
 use Rattle.sia_parts.specs.Sights.{FromSome}
+use Rattle.sia_parts.specs.Versions.{IsNewest, IsNext}
 use Rattle.sia_graph.specs.KeyBlocks.{IsOver}
 
 -- a step as a single number
@@ -22,21 +22,6 @@ step_target n = n % 4294967296
 
 abbrev pub node_of : ℕ → ℕ → ℕ
 node_of size txn = 2 * size + txn
-
--- writers that stand by key and commit, each version once or more, with numbers and places that fit
-pub record CanSearch (writers : List Look) : Type 0 where
-  pub rise : RiseByRank writers
-  pub few : All (λ a. a.txn < 1048576) writers
-  pub small : All (λ a. a.high < 4294967296) writers
-  pub one : (a b : Look) → Contains writers a → Contains writers b → a.key ≡ b.key → a.high ≡ b.high → a.txn ≡ b.txn
-
--- of the versions of the key that are committed after a place, the look tells the first
-abbrev pub IsNext : List Look → ℕ → ℕ → Look → Type 0
-IsNext writers key place a = Contains writers a × (a.key ≡ key) × (place < a.high) × ((b : Look) → Contains writers b → b.key ≡ key → place < b.high → a.high ≤ b.high)
-
--- of those that are committed up to a place, the last
-abbrev pub IsNewest : List Look → ℕ → ℕ → Look → Type 0
-IsNewest writers key place a = Contains writers a × (a.key ≡ key) × (a.high ≤ place) × ((b : Look) → Contains writers b → b.key ≡ key → b.high ≤ place → b.high ≤ a.high)
 
 -- from who made or saw a version to the next one after that
 abbrev pub IsNextStep : ℕ → List Look → Look → ℕ → Type 0

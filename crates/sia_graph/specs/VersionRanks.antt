@@ -1,22 +1,15 @@
 -- The two least ranks that stand with a version or an earlier one of its key.
 use Rattle.std.specs.Prelude.{◌≡◌, ℕ, ◌+◌, ◌<◌, ◌≤◌, List, Contains, length, slice_index_or}
 use Rattle.sia_parts.specs.declared.looks.Look.{Look}
+use Rattle.sia_parts.specs.Versions.{CanSearch}
 use Rattle.sia_graph.specs.declared.narrow.two.Two.{Two}
 use Rattle.sia_graph.specs.Absences.{IsRankAt}
-use Rattle.sia_graph.specs.NarrowSteps.{CanSearch}
 use Rattle.sia_graph.specs.Ranks.{IsRankBelow, IsTwo}
 
 -- versions that stand by key and commit, each as of one place
 pub record AreVersions (versions : List Look) : Type 0 where
   pub search : CanSearch versions
   pub at_once : (look : Look) → Contains versions look → look.low ≡ look.high
-
--- of versions that stand by key and commit the first one of the key after a place stands at i
-pub record IsNextAt (versions : List Look) (key place i : ℕ) : Type 0 where
-  pub within : i < length versions
-  pub same : (d : Look) → (slice_index_or versions i d).key ≡ key
-  pub later : (d : Look) → place < (slice_index_or versions i d).high
-  pub first : (j : ℕ) (d : Look) → j < i → (slice_index_or versions j d).key ≡ key → (slice_index_or versions j d).high ≤ place
 
 -- r is the rank of a transaction that stands with version number i or an earlier one of its key
 abbrev pub IsRankUpTo : List Look → List (ℕ × ℕ) → List ℕ → ℕ → ℕ → Type 0

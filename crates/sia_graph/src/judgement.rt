@@ -14,11 +14,10 @@ use crate::laws::{replay_law, ssi_law};
 use crate::narrow::Evidence;
 use crate::narrow::dangerous::{Dangerous, dangerous_of};
 use crate::narrow::judging::{passes, settle_looks};
-use crate::narrow::placing::places_of;
 use crate::settling::Verdict;
 use sia_events::{History, NoMemory};
 use sia_index::{Counts, Index, counted};
-use sia_parts::{BadRead, BadWrite, Committed, Gathering, Looks, Unexplained};
+use sia_parts::{BadRead, BadWrite, Committed, Gathering, Looks, Unexplained, places_of};
 use std::alloc::Global;
 
 /// All that the audit of a history found, but for its edges and its pivots.

@@ -11,13 +11,14 @@ ghost use Rattle.sia_graph.specs.Links.{AreEnds};
 ghost use Rattle.sia_graph.specs.Pivots.{ArePivots};
 
 use crate::pivot::Pivot;
-use crate::pivoting::lifetimes::{Lifetime, lifetimes_of};
 use crate::pivoting::links::Link;
 use crate::pivoting::pivots_of_links;
 use crate::pivoting::vulnerable_numbers::vulnerable_in;
 use sia_events::{Key, NoMemory, TxnId};
 use sia_index::Index;
-use sia_parts::{ChunkBounds, Committed, Edge, EdgeNumber, Fans, Looks, edges_of_numbers};
+use sia_parts::{
+    ChunkBounds, Committed, Edge, EdgeNumber, Fans, Lifetime, Looks, edges_of_numbers, lifetimes_of,
+};
 use std::alloc::Global;
 
 /// All edges of a history as fans, by the places of the committed transactions and of the written keys, the lifetimes of these

@@ -13,13 +13,11 @@ mod limits;
 mod nodes;
 mod ordering;
 mod pivotal;
-pub(crate) mod placing;
 mod previous;
 mod ranked;
 mod sources;
 mod steps;
 mod two;
-mod versions;
 
 use sia_events::{Key, TxnId};
 use sia_index::Index;

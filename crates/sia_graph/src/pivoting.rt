@@ -7,7 +7,6 @@ ghost use Rattle.sia_graph.specs.Links.{AreLinksAt, AreVulnerable, ListsLinks};
 ghost use Rattle.sia_graph.specs.Pivots.{ArePivots, ListsNeighbours};
 
 pub(crate) mod firsts;
-pub(crate) mod lifetimes;
 pub(crate) mod links;
 pub(crate) mod passing;
 pub(crate) mod vulnerable_numbers;

@@ -33,3 +33,6 @@ pub mod InTwoNumbers
 pub mod Groups
 pub mod Sighted
 pub mod TakenEvents
+pub mod LifetimeTables
+pub mod LookPlaces
+pub mod NextVersions

@@ -8,11 +8,14 @@ mod finding;
 mod findings;
 mod gathering;
 mod laws;
+mod lifetimes;
 mod looking;
 mod looks;
 mod naming;
 mod numbered;
+mod placing;
 mod sighting;
+mod versions;
 
 pub use auditing::audit_part;
 pub use auditing::sights::commit_of;
@@ -28,10 +31,13 @@ pub use gathering::all_found::Gathering;
 pub use gathering::chunking::ChunkBounds;
 pub use gathering::gather;
 pub use laws::one_part;
+pub use lifetimes::{Lifetime, lifetime_of, lifetimes_of, overlap};
 pub use looks::{Absence, Look, Looks};
 pub use naming::anomaly_of;
 pub use numbered::find_in_part;
+pub use placing::places_of;
 pub use sighting::{Act, FirstSight, acts_of, first_sight};
+pub use versions::{count_up_to, look_at, newest_place};
 
 #[cfg(test)]
 mod tests;

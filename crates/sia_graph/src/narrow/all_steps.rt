@@ -1,6 +1,6 @@
 //! All the steps.
 ghost use Rattle.std.specs.Prelude.{◌<◌, ◌≤◌, All, IfOk};
-ghost use Rattle.sia_graph.specs.Evidence.{ArePlaced};
+ghost use Rattle.sia_parts.specs.Placing.{ArePlaced};
 ghost use Rattle.sia_graph.specs.NarrowSteps.{AreNarrowSteps, FitsKeys};
 ghost use Rattle.sia_graph.specs.VersionRanks.{AreVersions};
 

@@ -3,9 +3,10 @@ ghost use Rattle.std.specs.Prelude.{◌≡◌, ◌<◌, ◌≤◌, IfOk, MatchOp
 ghost use Rattle.sia_events.specs.DangerousStructures.{NoFirst};
 ghost use Rattle.sia_events.specs.Dependencies.{RwEdge};
 ghost use Rattle.sia_events.specs.Isolation.{IsolationKept};
+ghost use Rattle.sia_parts.specs.Placing.{ArePlaced};
 ghost use Rattle.sia_graph.specs.Dangerous.{IsDangerous, IsLeast};
 ghost use Rattle.sia_graph.specs.Early.{CommitsFrom, IsLeastPivot};
-ghost use Rattle.sia_graph.specs.Evidence.{ArePlaced, IsEvidence};
+ghost use Rattle.sia_graph.specs.Evidence.{IsEvidence};
 ghost use Rattle.sia_graph.specs.Extremes.{HasRwEdge};
 ghost use Rattle.sia_graph.specs.Previous.{AreLeftRanks};
 ghost use Rattle.sia_graph.specs.Ranks.{IsLeastRank};
@@ -18,8 +19,8 @@ use crate::narrow::limits::{least_early, limits_in};
 use crate::narrow::previous::rank;
 use crate::narrow::sources::ranks_of_sources;
 use crate::narrow::two::NONE;
-use crate::pivoting::lifetimes::{Lifetime, lifetimes_of};
 use sia_events::{Key, NoMemory, TxnId};
+use sia_parts::{Lifetime, lifetimes_of};
 use std::alloc::Global;
 
 /// A dangerous structure whose last transaction commits first: an rw edge leads from the first transaction to the pivot, and one

@@ -2,7 +2,8 @@
 ghost use Rattle.std.specs.Prelude.{◌≡◌, ◌≢◌, ◌<◌, ℕ, List, IfOk, length, slice_index_or};
 ghost use Rattle.sia_parts.specs.declared.looks.Look.{Look};
 ghost use Rattle.sia_parts.specs.declared.looks.Looks.{Looks};
-ghost use Rattle.sia_graph.specs.Evidence.{ArePlaced, IsEvidence};
+ghost use Rattle.sia_parts.specs.Placing.{ArePlaced};
+ghost use Rattle.sia_graph.specs.Evidence.{IsEvidence};
 ghost use Rattle.sia_graph.specs.Ranks.{IsLeastRank, IsRankOf};
 ghost use Rattle.sia_graph.specs.Sources.{AreEarlier, SeesBefore};
 

@@ -1,12 +1,12 @@
 //! Who made the first version of each key.
 ghost use Rattle.std.specs.Prelude.{IfOk};
-ghost use Rattle.sia_graph.specs.NarrowSteps.{AreFirsts, CanSearch};
+ghost use Rattle.sia_parts.specs.Versions.{CanSearch};
+ghost use Rattle.sia_graph.specs.NarrowSteps.{AreFirsts};
 
-use crate::narrow::versions::{count_up_to, look_at};
 use crate::taking::numbers::step;
 use sia_events::NoMemory;
 use sia_index::ordering::put_in_order;
-use sia_parts::Look;
+use sia_parts::{Look, count_up_to, look_at};
 use std::alloc::Global;
 
 /// Who made the first version of each of the keys, by transaction and key.

@@ -4,7 +4,8 @@ ghost use Rattle.sia_events.specs.DangerousStructures.{PassesSsi};
 ghost use Rattle.sia_events.specs.Transactions.{IsCommitted};
 ghost use Rattle.sia_parts.specs.Entries.{IsEdge};
 ghost use Rattle.sia_parts.specs.Findings.{ListsBadReads, ListsBadWrites};
-ghost use Rattle.sia_graph.specs.Evidence.{ArePlaced, IsEvidence};
+ghost use Rattle.sia_parts.specs.Placing.{ArePlaced};
+ghost use Rattle.sia_graph.specs.Evidence.{IsEvidence};
 ghost use Rattle.sia_graph.specs.Verdicts.{IsVerdict};
 
 use crate::narrow::Evidence;
@@ -13,12 +14,11 @@ use crate::narrow::limits::{least_early, limits_in};
 use crate::narrow::ordering::take_members;
 use crate::narrow::pivotal::may_have_pivot;
 use crate::narrow::two::NONE;
-use crate::pivoting::lifetimes::lifetimes_of;
 use crate::settling::txns::Txns;
 use crate::settling::{Steps, Verdict};
 use crate::taking::Taken;
 use sia_events::NoMemory;
-use sia_parts::{BadRead, BadWrite};
+use sia_parts::{BadRead, BadWrite, lifetimes_of};
 use std::alloc::Global;
 
 /// The least order of the committed transactions that keeps every edge of the history, or where none does the cycle that is

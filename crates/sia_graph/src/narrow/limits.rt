@@ -1,22 +1,22 @@
 //! Up to which commit a version is too early for one who saw what was before it.
-ghost use Rattle.std.specs.Prelude.{◌≡◌, ◌↔◌, ◌-◌, ◌<◌, ◌≤◌, ℕ, List, All, Contains, IfOk, IsTrue, length, map, slice_index_or};
+ghost use Rattle.std.specs.Prelude.{◌≡◌, ◌↔◌, ◌-◌, ◌<◌, ℕ, List, IfOk, IsTrue, length, map, slice_index_or};
 ghost use Rattle.sia_events.specs.Isolation.{IsolationKept};
 ghost use Rattle.sia_parts.specs.declared.looks.Look.{Look};
 ghost use Rattle.sia_parts.specs.declared.looks.Looks.{Looks};
+ghost use Rattle.sia_parts.specs.Placing.{ArePlaced};
+ghost use Rattle.sia_parts.specs.Lifetimes.{AreLifetimes};
 ghost use Rattle.sia_graph.specs.Early.{IsEarly, TellFirsts};
-ghost use Rattle.sia_graph.specs.Evidence.{ArePlaced, IsEvidence};
-ghost use Rattle.sia_graph.specs.Lifetimes.{AreLifetimes};
-ghost use Rattle.sia_graph.specs.Limits.{AreLimits, IsLimit, IsWithinLimit};
+ghost use Rattle.sia_graph.specs.Evidence.{IsEvidence};
+ghost use Rattle.sia_graph.specs.Limits.{IsLimit, IsWithinLimit};
 ghost use Rattle.sia_graph.specs.Ranks.{IsLeastRank, IsRankOf};
-ghost use Rattle.sia_graph.specs.Sources.{AreEarlier, AreLeastOfSources, IsSource};
+ghost use Rattle.sia_graph.specs.Sources.{AreEarlier, IsSource};
 
 use crate::narrow::Evidence;
 use crate::narrow::earlier::Earlier;
 use crate::narrow::sources::ranks_of_sources;
 use crate::narrow::two::NONE;
-use crate::pivoting::lifetimes::Lifetime;
 use sia_events::NoMemory;
-use sia_parts::{Look, Looks};
+use sia_parts::{Lifetime, Look, Looks};
 use std::alloc::{AllocError, Global};
 
 /// The greatest rank. A rank stands for the place that is left of it, so that the least rank is the last place.

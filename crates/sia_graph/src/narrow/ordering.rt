@@ -2,7 +2,8 @@
 ghost use Rattle.std.specs.Prelude.{IfOk};
 ghost use Rattle.sia_events.specs.Transactions.{IsCommitted};
 ghost use Rattle.sia_parts.specs.Entries.{IsEdge};
-ghost use Rattle.sia_graph.specs.Evidence.{ArePlaced, IsEvidence};
+ghost use Rattle.sia_parts.specs.Placing.{ArePlaced};
+ghost use Rattle.sia_graph.specs.Evidence.{IsEvidence};
 ghost use Rattle.sia_graph.specs.NarrowSteps.{IsSizeFor};
 ghost use Rattle.sia_graph.specs.Taken.{IsTaken};
 

@@ -1,10 +1,10 @@
 //! For each transaction the least one that is left and has an edge to it.
-ghost use Rattle.std.specs.Prelude.{◌≡◌, ◌≢◌, ◌+◌, ◌<◌, ◌≤◌, ℕ, true, false, List, All, IfOk, length, slice_index};
+ghost use Rattle.std.specs.Prelude.{◌≡◌, ◌<◌, ℕ, true, false, List, All, IfOk, length, slice_index};
 ghost use Rattle.sia_parts.specs.declared.looks.Look.{Look};
 ghost use Rattle.sia_parts.specs.Entries.{IsEdge};
-ghost use Rattle.sia_graph.specs.Evidence.{ArePlaced, ArePlaces, IsEvidence};
+ghost use Rattle.sia_parts.specs.Placing.{ArePlaced, ArePlaces};
+ghost use Rattle.sia_graph.specs.Evidence.{IsEvidence};
 ghost use Rattle.sia_graph.specs.Previous.{AreLeftRanks, AreLowered, IsLeftIn, IsPlaceOf};
-ghost use Rattle.sia_graph.specs.Ranks.{IsLeastRank, IsRankBelow};
 ghost use Rattle.sia_graph.specs.VersionRanks.{AreTwos, AreVersions};
 ghost use Rattle.sia_graph.specs.Walks.{AreLeastSources};
 
@@ -12,9 +12,8 @@ use crate::narrow::Evidence;
 use crate::narrow::ranked::twos_of_writers;
 use crate::narrow::sources::ranks_of_sources;
 use crate::narrow::two::{NONE, Two, other};
-use crate::narrow::versions::newest_place;
 use sia_events::NoMemory;
-use sia_parts::Look;
+use sia_parts::{Look, newest_place};
 use std::alloc::Global;
 
 /// A number as a rank, where it is left.

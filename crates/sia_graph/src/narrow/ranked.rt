@@ -1,15 +1,14 @@
 //! With each version of a key the two least ranks of those who saw or made an earlier one.
 ghost use Rattle.std.specs.Prelude.{◌≡◌, ◌↔◌, ◌++◌, ◌∷◌, [], ◌<◌, ℕ, List, IfOk, length};
+ghost use Rattle.sia_parts.specs.Placing.{ArePlaces};
+ghost use Rattle.sia_parts.specs.Versions.{CanSearch};
 ghost use Rattle.sia_graph.specs.Absences.{AreTwosAt};
-ghost use Rattle.sia_graph.specs.Evidence.{ArePlaces};
-ghost use Rattle.sia_graph.specs.NarrowSteps.{CanSearch};
 ghost use Rattle.sia_graph.specs.Ranks.{IsRankOf};
 ghost use Rattle.sia_graph.specs.VersionRanks.{AreTwos, AreTwosUpTo, AreVersions};
 
 use crate::narrow::two::{NO_RANKS, NONE, Two, with};
-use crate::narrow::versions::look_at;
 use sia_events::NoMemory;
-use sia_parts::Look;
+use sia_parts::{Look, look_at};
 use std::alloc::Global;
 
 /// The rank of the transaction of that number, or `NONE`.

@@ -1,6 +1,7 @@
 //! The least ranks of those with an rw edge to transactions.
 ghost use Rattle.std.specs.Prelude.{◌≡◌, IfOk, length};
-ghost use Rattle.sia_graph.specs.Evidence.{ArePlaced, IsEvidence};
+ghost use Rattle.sia_parts.specs.Placing.{ArePlaced};
+ghost use Rattle.sia_graph.specs.Evidence.{IsEvidence};
 ghost use Rattle.sia_graph.specs.Ranks.{AreRanks};
 ghost use Rattle.sia_graph.specs.Sources.{AreLeastOfSources};
 

@@ -1,14 +1,14 @@
 //! Steps between committed transactions, and through blocks of keys, that lead wherever the edges of a history lead.
-ghost use Rattle.std.specs.Prelude.{◌≡◌, ◌≢◌, ◌⊎◌, ℕ, ◌+◌, ◌*◌, ◌<◌, ◌≤◌, All, Contains, IsTrue, OnOk};
+ghost use Rattle.std.specs.Prelude.{◌≡◌, ◌≢◌, ◌+◌, ◌*◌, ◌<◌, ◌≤◌, All, Contains, IsTrue, OnOk};
 ghost use Rattle.sia_parts.specs.Sights.{Adds, FromSome};
-ghost use Rattle.sia_graph.specs.Evidence.{ArePlaces};
-ghost use Rattle.sia_graph.specs.NarrowSteps.{CanSearch, IsHalfStep, IsLeafStep, IsLookStep, node_of, step_number, step_source, step_target};
+ghost use Rattle.sia_parts.specs.Placing.{ArePlaces};
+ghost use Rattle.sia_parts.specs.Versions.{CanSearch};
+ghost use Rattle.sia_graph.specs.NarrowSteps.{IsHalfStep, IsLeafStep, IsLookStep, node_of, step_number, step_source, step_target};
 ghost use Rattle.sia_graph.specs.VersionRanks.{AreVersions};
 
-use crate::narrow::versions::{look_at, newest_place};
 use crate::taking::numbers::{source_of, step, target_of};
 use sia_events::NoMemory;
-use sia_parts::Look;
+use sia_parts::{Look, look_at, newest_place};
 
 /// The node of a committed transaction, where blocks are over so many keys.
 pub(crate) fn node(size: u32, txn: u32) -> u32

@@ -4,9 +4,9 @@ ghost use Rattle.sia_events.specs.DangerousStructures.{IsFirst, IsVulnerable};
 ghost use Rattle.sia_events.specs.Lists.{ListsAscending};
 ghost use Rattle.sia_events.specs.Transactions.{CommitsAt};
 
-use crate::pivoting::lifetimes::lifetime_of;
 use sia_events::TxnId;
 use sia_index::Index;
+use sia_parts::lifetime_of;
 use std::alloc::{AllocError, Global};
 
 /// The greatest commit among the transactions; 0 where none commits.

@@ -3,15 +3,14 @@ ghost use Rattle.std.specs.Prelude.{◌≡◌, ◌↔◌, ℕ, List, All, IfOk, 
 ghost use Rattle.sia_events.specs.Transactions.{Overlap};
 ghost use Rattle.sia_parts.specs.declared.finding.Kind.TheVariants.{Rw};
 ghost use Rattle.sia_parts.specs.Packing.{IsPacked, kind_at, kind_digit, source_number, target_number, unpacked};
+ghost use Rattle.sia_parts.specs.Lifetimes.{AreLifetimes};
 ghost use Rattle.sia_graph.specs.Links.{AreEnds};
-ghost use Rattle.sia_graph.specs.Lifetimes.{AreLifetimes};
 
-use crate::pivoting::lifetimes::{Lifetime, overlap};
 use crate::pivoting::links::{Link, leads_rw};
 use sia_events::{NoMemory, TxnId};
 use sia_index::Index;
 use sia_index::ordering::put_in_order;
-use sia_parts::{EdgeNumber, kind_in, source_of, target_of};
+use sia_parts::{EdgeNumber, Lifetime, kind_in, overlap, source_of, target_of};
 use std::alloc::Global;
 
 /// Whether the edge is of the kind rw, and its ends overlap.

@@ -9,13 +9,14 @@ ghost use Rattle.sia_parts.specs.Gathering.{IsGathering};
 use crate::narrow::Evidence;
 use crate::narrow::dangerous::dangerous_of;
 use crate::narrow::judging::are_none;
-use crate::narrow::placing::places_of;
 use crate::pivot::Pivot;
 use crate::pivoting::passing::ssi_pass;
 use crate::pivoting::pivots;
 use sia_events::{History, Key, NoMemory, TxnId, read_history};
 use sia_index::{Index, make};
-use sia_parts::{Committed, Findings, Gathering, Part, audit_part, find_in_part, gather};
+use sia_parts::{
+    Committed, Findings, Gathering, Part, audit_part, find_in_part, gather, places_of,
+};
 use std::alloc::Global;
 use std::test::Fail;
 

@@ -1,11 +1,23 @@
 //! The order of looks, by key and then by commit, and where looks stand in it.
-ghost use Rattle.std.specs.Prelude.{◌≡◌, ◌↔◌, ◌≤◌, ◌<◌, ◌+◌, true, false, Contains, OnOk, length, ltb, slice_range};
-ghost use Rattle.std.specs.List.Sorted.{IsPartitionPoint};
+ghost use Rattle.std.specs.Prelude.{◌≡◌, ◌↔◌, ◌≤◌, ◌<◌, ◌+◌, Contains, OnOk, length, slice_range};
 ghost use Rattle.sia_parts.specs.Looks.{RiseByRank, look_rank, rank_of};
 
 use crate::looks::Look;
 use sia_events::NoMemory;
-use sia_index::searching::partition_near;
+use sia_index::keyed::{By, place_from_near};
+
+/// By key and commit.
+pub(crate) struct ByRank;
+
+impl By<Look> for ByRank {
+    ghost use Rattle.sia_parts.specs.Looks.{look_rank};
+
+    ghost by = { look_rank };
+
+    fn number(row: &Look) -> u64 {
+        rank(row.key, row.high)
+    }
+}
 
 /// Puts the looks in the order of their ranks.
 pub(crate) fn rank_all(looks: &mut Vec<Look>) -> Result<(), NoMemory>
@@ -38,16 +50,7 @@ pub(crate) fn places(looks: &[Look], from: u64, to: u64, near: usize) -> (usize,
     ensures bound { result.1 ≤ length looks.now }
     ensures between { (look : Look) → Contains (slice_range looks.now result.0 result.1) look ↔ (Contains looks.now look × (from ≤ look_rank look) × (look_rank look < to)) }
 {
-    let start = place_from(looks, from, near);
-    let stop = place_from(looks, to, start);
+    let start = place_from_near::<Look, ByRank>(looks, from, near);
+    let stop = place_from_near::<Look, ByRank>(looks, to, start);
     (start, stop.max(start))
-}
-
-// The first place of a look of at least this rank, which is looked for from a place on.
-fn place_from(looks: &[Look], least: u64, near: usize) -> usize
-    requires { RiseByRank looks.now }
-    ensures bound { result ≤ length looks.now }
-    ensures point { IsPartitionPoint (λ look. ltb (look_rank look) least ≡ true) (λ look. ltb (look_rank look) least ≡ false) looks.now result }
-{
-    partition_near(looks, near, |look| rank(look.key, look.high) < least)
 }

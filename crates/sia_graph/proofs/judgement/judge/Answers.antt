@@ -3,7 +3,7 @@ use Rattle.std.specs.Prelude.{IsTrue}
 use Rattle.sia_events.specs.DangerousStructures.{PassesSsi}
 use Rattle.sia_events.specs.Transactions.{IsCommitted}
 use Rattle.sia_parts.specs.Entries.{IsEdge}
-use Rattle.sia_graph.specs.Evidence.{ArePlaced}
+use Rattle.sia_parts.specs.Placing.{ArePlaced}
 use Rattle.sia_graph.specs.Verdicts.{IsVerdict}
 use Rattle.sia_graph.proofs.Judging.{passed_is_serializable, serializable_where}
 use Rattle.sia_graph.proofs.judgement.judge.Goals as goal

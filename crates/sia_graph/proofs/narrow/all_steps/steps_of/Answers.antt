@@ -5,8 +5,9 @@ use Rattle.sia_parts.specs.declared.looks.Absence.{Absence}
 use Rattle.sia_parts.specs.declared.looks.Look.{Look}
 use Rattle.sia_parts.specs.Sights.{Adds, FromSome}
 use Rattle.sia_parts.proofs.Adding.{adds_both}
-use Rattle.sia_graph.specs.NarrowSteps.{AreNarrowSteps, CanSearch, FitsKeys, HasAbsenceSteps, IsAbsenceStep, IsLeafStep, IsLookStep, IsMemberStep, step_source, step_target}
-use Rattle.sia_graph.specs.Evidence.{ArePlaces}
+use Rattle.sia_parts.specs.Versions.{CanSearch}
+use Rattle.sia_parts.specs.Placing.{ArePlaces}
+use Rattle.sia_graph.specs.NarrowSteps.{AreNarrowSteps, FitsKeys, HasAbsenceSteps, IsAbsenceStep, IsLeafStep, IsLookStep, IsMemberStep, step_source, step_target}
 use Rattle.sia_graph.specs.VersionRanks.{AreVersions}
 use Rattle.sia_graph.proofs.NarrowSteps.{all_steps, firsts_fit}
 use Rattle.sia_graph.proofs.narrow.all_steps.steps_of.Goals as goal

@@ -1,9 +1,9 @@
 -- The least structure by numbers is the least one.
 use Rattle.std.proofs.Common.{◌<◌, ◌≤◌, length, get_or, subst, sym, arith}
 use Rattle.std.proofs.lemmas.List.Elements.{All-contains_itself}
-use Rattle.sia_graph.specs.declared.pivoting.lifetimes.Lifetime.{Lifetime}
+use Rattle.sia_parts.specs.declared.lifetimes.Lifetime.{Lifetime}
+use Rattle.sia_parts.specs.Lifetimes.{AreLifetimes}
 use Rattle.sia_graph.specs.Early.{IsLeastPivot}
-use Rattle.sia_graph.specs.Lifetimes.{AreLifetimes}
 use Rattle.sia_graph.proofs.EvidenceNumbers.{few_txns}
 use Rattle.sia_graph.proofs.FirstsTold.{first_number, first_told, into_pivot, is_first, last_number, last_told, named, no_first_told, pivot_number, pivot_told}
 use Rattle.sia_graph.proofs.narrow.dangerous.dangerous_of.Goals as goal

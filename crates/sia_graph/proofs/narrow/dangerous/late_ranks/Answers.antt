@@ -1,6 +1,6 @@
 use Rattle.std.proofs.Common.{◌≡◌, ◌<◌, true, false, leb, length, get_or, map, sym, subst, ◌∙◌, arith}
 use Rattle.std.proofs.lemmas.List.{get_or-map, length-map}
-use Rattle.sia_graph.specs.declared.pivoting.lifetimes.Lifetime.{Lifetime}
+use Rattle.sia_parts.specs.declared.lifetimes.Lifetime.{Lifetime}
 use Rattle.sia_graph.proofs.Previous.{AreRanksUpTo, more_by_place, ranks_are}
 use Rattle.sia_graph.proofs.narrow.dangerous.late_ranks.Goals as goal
 

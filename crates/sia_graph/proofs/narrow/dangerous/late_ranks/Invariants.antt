@@ -1,5 +1,5 @@
 use Rattle.std.proofs.Common.{◌≡◌, leb, length, map}
-use Rattle.sia_graph.specs.declared.pivoting.lifetimes.Lifetime.{Lifetime}
+use Rattle.sia_parts.specs.declared.lifetimes.Lifetime.{Lifetime}
 use Rattle.sia_graph.proofs.Previous.{AreRanksUpTo}
 use Rattle.sia_graph.proofs.narrow.dangerous.late_ranks.Given as goal
 

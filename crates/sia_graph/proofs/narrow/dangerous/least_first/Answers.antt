@@ -1,7 +1,7 @@
 -- By the least source of those that commit at the place or after it.
 use Rattle.std.proofs.Common.{◌<◌, ℕ, length, leb, map, refl, ap, subst, sym, ◌∙◌, arith}
 use Rattle.std.proofs.lemmas.List.{get_or_default}
-use Rattle.sia_graph.specs.declared.pivoting.lifetimes.Lifetime.{Lifetime}
+use Rattle.sia_parts.specs.declared.lifetimes.Lifetime.{Lifetime}
 use Rattle.sia_graph.specs.Previous.{AreLeftRanks}
 use Rattle.sia_graph.specs.Ranks.{IsLeastRank, IsRankOf}
 use Rattle.sia_graph.specs.Sources.{IsSource}

@@ -2,10 +2,11 @@ use Rattle.std.proofs.Common.{◌≡◌, ◌≤◌, ◌+◌, ℕ, List, Option, 
 use Rattle.std.specs.Prelude.{Contains, MatchOption}
 use Rattle.sia_parts.specs.declared.looks.Look.{Look}
 use Rattle.sia_parts.specs.Sights.{Adds}
-use Rattle.sia_graph.specs.NarrowSteps.{IsFirstNumber, IsNext, step_number}
+use Rattle.sia_parts.specs.Versions.{IsNext}
+use Rattle.sia_graph.specs.NarrowSteps.{IsFirstNumber, step_number}
+use Rattle.sia_parts.proofs.NextVersions.{look_next}
 use Rattle.sia_graph.proofs.NarrowSteps.{adds_one, first_put, firsts_made, firsts_more, no_first}
 use Rattle.sia_graph.proofs.narrow.firsts.firsts_of.Goals.{in-Some+in_ok-push-in-Some, in-None}
-use Rattle.sia_graph.proofs.NextVersions.{look_next}
 use Rattle.sia_graph.proofs.narrow.firsts.firsts_of.Goals as goal
 
 pub loop-key-preserved : goal.loop-key-preserved

@@ -1,8 +1,8 @@
 use Rattle.std.proofs.Common.{refl, subst, sym, ◌∙◌}
 use Rattle.std.proofs.lemmas.Bool.{eqb-true, eq-eqb}
 use Rattle.std.proofs.lemmas.List.Elements.{All-contains_itself}
+use Rattle.sia_parts.specs.Lifetimes.{AreLifetimes}
 use Rattle.sia_graph.specs.Early.{IsEarly}
-use Rattle.sia_graph.specs.Lifetimes.{AreLifetimes}
 use Rattle.sia_graph.specs.Ranks.{IsLeastRank}
 use Rattle.sia_graph.proofs.FirstsTold.{passes_told}
 use Rattle.sia_graph.proofs.NoFirsts.{kept, no_bad_reads, no_bad_writes}

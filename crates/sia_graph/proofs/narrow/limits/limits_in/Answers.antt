@@ -1,7 +1,7 @@
 -- By the ranks and the sources of all, one transaction more each time.
 use Rattle.std.proofs.Common.{◌≡◌, ℕ, ◌+◌, ◌-◌, ◌<◌, length, get_or, map, subst, sym, ap, ◌∙◌, arith}
 use Rattle.std.proofs.lemmas.List.{get_or_default, length_push, length-map}
-use Rattle.sia_graph.specs.declared.pivoting.lifetimes.Lifetime.{Lifetime}
+use Rattle.sia_parts.specs.declared.lifetimes.Lifetime.{Lifetime}
 use Rattle.sia_graph.specs.Limits.{AreLimits, IsLimit}
 use Rattle.sia_graph.specs.Ranks.{AreRanks, IsLeastRank, IsRankOf}
 use Rattle.sia_graph.specs.Sources.{AreLeastOfSources, IsSource}

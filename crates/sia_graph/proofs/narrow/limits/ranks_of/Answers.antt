@@ -1,5 +1,5 @@
 use Rattle.std.proofs.Common.{◌-◌}
-use Rattle.sia_graph.specs.declared.pivoting.lifetimes.Lifetime.{Lifetime}
+use Rattle.sia_parts.specs.declared.lifetimes.Lifetime.{Lifetime}
 use Rattle.sia_graph.proofs.Mapped.{made_all, made_more}
 use Rattle.sia_graph.proofs.narrow.limits.ranks_of.Goals as goal
 

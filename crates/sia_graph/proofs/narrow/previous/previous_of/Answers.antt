@@ -1,10 +1,10 @@
 use Rattle.std.proofs.Common.{◌≡◌, ◌<◌, ℕ, List, length, get_or, min, sym, ap, ◌∙◌, subst, arith}
 use Rattle.std.specs.Prelude.{All}
 use Rattle.sia_parts.specs.declared.looks.Look.{Look}
+use Rattle.sia_parts.specs.Placing.{ArePlaces}
 use Rattle.sia_graph.specs.declared.narrow.two.Two.{Two}
 use Rattle.sia_graph.specs.Previous.{AreLeftRanks, AreLowered, AreWithin, IsPlaceOf}
 use Rattle.sia_graph.specs.Sources.{AreLeastOfSources}
-use Rattle.sia_graph.specs.Evidence.{ArePlaces}
 use Rattle.sia_graph.specs.VersionRanks.{AreTwos}
 use Rattle.sia_graph.proofs.EvidenceEdges.{few_txns}
 use Rattle.sia_graph.proofs.Previous.{left_apart, previous_is}

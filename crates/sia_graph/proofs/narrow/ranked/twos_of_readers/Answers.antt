@@ -3,11 +3,11 @@ use Rattle.std.proofs.Common.{Vec, Global, ap, ◌≡◌, ℕ, List, [], ◌∷�
 use Rattle.std.specs.Prelude.{Contains}
 use Rattle.std.proofs.lemmas.List.{take_all, take_more}
 use Rattle.sia_parts.specs.declared.looks.Look.{Look}
+use Rattle.sia_parts.specs.Versions.{IsNext, IsNextAt}
 use Rattle.sia_graph.specs.declared.narrow.two.Two.{Two}
 use Rattle.sia_graph.specs.Absences.{AreTwosAt}
-use Rattle.sia_graph.specs.NarrowSteps.{IsNext}
-use Rattle.sia_graph.specs.VersionRanks.{AreTwos, IsNextAt}
-use Rattle.sia_graph.proofs.NextVersions.{if_not_there, if_there, look_next, next_stands, some_of}
+use Rattle.sia_graph.specs.VersionRanks.{AreTwos}
+use Rattle.sia_parts.proofs.NextVersions.{if_not_there, if_there, look_next, next_stands, some_of}
 use Rattle.sia_graph.proofs.VersionRanks.{AreMarks, marks_more, marks_same, no_marks, none_yet, of_readers, written}
 use Rattle.sia_graph.proofs.narrow.ranked.twos_of_readers.Goals.{then-is_some, else-is_some}
 use Rattle.sia_graph.proofs.narrow.ranked.twos_of_readers.Goals as goal

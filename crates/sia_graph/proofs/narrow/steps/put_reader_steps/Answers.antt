@@ -3,10 +3,11 @@ use Rattle.std.proofs.Common.{◌≡◌, ◌≤◌, Option, get_or, ap, sym, sub
 use Rattle.std.specs.Prelude.{Contains, MatchOption}
 use Rattle.sia_parts.specs.declared.looks.Look.{Look}
 use Rattle.sia_parts.specs.Sights.{Adds}
-use Rattle.sia_graph.specs.NarrowSteps.{IsLookStep, IsNewestStep, IsNext, IsNextStep}
+use Rattle.sia_parts.specs.Versions.{IsNext}
+use Rattle.sia_graph.specs.NarrowSteps.{IsLookStep, IsNewestStep, IsNextStep}
 use Rattle.sia_parts.proofs.Adding.{adds_both, from_all, from_more}
+use Rattle.sia_parts.proofs.NextVersions.{look_next}
 use Rattle.sia_graph.proofs.NarrowSteps.{newest_put, next_put, no_newest, no_next}
-use Rattle.sia_graph.proofs.NextVersions.{look_next}
 use Rattle.sia_graph.proofs.narrow.steps.put_reader_steps.Goals.{in-Some+in_ok-put_between, in-Some-newest_place+in_ok-put_between-2, in_default, in_default-newest_place}
 use Rattle.sia_graph.proofs.narrow.steps.put_reader_steps.Goals as goal
 

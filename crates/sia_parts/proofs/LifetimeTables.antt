@@ -8,8 +8,8 @@ use Rattle.sia_events.specs.Refusals.{IsWellFormed}
 use Rattle.sia_events.specs.Transactions.{Overlap, StartsBeforeCommit}
 use Rattle.sia_events.proofs.WellFormed.{one_commit}
 use Rattle.sia_events.proofs.Starts.{one_start}
-use Rattle.sia_graph.specs.declared.pivoting.lifetimes.Lifetime.{Lifetime}
-use Rattle.sia_graph.specs.Lifetimes.{IsLifetime}
+use Rattle.sia_parts.specs.declared.lifetimes.Lifetime.{Lifetime}
+use Rattle.sia_parts.specs.Lifetimes.{IsLifetime}
 
 -- a start before a commit, told by the lifetimes
 pub starts_by : (h : List Event) → IsWellFormed h → (t u : ℕ) (a b : Lifetime) → IsLifetime h t a → IsLifetime h u b → (a.start < b.commit) ↔ StartsBeforeCommit h t u

@@ -1,38 +1,25 @@
 //! The version of a key before or after a place, by who made it.
 ghost use Rattle.std.specs.Prelude.{◌≡◌, ◌≢◌, ◌<◌, ◌≤◌, Contains, MatchOption, length, slice_index_or};
 ghost use Rattle.sia_parts.specs.declared.looks.Look.{Look};
-ghost use Rattle.sia_parts.specs.Looks.{RiseByRank, look_rank};
-ghost use Rattle.sia_graph.specs.Evidence.{IsPlace};
-ghost use Rattle.sia_graph.specs.NarrowSteps.{CanSearch, IsNewest};
+ghost use Rattle.sia_parts.specs.Looks.{RiseByRank};
+ghost use Rattle.sia_parts.specs.Placing.{IsPlace};
+ghost use Rattle.sia_parts.specs.Versions.{CanSearch, IsNewest};
 
-use crate::taking::numbers::step;
-use sia_index::keyed::{By, place_above_near};
-use sia_parts::Look;
-
-/// By key and commit.
-struct ByRank;
-
-impl By<Look> for ByRank {
-    ghost use Rattle.sia_parts.specs.Looks.{look_rank};
-
-    ghost by = { look_rank };
-
-    fn number(row: &Look) -> u64 {
-        step(row.key, row.high)
-    }
-}
+use crate::edges::ranks::{ByRank, rank};
+use crate::looks::Look;
+use sia_index::keyed::place_above_near;
 
 /// How many writers stand up to the key and the place. They are counted from near a guess.
-pub(crate) fn count_up_to(writers: &[Look], key: u32, place: u32, near: usize) -> usize
+pub fn count_up_to(writers: &[Look], key: u32, place: u32, near: usize) -> usize
     requires { RiseByRank writers.now }
     ensures { IsPlace writers.now key place result }
 {
-    let most = step(key, place);
+    let most = rank(key, place);
     place_above_near::<Look, ByRank>(writers, most, near)
 }
 
 /// The look at a place, where it is one of the key.
-pub(crate) fn look_at(writers: &[Look], at: usize, key: u32) -> Option<Look>
+pub fn look_at(writers: &[Look], at: usize, key: u32) -> Option<Look>
     ensures { MatchOption result ((d : Look) → at < length writers.now → (slice_index_or writers.now at d).key ≢ key)
         (λ a. (at < length writers.now) × (slice_index_or writers.now at a ≡ a) × (a.key ≡ key)) }
 {
@@ -54,7 +41,7 @@ fn count_to_newest(writers: &[Look], look: Look, at: usize) -> usize
 }
 
 /// Where the last version of its key up to the newest one that the look saw stands, where so many stand up to the oldest one.
-pub(crate) fn newest_place(writers: &[Look], look: Look, at: usize) -> Option<usize>
+pub fn newest_place(writers: &[Look], look: Look, at: usize) -> Option<usize>
     requires search { CanSearch writers.now }
     requires at { IsPlace writers.now look.key look.low at }
     ensures { MatchOption result ((a : Look) → Contains writers.now a → a.key ≡ look.key → look.high < a.high)

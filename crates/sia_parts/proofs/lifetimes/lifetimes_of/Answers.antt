@@ -1,7 +1,7 @@
 use Rattle.std.proofs.Common.{◌≡◌, ap, length, ◌∙◌, arith}
-use Rattle.sia_graph.proofs.LifetimeTables.{lifetimes_more}
-use Rattle.sia_graph.proofs.pivoting.lifetimes.lifetimes_of.Goals as goal
-use Rattle.sia_graph.proofs.pivoting.lifetimes.lifetimes_of.Goals.{in-Some+in_ok-push, in_default}
+use Rattle.sia_parts.proofs.LifetimeTables.{lifetimes_more}
+use Rattle.sia_parts.proofs.lifetimes.lifetimes_of.Goals as goal
+use Rattle.sia_parts.proofs.lifetimes.lifetimes_of.Goals.{in-Some+in_ok-push, in_default}
 
 pub loop-txn-preserved : goal.loop-txn-preserved
 loop-txn-preserved c =

@@ -7,8 +7,7 @@ use Rattle.std.proofs.lemmas.Bool.{cases_lt, false≢true}
 use Rattle.std.proofs.lemmas.List.{get_or_default}
 use Rattle.sia_parts.specs.declared.looks.Look.{Look}
 use Rattle.sia_parts.specs.Looks.{RiseByRank, look_rank}
-use Rattle.sia_graph.specs.NarrowSteps.{IsNewest, IsNext}
-use Rattle.sia_graph.specs.VersionRanks.{IsNextAt}
+use Rattle.sia_parts.specs.Versions.{IsNewest, IsNext, IsNextAt}
 
 -- what an option tells, said otherwise
 pub some_of : {A : Type 0} (P : Type 0) (Q S : A → Type 0) (o : Option A) → ((a : A) → Q a → S a) → MatchOption o P Q → IfSome o S

@@ -1,9 +1,9 @@
 -- What stands before those behind the place, if it is of the key.
 use Rattle.std.proofs.Common.{◌≡◌, ◌+◌, ◌<◌, length, subst, sym, ◌∙◌, arith}
 use Rattle.std.proofs.lemmas.List.{get_or_default}
-use Rattle.sia_graph.specs.NarrowSteps.{IsNewest}
-use Rattle.sia_graph.proofs.NextVersions.{none_newest, is_newest}
-use Rattle.sia_graph.proofs.narrow.versions.newest_place.Goals as goal
+use Rattle.sia_parts.specs.Versions.{IsNewest}
+use Rattle.sia_parts.proofs.NextVersions.{none_newest, is_newest}
+use Rattle.sia_parts.proofs.versions.newest_place.Goals as goal
 
 pub returns-in-None : goal.returns-in-None
 returns-in-None c =

@@ -3,7 +3,7 @@ use Rattle.std.proofs.Common.{◌≡◌, ℕ, ◌+◌, ◌<◌, List, [], ◌∷
 use Rattle.std.proofs.lemmas.Bool.{cases_lt}
 use Rattle.std.proofs.lemmas.List.{get_or_append_left, get_or_push, length_push}
 use Rattle.sia_parts.specs.declared.looks.Look.{Look}
-use Rattle.sia_graph.specs.Evidence.{ArePlaces, IsPlace}
+use Rattle.sia_parts.specs.Placing.{ArePlaces, IsPlace}
 
 -- the places of the first n looks
 abbrev pub ArePlacesUpTo : List Look → List Look → ℕ → List ℕ → Type 0

@@ -2,9 +2,9 @@
 use Rattle.std.proofs.Common.{◌≡◌, List, get_or, length, rules, subst, arith}
 use Rattle.std.proofs.lemmas.List.{get_or_default}
 use Rattle.sia_parts.specs.declared.looks.Look.{Look}
-use Rattle.sia_graph.specs.Evidence.{ArePlaces}
-use Rattle.sia_graph.proofs.LookPlaces.{place_more, places_all}
-use Rattle.sia_graph.proofs.narrow.placing.places_of.Goals as goal
+use Rattle.sia_parts.specs.Placing.{ArePlaces}
+use Rattle.sia_parts.proofs.LookPlaces.{place_more, places_all}
+use Rattle.sia_parts.proofs.placing.places_of.Goals as goal
 
 abbrev none : Look
 none = record { txn = 0; key = 0; low = 0; high = 0 }

@@ -1,7 +1,7 @@
 //! When transactions start and commit, in a list where the place of a transaction is enough to look it up.
 ghost use Rattle.std.specs.Prelude.{◌↔◌, ◌<◌, All, IfOk, IsTrue, MatchOption};
 ghost use Rattle.sia_events.specs.Transactions.{IsCommitted};
-ghost use Rattle.sia_graph.specs.Lifetimes.{AreLifetimes, IsLifetime};
+ghost use Rattle.sia_parts.specs.Lifetimes.{AreLifetimes, IsLifetime};
 
 use sia_events::{NoMemory, TxnId};
 use sia_index::Index;
@@ -15,7 +15,7 @@ pub struct Lifetime {
 }
 
 /// When a transaction starts and commits, if it commits.
-pub(crate) fn lifetime_of(ix: &Index, txn: TxnId) -> Option<Lifetime>
+pub fn lifetime_of(ix: &Index, txn: TxnId) -> Option<Lifetime>
     ensures { MatchOption result (¬ IsCommitted ix.now txn) (IsLifetime ix.now txn) }
 {
     ix.law();
@@ -43,7 +43,7 @@ pub fn lifetimes_of(alloc: Global, ix: &Index, txns: &[TxnId]) -> Result<Vec<Lif
 
 /// Whether each of the two transactions started before the other committed.
 #[inline(always)]
-pub(crate) fn overlap(first: Lifetime, second: Lifetime) -> bool
+pub fn overlap(first: Lifetime, second: Lifetime) -> bool
     ensures { IsTrue result ↔ ((first.start < second.commit) × (second.start < first.commit)) }
 {
     first.start < second.commit && second.start < first.commit

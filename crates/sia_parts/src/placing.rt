@@ -1,11 +1,11 @@
 //! Where what was seen stands among the versions.
 ghost use Rattle.std.specs.Prelude.{IfOk};
 ghost use Rattle.sia_parts.specs.Looks.{RiseByRank};
-ghost use Rattle.sia_graph.specs.Evidence.{ArePlaced};
+ghost use Rattle.sia_parts.specs.Placing.{ArePlaced};
 
-use crate::narrow::versions::count_up_to;
+use crate::looks::{Look, Looks};
+use crate::versions::count_up_to;
 use sia_events::NoMemory;
-use sia_parts::{Look, Looks};
 use std::alloc::Global;
 
 /// For each key the place of its first version, as a guess: nothing rests on it. The versions stand by key.

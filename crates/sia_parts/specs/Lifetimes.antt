@@ -2,7 +2,7 @@
 use Rattle.std.specs.Prelude.{◌≡◌, ◌<◌, ℕ, List, length, slice_index, slice_index_or}
 use Rattle.sia_events.specs.declared.event.Event.{Event}
 use Rattle.sia_events.specs.Transactions.{StartsAt, CommitsAt}
-use Rattle.sia_graph.specs.declared.pivoting.lifetimes.Lifetime.{Lifetime}
+use Rattle.sia_parts.specs.declared.lifetimes.Lifetime.{Lifetime}
 
 -- t starts and commits at these places
 abbrev pub IsLifetime : List Event → ℕ → Lifetime → Type 0
