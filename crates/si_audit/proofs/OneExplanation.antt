@@ -20,6 +20,7 @@ use Rattle.sia_parts.specs.declared.finding.Edge.{Edge}
 use Rattle.sia_parts.specs.declared.finding.Kind.{Kind}
 use Rattle.sia_parts.specs.declared.finding.Kind.TheVariants.{Ww, Wr, Rw}
 use Rattle.sia_parts.specs.declared.finding.Unexplained.{Unexplained}
+use Rattle.sia_parts.specs.Telling.{TellsUnless, TellsVersion, event_words, start_words}
 use Rattle.sia_graph.specs.declared.narrow.dangerous.Dangerous.{Dangerous}
 use Rattle.sia_graph.specs.declared.settling.Verdict.{Verdict}
 use Rattle.sia_graph.specs.declared.settling.Verdict.TheVariants.{Order, Cycle}
@@ -27,7 +28,7 @@ use Rattle.sia_graph.specs.Dangerous.{IsDangerous, IsLeast, MayBeFirst}
 use Rattle.si_audit.specs.Account.{Account}
 use Rattle.si_audit.specs.Explained.{IsExplained, TellsAll, TellsDanger, TellsVerdict, WithReasons, dangerous_edges, dangerous_line, edges_round}
 use Rattle.si_audit.specs.Lines.{bad_read_line, bad_write_line, edge_word, events_line, is_empty, isolation_line, serializable_line, ssi_line, unexplained_line, verdict_line}
-use Rattle.si_audit.specs.Reasons.{TellsBadRead, TellsBadWrite, TellsEvents, TellsSight, TellsStep, TellsUnexplained, TellsUnless, TellsVersion, anomaly_words, event_words, reason, start_words, untold_of}
+use Rattle.si_audit.specs.Reasons.{TellsBadRead, TellsBadWrite, TellsEvents, TellsSight, TellsStep, TellsUnexplained, anomaly_words, reason, untold_of}
 
 -- two answers of one relation to one question are one
 abbrev pub IsOne : (List ℕ → Type 0) → Type 0

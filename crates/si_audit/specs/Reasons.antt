@@ -1,15 +1,13 @@
 -- What an explained report says below a finding: the events that make it. Words and their order are this project's own
 -- format (docs/FORMAT.md).
-use Rattle.std.specs.Prelude.{◌≡◌, ◌≢◌, ◌⊎◌, ℕ, List, [], ◌++◌, codes}
+use Rattle.std.specs.Prelude.{◌≡◌, ℕ, List, [], ◌++◌, codes}
 use Rattle.sia_events.specs.declared.anomaly.Anomaly.{Anomaly}
 use Rattle.sia_events.specs.declared.anomaly.Anomaly.TheVariants.{OwnWriteMissed, AbortedRead, UncommittedRead, FutureRead, Phantom, StaleRead}
 use Rattle.sia_events.specs.declared.event.Event.{Event}
 use Rattle.sia_events.specs.Anomalies.{IsNamed}
 use Rattle.sia_events.specs.Isolation.{IsBadRead}
-use Rattle.sia_events.specs.Telling.{told_about}
 use Rattle.sia_events.specs.Text.{numeral}
-use Rattle.sia_events.specs.Transactions.{AbortsAt, CommitsAt, IsOpen, StartsAt}
-use Rattle.sia_index.specs.Info.{IsFirstWrite}
+use Rattle.sia_events.specs.Transactions.{StartsAt}
 use Rattle.sia_parts.specs.declared.finding.BadRead.{BadRead}
 use Rattle.sia_parts.specs.declared.finding.BadWrite.{BadWrite}
 use Rattle.sia_parts.specs.declared.finding.Unexplained.{Unexplained}
@@ -17,29 +15,12 @@ use Rattle.sia_parts.specs.declared.finding.Edge.{Edge}
 use Rattle.sia_parts.specs.declared.finding.Kind.{Kind}
 use Rattle.sia_parts.specs.declared.finding.Kind.TheVariants.{Ww, Wr, Rw}
 use Rattle.sia_parts.specs.Sightings.{Gives, IsFirstSight, reader_of}
+use Rattle.sia_parts.specs.Telling.{TellsUnless, TellsVersion, event_words, start_words}
 use Rattle.si_audit.specs.Lines.{edge_word}
 
 -- a line of reasons
 abbrev pub reason : List ℕ → List ℕ
 reason words = codes "  " ++ words ++ codes "\n"
-
--- the event at place p, as far as it is about k
-abbrev pub event_words : List Event → ℕ → ℕ → List ℕ
-event_words h k p = codes "event " ++ numeral p ++ codes " " ++ told_about h p k
-
--- when t started
-abbrev pub start_words : ℕ → ℕ → List ℕ
-start_words t s = codes "transaction " ++ numeral t ++ codes " starts after event " ++ numeral s
-
--- where v first wrote k, and where it ended if it did
-abbrev pub TellsVersion : List Event → ℕ → ℕ → List ℕ → Type 0
-TellsVersion h k v words = (w : ℕ) × IsFirstWrite h v k w
-    × ((IsOpen h v × (words ≡ event_words h k w))
-    ⊎ ((q : ℕ) × (CommitsAt h v q ⊎ AbortsAt h v q) × (words ≡ event_words h k w ++ codes ", " ++ event_words h k q)))
-
--- version v of k between these words, unless it is the one that wants no word
-abbrev pub TellsUnless : ℕ → List Event → List ℕ → ℕ → ℕ → List ℕ → List ℕ → Type 0
-TellsUnless known h before k v behind bytes = ((v ≡ known) × (bytes ≡ [])) ⊎ ((v ≢ known) × (words : List ℕ) × TellsVersion h k v words × (bytes ≡ before ++ words ++ behind))
 
 abbrev pub anomaly_words : Anomaly → List ℕ
 anomaly_words OwnWriteMissed = codes "own write missed"

@@ -15,7 +15,6 @@ ghost use Rattle.sia_graph.specs.Judgements.{IsJudgement};
 ghost use Rattle.si_audit.specs.Sheets.{text_of};
 
 use crate::audit::finding::judged;
-use crate::audit::recorded::Recorded;
 use crate::cli::level::Level;
 use crate::cli::options::Options;
 use crate::engine::Outcome;
@@ -28,7 +27,7 @@ use sia_events::{History, Locator, NoMemory, TextFault};
 use sia_graph::Judgement;
 use sia_index::Index;
 use sia_index::make::index;
-use sia_parts::Committed;
+use sia_parts::{Committed, Recorded};
 use std::alloc::Global;
 use std::sync::Wait;
 use std::thread::Threads;

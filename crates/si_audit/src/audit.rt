@@ -2,4 +2,3 @@
 pub(crate) mod finding;
 pub(crate) mod findings;
 pub(crate) mod make;
-pub(crate) mod recorded;

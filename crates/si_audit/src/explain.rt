@@ -4,4 +4,3 @@ pub(crate) mod naming;
 pub(crate) mod reads;
 pub(crate) mod refused;
 pub(crate) mod steps;
-pub(crate) mod versions;

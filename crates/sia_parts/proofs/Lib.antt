@@ -36,3 +36,4 @@ pub mod TakenEvents
 pub mod LifetimeTables
 pub mod LookPlaces
 pub mod NextVersions
+pub mod PushedWords

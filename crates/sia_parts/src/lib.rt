@@ -14,7 +14,9 @@ mod looks;
 mod naming;
 mod numbered;
 mod placing;
+mod recorded;
 mod sighting;
+mod telling;
 mod versions;
 
 pub use auditing::audit_part;
@@ -36,7 +38,9 @@ pub use looks::{Absence, Look, Looks};
 pub use naming::anomaly_of;
 pub use numbered::find_in_part;
 pub use placing::places_of;
+pub use recorded::Recorded;
 pub use sighting::{Act, FirstSight, acts_of, first_sight};
+pub use telling::{push_event, push_start, push_unless, push_version};
 pub use versions::{count_up_to, look_at, newest_place};
 
 #[cfg(test)]

@@ -10,12 +10,11 @@ ghost use Rattle.sia_parts.specs.Parts.{IsInPart};
 ghost use Rattle.sia_graph.specs.Judgements.{IsJudgement};
 ghost use Rattle.sia_graph.specs.Verdicts.{IsOrderVerdict};
 
-use crate::audit::recorded::Recorded;
 use crate::cli::options::Options;
 use sia_events::{History, NoMemory};
 use sia_graph::{Judgement, judge};
 use sia_index::Index;
-use sia_parts::{Committed, Gathering, Looks, Part, PartFound, find_in_part};
+use sia_parts::{Committed, Gathering, Looks, Part, PartFound, Recorded, find_in_part};
 use sia_pool::{Job, OpenGate, work_off};
 use std::alloc::Global;
 use std::sync::Wait;

@@ -7,13 +7,12 @@ ghost use Rattle.si_audit.specs.Audits.{account_of};
 
 use crate::audit::finding::judged;
 use crate::audit::findings::Audit;
-use crate::audit::recorded::Recorded;
 use crate::cli::options::Options;
 use sia_events::{History, NoMemory};
 use sia_graph::listed;
 use sia_index::Index;
 use sia_index::make::index;
-use sia_parts::{Committed, Findings};
+use sia_parts::{Committed, Findings, Recorded};
 use std::alloc::Global;
 use std::sync::Wait;
 use std::thread::Threads;

@@ -10,7 +10,6 @@ ghost use Rattle.si_audit.specs.Explained.{TellsDanger, TellsVerdict, WithReason
 ghost use Rattle.sia_graph.specs.Judgements.{IsJudgement};
 ghost use Rattle.si_audit.specs.Lines as lines;
 
-use crate::audit::recorded::Recorded;
 use crate::cli::form::Form;
 use crate::explain::steps::push_steps;
 use crate::report::found::push_front;
@@ -18,7 +17,7 @@ use crate::report::lines::{push_verdict, push_whether};
 use crate::report::words::{Words, number, push_line};
 use sia_events::NoMemory;
 use sia_graph::{Judgement, Step, Verdict, danger_of, listing_law};
-use sia_parts::{Edge, Kind, Looks, acts_of};
+use sia_parts::{Edge, Kind, Looks, Recorded, acts_of};
 use std::alloc::Global;
 
 /// The dangerous structure with the reasons of its steps, where isolation was kept and the test of serializable snapshot

@@ -3,13 +3,14 @@ ghost use Rattle.sia_events.specs.Isolation.{IsBadRead, IsBadWrite, IsUnexplaine
 ghost use Rattle.si_audit.specs.Lines as lines;
 ghost use Rattle.si_audit.specs.Reasons as reasons;
 
-use crate::audit::recorded::Recorded;
 use crate::explain::naming::anomaly_words;
-use crate::explain::versions::{push_event, push_start, push_unless, push_version};
 use crate::report::found::Finding;
 use crate::report::words::{Words, number, push_line};
 use sia_events::NoMemory;
-use sia_parts::{BadRead, BadWrite, Unexplained, anomaly_of};
+use sia_parts::{
+    BadRead, BadWrite, Recorded, Unexplained, anomaly_of, push_event, push_start, push_unless,
+    push_version,
+};
 use std::alloc::AllocError;
 
 impl Finding for BadRead {

@@ -6,11 +6,9 @@ ghost use Rattle.sia_parts.specs.Acts.{AreActs};
 ghost use Rattle.si_audit.specs.Explained.{TellsAll};
 ghost use Rattle.si_audit.specs.Reasons.{TellsEvents, TellsSight, TellsStep, untold_of};
 
-use crate::audit::recorded::Recorded;
-use crate::explain::versions::{push_event, push_unless, push_version};
 use crate::report::words::{Words, number, push_words};
 use sia_events::{NoMemory, Version};
-use sia_parts::{Act, Edge, Kind, first_sight};
+use sia_parts::{Act, Edge, Kind, Recorded, first_sight, push_event, push_unless, push_version};
 
 /// The version that is told already, or has no writer.
 fn untold_of_edge(e: &Edge) -> Version

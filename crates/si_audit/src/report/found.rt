@@ -6,12 +6,11 @@ ghost use Rattle.si_audit.specs.Lines as lines;
 ghost use Rattle.si_audit.specs.Reasons.{TellsBadRead, TellsBadWrite, TellsUnexplained};
 ghost use Rattle.si_audit.specs.Wanted.{TellsIf};
 
-use crate::audit::recorded::Recorded;
 use crate::report::lines::push_whether;
 use crate::report::words::{Words, number, push_line};
 use sia_events::NoMemory;
 use sia_index::Counts;
-use sia_parts::{BadRead, BadWrite, Unexplained};
+use sia_parts::{BadRead, BadWrite, Recorded, Unexplained};
 use std::alloc::AllocError;
 
 /// What is found at a key: it has a line, and in an explained report reasons below.

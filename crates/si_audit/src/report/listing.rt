@@ -7,7 +7,6 @@ ghost use Rattle.si_audit.specs.Answering.{IsReportOf};
 ghost use Rattle.sia_graph.specs.Judgements.{IsJudgement};
 ghost use Rattle.si_audit.specs.Sheets.{text_of};
 
-use crate::audit::recorded::Recorded;
 use crate::cli::form::Form;
 use crate::cli::options::Options;
 use crate::explain::explaining::explained;
@@ -15,7 +14,7 @@ use crate::report::reporting::report_of;
 use crate::report::sheets::{one_sheet, sheets_of_edges};
 use sia_events::NoMemory;
 use sia_graph::{Judgement, listing_law, pivots_of_links};
-use sia_parts::Looks;
+use sia_parts::{Looks, Recorded};
 use std::alloc::Global;
 use std::sync::Wait;
 use std::thread::Threads;

@@ -2,7 +2,7 @@ use Rattle.std.proofs.Common.{List, ℕ, ◌++◌, ◌∙◌, ap, append-nil, co
 use Rattle.std.proofs.lemmas.Result.{on_ok_weaker}
 use Rattle.sia_parts.specs.declared.finding.Kind.{Kind}
 use Rattle.si_audit.specs.Reasons.{TellsEvents}
-use Rattle.si_audit.proofs.Pushed.{three_words}
+use Rattle.sia_parts.proofs.PushedWords.{three_words}
 use Rattle.si_audit.proofs.explain.steps.push_events.Goals as goal
 
 pub returns-in_ok-push_version-in-Ww : goal.returns-in_ok-push_version-in-Ww

@@ -2,8 +2,8 @@
 use Rattle.std.proofs.Common.{[], ◌++◌, refl, subst}
 use Rattle.std.specs.Prelude.{codes}
 use Rattle.std.proofs.lemmas.Result.{on_ok_weaker}
-use Rattle.si_audit.specs.Reasons.{TellsUnless, event_words}
-use Rattle.si_audit.proofs.Pushed.{behind}
+use Rattle.sia_parts.specs.Telling.{TellsUnless, event_words}
+use Rattle.sia_parts.proofs.PushedWords.{behind}
 use Rattle.sia_parts.proofs.Sighted.{edge_is_seen}
 use Rattle.si_audit.proofs.explain.steps.push_sight.Goals as goal
 

@@ -1,5 +1,5 @@
 -- Words that are pushed one after another.
-use Rattle.std.proofs.Common.{◌≡◌, ℕ, List, [], ◌∷◌, ◌++◌, ◌∙◌, get_or, refl}
+use Rattle.std.proofs.Common.{ℕ, List, [], ◌∷◌, ◌++◌, ◌∙◌, get_or, refl}
 use Rattle.std.specs.Prelude.{codes}
 use Rattle.sia_events.specs.Text.{numeral}
 use Rattle.sia_parts.specs.declared.finding.Edge.{Edge}

@@ -1,6 +1,6 @@
 use Rattle.std.proofs.Common.{◌≡◌, Option, Bor, subst, sym}
 use Rattle.std.specs.Prelude.{All, IfSome}
-use Rattle.si_audit.specs.declared.audit.recorded.Recorded.{Recorded}
+use Rattle.sia_parts.specs.declared.recorded.Recorded.{Recorded}
 use Rattle.std.proofs.lemmas.List.{take_all}
 use Rattle.si_audit.specs.Explained.{TellsAll, WithReasons}
 use Rattle.si_audit.specs.Wanted.{TellsIf}

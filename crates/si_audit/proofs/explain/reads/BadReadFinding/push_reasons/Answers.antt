@@ -3,9 +3,11 @@ use Rattle.std.proofs.lemmas.Result.{on_ok_weaker}
 use Rattle.sia_events.specs.Text.{numeral}
 use Rattle.sia_events.specs.Transactions.{StartsAt}
 use Rattle.sia_events.proofs.Seen.{saw_written}
-use Rattle.si_audit.specs.Reasons.{anomaly_words, event_words, reason, start_words}
+use Rattle.sia_parts.specs.Telling.{event_words, start_words}
+use Rattle.si_audit.specs.Reasons.{anomaly_words, reason}
 use Rattle.sia_parts.proofs.Named.{due_written}
-use Rattle.si_audit.proofs.Pushed.{named_event, three_words}
+use Rattle.sia_parts.proofs.PushedWords.{three_words}
+use Rattle.si_audit.proofs.Pushed.{named_event}
 use Rattle.si_audit.proofs.explain.reads.BadReadFinding.push_reasons.Goals as goal
 
 pub anomaly_of-name-requires-clause-starts : goal.anomaly_of-name-requires-clause-starts

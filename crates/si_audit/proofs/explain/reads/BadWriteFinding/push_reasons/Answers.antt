@@ -4,7 +4,8 @@ use Rattle.sia_events.specs.declared.event.Event.TheVariants.{Write}
 use Rattle.sia_events.specs.Text.{numeral}
 use Rattle.sia_events.specs.Transactions.{CommitsAt, HasEvent, StartsAt}
 use Rattle.sia_events.proofs.WellFormed.{one_commit}
-use Rattle.si_audit.specs.Reasons.{reason, start_words}
+use Rattle.sia_parts.specs.Telling.{start_words}
+use Rattle.si_audit.specs.Reasons.{reason}
 use Rattle.si_audit.proofs.Pushed.{two_things}
 use Rattle.si_audit.proofs.explain.reads.BadWriteFinding.push_reasons.Goals as goal
 
@@ -31,13 +32,13 @@ returns c =
           let less = before.4 in
           omega arith)
       | inr second ↦ (
-          reason (codes "both write and overlap: " ++ start_words b.second s ++ codes "; " ++ first.0 ++ codes "; " ++ second.1),
-          (s, first.0, second.1, subst (λ h. StartsAt h b.second s) c.requires.index known.0, first.1, second.2, refl),
-          rw (
-            told.2,
-            second.3,
-            first.2,
-            c.in_ok-push_start.ensures,
-          ) (two_things c.args.out.now.items (codes "  ") (codes "both write and overlap: ") (codes "transaction ") (numeral b.second) (codes " starts after event ") (numeral s) (codes "; ") first.0 second.1 (codes "\n")),
-        )
+        reason (codes "both write and overlap: " ++ start_words b.second s ++ codes "; " ++ first.0 ++ codes "; " ++ second.1),
+        (s, first.0, second.1, subst (λ h. StartsAt h b.second s) c.requires.index known.0, first.1, second.2, refl),
+        rw (
+          told.2,
+          second.3,
+          first.2,
+          c.in_ok-push_start.ensures,
+        ) (two_things c.args.out.now.items (codes "  ") (codes "both write and overlap: ") (codes "transaction ") (numeral b.second) (codes " starts after event ") (numeral s) (codes "; ") first.0 second.1 (codes "\n")),
+      )
     ]) c.push_unless.ensures

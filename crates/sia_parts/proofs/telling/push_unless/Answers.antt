@@ -1,6 +1,6 @@
 use Rattle.std.proofs.Common.{◌++◌, inr, refl}
-use Rattle.si_audit.proofs.Pushed.{three_words}
-use Rattle.si_audit.proofs.explain.versions.push_unless.Goals as goal
+use Rattle.sia_parts.proofs.PushedWords.{three_words}
+use Rattle.sia_parts.proofs.telling.push_unless.Goals as goal
 
 pub returns : goal.returns
 returns c =

@@ -2,14 +2,14 @@
 ghost use Rattle.std.specs.Prelude.{◌≡◌, ◌≢◌, ◌++◌, ℕ, List, OnOk, codes};
 ghost use Rattle.sia_events.specs.Text.{numeral};
 ghost use Rattle.sia_events.specs.Transactions.{Wrote};
-ghost use Rattle.si_audit.specs.Reasons.{TellsUnless, TellsVersion, event_words};
+ghost use Rattle.sia_parts.specs.Telling.{TellsUnless, TellsVersion, event_words};
 
-use crate::audit::recorded::Recorded;
+use crate::recorded::Recorded;
 use sia_events::{History, Key, NoMemory, TxnId, Version, push_number};
 use std::alloc::AllocError;
 
 /// Some words, and the event at a place, as far as it is about the key.
-pub(crate) fn push_event(
+pub fn push_event(
     out: &mut Vec<u8>,
     before: &[u8],
     h: &History,
@@ -24,7 +24,7 @@ pub(crate) fn push_event(
 }
 
 /// Some words, a transaction, when it started, and some more words.
-pub(crate) fn push_start(
+pub fn push_start(
     out: &mut Vec<u8>,
     before: &[u8],
     txn: TxnId,
@@ -38,7 +38,7 @@ pub(crate) fn push_start(
 }
 
 /// Some words, where the transaction first wrote the key, and where it ended if it did.
-pub(crate) fn push_version(
+pub fn push_version(
     out: &mut Vec<u8>,
     before: &[u8],
     of: &Recorded,
@@ -61,7 +61,7 @@ pub(crate) fn push_version(
 }
 
 /// The version between these words, unless it is the one that is known.
-pub(crate) fn push_unless(
+pub fn push_unless(
     out: &mut Vec<u8>,
     of: &Recorded,
     key: Key,

@@ -1,8 +1,8 @@
 use Rattle.std.proofs.Common.{List, ℕ, ◌++◌, ◌∙◌, ap, codes}
 use Rattle.std.proofs.lemmas.Result.{on_ok_weaker}
 use Rattle.sia_events.specs.Text.{numeral}
-use Rattle.si_audit.proofs.Pushed.{number_and_words}
-use Rattle.si_audit.proofs.explain.versions.push_event.Goals as goal
+use Rattle.sia_parts.proofs.PushedWords.{number_and_words}
+use Rattle.sia_parts.proofs.telling.push_event.Goals as goal
 
 pub returns : goal.returns
 returns c =

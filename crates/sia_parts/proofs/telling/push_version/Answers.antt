@@ -3,10 +3,10 @@ use Rattle.std.proofs.lemmas.Result.{on_ok_weaker}
 use Rattle.sia_events.specs.Transactions.{HasEvent}
 use Rattle.sia_events.specs.declared.event.Event.TheVariants.{Write}
 use Rattle.sia_index.specs.Info.{EndsAs, IsFirstWrite, IsInfo}
-use Rattle.si_audit.specs.Reasons.{event_words}
+use Rattle.sia_parts.specs.Telling.{event_words}
 use Rattle.sia_index.proofs.Fates.{ended_at, open_without_end}
-use Rattle.si_audit.proofs.Pushed.{and_more}
-use Rattle.si_audit.proofs.explain.versions.push_version.Goals as goal
+use Rattle.sia_parts.proofs.PushedWords.{and_more}
+use Rattle.sia_parts.proofs.telling.push_version.Goals as goal
 
 pub returns-in-None : goal.returns-in-None
 returns-in-None c =

@@ -1,7 +1,6 @@
-use Rattle.std.proofs.Common.{◌∙◌}
 use Rattle.std.proofs.lemmas.Result.{on_ok_weaker}
-use Rattle.si_audit.proofs.Pushed.{two_numbers}
-use Rattle.si_audit.proofs.explain.versions.push_start.Goals as goal
+use Rattle.sia_parts.proofs.PushedWords.{two_numbers}
+use Rattle.sia_parts.proofs.telling.push_start.Goals as goal
 
 pub returns : goal.returns
 returns c =

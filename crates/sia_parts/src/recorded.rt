@@ -1,0 +1,13 @@
+//! A history, and what is at hand of it.
+
+use crate::edges::committed::Committed;
+use sia_events::History;
+use sia_index::Index;
+
+/// A history, its index, and its committed transactions.
+#[derive(Clone, Copy)]
+pub struct Recorded<'a> {
+    pub history: &'a History,
+    pub index: &'a Index,
+    pub committed: &'a Committed,
+}
