@@ -1,13 +1,11 @@
 -- What an account and a judgement say of how a run ends, and that an account can be printed.
-use Rattle.std.proofs.Common.{◌≡◌, ◌≢◌, ◌↔◌, ℕ, List, [], ◌∷◌, length, map, get_or, subst, arith}
+use Rattle.std.proofs.Common.{◌≡◌, ◌≢◌, ℕ, List, [], ◌∷◌, length, map, get_or, subst, arith}
 use Rattle.std.specs.Prelude.{⊤, All, Contains}
 use Rattle.std.proofs.lemmas.List.{get_or-map, length-map}
 use Rattle.std.proofs.lemmas.List.Elements.{All-contains_itself}
 use Rattle.sia_events.specs.declared.event.Event.{Event}
-use Rattle.sia_events.specs.Isolation.{IsBadRead, IsBadWrite, IsolationKept}
 use Rattle.sia_events.specs.DangerousStructures.{IsPivot}
 use Rattle.sia_parts.specs.declared.finding.Edge.{Edge}
-use Rattle.sia_parts.specs.Entries.{bad_read_rank, bad_write_rank}
 use Rattle.sia_parts.specs.Findings.{ListsEdges}
 use Rattle.sia_parts.proofs.Members.{contains_none}
 use Rattle.sia_graph.specs.declared.pivot.Pivot.{Pivot}
@@ -21,7 +19,6 @@ use Rattle.si_audit.specs.Accounts.{IsAccount}
 use Rattle.sia_graph.specs.Judgements.{IsJudgement}
 use Rattle.si_audit.specs.Audits.{account_with}
 use Rattle.si_audit.specs.Report.{HasStep, CanBePrinted}
-use Rattle.sia_graph.proofs.Judging.{none_listed, empty_list}
 
 has_step : (M : ℕ → Type 0) (E : _ → Type 0) (v : Verdict) → IsVerdict M E v → HasStep v
 has_step M E (Order order) is = tt

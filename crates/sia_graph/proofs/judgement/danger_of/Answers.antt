@@ -1,8 +1,4 @@
-use Rattle.std.specs.Prelude.{MatchOption}
 use Rattle.std.proofs.lemmas.Bool.{both_ways}
-use Rattle.sia_events.specs.DangerousStructures.{NoFirst}
-use Rattle.sia_events.specs.Isolation.{IsolationKept}
-use Rattle.sia_graph.specs.Dangerous.{IsDangerous}
 use Rattle.sia_graph.proofs.Judging.{kept_where, where_kept}
 use Rattle.sia_graph.proofs.judgement.danger_of.Goals as goal
 use Rattle.sia_graph.proofs.judgement.danger_of.Goals.{then-j-via-then-j, then-j-via-else-j+then-not-is_kept}

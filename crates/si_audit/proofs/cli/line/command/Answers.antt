@@ -1,5 +1,5 @@
 -- The texts for the help change nothing that a parse reads.
-use Rattle.std.proofs.Common.{◌≡◌, ◌∙◌, ap, ap₂, codes, false, List, Option, [], ◌∷◌, Some, refl, subst, sym}
+use Rattle.std.proofs.Common.{◌≡◌, ◌∙◌, ap, ap₂, codes, false, List, Option, [], ◌∷◌, Some, subst, sym}
 use Rattle.std.proofs.lemmas.Result.{IfOk-weaker}
 use Rattle.clap.specs.Words.{App, Rule, AddsArg, AddsInTurn, app_of, new_app, new_rule, rule_of, with_rule}
 use Rattle.clap.specs.Simple.{app_of_fields}
