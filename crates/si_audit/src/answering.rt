@@ -66,24 +66,24 @@ fn outcome_of(j: &Judgement, level: Level) -> Outcome
 fn answer_by_index<T: Threads + Wait + Sync>(
     rt: &T,
     alloc: Global,
-    h: &History,
+    h: History,
     ix: &Index,
     o: &Options,
 ) -> Result<Answer, NoMemory>
-    requires index { ix.now ≡ h.now }
-    requires well_formed { IsWellFormed h.now }
-    ensures report { IfOk result (λ answer. IsReportOf o.now.form h.now (text_of answer.sheets.items)) }
-    ensures outcome { IfOk result (λ answer. IsOutcomeOf o.now.level h.now answer.outcome) }
+    requires index { ix.now ≡ h }
+    requires well_formed { IsWellFormed h }
+    ensures report { IfOk result (λ answer. IsReportOf o.now.form h (text_of answer.sheets.items)) }
+    ensures outcome { IfOk result (λ answer. IsOutcomeOf o.now.level h answer.outcome) }
 {
     let committed = Committed::of(alloc, ix)?;
     let of = Recorded {
-        history: h,
+        history: &h,
         index: ix,
         committed: &committed,
     };
     let (judgement, looks) = judged(rt, alloc, &of, o)?;
     let outcome = outcome_of(&judgement, o.level());
-    let sheets = sheets_of(rt, alloc, &of, &judgement, looks, o)?;
+    let sheets = sheets_of(rt, alloc, h, ix, &committed, &judgement, looks, o)?;
     Ok(Answer { sheets, outcome })
 }
 
@@ -91,14 +91,14 @@ fn answer_by_index<T: Threads + Wait + Sync>(
 pub(crate) fn answer_to_history<T: Threads + Wait + Sync>(
     rt: &T,
     alloc: Global,
-    h: &History,
+    h: History,
     o: &Options,
 ) -> Result<Answer, NoMemory>
-    ensures report { IfOk result (λ answer. IsReportOf o.now.form h.now (text_of answer.sheets.items)) }
-    ensures outcome { IfOk result (λ answer. IsOutcomeOf o.now.level h.now answer.outcome) }
+    ensures report { IfOk result (λ answer. IsReportOf o.now.form h (text_of answer.sheets.items)) }
+    ensures outcome { IfOk result (λ answer. IsOutcomeOf o.now.level h answer.outcome) }
 {
     h.law();
-    let ix = index(alloc, h)?;
+    let ix = index(alloc, &h)?;
     answer_by_index(rt, alloc, h, &ix, o)
 }
 
@@ -147,7 +147,7 @@ pub(crate) fn answer_to_text<T: Threads + Wait + Sync>(
 {
     let Received { text, locator } = received;
     match text.finish() {
-        Ok(h) => answer_to_history(rt, alloc, &h, o),
+        Ok(h) => answer_to_history(rt, alloc, h, o),
         Err(fault) => {
             if is_lost(&fault) {
                 return Err(NoMemory);

@@ -12,39 +12,49 @@ use crate::cli::options::Options;
 use crate::explain::explaining::explained;
 use crate::report::reporting::report_of;
 use crate::report::sheets::{one_sheet, sheets_of_edges};
-use sia_events::NoMemory;
+use sia_events::{History, NoMemory};
 use sia_graph::{Judgement, listing_law, pivots_of_links};
-use sia_parts::{Looks, Recorded};
+use sia_index::Index;
+use sia_parts::{Committed, Looks, Recorded};
 use std::alloc::Global;
 use std::sync::Wait;
 use std::thread::Threads;
 
-/// The report of a history of which this is the judgement, in the form asked for. Makes no edge for a brief one.
+/// The report of a history of which this is the judgement, in the form asked for. Makes no edge for a brief one. For a full one the
+/// history goes before the lines of its edges come, which take the most room.
 pub(crate) fn sheets_of<R: Threads + Wait + Sync>(
     rt: &R,
     alloc: Global,
-    of: &Recorded,
+    history: History,
+    index: &Index,
+    committed: &Committed,
     j: &Judgement,
     looks: Looks,
     o: &Options,
 ) -> Result<Vec<Vec<u8>>, NoMemory>
-    requires index { of.now.index.now ≡ of.now.history.now }
-    requires committed { ListsAscending (IsCommitted of.now.index.now) of.now.committed.now }
-    requires looks { AreLooks of.now.index.now (λ _. ⊤) looks }
-    requires judgement { IsJudgement of.now.history.now j.now }
-    ensures { IfOk result (λ sheets. IsReportOf o.now.form of.now.history.now (text_of sheets.items)) }
+    requires index { index.now ≡ history }
+    requires committed { ListsAscending (IsCommitted index.now) committed.now }
+    requires looks { AreLooks index.now (λ _. ⊤) looks }
+    requires judgement { IsJudgement history j.now }
+    ensures { IfOk result (λ sheets. IsReportOf o.now.form history (text_of sheets.items)) }
 {
-    of.history.law();
+    history.law();
     listing_law();
     match o.form() {
         Form::Full => {
-            let (sheets, links) = sheets_of_edges(rt, alloc, of.index, of.committed, looks, o)?;
-            let pivots = pivots_of_links(alloc, of.index, links)?;
+            drop(history);
+            let (sheets, links) = sheets_of_edges(rt, alloc, index, committed, looks, o)?;
+            let pivots = pivots_of_links(alloc, index, links)?;
             report_of(alloc, j, sheets, &pivots)
         }
         Form::Brief => report_of(alloc, j, Vec::new(alloc), &[]),
         Form::Explained => {
-            let sheet = explained(alloc, of, j, &looks)?;
+            let of = Recorded {
+                history: &history,
+                index,
+                committed,
+            };
+            let sheet = explained(alloc, &of, j, &looks)?;
             one_sheet(alloc, sheet)
         }
     }

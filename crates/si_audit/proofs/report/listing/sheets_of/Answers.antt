@@ -25,7 +25,7 @@ pivots_of_links-requires g c = c.in_ok-sheets-in-Full.ensures.1
 
 pub returns-in_ok-pivots-in-Full : goal.returns-in_ok-pivots-in-Full
 returns-in_ok-pivots-in-Full g c =
-    let h = c.args.of.now.history.now in
+    let h = c.args.history in
     let j = c.args.j.now in
     let edges = rw c.requires.index at c.in_ok-sheets-in-Full.ensures.0 in
     let pivots = rw c.requires.index at c.in_ok-pivots-in-Full.ensures in
@@ -40,7 +40,7 @@ returns-in_ok-pivots-in-Full g c =
 
 pub returns-in-Brief : goal.returns-in-Brief
 returns-in-Brief g c =
-    let h = c.args.of.now.history.now in
+    let h = c.args.history in
     let j = c.args.j.now in
     let law = c.listing_law.ensures h c.law.ensures in
     let edges = law.0 in
@@ -55,7 +55,7 @@ returns-in-Brief g c =
 
 pub returns-in_ok-sheet-in-Explained : goal.returns-in_ok-sheet-in-Explained
 returns-in_ok-sheet-in-Explained g c =
-    let report = λ (form : Form) (bytes : List ℕ). IsReportOf form c.args.of.now.history.now bytes in
+    let report = λ (form : Form) (bytes : List ℕ). IsReportOf form c.args.history bytes in
     ok_map _ _ c.one_sheet.result
     (λ sheets is. subst (λ (form : Form). report form (text_of sheets.items)) (sym (sym c.form.ensures ∙ c.in-Explained.is)) (subst (report Explained) (sym is) c.in_ok-sheet-in-Explained.ensures))
     c.one_sheet.ensures
