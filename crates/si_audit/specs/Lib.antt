@@ -10,7 +10,6 @@ pub mod RefusedPlaces
 pub mod Receiving
 pub mod Report
 pub mod Outcomes
-pub mod PartsFound
 pub mod Devices
 pub mod Spaced
 pub mod Answering

@@ -1,12 +1,14 @@
 // What is found at all keys, and what follows: workers find what is at the keys of each part.
-ghost use Rattle.std.specs.Prelude.{◌≡◌, ◌<◌, ◌≤◌, ⊤, length, IfOk, IsTrue};
+ghost use Rattle.std.specs.Prelude.{◌≡◌, ◌<◌, ◌≤◌, ⊤, length, IfOk, IfSome, IsTrue};
+ghost use Rattle.std.specs.List.{slice_get};
 ghost use Rattle.sia_events.specs.Lists.{ListsAscending};
 ghost use Rattle.sia_events.specs.Refusals.{IsWellFormed};
 ghost use Rattle.sia_events.specs.Transactions.{IsCommitted};
+ghost use Rattle.sia_parts.specs.Gathering.{IsPartFound};
 ghost use Rattle.sia_parts.specs.Looks.{AreLooks};
+ghost use Rattle.sia_parts.specs.Parts.{IsInPart};
 ghost use Rattle.sia_graph.specs.Judgements.{IsJudgement};
 ghost use Rattle.sia_graph.specs.Verdicts.{IsOrderVerdict};
-ghost use Rattle.si_audit.specs.PartsFound.{IsFoundIn};
 
 use crate::cli::options::Options;
 use sia_events::{History, NoMemory};
@@ -33,7 +35,7 @@ impl Job for Auditing<'_> {
 
     ghost takes = { λ job number. (job.index.now ≡ job.history.now) × ListsAscending (IsCommitted job.index.now) job.committed.now × (number < length job.parts.now) };
 
-    ghost owes = { λ job number found. IsFoundIn job.history.now job.parts.now number found };
+    ghost owes = { λ job number found. IfSome (slice_get job.parts.now number) (λ part. IsPartFound job.history.now (IsInPart part) found) };
 
     fn run(&self, number: u32) -> Result<PartFound, sia_pool::NoMemory> {
         let part = self.parts[number as usize];
