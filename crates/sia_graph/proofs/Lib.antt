@@ -35,6 +35,7 @@ pub mod ChainOf
 pub mod MapSteps
 pub mod Replayed
 pub mod ListedAs
+pub mod Defaults
 pub mod FiniteLists
 pub mod FiniteHistories
 pub mod Mapped

@@ -20,23 +20,21 @@ use Rattle.sia_graph.specs.Evidence.{IsEvidence}
 use Rattle.sia_graph.specs.Extremes.{HasRwEdge, IsFirstByCommits}
 use Rattle.sia_graph.specs.Limits.{AreLimits, IsLimit}
 use Rattle.sia_graph.specs.Ranks.{AreRanks, IsRankOf}
+use Rattle.sia_graph.proofs.Defaults.{no_lifetime}
 use Rattle.sia_graph.proofs.EvidenceNumbers.{made_commits, number_of, source_edges, txn_at}
 use Rattle.sia_graph.proofs.Extremes.{firsts_hold}
 use Rattle.sia_graph.proofs.Facts.{commits_lt}
 
-abbrev none : Lifetime
-none = record { start = 0; commit = 0 }
-
 module _ (h : List Event) (txns keys : List ℕ) (looks : Looks) (evidence : IsEvidence h txns keys looks) (lifetimes : List Lifetime) (lived : AreLifetimes h txns lifetimes) where
   -- the commit of number i
   abbrev commit_of : ℕ → ℕ
-  commit_of i = (get_or lifetimes i none).commit
+  commit_of i = (get_or lifetimes i no_lifetime).commit
 
   few : (t c : ℕ) → CommitsAt h t c → (0 < c) × (c ≤ 100000)
   few t c at = let within = place_within h c (Commit t) at in let most = few_events h evidence.well_formed in (within.0, omega arith)
 
   commits : (i : ℕ) → i < length txns → CommitsAt h (slice_index txns i) (commit_of i)
-  commits i l = (lived.each i none l).1
+  commits i l = (lived.each i no_lifetime l).1
 
   -- no two commit at one place
   one_txn : (t u c : ℕ) → CommitsAt h t c → CommitsAt h u c → t ≡ u
@@ -60,8 +58,8 @@ module _ (h : List Event) (txns keys : List ℕ) (looks : Looks) (evidence : IsE
       let by = up_to m l u place at in
       let long = lived.long in
       let inside : m < length lifetimes = omega arith in (
-        (λ from. by.0 (from.1 none)),
-        (λ or. (inside, λ d. subst (λ (x : Lifetime). place ≤ x.commit) (get_or_default lifetimes m none d inside) (by.1 or))),
+        (λ from. by.0 (from.1 no_lifetime)),
+        (λ or. (inside, λ d. subst (λ (x : Lifetime). place ≤ x.commit) (get_or_default lifetimes m no_lifetime d inside) (by.1 or))),
       )
 
   module _ (ranks : List ℕ) (ranked : ranks ≡ map (λ (l : Lifetime). 4294967294 - l.commit) lifetimes) where
@@ -71,7 +69,7 @@ module _ (h : List Event) (txns keys : List ℕ) (looks : Looks) (evidence : IsE
     rank_is : (i : ℕ) → i < length txns → slice_index ranks i ≡ 4294967294 - commit_of i
     rank_is i l =
         let long = lived.long in
-        ap (λ (xs : List ℕ). get_or xs i 0) ranked ∙ get_or-map (λ (l : Lifetime). 4294967294 - l.commit) lifetimes i none 0 (omega arith)
+        ap (λ (xs : List ℕ). get_or xs i 0) ranked ∙ get_or-map (λ (l : Lifetime). 4294967294 - l.commit) lifetimes i no_lifetime 0 (omega arith)
 
     of_rank : (i : ℕ) → i < length txns → IsRankOf ranks i (4294967294 - commit_of i)
     of_rank i l = let long = long_ranks in (omega arith, rank_is i l, omega arith)
@@ -97,7 +95,7 @@ module _ (h : List Event) (txns keys : List ℕ) (looks : Looks) (evidence : IsE
 
     module _ (limits : List ℕ) (are : AreLimits looks ranks lifetimes limits) where
       limit_at : (i : ℕ) → i < length txns → IsLimit looks ranks i (commit_of i) (slice_index limits i)
-      limit_at i l = let long = lived.long in are.1 i none 0 (omega arith)
+      limit_at i l = let long = lived.long in are.1 i no_lifetime 0 (omega arith)
 
       first_early : (i j : ℕ) → i < length txns → j < length txns → IsFirstByCommits h (slice_index txns i) (slice_index txns j) → IsEarlyFor looks limits i j
       first_early i j il jl first =

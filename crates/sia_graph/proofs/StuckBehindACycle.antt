@@ -73,30 +73,27 @@ leads_where s t l = elim (in_three edge_a edge_b edge_c l.0 l.1) [
   | inr (inr e) ↦ inr (inr (sym (ap (λ (d : Edge). d.src) e ∙ l.2), sym (ap (λ (d : Edge). d.dst) e ∙ l.3)))
 ]
 
+-- who leads to t is before it, if at most 3, and at most 2 where t is 3
+before : (s t : ℕ) → Contains ids s → Leads (Contains edges) s t → s ≤ 3 → (t ≡ 3 → s ≤ 2) → IsPrevious (Contains edges) ids s t
+before s t m l few less = (
+  m,
+  l,
+  λ q own to. elim (leads_where q t to) [
+    | inl e ↦ let a = e.0 in let b = less e.1 in omega arith
+    | inr (inl e) ↦ let a = e.0 in omega arith
+    | inr (inr e) ↦ let a = e.0 in omega arith
+  ],
+)
+
 -- 3 is before 1 and before 2, and 2 before 3
 three_before_one : IsPrevious (Contains edges) ids 3 1
-three_before_one = (three_in, (edge_b, b_in, refl, refl), λ q m l. at q (leads_where q 1 l))
-  where
-    at : (q : ℕ) → ((q ≡ 2) × (◌≡◌ {A = ℕ} 1 3)) ⊎ (((q ≡ 3) × (◌≡◌ {A = ℕ} 1 1)) ⊎ ((q ≡ 3) × (◌≡◌ {A = ℕ} 1 2))) → 3 ≤ q
-    at q (inl e) = let b = e.1 in omega arith
-    at q (inr (inl e)) = let b = e.0 in omega arith
-    at q (inr (inr e)) = let b = e.0 in omega arith
+three_before_one = before 3 1 three_in (edge_b, b_in, refl, refl) (omega arith) (λ e. omega arith)
 
 three_before_two : IsPrevious (Contains edges) ids 3 2
-three_before_two = (three_in, (edge_c, c_in, refl, refl), λ q m l. at q (leads_where q 2 l))
-  where
-    at : (q : ℕ) → ((q ≡ 2) × (◌≡◌ {A = ℕ} 2 3)) ⊎ (((q ≡ 3) × (◌≡◌ {A = ℕ} 2 1)) ⊎ ((q ≡ 3) × (◌≡◌ {A = ℕ} 2 2))) → 3 ≤ q
-    at q (inl e) = let b = e.1 in omega arith
-    at q (inr (inl e)) = let b = e.0 in omega arith
-    at q (inr (inr e)) = let b = e.0 in omega arith
+three_before_two = before 3 2 three_in (edge_c, c_in, refl, refl) (omega arith) (λ e. omega arith)
 
 two_before_three : IsPrevious (Contains edges) ids 2 3
-two_before_three = (two_in, (edge_a, a_in, refl, refl), λ q m l. at q (leads_where q 3 l))
-  where
-    at : (q : ℕ) → ((q ≡ 2) × (◌≡◌ {A = ℕ} 3 3)) ⊎ (((q ≡ 3) × (◌≡◌ {A = ℕ} 3 1)) ⊎ ((q ≡ 3) × (◌≡◌ {A = ℕ} 3 2))) → 2 ≤ q
-    at q (inl e) = let b = e.0 in omega arith
-    at q (inr (inl e)) = let b = e.0 in omega arith
-    at q (inr (inr e)) = let b = e.0 in omega arith
+two_before_three = before 2 3 two_in (edge_a, a_in, refl, refl) (omega arith) (λ e. omega arith)
 
 -- no other edge leads from 2 to 3, or from 3 to 2
 least_a : TakesLeastEdge (Contains edges) (record { txn = 2; kind = Rw; key = 1 }) 3

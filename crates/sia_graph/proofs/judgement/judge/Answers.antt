@@ -6,6 +6,7 @@ use Rattle.sia_parts.specs.Entries.{IsEdge}
 use Rattle.sia_parts.specs.Placing.{ArePlaced}
 use Rattle.sia_graph.specs.Verdicts.{IsVerdict}
 use Rattle.sia_graph.proofs.Judging.{passed_is_serializable, serializable_where}
+use Rattle.sia_graph.proofs.judgement.judge.Goals.{After-deref-2}
 use Rattle.sia_graph.proofs.judgement.judge.Goals as goal
 
 pub places_of-requires : goal.places_of-requires
@@ -25,15 +26,9 @@ passes-requires c = record {
 }
 
 pub settle_looks-requires : goal.settle_looks-requires
-settle_looks-requires c = record {
-  evidence = record {
-    well_formed = rw c.requires.index c.law.ensures;
-    txns_are = rw c.ids.ensures c.requires.committed;
-    keys_are = c.written_keys.ensures;
-    looks_are = rw c.requires.index c.requires.found.looks;
-  };
-  places = subst (ArePlaced c.args.found.looks) (sym c.as_slice.ensures.value) c.in_ok-places.ensures;
-}
+settle_looks-requires c =
+    let same = passes-requires (goal.at.settle_looks-requires c).After-deref-2 in
+    record { evidence = same.evidence; places = same.places }
 
 pub returns-clause-exact : goal.returns-clause-exact
 returns-clause-exact c =

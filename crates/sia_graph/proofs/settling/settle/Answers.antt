@@ -5,6 +5,7 @@ use Rattle.sia_graph.specs.Previous.{IsLeftIn}
 use Rattle.sia_graph.specs.Walks.{AreLeastSources}
 use Rattle.sia_graph.specs.Taken.{AreTakenNodes, IsTaken}
 use Rattle.sia_graph.proofs.StepsOf.{list_steps, list_taken}
+use Rattle.sia_graph.proofs.settling.settle.Goals.{In_ok-taken}
 use Rattle.sia_graph.proofs.settling.settle.Goals as goal
 
 pub take_nodes-requires-clause-steps : goal.take_nodes-requires-clause-steps
@@ -15,42 +16,34 @@ take_nodes-requires-clause-steps c =
     rw c.deref.ensures.value
     (list_steps ids c.requires.ids c.args.edges.now steps are c.requires.joins)
 
+-- what was taken by the steps is what is taken by the edges
+all_taken : (c : In_ok-taken) → IsTaken (Contains c.args.ids.now) (Contains c.args.edges.now) c.args.ids.now c.in_ok-taken.taken
+all_taken c =
+    list_taken c.args.ids.now c.requires.ids c.args.edges.now c.in_ok-steps.steps.items c.in_ok-steps.ensures c.requires.joins c.in_ok-taken.taken
+    (subst (λ (l : List ℕ). AreTakenNodes 0 c.args.ids.now l c.in_ok-taken.taken) c.deref.ensures.value c.in_ok-taken.ensures)
+
 pub returns-in-Whole : goal.returns-in-Whole
 returns-in-Whole c =
     let ids = c.args.ids.now in
     let edges = c.args.edges.now in
-    let taken = list_taken ids c.requires.ids edges c.in_ok-steps.steps.items c.in_ok-steps.ensures c.requires.joins c.in_ok-taken.taken
-    (subst (λ (l : List ℕ). AreTakenNodes 0 ids l c.in_ok-taken.taken) c.deref.ensures.value c.in_ok-taken.ensures) in
-    subst (IsLeastOrder (Contains ids) (Contains edges)) (sym c.new.ensures) (subst (IsTaken (Contains ids) (Contains edges) ids) c.in-Whole.is taken)
+    subst (IsLeastOrder (Contains ids) (Contains edges)) (sym c.new.ensures) (subst (IsTaken (Contains ids) (Contains edges) ids) c.in-Whole.is (all_taken (goal.at.returns-in-Whole c).In_ok-taken))
 
 pub least_sources-requires-clause-steps : goal.least_sources-requires-clause-steps
 least_sources-requires-clause-steps c = rw c.deref-in-Rest.ensures.value c.in_ok-steps.ensures
 
 pub cycle_of-requires-clause-some : goal.cycle_of-requires-clause-some
 cycle_of-requires-clause-some c =
-    let ids = c.args.ids.now in
-    let edges = c.args.edges.now in
-    let taken = list_taken ids c.requires.ids edges c.in_ok-steps.steps.items c.in_ok-steps.ensures c.requires.joins c.in_ok-taken.taken
-    (subst (λ (l : List ℕ). AreTakenNodes 0 ids l c.in_ok-taken.taken) c.deref.ensures.value c.in_ok-taken.ensures) in
-    let left = subst (IsTaken (Contains ids) (Contains edges) ids) c.in-Rest.is taken in
+    let left = subst (IsTaken (Contains c.args.ids.now) (Contains c.args.edges.now) c.args.ids.now) c.in-Rest.is (all_taken (goal.at.cycle_of-requires-clause-some c).In_ok-taken) in
     rw c.deref-in-Rest-3.ensures.value left.some
 
 pub cycle_of-requires-clause-stuck : goal.cycle_of-requires-clause-stuck
 cycle_of-requires-clause-stuck c =
-    let ids = c.args.ids.now in
-    let edges = c.args.edges.now in
-    let taken = list_taken ids c.requires.ids edges c.in_ok-steps.steps.items c.in_ok-steps.ensures c.requires.joins c.in_ok-taken.taken
-    (subst (λ (l : List ℕ). AreTakenNodes 0 ids l c.in_ok-taken.taken) c.deref.ensures.value c.in_ok-taken.ensures) in
-    let left = subst (IsTaken (Contains ids) (Contains edges) ids) c.in-Rest.is taken in
+    let left = subst (IsTaken (Contains c.args.ids.now) (Contains c.args.edges.now) c.args.ids.now) c.in-Rest.is (all_taken (goal.at.cycle_of-requires-clause-stuck c).In_ok-taken) in
     (left.stuck, left.is_stuck, rw c.deref-in-Rest-3.ensures.value left.each)
 
 pub returns : goal.returns
 returns c =
-    let ids = c.args.ids.now in
-    let edges = c.args.edges.now in
-    let taken = list_taken ids c.requires.ids edges c.in_ok-steps.steps.items c.in_ok-steps.ensures c.requires.joins c.in_ok-taken.taken
-    (subst (λ (l : List ℕ). AreTakenNodes 0 ids l c.in_ok-taken.taken) c.deref.ensures.value c.in_ok-taken.ensures) in
-    let left = subst (IsTaken (Contains ids) (Contains edges) ids) c.in-Rest.is taken in
+    let left = subst (IsTaken (Contains c.args.ids.now) (Contains c.args.edges.now) c.args.ids.now) c.in-Rest.is (all_taken (goal.at.returns c).In_ok-taken) in
     (left.none_keeps, c.in_ok-cycle-in-Rest.ensures)
 
 pub steps_between-requires-clause-joins : goal.steps_between-requires-clause-joins

@@ -6,15 +6,13 @@ use Rattle.sia_parts.specs.declared.looks.Look.{Look}
 use Rattle.sia_parts.specs.Sights.{FromSome}
 use Rattle.sia_graph.specs.Early.{IsEarly}
 use Rattle.sia_graph.specs.Ranks.{IsLeastRank}
+use Rattle.sia_graph.proofs.Defaults.{no_look}
 use Rattle.sia_graph.proofs.EvidenceNumbers.{few_txns, made_at}
 use Rattle.sia_graph.proofs.LeastRanks.{least_same}
 use Rattle.sia_graph.proofs.LimitRanks.{IsMadeWithin, made_more, made_same}
 use Rattle.sia_graph.proofs.VersionRanks.{row_at}
 use Rattle.sia_graph.proofs.narrow.limits.least_early.Goals.{then-is_within, else-is_within}
 use Rattle.sia_graph.proofs.narrow.limits.least_early.Goals as goal
-
-abbrev none : Look
-none = record { txn = 0; key = 0; low = 0; high = 0 }
 
 pub is_within-requires-clause-are : goal.is_within-requires-clause-are
 is_within-requires-clause-are c = (c.args.evidence.now.looks.now, c.args.limits.now, c.in_ok-earlier.ensures.made)
@@ -29,7 +27,7 @@ is_within-requires-clause-within c =
 pub is_within-requires-clause-key : goal.is_within-requires-clause-key
 is_within-requires-clause-key c =
     let e = c.args.evidence.now in
-    let at = made_at e.index.now e.txns.now e.keys.now e.looks.now c.requires.evidence c.as_slice-writers.result.now c.as_slice-writers.ensures.value c.loop-at.at none c.loop-at-test.true in
+    let at = made_at e.index.now e.txns.now e.keys.now e.looks.now c.requires.evidence c.as_slice-writers.result.now c.as_slice-writers.ensures.value c.loop-at.at no_look c.loop-at-test.true in
     let size = c.in_ok-earlier.ensures.size in
     let below = at.0 in
     omega arith
@@ -44,14 +42,14 @@ loop-at-preserved c =
     let below = c.loop-at-test.true in
     let least = c.loop-at.least in
     let before = c.loop-at.invariant in
-    let test = c.is_within.ensures looks limits c.in_ok-earlier.ensures.made (row_at writers looks.writers.items c.as_slice-writers.ensures.value n none below) in
+    let test = c.is_within.ensures looks limits c.in_ok-earlier.ensures.made (row_at writers looks.writers.items c.as_slice-writers.ensures.value n no_look below) in
     let Made = λ (r : ℕ). IsLeastRank (FromSome (IsMadeWithin looks limits) (take (n + 1) writers)) r in
     elim c.if-is_within.branch [
       | then-is_within w ↦
           let few = few_txns e.index.now e.txns.now e.keys.now looks c.requires.evidence in
-          let at = (made_at e.index.now e.txns.now e.keys.now looks c.requires.evidence writers c.as_slice-writers.ensures.value n none below).1 in
-          subst Made (sym (w.least-is ∙ w.min-least.ensures)) (made_more looks limits writers n none below least before (omega arith) (test.0 w.if-is_within.true))
-      | else-is_within w ↦ subst Made (sym w.least-is) (made_same looks limits writers n none below least before (λ within. false≢true (sym w.if-is_within.false ∙ test.1 within)))
+          let at = (made_at e.index.now e.txns.now e.keys.now looks c.requires.evidence writers c.as_slice-writers.ensures.value n no_look below).1 in
+          subst Made (sym (w.least-is ∙ w.min-least.ensures)) (made_more looks limits writers n no_look below least before (omega arith) (test.0 w.if-is_within.true))
+      | else-is_within w ↦ subst Made (sym w.least-is) (made_same looks limits writers n no_look below least before (λ within. false≢true (sym w.if-is_within.false ∙ test.1 within)))
     ]
 
 pub returns : goal.returns

@@ -5,12 +5,10 @@ use Rattle.sia_parts.specs.declared.lifetimes.Lifetime.{Lifetime}
 use Rattle.sia_graph.specs.Limits.{AreLimits, IsLimit}
 use Rattle.sia_graph.specs.Ranks.{AreRanks, IsLeastRank, IsRankOf}
 use Rattle.sia_graph.specs.Sources.{AreLeastOfSources, IsSource}
+use Rattle.sia_graph.proofs.Defaults.{no_lifetime}
 use Rattle.sia_graph.proofs.LimitRanks.{table_more}
 use Rattle.sia_graph.proofs.LooksPass.{limits_tell, ranks_apart}
 use Rattle.sia_graph.proofs.narrow.limits.limits_in.Goals as goal
-
-abbrev none : Lifetime
-none = record { start = 0; commit = 0 }
 
 abbrev rank_of : Lifetime → ℕ
 rank_of lifetime = 4294967294 - lifetime.commit
@@ -46,7 +44,7 @@ loop-t-preserved c =
     let below = c.loop-t-test.true in
     let P : ℕ → ℕ → Type 0 = λ j v. (f : Lifetime) → IsLimit looks ranks j (get_or lifetimes j f).commit v in
     let least = subst (λ r. IsLeastRank (λ q. (m : ℕ) × IsSource looks m t × IsRankOf ranks m q) r) (get_or_default sources t 0 _ (omega arith)) (are.1 t (omega arith)) in
-    let here : P t c.limit_of.result = λ f. subst (λ (x : Lifetime). IsLimit looks ranks t x.commit c.limit_of.result) (get_or_default lifetimes t none f c.loop-t-test.true) (c.limit_of.ensures looks ranks t least) in (
+    let here : P t c.limit_of.result = λ f. subst (λ (x : Lifetime). IsLimit looks ranks t x.commit c.limit_of.result) (get_or_default lifetimes t no_lifetime f c.loop-t-test.true) (c.limit_of.ensures looks ranks t least) in (
       ap (length {A = ℕ}) c.in_ok-push.ensures.items ∙ length_push limits c.limit_of.result ∙ ap (λ n. n + 1) long,
       λ i d e l.
           let more = table_more P t limits c.limit_of.result long (λ j g m f. c.loop-t.invariant.1 j f g m) here i e l d in

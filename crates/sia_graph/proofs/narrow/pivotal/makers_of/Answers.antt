@@ -4,15 +4,13 @@ use Rattle.std.specs.Prelude.{IsTrue}
 use Rattle.std.proofs.lemmas.Bool.{cases_lt}
 use Rattle.std.proofs.lemmas.List.{get_or_default, get_or-set_same, length-replicate, length-set}
 use Rattle.sia_parts.specs.declared.looks.Look.{Look}
+use Rattle.sia_graph.proofs.Defaults.{no_look}
 use Rattle.sia_graph.proofs.NoPivotal.{still_marked}
 use Rattle.sia_graph.proofs.narrow.pivotal.makers_of.Goals as goal
 
-abbrev none : Look
-none = record { txn = 0; key = 0; low = 0; high = 0 }
-
 pub index_mut-requires : goal.index_mut-requires
 index_mut-requires c =
-    let within = c.requires c.loop-look.look-index none c.loop-look-test.true in
+    let within = c.requires c.loop-look.look-index no_look c.loop-look-test.true in
     let long = c.loop-look.invariant.0 in
     let ok = c.loop-look.makers.ok in
     omega arith
@@ -25,15 +23,15 @@ loop-look-preserved c =
     let versions = c.args.versions.now in
     let n = c.loop-look.look-index in
     let marks = c.loop-look.makers.items in
-    let t = (get_or versions n none).txn in
-    let within = c.requires n none c.loop-look-test.true in
+    let t = (get_or versions n no_look).txn in
+    let within = c.requires n no_look c.loop-look-test.true in
     let long = c.loop-look.invariant.0 in (
       length-set marks t true ∙ long,
       λ k d less l. elim (cases_lt k n) [
         | inl before ↦ still_marked marks t (get_or versions k d).txn (omega arith) (c.loop-look.invariant.1 k d before l)
         | inr more ↦
             let here : n ≡ k = omega arith in
-            let same : t ≡ (get_or versions k d).txn = ap (λ j. (get_or versions j none).txn) here ∙ ap (λ (look : Look). look.txn) (get_or_default versions k none d l) in
+            let same : t ≡ (get_or versions k d).txn = ap (λ j. (get_or versions j no_look).txn) here ∙ ap (λ (look : Look). look.txn) (get_or_default versions k no_look d l) in
             subst (λ u. IsTrue (get_or (set marks t true) u false)) same (get_or-set_same marks t true false (omega arith))
       ],
     )

@@ -3,15 +3,10 @@ use Rattle.std.proofs.Common.{◌≡◌, ℕ, ◌+◌, ◌-◌, ◌<◌, List, l
 use Rattle.std.proofs.lemmas.List.{get_or_default}
 use Rattle.sia_parts.specs.declared.looks.Look.{Look}
 use Rattle.sia_graph.specs.declared.narrow.two.Two.{Two}
+use Rattle.sia_graph.proofs.Defaults.{no_look, no_two}
 use Rattle.sia_graph.proofs.VersionRanks.{AddedUpTo, added_all, added_more, added_none, added_same}
 use Rattle.sia_graph.proofs.narrow.ranked.add_earlier.Goals.{then-versions-i, else-versions-i}
 use Rattle.sia_graph.proofs.narrow.ranked.add_earlier.Goals as goal
-
-abbrev none : Look
-none = record { txn = 0; key = 0; low = 0; high = 0 }
-
-abbrev no_two : Two
-no_two = record { least = 0; next = 0 }
 
 pub loop-i-init : goal.loop-i-init
 loop-i-init c entries ranks are = added_none c.args.versions.now c.requires.search entries ranks c.args.twos.now are
@@ -25,7 +20,7 @@ loop-i-preserved c entries ranks are =
     let within = c.loop-i-test.true in
     let long : length twos ≡ length versions = c.loop-i.auto.twos ∙ c.requires.long in
     let before : i - 1 < length versions = omega arith in
-    let at : (n : ℕ) → n < length versions → (d : Look) → (get_or versions n d).key ≡ (get_or versions n none).key = λ n l d. ap (λ (look : Look). look.key) (get_or_default versions n d none l) in
+    let at : (n : ℕ) → n < length versions → (d : Look) → (get_or versions n d).key ≡ (get_or versions n no_look).key = λ n l d. ap (λ (look : Look). look.key) (get_or_default versions n d no_look l) in
     let two_at : (n : ℕ) → n < length versions → (e : Two) → get_or twos n e ≡ get_or twos n no_two = λ n l e. get_or_default twos n e no_two (subst (λ m. n < m) (sym long) l) in
     let Added = λ (ts : List Two). AddedUpTo versions entries ranks (i + 1) ts in
     elim c.if-versions-i.branch [

@@ -8,12 +8,10 @@ use Rattle.sia_graph.specs.declared.narrow.two.Two.{Two}
 use Rattle.sia_graph.specs.Absences.{AreTwosAt}
 use Rattle.sia_graph.specs.VersionRanks.{AreTwos}
 use Rattle.sia_parts.proofs.NextVersions.{if_not_there, if_there, look_next, next_stands, some_of}
+use Rattle.sia_graph.proofs.Defaults.{no_look}
 use Rattle.sia_graph.proofs.VersionRanks.{AreMarks, marks_more, marks_same, no_marks, none_yet, of_readers, written}
 use Rattle.sia_graph.proofs.narrow.ranked.twos_of_readers.Goals.{then-is_some, else-is_some}
 use Rattle.sia_graph.proofs.narrow.ranked.twos_of_readers.Goals as goal
-
-abbrev none : Look
-none = record { txn = 0; key = 0; low = 0; high = 0 }
 
 pub loop-i-init : goal.loop-i-init
 loop-i-init c =
@@ -35,12 +33,12 @@ loop-i-preserved c =
     let ranks = c.args.ranks.now in
     let n = c.loop-i.i in
     let twos = c.loop-i.twos in
-    let look = get_or readers n none in
+    let look = get_or readers n no_look in
     let before = c.loop-i.invariant in
     let entries = before.1 in
     let at = get_or c.args.places.now n 0 in
-    let place = c.requires.places.each n none c.loop-i-test.true in
-    let more = take_more readers n none c.loop-i-test.true in
+    let place = c.requires.places.each n no_look c.loop-i-test.true in
+    let more = take_more readers n no_look c.loop-i-test.true in
     elim c.if-is_some.branch [
       | then-is_some w ↦
           let next = if_there (IsNextAt versions look.key look.low at) c.look_at.result (sym c.is_some.ensures ∙ w.if-is_some.true)

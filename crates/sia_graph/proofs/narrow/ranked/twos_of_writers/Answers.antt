@@ -1,15 +1,12 @@
 -- One version more each time, and in the end what stands with earlier ones.
 use Rattle.std.proofs.Common.{ap, ◌≡◌, ℕ, List, [], ◌∷◌, ◌++◌, drop, get_or, length, subst, sym, ◌∙◌, rules, arith}
 use Rattle.std.proofs.lemmas.List.{get_or_default}
-use Rattle.sia_parts.specs.declared.looks.Look.{Look}
 use Rattle.sia_graph.specs.declared.narrow.two.Two.{Two}
 use Rattle.sia_graph.specs.Absences.{AreTwosAt}
 use Rattle.sia_graph.specs.VersionRanks.{AreTwos}
+use Rattle.sia_graph.proofs.Defaults.{no_look}
 use Rattle.sia_graph.proofs.VersionRanks.{no_own, none_yet, of_writers, own_more, written}
 use Rattle.sia_graph.proofs.narrow.ranked.twos_of_writers.Goals as goal
-
-abbrev none : Look
-none = record { txn = 0; key = 0; low = 0; high = 0 }
 
 pub loop-i-init : goal.loop-i-init
 loop-i-init c =
@@ -25,7 +22,7 @@ loop-i-preserved c =
     let ranks = c.args.ranks.now in
     let i = c.loop-i.i in
     let twos = c.loop-i.twos in
-    let made = get_or versions i none in
+    let made = get_or versions i no_look in
     let before = c.loop-i.invariant in
     let entries = before.1 in
     let written_twos = c.put_rank.new.twos in
@@ -34,7 +31,7 @@ loop-i-preserved c =
     let new : List (ℕ × ℕ) = entries ++ (i, made.txn) ∷ [] in (
       ap (length {A = Two}) is ∙ long ∙ (let o = twos.ok in let l = before.0 in omega arith),
       new,
-      own_more versions c.requires.search i entries made (λ d. get_or_default versions i d none c.loop-i-test.true) before.2,
+      own_more versions c.requires.search i entries made (λ d. get_or_default versions i d no_look c.loop-i-test.true) before.2,
       subst (AreTwosAt new ranks) (sym is) (c.put_rank.ensures entries (subst (AreTwosAt entries ranks) (sym c.deref_mut.ensures.value) before.3)),
     )
 

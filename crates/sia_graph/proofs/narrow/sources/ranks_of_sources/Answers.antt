@@ -4,18 +4,17 @@ use Rattle.std.proofs.lemmas.List.{get_or-replicate, get_or_default, length-repl
 use Rattle.sia_parts.specs.declared.looks.Look.{Look}
 use Rattle.sia_parts.specs.Sights.{FromSome}
 use Rattle.sia_graph.specs.Ranks.{IsLeastRank}
+use Rattle.sia_graph.proofs.Defaults.{no_look}
 use Rattle.sia_graph.proofs.EvidenceNumbers.{made_at}
 use Rattle.sia_graph.proofs.LeastRanks.{least_bound, least_same}
 use Rattle.sia_graph.proofs.Previous.{AreLoweredBy, lowered_more, none_lowered}
 use Rattle.sia_graph.proofs.SourceRanks.{IsSourceBy, from_all}
 use Rattle.sia_graph.proofs.VersionRanks.{row_at}
+use Rattle.sia_graph.proofs.narrow.sources.ranks_of_sources.Goals.{In-loop-at}
 use Rattle.sia_graph.proofs.narrow.sources.ranks_of_sources.Goals as goal
 
 min_bound : (r : ℕ) → r ≤ 4294967295 → min 4294967295 r ≡ r
 min_bound r bound = omega arith
-
-abbrev none : Look
-none = record { txn = 0; key = 0; low = 0; high = 0 }
 
 pub loop-at-init : goal.loop-at-init
 loop-at-init c =
@@ -32,60 +31,43 @@ least-rank-requires-clause-within c =
     let below = c.loop-at-test.true in
     omega arith
 
+-- the key and the transaction of the version at hand have numbers, and the transaction is among those that are lowered
+module _ (c : In-loop-at) where
+  made : ((get_or c.as_slice-writers.result.now c.loop-at.at no_look).key < length c.args.evidence.now.keys.now) × ((get_or c.as_slice-writers.result.now c.loop-at.at no_look).txn < length c.args.ranks.now)
+  made =
+      let at = made_at _ _ _ _ c.requires.is c.as_slice-writers.result.now c.as_slice-writers.ensures.value c.loop-at.at no_look c.loop-at-test.true in
+      (at.0, subst (λ n. (get_or c.as_slice-writers.result.now c.loop-at.at no_look).txn < n) (sym c.requires.long) at.1)
+
+  lowered : (get_or c.as_slice-writers.result.now c.loop-at.at no_look).txn < length c.loop-at.least.items
+  lowered = subst (λ n. (get_or c.as_slice-writers.result.now c.loop-at.at no_look).txn < n) (sym (c.loop-at.invariant.0 ∙ length-replicate (length c.args.ranks.now) 4294967295)) made.1
+
 pub least-rank-requires-clause-key : goal.least-rank-requires-clause-key
-least-rank-requires-clause-key c =
-    let e = c.args.evidence.now in
-    let at = made_at e.index.now e.txns.now e.keys.now e.looks.now c.requires.is c.as_slice-writers.result.now c.as_slice-writers.ensures.value c.loop-at.at none c.loop-at-test.true in
-    let size = c.in_ok-earlier.ensures.size in
-    let below = at.0 in
-    omega arith
+least-rank-requires-clause-key c = let at = made (goal.at.least-rank-requires-clause-key c).In-loop-at in let size = c.in_ok-earlier.ensures.size in omega arith
 
 pub bounds-ranks-t : goal.bounds-ranks-t
-bounds-ranks-t c =
-    let e = c.args.evidence.now in
-    let at = made_at e.index.now e.txns.now e.keys.now e.looks.now c.requires.is c.as_slice-writers.result.now c.as_slice-writers.ensures.value c.loop-at.at none c.loop-at-test.true in
-    let long = c.requires.long in
-    let below = at.1 in
-    omega arith
+bounds-ranks-t c = (made (goal.at.bounds-ranks-t c).In-loop-at).1
 
 pub index-requires : goal.index-requires
-index-requires c =
-    let e = c.args.evidence.now in
-    let at = made_at e.index.now e.txns.now e.keys.now e.looks.now c.requires.is c.as_slice-writers.result.now c.as_slice-writers.ensures.value c.loop-at.at none c.loop-at-test.true in
-    let long = c.requires.long in
-    let below = at.1 in
-    let same = c.loop-at.invariant.0 ∙ length-replicate (length c.args.ranks.now) 4294967295 in
-    let ok = c.loop-at.least.ok in
-    omega arith
+index-requires c = let below = lowered (goal.at.index-requires c).In-loop-at in let ok = c.loop-at.least.ok in omega arith
 
 pub index_mut-requires : goal.index_mut-requires
-index_mut-requires c =
-    let e = c.args.evidence.now in
-    let at = made_at e.index.now e.txns.now e.keys.now e.looks.now c.requires.is c.as_slice-writers.result.now c.as_slice-writers.ensures.value c.loop-at.at none c.loop-at-test.true in
-    let long = c.requires.long in
-    let below = at.1 in
-    let same = c.loop-at.invariant.0 ∙ length-replicate (length c.args.ranks.now) 4294967295 in
-    let ok = c.loop-at.least.ok in
-    omega arith
+index_mut-requires c = let below = lowered (goal.at.index_mut-requires c).In-loop-at in let ok = c.loop-at.least.ok in omega arith
 
 pub loop-at-preserved : goal.loop-at-preserved
 loop-at-preserved c =
-    let e = c.args.evidence.now in
-    let looks = e.looks.now in
+    let looks = c.args.evidence.now.looks.now in
     let ranks = c.args.ranks.now in
     let writers = c.as_slice-writers.result.now in
     let n = c.loop-at.at in
-    let made = get_or writers n none in
+    let look = get_or writers n no_look in
     let least = c.loop-at.least.items in
     let before = c.loop-at.invariant in
-    let at = made_at e.index.now e.txns.now e.keys.now looks c.requires.is writers c.as_slice-writers.ensures.value n none c.loop-at-test.true in
-    let at_made = row_at writers looks.writers.items c.as_slice-writers.ensures.value n none c.loop-at-test.true in
-    let full = length-replicate (length ranks) 4294967295 in
-    let own = subst (λ n. made.txn < n) (sym (full ∙ c.requires.long)) at.1 in
-    let below = subst (λ n. made.txn < n) (sym before.0) own in
-    lowered_more (IsSourceBy looks ranks) (λ t r look is. is.1.2.2) (λ t r look is. is.0) writers (replicate (length ranks) 4294967295) n none c.loop-at-test.true least before own c.least-rank.result c.min.result
-    (least_same _ (IsSourceBy looks ranks made.txn made) c.least-rank.result (λ r is. (refl, is)) (λ r is. is.1) (c.least-rank.ensures looks ranks made c.in_ok-earlier.ensures.made at_made refl))
-    (c.min.ensures ∙ ap (λ m. min m c.least-rank.result) (c.index.ensures ∙ get_or_default least made.txn _ 0 below))
+    let at = (goal.at.loop-at-preserved c).In-loop-at in
+    let at_made = row_at writers looks.writers.items c.as_slice-writers.ensures.value n no_look c.loop-at-test.true in
+    let own = subst (λ n. look.txn < n) (sym (length-replicate (length ranks) 4294967295)) (made at).1 in
+    lowered_more (IsSourceBy looks ranks) (λ t r look is. is.1.2.2) (λ t r look is. is.0) writers (replicate (length ranks) 4294967295) n no_look c.loop-at-test.true least before own c.least-rank.result c.min.result
+    (least_same _ (IsSourceBy looks ranks look.txn look) c.least-rank.result (λ r is. (refl, is)) (λ r is. is.1) (c.least-rank.ensures looks ranks look c.in_ok-earlier.ensures.made at_made refl))
+    (c.min.ensures ∙ ap (λ m. min m c.least-rank.result) (c.index.ensures ∙ get_or_default least look.txn _ 0 (lowered at)))
 
 pub returns : goal.returns
 returns c =

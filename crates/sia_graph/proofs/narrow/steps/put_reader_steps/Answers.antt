@@ -7,15 +7,13 @@ use Rattle.sia_parts.specs.Versions.{IsNext}
 use Rattle.sia_graph.specs.NarrowSteps.{IsLookStep, IsNewestStep, IsNextStep}
 use Rattle.sia_parts.proofs.Adding.{adds_both, from_all, from_more}
 use Rattle.sia_parts.proofs.NextVersions.{look_next}
+use Rattle.sia_graph.proofs.Defaults.{no_look}
 use Rattle.sia_graph.proofs.NarrowSteps.{newest_put, next_put, no_newest, no_next}
 use Rattle.sia_graph.proofs.narrow.steps.put_reader_steps.Goals.{in-Some+in_ok-put_between, in-Some-newest_place+in_ok-put_between-2, in_default, in_default-newest_place}
 use Rattle.sia_graph.proofs.narrow.steps.put_reader_steps.Goals as goal
 
-abbrev none : Look
-none = record { txn = 0; key = 0; low = 0; high = 0 }
-
 pub newest_place-requires-clause-at : goal.newest_place-requires-clause-at
-newest_place-requires-clause-at c = c.requires.places.each c.loop-i.i none c.loop-i-test.true
+newest_place-requires-clause-at c = c.requires.places.each c.loop-i.i no_look c.loop-i-test.true
 
 pub loop-i-preserved : goal.loop-i-preserved
 loop-i-preserved c =
@@ -23,8 +21,8 @@ loop-i-preserved c =
     let writers = c.args.writers.now in
     let readers = c.args.readers.now in
     let i = c.loop-i.i in
-    let look = get_or readers i none in
-    let place = c.requires.places.each i none c.loop-i-test.true in
+    let look = get_or readers i no_look in
+    let place = c.requires.places.each i no_look c.loop-i-test.true in
     let can = c.requires.writers in
     let old = c.loop-i.steps.items in
     let mid = c.match-look_at.steps.items in
@@ -41,10 +39,10 @@ loop-i-preserved c =
       | in-Some-newest_place+in_ok-put_between-2 w ↦
           let new = w.put_between-in-Some-newest_place.new.steps.items in
           subst (Adds (IsNewestStep size writers look) mid) (sym (ap (λ v. v.items) w.steps-is))
-          (newest_put size writers can look mid new (get_or writers w.in-Some-newest_place.at none) (w.in-Some-newest_place.ensures.1 none) w.in_ok-put_between-2.ensures)
+          (newest_put size writers can look mid new (get_or writers w.in-Some-newest_place.at no_look) (w.in-Some-newest_place.ensures.1 no_look) w.in_ok-put_between-2.ensures)
       | in_default-newest_place w ↦ subst (Adds (IsNewestStep size writers look) mid) (sym (ap (λ v. v.items) w.steps-is)) (no_newest size writers look mid w.in_default-newest_place.ensures)
     ] in
-    from_more (IsLookStep size writers) readers i none _ _ _ c.loop-i-test.true c.loop-i.invariant
+    from_more (IsLookStep size writers) readers i no_look _ _ _ c.loop-i-test.true c.loop-i.invariant
     (adds_both (IsNextStep size writers look) (IsNewestStep size writers look) old mid _ first second)
 
 pub returns : goal.returns

@@ -1,14 +1,11 @@
 -- One version more each time, with the one before it.
 use Rattle.std.proofs.Common.{◌+◌, ◌-◌, ℕ, List, ap, get_or, sym, subst, arith}
-use Rattle.sia_parts.specs.declared.looks.Look.{Look}
 use Rattle.sia_parts.specs.Sights.{Adds}
 use Rattle.sia_parts.proofs.Adding.{adds_same}
+use Rattle.sia_graph.proofs.Defaults.{no_look}
 use Rattle.sia_graph.proofs.WriterSteps.{FromNeighbours, IsStepTo, neighbours_all, neighbours_more, neighbours_same, no_neighbours}
 use Rattle.sia_graph.proofs.narrow.steps.put_writer_steps.Goals.{then-versions-i+in_ok-put_between, else-versions-i}
 use Rattle.sia_graph.proofs.narrow.steps.put_writer_steps.Goals as goal
-
-abbrev none : Look
-none = record { txn = 0; key = 0; low = 0; high = 0 }
 
 pub loop-i-init : goal.loop-i-init
 loop-i-init c = no_neighbours c.args.size c.args.versions.now c.args.steps.now.items
@@ -16,7 +13,7 @@ loop-i-init c = no_neighbours c.args.size c.args.versions.now c.args.steps.now.i
 pub put_between-requires : goal.put_between-requires
 put_between-requires c =
     let few = c.requires.versions.search.few in
-    record { few = (c.requires.few, few (c.loop-i.i - 1) none (let l = c.loop-i-test.true in omega arith), few c.loop-i.i none c.loop-i-test.true) }
+    record { few = (c.requires.few, few (c.loop-i.i - 1) no_look (let l = c.loop-i-test.true in omega arith), few c.loop-i.i no_look c.loop-i-test.true) }
 
 pub loop-i-preserved : goal.loop-i-preserved
 loop-i-preserved c =
@@ -32,7 +29,7 @@ loop-i-preserved c =
           let new = w.put_between.new.steps.items in
           subst Added (sym (ap (λ v. v.items) w.steps-is))
           (neighbours_more size versions i more c.loop-i-test.true old mid new c.loop-i.invariant
-          (adds_same _ (IsStepTo size (get_or versions (i - 1) none) (get_or versions i none)) mid new
+          (adds_same _ (IsStepTo size (get_or versions (i - 1) no_look) (get_or versions i no_look)) mid new
           (λ n is. (w.if-versions-i.true, is.0, is.1))
           (λ n is. (is.1, is.2)) w.in_ok-put_between.ensures))
       | else-versions-i w ↦

@@ -10,6 +10,7 @@ use Rattle.sia_graph.proofs.OneTaken.{smaller, none_left}
 use Rattle.sia_graph.proofs.Places.{group_joins}
 use Rattle.sia_graph.proofs.ReadyPlaces.{ready_released, ready_within}
 use Rattle.sia_graph.proofs.TakenPlaces.{no_place_taken, place_fits, taken_place}
+use Rattle.sia_graph.proofs.taking.by_steps.take_steps.Goals.{In-Some}
 use Rattle.sia_graph.proofs.taking.by_steps.take_steps.Goals as goal
 
 pub loop-place-init : goal.loop-place-init
@@ -32,23 +33,23 @@ of-requires-clause-few c = let long = length-range_with_len 0 c.args.places in l
 pub of-requires-clause-within : goal.of-requires-clause-within
 of-requires-clause-within c k d l = let long = length-range_with_len 0 c.args.places in let a = (c.requires.steps.joins k d l).0 in omega arith
 
+-- what was next is one of the places
+below : (c : In-Some) → c.in-Some.place < length (range_with_len 0 c.args.places)
+below c =
+    ready_within (HasReady c.loop-place.behind) c.loop-place.end c.loop-place.counts (range_with_len 0 c.args.places) c.loop-place.invariant.1 c.loop-place.invariant.2 c.loop-place.invariant.0.counted.0
+    c.in-Some.place c.in-Some.ensures.member
+
 pub leaving-requires : goal.leaving-requires
 leaving-requires c =
-    let ids = range_with_len 0 c.args.places in
-    let counts = c.loop-place.counts in
-    let long = c.loop-place.invariant.0.counted.0 in
-    let p = c.in-Some.place in
-    let below = ready_within (HasReady c.loop-place.behind) c.loop-place.end counts ids c.loop-place.invariant.1 c.loop-place.invariant.2 long p c.in-Some.ensures.member in
+    let l = below (goal.at.leaving-requires c).In-Some in
     let many = length-range_with_len 0 c.args.places in
     (c.args.places, c.args.steps.now, c.in_ok-rows.ensures, omega arith)
 
 pub release-requires-clause-within : goal.release-requires-clause-within
 release-requires-clause-within c k d l =
     let ids = range_with_len 0 c.args.places in
-    let counts = c.loop-place.counts in
     let long = c.loop-place.invariant.0.counted.0 in
-    let p = c.in-Some.place in
-    let below = ready_within (HasReady c.loop-place.behind) c.loop-place.end counts ids c.loop-place.invariant.1 c.loop-place.invariant.2 long p c.in-Some.ensures.member in
+    let b = below (goal.at.release-requires-clause-within c).In-Some in
     let many = length-range_with_len 0 c.args.places in
     let a = group_joins ids c.args.steps.now c.requires.steps c.in-Some.place c.leaving.result.now (c.leaving.ensures c.args.places c.args.steps.now c.in_ok-rows.ensures (omega arith)) k d l in
     omega arith
@@ -58,24 +59,22 @@ release-requires-clause-enough c i l =
     let ids = range_with_len 0 c.args.places in
     let counts = c.loop-place.counts in
     let long = c.loop-place.invariant.0.counted.0 in
-    let p = c.in-Some.place in
-    let below = ready_within (HasReady c.loop-place.behind) c.loop-place.end counts ids c.loop-place.invariant.1 c.loop-place.invariant.2 long p c.in-Some.ensures.member in
+    let b = below (goal.at.release-requires-clause-enough c).In-Some in
     let many = length-range_with_len 0 c.args.places in
     place_fits ids c.args.steps.now c.requires.steps counts c.loop-place.order.items (IsReadyAt (HasReady c.loop-place.behind) c.loop-place.end counts) c.loop-place.invariant.0
-    p below c.in-Some.ensures.member c.leaving.result.now (c.leaving.ensures c.args.places c.args.steps.now c.in_ok-rows.ensures (omega arith)) i (omega arith)
+    c.in-Some.place b c.in-Some.ensures.member c.leaving.result.now (c.leaving.ensures c.args.places c.args.steps.now c.in_ok-rows.ensures (omega arith)) i (omega arith)
 
 pub loop-place-smaller : goal.loop-place-smaller
 loop-place-smaller c =
     let ids = range_with_len 0 c.args.places in
     let counts = c.loop-place.counts in
     let order = c.loop-place.order.items in
-    let long = c.loop-place.invariant.0.counted.0 in
     let p = c.in-Some.place in
-    let below = ready_within (HasReady c.loop-place.behind) c.loop-place.end counts ids c.loop-place.invariant.1 c.loop-place.invariant.2 long p c.in-Some.ensures.member in
-    let pushed = c.in_ok-push.ensures.items ∙ ap (λ n. order ++ n ∷ []) (sym (c.requires.steps.are_places p below)) in
+    let b = below (goal.at.loop-place-smaller c).In-Some in
+    let pushed = c.in_ok-push.ensures.items ∙ ap (λ n. order ++ n ∷ []) (sym (c.requires.steps.are_places p b)) in
     subst (λ l. left_over ids l < left_over ids order) (sym pushed)
     (smaller ids (edges_of_steps c.args.steps.now) counts order (StandsWhere ids (IsReadyAt (HasReady c.loop-place.behind) c.loop-place.end counts)) c.loop-place.invariant.0 _
-    (p, below, refl, c.in-Some.ensures.member))
+    (p, b, refl, c.in-Some.ensures.member))
 
 pub loop-place-preserved : goal.loop-place-preserved
 loop-place-preserved c =
@@ -86,19 +85,19 @@ loop-place-preserved c =
     let p = c.in-Some.place in
     let group = c.leaving.result.now in
     let was : length counts ≡ length ids = c.loop-place.invariant.0.counted.0 in
-    let below = ready_within (HasReady c.loop-place.behind) c.loop-place.end counts ids c.loop-place.invariant.1 c.loop-place.invariant.2 was p c.in-Some.ensures.member in
+    let b = below (goal.at.loop-place-preserved c).In-Some in
     let many = length-range_with_len 0 c.args.places in
     let from = c.leaving.ensures c.args.places steps c.in_ok-rows.ensures (omega arith) in
-    let same : length less ≡ length counts = let b = c.release.auto.counts in omega arith in
+    let same : length less ≡ length counts = let a = c.release.auto.counts in omega arith in
     let long : length less ≡ length ids = omega arith in
     let end = c.next_ready.new.end in
     let next = c.next_ready.new.behind in
     let after = c.release.new.behind in
-    let pushed = c.in_ok-push.ensures.items ∙ ap (λ n. c.loop-place.order.items ++ n ∷ []) (sym (c.requires.steps.are_places p below)) in
+    let pushed = c.in_ok-push.ensures.items ∙ ap (λ n. c.loop-place.order.items ++ n ∷ []) (sym (c.requires.steps.are_places p b)) in
     let noted = c.in_ok-release.ensures.behind in (
       subst (λ l. IsTaking ids (edges_of_steps steps) less l (StandsWhere ids (IsReadyAt (HasReady after) end less))) (sym pushed)
           (taken_place ids steps c.requires.steps counts c.loop-place.order.items (IsReadyAt (HasReady c.loop-place.behind) c.loop-place.end counts) c.loop-place.invariant.0
-          p below c.in-Some.ensures.member group from (IsReadyAt (HasReady next) end counts) (IsReadyAt (HasReady after) end less) less long
+          p b c.in-Some.ensures.member group from (IsReadyAt (HasReady next) end counts) (IsReadyAt (HasReady after) end less) less long
           c.in-Some.ensures.least (λ q l. c.in-Some.ensures.taken q)
           (λ i l. c.in_ok-release.ensures.fewer i (omega arith))
           (λ i l. ready_released (HasReady next) (HasReady after) end counts less group same c.in_ok-release.ensures.fewer noted i (omega arith))),
