@@ -1,5 +1,6 @@
 -- What an accepted text is answered, from what its history is.
 use Rattle.std.proofs.Common.{◌≢◌, inr, ℕ, List, Err, refl}
+use Rattle.sia_events.specs.Limits.{Limits}
 use Rattle.sia_events.specs.declared.event.Event.{Event}
 use Rattle.sia_events.specs.Text.{StandsFor}
 use Rattle.sia_events.specs.declared.fault.TextFault.{TextFault}
@@ -14,17 +15,17 @@ use Rattle.si_audit.specs.Answering.{IsOutcomeOf, IsReportOf}
 use Rattle.si_audit.specs.Outcomes.{IsOutcome}
 use Rattle.si_audit.specs.Report.{IsReport}
 
-module _ (text : List ℕ) (h : List Event) where
-  pub report_of_text : (form : Form) (bytes : List ℕ) → IsAccepted text → StandsFor text h → IsReportOf form h bytes → IsReport form text bytes
+module _ (limits : Limits) (text : List ℕ) (h : List Event) where
+  pub report_of_text : (form : Form) (bytes : List ℕ) → IsAccepted limits text → StandsFor text h → IsReportOf form h bytes → IsReport limits form text bytes
   report_of_text form bytes accepted stands is = inr (h, is.0, accepted, stands, is.1, is.2)
 
-  pub outcome_of_text : (level : Level) (outcome : Outcome) → IsAccepted text → StandsFor text h → IsOutcomeOf level h outcome → IsOutcome level text outcome
+  pub outcome_of_text : (level : Level) (outcome : Outcome) → IsAccepted limits text → StandsFor text h → IsOutcomeOf level h outcome → IsOutcome limits level text outcome
   outcome_of_text level Refused accepted stands is = absurd is
   outcome_of_text level Clean accepted stands is = (h, accepted, stands, is)
   outcome_of_text level Faulty accepted stands is = (h, accepted, stands, is)
 
 -- a text that reads as a fault other than want of memory has this refusal
-pub refusal_of : (text : List ℕ) (fault : TextFault) → fault ≢ NoMemory → ReadsAs text (Err fault) → IsRefusal text fault
-refusal_of text NoMemory other reads = absurd (other refl)
-refusal_of text TextTooLong other reads = reads
-refusal_of text (Refused token reason) other reads = reads
+pub refusal_of : (limits : Limits) (text : List ℕ) (fault : TextFault) → fault ≢ NoMemory → ReadsAs limits text (Err fault) → IsRefusal limits text fault
+refusal_of limits text NoMemory other reads = absurd (other refl)
+refusal_of limits text TextTooLong other reads = reads
+refusal_of limits text (Refused token reason) other reads = reads

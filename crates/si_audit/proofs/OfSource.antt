@@ -1,6 +1,7 @@
 -- What holds of the bytes that a source had, and of what was written of them.
 use Rattle.std.proofs.Common.{◌≡◌, ℕ, List, ◌++◌, Option, Some, None, IfSome, subst}
 use Rattle.std.specs.Io.KnownBytes.{Appends}
+use Rattle.sia_events.specs.Limits.{Limits}
 use Rattle.si_audit.specs.declared.cli.form.Form.{Form}
 use Rattle.si_audit.specs.Report.{IsReport}
 
@@ -10,6 +11,6 @@ of_source P Stands None stands f = tt
 of_source P Stands (Some text) stands f = f text stands
 
 -- a front of the report was written
-pub front_written : (form : Form) (taken now : Option (List ℕ)) (text bytes : List ℕ) → IsReport form text bytes → (front rest : List ℕ) → bytes ≡ front ++ rest → Appends taken now front
-    → (bs : List ℕ) × (more : List ℕ) × IsReport form text (bs ++ more) × Appends taken now bs
-front_written form taken now text bytes report front rest split wrote = (front, rest, subst (IsReport form text) split report, wrote)
+pub front_written : (limits : Limits) (form : Form) (taken now : Option (List ℕ)) (text bytes : List ℕ) → IsReport limits form text bytes → (front rest : List ℕ) → bytes ≡ front ++ rest → Appends taken now front
+    → (bs : List ℕ) × (more : List ℕ) × IsReport limits form text (bs ++ more) × Appends taken now bs
+front_written limits form taken now text bytes report front rest split wrote = (front, rest, subst (IsReport limits form text) split report, wrote)

@@ -2,6 +2,7 @@
 use Rattle.std.proofs.Common.{◌≡◌, inl, inr, ℕ, suc, List, [], ◌∷◌, ◌++◌, map, refl, ap, sym, subst, ◌∙◌, arith}
 use Rattle.std.specs.Prelude.{All, ⊤}
 use Rattle.std.specs.Bool.{one_answer}
+use Rattle.sia_events.specs.Limits.{Limits, greatest, AreWithin}
 use Rattle.sia_events.specs.declared.event.Event.{Event}
 use Rattle.sia_events.specs.declared.fault.TextFault.{TextFault}
 use Rattle.sia_events.specs.declared.fault.TextFault.TheVariants.{NoMemory, TextTooLong, Refused}
@@ -14,7 +15,7 @@ use Rattle.sia_events.specs.Replay.{IsSerializable}
 use Rattle.sia_events.proofs.Canonical.{spellings_injective}
 use Rattle.sia_events.proofs.OneRefusal.{one_refusal}
 use Rattle.sia_events.proofs.Locations.{one_location}
-use Rattle.sia_events.proofs.Histories.{accepted_well_formed}
+use Rattle.sia_events.proofs.Histories.{accepted_well_formed, greater_accept}
 use Rattle.sia_events.proofs.OneList.{one_list_by, one_count}
 use Rattle.sia_parts.specs.Entries.{IsEdge, bad_read_rank, bad_write_rank, unexplained_rank, edge_rank}
 use Rattle.sia_graph.specs.declared.pivot.Pivot.{Pivot}
@@ -26,7 +27,7 @@ use Rattle.si_audit.specs.Accounts.{IsAccount}
 use Rattle.si_audit.specs.declared.cli.form.Form.TheVariants.{Full, Brief, Explained}
 use Rattle.si_audit.specs.Lines.{refusal_line}
 use Rattle.si_audit.specs.RefusedPlaces.{TellsToken, place_line}
-use Rattle.si_audit.specs.Report.{OneReport, TellsAccount, TellsRefusal}
+use Rattle.si_audit.specs.Report.{OneReport, HasSameReport, TellsAccount, TellsRefusal}
 use Rattle.si_audit.proofs.OneExplanation.{IsOne, one_explained}
 
 -- a pivot's transaction tells its neighbours
@@ -101,13 +102,17 @@ one_account_told Full h wf a bytes others x y = x ∙ sym y
 one_account_told Brief h wf a bytes others x y = x ∙ sym y
 one_account_told Explained h wf a bytes others x y = one_explained h wf a bytes others x y
 
-pub one_report_of : (form : Form) (text : List ℕ) → OneReport form text
-one_report_of form text bytes others (inl p) (inl q) =
-    one_refusal_told form text q.0 bytes others (subst (λ fault. TellsRefusal form text fault bytes) (one_refusal text p.0 q.0 p.1 q.1) p.2) q.2
-one_report_of form text bytes others (inl p) (inr q) = absurd (q.2 p.0 p.1)
-one_report_of form text bytes others (inr p) (inl q) = absurd (p.2 q.0 q.1)
-one_report_of form text bytes others (inr p) (inr q) =
+pub one_report_of : (limits : Limits) → AreWithin limits greatest → (form : Form) (text : List ℕ) → OneReport limits form text
+one_report_of limits within form text bytes others (inl p) (inl q) =
+    one_refusal_told form text q.0 bytes others (subst (λ fault. TellsRefusal form text fault bytes) (one_refusal limits text p.0 q.0 p.1 q.1) p.2) q.2
+one_report_of limits within form text bytes others (inl p) (inr q) = absurd (q.2 p.0 p.1)
+one_report_of limits within form text bytes others (inr p) (inl q) = absurd (p.2 q.0 q.1)
+one_report_of limits within form text bytes others (inr p) (inr q) =
     let same = spellings_injective p.0 q.0 (sym p.3 ∙ q.3) in
     let account = one_account p.0 p.1 q.1 p.4 (subst (λ h. IsAccount h q.1) (sym same) q.4) in
-    one_account_told form q.0 (accepted_well_formed text q.0 q.2 q.3) q.1 bytes others
+    one_account_told form q.0 (accepted_well_formed limits text q.0 within q.2 q.3) q.1 bytes others
     (subst (λ a. TellsAccount form q.0 a bytes) account (subst (λ h. TellsAccount form h p.1 bytes) same p.5)) q.5
+
+pub same_report : (form : Form) (text : List ℕ) → HasSameReport form text
+same_report form text limits others bytes within accepted (inl p) = absurd (accepted p.0 p.1)
+same_report form text limits others bytes within accepted (inr p) = inr (p.0, p.1, greater_accept text limits others within accepted, p.3, p.4, p.5)

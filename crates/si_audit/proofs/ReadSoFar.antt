@@ -1,40 +1,43 @@
 -- A reader that stands for what a source gave stands for all that it had: at its end, and past the limit of a text.
 use Rattle.std.proofs.Common.{◌≡◌, ℕ, ◌+◌, ◌<◌, List, ◌++◌, Option, Some, None, IfSome, length, min, sym, ap, subst, ◌∙◌, arith, length-append, append-nil}
 use Rattle.std.specs.Io.KnownBytes.{Consumes, IsAtEnd}
+use Rattle.sia_events.specs.Limits.{Limits}
 use Rattle.sia_events.specs.Locating.{Located}
 use Rattle.sia_events.specs.Streaming.{Progress, StandsForRead}
 use Rattle.si_audit.specs.Receiving.{IsReceived}
 
 -- what is too long already stands for every text that goes on from it
-stands_longer : (r : Progress) (front rest : List ℕ) → 16777216 < length front → StandsForRead r front → StandsForRead r (front ++ rest)
-stands_longer r front rest long stands =
+stands_longer : (limits : Limits) (r : Progress) (front rest : List ℕ) → limits.bytes < length front → StandsForRead limits r front → StandsForRead limits r (front ++ rest)
+stands_longer limits r front rest long stands =
     let len : length (front ++ rest) ≡ length front + length rest = length-append front rest in
-    let same : min (length front) 16777217 ≡ min (length (front ++ rest)) 16777217 = omega arith in
+    let same : min (length front) (limits.bytes + 1) ≡ min (length (front ++ rest)) (limits.bytes + 1) = omega arith in
     record {
+      limits_are = stands.limits_are;
+      within = stands.within;
       counted = stands.counted ∙ same;
       judged = λ short. absurd (omega arith);
     }
 
 -- and what is located in it goes by texts within the limit alone
-received_longer : (IsWanted : Type 0) (l : Located) (r : Progress) (front rest : List ℕ) → 16777216 < length front → IsReceived IsWanted l r front → IsReceived IsWanted l r (front ++ rest)
-received_longer IsWanted l r front rest long received =
+received_longer : (limits : Limits) (IsWanted : Type 0) (l : Located) (r : Progress) (front rest : List ℕ) → limits.bytes < length front → IsReceived limits IsWanted l r front → IsReceived limits IsWanted l r (front ++ rest)
+received_longer limits IsWanted l r front rest long received =
     let len : length (front ++ rest) ≡ length front + length rest = length-append front rest in
-    (stands_longer r front rest long received.0, λ wanted short. absurd (omega arith))
+    (stands_longer limits r front rest long received.0, λ wanted short. absurd (omega arith))
 
-module _ (IsWanted : Type 0) (had left : Option (List ℕ)) (front : List ℕ) (l : Located) (r : Progress) where
-  pub at_the_end : Consumes had left front → IsAtEnd left → IsReceived IsWanted l r front → IfSome had (IsReceived IsWanted l r)
+module _ (limits : Limits) (IsWanted : Type 0) (had left : Option (List ℕ)) (front : List ℕ) (l : Located) (r : Progress) where
+  pub at_the_end : Consumes had left front → IsAtEnd left → IsReceived limits IsWanted l r front → IfSome had (IsReceived limits IsWanted l r)
   at_the_end = by_cases had left
     where
-      by_cases : (had left : Option (List ℕ)) → Consumes had left front → IsAtEnd left → IsReceived IsWanted l r front → IfSome had (IsReceived IsWanted l r)
+      by_cases : (had left : Option (List ℕ)) → Consumes had left front → IsAtEnd left → IsReceived limits IsWanted l r front → IfSome had (IsReceived limits IsWanted l r)
       by_cases None left consumed end received = tt
       by_cases (Some xs) None consumed end received = absurd consumed
       by_cases (Some xs) (Some ys) consumed end received =
-          subst (IsReceived IsWanted l r) (sym (consumed ∙ ap (λ (m : List ℕ). front ++ m) end ∙ append-nil front)) received
+          subst (IsReceived limits IsWanted l r) (sym (consumed ∙ ap (λ (m : List ℕ). front ++ m) end ∙ append-nil front)) received
 
-  pub past_the_limit : Consumes had left front → 16777216 < length front → IsReceived IsWanted l r front → IfSome had (IsReceived IsWanted l r)
+  pub past_the_limit : Consumes had left front → limits.bytes < length front → IsReceived limits IsWanted l r front → IfSome had (IsReceived limits IsWanted l r)
   past_the_limit = by_cases had left
     where
-      by_cases : (had left : Option (List ℕ)) → Consumes had left front → 16777216 < length front → IsReceived IsWanted l r front → IfSome had (IsReceived IsWanted l r)
+      by_cases : (had left : Option (List ℕ)) → Consumes had left front → limits.bytes < length front → IsReceived limits IsWanted l r front → IfSome had (IsReceived limits IsWanted l r)
       by_cases None left consumed long received = tt
       by_cases (Some xs) None consumed long received = absurd consumed
-      by_cases (Some xs) (Some ys) consumed long received = subst (IsReceived IsWanted l r) (sym consumed) (received_longer IsWanted l r front ys long received)
+      by_cases (Some xs) (Some ys) consumed long received = subst (IsReceived limits IsWanted l r) (sym consumed) (received_longer limits IsWanted l r front ys long received)

@@ -1,5 +1,6 @@
 -- The report of a text.
 use Rattle.std.specs.Prelude.{◌≡◌, ◌⊎◌, ◌≢◌, ℕ, List, [], ◌++◌, All, ⊤}
+use Rattle.sia_events.specs.Limits.{Limits, AreWithin}
 use Rattle.sia_events.specs.declared.event.Event.{Event}
 use Rattle.sia_events.specs.declared.fault.TextFault.{TextFault}
 use Rattle.sia_events.specs.Text.{StandsFor}
@@ -35,11 +36,15 @@ TellsAccount Full h a bytes = bytes ≡ report_text Full a
 TellsAccount Brief h a bytes = bytes ≡ report_text Brief a
 TellsAccount Explained h a bytes = IsExplained h a bytes
 
--- what this form tells of a refused text, or of the account of the history that an accepted one stands for
-abbrev pub IsReport : Form → List ℕ → List ℕ → Type 0
-IsReport form text bytes = ((fault : TextFault) × IsRefusal text fault × TellsRefusal form text fault bytes)
-    ⊎ ((h : List Event) × (a : Account) × IsAccepted text × StandsFor text h × IsAccount h a × TellsAccount form h a bytes)
+-- what this form tells of a text that the limits refuse, or of the account of the history that an accepted one stands for
+abbrev pub IsReport : Limits → Form → List ℕ → List ℕ → Type 0
+IsReport limits form text bytes = ((fault : TextFault) × IsRefusal limits text fault × TellsRefusal form text fault bytes)
+    ⊎ ((h : List Event) × (a : Account) × IsAccepted limits text × StandsFor text h × IsAccount h a × TellsAccount form h a bytes)
 
 -- there is no other report of the text in this form
-abbrev pub OneReport : Form → List ℕ → Type 0
-OneReport form text = (bytes : List ℕ) (others : List ℕ) → IsReport form text bytes → IsReport form text others → bytes ≡ others
+abbrev pub OneReport : Limits → Form → List ℕ → Type 0
+OneReport limits form text = (bytes : List ℕ) (others : List ℕ) → IsReport limits form text bytes → IsReport limits form text others → bytes ≡ others
+
+-- the report of a text that some limits accept is its report under all greater ones
+abbrev pub HasSameReport : Form → List ℕ → Type 0
+HasSameReport form text = (limits others : Limits) (bytes : List ℕ) → AreWithin limits others → IsAccepted limits text → IsReport limits form text bytes → IsReport others form text bytes

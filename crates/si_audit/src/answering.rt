@@ -1,5 +1,6 @@
 // What is written of a text, and how its run ends.
 ghost use Rattle.std.specs.Prelude.{◌≡◌, ◌≢◌, ◌↔◌, ℕ, List, IfOk, IsTrue};
+ghost use Rattle.sia_events.specs.Limits.{Limits};
 ghost use Rattle.sia_events.specs.declared.event.Event.{Event};
 ghost use Rattle.sia_events.specs.Locating.{StandsForLocated};
 ghost use Rattle.sia_events.specs.Refusals.{IsRefusal, IsWellFormed};
@@ -109,8 +110,8 @@ fn answer_to_refusal(
     locator: &Locator,
     o: &Options,
 ) -> Result<Answer, NoMemory>
-    ensures report { (bytes : List ℕ) (reader : Progress) → StandsForRead reader bytes → (o.now.form ≡ Form.Explained → StandsForLocated locator.now reader bytes)
-        → IsRefusal bytes fault.now → IfOk result (λ answer. TellsRefusal o.now.form bytes fault.now (text_of answer.sheets.items)) }
+    ensures report { (limits : Limits) (bytes : List ℕ) (reader : Progress) → StandsForRead limits reader bytes → (o.now.form ≡ Form.Explained → StandsForLocated limits locator.now reader bytes)
+        → IsRefusal limits bytes fault.now → IfOk result (λ answer. TellsRefusal o.now.form bytes fault.now (text_of answer.sheets.items)) }
     ensures line { o.now.form ≢ Form.Explained → IfOk result (λ answer. text_of answer.sheets.items ≡ refusal_line fault.now) }
     ensures outcome { IfOk result (λ answer. answer.outcome ≡ Outcome.Refused) }
 {
@@ -142,8 +143,8 @@ pub(crate) fn answer_to_text<T: Threads + Wait + Sync>(
     received: Received,
     o: &Options,
 ) -> Result<Answer, NoMemory>
-    ensures report { (bytes : List ℕ) → IsReceived (o.now.form ≡ Form.Explained) received.locator received.text bytes → IfOk result (λ answer. IsReport o.now.form bytes (text_of answer.sheets.items)) }
-    ensures outcome { (bytes : List ℕ) → StandsForRead received.text bytes → IfOk result (λ answer. IsOutcome o.now.level bytes answer.outcome) }
+    ensures report { (limits : Limits) (bytes : List ℕ) → IsReceived limits (o.now.form ≡ Form.Explained) received.locator received.text bytes → IfOk result (λ answer. IsReport limits o.now.form bytes (text_of answer.sheets.items)) }
+    ensures outcome { (limits : Limits) (bytes : List ℕ) → StandsForRead limits received.text bytes → IfOk result (λ answer. IsOutcome limits o.now.level bytes answer.outcome) }
 {
     let Received { text, locator } = received;
     match text.finish() {

@@ -1,5 +1,6 @@
 ghost use Rattle.std.specs.Prelude.{◌≡◌, ◌≢◌, ◌↔◌, ◌+◌, ◌≤◌, ℕ, List, ◌++◌, IfOk, IfErr, IfSome, OnOk, Err, IsTrue, IsFalse};
 ghost use Rattle.std.specs.Io.KnownBytes.{Appends, Keeps};
+ghost use Rattle.sia_events.specs.Limits.{standard};
 ghost use Rattle.si_audit.specs.Report.{IsReport};
 ghost use Rattle.si_audit.specs.Outcomes.{IsOutcome, status_of};
 
@@ -64,11 +65,11 @@ pub fn run<T: Threads + Wait + Sync, R: Source, W: Sink>(
     // What is written is the report of the text that the reader gives, in the form of the options, and not a byte more. The
     // outcome is that of the options' level.
     ensures report { IfOk result (λ outcome. IfSome (R.remaining reader.old) (λ text.
-        IsOutcome o.now.level text outcome × (bytes : List ℕ) × IsReport o.now.form text bytes × Appends (W.taken writer.old) (W.taken writer.new) bytes)) }
+        IsOutcome standard o.now.level text outcome × (bytes : List ℕ) × IsReport standard o.now.form text bytes × Appends (W.taken writer.old) (W.taken writer.new) bytes)) }
     ensures flushed { OnOk result (IsTrue (W.is_flushed writer.new)) }
 
     // At most so many reads gave bytes.
-    ensures reads { R.reads reader.new ≤ R.reads reader.old + 16777217 }
+    ensures reads { R.reads reader.new ≤ R.reads reader.old + standard.bytes + 1 }
 
     // Each fault comes exactly where its device failed.
     ensures read { (result ≡ Err RunFault.Read) ↔ IsTrue (R.has_failed reader.new) }
@@ -77,9 +78,9 @@ pub fn run<T: Threads + Wait + Sync, R: Source, W: Sink>(
     // What was written before a fault: nothing, or a front of the report, which is whole where no write was refused.
     ensures nothing { IfErr result (λ e. e ≢ RunFault.Write → Keeps (W.taken writer.old) (W.taken writer.new)) }
     ensures front { result ≡ Err RunFault.Write → IfSome (R.remaining reader.old) (λ text.
-        (bytes : List ℕ) × (rest : List ℕ) × IsReport o.now.form text (bytes ++ rest) × Appends (W.taken writer.old) (W.taken writer.new) bytes) }
+        (bytes : List ℕ) × (rest : List ℕ) × IsReport standard o.now.form text (bytes ++ rest) × Appends (W.taken writer.old) (W.taken writer.new) bytes) }
     ensures whole { result ≡ Err RunFault.Write → IsFalse (W.has_refused writer.new) → IfSome (R.remaining reader.old) (λ text.
-        (bytes : List ℕ) × IsReport o.now.form text bytes × Appends (W.taken writer.old) (W.taken writer.new) bytes) }
+        (bytes : List ℕ) × IsReport standard o.now.form text bytes × Appends (W.taken writer.old) (W.taken writer.new) bytes) }
 {
     let received = read_text(alloc, reader, o.form().is_explained())?;
     let answer = answer_to_text(rt, alloc, received, o)?;

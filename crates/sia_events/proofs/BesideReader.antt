@@ -5,6 +5,7 @@ use Rattle.std.specs.Option.{option_map, unwrap_or}
 use Rattle.std.proofs.lemmas.Bool.{cases_lt}
 use Rattle.std.proofs.lemmas.List.{length-append}
 use Rattle.std.proofs.lemmas.List.Elements.{recursion_from_All}
+use Rattle.sia_events.specs.Limits.{Limits}
 use Rattle.sia_events.specs.declared.fault.Reason.{Reason}
 use Rattle.sia_events.specs.declared.fault.TextFault.TheVariants.{Refused}
 use Rattle.sia_events.specs.Text.{spell, is_separator, tokens}
@@ -31,7 +32,7 @@ at_most_one (c ∷ cs) = omega arith
 
 -- ---- the tokens that a piece closes
 
-module _ (text piece closed rest further left : List ℕ) (old : IsCutAtLastSeparator text closed rest) (new : IsCutAtLastSeparator (text ++ piece) further left) where
+module _ (limits : Limits) (text piece closed rest further left : List ℕ) (old : IsCutAtLastSeparator text closed rest) (new : IsCutAtLastSeparator (text ++ piece) further left) where
   -- they come after those before
   closed_more : (more : List (List ℕ)) × (tokens further ≡ tokens closed ++ more)
   closed_more =
@@ -42,17 +43,17 @@ module _ (text piece closed rest further left : List ℕ) (old : IsCutAtLastSepa
       (tokens h.0, ap tokens same ∙ tokens-append closed h.0 old.closed_ends)
 
   -- the first fault stays what it was
-  pub fault_kept : (n : ℕ) (r : Reason) → IsFirstFault (tokens closed) n r → IsFirstFault (tokens further) n r
-  fault_kept n r f = let m = closed_more in subst (λ ts. IsFirstFault ts n r) (sym m.1) (first_fault_kept (tokens closed) m.0 n r f)
+  pub fault_kept : (n : ℕ) (r : Reason) → IsFirstFault limits (tokens closed) n r → IsFirstFault limits (tokens further) n r
+  fault_kept n r f = let m = closed_more in subst (λ ts. IsFirstFault limits ts n r) (sym m.1) (first_fault_kept limits (tokens closed) m.0 n r f)
 
   -- a new one is none of the tokens that were closed before
-  pub fault_later : (n : ℕ) (r : Reason) → NoReason (tokens closed) → IsFirstFault (tokens further) n r → (length (tokens text) ≤ n) × (0 < n) × (n ≤ length (tokens further))
+  pub fault_later : (n : ℕ) (r : Reason) → NoReason limits (tokens closed) → IsFirstFault limits (tokens further) n r → (length (tokens text) ≤ n) × (0 < n) × (n ≤ length (tokens further))
   fault_later n r none f =
       let m = closed_more in
-      let within : n ≤ length (tokens further) = (front_reason (tokens further) [] n r f.has).0 in
+      let within : n ≤ length (tokens further) = (front_reason limits (tokens further) [] n r f.has).0 in
       let later : length (tokens closed) < n = elim (cases_lt (length (tokens closed)) n) [
         | inl less ↦ less
-        | inr most ↦ absurd (none n r (reason_front (tokens closed) m.0 n r most (subst (λ ts. HasReason ts n r) m.1 f.has)))
+        | inr most ↦ absurd (none n r (reason_front limits (tokens closed) m.0 n r most (subst (λ ts. HasReason limits ts n r) m.1 f.has)))
       ] in
       let split = ap length (tokens_cut text closed rest old) in
       let one = at_most_one rest in
@@ -114,30 +115,30 @@ module _ (text piece : List ℕ) (last : ℕ) (old new : Located) (p : PassesPie
         | inr s ↦ subst (StopsBehind new (text ++ piece)) is s
       ]
 
-  pub stands_fed : (before after : Progress) (refused : Option ℕ) → last ≡ unwrap_or refused 4294967295 → StandsForRead before text → StandsForRead after (text ++ piece) → option_map (λ fault. fault.0) after.fault ≡ refused → StandsForLocated old before text
+  pub stands_fed : (limits : Limits) → length (text ++ piece) ≤ limits.bytes → (before after : Progress) (refused : Option ℕ) → last ≡ unwrap_or refused 4294967295 → StandsForRead limits before text → StandsForRead limits after (text ++ piece) → option_map (λ fault. fault.0) after.fault ≡ refused → StandsForLocated limits old before text
       → MatchOption after.fault (Follows new (text ++ piece)) (λ fault. StopsBehind new (text ++ piece) fault.0)
-  stands_fed before after refused counts a b is stands =
-      let was : length text ≤ 16777216 = omega (arith, length-append text piece) in
+  stands_fed limits below before after refused counts a b is stands =
+      let was : length text ≤ limits.bytes = omega (arith, length-append text piece) in
       let j = a.judged was in
-      let k = b.judged short in
+      let k = b.judged below in
       by_faults j.0 j.1 k.0 k.1 j.2 k.2 before.fault after.fault j.3 k.3 (ap (λ o. unwrap_or o 4294967295) is ∙ sym counts) (stands was)
     where
       by_faults : (closed rest further left : List ℕ) → IsCutAtLastSeparator text closed rest → IsCutAtLastSeparator (text ++ piece) further left → (f g : Option (ℕ × Reason))
-          → MatchOption f (NoReason (tokens closed) × (tokens closed ≡ map spell before.events)) (λ fault. IsFirstFault (tokens closed) fault.0 fault.1)
-          → MatchOption g (NoReason (tokens further) × (tokens further ≡ map spell after.events)) (λ fault. IsFirstFault (tokens further) fault.0 fault.1)
+          → MatchOption f (NoReason limits (tokens closed) × (tokens closed ≡ map spell before.events)) (λ fault. IsFirstFault limits (tokens closed) fault.0 fault.1)
+          → MatchOption g (NoReason limits (tokens further) × (tokens further ≡ map spell after.events)) (λ fault. IsFirstFault limits (tokens further) fault.0 fault.1)
           → unwrap_or (option_map (λ fault. fault.0) g) 4294967295 ≡ last
           → MatchOption f (Follows old text) (λ fault. StopsBehind old text fault.0)
           → MatchOption g (Follows new (text ++ piece)) (λ fault. StopsBehind new (text ++ piece) fault.0)
       by_faults closed rest further left cut more None None h m is s = fed_none (sym is) s
       by_faults closed rest further left cut more None (Some g) h m is s =
-          let later = fault_later text piece closed rest further left cut more g.0 g.1 h.0 m in
+          let later = fault_later limits text piece closed rest further left cut more g.0 g.1 h.0 m in
           fed_refused g.0 further left (sym is) more later.0 later.1 later.2 s
       by_faults closed rest further left cut more (Some f) None h m is s =
-          let kept = fault_kept text piece closed rest further left cut more f.0 f.1 h in
+          let kept = fault_kept limits text piece closed rest further left cut more f.0 f.1 h in
           absurd (m.0 f.0 f.1 kept.has)
       by_faults closed rest further left cut more (Some f) (Some g) h m is s =
-          let kept = fault_kept text piece closed rest further left cut more f.0 f.1 h in
-          let same : f.0 ≡ g.0 = (one_fault AnyForm (tokens further) f.0 g.0 f.1 g.1 kept m).0 in
+          let kept = fault_kept limits text piece closed rest further left cut more f.0 f.1 h in
+          let same : f.0 ≡ g.0 = (one_fault limits AnyForm (tokens further) f.0 g.0 f.1 g.1 kept m).0 in
           fed_kept g.0 (sym is) (subst (StopsBehind old text) same s)
 
 -- ---- the end
@@ -146,17 +147,17 @@ located_token : (l : Located) (text rest : List ℕ) (n : ℕ) → l.number ≡ 
 located_token l text rest n is h = (h.token, subst (λ m. IsTokenAt text m l.place.line l.place.column h.token) is h.at, h.kept)
 
 -- a refusal's token is where the locator says
-pub refused_located : (l : Located) (r : Progress) (text : List ℕ) (n : ℕ) (reason : Reason) → StandsForRead r text → StandsForLocated l r text → IsRefusal text (Refused n reason) → IsLocated text n l.place.line l.place.column l.token
-refused_located l r text n reason reads stands refusal =
+pub refused_located : (limits : Limits) (l : Located) (r : Progress) (text : List ℕ) (n : ℕ) (reason : Reason) → StandsForRead limits r text → StandsForLocated limits l r text → IsRefusal limits text (Refused n reason) → IsLocated text n l.place.line l.place.column l.token
+refused_located limits l r text n reason reads stands refusal =
     let j = reads.judged refusal.0 in
     by_fault j.0 j.1 j.2 r.fault j.3 (stands refusal.0)
   where
-    last_token : (closed rest : List ℕ) → IsCutAtLastSeparator text closed rest → NoReason (tokens closed) → (0 < n) × (n ≡ length (tokens text))
+    last_token : (closed rest : List ℕ) → IsCutAtLastSeparator text closed rest → NoReason limits (tokens closed) → (0 < n) × (n ≡ length (tokens text))
     last_token closed rest cut none =
-        let within : n ≤ length (tokens text) = (front_reason (tokens text) [] n reason refusal.1.has).0 in
+        let within : n ≤ length (tokens text) = (front_reason limits (tokens text) [] n reason refusal.1.has).0 in
         let later : length (tokens closed) < n = elim (cases_lt (length (tokens closed)) n) [
           | inl less ↦ less
-          | inr most ↦ absurd (none n reason (reason_front (tokens closed) (as_token rest) n reason most (subst (λ ts. HasReason ts n reason) (tokens_cut text closed rest cut) refusal.1.has)))
+          | inr most ↦ absurd (none n reason (reason_front limits (tokens closed) (as_token rest) n reason most (subst (λ ts. HasReason limits ts n reason) (tokens_cut text closed rest cut) refusal.1.has)))
         ] in
         let split = ap length (tokens_cut text closed rest cut) in
         let one = at_most_one rest in
@@ -173,7 +174,7 @@ refused_located l r text n reason reads stands refusal =
         ]
 
     by_fault : (closed rest : List ℕ) → IsCutAtLastSeparator text closed rest → (f : Option (ℕ × Reason))
-        → MatchOption f (NoReason (tokens closed) × (tokens closed ≡ map spell r.events)) (λ fault. IsFirstFault (tokens closed) fault.0 fault.1)
+        → MatchOption f (NoReason limits (tokens closed) × (tokens closed ≡ map spell r.events)) (λ fault. IsFirstFault limits (tokens closed) fault.0 fault.1)
         → MatchOption f (Follows l text) (λ fault. StopsBehind l text fault.0)
         → IsLocated text n l.place.line l.place.column l.token
     by_fault closed rest cut None h s =
@@ -181,8 +182,8 @@ refused_located l r text n reason reads stands refusal =
         let some : 0 < n = last.0 in
         followed s (s.number_is ∙ sym last.1) some
     by_fault closed rest cut (Some f) h s =
-        let kept : IsFirstFault (tokens text) f.0 f.1 = subst (λ ts. IsFirstFault ts f.0 f.1) (sym (tokens_cut text closed rest cut)) (first_fault_kept (tokens closed) (as_token rest) f.0 f.1 h) in
-        let same : f.0 ≡ n = (one_fault AnyForm (tokens text) f.0 n f.1 reason kept refusal.1).0 in
+        let kept : IsFirstFault limits (tokens text) f.0 f.1 = subst (λ ts. IsFirstFault limits ts f.0 f.1) (sym (tokens_cut text closed rest cut)) (first_fault_kept limits (tokens closed) (as_token rest) f.0 f.1 h) in
+        let same : f.0 ≡ n = (one_fault limits AnyForm (tokens text) f.0 n f.1 reason kept refusal.1).0 in
         located_token l text (s.ended.0 ∷ s.ended.1) n (s.number_is ∙ same) s.ended.2
 
 -- what is shown of the bytes that are kept is what is shown of the token

@@ -3,20 +3,20 @@ use Rattle.std.proofs.Common.{◌≡◌, ◌≢◌, ◌⊎◌, inl, inr, ℕ, ze
 use Rattle.std.specs.Prelude.{◌==◌}
 use Rattle.std.proofs.lemmas.Bool.Decides.{nat_tests}
 use Rattle.std.proofs.lemmas.List.{append-nil, length-append}
+use Rattle.sia_events.specs.Limits.{Limits, greatest, AreWithin}
 use Rattle.sia_events.specs.declared.event.Event.{Event}
 use Rattle.sia_events.specs.declared.fault.Reason.{Reason}
 use Rattle.sia_events.specs.declared.fault.Reason.TheVariants.{TooManyEvents, BadEvent, BadNumber}
-use Rattle.sia_events.specs.declared.fault.TextFault.TheVariants.{NoMemory, TextTooLong, Refused}
 use Rattle.sia_events.specs.Places.{at_place}
 use Rattle.sia_events.specs.Text.{spell, tokens, canonical, StandsFor}
-use Rattle.sia_events.specs.Refusals.{HasReason, IsAccepted, IsWellFormed}
+use Rattle.sia_events.specs.Refusals.{IsAccepted, IsWellFormed}
 use Rattle.sia_events.specs.Parsing.{◌>>=◌, event_at}
 use Rattle.sia_events.specs.Known.{fault_of}
 use Rattle.sia_events.specs.Judging.{unless, judged, JudgedAll}
-use Rattle.sia_events.proofs.WellFormed.{IsBefore, accepted_none}
+use Rattle.sia_events.proofs.WellFormed.{IsBefore}
 use Rattle.sia_events.proofs.Canonical.{canonical_stands}
 use Rattle.sia_events.proofs.Shortest.{canonical_shortest}
-use Rattle.sia_events.proofs.Refusing.{IsFit, well_formed_from}
+use Rattle.sia_events.proofs.Refusing.{IsFit, accepted_from}
 use Rattle.sia_events.proofs.EventCases.{token_cases}
 use Rattle.sia_events.proofs.Faults.{IsAmong}
 use Rattle.sia_events.proofs.Fits.{fits_from}
@@ -78,19 +78,19 @@ fit_moved n Earlier Before to from e fit = record {
 }
 
 -- events of which none has a reason, and not too many of them
-pub record IsClean (es : List Event) : Type 0 where
-  pub few : length es ≤ 100000
+pub record IsClean (limits : Limits) (es : List Event) : Type 0 where
+  pub few : length es ≤ limits.events
   pub each : (i : ℕ) (e : Event) → at_place es i ≡ Some e → IsFit (i - 1) (IsBefore es i) e
 
-pub clean_none : IsClean []
-clean_none = record { few = omega arith; each = each }
+pub clean_none : (limits : Limits) → IsClean limits []
+clean_none limits = record { few = omega arith; each = each }
   where
     each : (i : ℕ) (e : Event) → at_place [] i ≡ Some e → IsFit (i - 1) (IsBefore [] i) e
     each zero e is = absurd cc
     each (suc i) e is = absurd cc
 
-clean_push : (es : List Event) (e : Event) → IsClean es → length es ≢ 100000 → IsFit (length es) (IsAmong es) e → IsClean (es ++ e ∷ [])
-clean_push es e clean few fit = record {
+clean_push : (limits : Limits) (es : List Event) (e : Event) → IsClean limits es → length es ≢ limits.events → IsFit (length es) (IsAmong es) e → IsClean limits (es ++ e ∷ [])
+clean_push limits es e clean few fit = record {
   few = let most = clean.few in omega (arith, length-append es (e ∷ []));
   each = each;
 }
@@ -119,17 +119,17 @@ unless_ok : (o : Option Reason) (e f : Event) → unless o e ≡ Ok f → (o ≡
 unless_ok None e f p = (refl, (let same : e ≡ f = cc in same))
 unless_ok (Some r) e f p = absurd cc
 
-pub record IsTaken (es : List Event) (w : List ℕ) (e : Event) : Type 0 where
-  pub few : length es ≢ 100000
+pub record IsTaken (limits : Limits) (es : List Event) (w : List ℕ) (e : Event) : Type 0 where
+  pub few : length es ≢ limits.events
   pub spelled : w ≡ spell e
   pub fit : IsFit (length es) (IsAmong es) e
 
-pub judged_ok : (es : List Event) (w : List ℕ) (e : Event) → judged es w ≡ Ok e → IsTaken es w e
+pub judged_ok : (limits : Limits) (es : List Event) (w : List ℕ) (e : Event) → judged limits es w ≡ Ok e → IsTaken limits es w e
 unfolding judged
-judged_ok es w e p =
-    let g = guard (length es == 100000) TooManyEvents (event_at w >>= λ f. unless (fault_of es (length es) f) f) e p in
+judged_ok limits es w e p =
+    let g = guard (length es == limits.events) TooManyEvents (event_at w >>= λ f. unless (fault_of es (length es) f) f) e p in
     let less = g.0 in
-    let few : length es ≢ 100000 = λ is. (let yes : (length es == 100000) ≡ true = grind (arith, nat_tests) in let two : true ≡ false = sym yes ∙ less in cc) in
+    let few : length es ≢ limits.events = λ is. (let yes : (length es == limits.events) ≡ true = grind (arith, nat_tests) in let two : true ≡ false = sym yes ∙ less in cc) in
     elim (token_cases w) [
       | inl bad ↦ (let two : ◌≡◌ {A = Result Event Reason} (Err BadEvent) (Ok e) = sym (ap (λ r. r >>= λ f. unless (fault_of es (length es) f) f) bad.0) ∙ g.1 in absurd cc)
       | inr (inl t) ↦
@@ -144,20 +144,20 @@ judged_ok es w e p =
 
 -- ---- all tokens
 
-pub record IsReadClean (es : List Event) (ts : List (List ℕ)) (all : List Event) : Type 0 where
+pub record IsReadClean (limits : Limits) (es : List Event) (ts : List (List ℕ)) (all : List Event) : Type 0 where
   pub spelled : map spell es ++ ts ≡ map spell all
-  pub clean : IsClean all
+  pub clean : IsClean limits all
 
 map_push : (es : List Event) (e : Event) (ts : List (List ℕ)) → map spell (es ++ e ∷ []) ++ ts ≡ map spell es ++ spell e ∷ ts
 map_push [] e ts = refl
 map_push (f ∷ es) e ts = ap (λ (us : List (List ℕ)). spell f ∷ us) (map_push es e ts)
 
-pub judged_clean : (es : List Event) (ts : List (List ℕ)) (all : List Event) → IsClean es → JudgedAll es ts all → IsReadClean es ts all
+pub judged_clean : (limits : Limits) (es : List Event) (ts : List (List ℕ)) (all : List Event) → IsClean limits es → JudgedAll limits es ts all → IsReadClean limits es ts all
 unfolding JudgedAll
-judged_clean es [] all clean j = record { spelled = append-nil (map spell es) ∙ ap (map spell) j; clean = subst IsClean j clean }
-judged_clean es (w ∷ ts) all clean j =
-    let t = judged_ok es w j.0 j.1 in
-    let rest = judged_clean (es ++ j.0 ∷ []) ts all (clean_push es j.0 clean t.few t.fit) j.2 in
+judged_clean limits es [] all clean j = record { spelled = append-nil (map spell es) ∙ ap (map spell) j; clean = subst (IsClean limits) j clean }
+judged_clean limits es (w ∷ ts) all clean j =
+    let t = judged_ok limits es w j.0 j.1 in
+    let rest = judged_clean limits (es ++ j.0 ∷ []) ts all (clean_push limits es j.0 clean t.few t.fit) j.2 in
     record {
       spelled = ap (λ (v : List ℕ). map spell es ++ v ∷ ts) t.spelled ∙ sym (map_push es j.0 ts) ∙ rest.spelled;
       clean = rest.clean;
@@ -165,24 +165,28 @@ judged_clean es (w ∷ ts) all clean j =
 
 -- ---- a text whose tokens are all judged to events
 
-pub clean_well_formed : (text : List ℕ) (h : List Event) → length text ≤ 16777216 → StandsFor text h → IsClean h → IsWellFormed h
-clean_well_formed text h short stands clean =
-    let least = canonical_shortest h text stands in
-    well_formed_from h clean.few (omega arith) clean.each
+pub clean_accepted : (limits : Limits) (text : List ℕ) (h : List Event) → length text ≤ limits.bytes → StandsFor text h → IsClean limits h → IsAccepted limits text
+clean_accepted limits text h short stands clean = accepted_from limits text h stands clean.few short clean.each
 
-pub well_formed_accepted : (text : List ℕ) (h : List Event) → length text ≤ 16777216 → StandsFor text h → IsWellFormed h → IsAccepted text
-well_formed_accepted text h short stands wf NoMemory refusal = refusal
-well_formed_accepted text h short stands wf TextTooLong refusal = omega arith
-well_formed_accepted text h short stands wf (Refused i r) refusal = accepted_none (canonical h) wf i r (subst (λ ts. HasReason ts i r) (stands ∙ sym (canonical_stands h)) refusal.1.has)
+pub clean_well_formed : (limits : Limits) (text : List ℕ) (h : List Event) → AreWithin limits greatest → length text ≤ limits.bytes → StandsFor text h → IsClean limits h → IsWellFormed h
+clean_well_formed limits text h within short stands clean =
+    let least = canonical_shortest h text stands in
+    let most = within.bytes in
+    let many = within.events in
+    let few = clean.few in
+    accepted_from greatest (canonical h) h (canonical_stands h) (omega arith) (omega arith) clean.each
 
 -- the text is accepted and stands for a well-formed history
-pub record IsReadAs (text : List ℕ) (h : List Event) : Type 0 where
+pub record IsReadAs (limits : Limits) (text : List ℕ) (h : List Event) : Type 0 where
   pub well_formed : IsWellFormed h
-  pub accepted : IsAccepted text
+  pub accepted : IsAccepted limits text
   pub stands : StandsFor text h
 
-pub read_as : (text : List ℕ) (h : List Event) → length text ≤ 16777216 → JudgedAll [] (tokens text) h → IsReadAs text h
-read_as text h short j =
-    let r = judged_clean [] (tokens text) h clean_none j in
-    let wf = clean_well_formed text h short r.spelled r.clean in
-    record { well_formed = wf; accepted = well_formed_accepted text h short r.spelled wf; stands = r.spelled }
+pub read_as : (limits : Limits) (text : List ℕ) (h : List Event) → AreWithin limits greatest → length text ≤ limits.bytes → JudgedAll limits [] (tokens text) h → IsReadAs limits text h
+read_as limits text h within short j =
+    let r = judged_clean limits [] (tokens text) h (clean_none limits) j in
+    record {
+      well_formed = clean_well_formed limits text h within short r.spelled r.clean;
+      accepted = clean_accepted limits text h short r.spelled r.clean;
+      stands = r.spelled;
+    }

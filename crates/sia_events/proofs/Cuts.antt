@@ -2,6 +2,7 @@
 use Rattle.std.proofs.Common.{◌≡◌, inl, inr, ℕ, Bool, true, false, List, [], ◌∷◌, ◌++◌, refl, ap, sym, subst, ◌∙◌, append_assoc}
 use Rattle.std.proofs.lemmas.List.{append-nil}
 use Rattle.std.proofs.lemmas.List.Elements.{recursion_from_All, All-nil, All-cons}
+use Rattle.sia_events.specs.Limits.{Limits}
 use Rattle.sia_events.specs.declared.event.Event.{Event}
 use Rattle.sia_events.specs.declared.fault.Reason.{Reason}
 use Rattle.sia_events.specs.declared.fault.Refusal.TheVariants as refusals
@@ -61,9 +62,9 @@ pub tokens_then : (closed more : List ℕ) → IsClosed closed → tokens (close
 tokens_then closed more ends = tokens-append closed more ends
 
 -- where a token is refused, some text follows it
-pub stops_in : (events middle all : List Event) (text closed token after : List ℕ) (s : ℕ) (r : Reason) → text ≡ closed ++ (token ++ s ∷ after) → IsClosed closed → HasNoSeparator token → is_separator s ≡ true
-    → JudgedAll events (tokens closed) middle → StopsAt middle (as_token token) all r → HaltsIn (refusals.Bad r) events text all
-stops_in events middle all text closed token after s r whole ends unbroken separates fine stops =
+pub stops_in : (limits : Limits) (events middle all : List Event) (text closed token after : List ℕ) (s : ℕ) (r : Reason) → text ≡ closed ++ (token ++ s ∷ after) → IsClosed closed → HasNoSeparator token → is_separator s ≡ true
+    → JudgedAll limits events (tokens closed) middle → StopsAt limits middle (as_token token) all r → HaltsIn limits (refusals.Bad r) events text all
+stops_in limits events middle all text closed token after s r whole ends unbroken separates fine stops =
     let h = some_cut after in
     let done = closed ++ (token ++ s ∷ []) in
     let done_ends = closes closed token s separates in
@@ -76,6 +77,6 @@ stops_in events middle all text closed token after s r whole ends unbroken separ
       done ++ h.0,
       h.1,
       cut,
-      subst (λ ts. StopsAt events ts all r) (sym all_tokens)
-          (StopsAt-more events all (tokens closed ++ as_token token) (tokens h.0) r (StopsAt-after events middle all (tokens closed) (as_token token) r fine stops)),
+      subst (λ ts. StopsAt limits events ts all r) (sym all_tokens)
+          (StopsAt-more limits events all (tokens closed ++ as_token token) (tokens h.0) r (StopsAt-after limits events middle all (tokens closed) (as_token token) r fine stops)),
     )

@@ -4,6 +4,7 @@ use Rattle.std.specs.Prelude.{◌==◌}
 use Rattle.std.proofs.lemmas.Bool.{cases_lt, eqb-true}
 use Rattle.std.proofs.lemmas.Bool.Decides.{nat_tests}
 use Rattle.std.proofs.lemmas.List.{length-map}
+use Rattle.sia_events.specs.Limits.{Limits}
 use Rattle.sia_events.specs.declared.event.Event.{Event}
 use Rattle.sia_events.specs.declared.fault.Reason.{Reason}
 use Rattle.sia_events.specs.declared.fault.Reason.TheVariants.{TooManyEvents, BadEvent, BadNumber, AlreadyEnded, AlreadyBegun, EmptyRange, BadList, NotWritten, BadStart}
@@ -24,15 +25,15 @@ use Rattle.sia_events.proofs.Clean.{IsClean, judged_clean}
 -- ---- the reasons of the next token
 
 -- the token after the events has the reason
-abbrev pub NextHas : List Event → List ℕ → Reason → Type 0
-NextHas es w TooManyEvents = length es ≡ 100000
-NextHas es w BadEvent = (e : Event) → w ≢ spell e
-NextHas es w reason = (e : Event) × (w ≡ spell e) × EventHas (length es) (IsAmong es) e reason
+abbrev pub NextHas : Limits → List Event → List ℕ → Reason → Type 0
+NextHas limits es w TooManyEvents = length es ≡ limits.events
+NextHas limits es w BadEvent = (e : Event) → w ≢ spell e
+NextHas limits es w reason = (e : Event) × (w ≡ spell e) × EventHas (length es) (IsAmong es) e reason
 
 -- it has this one, and none with a lesser number
-pub record IsNextFault (es : List Event) (w : List ℕ) (r : Reason) : Type 0 where
-  pub has : NextHas es w r
-  pub least : (s : Reason) → NextHas es w s → reason_number r ≤ reason_number s
+pub record IsNextFault (limits : Limits) (es : List Event) (w : List ℕ) (r : Reason) : Type 0 where
+  pub has : NextHas limits es w r
+  pub least : (s : Reason) → NextHas limits es w s → reason_number r ≤ reason_number s
 
 above_two : (s : Reason) → 2 ≤ reason_number s
 above_two TooManyEvents = omega arith
@@ -46,38 +47,38 @@ above_two NotWritten = omega arith
 above_two BadStart = omega arith
 
 -- of an event that can be spelled the reasons are the event's
-of_event : (es : List Event) (w : List ℕ) (e : Event) → length es ≢ 100000 → w ≡ spell e → (s : Reason) → NextHas es w s → EventHas (length es) (IsAmong es) e s
-of_event es w e few is TooManyEvents has = absurd (few has)
-of_event es w e few is BadEvent has = absurd (has e is)
-of_event es w e few is BadNumber has = subst (λ f. EventHas (length es) (IsAmong es) f BadNumber) (spell_injective has.0 e (sym has.1 ∙ is)) has.2
-of_event es w e few is AlreadyEnded has = subst (λ f. EventHas (length es) (IsAmong es) f AlreadyEnded) (spell_injective has.0 e (sym has.1 ∙ is)) has.2
-of_event es w e few is AlreadyBegun has = subst (λ f. EventHas (length es) (IsAmong es) f AlreadyBegun) (spell_injective has.0 e (sym has.1 ∙ is)) has.2
-of_event es w e few is EmptyRange has = subst (λ f. EventHas (length es) (IsAmong es) f EmptyRange) (spell_injective has.0 e (sym has.1 ∙ is)) has.2
-of_event es w e few is BadList has = subst (λ f. EventHas (length es) (IsAmong es) f BadList) (spell_injective has.0 e (sym has.1 ∙ is)) has.2
-of_event es w e few is NotWritten has = subst (λ f. EventHas (length es) (IsAmong es) f NotWritten) (spell_injective has.0 e (sym has.1 ∙ is)) has.2
-of_event es w e few is BadStart has = subst (λ f. EventHas (length es) (IsAmong es) f BadStart) (spell_injective has.0 e (sym has.1 ∙ is)) has.2
+of_event : (limits : Limits) (es : List Event) (w : List ℕ) (e : Event) → length es ≢ limits.events → w ≡ spell e → (s : Reason) → NextHas limits es w s → EventHas (length es) (IsAmong es) e s
+of_event limits es w e few is TooManyEvents has = absurd (few has)
+of_event limits es w e few is BadEvent has = absurd (has e is)
+of_event limits es w e few is BadNumber has = subst (λ f. EventHas (length es) (IsAmong es) f BadNumber) (spell_injective has.0 e (sym has.1 ∙ is)) has.2
+of_event limits es w e few is AlreadyEnded has = subst (λ f. EventHas (length es) (IsAmong es) f AlreadyEnded) (spell_injective has.0 e (sym has.1 ∙ is)) has.2
+of_event limits es w e few is AlreadyBegun has = subst (λ f. EventHas (length es) (IsAmong es) f AlreadyBegun) (spell_injective has.0 e (sym has.1 ∙ is)) has.2
+of_event limits es w e few is EmptyRange has = subst (λ f. EventHas (length es) (IsAmong es) f EmptyRange) (spell_injective has.0 e (sym has.1 ∙ is)) has.2
+of_event limits es w e few is BadList has = subst (λ f. EventHas (length es) (IsAmong es) f BadList) (spell_injective has.0 e (sym has.1 ∙ is)) has.2
+of_event limits es w e few is NotWritten has = subst (λ f. EventHas (length es) (IsAmong es) f NotWritten) (spell_injective has.0 e (sym has.1 ∙ is)) has.2
+of_event limits es w e few is BadStart has = subst (λ f. EventHas (length es) (IsAmong es) f BadStart) (spell_injective has.0 e (sym has.1 ∙ is)) has.2
 
-to_next : (es : List Event) (w : List ℕ) (e : Event) → w ≡ spell e → (s : Reason) → EventHas (length es) (IsAmong es) e s → NextHas es w s
-to_next es w e is TooManyEvents has = absurd has
-to_next es w e is BadEvent has = absurd has
-to_next es w e is BadNumber has = (e, is, has)
-to_next es w e is AlreadyEnded has = (e, is, has)
-to_next es w e is AlreadyBegun has = (e, is, has)
-to_next es w e is EmptyRange has = (e, is, has)
-to_next es w e is BadList has = (e, is, has)
-to_next es w e is NotWritten has = (e, is, has)
-to_next es w e is BadStart has = (e, is, has)
+to_next : (limits : Limits) (es : List Event) (w : List ℕ) (e : Event) → w ≡ spell e → (s : Reason) → EventHas (length es) (IsAmong es) e s → NextHas limits es w s
+to_next limits es w e is TooManyEvents has = absurd has
+to_next limits es w e is BadEvent has = absurd has
+to_next limits es w e is BadNumber has = (e, is, has)
+to_next limits es w e is AlreadyEnded has = (e, is, has)
+to_next limits es w e is AlreadyBegun has = (e, is, has)
+to_next limits es w e is EmptyRange has = (e, is, has)
+to_next limits es w e is BadList has = (e, is, has)
+to_next limits es w e is NotWritten has = (e, is, has)
+to_next limits es w e is BadStart has = (e, is, has)
 
-unspelled_least : (es : List Event) (w : List ℕ) → length es ≢ 100000 → ((e : Event) → w ≢ spell e) → (s : Reason) → NextHas es w s → 3 ≤ reason_number s
-unspelled_least es w few none TooManyEvents has = absurd (few has)
-unspelled_least es w few none BadEvent has = omega arith
-unspelled_least es w few none BadNumber has = omega arith
-unspelled_least es w few none AlreadyEnded has = omega arith
-unspelled_least es w few none AlreadyBegun has = omega arith
-unspelled_least es w few none EmptyRange has = omega arith
-unspelled_least es w few none BadList has = omega arith
-unspelled_least es w few none NotWritten has = omega arith
-unspelled_least es w few none BadStart has = omega arith
+unspelled_least : (limits : Limits) (es : List Event) (w : List ℕ) → length es ≢ limits.events → ((e : Event) → w ≢ spell e) → (s : Reason) → NextHas limits es w s → 3 ≤ reason_number s
+unspelled_least limits es w few none TooManyEvents has = absurd (few has)
+unspelled_least limits es w few none BadEvent has = omega arith
+unspelled_least limits es w few none BadNumber has = omega arith
+unspelled_least limits es w few none AlreadyEnded has = omega arith
+unspelled_least limits es w few none AlreadyBegun has = omega arith
+unspelled_least limits es w few none EmptyRange has = omega arith
+unspelled_least limits es w few none BadList has = omega arith
+unspelled_least limits es w few none NotWritten has = omega arith
+unspelled_least limits es w few none BadStart has = omega arith
 
 number_least : (n : ℕ) (es : List Event) (e : Event) → (s : Reason) → EventHas n (IsAmong es) e s → 4 ≤ reason_number s
 number_least n es e TooManyEvents has = absurd has
@@ -102,21 +103,21 @@ unless_err None e r p = cc
 unless_err (Some s) e r p = ap Some (err_is s r p)
 
 -- a token is refused for its least reason
-pub judged_err : (es : List Event) (w : List ℕ) (r : Reason) → judged es w ≡ Err r → IsNextFault es w r
+pub judged_err : (limits : Limits) (es : List Event) (w : List ℕ) (r : Reason) → judged limits es w ≡ Err r → IsNextFault limits es w r
 unfolding judged
-judged_err es w r p = elim (guard_err (length es == 100000) TooManyEvents r (event_at w >>= λ f. unless (fault_of es (length es) f) f) p) [
-  | inl many ↦ subst (IsNextFault es w) many.1 (record { has = eqb-true (length es) 100000 many.0; least = λ s has. above_two s })
+judged_err limits es w r p = elim (guard_err (length es == limits.events) TooManyEvents r (event_at w >>= λ f. unless (fault_of es (length es) f) f) p) [
+  | inl many ↦ subst (IsNextFault limits es w) many.1 (record { has = eqb-true (length es) limits.events many.0; least = λ s has. above_two s })
   | inr g ↦
       let less = g.0 in
-      let few : length es ≢ 100000 = λ is. (let all : (length es == 100000) ≡ true = grind (arith, nat_tests) in let two : true ≡ false = sym all ∙ less in cc) in
+      let few : length es ≢ limits.events = λ is. (let all : (length es == limits.events) ≡ true = grind (arith, nat_tests) in let two : true ≡ false = sym all ∙ less in cc) in
       elim (token_cases w) [
-        | inl bad ↦ subst (IsNextFault es w) (err_is BadEvent r (sym (ap (λ q. q >>= λ f. unless (fault_of es (length es) f) f) bad.0) ∙ g.1)) (record { has = bad.1; least = unspelled_least es w few bad.1 })
+        | inl bad ↦ subst (IsNextFault limits es w) (err_is BadEvent r (sym (ap (λ q. q >>= λ f. unless (fault_of es (length es) f) f) bad.0) ∙ g.1)) (record { has = bad.1; least = unspelled_least limits es w few bad.1 })
         | inr (inl t) ↦
             let found : fault_of es (length es) t.0 ≡ Some r = unless_err (fault_of es (length es) t.0) t.0 r (sym (ap (λ q. q >>= λ f. unless (fault_of es (length es) f) f) t.2) ∙ g.1) in
             let l = fault_least es (length es) t.0 r t.3 found in
-            record { has = to_next es w t.0 t.1 r l.has; least = λ s has. l.least s (of_event es w t.0 few t.1 s has) }
-        | inr (inr t) ↦ subst (IsNextFault es w) (err_is BadNumber r (sym (ap (λ q. q >>= λ f. unless (fault_of es (length es) f) f) t.2) ∙ g.1))
-            (record { has = (t.0, t.1, t.3); least = λ s has. number_least (length es) es t.0 s (of_event es w t.0 few t.1 s has) })
+            record { has = to_next limits es w t.0 t.1 r l.has; least = λ s has. l.least s (of_event limits es w t.0 few t.1 s has) }
+        | inr (inr t) ↦ subst (IsNextFault limits es w) (err_is BadNumber r (sym (ap (λ q. q >>= λ f. unless (fault_of es (length es) f) f) t.2) ∙ g.1))
+            (record { has = (t.0, t.1, t.3); least = λ s has. number_least (length es) es t.0 s (of_event limits es w t.0 few t.1 s has) })
       ]
 ]
 
@@ -193,108 +194,108 @@ among_has es us e r has =
     (subst (λ n. EventHas n (IsEarlier (map spell es ++ us) (suc (length es))) e r) same has)
 
 -- the reasons of a token go by what is before it
-token_moved : (ts us : List (List ℕ)) (i : ℕ) (w : List ℕ) → ((f : Event) → IsEarlier ts i f → IsEarlier us i f) → ((f : Event) → IsEarlier us i f → IsEarlier ts i f) → (r : Reason) → TokenHas AnyForm ts i w r → TokenHas AnyForm us i w r
-token_moved ts us i w to from TooManyEvents t = t
-token_moved ts us i w to from BadEvent t = t
-token_moved ts us i w to from BadNumber t = (t.0, tt, t.2, moved (i - 1) (IsEarlier us i) (IsEarlier ts i) to from t.0 BadNumber t.3)
-token_moved ts us i w to from AlreadyEnded t = (t.0, tt, t.2, moved (i - 1) (IsEarlier us i) (IsEarlier ts i) to from t.0 AlreadyEnded t.3)
-token_moved ts us i w to from AlreadyBegun t = (t.0, tt, t.2, moved (i - 1) (IsEarlier us i) (IsEarlier ts i) to from t.0 AlreadyBegun t.3)
-token_moved ts us i w to from EmptyRange t = (t.0, tt, t.2, moved (i - 1) (IsEarlier us i) (IsEarlier ts i) to from t.0 EmptyRange t.3)
-token_moved ts us i w to from BadList t = (t.0, tt, t.2, moved (i - 1) (IsEarlier us i) (IsEarlier ts i) to from t.0 BadList t.3)
-token_moved ts us i w to from NotWritten t = (t.0, tt, t.2, moved (i - 1) (IsEarlier us i) (IsEarlier ts i) to from t.0 NotWritten t.3)
-token_moved ts us i w to from BadStart t = (t.0, tt, t.2, moved (i - 1) (IsEarlier us i) (IsEarlier ts i) to from t.0 BadStart t.3)
+token_moved : (limits : Limits) (ts us : List (List ℕ)) (i : ℕ) (w : List ℕ) → ((f : Event) → IsEarlier ts i f → IsEarlier us i f) → ((f : Event) → IsEarlier us i f → IsEarlier ts i f) → (r : Reason) → TokenHas limits AnyForm ts i w r → TokenHas limits AnyForm us i w r
+token_moved limits ts us i w to from TooManyEvents t = t
+token_moved limits ts us i w to from BadEvent t = t
+token_moved limits ts us i w to from BadNumber t = (t.0, tt, t.2, moved (i - 1) (IsEarlier us i) (IsEarlier ts i) to from t.0 BadNumber t.3)
+token_moved limits ts us i w to from AlreadyEnded t = (t.0, tt, t.2, moved (i - 1) (IsEarlier us i) (IsEarlier ts i) to from t.0 AlreadyEnded t.3)
+token_moved limits ts us i w to from AlreadyBegun t = (t.0, tt, t.2, moved (i - 1) (IsEarlier us i) (IsEarlier ts i) to from t.0 AlreadyBegun t.3)
+token_moved limits ts us i w to from EmptyRange t = (t.0, tt, t.2, moved (i - 1) (IsEarlier us i) (IsEarlier ts i) to from t.0 EmptyRange t.3)
+token_moved limits ts us i w to from BadList t = (t.0, tt, t.2, moved (i - 1) (IsEarlier us i) (IsEarlier ts i) to from t.0 BadList t.3)
+token_moved limits ts us i w to from NotWritten t = (t.0, tt, t.2, moved (i - 1) (IsEarlier us i) (IsEarlier ts i) to from t.0 NotWritten t.3)
+token_moved limits ts us i w to from BadStart t = (t.0, tt, t.2, moved (i - 1) (IsEarlier us i) (IsEarlier ts i) to from t.0 BadStart t.3)
 
 -- a reason of one of the first tokens is one without those after them, and the other way round
-pub reason_front : (ts us : List (List ℕ)) (i : ℕ) (r : Reason) → i ≤ length ts → HasReason (ts ++ us) i r → HasReason ts i r
-reason_front ts us i r within has = at_number i within has
+pub reason_front : (limits : Limits) (ts us : List (List ℕ)) (i : ℕ) (r : Reason) → i ≤ length ts → HasReason limits (ts ++ us) i r → HasReason limits ts i r
+reason_front limits ts us i r within has = at_number i within has
   where
-    at_number : (j : ℕ) → j ≤ length ts → HasReason (ts ++ us) j r → HasReason ts j r
+    at_number : (j : ℕ) → j ≤ length ts → HasReason limits (ts ++ us) j r → HasReason limits ts j r
     at_number zero most h = (let is = h.1 in cc)
     at_number (suc j) most h = (
       h.0,
       sym (get_front ts us j (omega arith)) ∙ h.1,
-      token_moved (ts ++ us) ts (suc j) h.0 (λ f. earlier_front ts us (suc j) f most) (λ f. front_earlier ts us (suc j) f most) r h.2,
+      token_moved limits (ts ++ us) ts (suc j) h.0 (λ f. earlier_front ts us (suc j) f most) (λ f. front_earlier ts us (suc j) f most) r h.2,
     )
 
-pub front_reason : (ts us : List (List ℕ)) (i : ℕ) (r : Reason) → HasReason ts i r → (i ≤ length ts) × HasReason (ts ++ us) i r
-front_reason ts us i r has = at_number i has
+pub front_reason : (limits : Limits) (ts us : List (List ℕ)) (i : ℕ) (r : Reason) → HasReason limits ts i r → (i ≤ length ts) × HasReason limits (ts ++ us) i r
+front_reason limits ts us i r has = at_number i has
   where
-    at_number : (j : ℕ) → HasReason ts j r → (j ≤ length ts) × HasReason (ts ++ us) j r
+    at_number : (j : ℕ) → HasReason limits ts j r → (j ≤ length ts) × HasReason limits (ts ++ us) j r
     at_number zero h = (let is = h.1 in cc)
     at_number (suc j) h =
         let below : j < length ts = get_below ts j h.0 h.1 in
         let most : suc j ≤ length ts = omega arith in
-        (most, (h.0, get_front ts us j below ∙ h.1, token_moved ts (ts ++ us) (suc j) h.0 (λ f. front_earlier ts us (suc j) f most) (λ f. earlier_front ts us (suc j) f most) r h.2))
+        (most, (h.0, get_front ts us j below ∙ h.1, token_moved limits ts (ts ++ us) (suc j) h.0 (λ f. front_earlier ts us (suc j) f most) (λ f. earlier_front ts us (suc j) f most) r h.2))
 
 -- the first fault stays the first, whatever tokens follow
-pub first_fault_kept : (ts us : List (List ℕ)) (i : ℕ) (r : Reason) → IsFirstFault ts i r → IsFirstFault (ts ++ us) i r
-first_fault_kept ts us i r f =
-    let h = front_reason ts us i r f.has in
+pub first_fault_kept : (limits : Limits) (ts us : List (List ℕ)) (i : ℕ) (r : Reason) → IsFirstFault limits ts i r → IsFirstFault limits (ts ++ us) i r
+first_fault_kept limits ts us i r f =
+    let h = front_reason limits ts us i r f.has in
     let within : i ≤ length ts = h.0 in
     record {
       has = h.1;
       first = λ j other given. elim (cases_lt j i) [
-        | inl less ↦ f.first j other (reason_front ts us j other (omega arith) given)
+        | inl less ↦ f.first j other (reason_front limits ts us j other (omega arith) given)
         | inr more ↦ more
       ];
-      least = λ other given. f.least other (reason_front ts us i other within given);
+      least = λ other given. f.least other (reason_front limits ts us i other within given);
     }
 
 -- no token has a reason
-abbrev pub NoReason : List (List ℕ) → Type 0
-NoReason ts = (i : ℕ) (r : Reason) → ¬ HasReason ts i r
+abbrev pub NoReason : Limits → List (List ℕ) → Type 0
+NoReason limits ts = (i : ℕ) (r : Reason) → ¬ HasReason limits ts i r
 
 -- of clean events no spelling has a reason
-pub clean_no_reason : (es : List Event) → IsClean es → NoReason (map spell es)
-clean_no_reason es clean i r has =
-    let within : i ≤ length (map spell es) = (front_reason (map spell es) [] i r has).0 in
-    let few : length es ≤ 100000 = clean.few in
-    let found = place_event es i r (λ is. omega (arith, length-map es spell)) has in
+pub clean_no_reason : (limits : Limits) (es : List Event) → IsClean limits es → NoReason limits (map spell es)
+clean_no_reason limits es clean i r has =
+    let within : i ≤ length (map spell es) = (front_reason limits (map spell es) [] i r has).0 in
+    let few : length es ≤ limits.events = clean.few in
+    let found = place_event limits es i r (λ is. omega (arith, length-map es spell)) has in
     fit_has_none (i - 1) (IsBefore es i) found.0 (clean.each i found.0 found.1) r found.2
 
 -- ---- the next token's fault is the first
 
-to_token : (es : List Event) (w : List ℕ) (us : List (List ℕ)) (r : Reason) → NextHas es w r → TokenHas AnyForm (map spell es ++ w ∷ us) (suc (length es)) w r
-to_token es w us TooManyEvents has = ap suc has
-to_token es w us BadEvent has = λ e form. has e
-to_token es w us BadNumber has = (has.0, tt, has.1, has.2)
-to_token es w us AlreadyEnded has = (has.0, tt, has.1, earlier_has es (w ∷ us) has.0 AlreadyEnded has.2)
-to_token es w us AlreadyBegun has = (has.0, tt, has.1, earlier_has es (w ∷ us) has.0 AlreadyBegun has.2)
-to_token es w us EmptyRange has = (has.0, tt, has.1, has.2)
-to_token es w us BadList has = (has.0, tt, has.1, has.2)
-to_token es w us NotWritten has = (has.0, tt, has.1, earlier_has es (w ∷ us) has.0 NotWritten has.2)
-to_token es w us BadStart has = (has.0, tt, has.1, earlier_has es (w ∷ us) has.0 BadStart has.2)
+to_token : (limits : Limits) (es : List Event) (w : List ℕ) (us : List (List ℕ)) (r : Reason) → NextHas limits es w r → TokenHas limits AnyForm (map spell es ++ w ∷ us) (suc (length es)) w r
+to_token limits es w us TooManyEvents has = let is = has in omega arith
+to_token limits es w us BadEvent has = λ e form. has e
+to_token limits es w us BadNumber has = (has.0, tt, has.1, has.2)
+to_token limits es w us AlreadyEnded has = (has.0, tt, has.1, earlier_has es (w ∷ us) has.0 AlreadyEnded has.2)
+to_token limits es w us AlreadyBegun has = (has.0, tt, has.1, earlier_has es (w ∷ us) has.0 AlreadyBegun has.2)
+to_token limits es w us EmptyRange has = (has.0, tt, has.1, has.2)
+to_token limits es w us BadList has = (has.0, tt, has.1, has.2)
+to_token limits es w us NotWritten has = (has.0, tt, has.1, earlier_has es (w ∷ us) has.0 NotWritten has.2)
+to_token limits es w us BadStart has = (has.0, tt, has.1, earlier_has es (w ∷ us) has.0 BadStart has.2)
 
-from_token : (es : List Event) (w : List ℕ) (us : List (List ℕ)) (r : Reason) → TokenHas AnyForm (map spell es ++ w ∷ us) (suc (length es)) w r → NextHas es w r
-from_token es w us TooManyEvents t = let is = t in omega arith
-from_token es w us BadEvent t = λ e. t e tt
-from_token es w us BadNumber t = (t.0, t.2, t.3)
-from_token es w us AlreadyEnded t = (t.0, t.2, among_has es (w ∷ us) t.0 AlreadyEnded t.3)
-from_token es w us AlreadyBegun t = (t.0, t.2, among_has es (w ∷ us) t.0 AlreadyBegun t.3)
-from_token es w us EmptyRange t = (t.0, t.2, t.3)
-from_token es w us BadList t = (t.0, t.2, t.3)
-from_token es w us NotWritten t = (t.0, t.2, among_has es (w ∷ us) t.0 NotWritten t.3)
-from_token es w us BadStart t = (t.0, t.2, among_has es (w ∷ us) t.0 BadStart t.3)
+from_token : (limits : Limits) (es : List Event) (w : List ℕ) (us : List (List ℕ)) (r : Reason) → TokenHas limits AnyForm (map spell es ++ w ∷ us) (suc (length es)) w r → NextHas limits es w r
+from_token limits es w us TooManyEvents t = let is = t in omega arith
+from_token limits es w us BadEvent t = λ e. t e tt
+from_token limits es w us BadNumber t = (t.0, t.2, t.3)
+from_token limits es w us AlreadyEnded t = (t.0, t.2, among_has es (w ∷ us) t.0 AlreadyEnded t.3)
+from_token limits es w us AlreadyBegun t = (t.0, t.2, among_has es (w ∷ us) t.0 AlreadyBegun t.3)
+from_token limits es w us EmptyRange t = (t.0, t.2, t.3)
+from_token limits es w us BadList t = (t.0, t.2, t.3)
+from_token limits es w us NotWritten t = (t.0, t.2, among_has es (w ∷ us) t.0 NotWritten t.3)
+from_token limits es w us BadStart t = (t.0, t.2, among_has es (w ∷ us) t.0 BadStart t.3)
 
-pub next_first : (es : List Event) (w : List ℕ) (us : List (List ℕ)) (r : Reason) → IsClean es → IsNextFault es w r → IsFirstFault (map spell es ++ w ∷ us) (suc (length es)) r
-next_first es w us r clean f = record {
-  has = (w, get_next es w us, to_token es w us r f.has);
+pub next_first : (limits : Limits) (es : List Event) (w : List ℕ) (us : List (List ℕ)) (r : Reason) → IsClean limits es → IsNextFault limits es w r → IsFirstFault limits (map spell es ++ w ∷ us) (suc (length es)) r
+next_first limits es w us r clean f = record {
+  has = (w, get_next es w us, to_token limits es w us r f.has);
   first = λ j other given. elim (cases_lt j (suc (length es))) [
-    | inl less ↦ absurd (clean_no_reason es clean j other (reason_front (map spell es) (w ∷ us) j other (omega (arith, length-map es spell)) given))
+    | inl less ↦ absurd (clean_no_reason limits es clean j other (reason_front limits (map spell es) (w ∷ us) j other (omega (arith, length-map es spell)) given))
     | inr more ↦ more
   ];
   least = λ other given.
       let same : given.0 ≡ w = same_some given.0 w (sym given.1 ∙ get_next es w us) in
-      f.least other (from_token es w us other (subst (λ v. TokenHas AnyForm (map spell es ++ w ∷ us) (suc (length es)) v other) same given.2));
+      f.least other (from_token limits es w us other (subst (λ v. TokenHas limits AnyForm (map spell es ++ w ∷ us) (suc (length es)) v other) same given.2));
 }
   where
     same_some : (v x : List ℕ) → Some v ≡ Some x → v ≡ x
     same_some v x p = cc
 
 -- tokens that are judged up to one that is refused
-pub stops_first : (es : List Event) (ts : List (List ℕ)) (all : List Event) (r : Reason) → IsClean es → StopsAt es ts all r → IsFirstFault (map spell es ++ ts) (suc (length all)) r
-stops_first es ts all r clean s =
-    let read = judged_clean es s.before all clean s.fine in
+pub stops_first : (limits : Limits) (es : List Event) (ts : List (List ℕ)) (all : List Event) (r : Reason) → IsClean limits es → StopsAt limits es ts all r → IsFirstFault limits (map spell es ++ ts) (suc (length all)) r
+stops_first limits es ts all r clean s =
+    let read = judged_clean limits es s.before all clean s.fine in
     let whole : map spell es ++ ts ≡ map spell all ++ s.token ∷ s.after =
     ap (λ (us : List (List ℕ)). map spell es ++ us) s.whole ∙ sym (append_assoc (map spell es) s.before (s.token ∷ s.after)) ∙ ap (λ (us : List (List ℕ)). us ++ s.token ∷ s.after) read.spelled in
-    subst (λ us. IsFirstFault us (suc (length all)) r) (sym whole) (next_first all s.token s.after r read.clean (judged_err all s.token r s.refused))
+    subst (λ us. IsFirstFault limits us (suc (length all)) r) (sym whole) (next_first limits all s.token s.after r read.clean (judged_err limits all s.token r s.refused))

@@ -1,15 +1,18 @@
 -- An accepted text stands for one history, and this one is well-formed.
-use Rattle.std.proofs.Common.{◌≡◌, inl, inr, ℕ, suc, ◌≤◌, List, [], ◌∷◌, map, length, slice_get, Some, refl, sym, subst, ◌∙◌, arith}
+use Rattle.std.proofs.Common.{◌≡◌, inl, inr, ℕ, suc, ◌+◌, ◌≤◌, List, [], ◌∷◌, map, length, slice_get, Some, refl, sym, subst, ◌∙◌, arith}
+use Rattle.sia_events.specs.Limits.{Limits, greatest, AreWithin}
 use Rattle.sia_events.specs.declared.event.Event.{Event}
-use Rattle.sia_events.specs.declared.fault.Reason.TheVariants.{BadEvent}
+use Rattle.sia_events.specs.declared.fault.Reason.{Reason}
+use Rattle.sia_events.specs.declared.fault.Reason.TheVariants.{TooManyEvents, BadEvent, BadNumber, AlreadyEnded, AlreadyBegun, EmptyRange, BadList, NotWritten, BadStart}
 use Rattle.sia_events.specs.declared.fault.TextFault.TheVariants.{NoMemory, TextTooLong, Refused}
 use Rattle.sia_events.specs.Text.{spell, tokens, canonical, StandsFor}
 use Rattle.sia_events.specs.Refusals.{HasReason, AnyForm, IsAccepted, IsWellFormed}
-use Rattle.sia_events.specs.Laws.{OneHistory, HasHistory}
+use Rattle.sia_events.specs.Laws.{OneHistory, HasHistory, GreaterLimitsAccept}
 use Rattle.sia_events.proofs.Canonical.{canonical_stands, spellings_injective}
 use Rattle.sia_events.proofs.Shortest.{canonical_shortest}
 use Rattle.sia_events.proofs.Unspelling.{spelling_or_not}
-use Rattle.sia_events.proofs.WellFormed.{accepted_short, accepted_none}
+use Rattle.sia_events.proofs.TransactionDecisions.{place_within}
+use Rattle.sia_events.proofs.WellFormed.{accepted_short, accepted_none, at_index}
 
 -- a text stands for one history at most
 pub one_history : (text : List ℕ) → OneHistory text
@@ -26,23 +29,45 @@ all_spelled (w ∷ ts) each =
     (first.0 ∷ rest.0, λ i. a i ∷ b i)
 
 -- an accepted text stands for a history
-pub accepted_has_history : (text : List ℕ) → IsAccepted text → (h : List Event) × StandsFor text h
-accepted_has_history text a = all_spelled (tokens text) (λ i w at. elim (spelling_or_not w) [
+pub accepted_has_history : (limits : Limits) (text : List ℕ) → IsAccepted limits text → (h : List Event) × StandsFor text h
+accepted_has_history limits text a = all_spelled (tokens text) (λ i w at. elim (spelling_or_not w) [
   | inl is ↦ is
-  | inr none ↦ absurd (accepted_none text a (suc i) BadEvent (w, at, λ e form. none e))
+  | inr none ↦ absurd (accepted_none limits text a (suc i) BadEvent (w, at, λ e form. none e))
 ])
 
+-- no token of an accepted text has a reason under greater limits
+none_more : (limits others : Limits) (text : List ℕ) → AreWithin limits others → IsAccepted limits text → (i : ℕ) (r : Reason) → ¬ HasReason others (tokens text) i r
+none_more limits others text within a i TooManyEvents has =
+    let most = within.events in
+    let many : i ≡ others.events + 1 = has.2 in
+    let there : i ≤ length (tokens text) = (place_within (tokens text) i has.0 has.1).1 in
+    let found = at_index (tokens text) limits.events (omega arith) in
+    accepted_none limits text a (suc limits.events) TooManyEvents (found.0, found.1, omega arith)
+none_more limits others text within a i BadEvent has = accepted_none limits text a i BadEvent has
+none_more limits others text within a i BadNumber has = accepted_none limits text a i BadNumber has
+none_more limits others text within a i AlreadyEnded has = accepted_none limits text a i AlreadyEnded has
+none_more limits others text within a i AlreadyBegun has = accepted_none limits text a i AlreadyBegun has
+none_more limits others text within a i EmptyRange has = accepted_none limits text a i EmptyRange has
+none_more limits others text within a i BadList has = accepted_none limits text a i BadList has
+none_more limits others text within a i NotWritten has = accepted_none limits text a i NotWritten has
+none_more limits others text within a i BadStart has = accepted_none limits text a i BadStart has
+
 -- a text with the same tokens, no longer than an accepted one, is accepted
-accepted_alike : (text other : List ℕ) → tokens other ≡ tokens text → length other ≤ length text → IsAccepted text → IsAccepted other
-accepted_alike text other same short a NoMemory refusal = refusal
-accepted_alike text other same short a TextTooLong refusal = omega (arith, accepted_short AnyForm text a)
-accepted_alike text other same short a (Refused i r) refusal = accepted_none text a i r (subst (λ ts. HasReason ts i r) same refusal.1.has)
+accepted_alike : (limits others : Limits) (text other : List ℕ) → AreWithin limits others → tokens other ≡ tokens text → length other ≤ length text → IsAccepted limits text → IsAccepted others other
+accepted_alike limits others text other within same short a NoMemory refusal = refusal
+accepted_alike limits others text other within same short a TextTooLong refusal = let most = within.bytes in omega (arith, accepted_short limits AnyForm text a)
+accepted_alike limits others text other within same short a (Refused i r) refusal =
+    none_more limits others text within a i r (subst (λ ts. HasReason others ts i r) same refusal.1.has)
+
+-- what some limits accept, greater ones accept
+pub greater_accept : (text : List ℕ) → GreaterLimitsAccept text
+greater_accept text limits others within a = accepted_alike limits others text text within refl (omega arith) a
 
 -- the history of an accepted text is well-formed
-pub accepted_well_formed : (text : List ℕ) (h : List Event) → IsAccepted text → StandsFor text h → IsWellFormed h
-accepted_well_formed text h a stands = accepted_alike text (canonical h) (canonical_stands h ∙ sym stands) (canonical_shortest h text stands) a
+pub accepted_well_formed : (limits : Limits) (text : List ℕ) (h : List Event) → AreWithin limits greatest → IsAccepted limits text → StandsFor text h → IsWellFormed h
+accepted_well_formed limits text h within a stands = accepted_alike limits greatest text (canonical h) within (canonical_stands h ∙ sym stands) (canonical_shortest h text stands) a
 
-pub has_history : (text : List ℕ) → HasHistory text
-has_history text a =
-    let found = accepted_has_history text a in
-    (found.0, found.1, accepted_well_formed text found.0 a found.1)
+pub has_history : (limits : Limits) (text : List ℕ) → AreWithin limits greatest → HasHistory limits text
+has_history limits text within a =
+    let found = accepted_has_history limits text a in
+    (found.0, found.1, accepted_well_formed limits text found.0 within a found.1)

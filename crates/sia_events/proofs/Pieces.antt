@@ -3,6 +3,7 @@ use Rattle.std.proofs.Common.{◌≡◌, ◌≢◌, inl, inr, ℕ, true, false, 
 use Rattle.std.specs.Prelude.{IfErr, OnErr}
 use Rattle.std.proofs.lemmas.List.{append-nil}
 use Rattle.std.proofs.lemmas.List.Elements.{recursion_from_All, All-from_recursion, All-nil}
+use Rattle.sia_events.specs.Limits.{Limits}
 use Rattle.sia_events.specs.declared.event.Event.{Event}
 use Rattle.sia_events.specs.declared.fault.Refusal.{Refusal}
 use Rattle.sia_events.specs.declared.fault.Refusal.TheVariants as refusals
@@ -20,20 +21,20 @@ one_token [] some = absurd (some refl)
 one_token (c ∷ cs) some = refl
 
 -- a refused token stops the events at it
-pub halts_first : {X : Type 0} (result : Result X Refusal) (events all : List Event) (token : List ℕ) → length token ≢ 0 → IfErr result (λ fault. Fails fault (judged events token)) → OnErr result (all ≡ events) → IfErr result (λ fault. Halts fault events (as_token token) all)
-halts_first (Ok x) events all token some fails kept = tt
-halts_first (Err refusals.NoMemory) events all token some fails kept = tt
-halts_first (Err (refusals.Bad r)) events all token some fails kept = subst (λ ts. StopsAt events ts all r) (sym (one_token token some)) (StopsAt-first events all token r kept fails)
+pub halts_first : (limits : Limits) {X : Type 0} (result : Result X Refusal) (events all : List Event) (token : List ℕ) → length token ≢ 0 → IfErr result (λ fault. Fails fault (judged limits events token)) → OnErr result (all ≡ events) → IfErr result (λ fault. Halts limits fault events (as_token token) all)
+halts_first limits (Ok x) events all token some fails kept = tt
+halts_first limits (Err refusals.NoMemory) events all token some fails kept = tt
+halts_first limits (Err (refusals.Bad r)) events all token some fails kept = subst (λ ts. StopsAt limits events ts all r) (sym (one_token token some)) (StopsAt-first limits events all token r kept fails)
 
 -- so it does in a text of which the tokens before it are judged
-pub halts_in : (fault : Refusal) (events middle all : List Event) (text closed token after : List ℕ) (s : ℕ) → text ≡ closed ++ (token ++ s ∷ after) → IsClosed closed → HasNoSeparator token → is_separator s ≡ true
-    → JudgedAll events (tokens closed) middle → Halts fault middle (as_token token) all → HaltsIn fault events text all
-halts_in refusals.NoMemory events middle all text closed token after s whole ends unbroken separates fine h = tt
-halts_in (refusals.Bad r) events middle all text closed token after s whole ends unbroken separates fine h = stops_in events middle all text closed token after s r whole ends unbroken separates fine h
+pub halts_in : (limits : Limits) (fault : Refusal) (events middle all : List Event) (text closed token after : List ℕ) (s : ℕ) → text ≡ closed ++ (token ++ s ∷ after) → IsClosed closed → HasNoSeparator token → is_separator s ≡ true
+    → JudgedAll limits events (tokens closed) middle → Halts limits fault middle (as_token token) all → HaltsIn limits fault events text all
+halts_in limits refusals.NoMemory events middle all text closed token after s whole ends unbroken separates fine h = tt
+halts_in limits (refusals.Bad r) events middle all text closed token after s whole ends unbroken separates fine h = stops_in limits events middle all text closed token after s r whole ends unbroken separates fine h
 
 -- ---- unfinished bytes, and a piece in which a separator ends their token
 
-module _ (unfinished piece front after : List ℕ) (split : IsSplitAfter piece front after) (unbroken : All (λ c. is_separator c ≡ false) unfinished) where
+module _ (limits : Limits) (unfinished piece front after : List ℕ) (split : IsSplitAfter piece front after) (unbroken : All (λ c. is_separator c ≡ false) unfinished) where
   abbrev pub whole_token : List ℕ
   whole_token = unfinished ++ front
 
@@ -65,27 +66,27 @@ module _ (unfinished piece front after : List ℕ) (split : IsSplitAfter piece f
   tokens_after closed = tokens-append done closed done_ends ∙ ap (λ (ts : List (List ℕ)). ts ++ tokens closed) done_tokens
 
   -- the token, and then those of the piece that a separator follows
-  pub taken_after : (events middle all : List Event) (closed rest : List ℕ) → JudgedAll events (as_token whole_token) middle → IsCutAtLastSeparator after closed rest → JudgedAll middle (tokens closed) all
-      → (more : List ℕ) × IsCutAtLastSeparator (unfinished ++ piece) more rest × JudgedAll events (tokens more) all
+  pub taken_after : (events middle all : List Event) (closed rest : List ℕ) → JudgedAll limits events (as_token whole_token) middle → IsCutAtLastSeparator after closed rest → JudgedAll limits middle (tokens closed) all
+      → (more : List ℕ) × IsCutAtLastSeparator (unfinished ++ piece) more rest × JudgedAll limits events (tokens more) all
   taken_after events middle all closed rest first cut others =
-      (done ++ closed, cut_after closed rest cut, subst (λ ts. JudgedAll events ts all) (sym (tokens_after closed)) (JudgedAll-append events middle all (as_token whole_token) (tokens closed) first others))
+      (done ++ closed, cut_after closed rest cut, subst (λ ts. JudgedAll limits events ts all) (sym (tokens_after closed)) (JudgedAll-append limits events middle all (as_token whole_token) (tokens closed) first others))
 
-  pub halts_after : (fault : Refusal) (events middle all : List Event) → JudgedAll events (as_token whole_token) middle → HaltsIn fault middle after all → HaltsIn fault events (unfinished ++ piece) all
+  pub halts_after : (fault : Refusal) (events middle all : List Event) → JudgedAll limits events (as_token whole_token) middle → HaltsIn limits fault middle after all → HaltsIn limits fault events (unfinished ++ piece) all
   halts_after refusals.NoMemory events middle all first h = tt
   halts_after (refusals.Bad r) events middle all first h =
-      (done ++ h.0, h.1, cut_after h.0 h.1 h.2, subst (λ ts. StopsAt events ts all r) (sym (tokens_after h.0)) (StopsAt-after events middle all (as_token whole_token) (tokens h.0) r first h.3))
+      (done ++ h.0, h.1, cut_after h.0 h.1 h.2, subst (λ ts. StopsAt limits events ts all r) (sym (tokens_after h.0)) (StopsAt-after limits events middle all (as_token whole_token) (tokens h.0) r first h.3))
 
-  pub halts_at_first : (fault : Refusal) (events all : List Event) → Halts fault events (as_token whole_token) all → HaltsIn fault events (unfinished ++ piece) all
-  halts_at_first fault events all h = halts_in fault events events all (unfinished ++ piece) [] whole_token after split.separator first_whole (inl refl) token_unbroken split.separates (JudgedAll-none events) h
+  pub halts_at_first : (fault : Refusal) (events all : List Event) → Halts limits fault events (as_token whole_token) all → HaltsIn limits fault events (unfinished ++ piece) all
+  halts_at_first fault events all h = halts_in limits fault events events all (unfinished ++ piece) [] whole_token after split.separator first_whole (inl refl) token_unbroken split.separates (JudgedAll-none limits events) h
 
 -- a piece without a separator
-pub nothing_taken : (unfinished piece : List ℕ) (events : List Event) → All (λ c. is_separator c ≡ false) unfinished → HasNoSeparator piece → (closed : List ℕ) × IsCutAtLastSeparator (unfinished ++ piece) closed (unfinished ++ piece) × JudgedAll events (tokens closed) events
-nothing_taken unfinished piece events unbroken more = (
+pub nothing_taken : (limits : Limits) (unfinished piece : List ℕ) (events : List Event) → All (λ c. is_separator c ≡ false) unfinished → HasNoSeparator piece → (closed : List ℕ) × IsCutAtLastSeparator (unfinished ++ piece) closed (unfinished ++ piece) × JudgedAll limits events (tokens closed) events
+nothing_taken limits unfinished piece events unbroken more = (
   [],
   record {
     whole = refl;
     rest_goes_on = All-from_recursion (λ c. is_separator c ≡ false) (unfinished ++ piece) (HasNoSeparator-append unfinished piece (recursion_from_All (λ c. is_separator c ≡ false) unfinished unbroken) more);
     closed_ends = inl refl;
   },
-  JudgedAll-none events,
+  JudgedAll-none limits events,
 )

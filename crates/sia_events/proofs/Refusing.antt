@@ -1,8 +1,9 @@
 -- The refusal of a text whose tokens spell events, from the reasons that these have among themselves.
-use Rattle.std.proofs.Common.{◌≡◌, ◌≢◌, ◌⊎◌, inl, inr, ℕ, zero, suc, ◌-◌, ◌<◌, ◌≤◌, List, map, length, Option, Some, None, refl, ap, sym, subst, ◌∙◌, arith}
+use Rattle.std.proofs.Common.{◌≡◌, ◌≢◌, ◌⊎◌, inl, inr, ℕ, zero, suc, ◌+◌, ◌-◌, ◌<◌, ◌≤◌, List, map, length, Option, Some, None, refl, ap, sym, subst, ◌∙◌, arith}
 use Rattle.std.specs.Option.{option_map}
 use Rattle.std.proofs.lemmas.List.{length-map}
 use Rattle.std.proofs.lemmas.Option.{slice_get_within}
+use Rattle.sia_events.specs.Limits.{Limits}
 use Rattle.sia_events.specs.declared.event.Event.{Event}
 use Rattle.sia_events.specs.declared.event.Event.TheVariants.{Range, Write, Commit, Abort}
 use Rattle.sia_events.specs.declared.fault.Reason.{Reason}
@@ -10,9 +11,8 @@ use Rattle.sia_events.specs.declared.fault.Reason.TheVariants.{TooManyEvents, Ba
 use Rattle.sia_events.specs.declared.fault.TextFault.TheVariants.{NoMemory, TextTooLong, Refused}
 use Rattle.sia_events.specs.Places.{at_place}
 use Rattle.sia_events.specs.Events.{actor, named_start, Saw}
-use Rattle.sia_events.specs.Text.{spell, canonical, StandsFor}
-use Rattle.sia_events.specs.Refusals.{IsInRange, EventHas, IsEarlier, TokenHas, HasReason, reason_number, AnyForm, IsFirstFault, IsRefusal, IsBegin, IsEmptyRange, HasBadList, IsWellFormed}
-use Rattle.sia_events.proofs.Canonical.{canonical_stands}
+use Rattle.sia_events.specs.Text.{spell, StandsFor}
+use Rattle.sia_events.specs.Refusals.{IsInRange, EventHas, IsEarlier, TokenHas, HasReason, reason_number, AnyForm, IsFirstFault, IsRefusal, IsBegin, IsEmptyRange, HasBadList, IsAccepted}
 use Rattle.sia_events.proofs.Decisions.{at_most}
 use Rattle.sia_events.proofs.Spelling.{spell_injective}
 use Rattle.sia_events.proofs.Starts.{one_event}
@@ -20,13 +20,13 @@ use Rattle.sia_events.proofs.TransactionDecisions.{place_within}
 use Rattle.sia_events.proofs.WellFormed.{IsBefore, at_place-map, before_earlier, earlier_before, moved, token_has, place_spelled}
 
 -- a reason of a token that spells an event is one of the event, or there are too many
-token_event : (h : List Event) (i : ℕ) (e : Event) (r : Reason) → i ≢ 100001 → TokenHas AnyForm (map spell h) i (spell e) r → EventHas (i - 1) (IsBefore h i) e r
-token_event h i e r few has = moved (i - 1) (IsBefore h i) (IsEarlier (map spell h) i) (earlier_before h i) (before_earlier h i) e r (of_reason r has)
+token_event : (limits : Limits) (h : List Event) (i : ℕ) (e : Event) (r : Reason) → i ≢ limits.events + 1 → TokenHas limits AnyForm (map spell h) i (spell e) r → EventHas (i - 1) (IsBefore h i) e r
+token_event limits h i e r few has = moved (i - 1) (IsBefore h i) (IsEarlier (map spell h) i) (earlier_before h i) (before_earlier h i) e r (of_reason r has)
   where
     same : (s : Reason) (f : Event) → spell e ≡ spell f → EventHas (i - 1) (IsEarlier (map spell h) i) f s → EventHas (i - 1) (IsEarlier (map spell h) i) e s
     same s f is given = subst (λ g. EventHas (i - 1) (IsEarlier (map spell h) i) g s) (spell_injective f e (sym is)) given
 
-    of_reason : (s : Reason) → TokenHas AnyForm (map spell h) i (spell e) s → EventHas (i - 1) (IsEarlier (map spell h) i) e s
+    of_reason : (s : Reason) → TokenHas limits AnyForm (map spell h) i (spell e) s → EventHas (i - 1) (IsEarlier (map spell h) i) e s
     of_reason TooManyEvents t = absurd (few t)
     of_reason BadEvent t = absurd (t e tt refl)
     of_reason BadNumber t = same BadNumber t.0 t.2 t.3
@@ -38,8 +38,8 @@ token_event h i e r few has = moved (i - 1) (IsBefore h i) (IsEarlier (map spell
     of_reason BadStart t = same BadStart t.0 t.2 t.3
 
 -- what has a reason spells an event, which has it
-pub place_event : (h : List Event) (i : ℕ) (r : Reason) → i ≢ 100001 → HasReason (map spell h) i r → (e : Event) × (at_place h i ≡ Some e) × EventHas (i - 1) (IsBefore h i) e r
-place_event h i r few has = of_place (at_place h i) refl
+pub place_event : (limits : Limits) (h : List Event) (i : ℕ) (r : Reason) → i ≢ limits.events + 1 → HasReason limits (map spell h) i r → (e : Event) × (at_place h i ≡ Some e) × EventHas (i - 1) (IsBefore h i) e r
+place_event limits h i r few has = of_place (at_place h i) refl
   where
     of_place : (o : Option Event) → at_place h i ≡ o → (e : Event) × (at_place h i ≡ Some e) × EventHas (i - 1) (IsBefore h i) e r
     of_place None is =
@@ -48,32 +48,32 @@ place_event h i r few has = of_place (at_place h i) refl
     of_place (Some e) is =
         let some : Some (spell e) ≡ Some has.0 = sym (at_place-map h i ∙ ap (option_map spell) is) ∙ has.1 in
         let word : spell e ≡ has.0 = cc in
-        (e, is, token_event h i e r few (subst (λ w. TokenHas AnyForm (map spell h) i w r) (sym word) has.2))
+        (e, is, token_event limits h i e r few (subst (λ w. TokenHas limits AnyForm (map spell h) i w r) (sym word) has.2))
 
 -- the first event with a reason, and its least
-pub record IsFirstFaulty (h : List Event) (i : ℕ) (r : Reason) (e : Event) : Type 0 where
-  pub few : i < 100001
+pub record IsFirstFaulty (limits : Limits) (h : List Event) (i : ℕ) (r : Reason) (e : Event) : Type 0 where
+  pub few : i < limits.events + 1
   pub at : at_place h i ≡ Some e
   pub has : EventHas (i - 1) (IsBefore h i) e r
   pub first : (j : ℕ) (f : Event) (s : Reason) → j < i → at_place h j ≡ Some f → ¬ EventHas (j - 1) (IsBefore h j) f s
   pub least : (s : Reason) → EventHas (i - 1) (IsBefore h i) e s → reason_number r ≤ reason_number s
 
-first_fault : (h : List Event) (i : ℕ) (r : Reason) (e : Event) → IsFirstFaulty h i r e → IsFirstFault (map spell h) i r
-first_fault h i r e f = record {
-  has = (spell e, place_spelled h i e f.at, token_has (map spell h) i e r (moved (i - 1) (IsEarlier (map spell h) i) (IsBefore h i) (before_earlier h i) (earlier_before h i) e r f.has));
+first_fault : (limits : Limits) (h : List Event) (i : ℕ) (r : Reason) (e : Event) → IsFirstFaulty limits h i r e → IsFirstFault limits (map spell h) i r
+first_fault limits h i r e f = record {
+  has = (spell e, place_spelled h i e f.at, token_has limits (map spell h) i e r (moved (i - 1) (IsEarlier (map spell h) i) (IsBefore h i) (before_earlier h i) (earlier_before h i) e r f.has));
   first = λ j s given. at_most i j (λ less.
-      let below : i < 100001 = f.few in
-      let found = place_event h j s (λ is. omega arith) given in
+      let below : i < limits.events + 1 = f.few in
+      let found = place_event limits h j s (λ is. omega arith) given in
       f.first j found.0 s less found.1 found.2);
   least = λ s given.
-      let below : i < 100001 = f.few in
-      let found = place_event h i s (λ is. omega arith) given in
+      let below : i < limits.events + 1 = f.few in
+      let found = place_event limits h i s (λ is. omega arith) given in
       f.least s (subst (λ g. EventHas (i - 1) (IsBefore h i) g s) (one_event h i i found.0 e refl found.1 f.at) found.2);
 }
 
 -- the refusal of a text that stands for a list of events
-pub refused : (text : List ℕ) (h : List Event) (i : ℕ) (r : Reason) (e : Event) → StandsFor text h → length text ≤ 16777216 → IsFirstFaulty h i r e → IsRefusal text (Refused i r)
-refused text h i r e stands short f = (short, subst (λ ts. IsFirstFault ts i r) (sym stands) (first_fault h i r e f))
+pub refused : (limits : Limits) (text : List ℕ) (h : List Event) (i : ℕ) (r : Reason) (e : Event) → StandsFor text h → length text ≤ limits.bytes → IsFirstFaulty limits h i r e → IsRefusal limits text (Refused i r)
+refused limits text h i r e stands short f = (short, subst (λ ts. IsFirstFault limits ts i r) (sym stands) (first_fault limits h i r e f))
 
 -- nothing stands before the first event
 pub none_before_first : (h : List Event) (f : Event) → ¬ IsBefore h 1 f
@@ -118,21 +118,21 @@ fit_has_none n Earlier e f BadList has = f.list_good has
 fit_has_none n Earlier e f NotWritten has = has.4 (f.written has.0 has.1 has.2 has.3)
 fit_has_none n Earlier e f BadStart has = let most : has.0 ≤ n = f.start_there has.0 has.1 in let less : n < has.0 = has.2 in omega arith
 
--- a list of events within the limits is well-formed, where none of these has a reason
-pub well_formed_from : (h : List Event) → length h ≤ 100000 → length (canonical h) ≤ 16777216 → ((i : ℕ) (e : Event) → at_place h i ≡ Some e → IsFit (i - 1) (IsBefore h i) e) → IsWellFormed h
-well_formed_from h few short each NoMemory refusal = refusal
-well_formed_from h few short each TextTooLong refusal = omega arith
-well_formed_from h few short each (Refused i r) refusal = none (subst (λ ts. HasReason ts i r) (canonical_stands h) refusal.1.has)
+-- a text within the limits is accepted, where no event that it stands for has a reason
+pub accepted_from : (limits : Limits) (text : List ℕ) (h : List Event) → StandsFor text h → length h ≤ limits.events → length text ≤ limits.bytes → ((i : ℕ) (e : Event) → at_place h i ≡ Some e → IsFit (i - 1) (IsBefore h i) e) → IsAccepted limits text
+accepted_from limits text h stands few short each NoMemory refusal = refusal
+accepted_from limits text h stands few short each TextTooLong refusal = omega arith
+accepted_from limits text h stands few short each (Refused i r) refusal = none (subst (λ ts. HasReason limits ts i r) stands refusal.1.has)
   where
-    within : HasReason (map spell h) i r → i ≤ 100000
+    within : HasReason limits (map spell h) i r → i ≤ limits.events
     within has = place_of i has.1
       where
-        place_of : (j : ℕ) → at_place (map spell h) j ≡ Some has.0 → j ≤ 100000
+        place_of : (j : ℕ) → at_place (map spell h) j ≡ Some has.0 → j ≤ limits.events
         place_of zero at = omega arith
         place_of (suc j) at = let below : j < length (map spell h) = slice_get_within (map spell h) j has.0 at in omega (arith, length-map h spell)
 
-    none : ¬ HasReason (map spell h) i r
+    none : ¬ HasReason limits (map spell h) i r
     none has =
-        let most : i ≤ 100000 = within has in
-        let found = place_event h i r (λ is. omega arith) has in
+        let most : i ≤ limits.events = within has in
+        let found = place_event limits h i r (λ is. omega arith) has in
         fit_has_none (i - 1) (IsBefore h i) found.0 (each i found.0 found.1) r found.2

@@ -2,14 +2,15 @@
 use Rattle.std.proofs.Common.{inl, inr, List, Ok, Err, refl, ap}
 use Rattle.sia_events.specs.declared.event.Event.{Event}
 use Rattle.sia_events.specs.declared.fault.TextFault.TheVariants.{NoMemory, TextTooLong, Refused}
+use Rattle.sia_events.specs.Limits.{Limits}
 use Rattle.sia_events.specs.Text.{canonical}
-use Rattle.sia_events.specs.Refusals.{IsWellFormed}
+use Rattle.sia_events.specs.Refusals.{IsAccepted}
 use Rattle.sia_events.specs.Laws.{RoundTrip}
 use Rattle.sia_events.proofs.Canonical.{canonical_stands}
 use Rattle.sia_events.proofs.Histories.{one_history}
 
-pub round_trip : (h : List Event) → IsWellFormed h → RoundTrip h
-round_trip h w (Ok read) reads = inl (ap (λ (events : List Event). Ok events) (one_history (canonical h) read h reads.1 (canonical_stands h)))
-round_trip h w (Err NoMemory) reads = inr refl
-round_trip h w (Err TextTooLong) refusal = absurd (w TextTooLong refusal)
-round_trip h w (Err (Refused i r)) refusal = absurd (w (Refused i r) refusal)
+pub round_trip : (limits : Limits) (h : List Event) → IsAccepted limits (canonical h) → RoundTrip limits h
+round_trip limits h w (Ok read) reads = inl (ap (λ (events : List Event). Ok events) (one_history (canonical h) read h reads.1 (canonical_stands h)))
+round_trip limits h w (Err NoMemory) reads = inr refl
+round_trip limits h w (Err TextTooLong) refusal = absurd (w TextTooLong refusal)
+round_trip limits h w (Err (Refused i r)) refusal = absurd (w (Refused i r) refusal)

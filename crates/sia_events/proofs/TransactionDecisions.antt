@@ -12,7 +12,7 @@ use Rattle.sia_events.specs.Transactions.{ActsAt, HasEvent, IsFirstEvent, Starts
 use Rattle.sia_events.proofs.Decisions.{Decided, first_below, same_option, same_event}
 
 -- an event stands at a place from 1 to the number of events
-pub place_within : (h : List Event) (p : ℕ) (e : Event) → at_place h p ≡ Some e → (0 < p) × (p ≤ length h)
+pub place_within : {A : Type 0} (h : List A) (p : ℕ) (e : A) → at_place h p ≡ Some e → (0 < p) × (p ≤ length h)
 place_within h zero e at = cc
 place_within h (suc i) e at = (omega arith, slice_get_within h i e at)
 

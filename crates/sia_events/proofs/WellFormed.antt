@@ -4,6 +4,7 @@ use Rattle.std.proofs.lemmas.Bool.{cases_lt}
 use Rattle.std.proofs.lemmas.Option.{slice_get-map}
 use Rattle.std.specs.Option.{option_map}
 use Rattle.std.specs.Prelude.{slice_index_or}
+use Rattle.sia_events.specs.Limits.{Limits, greatest}
 use Rattle.sia_events.specs.declared.event.Event.{Event}
 use Rattle.sia_events.specs.declared.event.Event.TheVariants.{Begin, Read, Range, Write, Commit, Abort}
 use Rattle.sia_events.specs.declared.fault.Reason.{Reason}
@@ -30,38 +31,38 @@ numbers_below NotWritten = omega arith
 numbers_below BadStart = omega arith
 
 -- where no first fault is, nothing has a reason
-module _ (Form : Event → Type 0) (ts : List (List ℕ)) (none : (i : ℕ) (r : Reason) → ¬ IsFirstFaultIn Form ts i r) where
+module _ (limits : Limits) (Form : Event → Type 0) (ts : List (List ℕ)) (none : (i : ℕ) (r : Reason) → ¬ IsFirstFaultIn limits Form ts i r) where
   -- nothing before number n has one: so it has none with a number below m
-  none_at : (n m : ℕ) → ((j : ℕ) (s : Reason) → j < n → ¬ HasReasonIn Form ts j s) → (r : Reason) → reason_number r < m → ¬ HasReasonIn Form ts n r
+  none_at : (n m : ℕ) → ((j : ℕ) (s : Reason) → j < n → ¬ HasReasonIn limits Form ts j s) → (r : Reason) → reason_number r < m → ¬ HasReasonIn limits Form ts n r
   none_at n zero before r below has = absurd (omega arith)
   none_at n (suc m) before r below has =
-      let lower : (s : Reason) → reason_number s < reason_number r → ¬ HasReasonIn Form ts n s = λ s less. none_at n m before s (omega arith) in
+      let lower : (s : Reason) → reason_number s < reason_number r → ¬ HasReasonIn limits Form ts n s = λ s less. none_at n m before s (omega arith) in
       none n r (record {
         has = has;
         first = λ j s h. at_most n j (λ less. before j s less h);
         least = λ s h. at_most (reason_number r) (reason_number s) (λ less. lower s less h);
       })
 
-  none_below : (n : ℕ) (j : ℕ) (s : Reason) → j < n → ¬ HasReasonIn Form ts j s
+  none_below : (n : ℕ) (j : ℕ) (s : Reason) → j < n → ¬ HasReasonIn limits Form ts j s
   none_below zero j s below has = absurd (omega arith)
   none_below (suc n) j s below has = elim (cases_lt j n) [
     | inl less ↦ none_below n j s less has
     | inr at_least ↦ let same : j ≡ n = omega arith in
-        none_at n 11 (none_below n) s (numbers_below s) (subst (λ i. HasReasonIn Form ts i s) same has)
+        none_at n 11 (none_below n) s (numbers_below s) (subst (λ i. HasReasonIn limits Form ts i s) same has)
   ]
 
-  none_has : (i : ℕ) (r : Reason) → ¬ HasReasonIn Form ts i r
+  none_has : (i : ℕ) (r : Reason) → ¬ HasReasonIn limits Form ts i r
   none_has i r = none_below (i + 1) i r (omega arith)
 
-pub accepted_short : (Form : Event → Type 0) (text : List ℕ) → IsAcceptedIn Form text → length text ≤ 16777216
-accepted_short Form text a = at_most (length text) 16777216 (a TextTooLong)
+pub accepted_short : (limits : Limits) (Form : Event → Type 0) (text : List ℕ) → IsAcceptedIn limits Form text → length text ≤ limits.bytes
+accepted_short limits Form text a = at_most (length text) limits.bytes (a TextTooLong)
 
 -- no token of an accepted text has a reason
-pub accepted_none_in : (Form : Event → Type 0) (text : List ℕ) → IsAcceptedIn Form text → (i : ℕ) (r : Reason) → ¬ HasReasonIn Form (tokens text) i r
-accepted_none_in Form text a = none_has Form (tokens text) (λ i r f. a (Refused i r) (accepted_short Form text a, f))
+pub accepted_none_in : (limits : Limits) (Form : Event → Type 0) (text : List ℕ) → IsAcceptedIn limits Form text → (i : ℕ) (r : Reason) → ¬ HasReasonIn limits Form (tokens text) i r
+accepted_none_in limits Form text a = none_has limits Form (tokens text) (λ i r f. a (Refused i r) (accepted_short limits Form text a, f))
 
-pub accepted_none : (text : List ℕ) → IsAccepted text → (i : ℕ) (r : Reason) → ¬ HasReason (tokens text) i r
-accepted_none text a = accepted_none_in AnyForm text a
+pub accepted_none : (limits : Limits) (text : List ℕ) → IsAccepted limits text → (i : ℕ) (r : Reason) → ¬ HasReason limits (tokens text) i r
+accepted_none limits text a = accepted_none_in limits AnyForm text a
 
 -- f stands before place i
 abbrev pub IsBefore : List Event → ℕ → Event → Type 0
@@ -94,20 +95,20 @@ moved n Earlier Before to from e BadList h = h
 moved n Earlier Before to from e NotWritten h = (h.0, h.1, h.2, h.3, λ w. h.4 (from (Write h.1 h.0) w))
 moved n Earlier Before to from e BadStart h = h
 
-pub token_has : (ts : List (List ℕ)) (i : ℕ) (e : Event) (r : Reason) → EventHas (i - 1) (IsEarlier ts i) e r → TokenHas AnyForm ts i (spell e) r
-token_has ts i e TooManyEvents h = absurd h
-token_has ts i e BadEvent h = absurd h
-token_has ts i e BadNumber h = (e, tt, refl, h)
-token_has ts i e AlreadyEnded h = (e, tt, refl, h)
-token_has ts i e AlreadyBegun h = (e, tt, refl, h)
-token_has ts i e EmptyRange h = (e, tt, refl, h)
-token_has ts i e BadList h = (e, tt, refl, h)
-token_has ts i e NotWritten h = (e, tt, refl, h)
-token_has ts i e BadStart h = (e, tt, refl, h)
+pub token_has : (limits : Limits) (ts : List (List ℕ)) (i : ℕ) (e : Event) (r : Reason) → EventHas (i - 1) (IsEarlier ts i) e r → TokenHas limits AnyForm ts i (spell e) r
+token_has limits ts i e TooManyEvents h = absurd h
+token_has limits ts i e BadEvent h = absurd h
+token_has limits ts i e BadNumber h = (e, tt, refl, h)
+token_has limits ts i e AlreadyEnded h = (e, tt, refl, h)
+token_has limits ts i e AlreadyBegun h = (e, tt, refl, h)
+token_has limits ts i e EmptyRange h = (e, tt, refl, h)
+token_has limits ts i e BadList h = (e, tt, refl, h)
+token_has limits ts i e NotWritten h = (e, tt, refl, h)
+token_has limits ts i e BadStart h = (e, tt, refl, h)
 
 -- no token of a well-formed history's text has a reason
-spelled_none : (h : List Event) → IsWellFormed h → (i : ℕ) (r : Reason) → ¬ HasReason (map spell h) i r
-spelled_none h wf i r = subst (λ ts. ¬ HasReason ts i r) (canonical_stands h) (accepted_none (canonical h) wf i r)
+spelled_none : (h : List Event) → IsWellFormed h → (i : ℕ) (r : Reason) → ¬ HasReason greatest (map spell h) i r
+spelled_none h wf i r = subst (λ ts. ¬ HasReason greatest ts i r) (canonical_stands h) (accepted_none greatest (canonical h) wf i r)
 
 pub place_spelled : (h : List Event) (i : ℕ) (e : Event) → at_place h i ≡ Some e → at_place (map spell h) i ≡ Some (spell e)
 place_spelled h i e at = at_place-map h i ∙ ap (option_map spell) at
@@ -118,7 +119,7 @@ event_has_none h wf i e at r has =
     spelled_none h wf i r (
       spell e,
       place_spelled h i e at,
-      token_has (map spell h) i e r
+      token_has greatest (map spell h) i e r
           (moved (i - 1) (IsEarlier (map spell h) i) (IsBefore h i) (before_earlier h i) (earlier_before h i) e r has),
     )
 
@@ -133,7 +134,7 @@ one_commit h wf t i j a b =
     let q : j ≤ i = nothing_after_end h wf j i (Commit t) b a in
     omega arith
 
-at_index : (h : List Event) (i : ℕ) → i < length h → (e : Event) × (slice_get h i ≡ Some e)
+pub at_index : {A : Type 0} (h : List A) (i : ℕ) → i < length h → (e : A) × (slice_get h i ≡ Some e)
 at_index [] i below = absurd (omega arith)
 at_index (e ∷ h) zero below = (e, refl)
 at_index (e ∷ h) (suc i) below = at_index h i (omega arith)

@@ -5,13 +5,15 @@ use Rattle.std.proofs.lemmas.Bool.{eq-eqb}
 use Rattle.std.proofs.lemmas.Option.{same_Some}
 use Rattle.sia_events.specs.declared.event.Event.{Event}
 use Rattle.sia_events.specs.declared.event.Event.TheVariants.{Begin, Range, Write, Commit, Abort}
+use Rattle.sia_events.specs.Limits.{greatest}
 use Rattle.sia_events.specs.Places.{at_place}
 use Rattle.sia_events.specs.Events.{actor, Saw}
 use Rattle.sia_events.specs.Text.{numeral, canonical}
 use Rattle.sia_events.specs.Refusals.{IsKey, IsVersion, IsGoodList, IsWellFormed}
+use Rattle.sia_events.proofs.Canonical.{canonical_stands}
 use Rattle.sia_events.proofs.EventTests.{acts, commits, aborts, not_before}
 use Rattle.sia_events.proofs.WellFormed.{IsBefore}
-use Rattle.sia_events.proofs.Refusing.{IsFit, none_before_first, well_formed_from}
+use Rattle.sia_events.proofs.Refusing.{IsFit, none_before_first, accepted_from}
 
 abbrev listed : List (ℕ × ℕ)
 listed = (3, 0) ∷ (4, 0) ∷ []
@@ -125,7 +127,7 @@ each_fits (suc (suc (suc (suc (suc zero))))) e at = subst (IsFit 4 (IsBefore ran
 each_fits (suc (suc (suc (suc (suc (suc i)))))) e at = cc
 
 pub it_is_well_formed : IsWellFormed range_of_old_versions
-it_is_well_formed = well_formed_from range_of_old_versions (omega arith) short each_fits
+it_is_well_formed = accepted_from greatest (canonical range_of_old_versions) range_of_old_versions (canonical_stands range_of_old_versions) (omega arith) short each_fits
   where
     short : length (canonical range_of_old_versions) ≤ 16777216
     short = subst (λ (text : List ℕ). length text ≤ 16777216) (sym its_text) (omega arith)

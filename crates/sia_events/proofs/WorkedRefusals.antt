@@ -5,6 +5,7 @@ use Rattle.sia_events.specs.declared.event.Event.TheVariants.{Begin, Read, Write
 use Rattle.sia_events.specs.declared.fault.Reason.{Reason}
 use Rattle.sia_events.specs.declared.fault.Reason.TheVariants.{TooManyEvents, BadEvent, BadNumber, AlreadyEnded, AlreadyBegun, EmptyRange, BadList, NotWritten, BadStart}
 use Rattle.sia_events.specs.declared.fault.TextFault.TheVariants.{Refused}
+use Rattle.sia_events.specs.Limits.{standard}
 use Rattle.sia_events.specs.Places.{at_place}
 use Rattle.sia_events.specs.Text.{numeral, StandsFor}
 use Rattle.sia_events.specs.Refusals.{IsInRange, EventHas, reason_number, IsRefusal}
@@ -32,8 +33,8 @@ read_before_write_stands : StandsFor (codes "r1[5:2] w2[5]") read_before_write
 unfolding numeral
 read_before_write_stands = refl
 
-version_not_written : IsRefusal (codes "r1[5:2] w2[5]") (Refused 1 NotWritten)
-version_not_written = refused (codes "r1[5:2] w2[5]") read_before_write 1 NotWritten (Read 1 5 2) read_before_write_stands (omega arith) (record {
+version_not_written : IsRefusal standard (codes "r1[5:2] w2[5]") (Refused 1 NotWritten)
+version_not_written = refused standard (codes "r1[5:2] w2[5]") read_before_write 1 NotWritten (Read 1 5 2) read_before_write_stands (omega arith) (record {
   few = omega arith;
   at = refl;
   has = (5, 2, (refl, refl), (λ e. omega arith), none_before_first read_before_write (Write 2 5));
@@ -52,8 +53,8 @@ start_ahead_stands : StandsFor (codes "b1@1") start_ahead
 unfolding numeral
 start_ahead_stands = refl
 
-start_not_there : IsRefusal (codes "b1@1") (Refused 1 BadStart)
-start_not_there = refused (codes "b1@1") start_ahead 1 BadStart (Begin 1 (Some 1)) start_ahead_stands (omega arith) (record {
+start_not_there : IsRefusal standard (codes "b1@1") (Refused 1 BadStart)
+start_not_there = refused standard (codes "b1@1") start_ahead 1 BadStart (Begin 1 (Some 1)) start_ahead_stands (omega arith) (record {
   few = omega arith;
   at = refl;
   has = (1, refl, omega arith);
@@ -99,8 +100,8 @@ second_begin_least BadList has = omega arith
 second_begin_least NotWritten has = omega arith
 second_begin_least BadStart has = omega arith
 
-begun_twice : IsRefusal (codes "b1 b1@9") (Refused 2 AlreadyBegun)
-begun_twice = refused (codes "b1 b1@9") two_begins 2 AlreadyBegun (Begin 1 (Some 9)) two_begins_stand (omega arith) (record {
+begun_twice : IsRefusal standard (codes "b1 b1@9") (Refused 2 AlreadyBegun)
+begun_twice = refused standard (codes "b1 b1@9") two_begins 2 AlreadyBegun (Begin 1 (Some 9)) two_begins_stand (omega arith) (record {
   few = omega arith;
   at = refl;
   has = ((Some 9, refl), Begin 1 None, (1, omega arith, refl), refl);

@@ -1,6 +1,7 @@
 -- Judging the tokens of a text one after another.
 use Rattle.std.specs.Prelude.{◌≡◌, ℕ, true, false, List, [], ◌∷◌, ◌++◌, length, Option, Some, None, Result, Ok, Err, ◌==◌, if◌then◌else◌}
 use Rattle.std.specs.List.{AllByRecursion}
+use Rattle.sia_events.specs.Limits.{Limits}
 use Rattle.sia_events.specs.declared.event.Event.{Event}
 use Rattle.sia_events.specs.declared.fault.Reason.{Reason}
 use Rattle.sia_events.specs.declared.fault.Reason.TheVariants.{TooManyEvents}
@@ -17,13 +18,13 @@ unless None e = Ok e
 unless (Some reason) e = Err reason
 
 -- the event of the next token, or its first reason
-unfoldable pub judged : List Event → List ℕ → Result Event Reason
-judged events token = if length events == 100000 then Err TooManyEvents else (event_at token >>= λ e. unless (fault_of events (length events) e) e)
+unfoldable pub judged : Limits → List Event → List ℕ → Result Event Reason
+judged limits events token = if length events == limits.events then Err TooManyEvents else (event_at token >>= λ e. unless (fault_of events (length events) e) e)
 
 -- each token is judged to the event that comes after the ones before it
-unfoldable pub JudgedAll : List Event → List (List ℕ) → List Event → Type 0
-JudgedAll events [] all = events ≡ all
-JudgedAll events (token ∷ tokens) all = (e : Event) × (judged events token ≡ Ok e) × JudgedAll (events ++ e ∷ []) tokens all
+unfoldable pub JudgedAll : Limits → List Event → List (List ℕ) → List Event → Type 0
+JudgedAll limits events [] all = events ≡ all
+JudgedAll limits events (token ∷ tokens) all = (e : Event) × (judged limits events token ≡ Ok e) × JudgedAll limits (events ++ e ∷ []) tokens all
 
 -- one token, or none where there are no bytes
 abbrev pub as_token : List ℕ → List (List ℕ)
@@ -38,28 +39,28 @@ pub record IsSplitAfter (text token after : List ℕ) : Type 0 where
   pub separates : is_separator separator ≡ true
 
 -- the tokens before one that has the reason are judged to these events
-pub record StopsAt (events : List Event) (tokens : List (List ℕ)) (all : List Event) (reason : Reason) : Type 0 where
+pub record StopsAt (limits : Limits) (events : List Event) (tokens : List (List ℕ)) (all : List Event) (reason : Reason) : Type 0 where
   pub before : List (List ℕ)
   pub token : List ℕ
   pub after : List (List ℕ)
   pub whole : tokens ≡ before ++ token ∷ after
-  pub fine : JudgedAll events before all
-  pub refused : judged all token ≡ Err reason
+  pub fine : JudgedAll limits events before all
+  pub refused : judged limits all token ≡ Err reason
 
 -- what a refusal at one of the tokens says: for want of memory nothing
-abbrev pub Halts : Refusal → List Event → List (List ℕ) → List Event → Type 0
-Halts refusals.NoMemory events tokens all = Unit {0}
-Halts (refusals.Bad reason) events tokens all = StopsAt events tokens all reason
+abbrev pub Halts : Limits → Refusal → List Event → List (List ℕ) → List Event → Type 0
+Halts limits refusals.NoMemory events tokens all = Unit {0}
+Halts limits (refusals.Bad reason) events tokens all = StopsAt limits events tokens all reason
 
 -- the same of the tokens of a text that a separator follows
-abbrev pub HaltsIn : Refusal → List Event → List ℕ → List Event → Type 0
-HaltsIn refusals.NoMemory events text all = Unit {0}
-HaltsIn (refusals.Bad reason) events text all = (closed : List ℕ) × (rest : List ℕ) × IsCutAtLastSeparator text closed rest × StopsAt events (tokens closed) all reason
+abbrev pub HaltsIn : Limits → Refusal → List Event → List ℕ → List Event → Type 0
+HaltsIn limits refusals.NoMemory events text all = Unit {0}
+HaltsIn limits (refusals.Bad reason) events text all = (closed : List ℕ) × (rest : List ℕ) × IsCutAtLastSeparator text closed rest × StopsAt limits events (tokens closed) all reason
 
 -- a text of so many bytes, whose tokens up to its last separator are judged to the events, and which the unfinished bytes end
-pub record HasText (count : ℕ) (events : List Event) (unfinished : List ℕ) : Type 0 where
+pub record HasText (limits : Limits) (count : ℕ) (events : List Event) (unfinished : List ℕ) : Type 0 where
   pub text : List ℕ
   pub closed : List ℕ
   pub counted : length text ≡ count
   pub cut : IsCutAtLastSeparator text closed unfinished
-  pub fine : JudgedAll [] (tokens closed) events
+  pub fine : JudgedAll limits [] (tokens closed) events

@@ -1,5 +1,6 @@
 -- The laws of histories, as statements.
 use Rattle.std.specs.Prelude.{◌≡◌, ◌⊎◌, ◌↔◌, ℕ, ◌+◌, ◌≤◌, List, length, Contains, Some, None, Result, Ok, Err}
+use Rattle.sia_events.specs.Limits.{Limits, AreWithin}
 use Rattle.sia_events.specs.declared.event.Event.{Event}
 use Rattle.sia_events.specs.declared.fault.Reason.TheVariants.{BadEvent}
 use Rattle.sia_events.specs.declared.fault.TextFault.{TextFault}
@@ -40,12 +41,16 @@ abbrev pub OneHistory : List ℕ → Type 0
 OneHistory text = (h others : List Event) → StandsFor text h → StandsFor text others → h ≡ others
 
 -- a text has one refusal at most
-abbrev pub OneRefusal : List ℕ → Type 0
-OneRefusal text = (fault other : TextFault) → IsRefusal text fault → IsRefusal text other → fault ≡ other
+abbrev pub OneRefusal : Limits → List ℕ → Type 0
+OneRefusal limits text = (fault other : TextFault) → IsRefusal limits text fault → IsRefusal limits text other → fault ≡ other
 
 -- an accepted text stands for a history, which is well-formed
-abbrev pub HasHistory : List ℕ → Type 0
-HasHistory text = IsAccepted text → (h : List Event) × StandsFor text h × IsWellFormed h
+abbrev pub HasHistory : Limits → List ℕ → Type 0
+HasHistory limits text = IsAccepted limits text → (h : List Event) × StandsFor text h × IsWellFormed h
+
+-- what some limits accept, greater ones accept
+abbrev pub GreaterLimitsAccept : List ℕ → Type 0
+GreaterLimitsAccept text = (limits others : Limits) → AreWithin limits others → IsAccepted limits text → IsAccepted others text
 
 -- a canonical text stands for its history, is no longer than another text of it, and is that of no other history
 pub record CanonicalLaw (h : List Event) : Type 0 where
@@ -55,8 +60,8 @@ pub record CanonicalLaw (h : List Event) : Type 0 where
 
 -- reading what was written gives the history back: what may be read from the canonical text is this history, want of memory
 -- aside
-abbrev pub RoundTrip : List Event → Type 0
-RoundTrip h = (answer : Result (List Event) TextFault) → ReadsAs (canonical h) answer → (answer ≡ Ok h) ⊎ (answer ≡ Err NoMemory)
+abbrev pub RoundTrip : Limits → List Event → Type 0
+RoundTrip limits h = (answer : Result (List Event) TextFault) → ReadsAs limits (canonical h) answer → (answer ≡ Ok h) ⊎ (answer ≡ Err NoMemory)
 
 -- a key that no write event names has no bad read, no bad write, no edge and no unexplained read
 pub record HasNoEntry (h : List Event) (k : ℕ) : Type 0 where
@@ -84,12 +89,12 @@ StartsPlainly h t s = (e : Event) × IsFirstEvent h t (s + 1) e
 
 -- named starts only add: what the grammar without them accepts is accepted, as the same history with the same starts, and
 -- what it refuses is refused alike, unless the faulty token has the form of a named start
-pub record NamedStartsOnlyAdd (text : List ℕ) : Type 0 where
-  pub accepted : IsAcceptedIn IsPlain text → IsAccepted text
-  pub starts : IsAcceptedIn IsPlain text → (h : List Event) → StandsFor text h
+pub record NamedStartsOnlyAdd (limits : Limits) (text : List ℕ) : Type 0 where
+  pub accepted : IsAcceptedIn limits IsPlain text → IsAccepted limits text
+  pub starts : IsAcceptedIn limits IsPlain text → (h : List Event) → StandsFor text h
       → (t s : ℕ) → StartsAt h t s ↔ StartsPlainly h t s
-  pub refused : (fault : TextFault) → IsRefusalIn IsPlain text fault
-      → IsRefusal text fault ⊎ ((i : ℕ) × (fault ≡ Refused i BadEvent) × NamesStart text i)
+  pub refused : (fault : TextFault) → IsRefusalIn limits IsPlain text fault
+      → IsRefusal limits text fault ⊎ ((i : ℕ) × (fault ≡ Refused i BadEvent) × NamesStart text i)
 
 -- narrow edges are edges, and have the closure of all edges; so have pairs that hold each narrow edge, and edges alone
 pub record NarrowLaw (h : List Event) : Type 0 where

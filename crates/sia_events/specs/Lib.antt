@@ -1,4 +1,5 @@
 pub mod Places
+pub mod Limits
 pub mod Lists
 pub mod Text
 pub mod Spelled

@@ -1,6 +1,7 @@
 -- What a locator keeps, and which texts it then stands for.
 use Rattle.std.specs.Prelude.{◌≡◌, ◌⊎◌, ℕ, ◌≤◌, Bool, true, false, List, [], ◌∷◌, ◌++◌, length, take, MatchOption}
 use Rattle.sia_events.specs.declared.locating.Place.{Place}
+use Rattle.sia_events.specs.Limits.{Limits}
 use Rattle.sia_events.specs.Text.{is_separator, tokens}
 use Rattle.sia_events.specs.Streaming.{Progress}
 use Rattle.sia_events.specs.Locations.{IsPlaceAfter, IsTokenAt}
@@ -39,7 +40,7 @@ pub record StopsBehind (l : Located) (text : List ℕ) (number : ℕ) : Type 0 w
   pub closed : l.is_open ≡ false
   pub ended : HasEnded l text
 
--- a locator beside a reader stands for the text: where the text is within the limit, the locator has passed all of it, or
+-- a locator beside a reader of these limits stands for the text: where the text is within the limits, the locator has passed all of it, or
 -- stopped behind the token that the reader refused
-abbrev pub StandsForLocated : Located → Progress → List ℕ → Type 0
-StandsForLocated l r text = length text ≤ 16777216 → MatchOption r.fault (Follows l text) (λ fault. StopsBehind l text fault.0)
+abbrev pub StandsForLocated : Limits → Located → Progress → List ℕ → Type 0
+StandsForLocated limits l r text = length text ≤ limits.bytes → MatchOption r.fault (Follows l text) (λ fault. StopsBehind l text fault.0)

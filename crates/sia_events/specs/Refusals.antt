@@ -1,7 +1,8 @@
 -- Which texts are refused, with which reason, and when a list of events is well-formed.
--- Limits, reasons and their order are this project's own (docs/FORMAT.md).
-use Rattle.std.specs.Prelude.{◌≡◌, ◌≢◌, ◌⊎◌, ℕ, ◌^◌, ◌-◌, ◌<◌, ◌≤◌, List, map, length, All, Option, Some, None, ⊤}
+-- Reasons and their order are this project's own (docs/FORMAT.md).
+use Rattle.std.specs.Prelude.{◌≡◌, ◌≢◌, ◌⊎◌, ℕ, ◌+◌, ◌^◌, ◌-◌, ◌<◌, ◌≤◌, List, map, length, All, Option, Some, None, ⊤}
 use Rattle.std.specs.List.Sorted.{IsStrictlyIncreasing}
+use Rattle.sia_events.specs.Limits.{Limits, greatest}
 use Rattle.sia_events.specs.declared.event.Event.{Event}
 use Rattle.sia_events.specs.declared.event.Event.TheVariants.{Begin, Read, Range, Write, Commit, Abort}
 use Rattle.sia_events.specs.declared.fault.Reason.{Reason}
@@ -68,13 +69,13 @@ abbrev pub IsEarlier : List (List ℕ) → ℕ → Event → Type 0
 IsEarlier ts i e = (j : ℕ) × (j < i) × (at_place ts j ≡ Some (spell e))
 
 -- token number i, which is w, has the reason in the grammar whose events are those that have Form
-abbrev pub TokenHas : (Event → Type 0) → List (List ℕ) → ℕ → List ℕ → Reason → Type 0
-TokenHas Form ts i w TooManyEvents = i ≡ 100001
-TokenHas Form ts i w BadEvent = (e : Event) → Form e → w ≢ spell e
-TokenHas Form ts i w reason = (e : Event) × Form e × (w ≡ spell e) × EventHas (i - 1) (IsEarlier ts i) e reason
+abbrev pub TokenHas : Limits → (Event → Type 0) → List (List ℕ) → ℕ → List ℕ → Reason → Type 0
+TokenHas limits Form ts i w TooManyEvents = i ≡ limits.events + 1
+TokenHas limits Form ts i w BadEvent = (e : Event) → Form e → w ≢ spell e
+TokenHas limits Form ts i w reason = (e : Event) × Form e × (w ≡ spell e) × EventHas (i - 1) (IsEarlier ts i) e reason
 
-abbrev pub HasReasonIn : (Event → Type 0) → List (List ℕ) → ℕ → Reason → Type 0
-HasReasonIn Form ts i reason = (w : List ℕ) × (at_place ts i ≡ Some w) × TokenHas Form ts i w reason
+abbrev pub HasReasonIn : Limits → (Event → Type 0) → List (List ℕ) → ℕ → Reason → Type 0
+HasReasonIn limits Form ts i reason = (w : List ℕ) × (at_place ts i ≡ Some w) × TokenHas limits Form ts i w reason
 
 -- of two reasons of one token the lesser is told; 1 is that the text is too long
 abbrev pub reason_number : Reason → ℕ
@@ -89,36 +90,36 @@ reason_number NotWritten = 9
 reason_number BadStart = 10
 
 -- the first faulty token, with the least of its reasons
-pub record IsFirstFaultIn (Form : Event → Type 0) (ts : List (List ℕ)) (i : ℕ) (reason : Reason) : Type 0 where
-  pub has : HasReasonIn Form ts i reason
-  pub first : (j : ℕ) (other : Reason) → HasReasonIn Form ts j other → i ≤ j
-  pub least : (other : Reason) → HasReasonIn Form ts i other → reason_number reason ≤ reason_number other
+pub record IsFirstFaultIn (limits : Limits) (Form : Event → Type 0) (ts : List (List ℕ)) (i : ℕ) (reason : Reason) : Type 0 where
+  pub has : HasReasonIn limits Form ts i reason
+  pub first : (j : ℕ) (other : Reason) → HasReasonIn limits Form ts j other → i ≤ j
+  pub least : (other : Reason) → HasReasonIn limits Form ts i other → reason_number reason ≤ reason_number other
 
--- the refusal of a text. Want of memory is none
-abbrev pub IsRefusalIn : (Event → Type 0) → List ℕ → TextFault → Type 0
-IsRefusalIn Form text NoMemory = ⊥
-IsRefusalIn Form text TextTooLong = 16777216 < length text
-IsRefusalIn Form text (Refused i reason) = (length text ≤ 16777216) × IsFirstFaultIn Form (tokens text) i reason
+-- the refusal of a text under limits. Want of memory is none
+abbrev pub IsRefusalIn : Limits → (Event → Type 0) → List ℕ → TextFault → Type 0
+IsRefusalIn limits Form text NoMemory = ⊥
+IsRefusalIn limits Form text TextTooLong = limits.bytes < length text
+IsRefusalIn limits Form text (Refused i reason) = (length text ≤ limits.bytes) × IsFirstFaultIn limits Form (tokens text) i reason
 
 -- the whole grammar: every event has a form in it
 abbrev pub AnyForm : Event → Type 0
 AnyForm e = ⊤
 
-abbrev pub HasReason : List (List ℕ) → ℕ → Reason → Type 0
-HasReason ts i reason = HasReasonIn AnyForm ts i reason
+abbrev pub HasReason : Limits → List (List ℕ) → ℕ → Reason → Type 0
+HasReason limits ts i reason = HasReasonIn limits AnyForm ts i reason
 
-abbrev pub IsFirstFault : List (List ℕ) → ℕ → Reason → Type 0
-IsFirstFault ts i reason = IsFirstFaultIn AnyForm ts i reason
+abbrev pub IsFirstFault : Limits → List (List ℕ) → ℕ → Reason → Type 0
+IsFirstFault limits ts i reason = IsFirstFaultIn limits AnyForm ts i reason
 
-abbrev pub IsRefusal : List ℕ → TextFault → Type 0
-IsRefusal text fault = IsRefusalIn AnyForm text fault
+abbrev pub IsRefusal : Limits → List ℕ → TextFault → Type 0
+IsRefusal limits text fault = IsRefusalIn limits AnyForm text fault
 
-abbrev pub IsAcceptedIn : (Event → Type 0) → List ℕ → Type 0
-IsAcceptedIn Form text = (fault : TextFault) → ¬ IsRefusalIn Form text fault
+abbrev pub IsAcceptedIn : Limits → (Event → Type 0) → List ℕ → Type 0
+IsAcceptedIn limits Form text = (fault : TextFault) → ¬ IsRefusalIn limits Form text fault
 
-abbrev pub IsAccepted : List ℕ → Type 0
-IsAccepted text = IsAcceptedIn AnyForm text
+abbrev pub IsAccepted : Limits → List ℕ → Type 0
+IsAccepted limits text = IsAcceptedIn limits AnyForm text
 
--- a list of events is well-formed if its canonical text is accepted
+-- a list of events is well-formed if its canonical text is accepted under the greatest limits
 abbrev pub IsWellFormed : List Event → Type 0
-IsWellFormed h = IsAccepted (canonical h)
+IsWellFormed h = IsAccepted greatest (canonical h)

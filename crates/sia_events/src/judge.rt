@@ -5,6 +5,7 @@ ghost use Rattle.std.specs.Simd.Lanes.{chunk};
 ghost use Rattle.sia_events.specs.declared.event.Event.{Event as AnEvent};
 ghost use Rattle.sia_events.specs.Parsing.{Fails};
 ghost use Rattle.sia_events.specs.Known.{Knows};
+ghost use Rattle.sia_events.specs.Limits.{standard};
 ghost use Rattle.sia_events.specs.Judging.{judged, JudgedAll, Halts, HaltsIn, as_token, IsSplitAfter};
 ghost use Rattle.sia_events.specs.Text.{is_separator, tokens};
 ghost use Rattle.sia_events.specs.Streaming.{IsCutAtLastSeparator};
@@ -42,9 +43,9 @@ impl Judge {
     #[tactic(auto, unfolding(crate::specs::Judging::judged))]
     pub(crate) fn take(&mut self, token: &[u8]) -> Result<(), Refusal>
         requires { Knows self.old.tables self.old.events.items }
-        ensures taken { OnOk result ((e : AnEvent) × (judged self.old.events.items token.now ≡ Ok e) × (self.new.events.items ≡ self.old.events.items ++ e ∷ [])) }
+        ensures taken { OnOk result ((e : AnEvent) × (judged standard self.old.events.items token.now ≡ Ok e) × (self.new.events.items ≡ self.old.events.items ++ e ∷ [])) }
         ensures knows { OnOk result (Knows self.new.tables self.new.events.items) }
-        ensures refused { IfErr result (λ fault. Fails fault (judged self.old.events.items token.now)) }
+        ensures refused { IfErr result (λ fault. Fails fault (judged standard self.old.events.items token.now)) }
         ensures kept { OnErr result (self.new.events.items ≡ self.old.events.items) }
     {
         if self.events.len() == MAX_EVENTS {
@@ -64,9 +65,9 @@ impl Judge {
     #[tactic(auto, unfolding(crate::specs::Judging::JudgedAll))]
     pub(crate) fn take_some(&mut self, token: &[u8]) -> Result<(), Refusal>
         requires { Knows self.old.tables self.old.events.items }
-        ensures taken { OnOk result (JudgedAll self.old.events.items (as_token token.now) self.new.events.items) }
+        ensures taken { OnOk result (JudgedAll standard self.old.events.items (as_token token.now) self.new.events.items) }
         ensures knows { OnOk result (Knows self.new.tables self.new.events.items) }
-        ensures refused { IfErr result (λ fault. Halts fault self.old.events.items (as_token token.now) self.new.events.items) }
+        ensures refused { IfErr result (λ fault. Halts standard fault self.old.events.items (as_token token.now) self.new.events.items) }
     {
         if token.is_empty() {
             return Ok(());
@@ -77,9 +78,9 @@ impl Judge {
     /// Takes the events of all tokens that a separator follows, and answers what comes after the last separator.
     pub(crate) fn take_closed<'a>(&mut self, text: &'a [u8]) -> Result<&'a [u8], Refusal>
         requires { Knows self.old.tables self.old.events.items }
-        ensures taken { IfOk result (λ rest. (closed : List ℕ) × IsCutAtLastSeparator text.now closed rest.now × JudgedAll self.old.events.items (tokens closed) self.new.events.items) }
+        ensures taken { IfOk result (λ rest. (closed : List ℕ) × IsCutAtLastSeparator text.now closed rest.now × JudgedAll standard self.old.events.items (tokens closed) self.new.events.items) }
         ensures knows { OnOk result (Knows self.new.tables self.new.events.items) }
-        ensures refused { IfErr result (λ fault. HaltsIn fault self.old.events.items text.now self.new.events.items) }
+        ensures refused { IfErr result (λ fault. HaltsIn standard fault self.old.events.items text.now self.new.events.items) }
     {
         let mut rest = text;
         while let Some((token, after)) = split_token(rest) {
@@ -98,9 +99,9 @@ impl Judge {
     ) -> Result<(), Refusal>
         requires knows { Knows self.old.tables self.old.events.items }
         requires unbroken { All (λ c. is_separator c ≡ false) unfinished.old.items }
-        ensures taken { OnOk result ((closed : List ℕ) × IsCutAtLastSeparator (unfinished.old.items ++ piece.now) closed unfinished.new.items × JudgedAll self.old.events.items (tokens closed) self.new.events.items) }
+        ensures taken { OnOk result ((closed : List ℕ) × IsCutAtLastSeparator (unfinished.old.items ++ piece.now) closed unfinished.new.items × JudgedAll standard self.old.events.items (tokens closed) self.new.events.items) }
         ensures knows { OnOk result (Knows self.new.tables self.new.events.items) }
-        ensures refused { IfErr result (λ fault. HaltsIn fault self.old.events.items (unfinished.old.items ++ piece.now) self.new.events.items) }
+        ensures refused { IfErr result (λ fault. HaltsIn standard fault self.old.events.items (unfinished.old.items ++ piece.now) self.new.events.items) }
     {
         let Some((front, after)) = split_token(piece) else {
             unfinished.extend_from_slice(piece)?;

@@ -1,13 +1,15 @@
 //! Laws of texts and histories, each as the contract of a function that does nothing.
 ghost use Rattle.std.specs.Prelude.{List, ℕ};
 ghost use Rattle.sia_events.specs.declared.event.Event.{Event};
-ghost use Rattle.sia_events.specs.Refusals.{IsWellFormed};
+ghost use Rattle.sia_events.specs.Refusals.{IsAccepted, IsWellFormed};
+ghost use Rattle.sia_events.specs.Text.{canonical};
+ghost use Rattle.sia_events.specs.Limits.{Limits, greatest, AreWithin};
 ghost use Rattle.sia_events.specs.Anomalies.{AnomalyLaw};
-ghost use Rattle.sia_events.specs.Laws.{CanonicalLaw, HasHistory, NamedStartsOnlyAdd, NarrowLaw, OneHistory, OneRefusal, RoundTrip, UnwrittenLaw};
+ghost use Rattle.sia_events.specs.Laws.{CanonicalLaw, GreaterLimitsAccept, HasHistory, NamedStartsOnlyAdd, NarrowLaw, OneHistory, OneRefusal, RoundTrip, UnwrittenLaw};
 
 /// A text has one refusal at most.
 pub fn one_refusal()
-    ensures { (text : List ℕ) → OneRefusal text }
+    ensures { (limits : Limits) (text : List ℕ) → OneRefusal limits text }
 {}
 
 /// A text stands for one history at most.
@@ -17,7 +19,12 @@ pub fn one_history()
 
 /// An accepted text stands for a history, which is well-formed.
 pub fn accepted_text_has_a_history()
-    ensures { (text : List ℕ) → HasHistory text }
+    ensures { (limits : Limits) (text : List ℕ) → AreWithin limits greatest → HasHistory limits text }
+{}
+
+/// What is accepted under some limits is accepted under all greater ones.
+pub fn greater_limits_accept()
+    ensures { (text : List ℕ) → GreaterLimitsAccept text }
 {}
 
 /// A canonical text stands for its history and for no other, and no text of the history is shorter.
@@ -25,9 +32,9 @@ pub fn canonical_law()
     ensures { (h : List Event) → CanonicalLaw h }
 {}
 
-/// What is read from the canonical text of a well-formed history is that history.
+/// What is read from the canonical text of a history is that history, under all limits that accept it.
 pub fn round_trip()
-    ensures { (h : List Event) → IsWellFormed h → RoundTrip h }
+    ensures { (limits : Limits) (h : List Event) → IsAccepted limits (canonical h) → RoundTrip limits h }
 {}
 
 /// A key that no write event names has no entry in a verdict.
@@ -38,7 +45,7 @@ pub fn unwritten_law()
 /// What is accepted without named starts is accepted with them, as the same history. What is refused is refused alike,
 /// unless its faulty token has the form of a named start.
 pub fn named_starts_only_add()
-    ensures { (text : List ℕ) → NamedStartsOnlyAdd text }
+    ensures { (limits : Limits) (text : List ℕ) → NamedStartsOnlyAdd limits text }
 {}
 
 /// Narrow edges have the closure of all edges: they lead from one transaction to another in one or more steps exactly if

@@ -1,6 +1,7 @@
 //! Where the tokens of a text stand that comes in pieces.
 ghost use Rattle.std.specs.Prelude.{◌≡◌, ◌+◌, ◌<◌, ◌≤◌, ◌++◌, ◌∷◌, ℕ, List, [], length, take, true, false};
 ghost use Rattle.std.specs.Option.{option_map};
+ghost use Rattle.sia_events.specs.Limits.{Limits};
 ghost use Rattle.sia_events.specs.Locating.{Follows, StandsForLocated};
 ghost use Rattle.sia_events.specs.Locations.{IsPlaceAfter, IsLocated};
 ghost use Rattle.sia_events.specs.Refusals.{IsRefusal};
@@ -66,7 +67,7 @@ impl Model for Locator {
 impl Locator {
     /// A locator that has been fed nothing.
     pub fn new() -> Self
-        ensures { (reader : Progress) → StandsForRead reader [] → StandsForLocated result reader [] }
+        ensures { (limits : Limits) (reader : Progress) → StandsForRead limits reader [] → StandsForLocated limits result reader [] }
     {
         let start = Place { line: 1, column: 1 };
         Locator {
@@ -81,9 +82,9 @@ impl Locator {
 
     /// Passes the next piece of the text, up to the token that the reader, which has read it, has refused.
     pub fn feed(&mut self, piece: &[u8], refused: Option<u32>)
-        ensures { (before after : Progress) (text : List ℕ) → StandsForRead before text → StandsForRead after (text ++ piece.now)
+        ensures { (limits : Limits) (before after : Progress) (text : List ℕ) → StandsForRead limits before text → StandsForRead limits after (text ++ piece.now)
             → option_map (λ fault. fault.0) after.fault ≡ refused
-            → StandsForLocated self.old before text → StandsForLocated self.new after (text ++ piece.now) }
+            → StandsForLocated limits self.old before text → StandsForLocated limits self.new after (text ++ piece.now) }
     {
         let last = refused.unwrap_or(u32::MAX);
         for byte in piece {
@@ -118,8 +119,8 @@ impl Locator {
         ensures place { result ≡ self.now.place }
 
         // Beside a reader that refuses a token, this is where that token is.
-        ensures refused { (reader : Progress) (text : List ℕ) (number : ℕ) (reason : AReason) → StandsForRead reader text → StandsForLocated self.now reader text
-            → IsRefusal text (Refused number reason) → IsLocated text number result.line result.column self.now.token }
+        ensures refused { (limits : Limits) (reader : Progress) (text : List ℕ) (number : ℕ) (reason : AReason) → StandsForRead limits reader text → StandsForLocated limits self.now reader text
+            → IsRefusal limits text (Refused number reason) → IsLocated text number result.line result.column self.now.token }
     {
         self.place
     }

@@ -4,6 +4,7 @@ ghost use Rattle.std.specs.Option.{option_map};
 ghost use Rattle.sia_events.specs.declared.fault.TextFault.TheVariants.{NoMemory as OutOfMemory};
 ghost use Rattle.sia_events.specs.Judging.{HasText};
 ghost use Rattle.sia_events.specs.Known.{Knows};
+ghost use Rattle.sia_events.specs.Limits.{Limits, standard};
 ghost use Rattle.sia_events.specs.Reading.{EndsAs, ReadsAs};
 ghost use Rattle.sia_events.specs.Refusals.{IsWellFormed};
 ghost use Rattle.sia_events.specs.Streaming.{StandsForRead};
@@ -35,19 +36,20 @@ impl Model for TextReader {
     ghost use Rattle.std.specs.Prelude.{◌≡◌, ◌≤◌, false, IsNone};
     ghost use Rattle.sia_events.specs.Streaming.{Progress};
     ghost use Rattle.sia_events.specs.Known.{Knows};
+    ghost use Rattle.sia_events.specs.Limits.{standard};
     ghost use Rattle.sia_events.specs.Judging.{HasText};
 
     ghost Value = { Progress };
 
-    ghost view = { λ r. record { count = r.count; fault = r.fault; events = r.judge.events.items; unfinished = r.unfinished.items; lost = r.lost } };
+    ghost view = { λ r. record { limits = standard; count = r.count; fault = r.fault; events = r.judge.events.items; unfinished = r.unfinished.items; lost = r.lost } };
 
-    ghost invariant = { λ r. r.lost ≡ false → IsNone r.fault → r.count ≤ 16777216 → Knows r.judge.tables r.judge.events.items × HasText r.count r.judge.events.items r.unfinished.items };
+    ghost invariant = { λ r. r.lost ≡ false → IsNone r.fault → r.count ≤ 16777216 → Knows r.judge.tables r.judge.events.items × HasText standard r.count r.judge.events.items r.unfinished.items };
 }
 
 impl TextReader {
     /// A reader that has been fed nothing. It keeps the allocator for its later calls, and takes no memory yet.
     pub fn new(alloc: Global) -> Self
-        ensures stands { StandsForRead result [] }
+        ensures stands { StandsForRead standard result [] }
         ensures not_lost { result.lost ≡ false }
     {
         TextReader {
@@ -61,13 +63,13 @@ impl TextReader {
 
     /// Takes the next piece of the text, cut anywhere. After an `Err` every later call answers that memory ran out.
     pub fn feed(&mut self, piece: &[u8]) -> Result<(), NoMemory>
-        ensures stands { OnOk result ((text : List ℕ) → StandsForRead self.old text → StandsForRead self.new (text ++ piece.now)) }
+        ensures stands { OnOk result ((limits : Limits) (text : List ℕ) → StandsForRead limits self.old text → StandsForRead limits self.new (text ++ piece.now)) }
         ensures ok { OnOk result (self.new.lost ≡ false) }
         ensures err { OnErr result (self.new.lost ≡ true) }
         ensures lost { self.old.lost ≡ true → IsErr result }
 
         // Once a token was refused, or the text is too long, no memory is wanted.
-        ensures decided { self.old.lost ≡ false → (IsSome self.old.fault ⊎ (16777216 < self.old.count + length piece.now)) → IsOk result }
+        ensures decided { self.old.lost ≡ false → (IsSome self.old.fault ⊎ (self.old.limits.bytes < self.old.count + length piece.now)) → IsOk result }
     {
         if self.lost {
             return Err(NoMemory);
@@ -104,7 +106,7 @@ impl TextReader {
 
     /// The history that the text stands for, or why there is none.
     pub fn finish(self) -> Result<History, TextFault>
-        ensures reads { (text : List ℕ) → StandsForRead self text → ReadsAs text result }
+        ensures reads { (limits : Limits) (text : List ℕ) → StandsForRead limits self text → ReadsAs limits text result }
         ensures lost { self.lost ≡ true → result ≡ Err OutOfMemory }
     {
         let TextReader {
@@ -129,8 +131,8 @@ fn end(
     unfinished: &[u8],
     lost: bool,
 ) -> Result<(), TextFault>
-    requires { lost ≡ false → IsNone fault → count ≤ 16777216 → Knows judge.old.tables judge.old.events.items × HasText count judge.old.events.items unfinished.now }
-    ensures reads { (text : List ℕ) → StandsForRead (record { count = count; fault = fault; events = judge.old.events.items; unfinished = unfinished.now; lost = lost }) text → EndsAs text judge.new.events.items result }
+    requires { lost ≡ false → IsNone fault → count ≤ 16777216 → Knows judge.old.tables judge.old.events.items × HasText standard count judge.old.events.items unfinished.now }
+    ensures reads { (text : List ℕ) → StandsForRead standard (record { limits = standard; count = count; fault = fault; events = judge.old.events.items; unfinished = unfinished.now; lost = lost }) text → EndsAs standard text judge.new.events.items result }
     ensures well_formed { OnOk result (IsWellFormed judge.new.events.items) }
     ensures lost { lost ≡ true → result ≡ Err OutOfMemory }
 {
@@ -155,7 +157,7 @@ fn end(
 
 /// The history that the text stands for, or why there is none: what a `TextReader` answers that is fed all of the text.
 pub fn read_history(alloc: Global, text: &[u8]) -> Result<History, TextFault>
-    ensures { ReadsAs text.now result }
+    ensures { ReadsAs standard text.now result }
 {
     let mut reader = TextReader::new(alloc);
     // Where memory ran out, the reader answers that at the end too.

@@ -1,5 +1,6 @@
 //! Where the token stands that is refused, and what it is.
 ghost use Rattle.std.specs.Prelude.{◌≡◌, ◌++◌, ℕ, List, OnOk};
+ghost use Rattle.sia_events.specs.Limits.{Limits};
 ghost use Rattle.sia_events.specs.Locating.{StandsForLocated};
 ghost use Rattle.sia_events.specs.Refusals.{IsRefusal};
 ghost use Rattle.sia_events.specs.Streaming.{Progress, StandsForRead};
@@ -13,7 +14,7 @@ pub(crate) fn push_place(
     fault: &TextFault,
     locator: &Locator,
 ) -> Result<(), NoMemory>
-    ensures { (text : List ℕ) (reader : Progress) → StandsForRead reader text → StandsForLocated locator.now reader text → IsRefusal text fault.now
+    ensures { (limits : Limits) (text : List ℕ) (reader : Progress) → StandsForRead limits reader text → StandsForLocated limits locator.now reader text → IsRefusal limits text fault.now
         → OnOk result ((bytes : List ℕ) × TellsToken text fault.now bytes × (out.new.items ≡ out.old.items ++ bytes)) }
 {
     match fault {

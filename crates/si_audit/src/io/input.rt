@@ -1,5 +1,6 @@
 // A text is read to its end, or past the limit.
 ghost use Rattle.std.specs.Prelude.{◌≡◌, ◌↔◌, ◌+◌, ◌≤◌, IfOk, IfSome, Err, IsTrue, IsFalse};
+ghost use Rattle.sia_events.specs.Limits.{standard};
 ghost use Rattle.si_audit.specs.Receiving.{IsReceived};
 
 use crate::engine::RunFault;
@@ -28,7 +29,7 @@ pub(crate) fn read_text<R: Source>(
     is_located: bool,
 ) -> Result<Received, RunFault>
     requires { IsFalse (R.has_failed source.old) }
-    ensures text { IfOk result (λ received. IfSome (R.remaining source.old) (λ bytes. IsReceived (IsTrue is_located) received.locator received.text bytes)) }
+    ensures text { IfOk result (λ received. IfSome (R.remaining source.old) (λ bytes. IsReceived standard (IsTrue is_located) received.locator received.text bytes)) }
     ensures failed { (result ≡ Err RunFault.Read) ↔ IsTrue (R.has_failed source.new) }
     ensures reads { R.reads source.new ≤ R.reads source.old + 16777217 }
     ensures no_write { result ≡ Err RunFault.Write → ⊥ }

@@ -9,7 +9,7 @@ use Rattle.si_audit.proofs.answering.answer_to_refusal.Goals as goal
 use Rattle.si_audit.proofs.answering.answer_to_refusal.Goals.{then-is_explained+in_ok-push_place, else-is_explained}
 
 pub returns-clause-report : goal.returns-clause-report
-returns-clause-report c bytes reader stands located refusal =
+returns-clause-report c limits bytes reader stands located refusal =
     let sheet = c.if-is_explained.sheet in
     let form = c.args.o.now.form in
     let fault = c.args.fault.now in
@@ -18,7 +18,7 @@ returns-clause-report c bytes reader stands located refusal =
     (elim c.if-is_explained.branch [
       | then-is_explained+in_ok-push_place w ↦
           let is : form ≡ Explained = sym c.form.ensures ∙ c.is_explained.ensures.0 w.if-is_explained.true in
-          let told = w.in_ok-push_place.ensures bytes reader stands (located is) refusal in
+          let told = w.in_ok-push_place.ensures limits bytes reader stands (located is) refusal in
           told_of_explained form bytes fault told.0 sheet.items is told.1 (ap (λ (v : Vec ℕ). v.items) w.sheet-is ∙ told.2 ∙ ap (λ (o : List ℕ). o ++ told.0) written)
       | else-is_explained w ↦
           told_of_others form bytes fault sheet.items (λ is. both_ways _ w.if-is_explained.false (c.is_explained.ensures.1 (c.form.ensures ∙ is)))

@@ -1,6 +1,7 @@
 use Rattle.std.proofs.Common.{ℕ, List, ap, subst, sym, ◌∙◌}
 use Rattle.std.specs.Global.{Vec}
 use Rattle.std.specs.Io.KnownBytes.{Appends}
+use Rattle.sia_events.specs.Limits.{standard}
 use Rattle.si_audit.specs.Outcomes.{IsOutcome}
 use Rattle.si_audit.specs.Report.{IsReport}
 use Rattle.si_audit.specs.Sheets.{text_of}
@@ -15,23 +16,23 @@ write_whole-requires g c = c.requires.writer
 
 pub returns-in-Ok-clause-report : goal.returns-in-Ok-clause-report
 returns-in-Ok-clause-report g c = of_source
-    (λ (text : List ℕ). IsOutcome c.args.o.now.level text c.in_ok-answer.answer.outcome
-    × (bytes : List ℕ) × IsReport c.args.o.now.form text bytes × Appends (g.W.Sink.taken c.args.writer.now) (g.W.Sink.taken c.write_whole.new.writer) bytes) _ _ c.in_ok-received.ensures.text (λ text received. (
-      c.in_ok-answer.ensures.outcome text received.0,
+    (λ (text : List ℕ). IsOutcome standard c.args.o.now.level text c.in_ok-answer.answer.outcome
+    × (bytes : List ℕ) × IsReport standard c.args.o.now.form text bytes × Appends (g.W.Sink.taken c.args.writer.now) (g.W.Sink.taken c.write_whole.new.writer) bytes) _ _ c.in_ok-received.ensures.text (λ text received. (
+      c.in_ok-answer.ensures.outcome standard text received.0,
       text_of c.in_ok-answer.answer.sheets.items,
-      c.in_ok-answer.ensures.report text (received.0, λ is. received.1 (c.is_explained.ensures.1 (c.form.ensures ∙ is))),
+      c.in_ok-answer.ensures.report standard text (received.0, λ is. received.1 (c.is_explained.ensures.1 (c.form.ensures ∙ is))),
       subst (λ (sheets : List (Vec ℕ)). Appends (g.W.Sink.taken c.args.writer.now) (g.W.Sink.taken c.write_whole.new.writer) (text_of sheets)) c.as_slice.ensures.value c.in-Ok.ensures.ok,
     ))
 
 pub returns-clause-front : goal.returns-clause-front
 returns-clause-front g c _ = of_source _ _ _ c.in_ok-received.ensures.text (λ text received.
-    front_written c.args.o.now.form _ _ text (text_of c.in_ok-answer.answer.sheets.items) (c.in_ok-answer.ensures.report text (received.0, λ is. received.1 (c.is_explained.ensures.1 (c.form.ensures ∙ is))))
+    front_written standard c.args.o.now.form _ _ text (text_of c.in_ok-answer.answer.sheets.items) (c.in_ok-answer.ensures.report standard text (received.0, λ is. received.1 (c.is_explained.ensures.1 (c.form.ensures ∙ is))))
     c.in-Err.ensures.front.0 c.in-Err.ensures.front.1 (ap text_of (sym c.as_slice.ensures.value) ∙ c.in-Err.ensures.front.2) c.in-Err.ensures.front.3)
 
 pub returns-clause-whole : goal.returns-clause-whole
 returns-clause-whole g c _ accepted = of_source
-    (λ (text : List ℕ). (bytes : List ℕ) × IsReport c.args.o.now.form text bytes × Appends (g.W.Sink.taken c.args.writer.now) (g.W.Sink.taken c.write_whole.new.writer) bytes) _ _ c.in_ok-received.ensures.text (λ text received. (
+    (λ (text : List ℕ). (bytes : List ℕ) × IsReport standard c.args.o.now.form text bytes × Appends (g.W.Sink.taken c.args.writer.now) (g.W.Sink.taken c.write_whole.new.writer) bytes) _ _ c.in_ok-received.ensures.text (λ text received. (
       text_of c.in_ok-answer.answer.sheets.items,
-      c.in_ok-answer.ensures.report text (received.0, λ is. received.1 (c.is_explained.ensures.1 (c.form.ensures ∙ is))),
+      c.in_ok-answer.ensures.report standard text (received.0, λ is. received.1 (c.is_explained.ensures.1 (c.form.ensures ∙ is))),
       subst (λ (sheets : List (Vec ℕ)). Appends (g.W.Sink.taken c.args.writer.now) (g.W.Sink.taken c.write_whole.new.writer) (text_of sheets)) c.as_slice.ensures.value (c.in-Err.ensures.whole accepted),
     ))

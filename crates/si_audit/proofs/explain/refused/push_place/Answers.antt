@@ -8,8 +8,8 @@ use Rattle.si_audit.proofs.Pushed.{place_pushed}
 use Rattle.si_audit.proofs.explain.refused.push_place.Goals as goal
 
 pub returns-in_ok-extend_from_slice-in-Refused : goal.returns-in_ok-extend_from_slice-in-Refused
-returns-in_ok-extend_from_slice-in-Refused c text reader stands located refusal =
-    let at = c.place-place.ensures.refused reader text c.in-Refused.token c.in-Refused.reason stands located (subst (IsRefusal text) c.in-Refused.is refusal) in
+returns-in_ok-extend_from_slice-in-Refused c limits text reader stands located refusal =
+    let at = c.place-place.ensures.refused limits reader text c.in-Refused.token c.in-Refused.reason stands located (subst (IsRefusal limits text) c.in-Refused.is refusal) in
     subst (λ (fault : TextFault). (bytes : List ℕ) × TellsToken text fault bytes × (c.extend_from_slice.new.self.items ≡ c.args.out.now.items ++ bytes)) (sym c.in-Refused.is) (
       place_line c.place-place.result.line c.place-place.result.column at.0,
       (c.place-place.result.line, c.place-place.result.column, at.0, at.1, refl),

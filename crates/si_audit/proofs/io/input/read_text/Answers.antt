@@ -3,6 +3,7 @@ use Rattle.std.specs.Io.KnownBytes.{Consumes}
 use Rattle.std.proofs.KnownBytes.{Consumes-trans}
 use Rattle.std.proofs.lemmas.Bool.{both_ways}
 use Rattle.std.proofs.lemmas.Grind.{common_steps}
+use Rattle.sia_events.specs.Limits.{standard}
 use Rattle.sia_events.specs.Locating.{Located, StandsForLocated}
 use Rattle.si_audit.specs.declared.io.device.Failed.{Failed}
 use Rattle.si_audit.specs.Devices.{reads_after}
@@ -35,12 +36,12 @@ reading-preserved g c = record {
   given = let e = c.in-Ok.ensures.counted in let more = more_reads (g.R.Source.reads c.reading.source) c.in-Ok.n in let before = c.reading.invariant.given in omega arith;
   given_few = let e = c.in-Ok.ensures.counted in let one = one_more_read (g.R.Source.reads c.reading.source) c.in-Ok.n in let before = c.reading.invariant.given in omega (arith, c.reading-test.true);
   received =
-      let stands = c.in_ok-feed.ensures.stands c.reading.invariant.front c.reading.invariant.received.0 in (
+      let stands = c.in_ok-feed.ensures.stands standard c.reading.invariant.front c.reading.invariant.received.0 in (
         stands,
         elim c.if-is_located.branch [
           | then-is_located w ↦ λ wanted.
-              subst (λ (l : Located). StandsForLocated l c.feed.new.self (c.reading.invariant.front ++ take c.in-Ok.n c.read.new.into)) (sym w.locator-is)
-              (w.feed-then-is_located.ensures c.reading.text c.feed.new.self c.reading.invariant.front c.reading.invariant.received.0 stands (sym w.refused.ensures) (c.reading.invariant.received.1 wanted))
+              subst (λ (l : Located). StandsForLocated standard l c.feed.new.self (c.reading.invariant.front ++ take c.in-Ok.n c.read.new.into)) (sym w.locator-is)
+              (w.feed-then-is_located.ensures standard c.reading.text c.feed.new.self c.reading.invariant.front c.reading.invariant.received.0 stands (sym w.refused.ensures) (c.reading.invariant.received.1 wanted))
           | else-is_located w ↦ λ wanted. absurd (both_ways _ w.if-is_located.false wanted)
         ],
       );
@@ -49,10 +50,10 @@ reading-preserved g c = record {
 
 pub returns-clause-text : goal.returns-clause-text
 returns-clause-text g c = elim c.reading-test.branch [
-  | else-reading-test w ↦ past_the_limit _ _ _ c.reading.invariant.front c.reading.locator c.reading.text c.reading.invariant.consumed (omega (arith, c.reading.invariant.counted, w.reading-test.false)) c.reading.invariant.received
+  | else-reading-test w ↦ past_the_limit standard _ _ _ c.reading.invariant.front c.reading.locator c.reading.text c.reading.invariant.consumed (omega (arith, c.reading.invariant.counted, w.reading-test.false)) c.reading.invariant.received
   | then-reading-test+in-Ok+then-n-eq0 w ↦
       let room : 0 < length w.read.new.into = search rules in
-      at_the_end _ _ _ c.reading.invariant.front c.reading.locator c.reading.text
+      at_the_end standard _ _ _ c.reading.invariant.front c.reading.locator c.reading.text
       (subst (Consumes (g.R.Source.remaining c.args.source.now) (g.R.Source.remaining w.read.new.self)) (none_more c.reading.invariant.front w.read.new.into w.in-Ok.n w.if-n-eq0.true)
       (Consumes-trans _ _ _ _ _ c.reading.invariant.consumed w.in-Ok.ensures.bytes.0))
       (w.in-Ok.ensures.bytes.1 w.if-n-eq0.true room)

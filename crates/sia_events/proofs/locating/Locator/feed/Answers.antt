@@ -1,5 +1,5 @@
 -- After the piece the locator stands for the text so far.
-use Rattle.std.proofs.Common.{get_or, refl}
+use Rattle.std.proofs.Common.{arith, get_or, refl}
 use Rattle.sia_events.proofs.Stopping.{passes_none, passes_more, passes_all}
 use Rattle.sia_events.proofs.BesideReader.{stands_fed}
 use Rattle.sia_events.proofs.locating.Locator.feed.Goals as goal
@@ -16,7 +16,7 @@ loop-byte-preserved c =
     })
 
 pub returns : goal.returns
-returns c = λ before after text a b is stands short.
+returns c = λ limits before after text a b is stands short.
     stands_fed text c.args.piece.now c.unwrap_or-last.result c.args.self.now c.loop-byte.self
     (passes_all c.args.self.now c.loop-byte.self c.args.piece.now c.loop-byte.byte-index c.unwrap_or-last.result c.loop-byte-test.false c.loop-byte.invariant)
-    short before after c.args.refused c.unwrap_or-last.ensures a b is stands
+    (let bytes = a.within.bytes in omega (arith, short)) limits short before after c.args.refused c.unwrap_or-last.ensures a b is stands

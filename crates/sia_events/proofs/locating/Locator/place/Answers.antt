@@ -7,6 +7,6 @@ use Rattle.sia_events.proofs.BesideReader.{refused_located}
 use Rattle.sia_events.proofs.locating.Locator.place.Goals as goal
 
 pub returns-clause-refused : goal.returns-clause-refused
-returns-clause-refused c = λ reader text number reason a b refusal.
+returns-clause-refused c = λ limits reader text number reason a b refusal.
     subst (λ (p : Place). IsLocated text number p.line p.column c.args.self.now.token) (ap (λ (l : Located). l.place) (sym c.self.view_is))
-    (refused_located c.args.self.now reader text number reason a b refusal)
+    (refused_located limits c.args.self.now reader text number reason a b refusal)

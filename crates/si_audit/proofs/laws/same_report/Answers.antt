@@ -1,0 +1,5 @@
+use Rattle.si_audit.proofs.OneReport.{same_report}
+use Rattle.si_audit.proofs.laws.same_report.Goals as goal
+
+pub returns : goal.returns
+returns c = same_report
