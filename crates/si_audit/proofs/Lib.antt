@@ -17,4 +17,5 @@ pub mod OfHistory
 mod TakenWords
 mod NumbersGiven
 pub mod OnSheets
+pub mod Giving
 pub mod SheetsInTurn

@@ -4,6 +4,10 @@ use Rattle.std.specs.Io.KnownBytes.{Consumes, IsAtEnd}
 use Rattle.sia_events.specs.Limits.{Limits}
 use Rattle.sia_events.specs.Locating.{Located}
 use Rattle.sia_events.specs.Streaming.{Progress, StandsForRead}
+use Rattle.si_audit.specs.declared.cli.form.Form.TheVariants.{Explained}
+use Rattle.si_audit.specs.declared.engine.Auditor.{Auditor}
+use Rattle.si_audit.specs.Choices.{Choices}
+use Rattle.si_audit.specs.Engine.{IsFed}
 use Rattle.si_audit.specs.Receiving.{IsReceived}
 
 -- what is too long already stands for every text that goes on from it
@@ -24,20 +28,24 @@ received_longer limits IsWanted l r front rest long received =
     let len : length (front ++ rest) ≡ length front + length rest = length-append front rest in
     (stands_longer limits r front rest long received.0, λ wanted short. absurd (omega arith))
 
-module _ (limits : Limits) (IsWanted : Type 0) (had left : Option (List ℕ)) (front : List ℕ) (l : Located) (r : Progress) where
-  pub at_the_end : Consumes had left front → IsAtEnd left → IsReceived limits IsWanted l r front → IfSome had (IsReceived limits IsWanted l r)
+-- so does an auditor that was fed it
+fed_longer : (limits : Limits) (o : Choices) (a : Auditor) (front rest : List ℕ) → limits.bytes < length front → IsFed limits o a front → IsFed limits o a (front ++ rest)
+fed_longer limits o a front rest long fed = record { options = fed.options; received = received_longer limits (o.form ≡ Explained) a.locator a.text front rest long fed.received }
+
+module _ (limits : Limits) (o : Choices) (had left : Option (List ℕ)) (front : List ℕ) (a : Auditor) where
+  pub at_the_end : Consumes had left front → IsAtEnd left → IsFed limits o a front → IfSome had (IsFed limits o a)
   at_the_end = by_cases had left
     where
-      by_cases : (had left : Option (List ℕ)) → Consumes had left front → IsAtEnd left → IsReceived limits IsWanted l r front → IfSome had (IsReceived limits IsWanted l r)
-      by_cases None left consumed end received = tt
-      by_cases (Some xs) None consumed end received = absurd consumed
-      by_cases (Some xs) (Some ys) consumed end received =
-          subst (IsReceived limits IsWanted l r) (sym (consumed ∙ ap (λ (m : List ℕ). front ++ m) end ∙ append-nil front)) received
+      by_cases : (had left : Option (List ℕ)) → Consumes had left front → IsAtEnd left → IsFed limits o a front → IfSome had (IsFed limits o a)
+      by_cases None left consumed end fed = tt
+      by_cases (Some xs) None consumed end fed = absurd consumed
+      by_cases (Some xs) (Some ys) consumed end fed =
+          subst (IsFed limits o a) (sym (consumed ∙ ap (λ (m : List ℕ). front ++ m) end ∙ append-nil front)) fed
 
-  pub past_the_limit : Consumes had left front → limits.bytes < length front → IsReceived limits IsWanted l r front → IfSome had (IsReceived limits IsWanted l r)
+  pub past_the_limit : Consumes had left front → limits.bytes < length front → IsFed limits o a front → IfSome had (IsFed limits o a)
   past_the_limit = by_cases had left
     where
-      by_cases : (had left : Option (List ℕ)) → Consumes had left front → limits.bytes < length front → IsReceived limits IsWanted l r front → IfSome had (IsReceived limits IsWanted l r)
-      by_cases None left consumed long received = tt
-      by_cases (Some xs) None consumed long received = absurd consumed
-      by_cases (Some xs) (Some ys) consumed long received = subst (IsReceived limits IsWanted l r) (sym consumed) (received_longer limits IsWanted l r front ys long received)
+      by_cases : (had left : Option (List ℕ)) → Consumes had left front → limits.bytes < length front → IsFed limits o a front → IfSome had (IsFed limits o a)
+      by_cases None left consumed long fed = tt
+      by_cases (Some xs) None consumed long fed = absurd consumed
+      by_cases (Some xs) (Some ys) consumed long fed = subst (IsFed limits o a) (sym consumed) (fed_longer limits o a front ys long fed)

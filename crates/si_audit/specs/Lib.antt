@@ -15,5 +15,6 @@ pub mod Spaced
 pub mod Answering
 pub mod LineAnswers
 pub mod Sheets
+pub mod Engine
 pub mod Edges
 pub mod Wanted

@@ -18,20 +18,18 @@ ghost use Rattle.si_audit.specs.Sheets.{text_of};
 use crate::audit::finding::judged;
 use crate::cli::level::Level;
 use crate::cli::options::Options;
+use crate::crew::Crew;
 use crate::engine::Outcome;
 use crate::explain::refused::push_place;
-use crate::io::input::Received;
 use crate::report::lines::push_refusal;
 use crate::report::listing::sheets_of;
 use crate::report::sheets::one_sheet;
-use sia_events::{History, Locator, NoMemory, TextFault};
+use sia_events::{History, Locator, NoMemory, TextFault, TextReader};
 use sia_graph::Judgement;
 use sia_index::Index;
 use sia_index::make::index;
 use sia_parts::{Committed, Recorded};
 use std::alloc::Global;
-use std::sync::Wait;
-use std::thread::Threads;
 
 /// What is written of a text, and how its run ends.
 #[derive(Drop)]
@@ -64,13 +62,14 @@ fn outcome_of(j: &Judgement, level: Level) -> Outcome
 }
 
 /// The answer to a history by its index.
-fn answer_by_index<T: Threads + Wait + Sync>(
-    rt: &T,
+fn answer_by_index<C: Crew>(
+    crew: &C,
     alloc: Global,
     h: History,
     ix: &Index,
     o: &Options,
 ) -> Result<Answer, NoMemory>
+    requires ready { C.ready crew.now }
     requires index { ix.now ≡ h }
     requires well_formed { IsWellFormed h }
     ensures report { IfOk result (λ answer. IsReportOf o.now.form h (text_of answer.sheets.items)) }
@@ -82,25 +81,26 @@ fn answer_by_index<T: Threads + Wait + Sync>(
         index: ix,
         committed: &committed,
     };
-    let (judgement, looks) = judged(rt, alloc, &of, o)?;
+    let (judgement, looks) = judged(crew, alloc, &of, o)?;
     let outcome = outcome_of(&judgement, o.level());
-    let sheets = sheets_of(rt, alloc, h, ix, &committed, &judgement, looks, o)?;
+    let sheets = sheets_of(crew, alloc, h, ix, &committed, &judgement, looks, o)?;
     Ok(Answer { sheets, outcome })
 }
 
 /// The answer to a history.
-pub(crate) fn answer_to_history<T: Threads + Wait + Sync>(
-    rt: &T,
+fn answer_to_history<C: Crew>(
+    crew: &C,
     alloc: Global,
     h: History,
     o: &Options,
 ) -> Result<Answer, NoMemory>
+    requires { C.ready crew.now }
     ensures report { IfOk result (λ answer. IsReportOf o.now.form h (text_of answer.sheets.items)) }
     ensures outcome { IfOk result (λ answer. IsOutcomeOf o.now.level h answer.outcome) }
 {
     h.law();
     let ix = index(alloc, &h)?;
-    answer_by_index(rt, alloc, h, &ix, o)
+    answer_by_index(crew, alloc, h, &ix, o)
 }
 
 /// The answer to a refused text, of which the locator tells where the refused token is.
@@ -137,23 +137,24 @@ fn is_lost(fault: &TextFault) -> bool
 }
 
 /// The answer to the text that was read.
-pub(crate) fn answer_to_text<T: Threads + Wait + Sync>(
-    rt: &T,
+pub(crate) fn answer_to_text<C: Crew>(
+    crew: &C,
     alloc: Global,
-    received: Received,
+    text: TextReader,
+    locator: &Locator,
     o: &Options,
 ) -> Result<Answer, NoMemory>
-    ensures report { (limits : Limits) (bytes : List ℕ) → IsReceived limits (o.now.form ≡ Form.Explained) received.locator received.text bytes → IfOk result (λ answer. IsReport limits o.now.form bytes (text_of answer.sheets.items)) }
-    ensures outcome { (limits : Limits) (bytes : List ℕ) → StandsForRead limits received.text bytes → IfOk result (λ answer. IsOutcome limits o.now.level bytes answer.outcome) }
+    requires { C.ready crew.now }
+    ensures report { (limits : Limits) (bytes : List ℕ) → IsReceived limits (o.now.form ≡ Form.Explained) locator.now text bytes → IfOk result (λ answer. IsReport limits o.now.form bytes (text_of answer.sheets.items)) }
+    ensures outcome { (limits : Limits) (bytes : List ℕ) → StandsForRead limits text bytes → IfOk result (λ answer. IsOutcome limits o.now.level bytes answer.outcome) }
 {
-    let Received { text, locator } = received;
     match text.finish() {
-        Ok(h) => answer_to_history(rt, alloc, h, o),
+        Ok(h) => answer_to_history(crew, alloc, h, o),
         Err(fault) => {
             if is_lost(&fault) {
                 return Err(NoMemory);
             }
-            answer_to_refusal(alloc, &fault, &locator, o)
+            answer_to_refusal(alloc, &fault, locator, o)
         }
     }
 }

@@ -1,19 +1,20 @@
-ghost use Rattle.std.specs.Prelude.{◌≡◌, ◌≢◌, ◌↔◌, ◌+◌, ◌≤◌, ℕ, List, ◌++◌, IfOk, IfErr, IfSome, OnOk, Err, IsTrue, IsFalse};
-ghost use Rattle.std.specs.Io.KnownBytes.{Appends, Keeps};
-ghost use Rattle.sia_events.specs.Limits.{standard};
+//! The engine: a text goes in, a report comes out, and it knows no device.
+ghost use Rattle.std.specs.Prelude.{◌≡◌, ◌≢◌, ◌<◌, ◌≤◌, ◌++◌, ℕ, List, [], drop, take, length, vec_capacity, IfOk, OnOk, IsFalse, IsTrue};
+ghost use Rattle.sia_events.specs.Limits.{Limits, standard};
+ghost use Rattle.si_audit.specs.Choices.{Choices};
+ghost use Rattle.si_audit.specs.Engine.{IsFed, IsAt, rest_from};
 ghost use Rattle.si_audit.specs.Report.{IsReport};
-ghost use Rattle.si_audit.specs.Outcomes.{IsOutcome, status_of};
+ghost use Rattle.si_audit.specs.Outcomes.{IsOutcome};
+ghost use Rattle.si_audit.specs.Sheets.{text_of};
 
-use crate::answering::answer_to_text;
+use crate::answering::{Answer, answer_to_text};
 use crate::cli::options::Options;
-use crate::io::device::{Failed, Sink, Source};
-use crate::io::input::read_text;
-use crate::io::output::write_whole;
-use sia_events::NoMemory;
+use crate::crew::{Alone, Crew, InThreads};
+use sia_events::{Locator, NoMemory, TextReader};
 use std::alloc::Global;
+use std::marker::Model;
 use std::sync::Wait;
 use std::thread::Threads;
-use thiserror::Error;
 
 /// How a run ended that met no fault.
 #[derive(Clone, Copy, PartialEq, Eq)]
@@ -26,78 +27,141 @@ pub enum Outcome {
     Refused,
 }
 
-/// Why a run ended before its report was written.
-#[derive(Clone, Copy, Debug, PartialEq, Eq, Error)]
-pub enum RunFault {
-    #[error("read failed")]
-    Read,
-    #[error("write failed")]
-    Write,
-    #[error("no memory")]
-    NoMemory,
+/// Audits a text that comes in pieces, by options.
+#[derive(Drop)]
+pub struct Auditor<'a> {
+    options: &'a Options,
+    text: TextReader,
+    locator: Locator,
 }
 
-impl From<NoMemory> for RunFault {
-    ghost use Rattle.std.specs.Prelude.{◌≡◌};
-    ghost use Rattle.si_audit.specs.declared.engine.RunFault.TheVariants.{NoMemory as no_memory};
+impl<'a> Auditor<'a> {
+    /// An auditor that has been fed nothing. It keeps the allocator for its later calls, and takes no memory yet.
+    pub fn new(alloc: Global, options: &'a Options) -> Auditor<'a>
+        ensures { IsFed standard options.now result [] }
+    {
+        Auditor {
+            options,
+            text: TextReader::new(alloc),
+            locator: Locator::new(),
+        }
+    }
 
-    ghost from_gives = { λ _ e. e ≡ no_memory };
+    /// Takes the next piece of the text, cut anywhere. After an `Err` no report comes.
+    pub fn feed(&mut self, piece: &[u8]) -> Result<(), NoMemory>
+        ensures { OnOk result ((limits : Limits) (o : Choices) (text : List ℕ) → IsFed limits o self.old text → IsFed limits o self.new (text ++ piece.now)) }
+    {
+        self.text.feed(piece)?;
+        if self.options.form().is_explained() {
+            self.locator.feed(piece, self.text.refused());
+        }
+        Ok(())
+    }
 
-    fn from(_refused: NoMemory) -> RunFault {
-        RunFault::NoMemory
+    /// The report of the text, by a crew.
+    fn finish_by<C: Crew>(self, alloc: Global, crew: &C) -> Result<Report, NoMemory>
+        requires { C.ready crew.now }
+        ensures report { IfOk result (λ r. (limits : Limits) (o : Choices) (text : List ℕ) → IsFed limits o self.entry text → IsReport limits o.form text r.bytes) }
+        ensures outcome { IfOk result (λ r. (limits : Limits) (o : Choices) (text : List ℕ) → IsFed limits o self.entry text → IsOutcome limits o.level text r.outcome) }
+    {
+        let Auditor {
+            options,
+            text,
+            locator,
+        } = self;
+        let Answer { sheets, outcome } = answer_to_text(crew, alloc, text, &locator, options)?;
+        Ok(Report {
+            outcome,
+            sheets,
+            sheet: 0,
+            at: 0,
+        })
+    }
+
+    /// The report of the text, in the form of the options, and the outcome at their level. It is made by the calling thread,
+    /// and the call returns.
+    pub fn finish_alone(self, alloc: Global) -> Result<Report, NoMemory>
+        ensures report { IfOk result (λ r. (limits : Limits) (o : Choices) (text : List ℕ) → IsFed limits o self.entry text → IsReport limits o.form text r.bytes) }
+        ensures outcome { IfOk result (λ r. (limits : Limits) (o : Choices) (text : List ℕ) → IsFed limits o self.entry text → IsOutcome limits o.level text r.outcome) }
+    {
+        self.finish_by(alloc, &Alone)
+    }
+
+    /// The same by as many workers as the options say. The call waits for its threads, so nothing promises that it returns.
+    pub fn finish<R: Threads + Wait + Sync>(self, rt: &R, alloc: Global) -> Result<Report, NoMemory>
+        ensures report { IfOk result (λ r. (limits : Limits) (o : Choices) (text : List ℕ) → IsFed limits o self.entry text → IsReport limits o.form text r.bytes) }
+        ensures outcome { IfOk result (λ r. (limits : Limits) (o : Choices) (text : List ℕ) → IsFed limits o self.entry text → IsOutcome limits o.level text r.outcome) }
+    {
+        let workers = self.options.workers();
+        self.finish_by(alloc, &InThreads { rt, workers })
     }
 }
 
-/// Reads a history's text to its end, or past the limit of 16,777,216 bytes, writes its report in the form asked for, and
-/// flushes once.
-///
-/// The whole report is made in memory before the first byte is written. Neither device may have failed before. The call
-/// joins its workers and may wait for them.
-pub fn run<T: Threads + Wait + Sync, R: Source, W: Sink>(
-    rt: &T,
-    alloc: Global,
-    reader: &mut R,
-    writer: &mut W,
-    o: &Options,
-) -> Result<Outcome, RunFault>
-    requires reader { IsFalse (R.has_failed reader.old) }
-    requires writer { IsFalse (W.has_failed writer.old) }
-    // What is written is the report of the text that the reader gives, in the form of the options, and not a byte more. The
-    // outcome is that of the options' level.
-    ensures report { IfOk result (λ outcome. IfSome (R.remaining reader.old) (λ text.
-        IsOutcome standard o.now.level text outcome × (bytes : List ℕ) × IsReport standard o.now.form text bytes × Appends (W.taken writer.old) (W.taken writer.new) bytes)) }
-    ensures flushed { OnOk result (IsTrue (W.is_flushed writer.new)) }
+/// A report, which gives its bytes in pieces. It has all the memory that it needs.
+#[derive(Drop)]
+pub struct Report {
+    outcome: Outcome,
+    sheets: Vec<Vec<u8>>,
+    /// The sheet from which the next byte comes, and its place there.
+    sheet: usize,
+    at: usize,
+}
 
-    // At most so many reads gave bytes.
-    ensures reads { R.reads reader.new ≤ R.reads reader.old + standard.bytes + 1 }
+impl Model for Report {
+    ghost use Rattle.si_audit.specs.Engine.{Told, IsAt, rest_from};
 
-    // Each fault comes exactly where its device failed.
-    ensures read { (result ≡ Err RunFault.Read) ↔ IsTrue (R.has_failed reader.new) }
-    ensures write { (result ≡ Err RunFault.Write) ↔ IsTrue (W.has_failed writer.new) }
+    ghost Value = { Told };
 
-    // What was written before a fault: nothing, or a front of the report, which is whole where no write was refused.
-    ensures nothing { IfErr result (λ e. e ≢ RunFault.Write → Keeps (W.taken writer.old) (W.taken writer.new)) }
-    ensures front { result ≡ Err RunFault.Write → IfSome (R.remaining reader.old) (λ text.
-        (bytes : List ℕ) × (rest : List ℕ) × IsReport standard o.now.form text (bytes ++ rest) × Appends (W.taken writer.old) (W.taken writer.new) bytes) }
-    ensures whole { result ≡ Err RunFault.Write → IsFalse (W.has_refused writer.new) → IfSome (R.remaining reader.old) (λ text.
-        (bytes : List ℕ) × IsReport standard o.now.form text bytes × Appends (W.taken writer.old) (W.taken writer.new) bytes) }
+    ghost view = { λ r. record { outcome = r.outcome; bytes = rest_from r.sheets.items r.sheet r.at } };
+
+    ghost invariant = { λ r. IsAt r.sheets.items r.sheet r.at };
+}
+
+impl Report {
+    /// How the run ends.
+    pub fn outcome(&self) -> Outcome
+        ensures { result ≡ self.now.outcome }
+    {
+        self.outcome
+    }
+
+    /// Gives the next bytes into a buffer that has room, as many as it has room for, and answers whether there were any. Takes
+    /// no memory.
+    pub fn give(&mut self, buffer: &mut Vec<u8>) -> bool
+        requires room { length buffer.old.items < vec_capacity buffer.old }
+        ensures gives { (piece : List ℕ) × (self.old.bytes ≡ piece ++ self.new.bytes) × (buffer.new.items ≡ buffer.old.items ++ piece) × (IsTrue result → 0 < length piece) }
+        ensures end { IsFalse result → (self.new.bytes ≡ []) × (buffer.new.items ≡ buffer.old.items) }
+        ensures outcome { self.new.outcome ≡ self.old.outcome }
+        ensures room { vec_capacity buffer.old ≤ vec_capacity buffer.new }
+    {
+        let (sheet, at) = next_byte(self.sheets.as_slice(), self.sheet, self.at);
+        self.sheet = sheet;
+        self.at = at;
+        if self.sheet == self.sheets.len() {
+            return false;
+        }
+        let rest = &self.sheets[self.sheet][self.at..];
+        let n = rest.len().min(buffer.capacity() - buffer.len());
+        let Ok(()) = buffer.extend_from_slice(&rest[..n]) else {
+            unreachable!()
+        };
+        self.at += n;
+        true
+    }
+}
+
+/// Where the next byte is, on this sheet from this place on or on a later one: a sheet and a place on it, or behind all sheets.
+fn next_byte(sheets: &[Vec<u8>], sheet: usize, at: usize) -> (usize, usize)
+    requires { IsAt sheets.now sheet at }
+    ensures same { rest_from sheets.now result.0 result.1 ≡ rest_from sheets.now sheet at }
+    ensures at { IsAt sheets.now result.0 result.1 }
+    ensures some { result.0 ≢ length sheets.now → result.1 < length (text_of (take 1 (drop result.0 sheets.now))) }
 {
-    let received = read_text(alloc, reader, o.form().is_explained())?;
-    let answer = answer_to_text(rt, alloc, received, o)?;
-    match write_whole(writer, answer.sheets.as_slice()) {
-        Ok(()) => Ok(answer.outcome),
-        Err(Failed) => Err(RunFault::Write),
+    let mut sheet = sheet;
+    let mut at = at;
+    'passing: while sheet < sheets.len() && at == sheets[sheet].len() {
+        sheet += 1;
+        at = 0;
     }
-}
-
-/// The program's status: 0 for a history that meets the level, 1 for one that falls short of it, 3 for a refused text and 4 for a fault.
-pub fn status(r: &Result<Outcome, RunFault>) -> u8
-    ensures { result ≡ status_of r.now }
-{
-    match r {
-        Ok(Outcome::Clean) => 0,
-        Ok(Outcome::Faulty) => 1,
-        Ok(Outcome::Refused) => 3,
-        Err(_) => 4,
-    }
+    (sheet, at)
 }

@@ -5,18 +5,20 @@
 mod answering;
 mod audit;
 mod cli;
+mod crew;
 mod engine;
 mod explain;
 mod io;
 mod laws;
 mod report;
+mod run;
 #[cfg(test)]
 mod tests;
 
 use cli::line::{LineFault, options_from};
 use cli::options::Options;
-use engine::{RunFault, run, status};
 use io::device::FromStd;
+use run::{RunFault, run, status};
 use std::alloc::Global;
 use std::env::Env;
 use std::fmt::Display;

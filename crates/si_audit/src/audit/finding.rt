@@ -1,5 +1,5 @@
 // What is found at all keys, and what follows: workers find what is at the keys of each part.
-ghost use Rattle.std.specs.Prelude.{◌≡◌, ◌<◌, ◌≤◌, ⊤, length, IfOk, IfSome, IsTrue};
+ghost use Rattle.std.specs.Prelude.{◌≡◌, ◌<◌, ⊤, length, IfOk, IfSome, IsTrue};
 ghost use Rattle.std.specs.List.{slice_get};
 ghost use Rattle.sia_events.specs.Lists.{ListsAscending};
 ghost use Rattle.sia_events.specs.Refusals.{IsWellFormed};
@@ -11,23 +11,22 @@ ghost use Rattle.sia_graph.specs.Judgements.{IsJudgement};
 ghost use Rattle.sia_graph.specs.Verdicts.{IsOrderVerdict};
 
 use crate::cli::options::Options;
+use crate::crew::Crew;
 use sia_events::{History, NoMemory};
 use sia_graph::{Judgement, judge};
 use sia_index::Index;
 use sia_parts::{Committed, Gathering, Looks, Part, PartFound, Recorded, find_in_part};
-use sia_pool::{Job, OpenGate, work_off};
+use sia_pool::Job;
 use std::alloc::Global;
-use std::sync::Wait;
-use std::thread::Threads;
 
 /// The audit of the parts, of which the workers take one after another.
 #[derive(Drop)]
-struct Auditing<'a> {
-    alloc: Global,
-    history: &'a History,
-    index: &'a Index,
-    committed: &'a Committed,
-    parts: &'a [Part],
+pub(crate) struct Auditing<'a> {
+    pub(crate) alloc: Global,
+    pub(crate) history: &'a History,
+    pub(crate) index: &'a Index,
+    pub(crate) committed: &'a Committed,
+    pub(crate) parts: &'a [Part],
 }
 
 impl Job for Auditing<'_> {
@@ -46,20 +45,14 @@ impl Job for Auditing<'_> {
     }
 }
 
-/// For how many workers there are parts of the work.
-pub(crate) fn crew_of(o: &Options, count: u32) -> u32
-    ensures { (0 < result) × (result ≤ 64) }
-{
-    u32::from(o.workers()).min(count.max(1))
-}
-
-/// Judges a history by its index and by workers, and waits for them. Beside the judgement stands what its edges are told by.
-pub(crate) fn judged<R: Threads + Wait + Sync>(
-    rt: &R,
+/// Judges a history by its index and by a crew. Beside the judgement stands what its edges are told by.
+pub(crate) fn judged<C: Crew>(
+    crew: &C,
     alloc: Global,
     of: &Recorded,
     o: &Options,
 ) -> Result<(Judgement, Looks), NoMemory>
+    requires ready { C.ready crew.now }
     requires index { of.now.index.now ≡ of.now.history.now }
     requires well_formed { IsWellFormed of.now.history.now }
     requires committed { ListsAscending (IsCommitted of.now.index.now) of.now.committed.now }
@@ -76,9 +69,9 @@ pub(crate) fn judged<R: Threads + Wait + Sync>(
         parts,
     };
     let count = parts.len() as u32;
-    match work_off(rt, alloc, count, crew_of(o, count), &job, &OpenGate) {
-        Ok(crew) => {
-            let found = Gathering::of(alloc, crew.outs)?;
+    match crew.find(alloc, count, &job) {
+        Ok(parts) => {
+            let found = Gathering::of(alloc, parts)?;
             judge(alloc, of.history, of.index, of.committed, found)
         }
         Err(_) => Err(NoMemory),

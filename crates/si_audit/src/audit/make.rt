@@ -8,6 +8,7 @@ ghost use Rattle.si_audit.specs.Audits.{account_of};
 use crate::audit::finding::judged;
 use crate::audit::findings::Audit;
 use crate::cli::options::Options;
+use crate::crew::{Crew, InThreads};
 use sia_events::{History, NoMemory};
 use sia_graph::listed;
 use sia_index::Index;
@@ -17,14 +18,15 @@ use std::alloc::Global;
 use std::sync::Wait;
 use std::thread::Threads;
 
-/// Audits a history by its index and by workers, and waits for them.
-fn audited<R: Threads + Wait + Sync>(
-    rt: &R,
+/// Audits a history by its index and by a crew.
+fn audited<C: Crew>(
+    crew: &C,
     alloc: Global,
     h: &History,
     ix: &Index,
     o: &Options,
 ) -> Result<Audit, NoMemory>
+    requires ready { C.ready crew.now }
     requires index { ix.now ≡ h.now }
     requires well_formed { IsWellFormed h.now }
     ensures exact { IfOk result (λ a. IsAccount h.now (account_of a)) }
@@ -36,7 +38,7 @@ fn audited<R: Threads + Wait + Sync>(
         index: ix,
         committed: &committed,
     };
-    let (j, looks) = judged(rt, alloc, &of, o)?;
+    let (j, looks) = judged(crew, alloc, &of, o)?;
     let (edges, pivots) = listed(alloc, ix, &committed, looks)?;
     Ok(Audit {
         events: j.counts.events,
@@ -68,5 +70,6 @@ pub fn audit<R: Threads + Wait + Sync>(
 {
     h.law();
     let ix = index(alloc, h)?;
-    audited(rt, alloc, h, &ix, o)
+    let workers = o.workers();
+    audited(&InThreads { rt, workers }, alloc, h, &ix, o)
 }

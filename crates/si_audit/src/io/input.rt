@@ -1,41 +1,30 @@
 // A text is read to its end, or past the limit.
 ghost use Rattle.std.specs.Prelude.{◌≡◌, ◌↔◌, ◌+◌, ◌≤◌, IfOk, IfSome, Err, IsTrue, IsFalse};
 ghost use Rattle.sia_events.specs.Limits.{standard};
-ghost use Rattle.si_audit.specs.Receiving.{IsReceived};
+ghost use Rattle.si_audit.specs.Engine.{IsFed};
 
-use crate::engine::RunFault;
+use crate::cli::options::Options;
+use crate::engine::Auditor;
 use crate::io::device::Source;
-use sia_events::{Locator, TextReader};
+use crate::run::{PIECE, RunFault};
 use std::alloc::Global;
 
 /// The bytes of the longest text that is judged.
 const LONGEST_TEXT: usize = 16_777_216;
 
-/// How many bytes one read has room for.
-const PIECE: usize = 65_536;
-
-/// A text that was read.
-#[derive(Drop)]
-pub(crate) struct Received {
-    pub(crate) text: TextReader,
-    pub(crate) locator: Locator,
-}
-
-/// Feeds a reader with all that comes, or until it is past the limit; what follows then is left unread. Beside it stands a
-/// locator, which is fed the same where it is wanted.
-pub(crate) fn read_text<R: Source>(
+/// Feeds an auditor with all that comes, or until the text is past the limit; what follows then is left unread.
+pub(crate) fn read_text<'a, R: Source>(
     alloc: Global,
     source: &mut R,
-    is_located: bool,
-) -> Result<Received, RunFault>
+    o: &'a Options,
+) -> Result<Auditor<'a>, RunFault>
     requires { IsFalse (R.has_failed source.old) }
-    ensures text { IfOk result (λ received. IfSome (R.remaining source.old) (λ bytes. IsReceived standard (IsTrue is_located) received.locator received.text bytes)) }
+    ensures text { IfOk result (λ auditor. IfSome (R.remaining source.old) (IsFed standard o.now auditor)) }
     ensures failed { (result ≡ Err RunFault.Read) ↔ IsTrue (R.has_failed source.new) }
     ensures reads { R.reads source.new ≤ R.reads source.old + 16777217 }
     ensures no_write { result ≡ Err RunFault.Write → ⊥ }
 {
-    let mut text = TextReader::new(alloc);
-    let mut locator = Locator::new();
+    let mut auditor = Auditor::new(alloc, o);
     let mut piece = [0u8; PIECE];
     let mut count = 0;
     'reading: while count <= LONGEST_TEXT {
@@ -45,11 +34,8 @@ pub(crate) fn read_text<R: Source>(
         if n == 0 {
             break;
         }
-        text.feed(&piece[..n])?;
-        if is_located {
-            locator.feed(&piece[..n], text.refused());
-        }
+        auditor.feed(&piece[..n])?;
         count += n;
     }
-    Ok(Received { text, locator })
+    Ok(auditor)
 }

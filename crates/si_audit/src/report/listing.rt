@@ -9,6 +9,7 @@ ghost use Rattle.si_audit.specs.Sheets.{text_of};
 
 use crate::cli::form::Form;
 use crate::cli::options::Options;
+use crate::crew::Crew;
 use crate::explain::explaining::explained;
 use crate::report::reporting::report_of;
 use crate::report::sheets::{one_sheet, sheets_of_edges};
@@ -17,13 +18,11 @@ use sia_graph::{Judgement, listing_law, pivots_of_links};
 use sia_index::Index;
 use sia_parts::{Committed, Looks, Recorded};
 use std::alloc::Global;
-use std::sync::Wait;
-use std::thread::Threads;
 
 /// The report of a history of which this is the judgement, in the form asked for. Makes no edge for a brief one. For a full one the
 /// history goes before the lines of its edges come, which take the most room.
-pub(crate) fn sheets_of<R: Threads + Wait + Sync>(
-    rt: &R,
+pub(crate) fn sheets_of<C: Crew>(
+    crew: &C,
     alloc: Global,
     history: History,
     index: &Index,
@@ -32,6 +31,7 @@ pub(crate) fn sheets_of<R: Threads + Wait + Sync>(
     looks: Looks,
     o: &Options,
 ) -> Result<Vec<Vec<u8>>, NoMemory>
+    requires ready { C.ready crew.now }
     requires index { index.now ≡ history }
     requires committed { ListsAscending (IsCommitted index.now) committed.now }
     requires looks { AreLooks index.now (λ _. ⊤) looks }
@@ -43,7 +43,7 @@ pub(crate) fn sheets_of<R: Threads + Wait + Sync>(
     match o.form() {
         Form::Full => {
             drop(history);
-            let (sheets, links) = sheets_of_edges(rt, alloc, index, committed, looks, o)?;
+            let (sheets, links) = sheets_of_edges(crew, alloc, index, committed, looks)?;
             let pivots = pivots_of_links(alloc, index, links)?;
             report_of(alloc, j, sheets, &pivots)
         }

@@ -8,17 +8,14 @@ ghost use Rattle.sia_graph.specs.AllEdges.{AreAllEdges};
 ghost use Rattle.si_audit.specs.Edges.{AreLinesAndLinks, IsSheet};
 ghost use Rattle.si_audit.specs.Sheets.{text_of};
 
-use crate::audit::finding::crew_of;
-use crate::cli::options::Options;
+use crate::crew::Crew;
 use crate::report::number_lines::sheet_of;
 use sia_events::NoMemory;
 use sia_graph::{AllEdges, Link, chunk_of, edges_of};
 use sia_index::Index;
 use sia_parts::{Committed, Looks};
-use sia_pool::{Job, OpenGate, work_off};
+use sia_pool::Job;
 use std::alloc::Global;
-use std::sync::Wait;
-use std::thread::Threads;
 
 /// How many edges a chunk mostly has: so few that no worker waits long for the last one, and that the memory of a chunk, and
 /// that of its lines, is one that an allocator gives each worker apart from the others, and gives again.
@@ -34,7 +31,7 @@ pub(crate) struct Sheet {
 
 /// The work, of whose chunks the workers take one after another.
 #[derive(Drop)]
-struct Printing<'a> {
+pub(crate) struct Printing<'a> {
     alloc: Global,
     edges: &'a AllEdges<'a>,
 }
@@ -90,15 +87,15 @@ fn parted(alloc: Global, made: Vec<Sheet>) -> Result<(Vec<Vec<u8>>, Vec<Link>), 
     Ok((sheets, links))
 }
 
-/// The lines of all edges, by workers, and the links of the vulnerable ones. Waits for the workers.
-pub(crate) fn sheets_of_edges<R: Threads + Wait + Sync>(
-    rt: &R,
+/// The lines of all edges, by a crew, and the links of the vulnerable ones.
+pub(crate) fn sheets_of_edges<C: Crew>(
+    crew: &C,
     alloc: Global,
     ix: &Index,
     committed: &Committed,
     looks: Looks,
-    o: &Options,
 ) -> Result<(Vec<Vec<u8>>, Vec<Link>), NoMemory>
+    requires ready { C.ready crew.now }
     requires committed { ListsAscending (IsCommitted ix.now) committed.now }
     requires looks { AreLooks ix.now (λ _. ⊤) looks }
     ensures { IfOk result (λ (sheets, links). AreLinesAndLinks ix.now (text_of sheets.items) links.items) }
@@ -109,8 +106,8 @@ pub(crate) fn sheets_of_edges<R: Threads + Wait + Sync>(
         alloc,
         edges: &edges,
     };
-    match work_off(rt, alloc, count, crew_of(o, count), &job, &OpenGate) {
-        Ok(crew) => parted(alloc, crew.outs),
+    match crew.print(alloc, count, &job) {
+        Ok(sheets) => parted(alloc, sheets),
         Err(_) => Err(NoMemory),
     }
 }

@@ -1,7 +1,8 @@
 // Devices that fail: which fault comes, and what stands written by then.
 use crate::cli::options::Options;
-use crate::engine::{Outcome, RunFault, run, status};
+use crate::engine::Outcome;
 use crate::io::device::FromStd;
+use crate::run::{RunFault, run, status};
 use crate::tests::devices::{Giving, Taking};
 use std::alloc::Global;
 use std::io::ErrorKind;

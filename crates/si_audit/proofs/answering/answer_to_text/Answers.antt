@@ -23,7 +23,7 @@ pub returns-else-is_lost-clause-report : goal.returns-else-is_lost-clause-report
 returns-else-is_lost-clause-report g c limits bytes received =
     let refusal = refusal_of limits bytes c.in-Err.fault (λ lost. both_ways _ c.if-is_lost.false (c.is_lost.ensures.1 lost)) (c.in-Err.ensures.reads limits bytes received.0) in
     ok_map _ (λ answer. IsReport limits c.args.o.now.form bytes (text_of answer.sheets.items)) c.answer_to_refusal.result
-    (λ answer told. inl (c.in-Err.fault, refusal, told)) (c.answer_to_refusal.ensures.report limits bytes c.args.received.text received.0 received.1 refusal)
+    (λ answer told. inl (c.in-Err.fault, refusal, told)) (c.answer_to_refusal.ensures.report limits bytes c.args.text received.0 received.1 refusal)
 
 pub returns-else-is_lost-clause-outcome : goal.returns-else-is_lost-clause-outcome
 returns-else-is_lost-clause-outcome g c limits bytes stands =

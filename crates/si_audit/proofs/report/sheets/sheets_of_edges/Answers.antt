@@ -13,6 +13,6 @@ returns-in-Ok g c =
     as_parted _ _ c.parted.result (λ lines links. AreLinesAndLinks c.args.ix.now lines links)
     (rw (← c.in_ok-edges.ensures.index)
     (all_made edges c.in_ok-edges.ensures.are _ _
-    (all_in_turn edges edges.chunk_bounds.places.items c.in_ok-edges.ensures.are.bounds c.in-Ok.crew.outs.items (c.in-Ok.ensures.len ∙ search rules)
+    (all_in_turn edges edges.chunk_bounds.places.items c.in_ok-edges.ensures.are.bounds c.in-Ok.sheets.items (c.in-Ok.ensures.len ∙ search rules)
     (λ k d below. c.in-Ok.ensures.owed k d (subst (λ n. k < n) c.in-Ok.ensures.len below)))))
     c.parted.ensures.lines c.parted.ensures.links

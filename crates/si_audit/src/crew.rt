@@ -1,0 +1,129 @@
+// Who works off the jobs of an audit: the calling thread alone, or threads.
+ghost use Rattle.std.specs.Prelude.{◌≡◌, ℕ, ◌<◌, ◌≤◌, length, max, min, IfOk};
+ghost use Rattle.sia_pool.specs.Answers.{AnswersEach};
+
+use crate::audit::finding::Auditing;
+use crate::report::sheets::{Printing, Sheet};
+use sia_parts::PartFound;
+use sia_pool::{Job, NoMemory, OpenGate, work_off};
+use std::alloc::Global;
+use std::sync::Wait;
+use std::thread::Threads;
+
+/// Those who work off the jobs of an audit. They answer each part once, in order.
+pub(crate) trait Crew {
+    ghost use Rattle.std.specs.Prelude.{◌≡◌, ℕ, ◌+◌, ◌<◌, ◌≤◌, length, slice_index, IfOk, IfSome};
+    ghost use Rattle.std.specs.List.{slice_get};
+    ghost use Rattle.sia_events.specs.Lists.{ListsAscending};
+    ghost use Rattle.sia_events.specs.Transactions.{IsCommitted};
+    ghost use Rattle.sia_parts.specs.Gathering.{IsPartFound};
+    ghost use Rattle.sia_parts.specs.Parts.{IsInPart};
+    ghost use Rattle.sia_graph.specs.AllEdges.{AreAllEdges};
+    ghost use Rattle.sia_pool.specs.Answers.{AnswersEach};
+    ghost use Rattle.si_audit.specs.Edges.{IsSheet};
+
+    /// What the calls ask of those who work.
+    ghost ready: { Self → Type 0 };
+
+    /// What is found at the keys of each of the first parts.
+    fn find(&self, alloc: Global, count: u32, job: &Auditing) -> Result<Vec<PartFound>, NoMemory>
+        requires ready { ready self.now }
+        requires few { count ≤ 1024 }
+        requires index { job.now.index.now ≡ job.now.history.now }
+        requires committed { ListsAscending (IsCommitted job.now.index.now) job.now.committed.now }
+        requires parts { count ≤ length job.now.parts.now }
+        ensures len { IfOk result (λ found. length found.items ≡ count) }
+        ensures owed { IfOk result (λ found. AnswersEach (λ number one. IfSome (slice_get job.now.parts.now number) (λ part. IsPartFound job.now.history.now (IsInPart part) one)) count found.items) };
+
+    /// What is made of each of the first chunks of edges.
+    fn print(&self, alloc: Global, count: u32, job: &Printing) -> Result<Vec<Sheet>, NoMemory>
+        requires ready { ready self.now }
+        requires few { count ≤ 1024 }
+        requires edges { AreAllEdges job.now.edges.now }
+        requires chunks { (p : ℕ) → p < count → p + 1 < length job.now.edges.now.chunk_bounds.places.items }
+        ensures len { IfOk result (λ sheets. length sheets.items ≡ count) }
+        ensures owed { IfOk result (λ sheets. AnswersEach (λ number sheet. IsSheet job.now.edges.now (slice_index job.now.edges.now.chunk_bounds.places.items number) (slice_index job.now.edges.now.chunk_bounds.places.items (number + 1))
+            sheet.lines.items sheet.links.items) count sheets.items) };
+}
+
+/// The calling thread, which waits for nobody.
+#[derive(Clone, Copy)]
+pub(crate) struct Alone;
+
+impl Crew for Alone {
+    ghost use Rattle.std.specs.Prelude.{⊤};
+
+    ghost ready = { λ _. ⊤ };
+
+    fn find(&self, alloc: Global, count: u32, job: &Auditing) -> Result<Vec<PartFound>, NoMemory> {
+        one_by_one(alloc, count, job)
+    }
+
+    fn print(&self, alloc: Global, count: u32, job: &Printing) -> Result<Vec<Sheet>, NoMemory> {
+        one_by_one(alloc, count, job)
+    }
+}
+
+/// Up to so many threads, for which the calls wait.
+#[derive(Drop)]
+pub(crate) struct InThreads<'a, R: Threads + Wait + Sync> {
+    pub(crate) rt: &'a R,
+    pub(crate) workers: u8,
+    ghost bounds: { (0 < workers) × (workers ≤ 64) },
+}
+
+impl<R: Threads + Wait + Sync> Crew for InThreads<'_, R> {
+    ghost use denote.Param.Send.{IsSync};
+
+    ghost ready = { λ _. IsSync R.row };
+
+    fn find(&self, alloc: Global, count: u32, job: &Auditing) -> Result<Vec<PartFound>, NoMemory> {
+        in_threads(self.rt, alloc, count, self.workers, job)
+    }
+
+    fn print(&self, alloc: Global, count: u32, job: &Printing) -> Result<Vec<Sheet>, NoMemory> {
+        in_threads(self.rt, alloc, count, self.workers, job)
+    }
+}
+
+/// The answers of a job to its first parts, one after another.
+fn one_by_one<J: Job>(alloc: Global, count: u32, job: &J) -> Result<Vec<J::Out>, NoMemory>
+where
+    J::Out: Drop,
+    requires { (p : ℕ) → p < count → J.takes job.now p }
+    ensures len { IfOk result (λ outs. length outs.items ≡ count) }
+    ensures owed { IfOk result (λ outs. AnswersEach (J.owes job.now) count outs.items) }
+{
+    let mut outs = Vec::new(alloc);
+    for part in 0..count {
+        outs.push(job.run(part)?)?;
+    }
+    Ok(outs)
+}
+
+/// The same by threads.
+fn in_threads<R: Threads + Wait + Sync, J: Job + Sync>(
+    rt: &R,
+    alloc: Global,
+    count: u32,
+    workers: u8,
+    job: &J,
+) -> Result<Vec<J::Out>, NoMemory>
+where
+    J::Out: Send + Drop,
+    requires workers { (0 < workers) × (workers ≤ 64) }
+    requires few { count ≤ 1024 }
+    requires takes { (p : ℕ) → p < count → J.takes job.now p }
+    ensures len { IfOk result (λ outs. length outs.items ≡ count) }
+    ensures owed { IfOk result (λ outs. AnswersEach (J.owes job.now) count outs.items) }
+{
+    let crew = work_off(rt, alloc, count, crew_of(workers, count), job, &OpenGate)?;
+    Ok(crew.outs)
+}
+
+/// As many workers as are asked for, and no more than there are parts.
+fn crew_of(workers: u8, count: u32) -> u32
+    ensures { result ≡ min workers (max count 1) }
+{
+    u32::from(workers).min(count.max(1))
+}
