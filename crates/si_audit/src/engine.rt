@@ -8,6 +8,7 @@ ghost use Rattle.si_audit.specs.Outcomes.{IsOutcome};
 ghost use Rattle.si_audit.specs.Sheets.{text_of};
 
 use crate::answering::{Answer, answer_to_text};
+use crate::cli::form::Form;
 use crate::cli::options::Options;
 use crate::crew::{Alone, Crew, InThreads};
 use sia_events::{Locator, NoMemory, TextReader};
@@ -87,12 +88,17 @@ impl<'a> Auditor<'a> {
         self.finish_by(alloc, &Alone)
     }
 
-    /// The same by as many workers as the options say. The call waits for its threads, so nothing promises that it returns.
+    /// The same by as many workers as the options say, where there is something to share. The call waits for its threads, so
+    /// nothing promises that it returns.
     pub fn finish<R: Threads + Wait + Sync>(self, rt: &R, alloc: Global) -> Result<Report, NoMemory>
         ensures report { IfOk result (λ r. (limits : Limits) (o : Choices) (text : List ℕ) → IsFed limits o self.entry text → IsReport limits o.form text r.bytes) }
         ensures outcome { IfOk result (λ r. (limits : Limits) (o : Choices) (text : List ℕ) → IsFed limits o self.entry text → IsOutcome limits o.level text r.outcome) }
     {
         let workers = self.options.workers();
+        let is_one_part = self.options.parts().len() == 1 && self.options.form() != Form::Full;
+        if workers == 1 || is_one_part {
+            return self.finish_alone(alloc);
+        }
         self.finish_by(alloc, &InThreads { rt, workers })
     }
 }

@@ -1,14 +1,11 @@
 ghost use Rattle.std.specs.Prelude.{◌≡◌, ◌≢◌, ◌↔◌, ◌+◌, ◌≤◌, ℕ, List, ◌++◌, IfOk, IfErr, IfSome, OnOk, Err, IsTrue, IsFalse};
 ghost use Rattle.std.specs.Io.KnownBytes.{Appends, Keeps};
-ghost use Rattle.sia_events.specs.Limits.{Limits, standard};
-ghost use Rattle.si_audit.specs.Choices.{Choices};
-ghost use Rattle.si_audit.specs.Engine.{IsFed};
+ghost use Rattle.sia_events.specs.Limits.{standard};
 ghost use Rattle.si_audit.specs.Report.{IsReport};
 ghost use Rattle.si_audit.specs.Outcomes.{IsOutcome, status_of};
 
-use crate::cli::form::Form;
 use crate::cli::options::Options;
-use crate::engine::{Auditor, Outcome, Report};
+use crate::engine::Outcome;
 use crate::io::device::{Failed, Sink, Source};
 use crate::io::input::read_text;
 use crate::io::output::write_whole;
@@ -88,7 +85,7 @@ pub fn run<T: Threads + Wait + Sync, R: Source, W: Sink>(
         (bytes : List ℕ) × IsReport standard o.now.form text bytes × Appends (W.taken writer.old) (W.taken writer.new) bytes) }
 {
     let auditor = read_text(alloc, reader, o)?;
-    let mut report = finished(rt, alloc, auditor, o)?;
+    let mut report = auditor.finish(rt, alloc)?;
     let Ok(mut buffer) = Vec::with_capacity(alloc, PIECE) else {
         return Err(RunFault::NoMemory);
     };
@@ -96,23 +93,6 @@ pub fn run<T: Threads + Wait + Sync, R: Source, W: Sink>(
         Ok(()) => Ok(report.outcome()),
         Err(Failed) => Err(RunFault::Write),
     }
-}
-
-/// The report of what the auditor was fed: by the calling thread alone, where one worker is asked for or there is nothing to
-/// share.
-fn finished<T: Threads + Wait + Sync>(
-    rt: &T,
-    alloc: Global,
-    auditor: Auditor,
-    o: &Options,
-) -> Result<Report, NoMemory>
-    ensures report { IfOk result (λ r. (limits : Limits) (choices : Choices) (text : List ℕ) → IsFed limits choices auditor.entry text → IsReport limits choices.form text r.bytes) }
-    ensures outcome { IfOk result (λ r. (limits : Limits) (choices : Choices) (text : List ℕ) → IsFed limits choices auditor.entry text → IsOutcome limits choices.level text r.outcome) }
-{
-    if o.workers() == 1 || (o.parts().len() == 1 && o.form() != Form::Full) {
-        return auditor.finish_alone(alloc);
-    }
-    auditor.finish(rt, alloc)
 }
 
 /// The program's status: 0 for a history that meets the level, 1 for one that falls short of it, 3 for a refused text and 4 for a fault.
