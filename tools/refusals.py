@@ -6,9 +6,9 @@
 On each history and command line, the first call that asks for memory is refused, then the second in a new run, and so
 on until a run ends without a refusal. Each run must end as it does when nothing is refused, or with status 4, nothing on
 standard output and the line for want of memory. The same is done with the calls that start a thread, whose refusal must
-not show at all. The last line is 'N passed, M failed'. What refuses is refuse.c, so this wants a C compiler, and a
-system that loads a library before a program's own; where one of them is missing, the one line says so, and nothing is
-tried.
+not show at all. As many threads are started as there are workers and parts for, less the one that is there already. The
+last line is 'N passed, M failed'. What refuses is refuse.c, so this wants a C compiler, and a system that loads a
+library before a program's own; where one of them is missing, the one line says so, and nothing is tried.
 """
 
 from __future__ import annotations
@@ -28,6 +28,14 @@ LINES: tuple[list[str], ...] = ([], ["--workers", "1"], ["--workers", "2", "2"])
 EXPLAINED = ("aborted_read", "lost_update", "read_only_anomaly", "refused_name", "stale_read")
 BUSY = (("hot", 600), ("ranges", 200))
 BUSY_LINE = ["--workers", "3", "5", "20", "100"]
+# How many threads a brief report starts: one less than there are workers, or parts, whichever are fewer.
+STARTS: tuple[tuple[list[str], int], ...] = (
+    (["--brief", "--workers", "4"], 0),
+    (["--brief", "--workers", "1", "1", "2", "3"], 0),
+    (["--brief", "--workers", "2", "1", "2", "3"], 1),
+    (["--brief", "--workers", "4", "1", "2", "3"], 3),
+    (["--brief", "--workers", "64", "5"], 1),
+)
 # How a run ended: its status, and what it wrote on standard output and on standard error.
 Ended = tuple[int, bytes, bytes]
 NO_MEMORY: Ended = (4, b"", b"si_audit: no memory\n")
@@ -115,6 +123,12 @@ def main(words: Sequence[str]) -> int:
                 if bad:
                     print(f"{os.path.basename(history)} {' '.join(line)}: {what} {' '.join(map(str, bad))}")
                 tried[what], failed = tried[what] + calls, failed + len(bad)
+        for line, threads in STARTS:
+            started, _ = refuser.counts(f"{EXAMPLES}/write_skew.history", line, "REFUSE_THREAD", [])
+            tried["REFUSE_THREAD"] += 1
+            if started != threads:
+                print(f"{' '.join(line)}: {started} threads are started in place of {threads}")
+                failed += 1
     for what in (it for it in tried if not tried[it]):
         print(f"{what}: no call was refused")
         failed += 1
