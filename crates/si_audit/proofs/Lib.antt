@@ -19,3 +19,4 @@ mod NumbersGiven
 pub mod OnSheets
 pub mod Giving
 pub mod SheetsInTurn
+pub mod Levels

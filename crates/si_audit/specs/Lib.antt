@@ -18,3 +18,4 @@ pub mod Sheets
 pub mod Engine
 pub mod Edges
 pub mod Wanted
+pub mod Laws

@@ -1,6 +1,9 @@
 // Laws over the definitions of a report. Their bodies are empty: what they say is all in the contract.
 ghost use Rattle.std.specs.Prelude.{List, ℕ};
 ghost use Rattle.sia_events.specs.Limits.{Limits, greatest, AreWithin};
+ghost use Rattle.sia_events.specs.declared.event.Event.{Event};
+ghost use Rattle.sia_events.specs.Refusals.{IsWellFormed};
+ghost use Rattle.si_audit.specs.Laws.{CleanLaw, LevelsLaw};
 ghost use Rattle.si_audit.specs.Report.{HasSameReport, OneReport};
 ghost use Rattle.si_audit.specs.declared.cli.form.Form.{Form};
 
@@ -12,4 +15,15 @@ pub fn one_report()
 /// A text that is accepted under some limits has the same report under all greater ones.
 pub fn same_report()
     ensures { (form : Form) (text : List ℕ) → HasSameReport form text }
+{}
+
+/// A history that meets the level `ssi` meets `serializable` and `si`, and one that meets `serializable` meets `si`.
+pub fn levels_law()
+    ensures { (h : List Event) → IsWellFormed h → LevelsLaw h }
+{}
+
+/// A text whose run ends clean at the level `ssi` ends so at the other two, and one that does at `serializable` does at
+/// `si`.
+pub fn clean_law()
+    ensures { (limits : Limits) → AreWithin limits greatest → (text : List ℕ) → CleanLaw limits text }
 {}
