@@ -20,3 +20,8 @@ pub mod OnSheets
 pub mod Giving
 pub mod SheetsInTurn
 pub mod Levels
+pub mod TextLines
+pub mod ReportLines
+pub mod FormsLeft
+pub mod ReasonLines
+pub mod ExplainedLeft

@@ -1,10 +1,13 @@
 -- The laws of reports and outcomes, as statements.
-use Rattle.std.specs.Prelude.{ℕ, List}
+use Rattle.std.specs.Prelude.{◌≡◌, ◌==◌, ℕ, Bool, not, eqb, if◌then◌else◌, List, [], ◌∷◌, filter, codes}
+use Rattle.std.specs.List.{concat, list_any, starts_with}
 use Rattle.sia_events.specs.Limits.{Limits}
 use Rattle.sia_events.specs.declared.event.Event.{Event}
+use Rattle.si_audit.specs.declared.cli.form.Form.TheVariants.{Full, Brief, Explained}
 use Rattle.si_audit.specs.declared.cli.level.Level.TheVariants.{Serializable, Ssi, Si}
 use Rattle.si_audit.specs.declared.engine.Outcome.TheVariants.{Clean}
 use Rattle.si_audit.specs.Outcomes.{IsOutcome, Meets}
+use Rattle.si_audit.specs.Report.{IsReport}
 
 -- a history that meets the level ssi meets the other two, and one that meets serializable meets si
 pub record LevelsLaw (h : List Event) : Type 0 where
@@ -15,3 +18,31 @@ pub record LevelsLaw (h : List Event) : Type 0 where
 pub record CleanLaw (limits : Limits) (text : List ℕ) : Type 0 where
   pub ssi : IsOutcome limits Ssi text Clean → IsOutcome limits Serializable text Clean × IsOutcome limits Si text Clean
   pub serializable : IsOutcome limits Serializable text Clean → IsOutcome limits Si text Clean
+
+-- a byte at the front of the first line
+abbrev pub onto_line : ℕ → List (List ℕ) → List (List ℕ)
+onto_line c [] = (c ∷ []) ∷ []
+onto_line c (l ∷ ls) = (c ∷ l) ∷ ls
+
+-- a byte before these lines: LF is a line that ends there
+abbrev pub before_lines : ℕ → List (List ℕ) → List (List ℕ)
+before_lines c ls = if c == 10 then (c ∷ []) ∷ ls else onto_line c ls
+
+-- the lines of some bytes, each with the LF that ends it
+abbrev pub lines_of : List ℕ → List (List ℕ)
+lines_of [] = []
+lines_of (c ∷ cs) = before_lines c (lines_of cs)
+
+-- whether a line begins with one of these
+abbrev pub begins : List (List ℕ) → List ℕ → Bool
+begins words l = list_any (λ w. starts_with eqb l w) words
+
+-- the bytes without the lines that do
+abbrev pub without : List (List ℕ) → List ℕ → List ℕ
+without words bytes = concat (filter (λ l. not (begins words l)) (lines_of bytes))
+
+-- the brief report of a text is the full one without its lines `edge` and `pivot`, and the explained one without the line
+-- `dangerous` and the lines of reasons, which begin with two spaces
+pub record FormsLaw (limits : Limits) (text : List ℕ) : Type 0 where
+  pub full : (full brief : List ℕ) → IsReport limits Full text full → IsReport limits Brief text brief → brief ≡ without (codes "edge " ∷ codes "pivot " ∷ []) full
+  pub explained : (explained brief : List ℕ) → IsReport limits Explained text explained → IsReport limits Brief text brief → brief ≡ without (codes "dangerous " ∷ codes "  " ∷ []) explained

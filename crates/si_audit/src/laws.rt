@@ -3,7 +3,7 @@ ghost use Rattle.std.specs.Prelude.{List, ℕ};
 ghost use Rattle.sia_events.specs.Limits.{Limits, greatest, AreWithin};
 ghost use Rattle.sia_events.specs.declared.event.Event.{Event};
 ghost use Rattle.sia_events.specs.Refusals.{IsWellFormed};
-ghost use Rattle.si_audit.specs.Laws.{CleanLaw, LevelsLaw};
+ghost use Rattle.si_audit.specs.Laws.{CleanLaw, FormsLaw, LevelsLaw};
 ghost use Rattle.si_audit.specs.Report.{HasSameReport, OneReport};
 ghost use Rattle.si_audit.specs.declared.cli.form.Form.{Form};
 
@@ -26,4 +26,10 @@ pub fn levels_law()
 /// `si`.
 pub fn clean_law()
     ensures { (limits : Limits) → AreWithin limits greatest → (text : List ℕ) → CleanLaw limits text }
+{}
+
+/// The brief report is the full one without its lines `edge` and `pivot`, and the explained one without `dangerous` and
+/// the lines of reasons.
+pub fn forms_law()
+    ensures { (limits : Limits) (text : List ℕ) → FormsLaw limits text }
 {}

@@ -1,0 +1,5 @@
+use Rattle.si_audit.proofs.FormsLeft.{forms_hold}
+use Rattle.si_audit.proofs.laws.forms_law.Goals as goal
+
+pub returns : goal.returns
+returns c = forms_hold
