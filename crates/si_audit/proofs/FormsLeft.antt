@@ -16,10 +16,10 @@ use Rattle.si_audit.specs.Lines.{refusal_line, report_text, verdict_line}
 use Rattle.si_audit.specs.Report.{IsReport}
 use Rattle.si_audit.proofs.ExplainedLeft.{explained_leaves, place_goes, told_in_explained}
 use Rattle.si_audit.proofs.OneReport.{one_account}
-use Rattle.si_audit.proofs.ReportLines.{refusal_is, report_leaves, stays}
+use Rattle.si_audit.proofs.ReportLines.{long_is, refusal_is, report_leaves, stays}
 use Rattle.si_audit.proofs.TextLines.{Leaves, leaves_both, leaves_line, leaves_nothing, what_is_left}
 
-abbrev told_in_full : List (List ℕ)
+abbrev pub told_in_full : List (List ℕ)
 told_in_full = codes "edge " ∷ codes "pivot " ∷ []
 
 verdict_stays : (v : Verdict) → stays told_in_full (verdict_line v) ≡ true
@@ -45,7 +45,7 @@ full_leaves a = report_leaves (stays told_in_full) true true true true true fals
 -- the refusal line stays in each form
 pub refusal_leaves : (words : List (List ℕ)) → stays words (refusal_line TextTooLong) ≡ true → ((token : ℕ) (r : Reason) → stays words (refusal_line (Refused token r)) ≡ true) → (fault : TextFault) → Leaves (stays words) (refusal_line fault) (refusal_line fault)
 refusal_leaves words long one NoMemory = leaves_nothing (stays words)
-refusal_leaves words long one TextTooLong = leaves_line (stays words) (refusal_line TextTooLong) true (codes "refused: text too long", refl, refl) long
+refusal_leaves words long one TextTooLong = leaves_line (stays words) (refusal_line TextTooLong) true long_is long
 refusal_leaves words long one (Refused token r) = leaves_line (stays words) (refusal_line (Refused token r)) true (refusal_is token r) (one token r)
 
 full_left : (limits : Limits) (text full brief : List ℕ) → IsReport limits Full text full → IsReport limits Brief text brief → Leaves (stays told_in_full) full brief
@@ -59,7 +59,7 @@ full_left limits text full brief (inr p) (inr q) =
     let account = one_account p.0 p.1 q.1 p.4 (subst (λ h. IsAccount h q.1) (sym same) q.4) in
     subst₂ (Leaves (stays told_in_full)) (sym p.5) (ap (report_text Brief) account ∙ sym q.5) (full_leaves p.1)
 
-explained_left : (limits : Limits) (text explained brief : List ℕ) → IsReport limits Explained text explained → IsReport limits Brief text brief → Leaves (stays told_in_explained) explained brief
+pub explained_left : (limits : Limits) (text explained brief : List ℕ) → IsReport limits Explained text explained → IsReport limits Brief text brief → Leaves (stays told_in_explained) explained brief
 explained_left limits text explained brief (inl p) (inl q) =
     let same = one_refusal limits text p.0 q.0 p.1 q.1 in
     let (place, token, is) = p.2 in

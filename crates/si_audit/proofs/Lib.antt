@@ -25,3 +25,5 @@ pub mod ReportLines
 pub mod FormsLeft
 pub mod ReasonLines
 pub mod ExplainedLeft
+pub mod LinesTold
+pub mod OutcomesTold

@@ -6,7 +6,7 @@ use Rattle.std.proofs.lemmas.Bool.Decides.{nat_tests}
 use Rattle.sia_events.specs.Text.{numeral}
 use Rattle.sia_events.specs.declared.fault.Reason.{Reason}
 use Rattle.sia_events.specs.declared.fault.Reason.TheVariants.{TooManyEvents, BadEvent, BadNumber, AlreadyEnded, AlreadyBegun, EmptyRange, BadList, NotWritten, BadStart}
-use Rattle.sia_events.specs.declared.fault.TextFault.TheVariants.{Refused}
+use Rattle.sia_events.specs.declared.fault.TextFault.TheVariants.{TextTooLong, Refused}
 use Rattle.sia_events.proofs.Numerals.{AreDigits, numeral-digits}
 use Rattle.sia_parts.specs.declared.finding.BadRead.{BadRead}
 use Rattle.sia_parts.specs.declared.finding.BadWrite.{BadWrite}
@@ -163,3 +163,6 @@ report_leaves keep e i r w u d p s z v stay form a =
 
 pub refusal_is : (token : ℕ) (r : Reason) → IsLine (refusal_line (Refused token r))
 refusal_is token r = words_line (codes "refused: token" ∷ (numeral token ++ codes ":") ∷ reason_words r ∷ []) (refl, (unbroken_both (numeral token) (codes ":") (numeral_unbroken token) refl, (reason_unbroken r, tt)))
+
+pub long_is : IsLine (refusal_line TextTooLong)
+long_is = words_line (codes "refused: text too long" ∷ []) (refl, tt)

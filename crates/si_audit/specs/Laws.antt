@@ -1,11 +1,13 @@
 -- The laws of reports and outcomes, as statements.
-use Rattle.std.specs.Prelude.{◌≡◌, ◌==◌, ℕ, Bool, not, eqb, if◌then◌else◌, List, [], ◌∷◌, filter, codes}
+use Rattle.std.specs.Prelude.{◌≡◌, ◌==◌, ◌⊎◌, ◌↔◌, ℕ, Bool, not, eqb, if◌then◌else◌, IsTrue, List, [], ◌∷◌, ◌++◌, filter, Contains, codes}
 use Rattle.std.specs.List.{concat, list_any, starts_with}
 use Rattle.sia_events.specs.Limits.{Limits}
 use Rattle.sia_events.specs.declared.event.Event.{Event}
+use Rattle.si_audit.specs.declared.cli.form.Form.{Form}
 use Rattle.si_audit.specs.declared.cli.form.Form.TheVariants.{Full, Brief, Explained}
+use Rattle.si_audit.specs.declared.cli.level.Level.{Level}
 use Rattle.si_audit.specs.declared.cli.level.Level.TheVariants.{Serializable, Ssi, Si}
-use Rattle.si_audit.specs.declared.engine.Outcome.TheVariants.{Clean}
+use Rattle.si_audit.specs.declared.engine.Outcome.TheVariants.{Clean, Faulty, Refused}
 use Rattle.si_audit.specs.Outcomes.{IsOutcome, Meets}
 use Rattle.si_audit.specs.Report.{IsReport}
 
@@ -46,3 +48,21 @@ without words bytes = concat (filter (λ l. not (begins words l)) (lines_of byte
 pub record FormsLaw (limits : Limits) (text : List ℕ) : Type 0 where
   pub full : (full brief : List ℕ) → IsReport limits Full text full → IsReport limits Brief text brief → brief ≡ without (codes "edge " ∷ codes "pivot " ∷ []) full
   pub explained : (explained brief : List ℕ) → IsReport limits Explained text explained → IsReport limits Brief text brief → brief ≡ without (codes "dangerous " ∷ codes "  " ∷ []) explained
+
+-- the bytes have this line
+abbrev pub HasLine : List ℕ → List ℕ → Type 0
+HasLine bytes words = Contains (lines_of bytes) (words ++ codes "\n")
+
+-- how a run over the text ends can be read off these bytes
+pub record TellsOutcomes (limits : Limits) (text bytes : List ℕ) : Type 0 where
+  pub kept : IsOutcome limits Si text Clean ↔ HasLine bytes (codes "isolation kept")
+  pub broken : IsOutcome limits Si text Faulty ↔ HasLine bytes (codes "isolation broken")
+  pub pass : IsOutcome limits Ssi text Clean ↔ HasLine bytes (codes "ssi pass")
+  pub fail : IsOutcome limits Ssi text Faulty ↔ HasLine bytes (codes "ssi fail")
+  pub serializable : IsOutcome limits Serializable text Clean ↔ (HasLine bytes (codes "isolation kept") × HasLine bytes (codes "serializable yes"))
+  pub not_serializable : IsOutcome limits Serializable text Faulty ↔ (HasLine bytes (codes "isolation broken") ⊎ HasLine bytes (codes "serializable no"))
+  pub refused : (level : Level) → IsOutcome limits level text Refused ↔ IsTrue (begins (codes "refused: " ∷ []) bytes)
+
+-- off each form of its report
+abbrev pub LinesLaw : Limits → Form → List ℕ → Type 0
+LinesLaw limits form text = (bytes : List ℕ) → IsReport limits form text bytes → TellsOutcomes limits text bytes

@@ -3,7 +3,7 @@ ghost use Rattle.std.specs.Prelude.{List, ℕ};
 ghost use Rattle.sia_events.specs.Limits.{Limits, greatest, AreWithin};
 ghost use Rattle.sia_events.specs.declared.event.Event.{Event};
 ghost use Rattle.sia_events.specs.Refusals.{IsWellFormed};
-ghost use Rattle.si_audit.specs.Laws.{CleanLaw, FormsLaw, LevelsLaw};
+ghost use Rattle.si_audit.specs.Laws.{CleanLaw, FormsLaw, LevelsLaw, LinesLaw};
 ghost use Rattle.si_audit.specs.Report.{HasSameReport, OneReport};
 ghost use Rattle.si_audit.specs.declared.cli.form.Form.{Form};
 
@@ -32,4 +32,9 @@ pub fn clean_law()
 /// the lines of reasons.
 pub fn forms_law()
     ensures { (limits : Limits) (text : List ℕ) → FormsLaw limits text }
+{}
+
+/// Off a report of any form it can be read how the run of its text ends at each level.
+pub fn lines_law()
+    ensures { (limits : Limits) (form : Form) (text : List ℕ) → LinesLaw limits form text }
 {}

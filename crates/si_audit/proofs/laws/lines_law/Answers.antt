@@ -1,0 +1,5 @@
+use Rattle.si_audit.proofs.OutcomesTold.{lines_tell}
+use Rattle.si_audit.proofs.laws.lines_law.Goals as goal
+
+pub returns : goal.returns
+returns c = lines_tell
