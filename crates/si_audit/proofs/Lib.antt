@@ -27,3 +27,4 @@ pub mod ReasonLines
 pub mod ExplainedLeft
 pub mod LinesTold
 pub mod OutcomesTold
+pub mod PlainTexts

@@ -3,13 +3,20 @@ use Rattle.std.specs.Prelude.{◌≡◌, ◌==◌, ◌⊎◌, ◌↔◌, ℕ, Bo
 use Rattle.std.specs.List.{concat, list_any, starts_with}
 use Rattle.sia_events.specs.Limits.{Limits}
 use Rattle.sia_events.specs.declared.event.Event.{Event}
+use Rattle.sia_events.specs.declared.fault.TextFault.{TextFault}
+use Rattle.sia_events.specs.Laws.{IsPlain, NamesStart, StartsPlainly}
+use Rattle.sia_events.specs.Refusals.{IsAccepted, IsAcceptedIn, IsRefusalIn}
+use Rattle.sia_events.specs.Text.{StandsFor}
+use Rattle.sia_events.specs.Transactions.{StartsAt}
+use Rattle.si_audit.specs.Account.{Account}
+use Rattle.si_audit.specs.Accounts.{IsAccount}
 use Rattle.si_audit.specs.declared.cli.form.Form.{Form}
 use Rattle.si_audit.specs.declared.cli.form.Form.TheVariants.{Full, Brief, Explained}
 use Rattle.si_audit.specs.declared.cli.level.Level.{Level}
 use Rattle.si_audit.specs.declared.cli.level.Level.TheVariants.{Serializable, Ssi, Si}
 use Rattle.si_audit.specs.declared.engine.Outcome.TheVariants.{Clean, Faulty, Refused}
 use Rattle.si_audit.specs.Outcomes.{IsOutcome, Meets}
-use Rattle.si_audit.specs.Report.{IsReport}
+use Rattle.si_audit.specs.Report.{IsReport, TellsAccount, TellsRefusal}
 
 -- a history that meets the level ssi meets the other two, and one that meets serializable meets si
 pub record LevelsLaw (h : List Event) : Type 0 where
@@ -66,3 +73,18 @@ pub record TellsOutcomes (limits : Limits) (text bytes : List ℕ) : Type 0 wher
 -- off each form of its report
 abbrev pub LinesLaw : Limits → Form → List ℕ → Type 0
 LinesLaw limits form text = (bytes : List ℕ) → IsReport limits form text bytes → TellsOutcomes limits text bytes
+
+-- what would be a report of the text if no event could name a start
+abbrev pub IsPlainReport : Limits → Form → List ℕ → List ℕ → Type 0
+IsPlainReport limits form text bytes = ((fault : TextFault) × IsRefusalIn limits IsPlain text fault × TellsRefusal form text fault bytes)
+    ⊎ ((h : List Event) × (a : Account) × IsAcceptedIn limits IsPlain text × StandsFor text h × IsAccount h a × TellsAccount form h a bytes)
+
+-- the rule of named starts doesn't touch the text: it has the reports that it would have without the rule, and where it is
+-- accepted each transaction starts right before its first event
+pub record IsUntouched (limits : Limits) (form : Form) (text : List ℕ) : Type 0 where
+  pub reports : (bytes : List ℕ) → IsReport limits form text bytes ↔ IsPlainReport limits form text bytes
+  pub starts : IsAccepted limits text → (h : List Event) → StandsFor text h → (t s : ℕ) → StartsAt h t s ↔ StartsPlainly h t s
+
+-- a text without named starts is untouched
+abbrev pub PlainTextLaw : Limits → Form → List ℕ → Type 0
+PlainTextLaw limits form text = ((i : ℕ) → ¬ NamesStart text i) → IsUntouched limits form text

@@ -3,7 +3,7 @@ ghost use Rattle.std.specs.Prelude.{List, ℕ};
 ghost use Rattle.sia_events.specs.Limits.{Limits, greatest, AreWithin};
 ghost use Rattle.sia_events.specs.declared.event.Event.{Event};
 ghost use Rattle.sia_events.specs.Refusals.{IsWellFormed};
-ghost use Rattle.si_audit.specs.Laws.{CleanLaw, FormsLaw, LevelsLaw, LinesLaw};
+ghost use Rattle.si_audit.specs.Laws.{CleanLaw, FormsLaw, LevelsLaw, LinesLaw, PlainTextLaw};
 ghost use Rattle.si_audit.specs.Report.{HasSameReport, OneReport};
 ghost use Rattle.si_audit.specs.declared.cli.form.Form.{Form};
 
@@ -37,4 +37,9 @@ pub fn forms_law()
 /// Off a report of any form it can be read how the run of its text ends at each level.
 pub fn lines_law()
     ensures { (limits : Limits) (form : Form) (text : List ℕ) → LinesLaw limits form text }
+{}
+
+/// A text without named starts, its starts and its report are what they would be if no event could name a start.
+pub fn plain_text_law()
+    ensures { (limits : Limits) (form : Form) (text : List ℕ) → PlainTextLaw limits form text }
 {}

@@ -1,0 +1,5 @@
+use Rattle.si_audit.proofs.PlainTexts.{plain_text}
+use Rattle.si_audit.proofs.laws.plain_text_law.Goals as goal
+
+pub returns : goal.returns
+returns c = plain_text
