@@ -28,3 +28,5 @@ pub mod ExplainedLeft
 pub mod LinesTold
 pub mod OutcomesTold
 pub mod PlainTexts
+pub mod CycleExists
+pub mod VerdictExists

@@ -1,0 +1,177 @@
+-- A well-formed history has a list of its bad reads, one of its bad writes, and one of its unexplained reads.
+use Rattle.std.proofs.Common.{◌≡◌, ◌≢◌, ◌⊎◌, inl, inr, ℕ, zero, suc, ◌+◌, ◌^◌, ◌<◌, ◌≤◌, Some, List, [], ◌∷◌, flat_map, length, get_or, refl, ap, sym, subst, ◌∙◌, arith}
+use Rattle.std.specs.Prelude.{Contains, ⊤}
+use Rattle.std.specs.List.{AllByRecursion}
+use Rattle.std.proofs.lemmas.Bool.{cases_eq}
+use Rattle.std.proofs.lemmas.List.Elements.{All-contains, Contains-get_or}
+use Rattle.sia_events.specs.declared.event.Event.{Event}
+use Rattle.sia_events.specs.declared.event.Event.TheVariants.{Begin, Read, Range, Write, Commit, Abort}
+use Rattle.sia_events.specs.Events.{actor, Saw}
+use Rattle.sia_events.specs.Isolation.{IsBadRead, IsBadWrite, IsUnexplained}
+use Rattle.sia_events.specs.Lists.{ListsBy, Precedes}
+use Rattle.sia_events.specs.Places.{at_place}
+use Rattle.sia_events.specs.Reads.{IsDue, SawAt}
+use Rattle.sia_events.specs.Refusals.{IsInRange, IsKey, IsVersion, IsWellFormed}
+use Rattle.sia_events.specs.Transactions.{CommitsBefore, IsCommitted, StartsBeforeCommit, Wrote, WroteBefore}
+use Rattle.sia_events.proofs.Decisions.{Decided, both, decided_alike}
+use Rattle.sia_events.proofs.Due.{has_due, one_due}
+use Rattle.sia_events.proofs.Ranges.{one_version}
+use Rattle.sia_events.proofs.SawDecisions.{saw_at_or_not}
+use Rattle.sia_events.proofs.Starts.{one_event}
+use Rattle.sia_events.proofs.TransactionDecisions.{committed_or_not, place_within, wrote_before_or_not, wrote_or_not}
+use Rattle.sia_events.proofs.WellFormed.{event_in_range, few_events}
+use Rattle.sia_parts.specs.declared.finding.BadRead.{BadRead}
+use Rattle.sia_parts.specs.declared.finding.BadWrite.{BadWrite}
+use Rattle.sia_parts.specs.declared.finding.Unexplained.{Unexplained}
+use Rattle.sia_parts.specs.Entries.{bad_read_rank, bad_write_rank, unexplained_rank}
+use Rattle.sia_parts.specs.Findings.{ListsBadReads, ListsBadWrites, ListsUnexplained}
+use Rattle.sia_parts.proofs.Members.{contains_first, contains_later}
+use Rattle.sia_graph.proofs.Deciding.{either_decided, le_decided, not_decided, three_decided}
+use Rattle.sia_graph.proofs.Facts.{commits_before_decided, lifetime_of}
+use Rattle.sia_graph.proofs.FiniteLists.{contains_flat, list_of}
+use Rattle.sia_graph.proofs.NoStuckSet.{starts_before_decided}
+
+-- the numbers below n, and the lists of so many of them
+below : ℕ → List ℕ
+below zero = []
+below (suc n) = n ∷ below n
+
+in_below : (n x : ℕ) → x < n → Contains (below n) x
+unfolding below
+in_below zero x l = absurd (omega arith)
+in_below (suc n) x l = elim (cases_eq n x) [ inl e ↦ subst (Contains (n ∷ below n)) e (contains_first n (below n)) | inr other ↦ contains_later n x (below n) (in_below n x (omega arith)) ]
+
+tuples : ℕ → ℕ → List (List ℕ)
+tuples n zero = [] ∷ []
+tuples n (suc many) = flat_map (λ x. flat_map (λ xs. (x ∷ xs) ∷ []) (tuples n many)) (below n)
+
+in_tuples : (n many : ℕ) (xs : List ℕ) → length xs ≡ many → AllByRecursion (λ x. x < n) xs → Contains (tuples n many) xs
+unfolding tuples
+in_tuples n zero [] long all = contains_first [] []
+in_tuples n zero (x ∷ xs) long all = absurd (omega arith)
+in_tuples n (suc many) [] long all = absurd (omega arith)
+in_tuples n (suc many) (x ∷ xs) long all =
+    contains_flat (λ y. flat_map (λ ys. (y ∷ ys) ∷ []) (tuples n many)) (below n) x (x ∷ xs) (in_below n x all.0)
+    (contains_flat (λ ys. (x ∷ ys) ∷ []) (tuples n many) xs (x ∷ xs) (in_tuples n many xs (omega arith) all.1) (contains_first (x ∷ xs) []))
+
+-- a number above all that a text can name
+top : ℕ
+top = 2 ^ 64
+
+top_is : top ≡ 18446744073709551616
+unfolding top
+top_is = refl
+
+-- what is told by so many numbers can be listed
+listed : {A : Type 0} (rank : A → List ℕ) (many : ℕ) (of : List ℕ → A) → ((x : A) → of (rank x) ≡ x) → ((x : A) → length (rank x) ≡ many) → (P : A → Type 0) → ((x : A) → Decided (P x)) → ((x : A) → P x → AllByRecursion (λ n. n < top) (rank x))
+    → (ys : List A) × ListsBy rank P ys
+listed rank many of back long P decide within =
+    list_of rank (λ x y e. sym (back x) ∙ ap of e ∙ back y) P decide (flat_map (λ r. of r ∷ []) (tuples top many))
+    (λ x p. contains_flat (λ r. of r ∷ []) (tuples top many) (rank x) x (in_tuples top many (rank x) (long x) (within x p)) (subst (λ y. Contains (y ∷ []) x) (sym (back x)) (contains_first x [])))
+
+-- what a finer rank lists a coarser one lists, where it tells those that have P apart as well
+coarser : {A : Type 0} (fine rank : A → List ℕ) (P : A → Type 0) → ((x y : A) → P x → P y → Precedes (fine x) (fine y) → Precedes (rank x) (rank y)) → (ys : List A) → ListsBy fine P ys → ListsBy rank P ys
+coarser fine rank P as_fine ys l = record {
+  ascending = λ i j d less inside. as_fine (get_or ys i d) (get_or ys j d) ((l.each (get_or ys i d)).0 (Contains-get_or ys i d (omega arith))) ((l.each (get_or ys j d)).0 (Contains-get_or ys j d inside)) (l.ascending i j d less inside);
+  each = l.each;
+}
+
+abbrev bad_read_of : List ℕ → BadRead
+bad_read_of (p ∷ k ∷ t ∷ saw ∷ due ∷ []) = record { place = p; txn = t; key = k; saw = saw; due = due }
+bad_read_of xs = record { place = 0; txn = 0; key = 0; saw = 0; due = 0 }
+
+abbrev unexplained_of : List ℕ → Unexplained
+unexplained_of (p ∷ k ∷ t ∷ saw ∷ []) = record { place = p; txn = t; key = k; saw = saw }
+unexplained_of xs = record { place = 0; txn = 0; key = 0; saw = 0 }
+
+abbrev bad_write_of : List ℕ → BadWrite
+bad_write_of (k ∷ first ∷ second ∷ []) = record { key = k; first = first; second = second }
+bad_write_of xs = record { key = 0; first = 0; second = 0 }
+
+actor_small : (e : Event) → IsInRange e → actor e < 4294967296
+actor_small (Begin t start) r = let a = r.0.1 in omega arith
+actor_small (Read t k v) r = let a = r.0.1 in omega arith
+actor_small (Range t lo hi listed) r = let a = r.0.1 in omega arith
+actor_small (Write t k) r = let a = r.0.1 in omega arith
+actor_small (Commit t) r = let a = r.1 in omega arith
+actor_small (Abort t) r = let a = r.1 in omega arith
+
+saw_small : (e : Event) (k v : ℕ) → IsInRange e → Saw e k v → (k < 18446744073709551616) × (v < 18446744073709551616)
+saw_small (Begin t start) k v r saw = absurd saw
+saw_small (Read t key seen) k v r saw = let a = saw.0 in let b = saw.1 in let c = r.1 in let d = r.2 in (omega arith, omega arith)
+saw_small (Range t lo hi listed) k v r saw =
+    let most = saw.1 in
+    let up : hi < 2 ^ 64 = r.2 in (
+      omega arith,
+      elim saw.2 [
+        | inl c ↦ let both_small = All-contains (λ p. IsKey p.0 × IsVersion p.1) listed (k, v) r.3 c in let a : v < 2 ^ 32 = both_small.1 in omega arith
+        | inr none ↦ let z = none.1 in omega arith
+      ],
+    )
+saw_small (Write t key) k v r saw = absurd saw
+saw_small (Commit t) k v r saw = absurd saw
+saw_small (Abort t) k v r saw = absurd saw
+
+module _ (h : List Event) (wf : IsWellFormed h) where
+  wrote_small : (t k p : ℕ) → at_place h p ≡ Some (Write t k) → (t < 4294967296) × (k < 18446744073709551616)
+  wrote_small t k p at = let r = event_in_range h wf p (Write t k) at in let a = r.0.1 in let b : k < 2 ^ 64 = r.1 in (omega arith, omega arith)
+
+  seen_small : (p t k v : ℕ) → SawAt h p t k v → (p < 18446744073709551616) × (t < 4294967296) × (k < 18446744073709551616) × (v < 18446744073709551616)
+  seen_small p t k v (e, at, same, saw) =
+      let r = event_in_range h wf p e at in
+      let most : p ≤ length h = (place_within h p e at).1 in
+      let few : length h ≤ 100000 = few_events h wf in
+      let small : actor e < 4294967296 = actor_small e r in
+      let more = saw_small e k v r saw in
+      (omega arith, omega arith, more.0, more.1)
+
+  due_small : (t p k v : ℕ) → t < 4294967296 → IsDue h t p k v → v < 4294967296
+  due_small t p k v small (inl own) = let e = own.1 in omega arith
+  due_small t p k v small (inr (out, inl newest)) = let w = newest.0.0 in (wrote_small v k w.0 w.1).0
+  due_small t p k v small (inr (out, inr none)) = let e = none.1 in omega arith
+
+  one_seen : (p k t u v w : ℕ) → SawAt h p t k v → SawAt h p u k w → (t ≡ u) × (v ≡ w)
+  one_seen p k t u v w (e, at, same, saw) (f, also, other, seen) =
+      let event = one_event h p p e f refl at also in
+      (sym same ∙ ap actor event ∙ other, one_version h wf p k v w f also (subst (λ g. Saw g k v) event saw) seen)
+
+  due_or_not : (t p k v : ℕ) → (q : ℕ) × (e : Event) × (at_place h q ≡ Some e) × (actor e ≡ t) → Decided (IsDue h t p k v)
+  due_or_not t p k v acts =
+      let due = has_due h wf t p k (acts.0, (acts.1, acts.2, acts.3)) in
+      elim (cases_eq due.0 v) [ inl e ↦ inl (subst (IsDue h t p k) e due.1) | inr other ↦ inr (λ also. other (one_due h t p k due.0 v due.1 also)) ]
+
+  bad_read_or_not : (b : BadRead) → Decided (IsBadRead h b.place b.txn b.key b.saw b.due × ⊤)
+  bad_read_or_not b = elim (saw_at_or_not h b.place b.txn b.key b.saw) [
+    | inr none ↦ inr (λ x. none x.0.0)
+    | inl saw ↦ both (IsBadRead h b.place b.txn b.key b.saw b.due) ⊤
+        (three_decided (SawAt h b.place b.txn b.key b.saw) (IsDue h b.txn b.place b.key b.due) (b.saw ≢ b.due) (inl saw)
+        (due_or_not b.txn b.place b.key b.due (b.place, saw.0, saw.1, saw.2)) (not_decided (b.saw ≡ b.due) (cases_eq b.saw b.due))) (inl tt)
+  ]
+
+  pub bad_reads_exist : (xs : List BadRead) × ListsBadReads h (λ _. ⊤) xs
+  bad_reads_exist =
+      let made = listed fine 5 bad_read_of (λ x. refl) (λ x. refl) Bad bad_read_or_not (λ x p.
+      let s = seen_small x.place x.txn x.key x.saw p.0.0 in
+      let d = due_small x.txn x.place x.key x.due s.1 p.0.1 in
+      let a = s.0 in let b = s.1 in let c = s.2 in let e = s.3 in let is = top_is in
+      (omega arith, (omega arith, (omega arith, (omega arith, (omega arith, tt)))))) in
+      (made.0, coarser fine bad_read_rank Bad as_fine made.0 made.1)
+    where
+      fine : BadRead → List ℕ
+      fine b = b.place ∷ b.key ∷ b.txn ∷ b.saw ∷ b.due ∷ []
+
+      Bad : BadRead → Type 0
+      Bad b = IsBadRead h b.place b.txn b.key b.saw b.due × ⊤
+
+      as_fine : (x y : BadRead) → Bad x → Bad y → Precedes (fine x) (fine y) → Precedes (bad_read_rank x) (bad_read_rank y)
+      as_fine x y p q before = of x y p q before
+
+  unexplained_or_not : (b : Unexplained) → Decided (IsUnexplained h b.place b.txn b.key b.saw × ⊤)
+  unexplained_or_not b =
+      both (IsUnexplained h b.place b.txn b.key b.saw) ⊤
+      (three_decided (IsCommitted h b.txn) (SawAt h b.place b.txn b.key b.saw) ((WroteBefore h b.txn b.key b.place × (b.saw ≢ b.txn)) ⊎ ((b.saw ≢ 0) × (b.saw ≢ b.txn) × ¬ IsCommitted h b.saw))
+      (committed_or_not h b.txn) (saw_at_or_not h b.place b.txn b.key b.saw)
+      (either_decided (WroteBefore h b.txn b.key b.place × (b.saw ≢ b.txn)) ((b.saw ≢ 0) × (b.saw ≢ b.txn) × ¬ IsCommitted h b.saw)
+      (both (WroteBefore h b.txn b.key b.place) (b.saw ≢ b.txn) (wrote_before_or_not h b.txn b.key b.place) (not_decided (b.saw ≡ b.txn) (cases_eq b.saw b.txn)))
+      (three_decided (b.saw ≢ 0) (b.saw ≢ b.txn) (¬ IsCommitted h b.saw) (not_decided (b.saw ≡ 0) (cases_eq b.saw 0)) (not_decided (b.saw ≡ b.txn) (cases_eq b.saw b.txn)) (not_decided (IsCommitted h b.saw) (committed_or_not h b.saw)))))
+      (inl tt)
