@@ -151,13 +151,18 @@ module _ (E : Edge → Type 0) (S : List ℕ) (f : ℕ → ℕ) (previous : (t :
     ]
 
   -- the cycle to which the least member leads back
-  pub cycle_exists : (IsMember : ℕ → Type 0) → IsStuckSet IsMember E S → ((p q : ℕ) → Leads E p q → (s : Step) × (s.txn ≡ p) × TakesLeastEdge E s q) → (least : ℕ) → Contains S least → ((t : ℕ) → Contains S t → least ≤ t)
-      → (steps : List Step) × IsPrintedCycle IsMember E steps
-  cycle_exists IsMember stuck edge least c low =
-      let (i, d, some, round) = repeats (suc (length S)) S least 0 (omega arith) c (λ u e. inr (contains_in S u e)) in
-      let (m, (e, more, back_home, up)) = least_home (go i least) d some round in
-      let home = go m (go i least) in
-      let in_set = go_in m (go i least) (go_in i least c) in
-      let (first, steps, is_home, above, all) = whole_ring edge home in_set up e more back_home in
-      let way : GoesBack E S (i + m) least first.txn = subst (GoesBack E S (i + m) least) (go_more i m least ∙ sym is_home) (goes (i + m) least c) in
-      (first ∷ steps, (S, stuck, least, c, low, i + m, way, above, subst (GoesRound E S (first ∷ steps)) (sym is_home) all))
+  module _ (IsMember : ℕ → Type 0) (stuck : IsStuckSet IsMember E S) (least : ℕ) (c : Contains S least) (low : (t : ℕ) → Contains S t → least ≤ t) where
+    by_ring : (n home : ℕ) (first : Step) (steps : List Step) → go n least ≡ home → first.txn ≡ home → All (λ s. first.txn < s.txn) steps → GoesRound E S (first ∷ steps) home → IsPrintedCycle IsMember E (first ∷ steps)
+    by_ring n home first steps reached is_home above round =
+        (S, stuck, least, c, low, n, subst (GoesBack E S n least) (reached ∙ sym is_home) (goes n least c), above, subst (GoesRound E S (first ∷ steps)) (sym is_home) round)
+
+    by_home : ((p q : ℕ) → Leads E p q → (s : Step) × (s.txn ≡ p) × TakesLeastEdge E s q) → (n home : ℕ) → go n least ≡ home → IsHome home → (steps : List Step) × IsPrintedCycle IsMember E steps
+    by_home edge n home reached (d, some, back_home, up) =
+        let r = whole_ring edge home (subst (Contains S) reached (go_in n least c)) up d some back_home in
+        (r.0 ∷ r.1, by_ring n home r.0 r.1 reached r.2 r.3 r.4)
+
+    by_round : ((p q : ℕ) → Leads E p q → (s : Step) × (s.txn ≡ p) × TakesLeastEdge E s q) → (i d : ℕ) → 0 < d → go d (go i least) ≡ go i least → (steps : List Step) × IsPrintedCycle IsMember E steps
+    by_round edge i d some round = let r = least_home (go i least) d some round in by_home edge (i + r.0) (go r.0 (go i least)) (go_more i r.0 least) r.1
+
+    pub cycle_exists : ((p q : ℕ) → Leads E p q → (s : Step) × (s.txn ≡ p) × TakesLeastEdge E s q) → (steps : List Step) × IsPrintedCycle IsMember E steps
+    cycle_exists edge = let r = repeats (suc (length S)) S least 0 (omega arith) c (λ u e. inr (contains_in S u e)) in by_round edge r.0 r.1 r.2 r.3

@@ -1,8 +1,8 @@
 -- A well-formed history has a list of its bad reads, one of its bad writes, and one of its unexplained reads.
-use Rattle.std.proofs.Common.{◌≡◌, ◌≢◌, ◌⊎◌, inl, inr, ℕ, zero, suc, ◌+◌, ◌^◌, ◌<◌, ◌≤◌, Some, List, [], ◌∷◌, flat_map, length, get_or, refl, ap, sym, subst, ◌∙◌, arith}
+use Rattle.std.proofs.Common.{◌≡◌, ◌≢◌, ◌⊎◌, inl, inr, ℕ, zero, suc, ◌^◌, ◌<◌, ◌≤◌, Some, List, [], ◌∷◌, flat_map, length, get_or, refl, ap, sym, subst, ◌∙◌, arith}
 use Rattle.std.specs.Prelude.{Contains, ⊤}
 use Rattle.std.specs.List.{AllByRecursion}
-use Rattle.std.proofs.lemmas.Bool.{cases_eq}
+use Rattle.std.proofs.lemmas.Bool.{cases_eq, cases_lt}
 use Rattle.std.proofs.lemmas.List.Elements.{All-contains, Contains-get_or}
 use Rattle.sia_events.specs.declared.event.Event.{Event}
 use Rattle.sia_events.specs.declared.event.Event.TheVariants.{Begin, Read, Range, Write, Commit, Abort}
@@ -12,24 +12,24 @@ use Rattle.sia_events.specs.Lists.{ListsBy, Precedes}
 use Rattle.sia_events.specs.Places.{at_place}
 use Rattle.sia_events.specs.Reads.{IsDue, SawAt}
 use Rattle.sia_events.specs.Refusals.{IsInRange, IsKey, IsVersion, IsWellFormed}
-use Rattle.sia_events.specs.Transactions.{CommitsBefore, IsCommitted, StartsBeforeCommit, Wrote, WroteBefore}
+use Rattle.sia_events.specs.Transactions.{IsCommitted, StartsBeforeCommit, Wrote, WroteBefore}
 use Rattle.sia_events.proofs.Decisions.{Decided, both, decided_alike}
 use Rattle.sia_events.proofs.Due.{has_due, one_due}
+use Rattle.sia_events.proofs.OneList.{Precedes-asym}
 use Rattle.sia_events.proofs.Ranges.{one_version}
 use Rattle.sia_events.proofs.SawDecisions.{saw_at_or_not}
-use Rattle.sia_events.proofs.Starts.{one_event}
+use Rattle.sia_events.proofs.Starts.{one_event, one_start}
 use Rattle.sia_events.proofs.TransactionDecisions.{committed_or_not, place_within, wrote_before_or_not, wrote_or_not}
-use Rattle.sia_events.proofs.WellFormed.{event_in_range, few_events}
+use Rattle.sia_events.proofs.WellFormed.{event_in_range, few_events, one_commit}
 use Rattle.sia_parts.specs.declared.finding.BadRead.{BadRead}
 use Rattle.sia_parts.specs.declared.finding.BadWrite.{BadWrite}
 use Rattle.sia_parts.specs.declared.finding.Unexplained.{Unexplained}
 use Rattle.sia_parts.specs.Entries.{bad_read_rank, bad_write_rank, unexplained_rank}
 use Rattle.sia_parts.specs.Findings.{ListsBadReads, ListsBadWrites, ListsUnexplained}
 use Rattle.sia_parts.proofs.Members.{contains_first, contains_later}
-use Rattle.sia_graph.proofs.Deciding.{either_decided, le_decided, not_decided, three_decided}
+use Rattle.sia_graph.proofs.Deciding.{either_decided, not_decided, three_decided}
 use Rattle.sia_graph.proofs.Facts.{commits_before_decided, lifetime_of}
 use Rattle.sia_graph.proofs.FiniteLists.{contains_flat, list_of}
-use Rattle.sia_graph.proofs.NoStuckSet.{starts_before_decided}
 
 -- the numbers below n, and the lists of so many of them
 below : ℕ → List ℕ
@@ -87,6 +87,20 @@ unexplained_of xs = record { place = 0; txn = 0; key = 0; saw = 0 }
 abbrev bad_write_of : List ℕ → BadWrite
 bad_write_of (k ∷ first ∷ second ∷ []) = record { key = k; first = first; second = second }
 bad_write_of xs = record { key = 0; first = 0; second = 0 }
+
+-- ranks that tell all of a finding
+abbrev bad_read_fine : BadRead → List ℕ
+bad_read_fine b = b.place ∷ b.key ∷ b.txn ∷ b.saw ∷ b.due ∷ []
+
+abbrev unexplained_fine : Unexplained → List ℕ
+unexplained_fine b = b.place ∷ b.key ∷ b.txn ∷ b.saw ∷ []
+
+by_two : (p k q l : ℕ) (xs ys : List ℕ) → Precedes (p ∷ k ∷ xs) (q ∷ l ∷ ys) → Precedes (p ∷ k ∷ []) (q ∷ l ∷ []) ⊎ ((p ≡ q) × (k ≡ l))
+by_two p k q l xs ys (inl less) = inl (inl less)
+by_two p k q l xs ys (inr a) = elim a.1 [ inl less ↦ inl (inr (a.0, inl less)) | inr b ↦ inr (a.0, b.0) ]
+
+never_before : (xs ys : List ℕ) → xs ≡ ys → ¬ Precedes xs ys
+never_before xs ys e p = let q = subst (λ (zs : List ℕ). Precedes zs ys) e p in Precedes-asym ys ys q q
 
 actor_small : (e : Event) → IsInRange e → actor e < 4294967296
 actor_small (Begin t start) r = let a = r.0.1 in omega arith
@@ -148,23 +162,31 @@ module _ (h : List Event) (wf : IsWellFormed h) where
         (due_or_not b.txn b.place b.key b.due (b.place, saw.0, saw.1, saw.2)) (not_decided (b.saw ≡ b.due) (cases_eq b.saw b.due))) (inl tt)
   ]
 
+  abbrev IsBad : BadRead → Type 0
+  IsBad b = IsBadRead h b.place b.txn b.key b.saw b.due × ⊤
+
+  same_read : (x y : BadRead) → IsBad x → IsBad y → x.place ≡ y.place → x.key ≡ y.key → bad_read_fine x ≡ bad_read_fine y
+  same_read x y p q place key =
+      let saw = subst (λ (k : ℕ). SawAt h y.place x.txn k x.saw) key (subst (λ (n : ℕ). SawAt h n x.txn x.key x.saw) place p.0.0) in
+      let seen = one_seen y.place y.key x.txn y.txn x.saw y.saw saw q.0.0 in
+      let there = subst (λ (k : ℕ). IsDue h x.txn y.place k x.due) key (subst (λ (n : ℕ). IsDue h x.txn n x.key x.due) place p.0.1) in
+      let due = one_due h y.txn y.place y.key x.due y.due (subst (λ (t : ℕ). IsDue h t y.place y.key x.due) seen.0 there) q.0.1 in
+      λ i. place i ∷ key i ∷ seen.0 i ∷ seen.1 i ∷ due i ∷ []
+
   pub bad_reads_exist : (xs : List BadRead) × ListsBadReads h (λ _. ⊤) xs
   bad_reads_exist =
-      let made = listed fine 5 bad_read_of (λ x. refl) (λ x. refl) Bad bad_read_or_not (λ x p.
+      let made = listed bad_read_fine 5 bad_read_of (λ x. refl) (λ x. refl) IsBad bad_read_or_not (λ x p.
       let s = seen_small x.place x.txn x.key x.saw p.0.0 in
       let d = due_small x.txn x.place x.key x.due s.1 p.0.1 in
       let a = s.0 in let b = s.1 in let c = s.2 in let e = s.3 in let is = top_is in
-      (omega arith, (omega arith, (omega arith, (omega arith, (omega arith, tt)))))) in
-      (made.0, coarser fine bad_read_rank Bad as_fine made.0 made.1)
-    where
-      fine : BadRead → List ℕ
-      fine b = b.place ∷ b.key ∷ b.txn ∷ b.saw ∷ b.due ∷ []
-
-      Bad : BadRead → Type 0
-      Bad b = IsBadRead h b.place b.txn b.key b.saw b.due × ⊤
-
-      as_fine : (x y : BadRead) → Bad x → Bad y → Precedes (fine x) (fine y) → Precedes (bad_read_rank x) (bad_read_rank y)
-      as_fine x y p q before = of x y p q before
+      (omega arith, (omega arith, (omega arith, (omega arith, (omega arith, tt)))))) in (
+        made.0,
+        coarser bad_read_fine bad_read_rank IsBad (λ x y p q before.
+            elim (by_two x.place x.key y.place y.key (x.txn ∷ x.saw ∷ x.due ∷ []) (y.txn ∷ y.saw ∷ y.due ∷ []) before) [
+              | inl less ↦ less
+              | inr same ↦ absurd (never_before (bad_read_fine x) (bad_read_fine y) (same_read x y p q same.0 same.1) before)
+            ]) made.0 made.1,
+      )
 
   unexplained_or_not : (b : Unexplained) → Decided (IsUnexplained h b.place b.txn b.key b.saw × ⊤)
   unexplained_or_not b =
@@ -175,3 +197,52 @@ module _ (h : List Event) (wf : IsWellFormed h) where
       (both (WroteBefore h b.txn b.key b.place) (b.saw ≢ b.txn) (wrote_before_or_not h b.txn b.key b.place) (not_decided (b.saw ≡ b.txn) (cases_eq b.saw b.txn)))
       (three_decided (b.saw ≢ 0) (b.saw ≢ b.txn) (¬ IsCommitted h b.saw) (not_decided (b.saw ≡ 0) (cases_eq b.saw 0)) (not_decided (b.saw ≡ b.txn) (cases_eq b.saw b.txn)) (not_decided (IsCommitted h b.saw) (committed_or_not h b.saw)))))
       (inl tt)
+
+  abbrev IsOdd : Unexplained → Type 0
+  IsOdd b = IsUnexplained h b.place b.txn b.key b.saw × ⊤
+
+  same_odd : (x y : Unexplained) → IsOdd x → IsOdd y → x.place ≡ y.place → x.key ≡ y.key → unexplained_fine x ≡ unexplained_fine y
+  same_odd x y p q place key =
+      let saw = subst (λ (k : ℕ). SawAt h y.place x.txn k x.saw) key (subst (λ (n : ℕ). SawAt h n x.txn x.key x.saw) place p.0.1) in
+      let seen = one_seen y.place y.key x.txn y.txn x.saw y.saw saw q.0.1 in
+      λ i. place i ∷ key i ∷ seen.0 i ∷ seen.1 i ∷ []
+
+  pub unexplained_exist : (xs : List Unexplained) × ListsUnexplained h (λ _. ⊤) xs
+  unexplained_exist =
+      let made = listed unexplained_fine 4 unexplained_of (λ x. refl) (λ x. refl) IsOdd unexplained_or_not (λ x p.
+      let s = seen_small x.place x.txn x.key x.saw p.0.1 in
+      let a = s.0 in let b = s.1 in let c = s.2 in let e = s.3 in let is = top_is in
+      (omega arith, (omega arith, (omega arith, (omega arith, tt))))) in (
+        made.0,
+        coarser unexplained_fine unexplained_rank IsOdd (λ x y p q before.
+            elim (by_two x.place x.key y.place y.key (x.txn ∷ x.saw ∷ []) (y.txn ∷ y.saw ∷ []) before) [
+              | inl less ↦ less
+              | inr same ↦ absurd (never_before (unexplained_fine x) (unexplained_fine y) (same_odd x y p q same.0 same.1) before)
+            ]) made.0 made.1,
+      )
+
+  bad_write_or_not : (b : BadWrite) → Decided (IsBadWrite h b.key b.first b.second × ⊤)
+  bad_write_or_not b = elim (commits_before_decided h wf b.first b.second) [
+    | inr none ↦ inr (λ x. none x.0.3)
+    | inl c ↦
+        let life = lifetime_of h wf b.second (c.1, c.3) in
+        let starts : Decided (StartsBeforeCommit h b.second b.first) = elim (cases_lt life.start c.0) [
+          | inl less ↦ inl (life.start, c.0, life.starts, c.2, less)
+          | inr more ↦ inr (λ x.
+              let s : life.start ≡ x.0 = one_start h b.second life.start x.0 life.starts x.2 in
+              let e : c.0 ≡ x.1 = one_commit h wf b.first c.0 x.1 c.2 x.3 in
+              let l = x.4 in
+              omega arith)
+        ] in
+        decided_alike (Wrote h b.first b.key × Wrote h b.second b.key × StartsBeforeCommit h b.second b.first) (IsBadWrite h b.key b.first b.second × ⊤) (λ x. ((x.0, x.1, x.2, c), tt)) (λ x. (x.0.0, x.0.1, x.0.2))
+        (three_decided (Wrote h b.first b.key) (Wrote h b.second b.key) (StartsBeforeCommit h b.second b.first) (wrote_or_not h b.first b.key) (wrote_or_not h b.second b.key) starts)
+  ]
+
+  pub bad_writes_exist : (xs : List BadWrite) × ListsBadWrites h (λ _. ⊤) xs
+  bad_writes_exist = listed bad_write_rank 3 bad_write_of (λ x. refl) (λ x. refl) (λ b. IsBadWrite h b.key b.first b.second × ⊤) bad_write_or_not (λ x p.
+      let first = p.0.0 in
+      let second = p.0.1 in
+      let s = wrote_small x.first x.key first.0 first.1 in
+      let t = wrote_small x.second x.key second.0 second.1 in
+      let a = s.0 in let b = s.1 in let c = t.0 in let is = top_is in
+      (omega arith, (omega arith, (omega arith, tt))))

@@ -30,3 +30,5 @@ pub mod OutcomesTold
 pub mod PlainTexts
 pub mod CycleExists
 pub mod VerdictExists
+pub mod FindingsExist
+pub mod ReportExists

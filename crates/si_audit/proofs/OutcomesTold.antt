@@ -10,6 +10,9 @@ use Rattle.sia_events.specs.Isolation.{IsBadRead, IsBadWrite, IsolationKept}
 use Rattle.sia_events.specs.Refusals.{IsAccepted, IsRefusal}
 use Rattle.sia_events.specs.Text.{StandsFor}
 use Rattle.sia_events.proofs.Canonical.{spellings_injective}
+use Rattle.sia_parts.specs.declared.finding.BadRead.{BadRead}
+use Rattle.sia_parts.specs.declared.finding.BadWrite.{BadWrite}
+use Rattle.sia_parts.specs.Findings.{ListsBadReads, ListsBadWrites}
 use Rattle.sia_parts.specs.Entries.{bad_read_rank, bad_write_rank}
 use Rattle.sia_graph.proofs.Judging.{empty_list, none_listed}
 use Rattle.si_audit.specs.Account.{Account}
@@ -32,18 +35,18 @@ none_in : {A : Type 0} (xs : List A) → is_empty xs ≡ true → xs ≡ []
 none_in [] e = refl
 none_in (x ∷ xs) e = cc
 
--- isolation was kept exactly where the account has no bad read and no bad write
-pub kept_told : (h : List Event) (a : Account) → IsAccount h a → ((is_empty a.bad_reads && is_empty a.bad_writes) ≡ true) ↔ IsolationKept h
-kept_told h a is = (
+-- isolation was kept exactly where there is no bad read and no bad write
+pub kept_told : (h : List Event) (reads : List BadRead) (writes : List BadWrite) → ListsBadReads h (λ _. ⊤) reads → ListsBadWrites h (λ _. ⊤) writes → ((is_empty reads && is_empty writes) ≡ true) ↔ IsolationKept h
+kept_told h reads writes some others = (
   λ e.
-      let parts = and_parts (is_empty a.bad_reads) (is_empty a.bad_writes) e in
+      let parts = and_parts (is_empty reads) (is_empty writes) e in
       record {
-        reads = λ p t k saw due bad. none_listed bad_read_rank (λ b. IsBadRead h b.place b.txn b.key b.saw b.due × ⊤) a.bad_reads is.bad_reads (none_in a.bad_reads parts.0) (record { place = p; txn = t; key = k; saw = saw; due = due }) (bad, tt);
-        writes = λ k first second bad. none_listed bad_write_rank (λ b. IsBadWrite h b.key b.first b.second × ⊤) a.bad_writes is.bad_writes (none_in a.bad_writes parts.1) (record { key = k; first = first; second = second }) (bad, tt);
+        reads = λ p t k saw due bad. none_listed bad_read_rank (λ b. IsBadRead h b.place b.txn b.key b.saw b.due × ⊤) reads some (none_in reads parts.0) (record { place = p; txn = t; key = k; saw = saw; due = due }) (bad, tt);
+        writes = λ k first second bad. none_listed bad_write_rank (λ b. IsBadWrite h b.key b.first b.second × ⊤) writes others (none_in writes parts.1) (record { key = k; first = first; second = second }) (bad, tt);
       },
   λ kept. and_from _ _
-      (ap is_empty (empty_list bad_read_rank (λ b. IsBadRead h b.place b.txn b.key b.saw b.due × ⊤) a.bad_reads is.bad_reads (λ b bad. kept.reads b.place b.txn b.key b.saw b.due bad.0)))
-      (ap is_empty (empty_list bad_write_rank (λ b. IsBadWrite h b.key b.first b.second × ⊤) a.bad_writes is.bad_writes (λ b bad. kept.writes b.key b.first b.second bad.0))),
+      (ap is_empty (empty_list bad_read_rank (λ b. IsBadRead h b.place b.txn b.key b.saw b.due × ⊤) reads some (λ b bad. kept.reads b.place b.txn b.key b.saw b.due bad.0)))
+      (ap is_empty (empty_list bad_write_rank (λ b. IsBadWrite h b.key b.first b.second × ⊤) writes others (λ b bad. kept.writes b.key b.first b.second bad.0))),
 )
 
 -- a bit that tells P is false where P doesn't hold
@@ -72,7 +75,7 @@ module _ (limits : Limits) (text : List ℕ) (h : List Event) (accepted : IsAcce
   told_accepted : (a : Account) (bytes : List ℕ) → IsAccount h a → AreTold bytes (λ b. (is_empty a.bad_reads && is_empty a.bad_writes) ≡ b) (λ b. a.pass ≡ b) (λ b. a.serializable ≡ b)
       → begins (codes "refused: " ∷ []) bytes ≡ false → TellsOutcomes limits text bytes
   told_accepted a bytes is told other =
-      let kept = kept_told h a is in record {
+      let kept = kept_told h a.bad_reads a.bad_writes is.bad_reads is.bad_writes in record {
         kept = via (clean_where Si) (via (turned kept) (turned (told.isolation true)));
         broken = via (faulty_where Si) (via (is_false (Meets Si h) _ kept) (turned (told.isolation false)));
         pass = via (clean_where Ssi) (via (turned is.pass) (turned (told.ssi true)));

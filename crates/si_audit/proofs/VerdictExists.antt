@@ -1,11 +1,11 @@
 -- A well-formed history has a least order that keeps every edge, or a cycle that is printed.
-use Rattle.std.proofs.Common.{◌≡◌, ◌⊎◌, inl, inr, ℕ, zero, suc, ◌+◌, ◌<◌, ◌≤◌, Some, List, [], ◌∷◌, ◌++◌, length, map, refl, ap, sym, subst, ◌∙◌, arith}
-use Rattle.std.specs.Prelude.{Contains, ⊤}
+use Rattle.std.proofs.Common.{◌≡◌, ◌⊎◌, inl, inr, ℕ, zero, suc, ◌+◌, ◌<◌, ◌≤◌, Some, List, [], ◌∷◌, ◌++◌, length, map, refl, sym, subst, ◌∙◌, arith}
+use Rattle.std.specs.Prelude.{Contains}
 use Rattle.std.proofs.lemmas.Bool.{cases_Bool, cases_eq}
 use Rattle.sia_events.specs.declared.event.Event.{Event}
 use Rattle.sia_events.specs.declared.event.Event.TheVariants.{Commit}
 use Rattle.sia_events.specs.Events.{actor}
-use Rattle.sia_events.specs.Lists.{ListsAscending, Precedes}
+use Rattle.sia_events.specs.Lists.{ListsAscending}
 use Rattle.sia_events.specs.Places.{at_place}
 use Rattle.sia_events.specs.Refusals.{IsWellFormed}
 use Rattle.sia_events.specs.Transactions.{IsCommitted}
@@ -189,7 +189,7 @@ module _ (h : List Event) (wf : IsWellFormed h) where
       cycle t left = elim (first_below IsLeft left_or_not (t + 1)) [
         | inr nothing ↦ absurd (nothing t (omega arith) left)
         | inl w ↦
-            let made = cycle_exists (IsEdge h) set (λ u. (picked u).0) (λ u c. (picked u).1 c) (IsCommitted h) is_stuck least_edge w.0 ((lists.each w.0).1 w.2) (λ u c. w.3 u ((lists.each u).0 c)) in
+            let made = cycle_exists (IsEdge h) set (λ u. (picked u).0) (λ u c. (picked u).1 c) (IsCommitted h) is_stuck w.0 ((lists.each w.0).1 w.2) (λ u c. w.3 u ((lists.each u).0 c)) least_edge in
             (Cycle made.0, (no_order (IsCommitted h) (IsEdge h) IsLeft (λ u l. let s = fed u l in (l.0, s.0, s.1, s.2)) t left, made.1))
       ]
 

@@ -7,10 +7,7 @@ use Rattle.sia_events.specs.declared.fault.TextFault.{TextFault}
 use Rattle.sia_events.specs.Laws.{IsPlain, NamesStart, StartsPlainly}
 use Rattle.sia_events.specs.Refusals.{IsAccepted, IsAcceptedIn, IsRefusalIn}
 use Rattle.sia_events.specs.Text.{StandsFor}
-use Rattle.sia_events.specs.Transactions.{IsCommitted, StartsAt}
-use Rattle.sia_parts.specs.Entries.{IsEdge}
-use Rattle.sia_graph.specs.declared.settling.Verdict.{Verdict}
-use Rattle.sia_graph.specs.Verdicts.{IsVerdict}
+use Rattle.sia_events.specs.Transactions.{StartsAt}
 use Rattle.si_audit.specs.Account.{Account}
 use Rattle.si_audit.specs.Accounts.{IsAccount}
 use Rattle.si_audit.specs.declared.cli.form.Form.{Form}
@@ -92,6 +89,7 @@ pub record IsUntouched (limits : Limits) (form : Form) (text : List ℕ) : Type 
 abbrev pub PlainTextLaw : Limits → Form → List ℕ → Type 0
 PlainTextLaw limits form text = ((i : ℕ) → ¬ NamesStart text i) → IsUntouched limits form text
 
--- a history has a least order that keeps every edge, or a cycle
-abbrev pub HasVerdict : List Event → Type 0
-HasVerdict h = (verdict : Verdict) × IsVerdict (IsCommitted h) (IsEdge h) verdict
+-- the text has a full report, and a brief one
+pub record HasReports (limits : Limits) (text : List ℕ) : Type 0 where
+  pub full : (bytes : List ℕ) × IsReport limits Full text bytes
+  pub brief : (bytes : List ℕ) × IsReport limits Brief text bytes
