@@ -55,10 +55,10 @@ in_tuples n (suc many) (x ∷ xs) long all =
     (contains_flat (λ ys. (x ∷ ys) ∷ []) (tuples n many) xs (x ∷ xs) (in_tuples n many xs (omega arith) all.1) (contains_first (x ∷ xs) []))
 
 -- a number above all that a text can name
-top : ℕ
+pub top : ℕ
 top = 2 ^ 64
 
-top_is : top ≡ 18446744073709551616
+pub top_is : top ≡ 18446744073709551616
 unfolding top
 top_is = refl
 
@@ -130,7 +130,7 @@ module _ (h : List Event) (wf : IsWellFormed h) where
   wrote_small : (t k p : ℕ) → at_place h p ≡ Some (Write t k) → (t < 4294967296) × (k < 18446744073709551616)
   wrote_small t k p at = let r = event_in_range h wf p (Write t k) at in let a = r.0.1 in let b : k < 2 ^ 64 = r.1 in (omega arith, omega arith)
 
-  seen_small : (p t k v : ℕ) → SawAt h p t k v → (p < 18446744073709551616) × (t < 4294967296) × (k < 18446744073709551616) × (v < 18446744073709551616)
+  pub seen_small : (p t k v : ℕ) → SawAt h p t k v → (p < 18446744073709551616) × (t < 4294967296) × (k < 18446744073709551616) × (v < 18446744073709551616)
   seen_small p t k v (e, at, same, saw) =
       let r = event_in_range h wf p e at in
       let most : p ≤ length h = (place_within h p e at).1 in

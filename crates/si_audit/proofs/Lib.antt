@@ -32,3 +32,5 @@ pub mod CycleExists
 pub mod VerdictExists
 pub mod FindingsExist
 pub mod ReportExists
+pub mod ExplainedExists
+pub mod TokenExists

@@ -1,5 +1,5 @@
--- Each text has a full and a brief report.
-use Rattle.std.proofs.Common.{◌≡◌, ◌⊎◌, ◌↔◌, inl, inr, ℕ, suc, ◌&&◌, Bool, true, false, Some, List, [], ◌∷◌, ◌++◌, length, Result, Ok, Err, refl, sym, subst, ◌∙◌}
+-- Each text has one report of each form.
+use Rattle.std.proofs.Common.{◌≡◌, ◌⊎◌, ◌↔◌, inl, inr, ℕ, suc, ◌<◌, ◌≤◌, ◌&&◌, Bool, true, false, Some, List, [], ◌∷◌, ◌++◌, length, Result, Ok, Err, refl, sym, subst, ◌∙◌, arith}
 use Rattle.std.specs.Prelude.{Contains, IsTrue}
 use Rattle.std.proofs.lemmas.Bool.{cases_Bool, cases_lt}
 use Rattle.std.proofs.lemmas.List.Elements.{All-contains}
@@ -8,7 +8,7 @@ use Rattle.sia_events.specs.declared.event.Event.{Event}
 use Rattle.sia_events.specs.declared.event.Event.TheVariants.{Abort, Commit}
 use Rattle.sia_events.specs.declared.fault.Reason.{Reason}
 use Rattle.sia_events.specs.declared.fault.TextFault.{TextFault}
-use Rattle.sia_events.specs.declared.fault.TextFault.TheVariants.{TextTooLong, Refused}
+use Rattle.sia_events.specs.declared.fault.TextFault.TheVariants.{NoMemory, TextTooLong, Refused}
 use Rattle.sia_events.specs.Isolation.{IsolationKept}
 use Rattle.sia_events.specs.DangerousStructures.{IsFirst, NoFirst, PassesSsi}
 use Rattle.sia_events.specs.Judging.{JudgedAll, StopsAt, judged}
@@ -23,7 +23,7 @@ use Rattle.sia_events.proofs.Decisions.{Decided, both}
 use Rattle.sia_events.proofs.FirstFaults.{stops_first}
 use Rattle.sia_events.proofs.Histories.{has_history}
 use Rattle.sia_events.proofs.Judged.{JudgedAll-none, StopsAt-after, StopsAt-first, StopsAt-more}
-use Rattle.sia_events.proofs.TransactionDecisions.{aborted_or_not, committed_or_not, open_or_not}
+use Rattle.sia_events.proofs.TransactionDecisions.{aborted_or_not, committed_or_not, open_or_not, place_within}
 use Rattle.sia_parts.proofs.Members.{contains_first, contains_none}
 use Rattle.sia_graph.specs.declared.settling.Verdict.{Verdict}
 use Rattle.sia_graph.specs.declared.settling.Verdict.TheVariants.{Order, Cycle}
@@ -38,9 +38,15 @@ use Rattle.sia_graph.proofs.Judging.{serializable_where}
 use Rattle.sia_graph.proofs.ReplayLaw.{replay_holds}
 use Rattle.si_audit.specs.Account.{Account}
 use Rattle.si_audit.specs.Accounts.{IsAccount}
-use Rattle.si_audit.specs.declared.cli.form.Form.TheVariants.{Full, Brief}
-use Rattle.si_audit.specs.Laws.{HasReports}
+use Rattle.si_audit.specs.declared.cli.form.Form.{Form}
+use Rattle.si_audit.specs.declared.cli.form.Form.TheVariants.{Full, Brief, Explained}
+use Rattle.si_audit.specs.RefusedPlaces.{TellsToken, place_line}
+use Rattle.si_audit.specs.Report.{IsReport, TellsAccount, TellsRefusal}
+use Rattle.si_audit.proofs.OneReport.{one_report_of}
+use Rattle.si_audit.proofs.TokenExists.{token_exists}
+use Rattle.si_audit.specs.Laws.{HasOneReport}
 use Rattle.si_audit.specs.Lines.{is_empty, refusal_line, report_text}
+use Rattle.si_audit.proofs.ExplainedExists.{Told, explained_exists}
 use Rattle.si_audit.proofs.FindingsExist.{bad_reads_exist, bad_writes_exist, unexplained_exist}
 use Rattle.si_audit.proofs.OutcomesTold.{kept_told}
 use Rattle.si_audit.proofs.VerdictExists.{txns_listed, verdict_exists}
@@ -152,11 +158,40 @@ module _ (h : List Event) (wf : IsWellFormed h) where
         },
       )
 
-pub reports_exist : (limits : Limits) → AreWithin limits greatest → (text : List ℕ) → HasReports limits text
-reports_exist limits within text = elim (refused_or_not limits within text) [
-  | inl w ↦ record { full = (refusal_line w.0, inl (w.0, w.1, refl)); brief = (refusal_line w.0, inl (w.0, w.1, refl)) }
+kept_or_not : (h : List Event) (a : Account) → IsAccount h a → Decided (IsolationKept h)
+kept_or_not h a is =
+    let kept = kept_told h a.bad_reads a.bad_writes is.bad_reads is.bad_writes in
+    elim (cases_Bool (is_empty a.bad_reads && is_empty a.bad_writes)) [ inl e ↦ inl (kept.0 e) | inr e ↦ inr (λ k. let same = sym (kept.1 k) ∙ e in cc) ]
+
+token_told : (limits : Limits) (text : List ℕ) (fault : TextFault) → IsRefusal limits text fault → Told (TellsToken text fault)
+token_told limits text NoMemory refusal = absurd refusal
+token_told limits text TextTooLong refusal = ([], refl)
+token_told limits text (Refused n why) (short, fault) =
+    let within = place_within (tokens text) n fault.has.0 fault.has.1 in
+    let some : 0 < n = within.0 in
+    let most : n ≤ length (tokens text) = within.1 in
+    let at = token_exists text n some (omega arith) in
+    (place_line at.0 at.1 at.2, (at.0, at.1, at.2, at.3, refl))
+
+refusal_told : (limits : Limits) (form : Form) (text : List ℕ) (fault : TextFault) → IsRefusal limits text fault → Told (TellsRefusal form text fault)
+refusal_told limits Full text fault refusal = (refusal_line fault, refl)
+refusal_told limits Brief text fault refusal = (refusal_line fault, refl)
+refusal_told limits Explained text fault refusal = let place = token_told limits text fault refusal in (refusal_line fault ++ place.0, (place.0, place.1, refl))
+
+account_told : (form : Form) (h : List Event) → IsWellFormed h → (a : Account) → IsAccount h a → Told (TellsAccount form h a)
+account_told Full h wf a is = (report_text Full a, refl)
+account_told Brief h wf a is = (report_text Brief a, refl)
+account_told Explained h wf a is = explained_exists h wf a is (kept_or_not h a is)
+
+report_exists : (limits : Limits) → AreWithin limits greatest → (form : Form) (text : List ℕ) → Told (IsReport limits form text)
+report_exists limits within form text = elim (refused_or_not limits within text) [
+  | inl w ↦ let told = refusal_told limits form text w.0 w.1 in (told.0, inl (w.0, w.1, told.1))
   | inr accepted ↦
       let (h, stands, wf) = has_history limits text within accepted in
       let a = account_exists h wf in
-      record { full = (report_text Full a.0, inr (h, a.0, accepted, stands, a.1, refl)); brief = (report_text Brief a.0, inr (h, a.0, accepted, stands, a.1, refl)) }
+      let told = account_told form h wf a.0 a.1 in
+      (told.0, inr (h, a.0, accepted, stands, a.1, told.1))
 ]
+
+pub one_report_exists : (limits : Limits) → AreWithin limits greatest → (form : Form) (text : List ℕ) → HasOneReport limits form text
+one_report_exists limits within form text = let r = report_exists limits within form text in (r.0, r.1, λ others is. one_report_of limits within form text r.0 others r.1 is)

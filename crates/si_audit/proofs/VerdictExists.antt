@@ -44,7 +44,7 @@ module _ (h : List Event) (P : ℕ → Type 0) (decide : (t : ℕ) → Decided (
   committed_listed : (ts : List ℕ) × ListsAscending P ts
   committed_listed = txns_listed h P decide (λ t p. let c = committed t p in (c.0, Commit t, c.1, refl))
 
-  some_committed : Decided ((t : ℕ) × P t)
+  pub some_committed : Decided ((t : ℕ) × P t)
   some_committed =
       decided_alike ((p : ℕ) × (e : Event) × (at_place h p ≡ Some e) × P (actor e)) ((t : ℕ) × P t) (λ w. (actor w.1, w.3)) (λ w. let c = committed w.0 w.1 in (c.0, Commit w.0, c.1, w.1))
       (event_decided (λ e. P (actor e)) (λ e. decide (actor e)) h)

@@ -89,7 +89,6 @@ pub record IsUntouched (limits : Limits) (form : Form) (text : List ℕ) : Type 
 abbrev pub PlainTextLaw : Limits → Form → List ℕ → Type 0
 PlainTextLaw limits form text = ((i : ℕ) → ¬ NamesStart text i) → IsUntouched limits form text
 
--- the text has a full report, and a brief one
-pub record HasReports (limits : Limits) (text : List ℕ) : Type 0 where
-  pub full : (bytes : List ℕ) × IsReport limits Full text bytes
-  pub brief : (bytes : List ℕ) × IsReport limits Brief text bytes
+-- the text has a report of this form, and no other
+abbrev pub HasOneReport : Limits → Form → List ℕ → Type 0
+HasOneReport limits form text = (bytes : List ℕ) × IsReport limits form text bytes × ((others : List ℕ) → IsReport limits form text others → bytes ≡ others)

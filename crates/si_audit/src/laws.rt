@@ -3,7 +3,7 @@ ghost use Rattle.std.specs.Prelude.{List, ℕ};
 ghost use Rattle.sia_events.specs.Limits.{Limits, greatest, AreWithin};
 ghost use Rattle.sia_events.specs.declared.event.Event.{Event};
 ghost use Rattle.sia_events.specs.Refusals.{IsWellFormed};
-ghost use Rattle.si_audit.specs.Laws.{CleanLaw, FormsLaw, HasReports, LevelsLaw, LinesLaw, PlainTextLaw};
+ghost use Rattle.si_audit.specs.Laws.{CleanLaw, FormsLaw, HasOneReport, LevelsLaw, LinesLaw, PlainTextLaw};
 ghost use Rattle.si_audit.specs.Report.{HasSameReport, OneReport};
 ghost use Rattle.si_audit.specs.declared.cli.form.Form.{Form};
 
@@ -44,7 +44,7 @@ pub fn plain_text_law()
     ensures { (limits : Limits) (form : Form) (text : List ℕ) → PlainTextLaw limits form text }
 {}
 
-/// Each text has a full and a brief report, so that with `one_report` both are functions of the text.
+/// Each text has exactly one report of each form: the report is a function of the text.
 pub fn reports_law()
-    ensures { (limits : Limits) → AreWithin limits greatest → (text : List ℕ) → HasReports limits text }
+    ensures { (limits : Limits) → AreWithin limits greatest → (form : Form) (text : List ℕ) → HasOneReport limits form text }
 {}
