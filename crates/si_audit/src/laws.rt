@@ -17,19 +17,13 @@ pub fn same_report()
     ensures { (form : Form) (text : List ℕ) → HasSameReport form text }
 {}
 
-/// A history that meets the level `ssi` meets `serializable` and `si`, and one that meets `serializable` meets `si`.
+/// What meets the level `ssi` meets `serializable` and `si`, and what meets `serializable` meets `si`.
 pub fn levels_law()
-    ensures { (h : List Event) → IsWellFormed h → LevelsLaw h }
+    ensures history { (h : List Event) → IsWellFormed h → LevelsLaw h }
+    ensures text { (limits : Limits) → AreWithin limits greatest → (text : List ℕ) → CleanLaw limits text }
 {}
 
-/// A text whose run ends clean at the level `ssi` ends so at the other two, and one that does at `serializable` does at
-/// `si`.
-pub fn clean_law()
-    ensures { (limits : Limits) → AreWithin limits greatest → (text : List ℕ) → CleanLaw limits text }
-{}
-
-/// The brief report is the full one without its lines `edge` and `pivot`, and the explained one without `dangerous` and
-/// the lines of reasons.
+/// The brief report is what is left of the full one, and of the explained one, without some of their lines.
 pub fn forms_law()
     ensures { (limits : Limits) (text : List ℕ) → FormsLaw limits text }
 {}
