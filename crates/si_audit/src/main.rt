@@ -19,7 +19,7 @@ use cli::line::{LineFault, options_from};
 use cli::options::Options;
 use io::device::FromStd;
 use run::{RunFault, run, status};
-use std::alloc::Global;
+use std::alloc::{AllocError, Global};
 use std::env::Env;
 use std::fmt::Display;
 use std::io::ErrorKind;
@@ -40,14 +40,30 @@ fn say<R: Eprint, D: Display + Drop>(rt: &R, line: D, status: u8) -> u8 {
     status
 }
 
+/// The text with each control character but line feeds by its number, so that no word of the command line upsets a terminal.
+fn shown(alloc: Global, text: &str) -> Result<String, AllocError> {
+    let mut shown = String::new(alloc);
+    for c in text.chars() {
+        if c.is_control() && c != '\n' {
+            shown.push_str(format!(in alloc; "\\x{:02x}", u32::from(c))?.as_str())?;
+        } else {
+            shown.push(c)?;
+        }
+    }
+    Ok(shown)
+}
+
 /// Tells why the words give no options, and answers the status.
-fn tell<R: Print + Eprint>(rt: &R, fault: LineFault) -> u8 {
+fn tell<R: Alloc<A = Global> + Print + Eprint>(rt: &R, fault: LineFault) -> u8 {
     match fault {
         LineFault::Help(text) => match rt.print(text) {
             Ok(()) => HELPED,
             Err(_) => say(rt, RunFault::Write, NOT_DONE),
         },
         LineFault::Usage(text) => {
+            let Ok(text) = shown(rt.alloc(), text.as_str()) else {
+                return say(rt, RunFault::NoMemory, NOT_DONE);
+            };
             let _ = rt.eprint(text);
             LINE_REFUSED
         }
