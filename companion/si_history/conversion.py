@@ -10,7 +10,7 @@ from dataclasses import dataclass
 from typing import BinaryIO
 
 from si_history.errors import BadInput, in_source
-from si_history.files import STANDARD_INPUT, opened, source_name, write_file, write_output
+from si_history.files import OUTPUT_DEVICE, STANDARD_INPUT, STANDARD_OUTPUT, check_output, opened, source_name, write_output
 from si_history.history import Event, text_of
 from si_history.legend import Legend
 
@@ -49,11 +49,13 @@ def run_conversion(arguments: argparse.Namespace, convert: Callable[[BinaryIO], 
     """Converts the log that the arguments name: writes the legend, if wanted, and then the history. Answers the status."""
     if arguments.legend == STANDARD_INPUT:
         raise BadInput("--legend needs a file of its own: standard output has the history")
+    check_output(STANDARD_OUTPUT, [arguments.log])
+    check_output(arguments.legend, [arguments.log, OUTPUT_DEVICE])
     with in_source(source_name(arguments.log)), without_collector():
         with opened(arguments.log) as file:
             conversion = convert(file)
         text = text_of(conversion.events)
     if arguments.legend is not None:
-        write_file(arguments.legend, conversion.legend.to_json())
+        write_output(conversion.legend.to_json(), arguments.legend)
     write_output(text)
     return 0

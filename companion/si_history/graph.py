@@ -10,7 +10,7 @@ from operator import itemgetter
 from typing import NamedTuple
 
 from si_history.errors import BadInput
-from si_history.files import STANDARD_INPUT, write_output
+from si_history.files import STANDARD_INPUT, STANDARD_OUTPUT, check_output, write_output
 from si_history.naming import Names
 from si_history.progress import REPORT_LINES, Progress
 from si_history.report import Cycle, Edge, EdgeKind, Pivot, Report, Structure
@@ -53,6 +53,7 @@ def run(arguments: argparse.Namespace) -> int:
     """Writes the graph."""
     if arguments.report == arguments.legend == STANDARD_INPUT:
         raise BadInput("the report and the legend can't both be standard input")
+    check_output(STANDARD_OUTPUT, [arguments.report, arguments.legend])
     names = Names.from_path(arguments.legend)
     with Progress(REPORT_LINES) as progress:
         text = ReportText.from_path(arguments.report, progress)

@@ -6,7 +6,7 @@ import argparse
 from collections.abc import Callable, Iterator
 
 from si_history.errors import BadInput
-from si_history.files import STANDARD_INPUT, write_output
+from si_history.files import STANDARD_INPUT, STANDARD_OUTPUT, check_output, write_output
 from si_history.named_reasons import told
 from si_history.naming import Names
 from si_history.progress import REPORT_LINES, Progress
@@ -59,6 +59,7 @@ def run(arguments: argparse.Namespace) -> int:
     """Writes the report with names."""
     if arguments.report == arguments.legend == STANDARD_INPUT:
         raise BadInput("the report and the legend can't both be standard input")
+    check_output(STANDARD_OUTPUT, [arguments.report, arguments.legend])
     names = Names.from_path(arguments.legend)
     with Progress(REPORT_LINES) as progress:
         text = ReportText.from_path(arguments.report, progress)

@@ -8,7 +8,7 @@ import os.path
 from si_history.document import html, picture
 from si_history.errors import BadInput, in_source
 from si_history.facts import Facts
-from si_history.files import STANDARD_INPUT, read_text, source_name, write_file, write_output
+from si_history.files import STANDARD_INPUT, check_output, read_text, source_name, write_output
 from si_history.findings import groups_of
 from si_history.history import MAX_BYTES, parse
 from si_history.naming import Names, shown
@@ -50,13 +50,12 @@ def register(commands: argparse._SubParsersAction[argparse.ArgumentParser]) -> N
 
 def run(arguments: argparse.Namespace) -> int:
     """Writes the page or the picture."""
-    if [arguments.history, arguments.report, arguments.legend].count(STANDARD_INPUT) > 1:
+    inputs = [arguments.history, arguments.report, arguments.legend]
+    if inputs.count(STANDARD_INPUT) > 1:
         raise BadInput("only one input can be standard input")
+    check_output(arguments.output, inputs)
     made = made_page(arguments.history, arguments.report, arguments.legend, arguments.svg)
-    if arguments.output == STANDARD_INPUT:
-        write_output(made)
-    else:
-        write_file(arguments.output, made)
+    write_output(made, arguments.output)
     return 0
 
 

@@ -10,7 +10,7 @@ from contextlib import ExitStack, contextmanager
 
 from si_history import from_events
 from si_history.errors import BadInput
-from si_history.files import write_file, write_output
+from si_history.files import OUTPUT_DEVICE, STANDARD_OUTPUT, check_output, write_output
 from si_history.history import MAX_EVENTS, text_of
 from si_history.record import mariadb, postgres, signals
 from si_history.record.driver import Settings, run as run_transactions, watched
@@ -128,15 +128,13 @@ def run(arguments: argparse.Namespace) -> int:
     """Records a run and writes it. Raises BadInput where that can't be done; then nothing is written."""
     if arguments.legend is not None and arguments.format != "history":
         raise BadInput("--legend goes with --format history: a log has the names itself")
+    check_output(arguments.legend, [OUTPUT_DEVICE if arguments.output is None else arguments.output])
     with signals.met():
         records, timeline = record(arguments)
         text, legend = _written(arguments.format, records, timeline)
     if arguments.legend is not None:
-        write_file(arguments.legend, legend)
-    if arguments.output is None:
-        write_output(text)
-    else:
-        write_file(arguments.output, text)
+        write_output(legend, arguments.legend)
+    write_output(text, STANDARD_OUTPUT if arguments.output is None else arguments.output)
     return 0
 
 
