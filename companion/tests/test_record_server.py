@@ -1,7 +1,8 @@
-"""Servers in temporary directories: shell scripts stand for the databases' programs."""
+"""Servers in temporary directories: shell scripts stand for the databases' programs, and for one that attacks the recorder."""
 
 from __future__ import annotations
 
+import ctypes
 import os
 import pwd
 import signal
@@ -125,6 +126,117 @@ class Servers(unittest.TestCase):
                 with self.assertRaises(ProcessLookupError):
                     self.wait_for_end(started)
                 self.assertEqual(self.left(), [])
+
+
+def shared_memory() -> int:
+    """Makes a piece of shared memory, of root's, and answers its id."""
+    made = int(ctypes.CDLL(None).shmget(0, 56, 0o1600))
+    assert made >= 0
+    return made
+
+
+def memories() -> set[int]:
+    """The ids of all shared memory."""
+    lines = Path("/proc/sysvipc/shm").read_text().split("\n")
+    return {int(line.split()[1]) for line in lines[1:] if line}
+
+
+@unittest.skipUnless(os.geteuid() == 0, "left out: only root has rights that a server could abuse")
+class Attacks(unittest.TestCase):
+    """What a server can do under its account, daemon, to a recorder that is root."""
+
+    def setUp(self) -> None:
+        for name in ("place", "kept"):
+            made = tempfile.TemporaryDirectory(prefix="si-test-")
+            self.addCleanup(made.cleanup)
+            setattr(self, name, Path(made.name))
+        self.place: Path
+        self.kept: Path
+        self.place.chmod(0o1777)
+        (self.kept / "file").write_text("root's\n")
+        patched = mock.patch.object(tempfile, "tempdir", str(self.place))
+        patched.start()
+        self.addCleanup(patched.stop)
+
+    def run_server(self, script: str) -> None:
+        """A server that is made by this script, and then says something."""
+        with fake(account="daemon") as one:
+            one.prepare(["/bin/sh", "-c", f"mkdir data && {script}"])
+            one.prepare(["/bin/sh", "-c", "echo evil"])
+
+    def check_kept(self) -> None:
+        """What was root's is as it was, and the recorder has left nothing."""
+        self.assertEqual([path.name for path in self.kept.iterdir()], ["file"])
+        self.assertEqual((self.kept / "file").read_text(), "root's\n")
+        self.assertEqual(os.listdir(self.place), [])
+
+    def test_what_the_server_says_goes_to_no_file_of_its_choice(self) -> None:
+        for name in ("said", "../said"):
+            with self.subTest(name):
+                self.run_server(f"rm -f {name}; ln -s {self.kept}/file {name} || true")
+                self.check_kept()
+
+    def test_the_directory_cant_be_put_elsewhere(self) -> None:
+        for directory in ('"$PWD"', '"$(dirname "$PWD")"'):
+            with self.subTest(directory):
+                with self.assertRaisesRegex(StoreFault, "Permission denied|not permitted"):
+                    self.run_server(f"mv {directory} {self.place}/moved && ln -s {self.kept} {directory}")
+                self.check_kept()
+
+    def test_a_link_among_the_data_is_not_followed(self) -> None:
+        self.run_server(f"ln -s {self.kept} data/kept; ln {self.kept}/file data/file || true")
+        self.check_kept()
+
+    def test_files_of_root_in_the_directory_are_not_removed(self) -> None:
+        with self.assertRaisesRegex(StoreFault, "could not be removed: remove it by hand"), fake(account="daemon") as one:
+            (one.directory / "mounted").mkdir()
+            (one.directory / "mounted" / "file").touch()
+        self.assertTrue((one.directory / "mounted" / "file").exists())
+
+    def test_shared_memory_of_others_stays(self) -> None:
+        memory = shared_memory()
+        try:
+            note = "\\n".join(["1", "2", "3", "4", "5", "6", f"1 {memory}"])
+            self.run_server(f"printf '{note}\\n' >data/postmaster.pid")
+            self.assertIn(memory, memories())
+        finally:
+            subprocess.run(["ipcrm", "-m", str(memory)], check=False, capture_output=True)
+        self.check_kept()
+
+    @unittest.skipUnless(os.access("/usr/bin/python3", os.X_OK), "left out: there is no /usr/bin/python3")
+    def test_shared_memory_of_a_server_that_was_killed_is_freed(self) -> None:
+        before = memories()
+        make = "import ctypes; ctypes.CDLL(None).shmget(0, 56, 0o1600); open('made', 'w'); __import__('time').sleep(600)"
+        with Server("Fake", "daemon", signal.SIGKILL, MEGABYTE) as one:
+            one.start(["/usr/bin/python3", "-c", make], (one.directory / "made").exists)
+            self.assertEqual(len(memories() - before), 1)
+        self.assertEqual(memories() - before, set())
+
+    def test_a_pipe_in_the_place_of_a_file_holds_nothing_up(self) -> None:
+        script = textwrap.dedent("""
+            import signal
+            from si_history.record.server import Server
+            with Server("Fake", "daemon", signal.SIGTERM, 1000) as one:
+                one.prepare(["/bin/sh", "-c", "mkdir data; rm -f said; mkfifo said data/postmaster.pid"])
+        """)
+        environment = {**os.environ, "PYTHONPATH": str(COMPANION), "TMPDIR": str(self.place)}
+        done = subprocess.run([sys.executable, "-c", script], env=environment, timeout=LONG_SECONDS / 5, check=False)
+        self.assertEqual(done.returncode, 0)
+        self.check_kept()
+
+    def test_processes_of_others_are_not_ended(self) -> None:
+        with fake(account="daemon") as one:
+            other = subprocess.Popen(["sleep", "600"], cwd=one.directory)
+            self.addCleanup(other.wait)
+            self.addCleanup(other.kill)
+        self.assertIsNone(other.poll())
+        self.check_kept()
+
+    def test_many_words_are_not_all_read(self) -> None:
+        with mock.patch.object(os, "pread", wraps=os.pread) as read:
+            with self.assertRaisesRegex(StoreFault, r"its last words: x{200}\)$"), fake(account="daemon") as one:
+                one.prepare(["/bin/sh", "-c", "head -c 9000000 /dev/zero | tr '\\0' x; exit 1"])
+        self.assertLessEqual(read.call_args.args[1], 2**16)
 
 
 class Missing(unittest.TestCase):

@@ -1,19 +1,25 @@
-"""A database server of one's own: in a temporary directory, on a socket there, stopped and removed at the end."""
+"""A database server of one's own: in a temporary directory, on a socket there, stopped and removed at the end.
+
+Where the recorder is root, the server runs under an account of its own. What is root's stands outside the directory that this
+account can write: the directory above it, and the file of what the server says, which has no name.
+"""
 
 from __future__ import annotations
 
 import os
-import pwd
 import shutil
 import signal
 import subprocess
 import tempfile
 import time
 from collections.abc import Callable, Iterable, Sequence
+from contextlib import suppress
 from pathlib import Path
 from types import TracebackType
+from typing import IO
 
 from si_history.record import signals
+from si_history.record.account import Account
 from si_history.record.model import StoreFault
 
 INSTALL = "tools/install_databases.sh installs it"
@@ -26,6 +32,7 @@ MEGABYTE = 2**20
 # With less room than this a server's next write may fail.
 LEAST_ROOM = MEGABYTE
 LONGEST_LAST_WORDS = 200
+LAST_BYTES = 1 << 16
 
 
 def program(name: str, title: str, places: Iterable[Path] = ()) -> Path:
@@ -49,21 +56,24 @@ class Server:
 
     def __init__(self, title: str, account: str, ending: signal.Signals, room: int) -> None:
         self._title = title
-        self._account = account if os.geteuid() == 0 else None
+        self._account_name = account
         self._ending = ending
         self._room = room
         self._process: subprocess.Popen[bytes] | None = None
-        self._said: Path | None = None
+        self._processes: set[int] = set()
+        self._said: IO[bytes]
+        self._place = Path()
         self.directory = Path()
 
     def __enter__(self) -> Server:
-        if self._account is not None and not _is_account(self._account):
-            raise StoreFault(f"a {self._title} server does not run as root, and there is no account {self._account}: "
-                             f"{INSTALL}")
-        with signals.held():
-            self.directory = Path(tempfile.mkdtemp(prefix="si-history-"))
-            self._said = self.directory / "said"
         try:
+            self._account = Account(self._account_name)
+        except KeyError:
+            raise StoreFault(f"a {self._title} server does not run as root, and there is no account {self._account_name}: "
+                             f"{INSTALL}") from None
+        try:
+            with signals.held():
+                self._make_directory()
             self._look_around()
         except BaseException:
             self._end()
@@ -107,10 +117,21 @@ class Server:
         if self._free() < LEAST_ROOM:
             raise self._full()
 
+    def _make_directory(self) -> None:
+        """Makes the directory, for the server's account, and before it all that stays this process's own."""
+        try:
+            self._said = tempfile.TemporaryFile(buffering=0)
+            self._place = Path(tempfile.mkdtemp(prefix="si-history-"))
+            self.directory = self._place / "server"
+            if self._account.is_other:
+                self._place.chmod(0o711)
+            self.directory.mkdir(0o700)
+            self._account.own(self.directory)
+        except OSError as fault:
+            raise StoreFault(f"no temporary directory can be made: {fault.strerror}: set TMPDIR to another") from None
+
     def _look_around(self) -> None:
-        """Gives the directory to the server's account. Raises StoreFault where the directory won't do."""
-        if self._account is not None:
-            shutil.chown(self.directory, self._account)
+        """Raises StoreFault where the directory won't do."""
         if len(os.fsencode(self.directory / ".s.PGSQL.5432")) > LONGEST_SOCKET_PATH:
             raise StoreFault(f"{self.directory} is too long for a socket's path: set TMPDIR to a shorter directory")
         if self._free() < self._room:
@@ -118,28 +139,34 @@ class Server:
 
     def _launch(self, command: Sequence[str | Path]) -> None:
         """Starts a command in the directory. Where this process is killed, the command is ended too, if setpriv is there."""
-        assert self._said is not None
         setpriv = shutil.which("setpriv")
         ended_too = [setpriv, "--pdeathsig", self._ending.name[3:]] if setpriv else []
         environment = {"PATH": os.environ.get("PATH", os.defpath), "LC_ALL": "C", "TMPDIR": str(self.directory)}
-        with signals.held(), open(self._said, "ab") as said:
+        with signals.held():
             try:
                 self._process = subprocess.Popen(
-                    [*ended_too, *map(str, command)], stdin=subprocess.DEVNULL, stdout=said, stderr=said, cwd=self.directory,
-                    env=environment, start_new_session=True, user=self._account, group=self._account,
-                    extra_groups=[] if self._account else None)
+                    [*ended_too, *map(str, command)], stdin=subprocess.DEVNULL, stdout=self._said, stderr=self._said,
+                    cwd=self.directory, env=environment, start_new_session=True, **self._account.rights())
             except OSError as fault:
                 raise StoreFault(f"{self._title}: {command[0]} did not start: {fault.strerror}") from None
+            self._processes.add(self._process.pid)
 
     def _end(self) -> None:
-        """Stops what runs and removes the directory. Raises StoreFault where something of it stays."""
+        """Stops what runs and removes the directory, if it was made. Raises StoreFault where something of it stays."""
         with signals.held():
+            if not self._place.name:
+                return
             self._stop()
-            _end_processes_in(self.directory)
-            _free_shared_memory(self.data / "postmaster.pid")
-            shutil.rmtree(self.directory, ignore_errors=True)
-            if self.directory.exists():
-                raise StoreFault(f"the directory {self.directory} could not be removed: remove it by hand")
+            self._processes |= self._account.end_processes_in(self.directory)
+            self._account.free_shared_memory(self._processes)
+            self._said.close()
+            try:
+                self._account.remove(self.directory)
+                with suppress(FileNotFoundError):
+                    self.directory.rmdir()
+                self._place.rmdir()
+            except OSError:
+                raise StoreFault(f"the directory {self._place} could not be removed: remove it by hand") from None
 
     def _stop(self) -> None:
         """Stops the process: by the server's own signal, and where that takes too long by SIGKILL."""
@@ -154,67 +181,22 @@ class Server:
 
     def _free(self) -> int:
         """The free bytes of the directory's disk."""
-        return shutil.disk_usage(self.directory).free
+        return shutil.disk_usage(self._place).free
 
     def _full(self) -> StoreFault:
         """The fault of a disk with too little room."""
-        return StoreFault(f"the disk of {self.directory.parent} has {self._free() // MEGABYTE} MB free, and a {self._title} "
+        return StoreFault(f"the disk of {self._place.parent} has {self._free() // MEGABYTE} MB free, and a {self._title} "
                           f"server needs {self._room // MEGABYTE} MB there: free them, or set TMPDIR to a directory that has them")
 
     def _fault(self, reason: str) -> StoreFault:
         """The reason with the server's last words, or a full disk where that is behind it."""
         if self._free() < LEAST_ROOM:
             return self._full()
-        said = self._said.read_text(errors="replace").split("\n") if self._said and self._said.exists() else []
-        last = next((line.strip() for line in reversed(said) if line.strip()), "")
-        return StoreFault(f"{reason} (its last words: {last[:LONGEST_LAST_WORDS]})" if last else reason)
+        last = self._last_words()
+        return StoreFault(f"{reason} (its last words: {last})" if last else reason)
 
-
-def _is_account(name: str) -> bool:
-    try:
-        pwd.getpwnam(name)
-    except KeyError:
-        return False
-    return True
-
-
-def _end_processes_in(directory: Path) -> None:
-    """Ends every process that works in the directory, and waits until it is gone.
-
-    A server's workers outlive a server that was killed for some moments, and each works in the server's directory.
-    """
-    end = time.monotonic() + STOP_SECONDS
-    while (found := _processes_in(directory)) and time.monotonic() < end:
-        for process in found:
-            try:
-                os.kill(process, signal.SIGKILL)
-            except ProcessLookupError:
-                continue
-        time.sleep(SECONDS_BETWEEN_LOOKS)
-
-
-def _processes_in(directory: Path) -> list[int]:
-    """The processes whose working directory is this one or lies within it. Empty where the system doesn't tell."""
-    found = []
-    for entry in Path("/proc").glob("[0-9]*"):
-        try:
-            place = Path(os.readlink(entry / "cwd"))
-        except OSError:
-            continue
-        if place == directory or directory in place.parents:
-            found.append(int(entry.name))
-    return found
-
-
-def _free_shared_memory(note: Path) -> None:
-    """Frees the shared memory of a PostgreSQL server that was killed, which it has noted in the file postmaster.pid.
-
-    A server that stopped by itself has freed it and removed the note. The note's seventh line ends with the memory's id.
-    """
-    try:
-        words = note.read_text().split("\n")[6].split()
-    except (OSError, IndexError, UnicodeDecodeError):
-        return
-    tool = shutil.which("ipcrm")
-    if tool is not None and words and words[-1].isdigit():
-        subprocess.run([tool, "-m", words[-1]], stdout=subprocess.DEVNULL, stderr=subprocess.DEVNULL, check=False)
+    def _last_words(self) -> str:
+        """The last line of what the server said."""
+        start = max(0, os.fstat(self._said.fileno()).st_size - LAST_BYTES)
+        said = os.pread(self._said.fileno(), LAST_BYTES, start).decode(errors="replace").split("\n")
+        return next((line.strip() for line in reversed(said) if line.strip()), "")[:LONGEST_LAST_WORDS]
