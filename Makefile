@@ -26,7 +26,12 @@ PREFIX ?= /usr/local
 DESTDIR ?=
 RUNS = 20
 
-export HISTORY BRIEF EXPLAIN CHECK FULL KEEP PREFIX DESTDIR
+# These reach the shell as they were given: make reads no $ in them. PROGRAM, which some of the tools take, is nothing that an
+# environment may name: what the targets run was made from the sources at hand.
+GIVEN = HISTORY BRIEF EXPLAIN CHECK FULL KEEP PREFIX DESTDIR RUNS
+$(foreach name,$(GIVEN),$(eval override $(name) := $$(value $(name))))
+export $(GIVEN)
+unexport PROGRAM
 
 .PHONY: all help run build test install uninstall release bench databases clean
 
@@ -58,7 +63,7 @@ bench:
 	@sh tools/bench.sh
 
 databases:
-	@sh tools/databases.sh "$(RUNS)"
+	@sh tools/databases.sh "$$RUNS"
 
 clean:
 	@rm -rf out crates/*/out

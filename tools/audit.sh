@@ -5,7 +5,7 @@
 : "${CHECK:=serializable}"
 
 fail() {
-    echo "make run: $1" >&2
+    printf 'make run: %s\n' "$(sh tools/shown.sh "$1")" >&2
     exit 2
 }
 

@@ -107,7 +107,7 @@ def row(kind: Kind, runs: Sequence[Finding]) -> tuple[str, ...]:
 def main(words: Sequence[str]) -> int:
     """Records and audits every kind, and prints the table."""
     program, *numbers = words or ("crates/si_audit/out/si_audit",)
-    if len(numbers) > 2 or not all(number.isdigit() and int(number) > 0 for number in numbers):
+    if len(numbers) > 2 or not all(re.fullmatch("[1-9][0-9]{0,8}", number) for number in numbers):
         print("usage: databases.py PROGRAM [RUNS [EVENTS]]", file=sys.stderr)
         return 2
     runs, events = [int(number) for number in numbers] + [20, 2000][len(numbers):]

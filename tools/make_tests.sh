@@ -1,34 +1,22 @@
 #!/bin/sh
 # Tests the targets of the Makefile that are for users: help, run, build, install and uninstall. The last line is
 # 'N passed, M failed'.
-: "${PROGRAM:=crates/si_audit/out/si_audit}"
-export PROGRAM
+. tools/counting.sh
 # What make test was told is not for the makes of this test.
-unset MAKEFLAGS MFLAGS MAKELEVEL
+unset MAKEFLAGS MFLAGS MAKELEVEL PROGRAM
 out=out/make_tests
-passed=0
-failed=0
 
-# count NAME WHY: the test passed where there is no WHY.
-count() {
-    if [ -z "$2" ]; then
-        passed=$((passed + 1))
-    else
-        failed=$((failed + 1))
-        echo "$1: $2"
-    fi
-}
-
-# runs NAME REPORT SAID ARGUMENTS..: make with these arguments writes REPORT, and SAID on standard error.
+# runs NAME REPORT SAID ARGUMENTS..: make with these arguments writes REPORT, and SAID on standard error, beside which program
+# it takes.
 runs() {
     name=$1
     report=$2
-    said=$3
+    echo "$3" >"$out/wanted"
     shift 3
     make "$@" >"$out/report" 2>"$out/said"
     count "$name: its status" "$([ $? = 0 ] || echo "it is not 0")"
     count "$name: its report" "$(cmp "$report" "$out/report" 2>&1)"
-    count "$name: what it says" "$(echo "$said" | diff - "$out/said")"
+    count "$name: what it says" "$(grep -v "^make: .*taking release/" "$out/said" | diff "$out/wanted" -)"
 }
 
 # listed FILE: the files and links under the root, and the folder of the program's own, written to FILE.
@@ -56,9 +44,9 @@ installs() {
     count "$1: what is left" "$(diff "$out/before" "$out/after")"
 }
 
-sh tools/build.sh || exit 1
 rm -rf "$out"
 mkdir -p "$out"
+sh tools/program.sh >"$out/program" || exit 1
 make help >"$out/help" 2>&1
 for target in $(sed -n 's/^\.PHONY: all//p' Makefile); do
     count "make help: $target" "$(grep -q "^make $target  *" "$out/help" || echo "it isn't listed")"
@@ -80,21 +68,40 @@ runs "make run CHECK=ssi" examples/write_skew.report "$broken" run CHECK=ssi
 refused="status 3: the text is no history, and was refused"
 runs "make run of a text that is no history" examples/refused.report "$refused" run HISTORY=examples/refused.history
 
-# The kit of this test only notes that it was asked.
-mkdir "$out/kit"
-printf '#!/bin/sh\necho "$*" >"%s"\n' "$PWD/$out/asked" >"$out/kit/rt"
-chmod 755 "$out/kit/rt"
-cp "$PROGRAM" "$out/program"
-PATH=$PWD/$out/kit:$PATH make all PROGRAM="$out/program" >"$out/said" 2>&1
-count "make, with nothing new" "$([ ! -e "$out/asked" ] || echo "the kit was asked")"
-PATH=$PWD/$out/kit:$PATH make build PROGRAM="$out/program" >"$out/said" 2>&1
-count "make build, with nothing new" "$([ -e "$out/asked" ] || echo "the kit was not asked")"
+# failing NAME SAID ARGUMENTS..: make with these arguments fails, and says SAID first.
+failing() {
+    name=$1
+    echo "$2" >"$out/wanted"
+    shift 2
+    make "$@" >"$out/report" 2>"$out/said"
+    count "$name: its status" "$([ $? != 0 ] || echo "it is 0")"
+    count "$name: what it says" "$(grep -v "^make: .*taking release/" "$out/said" | head -n 1 | diff "$out/wanted" -)"
+}
+
+# Names reach the shell as they are, and what can't be printed is shown.
+odd="$out/it's \"odd\" \$(touch $out/ran) \`touch $out/ran\` \$HOME \$\$ #; touch $out/ran.history"
+mkdir -p "$(dirname "$odd")"
+cp examples/clean.history "$odd"
+runs "make run of an odd name" examples/clean.report "$kept" run HISTORY="$odd"
+failing "make run of an odd name that isn't there" "make run: there is no file \$(touch $out/ran)" run HISTORY="\$(touch $out/ran)"
+failing "make run of a name with control characters" 'make run: there is no file \x1b[31m\x0a\x5cn\xc3\xa9' \
+    run HISTORY="$(printf '\033[31m\n\\n\303\251')"
+# A Python with no databases to record.
+cat >"$out/python" <<'PYTHON'
+#!/bin/sh
+case $1 in -m) exit 0 ;; esac
+exec python3 -B "$@"
+PYTHON
+chmod 755 "$out/python"
+failing "make databases of no number" "usage: databases.py PROGRAM [RUNS [EVENTS]]" databases PYTHON="$out/python" \
+    RUNS="\"; touch $out/ran; echo \"\$(touch $out/ran)"
+count "odd names" "$([ ! -e "$out/ran" ] || echo "something ran")"
 
 root=$PWD/$out/a\ root
 mkdir -p "$root"
 for name in DESTDIR PREFIX; do
     env "$name=$root" make -pn help >"$out/said" 2>&1
-    count "make with $name in the environment" "$(grep -qxF "$name = $root" "$out/said" || echo "it isn't taken")"
+    count "make with $name in the environment" "$(grep -qxF "$name := $root" "$out/said" || echo "it isn't taken")"
 done
 installs "an empty root" /usr/local
 for folder in bin share/si_audit share/man/man1; do
@@ -104,45 +111,5 @@ done
 installs "a root with files of others" /opt
 count "files of others" "$(cat "$root"/opt/*/other "$root"/opt/share/*/other "$root"/opt/share/man/man1/other | grep -v "of another")"
 
-# The kept program, in a repository of one source and with a kit that builds a script.
-mkdir -p "$out/tree/crates/si_audit/src" "$out/tree/rt"
-cp -r tools "$out/tree/tools"
-echo fn main >"$out/tree/crates/si_audit/src/main.rt"
-: >"$out/tree/crates.txt"
-: >"$out/tree/HANDLES"
-cat >"$out/tree/rt/rt" <<'KIT'
-#!/bin/sh
-[ "$1" = version ] && echo a kit && exit
-mkdir -p out
-echo "#!/bin/sh" >out/si_audit
-cat src/main.rt | sed 's/^/# /' >>out/si_audit
-chmod 755 out/si_audit
-KIT
-chmod 755 "$out/tree/rt/rt"
-
-# kept NAME WANTED ARGUMENTS..: release.sh with these arguments prints WANTED, in the tree.
-kept() {
-    name=$1
-    wanted=$2
-    shift 2
-    told=$(cd "$out/tree" && unset PROGRAM && PATH=$PWD/rt:$PATH sh tools/"$@" 2>/dev/null)
-    count "$name" "$([ "$told" = "$wanted" ] || echo "it prints '$told' and not '$wanted'")"
-}
-
-file=release/si_audit-x86_64-linux
-kept "no kept program" "" release.sh program
-kept "a program that is built" crates/si_audit/out/si_audit program.sh
-kept "make release" "make release: $file" release.sh renew
-kept "a kept program" "$file" release.sh program
-kept "a kept program is taken" "$file" program.sh
-kept "the program built here" "$file is the program that was built here, byte for byte" release.sh compare
-echo "# changed" >>"$out/tree/crates/si_audit/out/si_audit"
-kept "another program built here" "$file isn't the program that was built here from the same sources" release.sh compare
-echo fn other >>"$out/tree/crates/si_audit/src/main.rt"
-kept "another source" "" release.sh program
-kept "another source is built" crates/si_audit/out/si_audit program.sh
-kept "nothing to compare" "release/ has no program of these sources" release.sh compare
-
 rm -rf "$out"
-echo "$passed passed, $failed failed"
-[ "$failed" = 0 ]
+finish
