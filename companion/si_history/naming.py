@@ -12,6 +12,7 @@ from si_history.errors import BadInput, in_source
 from si_history.files import read_text, source_name
 from si_history.legend import Legend
 from si_history.report import Counts
+from si_history.unseen import is_unmistakable
 
 MAX_LEGEND_BYTES = 1 << 28
 _WORDS_OF_REPORTS = {"0", "in", "out", "first", "saw", "due", "line"}
@@ -24,9 +25,10 @@ def shown(name: str) -> str:
     """A name as one word that can't be taken for anything else.
 
     It is the name itself, or a JSON string where the name is empty, is a word of the report, or holds a space, a quote, a
-    backslash, an angle bracket or anything that can't be seen. Then what can't be seen is escaped.
+    backslash, an angle bracket or anything that can't be seen. Where something can't be seen, or another name may look the
+    same, all that isn't ASCII is escaped.
     """
-    if not name.isprintable():
+    if not is_unmistakable(name):
         return json.dumps(name)
     if not name or name in _WORDS_OF_REPORTS or _MISREAD.search(name):
         return json.dumps(name, ensure_ascii=False)
