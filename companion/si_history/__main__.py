@@ -2,6 +2,10 @@
 
 import sys
 
-from si_history.cli import main
+from si_history import startup
+
+startup.prepare()
+
+from si_history.cli import main  # noqa: E402 - an interrupt while it loads ends the process without a traceback
 
 sys.exit(main())

@@ -5,23 +5,23 @@ from __future__ import annotations
 import argparse
 import sys
 from collections.abc import Sequence
-from typing import NoReturn, Protocol
+from typing import IO, Any, NoReturn, Protocol
 
-from si_history import __version__, from_events, from_transactions, graph, names, page
+from si_history import __version__, from_events, from_transactions, graph, names, page, startup
 from si_history.errors import BadInput
+from si_history.files import write_error, write_output
 from si_history.record import command as record
 
 OK = 0
 BAD_INPUT = 2
-INTERRUPTED = 130
 
 DESCRIPTION = """\
 Turns the log of a multiversion store into a history for si_audit, and its report
 into names and pictures. It judges nothing: the verdict is si_audit's alone."""
 
 EPILOG = """\
-Status 0: all went well. Status 2: the input or the command line is bad; one line
-on standard error says why, and nothing is written.
+Status 0: all went well. Status 2: the input or the command line is bad, or what
+was made can't be written; one line on standard error says why.
 Each command has its own help: si-history COMMAND --help"""
 
 
@@ -37,10 +37,22 @@ COMMANDS: tuple[Command, ...] = (from_events, from_transactions, names, graph, p
 
 
 class OneLineParser(argparse.ArgumentParser):
-    """A parser that tells a faulty command line in one line."""
+    """A parser that tells a faulty command line in one line, and whose help is output like any other."""
+
+    def print_help(self, file: IO[str] | None = None) -> None:
+        write_output(self.format_help())
 
     def error(self, message: str) -> NoReturn:
-        self.exit(BAD_INPUT, f"{self.prog}: {message} (see {self.prog} --help)\n")
+        write_error(f"{self.prog}: {message} (see {self.prog} --help)")
+        sys.exit(BAD_INPUT)
+
+
+class ShowVersion(argparse.Action):
+    """Writes the version, and ends."""
+
+    def __call__(self, parser: argparse.ArgumentParser, *_: Any) -> None:
+        write_output(f"si-history {__version__}\n")
+        parser.exit()
 
 
 def make_parser() -> argparse.ArgumentParser:
@@ -51,7 +63,7 @@ def make_parser() -> argparse.ArgumentParser:
         epilog=EPILOG,
         formatter_class=argparse.RawDescriptionHelpFormatter,
     )
-    parser.add_argument("--version", action="version", version=f"si-history {__version__}")
+    parser.add_argument("--version", action=ShowVersion, nargs=0, help="show the version and exit")
     commands = parser.add_subparsers(metavar="COMMAND", required=True)
     for command in COMMANDS:
         command.register(commands)
@@ -60,15 +72,21 @@ def make_parser() -> argparse.ArgumentParser:
 
 def main(words: Sequence[str] | None = None) -> int:
     """Runs one command line (that of the process, if none is given), and answers the status."""
-    arguments = make_parser().parse_args(words)
     try:
+        with startup.interrupts_raised():
+            return _run(words)
+    except KeyboardInterrupt:
+        return startup.INTERRUPTED
+
+
+def _run(words: Sequence[str] | None) -> int:
+    """Runs one command line, and answers the status."""
+    try:
+        arguments = make_parser().parse_args(words)
         status: int = arguments.run(arguments)
         return status
     except BadInput as fault:
-        print(f"si-history: {fault}", file=sys.stderr)
-        return BAD_INPUT
+        write_error(f"si-history: {fault}")
     except MemoryError:
-        print("si-history: not enough memory", file=sys.stderr)
-        return BAD_INPUT
-    except KeyboardInterrupt:
-        return INTERRUPTED
+        write_error("si-history: not enough memory")
+    return BAD_INPUT

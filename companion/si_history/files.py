@@ -10,6 +10,7 @@ from contextlib import contextmanager, suppress
 from typing import BinaryIO
 
 from si_history.errors import BadInput
+from si_history.unseen import visible
 
 STANDARD_INPUT = STANDARD_OUTPUT = "-"
 OUTPUT_DEVICE = "/dev/stdout"
@@ -80,10 +81,20 @@ def write_output(text: str, path: str = STANDARD_OUTPUT) -> None:
         sys.stdout.buffer.write(text.encode("utf-8"))
         sys.stdout.buffer.flush()
     except BrokenPipeError:
-        _drop_output()
+        _drop(1)
     except OSError as fault:
-        _drop_output()
+        _drop(1)
         raise BadInput(f"can't be written: {_words(fault)}", source=output_name(path)) from None
+
+
+def write_error(line: str) -> None:
+    """Writes a line to standard error, what can't be seen as `visible` shows it. Where that fails, the status alone tells."""
+    if sys.stderr is None:
+        return
+    try:
+        print(visible(line), file=sys.stderr, flush=True)
+    except OSError:
+        _drop(2)
 
 
 def _write_file(path: str, text: str) -> None:
@@ -160,9 +171,9 @@ def _writable(place: str) -> os.stat_result | None:
         os.close(descriptor)
 
 
-def _drop_output() -> None:
+def _drop(descriptor: int) -> None:
     """Lets what is still unwritten go nowhere, so that the end of the process doesn't try again."""
-    os.dup2(os.open(os.devnull, os.O_WRONLY), 1)
+    os.dup2(os.open(os.devnull, os.O_WRONLY), descriptor)
 
 
 def _words(fault: Exception) -> str:

@@ -1,0 +1,43 @@
+"""What is done before the other modules load: interrupts and closed devices, which may come at any time, do no harm."""
+
+from __future__ import annotations
+
+import os
+import signal
+from collections.abc import Iterator
+from contextlib import contextmanager
+from types import FrameType
+
+INTERRUPTED = 130
+
+
+def prepare() -> None:
+    """Readies the process. Call it before the other modules are imported."""
+    if signal.getsignal(signal.SIGINT) is signal.default_int_handler:
+        signal.signal(signal.SIGINT, _end)
+    _fill_devices()
+
+
+@contextmanager
+def interrupts_raised() -> Iterator[None]:
+    """Within, an interrupt at the keyboard raises KeyboardInterrupt, if it ends a prepared process otherwise."""
+    ends = signal.getsignal(signal.SIGINT) is _end
+    if ends:
+        signal.signal(signal.SIGINT, signal.default_int_handler)
+    try:
+        yield
+    finally:
+        if ends:
+            signal.signal(signal.SIGINT, _end)
+
+
+def _end(_number: int, _frame: FrameType | None) -> None:
+    """Ends the process at once. Nothing is under way that would have to be undone."""
+    os._exit(INTERRUPTED)
+
+
+def _fill_devices() -> None:
+    """Puts /dev/null in the place of closed standard devices, so that no file that is opened comes to stand there."""
+    while (descriptor := os.open(os.devnull, os.O_RDWR)) <= 2:
+        os.set_inheritable(descriptor, True)
+    os.close(descriptor)
