@@ -1,6 +1,6 @@
 #!/bin/sh
-# Tests the targets of the Makefile that are for users: help, run, build, install and uninstall. The last line is
-# 'N passed, M failed'.
+# Tests the targets of the Makefile that are for users: help, run and databases; tools/kept_tests.sh and tools/install_tests.sh test
+# which program is taken, and how it is installed. The last line is 'N passed, M failed'.
 . tools/counting.sh
 # What make test was told is not for the makes of this test.
 unset MAKEFLAGS MFLAGS MAKELEVEL PROGRAM
@@ -17,31 +17,6 @@ runs() {
     count "$name: its status" "$([ $? = 0 ] || echo "it is not 0")"
     count "$name: its report" "$(cmp "$report" "$out/report" 2>&1)"
     count "$name: what it says" "$(grep -v "^make: .*taking release/" "$out/said" | diff "$out/wanted" -)"
-}
-
-# listed FILE: the files and links under the root, and the folder of the program's own, written to FILE.
-listed() {
-    (cd "$root" && find . ! -type d -print && find . -type d -path '*share/si_audit*' -print) | sort >"$1"
-}
-
-# installs NAME PREFIX: after two makes of install and two of uninstall all is as it was.
-installs() {
-    listed "$out/before"
-    for target in install install uninstall uninstall; do
-        make "$target" DESTDIR="$root" PREFIX="$2" >"$out/said" 2>&1
-        count "$1: make $target" "$([ $? = 0 ] || echo "its status is not 0: $(cat "$out/said")")"
-        if [ "$target" = install ]; then
-            printf 'c2 c1' | "$root$2/bin/si_audit" >"$out/report" 2>"$out/said"
-            count "$1: the program" "$(cmp examples/commit_order.report "$out/report" 2>&1)"
-            "$root$2/bin/si-history" --version >"$out/report" 2>"$out/said"
-            count "$1: si-history" "$(grep -q "^si-history " "$out/report" || echo "it doesn't tell its version: $(cat "$out/said")")"
-            for page in si_audit.1 si-history.1; do
-                count "$1: $page" "$(cmp "docs/$page" "$root$2/share/man/man1/$page" 2>&1)"
-            done
-        fi
-    done
-    listed "$out/after"
-    count "$1: what is left" "$(diff "$out/before" "$out/after")"
 }
 
 rm -rf "$out"
@@ -97,19 +72,10 @@ failing "make databases of no number" "usage: databases.py PROGRAM [RUNS [EVENTS
     RUNS="\"; touch $out/ran; echo \"\$(touch $out/ran)"
 count "odd names" "$([ ! -e "$out/ran" ] || echo "something ran")"
 
-root=$PWD/$out/a\ root
-mkdir -p "$root"
 for name in DESTDIR PREFIX; do
-    env "$name=$root" make -pn help >"$out/said" 2>&1
-    count "make with $name in the environment" "$(grep -qxF "$name := $root" "$out/said" || echo "it isn't taken")"
+    env "$name=$PWD/a root" make -pn help >"$out/said" 2>&1
+    count "make with $name in the environment" "$(grep -qxF "$name := $PWD/a root" "$out/said" || echo "it isn't taken")"
 done
-installs "an empty root" /usr/local
-for folder in bin share/si_audit share/man/man1; do
-    mkdir -p "$root/opt/$folder"
-    echo "of another" >"$root/opt/$folder/other"
-done
-installs "a root with files of others" /opt
-count "files of others" "$(cat "$root"/opt/*/other "$root"/opt/share/*/other "$root"/opt/share/man/man1/other | grep -v "of another")"
 
 rm -rf "$out"
 finish
