@@ -6,6 +6,7 @@ passed=0
 failed=0
 
 if [ $# = 0 ]; then
+    # shellcheck disable=SC2046 # the names of crates are words
     set -- $(sed -n 's/^\([a-z][a-z0-9_]*\)[ :].*/\1/p' crates.txt)
 fi
 for name; do

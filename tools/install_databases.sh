@@ -14,9 +14,18 @@ fi
 # What a package starts while it is installed is not started where this program says 101.
 policy=/usr/sbin/policy-rc.d
 made=
+
+# Takes the program away again, if this script made it, however the script ends.
+clean_up() {
+    [ -z "$made" ] || rm -f "$policy"
+}
+trap clean_up EXIT
+trap 'exit 129' HUP
+trap 'exit 130' INT
+trap 'exit 143' TERM
 if [ ! -e "$policy" ]; then
-    printf '#!/bin/sh\nexit 101\n' >"$policy" && chmod 755 "$policy" || exit 1
     made=yes
+    printf '#!/bin/sh\nexit 101\n' >"$policy" && chmod 755 "$policy" || exit 1
 fi
 export DEBIAN_FRONTEND=noninteractive
 # Servers that stood here before this script are left as they are.
@@ -24,9 +33,8 @@ before=$(dpkg-query --show --showformat='${Package} ${db:Status-Status}\n' postg
 # shellcheck disable=SC2086
 apt-get update && apt-get -o DPkg::Lock::Timeout=300 install --yes --no-install-recommends $needed
 status=$?
-if [ -n "$made" ]; then
-    rm -f "$policy"
-fi
+clean_up
+made=
 if [ "$status" != 0 ]; then
     echo "install_databases: apt-get failed, as it says above" >&2
     exit 1

@@ -63,6 +63,7 @@ step "the program on command lines, and with devices that fail" sh tools/line_te
 step "the targets of the Makefile for users" sh tools/make_tests.sh
 step "which program is taken" sh tools/kept_tests.sh
 step "what is installed and removed" sh tools/install_tests.sh
+step "the scripts" sh tools/shell_tests.sh
 step "the links of the pages, and their numbers of words" python3 -B tools/links.py
 step "the list of wrong bodies is that of the edits" python3 -B tools/wrong_bodies.py --check
 step "the definitions in Python, on what docs/FORMAT.md works out" definitions unittest -q oracle.tests

@@ -13,6 +13,7 @@ from si_history.operations import Key, Sighting
 from si_history.progress import Progress
 
 MAX_LOG_BYTES = 268_435_456
+MAX_LINE_BYTES = 16_777_216
 LINES_BETWEEN_STEPS = 1_000
 BLANKS = " \t\r\n"
 
@@ -141,9 +142,11 @@ def log_lines(log: BinaryIO, tally: LogTally, what: str) -> Iterator[LogLine]:
     left = MAX_LOG_BYTES
     number = 0
     with Progress(f"{what} read") as progress:
-        while content := log.readline(left + 1):
+        while content := log.readline(min(left, MAX_LINE_BYTES) + 1):
             number += 1
             left -= len(content)
+            if len(content) > MAX_LINE_BYTES:
+                raise BadInput(f"too long: the limit of bytes of a line is {MAX_LINE_BYTES:,}", line=number)
             if left < 0:
                 raise BadInput(f"log too long: the limit of bytes of a log is {MAX_LOG_BYTES:,}", line=number)
             if number % LINES_BETWEEN_STEPS == 0:
