@@ -69,7 +69,9 @@ step "the list of wrong bodies is that of the edits" python3 -B tools/wrong_bodi
 step "the definitions in Python, on what docs/FORMAT.md works out" definitions unittest -q oracle.tests
 step "the program beside the definitions, on random histories" definitions oracle "$PROGRAM" \
     small=1000 crowd=60 versions=30 ranges=24 rings=20 edges=12 most_edges=6
+step "the program on 20,000 texts that nobody means" definitions fuzz_texts "$PROGRAM"
 step "the companion: logs in, names and pages out" sh tools/companion_tests.sh
+step "the companion on 2,000 logs that nobody means" env PYTHONPATH=tools:companion python3 -B -m fuzz_logs "$PROGRAM"
 step "the program on the longest texts and on hard ones, each within some seconds" python3 -B tools/limits.py "$PROGRAM"
 step "the program without memory, and without threads" python3 -B tools/refusals.py "$PROGRAM"
 finish
