@@ -182,6 +182,13 @@ if [ -c /dev/full ]; then
     told "a full device for the help" $? 4 "si_audit: write failed"
 fi
 
+# The stack that docs/USAGE.md says is enough.
+for words in "" "--brief" "--explain" "--workers 64 14"; do
+    # shellcheck disable=SC2086 # the words are words
+    (ulimit -s 128 && "$PROGRAM" $words <"$history" >out/report 2>out/said)
+    told "a stack of 128 KB, $words" $? 0 ""
+done
+
 # Pipes whose reader ends early. The report of the long history is longer than a pipe holds.
 long_history >out/long.history
 {

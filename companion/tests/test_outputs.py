@@ -5,10 +5,12 @@ from __future__ import annotations
 import json
 import os
 import resource
+import shutil
 import subprocess
 import sys
 import tempfile
 import unittest
+from collections.abc import Callable
 from pathlib import Path
 from unittest import mock
 
@@ -19,6 +21,8 @@ from tests.support import COMPANION, LONG_SECONDS, log_of
 LOG = log_of([{"txn": "A", "op": "write", "key": "k"}, {"txn": "A", "op": "commit"}])
 HISTORY = "w1[0] c1\n"
 REPORT = "events 2 committed 1 aborted 0 open 0\nisolation kept\nssi pass\nserializable yes\norder 1\n"
+CAN_MOUNT = shutil.which("unshare") is not None and subprocess.run(
+    ["unshare", "-rm", "sh", "-c", "mount -t tmpfs -o size=64k tmpfs /mnt"], capture_output=True).returncode == 0
 LEGEND = json.dumps({"format": "si-history legend 1", "transactions": {"1": "A"}, "keys": {"0": "k"}, "events": [1, 2]})
 
 
@@ -36,10 +40,17 @@ class OutputTest(unittest.TestCase):
             if file_size is not None:
                 resource.setrlimit(resource.RLIMIT_FSIZE, (file_size, file_size))
 
-        line = line.replace("si-history", f"{sys.executable} -B -m si_history")
-        done = subprocess.run(["sh", "-c", line], cwd=self.place, capture_output=True, timeout=LONG_SECONDS, preexec_fn=limited,
-                              env={**os.environ, "PYTHONPATH": str(COMPANION)})
+        done = self.run_process(["sh", "-c", self.command_in(line)], limited)
         return done.returncode, done.stderr.decode()
+
+    def command_in(self, line: str) -> str:
+        """A line of the shell with the command as it is run here."""
+        return line.replace("si-history ", f"{sys.executable} -B -m si_history ")
+
+    def run_process(self, words: list[str], first: Callable[[], None] | None = None) -> subprocess.CompletedProcess[bytes]:
+        """Runs a process in the directory. It does `first` before all else."""
+        return subprocess.run(words, cwd=self.place, capture_output=True, timeout=LONG_SECONDS, preexec_fn=first,
+                              env={**os.environ, "PYTHONPATH": str(COMPANION)})
 
     def write(self, **files: str | bytes) -> None:
         for name, content in files.items():
@@ -116,6 +127,15 @@ class WholeTest(OutputTest):
         status, said = self.run_shell("si-history from-events --legend legend log >/dev/null", file_size=4096)
         self.assertEqual((status, said), (2, "si-history: legend: can't be written: File too large\n"))
         self.assertEqual((self.content("legend"), self.files()), ("the legend of before", {"log", "legend"}))
+
+    @unittest.skipUnless(CAN_MOUNT, "left out: no small disk can be mounted here")
+    def test_a_full_disk_leaves_what_was_there(self) -> None:
+        self.write(log=log_of([{"txn": f"t{n}", "op": "abort"} for n in range(10_000)]))
+        script = ("mkdir disk && mount -t tmpfs -o size=64k tmpfs disk && echo the legend of before >disk/legend && "
+                  "{ si-history from-events --legend disk/legend log >/dev/null; status=$?; ls -A disk; cat disk/legend; exit $status; }")
+        done = self.run_process(["unshare", "-rm", "sh", "-c", self.command_in(script)])
+        self.assertEqual((done.returncode, done.stdout.decode(), done.stderr.decode()), (
+            2, "legend\nthe legend of before\n", "si-history: disk/legend: can't be written: No space left on device\n"))
 
     def test_an_interrupt_leaves_what_was_there(self) -> None:
         self.write(page="the page of before")
