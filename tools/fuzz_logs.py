@@ -4,9 +4,9 @@
     PYTHONPATH=tools:companion python3 -m fuzz_logs PROGRAM [--count N] [--seed N] [--only N]
 
 Each log is an example with some of its bytes, lines or values changed. The companion takes it or refuses it in one line, and ends
-in no other way. What it takes, PROGRAM takes too; and of the report the companion then makes names, a graph, a page and a picture.
-Some of the logs go through the command line, which ends with status 0 or 2 and no traceback. A log is made from the seed and its own
-number alone, so --only gives one log again. The first log that fails is kept as out/fuzzed.jsonl. The last line is
+in no other way. What it takes, PROGRAM takes too; and of the report the companion then makes names, a graph, a page and a
+picture. Some of the logs go through the command line, which ends with status 0 or 2 and no traceback. A log is made from the seed
+and its own number alone, so --only gives one log again. The first log that fails is kept as out/fuzzed.jsonl. The last line is
 'N passed, M failed'.
 """
 
@@ -47,9 +47,10 @@ SHARES = 20
 COMMAND_EACH = 40
 # Of all logs at least so many are taken, and as many refused, so that each is tried.
 LEAST_SHARE = 0.05
-LOGS = {kind: [path.read_bytes() for path in sorted(Path("examples").glob(f"**/*.{kind}.jsonl"))] for kind in ("events", "transactions")}
 CONVERTS = {"events": from_events.convert, "transactions": from_transactions.convert}
-VALUES: tuple[Any, ...] = (None, True, 0, 1, -1, 2**32, 2**64, 1.5, "", "A", "\u2800", "\ud800", "a\nb", "</script>", [], [[]], {}, {"a": 1})
+LOGS = {kind: [path.read_bytes() for path in sorted(Path("examples").glob(f"**/*.{kind}.jsonl"))] for kind in CONVERTS}
+VALUES: tuple[Any, ...] = (
+    None, True, 0, 1, -1, 2**32, 2**64, 1.5, "", "A", "\u2800", "\ud800", "a\nb", "</script>", [], [[]], {}, {"a": 1})
 
 
 def changed_value(value: Any, known: list[Any], rng: Random) -> Any:
@@ -77,7 +78,8 @@ def relined(log: bytes, other: bytes, rng: Random) -> bytes:
         elif way == 2:
             lines[one:one + 1], lines[two:two + 1] = lines[two:two + 1], lines[one:one + 1]
         else:
-            lines[one:one + 1] = [json.dumps(changed_value(json.loads(it), known, rng)).encode() + b"\n" for it in lines[one:one + 1]]
+            changed = [changed_value(json.loads(it), known, rng) for it in lines[one:one + 1]]
+            lines[one:one + 1] = [json.dumps(it).encode() + b"\n" for it in changed]
     return b"".join(lines)
 
 
@@ -91,7 +93,7 @@ def log_of(rng: Random) -> tuple[str, bytes]:
 def audited(program: str, text: str) -> str:
     """The explained report of a history. Raises AssertionError where the program doesn't take it."""
     ran = subprocess.run([program, "--explain"], input=text.encode(), capture_output=True, timeout=SECONDS)
-    assert ran.returncode in (0, 1) and not ran.stderr, f"the program ends with {ran.returncode}: {ran.stdout[:200]!r} {ran.stderr!r}"
+    assert ran.returncode in (0, 1) and not ran.stderr, f"the program ends with {ran.returncode}: {ran.stdout[:200]!r}"
     return ran.stdout.decode()
 
 
@@ -113,7 +115,8 @@ def use(conversion: Conversion, text: str, report_text: str) -> None:
 
 def ended(kind: str, log: bytes) -> str:
     """What is wrong with the command line, given a log."""
-    ran = subprocess.run([sys.executable, "-B", "-m", "si_history", f"from-{kind}", "-"], input=log, capture_output=True, timeout=SECONDS)
+    ran = subprocess.run([sys.executable, "-B", "-m", "si_history", f"from-{kind}", "-"], input=log, capture_output=True,
+                         timeout=SECONDS)
     if ran.returncode == 0 and not ran.stderr:
         return ""
     is_told = ran.returncode == 2 and not ran.stdout and ran.stderr.count(b"\n") == 1 and ran.stderr.startswith(b"si-history: ")

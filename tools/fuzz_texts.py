@@ -142,7 +142,8 @@ def status_of(report: bytes, level: str) -> int:
 
 def told(report: bytes) -> bytes:
     """What every form of a report tells: a brief report."""
-    return b"".join(line for line in report.splitlines(keepends=True) if not line.startswith((b"  ", b"dangerous ", b"edge ", b"pivot ")))
+    lines = report.splitlines(keepends=True)
+    return b"".join(line for line in lines if not line.startswith((b"  ", b"dangerous ", b"edge ", b"pivot ")))
 
 
 def fault_of(ran: Ran, level: str, form: list[str], full: bytes) -> str | None:

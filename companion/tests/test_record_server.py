@@ -259,6 +259,14 @@ class Missing(unittest.TestCase):
             with self.assertRaisesRegex(StoreFault, r"/the/other/python3 has si_two: use /the/other/python3 -m si_history"):
                 drivers.load("PostgreSQL", ("si_one", "si_two"))
 
+    def test_a_file_of_the_directory_is_no_driver(self) -> None:
+        with tempfile.TemporaryDirectory(prefix="si-test-") as place:
+            (Path(place) / "si_one.py").write_text("open('ran', 'w')\n")
+            script = "from si_history.record import drivers; print(drivers._has_module(drivers.SYSTEM_PYTHON, 'si_one'))"
+            done = subprocess.run([sys.executable, "-P", "-c", script], cwd=place, capture_output=True, timeout=LONG_SECONDS,
+                                  check=False, env={**os.environ, "PYTHONPATH": str(COMPANION)})
+            self.assertEqual((done.stdout, os.listdir(place)), (b"False\n", ["si_one.py"]))
+
     def test_the_newest_server_of_debian_is_taken(self) -> None:
         places = [Path("/usr/lib/postgresql") / version / "bin" for version in ("9", "15", "13", "odd")]
         self.assertEqual(max(places, key=postgres._version).parent.name, "15")

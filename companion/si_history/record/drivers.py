@@ -33,7 +33,7 @@ def load(title: str, names: Sequence[str]) -> Any:
 def _has_module(python: str, name: str) -> bool:
     """Whether another Python has a module."""
     try:
-        return subprocess.run([python, "-c", f"import {name}"], stdin=subprocess.DEVNULL, stdout=subprocess.DEVNULL,
+        return subprocess.run([python, "-I", "-c", f"import {name}"], stdin=subprocess.DEVNULL, stdout=subprocess.DEVNULL,
                               stderr=subprocess.DEVNULL, timeout=20, check=False).returncode == 0
     except (OSError, subprocess.TimeoutExpired):
         return False
