@@ -146,8 +146,8 @@ def _replace(path: str, text: str) -> None:
     """Puts a file in the place of what is there: written beside it, and renamed when it is whole. Links stay links."""
     if not os.path.basename(path):
         raise FileNotFoundError(2, os.strerror(2))
+    before = _writable(path)
     place = os.path.realpath(path)
-    before = _writable(place)
     temporary = os.path.join(os.path.dirname(place), f".si-history-{os.urandom(8).hex()}")
     mode = 0o666 if before is None else before.st_mode & 0o777
     try:
@@ -159,10 +159,13 @@ def _replace(path: str, text: str) -> None:
         raise
 
 
-def _writable(place: str) -> os.stat_result | None:
-    """What is known of a file that may be written, or None where there is none. Raises OSError where it may not."""
+def _writable(path: str) -> os.stat_result | None:
+    """What is known of a file that may be written, or None where there is none. Raises OSError where it may not.
+
+    The system itself follows the path, so that it can refuse another's link in a directory of all.
+    """
     try:
-        descriptor = os.open(place, os.O_WRONLY | os.O_NOFOLLOW)
+        descriptor = os.open(path, os.O_WRONLY)
     except FileNotFoundError:
         return None
     try:

@@ -23,6 +23,8 @@ HISTORY = "w1[0] c1\n"
 REPORT = "events 2 committed 1 aborted 0 open 0\nisolation kept\nssi pass\nserializable yes\norder 1\n"
 CAN_MOUNT = shutil.which("unshare") is not None and subprocess.run(
     ["unshare", "-rm", "sh", "-c", "mount -t tmpfs -o size=64k tmpfs /mnt"], capture_output=True).returncode == 0
+PROTECTION = Path("/proc/sys/fs/protected_symlinks")
+LINKS_PROTECTED = PROTECTION.exists() and PROTECTION.read_text().strip() == "1"
 LEGEND = json.dumps({"format": "si-history legend 1", "transactions": {"1": "A"}, "keys": {"0": "k"}, "events": [1, 2]})
 
 
@@ -163,6 +165,31 @@ class WholeTest(OutputTest):
             write_output("after", str(self.place / name))
             self.assertTrue((self.place / name).is_symlink())
             self.assertEqual(self.content(target), "after")
+
+    def test_the_system_may_refuse_to_follow_a_link(self) -> None:
+        """It is asked for the path as it was given, before anything is written."""
+        self.write(target="before")
+        link = self.place / "link"
+        link.symlink_to("target")
+        with mock.patch.object(os, "open", side_effect=PermissionError(13, "Permission denied")) as opened:
+            with self.assertRaisesRegex(BadInput, "Permission denied"):
+                write_output("after", str(link))
+        self.assertEqual(opened.call_args_list, [mock.call(str(link), os.O_WRONLY)])
+        self.assertEqual((self.content("target"), self.files()), ("before", {"link", "target"}))
+
+    @unittest.skipUnless(os.geteuid() == 0 and LINKS_PROTECTED, "left out: no link of another's is refused here")
+    def test_a_link_of_anothers_in_a_directory_of_all_is_not_followed(self) -> None:
+        (self.place / "all").mkdir()
+        (self.place / "all").chmod(0o1777)
+        self.write(target="root's")
+        for target in ("../target", "../missing"):
+            link = self.place / "all" / "link"
+            link.symlink_to(target)
+            os.chown(link, 1, 1, follow_symlinks=False)
+            with self.subTest(target), self.assertRaisesRegex(BadInput, "Permission denied"):
+                write_output("after", str(link))
+            link.unlink()
+        self.assertEqual((self.content("target"), self.files()), ("root's", {"all", "target"}))
 
     @unittest.skipIf(os.geteuid() == 0, "left out: root may write everything")
     def test_a_file_that_may_not_be_written_stays(self) -> None:
