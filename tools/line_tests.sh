@@ -184,7 +184,7 @@ fi
 
 # The stack that docs/USAGE.md says is enough.
 for words in "" "--brief" "--explain" "--workers 64 14"; do
-    # shellcheck disable=SC2086 # the words are words
+    # shellcheck disable=SC2086,SC3045 # the words are words, and the shells that are used know -s
     (ulimit -s 128 && "$PROGRAM" $words <"$history" >out/report 2>out/said)
     told "a stack of 128 KB, $words" $? 0 ""
 done
