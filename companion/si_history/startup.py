@@ -13,7 +13,7 @@ INTERRUPTED = 130
 
 def prepare() -> None:
     """Readies the process. Call it before the other modules are imported."""
-    if signal.getsignal(signal.SIGINT) is signal.default_int_handler:
+    if signal.getsignal(signal.SIGINT) in (signal.default_int_handler, signal.SIG_DFL):
         signal.signal(signal.SIGINT, _end)
     _fill_devices()
 
