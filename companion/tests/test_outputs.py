@@ -130,6 +130,14 @@ class WholeTest(OutputTest):
         self.assertEqual((status, said), (2, "si-history: legend: can't be written: File too large\n"))
         self.assertEqual((self.content("legend"), self.files()), ("the legend of before", {"log", "legend"}))
 
+    def test_a_limit_of_file_size_leaves_a_page_and_a_picture(self) -> None:
+        for words in ("", "--svg "):
+            self.write(history=HISTORY, report=REPORT, page="what was there before")
+            with self.subTest(words):
+                status, said = self.run_shell(f"si-history page history report {words}-o page", file_size=1024)
+                self.assertEqual((status, said), (2, "si-history: page: can't be written: File too large\n"))
+                self.assertEqual((self.content("page"), self.files()), ("what was there before", {"history", "report", "page"}))
+
     @unittest.skipUnless(CAN_MOUNT, "left out: no small disk can be mounted here")
     def test_a_full_disk_leaves_what_was_there(self) -> None:
         self.write(log=log_of([{"txn": f"t{n}", "op": "abort"} for n in range(10_000)]))
