@@ -2,7 +2,7 @@
 
 from __future__ import annotations
 
-from collections.abc import Callable, Sequence
+from collections.abc import Callable
 from random import Random
 
 # Bytes and numbers at which something ends: of characters, of separators, of numbers that a history or Python can hold.
