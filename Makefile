@@ -5,9 +5,10 @@
 #: make run BRIEF=1 CHECK=si   leaves out edges and pivots, and the status tells of another level: serializable, ssi or si
 #: make                        proves and builds the program, where there is none or a source is newer than it
 #: make build                  proves and builds the program in any case; the kit knows what it has proved already
-#: make test                   proves what isn't proved yet, runs the tests, and the program on examples and random histories
-#: make test FULL=1            the whole gate: proves all from nothing, tries the wrong edits, and then does the same
+#: make test                   tests the kept program and the companion, in minutes and without a proof, and says what it didn't test
+#: make test FULL=1            the whole gate: proves all from nothing, tries the wrong edits, and tests the program that it built
 #: make test SERVERS=1         also tests the recorder with PostgreSQL and MariaDB, where they are installed
+#: make prove                  proves what isn't proved yet, builds the program, and runs the crates' own tests
 #: make install PREFIX=/usr    installs si_audit, si-history and their man pages in PREFIX/bin and PREFIX/share, under DESTDIR
 #: make uninstall PREFIX=/usr  removes what make install put there, and nothing else
 #: make release                proves, builds and keeps the program in release/, for make run, install, bench and databases
@@ -33,7 +34,7 @@ $(foreach name,$(GIVEN),$(eval override $(name) := $$(value $(name))))
 export $(GIVEN)
 unexport PROGRAM
 
-.PHONY: all help run build test install uninstall release bench databases clean
+.PHONY: all help run build prove test install uninstall release bench databases clean
 
 all:
 	@sh tools/build.sh
@@ -49,6 +50,9 @@ build:
 
 test:
 	@sh tools/test.sh
+
+prove:
+	@sh tools/test.sh prove
 
 install:
 	@sh tools/install.sh

@@ -6,4 +6,4 @@ if [ ! -x "$PROGRAM" ]; then
     echo "there is no program $PROGRAM" >&2
     exit 1
 fi
-PYTHONDONTWRITEBYTECODE=1 python3 -m unittest discover -s companion/tests -t companion
+PYTHONPATH=companion python3 -B -m tests

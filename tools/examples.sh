@@ -3,7 +3,8 @@
 # NAME.report, and with --explain with NAME.explained, and its status with the one in NAME.status, or 0; and in the same way on
 # the stored run of its crate. The last line is 'N passed, M failed'.
 : "${PROGRAM:=crates/si_audit/out/si_audit}"
-mkdir -p out
+room=out/examples
+mkdir -p "$room"
 passed=0
 failed=0
 
@@ -13,14 +14,14 @@ compare() {
     wanted=$2
     ending=$3
     shift 3
-    "$PROGRAM" "$@" <"$text" >out/report 2>out/said
+    "$PROGRAM" "$@" <"$text" >"$room/report" 2>"$room/said"
     status=$?
     why=
     if [ ! -f "$wanted" ]; then
         why="there is no $wanted"
-    elif ! cmp -s "$wanted" out/report; then
+    elif ! cmp -s "$wanted" "$room/report"; then
         why="it isn't $wanted"
-    elif [ -s out/said ]; then
+    elif [ -s "$room/said" ]; then
         why="it wrote on standard error"
     elif [ "$status" != "$ending" ]; then
         why="its status is $status and not $ending"
@@ -30,7 +31,7 @@ compare() {
     else
         failed=$((failed + 1))
         echo "$text: $why:"
-        cat out/report out/said
+        cat "$room/report" "$room/said"
     fi
 }
 

@@ -1,77 +1,126 @@
 #!/bin/sh
-# make test takes what is proved already, proves the rest, runs the tests of each crate, and then the program: on every
-# example, on command lines, by the Makefile, beside the definitions, on the longest texts and on hard ones, and without
-# memory. The programs that the tests of the crates leave are run without memory, too. With FULL=1 the kit's whole gate
-# stands in the place of the first steps: all is proved from nothing, and the edits that the prover must refuse are tried. A
-# table of the steps comes at the end, and the last line counts them.
-: "${PROGRAM:=crates/si_audit/out/si_audit}"
-mkdir -p out
-table=out/steps
-: >"$table"
+# Tests the repository, by the steps of tools/step.sh.
+#   sh tools/test.sh         what needs no proof, on the program that release/ keeps, where it was made from the sources at hand.
+#                            Where it wasn't, the kit proves and builds the program first
+#   sh tools/test.sh prove   the kit proves what isn't proved yet and builds the program; then the crates' own tests
+#   FULL=1 sh tools/test.sh  the whole gate: the kit proves all from nothing and tries the edits that it must refuse; then all
+#                            steps, on the program that it built
+# The lines before the last one say what was not tested, and what tests it. The last line counts the steps.
+steps="random companion limits texts logs refusals definitions taken installed targets scripts lines examples links bodies"
+proof_steps="kept growths"
+built=crates/si_audit/out/si_audit
 passed=0
 failed=0
 
-# step WHAT COMMAND..: one step, and what it shows where the command succeeds.
-step() {
+# first WHAT COMMAND..: a step that the others need. What it writes is shown as it comes. Where it fails nothing else is run.
+first() {
     what=$1
     shift
     echo "== $what"
     began=$(date +%s)
     if "$@"; then
-        word=passed
         passed=$((passed + 1))
+        printf 'passed %6d s  %s\n' $(($(date +%s) - began)) "$what"
     else
-        word=FAILED
         failed=$((failed + 1))
+        printf 'FAILED %6d s  %s\n' $(($(date +%s) - began)) "$what"
+        finish
     fi
-    printf '%s %6d s  %s\n' "$word" $(($(date +%s) - began)) "$what" >>"$table"
 }
 
-# Tells what came of the steps. The status is 0 where all passed.
+# others NAME..: these steps, side by side on half of the processors.
+others() {
+    lanes=$(($(getconf _NPROCESSORS_ONLN 2>/dev/null || echo 2) / 2))
+    rm -rf out/steps
+    mkdir -p out/steps
+    printf '%s\n' "$@" | xargs -n 1 -P "$((lanes > 0 ? lanes : 1))" sh tools/step.sh
+    for name; do
+        case $(cat "out/steps/$name.told" 2>/dev/null) in
+            passed*) passed=$((passed + 1)) ;;
+            *) failed=$((failed + 1)) ;;
+        esac
+    done
+}
+
+# Tells what came of the steps, what they left out, and what isn't among them. The status is 0 where all passed.
 finish() {
-    echo "== all steps"
-    cat "$table"
+    echo "== what was not tested"
+    cat out/steps/*.log 2>/dev/null | sed -n "s/.*\(left out: [^'\"]*\).*/\1/p" | sort -u
+    case $mode in
+        fast)
+            echo "the proofs, and the crates' own tests: make prove, which needs the Rattle kit"
+            echo "the wrong edits that the prover must refuse, and all proofs from nothing: make test FULL=1, which needs it too"
+            ;;
+        prove)
+            echo "the program and the companion: make test"
+            echo "the wrong edits that the prover must refuse, and all proofs from nothing: make test FULL=1"
+            ;;
+    esac
+    if [ "$mode" != prove ] && [ -z "$SERVERS" ]; then
+        echo "the recorder with the databases that are installed: make test SERVERS=1"
+    fi
     echo "$passed passed, $failed failed"
     [ "$failed" = 0 ]
+    exit
 }
 
-# The definitions in Python, which import each other as one package.
-definitions() {
-    PYTHONPATH=tools python3 -B -m "$@"
+# The program to try without a proof. It is copied, so that its own lines name it si_audit.
+take_kept() {
+    rm -rf out/kept
+    mkdir -p out/kept
+    cp "$1" out/kept/si_audit || exit 1
+    PROGRAM=out/kept/si_audit
 }
 
-sh tools/kit.sh || exit 1
-case ${FULL:-0} in
-    0) step "every function is proved to meet its contract, and the program is built" sh tools/build.sh ;;
-    1) step "all is proved from nothing, the prover refuses each wrong edit, and the crates' own tests" rt ci ;;
+# Takes the kept program; or the kit proves and builds one.
+find_program() {
+    kept=$(sh tools/release.sh program 2>out/why)
+    if [ -n "$kept" ]; then
+        echo "the program is $kept, which was proved and built from these sources"
+        take_kept "$kept"
+    elif command -v rt >/dev/null 2>&1; then
+        cat out/why
+        PROGRAM=$built
+        first "every function is proved to meet its contract, and the program is built" sh tools/build.sh
+    else
+        why=$(head -n 1 out/why)
+        echo "make test: no program to test: ${why#make: }, and no kit to prove and build one: there is no command rt on the PATH" >&2
+        exit 1
+    fi
+}
+
+case ${1:-test}${FULL:-0} in
+    test0) mode=fast ;;
+    test1) mode=full ;;
+    prove*) mode=prove ;;
     *)
         echo "make test: FULL is 1, or isn't given" >&2
         exit 2
         ;;
 esac
-if [ "$failed" != 0 ]; then
-    finish
-    exit 1
-fi
-if [ "${FULL:-0}" = 0 ]; then
-    step "the crates' own tests" sh tools/crate_tests.sh
-fi
-step "the crates' own tests without memory" python3 -B tools/growths.py crates/*/out/*_tests
-step "the program that release/ keeps" sh tools/release.sh compare
-step "the program on every example" sh tools/examples.sh
-step "the program on command lines, and with devices that fail" sh tools/line_tests.sh
-step "the targets of the Makefile for users" sh tools/make_tests.sh
-step "which program is taken" sh tools/kept_tests.sh
-step "what is installed and removed" sh tools/install_tests.sh
-step "the scripts" sh tools/shell_tests.sh
-step "the links of the pages, and their numbers of words" python3 -B tools/links.py
-step "the list of wrong bodies is that of the edits" python3 -B tools/wrong_bodies.py --check
-step "the definitions in Python, on what docs/FORMAT.md works out" definitions unittest -q oracle.tests
-step "the program beside the definitions, on random histories" definitions oracle "$PROGRAM" \
-    small=1000 crowd=60 versions=30 ranges=24 rings=20 edges=12 most_edges=6
-step "the program on 20,000 texts that nobody means" definitions fuzz_texts "$PROGRAM"
-step "the companion: logs in, names and pages out" sh tools/companion_tests.sh
-step "the companion on 2,000 logs that nobody means" env PYTHONPATH=tools:companion python3 -B -m fuzz_logs "$PROGRAM"
-step "the program on the longest texts and on hard ones, each within some seconds" python3 -B tools/limits.py "$PROGRAM"
-step "the program without memory, and without threads" python3 -B tools/refusals.py "$PROGRAM"
+rm -rf out/steps
+mkdir -p out
+case $mode in
+    fast)
+        find_program
+        export PROGRAM
+        # shellcheck disable=SC2086 # the names are words
+        others $steps
+        ;;
+    prove)
+        sh tools/kit.sh || exit 1
+        export PROGRAM="$built"
+        first "every function is proved to meet its contract, and the program is built" sh tools/build.sh always
+        first "the crates' own tests" sh tools/crate_tests.sh
+        # shellcheck disable=SC2086
+        others $proof_steps
+        ;;
+    full)
+        sh tools/kit.sh || exit 1
+        export PROGRAM="$built"
+        first "all is proved from nothing, the prover refuses each wrong edit, and the crates' own tests" rt ci
+        # shellcheck disable=SC2086
+        others $steps $proof_steps
+        ;;
+esac
 finish
