@@ -11,6 +11,7 @@
 #: make prove                  proves what isn't proved yet, builds the program, and runs the crates' own tests
 #: make install PREFIX=/usr    installs si_audit, si-history and their man pages in PREFIX/bin and PREFIX/share, under DESTDIR
 #: make uninstall PREFIX=/usr  removes what make install put there, and nothing else
+#: make deb                    makes a Debian package of the program, si-history, their man pages and completions, in out/
 #: make release                proves, builds and keeps the program in release/, for make run, install, bench and databases
 #: make bench                  times the program on generated histories, and tells the change from the figures that were kept
 #: make bench KEEP=1           does the same, and keeps its figures in tools/bench_figures.txt
@@ -34,7 +35,7 @@ $(foreach name,$(GIVEN),$(eval override $(name) := $$(value $(name))))
 export $(GIVEN)
 unexport PROGRAM
 
-.PHONY: all help run build prove test install uninstall release bench databases clean
+.PHONY: all help run build prove test install uninstall deb release bench databases clean
 
 all:
 	@sh tools/build.sh
@@ -59,6 +60,9 @@ install:
 
 uninstall:
 	@sh tools/uninstall.sh
+
+deb:
+	@sh tools/deb.sh
 
 release:
 	@sh tools/release.sh renew

@@ -43,6 +43,10 @@ case $name in
         what="what is installed and removed"
         set -- sh tools/install_tests.sh
         ;;
+    packages)
+        what="the packages: the companion's wheel, and the Debian package"
+        set -- sh tools/package_tests.sh
+        ;;
     scripts)
         what="the scripts"
         set -- sh tools/shell_tests.sh

@@ -41,3 +41,11 @@ def _fill_devices() -> None:
     while (descriptor := os.open(os.devnull, os.O_RDWR)) <= 2:
         os.set_inheritable(descriptor, True)
     os.close(descriptor)
+
+
+def main() -> int:
+    """Runs the command line as a prepared process: what the command si-history calls that pip installs."""
+    prepare()
+    from si_history.cli import main as run_command_line
+
+    return run_command_line()
