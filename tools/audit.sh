@@ -1,12 +1,21 @@
 #!/bin/sh
-# Audits one file: sh tools/audit.sh FILE. BRIEF and EXPLAIN, if they aren't empty, ask for the brief report and for the
-# explained one, and CHECK names the level.
+# Audits one file: sh tools/audit.sh FILE. BRIEF=1 and EXPLAIN=1 ask for the brief report and for the explained one, and CHECK
+# names the level.
 # The status is 0 where there is a report or a refusal line.
 : "${CHECK:=serializable}"
 
 fail() {
     printf 'make run: %s\n' "$(sh tools/shown.sh "$1")" >&2
     exit 2
+}
+
+# option NAME VALUE OPTION: the option, where the value of the variable means yes.
+option() {
+    case $2 in
+        1 | y | yes | true | on) echo "$3" ;;
+        '' | 0 | n | no | false | off) ;;
+        *) fail "$1 is 1 or 0, and not $2" ;;
+    esac
 }
 
 if [ -z "$1" ]; then
@@ -33,8 +42,10 @@ case $CHECK in
         ;;
     *) fail "CHECK is serializable, ssi or si, and not $CHECK" ;;
 esac
+brief=$(option BRIEF "$BRIEF" --brief) || exit 2
+explain=$(option EXPLAIN "$EXPLAIN" --explain) || exit 2
 program=$(sh tools/program.sh) || exit 2
-"$program" ${BRIEF:+--brief} ${EXPLAIN:+--explain} --check "$CHECK" <"$1"
+"$program" ${brief:+"$brief"} ${explain:+"$explain"} --check "$CHECK" <"$1"
 status=$?
 case $status in
     0) echo "status 0: $kept" >&2 ;;

@@ -27,6 +27,9 @@ installs() {
             for page in si_audit.1 si-history.1; do
                 count "$1: $page" "$(cmp "docs/$page" "$root$2/share/man/man1/$page" 2>&1)"
             done
+        else
+            count "$1: what make uninstall says" \
+                "$(grep -q -e "removed the 2 files of si_audit from" -e "nothing is removed" "$out/said" || cat "$out/said")"
         fi
     done
     listed "$out/after"

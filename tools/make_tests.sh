@@ -35,6 +35,8 @@ runs "make run HISTORY=.." examples/lost_update.report "$broken" run HISTORY=exa
 runs "make run of a clean history" examples/clean.report "$kept" run HISTORY=examples/clean.history
 grep -v -e '^edge' -e '^pivot' examples/write_skew.report >"$out/brief"
 runs "make run BRIEF=1" "$out/brief" "$broken" run BRIEF=1
+runs "make run BRIEF=0" examples/write_skew.report "$broken" run BRIEF=0
+runs "make run EXPLAIN=no" "$out/brief" "$broken" run BRIEF=yes EXPLAIN=no
 runs "make run EXPLAIN=1" examples/write_skew.explained "$broken" run EXPLAIN=1
 runs "make run EXPLAIN=1 BRIEF=1" examples/write_skew.explained "$broken" run EXPLAIN=1 BRIEF=1
 runs "make run CHECK=si" examples/write_skew.report "status 0: isolation was kept" run CHECK=si
@@ -52,6 +54,9 @@ failing() {
     count "$name: its status" "$([ $? != 0 ] || echo "it is 0")"
     count "$name: what it says" "$(grep -v "^make: .*taking release/" "$out/said" | head -n 1 | diff "$out/wanted" -)"
 }
+
+failing "make run BRIEF=2" "make run: BRIEF is 1 or 0, and not 2" run BRIEF=2
+failing "make run EXPLAIN=all" "make run: EXPLAIN is 1 or 0, and not all" run EXPLAIN=all
 
 # Names reach the shell as they are, and what can't be printed is shown.
 odd="$out/it's \"odd\" \$(touch $out/ran) \`touch $out/ran\` \$HOME \$\$ #; touch $out/ran.history"

@@ -20,6 +20,7 @@ remove() {
     esac
     if is_named "$1"; then
         rm -f "$prefix/$1" || exit 1
+        removed=$((removed + 1))
         without_cache "$1"
     elif [ -e "$prefix/$1" ] || [ -L "$prefix/$1" ]; then
         printf 'make uninstall: leaving %s, which make install has not put there as it is\n' "$prefix/$1" >&2
@@ -31,6 +32,7 @@ for name in si_audit si-history; do
     manifest=$share/$name.manifest
     [ -f "$manifest" ] || continue
     found=yes
+    removed=0
     paths=$(named | sed 's/^[^ ]*  //' | LC_ALL=C sort -u)
     while read -r path; do
         remove "$path"
@@ -44,9 +46,8 @@ PATHS
 $paths
 share/si_audit/manifest
 PATHS
+    echo "make uninstall: removed the $removed files of $name from $prefix"
 done
-if [ -n "$found" ]; then
-    echo "make uninstall: removed si_audit and si-history from $prefix"
-else
+if [ -z "$found" ]; then
     echo "make uninstall: no make install has left a manifest in $share, so nothing is removed"
 fi
