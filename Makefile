@@ -9,6 +9,7 @@
 #: make test FULL=1            the whole gate: proves all from nothing, tries the wrong edits, and tests the program that it built
 #: make test SERVERS=1         also tests the recorder with PostgreSQL and MariaDB, where they are installed
 #: make prove                  proves what isn't proved yet, builds the program, and runs the crates' own tests
+#: make witnesses              sees that each wrong edit answers otherwise than the code, and keeps both answers; ALL=1 tries all anew
 #: make install PREFIX=/usr    installs si_audit, si-history and their man pages in PREFIX/bin and PREFIX/share, under DESTDIR
 #: make uninstall PREFIX=/usr  removes what make install put there, and nothing else
 #: make deb                    makes a Debian package of the program, si-history, their man pages and completions, in out/
@@ -23,6 +24,7 @@ BRIEF ?=
 EXPLAIN ?=
 CHECK ?= serializable
 FULL ?=
+ALL ?=
 KEEP ?=
 PREFIX ?= /usr/local
 DESTDIR ?=
@@ -30,12 +32,12 @@ RUNS = 20
 
 # These reach the shell as they were given: make reads no $ in them. PROGRAM, which some of the tools take, is nothing that an
 # environment may name: what the targets run was made from the sources at hand.
-GIVEN = HISTORY BRIEF EXPLAIN CHECK FULL KEEP PREFIX DESTDIR RUNS
+GIVEN = HISTORY BRIEF EXPLAIN CHECK FULL ALL KEEP PREFIX DESTDIR RUNS
 $(foreach name,$(GIVEN),$(eval override $(name) := $$(value $(name))))
 export $(GIVEN)
 unexport PROGRAM
 
-.PHONY: all help run build prove test install uninstall deb release bench databases clean
+.PHONY: all help run build prove test witnesses install uninstall deb release bench databases clean
 
 all:
 	@sh tools/build.sh
@@ -54,6 +56,9 @@ test:
 
 prove:
 	@sh tools/test.sh prove
+
+witnesses:
+	@sh tools/witnesses.sh
 
 install:
 	@sh tools/install.sh

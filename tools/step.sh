@@ -47,6 +47,10 @@ case $name in
         what="the packages: the companion's wheel, and the Debian package"
         set -- sh tools/package_tests.sh
         ;;
+    trying)
+        what="what tries the witnesses of the wrong edits"
+        set -- modules unittest -q witnesses.tests
+        ;;
     scripts)
         what="the scripts"
         set -- sh tools/shell_tests.sh
