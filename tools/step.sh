@@ -39,6 +39,10 @@ case $name in
         what="which program is taken"
         set -- sh tools/kept_tests.sh
         ;;
+    gate)
+        what="what make test and make prove run, and what they say"
+        set -- sh tools/gate_tests.sh
+        ;;
     installed)
         what="what is installed and removed"
         set -- sh tools/install_tests.sh
