@@ -75,9 +75,9 @@ case $name in
         what="the program beside the definitions, on random histories"
         set -- modules oracle "$PROGRAM" small=1000 crowd=60 versions=30 ranges=24 rings=20 edges=12 most_edges=6
         ;;
-    companion)
-        what="the companion: logs in, names and pages out"
-        set -- sh tools/companion_tests.sh
+    companion[1-4])
+        what="the companion: logs in, names and pages out (${name#companion} of 4)"
+        set -- sh tools/companion_tests.sh "${name#companion}/4"
         ;;
     texts)
         what="the program on 20,000 texts that nobody means"

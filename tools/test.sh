@@ -6,7 +6,7 @@
 #   FULL=1 sh tools/test.sh  the whole gate: the kit proves all from nothing and tries the edits that it must refuse; then all
 #                            steps, on the program that it built
 # The lines before the last one say what was not tested, and what tests it. The last line counts the steps.
-steps="random companion limits texts logs refusals definitions packages taken gate installed targets scripts trying lines examples links bodies"
+steps="random companion1 companion2 companion3 companion4 limits texts logs refusals definitions packages taken gate installed targets scripts trying lines examples links bodies"
 proof_steps="kept growths"
 built=crates/si_audit/out/si_audit
 passed=0
