@@ -88,8 +88,8 @@ def of_texts(room: Path, given: Sequence[Text]) -> list[Answer]:
 
 
 def of_tests(room: Path, crate: str, given: Sequence[Test]) -> list[Answer]:
-    """What comes of tests of the crate in the room."""
-    _, out, said = rt_try(room / "crates" / crate, ["--test"])
+    """What comes of tests of the crate in the room, all with the same options."""
+    _, out, said = rt_try(room / "crates" / crate, ["--test", *given[0].options])
     answers = []
     for it in given:
         found = re.search(rf"(?m)^test {re.escape(it.name)} \.\.\. (\S+)\n((?:    .*\n)*)", out + said)

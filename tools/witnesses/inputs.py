@@ -36,12 +36,13 @@ class Text:
 
 @dataclass(frozen=True)
 class Test:
-    """One of the tests of the crate."""
+    """One of the tests of the crate, and options of `rt try`."""
 
     name: str
+    options: tuple[str, ...] = ()
 
     def told(self) -> str:
-        return self.name
+        return "\n".join((self.name, *self.options))
 
 
 @dataclass(frozen=True)
@@ -92,7 +93,7 @@ class Section:
         elif word == "text":
             self.inputs.append(Text(rest, self.arguments, self.options))
         elif word == "test":
-            self.inputs.append(Test(rest))
+            self.inputs.append(Test(rest, self.options))
         elif word == "call":
             self.inputs.append(Call("\n".join(code) + "\n", self.options))
         elif word == "nothing":

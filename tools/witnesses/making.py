@@ -13,7 +13,9 @@ from witnesses.ledger import Entry
 
 def alike(given: Input) -> tuple[object, ...]:
     """What is the same of inputs that one copy of the repository serves."""
-    return (type(given), given.options) if isinstance(given, Text) else (type(given), given if isinstance(given, Call) else ())
+    if isinstance(given, Text | Test):
+        return type(given), given.options
+    return type(given), given
 
 
 def answers(program: str, edit: Edit, inputs: list[Input], is_edited: bool) -> list[Answer]:
