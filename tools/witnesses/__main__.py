@@ -18,12 +18,12 @@ import time
 from collections.abc import Sequence
 from concurrent.futures import ThreadPoolExecutor, as_completed
 
-from witnesses import ledger
+from witnesses import inputs, ledger
 from witnesses.edits import ROOT, Edit, edits
 from witnesses.fault import Fault
-from witnesses.inputs import FOLDER, Input, Nothing, inputs_of
+from witnesses.inputs import Input, inputs_of
 from witnesses.ledger import Entry
-from witnesses.making import answers, entry_of
+from witnesses.making import entry_of
 
 # An edit is compiled on a processor and a half, and takes a gigabyte.
 AT_ONCE = 2
@@ -34,7 +34,7 @@ class Known:
 
     def __init__(self) -> None:
         self.edits = {it.title: it for it in edits()}
-        crates = {it.crate for it in self.edits.values()} | {it.stem for it in FOLDER.glob("*.txt")}
+        crates = {it.crate for it in self.edits.values()} | {it.stem for it in inputs.FOLDER.glob("*.txt")}
         self.inputs: dict[str, list[Input]] = {
             f"{crate}/{name}": them for crate in sorted(crates) for name, them in inputs_of(crate).items()
         }
@@ -86,11 +86,8 @@ def chosen(known: Known, count: int, by: str) -> list[str]:
 
 def tried(program: str, known: Known, title: str) -> str:
     """Tries an entry again. Tells what is wrong, or answers an empty text."""
-    edit, given = known.edits[title], known.given(title)
-    [real], [edited] = (answers(program, edit, given, is_edited) for is_edited in (False, True))
-    if real == edited:
-        return "the edited code answers the same to its witness"
-    return "" if real == known.entries[title].real else "the code answers otherwise than the ledger has it"
+    entry = entry_of(program, known.edits[title], known.given(title))
+    return "" if entry.real == known.entries[title].real else "the code answers otherwise than the ledger has it"
 
 
 def some_tried(program: str, known: Known, count: int) -> tuple[int, int]:

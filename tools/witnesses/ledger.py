@@ -6,11 +6,12 @@ import json
 from dataclasses import asdict, dataclass
 from pathlib import Path
 
+from witnesses import inputs
 from witnesses.edits import Edit
 from witnesses.fault import Fault
-from witnesses.inputs import FOLDER, Input, Nothing, hash_of
+from witnesses.inputs import Input, Nothing, hash_of
 
-PATH = FOLDER / "ledger.json"
+NAME = "ledger.json"
 
 
 @dataclass(frozen=True)
@@ -25,13 +26,13 @@ class Entry:
     edited: list[str]
     reason: str = ""
 
-    def fault(self, edit: Edit, inputs: list[Input]) -> str:
+    def fault(self, edit: Edit, found: list[Input]) -> str:
         """Tells why the entry isn't of what is at hand, or answers an empty text."""
         if self.edit != edit.hash:
             return "the edit is another one"
         if self.source != edit.source_hash():
             return "the edited file is another one"
-        given = next((it for it in inputs if hash_of(it) == self.witness), None)
+        given = next((it for it in found if hash_of(it) == self.witness), None)
         if given is None:
             return "the witness is another one"
         if isinstance(given, Nothing):
@@ -39,8 +40,9 @@ class Entry:
         return "" if self.real and self.edited and self.real != self.edited else "the answers don't differ"
 
 
-def read(path: Path = PATH) -> dict[str, Entry]:
+def read(path: Path | None = None) -> dict[str, Entry]:
     """The entries by the titles of their edits."""
+    path = path or inputs.FOLDER / NAME
     if not path.exists():
         return {}
     try:
@@ -49,8 +51,9 @@ def read(path: Path = PATH) -> dict[str, Entry]:
         raise Fault(f"{path.name} is no ledger: {why}") from None
 
 
-def write(entries: dict[str, Entry], path: Path = PATH) -> None:
+def write(entries: dict[str, Entry], path: Path | None = None) -> None:
     """Writes the ledger anew, whole."""
+    path = path or inputs.FOLDER / NAME
     text = json.dumps({title: asdict(entries[title]) for title in sorted(entries)}, indent=1, ensure_ascii=False)
     beside = path.with_suffix(".new")
     beside.write_text(text + "\n", encoding="utf-8")

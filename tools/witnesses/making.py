@@ -2,6 +2,8 @@
 
 from __future__ import annotations
 
+from collections.abc import Iterator
+from functools import lru_cache
 from itertools import groupby
 
 from witnesses.answers import Answer, Copy, of_call, of_program, of_tests, of_texts
@@ -18,23 +20,27 @@ def alike(given: Input) -> tuple[object, ...]:
     return type(given), given
 
 
-def answers(program: str, edit: Edit, inputs: list[Input], is_edited: bool) -> list[Answer]:
-    """What the edited code answers to each input, or the code as it is. The program at hand is the latter, where no option
-    of `rt try` is given."""
-    found: list[Answer] = []
-    for key, group in groupby(inputs, alike):
-        them = list(group)
-        if not is_edited and key == (Text, ()):
-            found += [of_program(program, it) for it in them if isinstance(it, Text)]
-            continue
-        with Copy(edit if is_edited else None) as room:
-            if key[0] is Text:
-                found += of_texts(room, [it for it in them if isinstance(it, Text)])
-            elif key[0] is Test:
-                found += of_tests(room, edit.crate, [it for it in them if isinstance(it, Test)])
-            else:
-                found += [of_call(room, edit.crate, it) for it in them if isinstance(it, Call)]
-    return found
+def groups(inputs: list[Input]) -> Iterator[tuple[Input, ...]]:
+    """The inputs in turn, as many at a time as one copy serves."""
+    return (tuple(group) for _, group in groupby(inputs, alike))
+
+
+def tried(edit: Edit | None, crate: str, group: tuple[Input, ...]) -> list[Answer]:
+    """What `rt try` answers to inputs that are alike, of the code with the edit, or without one."""
+    with Copy(edit) as room:
+        if isinstance(group[0], Text):
+            return of_texts(room, [it for it in group if isinstance(it, Text)])
+        if isinstance(group[0], Test):
+            return of_tests(room, crate, [it for it in group if isinstance(it, Test)])
+        return [of_call(room, crate, it) for it in group if isinstance(it, Call)]
+
+
+@lru_cache(maxsize=None)
+def of_code(program: str, crate: str, group: tuple[Input, ...]) -> list[Answer]:
+    """What the code answers as it is: the program at hand, where no option of `rt try` is given."""
+    if alike(group[0]) == (Text, ()):
+        return [of_program(program, it) for it in group if isinstance(it, Text)]
+    return tried(None, crate, group)
 
 
 def entry_of(program: str, edit: Edit, inputs: list[Input]) -> Entry:
@@ -42,9 +48,9 @@ def entry_of(program: str, edit: Edit, inputs: list[Input]) -> Entry:
     first = inputs[0]
     if isinstance(first, Nothing):
         return Entry(edit.hash, edit.source_hash(), hash_of(first), [], [], first.reason)
-    edited = answers(program, edit, inputs, True)
-    real = answers(program, edit, inputs, False)
-    for given, one, other in zip(inputs, real, edited, strict=True):
-        if one != other:
-            return Entry(edit.hash, edit.source_hash(), hash_of(given), one, other)
-    raise Fault(f"{edit.title}: the edited code answers the same to each of its inputs")
+    for group in groups(inputs):
+        edited = tried(edit, edit.crate, group)
+        for given, one, other in zip(group, of_code(program, edit.crate, group), edited, strict=True):
+            if one != other:
+                return Entry(edit.hash, edit.source_hash(), hash_of(given), one, other)
+    raise Fault("the edited code answers the same to each of its inputs")

@@ -8,12 +8,14 @@ from __future__ import annotations
 import os
 import tempfile
 import unittest
+from contextlib import redirect_stderr, redirect_stdout
 from dataclasses import replace
+from io import StringIO
 from pathlib import Path
 from unittest import mock
 
 from witnesses import inputs, ledger
-from witnesses.__main__ import Known, check, chosen
+from witnesses.__main__ import Known, check, chosen, main
 from witnesses.answers import of_call, of_program, of_tests, of_texts
 from witnesses.edits import Edit, copy_into, edits
 from witnesses.fault import Fault
@@ -71,6 +73,7 @@ class Kit(unittest.TestCase):
         (self.root / "rt").write_text(KIT)
         (self.root / "rt").chmod(0o755)
         self.enterContext(mock.patch("witnesses.edits.ROOT", self.root))
+        self.enterContext(mock.patch("witnesses.inputs.FOLDER", self.root / "witnesses"))
         self.enterContext(mock.patch.dict(os.environ, PATH=f"{self.root}:{os.environ['PATH']}"))
 
     def room(self) -> Path:
@@ -78,6 +81,13 @@ class Kit(unittest.TestCase):
         room.mkdir()
         copy_into(room)
         return room
+
+    def program(self) -> str:
+        """A program that writes what it reads in capitals."""
+        path = self.root / "program"
+        path.write_text("#!/bin/sh\ntr a-z A-Z\nexit 3\n")
+        path.chmod(0o755)
+        return str(path)
 
 
 class Answers(Kit):
@@ -118,11 +128,7 @@ class Answers(Kit):
 
 class Making(Kit):
     def entry(self, *given: Input) -> Entry:
-        """The entry of the edit, where the program at hand writes what it reads in capitals."""
-        program = self.root / "program"
-        program.write_text("#!/bin/sh\ntr a-z A-Z\nexit 3\n")
-        program.chmod(0o755)
-        return entry_of(str(program), EDIT, list(given))
+        return entry_of(self.program(), EDIT, list(given))
 
     def test_first_that_differs(self) -> None:
         entry = self.entry(Text("12"), Text("ab"), Text("cd"))
@@ -153,6 +159,76 @@ class Making(Kit):
         other = replace(EDIT, text=b"file: src/lib.rt\nold: two\nnew: edited\n")
         with self.assertRaisesRegex(Fault, "has the old text 0 times"):
             other.apply(self.room())
+
+
+class CommandLine(Kit):
+    """The whole tool, in a repository of two edits."""
+
+    def setUp(self) -> None:
+        super().setUp()
+        for name in ("first", "second"):
+            path = self.root / "crates" / "low" / "must-fail" / f"{name}.edit"
+            path.parent.mkdir(exist_ok=True)
+            path.write_bytes(EDIT.text)
+        (self.root / "witnesses").mkdir()
+        self.write("first\n  text: ab\n\nsecond\n  nothing: it costs more\n")
+
+    def write(self, text: str) -> None:
+        (self.root / "witnesses" / "low.txt").write_text(text)
+
+    def told(self, *words: str) -> tuple[int, str]:
+        """The status, and what was written."""
+        with redirect_stdout(StringIO()) as out, redirect_stderr(out):
+            return main(words), out.getvalue()
+
+    def test_check(self) -> None:
+        """What lacks is told, until it is made. What changes is told, too."""
+        status, text = self.told("check")
+        self.assertEqual((status, text.count("it has no entry in the ledger")), (1, 2))
+        status, text = self.told("make", self.program())
+        self.assertEqual((status, text.splitlines()[-1]), (0, "2 passed, 0 failed"))
+        self.assertEqual(self.told("check"), (0, "2 passed, 0 failed\n"))
+        self.write("first\n  text: abc\n\nthird\n  text: ab\n")
+        status, text = self.told("check")
+        self.assertEqual(status, 1)
+        self.assertIn("low/first: the witness is another one", text)
+        self.assertIn("low/second: it has no witness", text)
+        self.assertIn("low/third: there is no such edit", text)
+
+    def test_make_what_changed(self) -> None:
+        """Only what isn't of the edits at hand is tried, and an edit that tells nothing keeps its fault."""
+        self.told("make", self.program())
+        self.write("first\n  text: 12\n\nsecond\n  nothing: it costs more\n")
+        status, text = self.told("make", self.program())
+        self.assertEqual((status, text.splitlines()[-1]), (1, "0 passed, 1 failed"))
+        self.assertIn("low/first: the edited code answers the same to each of its inputs", text)
+
+    def test_edit_that_is_gone(self) -> None:
+        self.told("make", self.program())
+        (self.root / "crates" / "low" / "must-fail" / "second.edit").unlink()
+        self.assertIn("low/second: there is no such edit", self.told("check")[1])
+        self.write("first\n  text: ab\n")
+        self.told("make", self.program())
+        self.assertEqual(self.told("check"), (0, "1 passed, 0 failed\n"))
+
+    def test_try(self) -> None:
+        """An entry is tried again; where the code answers otherwise now, that is told."""
+        self.told("make", self.program())
+        status, text = self.told("try", self.program(), "5")
+        self.assertEqual((status, text), (0, "low/first: the edited code answers otherwise\n3 passed, 0 failed\n"))
+        other = self.root / "other"
+        other.write_text("#!/bin/sh\necho AB; echo more\nexit 3\n")
+        other.chmod(0o755)
+        status, text = self.told("try", str(other), "5")
+        self.assertEqual(status, 1)
+        self.assertIn("low/first: the code answers otherwise than the ledger has it", text)
+
+    def test_usage(self) -> None:
+        lines: list[list[str]] = [[], ["check", "x"], ["try", "p"], ["try", "p", "x"], ["make"]]
+        for words in lines:
+            status, text = self.told(*words)
+            self.assertEqual(status, 2)
+            self.assertIn("python3 -m witnesses check", text)
 
 
 class Entries(Kit):
