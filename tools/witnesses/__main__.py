@@ -15,7 +15,7 @@ import shutil
 import subprocess
 import sys
 import time
-from collections.abc import Sequence
+from collections.abc import Callable, Sequence
 from concurrent.futures import ThreadPoolExecutor, as_completed
 
 from witnesses import inputs, ledger
@@ -102,11 +102,10 @@ def some_tried(program: str, known: Known, count: int) -> tuple[int, int]:
     return passed, failed
 
 
-def told(result: object) -> str:
+def told(result: Callable[[], str]) -> str:
     """What the call tells, or why it couldn't be made."""
-    assert callable(result)
     try:
-        return str(result())
+        return result()
     except Fault as why:
         return str(why)
 
