@@ -41,7 +41,8 @@ class Edit:
 
     @property
     def hash(self) -> str:
-        return digest(self.text)
+        """The hash of what it changes."""
+        return digest("\0".join(part for it in self.changes() for part in (it.file, it.old, it.new)).encode())
 
     def changes(self) -> Iterator[Change]:
         """What the lines `file:`, `old:` and `new:` say."""

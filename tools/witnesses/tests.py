@@ -240,10 +240,14 @@ class Entries(Kit):
         self.entry = Entry(EDIT.hash, EDIT.source_hash(), hash_of(self.given), ["status 0"], ["status 1"])
 
     def test_right(self) -> None:
+        """Other inputs and what stands above the changes of an edit make no difference."""
         self.assertEqual(self.entry.fault(EDIT, [Text("cd"), self.given]), "")
+        headed = replace(EDIT, text=b"shows: what is wrong\n" + EDIT.text)
+        self.assertEqual(self.entry.fault(headed, [self.given]), "")
 
     def test_wrong(self) -> None:
-        self.assertEqual(self.entry.fault(replace(EDIT, text=EDIT.text + b"\n"), [self.given]), "the edit is another one")
+        other = replace(EDIT, text=EDIT.text.replace(b"edited", b"other"))
+        self.assertEqual(self.entry.fault(other, [self.given]), "the edit is another one")
         self.assertEqual(self.entry.fault(EDIT, [Text("ab", ("--brief",))]), "the witness is another one")
         same = replace(self.entry, edited=["status 0"])
         self.assertEqual(same.fault(EDIT, [self.given]), "the answers don't differ")
