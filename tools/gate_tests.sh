@@ -28,14 +28,17 @@ fi
 KIT
     printf '#!/bin/sh\necho Linux x86_64\n' >"$out/kit/uname"
     cp "$out/kit/uname" "$out/none/uname"
-    cat >"$tree/tools/step.sh" <<'STEP'
+    cat >"$out/step.sh" <<'STEP'
 #!/bin/sh
 word=passed
 [ "$1" = "$FAILING" ] && word=FAILED
 echo "$1 by $PROGRAM" >>ran
 echo "x ... skipped 'left out: nothing to see'" >"out/steps/$1.log"
 echo "$word 1 s $1" | tee "out/steps/$1.told"
+exit
 STEP
+    # The names of the steps stand in what is left of it.
+    cat "$out/step.sh" tools/step.sh >"$tree/tools/step.sh"
     chmod 755 "$out/kit"/* "$out/none"/*
 }
 
@@ -80,7 +83,7 @@ tries() {
 }
 
 make_tree
-steps=$(sed -n 's/^steps="\(.*\)"$/\1/p' tools/test.sh | wc -w)
+steps=$(sh tools/test.sh steps | wc -l)
 makes "no kit, no program" 2 "$bare" test
 asks ""
 count "no kit, no program: one line" "$([ "$(grep -c '^make test: no program to test: ' "$out/said")" = 1 ] && [ ! -s "$out/report" ] || cat "$out/report" "$out/said")"

@@ -11,29 +11,37 @@ modules() {
 }
 
 case $name in
-    crates)
-        what="the crates' own tests"
-        set -- sh tools/crate_tests.sh
+    random)
+        what="the program beside the definitions, on random histories"
+        set -- modules oracle "$PROGRAM" small=1000 crowd=60 versions=30 ranges=24 rings=20 edges=12 most_edges=6
         ;;
-    growths)
-        what="the crates' own tests without memory"
-        set -- python3 -B tools/growths.py crates/*/out/*_tests
+    companion1 | companion2 | companion3 | companion4)
+        what="the companion: logs in, names and pages out (${name#companion} of 4)"
+        set -- sh tools/companion_tests.sh "${name#companion}/4"
         ;;
-    kept)
-        what="the program that release/ keeps"
-        set -- sh tools/release.sh compare
+    limits)
+        what="the program on the longest texts and on hard ones, each within some seconds"
+        set -- python3 -B tools/limits.py "$PROGRAM"
         ;;
-    examples)
-        what="the program on every example"
-        set -- sh tools/examples.sh
+    texts)
+        what="the program on 20,000 texts that nobody means"
+        set -- modules fuzz_texts "$PROGRAM"
         ;;
-    lines)
-        what="the program on command lines, and with devices that fail"
-        set -- sh tools/line_tests.sh
+    logs)
+        what="the companion on 2,000 logs that nobody means"
+        set -- env PYTHONPATH=tools:companion python3 -B -m fuzz_logs "$PROGRAM"
         ;;
-    targets)
-        what="the targets of the Makefile for users"
-        set -- sh tools/make_tests.sh
+    refusals)
+        what="the program without memory, and without threads"
+        set -- python3 -B tools/refusals.py "$PROGRAM"
+        ;;
+    definitions)
+        what="the definitions in Python, on what docs/FORMAT.md works out"
+        set -- modules unittest -q oracle.tests
+        ;;
+    packages)
+        what="the packages: the companion's wheel, and the Debian package"
+        set -- sh tools/package_tests.sh
         ;;
     taken)
         what="which program is taken"
@@ -47,17 +55,25 @@ case $name in
         what="what is installed and removed"
         set -- sh tools/install_tests.sh
         ;;
-    packages)
-        what="the packages: the companion's wheel, and the Debian package"
-        set -- sh tools/package_tests.sh
+    targets)
+        what="the targets of the Makefile for users"
+        set -- sh tools/make_tests.sh
+        ;;
+    scripts)
+        what="the scripts"
+        set -- sh tools/shell_tests.sh
         ;;
     trying)
         what="what tries the witnesses of the wrong edits"
         set -- modules unittest -q witnesses.tests
         ;;
-    scripts)
-        what="the scripts"
-        set -- sh tools/shell_tests.sh
+    lines)
+        what="the program on command lines, and with devices that fail"
+        set -- sh tools/line_tests.sh
+        ;;
+    examples)
+        what="the program on every example"
+        set -- sh tools/examples.sh
         ;;
     links)
         what="the links of the pages, and their numbers of words"
@@ -67,33 +83,13 @@ case $name in
         what="the list of wrong bodies is that of the edits"
         set -- python3 -B tools/wrong_bodies.py --check
         ;;
-    definitions)
-        what="the definitions in Python, on what docs/FORMAT.md works out"
-        set -- modules unittest -q oracle.tests
+    growths)
+        what="the crates' own tests without memory"
+        set -- python3 -B tools/growths.py crates/*/out/*_tests
         ;;
-    random)
-        what="the program beside the definitions, on random histories"
-        set -- modules oracle "$PROGRAM" small=1000 crowd=60 versions=30 ranges=24 rings=20 edges=12 most_edges=6
-        ;;
-    companion[1-4])
-        what="the companion: logs in, names and pages out (${name#companion} of 4)"
-        set -- sh tools/companion_tests.sh "${name#companion}/4"
-        ;;
-    texts)
-        what="the program on 20,000 texts that nobody means"
-        set -- modules fuzz_texts "$PROGRAM"
-        ;;
-    logs)
-        what="the companion on 2,000 logs that nobody means"
-        set -- env PYTHONPATH=tools:companion python3 -B -m fuzz_logs "$PROGRAM"
-        ;;
-    limits)
-        what="the program on the longest texts and on hard ones, each within some seconds"
-        set -- python3 -B tools/limits.py "$PROGRAM"
-        ;;
-    refusals)
-        what="the program without memory, and without threads"
-        set -- python3 -B tools/refusals.py "$PROGRAM"
+    kept)
+        what="the program that release/ keeps"
+        set -- sh tools/release.sh compare
         ;;
     *)
         echo "step.sh: there is no step $name" >&2

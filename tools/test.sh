@@ -3,10 +3,13 @@
 #   sh tools/test.sh         what needs no proof, on the program that release/ keeps, where it was made from the sources at hand.
 #                            Where it wasn't, the kit proves and builds the program first
 #   sh tools/test.sh prove   the kit proves what isn't proved yet and builds the program; then the crates' own tests
+#   sh tools/test.sh steps   tells the names of the steps that make test runs
 #   FULL=1 sh tools/test.sh  the whole gate: the kit proves all from nothing and tries the edits that it must refuse; then all
 #                            steps, on the program that it built
 # The lines before the last one say what was not tested, and what tests it. The last line counts the steps.
-steps="random companion1 companion2 companion3 companion4 limits texts logs refusals definitions packages taken gate installed targets scripts trying lines examples links bodies"
+
+# The names of the steps, in their order, and those that are about what the kit left.
+steps=$(sed -n 's/^    \([a-z][a-z0-9 |]*\))$/\1/p' tools/step.sh | tr -d ' ' | tr '|' '\n' | grep -vx -e kept -e growths)
 proof_steps="kept growths"
 built=crates/si_audit/out/si_audit
 passed=0
@@ -93,6 +96,10 @@ case ${1:-test}${FULL:-0} in
     test0) mode=fast ;;
     test1) mode=full ;;
     prove*) mode=prove ;;
+    steps*)
+        echo "$steps"
+        exit
+        ;;
     *)
         echo "make test: FULL is 1, or isn't given" >&2
         exit 2
