@@ -118,6 +118,9 @@ ends "4 passed, 0 failed"
 makes "the whole gate" 0 "$kit" test FULL=1
 asks ci
 ends "$((steps + 3)) passed, 0 failed"
+echo fn last >>"$tree/crates/si_audit/src/main.rt"
+makes "the whole gate, and no program" 0 "$kit" test FULL=1
+asks "ci run"
 makes "a proof that fails" 2 "$kit" test FULL=1 REFUSED=ci
 says "FAILED"
 ends "0 passed, 1 failed"
