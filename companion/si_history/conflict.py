@@ -5,7 +5,7 @@ from __future__ import annotations
 from collections import deque
 
 from si_history.errors import BadInput, quoted
-from si_history.numbering import shown_key
+from si_history.keys import shown_key
 from si_history.operations import WriteOperation
 from si_history.placing import EventGraph, Why
 

@@ -4,9 +4,10 @@ from __future__ import annotations
 
 import argparse
 import gc
+import sys
 from collections.abc import Callable, Iterator
 from contextlib import contextmanager
-from dataclasses import dataclass
+from dataclasses import dataclass, field
 from typing import BinaryIO
 
 from si_history.errors import BadInput, in_source
@@ -17,10 +18,11 @@ from si_history.legend import Legend
 
 @dataclass(slots=True)
 class Conversion:
-    """The history of a log, and its legend."""
+    """The history of a log, its legend, and what a person should know of the log."""
 
     events: list[Event]
     legend: Legend
+    warnings: list[str] = field(default_factory=list)
 
 
 def add_log_arguments(parser: argparse.ArgumentParser) -> None:
@@ -55,6 +57,8 @@ def run_conversion(arguments: argparse.Namespace, convert: Callable[[BinaryIO], 
         with opened(arguments.log) as file:
             conversion = convert(file)
         text = text_of(conversion.events)
+    for warning in conversion.warnings:
+        print(f"si-history: {source_name(arguments.log)}: {warning}", file=sys.stderr)
     if arguments.legend is not None:
         write_output(conversion.legend.to_json(), arguments.legend)
     write_output(text)

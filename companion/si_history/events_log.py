@@ -6,8 +6,10 @@ from dataclasses import dataclass
 from typing import BinaryIO
 
 from si_history.errors import quoted
+from si_history.keys import Key
 from si_history.log_lines import LogLine, LogTally, log_lines
-from si_history.operations import Key, Operation, RangeOperation, ReadOperation, WriteOperation
+from si_history.operations import Operation, ReadOperation, WriteOperation
+from si_history.policy import STRICT, Policy
 
 # The fields of each kind of event, beside "txn" and "op".
 FIELDS = {
@@ -18,7 +20,17 @@ FIELDS = {
     "commit": (),
     "abort": (),
 }
-KNOWN_FIELDS = {kind: {"txn", "op", *fields} for kind, fields in FIELDS.items()}
+# Where versions are named by values, the value takes the writer's place.
+VALUE_FIELDS = FIELDS | {"read": ("key", "value"), "write": ("key", "value")}
+
+
+def _known(fields: dict[str, tuple[str, ...]]) -> tuple[dict[str, set[str]], set[str]]:
+    """The fields of each kind of event, and of all of them."""
+    known = {kind: {"txn", "op", *names} for kind, names in fields.items()}
+    return known, set().union(*known.values())
+
+
+KNOWN = {False: _known(FIELDS), True: _known(VALUE_FIELDS)}
 
 
 @dataclass(slots=True)
@@ -37,31 +49,38 @@ class EndRecord:
 
 @dataclass(slots=True)
 class LogEvent:
-    """One event of the log: its line, its transaction's name, and what was done."""
+    """One event of the log: its line, its transaction's name, what was done, and fields beside that mean nothing here."""
 
     line: int
     transaction: str
     action: Operation | BeginRecord | EndRecord
+    others: dict[str, object] | None = None
 
 
 @dataclass(slots=True)
 class EventsLog:
-    """A whole log: its events in order, the first line of each key, and of each write by transaction and key."""
+    """A whole log: its events in order, and what is kept over all lines."""
 
     events: list[LogEvent]
-    keys: dict[Key, int]
-    writes: dict[tuple[str, Key], int]
+    tally: LogTally
+
+    def first_writes(self) -> dict[tuple[str, Key], int]:
+        """The first line of each write by transaction and key."""
+        writes: dict[tuple[str, Key], int] = {}
+        for event in self.events:
+            if isinstance(event.action, WriteOperation):
+                writes.setdefault((event.transaction, event.action.key), event.line)
+        return writes
 
 
-def read_events_log(file: BinaryIO) -> EventsLog:
+def read_events_log(file: BinaryIO, policy: Policy = STRICT) -> EventsLog:
     """Reads a log of events. Raises BadInput at the first line that can't come next."""
     tally = LogTally()
     events: list[LogEvent] = []
-    writes: dict[tuple[str, Key], int] = {}
     first_lines: dict[str, int] = {}
     ends: dict[str, int] = {}
     commits = 0
-    for line in log_lines(file, tally, "events"):
+    for line in log_lines(file, tally, "events", policy):
         event = _event_of(line)
         tally.count(1, line.number)
         name, action = event.transaction, event.action
@@ -72,11 +91,9 @@ def read_events_log(file: BinaryIO) -> EventsLog:
         elif isinstance(action, EndRecord):
             ends[name] = line.number
             commits += action.is_commit
-        elif isinstance(action, WriteOperation):
-            writes.setdefault((name, action.key), line.number)
         first_lines.setdefault(name, line.number)
         events.append(event)
-    return EventsLog(events, tally.keys, writes)
+    return EventsLog(events, tally)
 
 
 def _event_of(line: LogLine) -> LogEvent:
@@ -85,19 +102,23 @@ def _event_of(line: LogLine) -> LogEvent:
     kind = line.get("op")
     if not isinstance(kind, str) or kind not in FIELDS:
         line.refuse(f'"op" is none of {", ".join(FIELDS)}')
-    line.only(KNOWN_FIELDS[kind])
-    return LogEvent(line.number, name, _action_of(line, kind))
+    known, ours = KNOWN[line.tally.by_values]
+    others = line.others(known[kind], ours)
+    return LogEvent(line.number, name, _action_of(line, kind), others)
 
 
 def _action_of(line: LogLine, kind: str) -> Operation | BeginRecord | EndRecord:
     """What was done, by the kind of the event."""
     if kind == "read":
-        return ReadOperation(line.key(line.get("key"), '"key"'), line.writer(line.get("saw"), '"saw"'))
+        key = line.key(line.get("key"), '"key"')
+        if line.tally.by_values:
+            return ReadOperation(key, None, line.value(line.get("value"), '"value"'))
+        return ReadOperation(key, line.writer(line.get("saw"), '"saw"'))
     if kind == "write":
-        return WriteOperation(line.key(line.get("key"), '"key"'))
+        key = line.key(line.get("key"), '"key"')
+        return WriteOperation(key, line.written(line.get("value"), '"value"') if line.tally.by_values else None)
     if kind == "range":
-        low, high = line.key(line.get("from"), '"from"'), line.key(line.get("to"), '"to"')
-        return RangeOperation(low, high, line.found(line.get("found"), '"found"'))
+        return line.range_of(line.get("from"), line.get("to"), line.get("found"), ('"from"', '"to"', '"found"'))
     if kind == "begin":
         return BeginRecord(line.whole_or_null(line.fields.get("start"), '"start"'))
     return EndRecord(kind == "commit")

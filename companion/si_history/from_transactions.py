@@ -8,10 +8,15 @@ from typing import BinaryIO
 from si_history.conflict import conflict
 from si_history.conversion import Conversion, add_log_arguments, run_conversion
 from si_history.history import Abort, Begin, Commit, Event
-from si_history.legend import Legend
+from si_history.legend import PLACED, UNKNOWN, Legend
 from si_history.numbering import Numbering, number_keys
+from si_history.operations import Operation, WriteOperation
+from si_history.outcomes import settle
 from si_history.placing import EventGraph, event_graph, order_of
-from si_history.transactions_log import read_transactions_log
+from si_history.policy import STRICT, Policy, add_value_arguments, add_values_argument, add_writer_argument, policy_of
+from si_history.ties import check_ties
+from si_history.transactions_log import LogTransaction, TransactionsLog, read_transactions_log
+from si_history.versions import Act, find_writers
 
 DESCRIPTION = """\
 Reads a log of JSON lines, one transaction a line, with the store's own snapshot
@@ -44,31 +49,66 @@ def register(commands: argparse._SubParsersAction[argparse.ArgumentParser]) -> N
         formatter_class=argparse.RawDescriptionHelpFormatter,
     )
     add_log_arguments(parser)
+    add_values_argument(parser)
+    add_writer_argument(parser)
+    add_value_arguments(parser)
     parser.set_defaults(run=run)
 
 
 def run(arguments: argparse.Namespace) -> int:
     """Converts the log that the arguments name."""
-    return run_conversion(arguments, convert)
+    policy = policy_of(arguments)
+    return run_conversion(arguments, lambda file: convert(file, policy))
 
 
-def convert(file: BinaryIO) -> Conversion:
+def convert(file: BinaryIO, policy: Policy = STRICT) -> Conversion:
     """The history of a log of transactions, with its legend.
 
     Transactions are numbered from 1 in the order of the lines. Raises BadInput where the log is bad, and where its events
     can't be put into one order.
     """
-    log = read_transactions_log(file)
-    numbers = {transaction.name: number for number, transaction in enumerate(log.transactions, 1)}
-    numbering = Numbering(numbers, number_keys(log.keys))
-    graph = event_graph(log.transactions)
+    return history_of(read_transactions_log(file, policy), policy)
+
+
+def history_of(log: TransactionsLog, policy: Policy) -> Conversion:
+    """The history of a log of transactions that is read, with its legend."""
+    stand_ins = _add_stand_ins(log, policy)
+    transactions = log.transactions
+    numbers = {transaction.name: number for number, transaction in enumerate(transactions, 1)}
+    numbering = Numbering(numbers, number_keys(log.tally))
+    settle(transactions, numbering.keys)
+    check_ties(transactions, numbering.keys)
+    graph = event_graph(transactions)
     ordered = order_of(graph)
     if len(ordered) < len(graph.owners):
         raise conflict(graph, ordered)
     places = {event: place for place, event in enumerate(ordered, 1)}
     events = [_event_of(event, graph, numbering, places) for event in ordered]
     lines = [graph.transactions[graph.owners[event]].line for event in ordered]
-    return Conversion(events, Legend(numbering.transaction_names(), numbering.key_names(), lines))
+    legend = Legend(numbering.transaction_names(), numbering.key_names(), lines)
+    for number, transaction in enumerate(transactions, 1):
+        if transaction.is_unknown:
+            legend.outcomes[number] = UNKNOWN if transaction.commit is None else PLACED
+        elif transaction.name in stand_ins:
+            legend.outcomes[number] = stand_ins[transaction.name]
+        for index, others in transaction.others.items():
+            legend.fields[places[graph.firsts[number - 1] + index]] = others
+    return Conversion(events, legend, log.tally.warnings())
+
+
+def _add_stand_ins(log: TransactionsLog, policy: Policy) -> dict[str, str]:
+    """Finds the writers of all versions, adds a transaction for each stand-in, and answers the stand-ins' kinds by name."""
+    acts: list[Act] = [
+        (transaction.name, transaction.line, operation)
+        for transaction in log.transactions for operation in transaction.operations
+    ]
+    starts = {transaction.name: transaction.start for transaction in log.transactions}
+    stand_ins = find_writers(acts, starts, policy, log.tally.by_values, is_in_order=False)
+    for one in stand_ins:
+        log.tally.count(1 + len(one.keys), one.line)
+        writes: list[Operation] = [WriteOperation(key) for key in one.keys]
+        log.transactions.append(LogTransaction(one.line, one.name, starts[one.reader], None, False, writes))
+    return {one.name: one.kind for one in stand_ins}
 
 
 def _event_of(event: int, graph: EventGraph, numbering: Numbering, places: dict[int, int]) -> Event:

@@ -3,11 +3,15 @@
 from __future__ import annotations
 
 import json
+from collections.abc import Iterable
 from dataclasses import dataclass, field
 
 from si_history.errors import BadInput
 
 FORMAT = "si-history legend 1"
+
+# What a log doesn't tell of a transaction: whether it committed; or only that it did, since its version was read.
+UNKNOWN, PLACED = "unknown", "placed"
 
 
 @dataclass
@@ -15,12 +19,19 @@ class Legend:
     """What the numbers of a history stand for.
 
     `transactions` and `keys` give the log's name of each number. `events` gives, for each place of the history in turn,
-    the line of the log that the event came from; both are counted from 1.
+    the line of the log that the event came from; both are counted from 1. `outcomes` has the transactions of which the log
+    doesn't tell all: UNKNOWN, PLACED, or the kind of a stand-in. `fields` has what else the log says beside events.
     """
 
     transactions: dict[int, str] = field(default_factory=dict)
     keys: dict[int, str] = field(default_factory=dict)
     events: list[int] = field(default_factory=list)
+    outcomes: dict[int, str] = field(default_factory=dict)
+    fields: dict[int, dict[str, object]] = field(default_factory=dict)
+
+    def is_undecided(self, transactions: Iterable[int]) -> bool:
+        """Whether a finding about these transactions depends on an outcome that the log doesn't tell."""
+        return any(self.outcomes.get(number) in (UNKNOWN, PLACED) for number in transactions)
 
     def transaction(self, number: int) -> str:
         """The log's name of a transaction, or the number itself where the legend has none."""
@@ -36,12 +47,17 @@ class Legend:
 
     def to_json(self) -> str:
         """The legend as one JSON object, on one line."""
-        return json.dumps({
+        made: dict[str, object] = {
             "format": FORMAT,
             "transactions": {str(number): name for number, name in self.transactions.items()},
             "keys": {str(number): name for number, name in self.keys.items()},
             "events": self.events,
-        }) + "\n"
+        }
+        if self.outcomes:
+            made["outcomes"] = {str(number): outcome for number, outcome in self.outcomes.items()}
+        if self.fields:
+            made["fields"] = {str(place): fields for place, fields in self.fields.items()}
+        return json.dumps(made) + "\n"
 
     @classmethod
     def from_json(cls, text: str) -> Legend:
@@ -52,7 +68,8 @@ class Legend:
             raise BadInput("the legend is not JSON") from None
         if not isinstance(made, dict) or made.get("format") != FORMAT:
             raise BadInput(f'the legend is no object with "format": "{FORMAT}"')
-        return cls(_names(made, "transactions"), _names(made, "keys"), _lines(made))
+        named = _names(made, "transactions"), _names(made, "keys"), _lines(made)
+        return cls(*named, _names({"outcomes": {}} | made, "outcomes"), _fields(made))
 
 
 def _names(made: dict[str, object], part: str) -> dict[int, str]:
@@ -66,6 +83,14 @@ def _names(made: dict[str, object], part: str) -> dict[int, str]:
             raise BadInput(f'"{part}" of the legend does not lead from numbers to names')
         names[int(number)] = name
     return names
+
+
+def _fields(made: dict[str, object]) -> dict[int, dict[str, object]]:
+    """What else the log says beside events, by their places."""
+    table = made.get("fields", {})
+    if not isinstance(table, dict) or not all(_is_number(place) and isinstance(said, dict) for place, said in table.items()):
+        raise BadInput('"fields" of the legend does not lead from places to fields')
+    return {int(place): said for place, said in table.items()}
 
 
 def _is_number(text: str) -> bool:

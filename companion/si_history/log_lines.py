@@ -3,14 +3,19 @@
 from __future__ import annotations
 
 import json
-from collections.abc import Iterator, Set
+from collections.abc import Iterable, Iterator, Set
 from dataclasses import dataclass, field
 from typing import BinaryIO, NoReturn
 
 from si_history.errors import BadInput, quoted
-from si_history.history import MAX_BYTES, MAX_EVENTS, MAX_KEY
-from si_history.operations import Key, Sighting
+from si_history.header import BadHeader, Header, header_of, is_header
+from si_history.header import FIELDS as HEADER_FIELDS
+from si_history.history import MAX_BYTES, MAX_EVENTS
+from si_history.keys import Key, NoKey, key_of
+from si_history.operations import RangeOperation
+from si_history.policy import Policy
 from si_history.progress import Progress
+from si_history.spelling import is_one_edit_away
 
 MAX_LOG_BYTES = 268_435_456
 MAX_LINE_BYTES = 16_777_216
@@ -27,14 +32,39 @@ class Unused(ValueError):
 
 @dataclass
 class LogTally:
-    """What is kept over all lines of a log: the keys, and how large the history grows.
+    """What is kept over all lines of a log: its header, the keys, and how large the history grows.
 
-    `keys` has each key's first line. Keys keep the order in which the log names them first.
+    `keys` has each key's first line. Keys keep the order in which the log names them first. `by_values` is whether versions
+    are named by values. `first_range` is the line of the first range. `misspelt` has the first line of each field that looks
+    like a misspelt one, and the field that it looks like.
     """
 
     keys: dict[Key, int] = field(default_factory=dict)
+    header: Header = field(default_factory=Header)
+    by_values: bool = False
+    first_range: int | None = None
+    misspelt: dict[str, tuple[int, str]] = field(default_factory=dict)
     events: int = 0
     listed: int = 0
+
+    def take_header(self, line: LogLine, policy: Policy) -> None:
+        """Takes the header, which the first line may be, beside what the command line says. Raises BadInput."""
+        try:
+            self.header = header_of(line.fields)
+        except BadHeader as fault:
+            line.refuse(str(fault))
+        line.look_for_misspelt(self.header.others, HEADER_FIELDS)
+        if self.header.values is not None:
+            if policy.by_values is not None and policy.by_values != self.header.values:
+                line.refuse('"values" of the header is not what --values says')
+            self.by_values = self.header.values
+
+    def warnings(self) -> list[str]:
+        """What a person should know of a log that was taken."""
+        return [
+            f"line {line}: the field {quoted(name)} is kept, and means nothing here; is it a misspelt {quoted(meant)}?"
+            for name, (line, meant) in self.misspelt.items()
+        ]
 
     def count(self, events: int, line: int) -> None:
         """Counts events of the history. Raises BadInput where they pass the limit."""
@@ -64,13 +94,31 @@ class LogLine:
         """Raises the fault of this line."""
         raise BadInput(reason, line=self.number)
 
-    def only(self, known: Set[str]) -> None:
-        """Refuses a field that isn't known here, so that no misspelt one is passed over."""
+    def others(self, known: Set[str], ours: Set[str]) -> dict[str, object] | None:
+        """The fields that are none of `known`, or None where there are none.
+
+        Refuses one that is ours elsewhere in such a log, unless it is null.
+        """
         if self.fields.keys() <= known:
-            return
+            return None
+        kept: dict[str, object] = {}
         for name, value in self.fields.items():
-            if name not in known and value is not None:
-                self.refuse(f"there is no field {quoted(name)} here")
+            if name not in known:
+                if name not in ours:
+                    kept[name] = value
+                elif value is not None:
+                    self.refuse(f"there is no field {quoted(name)} here")
+        if kept:
+            self.look_for_misspelt(kept, known)
+        return kept or None
+
+    def look_for_misspelt(self, names: Iterable[str], known: Iterable[str]) -> None:
+        """Notes names that look like a known field that this line doesn't have."""
+        for name in names:
+            if name not in self.tally.misspelt:
+                meant = next((word for word in known if word not in self.fields and is_one_edit_away(name, word)), None)
+                if meant is not None:
+                    self.tally.misspelt[name] = (self.number, meant)
 
     def get(self, name: str) -> object:
         """The value of a field that must be there; it may be null."""
@@ -94,17 +142,29 @@ class LogLine:
         return None if value is None else self.name(value, what)
 
     def key(self, value: object, what: str) -> Key:
-        """A key: a string, or a whole number that a history can say."""
-        if type(value) is int:
-            if not 0 <= value <= MAX_KEY:
-                self.refuse(f"{what} is out of range: keys that are numbers go from 0 to {MAX_KEY}")
-        elif not isinstance(value, str):
-            self.refuse(f"{what} is no key: a string, or a whole number")
-        elif not value.isascii():
-            self._check_characters(value, what)
-        if value not in self.tally.keys:
-            self.tally.keys[value] = self.number
-        return value
+        """A key: a JSON scalar, or a list of them."""
+        key = self._key_of(value, what)
+        if key not in self.tally.keys:
+            self.tally.keys[key] = self.number
+        return key
+
+    def value(self, value: object, what: str) -> Key:
+        """A value that was seen: as a key, and null where no transaction wrote it."""
+        return self._key_of(value, what)
+
+    def written(self, value: object, what: str) -> Key:
+        """A value that was written: as a key, but not null, which is what no transaction wrote."""
+        if value is None:
+            self.refuse(f"{what} is null, and so names the version that no transaction wrote")
+        return self._key_of(value, what)
+
+    def _key_of(self, value: object, what: str) -> Key:
+        if type(value) is int or (type(value) is str and value.isascii()):
+            return value
+        try:
+            return key_of(value)
+        except NoKey as fault:
+            self.refuse(f"{what} {fault}")
 
     def whole(self, value: object, what: str) -> int:
         """A whole number of any size."""
@@ -116,17 +176,28 @@ class LogLine:
         """A whole number, or null where there is none."""
         return None if value is None else self.whole(value, what)
 
-    def found(self, value: object, what: str) -> list[Sighting]:
-        """The keys that a range read found, each with its writer."""
+    def range_of(self, low: object, high: object, found: object, whats: tuple[str, str, str]) -> RangeOperation:
+        """A range read: its first key, its last key, and what was found; `whats` says what these three are called."""
+        if self.tally.first_range is None:
+            self.tally.first_range = self.number
+        ends = self.key(low, whats[0]), self.key(high, whats[1])
+        pairs = self._pairs(found, whats[2])
+        if not self.tally.by_values:
+            writers = [(self.key(key, f"a key of {whats[2]}"), self.writer(saw, f"a writer of {whats[2]}")) for key, saw in pairs]
+            return RangeOperation(*ends, writers)
+        values = [(self.key(key, f"a key of {whats[2]}"), self.value(saw, f"a value of {whats[2]}")) for key, saw in pairs]
+        return RangeOperation(*ends, [], values)
+
+    def _pairs(self, value: object, what: str) -> list[tuple[object, object]]:
+        """The keys that a range read found, each with its writer or value."""
+        said = f"{what} is no list of pairs [key, {'value' if self.tally.by_values else 'writer'}]"
         if not isinstance(value, list):
-            self.refuse(f"{what} is no list of pairs [key, writer]")
+            self.refuse(said)
         self.tally.count_listed(len(value), self.number)
-        pairs: list[Sighting] = []
         for pair in value:
             if not isinstance(pair, list) or len(pair) != 2:
-                self.refuse(f"{what} is no list of pairs [key, writer]")
-            pairs.append((self.key(pair[0], f"a key of {what}"), self.writer(pair[1], f"a writer of {what}")))
-        return pairs
+                self.refuse(said)
+        return [(pair[0], pair[1]) for pair in value]
 
     def _check_characters(self, value: str, what: str) -> None:
         """Refuses a string that isn't text: JSON can name halves of characters, which no output can say."""
@@ -136,8 +207,9 @@ class LogLine:
             self.refuse(f"{what} has half a character (an unpaired surrogate)")
 
 
-def log_lines(log: BinaryIO, tally: LogTally, what: str) -> Iterator[LogLine]:
-    """The lines of a log; `what` is what a line tells of, in the plural, for the person who waits."""
+def log_lines(log: BinaryIO, tally: LogTally, what: str, policy: Policy) -> Iterator[LogLine]:
+    """The lines of a log behind its header; `what` is what a line tells of, in the plural, for the person who waits."""
+    tally.by_values = bool(policy.by_values)
     decoder = json.JSONDecoder(object_pairs_hook=_object_of, parse_constant=_no_constant)
     left = MAX_LOG_BYTES
     number = 0
@@ -151,7 +223,11 @@ def log_lines(log: BinaryIO, tally: LogTally, what: str) -> Iterator[LogLine]:
                 raise BadInput(f"log too long: the limit of bytes of a log is {MAX_LOG_BYTES:,}", line=number)
             if number % LINES_BETWEEN_STEPS == 0:
                 progress.step(number)
-            yield LogLine(number, _fields_of(content, number, decoder), tally)
+            line = LogLine(number, _fields_of(content, number, decoder), tally)
+            if number == 1 and is_header(line.fields):
+                tally.take_header(line, policy)
+            else:
+                yield line
 
 
 def _fields_of(content: bytes, number: int, decoder: json.JSONDecoder) -> dict[str, object]:

@@ -3,36 +3,53 @@
 from __future__ import annotations
 
 from dataclasses import dataclass
+from typing import Any
 
-from si_history.errors import BadInput, quoted
-from si_history.history import Event, RangeRead, Read, Write
-from si_history.operations import Key, Operation, RangeOperation, ReadOperation
-
-
-def shown_key(key: Key) -> str:
-    """A key in a message."""
-    return quoted(key) if isinstance(key, str) else str(key)
+from si_history.errors import BadInput
+from si_history.history import MAX_KEY, Event, RangeRead, Read, Write
+from si_history.keys import Key, by_unicode, key_names, kind_of, shown_key
+from si_history.log_lines import LogTally
+from si_history.operations import Operation, RangeOperation, ReadOperation
 
 
-def number_keys(first_lines: dict[Key, int]) -> dict[Key, int]:
-    """Numbers keys in such a way that ranges stay ranges; each key is given with its first line of the log.
+def number_keys(tally: LogTally) -> dict[Key, int]:
+    """Numbers the keys of a log in such a way that ranges stay ranges.
 
-    Whole numbers stand for themselves. Strings are numbered from 0 in the order of their characters (of Unicode's numbers
-    for them, which is also that of their UTF-8 bytes). Raises BadInput where some keys are numbers and some are strings.
+    Whole numbers stand for themselves where all keys are such as a history can say. Else keys are numbered from 0 in the
+    order that the header names, or by their kinds and Unicode's numbers for their characters (which for strings is the
+    order of their UTF-8 bytes too). Raises BadInput where that isn't said and a range depends on it.
     """
-    strings = [key for key in first_lines if isinstance(key, str)]
-    if not strings:
-        return {key: int(key) for key in first_lines}
-    if len(strings) < len(first_lines):
-        number = next(key for key in first_lines if not isinstance(key, str))
-        unlike: list[Key] = [number, strings[0]]
-        told, before = sorted(unlike, key=first_lines.__getitem__, reverse=True)
+    keys, order = tally.keys, tally.header.order
+    if isinstance(order, dict):
+        return _listed(keys, order)
+    if all(isinstance(key, int) and 0 <= key <= MAX_KEY for key in keys):
+        return {key: key for key in keys if isinstance(key, int)}
+    if all(isinstance(key, str) for key in keys) and order in (None, "unicode"):
+        return {key: number for number, key in enumerate(sorted(map(str, keys)))}
+    if order is None and tally.first_range is not None:
+        _check_kinds(keys, tally.first_range)
+    sort_by: Any = tally.header.sort_by() or by_unicode
+    return {key: number for number, key in enumerate(sorted(keys, key=sort_by))}
+
+
+def _listed(keys: dict[Key, int], order: dict[Key, int]) -> dict[Key, int]:
+    """Numbers by the header's list of all keys."""
+    for key, line in keys.items():
+        if key not in order:
+            raise BadInput(f'the key {shown_key(key)} is not in the list "key_order" of the header', line=line)
+    return order
+
+
+def _check_kinds(keys: dict[Key, int], first_range: int) -> None:
+    """Refuses a range where nothing says how the keys are ordered: they are lists, or of several kinds."""
+    firsts = {kind_of(key): key for key in reversed(keys)}
+    told = " and ".join(f"{shown_key(key)} (line {keys[key]})" for key in sorted(firsts.values(), key=keys.__getitem__))
+    if len(firsts) > 1 or "list" in firsts:
         raise BadInput(
-            f"the key {shown_key(told)} can't be ordered beside the key {shown_key(before)} of line {first_lines[before]}: "
-            "the keys of a log are all whole numbers or all strings",
-            line=first_lines[told],
+            f"a range needs an order of the keys, and nothing says how keys such as {told} are ordered: "
+            'a header has to name it as "key_order"',
+            line=first_range,
         )
-    return {key: number for number, key in enumerate(sorted(strings))}
 
 
 @dataclass(slots=True)
@@ -53,7 +70,8 @@ class Numbering:
 
     def key_names(self) -> dict[int, str]:
         """The log's name of each key's number, ascending."""
-        return {number: str(key) for key, number in sorted(self.keys.items(), key=lambda item: item[1])}
+        names = key_names(self.keys)
+        return {number: names[key] for key, number in sorted(self.keys.items(), key=lambda item: item[1])}
 
     def transaction_names(self) -> dict[int, str]:
         """The log's name of each transaction's number, ascending."""

@@ -5,8 +5,7 @@ from __future__ import annotations
 from collections.abc import Iterable
 from dataclasses import dataclass
 
-# A key as the log names it. The keys of one log are all whole numbers, or all strings.
-Key = int | str
+from si_history.keys import Key
 
 # A key that was seen, and the name of the transaction that wrote the version seen: None where no transaction did.
 Sighting = tuple[Key, str | None]
@@ -14,26 +13,32 @@ Sighting = tuple[Key, str | None]
 
 @dataclass(slots=True)
 class ReadOperation:
-    """One key was read."""
+    """One key was read. In a log of values `value` is what was seen, by which `writer` is found."""
 
     key: Key
     writer: str | None
+    value: Key = None
 
 
 @dataclass(slots=True)
 class RangeOperation:
-    """All keys from `low` to `high`, both included, were read; those that are not in `found` weren't there."""
+    """All keys from `low` to `high`, both included, were read; those that are not in `found` weren't there.
+
+    In a log of values `values` has what was seen of each key, by which `found` is made.
+    """
 
     low: Key
     high: Key
     found: list[Sighting]
+    values: list[tuple[Key, Key]] | None = None
 
 
 @dataclass(slots=True)
 class WriteOperation:
-    """A key was written."""
+    """A key was written. In a log of values `value` is what was written."""
 
     key: Key
+    value: Key = None
 
 
 Operation = ReadOperation | RangeOperation | WriteOperation

@@ -3,7 +3,7 @@
 An order has to keep four rules, which are edges between events here:
 
 1. the events of a transaction stand in its own order: its begin, its operations, its end;
-2. commits stand in the order of their timestamps;
+2. commits stand in the order of their timestamps (those of one timestamp by `commit_order`);
 3. a begin stands after the last commit that the snapshot has, since `bT@n` needs n events before it;
 4. a read stands after the first write of the version that it saw, since the text of a history needs that too.
 
@@ -22,8 +22,8 @@ from dataclasses import dataclass, field
 from enum import IntEnum
 
 from si_history.errors import BadInput, quoted
-from si_history.numbering import shown_key
-from si_history.operations import Key, Operation, WriteOperation, sightings
+from si_history.keys import Key, shown_key
+from si_history.operations import Operation, WriteOperation, sightings
 from si_history.transactions_log import LogTransaction, commit_order
 
 
@@ -61,7 +61,7 @@ class EventGraph:
 
 
 def event_graph(transactions: list[LogTransaction]) -> EventGraph:
-    """The events of a log and all rules between them. Raises BadInput for a version from nowhere, or two equal commits."""
+    """The events of a log and all rules between them. Raises BadInput for a version from nowhere."""
     graph = EventGraph(transactions)
     for position, transaction in enumerate(transactions):
         graph.firsts.append(len(graph.owners))

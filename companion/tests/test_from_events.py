@@ -88,6 +88,21 @@ class KeysTest(unittest.TestCase):
         self.assertEqual(made.legend.keys, {0: "", 1: "B", 2: "a/10", 3: "a/9", 4: "b", 5: "\u00e9", 6: "\U0001f600"})
         self.assertEqual(history_line(made), "w1[4] w1[0] w1[2] w1[3] w1[5] w1[6] w1[1]")
 
+    def test_numbers_that_no_history_can_say_are_numbered(self) -> None:
+        made = converted(convert, [event("A", "write", key=key) for key in (2**64, -1, 0.5, 3, 3.0)])
+        self.assertEqual(history_line(made), "w1[3] w1[0] w1[1] w1[2] w1[2]")
+        self.assertEqual(made.legend.keys, {0: "-1", 1: "0.5", 2: "3", 3: "18446744073709551616"})
+
+    def test_keys_of_all_kinds(self) -> None:
+        keys = ("5", 5, ["a", None, False], None, True, 1, "1", '"1"', "a")
+        made = converted(convert, [event("A", "write", key=key) for key in keys])
+        # null, true, the numbers, the strings by their characters, the list; strings that read as JSON are named as JSON.
+        self.assertEqual(
+            list(made.legend.keys.values()),
+            ["null", "true", "1", "5", '"\\"1\\""', '"1"', '"5"', "a", '["a", null, false]'],
+        )
+        self.assertEqual(history_line(made), "w1[6] w1[3] w1[8] w1[0] w1[1] w1[2] w1[5] w1[4] w1[7]")
+
     def test_strings_of_digits_are_strings(self) -> None:
         self.assertEqual(history(event("A", "write", key="9"), event("A", "write", key="10")), "w1[1] w1[0]")
 
@@ -126,7 +141,6 @@ class RefusalTest(unittest.TestCase):
         self.refused('line 1: the field "key" is missing', event("A", "write"))
         self.refused('line 1: the field "saw" is missing', event("A", "read", key=1))
         self.refused('line 1: the field "found" is missing', event("A", "range", low=1, to=2))
-        self.refused('line 1: there is no field "strat" here', event("A", "begin", strat=0))
         self.refused('line 1: there is no field "start" here', event("A", "read", key=1, saw=None, start=0))
 
     def test_values_of_another_kind(self) -> None:
@@ -134,8 +148,10 @@ class RefusalTest(unittest.TestCase):
         self.refused('line 1: "op" is none of begin, read, range, write, commit, abort', {"txn": "A", "op": ["commit"]})
         for name in (None, "", 1.5, True, ["A"]):
             self.refused('line 1: "txn" is no name: a string that isn\'t empty, or a whole number', event(name, "commit"))
-        for key in (None, 1.5, True, ["A"]):
-            self.refused('line 1: "key" is no key: a string, or a whole number', event("A", "write", key=key))
+        for key in ({}, [[1]], ["A", {}]):
+            self.refused(
+                'line 1: "key" is no key: a string, a number, true, false, null, or a list of these', event("A", "write", key=key)
+            )
         self.refused(
             'line 1: "saw" is no name: a string that isn\'t empty, or a whole number', event("A", "read", key=1, saw=False)
         )
@@ -145,27 +161,25 @@ class RefusalTest(unittest.TestCase):
                 'line 1: "found" is no list of pairs [key, writer]', event("A", "range", low=1, to=2, found=found)
             )
 
-    def test_keys_out_of_range(self) -> None:
-        for key in (-1, 2**64):
-            self.refused(
-                'line 1: "key" is out of range: keys that are numbers go from 0 to 18446744073709551615',
-                event("A", "write", key=key),
-            )
+    def test_numbers_that_are_too_large(self) -> None:
+        self.refused('line 1: "key" has a number that is too large', b'{"txn": "A", "op": "write", "key": 1e999}')
 
     def test_half_characters(self) -> None:
         self.refused('line 1: "key" has half a character (an unpaired surrogate)', event("A", "write", key="\ud800"))
         self.refused('line 1: "txn" has half a character (an unpaired surrogate)', event("\udfff", "commit"))
 
-    def test_keys_of_both_kinds(self) -> None:
+    def test_ranges_of_keys_that_have_no_order(self) -> None:
+        said = "line 4: a range needs an order of the keys, and nothing says how keys such as {} are ordered: "
+        end = 'a header has to name it as "key_order"'
         self.refused(
-            'line 3: the key "a" can\'t be ordered beside the key 5 of line 2: '
-            "the keys of a log are all whole numbers or all strings",
+            said.format('5 (line 2) and "a" (line 3)') + end,
             event("A", "begin"), event("A", "write", key=5), event("A", "write", key="a"),
+            event("A", "range", low=1, to=9, found=[]),
         )
         self.refused(
-            'line 2: the key 5 can\'t be ordered beside the key "a" of line 1: '
-            "the keys of a log are all whole numbers or all strings",
-            event("A", "write", key="a"), event("A", "write", key=5),
+            said.format('["a", 1] (line 2)') + end,
+            event("A", "begin"), event("A", "write", key=["a", 1]), event("A", "write", key=["a", 2]),
+            event("A", "range", low=["a", 1], to=["a", 2], found=[]),
         )
 
     def test_events_that_cannot_come_next(self) -> None:

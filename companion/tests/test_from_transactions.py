@@ -59,6 +59,16 @@ class HistoryTest(unittest.TestCase):
             "b2@0 w2[1] c2 b1@3 r1[1:2] c1 b3@6 r3[1:2] c3",
         )
 
+    def test_writers_of_one_timestamp_that_have_nothing_to_do_with_each_other(self) -> None:
+        # Each reads and covers its own keys alone, so it makes no difference that the first line counts as the first commit.
+        self.assertEqual(
+            history(
+                txn("A", 1, 5, ["w", 1], ["w", 3], ["range", 3, 4, [[3, "A"]]]), txn("B", 1, 5, ["r", 2, None], ["w", 2]),
+                txn("C", 5, 6, ["r", 1, "A"], ["r", 2, "B"]),
+            ),
+            "b1@0 w1[1] w1[3] r1[3..4;3:1] b2@0 r2[2:0] w2[2] c1 c2 b3@9 r3[1:1] r3[2:2] c3",
+        )
+
     def test_a_version_of_a_later_writer_is_written_first(self) -> None:
         # B saw what A wrote, before A committed and before A started by the timestamps.
         self.assertEqual(
@@ -107,13 +117,14 @@ class RefusalTest(unittest.TestCase):
 
     def test_fields(self) -> None:
         good = txn("A", 1, 2)
-        for field in good:
+        for field in ("txn", "start", "commit", "ops"):
             left_out = {name: value for name, value in good.items() if name != field}
             self.refused(f'line 1: the field "{field}" is missing', left_out)
-        self.refused('line 1: there is no field "end" here', good | {"end": 2})
+        self.refused('line 1: the field "aborted" is missing', {"txn": "A", "start": 1, "commit": None, "ops": []})
         self.refused('line 1: "start" is no whole number', txn("A", 1.5, 2))
         self.refused('line 1: "start" is no whole number', txn("A", None, 2))
-        self.refused('line 1: "commit" is no whole number', txn("A", 1, "2"))
+        for commit in ("2", 2.5, True, "Unknown"):
+            self.refused('line 1: "commit" is no whole number, and neither null nor "unknown"', txn("A", 1, commit))
         self.refused('line 1: "aborted" is neither true nor false', txn("A", 1, None, aborted=0))
         self.refused('line 1: "aborted" is neither true nor false', txn("A", 1, None, aborted=None))
         self.refused('line 1: "ops" is no list', good | {"ops": {}})
@@ -122,9 +133,14 @@ class RefusalTest(unittest.TestCase):
 
     def test_operations(self) -> None:
         said = 'line 1: operation 2 is none of ["r", key, writer], ["w", key] or ["range", from, to, [[key, writer], ..]]'
-        for item in ("r", {}, [], ["r", 1], ["w", 1, None], ["range", 1, 2], ["x", 1], ["R", 1, None]):
+        for item in ("r", {}, [], [{}], ["r", 1], ["range", 1, 2], ["x", 1], ["R", 1, None], ["r", 1, None, 2]):
             self.refused(said, txn("A", 1, 2, ["w", 1], item))
-        self.refused("line 1: the key of operation 1 is no key: a string, or a whole number", txn("A", 1, 2, ["w", None]))
+        hint = '; values in place of writers need "values": "unique" in a header, or --values unique'
+        self.refused(said + hint, txn("A", 1, 2, ["w", 1], ["w", 1, 5]))
+        self.refused(
+            "line 1: the key of operation 1 is no key: a string, a number, true, false, null, or a list of these",
+            txn("A", 1, 2, ["w", [[1]]]),
+        )
         self.refused(
             "line 1: the writer of operation 1 is no name: a string that isn't empty, or a whole number",
             txn("A", 1, 2, ["r", 1, 0.5]),
@@ -132,11 +148,6 @@ class RefusalTest(unittest.TestCase):
         self.refused("line 1: what operation 1 found is no list of pairs [key, writer]", txn("A", 1, 2, ["range", 1, 2, [3]]))
         self.refused("line 1: the range is empty: 2 comes after 1", txn("A", 1, 2, ["range", 2, 1, []]))
         self.refused("line 1: the key 3 was found outside the range", txn("A", 1, 2, ["range", 1, 2, [[3, None]]]))
-        self.refused(
-            'line 2: the key 5 can\'t be ordered beside the key "a" of line 1: '
-            "the keys of a log are all whole numbers or all strings",
-            txn("A", 1, 2, ["w", "a"]), txn("B", 1, 2, ["r", 5, None]),
-        )
 
     def test_one_transaction_twice(self) -> None:
         self.refused('line 3: the transaction "7" is that of line 1', txn("7", 1, 2), txn("A", 1, 2), txn(7, 3, 4))
@@ -150,10 +161,12 @@ class RefusalTest(unittest.TestCase):
         )
 
     def test_two_writers_of_one_commit_timestamp(self) -> None:
-        self.refused(
-            'line 3: "C" and "A" (line 1) both wrote and both committed at 5: nothing tells which was first',
-            txn("A", 1, 5, ["w", 1]), txn("B", 1, 5), txn("C", 2, 5, ["w", 2]),
-        )
+        both = 'line 3: "C" and "A" (line 1) both wrote and both committed at 5: nothing tells which was first, and '
+        first, reader = txn("A", 1, 5, ["w", "k"]), txn("B", 1, 5)
+        self.refused(both + 'both wrote "k"', first, reader, txn("C", 2, 5, ["w", "j"], ["w", "k"]))
+        read = both + '"C" read "k", which the other one wrote'
+        self.refused(read, first, reader, txn("C", 2, 5, ["w", "j"], ["r", "k", None]))
+        self.refused(read, first, reader, txn("C", 2, 5, ["w", "j"], ["range", "j", "l", []]))
 
     def test_versions_from_nowhere(self) -> None:
         self.refused(
