@@ -7,7 +7,7 @@ import sys
 from collections.abc import Sequence
 from typing import IO, Any, NoReturn, Protocol
 
-from si_history import __version__, from_events, from_transactions, graph, names, page, startup
+from si_history import __version__, from_events, from_jepsen, from_transactions, graph, names, page, startup
 from si_history.errors import BadInput
 from si_history.files import write_error, write_output
 from si_history.record import command as record
@@ -33,7 +33,7 @@ class Command(Protocol):
 
 
 # The command modules, in the order in which --help lists them.
-COMMANDS: tuple[Command, ...] = (from_events, from_transactions, names, graph, page, record)
+COMMANDS: tuple[Command, ...] = (from_events, from_transactions, from_jepsen, names, graph, page, record)
 
 
 class OneLineParser(argparse.ArgumentParser):

@@ -3,6 +3,7 @@
 from __future__ import annotations
 
 import argparse
+from collections.abc import Iterable
 from typing import BinaryIO
 
 from si_history.conflict import conflict
@@ -11,7 +12,7 @@ from si_history.history import Abort, Begin, Commit, Event
 from si_history.legend import PLACED, UNKNOWN, Legend
 from si_history.numbering import Numbering, number_keys
 from si_history.operations import Operation, WriteOperation
-from si_history.outcomes import settle
+from si_history.outcomes import Sight, settle
 from si_history.placing import EventGraph, event_graph, order_of
 from si_history.policy import STRICT, Policy, add_value_arguments, add_values_argument, add_writer_argument, policy_of
 from si_history.ties import check_ties
@@ -70,13 +71,16 @@ def convert(file: BinaryIO, policy: Policy = STRICT) -> Conversion:
     return history_of(read_transactions_log(file, policy), policy)
 
 
-def history_of(log: TransactionsLog, policy: Policy) -> Conversion:
-    """The history of a log of transactions that is read, with its legend."""
+def history_of(log: TransactionsLog, policy: Policy, sights: Iterable[Sight] = ()) -> Conversion:
+    """The history of a log of transactions that is read, with its legend.
+
+    `sights` are what the log tells of transactions of unknown outcome beside its reads.
+    """
     stand_ins = _add_stand_ins(log, policy)
     transactions = log.transactions
     numbers = {transaction.name: number for number, transaction in enumerate(transactions, 1)}
     numbering = Numbering(numbers, number_keys(log.tally))
-    settle(transactions, numbering.keys)
+    settle(transactions, numbering.keys, sights)
     check_ties(transactions, numbering.keys)
     graph = event_graph(transactions)
     ordered = order_of(graph)

@@ -21,13 +21,42 @@ from si_history.transactions_log import LogTransaction
 
 
 @dataclass(slots=True)
+class Sight:
+    """That a reader saw a version of one of unknown outcome beneath a later one.
+
+    `behind` and `beneath` are the commits of the known versions next to it, on either side.
+    """
+
+    writer: LogTransaction
+    reader: LogTransaction
+    key: Key
+    behind: int | None
+    beneath: int | None
+
+
+@dataclass(slots=True)
 class _Seen:
-    """One that committed, the first of the readers that saw its version with the key that it read, and all keys seen."""
+    """One that committed, the first of the readers that saw its version with the key that it read, and all keys seen.
+
+    `least` and `most` are bounds of its commit where versions are seen behind and beneath others.
+    """
 
     writer: LogTransaction
     reader: LogTransaction
     key: Key
     keys: set[Key] = field(default_factory=set)
+    least: float = -math.inf
+    most: float = math.inf
+
+    def take(self, reader: LogTransaction, key: Key) -> None:
+        """Notes one more reader."""
+        if reader.start < self.reader.start:
+            self.reader, self.key = reader, key
+
+    @property
+    def latest(self) -> int:
+        """The latest timestamp that its commit may have."""
+        return self.reader.start if self.reader.start <= self.most else int(self.most)
 
 
 @dataclass(slots=True)
@@ -48,9 +77,12 @@ class _KeyTimes:
 _Range = tuple[int, int, int, set[int]]
 
 
-def settle(transactions: list[LogTransaction], keys: dict[Key, int]) -> None:
-    """Gives a commit to those of unknown outcome that were seen. Raises BadInput where no time can be that of its commit."""
-    seen = _seen(transactions)
+def settle(transactions: list[LogTransaction], keys: dict[Key, int], sights: Iterable[Sight] = ()) -> None:
+    """Gives a commit to those of unknown outcome that were seen, by reads of their versions or as `sights` say.
+
+    Raises BadInput where no time can be that of its commit.
+    """
+    seen = _seen(transactions, sights)
     if not seen:
         return
     times = _times(transactions, seen, keys)
@@ -60,7 +92,7 @@ def settle(transactions: list[LogTransaction], keys: dict[Key, int]) -> None:
             one.writer.start = commit
 
 
-def _seen(transactions: list[LogTransaction]) -> dict[str, _Seen]:
+def _seen(transactions: list[LogTransaction], sights: Iterable[Sight]) -> dict[str, _Seen]:
     """Those of unknown outcome whose versions others saw. Raises BadInput where one was seen before it can have committed."""
     unknown = {transaction.name: transaction for transaction in transactions if transaction.is_unknown}
     seen: dict[str, _Seen] = {}
@@ -69,30 +101,42 @@ def _seen(transactions: list[LogTransaction]) -> dict[str, _Seen]:
             for key, name in sightings(operation):
                 if name is not None and name in unknown and name != reader.name:
                     one = seen.setdefault(name, _Seen(unknown[name], reader, key))
+                    one.take(reader, key)
                     one.keys.add(key)
-                    if reader.start < one.reader.start:
-                        one.reader, one.key = reader, key
+    for sight in sights:
+        if sight.reader is not sight.writer:
+            one = seen.setdefault(sight.writer.name, _Seen(sight.writer, sight.reader, sight.key))
+            one.take(sight.reader, sight.key)
+            one.least = max(one.least, -math.inf if sight.behind is None else sight.behind)
+            one.most = min(one.most, math.inf if sight.beneath is None else sight.beneath - 1)
     for one in seen.values():
-        if one.writer.has_start and one.reader.start <= one.writer.start:
-            raise BadInput(
-                f"nobody knows whether {quoted(one.writer.name)} committed, and its commit can't be placed: it started at "
-                f"{one.writer.start}, and {quoted(one.reader.name)} (line {one.reader.line}), which started at "
-                f"{one.reader.start}, saw its version of {shown_key(one.key)}",
-                line=one.writer.line,
-            )
+        if one.writer.has_start and one.latest <= one.writer.start:
+            raise _unplaced(one)
     return seen
+
+
+def _unplaced(one: _Seen) -> BadInput:
+    """Says why a commit has no place."""
+    why = f"{quoted(one.reader.name)} (line {one.reader.line}), which started at {one.reader.start}, saw its version of"
+    if one.reader.start > one.writer.start:
+        why = f"a version that was committed at {int(one.most) + 1} came after its version of"
+    return BadInput(
+        f"nobody knows whether {quoted(one.writer.name)} committed, and its commit can't be placed: it started at "
+        f"{one.writer.start}, and {why} {shown_key(one.key)}",
+        line=one.writer.line,
+    )
 
 
 def _commit(one: _Seen, times: dict[Key, _KeyTimes]) -> int:
     """The timestamp at which one is placed."""
-    writer, latest = one.writer, one.reader.start
+    writer, latest = one.writer, one.latest
     written = {operation.key for operation in writer.operations if isinstance(operation, WriteOperation)}
-    least, most = writer.start + 1 if writer.has_start else -math.inf, latest
+    least, most = max(one.least, writer.start + 1 if writer.has_start else -math.inf), latest
     for key in written:
         least = max(least, _last(times[key].missed, latest - 1) + 1)
         if writer.has_start:
             later = bisect_right(times[key].starts, writer.start)
-            most = min(most, *times[key].starts[later:later + 1])
+            most = min([most, *times[key].starts[later:later + 1]])
     for key in one.keys:
         least = max(least, _last(times[key].commits, latest))
     commit = most

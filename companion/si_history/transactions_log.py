@@ -5,7 +5,7 @@ from __future__ import annotations
 from dataclasses import dataclass, field
 from typing import BinaryIO
 
-from si_history.errors import quoted
+from si_history.errors import BadInput, quoted
 from si_history.log_lines import LogLine, LogTally, log_lines
 from si_history.operations import Operation, ReadOperation, WriteOperation
 from si_history.policy import STRICT, Policy
@@ -129,15 +129,19 @@ def _operation_of(line: LogLine, item: object, what: str) -> Operation:
 
 def _check_times(line: LogLine, transaction: LogTransaction) -> None:
     """Refuses timestamps that no transaction can have."""
-    start, commit = transaction.start, transaction.commit
-    if transaction.is_aborted and (commit is not None or transaction.is_unknown):
+    if transaction.is_aborted and (transaction.commit is not None or transaction.is_unknown):
         line.refuse('it has "commit" and is "aborted"')
-    if commit is None:
-        return
-    if commit < start:
-        line.refuse(f"it committed at {commit}, before its start at {start}")
+    check_commit(transaction)
+
+
+def check_commit(transaction: LogTransaction) -> None:
+    """Refuses a commit that comes before the start, or at it where something was written."""
+    start, commit = transaction.start, transaction.commit
+    if commit is not None and commit < start:
+        raise BadInput(f"it committed at {commit}, before its start at {start}", line=transaction.line)
     if commit == start and transaction.has_writes():
-        line.refuse(f"it wrote and committed at {commit}, which is its start: its own commit can't be in its snapshot")
+        told = f"it wrote and committed at {commit}, which is its start: its own commit can't be in its snapshot"
+        raise BadInput(told, line=transaction.line)
 
 
 def commit_order(transactions: list[LogTransaction]) -> list[int]:
