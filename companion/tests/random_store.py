@@ -1,11 +1,12 @@
 """Random runs of a store, told three times: as a history, as a log of events, and as a log of transactions.
 
 The store mostly keeps snapshot isolation, and sometimes not: a read may see any version that is written, a transaction
-may commit though it should not, and may end or stay open at any time.
+may commit though it should not, and may end or stay open at any time. A store with one bug alone does nothing else wrong.
 """
 
 from __future__ import annotations
 
+import enum
 import random
 from dataclasses import dataclass, field
 
@@ -15,9 +16,23 @@ KEY_SETS = ([1, 2], [0, 1, 2, 3], [3, 4, 10, 11, 12, 100, 2**64 - 1])
 MOST_TRANSACTIONS = 7
 MOST_STEPS = 40
 HONEST_READS = 0.8
+HONEST_READS_BESIDE_A_BUG = 0.3
 HONEST_ENDS = 0.8
 
 Line = dict[str, object]
+
+
+class Bug(enum.Enum):
+    """What is wrong with a store, by what the auditor calls it where it shows."""
+
+    NONE = "none"
+    STALE = "stale read"
+    FUTURE = "future read"
+    ABORTED = "aborted read"
+    UNCOMMITTED = "uncommitted read"
+    OWN_WRITE = "own write missed"
+    PHANTOM = "phantom"
+    LOST_UPDATE = "bad-write"
 
 
 @dataclass
@@ -31,6 +46,8 @@ class Run:
     open: list[int] = field(default_factory=list)
     commits: dict[int, int] = field(default_factory=dict)
     writers: dict[int, list[int]] = field(default_factory=dict)
+    bug: Bug | None = None
+    has_ranges: bool = True
 
     def record(self, event: Event) -> None:
         """Adds an event at the end."""
@@ -57,9 +74,25 @@ class Run:
 
     def version(self, transaction: int, key: int) -> int:
         """The version that a read sees: mostly the one that is due, and else any that is written."""
-        if self.random.random() < HONEST_READS:
-            return self.due(transaction, key)
-        return self.random.choice([0, *self.writers.get(key, [])])
+        due = self.due(transaction, key)
+        if self.random.random() < (HONEST_READS if self.bug is None else HONEST_READS_BESIDE_A_BUG):
+            return due
+        if self.bug is None:
+            return self.random.choice([0, *self.writers.get(key, [])])
+        wrong = [version for version in (0, *self.writers.get(key, [])) if self.name_of(transaction, version, due) is self.bug]
+        return self.random.choice(wrong or [due])
+
+    def name_of(self, transaction: int, version: int, due: int) -> Bug:
+        """What it is called that a transaction sees a version now, where another one may be due."""
+        if version == due:
+            return Bug.NONE
+        if due == transaction:
+            return Bug.OWN_WRITE
+        if version == 0 or self.commits.get(version, len(self.events) + 1) <= self.starts.get(transaction, len(self.events)):
+            return Bug.STALE
+        if version in self.commits:
+            return Bug.FUTURE
+        return Bug.UNCOMMITTED if version in self.open else Bug.ABORTED
 
     def is_late(self, transaction: int) -> bool:
         """Whether another transaction wrote one of its keys and committed after it started."""
@@ -69,11 +102,11 @@ class Run:
         )
 
 
-def random_run(seed: str) -> Run:
-    """A run that the seed decides."""
+def random_run(seed: str, bug: Bug | None = None, has_ranges: bool = True) -> Run:
+    """A run that the seed decides, of a store with all bugs or with this one; then each transaction ends, if it may."""
     r = random.Random(seed)
-    run = Run(r, r.choice(KEY_SETS))
-    for _ in range(r.randint(1, MOST_STEPS)):
+    run = Run(r, r.choice(KEY_SETS), bug=bug, has_ranges=has_ranges)
+    for _ in range(r.randint(1, MOST_STEPS) if bug is None else MOST_STEPS):
         is_new = len(run.starts) < MOST_TRANSACTIONS and (not run.open or r.random() < 0.2)
         if not is_new and not run.open:
             break
@@ -82,23 +115,27 @@ def random_run(seed: str) -> Run:
             run.record(Begin(transaction, r.randint(0, len(run.events)) if r.random() < 0.4 else None))
         else:
             run.record(_next_event(run, transaction))
+    for transaction in list(run.open) if bug not in (None, Bug.UNCOMMITTED) else ():
+        run.record(Abort(transaction))
     return run
 
 
 def _next_event(run: Run, transaction: int) -> Event:
     """What a transaction does next."""
     r, key, chance = run.random, run.random.choice(run.keys), run.random.random()
-    if chance < 0.35:
+    if chance < (0.1 if run.bug is Bug.PHANTOM else 0.35):
         return Read(transaction, key, run.version(transaction, key))
-    if chance < 0.45:
+    if chance < 0.45 and run.has_ranges:
         low, high = sorted((key, r.choice(run.keys)))
         seen = [(k, run.version(transaction, k)) for k in run.keys if low <= k <= high]
+        if run.bug is Bug.PHANTOM:
+            seen = [pair for pair in seen if pair[1] == transaction or r.random() < HONEST_READS_BESIDE_A_BUG]
         return RangeRead(transaction, low, high, tuple(pair for pair in seen if pair[1] or r.random() < 0.2))
     if chance < 0.78:
         return Write(transaction, key)
     if transaction not in run.starts:
         return Commit(transaction)
-    if run.is_late(transaction) and r.random() < HONEST_ENDS:
+    if run.is_late(transaction) and (run.bug not in (None, Bug.LOST_UPDATE) or r.random() < (HONEST_ENDS if run.bug is None else 0.3)):
         return Abort(transaction)
     return Abort(transaction) if r.random() < 0.1 else Commit(transaction)
 
