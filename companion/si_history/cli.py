@@ -3,13 +3,13 @@
 from __future__ import annotations
 
 import argparse
-import sys
 from collections.abc import Sequence
 from typing import IO, Any, NoReturn, Protocol
 
 from si_history import __version__, from_events, from_jepsen, from_transactions, graph, names, page, startup
-from si_history.errors import BadInput
-from si_history.files import write_error, write_output
+from si_history.errors import BadInput, OutputIsInput
+from si_history.files import STANDARD_OUTPUT, write_error, write_output
+from si_history.incomplete import Output, Stopped, end_by, stops_met
 from si_history.record import command as record
 
 OK = 0
@@ -21,7 +21,8 @@ into names and pictures. It judges nothing: the verdict is si_audit's alone."""
 
 EPILOG = """\
 Status 0: all went well. Status 2: the input or the command line is bad, or what
-was made can't be written; one line on standard error says why.
+was made can't be written; one line on standard error says why. Where a history was
+to be written into a file or a pipe, the token !incomplete is, which no auditor takes.
 Each command has its own help: si-history COMMAND --help"""
 
 
@@ -29,11 +30,22 @@ class Command(Protocol):
     """A module that adds one command, or several, to the command line."""
 
     def register(self, commands: argparse._SubParsersAction[argparse.ArgumentParser]) -> None:
-        """Adds the command's parser. Its default `run` takes the arguments and answers the status, or raises BadInput."""
+        """Adds the command's parser. Its default `run` takes the arguments and answers the status, or raises BadInput.
+
+        Where its default `writes_history` is not False, a run that fails ends its output by a token that no history has.
+        """
 
 
 # The command modules, in the order in which --help lists them.
 COMMANDS: tuple[Command, ...] = (from_events, from_transactions, from_jepsen, names, graph, page, record)
+
+
+class BadCommandLine(BadInput):
+    """A faulty command line; `writes_history` is as the command has it, and True where no command was told."""
+
+    def __init__(self, message: str, program: str, writes_history: bool) -> None:
+        super().__init__(f"{message} (see {program} --help)", source=program)
+        self.writes_history = writes_history
 
 
 class OneLineParser(argparse.ArgumentParser):
@@ -43,8 +55,7 @@ class OneLineParser(argparse.ArgumentParser):
         write_output(self.format_help())
 
     def error(self, message: str) -> NoReturn:
-        write_error(f"{self.prog}: {message} (see {self.prog} --help)")
-        sys.exit(BAD_INPUT)
+        raise BadCommandLine(message, self.prog, self.get_default("writes_history") is not False)
 
 
 class ShowVersion(argparse.Action):
@@ -71,22 +82,63 @@ def make_parser() -> argparse.ArgumentParser:
 
 
 def main(words: Sequence[str] | None = None) -> int:
-    """Runs one command line (that of the process, if none is given), and answers the status."""
+    """Runs one command line (that of the process, if none is given), and answers the status.
+
+    However a command ends that was to write a history and failed, its output ends by the mark of `incomplete`.
+    """
+    output = Output()
+    run = _Run()
     try:
         with startup.interrupts_raised():
-            return _run(words)
+            return run.status_of(words)
     except KeyboardInterrupt:
         return startup.INTERRUPTED
+    finally:
+        if run.writes_history and not run.is_done:
+            output.mark()
+        output.close()
+        if run.ending_signal is not None:
+            end_by(run.ending_signal)
 
 
-def _run(words: Sequence[str] | None) -> int:
-    """Runs one command line, and answers the status."""
-    try:
-        arguments = make_parser().parse_args(words)
-        status: int = arguments.run(arguments)
+class _Run:
+    """One command line that is run."""
+
+    def __init__(self) -> None:
+        self.writes_history = True
+        self.is_done = False
+        self.ending_signal: int | None = None
+
+    def status_of(self, words: Sequence[str] | None) -> int:
+        """Runs the command line, and tells what went wrong."""
+        try:
+            status = self._end_of(words)
+            self.is_done = status == OK
+            return status
+        except BadCommandLine as fault:
+            self.writes_history = fault.writes_history
+            write_error(str(fault))
+        except BadInput as fault:
+            self.writes_history = self.writes_history and not isinstance(fault, OutputIsInput)
+            write_error(f"si-history: {fault}")
+        except MemoryError:
+            write_error("si-history: not enough memory")
+        except Stopped as stop:
+            self.ending_signal = stop.number
+        return BAD_INPUT
+
+    def _end_of(self, words: Sequence[str] | None) -> int:
+        """The status of the command, or 0 where the help or the version was wanted."""
+        parser = make_parser()
+        try:
+            arguments, unknown = parser.parse_known_args(words)
+        except SystemExit:
+            self.is_done = True
+            raise
+        is_elsewhere = getattr(arguments, "output", None) not in (None, STANDARD_OUTPUT)
+        self.writes_history = getattr(arguments, "writes_history", True) and not is_elsewhere
+        if unknown:
+            raise BadCommandLine(f"unrecognized arguments: {' '.join(unknown)}", parser.prog, self.writes_history)
+        with stops_met():
+            status: int = arguments.run(arguments)
         return status
-    except BadInput as fault:
-        write_error(f"si-history: {fault}")
-    except MemoryError:
-        write_error("si-history: not enough memory")
-    return BAD_INPUT

@@ -56,6 +56,8 @@ def run_conversion(arguments: argparse.Namespace, convert: Callable[[BinaryIO], 
     with in_source(source_name(arguments.log)), without_collector():
         with opened(arguments.log) as file:
             conversion = convert(file)
+        if not conversion.events:
+            raise BadInput("the log has no event, so there is no history of it")
         text = text_of(conversion.events)
     for warning in conversion.warnings:
         print(f"si-history: {source_name(arguments.log)}: {warning}", file=sys.stderr)

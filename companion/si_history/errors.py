@@ -28,6 +28,10 @@ class BadInput(Exception):
         return ": ".join([*parts, self.reason])
 
 
+class OutputIsInput(BadInput):
+    """Standard output is a file that the command reads, so that not even a mark may be written there."""
+
+
 def quoted(name: str) -> str:
     """A name from the input, fit for a message: in quotes, on one line, in ASCII, and cut where it is long."""
     shown = name if len(name) <= SHOWN_CHARACTERS else name[:SHOWN_CHARACTERS] + "..."

@@ -9,7 +9,7 @@ from collections.abc import Iterable, Iterator
 from contextlib import contextmanager, suppress
 from typing import BinaryIO
 
-from si_history.errors import BadInput
+from si_history.errors import BadInput, OutputIsInput
 from si_history.unseen import visible
 
 STANDARD_INPUT = STANDARD_OUTPUT = "-"
@@ -59,7 +59,8 @@ def check_output(path: str | None, others: Iterable[str | None] = ()) -> None:
     output = None if path is None else _identity(path, 1)
     same = next((name for name in others if name is not None and output is not None and output == _identity(name, 0)), None)
     if path is not None and same is not None:
-        raise BadInput(f"can't be written: it is the same file as {source_name(same)}", source=output_name(path))
+        kind = OutputIsInput if path == STANDARD_OUTPUT else BadInput
+        raise kind(f"can't be written: it is the same file as {source_name(same)}", source=output_name(path))
 
 
 def output_name(path: str) -> str:
@@ -78,7 +79,9 @@ def write_output(text: str, path: str = STANDARD_OUTPUT) -> None:
     if sys.stdout is None:
         raise BadInput("can't be written: it is closed", source=output_name(path))
     try:
-        sys.stdout.buffer.write(text.encode("utf-8"))
+        left = memoryview(text.encode("utf-8"))
+        while left:  # without a buffer, as PYTHONUNBUFFERED has it, a call may take a part alone
+            left = left[sys.stdout.buffer.write(left) :]
         sys.stdout.buffer.flush()
     except BrokenPipeError:
         _drop(1)

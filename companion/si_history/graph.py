@@ -46,7 +46,7 @@ def register(commands: argparse._SubParsersAction[argparse.ArgumentParser]) -> N
     )
     parser.add_argument("--all", action="store_true", help="all edges of the report")
     parser.add_argument("--legend", metavar="FILE", help="the legend that was written with the history, for the log's names")
-    parser.set_defaults(run=run)
+    parser.set_defaults(run=run, writes_history=False)
 
 
 def run(arguments: argparse.Namespace) -> int:

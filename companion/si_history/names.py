@@ -52,7 +52,7 @@ def register(commands: argparse._SubParsersAction[argparse.ArgumentParser]) -> N
         "report", metavar="REPORT", nargs="?", default=STANDARD_INPUT, help="the report (default: -, standard input)"
     )
     parser.add_argument("--legend", metavar="FILE", required=True, help="the legend that was written with the history")
-    parser.set_defaults(run=run)
+    parser.set_defaults(run=run, writes_history=False)
 
 
 def run(arguments: argparse.Namespace) -> int:

@@ -45,7 +45,7 @@ def register(commands: argparse._SubParsersAction[argparse.ArgumentParser]) -> N
     parser.add_argument("--legend", metavar="FILE", help="the legend that was written with the history, for the log's names")
     parser.add_argument("--svg", action="store_true", help="the timeline alone, as an SVG image")
     parser.add_argument("-o", "--output", metavar="FILE", default="-", help="where to write (default: -, standard output)")
-    parser.set_defaults(run=run)
+    parser.set_defaults(run=run, writes_history=False)
 
 
 def run(arguments: argparse.Namespace) -> int:

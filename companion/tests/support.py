@@ -13,6 +13,7 @@ from typing import BinaryIO
 
 from si_history.conversion import Conversion, without_collector
 from si_history.history import text_of
+from si_history.incomplete import MARK
 
 REPOSITORY = Path(__file__).resolve().parents[2]
 COMPANION = REPOSITORY / "companion"
@@ -23,6 +24,9 @@ NO_PROGRAM = f"left out: the program {PROGRAM} is not built"
 
 # How many seconds a slow and busy machine may take for what takes a moment elsewhere. What takes longer hangs.
 LONG_SECONDS = 300.0
+
+# What stands on the output of a command that was to write a history, and failed before it wrote any of it.
+MARKED = f"{MARK}\n".encode()
 
 Convert = Callable[[BinaryIO], Conversion]
 

@@ -11,7 +11,7 @@ import time
 import unittest
 from pathlib import Path
 
-from tests.support import COMPANION, LONG_SECONDS, REPOSITORY, log_of, run_command
+from tests.support import COMPANION, LONG_SECONDS, MARKED, REPOSITORY, log_of, run_command
 
 EVENTS = log_of([{"txn": "A", "op": "write", "key": "k"}, {"txn": "A", "op": "commit"}])
 TRANSACTIONS = log_of([{"txn": "A", "start": 1, "commit": 2, "aborted": False, "ops": [["w", "k"]]}])
@@ -54,7 +54,7 @@ class StatusTest(unittest.TestCase):
         with tempfile.TemporaryDirectory() as directory:
             legend = Path(directory) / "legend"
             self.check(
-                ["from-events", "--legend", str(legend), "-"], EVENTS + b"{}\n", 2, b"",
+                ["from-events", "--legend", str(legend), "-"], EVENTS + b"{}\n", 2, MARKED,
                 b'si-history: standard input: line 3: the field "txn" is missing\n',
             )
             self.assertFalse(legend.exists())
@@ -63,7 +63,7 @@ class StatusTest(unittest.TestCase):
         with tempfile.TemporaryDirectory() as directory:
             log, legend = Path(directory) / "run.jsonl", Path(directory) / "run.legend"
             log.write_bytes(TRANSACTIONS + b"[]\n")
-            self.check(["from-transactions", str(log)], b"", 2, b"", b"si-history: %s: line 2: no JSON object\n" % bytes(log))
+            self.check(["from-transactions", str(log)], b"", 2, MARKED, b"si-history: %s: line 2: no JSON object\n" % bytes(log))
             log.write_bytes(TRANSACTIONS)
             self.check(["from-transactions", str(log), "--legend", str(legend)], b"", 0, b"b1@0\nw1[0]\nc1\n", b"")
             self.assertEqual(
@@ -75,25 +75,25 @@ class StatusTest(unittest.TestCase):
         with tempfile.TemporaryDirectory() as directory:
             missing = os.path.join(directory, "missing")
             self.check(
-                ["from-events", missing], b"", 2, b"", f"si-history: {missing}: No such file or directory\n".encode()
+                ["from-events", missing], b"", 2, MARKED, f"si-history: {missing}: No such file or directory\n".encode()
             )
-            self.check(["from-events", directory], b"", 2, b"", f"si-history: {directory}: Is a directory\n".encode())
+            self.check(["from-events", directory], b"", 2, MARKED, f"si-history: {directory}: Is a directory\n".encode())
             there = os.path.join(missing, "legend")
             self.check(
-                ["from-events", "-", "--legend", there], EVENTS, 2, b"",
+                ["from-events", "-", "--legend", there], EVENTS, 2, MARKED,
                 f"si-history: {there}: can't be written: No such file or directory\n".encode(),
             )
         self.check(
-            ["from-events", "-", "--legend", "-"], EVENTS, 2, b"",
+            ["from-events", "-", "--legend", "-"], EVENTS, 2, MARKED,
             b"si-history: --legend needs a file of its own: standard output has the history\n",
         )
 
     def test_faulty_command_lines(self) -> None:
-        self.check([], b"", 2, b"", b"si-history: the following arguments are required: COMMAND (see si-history --help)\n")
+        self.check([], b"", 2, MARKED, b"si-history: the following arguments are required: COMMAND (see si-history --help)\n")
         for words in (["from-nowhere"], ["from-events"], ["from-events", "-", "-"], ["from-events", "--legend"]):
             done = run_command(*words)
             with self.subTest(words=words):
-                self.assertEqual((done.returncode, done.stdout, done.stderr.count(b"\n")), (2, b"", 1))
+                self.assertEqual((done.returncode, done.stdout, done.stderr.count(b"\n")), (2, MARKED, 1))
 
     def test_help(self) -> None:
         for words in ([], ["from-events"], ["from-transactions"]):

@@ -19,7 +19,7 @@ from typing import ClassVar
 from si_history.record import mariadb, postgres
 from si_history.record.model import StoreFault
 from si_history.record.server import program
-from tests.support import COMPANION, LONG_SECONDS, NO_PROGRAM, PROGRAM, audit, run_command
+from tests.support import COMPANION, LONG_SECONDS, MARKED, NO_PROGRAM, PROGRAM, audit, run_command
 
 SYSTEM_PYTHON = "/usr/bin/python3"
 
@@ -71,7 +71,7 @@ CANNOT_START = "there is no account|MB free|too long for a socket|took longer th
 class CommandLines(unittest.TestCase):
     def check_refused(self, words: tuple[str, ...], wanted: str) -> None:
         done = run_command("record", *words)
-        self.assertEqual((done.returncode, done.stdout), (2, b""))
+        self.assertEqual((done.returncode, done.stdout), (2, MARKED))
         self.assertEqual(done.stderr.count(b"\n"), 1, done.stderr)
         self.assertIn(wanted, done.stderr.decode())
 
@@ -101,7 +101,7 @@ class CommandLines(unittest.TestCase):
                 done = subprocess.run([sys.executable, "-I", "-S", "-c",
                                        f"import sys; sys.path.insert(0, {str(COMPANION)!r}); from si_history.cli import main; "
                                        f"sys.exit(main(['record', {store!r}]))"], capture_output=True, timeout=LONG_SECONDS, check=False)
-                self.assertEqual((done.returncode, done.stdout), (2, b""))
+                self.assertEqual((done.returncode, done.stdout), (2, MARKED))
                 self.assertRegex(done.stderr.decode(), r"^si-history: no driver for [^\n]*\n$")
 
     def test_help_has_examples(self) -> None:

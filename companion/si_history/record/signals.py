@@ -79,5 +79,4 @@ def met() -> Iterator[None]:
     if caught == signal.SIGINT:
         raise KeyboardInterrupt
     if caught is not None:
-        signal.signal(caught, signal.SIG_DFL)
         os.kill(os.getpid(), caught)
