@@ -92,6 +92,16 @@ class Facts:
             raise mismatch(f"transaction {number} has no end there")
         return end
 
+    def commit(self, number: int) -> int:
+        """The place of a transaction's commit."""
+        if self.transaction(number).fate is not Fate.COMMITTED:
+            raise mismatch(f"transaction {number} doesn't commit there")
+        return self.end(number)
+
+    def overlap(self, one: int, other: int) -> bool:
+        """Whether two committed transactions overlap: each started before the other committed."""
+        return self.transaction(one).start < self.commit(other) and self.transaction(other).start < self.commit(one)
+
     def first_write(self, number: int, key: int) -> int:
         """The place where a transaction first wrote a key."""
         place = self._first_writes.get((number, key))

@@ -1,7 +1,6 @@
-"""The findings of a report in plain words, each with its reasons as the history tells them.
+"""The findings of a report in sentences, the one that matters most first, each with its reasons as the history tells them.
 
-What is found comes from the report alone; the reasons only say where in the history to look. Where the report explains a
-finding itself, its own lines are the reasons.
+What is found comes from the report alone; the sentences only say where in the history to look.
 """
 
 from __future__ import annotations
@@ -11,25 +10,45 @@ from collections.abc import Callable, Iterator, Sequence
 from dataclasses import dataclass
 from typing import TypeVar
 
-from si_history.facts import Facts, Fate
-from si_history.named_reasons import told
+from si_history.cycles import allowing_steps
+from si_history.facts import Facts, Fate, version_seen
+from si_history.history import RangeRead
 from si_history.naming import Names
-from si_history.report import BadRead, BadWrite, Cycle, Edge, EdgeKind, Explained, Pivot, Report, Structure, Unexplained
+from si_history.report import BadRead, BadWrite, Cycle, Edge, EdgeKind, Pivot, ReadName, Report, Structure, Unexplained
+from si_history.wording import Wording
 
 MOST_OF_A_KIND = 100
 MOST_STEPS = 40
-MOST_LISTED = 8
 
 
 class Kind(enum.Enum):
-    """Kinds of findings, in the order in which they are told, with their headings."""
+    """Kinds of findings with their headings, in the order in which they are told: what breaks isolation comes first."""
 
-    CYCLE = "The cycle"
-    BAD_WRITE = "Bad writes"
     BAD_READ = "Bad reads"
+    BAD_WRITE = "Bad writes"
+    CYCLE = "The cycle"
     UNEXPLAINED = "Unexplained reads"
     STRUCTURE = "The dangerous structure"
     PIVOT = "Pivots"
+
+
+class Look(enum.Enum):
+    """What an arrow of a picture stands for."""
+
+    STEP = "step"
+    SAW = "saw"
+    DUE = "due"
+
+
+@dataclass(frozen=True, slots=True)
+class Arrow:
+    """From one event to another: a step of a cycle, or from a write to the read that saw it, or that had to."""
+
+    source_place: int
+    target_place: int
+    look: Look
+    label: str
+    words: str
 
 
 @dataclass(frozen=True, slots=True)
@@ -41,6 +60,7 @@ class Finding:
     reasons: tuple[str, ...]
     transactions: tuple[int, ...]
     places: tuple[int, ...]
+    arrows: tuple[Arrow, ...] = ()
 
 
 @dataclass(frozen=True, slots=True)
@@ -55,146 +75,171 @@ class Group:
 _AnyFound = TypeVar("_AnyFound")
 
 
-def groups_of(report: Report, facts: Facts, names: Names) -> list[Group]:
-    """The findings of a report by their kinds. Raises BadInput where the history is not that of the report."""
-    teller = _Teller(facts, names)
+def groups_of(report: Report, facts: Facts, names: Names, most: int | None = MOST_OF_A_KIND) -> list[Group]:
+    """The findings of a report by their kinds, `most` of each. Raises BadInput where the history is not that of the report."""
+    teller = _Teller(facts, Wording(names))
+
+    def group(kind: Kind, found: Sequence[_AnyFound], tell: Callable[[_AnyFound], Finding]) -> Group:
+        return Group(kind, tuple(map(tell, found[:most])), len(found))
+
     groups = [
-        _group(Kind.CYCLE, [report.cycle] if report.cycle else [], teller.cycle),
-        _group(Kind.BAD_WRITE, report.bad_writes, teller.bad_write),
-        _group(Kind.BAD_READ, report.bad_reads, teller.bad_read),
-        _group(Kind.UNEXPLAINED, report.unexplained, teller.unexplained),
-        _group(Kind.STRUCTURE, [report.structure] if report.structure else [], teller.structure),
-        _group(Kind.PIVOT, sorted(report.pivots, key=lambda pivot: not pivot.firsts), teller.pivot),
+        group(Kind.BAD_READ, report.bad_reads, teller.bad_read),
+        group(Kind.BAD_WRITE, report.bad_writes, teller.bad_write),
+        group(Kind.CYCLE, [report.cycle] if report.cycle else [], teller.cycle),
+        group(Kind.UNEXPLAINED, report.unexplained, teller.unexplained),
+        group(Kind.STRUCTURE, [report.structure] if report.structure else [], teller.structure),
+        group(Kind.PIVOT, sorted(report.pivots, key=lambda pivot: not pivot.firsts), teller.pivot),
     ]
-    return [group for group in groups if group.count]
-
-
-def _group(kind: Kind, found: Sequence[_AnyFound], tell: Callable[[_AnyFound], Finding]) -> Group:
-    return Group(kind, tuple(map(tell, found[:MOST_OF_A_KIND])), len(found))
+    return [each for each in groups if each.count]
 
 
 class _Teller:
-    """Tells findings in words."""
+    """Tells findings in sentences."""
 
-    def __init__(self, facts: Facts, names: Names) -> None:
+    def __init__(self, facts: Facts, wording: Wording) -> None:
         self._facts = facts
-        self._names = names
+        self._say = wording
 
     def bad_read(self, read: BadRead) -> Finding:
         self._facts.check_read(read.place, read.transaction, read.key, read.saw)
-        reader, key = self._names.transaction(read.transaction), self._names.key(read.key)
-        saw = self._version(read.saw)
+        saw = self._sighting(read.place, read.key, read.saw)
         return Finding(
             Kind.BAD_READ,
-            f"Transaction {reader} saw {saw} of key {key}, where {self._version(read.due)} was due.",
-            self._reasons(read) or tuple(self._why_bad_read(read)),
+            f"{_name_of(read)}: {saw}, where {self._say.version(read.due)} was due.",
+            tuple(self._why_bad_read(read)),
             _distinct((read.transaction, read.saw, read.due)),
             (read.place, *(self._facts.first_write(version, read.key) for version in (read.saw, read.due) if version)),
+            (*self._origin(read, read.saw, Look.SAW), *self._origin(read, read.due, Look.DUE)),
         )
 
     def _why_bad_read(self, read: BadRead) -> Iterator[str]:
-        reader, key = self._names.transaction(read.transaction), self._names.key(read.key)
-        yield f"The read is {self._names.place(read.place)}."
+        reader, key = self._say.opening(read.transaction), self._say.key(read.key)
+        yield f"The read is {self._say.place(read.place)}."
         if read.due == read.transaction:
-            yield f"{reader} had written the key itself before, at {self._write(read.due, read.key)}: its own version was due."
+            yield f"{reader} had written {key} itself before, at {self._write(read.due, read.key)}: its own version was due."
         else:
             yield self._start(read.transaction)
             if read.due == 0:
-                yield f"No transaction that wrote key {key} had committed by then, so the first version was due."
+                yield f"No transaction that wrote {key} had committed by then, so the initial version was due."
             else:
                 yield (
-                    f"{self._names.transaction(read.due)} wrote the key at {self._write(read.due, read.key)}"
-                    f" and committed at {self._end(read.due)}: it was the last to commit a version by then."
+                    f"{self._say.opening(read.due)} wrote {key} at {self._write(read.due, read.key)}"
+                    f" and committed at {self._end(read.due)}: the last to commit a version of it by then."
                 )
         if read.saw:
             yield self._fate(read.saw, read.key, self._facts.transaction(read.transaction).start)
 
     def bad_write(self, write: BadWrite) -> Finding:
-        first, second = self._names.transaction(write.first), self._names.transaction(write.second)
+        first, second = self._say.opening(write.first), self._say.transaction(write.second)
         places = (self._facts.first_write(write.first, write.key), self._facts.first_write(write.second, write.key))
         return Finding(
             Kind.BAD_WRITE,
-            f"Transactions {first} and {second} overlap, both wrote key {self._names.key(write.key)}, and both committed.",
-            self._reasons(write) or tuple(self._why_bad_write(write)),
+            f"Bad write: {self._say.transaction(write.first)} and {second} overlap, both wrote {self._say.key(write.key)},"
+            " and both committed.",
+            (
+                f"{first} wrote it at {self._say.place(places[0])}, and {second} at {self._say.place(places[1])}.",
+                self._start(write.second),
+                f"{first} committed at {self._end(write.first)}, after that start, so the two overlap.",
+                f"{self._say.opening(write.second)} committed at {self._end(write.second)}, where it had to abort:"
+                " the first committer wins.",
+            ),
             (write.first, write.second),
             (*places, self._facts.end(write.first), self._facts.end(write.second)),
         )
 
-    def _why_bad_write(self, write: BadWrite) -> Iterator[str]:
-        first, second = self._names.transaction(write.first), self._names.transaction(write.second)
-        yield (
-            f"{first} wrote the key at {self._write(write.first, write.key)},"
-            f" and {second} at {self._write(write.second, write.key)}."
-        )
-        yield self._start(write.second)
-        yield f"{first} committed at {self._end(write.first)}, after that start, so the two overlap."
-        yield f"{second} committed at {self._end(write.second)}, where it had to abort: the first committer wins."
-
     def unexplained(self, read: Unexplained) -> Finding:
         self._facts.check_read(read.place, read.transaction, read.key, read.saw)
-        reader, key = self._names.transaction(read.transaction), self._names.key(read.key)
         return Finding(
             Kind.UNEXPLAINED,
-            f"Transaction {reader} saw {self._version(read.saw)} of key {key}, which no serial order explains.",
-            self._reasons(read) or tuple(self._why_unexplained(read)),
+            f"Unexplained read: {self._sighting(read.place, read.key, read.saw)}, which no serial order explains.",
+            tuple(self._why_unexplained(read)),
             _distinct((read.transaction, read.saw)),
             (read.place, *((self._facts.first_write(read.saw, read.key),) if read.saw else ())),
+            tuple(self._origin(read, read.saw, Look.SAW)),
         )
 
     def _why_unexplained(self, read: Unexplained) -> Iterator[str]:
-        yield f"The read is {self._names.place(read.place)}."
-        writer = self._facts.transaction(read.saw) if read.saw else None
-        if writer is not None and writer.fate is not Fate.COMMITTED:
+        yield f"The read is {self._say.place(read.place)}."
+        if read.saw and self._facts.transaction(read.saw).fate is not Fate.COMMITTED:
             yield self._fate(read.saw, read.key, 0)
         else:
-            own = self._write(read.transaction, read.key)
-            reader = self._names.transaction(read.transaction)
-            yield f"{reader} had written the key itself before, at {own}, and in a serial order sees that."
+            own, key = self._write(read.transaction, read.key), self._say.key(read.key)
+            yield f"{self._say.opening(read.transaction)} had written {key} itself before, at {own}, and in a serial order sees that."
 
     def cycle(self, cycle: Cycle) -> Finding:
-        stops = [self._names.transaction(number) for number in cycle.transactions[:MOST_STEPS]]
-        left = len(cycle.steps) - len(stops)
-        path = " \u2192 ".join([*stops, *([f"{left:,} more"] if left else []), stops[0]])
+        stops, left = cycle.transactions[:MOST_STEPS], len(cycle.steps[MOST_STEPS:])
+        allowing = allowing_steps(cycle.steps, self._facts)
         return Finding(
             Kind.CYCLE,
-            f"Each must stand before the next in a serial order: {path}.",
-            tuple(self._why_cycle(cycle)),
+            f"A cycle that snapshot isolation {'allows' if allowing else 'does not allow'}:"
+            f" {self._say.path((*stops, stops[0]), left)}. Each has to come before the next in a serial order.",
+            (self._why_allowed(allowing), *self._why_steps(cycle.steps)),
             cycle.transactions,
-            tuple(place for step in cycle.steps[:MOST_STEPS] for place in self._facts.ends_of(step)),
+            self._places(cycle.steps),
+            self._arrows(cycle.steps),
         )
 
-    def _why_cycle(self, cycle: Cycle) -> Iterator[str]:
-        yield from self._reasons(cycle) or map(self._why_edge, cycle.steps[:MOST_STEPS])
-        if len(cycle.steps) > MOST_STEPS:
-            yield f"And {len(cycle.steps) - MOST_STEPS:,} steps more, which the report names."
+    def _why_allowed(self, steps: tuple[Edge, Edge] | None) -> str:
+        """Whether snapshot isolation allows a cycle, by its two steps that say so, or by there being none."""
+        if steps is None:
+            return (
+                "Snapshot isolation allows only a cycle in which two rw steps between overlapping transactions follow one"
+                " another (Fekete et al. 2005). This one has no such steps."
+            )
+        path = self._say.path((steps[0].source, steps[1].source, steps[1].target))
+        return f"Snapshot isolation allows it: {path} are two rw steps, one after the other, between transactions that overlap."
 
     def structure(self, structure: Structure) -> Finding:
-        first, pivot, last = map(self._names.transaction, structure.transactions)
+        last = self._say.transaction(structure.transactions[-1])
         return Finding(
             Kind.STRUCTURE,
-            f"{first} \u2192 {pivot} \u2192 {last}: two rw edges between overlapping transactions, and {last} committed first.",
-            self._reasons(structure) or tuple(map(self._why_edge, structure.steps)),
+            f"A dangerous structure: {self._say.path(structure.transactions)}, two rw steps between overlapping transactions."
+            f" Of them {last} committed first.",
+            tuple(self._why_steps(structure.steps)),
             _distinct(structure.transactions),
-            tuple(place for step in structure.steps for place in self._facts.ends_of(step)),
+            self._places(structure.steps),
+            self._arrows(structure.steps),
         )
 
-    def _why_edge(self, edge: Edge) -> str:
-        source, target = self._names.transaction(edge.source), self._names.transaction(edge.target)
-        key = self._names.key(edge.key)
-        at_source, at_target = map(self._names.place, self._facts.ends_of(edge))
-        why = {
-            EdgeKind.WW: f"both wrote key {key} (at {at_source} and at {at_target}), and {source} committed first",
-            EdgeKind.WR: f"{target} saw its version of key {key}, written at {at_source}, or a later one, at {at_target}",
-            EdgeKind.RW: f"at {at_source} it saw a version of key {key} from before {target}'s, written at {at_target}",
-        }[edge.kind]
-        return f"{source} must stand before {target} ({edge.kind.value}): {why}."
+    def _why_steps(self, steps: Sequence[Edge]) -> Iterator[str]:
+        for step in steps[:MOST_STEPS]:
+            source, target = self._say.opening(step.source), self._say.transaction(step.target)
+            yield f"{source} before {target} ({step.kind.value}): {self._why_step(step)}."
+        if len(steps) > MOST_STEPS:
+            yield f"And {len(steps) - MOST_STEPS:,} steps more, which the report names."
+
+    def _why_step(self, edge: Edge) -> str:
+        source, target, key = self._say.transaction(edge.source), self._say.transaction(edge.target), self._say.key(edge.key)
+        places = self._facts.ends_of(edge)
+        at_source, at_target = map(self._say.place, places)
+        if edge.kind is EdgeKind.WW:
+            return f"both wrote {key}, {source} at {at_source} and {target} at {at_target}, and {source} committed first"
+        if edge.kind is EdgeKind.WR:
+            saw = version_seen(self._facts.event(places[1]), edge.key)
+            later = "" if saw == edge.source else f", and so one that is later than {source}'s"
+            return f"{source} wrote {key} at {at_source}; at {at_target} {self._sighting(places[1], edge.key, saw or 0)}{later}"
+        saw = version_seen(self._facts.event(places[0]), edge.key)
+        seen = self._sighting(places[0], edge.key, saw or 0)
+        return f"at {at_source} {seen}, which is older than the one that {target} wrote at {at_target}"
+
+    def _places(self, steps: Sequence[Edge]) -> tuple[int, ...]:
+        return tuple(place for step in steps[:MOST_STEPS] for place in self._facts.ends_of(step))
+
+    def _arrows(self, steps: Sequence[Edge]) -> tuple[Arrow, ...]:
+        return tuple(map(self._arrow, steps[:MOST_STEPS]))
+
+    def _arrow(self, edge: Edge) -> Arrow:
+        source, target, key = self._say.opening(edge.source), self._say.transaction(edge.target), self._say.key(edge.key)
+        label = f"{edge.kind.value} {self._say.names.key(edge.key)}"
+        words = f"{source} has to come before {target}: {edge.kind.value} edge by {key}"
+        return Arrow(*self._facts.ends_of(edge), Look.STEP, label, words)
 
     def pivot(self, pivot: Pivot) -> Finding:
-        middle = self._names.transaction(pivot.transaction)
         source, target = pivot.sources[0], (pivot.firsts or pivot.targets)[0]
         return Finding(
             Kind.PIVOT,
-            f"Transaction {middle} is a pivot: rw edges from {self._list(pivot.sources)} and to {self._list(pivot.targets)}.",
+            f"{self._say.opening(pivot.transaction)} is a pivot: rw edges from {self._say.listed(pivot.sources)}"
+            f" and to {self._say.listed(pivot.targets)}.",
             tuple(self._why_pivot(pivot)),
             _distinct((pivot.transaction, source, target)),
             (),
@@ -205,43 +250,53 @@ class _Teller:
         if pivot.firsts:
             yield (
                 "In a dangerous structure of such three, the first to commit is one that it leads to"
-                f" ({self._list(pivot.firsts)}): this fails the ssi test."
+                f" ({self._say.listed(pivot.firsts)}): this fails the ssi test."
             )
         else:
             yield "None that it leads to is the first of such three to commit: this alone does not fail the ssi test."
 
-    def _reasons(self, explained: Explained) -> tuple[str, ...]:
-        """The report's own reasons."""
-        return tuple(told(reason, self._names) for reason in explained.reasons[:MOST_STEPS])
+    def _sighting(self, place: int, key: int, saw: int) -> str:
+        """What the read at a place saw of a key: one key's version, or that of a key among a range of them."""
+        event = self._facts.event(place)
+        reader, version = self._say.transaction(event.transaction), self._say.version(saw)
+        if isinstance(event, RangeRead):
+            return f"{reader} read {self._say.key(event.low)} to {self._say.key(event.high)} and saw {version} of {self._say.key(key)}"
+        return f"{reader} read {self._say.key(key)} and saw {version}"
 
-    def _list(self, numbers: Sequence[int]) -> str:
-        words = ", ".join(map(self._names.transaction, numbers[:MOST_LISTED]))
-        return f"{words} and {len(numbers) - MOST_LISTED:,} more" if len(numbers) > MOST_LISTED else words
-
-    def _version(self, number: int) -> str:
-        return f"the version of {self._names.transaction(number)}" if number else "the first version"
+    def _origin(self, read: BadRead | Unexplained, version: int, look: Look) -> Iterator[Arrow]:
+        """The arrow from the write of a version to the read that saw it, or that had to."""
+        if version and version != read.transaction:
+            place = self._facts.first_write(version, read.key)
+            words = "saw" if look is Look.SAW else "had to see"
+            yield Arrow(place, read.place, look, look.value, f"The read {words} {self._say.version(version)} of {self._say.key(read.key)}")
 
     def _write(self, number: int, key: int) -> str:
-        return self._names.place(self._facts.first_write(number, key))
+        return self._say.place(self._facts.first_write(number, key))
 
     def _end(self, number: int) -> str:
-        return self._names.place(self._facts.end(number))
+        return self._say.place(self._facts.end(number))
 
     def _start(self, number: int) -> str:
         """When a transaction started."""
-        name, start = self._names.transaction(number), self._facts.transaction(number).start
-        return f"{name} started after {self._names.place(start)}." if start else f"{name} started before all events."
+        name, start = self._say.opening(number), self._facts.transaction(number).start
+        return f"{name} started after {self._say.place(start)}." if start else f"{name} started before all events."
 
     def _fate(self, number: int, key: int, start: int) -> str:
         """What became of the writer of a version that was seen by a reader with this start."""
         writer = self._facts.transaction(number)
-        wrote = f"{self._names.transaction(number)} wrote the version that was seen at {self._write(number, key)}"
+        wrote = f"{self._say.opening(number)} wrote the version that was seen, at {self._write(number, key)},"
         if writer.fate is Fate.OPEN:
             return f"{wrote} and never ended."
         end = self._end(number)
         if writer.fate is Fate.ABORTED:
             return f"{wrote} and aborted at {end}."
         return f"{wrote} and committed at {end}{', after that start' if writer.places[-1] > start else ''}."
+
+
+def _name_of(read: BadRead) -> str:
+    """What the report calls a bad read: an explained one has a name for each."""
+    head = read.reasons[0].head if read.reasons else None
+    return head.value.capitalize() if isinstance(head, ReadName) else "Bad read"
 
 
 def _distinct(numbers: Sequence[int]) -> tuple[int, ...]:

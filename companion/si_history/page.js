@@ -1,93 +1,73 @@
 "use strict";
-// A click on a finding brings its transactions into view. The page says all without this script, too.
+// A click on a finding draws its transactions. The page says all without this script, too, and draws the first finding.
 (() => {
   const view = document.getElementById("view");
-  if (!view) return;
-  const svg = view.querySelector("svg");
-  const all = document.getElementById("all");
+  const whole = document.getElementById("whole");
   const said = document.getElementById("said");
   const buttons = [...document.querySelectorAll("button.finding")];
-  const lanes = [...svg.querySelectorAll(".lane")];
-  const names = new Map([...svg.querySelectorAll(".name")].map((name) => [name.dataset.transaction, name]));
-  const places = lanes.map((lane) => lane.getAttribute("transform"));
-  const saidFirst = said.textContent;
   const words = (text) => text.split(" ").filter(Boolean);
+  if (!whole) return;
 
-  // Puts the lanes in this order, from the top.
-  function arrange(order) {
-    order.forEach((lane, row) => {
-      lane.setAttribute("transform", places[row]);
-      names.get(lane.dataset.transaction).setAttribute("transform", places[row]);
-    });
-    svg.classList.toggle("is-moved", order.some((lane, row) => lane !== lanes[row]));
-  }
+  // The pictures that were drawn so far. The first one stands in the page, the others in templates.
+  const drawn = new Map([["picture-0", view.firstElementChild]]);
+  let chosen = buttons[0];
 
-  function clear() {
-    svg.classList.remove("has-choice");
-    for (const part of svg.querySelectorAll(".is-chosen, .is-named")) part.classList.remove("is-chosen", "is-named");
-    for (const button of buttons) button.setAttribute("aria-pressed", "false");
-    arrange(lanes);
-    all.hidden = true;
-    said.textContent = saidFirst;
+  function show(id) {
+    if (!drawn.has(id)) drawn.set(id, document.getElementById(id).content.firstElementChild);
+    view.replaceChildren(drawn.get(id));
+    view.scrollTo(0, 0);
+    keepNames();
   }
 
   function choose(button) {
-    clear();
-    button.setAttribute("aria-pressed", "true");
-    const transactions = new Set(words(button.dataset.transactions));
-    const chosen = lanes.filter((lane) => transactions.has(lane.dataset.transaction));
-    for (const lane of chosen) {
-      lane.classList.add("is-chosen");
-      names.get(lane.dataset.transaction).classList.add("is-chosen");
-    }
-    if (button.dataset.kind === "cycle") {
-      for (const link of svg.querySelectorAll(".link")) link.classList.add("is-chosen");
-    }
-    const marks = words(button.dataset.places).map((place) => svg.querySelector(`.mark[data-place="${place}"]`)).filter(Boolean);
-    for (const mark of marks) mark.classList.add("is-named");
-    svg.classList.add("has-choice");
-    all.hidden = false;
-    said.textContent = chosen.length === 1 ? "1 transaction in view." : `${chosen.length} transactions in view.`;
-    bringIntoView(chosen, marks);
+    chosen = button;
+    for (const each of buttons) each.setAttribute("aria-pressed", String(each === button));
+    whole.setAttribute("aria-pressed", "false");
+    show(button.dataset.picture);
+    said.textContent = "The chosen finding's transactions alone.";
+    view.scrollIntoView({ block: "nearest" });
+    bringIntoView();
   }
 
-  // Scrolls to the chosen lanes and events. Lanes that don't fit are put together at the top; of events that don't fit, the
-  // foremost is brought into view.
-  function bringIntoView(chosen, marks) {
-    view.scrollIntoView({ block: "nearest" });
-    if (!chosen.length) return;
+  function showWhole() {
+    whole.setAttribute("aria-pressed", "true");
+    show("picture-whole");
+    const transactions = new Set(words(chosen.dataset.transactions));
+    const places = new Set(words(chosen.dataset.places));
+    for (const mark of view.querySelectorAll(".mark")) mark.classList.toggle("is-named", places.has(mark.dataset.place));
+    for (const bar of view.querySelectorAll(".found")) bar.classList.toggle("is-named", transactions.has(bar.dataset.transaction));
+    view.querySelector("svg").classList.toggle("is-of-another", chosen !== buttons[0]);
+    said.textContent = "All transactions. What the chosen finding is about stands out.";
+    bringIntoView();
+  }
+
+  // Scrolls to what the finding is about: to the first such event where they don't all fit.
+  function bringIntoView() {
     const frame = view.getBoundingClientRect();
-    let boxes = chosen.map((lane) => lane.getBoundingClientRect());
-    const height = Math.max(...boxes.map((box) => box.bottom)) - Math.min(...boxes.map((box) => box.top));
-    if (height > frame.height) {
-      arrange([...chosen, ...lanes.filter((lane) => !chosen.includes(lane))]);
-      boxes = chosen.map((lane) => lane.getBoundingClientRect());
-    }
-    const wanted = marks.length ? marks : chosen.flatMap((lane) => [...lane.querySelectorAll(".mark")].slice(0, 1));
-    const namesWidth = svg.querySelector(".plate").getBoundingClientRect().width;
-    let marked = wanted.map((mark) => mark.getBoundingClientRect());
-    const width = Math.max(...marked.map((box) => box.right)) - Math.min(...marked.map((box) => box.left));
-    if (width > frame.width - namesWidth - 120) marked = marked.slice(0, 1);
+    const boxes = [...view.querySelectorAll(".is-named")].map((mark) => mark.getBoundingClientRect());
+    if (!boxes.length) return;
+    const plate = view.querySelector(".plate");
+    const left = frame.left + (plate ? plate.getBoundingClientRect().width : 0);
     view.scrollBy({
-      top: off(boxes.map((box) => [box.top, box.bottom]), frame.top, frame.bottom, 50),
-      left: off(marked.map((box) => [box.left, box.right]), frame.left + namesWidth, frame.right, 60),
+      left: off(boxes.map((box) => [box.left, box.right]), left, frame.right, 40),
+      top: off(boxes.map((box) => [box.top, box.bottom]), frame.top, frame.bottom, 60),
     });
   }
 
   // How far the first of these spans is from where it is seen well; 0 where all are within the frame.
   function off(spans, least, most, margin) {
     const first = Math.min(...spans.map((span) => span[0]));
-    const isSeen = spans.every(([start, end]) => start >= least && end <= most);
-    return isSeen || !spans.length ? 0 : first - least - margin;
+    return spans.every(([start, end]) => start >= least && end <= most) ? 0 : first - least - margin;
   }
 
   // The names of the lanes stay at the left edge.
-  view.addEventListener("scroll", () => {
-    for (const stays of svg.querySelectorAll(".stays")) stays.setAttribute("transform", `translate(${view.scrollLeft} 0)`);
-  }, { passive: true });
-  for (const button of buttons) {
-    button.addEventListener("click", () => (button.getAttribute("aria-pressed") === "true" ? clear() : choose(button)));
+  function keepNames() {
+    for (const stays of view.querySelectorAll(".stays")) stays.setAttribute("transform", `translate(${view.scrollLeft} 0)`);
   }
-  all.addEventListener("click", clear);
-  document.addEventListener("keydown", (event) => { if (event.key === "Escape") clear(); });
+
+  view.addEventListener("scroll", keepNames, { passive: true });
+  for (const button of buttons) button.addEventListener("click", () => choose(button));
+  whole.addEventListener("click", () => (whole.getAttribute("aria-pressed") === "true" ? choose(chosen) : showWhole()));
+  whole.hidden = false;
+  bringIntoView();
 })();

@@ -12,16 +12,17 @@ from si_history.files import STANDARD_INPUT, check_output, read_text, source_nam
 from si_history.findings import groups_of
 from si_history.history import MAX_BYTES, parse
 from si_history.naming import Names, shown
+from si_history.pictures import Pictures
 from si_history.progress import REPORT_LINES, Progress
 from si_history.report_text import ReportText, read_report
-from si_history.scene import scene_of
 
 EPILOG = """\
 The page holds all that it needs: it loads nothing, and can be sent as one file. It has
-the verdict in words, the findings with their reasons, and a timeline with one lane a
-transaction and arrows for the edges of the cycle, or where there is none, of the
-dangerous structure of an explained report. Of a large history the timeline has only
-transactions that the cycle and the findings name.
+the verdict in words, the findings in sentences, what breaks isolation first, and a
+picture of the transactions of the finding that is chosen, which is the first one until
+another is clicked. The whole timeline is one click away. With --svg a history of at
+most 24 transactions and 240 events is drawn whole, and of a larger one the first
+finding.
 
 examples:
   si_audit <run.history >run.report
@@ -36,14 +37,14 @@ def register(commands: argparse._SubParsersAction[argparse.ArgumentParser]) -> N
     parser = commands.add_parser(
         "page",
         help="a history and its report as one page for a browser",
-        description="Writes a history and its report as one HTML page, or the timeline alone as an SVG image.",
+        description="Writes a history and its report as one HTML page, or a picture alone as an SVG image.",
         epilog=EPILOG,
         formatter_class=argparse.RawDescriptionHelpFormatter,
     )
     parser.add_argument("history", metavar="HISTORY", help="the text of the history; - is standard input")
     parser.add_argument("report", metavar="REPORT", help="its report; - is standard input")
     parser.add_argument("--legend", metavar="FILE", help="the legend that was written with the history, for the log's names")
-    parser.add_argument("--svg", action="store_true", help="the timeline alone, as an SVG image")
+    parser.add_argument("--svg", action="store_true", help="a picture alone, as an SVG image")
     parser.add_argument("-o", "--output", metavar="FILE", default="-", help="where to write (default: -, standard output)")
     parser.set_defaults(run=run, writes_history=False)
 
@@ -70,7 +71,6 @@ def made_page(history_path: str, report_path: str, legend_path: str | None, is_p
             facts = Facts(parse(read_text(history_path, MAX_BYTES), progress))
         facts.check(report.counts)
         groups = groups_of(report, facts, names)
-        scene = scene_of(facts, report.steps, groups, names)
     if is_picture:
-        return picture(report, scene)
-    return html(shown(os.path.basename(source_name(history_path))), report, groups, scene, names)
+        return picture(report, Pictures(facts, groups, names).scene())
+    return html(shown(os.path.basename(source_name(history_path))), report, facts, groups, names)

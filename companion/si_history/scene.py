@@ -1,27 +1,24 @@
-"""What a picture of a history shows: lanes of transactions, their events, and the edges of the cycle, or of a dangerous
-structure where there is no cycle.
+"""What a picture shows of a history: lanes of transactions, their events, and arrows from one event to another.
 
-A small history is shown whole. Of a large one only the transactions that the cycle and the findings name are, and of these
-no more than a person can look at; how much is left out is counted.
+A finding is shown alone: its transactions, with all of their events or with those that it is about. A small history is shown
+whole, too. How much is left out is counted.
 """
 
 from __future__ import annotations
 
 import enum
-from collections.abc import Iterable, Iterator, Sequence
+from collections.abc import Iterable
 from dataclasses import dataclass
-from itertools import islice
 
 from si_history.facts import Facts, Fate, Transaction
-from si_history.findings import MOST_STEPS, Group
+from si_history.findings import Arrow, Finding
 from si_history.history import Abort, Begin, Commit, Event, RangeRead, Read
 from si_history.naming import Names
-from si_history.report import Edge
+from si_history.wording import Wording
 
 SMALL_TRANSACTIONS = 24
 SMALL_EVENTS = 240
-MOST_LANES = 120
-MOST_EVENTS = 800
+MOST_LANES = 40
 MOST_LISTED = 8
 
 
@@ -37,12 +34,13 @@ class MarkKind(enum.Enum):
 
 @dataclass(frozen=True, slots=True)
 class Mark:
-    """An event in a lane: its place, a short label, and the same in words."""
+    """An event in a lane: its place, its label of one line or two, the same in a sentence, and whether the finding is about it."""
 
     place: int
     kind: MarkKind
-    label: str
+    label: tuple[str, ...]
     words: str
+    is_named: bool
 
 
 @dataclass(frozen=True, slots=True)
@@ -58,21 +56,11 @@ class Lane:
 
 
 @dataclass(frozen=True, slots=True)
-class Link:
-    """An edge of the cycle or the structure, from an event in one lane to an event in another."""
-
-    source_place: int
-    target_place: int
-    label: str
-    words: str
-
-
-@dataclass(frozen=True, slots=True)
 class Scene:
-    """What is shown. The lanes with edges between them come first, then the others, both in the order of their starts."""
+    """What is shown. The lanes are in the order of their starts."""
 
     lanes: tuple[Lane, ...]
-    links: tuple[Link, ...]
+    arrows: tuple[Arrow, ...]
     hidden_transactions: int
 
     @property
@@ -81,96 +69,90 @@ class Scene:
         return sum(lane.hidden_events for lane in self.lanes)
 
 
-def scene_of(facts: Facts, steps: Sequence[Edge], groups: Iterable[Group], names: Names) -> Scene:
-    """The scene of a history with these findings, and these edges for arrows."""
-    found = list(groups)
-    shown = set(islice(_wanted_transactions(facts, steps, found), MOST_LANES))
-    edges = [edge for edge in steps if edge.source in shown and edge.target in shown]
-    joined = {end for edge in edges for end in (edge.source, edge.target)}
-    places = set(islice(_wanted_places(facts, edges, found, shown), MOST_EVENTS))
-    ordered = sorted(
-        map(facts.transaction, shown), key=lambda each: (each.number not in joined, each.start, each.places[0])
+def is_small(facts: Facts) -> bool:
+    """Whether a history can be shown whole, event by event."""
+    return len(facts.transactions) <= SMALL_TRANSACTIONS and facts.event_count <= SMALL_EVENTS
+
+
+def whole_scene(facts: Facts, arrows: Iterable[Arrow], names: Names) -> Scene:
+    """All of a history."""
+    return _scene(facts, list(facts.transactions.values()), None, set(), arrows, names)
+
+
+def finding_scene(facts: Facts, finding: Finding, names: Names, is_short: bool) -> Scene:
+    """A finding's transactions alone. If it is to be short, only the events that the finding is about, and the ends, are shown."""
+    transactions = [facts.transaction(number) for number in finding.transactions[:MOST_LANES]]
+    places = None
+    if is_short:
+        places = {*finding.places, *(end for each in transactions if (end := each.end) is not None)}
+    return _scene(
+        facts, transactions, places, set(finding.places), finding.arrows, names, len(finding.transactions) - len(transactions)
     )
-    links = [link for edge in edges if (link := _link(facts, edge, names)) and {link.source_place, link.target_place} <= places]
-    return Scene(
-        tuple(_lane(facts, transaction, places, names) for transaction in ordered),
-        tuple(links),
-        len(facts.transactions) - len(shown),
-    )
 
 
-def _wanted_transactions(facts: Facts, steps: Sequence[Edge], groups: list[Group]) -> Iterator[int]:
-    """The transactions to show, each once, the foremost first."""
-    named = [tuple(step.source for step in steps[: MOST_STEPS + 1])]
-    named += [finding.transactions[: MOST_STEPS + 1] for group in groups for finding in group.findings]
-    wanted = dict.fromkeys(number for numbers in named for number in numbers)
-    is_small = len(facts.transactions) <= SMALL_TRANSACTIONS and facts.event_count <= SMALL_EVENTS
-    return iter(wanted | dict.fromkeys(facts.transactions) if is_small else wanted)
+def _scene(
+    facts: Facts, transactions: list[Transaction], places: set[int] | None, named: set[int], arrows: Iterable[Arrow], names: Names,
+    hidden_transactions: int = 0,
+) -> Scene:
+    """The scene with these transactions and the events at these places, or all of their events."""
+    ordered = sorted(transactions, key=lambda each: (each.start, each.places[0]))
+    lanes = tuple(_lane(facts, each, places, named, names) for each in ordered)
+    shown = {mark.place for lane in lanes for mark in lane.marks}
+    seen = tuple(arrow for arrow in arrows if arrow.source_place in shown and arrow.target_place in shown)
+    return Scene(lanes, seen, hidden_transactions)
 
 
-def _wanted_places(facts: Facts, edges: list[Edge], groups: list[Group], shown: set[int]) -> Iterator[int]:
-    """The places of the events to show, each once, the foremost first."""
-    transactions = [facts.transaction(number) for number in sorted(shown)]
-    wanted = dict.fromkeys(place for edge in edges for place in facts.ends_of(edge))
-    wanted |= dict.fromkeys(place for each in transactions if (place := each.end) is not None)
-    wanted |= dict.fromkeys(place for group in groups for finding in group.findings for place in finding.places)
-    wanted |= dict.fromkeys(sorted(place for each in transactions for place in each.places))
-    return (place for place in wanted if facts.event(place).transaction in shown)
-
-
-def _link(facts: Facts, edge: Edge, names: Names) -> Link:
-    source, target = facts.ends_of(edge)
-    words = f"{names.transaction(edge.source)} must stand before {names.transaction(edge.target)}"
-    key = names.key(edge.key)
-    return Link(source, target, f"{edge.kind.value} {key}", f"{words}: {edge.kind.value} edge by key {key}")
-
-
-def _lane(facts: Facts, transaction: Transaction, places: set[int], names: Names) -> Lane:
-    marks = [_mark(place, facts.event(place), names) for place in transaction.places if place in places]
+def _lane(facts: Facts, transaction: Transaction, places: set[int] | None, named: set[int], names: Names) -> Lane:
+    shown = transaction.places if places is None else [place for place in transaction.places if place in places]
+    marks = tuple(_mark(place, facts.event(place), place in named, names) for place in shown)
     return Lane(
         transaction.number,
         names.transaction(transaction.number),
         transaction.fate,
         transaction.start,
-        tuple(marks),
+        marks,
         len(transaction.places) - len(marks),
     )
 
 
-def _mark(place: int, event: Event, names: Names) -> Mark:
+def _mark(place: int, event: Event, is_named: bool, names: Names) -> Mark:
     kind, label, words = _look(event, names)
-    where = names.place(place)
-    return Mark(place, kind, label, f"{where}: transaction {names.transaction(event.transaction)} {words}")
+    sentence = f"{names.place(place)}: {Wording(names).transaction(event.transaction)} {words}"
+    return Mark(place, kind, label, sentence, is_named)
 
 
-def _look(event: Event, names: Names) -> tuple[MarkKind, str, str]:
-    """The kind of an event, its short label, and what it does in words."""
+def _look(event: Event, names: Names) -> tuple[MarkKind, tuple[str, ...], str]:
+    """The kind of an event, its label, and what it did in words."""
+    say = Wording(names)
     if isinstance(event, Begin):
-        return MarkKind.BEGIN, "begin", "begins" if event.start is None else f"begins; it started after {event.start} events"
+        return MarkKind.BEGIN, ("begin",), "began" if event.start is None else f"began; it started after {event.start} events"
     if isinstance(event, Commit):
-        return MarkKind.COMMIT, "commit", "commits"
+        return MarkKind.COMMIT, ("commit",), "committed"
     if isinstance(event, Abort):
-        return MarkKind.ABORT, "abort", "aborts"
+        return MarkKind.ABORT, ("abort",), "aborted"
     if isinstance(event, Read):
-        key, version = names.key(event.key), _version(event.saw, names)
-        return MarkKind.READ, f"r {key}:{version}", f"reads key {key} and sees {_version_in_words(event.saw, names)}"
+        seen = f"saw {_version(event.saw, names)}"
+        return MarkKind.READ, (f"read {names.key(event.key)}", seen), f"read {say.key(event.key)} and saw {say.version(event.saw)}"
     if isinstance(event, RangeRead):
-        low, high = names.key(event.low), names.key(event.high)
-        return MarkKind.READ, f"r {low}..{high}", f"reads keys {low} to {high} and sees {_listed(event, names)}"
-    return MarkKind.WRITE, f"w {names.key(event.key)}", f"writes key {names.key(event.key)}"
+        low, high = say.key(event.low), say.key(event.high)
+        label = f"read {names.key(event.low)} to {names.key(event.high)}"
+        return MarkKind.READ, (label, f"saw {_listed_short(event, names)}"), f"read {low} to {high} and saw {_listed(event, say)}"
+    return MarkKind.WRITE, (f"write {names.key(event.key)}",), f"wrote {say.key(event.key)}"
 
 
-def _listed(event: RangeRead, names: Names) -> str:
+def _listed(event: RangeRead, say: Wording) -> str:
     """What a range read saw, in words."""
-    seen = [f"{names.key(key)} at {_version_in_words(version, names)}" for key, version in event.listed[:MOST_LISTED]]
+    seen = [f"{say.version(version)} of {say.key(key)}" for key, version in event.listed[:MOST_LISTED]]
     if len(event.listed) > MOST_LISTED:
         seen.append(f"{len(event.listed) - MOST_LISTED:,} more listed keys")
-    return ", ".join([*seen, "every other key at the first version" if seen else "the first version of each"])
+    return ", ".join([*seen, "every other key at the initial version" if seen else "the initial version of each"])
+
+
+def _listed_short(event: RangeRead, names: Names) -> str:
+    """What a range read saw, for a label."""
+    versions = list(dict.fromkeys(_version(version, names) for _, version in event.listed))
+    return ", ".join(versions) if versions else _version(0, names)
 
 
 def _version(number: int, names: Names) -> str:
-    return names.transaction(number) if number else "0"
-
-
-def _version_in_words(number: int, names: Names) -> str:
-    return f"the version of {names.transaction(number)}" if number else "the first version"
+    return names.transaction(number) if number else "initial"

@@ -1,4 +1,4 @@
-"""A scene as a picture: an SVG timeline with one lane a transaction, and arrows for the edges of the cycle."""
+"""A scene as a picture: an SVG timeline with one lane a transaction, and arrows between events."""
 
 from __future__ import annotations
 
@@ -10,30 +10,34 @@ from html import escape
 from importlib.resources import files
 
 from si_history.facts import Fate
-from si_history.scene import Lane, Link, Mark, Scene
+from si_history.findings import Arrow, Look
+from si_history.scene import Lane, Mark, Scene
 
-LANE_HEIGHT = 68
+LANE_HEIGHT = 84
 TOP = 40
 BOTTOM = 44
-PILL_HEIGHT = 26
+PILL_HEIGHT = 38
+LINE_HEIGHT = 15
 CHARACTER = 7.3
-"""The width of one character of a label. All lengths are pixels."""
+SMALL_CHARACTER = 6.6
+"""The widths of one character of a label, and of one of the words that are written smaller. All lengths are pixels."""
 CLOSE, APART = 12, 34
 """Between two events, and where events in between are not shown."""
 LONGEST_LABEL = 22
 LONGEST_NAME = 18
 KEY_LEFT = 18.0
+SAMPLE_WIDTH = 24.0
 SAMPLES = [0.5 + sign * step / 40 for step in range(17) for sign in (1, -1)]
 """Where on an arrow its label can stand, the best place first."""
 
 STYLE = "timeline.css"
-KEY = (
-    ("start", "", "start of a transaction"),
-    ("read", "r k:v", "reads key k, sees v's version"),
-    ("write", "w k", "writes key k"),
-    ("arrow", "", "must stand before, in a serial order"),
-)
-"""What is told below the lanes."""
+START = ("start", "start of a transaction")
+ARROWS = {
+    Look.SAW: "version that was seen",
+    Look.DUE: "version that was due",
+    Look.STEP: "has to come before, in a serial order",
+}
+"""What is told below the lanes, of the signs that are there."""
 
 
 @dataclass(frozen=True, slots=True)
@@ -49,19 +53,28 @@ class Box:
         return across and self.top < other.bottom and other.top < self.bottom
 
 
-def svg(scene: Scene, title: str, description: str) -> str:
-    """The picture as an SVG element, which is a file of its own too. It takes light or dark from who looks at it."""
+def style() -> str:
+    """The looks of a picture."""
+    return files(__package__).joinpath(STYLE).read_text("utf-8")
+
+
+def width(scene: Scene) -> float:
+    """How wide a picture is."""
+    return _Layout(scene).width
+
+
+def svg(scene: Scene, title: str, description: str, styled: bool = True) -> str:
+    """The picture as an SVG element, which is a file of its own too where it is styled. It takes light or dark from who looks."""
     layout = _Layout(scene)
-    style = files(__package__).joinpath(STYLE).read_text("utf-8")
+    size = f'width="{layout.width:.0f}" height="{layout.height:.0f}"'
     parts = [
         f'<svg xmlns="http://www.w3.org/2000/svg" class="timeline" role="group" aria-labelledby="timeline-title timeline-words"'
-        f' width="{layout.width:.0f}" height="{layout.height:.0f}" viewBox="0 0 {layout.width:.0f} {layout.height:.0f}">',
+        f' {size} viewBox="0 0 {layout.width:.0f} {layout.height:.0f}">',
         f'<title id="timeline-title">{escape(title)}</title>',
         f'<desc id="timeline-words">{escape(description)}</desc>',
-        f"<style>{style}</style>",
-        '<defs><marker id="timeline-head" viewBox="0 0 10 10" refX="9" refY="5" markerUnits="userSpaceOnUse"'
-        ' markerWidth="12" markerHeight="12" orient="auto"><path class="head" d="M0 0 10 5 0 10z"/></marker></defs>',
-        f'<rect class="ground" width="{layout.width:.0f}" height="{layout.height:.0f}" rx="10"/>',
+        *([f"<style>{style()}</style>"] if styled else []),
+        *_heads(scene),
+        f'<rect class="ground" {size} rx="10"/>',
         *_axis(layout),
         *(part for row, lane in enumerate(scene.lanes) for part in _lane(layout, row, lane)),
         '<g class="links">',
@@ -74,6 +87,20 @@ def svg(scene: Scene, title: str, description: str) -> str:
     return "\n".join(parts) + "\n"
 
 
+def _heads(scene: Scene) -> Iterator[str]:
+    """The heads of the arrows that are there."""
+    for look in _looks(scene):
+        yield (
+            f'<defs><marker id="head-{look.value}" viewBox="0 0 10 10" refX="9" refY="5" markerUnits="userSpaceOnUse"'
+            f' markerWidth="12" markerHeight="12" orient="auto"><path class="head {look.value}" d="M0 0 10 5 0 10z"/></marker></defs>'
+        )
+
+
+def _looks(scene: Scene) -> list[Look]:
+    there = {arrow.look for arrow in scene.arrows}
+    return [look for look in ARROWS if look in there]
+
+
 class _Layout:
     """Where everything stands."""
 
@@ -83,15 +110,16 @@ class _Layout:
         marks = {mark.place: mark for lane in scene.lanes for mark in lane.marks}
         self.places = sorted(marks)
         longest = max((_width(_cut(lane.name, LONGEST_NAME)) for lane in scene.lanes), default=0)
-        self.names_width = max(110.0, longest + 40)
+        fates = max((SMALL_CHARACTER * len(_fate(lane)) for lane in scene.lanes), default=0)
+        self.names_width = max(110.0, longest + 40, fates + 30)
         self.left: dict[int, float] = {}
         self.right: dict[int, float] = {}
         at, before = self.names_width + 22, 0
         for place in self.places:
             at += CLOSE if place == before + 1 else APART
-            self.left[place], self.right[place] = at, at + _width(_cut(marks[place].label, LONGEST_LABEL)) + 18
+            self.left[place], self.right[place] = at, at + _label_width(marks[place]) + 18
             at, before = self.right[place], place
-        self.width = max(at + 26, _key_width())
+        self.width = max(at + 26, _key_width(scene))
         self.height = TOP + LANE_HEIGHT * len(scene.lanes) + BOTTOM
 
     def middle(self, place: int) -> float:
@@ -142,35 +170,52 @@ def _lane(layout: _Layout, row: int, lane: Lane) -> Iterator[str]:
 
 def _pill(layout: _Layout, mark: Mark) -> str:
     left, width = layout.left[mark.place], layout.right[mark.place] - layout.left[mark.place]
+    named = " is-named" if mark.is_named else ""
     return (
-        f'<g class="mark {mark.kind.value}" data-place="{mark.place}"><title>{escape(mark.words)}</title>'
+        f'<g class="mark {mark.kind.value}{named}" data-place="{mark.place}"><title>{escape(mark.words)}</title>'
         f'<rect x="{left:.1f}" y="{-PILL_HEIGHT / 2:.0f}" width="{width:.1f}" height="{PILL_HEIGHT}" rx="7"/>'
-        f'<text x="{left + width / 2:.1f}" y="4.5">{escape(_cut(mark.label, LONGEST_LABEL))}</text></g>'
+        f'{"".join(_label(mark, left + width / 2))}</g>'
     )
+
+
+def _label(mark: Mark, middle: float) -> Iterator[str]:
+    """The lines of a label, in the middle of its event."""
+    for number, line in enumerate(mark.label):
+        y = 4.5 + LINE_HEIGHT * (number - (len(mark.label) - 1) / 2)
+        yield f'<text x="{middle:.1f}" y="{y:.1f}">{escape(_cut(line, LONGEST_LABEL))}</text>'
+
+
+def _label_width(mark: Mark) -> float:
+    return max(_width(_cut(line, LONGEST_LABEL)) for line in mark.label)
 
 
 def _name(layout: _Layout, row: int, lane: Lane) -> str:
     """What a lane is called. These stand above all else, so that a page can keep them in view."""
-    hidden = f", {lane.hidden_events:,} not drawn" if lane.hidden_events else ""
     return (
         f'<g class="name" data-transaction="{lane.transaction}" transform="translate(0 {layout.lane_middle(row):.0f})">'
         f'<g class="stays"><rect class="plate" x="6" y="{4 - LANE_HEIGHT / 2:.0f}" width="{layout.names_width:.0f}"'
         f' height="{LANE_HEIGHT - 8}" rx="8"/>'
         f'<text class="who" x="18" y="-3">{escape(_cut(lane.name, LONGEST_NAME))}<title>{escape(lane.name)}</title></text>'
-        f'<text class="fate" x="18" y="14">{lane.fate.value}{hidden}</text></g></g>'
+        f'<text class="fate" x="18" y="14">{_fate(lane)}</text></g></g>'
     )
+
+
+def _fate(lane: Lane) -> str:
+    """How a transaction ended, and how many of its events are left out."""
+    return f"{lane.fate.value}, {lane.hidden_events:,} not drawn" if lane.hidden_events else lane.fate.value
 
 
 def _links(layout: _Layout) -> Iterator[str]:
     """The arrows, with labels that cover neither an event nor one another."""
     taken = [layout.pill(place) for place in layout.places]
-    for link in layout.scene.links:
-        curve = _Curve.between(layout.pill(link.source_place), layout.pill(link.target_place))
-        x, y, box = _label_place(curve, _width(_cut(link.label, LONGEST_LABEL)), taken)
+    for arrow in layout.scene.arrows:
+        curve = _Curve.between(layout.pill(arrow.source_place), layout.pill(arrow.target_place))
+        x, y, box = _label_place(curve, _width(_cut(arrow.label, LONGEST_LABEL)), taken)
         taken.append(box)
+        look = arrow.look.value
         yield (
-            f'<g class="link"><title>{escape(link.words)}</title><path d="{curve.path()}" marker-end="url(#timeline-head)"/>'
-            f'<text x="{x:.1f}" y="{y + 4:.1f}">{escape(_cut(link.label, LONGEST_LABEL))}</text></g>'
+            f'<g class="link {look}"><title>{escape(arrow.words)}</title><path d="{curve.path()}" marker-end="url(#head-{look})"/>'
+            f'<text x="{x:.1f}" y="{y + 4:.1f}">{escape(_cut(arrow.label, LONGEST_LABEL))}</text></g>'
         )
 
 
@@ -214,46 +259,39 @@ class _Curve:
         return x, a * self.y1 + b * (self.y1 + self._bend) + c * (self.y2 - self._bend) + d * self.y2
 
 
+def _signs(scene: Scene) -> list[tuple[str, str]]:
+    """The signs that the row below the lanes explains, each with its words."""
+    return [START, *((look.value, ARROWS[look]) for look in _looks(scene))]
+
+
 def _key(layout: _Layout) -> str:
     """What the signs mean, in one row below the lanes."""
     at, parts = KEY_LEFT, []
-    for look, label, words in KEY:
-        wide = _sample_width(label)
-        parts.append(_sample(look, label, at, wide))
-        parts.append(f'<text class="axis" x="{at + wide + 8:.1f}" y="4">{escape(words)}</text>')
-        at += wide + _key_words_width(words)
+    for look, words in _signs(layout.scene):
+        if look == START[0]:
+            parts.append(f'<path class="sample start" d="M{at + 3:.1f} -10V10M{at + 3:.1f} 0H{at + SAMPLE_WIDTH:.1f}"/>')
+        else:
+            parts.append(
+                f'<g class="link {look}"><path d="M{at:.1f} 0H{at + SAMPLE_WIDTH:.1f}" marker-end="url(#head-{look})"/></g>'
+            )
+        parts.append(f'<text class="axis" x="{at + SAMPLE_WIDTH + 8:.1f}" y="4">{escape(words)}</text>')
+        at += SAMPLE_WIDTH + _key_words_width(words)
     return f'<g class="key" transform="translate(0 {layout.height - BOTTOM / 2:.0f})">{"".join(parts)}</g>'
 
 
-def _sample(look: str, label: str, at: float, wide: float) -> str:
-    """One sign of the row, drawn as it is in a lane."""
-    if look == "start":
-        return f'<path class="sample start" d="M{at + 3:.1f} -10V10M{at + 3:.1f} 0H{at + wide:.1f}"/>'
-    if look == "arrow":
-        return f'<path class="sample arrow" d="M{at:.1f} 0H{at + wide:.1f}" marker-end="url(#timeline-head)"/>'
-    return (
-        f'<g class="mark {look}"><rect x="{at:.1f}" y="-10" width="{wide:.1f}" height="20" rx="6"/>'
-        f'<text x="{at + wide / 2:.1f}" y="4.5">{escape(label)}</text></g>'
-    )
-
-
-def _sample_width(label: str) -> float:
-    return _width(label) + 14 if label else 24.0
-
-
 def _key_words_width(words: str) -> float:
-    """How wide the words of a sign are, with the gaps around them. They are written smaller than labels."""
-    return len(words) * 6.6 + 26
+    """How wide the words of a sign are, with the gaps around them."""
+    return len(words) * SMALL_CHARACTER + 26
 
 
-def _key_width() -> float:
-    return KEY_LEFT + sum(_sample_width(label) + _key_words_width(words) for _, label, words in KEY)
+def _key_width(scene: Scene) -> float:
+    return KEY_LEFT + sum(SAMPLE_WIDTH + _key_words_width(words) for _, words in _signs(scene))
 
 
 def _in_words(lane: Lane) -> str:
     """A lane for who can't see it."""
     events = "; ".join(mark.words for mark in lane.marks)
-    return f"Transaction {lane.name}, {lane.fate.value}. {_start_in_words(lane)}. {events}"
+    return f"Transaction {lane.name}, {lane.fate.value}. {_start_in_words(lane)}. {events}."
 
 
 def _start_in_words(lane: Lane) -> str:

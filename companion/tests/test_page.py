@@ -1,204 +1,115 @@
-"""Pages and pictures: what they say and show, that names can't break out of them, and what a browser makes of them."""
+"""Pictures and pages: what they show, that names can't break out of them, and the command that writes them."""
 
 from __future__ import annotations
 
 import re
-import shutil
-import subprocess
 import tempfile
 import unittest
 from html.parser import HTMLParser
 from pathlib import Path
 from xml.etree import ElementTree
 
-from si_history.document import html, picture
-from si_history.facts import Facts
-from si_history.findings import Finding, Group, Kind, groups_of
-from si_history.history import parse
 from si_history.legend import Legend
-from si_history.naming import Names
-from si_history.report import Edge, EdgeKind
-from si_history.report_text import ReportText, read_report
-from si_history.scene import Scene, scene_of
-from tests.support import LONG_SECONDS, REPOSITORY, run_command
+from si_history.naming import shown
+from si_history.overview import overview
+from si_history.report_text import ReportText
+from si_history.scene import Scene, finding_scene
+from tests.pages import LOST_UPDATE_HISTORY, Told, example, told
+from tests.support import REPOSITORY, run_command
 from tests.test_report import LOST_UPDATE, lines, text_of
 
-BROWSER = shutil.which("chromium") or shutil.which("chromium-browser")
-NO_BROWSER = "left out: there is no browser chromium"
-LOST_UPDATE_HISTORY = "r1[1:0] r2[1:0] w1[1] w2[1] c1 c2"
 EVIL = '</script><script>document.title="evil"</script>&"\'\n\u202e'
 PICTURE = REPOSITORY / "docs" / "lost_update.svg"
+SVG = "{http://www.w3.org/2000/svg}"
 
 
-def told(history: str, report: ReportText, legend: Legend | None = None) -> tuple[list[Group], Scene, str, str]:
-    """The findings, the scene, the page and the picture of a history and its report."""
-    names, facts, parsed = Names(legend), Facts(parse(history)), read_report(report)
-    facts.check(parsed.counts)
-    groups = groups_of(parsed, facts, names)
-    scene = scene_of(facts, parsed.steps, groups, names)
-    return groups, scene, html("h", parsed, groups, scene, names), picture(parsed, scene)
+def lanes_of(scene: Scene) -> list[tuple[int, list[int], int]]:
+    """Of each lane the transaction, the places of its events, and how many are left out."""
+    return [(lane.transaction, [mark.place for mark in lane.marks], lane.hidden_events) for lane in scene.lanes]
 
 
-def example(name: str) -> tuple[list[Group], Scene, str, str]:
-    base = REPOSITORY / "examples" / name
-    return told(base.with_suffix(".history").read_text(), ReportText.from_path(str(base.with_suffix(".report"))))
-
-
-def only(groups: list[Group]) -> Finding:
-    """The one finding of the one group."""
-    (group,) = groups
-    (finding,) = group.findings
-    return finding
-
-
-class FactsTest(unittest.TestCase):
-    def test_the_events_of_an_edge(self) -> None:
-        # 1 wrote key 5 at 1 and committed at 2; 2 read its version at 4, after the first version of key 6 at 3, and wrote key 5 at 5.
-        facts = Facts(parse("w1[5] c1 r2[6:0] r2[0..9;5:1] w2[5] w3[6] c3 c2"))
-        self.assertEqual(facts.ends_of(Edge(1, EdgeKind.WW, 2, 5)), (1, 5))
-        self.assertEqual(facts.ends_of(Edge(1, EdgeKind.WR, 2, 5)), (1, 4))
-        self.assertEqual(facts.ends_of(Edge(2, EdgeKind.RW, 3, 6)), (3, 6))
-
-    def test_starts(self) -> None:
-        facts = Facts(parse("w1[1] c1 b2@0 r2[1:0] c2 r3[1:1]"))
-        self.assertEqual([facts.transaction(number).start for number in (1, 2, 3)], [0, 0, 5])
-
-
-class ReasonsTest(unittest.TestCase):
-    def test_a_bad_read(self) -> None:
-        finding = only(example("stale_read")[0])
-        self.assertEqual(finding.title, "Transaction 4 saw the version of 2 of key 1, where the version of 3 was due.")
-        self.assertEqual(finding.reasons, (
-            "The read is event 7.",
-            "4 started after event 6.",
-            "3 wrote the key at event 5 and committed at event 6: it was the last to commit a version by then.",
-            "2 wrote the version that was seen at event 3 and committed at event 4.",
-        ))
-        self.assertEqual((finding.transactions, finding.places), ((4, 2, 3), (7, 3, 5)))
-
-    def test_a_bad_write_and_the_cycle(self) -> None:
-        cycle, writes, pivots = example("lost_update")[0]
-        self.assertEqual(cycle.findings[0].title, "Each must stand before the next in a serial order: 1 → 2 → 1.")
-        self.assertEqual(cycle.findings[0].reasons, (
-            "1 must stand before 2 (ww): both wrote key 1 (at event 3 and at event 4), and 1 committed first.",
-            "2 must stand before 1 (rw): at event 2 it saw a version of key 1 from before 1's, written at event 3.",
-        ))
-        self.assertEqual(writes.findings[0].reasons, (
-            "1 wrote the key at event 3, and 2 at event 4.",
-            "2 started after event 1.",
-            "1 committed at event 5, after that start, so the two overlap.",
-            "2 committed at event 6, where it had to abort: the first committer wins.",
-        ))
-        self.assertEqual([finding.transactions for finding in pivots.findings], [(2, 1), (1, 2)])
-
-    def test_an_aborted_version(self) -> None:
-        bad, unexplained = example("aborted_read")[0]
-        aborted = "1 wrote the version that was seen at event 1 and aborted at event 4."
-        self.assertEqual(bad.findings[0].reasons[1:], (
-            "2 started after event 1.", "No transaction that wrote key 1 had committed by then, so the first version was due.", aborted,
-        ))
-        self.assertEqual(unexplained.findings[0].reasons, ("The read is event 2.", aborted))
-
-    def test_an_own_write(self) -> None:
-        report = lines(
-            "events 3 committed 1 aborted 0 open 0", "isolation broken", "bad-read 2 1 1 saw 0 due 1", "unexplained 2 1 1 0",
-            "ssi fail", "serializable no", "order 1",
-        )
-        bad, unexplained = told("w1[1] r1[1:0] c1", report)[0]
-        self.assertEqual(
-            bad.findings[0].reasons[1:], ("1 had written the key itself before, at event 1: its own version was due.",)
-        )
-        self.assertEqual(
-            unexplained.findings[0].reasons[1:], ("1 had written the key itself before, at event 1, and in a serial order sees that.",)
-        )
-
-    def test_the_reports_own_reasons(self) -> None:
-        report = ReportText.from_path(str(REPOSITORY / "examples" / "lost_update.explained"))
-        legend = Legend({1: "A", 2: "<b>"}, {1: "k"}, [11, 12, 13, 14, 15, 16])
-        (cycle, writes), _, page, _ = told(LOST_UPDATE_HISTORY, report, legend)
-        versions = 'event 3 (line 13) wA[k], event 5 (line 15) cA; event 4 (line 14) w"<b>"[k], event 6 (line 16) c"<b>"'
-        self.assertEqual(
-            only([writes]).reasons, (f'both write and overlap: transaction "<b>" starts after event 1 (line 11); {versions}',)
-        )
-        self.assertEqual(only([cycle]).reasons, (
-            f'A >ww:k> "<b>": {versions}',
-            '"<b>" >rw:k> A: event 2 (line 12) r"<b>"[k:0]; event 3 (line 13) wA[k], event 5 (line 15) cA',
-        ))
-        self.assertIn("<li>A &gt;ww:k&gt; &quot;&lt;b&gt;&quot;: event 3 (line 13) wA[k], event 5 (line 15) cA;", page)
-        self.assertNotIn("the first committer wins", page)
-
-    def test_a_dangerous_structure(self) -> None:
-        """Where there is no cycle the picture has the structure's edges."""
-        step = "1 >rw:1> 2: event 1 r1[1:0]; event 3 w2[1], event 6 c2", "2 >rw:2> 3: event 2 r2[2:0]; event 4 w3[2], event 5 c3"
-        report = lines(
-            "events 7 committed 3 aborted 0 open 0", "isolation kept", "ssi fail", "dangerous 1 >rw:1> 2 >rw:2> 3", *(f"  {it}" for it in step),
-            "serializable yes", "order 1 2 3",
-        )
-        groups, scene, page, _ = told("r1[1:0] r2[2:0] w2[1] w3[2] c3 c2 c1", report)
-        finding = only(groups)
-        self.assertEqual(finding.title, "1 → 2 → 3: two rw edges between overlapping transactions, and 3 committed first.")
-        self.assertEqual((finding.reasons, finding.transactions, finding.places), (step, (1, 2, 3), (1, 3, 2, 4)))
-        self.assertEqual([(link.source_place, link.target_place, link.label) for link in scene.links], [(1, 3, "rw 1"), (2, 4, "rw 2")])
-        self.assertIn("<h3>The dangerous structure</h3>", page)
-        self.assertIn("The ssi test fails", page)
-
-    def test_every_explained_example(self) -> None:
-        """The findings of an explained report are those of the report, with the explained report's lines for reasons."""
-        for path in sorted(REPOSITORY.glob("examples/**/*.explained")):
-            if path.stem.startswith("refused"):
-                continue
-            with self.subTest(path=path.name):
-                history, text = path.with_suffix(".history").read_text(), path.read_text()
-                groups = told(history, ReportText(text.encode()))[0]
-                others = told(history, ReportText.from_path(str(path.with_suffix(".report"))))[0]
-                listed = [(finding.kind, finding.title, finding.transactions, finding.places) for group in groups for finding in group.findings]
-                for group in others:
-                    if group.kind is not Kind.PIVOT:
-                        for finding in group.findings:
-                            self.assertIn((finding.kind, finding.title, finding.transactions, finding.places), listed)
-                reasons = [reason for group in groups for finding in group.findings for reason in finding.reasons]
-                self.assertEqual(sorted(reasons), sorted(line[2:] for line in text.splitlines() if line.startswith("  ")))
+def bad_reads(count: int) -> Told:
+    """Each of so many transactions reads the aborted version of a key of its own."""
+    history = " ".join(f"w{n + count}[{n}] r{n}[{n}:{n + count}] a{n + count}" for n in range(1, count + 1))
+    reads = [f"bad-read {3 * n - 1} {n} {n} saw {n + count} due 0" for n in range(1, count + 1)]
+    head = f"events {3 * count} committed 0 aborted {count} open {count}"
+    return told(history, lines(head, "isolation broken", *reads, "ssi fail", "serializable yes", "order"))
 
 
 class SceneTest(unittest.TestCase):
-    def test_lanes(self) -> None:
-        scene = example("read_only_anomaly")[1]
-        self.assertEqual([(lane.transaction, lane.start, [mark.place for mark in lane.marks]) for lane in scene.lanes], [
-            (2, 0, [1, 2, 9, 10]), (1, 2, [3, 4, 5]), (3, 5, [6, 7, 8]),
-        ])
-        self.assertEqual([(link.source_place, link.target_place, link.label) for link in scene.links], [
+    def test_a_small_history_is_shown_whole(self) -> None:
+        scene = example("read_only_anomaly").scene
+        self.assertEqual(lanes_of(scene), [(2, [1, 2, 9, 10], 0), (1, [3, 4, 5], 0), (3, [6, 7, 8], 0)])
+        self.assertEqual([lane.start for lane in scene.lanes], [0, 2, 5])
+        self.assertEqual([(arrow.source_place, arrow.target_place, arrow.label) for arrow in scene.arrows], [
             (4, 7, "wr 2"), (6, 9, "rw 1"), (2, 4, "rw 2"),
         ])
         self.assertEqual((scene.hidden_transactions, scene.hidden_events), (0, 0))
 
-    def test_a_large_history_shows_what_is_named(self) -> None:
+    def test_labels_are_words(self) -> None:
+        (reader,) = (lane for lane in example("missed_key").scene.lanes if lane.transaction == 2)
+        self.assertEqual([mark.label for mark in reader.marks], [("read 10 to 20", "saw 1"), ("commit",)])
+        self.assertEqual(reader.marks[0].words, (
+            "event 4: transaction 2 read key 10 to key 20 and saw transaction 1's version of key 12,"
+            " every other key at the initial version"
+        ))
+
+    def test_a_finding_is_shown_alone(self) -> None:
+        """Transaction 1 wrote key 1, 2 and 3 too; only 4, which read it, and 2 and 3, whose versions it saw and had to see, are drawn."""
+        found = example("stale_read")
+        scene = finding_scene(found.facts, found.findings[0], found.names, is_short=False)
+        self.assertEqual([lane.transaction for lane in scene.lanes], [2, 3, 4])
+        self.assertEqual([mark.place for lane in scene.lanes for mark in lane.marks if mark.is_named], [3, 5, 7])
+        self.assertEqual([arrow.label for arrow in scene.arrows], ["saw", "due"])
+
+    def test_a_large_history_shows_the_first_finding(self) -> None:
         """300 transactions stand before those of a lost update, whose places are then 600 greater."""
         before = " ".join(f"w{n}[{n}] c{n}" for n in range(101, 401))
         report = text_of(LOST_UPDATE.replace("events 6 committed 2", "events 606 committed 302"))
-        _, scene, page, _ = told(f"{before} {LOST_UPDATE_HISTORY}", report)
-        self.assertEqual([lane.transaction for lane in scene.lanes], [1, 2])
-        self.assertEqual(scene.hidden_transactions, 300)
-        self.assertIn("300 other transactions of the history are not drawn.", page)
+        found = told(f"{before} {LOST_UPDATE_HISTORY}", report)
+        self.assertEqual(lanes_of(found.scene), [(1, [601, 603, 605], 0), (2, [602, 604, 606], 0)])
+        self.assertEqual(found.page.count("<template"), 4)
+        self.assertIn('<template id="picture-whole"><figure><svg xmlns="http://www.w3.org/2000/svg" class="timeline overview"', found.page)
 
     def test_many_findings_are_counted(self) -> None:
-        """2,000 transactions each read the aborted version of a key of their own."""
-        count = 2000
-        history = " ".join(f"w{n + count}[{n}] r{n}[{n}:{n + count}] a{n + count}" for n in range(1, count + 1))
-        reads = [f"bad-read {3 * n - 1} {n} {n} saw {n + count} due 0" for n in range(1, count + 1)]
-        head = f"events {3 * count} committed 0 aborted {count} open {count}"
-        groups, scene, page, _ = told(history, lines(head, "isolation broken", *reads, "ssi fail", "serializable yes", "order"))
-        self.assertEqual([(len(group.findings), group.count) for group in groups], [(100, count)])
-        self.assertEqual((len(scene.lanes), scene.hidden_transactions), (120, 2 * count - 120))
-        self.assertIn("And 1,900 more, which the report has.", page)
-        self.assertEqual(page.count('class="finding"'), 60)
+        found = bad_reads(2000)
+        self.assertEqual([(len(group.findings), group.count) for group in found.groups], [(100, 2000)])
+        self.assertIn("And 1,900 more, which the report has.", found.page)
+        self.assertEqual(found.page.count('class="finding"'), 100)
 
     def test_a_transaction_of_many_events(self) -> None:
-        """Transaction 1 also reads key 9 a thousand times. What the cycle and the bad write are about is drawn all the same."""
+        """Transaction 1 also reads key 9 a thousand times. What the bad write is about is drawn, and the ends."""
         history = LOST_UPDATE_HISTORY.replace("w1[1]", "r1[9:0] " * 1000 + "w1[1]")
-        scene = told(history, text_of(LOST_UPDATE.replace("events 6", "events 1006")))[1]
-        self.assertEqual([(lane.transaction, len(lane.marks), lane.hidden_events) for lane in scene.lanes], [(1, 797, 206), (2, 3, 0)])
-        self.assertEqual([(link.source_place, link.target_place) for link in scene.links], [(1003, 1004), (2, 1003)])
-        self.assertEqual([mark.place for mark in scene.lanes[0].marks[-2:]], [1003, 1005])
+        found = told(history, text_of(LOST_UPDATE.replace("events 6", "events 1006")))
+        self.assertEqual(lanes_of(found.scene), [(1, [1003, 1005], 1001), (2, [1004, 1006], 1)])
+        self.assertIn("1,002 other events of these transactions are not drawn.", found.page)
+
+
+class OverviewTest(unittest.TestCase):
+    def test_rows_and_bars(self) -> None:
+        """2 overlaps 1, and 3 starts when 1 has ended, so that it takes its row; 4 never ends. 3 is of a finding."""
+        found = told("b1 b2 c1 b3 c2 a3 b4", lines(
+            "events 7 committed 2 aborted 1 open 1", "isolation kept", "ssi pass", "serializable yes", "order 1 2",
+        ))
+        root = ElementTree.fromstring(overview(found.facts, [3], found.names))
+        drawn = {each.get("class"): str(each.get("d")) for each in root.findall(f"{SVG}path") if "bars" in str(each.get("class"))}
+        rows = {name: re.findall("M[0-9]+ ([0-9.]+)h", path) for name, path in drawn.items()}
+        first, second = "43.0", "61.0"
+        self.assertEqual(rows, {"bars committed": [first, second], "bars aborted": [first], "bars open": [first]})
+        (found_bar,) = (each for each in root.findall(f"{SVG}path") if each.get("data-transaction"))
+        self.assertEqual((found_bar.get("data-transaction"), found_bar[0].text), (
+            "3", "Transaction 3, aborted: started after event 3, ended at event 6",
+        ))
+
+    def test_bars_in_one_place_are_drawn_once(self) -> None:
+        """100,000 transactions of one event each are one row, and as many bars as it has points."""
+        count = 100_000
+        order = " ".join(map(str, range(1, count + 1)))
+        found = told(" ".join(f"c{n}" for n in range(1, count + 1)), lines(
+            f"events {count} committed {count} aborted 0 open 0", "isolation kept", "ssi pass", "serializable yes", f"order {order}",
+        ))
+        self.assertLess(len(found.page), 60_000)
+        self.assertIn('class="timeline overview"', found.page)
 
 
 class _Checker(HTMLParser):
@@ -211,42 +122,53 @@ class _Checker(HTMLParser):
 
     def handle_starttag(self, tag: str, attrs: list[tuple[str, str | None]]) -> None:
         self.tags.append(tag)
-        self.loads += [name for name, _ in attrs if name in ("src", "href", "xlink:href", "srcset", "data")]
+        self.loads += [name for name, _ in attrs if name in ("src", "href", "xlink:href", "srcset", "data", "style") or name.startswith("on")]
 
 
 class MarkupTest(unittest.TestCase):
     def test_the_verdict_in_words(self) -> None:
-        page = example("lost_update")[2]
+        page = example("lost_update").page
         for words in ("Snapshot isolation was broken.", "Found: 1 bad write.", "The history is not serializable.", "The ssi test fails."):
             self.assertIn(words, page)
-        page = example("clean")[2]
+        page = example("clean").page
         for words in ("Snapshot isolation was kept.", "The history is serializable.", "The ssi test passes.", "explains the history: 2, 1."):
             self.assertIn(words, page)
 
+    def test_what_matters_first_stands_first(self) -> None:
+        page = example("lost_update").page
+        headings = [page.index(f"<h3>{heading}") for heading in ("Bad writes", "The cycle", "Pivots")]
+        self.assertEqual(headings, sorted(headings))
+        chosen = 'class="finding" aria-pressed="true"'
+        self.assertEqual(page.count(chosen), 1)
+        self.assertLess(page.index(chosen), headings[1])
+
     def test_nothing_is_loaded(self) -> None:
-        page = example("lost_update")[2]
+        """One style and one script, no element that loads or runs anything, and all templates within the page."""
+        page = example("lost_update").page
         checker = _Checker()
         checker.feed(page)
-        self.assertEqual((checker.loads, checker.tags.count("script"), checker.tags.count("link")), ([], 1, 0))
+        counts = [checker.tags.count(tag) for tag in ("script", "style", "link", "template")]
+        self.assertEqual((checker.loads, counts), ([], [1, 1, 0, 4]))
         self.assertNotRegex(page.replace("http://www.w3.org/2000/svg", ""), r"https?:|@import|url\((?!#)")
 
     def test_names_do_not_break_out(self) -> None:
         legend = Legend({1: EVIL, 2: "\ud800<svg onload=x>"}, {1: "]]><&\"'"}, [1, 2, 3, 4, 5, 6])
-        _, _, page, image = told(LOST_UPDATE_HISTORY, text_of(LOST_UPDATE), legend)
+        found = told(LOST_UPDATE_HISTORY, text_of(LOST_UPDATE), legend)
         checker = _Checker()
-        checker.feed(page)
+        checker.feed(found.page)
+        harmless = Legend(*({n: "x" * len(shown(name)) for n, name in table.items()} for table in (legend.transactions, legend.keys)), legend.events)
         plain = _Checker()
-        plain.feed(example("lost_update")[2])
+        plain.feed(told(LOST_UPDATE_HISTORY, text_of(LOST_UPDATE), harmless).page)
         self.assertEqual(checker.tags, plain.tags)
-        page.encode("utf-8")
-        root = ElementTree.fromstring(image)
-        words = [element.text for element in root.iter("{http://www.w3.org/2000/svg}title")]
-        self.assertIn('event 3 (line 3 of the log): transaction ' + '"</script><script>document.title=\\"evil\\"</script>&\\"\'\\n\\u202e"'
-                      + ' writes key "]]><&\\"\'"', words)
+        found.page.encode("utf-8")
+        root = ElementTree.fromstring(found.image)
+        words = [element.text for element in root.iter(f"{SVG}title")]
+        self.assertIn('event 3 (line 3 of the log): ' + '"</script><script>document.title=\\"evil\\"</script>&\\"\'\\n\\u202e"'
+                      + ' wrote "]]><&\\"\'"', words)
 
     def test_the_picture_is_the_one_of_the_docs(self) -> None:
-        image = example("lost_update")[3]
-        self.assertEqual(ElementTree.fromstring(image).tag, "{http://www.w3.org/2000/svg}svg")
+        image = example("lost_update").image
+        self.assertEqual(ElementTree.fromstring(image).tag, f"{SVG}svg")
         self.assertEqual(image, PICTURE.read_text("utf-8"), f"make {PICTURE.name} anew with si-history page --svg")
 
 
@@ -309,90 +231,6 @@ class CommandTest(unittest.TestCase):
     def test_one_standard_input_for_two(self) -> None:
         done = run_command("page", "-", "-")
         self.assertEqual((done.returncode, done.stdout, done.stderr), (2, b"", b"si-history: only one input can be standard input\n"))
-
-
-@unittest.skipUnless(BROWSER, NO_BROWSER)
-class BrowserTest(unittest.TestCase):
-    """The page in a browser without a window, asked for its elements when its script has run."""
-
-    @classmethod
-    def setUpClass(cls) -> None:
-        """Leaves these tests out where the browser doesn't start, as in a closed-off room of a build machine."""
-        page = "<!DOCTYPE html><html><body><script>document.body.append('run', 'ning')</script></body></html>"
-        try:
-            done = cls.browse(page)
-        except (OSError, subprocess.TimeoutExpired) as fault:
-            raise unittest.SkipTest(f"left out: the browser {BROWSER} doesn't start here: {fault}") from None
-        if b"running" not in done.stdout:
-            last = done.stderr.decode(errors="replace").strip().split("\n")[-1]
-            raise unittest.SkipTest(f"left out: the browser {BROWSER} doesn't start here (status {done.returncode}: {last})")
-
-    @staticmethod
-    def browse(page: str) -> subprocess.CompletedProcess[bytes]:
-        """Lets the browser read a page, run its scripts, and print its elements."""
-        with tempfile.TemporaryDirectory(ignore_cleanup_errors=True) as directory:
-            path = Path(directory) / "page.html"
-            path.write_text(page, "utf-8")
-            return subprocess.run(
-                [str(BROWSER), "--headless", "--no-sandbox", "--disable-gpu", f"--user-data-dir={directory}/profile",
-                 "--virtual-time-budget=2000", "--window-size=1400,900", "--dump-dom", path.as_uri()],
-                capture_output=True, timeout=LONG_SECONDS,
-            )
-
-    def dom(self, page: str, script: str = "") -> str:
-        """The elements of the page, after a script of the test's own."""
-        try:
-            done = self.browse(page.replace("</body>", f"<script>{script}</script></body>"))
-        except subprocess.TimeoutExpired:
-            self.skipTest(f"left out: the browser {BROWSER} takes longer than {LONG_SECONDS:.0f} seconds here")
-        return done.stdout.decode("utf-8")
-
-    def chosen(self, dom: str) -> list[str]:
-        """The lanes that are chosen."""
-        return re.findall(r'<g class="lane \w+ is-chosen" id="lane-(\d+)"', dom)
-
-    def test_a_click_brings_transactions_into_view(self) -> None:
-        """A click chooses, a second one on the same finding takes it back, and a third chooses again."""
-        script = """
-          const button = document.querySelectorAll('button.finding')[1];
-          const chosen = () => document.querySelectorAll('.lane.is-chosen').length;
-          const counts = [chosen()];
-          for (let click = 0; click < 3; click++) { button.click(); counts.push(chosen()); }
-          document.body.dataset.counts = counts.join();
-        """
-        dom = self.dom(example("lost_update")[2], script)
-        self.assertEqual(re.findall('data-counts="(.*?)"', dom), ["0,2,0,2"])
-        self.assertEqual(self.chosen(dom), ["1", "2"])
-        self.assertEqual(re.findall(r'is-named" data-place="(\d+)"', dom), ["3", "5", "4", "6"])
-        self.assertEqual(dom.count('class="finding" aria-pressed="true"'), 1)
-        self.assertIn("2 transactions in view.", dom)
-
-    def test_lanes_that_are_far_apart_are_put_together(self) -> None:
-        """40 bad reads of 80 transactions; the last is chosen, that of 40, which sees the version of 140. Both lanes are seen."""
-        writers = " ".join(f"w{n + 100}[{n}]" for n in range(1, 41))
-        readers = " ".join(f"r{n}[{n}:{n + 100}] c{n}" for n in range(1, 41))
-        reads = [f"bad-read {39 + 2 * n} {n} {n} saw {n + 100} due 0" for n in range(1, 41)]
-        head = "events 120 committed 40 aborted 0 open 40"
-        page = told(f"{writers} {readers}", lines(head, "isolation broken", *reads, "ssi fail", "serializable yes", "order"))[2]
-        script = """
-          const lanes = [40, 140].map((n) => document.querySelector(`#lane-${n} .band`));
-          const frame = () => document.getElementById('view').getBoundingClientRect();
-          const isSeen = (lane) => lane.getBoundingClientRect().top >= frame().top && lane.getBoundingClientRect().bottom <= frame().bottom;
-          const before = lanes.map(isSeen);
-          [...document.querySelectorAll('button.finding')].at(-1).click();
-          const read = document.querySelector('.mark.read.is-named').getBoundingClientRect();
-          document.body.dataset.seen = [...before, ...lanes.map(isSeen), read.left >= frame().left && read.left <= frame().right].join();
-        """
-        dom = self.dom(page, script)
-        self.assertEqual(re.findall('data-seen="(.*?)"', dom), ["false,false,true,true,true"])
-        self.assertEqual(sorted(self.chosen(dom)), ["140", "40"])
-
-    def test_names_run_no_script(self) -> None:
-        legend = Legend({1: EVIL, 2: "<img src=x onerror=\"document.title='evil'\">"}, {1: "'\"><b>"}, [1, 2, 3, 4, 5, 6])
-        dom = self.dom(told(LOST_UPDATE_HISTORY, text_of(LOST_UPDATE), legend)[2])
-        self.assertIn("<title>Audit of h</title>", dom)
-        self.assertNotIn("<img", dom)
-        self.assertEqual(dom.count("<b>"), 0)
 
 
 if __name__ == "__main__":
