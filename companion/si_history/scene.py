@@ -14,7 +14,7 @@ from si_history.facts import Facts, Fate, Transaction
 from si_history.findings import Arrow, Finding
 from si_history.history import Abort, Begin, Commit, Event, RangeRead, Read
 from si_history.naming import Names
-from si_history.wording import Wording
+from si_history.wording import Wording, without_quotes
 
 SMALL_TRANSACTIONS = 24
 SMALL_EVENTS = 240
@@ -132,12 +132,12 @@ def _look(event: Event, names: Names) -> tuple[MarkKind, tuple[str, ...], str]:
         return MarkKind.ABORT, ("abort",), "aborted"
     if isinstance(event, Read):
         seen = f"saw {_version(event.saw, names)}"
-        return MarkKind.READ, (f"read {names.key(event.key)}", seen), f"read {say.key(event.key)} and saw {say.version(event.saw)}"
+        return MarkKind.READ, (f"read {_key(event.key, names)}", seen), f"read {say.key(event.key)} and saw {say.version(event.saw)}"
     if isinstance(event, RangeRead):
         low, high = say.key(event.low), say.key(event.high)
-        label = f"read {names.key(event.low)} to {names.key(event.high)}"
+        label = f"read {_key(event.low, names)} to {_key(event.high, names)}"
         return MarkKind.READ, (label, f"saw {_listed_short(event, names)}"), f"read {low} to {high} and saw {_listed(event, say)}"
-    return MarkKind.WRITE, (f"write {names.key(event.key)}",), f"wrote {say.key(event.key)}"
+    return MarkKind.WRITE, (f"write {_key(event.key, names)}",), f"wrote {say.key(event.key)}"
 
 
 def _listed(event: RangeRead, say: Wording) -> str:
@@ -152,6 +152,10 @@ def _listed_short(event: RangeRead, names: Names) -> str:
     """What a range read saw, for a label."""
     versions = list(dict.fromkeys(_version(version, names) for _, version in event.listed))
     return ", ".join(versions) if versions else _version(0, names)
+
+
+def _key(number: int, names: Names) -> str:
+    return without_quotes(names.key(number))
 
 
 def _version(number: int, names: Names) -> str:

@@ -50,8 +50,14 @@ class Wording:
 
 def _with_word(word: str, name: str) -> str:
     """A name, and before one of digits alone the word. With it the name 0 can't be taken for a version and needs no quotes."""
-    bare = name.strip('"')
+    bare = without_quotes(name)
     return f"{word} {bare}" if bare.isdigit() else name
+
+
+def without_quotes(name: str) -> str:
+    """A name of digits alone, which has quotes where it is 0, as it is where nothing else can stand."""
+    bare = name.strip('"')
+    return bare if bare.isdigit() else name
 
 
 def counted(count: int, noun: str) -> str:
