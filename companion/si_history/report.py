@@ -191,6 +191,12 @@ class Report:
     serializable: Verdict
     outcome: Order | Cycle
 
+    def meets(self, level: str) -> bool:
+        """Whether the report says that the history meets a level, which is `si`, `ssi` or `serializable`."""
+        if level == "serializable":
+            return self.isolation.holds and self.serializable.holds
+        return self.isolation.holds if level == "si" else self.ssi.holds
+
     @property
     def cycle(self) -> Cycle | None:
         return self.outcome if isinstance(self.outcome, Cycle) else None
