@@ -62,6 +62,6 @@ def run_conversion(arguments: argparse.Namespace, convert: Callable[[BinaryIO], 
     for warning in conversion.warnings:
         print(f"si-history: {source_name(arguments.log)}: {warning}", file=sys.stderr)
     if arguments.legend is not None:
-        write_output(conversion.legend.to_json(), arguments.legend)
+        write_output(conversion.legend.to_json(text.encode()), arguments.legend)
     write_output(text)
     return 0

@@ -9,8 +9,9 @@ from itertools import groupby
 from operator import itemgetter
 from typing import NamedTuple
 
-from si_history.errors import BadInput
-from si_history.files import STANDARD_INPUT, STANDARD_OUTPUT, check_output, write_output
+from si_history.errors import BadInput, in_source
+from si_history.files import STANDARD_INPUT, STANDARD_OUTPUT, check_output, source_name, write_output
+from si_history.matching import check_report, read_history
 from si_history.naming import Names
 from si_history.progress import REPORT_LINES, Progress
 from si_history.report import Cycle, Edge, EdgeKind, Pivot, Report, Structure
@@ -27,7 +28,7 @@ cycle are bold.
 
 examples:
   si_audit <run.history | si-history graph | dot -Tsvg >cycle.svg
-  si-history graph --legend run.legend run.report >cycle.dot
+  si-history graph --legend run.legend --history run.history run.report >cycle.dot
   si-history graph --all <run.report | dot -Tpdf >edges.pdf
 """
 
@@ -46,19 +47,26 @@ def register(commands: argparse._SubParsersAction[argparse.ArgumentParser]) -> N
     )
     parser.add_argument("--all", action="store_true", help="all edges of the report")
     parser.add_argument("--legend", metavar="FILE", help="the legend that was written with the history, for the log's names")
+    parser.add_argument("--history", metavar="FILE", help="with --legend: the history, by which the legend is known to be its")
     parser.set_defaults(run=run, writes_history=False)
 
 
 def run(arguments: argparse.Namespace) -> int:
     """Writes the graph."""
-    if arguments.report == arguments.legend == STANDARD_INPUT:
-        raise BadInput("the report and the legend can't both be standard input")
-    check_output(STANDARD_OUTPUT, [arguments.report, arguments.legend])
+    inputs = [arguments.report, arguments.legend, arguments.history]
+    if inputs.count(STANDARD_INPUT) > 1:
+        raise BadInput("only one input can be standard input")
+    if arguments.legend is not None and arguments.history is None:
+        raise BadInput("--legend goes with --history FILE, by which the legend is known to be that of the history")
+    check_output(STANDARD_OUTPUT, inputs)
     names = Names.from_path(arguments.legend)
+    facts = None if arguments.history is None else read_history(arguments.history, names)
     with Progress(REPORT_LINES) as progress:
         text = ReportText.from_path(arguments.report, progress)
         report = read_report(text)
-        names.check(report.counts)
+        if facts is not None:
+            with in_source(source_name(arguments.history)):
+                check_report(report, facts)
         drawn = dot(graph_of(report, text, arguments.all), names)
     write_output(drawn)
     return 0

@@ -2,16 +2,26 @@
 
 from __future__ import annotations
 
+import hashlib
 import json
+import re
 from collections.abc import Iterable
 from dataclasses import dataclass, field
 
 from si_history.errors import BadInput
 
-FORMAT = "si-history legend 1"
+FORMAT = "si-history legend 2"
 
 # What a log doesn't tell of a transaction: whether it committed; or only that it did, since its version was read.
 UNKNOWN, PLACED = "unknown", "placed"
+
+Times = tuple[int | None, int | None]
+_HASH = re.compile("sha256:[0-9a-f]{64}")
+
+
+def hash_of(history: bytes) -> str:
+    """The hash of a history's text, by which its legend knows it."""
+    return f"sha256:{hashlib.sha256(history).hexdigest()}"
 
 
 @dataclass
@@ -20,7 +30,9 @@ class Legend:
 
     `transactions` and `keys` give the log's name of each number. `events` gives, for each place of the history in turn,
     the line of the log that the event came from; both are counted from 1. `outcomes` has the transactions of which the log
-    doesn't tell all: UNKNOWN, PLACED, or the kind of a stand-in. `fields` has what else the log says beside events.
+    doesn't tell all: UNKNOWN, PLACED, or the kind of a stand-in. `fields` has what else the log says beside events. `times`
+    has the timestamps of a transaction's start and of its commit, where the log gives such. `history` is the hash of the
+    history's text, which a legend has that was read.
     """
 
     transactions: dict[int, str] = field(default_factory=dict)
@@ -28,6 +40,8 @@ class Legend:
     events: list[int] = field(default_factory=list)
     outcomes: dict[int, str] = field(default_factory=dict)
     fields: dict[int, dict[str, object]] = field(default_factory=dict)
+    times: dict[int, Times] = field(default_factory=dict)
+    history: str | None = field(default=None, compare=False)
 
     def is_undecided(self, transactions: Iterable[int]) -> bool:
         """Whether a finding about these transactions depends on an outcome that the log doesn't tell."""
@@ -45,10 +59,16 @@ class Legend:
         """The line of the log that the event at a place came from, if the legend tells."""
         return self.events[place - 1] if 1 <= place <= len(self.events) else None
 
-    def to_json(self) -> str:
-        """The legend as one JSON object, on one line."""
+    def check(self, history: bytes) -> None:
+        """Raises BadInput where the legend was not written with this history."""
+        if self.history != hash_of(history):
+            raise BadInput("the legend is of another history: it was not written with this text")
+
+    def to_json(self, history: bytes) -> str:
+        """The legend of the history with this text as one JSON object, on one line."""
         made: dict[str, object] = {
             "format": FORMAT,
+            "history": hash_of(history),
             "transactions": {str(number): name for number, name in self.transactions.items()},
             "keys": {str(number): name for number, name in self.keys.items()},
             "events": self.events,
@@ -57,6 +77,8 @@ class Legend:
             made["outcomes"] = {str(number): outcome for number, outcome in self.outcomes.items()}
         if self.fields:
             made["fields"] = {str(place): fields for place, fields in self.fields.items()}
+        if self.times:
+            made["times"] = {str(number): times for number, times in self.times.items()}
         return json.dumps(made) + "\n"
 
     @classmethod
@@ -69,7 +91,16 @@ class Legend:
         if not isinstance(made, dict) or made.get("format") != FORMAT:
             raise BadInput(f'the legend is no object with "format": "{FORMAT}"')
         named = _names(made, "transactions"), _names(made, "keys"), _lines(made)
-        return cls(*named, _names({"outcomes": {}} | made, "outcomes"), _fields(made))
+        others = _names({"outcomes": {}} | made, "outcomes"), _fields(made), _times(made)
+        return cls(*named, *others, _hash(made))
+
+
+def _hash(made: dict[str, object]) -> str:
+    """The hash of the history."""
+    written = made.get("history")
+    if not isinstance(written, str) or not _HASH.fullmatch(written):
+        raise BadInput('"history" of the legend is no hash of the history that it was written with')
+    return written
 
 
 def _names(made: dict[str, object], part: str) -> dict[int, str]:
@@ -91,6 +122,19 @@ def _fields(made: dict[str, object]) -> dict[int, dict[str, object]]:
     if not isinstance(table, dict) or not all(_is_number(place) and isinstance(said, dict) for place, said in table.items()):
         raise BadInput('"fields" of the legend does not lead from places to fields')
     return {int(place): said for place, said in table.items()}
+
+
+def _times(made: dict[str, object]) -> dict[int, Times]:
+    """The timestamps of transactions."""
+    table = made.get("times", {})
+    times: dict[int, Times] = {}
+    for number, pair in table.items() if isinstance(table, dict) else [("", None)]:
+        match pair:
+            case [int() | None as start, int() | None as commit] if _is_number(number):
+                times[int(number)] = start, commit
+            case _:
+                raise BadInput('"times" of the legend does not lead from transactions to a start and a commit')
+    return times
 
 
 def _is_number(text: str) -> bool:

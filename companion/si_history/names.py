@@ -5,8 +5,9 @@ from __future__ import annotations
 import argparse
 from collections.abc import Callable, Iterator
 
-from si_history.errors import BadInput
-from si_history.files import STANDARD_INPUT, STANDARD_OUTPUT, check_output, write_output
+from si_history.errors import BadInput, in_source
+from si_history.files import STANDARD_INPUT, STANDARD_OUTPUT, check_output, source_name, write_output
+from si_history.matching import check_report, read_history
 from si_history.named_reasons import told
 from si_history.naming import Names
 from si_history.progress import REPORT_LINES, Progress
@@ -35,7 +36,7 @@ a JSON string.
 examples:
   si-history from-events --legend run.legend run.log >run.history
   si_audit <run.history >run.report
-  si-history names --legend run.legend <run.report
+  si-history names --legend run.legend --history run.history <run.report
 """
 
 
@@ -52,18 +53,22 @@ def register(commands: argparse._SubParsersAction[argparse.ArgumentParser]) -> N
         "report", metavar="REPORT", nargs="?", default=STANDARD_INPUT, help="the report (default: -, standard input)"
     )
     parser.add_argument("--legend", metavar="FILE", required=True, help="the legend that was written with the history")
+    parser.add_argument("--history", metavar="FILE", required=True, help="the history, by which the legend is known to be its")
     parser.set_defaults(run=run, writes_history=False)
 
 
 def run(arguments: argparse.Namespace) -> int:
     """Writes the report with names."""
-    if arguments.report == arguments.legend == STANDARD_INPUT:
-        raise BadInput("the report and the legend can't both be standard input")
-    check_output(STANDARD_OUTPUT, [arguments.report, arguments.legend])
+    inputs = [arguments.report, arguments.legend, arguments.history]
+    if inputs.count(STANDARD_INPUT) > 1:
+        raise BadInput("only one input can be standard input")
+    check_output(STANDARD_OUTPUT, inputs)
     names = Names.from_path(arguments.legend)
+    facts = read_history(arguments.history, names)
     with Progress(REPORT_LINES) as progress:
         text = ReportText.from_path(arguments.report, progress)
-        names.check(read_report(text).counts)
+        with in_source(source_name(arguments.history)):
+            check_report(read_report(text), facts)
         named = "".join(f"{line}\n" for line in named_lines(text, names))
     write_output(named)
     return 0

@@ -11,7 +11,6 @@ import re
 from si_history.errors import BadInput, in_source
 from si_history.files import read_text, source_name
 from si_history.legend import Legend
-from si_history.report import Counts
 from si_history.unseen import is_unmistakable
 
 MAX_LEGEND_BYTES = 1 << 28
@@ -82,12 +81,10 @@ class Names:
         line = self.line(place) if place else None
         return f"event {place}" if line is None else f"event {place} (line {line})"
 
-    def check(self, counts: Counts) -> None:
-        """Raises BadInput where the legend is of another history than the report with these counts."""
-        if self._legend is not None and len(self._legend.events) != counts.events:
-            raise BadInput(
-                f"the legend is of another history: it has {len(self._legend.events):,} events, and the report {counts.events:,}"
-            )
+    def check_history(self, history: bytes) -> None:
+        """Raises BadInput where the legend was written with another history than the one with this text."""
+        if self._legend is not None:
+            self._legend.check(history)
 
 
 class _Table(dict[int, str]):

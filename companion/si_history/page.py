@@ -7,10 +7,9 @@ import os.path
 
 from si_history.document import html, picture
 from si_history.errors import BadInput, in_source
-from si_history.facts import Facts
-from si_history.files import STANDARD_INPUT, check_output, read_text, source_name, write_output
+from si_history.files import STANDARD_INPUT, check_output, source_name, write_output
 from si_history.findings import groups_of
-from si_history.history import MAX_BYTES, parse
+from si_history.matching import check_report, read_history
 from si_history.naming import Names, shown
 from si_history.pictures import Pictures
 from si_history.progress import REPORT_LINES, Progress
@@ -65,11 +64,9 @@ def made_page(history_path: str, report_path: str, legend_path: str | None, is_p
     with Progress(REPORT_LINES) as progress:
         report = read_report(ReportText.from_path(report_path, progress))
     names = Names.from_path(legend_path)
-    names.check(report.counts)
+    facts = read_history(history_path, names)
     with in_source(source_name(history_path)):
-        with Progress("events of the history") as progress:
-            facts = Facts(parse(read_text(history_path, MAX_BYTES), progress))
-        facts.check(report.counts)
+        check_report(report, facts)
         groups = groups_of(report, facts, names)
     if is_picture:
         return picture(report, Pictures(facts, groups, names).scene())

@@ -13,6 +13,7 @@ from si_history.legend import Legend
 from si_history.naming import Names
 from si_history.report import EdgeKind
 from si_history.report_text import ReportText, read_report
+from tests.pages import LOST_UPDATE_HISTORY
 from tests.support import run_command
 from tests.test_report import LOST_UPDATE, PLAIN, lines, text_of
 
@@ -117,11 +118,24 @@ class CommandTest(unittest.TestCase):
 
     def test_a_legend_that_lacks_a_name(self) -> None:
         with tempfile.TemporaryDirectory() as directory:
-            path = Path(directory) / "legend"
-            path.write_text(Legend({1: "T7", 2: "T8"}, {}, [1, 2, 3, 4, 5, 6]).to_json())
-            done = run_command("graph", "--legend", str(path), given=LOST_UPDATE.encode())
+            path, history = Path(directory) / "legend", Path(directory) / "history"
+            history.write_text(LOST_UPDATE_HISTORY)
+            path.write_text(Legend({1: "T7", 2: "T8"}, {}, [1, 2, 3, 4, 5, 6]).to_json(LOST_UPDATE_HISTORY.encode()))
+            done = run_command("graph", "--legend", str(path), "--history", str(history), given=LOST_UPDATE.encode())
         self.assertEqual((done.returncode, done.stdout), (2, b""))
         self.assertEqual(done.stderr, b"si-history: the legend has no name for key 1\n")
+
+    def test_a_legend_of_another_history(self) -> None:
+        with tempfile.TemporaryDirectory() as directory:
+            path, history = Path(directory) / "legend", Path(directory) / "history"
+            history.write_text(LOST_UPDATE_HISTORY)
+            path.write_text(Legend({1: "T7", 2: "T8"}, {1: "k"}, [1, 2, 3, 4, 5, 6]).to_json(b"w1[1]\n"))
+            done = run_command("graph", "--legend", str(path), "--history", str(history), given=LOST_UPDATE.encode())
+            said = f"si-history: {history}: the legend is of another history: it was not written with this text\n"
+            self.assertEqual((done.returncode, done.stdout, done.stderr.decode()), (2, b"", said))
+            done = run_command("graph", "--legend", str(path), given=LOST_UPDATE.encode())
+            said = "si-history: --legend goes with --history FILE, by which the legend is known to be that of the history\n"
+            self.assertEqual((done.returncode, done.stdout, done.stderr.decode()), (2, b"", said))
 
 
 if __name__ == "__main__":

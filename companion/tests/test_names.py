@@ -14,37 +14,39 @@ from si_history.names import named_line
 from si_history.named_reasons import told
 from si_history.naming import Names, shown
 from si_history.reasons import reason_of
+from tests.pages import LOST_UPDATE_HISTORY
 from tests.support import REPOSITORY, run_command
 from tests.test_report import LOST_UPDATE
 
 LEGEND = Legend({1: "T7", 2: "7f3a", 3: "late one", 4: "out"}, {1: "acct/5", 2: 'a"b'}, [11, 12, 13, 14, 15, 16])
 
+STALE_HISTORY = "w1[2] w3[1] c3 a1 r4[1..2;1:0] r4[2:1]"
 STALE = """\
-events 6 committed 3 aborted 0 open 0
+events 6 committed 1 aborted 1 open 1
 isolation broken
 bad-read 5 4 1 saw 0 due 3
   stale read: event 5 r4[1..2;1:0]; transaction 4 starts after event 4
   due: event 2 w3[1], event 3 c3
 unexplained 6 4 2 1
-  aborted read: event 6 r4[2:1]; transaction 4 starts after event 0
+  aborted read: event 6 r4[2:1]; transaction 4 starts after event 4
   saw: event 1 w1[2], event 4 a1
 ssi fail
 serializable no
-order 1 3 4
+order 3
 """
 
 NAMED_STALE = """\
-events 6 committed 3 aborted 0 open 0
+events 6 committed 1 aborted 1 open 1
 isolation broken
 bad-read line 15 "out" acct/5 saw 0 due "late one"
   stale read: event 5 (line 15) r"out"[acct/5.."a\\"b";acct/5:0]; transaction "out" starts after event 4 (line 14)
   due: event 2 (line 12) w"late one"[acct/5], event 3 (line 13) c"late one"
 unexplained line 16 "out" "a\\"b" T7
-  aborted read: event 6 (line 16) r"out"["a\\"b":T7]; transaction "out" starts after event 0
+  aborted read: event 6 (line 16) r"out"["a\\"b":T7]; transaction "out" starts after event 4 (line 14)
   saw: event 1 (line 11) wT7["a\\"b"], event 4 (line 14) aT7
 ssi fail
 serializable no
-order T7 "late one" "out"
+order "late one"
 """
 
 NAMED_LOST_UPDATE = """\
@@ -143,27 +145,26 @@ class LineTest(unittest.TestCase):
 
 
 class CommandTest(unittest.TestCase):
-    def run_names(self, report: str, legend: str | None = None) -> tuple[int, str, str]:
+    def run_names(self, report: str, legend: str | None = None, history: str = LOST_UPDATE_HISTORY) -> tuple[int, str, str]:
         """The status and both outputs of the command."""
         with tempfile.TemporaryDirectory() as directory:
-            path = Path(directory) / "legend"
-            path.write_text(LEGEND.to_json() if legend is None else legend)
-            done = run_command("names", "--legend", str(path), given=report.encode())
-            return done.returncode, done.stdout.decode(), done.stderr.decode().replace(str(path), "L")
+            path, of = Path(directory) / "L", Path(directory) / "H"
+            of.write_text(history)
+            path.write_text(LEGEND.to_json(history.encode()) if legend is None else legend)
+            done = run_command("names", "--legend", str(path), "--history", str(of), given=report.encode())
+            return done.returncode, done.stdout.decode(), done.stderr.decode().replace(f"{directory}/", "")
 
     def test_reports_with_names(self) -> None:
         self.assertEqual(self.run_names(LOST_UPDATE), (0, NAMED_LOST_UPDATE, ""))
-        self.assertEqual(self.run_names(STALE), (0, NAMED_STALE, ""))
+        self.assertEqual(self.run_names(STALE, history=STALE_HISTORY), (0, NAMED_STALE, ""))
 
     def test_bad_input(self) -> None:
-        five = Legend(LEGEND.transactions, LEGEND.keys, [1, 2, 3, 4, 5]).to_json()
-        lacking = Legend({1: "T7"}, LEGEND.keys, LEGEND.events).to_json()
+        lacking = Legend({1: "T7"}, LEGEND.keys, LEGEND.events).to_json(LOST_UPDATE_HISTORY.encode())
         prefix = "si-history: standard input: "
         for report, legend, said in (
             ("w1[1] c1\n", None, prefix + "line 1: this is no report: no line of a report starts with 'w1[1]'\n"),
             ("refused: token 2: bad list\n", None, prefix + "the auditor refused the history and made no report (at event 2: bad list)\n"),
             (LOST_UPDATE.replace("rw 1 1", "rw 1"), None, prefix + "line 6: this is no report: 'edge T KIND U KEY' is wanted\n"),
-            (LOST_UPDATE, five, "si-history: the legend is of another history: it has 5 events, and the report 6\n"),
             (LOST_UPDATE, lacking, "si-history: the legend has no name for transaction 2\n"),
             (LOST_UPDATE, "{", "si-history: L: the legend is not JSON\n"),
             (
@@ -174,8 +175,30 @@ class CommandTest(unittest.TestCase):
             with self.subTest(said=said):
                 self.assertEqual(self.run_names(report, legend), (2, "", said))
 
+    def test_a_legend_of_another_history(self) -> None:
+        said = "si-history: H: the legend is of another history: it was not written with this text\n"
+        for other in ("r1[1:0] r2[1:0] w1[1] w2[1] c2 c1", LOST_UPDATE_HISTORY + "\n"):
+            self.assertEqual(self.run_names(LOST_UPDATE, LEGEND.to_json(other.encode())), (2, "", said))
+
+    def test_a_report_of_another_history(self) -> None:
+        """A report whose history is another one is refused, also where both have as many events and transactions."""
+        for report, history, why in (
+            (LOST_UPDATE, STALE_HISTORY, "it has 6 events and 1 committed, 1 aborted, 1 open transactions, and the report 6 events"
+             " and 2 committed, 0 aborted, 0 open transactions"),
+            (LOST_UPDATE, "r1[1:0] r2[1:0] w1[1] w2[2] c1 c2", "transaction 2 doesn't write key 1"),
+            (STALE, STALE_HISTORY.replace("1:0]", "1:3]"), "at event 5 transaction 4 doesn't see version 0 of key 1"),
+            (STALE, STALE_HISTORY.replace("w3[1] c3 a1", "c3 w1[1] a1"), "event 2 is c3, and in the report w3[1]"),
+            (STALE.replace("2:1", "2:1"), "b4@3 w1[2] w3[1] c3 a1 r4[2:1]", "at event 5 transaction 4 doesn't see version 0 of key 1"),
+            (STALE.replace("starts after event 4\n  due", "starts after event 3\n  due"), STALE_HISTORY,
+             "transaction 4 does not start after event 3"),
+            (STALE.replace("[1..2;1:0]", "[1..3;1:0]"), STALE_HISTORY, "event 5 is r4[1..2;1:0], and in the report r4[1..3;1:0]"),
+        ):
+            with self.subTest(why=why):
+                said = f"si-history: H: the history is not the one of the report: {why}\n"
+                self.assertEqual(self.run_names(report, history=history), (2, "", said))
+
     def test_one_standard_input_for_two(self) -> None:
-        done = run_command("names", "--legend", "-", given=LOST_UPDATE.encode())
+        done = run_command("names", "--legend", "-", "--history", "nosuch", given=LOST_UPDATE.encode())
         self.assertEqual((done.returncode, done.stdout, done.stderr.count(b"\n")), (2, b"", 1))
 
 

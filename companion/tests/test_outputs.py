@@ -16,6 +16,7 @@ from unittest import mock
 
 from si_history.errors import BadInput
 from si_history.files import write_output
+from si_history.legend import Legend
 from tests.support import COMPANION, LONG_SECONDS, log_of
 
 LOG = log_of([{"txn": "A", "op": "write", "key": "k"}, {"txn": "A", "op": "commit"}])
@@ -25,7 +26,7 @@ CAN_MOUNT = shutil.which("unshare") is not None and subprocess.run(
     ["unshare", "-rm", "sh", "-c", "mount -t tmpfs -o size=64k tmpfs /mnt"], capture_output=True).returncode == 0
 PROTECTION = Path("/proc/sys/fs/protected_symlinks")
 LINKS_PROTECTED = PROTECTION.exists() and PROTECTION.read_text().strip() == "1"
-LEGEND = json.dumps({"format": "si-history legend 1", "transactions": {"1": "A"}, "keys": {"0": "k"}, "events": [1, 2]})
+LEGEND = Legend({1: "A"}, {0: "k"}, [1, 2]).to_json(HISTORY.encode())
 
 
 class OutputTest(unittest.TestCase):
@@ -97,10 +98,11 @@ class InputsTest(OutputTest):
                 self.check_refused(f"si-history page history report --legend legend -o {name}", name, name, name)
 
     def test_standard_output_that_goes_to_an_input(self) -> None:
-        self.write(log=LOG, report=REPORT, legend=LEGEND)
+        self.write(log=LOG, history=HISTORY, report=REPORT, legend=LEGEND)
         for line, same in (
-            ("si-history names --legend legend report >>report", "report"),
-            ("si-history names --legend legend <report >>legend", "legend"),
+            ("si-history names --legend legend --history history report >>report", "report"),
+            ("si-history names --legend legend --history history <report >>legend", "legend"),
+            ("si-history names --legend legend --history history <report >>history", "history"),
             ("si-history graph <report >>report", "standard input"),
             ("si-history from-events log >>log", "log"),
         ):

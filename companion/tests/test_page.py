@@ -192,7 +192,7 @@ class CommandTest(unittest.TestCase):
             paths = [Path(directory) / name for name in ("H", "R", "L")]
             paths[0].write_text(history)
             paths[1].write_text(report)
-            paths[2].write_text(Legend({1: "T7"}, {1: "k"}, [1, 2, 3, 4, 5, 6]).to_json())
+            paths[2].write_text(Legend({1: "T7"}, {1: "k"}, [1, 2, 3, 4, 5, 6]).to_json(history.encode()))
             done = run_command("page", str(paths[0]), str(paths[1]), *(word.replace("LEGEND", str(paths[2])) for word in words))
             return done.returncode, done.stdout.decode(), done.stderr.decode().replace(directory + "/", "")
 

@@ -54,6 +54,9 @@ def told(count: int, what: str = "lines of the report") -> str:
     return f"\rsi-history: {count} {what}"
 
 
+EVENTS = told(4, "events of the history") + WIPED
+
+
 class CommandsTest(unittest.TestCase):
     """Commands at a terminal, told of every fifth line of a report of 11 lines, and of every fourth of 6 events.
 
@@ -66,7 +69,7 @@ class CommandsTest(unittest.TestCase):
         self.place = Path(place.name)
         (self.place / "history").write_text(LOST_UPDATE_HISTORY)
         (self.place / "report").write_text(LOST_UPDATE)
-        (self.place / "legend").write_text(Legend({1: "T7", 2: "T8"}, {1: "k"}, [1, 2, 3, 4, 5, 6]).to_json())
+        (self.place / "legend").write_text(Legend({1: "T7", 2: "T8"}, {1: "k"}, [1, 2, 3, 4, 5, 6]).to_json(LOST_UPDATE_HISTORY.encode()))
 
     def said(self, status: int, *words: str) -> str:
         """What a command says on standard error. Words in capitals are files."""
@@ -81,11 +84,11 @@ class CommandsTest(unittest.TestCase):
         return error.getvalue()
 
     def test_a_page(self) -> None:
-        events = told(4, "events of the history") + WIPED
-        self.assertEqual(self.said(0, "page", "HISTORY", "REPORT", "-o", "PAGE"), told(5) + told(10) + WIPED + events)
+        self.assertEqual(self.said(0, "page", "HISTORY", "REPORT", "-o", "PAGE"), told(5) + told(10) + WIPED + EVENTS)
 
     def test_names_go_through_the_report_twice(self) -> None:
-        self.assertEqual(self.said(0, "names", "--legend", "LEGEND", "REPORT"), (told(5) + told(10)) * 2 + WIPED)
+        said = self.said(0, "names", "--legend", "LEGEND", "--history", "HISTORY", "REPORT")
+        self.assertEqual(said, EVENTS + (told(5) + told(10)) * 2 + WIPED)
 
     def test_the_graph_of_a_cycle(self) -> None:
         self.assertEqual(self.said(0, "graph", "REPORT"), told(5) + told(10) + WIPED)
@@ -101,10 +104,10 @@ class CommandsTest(unittest.TestCase):
 
     def test_a_fault_is_told_on_a_line_that_is_wiped(self) -> None:
         """The legend lacks key 1. An edge is drawn once the line behind it is read, so the fault comes after line 5."""
-        (self.place / "legend").write_text(Legend({1: "T7", 2: "T8"}, {}, [1, 2, 3, 4, 5, 6]).to_json())
+        (self.place / "legend").write_text(Legend({1: "T7", 2: "T8"}, {}, [1, 2, 3, 4, 5, 6]).to_json(LOST_UPDATE_HISTORY.encode()))
         self.assertEqual(
-            self.said(2, "graph", "--all", "--legend", "LEGEND", "REPORT"),
-            told(5) + told(10) + told(5) + WIPED + "si-history: the legend has no name for key 1\n",
+            self.said(2, "graph", "--all", "--legend", "LEGEND", "--history", "HISTORY", "REPORT"),
+            EVENTS + told(5) + told(10) + told(5) + WIPED + "si-history: the legend has no name for key 1\n",
         )
 
 

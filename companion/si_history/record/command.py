@@ -212,4 +212,5 @@ def _written(form: str, records: list[Recorded], timeline: Timeline) -> tuple[st
     if form == "events":
         return log, ""
     conversion = from_events.convert(io.BytesIO(log.encode()))
-    return text_of(conversion.events), conversion.legend.to_json()
+    text = text_of(conversion.events)
+    return text, conversion.legend.to_json(text.encode())
