@@ -7,7 +7,7 @@ history is a fault, and one of nothing is told as such.
 from __future__ import annotations
 
 import io
-from dataclasses import dataclass
+from dataclasses import dataclass, field
 
 from si_history.auditor import FALLS_SHORT, FAULT, MEETS, Auditor, Ending, Outcome
 from si_history.conversion import without_collector
@@ -19,6 +19,7 @@ from si_history.legend import Legend
 from si_history.log_kinds import LogKind, kind_of
 from si_history.log_lines import MAX_LOG_BYTES
 from si_history.naming import Names
+from si_history.policy import STRICT, Policy
 from si_history.report import Report
 from si_history.report_text import ReportText, read_report, refusal_in_words
 
@@ -31,12 +32,16 @@ NO_COMMIT = "nothing to audit: no transaction committed"
 
 @dataclass(slots=True)
 class Log:
-    """A log that became a history: `history` is its text, and `legend` says what the numbers stand for."""
+    """A log that became a history: `history` is its text, and `legend` says what the numbers stand for.
+
+    `warnings` are what a person should know of the log.
+    """
 
     source: str
     kind: LogKind
     history: bytes
     legend: Legend | None = None
+    warnings: list[str] = field(default_factory=list)
 
     @property
     def names(self) -> Names:
@@ -73,7 +78,7 @@ def read_log(path: str) -> bytes:
     return content
 
 
-def log_of(content: bytes, source: str, kind: LogKind | None = None) -> Log:
+def log_of(content: bytes, source: str, kind: LogKind | None = None, policy: Policy = STRICT) -> Log:
     """The history of a log, which is of the kind, or else of the one that it shows. Raises BadInput where it is bad."""
     with in_source(source):
         found = kind or kind_of(content)
@@ -84,8 +89,8 @@ def log_of(content: bytes, source: str, kind: LogKind | None = None) -> Log:
             return Log(source, found, content)
         try:
             with without_collector():
-                conversion = found.convert(io.BytesIO(content))
-                return Log(source, found, text_of(conversion.events).encode(), conversion.legend)
+                conversion = found.convert(io.BytesIO(content), policy)
+                return Log(source, found, text_of(conversion.events).encode(), conversion.legend, conversion.warnings)
         except BadInput as fault:
             if fault.line == content.count(b"\n") + 1 and not content.endswith(b"\n"):
                 fault.reason += " (the log ends in the middle of this line)"

@@ -95,8 +95,8 @@ def history_of(log: TransactionsLog, policy: Policy, sights: Iterable[Sight] = (
             legend.outcomes[number] = UNKNOWN if transaction.commit is None else PLACED
         elif transaction.name in stand_ins:
             legend.outcomes[number] = stand_ins[transaction.name]
-        else:
-            legend.times[number] = transaction.start, transaction.commit
+        if transaction.name not in stand_ins:
+            legend.times[number] = transaction.start, None if transaction.is_unknown else transaction.commit
         for index, others in transaction.others.items():
             legend.fields[places[graph.firsts[number - 1] + index]] = others
     return Conversion(events, legend, log.tally.warnings())

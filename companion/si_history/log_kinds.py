@@ -12,6 +12,7 @@ from typing import BinaryIO
 from si_history import from_events, from_transactions
 from si_history.conversion import Conversion
 from si_history.errors import BadInput
+from si_history.policy import Policy
 
 BLANKS = b" \t\r\n"
 LINES_LOOKED_AT = 2
@@ -31,7 +32,7 @@ class LogKind(enum.Enum):
         return "the text of a history" if self is LogKind.HISTORY else f"a log of {self.value}"
 
     @property
-    def convert(self) -> Callable[[BinaryIO], Conversion] | None:
+    def convert(self) -> Callable[[BinaryIO, Policy], Conversion] | None:
         """What makes a history of it; None where it is one."""
         return {LogKind.EVENTS: from_events.convert, LogKind.TRANSACTIONS: from_transactions.convert}.get(self)
 

@@ -10,7 +10,7 @@ from si_history.files import read_text, source_name
 from si_history.history import MAX_BYTES, Event, RangeRead, parse
 from si_history.naming import Names
 from si_history.progress import Progress
-from si_history.report import Placed, Reason, Report, Started, Version
+from si_history.report import BadRead, Placed, Reason, Report, Started, Unexplained, Version
 
 
 def read_history(path: str, names: Names) -> Facts:
@@ -24,13 +24,14 @@ def read_history(path: str, names: Names) -> Facts:
 def check_report(report: Report, facts: Facts) -> None:
     """Raises BadInput where the report is not that of the history: by its counts, its findings, and their reasons."""
     facts.check(report.counts)
-    for read in (*report.bad_reads, *report.unexplained):
+    reads: list[BadRead | Unexplained] = [*report.bad_reads, *report.unexplained]
+    for read in reads:
         facts.check_read(read.place, read.transaction, read.key, read.saw)
+        _check_reasons(read.reasons, facts)
     for write in report.bad_writes:
         facts.first_write(write.first, write.key)
         facts.first_write(write.second, write.key)
-    for finding in (*report.bad_reads, *report.bad_writes, *report.unexplained):
-        _check_reasons(finding.reasons, facts)
+        _check_reasons(write.reasons, facts)
     for path in (report.cycle, report.structure):
         if path is not None:
             for number in path.transactions:

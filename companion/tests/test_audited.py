@@ -63,7 +63,7 @@ class LogTest(unittest.TestCase):
 
     def test_a_kind_that_is_told(self) -> None:
         self.refused("run: line 1: not JSON: Expecting value at column 1", b"w1[1]\n", LogKind.EVENTS)
-        self.refused('run: line 1: there is no field "op" here', EVENTS, LogKind.TRANSACTIONS)
+        self.refused('run: line 1: the field "start" is missing', EVENTS, LogKind.TRANSACTIONS)
         self.assertEqual(log_of(EVENTS, "run", LogKind.HISTORY).history, EVENTS)
 
     def test_ends_in_the_middle_of_a_line(self) -> None:
