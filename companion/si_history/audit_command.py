@@ -15,7 +15,7 @@ from si_history.audit_text import Style, text_of_audit
 from si_history.audited import Audited, Log, audited, log_of, read_log
 from si_history.auditor import LEVELS, Auditor, Ending, add_auditor_arguments, auditor_of
 from si_history.errors import BadInput
-from si_history.files import STANDARD_INPUT, STANDARD_OUTPUT, check_output, source_name, write_output
+from si_history.files import STANDARD_INPUT, STANDARD_OUTPUT, check_output, source_name, write_error, write_output
 from si_history.findings import groups_of
 from si_history.log_kinds import LogKind
 from si_history.naming import shown
@@ -27,8 +27,8 @@ ENDINGS = ("history", "legend", "report")
 DESCRIPTION = """\
 Audits one log: tells what it is by what it holds, makes a history of it, has si_audit
 judge that, and writes a report with the log's names and lines. The verdict is
-si_audit's alone. A log is the text of a history, a log of events or a log of
-transactions (docs/RECORDING.md)."""
+si_audit's alone. A log is the text of a history, a log of events, a log of transactions
+or a Jepsen history in EDN (docs/RECORDING.md)."""
 
 EPILOG = """\
 statuses:
@@ -105,7 +105,7 @@ class _Made:
         kind = None if arguments.kind is None else LogKind(arguments.kind)
         log = log_of(read_log(arguments.log), source_name(arguments.log), kind, policy_of(arguments))
         for warning in log.warnings:
-            _tell(f"{log.source}: {warning}")
+            write_error(f"si-history: {log.source}: {warning}")
         self.audited: Audited = audited(log, self._auditor, arguments.check, arguments.allow_empty)
         self._account: Account = account_of(self.audited, None if arguments.all else MOST_TOLD)
 
@@ -114,7 +114,7 @@ class _Made:
         arguments, one = self._arguments, self.audited
         outputs = _Outputs()
         if one.problem is not None:
-            _tell(f"{one.log.source}: {one.problem}")
+            write_error(f"si-history: {one.log.source}: {one.problem}")
         elif not arguments.quiet and STANDARD_OUTPUT not in (arguments.page, arguments.json, arguments.junit):
             outputs.write(STANDARD_OUTPUT, text_of_audit(one, self._account, Style(_has_colour(arguments))))
         outputs.write(arguments.json, json_of_audit(one, self._account, self._auditor.version))
@@ -196,9 +196,3 @@ def _has_colour(arguments: argparse.Namespace) -> bool:
     if arguments.no_color or os.environ.get("NO_COLOR") or os.environ.get("TERM") == "dumb":
         return False
     return sys.stdout is not None and sys.stdout.isatty()
-
-
-def _tell(words: str) -> None:
-    """Tells the user on standard error, if there is one."""
-    if sys.stderr is not None:
-        print(f"si-history: {words}", file=sys.stderr)

@@ -2,7 +2,6 @@
 
 from __future__ import annotations
 
-import json
 from collections.abc import Iterator, Sequence
 from dataclasses import dataclass
 
@@ -10,6 +9,7 @@ from si_history.account import Account, Moment, Told
 from si_history.audited import Audited
 from si_history.naming import shown
 from si_history.report import Counts, ReadName, Report
+from si_history.unseen import visible
 from si_history.wording import counted
 
 LEVELS = {"si": "snapshot isolation", "ssi": "serializable snapshot isolation", "serializable": "serializability"}
@@ -58,12 +58,7 @@ def _verdict(audited: Audited, report: Report, style: Style) -> str:
     meets = audited.outcome.meets
     verdict = style.good("meets") if meets else style.bad("falls short of")
     level = LEVELS[audited.level]
-    return f"{called(audited.log.source)} {verdict} {style.strong(level)} (level {audited.level}): {why(report, audited.level)}."
-
-
-def called(source: str) -> str:
-    """What a log is called in a sentence: its name, or a JSON string where that holds what can't be seen."""
-    return source if source.isprintable() else json.dumps(source)
+    return f"{visible(audited.log.source)} {verdict} {style.strong(level)} (level {audited.level}): {why(report, audited.level)}."
 
 
 def why(report: Report, level: str) -> str:

@@ -4,14 +4,13 @@ from __future__ import annotations
 
 import argparse
 import gc
-import sys
 from collections.abc import Callable, Iterator
 from contextlib import contextmanager
 from dataclasses import dataclass, field
 from typing import BinaryIO
 
 from si_history.errors import BadInput, in_source
-from si_history.files import OUTPUT_DEVICE, STANDARD_INPUT, STANDARD_OUTPUT, check_output, opened, source_name, write_output
+from si_history.files import OUTPUT_DEVICE, STANDARD_INPUT, STANDARD_OUTPUT, check_output, opened, source_name, write_error, write_output
 from si_history.history import Event, text_of
 from si_history.legend import Legend
 
@@ -60,7 +59,7 @@ def run_conversion(arguments: argparse.Namespace, convert: Callable[[BinaryIO], 
             raise BadInput("the log has no event, so there is no history of it")
         text = text_of(conversion.events)
     for warning in conversion.warnings:
-        print(f"si-history: {source_name(arguments.log)}: {warning}", file=sys.stderr)
+        write_error(f"si-history: {source_name(arguments.log)}: {warning}")
     if arguments.legend is not None:
         write_output(conversion.legend.to_json(text.encode()), arguments.legend)
     write_output(text)

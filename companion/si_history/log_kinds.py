@@ -1,4 +1,4 @@
-"""What a log is, by what it holds: the text of a history, a log of events, or a log of transactions."""
+"""What a log is, by what it holds: the text of a history, a log of events or of transactions, or a Jepsen history in EDN."""
 
 from __future__ import annotations
 
@@ -9,7 +9,7 @@ import re
 from collections.abc import Callable
 from typing import BinaryIO
 
-from si_history import from_events, from_transactions
+from si_history import from_events, from_jepsen, from_transactions
 from si_history.conversion import Conversion
 from si_history.errors import BadInput
 from si_history.policy import Policy
@@ -18,6 +18,7 @@ BLANKS = b" \t\r\n"
 LINES_LOOKED_AT = 2
 """How many lines of JSON are looked at: the first one may tell of the whole log."""
 _EVENT = re.compile(rb"[brwca][0-9]")
+_MAP_OF_EDN = re.compile(rb"[\[(]?\s*(#[\w.]+\s*)?\{\s*:[a-z]")
 
 
 class LogKind(enum.Enum):
@@ -26,15 +27,17 @@ class LogKind(enum.Enum):
     HISTORY = "history"
     EVENTS = "events"
     TRANSACTIONS = "transactions"
-
-    @property
-    def words(self) -> str:
-        return "the text of a history" if self is LogKind.HISTORY else f"a log of {self.value}"
+    JEPSEN = "jepsen"
 
     @property
     def convert(self) -> Callable[[BinaryIO, Policy], Conversion] | None:
         """What makes a history of it; None where it is one."""
-        return {LogKind.EVENTS: from_events.convert, LogKind.TRANSACTIONS: from_transactions.convert}.get(self)
+        return _CONVERSIONS.get(self)
+
+
+_CONVERSIONS: dict[LogKind, Callable[[BinaryIO, Policy], Conversion]] = {
+    LogKind.EVENTS: from_events.convert, LogKind.TRANSACTIONS: from_transactions.convert, LogKind.JEPSEN: from_jepsen.convert,
+}
 
 
 def kind_of(content: bytes) -> LogKind | None:
@@ -44,13 +47,15 @@ def kind_of(content: bytes) -> LogKind | None:
         return None
     if _EVENT.match(text):
         return LogKind.HISTORY
+    if _MAP_OF_EDN.match(text):
+        return LogKind.JEPSEN
     lines = io.BytesIO(text)
     for _ in range(LINES_LOOKED_AT):
         kind = _kind_of_line(lines.readline())
         if kind is not None:
             return kind
     raise BadInput(
-        "its first line is no event of a history, and no line of a log of events or of transactions: --as tells what it is"
+        "its first line is none of a history, nor of a log of events, of transactions or of Jepsen: --as tells what it is"
     )
 
 

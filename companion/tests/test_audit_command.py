@@ -191,7 +191,7 @@ class FailureTest(AuditTest):
         self.fake("exit 0")
         self.fails(2, 'standard input: line 3: the field "txn" is missing', given=EVENTS + b"{}\n")
         self.fails(
-            2, "standard input: its first line is no event of a history, and no line of a log of events or of transactions:"
+            2, "standard input: its first line is none of a history, nor of a log of events, of transactions or of Jepsen:"
             " --as tells what it is", given=b"hello\n",
         )
 

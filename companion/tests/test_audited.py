@@ -24,7 +24,8 @@ class KindTest(unittest.TestCase):
         for content, kind in (
             (b"w1[1] c1\n", LogKind.HISTORY), (b"\n \t b1@0\n", LogKind.HISTORY), (b"a1", LogKind.HISTORY),
             (EVENTS, LogKind.EVENTS), (b"\n " + EVENTS, LogKind.EVENTS), (TRANSACTIONS, LogKind.TRANSACTIONS),
-            (b'{"values": "unique"}\n' + EVENTS, LogKind.EVENTS), (b"", None), (b" \n\t\r\n", None),
+            (b'{"values": "unique"}\n' + EVENTS, LogKind.EVENTS), (b"[{:process 0, :type :ok}]", LogKind.JEPSEN),
+            (b"\n{ :index 0 }\n", LogKind.JEPSEN), (b"#jepsen.history.Op{:index 0}", LogKind.JEPSEN), (b"", None), (b" \n\t\r\n", None),
         ):
             with self.subTest(content=content):
                 self.assertIs(kind_of(content), kind)

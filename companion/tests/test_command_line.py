@@ -2,6 +2,7 @@
 
 from __future__ import annotations
 
+import hashlib
 import json
 import os
 import subprocess
@@ -14,6 +15,7 @@ from pathlib import Path
 from tests.support import COMPANION, LONG_SECONDS, MARKED, REPOSITORY, log_of, run_command
 
 EVENTS = log_of([{"txn": "A", "op": "write", "key": "k"}, {"txn": "A", "op": "commit"}])
+HISTORY = b"b1@0\nw1[0]\nc1\n"
 TRANSACTIONS = log_of([{"txn": "A", "start": 1, "commit": 2, "aborted": False, "ops": [["w", "k"]]}])
 
 
@@ -68,7 +70,10 @@ class StatusTest(unittest.TestCase):
             self.check(["from-transactions", str(log), "--legend", str(legend)], b"", 0, b"b1@0\nw1[0]\nc1\n", b"")
             self.assertEqual(
                 json.loads(legend.read_text()),
-                {"format": "si-history legend 1", "transactions": {"1": "A"}, "keys": {"0": "k"}, "events": [1, 1, 1]},
+                {
+                    "format": "si-history legend 2", "history": f"sha256:{hashlib.sha256(HISTORY).hexdigest()}",
+                    "transactions": {"1": "A"}, "keys": {"0": "k"}, "events": [1, 1, 1], "times": {"1": [1, 2]},
+                },
             )
 
     def test_files_that_fail(self) -> None:

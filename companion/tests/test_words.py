@@ -12,7 +12,7 @@ import textwrap
 import unittest
 from pathlib import Path
 
-from tests.support import COMPANION, LONG_SECONDS, REPOSITORY, log_of
+from tests.support import COMPANION, LONG_SECONDS, MARKED, REPOSITORY, log_of
 
 LOG = log_of([{"txn": "A", "op": "write", "key": "k"}, {"txn": "A", "op": "commit"}])
 COMMAND = f"{shlex.quote(sys.executable)} -B -m si_history"
@@ -33,7 +33,8 @@ class ErrorsTest(unittest.TestCase):
         for words in ("from-events /no/such/file", "from-events", "no-such-command", "names --legend /no/such/file -",
                       "page - - -o x", "record postgres --sessions 1", "from-events --legend /no/such/legend -"):
             with self.subTest(words):
-                self.assertEqual(run_shell(f"si-history {words} 2>&-", LOG), (2, b"", b""))
+                output = b"" if words.startswith(("names", "page")) else MARKED
+                self.assertEqual(run_shell(f"si-history {words} 2>&-", LOG), (2, output, b""))
 
     def test_what_is_written_is_whole_with_standard_error_closed(self) -> None:
         with tempfile.TemporaryDirectory() as place:
@@ -46,7 +47,7 @@ class ErrorsTest(unittest.TestCase):
     def test_standard_error_is_full(self) -> None:
         for words in ("from-events /no/such/file", "from-events", "no-such-command"):
             with self.subTest(words):
-                self.assertEqual(run_shell(f"si-history {words} 2>{FULL}"), (2, b"", b""))
+                self.assertEqual(run_shell(f"si-history {words} 2>{FULL}"), (2, MARKED, b""))
 
 
 class HelpTest(unittest.TestCase):
@@ -82,14 +83,14 @@ class NamesTest(unittest.TestCase):
         done = subprocess.run([sys.executable, "-B", "-m", "si_history", *words], capture_output=True, timeout=LONG_SECONDS,
                               env={**os.environ, "PYTHONPATH": str(COMPANION), "PYTHONUTF8": "1"})
         said = done.stderr.decode()
-        self.assertEqual((done.returncode, said.count("\n"), done.stdout), (2, 1, b""))
+        self.assertEqual((done.returncode, said.count("\n"), done.stdout), (2, 1, MARKED if words[0] == "from-events" else b""))
         self.assertTrue(said[:-1].isprintable(), said)
         return self.assertIn(self.SHOWN, said)
 
     def test_a_file(self) -> None:
         self.check_shown("from-events", self.ODD)
         self.check_shown("page", self.ODD, self.ODD, "-o", self.ODD)
-        self.check_shown("names", "--legend", self.ODD, "-")
+        self.check_shown("names", "--legend", self.ODD, "--history", "nosuch", "-")
 
     def test_an_argument(self) -> None:
         self.check_shown("from-events", "-", self.ODD)
@@ -135,7 +136,7 @@ class InterruptsTest(unittest.TestCase):
             wait_for_read(process.pid)
             process.send_signal(signal.SIGINT)
             # Standard input stays open until the process has ended.
-            self.assertEqual((process.wait(LONG_SECONDS), process.communicate()), (130, (b"", b"")))
+            self.assertEqual((process.wait(LONG_SECONDS), process.communicate()), (130, (MARKED, b"")))
 
     def test_a_process_that_ignores_interrupts_goes_on(self) -> None:
         status, output, said = run_shell("trap '' INT; si-history --version & wait $!", b"")
