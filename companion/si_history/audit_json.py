@@ -9,7 +9,7 @@ from si_history.audited import Audited
 from si_history.auditor import LEVELS
 from si_history.facts import Facts
 from si_history.legend import Legend, hash_of
-from si_history.report import BadRead, BadWrite, Edge, Explained, Report, Unexplained
+from si_history.report import BadRead, BadWrite, Cycle, Edge, Explained, Report, Structure, Unexplained
 
 FORMAT = "si-history audit 1"
 OUTCOMES = {0: "meets", 1: "falls short", 2: "not audited", 3: "refused", 4: "fault", 5: "nothing to audit"}
@@ -86,7 +86,7 @@ class _Teller:
             return about | {"due": self._version(found.due)} if isinstance(found, BadRead) else about
         if isinstance(found, BadWrite):
             return {"key": self._key(found.key), "transactions": [self._name(found.first), self._name(found.second)]}
-        return {"steps": [self._step(step) for step in found.steps]}
+        return {"steps": [self._step(step) for step in found.steps]} if isinstance(found, (Cycle, Structure)) else {}
 
     def _step(self, step: Edge) -> Json:
         return {

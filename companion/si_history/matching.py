@@ -32,6 +32,8 @@ def check_report(report: Report, facts: Facts) -> None:
         facts.first_write(write.first, write.key)
         facts.first_write(write.second, write.key)
         _check_reasons(write.reasons, facts)
+    for snapshot in report.snapshots:
+        facts.transaction(snapshot.transaction)
     for path in (report.cycle, report.structure):
         if path is not None:
             for number in path.transactions:

@@ -2,8 +2,9 @@
 
 from __future__ import annotations
 
-from si_history.history import Abort, Commit, Event, RangeRead, Read, Write
+from si_history.history import Abort, Commit, Event, RangeRead, Read, Write, event_of
 from si_history.naming import Names, tight
+from si_history.reasons import NUMBERED
 from si_history.report import Edge, Placed, Reason, Started, Version
 
 
@@ -12,9 +13,22 @@ def told(reason: Reason, names: Names) -> str:
     return _Writer(names).line(reason)
 
 
+def told_remark(remark: str, names: Names) -> str:
+    """A line that is no known reason, with names for the events and transactions in it. What else it has stays as it is."""
+    writer = _Writer(names)
+    return NUMBERED.sub(lambda found: writer.numbered(found[1], found[2], found[3]), remark)
+
+
 class _Writer:
     def __init__(self, names: Names) -> None:
         self._names = names
+
+    def numbered(self, transaction: str | None, place: str | None, token: str | None) -> str:
+        """A transaction, an event with its token, or an event's place alone, each given by its number."""
+        if transaction is not None:
+            return f"transaction {self._transaction(int(transaction))}"
+        where = self._names.event(int(place or 0))
+        return where if token is None else f"{where} {self._event(event_of(token, 1))}"
 
     def line(self, reason: Reason) -> str:
         return f"{self._head(reason)}: {'; '.join(map(self._part, reason.parts))}"
@@ -36,24 +50,26 @@ class _Writer:
         return f"{self._names.event(placed.place)} {self._event(placed.event)}"
 
     def _event(self, event: Event) -> str:
-        """An event as its token, with names for numbers."""
+        """An event in words, with the log's names. Without a legend it is its token, as in the report."""
+        if not self._names.has_legend:
+            return str(event)
         name = self._transaction(event.transaction)
         match event:
             case Read():
-                return f"r{name}[{self._pair(event.key, event.saw)}]"
+                return f"{name} read {self._key(event.key)} and saw {self._version(event.saw)}"
             case RangeRead():
-                pairs = "".join(f";{self._pair(key, saw)}" for key, saw in event.listed)
-                return f"r{name}[{self._key(event.low)}..{self._key(event.high)}{pairs}]"
+                sights = "".join(f" and saw {self._version(saw)} of {self._key(key)}" for key, saw in event.listed)
+                return f"{name} read {self._key(event.low)} to {self._key(event.high)}{sights}"
             case Write():
-                return f"w{name}[{self._key(event.key)}]"
+                return f"{name} wrote {self._key(event.key)}"
             case Commit():
-                return f"c{name}"
+                return f"{name} committed"
             case Abort():
-                return f"a{name}"
-        return str(event)
+                return f"{name} aborted"
+        return f"{name} began"
 
-    def _pair(self, key: int, saw: int) -> str:
-        return f"{self._key(key)}:{self._transaction(saw) if saw else saw}"
+    def _version(self, number: int) -> str:
+        return f"{self._transaction(number)}'s version" if number else "the initial version"
 
     def _transaction(self, number: int) -> str:
         return tight(self._names.transaction(number))

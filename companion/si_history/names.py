@@ -8,10 +8,10 @@ from collections.abc import Callable, Iterator
 from si_history.errors import BadInput, in_source
 from si_history.files import STANDARD_INPUT, STANDARD_OUTPUT, check_output, source_name, write_output
 from si_history.matching import check_report, read_history
-from si_history.named_reasons import told
+from si_history.named_reasons import told, told_remark
 from si_history.naming import Names
 from si_history.progress import REPORT_LINES, Progress
-from si_history.reasons import reason_of
+from si_history.reasons import is_remark, reason_of
 from si_history.report_text import INDENT, ReportText, edge_of, read_report
 from si_history.report_words import Malformed
 
@@ -25,10 +25,11 @@ transaction wrote, stays 0:
   cycle 1 >ww:1> 2 >rw:1> 1       becomes  cycle T1 >ww:acct/5> T2 >rw:acct/5> T1
 
 In the lines of an explained report that start with two spaces an event keeps its
-number, with its line beside it, since several events can be on one line of a log:
+number, with its line beside it, since several events can be on one line of a log, and
+what it is stands in words:
 
-  saw: event 3 w2[1], event 4 c2  becomes  saw: event 3 (line 2) wT2[acct/5],
-                                           event 4 (line 2) cT2
+  saw: event 3 w2[1], event 4 c2  becomes  saw: event 3 (line 2) T2 wrote acct/5,
+                                           event 4 (line 2) T2 committed
 
 A name that could be misread, with a space or a quote in it for example, is written as
 a JSON string.
@@ -79,11 +80,16 @@ def named_lines(text: ReportText, names: Names) -> Iterator[str]:
     for number, line in enumerate(text, 1):
         try:
             if line.startswith(INDENT):
-                yield INDENT + told(reason_of(line.removeprefix(INDENT)), names)
+                yield INDENT + _told(line.removeprefix(INDENT), names)
             else:
                 yield named_line(line, names)
         except Malformed as fault:
             raise text.no_report(number, fault) from None
+
+
+def _told(line: str, names: Names) -> str:
+    """A line that explains another one."""
+    return told_remark(line, names) if is_remark(line) else told(reason_of(line), names)
 
 
 def named_line(line: str, names: Names) -> str:
@@ -93,11 +99,18 @@ def named_line(line: str, names: Names) -> str:
         edge = edge_of(line)
         return f"edge {names.transaction(edge.source)} {edge.kind.value} {names.transaction(edge.target)} {names.key(edge.key)}"
     words = rest.split(" ") if rest else []
+    if head == "snapshot":
+        return " ".join([head, names.transaction(int(words[0])), *_fitting(words[1:], names)])
     if head in _PARTS:
         return " ".join([head, *(part(names, word) for part, word in zip(_PARTS[head], words, strict=True))])
     if head in ("pivot", "dangerous", "order", "cycle"):
         return " ".join([head, *(_stop_or_step(names, word) for word in words)])
     return line
+
+
+def _fitting(words: list[str], names: Names) -> list[str]:
+    """What stands behind the transaction in a line of a snapshot: `from N to M`, or `none`."""
+    return [names.event(int(word)) if word.isdigit() else word for word in words]
 
 
 def _as_it_is(_: Names, word: str) -> str:

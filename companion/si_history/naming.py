@@ -56,6 +56,10 @@ class Names:
         with in_source(source_name(path)):
             return cls(Legend.from_json(read_text(path, MAX_LEGEND_BYTES)))
 
+    @property
+    def has_legend(self) -> bool:
+        return self._legend is not None
+
     def transaction(self, number: int) -> str:
         return self._transactions[number]
 

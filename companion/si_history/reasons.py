@@ -7,7 +7,8 @@ import re
 from si_history.errors import BadInput
 from si_history.history import Abort, Commit, RangeRead, Read, Write, event_of
 from si_history.report import (
-    BadRead, BadWrite, Cycle, Edge, EdgeKind, Explained, Placed, ReadName, Reason, Role, Started, Structure, Unexplained, Version,
+    BadRead, BadWrite, Cycle, Edge, EdgeKind, Explained, Placed, ReadName, Reason, Role, Snapshot, Started, Structure,
+    Unexplained, Version,
 )
 from si_history.report_words import Malformed, number_of, short, step_of
 
@@ -20,6 +21,30 @@ _LETTERS = {Placed: "R", Version: "V", Started: "S"}
 _SHAPES = {
     Role.SAW: "V", Role.DUE: "V", Role.BOTH_WRITE: "SVV", EdgeKind.WW: "VV", EdgeKind.WR: "VRV?", EdgeKind.RW: "RV?V",
 } | {name: "RS" for name in ReadName}
+
+
+NUMBERED = re.compile(r"\btransaction ([0-9]+)\b|\bevent ([0-9]+)\b(?: ([a-z][0-9]+(?:\[[^] ]*\]|@[0-9]+)?)(?![^ ,;:]))?")
+"""A transaction or an event that a line names, an event with its token or without."""
+_REMARK = re.compile("(?!.*  )[a-z](?:[ -~]*?[!-~])??: [!-~](?:[ -~]*[!-~])?")
+
+
+def is_remark(line: str) -> bool:
+    """Whether a line may say more of a finding than is known here, as a report of a later auditor can.
+
+    It has words, a colon and more words, all of it in ASCII, and its events are events. No known reason that is misspelt is one:
+    what begins as one has to be one.
+    """
+    if not _REMARK.fullmatch(line) or line.partition(": ")[0] in _HEADS:
+        return False
+    try:
+        for _, place, token in NUMBERED.findall(line):
+            if place:
+                number_of(place)
+            if token:
+                event_of(token, 1)
+    except (Malformed, BadInput):
+        return False
+    return True
 
 
 def reason_of(line: str) -> Reason:
@@ -71,8 +96,10 @@ def fits_below(finding: Explained, reason: Reason) -> bool:
             return count < len(finding.steps) and reason.head == finding.steps[count]
         case BadWrite():
             return count == 0 and reason.head is Role.BOTH_WRITE
+        case Snapshot():
+            return False
         case BadRead() | Unexplained():
             if count == 0:
-                return isinstance(reason.head, ReadName)
+                return isinstance(reason.head, ReadName) or bool(finding.remarks) and isinstance(reason.head, Role)
             last = finding.reasons[-1].head
             return isinstance(last, ReadName) and reason.head is Role.SAW or last is not Role.DUE and reason.head is Role.DUE

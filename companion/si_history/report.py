@@ -1,6 +1,7 @@
 """The report of a history, as typed data: what `si_audit` writes, and docs/FORMAT.md explains line by line.
 
 The verdicts are the report's. `reasons` are the lines below a line that explain it; only an explained report has such.
+`remarks` are those of these lines that aren't known here.
 """
 
 from __future__ import annotations
@@ -110,6 +111,7 @@ class BadRead:
     saw: int
     due: int
     reasons: list[Reason] = field(default_factory=list, kw_only=True)
+    remarks: list[str] = field(default_factory=list, kw_only=True)
 
 
 @dataclass(slots=True)
@@ -120,6 +122,7 @@ class BadWrite:
     first: int
     second: int
     reasons: list[Reason] = field(default_factory=list, kw_only=True)
+    remarks: list[str] = field(default_factory=list, kw_only=True)
 
 
 @dataclass(slots=True)
@@ -131,6 +134,7 @@ class Unexplained:
     key: int
     saw: int
     reasons: list[Reason] = field(default_factory=list, kw_only=True)
+    remarks: list[str] = field(default_factory=list, kw_only=True)
 
 
 @dataclass(slots=True)
@@ -156,6 +160,7 @@ class Cycle:
 
     steps: tuple[Edge, ...]
     reasons: list[Reason] = field(default_factory=list, kw_only=True)
+    remarks: list[str] = field(default_factory=list, kw_only=True)
 
     @property
     def transactions(self) -> tuple[int, ...]:
@@ -168,10 +173,21 @@ class Structure:
 
     steps: tuple[Edge, Edge]
     reasons: list[Reason] = field(default_factory=list, kw_only=True)
+    remarks: list[str] = field(default_factory=list, kw_only=True)
 
     @property
     def transactions(self) -> tuple[int, int, int]:
         return self.steps[0].source, self.steps[1].source, self.steps[1].target
+
+
+@dataclass(slots=True)
+class Snapshot:
+    """Which snapshots fit a transaction that its start doesn't fit: those after so many events, from first to last, or none."""
+
+    transaction: int
+    fitting: tuple[int, int] | None
+    reasons: list[Reason] = field(default_factory=list, kw_only=True)
+    remarks: list[str] = field(default_factory=list, kw_only=True)
 
 
 @dataclass(slots=True)
@@ -190,6 +206,7 @@ class Report:
     structure: Structure | None
     serializable: Verdict
     outcome: Order | Cycle
+    snapshots: list[Snapshot] = field(default_factory=list)
 
     def meets(self, level: str) -> bool:
         """Whether the report says that the history meets a level, which is `si`, `ssi` or `serializable`."""
@@ -209,5 +226,5 @@ class Report:
         return self.structure.steps if self.structure is not None else ()
 
 
-Explained = BadRead | BadWrite | Unexplained | Structure | Cycle
+Explained = BadRead | BadWrite | Unexplained | Snapshot | Structure | Cycle
 """What a line says, where the lines below it may explain it."""

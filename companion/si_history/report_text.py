@@ -3,8 +3,8 @@
 Edges can be millions of lines, and most uses need few of them or none. So `read_report` passes over them and counts them,
 and `edges_in` gives them one by one. The lines of edges and of pivots may be left out of a report.
 
-A line that starts with two spaces explains the line above it, and is kept there as one of its `reasons`. A line that no
-explained report has in its place is refused as any other line is.
+A line that starts with two spaces explains the line above it, and is kept there as one of its `reasons`, or of its `remarks`
+where it says more than is known here. A line that no explained report has in its place is refused as any other line is.
 """
 
 from __future__ import annotations
@@ -17,9 +17,10 @@ from typing import TypeVar
 from si_history.errors import BadInput
 from si_history.files import opened, source_name
 from si_history.progress import Progress
-from si_history.reasons import fits_below, reason_of
+from si_history.reasons import fits_below, is_remark, reason_of
 from si_history.report import (
-    BadRead, BadWrite, Counts, Cycle, Edge, EdgeKind, Explained, Order, Pivot, Report, Structure, Unexplained, Verdict,
+    BadRead, BadWrite, Counts, Cycle, Edge, EdgeKind, Explained, Order, Pivot, Report, Snapshot, Structure,
+    Unexplained, Verdict,
 )
 from si_history.report_words import KINDS, Malformed, number_of, numbers_of, short, steps_of
 
@@ -137,6 +138,13 @@ def _pivot(words: list[str]) -> Pivot:
     )
 
 
+def _snapshot(words: list[str]) -> Snapshot:
+    if words[2:] == ["none"]:
+        return Snapshot(number_of(words[1]), None)
+    transaction, first, last = numbers_of(words, "snapshot # from # to #")
+    return Snapshot(transaction, (first, last))
+
+
 def _structure(words: list[str]) -> Structure:
     steps = steps_of(words[1:]) if len(words) == 6 else ()
     if len(steps) != 2 or any(step.kind is not EdgeKind.RW for step in steps):
@@ -153,7 +161,8 @@ def _cycle(words: list[str]) -> Cycle:
 _AnyExplained = TypeVar("_AnyExplained", bound=Explained)
 
 _HEADS = (
-    "events", "isolation", "bad-read", "bad-write", "unexplained", "edge", "pivot", "ssi", "dangerous", "serializable", "order",
+    "events", "isolation", "bad-read", "bad-write", "unexplained", "snapshot", "edge", "pivot", "ssi", "dangerous", "serializable",
+    "order",
 )
 """The first words of the lines, in the order of the lines. A cycle stands in the place of the order."""
 _STAGES = {head: stage for stage, head in enumerate(_HEADS)} | {"cycle": len(_HEADS) - 1}
@@ -174,6 +183,7 @@ class _Reader:
         self._bad_reads: list[BadRead] = []
         self._bad_writes: list[BadWrite] = []
         self._unexplained: list[Unexplained] = []
+        self._snapshots: list[Snapshot] = []
         self._pivots: list[Pivot] = []
         self._structures: list[Structure] = []
         self._outcomes: list[Order | Cycle] = []
@@ -195,6 +205,9 @@ class _Reader:
 
     def _explain(self, line: str) -> None:
         """Takes a line that explains the one before it."""
+        if self._last is not None and is_remark(line):
+            self._last.remarks.append(line)
+            return
         reason = reason_of(line)
         if self._last is None or not fits_below(self._last, reason):
             raise Malformed(f"the line {short(line)} explains nothing here")
@@ -229,6 +242,8 @@ class _Reader:
                 return _put(self._bad_writes, BadWrite(*numbers_of(words, "bad-write # # #")))
             case "unexplained":
                 return _put(self._unexplained, Unexplained(*numbers_of(words, "unexplained # # # #")))
+            case "snapshot":
+                return _put(self._snapshots, _snapshot(words))
             case "pivot":
                 self._pivots.append(_pivot(words))
                 return None
@@ -263,6 +278,7 @@ class _Reader:
         return Report(
             self._counts[0], isolation, self._bad_reads, self._bad_writes, self._unexplained, self._edges,
             self._pivots, ssi, self._structures[0] if self._structures else None, serializable, self._outcomes[0],
+            self._snapshots,
         )
 
 

@@ -235,10 +235,12 @@ class RefusedTest(unittest.TestCase):
         for at, line in (
             (1, f"  saw: {version}"), (2, f"  saw: {version}"), (3, EXPLAINED[3]), (3, f"  due: {version}; {version}"), (3, "  saw: "),
             (3, "  saw: event 3 w2[2], event 4 c9"), (3, f"  saw: {read}"), (3, "  saw: event 3 w2[2],event 4 c2"), (3, "  saw: event 3 w2[2], "),
-            (3, "   saw: event 3 w2[2]"), (3, "  saw: event 3 w2[2] "), (3, "  seen: event 3 w2[2]"), (3, "  saw: event x w2[2]"),
+            (3, "   saw: event 3 w2[2]"), (3, "  saw: event 3 w2[2] "), (3, "  Seen: event 3 w2[2]"), (3, "  saw: event x w2[2]"),
             (3, "  saw: event 3 w02[2]"), (3, "  saw: event 03 w2[2]"), (3, f"  saw: event {'9' * 21} w2[2]"), (4, f"  saw: {version}"),
             (5, f"  due: {version}"), (2, f"  stale read: {read}"), (2, f"  stale read: transaction 1 starts after event 0; {read}"),
-            (2, f"  odd read: {read}; transaction 1 starts after event 0"), (2, "  stale read: event 5 w1[2]; transaction 1 starts after event 0"),
+            (3, "  odd read: event 5 r1[2:]; transaction 1 starts after event 0"), (3, "  odd  read: event 5 c1"), (3, "  odd read"),
+            (3, "  odd read: "), (3, "  odd read: x "), (3, "  odd read: event 05 c1"), (3, "  odd read: \u00e9"), (3, "  5 odd: event 5 c1"),
+            (1, f"  odd read: {read}; transaction 1 starts after event 0"), (2, "  stale read: event 5 w1[2]; transaction 1 starts after event 0"),
             (2, "  stale read: event 5 r1[0..9;2:2,3:2]; transaction 1 starts after event 0"), (7, EXPLAINED[7]), (6, "  1 >ww:2> 2: " + version),
             (8, "  " + version), (13, EXPLAINED[15]), (13, f"  1 >wr:2> 2: {version}"), (13, f"  1 >wr:2> 2: {read}; {version}"),
             (13, f"  1 >xx:2> 2: {version}; {read}"), (13, f"  1 >wr:2>: {version}; {read}"), (15, EXPLAINED[15]),
@@ -246,6 +248,31 @@ class RefusedTest(unittest.TestCase):
             with self.subTest(at=at, line=line), self.assertRaisesRegex(BadInput, f"^r: line {at + 2}: this is no report: "):
                 read_report(lines(*EXPLAINED[: at + 1], line, *EXPLAINED[at + 1 :]))
         self.check(lines(*EXPLAINED[:-1]), "r: line 15: this is no report: of the steps above some are explained and some are not")
+
+    def test_what_is_not_known_is_kept(self) -> None:
+        """Lines that a later auditor may write below a finding: they stand beside the reasons, and disturb none of them."""
+        remarks = ["intermediate read: event 5 r1[0..9;2:2]; transaction 1 starts after event 0", "not without event 4 c2: event 5 r1[2:2]",
+                   "others: 17", "seen: event 3 w2[2]"]
+        for at in (2, 3, 4, 5):
+            lines = [*EXPLAINED[: at + 1], *(f"  {remark}" for remark in remarks), *EXPLAINED[at + 1 :]]
+            report = read_report(text_of("\n".join(lines) + "\n"))
+            plain = read_report(text_of("\n".join(EXPLAINED) + "\n"))
+            self.assertEqual(report.bad_reads[0].remarks, remarks)
+            report.bad_reads[0].remarks.clear()
+            self.assertEqual(report, plain)
+        nameless = [line for line in EXPLAINED if not line.startswith("  future read")]
+        report = read_report(text_of("\n".join([*nameless[:3], "  intermediate read: event 5 r1[2:2]", *nameless[3:]]) + "\n"))
+        self.assertEqual([reason.head for reason in report.bad_reads[0].reasons], [Role.SAW, Role.DUE])
+
+    def test_snapshots(self) -> None:
+        """Lines of the snapshots that fit a transaction stand behind the unexplained reads, with their reasons."""
+        at = EXPLAINED.index("ssi fail")
+        lines = ["snapshot 1 none", "  not without event 4 c2: event 5 r1[2:2]", "  not with event 2 c3: event 5 r1[2:2]", "snapshot 2 from 0 to 7"]
+        report = read_report(text_of("\n".join([*EXPLAINED[:at], *lines, *EXPLAINED[at:]]) + "\n"))
+        self.assertEqual([(one.transaction, one.fitting, len(one.remarks)) for one in report.snapshots], [(1, None, 2), (2, (0, 7), 0)])
+        for faulty in ("snapshot 1", "snapshot 1 from 2", "snapshot 1 to 2", "snapshot x none", "snapshot 1 from 1 to 2 to 3", "snapshot 01 none"):
+            with self.subTest(faulty=faulty), self.assertRaises(BadInput):
+                read_report(text_of("\n".join([*EXPLAINED[:at], faulty, *EXPLAINED[at:]]) + "\n"))
 
     def test_faulty_structures(self) -> None:
         for at, line in (
