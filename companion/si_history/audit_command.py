@@ -20,6 +20,8 @@ from si_history.findings import groups_of
 from si_history.log_kinds import LogKind
 from si_history.naming import shown
 from si_history.policy import add_value_arguments, add_values_argument, add_writer_argument, policy_of
+from si_history.progress import Waiting, silence
+from si_history.unseen import visible
 
 MOST_TOLD = 20
 ENDINGS = ("history", "legend", "report")
@@ -84,6 +86,8 @@ def register(commands: argparse._SubParsersAction[argparse.ArgumentParser]) -> N
 
 def run(arguments: argparse.Namespace) -> int:
     """Audits the log, writes what is wanted, and answers the status."""
+    if arguments.quiet:
+        silence()
     _check_outputs(arguments)
     source = source_name(arguments.log)
     try:
@@ -106,7 +110,8 @@ class _Made:
         log = log_of(read_log(arguments.log), source_name(arguments.log), kind, policy_of(arguments))
         for warning in log.warnings:
             write_error(f"si-history: {log.source}: {warning}")
-        self.audited: Audited = audited(log, self._auditor, arguments.check, arguments.allow_empty)
+        with Waiting(f"auditing {visible(log.source)}"):
+            self.audited: Audited = audited(log, self._auditor, arguments.check, arguments.allow_empty)
         self._account: Account = account_of(self.audited, None if arguments.all else MOST_TOLD)
 
     def write(self) -> None:

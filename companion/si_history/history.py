@@ -127,7 +127,7 @@ def parse(text: str, progress: Progress | None = None) -> list[Event]:
     events: list[Event] = []
     for number, token in enumerate(tokens, 1):
         if number % EVENTS_BETWEEN_STEPS == 0 and progress is not None:
-            progress.step(number)
+            progress.step(number, len(tokens))
         events.append(event_of(token, number))
     return events
 

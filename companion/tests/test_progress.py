@@ -1,18 +1,19 @@
-"""Progress is shown at a terminal alone, and only once the work has taken two seconds."""
+"""Progress is shown at a terminal alone, and only once the work has taken a second."""
 
 from __future__ import annotations
 
 import io
 import itertools
 import tempfile
+import time
 import unittest
 from pathlib import Path
 from unittest import mock
 
-from si_history import history, report_text
+from si_history import history, progress, report_text
 from si_history.cli import main
 from si_history.legend import Legend
-from si_history.progress import Progress
+from si_history.progress import Progress, Waiting
 from tests.test_page import LOST_UPDATE_HISTORY
 from tests.test_report import LOST_UPDATE
 
@@ -36,25 +37,55 @@ def shown(error: io.StringIO, *steps: tuple[float, int]) -> str:
 
 class ProgressTest(unittest.TestCase):
     def test_short_work_is_silent(self) -> None:
-        self.assertEqual(shown(Terminal(), (0.5, 1_000), (1.9, 2_000)), "")
+        self.assertEqual(shown(Terminal(), (0.5, 1_000), (0.9, 2_000)), "")
 
     def test_long_work_is_told_and_wiped(self) -> None:
-        told = shown(Terminal(), (1.0, 1_000), (2.1, 2_000), (2.2, 3_000), (2.7, 4_000))
+        told = shown(Terminal(), (0.9, 1_000), (1.1, 2_000), (1.2, 3_000), (1.7, 4_000))
         self.assertEqual(told, "\rsi-history: 2,000 lines read\rsi-history: 4,000 lines read\r\x1b[K")
 
     def test_a_file_is_told_nothing(self) -> None:
         self.assertEqual(shown(io.StringIO(), (9.0, 1_000)), "")
 
+    def test_silence(self) -> None:
+        with mock.patch.object(progress._Line, "is_silenced", False):
+            progress.silence()
+            self.assertEqual(shown(Terminal(), (9.0, 1_000)), "")
+
+    def test_a_bar(self) -> None:
+        for count, bar in ((0, "." * 24), (1, "###" + "." * 21), (7, "#" * 21 + "..."), (8, "#" * 24), (9, "#" * 24)):
+            error, clock = Terminal(), mock.Mock(return_value=100.0)
+            with mock.patch("sys.stderr", error), mock.patch("time.monotonic", clock), Progress("events") as bars:
+                clock.return_value = 109.0
+                bars.step(count, 8)
+            self.assertEqual(error.getvalue(), f"\rsi-history: [{bar}] {count} events\r\x1b[K")
+
+    def test_waiting(self) -> None:
+        """The seconds are told while something else works, and the line is wiped."""
+        said = "\rsi-history: auditing, 1 s\rsi-history: auditing, 2 s"
+        error = Terminal()
+        with mock.patch("sys.stderr", error), mock.patch.object(progress, "SILENT_SECONDS", 0.05), Waiting("auditing"):
+            end = time.monotonic() + 60.0
+            while said not in error.getvalue() and time.monotonic() < end:
+                time.sleep(0.01)
+        self.assertTrue(error.getvalue().startswith(said), error.getvalue())
+        self.assertTrue(error.getvalue().endswith(WIPED))
+
+    def test_waiting_is_silent(self) -> None:
+        for error in (Terminal(), io.StringIO()):
+            with mock.patch("sys.stderr", error), Waiting("auditing"):
+                pass
+            self.assertEqual(error.getvalue(), "")
+
 
 WIPED = "\r\x1b[K"
 
 
-def told(count: int, what: str = "lines of the report") -> str:
+def told(count: int, what: str = "lines of the report", bar: str = "") -> str:
     """What is shown at a step."""
-    return f"\rsi-history: {count} {what}"
+    return f"\rsi-history: {bar}{count} {what}"
 
 
-EVENTS = told(4, "events of the history") + WIPED
+EVENTS = told(4, "events of the history", f"[{'#' * 16}{'.' * 8}] ") + WIPED
 
 
 class CommandsTest(unittest.TestCase):
