@@ -11,7 +11,7 @@ from dataclasses import dataclass
 
 from si_history.audited import Audited, Log
 from si_history.facts import Facts
-from si_history.findings import Finding, Kind, groups_of
+from si_history.findings import HEADS, Finding, Kind, groups_of
 from si_history.history import Abort, Begin, Commit, Event, RangeRead, Read, Write
 from si_history.log_kinds import LogKind
 from si_history.named_reasons import told_remark
@@ -100,7 +100,10 @@ def _counts(report: Report) -> Counter[str]:
     counts: Counter[str] = Counter()
     for kind in (Kind.BAD_READ, Kind.BAD_WRITE, Kind.UNEXPLAINED, Kind.CYCLE, Kind.STRUCTURE):
         counts.update(name_of(kind, found) for found in _found(report, kind))
-    return counts
+        for (head, name), count in report.left_out.items():
+            if head == HEADS.get(kind):
+                counts[name] += count
+    return +counts
 
 
 def _found(report: Report, kind: Kind) -> Sequence[Explained]:

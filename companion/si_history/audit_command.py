@@ -24,6 +24,8 @@ from si_history.progress import Waiting, silence
 from si_history.unseen import visible
 
 MOST_TOLD = 20
+MOST_KEPT = 1_000
+"""How many findings of a kind are read whole without --all. A page has fewer."""
 ENDINGS = ("history", "legend", "report")
 
 DESCRIPTION = """\
@@ -111,8 +113,9 @@ class _Made:
         for warning in log.warnings:
             write_error(f"si-history: {log.source}: {warning}")
         with Waiting(f"auditing {visible(log.source)}"):
-            self.audited: Audited = audited(log, self._auditor, arguments.check, arguments.allow_empty)
-        self._account: Account = account_of(self.audited, None if arguments.all else MOST_TOLD)
+            kept, told = (None, None) if arguments.all else (MOST_KEPT, MOST_TOLD)
+            self.audited: Audited = audited(log, self._auditor, arguments.check, arguments.allow_empty, kept)
+        self._account: Account = account_of(self.audited, told)
 
     def write(self) -> None:
         """Writes all that is wanted. Raises BadInput where something can't be written, when the rest is."""

@@ -103,10 +103,11 @@ def _check_end(history: bytes) -> None:
         raise BadInput("it ends in the middle of a line; where that line is whole, put a line's end behind it")
 
 
-def audited(log: Log, auditor: Auditor, level: str, takes_nothing: bool = False) -> Audited:
+def audited(log: Log, auditor: Auditor, level: str, takes_nothing: bool = False, most: int | None = None) -> Audited:
     """Audits a log's history. Raises BadInput where the auditor can't be started.
 
-    Where `takes_nothing`, a history of which nothing was committed is audited as every other one is.
+    Where `takes_nothing`, a history of which nothing was committed is audited as every other one is. Of the findings of a kind
+    the first `most` are kept in the report, where that is given, and the others are counted.
     """
     outcome = auditor.run(log.history, ["--explain", "--check", level])
     if outcome.ending is Ending.REFUSAL:
@@ -114,7 +115,7 @@ def audited(log: Log, auditor: Auditor, level: str, takes_nothing: bool = False)
     if outcome.ending is not Ending.REPORT:
         return Audited(log, level, outcome, outcome.exit_status, outcome.words)
     try:
-        report = read_report(ReportText(outcome.report, "the auditor's report"))
+        report = read_report(ReportText(outcome.report, "the auditor's report"), most)
         facts = Facts(parse(log.history.decode("ascii")))
         facts.check(report.counts)
     except (BadInput, UnicodeDecodeError) as fault:

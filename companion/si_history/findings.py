@@ -32,6 +32,10 @@ class Kind(enum.Enum):
     PIVOT = "Pivots"
 
 
+HEADS = {Kind.BAD_READ: "bad-read", Kind.BAD_WRITE: "bad-write", Kind.UNEXPLAINED: "unexplained"}
+"""The first words of the lines of findings, of which there can be many."""
+
+
 class Look(enum.Enum):
     """What an arrow of a picture stands for."""
 
@@ -80,7 +84,7 @@ def groups_of(report: Report, facts: Facts, names: Names, most: int | None = MOS
     teller = _Teller(facts, Wording(names))
 
     def group(kind: Kind, found: Sequence[_AnyFound], tell: Callable[[_AnyFound], Finding]) -> Group:
-        return Group(kind, tuple(map(tell, found[:most])), len(found))
+        return Group(kind, tuple(map(tell, found[:most])), len(found) + report.count_left_out(HEADS.get(kind, "")))
 
     groups = [
         group(Kind.BAD_READ, report.bad_reads, teller.bad_read),

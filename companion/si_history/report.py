@@ -7,6 +7,7 @@ The verdicts are the report's. `reasons` are the lines below a line that explain
 from __future__ import annotations
 
 import enum
+from collections.abc import Mapping
 from dataclasses import dataclass, field
 from typing import NamedTuple
 
@@ -207,6 +208,12 @@ class Report:
     serializable: Verdict
     outcome: Order | Cycle
     snapshots: list[Snapshot] = field(default_factory=list)
+    left_out: Mapping[tuple[str, str], int] = field(default_factory=dict)
+    """How many findings were read and not kept, by the first word of their lines and by their names."""
+
+    def count_left_out(self, head: str) -> int:
+        """How many findings were not kept whose lines begin with this word."""
+        return sum(count for (word, _), count in self.left_out.items() if word == head)
 
     def meets(self, level: str) -> bool:
         """Whether the report says that the history meets a level, which is `si`, `ssi` or `serializable`."""

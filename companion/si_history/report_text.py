@@ -16,6 +16,7 @@ from typing import TypeVar
 
 from si_history.errors import BadInput
 from si_history.files import opened, source_name
+from si_history.left_out import LeftOut
 from si_history.progress import Progress
 from si_history.reasons import fits_below, is_remark, reason_of
 from si_history.report import (
@@ -58,9 +59,12 @@ class ReportText:
         return BadInput(f"this is no report: {fault}", line=line, source=self.source)
 
 
-def read_report(text: ReportText) -> Report:
-    """The report that a text is, without its edges. Raises BadInput where it is none, or a refusal."""
-    reader = _Reader()
+def read_report(text: ReportText, most: int | None = None) -> Report:
+    """The report that a text is, without its edges. Raises BadInput where it is none, or a refusal.
+
+    Where `most` is given, so many findings of a kind are kept at most, and the others are counted.
+    """
+    reader = _Reader(most)
     number = 0
     try:
         for number, line in enumerate(text, 1):
@@ -173,7 +177,10 @@ class _Reader:
     """Takes the lines of a report in their order. `_stage` is the index in `_HEADS` of the line that was taken last that
     explains no other, and `_last` what that line says, if others may explain it."""
 
-    def __init__(self) -> None:
+    def __init__(self, most: int | None) -> None:
+        self._most = most
+        self._left_out = LeftOut()
+        self._is_leaving_out = False
         self._stage = -1
         self._last: Explained | None = None
         self._refusal: list[str] = []
@@ -197,11 +204,23 @@ class _Reader:
         elif self._refusal or (line.startswith("refused:") and self._stage < 0):
             self._refusal.append(line)
         elif line.startswith(INDENT) and self._stage >= 0:
-            self._explain(line.removeprefix(INDENT))
+            explain = self._left_out.explain if self._is_leaving_out else self._explain
+            explain(line.removeprefix(INDENT))
         else:
-            words = line.split(" ")
-            self._move(words[0])
-            self._last = self._kept(words)
+            head = line.partition(" ")[0]
+            self._move(head)
+            self._is_leaving_out = self._has_enough(head)
+            if self._is_leaving_out:
+                self._left_out.take(head, line)
+            else:
+                self._last = self._kept(line.split(" "))
+
+    def _has_enough(self, head: str) -> bool:
+        """Whether so many findings of a line's kind are kept that this one is counted alone."""
+        kept: dict[str, list[BadRead] | list[BadWrite] | list[Unexplained]] = {
+            "bad-read": self._bad_reads, "bad-write": self._bad_writes, "unexplained": self._unexplained,
+        }
+        return self._most is not None and head in kept and len(kept[head]) >= self._most
 
     def _explain(self, line: str) -> None:
         """Takes a line that explains the one before it."""
@@ -278,7 +297,7 @@ class _Reader:
         return Report(
             self._counts[0], isolation, self._bad_reads, self._bad_writes, self._unexplained, self._edges,
             self._pivots, ssi, self._structures[0] if self._structures else None, serializable, self._outcomes[0],
-            self._snapshots,
+            self._snapshots, self._left_out.counts,
         )
 
 

@@ -264,6 +264,35 @@ class RefusedTest(unittest.TestCase):
         report = read_report(text_of("\n".join([*nameless[:3], "  intermediate read: event 5 r1[2:2]", *nameless[3:]]) + "\n"))
         self.assertEqual([reason.head for reason in report.bad_reads[0].reasons], [Role.SAW, Role.DUE])
 
+    def test_findings_that_are_left_out(self) -> None:
+        """What is counted and what is kept are together what the report has, and the rest of it is the same."""
+        for path in sorted(REPOSITORY.glob("examples/**/*.explained")):
+            if path.stem.startswith("refused"):
+                continue
+            whole = read_report(ReportText.from_path(str(path)))
+            for most in (0, 1, 2, 1000):
+                with self.subTest(path=path.name, most=most):
+                    some = read_report(ReportText.from_path(str(path)), most)
+                    for head, kept, every in (
+                        ("bad-read", some.bad_reads, whole.bad_reads), ("bad-write", some.bad_writes, whole.bad_writes),
+                        ("unexplained", some.unexplained, whole.unexplained),
+                    ):
+                        self.assertEqual(kept, every[:most])
+                        self.assertEqual(some.count_left_out(head), len(every[most:]))
+                    names = [read.reasons[0].head.value for read in whole.bad_reads[most:]]
+                    self.assertEqual({name: some.left_out["bad-read", name] for name in names}, {name: names.count(name) for name in names})
+                    self.assertEqual((some.counts, some.isolation, some.outcome), (whole.counts, whole.isolation, whole.outcome))
+
+    def test_faults_of_findings_that_are_left_out(self) -> None:
+        for at, line in (
+            (2, "bad-read 5 1 2 saw 2 due"), (2, "bad-read 5 1 2 saw 02 due 3"), (2, "bad-read  5 1 2 saw 2 due 3"), (6, "bad-write 2 3"),
+            (8, "unexplained 5 1 2 x"), (3, "  future read: event 5"), (3, "  future read: event 5 r1[0..9;2:2] "), (4, "  saw: "),
+            (4, "  saw: event 3 w2[2]; "), (3, "   future read: event 5 r1[2:2]"), (3, "  Future read: event 5 r1[2:2]"),
+        ):
+            lines = [*EXPLAINED[:at], line, *EXPLAINED[at + 1 :]]
+            with self.subTest(line=line), self.assertRaisesRegex(BadInput, f"^r: line {at + 1}: this is no report: "):
+                read_report(text_of("\n".join(lines) + "\n"), 0)
+
     def test_snapshots(self) -> None:
         """Lines of the snapshots that fit a transaction stand behind the unexplained reads, with their reasons."""
         at = EXPLAINED.index("ssi fail")
