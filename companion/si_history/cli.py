@@ -6,7 +6,7 @@ import argparse
 from collections.abc import Sequence
 from typing import IO, Any, NoReturn, Protocol
 
-from si_history import __version__, audit_command, from_events, from_jepsen, from_transactions, graph, names, page, startup
+from si_history import __version__, audit_command, completion, from_events, from_jepsen, from_transactions, graph, names, page, startup
 from si_history.errors import BadInput, OutputIsInput
 from si_history.files import STANDARD_OUTPUT, write_error, write_output
 from si_history.incomplete import Output, Stopped, end_by, stops_met
@@ -78,6 +78,7 @@ def make_parser() -> argparse.ArgumentParser:
     commands = parser.add_subparsers(metavar="COMMAND", required=True)
     for command in COMMANDS:
         command.register(commands)
+    completion.register(commands, make_parser)
     return parser
 
 
