@@ -6,9 +6,8 @@ What is found comes from the report alone; the sentences only say where in the h
 from __future__ import annotations
 
 import enum
-from collections.abc import Callable, Iterator, Sequence
+from collections.abc import Iterator, Sequence
 from dataclasses import dataclass
-from typing import TypeVar
 
 from si_history.cycles import allowing_steps
 from si_history.facts import Facts, Fate, version_seen
@@ -76,25 +75,29 @@ class Group:
     count: int
 
 
-_AnyFound = TypeVar("_AnyFound")
+Found = BadRead | BadWrite | Cycle | Unexplained | Structure | Pivot
+"""What a report finds."""
+
+
+def finding_of(found: Found, facts: Facts, names: Names) -> Finding:
+    """What is to be said of one finding. Raises BadInput where the history is not that of the report."""
+    return _Teller(facts, Wording(names)).finding(found)
 
 
 def groups_of(report: Report, facts: Facts, names: Names, most: int | None = MOST_OF_A_KIND) -> list[Group]:
     """The findings of a report by their kinds, `most` of each. Raises BadInput where the history is not that of the report."""
     teller = _Teller(facts, Wording(names))
-
-    def group(kind: Kind, found: Sequence[_AnyFound], tell: Callable[[_AnyFound], Finding]) -> Group:
-        return Group(kind, tuple(map(tell, found[:most])), len(found) + report.count_left_out(HEADS.get(kind, "")))
-
-    groups = [
-        group(Kind.BAD_READ, report.bad_reads, teller.bad_read),
-        group(Kind.BAD_WRITE, report.bad_writes, teller.bad_write),
-        group(Kind.CYCLE, [report.cycle] if report.cycle else [], teller.cycle),
-        group(Kind.UNEXPLAINED, report.unexplained, teller.unexplained),
-        group(Kind.STRUCTURE, [report.structure] if report.structure else [], teller.structure),
-        group(Kind.PIVOT, sorted(report.pivots, key=lambda pivot: not pivot.firsts), teller.pivot),
-    ]
-    return [each for each in groups if each.count]
+    pivots = sorted(report.pivots, key=lambda pivot: not pivot.firsts)
+    found: dict[Kind, Sequence[Found]] = {
+        Kind.BAD_READ: report.bad_reads,
+        Kind.BAD_WRITE: report.bad_writes,
+        Kind.CYCLE: [report.cycle] if report.cycle else [],
+        Kind.UNEXPLAINED: report.unexplained,
+        Kind.STRUCTURE: [report.structure] if report.structure else [],
+        Kind.PIVOT: pivots,
+    }
+    counts = {kind: len(each) + report.count_left_out(HEADS.get(kind, "")) for kind, each in found.items()}
+    return [Group(kind, tuple(map(teller.finding, found[kind][:most])), count) for kind, count in counts.items() if count]
 
 
 class _Teller:
@@ -103,6 +106,20 @@ class _Teller:
     def __init__(self, facts: Facts, wording: Wording) -> None:
         self._facts = facts
         self._say = wording
+
+    def finding(self, found: Found) -> Finding:
+        match found:
+            case BadRead():
+                return self.bad_read(found)
+            case BadWrite():
+                return self.bad_write(found)
+            case Cycle():
+                return self.cycle(found)
+            case Unexplained():
+                return self.unexplained(found)
+            case Structure():
+                return self.structure(found)
+        return self.pivot(found)
 
     def bad_read(self, read: BadRead) -> Finding:
         self._facts.check_read(read.place, read.transaction, read.key, read.saw)
