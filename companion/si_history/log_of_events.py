@@ -1,11 +1,14 @@
-"""A history as a log of events, with names, which `from-events` reads."""
+"""A history as a log of events, with names, which `from-events` reads.
+
+Keys that are no numbers are written by their names. Where a range has several of them, a header says in which order they lie.
+"""
 
 from __future__ import annotations
 
 import json
 from collections.abc import Sequence
 
-from si_history.history import Abort, Begin, Commit, Event, RangeRead, Read
+from si_history.history import Abort, Begin, Commit, Event, RangeRead, Read, Write
 from si_history.legend import Legend
 
 
@@ -18,7 +21,14 @@ class EventsWriter:
 
     def log(self, events: Sequence[Event]) -> str:
         """The log: one event a line. A begin stands where the snapshot was taken."""
-        return "".join(f"{json.dumps(self._fields(event), ensure_ascii=False)}\n" for event in events)
+        lines = [*self._header(events), *map(self._fields, events)]
+        return "".join(f"{json.dumps(line, ensure_ascii=False)}\n" for line in lines)
+
+    def _header(self, events: Sequence[Event]) -> list[dict[str, object]]:
+        """The order of the keys, where it matters."""
+        if self._keys_are_numbers or not any(isinstance(event, RangeRead) and event.low < event.high for event in events):
+            return []
+        return [{"key_order": [self._key(number) for number in sorted({key for event in events for key in _keys(event)})]}]
 
     def _fields(self, event: Event) -> dict[str, object]:
         name = {"txn": self._legend.transaction(event.transaction)}
@@ -41,3 +51,10 @@ class EventsWriter:
 
     def _writer(self, number: int) -> str | None:
         return self._legend.transaction(number) if number else None
+
+
+def _keys(event: Event) -> list[int]:
+    """The keys that an event names."""
+    if isinstance(event, RangeRead):
+        return [event.low, event.high, *(key for key, _ in event.listed)]
+    return [event.key] if isinstance(event, Read | Write) else []

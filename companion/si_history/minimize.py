@@ -81,7 +81,7 @@ def run(arguments: argparse.Namespace) -> int:
     except AuditorFailed as fault:
         print(f"si-history: {log.source}: {fault}", file=sys.stderr)
         return fault.status
-    for path, text in zip(outputs, (small.log, small.history, small.conversion.legend.to_json()), strict=True):
+    for path, text in zip(outputs, (small.log, small.history, small.legend), strict=True):
         if path is not None:
             write_output(text, path)
     write_output(small.told())
@@ -102,6 +102,7 @@ class _Small:
         self.conversion = convert(io.BytesIO(self.log.encode("utf-8")))
         self.events = left.events if log.legend is None else self.conversion.events
         self.history = text_of(self.events)
+        self.legend = self.conversion.legend.to_json(self.history.encode("ascii"))
         self.finding = _finding(left, self.events, None if log.legend is None else self.conversion, auditor)
         self._sizes = [_size(whole), _size(left.run)]
         self._cost = f"{counted(left.audits, 'audit')} in {time.monotonic() - began:.1f} seconds"

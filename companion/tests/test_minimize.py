@@ -130,10 +130,19 @@ class EventsWriterTest(unittest.TestCase):
         legend = Legend({1: "w7-2", 2: "é"}, {0: "acct/02", 1: "acct/7"}, [])
         lines = EventsWriter(legend).log(parse("b2 w1[0] c1 r2[0..1;0:1] r2[1:0] a2")).splitlines()
         self.assertEqual([json.loads(line) for line in lines], [
-            {"txn": "é", "op": "begin"}, {"txn": "w7-2", "op": "write", "key": "acct/02"}, {"txn": "w7-2", "op": "commit"},
+            {"key_order": ["acct/02", "acct/7"]}, {"txn": "é", "op": "begin"}, {"txn": "w7-2", "op": "write", "key": "acct/02"}, {"txn": "w7-2", "op": "commit"},
             {"txn": "é", "op": "range", "from": "acct/02", "to": "acct/7", "found": [["acct/02", "w7-2"]]},
             {"txn": "é", "op": "read", "key": "acct/7", "saw": None}, {"txn": "é", "op": "abort"},
         ])
+
+
+    def test_an_order_of_keys(self) -> None:
+        """9 is before 10 as the history has it, and not as strings are: the header says so."""
+        legend = Legend({1: "A"}, {0: "9", 1: "10", 2: "x", 3: "y"}, [])
+        events = parse("r1[0..1] r1[2:0] c1")
+        log = EventsWriter(legend).log(events)
+        self.assertEqual(json.loads(log.splitlines()[0]), {"key_order": ["9", "10", "x"]})
+        self.assertEqual(convert(io.BytesIO(log.encode())).events, events)
 
 
 def bank_log(transactions: int, seed: str) -> list[dict[str, object]]:
