@@ -6,7 +6,7 @@ import argparse
 from collections.abc import Sequence
 from typing import IO, Any, NoReturn, Protocol
 
-from si_history import __version__, audit_command, completion, from_events, from_jepsen, from_transactions, graph, minimize, names, page, startup
+from si_history import __version__, audit_command, audit_many, completion, from_events, from_jepsen, from_transactions, graph, minimize, names, page, startup
 from si_history.errors import BadInput, OutputIsInput
 from si_history.files import STANDARD_OUTPUT, write_error, write_output
 from si_history.incomplete import Output, Stopped, end_by, stops_met
@@ -37,7 +37,7 @@ class Command(Protocol):
 
 
 # The command modules, in the order in which --help lists them.
-COMMANDS: tuple[Command, ...] = (audit_command, from_events, from_transactions, from_jepsen, names, graph, page, minimize, record)
+COMMANDS: tuple[Command, ...] = (audit_command, from_events, from_transactions, from_jepsen, names, graph, page, minimize, audit_many, record)
 
 
 class BadCommandLine(BadInput):

@@ -5,6 +5,7 @@ A finding goes by the name that an explained report has for it. A cycle that sna
 
 from __future__ import annotations
 
+from collections import Counter
 from collections.abc import Iterator
 from dataclasses import dataclass
 
@@ -29,7 +30,7 @@ class Wanted:
 
     def found_in(self, report: Report, facts: Facts) -> Found | None:
         """The finding in a report of a history, if it is there."""
-        return next((found for found in _findings(report) if wanted_of(found, facts) == self), None)
+        return next((found for found in findings_of(report) if wanted_of(found, facts) == self), None)
 
 
 def wanted_of(found: Found, facts: Facts) -> Wanted:
@@ -48,10 +49,15 @@ def wanted_of(found: Found, facts: Facts) -> Wanted:
 
 def first_found(report: Report, facts: Facts, name: str | None) -> Found:
     """The first finding of the report, or the first one of this name. Raises BadInput where there is none."""
-    for found in _findings(report):
+    for found in findings_of(report):
         if name is None or wanted_of(found, facts).name == name:
             return found
     raise BadInput("the auditor finds nothing in it" if name is None else f"the auditor finds no {name} in it")
+
+
+def counts_of(report: Report, facts: Facts) -> dict[str, int]:
+    """How many findings a report has of each name, the names in the order in which they come first."""
+    return dict(Counter(wanted_of(found, facts).name for found in findings_of(report)))
 
 
 def keys_of(found: Found) -> set[int]:
@@ -64,7 +70,7 @@ def keys_of(found: Found) -> set[int]:
     return set()
 
 
-def _findings(report: Report) -> Iterator[Found]:
+def findings_of(report: Report) -> Iterator[Found]:
     """The findings that have names, those first that break isolation."""
     yield from report.bad_reads
     yield from report.bad_writes
