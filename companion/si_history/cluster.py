@@ -105,10 +105,10 @@ class _Cluster:
             except Exception as fault:
                 return Row(job.name, FAULT, f"its result was lost: {_words(fault)}")
             return row if isinstance(row, Row) else Row(job.name, FAULT, "its result is none")
-        fault = future.exception() if future.status == "error" else None
-        if isinstance(fault, self._distributed.scheduler.KilledWorker):
+        failure = future.exception() if future.status == "error" else None
+        if isinstance(failure, self._distributed.scheduler.KilledWorker):
             return Row(job.name, FAULT, "each worker that audited it died")
-        return Row(job.name, FAULT, f"the worker failed: {_words(fault)}" if fault is not None else "the Dask scheduler lost it")
+        return Row(job.name, FAULT, f"the worker failed: {_words(failure)}" if failure is not None else "the Dask scheduler lost it")
 
     def _threads(self) -> int:
         """How many runs the workers can do at a time."""

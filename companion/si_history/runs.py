@@ -26,7 +26,8 @@ def logs_under(folder: str, patterns: Sequence[str] = ()) -> Folder:
 
     Hidden files and folders are none. Raises BadInput where a folder can't be read.
     """
-    logs, others = [], []
+    logs: list[str] = []
+    others: list[str] = []
     for name in sorted(_files(folder)):
         base = os.path.basename(name)
         is_log = any(fnmatch.fnmatchcase(base, pattern) for pattern in patterns) if patterns else not base.endswith(BY_PRODUCTS)

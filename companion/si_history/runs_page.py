@@ -54,7 +54,7 @@ def _row(row: Row, level: str, page: str | None) -> str:
 
 
 def _cells(row: Row, level: str, page: str | None) -> Iterator[str]:
-    name, *others = map(escape, cells_of(row, level))
+    name, *others = (escape(cell) for cell in cells_of(row, level))
     linked = name if page is None else f'<a href="{escape(quote(page.encode("utf-8", "surrogateescape")))}">{name}</a>'
     yield f'<th scope="row">{linked}</th>'
     yield from (f"<td>{word}</td>" for word in others)

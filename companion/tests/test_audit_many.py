@@ -72,10 +72,11 @@ class FolderTest(InFolder):
 class TableTest(unittest.TestCase):
     def test_statuses(self) -> None:
         """1 where a run falls short; else what failed; 0 only where all meet the level; never for nothing."""
-        for statuses, wanted in (
+        expected: list[tuple[list[int], int]] = [
             ([], 5), ([0], 0), ([0, 0], 0), ([0, 1], 1), ([1, 4], 1), ([0, 4], 4), ([3, 4], 4), ([0, 3, 2], 3), ([0, 2, 5], 2), ([0, 5], 5),
             ([0, 77], 4),
-        ):
+        ]
+        for statuses, wanted in expected:
             with self.subTest(statuses=statuses):
                 self.assertEqual(status_of([Row("r", status) for status in statuses]), wanted)
 

@@ -108,7 +108,7 @@ class ClusterTest(InFolder):
             except ProcessLookupError:
                 pass
         self.assertEqual((process.returncode in (1, 4), said), (True, ""))
-        self.assertEqual(told.count("meets si") + told.count("falls short of si") + told.count("no verdict"), RUNS)
+        self.assertEqual(len(re.findall(r"(?m)^run\d\d\.history +(?:meets si|falls short of si|no verdict)", told)), RUNS)
         self.assertIn("no verdict", told)
 
     def test_no_scheduler(self) -> None:
