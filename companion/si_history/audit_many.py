@@ -11,8 +11,10 @@ from si_history.auditor import FAULT, LEVELS, Auditor, add_auditor_arguments
 from si_history.cluster import on_cluster
 from si_history.errors import BadInput, quoted
 from si_history.files import write_output
+from si_history.log_kinds import LogKind
 from si_history.memory import LEAST_LIMIT, memory_limit
 from si_history.naming import shown
+from si_history.policy import add_policy_arguments, policy_of
 from si_history.pool import in_processes
 from si_history.progress import Progress
 from si_history.run_audit import Job, Row
@@ -64,8 +66,10 @@ def register(commands: argparse._SubParsersAction[argparse.ArgumentParser]) -> N
     )
     parser.add_argument("--page", metavar="DIR", help="write an index page, index.html, and a page of each run to DIR")
     parser.add_argument("--pattern", metavar="GLOB", action="append", default=[], help="audit the files alone whose names are like this")
+    parser.add_argument("--as", dest="kind", choices=[kind.value for kind in LogKind], help="what the logs are, where it doesn't show")
     parser.add_argument("--allow-empty", action="store_true", help="take histories of which nothing was committed as they are")
     add_auditor_arguments(parser)
+    add_policy_arguments(parser)
     parser.set_defaults(run=run, writes_history=False)
 
 
@@ -96,10 +100,11 @@ def run(arguments: argparse.Namespace) -> int:
 
 def _rows(arguments: argparse.Namespace, logs: Iterable[str]) -> Iterator[Row]:
     """The row of each run, as it is done."""
+    kind = None if arguments.kind is None else LogKind(arguments.kind)
     jobs = [
         Job(
             name, os.path.join(arguments.folder, name), arguments.check, arguments.auditor, arguments.memory,
-            arguments.allow_empty, arguments.page is not None,
+            arguments.allow_empty, arguments.page is not None, kind, policy_of(arguments),
         )
         for name in logs
     ]

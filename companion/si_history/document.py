@@ -17,6 +17,7 @@ from si_history.scene import Scene
 from si_history.wording import counted
 
 MOST_OF_ORDER = 200
+UNDECIDED = "It depends on an outcome that the log does not tell."
 
 
 @dataclass(frozen=True, slots=True)
@@ -45,7 +46,7 @@ def html(name: str, report: Report, facts: Facts, groups: Sequence[Group], names
         f"<header><h1>{title}</h1><p>{escape(_counts(report))}</p></header>",
         "<main>",
         *_verdict(report),
-        *_found(groups, Pictures(facts, groups, names)),
+        *_found(groups, names, Pictures(facts, groups, names)),
         *_order(report, names),
         "</main>",
         "<footer><p>All verdicts and findings are those of si_audit's report. This page adds where in the history to look,"
@@ -117,7 +118,7 @@ def _verdict(report: Report) -> Iterator[str]:
     yield "</ul></section>"
 
 
-def _found(groups: Sequence[Group], pictures: Pictures) -> Iterator[str]:
+def _found(groups: Sequence[Group], names: Names, pictures: Pictures) -> Iterator[str]:
     """The findings as lists, one for each kind, and beside them the picture of the one that is chosen: of the first."""
     findings = [finding for group in groups for finding in group.findings]
     yield '<div class="sides">'
@@ -128,14 +129,14 @@ def _found(groups: Sequence[Group], pictures: Pictures) -> Iterator[str]:
         yield '<p class="hint">Choose one to see its transactions alone.</p>'
     number = 0
     for group in groups:
-        yield from _group(group, number)
+        yield from _group(group, number, names)
         number += len(group.findings)
     yield "</section>"
     yield from _pictured(findings, pictures)
     yield "</div>"
 
 
-def _group(group: Group, number: int) -> Iterator[str]:
+def _group(group: Group, number: int, names: Names) -> Iterator[str]:
     """The findings of a kind; `number` is how many of other kinds went before."""
     count = f' <span class="count">{group.count:,}</span>' if group.count > 1 else ""
     yield f"<h3>{group.kind.value}{count}</h3><ol>"
@@ -145,7 +146,8 @@ def _group(group: Group, number: int) -> Iterator[str]:
             f' data-transactions="{" ".join(map(str, finding.transactions))}" data-places="{" ".join(map(str, finding.places))}">'
             f"{escape(finding.title)}</button>"
         )
-        yield "<ul>" + "".join(f"<li>{escape(reason)}</li>" for reason in finding.reasons) + "</ul></li>"
+        reasons = [*finding.reasons, *([UNDECIDED] if names.is_undecided(finding.transactions) else [])]
+        yield "<ul>" + "".join(f"<li>{escape(reason)}</li>" for reason in reasons) + "</ul></li>"
     yield "</ol>"
     if group.count > len(group.findings):
         yield f'<p class="hint">And {group.count - len(group.findings):,} more, which the report has.</p>'

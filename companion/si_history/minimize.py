@@ -4,14 +4,13 @@ from __future__ import annotations
 
 import argparse
 import io
-import sys
 import time
 
 from si_history.audited import Audited, Log, audited, log_of, read_log
 from si_history.auditor import Auditor, add_auditor_arguments, auditor_of
 from si_history.conversion import Conversion
 from si_history.errors import BadInput, in_source
-from si_history.files import STANDARD_INPUT, check_output, source_name, write_output
+from si_history.files import STANDARD_INPUT, check_output, source_name, write_error, write_output
 from si_history.findings import Finding, finding_of
 from si_history.from_events import convert
 from si_history.history import Event, parse, text_of
@@ -19,6 +18,7 @@ from si_history.log_kinds import LogKind
 from si_history.log_of_events import EventsWriter
 from si_history.minimizer import LEVEL, AuditorFailed, Minimal, audited_events, minimal
 from si_history.naming import Names
+from si_history.policy import add_policy_arguments, policy_of
 from si_history.wanted import NAMES, first_found, wanted_of
 from si_history.wording import counted
 
@@ -55,13 +55,14 @@ def register(commands: argparse._SubParsersAction[argparse.ArgumentParser]) -> N
     parser.add_argument("log", metavar="LOG", help="a history, a log of events or one of transactions; - is standard input")
     parser.add_argument(
         "--as", dest="kind", metavar="KIND", choices=[kind.value for kind in LogKind],
-        help="what the log is: history, events or transactions (default: as it shows)",
+        help=f"what the log is: {', '.join(kind.value for kind in LogKind)} (default: as it shows)",
     )
     parser.add_argument("--finding", metavar="NAME", choices=NAMES, help="which finding to keep, by its name (default: the first)")
     parser.add_argument("--log", dest="small_log", metavar="FILE", help="write the small log, a log of events, to FILE")
     parser.add_argument("--history", metavar="FILE", help="write its history to FILE")
     parser.add_argument("--legend", metavar="FILE", help="write the legend of that history to FILE")
     add_auditor_arguments(parser)
+    add_policy_arguments(parser)
     parser.set_defaults(run=run, writes_history=False)
 
 
@@ -74,12 +75,14 @@ def run(arguments: argparse.Namespace) -> int:
         check_output(output, [arguments.log, *outputs[at + 1 :]])
     kind = None if arguments.kind is None else LogKind(arguments.kind)
     auditor = auditor_of(arguments)
-    log = log_of(read_log(arguments.log), source_name(arguments.log), kind)
+    log = log_of(read_log(arguments.log), source_name(arguments.log), kind, policy_of(arguments))
+    for warning in log.warnings:
+        write_error(f"si-history: {log.source}: {warning}")
     try:
         with in_source(log.source):
             small = _Small(log, arguments.finding, auditor)
     except AuditorFailed as fault:
-        print(f"si-history: {log.source}: {fault}", file=sys.stderr)
+        write_error(f"si-history: {log.source}: {fault}")
         return fault.status
     for path, text in zip(outputs, (small.log, small.history, small.legend), strict=True):
         if path is not None:

@@ -7,6 +7,7 @@ from __future__ import annotations
 
 import json
 import re
+from collections.abc import Iterable
 
 from si_history.errors import BadInput, in_source
 from si_history.files import read_text, source_name
@@ -84,6 +85,10 @@ class Names:
         """A place in a line that explains: as `place`, but shorter. Place 0, before all events, is on no line."""
         line = self.line(place) if place else None
         return f"event {place}" if line is None else f"event {place} (line {line})"
+
+    def is_undecided(self, transactions: Iterable[int]) -> bool:
+        """Whether a finding about these transactions depends on an outcome that the log doesn't tell."""
+        return self._legend is not None and self._legend.is_undecided(transactions)
 
     def check_history(self, history: bytes) -> None:
         """Raises BadInput where the legend was written with another history than the one with this text."""

@@ -14,7 +14,7 @@ from si_history.scene import Scene, finding_scene, is_small, whole_scene
 from si_history.wording import counted
 
 MOST_EVENTS = 40
-FITTING_WIDTH = 880.0
+FITTING_WIDTH = 860.0
 """What has more events, or is wider, doesn't fit beside the findings, and is shown shorter."""
 DESCRIPTION = "One lane a transaction, events from left to right."
 

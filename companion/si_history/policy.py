@@ -56,6 +56,13 @@ def add_value_arguments(parser: argparse.ArgumentParser) -> None:
     )
 
 
+def add_policy_arguments(parser: argparse.ArgumentParser) -> None:
+    """Adds all of these."""
+    add_values_argument(parser)
+    add_writer_argument(parser)
+    add_value_arguments(parser)
+
+
 def policy_of(arguments: argparse.Namespace) -> Policy:
     """The policy that a command line asks for."""
     values: str | None = getattr(arguments, "values", None)

@@ -11,7 +11,9 @@ from si_history.auditor import BAD_COMMAND_LINE, FALLS_SHORT, FAULT, MEETS, Audi
 from si_history.document import html
 from si_history.errors import BadInput
 from si_history.findings import groups_of
+from si_history.log_kinds import LogKind
 from si_history.naming import shown
+from si_history.policy import STRICT, Policy
 from si_history.wanted import counts_of
 
 
@@ -26,6 +28,8 @@ class Job:
     memory: int | None
     takes_nothing: bool
     wants_page: bool
+    kind: LogKind | None = None
+    policy: Policy = STRICT
     content: bytes | None = None
 
 
@@ -49,7 +53,8 @@ def audit_run(job: Job) -> Row:
     """Audits one run. Whatever goes wrong with it is told in its row."""
     try:
         auditor = _auditor(job.auditor, job.memory)
-        log = log_of(read_log(job.path) if job.content is None else job.content, job.name)
+        content = read_log(job.path) if job.content is None else job.content
+        log = log_of(content, job.name, job.kind, job.policy)
         return _row(job, audited(log, auditor, job.level, job.takes_nothing))
     except BadInput as fault:
         return Row(job.name, BAD_COMMAND_LINE, str(fault).removeprefix(f"{fault.source}: "))

@@ -13,6 +13,7 @@ from si_history.runs_table import HEAD, cells_of, summary_of
 
 PAGES = "runs"
 """The folder of the pages of the runs, beside the index page."""
+STYLES = ("page.css", "runs.css")
 
 
 def page_name(run: str) -> str:
@@ -23,7 +24,7 @@ def page_name(run: str) -> str:
 def html(folder: str, level: str, rows: Sequence[Row], pages: Mapping[str, str]) -> str:
     """The whole document. `pages` are the names of the pages, by the names of the runs."""
     title = escape(f"Audit of the runs in {folder}")
-    style = files(__package__).joinpath("page.css").read_text("utf-8")
+    style = "".join(files(__package__).joinpath(name).read_text("utf-8") for name in STYLES)
     return "\n".join([
         "<!DOCTYPE html>",
         '<html lang="en">',

@@ -21,7 +21,7 @@ LINE_HEIGHT = 15
 CHARACTER = 7.3
 SMALL_CHARACTER = 6.6
 """The widths of one character of a label, and of one of the words that are written smaller. All lengths are pixels."""
-CLOSE, APART = 12, 34
+CLOSE, APART = 12, 28
 """Between two events, and where events in between are not shown."""
 LONGEST_LABEL = 22
 LONGEST_NAME = 18

@@ -145,7 +145,7 @@ class CommandTest(InFolder):
         """Each is told, the others are audited all the same, and the status is never 0."""
         self.put(kept=KEPT)
         for name, content, status, said in (
-            ("noise", b"hello\n", 2, "its first line is no event of a history"), ("binary", b"\xff\xfe", 2, "its first line is no event"),
+            ("noise", b"hello\n", 2, "its first line is none of a history"), ("binary", b"\xff\xfe", 2, "its first line is none"),
             ("cut.jsonl", b'{"txn": "a", "op": "write", "key": "k"}\n{"txn": "a", "o', 2, "the log ends in the middle of this line"),
             ("refused", REFUSED.encode(), 3, "version not written"), ("gone", None, 2, "No such file or directory"),
         ):
