@@ -11,6 +11,7 @@ from si_history import timeline
 from si_history.facts import Facts
 from si_history.findings import Finding, Group
 from si_history.naming import Names
+from si_history.page_policy import with_policy
 from si_history.pictures import Pictures, left_out
 from si_history.report import Order, Report
 from si_history.scene import Scene
@@ -32,7 +33,7 @@ class Statement:
 def html(name: str, report: Report, facts: Facts, groups: Sequence[Group], names: Names) -> str:
     """The whole document. It loads nothing. `name` is what the history is called."""
     title = escape(f"Audit of {name}")
-    return "\n".join([
+    return with_policy("\n".join([
         "<!DOCTYPE html>",
         '<html lang="en">',
         "<head>",
@@ -54,7 +55,7 @@ def html(name: str, report: Report, facts: Facts, groups: Sequence[Group], names
         f"<script>\n{_asset('page.js')}</script>",
         "</body>",
         "</html>",
-    ]) + "\n"
+    ]) + "\n")
 
 
 def picture(report: Report, scene: Scene) -> str:

@@ -8,6 +8,7 @@ from importlib.resources import files
 from urllib.parse import quote
 
 from si_history.auditor import MEETS
+from si_history.page_policy import with_policy
 from si_history.run_audit import Row
 from si_history.runs_table import HEAD, cells_of, summary_of
 
@@ -25,7 +26,7 @@ def html(folder: str, level: str, rows: Sequence[Row], pages: Mapping[str, str])
     """The whole document. `pages` are the names of the pages, by the names of the runs."""
     title = escape(f"Audit of the runs in {folder}")
     style = "".join(files(__package__).joinpath(name).read_text("utf-8") for name in STYLES)
-    return "\n".join([
+    return with_policy("\n".join([
         "<!DOCTYPE html>",
         '<html lang="en">',
         "<head>",
@@ -46,7 +47,7 @@ def html(folder: str, level: str, rows: Sequence[Row], pages: Mapping[str, str])
         "<footer><p>All verdicts and findings are those of si_audit's reports.</p></footer>",
         "</body>",
         "</html>",
-    ]) + "\n"
+    ]) + "\n")
 
 
 def _row(row: Row, level: str, page: str | None) -> str:

@@ -193,7 +193,7 @@ class CommandTest(InFolder):
         self.assertIn("version not written", index)
         self.assertIn("7 runs: 0 meet si, 6 fall short of it, 1 has no verdict.", index)
         self.assertNotIn("<i>", index)
-        self.assertEqual((index.count("<style"), index.count("<script")), (1, 0))
+        self.assertEqual((index.count("<style"), index.count("<script"), index.count('"Content-Security-Policy"')), (1, 0, 1))
         self.assertNotRegex(index, r"https?:|@import|url\(")
 
     def test_pages_that_can_not_be_written(self) -> None:

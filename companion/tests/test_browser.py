@@ -11,6 +11,7 @@ import unittest
 from pathlib import Path
 
 from si_history.legend import Legend
+from si_history.page_policy import with_policy
 from tests.pages import LOST_UPDATE_HISTORY, Told, example, told
 from tests.support import LONG_SECONDS
 from tests.test_page import EVIL, bad_reads
@@ -52,7 +53,8 @@ class BrowserTest(unittest.TestCase):
     def dom(self, page: str, script: str = "") -> str:
         """The elements of the page, after a script of the test's own."""
         try:
-            done = self.browse(page.replace("</body>", f"<script>{script}</script></body>"))
+            page = re.sub("<meta http-equiv=[^>]*>\n", "", page, count=1)
+            done = self.browse(with_policy(page.replace("</body>", f"<script>{script}</script></body>")))
         except subprocess.TimeoutExpired:
             self.skipTest(f"left out: the browser {BROWSER} takes longer than {LONG_SECONDS:.0f} seconds here")
         return done.stdout.decode("utf-8")
