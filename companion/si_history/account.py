@@ -14,7 +14,6 @@ from si_history.facts import Facts
 from si_history.findings import HEADS, Finding, Kind, groups_of
 from si_history.history import Abort, Begin, Commit, Event, RangeRead, Read, Write
 from si_history.log_kinds import LogKind
-from si_history.named_reasons import told_remark
 from si_history.report import BadRead, BadWrite, Cycle, Explained, ReadName, Report, Structure, Unexplained
 from si_history.wording import Wording
 
@@ -135,14 +134,9 @@ class _Chronicle:
         moments = {(moment.place, moment.what, moment.number): moment for moment in self._moments(finding, parties)}
         ordered = sorted(moments.values(), key=lambda moment: (moment.place, moment.what == "start"))
         return Told(
-            finding.kind, name_of(finding.kind, found), BREAKS[finding.kind], finding.title, self._reasons(finding, found),
-            found, parties,
+            finding.kind, name_of(finding.kind, found), BREAKS[finding.kind], finding.title, finding.reasons, found, parties,
             tuple(ordered), self._log.legend is not None and self._log.legend.is_undecided(finding.transactions),
         )
-
-    def _reasons(self, finding: Finding, found: Explained) -> tuple[str, ...]:
-        """The reasons in sentences, and what else the report says of the finding."""
-        return (*finding.reasons, *(told_remark(remark, self._names) for remark in found.remarks))
 
     def _moments(self, finding: Finding, parties: Sequence[int]) -> Iterator[Moment]:
         for number in parties:

@@ -120,7 +120,7 @@ def _kept(rows: Iterator[Row], count: int, pages: str | None) -> Iterator[Row]:
     """The rows without their pages, which are written as they come."""
     with Progress(f"of {counted(count, 'run')} audited") as progress:
         for number, row in enumerate(rows, 1):
-            progress.step(number)
+            progress.step(number, count)
             if pages is not None and row.page is not None:
                 path = os.path.join(pages, page_name(row.name))
                 _made(os.path.dirname(path))

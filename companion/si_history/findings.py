@@ -6,14 +6,17 @@ What is found comes from the report alone; the sentences only say where in the h
 from __future__ import annotations
 
 import enum
-from collections.abc import Iterator, Sequence
-from dataclasses import dataclass
+from collections.abc import Iterable, Iterator, Sequence
+from dataclasses import dataclass, replace
 
 from si_history.cycles import allowing_steps
 from si_history.facts import Facts, Fate, version_seen
 from si_history.history import RangeRead
+from si_history.named_reasons import told_remark
 from si_history.naming import Names
-from si_history.report import BadRead, BadWrite, Cycle, Edge, EdgeKind, Pivot, ReadName, Report, Structure, Unexplained
+from si_history.report import (
+    BadRead, BadWrite, Cycle, Edge, EdgeKind, Pivot, ReadName, Report, Snapshot, Structure, Unexplained,
+)
 from si_history.wording import Wording
 
 MOST_OF_A_KIND = 100
@@ -79,14 +82,22 @@ Found = BadRead | BadWrite | Cycle | Unexplained | Structure | Pivot
 """What a report finds."""
 
 
-def finding_of(found: Found, facts: Facts, names: Names) -> Finding:
-    """What is to be said of one finding. Raises BadInput where the history is not that of the report."""
-    return _Teller(facts, Wording(names)).finding(found)
+def finding_of(found: Found, report: Report, facts: Facts, names: Names) -> Finding:
+    """What is to be said of one finding of a report. Raises BadInput where the history is not that of the report."""
+    return _Teller(facts, Wording(names), report.snapshots).finding(found)
+
+
+def name_of_read(read: BadRead) -> str | None:
+    """What the report calls a bad read: an explained one has a name for each, which may be one that is not known here."""
+    head = read.reasons[0].head if read.reasons else None
+    if isinstance(head, ReadName):
+        return head.value
+    return read.remarks[0].partition(": ")[0] if read.remarks else None
 
 
 def groups_of(report: Report, facts: Facts, names: Names, most: int | None = MOST_OF_A_KIND) -> list[Group]:
     """The findings of a report by their kinds, `most` of each. Raises BadInput where the history is not that of the report."""
-    teller = _Teller(facts, Wording(names))
+    teller = _Teller(facts, Wording(names), report.snapshots)
     pivots = sorted(report.pivots, key=lambda pivot: not pivot.firsts)
     found: dict[Kind, Sequence[Found]] = {
         Kind.BAD_READ: report.bad_reads,
@@ -103,11 +114,33 @@ def groups_of(report: Report, facts: Facts, names: Names, most: int | None = MOS
 class _Teller:
     """Tells findings in sentences."""
 
-    def __init__(self, facts: Facts, wording: Wording) -> None:
+    def __init__(self, facts: Facts, wording: Wording, snapshots: Iterable[Snapshot]) -> None:
         self._facts = facts
         self._say = wording
+        self._snapshots = {snapshot.transaction: snapshot for snapshot in snapshots}
 
     def finding(self, found: Found) -> Finding:
+        told = self._told(found)
+        return replace(told, reasons=(*told.reasons, *self._more(found)))
+
+    def _more(self, found: Found) -> Iterator[str]:
+        """What else the report says of a finding, and of the snapshots that fit its reader."""
+        remarks = [] if isinstance(found, Pivot) else found.remarks
+        snapshot = self._snapshots.get(found.transaction) if isinstance(found, BadRead) else None
+        if snapshot is not None:
+            reader = self._say.transaction(snapshot.transaction)
+            if snapshot.fitting is None:
+                yield f"No snapshot fits all that {reader} read."
+            else:
+                first, last = map(self._after, snapshot.fitting)
+                yield f"A snapshot that was taken from {first} to {last} fits all that {reader} read."
+            remarks = [*remarks, *snapshot.remarks]
+        yield from (told_remark(remark, self._say.names) for remark in remarks)
+
+    def _after(self, count: int) -> str:
+        return f"after {self._say.place(count)}" if count else "before all events"
+
+    def _told(self, found: Found) -> Finding:
         match found:
             case BadRead():
                 return self.bad_read(found)
@@ -126,7 +159,7 @@ class _Teller:
         saw = self._sighting(read.place, read.key, read.saw)
         return Finding(
             Kind.BAD_READ,
-            f"{_name_of(read)}: {saw}, where {self._say.version(read.due)} was due.",
+            f"{(name_of_read(read) or 'bad read').capitalize()}: {saw}, where {self._say.version(read.due)} was due.",
             tuple(self._why_bad_read(read)),
             _distinct((read.transaction, read.saw, read.due)),
             (read.place, *(self._facts.first_write(version, read.key) for version in (read.saw, read.due) if version)),
@@ -312,12 +345,6 @@ class _Teller:
         if writer.fate is Fate.ABORTED:
             return f"{wrote} and aborted at {end}."
         return f"{wrote} and committed at {end}{', after that start' if writer.places[-1] > start else ''}."
-
-
-def _name_of(read: BadRead) -> str:
-    """What the report calls a bad read: an explained one has a name for each."""
-    head = read.reasons[0].head if read.reasons else None
-    return head.value.capitalize() if isinstance(head, ReadName) else "Bad read"
 
 
 def _distinct(numbers: Sequence[int]) -> tuple[int, ...]:

@@ -128,7 +128,7 @@ def _finding(left: Minimal, events: list[Event], conversion: Conversion | None, 
     if run.report is None or run.facts is None or left.run.facts is None:
         raise AuditorFailed(run)
     found = first_found(run.report, run.facts, wanted_of(left.found, left.run.facts).name)
-    return finding_of(found, run.facts, Names(legend))
+    return finding_of(found, run.report, run.facts, Names(legend))
 
 
 def _size(run: Audited) -> str:

@@ -10,6 +10,7 @@ import signal
 from collections.abc import Iterator, Sequence
 from concurrent.futures import ProcessPoolExecutor, as_completed
 from concurrent.futures.process import BrokenProcessPool
+from multiprocessing import active_children
 
 from si_history.auditor import FAULT
 from si_history.run_audit import Job, Row, audit_run
@@ -28,8 +29,12 @@ def in_processes(jobs: Sequence[Job], workers: int) -> Iterator[Row]:
                 yield future.result()
             except BrokenProcessPool:
                 lost.append(done[future])
+    except BaseException:
+        for process in active_children():
+            process.terminate()
+        raise
     finally:
-        pool.shutdown(wait=False, cancel_futures=True)
+        pool.shutdown(cancel_futures=True)
     if len(jobs) == 1:
         yield from (Row(job.name, FAULT, DIED) for job in lost)
     elif lost:
@@ -39,7 +44,7 @@ def in_processes(jobs: Sequence[Job], workers: int) -> Iterator[Row]:
 
 
 def _forget_signals() -> None:
-    """A process of the pool ends as any does: how the command ends is the command's own."""
+    """A process of the pool ends as any does, and not by an interrupt, which ends the auditor and is the command's to meet."""
     for number in (signal.SIGTERM, signal.SIGHUP):
         signal.signal(number, signal.SIG_DFL)
-    signal.signal(signal.SIGINT, signal.SIG_IGN)
+    signal.signal(signal.SIGINT, lambda *_: None)

@@ -12,13 +12,12 @@ from dataclasses import dataclass
 from si_history.cycles import allowing_steps
 from si_history.errors import BadInput
 from si_history.facts import Facts
-from si_history.findings import Found
+from si_history.findings import Found, name_of_read
 from si_history.report import BadRead, BadWrite, Cycle, ReadName, Report, Structure, Unexplained
 
 ALLOWED_CYCLE, CYCLE = "allowed-cycle", "cycle"
 BAD_WRITE, UNEXPLAINED, STRUCTURE = "bad-write", "unexplained", "dangerous"
-READS = {name: name.value.replace(" ", "-") for name in ReadName}
-NAMES = (*READS.values(), BAD_WRITE, CYCLE, ALLOWED_CYCLE, UNEXPLAINED, STRUCTURE)
+NAMES = (*(name.value.replace(" ", "-") for name in ReadName), BAD_WRITE, CYCLE, ALLOWED_CYCLE, UNEXPLAINED, STRUCTURE)
 
 
 @dataclass(frozen=True, slots=True)
@@ -82,7 +81,7 @@ def findings_of(report: Report) -> Iterator[Found]:
 
 
 def _name_of_read(read: BadRead) -> str:
-    head = read.reasons[0].head if read.reasons else None
-    if not isinstance(head, ReadName):
+    name = name_of_read(read)
+    if name is None:
         raise BadInput("the auditor's report has a bad read without its name")
-    return READS[head]
+    return name.replace(" ", "-")

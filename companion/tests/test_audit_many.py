@@ -5,8 +5,11 @@ from __future__ import annotations
 import importlib.util
 import os
 import re
+import signal
 import subprocess
+import sys
 import tempfile
+import time
 import unittest
 from html import unescape
 from pathlib import Path
@@ -18,7 +21,7 @@ from si_history.run_audit import Row
 from si_history.runs import Folder, logs_under
 from si_history.runs_table import status_of, summary_of, table_of
 from tests.fake_auditor import fake_auditor
-from tests.support import NO_PROGRAM, PROGRAM, REPOSITORY, run_command
+from tests.support import COMPANION, LONG_SECONDS, NO_PROGRAM, PROGRAM, REPOSITORY, run_command
 
 KEPT, BROKEN, REFUSED, NOTHING = "r1[1:0] w1[1] c1\n", "r1[1:0] r2[1:0] w1[1] w2[1] c1 c2\n", "r1[1:2]\n", "w1[1] a1\n"
 SKEW = "r1[1:0] r2[2:0] w1[2] w2[1] c1 c2\n"
@@ -174,6 +177,27 @@ class CommandTest(InFolder):
         done = self.audit(auditor=fake_auditor(self.beside, "kill -9 $$"))
         self.assertEqual((done.returncode, done.stderr), (4, b""))
         self.assertIn("the auditor was ended by the signal SIGKILL", done.stdout.decode())
+
+    def test_an_end_on_the_way(self) -> None:
+        """A signal ends the command at once, as it ends any command, and it says nothing more."""
+        self.put(**{f"run{number:02}": KEPT for number in range(8)})
+        for number in (signal.SIGINT, signal.SIGTERM):
+            with self.subTest(signal=number):
+                auditor = fake_auditor(self.beside, 'echo >>"$0.seen"; exec sleep 100')
+                command = [sys.executable, "-m", "si_history", "audit-many", "--auditor", auditor, "--jobs", "2", str(self.folder)]
+                process = subprocess.Popen(
+                    command, stdout=subprocess.PIPE, stderr=subprocess.PIPE, env={**os.environ, "PYTHONPATH": str(COMPANION)},
+                    start_new_session=True,
+                )
+                seen = Path(f"{auditor}.seen")
+                while not seen.exists():
+                    time.sleep(0.02)
+                began = time.monotonic()
+                os.killpg(process.pid, number)
+                self.assertEqual(process.communicate(timeout=LONG_SECONDS), (b"", b""))
+                self.assertLess(time.monotonic() - began, 50)
+                self.assertIn(process.returncode, (130, -number))
+                seen.unlink()
 
     def test_pages(self) -> None:
         """Each run with a verdict has its page, and the link leads there, whatever the run is called."""

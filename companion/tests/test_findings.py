@@ -131,6 +131,22 @@ class SentencesTest(unittest.TestCase):
                 "The read is event 7 (line 17 of the log).", "r9 started after event 6 (line 16 of the log).",
             ))
 
+    def test_what_a_later_report_says_more(self) -> None:
+        """A name that is not known here, a line more, and which snapshots fit the reader."""
+        head = "events 8 committed 3 aborted 0 open 0", "isolation broken", "bad-read 7 3 1 saw 2 due 0"
+        foot = "ssi fail", "serializable no", "cycle 1 >wr:1> 3 >rw:2> 1"
+        below = ["  intermediate read: event 7 r3[1:2]", "  saw: event 5 w2[1], event 6 c2"]
+        for snapshot, said in (
+            (["snapshot 3 from 6 to 7"], ["A snapshot that was taken from after event 6 to after event 7 fits all that transaction 3 read."]),
+            (["snapshot 3 from 0 to 7"], ["A snapshot that was taken from before all events to after event 7 fits all that transaction 3 read."]),
+            (["snapshot 3 none", "  not without event 4 c1: event 7 r3[1:2]"], [
+                "No snapshot fits all that transaction 3 read.", "not without event 4 c1: event 7 r3[1:2]",
+            ]),
+        ):
+            found = told("r3[2:0] w1[1] w1[2] c1 w2[1] c2 r3[1:2] c3", lines(*head, *below, *snapshot, *foot)).findings[0]
+            self.assertTrue(found.title.startswith("Intermediate read: transaction 3 read key 1"), found.title)
+            self.assertEqual(sorted(found.reasons[-len(said) - 1 :]), sorted([*said, "intermediate read: event 7 r3[1:2]"]))
+
     def test_a_range_read(self) -> None:
         bad = example("missed_key", ".explained").findings[0]
         self.assertEqual(bad.title, (
