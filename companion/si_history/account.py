@@ -150,10 +150,15 @@ class _Chronicle:
 
     def _start(self, number: int) -> Moment:
         transaction = self._facts.transaction(number)
-        line = self._names.line(transaction.places[0])
+        first = transaction.places[0]
         return Moment(
-            "start", number, self._say.transaction(number), "started", transaction.start, line, None, self._times(number)[0], {}
+            "start", number, self._say.transaction(number), "started", transaction.start, self._names.line(first), None,
+            self._times(number)[0], self._fields(first) if isinstance(self._facts.event(first), Begin) else {},
         )
+
+    def _fields(self, place: int) -> Mapping[str, object]:
+        """What else the log says beside an event."""
+        return {} if self._log.legend is None else self._log.legend.fields.get(place, {})
 
     def _event(self, place: int) -> Moment:
         event = self._facts.event(place)
@@ -161,7 +166,7 @@ class _Chronicle:
         time = self._times(event.transaction)[1] if what in ("commit", "abort") else None
         return Moment(
             what, event.transaction, self._say.transaction(event.transaction), words, place, self._names.line(place),
-            self._operation(place, event), time, {} if self._log.legend is None else self._log.legend.fields.get(place, {}),
+            self._operation(place, event), time, self._fields(place),
         )
 
     def _did(self, event: Event) -> tuple[str, str]:

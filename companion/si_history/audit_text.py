@@ -128,7 +128,10 @@ def _table(told: Told) -> Iterator[str]:
 
 
 def where(moment: Moment) -> str:
-    """Where something happened: by the log's lines, operations and timestamps, and by the history's events."""
+    """Where something happened: by the log's lines, operations and timestamps, and by the history's events.
+
+    Where each line of the log is an event, its number says both.
+    """
     parts: list[str] = []
     if moment.line is not None:
         parts.append(f"line {moment.line}")
@@ -136,9 +139,9 @@ def where(moment: Moment) -> str:
         parts.append(f"operation {moment.operation}")
     if moment.time is not None:
         parts.append(f"timestamp {moment.time}")
-    if moment.what != "start":
+    if moment.what != "start" and moment.line != moment.place:
         parts.append(f"event {moment.place}")
-    elif moment.line is None:
+    elif moment.what == "start" and moment.line is None:
         parts.append(f"after event {moment.place}" if moment.place else "before all events")
     return ", ".join([*parts, *_fields(moment)])
 

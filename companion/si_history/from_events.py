@@ -35,9 +35,11 @@ transaction's first event. docs/RECORDING.md says how to record a store."""
 
 EPILOG = """\
 examples:
-  si-history from-events run.jsonl >run.history
-  si-history from-events --legend run.legend run.jsonl | si_audit >run.report
-  recorder | si-history from-events - | si_audit"""
+  si-history from-events run.jsonl >run.history && si_audit <run.history
+  si-history from-events --legend run.legend run.jsonl >run.history
+  si-history audit run.jsonl
+
+Where it fails, a file or a pipe ends by the token !incomplete, which si_audit refuses."""
 
 
 def register(commands: argparse._SubParsersAction[argparse.ArgumentParser]) -> None:

@@ -119,6 +119,24 @@ class TextTest(unittest.TestCase):
         self.assertFalse(set(text) & set("\x1b\r"))
         self.assertIn("uncommitted read", text)
 
+    @unittest.skipUnless(PROGRAM.exists(), NO_PROGRAM)
+    def test_what_else_the_log_says(self) -> None:
+        """Fields beside events, such as a clock's times, stand beside what happened; of a start those of its begin."""
+        lines = lines_of([
+            {"txn": "A", "op": "write", "key": "k", "time": "10:01", "session": 3}, {"txn": "A", "op": "commit", "time": "10:02"},
+            {"txn": "B", "op": "begin", "time": "10:03"}, {"txn": "B", "op": "read", "key": "k", "saw": None, "time": "10:04", "by": {}},
+            {"txn": "B", "op": "commit", "time": "10:05"},
+        ])
+        one = by_program(lines)
+        self.assertEqual(text_of_audit(one, account_of(one, 20), Style()).partition("was due.\n")[2], (
+            "   A  started                             line 1\n"
+            "   A  wrote k                             line 1, time 10:01, session 3\n"
+            "   A  committed                           line 2, time 10:02\n"
+            "   B  started                             line 3, time 10:03\n"
+            "   B  read k and saw the initial version  line 4, time 10:04\n"
+            "   B  committed                           line 5, time 10:05\n"
+        ))
+
     def test_unknown_outcomes(self) -> None:
         """A finding that depends on an outcome that nobody knows says so."""
         one = shop()
