@@ -11,10 +11,10 @@ from dataclasses import dataclass
 
 from si_history.audited import Audited, Log
 from si_history.facts import Facts
-from si_history.findings import HEADS, Finding, Kind, groups_of
+from si_history.findings import HEADS, Finding, Kind, groups_of, name_of_read
 from si_history.history import Abort, Begin, Commit, Event, RangeRead, Read, Write
 from si_history.log_kinds import LogKind
-from si_history.report import BadRead, BadWrite, Cycle, Explained, ReadName, Report, Structure, Unexplained
+from si_history.report import BadRead, Explained, Report
 from si_history.wording import Wording
 
 MOST_PARTIES = 12
@@ -53,7 +53,8 @@ class Moment:
 class Told:
     """A finding, as it is told. `breaks` are the levels that no history meets which has it.
 
-    It is undecided where it depends on an outcome that the log doesn't tell.
+    It is undecided where it depends on an outcome that the log doesn't tell. `more` are those of the reasons that only the
+    report tells, and neither the sentence nor the moments.
     """
 
     kind: Kind
@@ -61,6 +62,7 @@ class Told:
     breaks: tuple[str, ...]
     sentence: str
     reasons: tuple[str, ...]
+    more: tuple[str, ...]
     found: Explained
     transactions: tuple[int, ...]
     moments: tuple[Moment, ...]
@@ -116,8 +118,7 @@ def _found(report: Report, kind: Kind) -> Sequence[Explained]:
 
 def name_of(kind: Kind, found: Explained) -> str:
     """What a finding is called: a bad read by the name that the report gives it, any other one by its kind."""
-    head = found.reasons[0].head if found.reasons else None
-    return head.value if kind is Kind.BAD_READ and isinstance(head, ReadName) else NAMES[kind]
+    return (name_of_read(found) if isinstance(found, BadRead) else None) or NAMES[kind]
 
 
 class _Chronicle:
@@ -134,8 +135,8 @@ class _Chronicle:
         moments = {(moment.place, moment.what, moment.number): moment for moment in self._moments(finding, parties)}
         ordered = sorted(moments.values(), key=lambda moment: (moment.place, moment.what == "start"))
         return Told(
-            finding.kind, name_of(finding.kind, found), BREAKS[finding.kind], finding.title, finding.reasons, found, parties,
-            tuple(ordered), self._log.legend is not None and self._log.legend.is_undecided(finding.transactions),
+            finding.kind, name_of(finding.kind, found), BREAKS[finding.kind], finding.title, finding.reasons, finding.more, found,
+            parties, tuple(ordered), self._log.legend is not None and self._log.legend.is_undecided(finding.transactions),
         )
 
     def _moments(self, finding: Finding, parties: Sequence[int]) -> Iterator[Moment]:

@@ -109,6 +109,7 @@ def _findings(audited: Audited, account: Account, style: Style) -> Iterator[str]
         yield f"{style.strong(f'{number}.')} {told.sentence}"
         if told.is_undecided:
             yield "   It depends on an outcome that the log does not tell."
+        yield from (f"   {line}" for line in told.more)
         yield from (f"   {style.faint(line)}" for line in _table(told))
     left = account.total - len(account.told)
     if left > 0:

@@ -6,7 +6,10 @@ import argparse
 from collections.abc import Sequence
 from typing import IO, Any, NoReturn, Protocol
 
-from si_history import __version__, audit_command, audit_many, completion, from_events, from_jepsen, from_transactions, graph, minimize, names, page, startup
+from si_history import (
+    __version__, audit_command, audit_many, completion, from_events, from_jepsen, from_transactions, graph, minimize, names, page,
+    startup,
+)
 from si_history.errors import BadInput, OutputIsInput
 from si_history.files import STANDARD_OUTPUT, write_error, write_output
 from si_history.incomplete import Output, Stopped, end_by, stops_met
@@ -16,13 +19,15 @@ OK = 0
 BAD_INPUT = 2
 
 DESCRIPTION = """\
-Turns the log of a multiversion store into a history for si_audit, and its report
-into names and pictures. It judges nothing: the verdict is si_audit's alone."""
+Goes from the log of a multiversion store to the verdict of si_audit, and puts the
+log's names into its report, in words and in pictures. It judges nothing: the verdict
+is si_audit's alone."""
 
 EPILOG = """\
 Status 0: all went well. Status 2: the input or the command line is bad, or what
 was made can't be written; one line on standard error says why. Where a history was
 to be written into a file or a pipe, the token !incomplete is, which no auditor takes.
+The statuses of audit and audit-many stand in their help.
 Each command has its own help: si-history COMMAND --help"""
 
 
@@ -37,7 +42,18 @@ class Command(Protocol):
 
 
 # The command modules, in the order in which --help lists them.
-COMMANDS: tuple[Command, ...] = (audit_command, from_events, from_transactions, from_jepsen, names, graph, page, minimize, audit_many, record)
+COMMANDS: tuple[Command, ...] = (
+    audit_command,
+    audit_many,
+    minimize,
+    from_events,
+    from_transactions,
+    from_jepsen,
+    names,
+    graph,
+    page,
+    record,
+)
 
 
 class BadCommandLine(BadInput):

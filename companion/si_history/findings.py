@@ -59,7 +59,10 @@ class Arrow:
 
 @dataclass(frozen=True, slots=True)
 class Finding:
-    """One finding: what was found, why, and which transactions and places it is about, the foremost first."""
+    """One finding: what was found, why, and which transactions and places it is about, the foremost first.
+
+    `more` are those of the reasons that only the report tells.
+    """
 
     kind: Kind
     title: str
@@ -67,6 +70,7 @@ class Finding:
     transactions: tuple[int, ...]
     places: tuple[int, ...]
     arrows: tuple[Arrow, ...] = ()
+    more: tuple[str, ...] = ()
 
 
 @dataclass(frozen=True, slots=True)
@@ -120,8 +124,8 @@ class _Teller:
         self._snapshots = {snapshot.transaction: snapshot for snapshot in snapshots}
 
     def finding(self, found: Found) -> Finding:
-        told = self._told(found)
-        return replace(told, reasons=(*told.reasons, *self._more(found)))
+        told, more = self._told(found), tuple(self._more(found))
+        return replace(told, reasons=(*told.reasons, *more), more=more)
 
     def _more(self, found: Found) -> Iterator[str]:
         """What else the report says of a finding, and of the snapshots that fit its reader."""

@@ -44,10 +44,10 @@ class LeftOut:
     def explain(self, line: str) -> None:
         """Looks at a line below the last finding, which may name it. Raises Malformed where no report has such a line."""
         found = _REASON.fullmatch(line)
-        if found is None:
-            if not is_remark(line):
-                raise Malformed(f"no report explains a finding by the line {short(line)}")
-        elif found[1] is not None and not self._is_named:
+        if found is None and not is_remark(line):
+            raise Malformed(f"no report explains a finding by the line {short(line)}")
+        name = line.partition(": ")[0] if found is None else found[1]
+        if name is not None and not self._is_named:
             self._is_named = True
             self.counts[self._head, NAMES[self._head]] -= 1
-            self.counts[self._head, found[1]] += 1
+            self.counts[self._head, name] += 1

@@ -37,7 +37,7 @@ class _Writer:
         head = reason.head
         if isinstance(head, Edge):
             return f"{self._transaction(head.source)} >{head.kind.value}:{self._key(head.key)}> {self._transaction(head.target)}"
-        return head.value
+        return str(head.value)
 
     def _part(self, part: Placed | Version | Started) -> str:
         if isinstance(part, Started):

@@ -280,7 +280,9 @@ class _Reader:
                 self._outcomes.append(Order(tuple(map(number_of, words[1:]))))
                 return None
             case "cycle":
-                return _put(self._outcomes, _cycle(words))
+                cycle = _cycle(words)
+                self._outcomes.append(cycle)
+                return cycle
         raise Malformed("it stands alone")
 
     def report(self) -> Report:

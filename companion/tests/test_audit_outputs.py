@@ -137,6 +137,16 @@ class TextTest(unittest.TestCase):
             "   B  committed                           line 5, time 10:05\n"
         ))
 
+    def test_what_else_the_report_says(self) -> None:
+        """A report of a later auditor: a name that is not known, and a snapshot that fits."""
+        report = EXPLAINED.read_text().replace("  future read: ", "  early read: ").replace("ssi fail", "snapshot 2 from 20 to 22\nssi fail")
+        one = by_report(report, 1, SHOP.read_bytes())
+        text = text_of_audit(one, account_of(one, 20), Style())
+        self.assertIn("\n  1 early read\n", text)
+        self.assertIn("\n   A snapshot that was taken from after event 20 (line 3 of the log) to after event 22 (line 6 of the log) fits", text)
+        made = json_of(one)
+        self.assertEqual((SCHEMA.faults(made), made["counts"], made["findings"][0]["name"]), ([], {"early read": 1}, "early read"))
+
     def test_unknown_outcomes(self) -> None:
         """A finding that depends on an outcome that nobody knows says so."""
         one = shop()
