@@ -16,8 +16,8 @@ from contextlib import contextmanager
 from types import FrameType
 from typing import NoReturn
 
-MARK = "!incomplete"
-"""No event starts with this sign, and no line of a log does."""
+from si_history.startup import MARK
+
 ENDING = (signal.SIGTERM, signal.SIGHUP)
 
 
@@ -98,7 +98,7 @@ def stops_met() -> Iterator[None]:
     if threading.current_thread() is not threading.main_thread():
         yield
         return
-    before = {number: signal.signal(number, _stop) for number in ENDING if signal.getsignal(number) == signal.SIG_DFL}
+    before = {number: signal.signal(number, _stop) for number in ENDING if signal.getsignal(number) != signal.SIG_IGN}
     try:
         yield
     finally:

@@ -5,16 +5,21 @@ from __future__ import annotations
 import os
 import signal
 from collections.abc import Iterator
-from contextlib import contextmanager
+from contextlib import contextmanager, suppress
 from types import FrameType
 
 INTERRUPTED = 130
+MARK = "!incomplete"
+"""Ends an output that isn't whole, as `incomplete` says. No event starts with this sign, and no line of a log does."""
 
 
 def prepare() -> None:
     """Readies the process. Call it before the other modules are imported."""
     if signal.getsignal(signal.SIGINT) in (signal.default_int_handler, signal.SIG_DFL):
         signal.signal(signal.SIGINT, _end)
+    for number in (signal.SIGTERM, signal.SIGHUP):
+        if signal.getsignal(number) == signal.SIG_DFL:
+            signal.signal(number, _end_by)
     _fill_devices()
 
 
@@ -33,7 +38,22 @@ def interrupts_raised() -> Iterator[None]:
 
 def _end(_number: int, _frame: FrameType | None) -> None:
     """Ends the process at once. Nothing is under way that would have to be undone."""
+    _mark()
     os._exit(INTERRUPTED)
+
+
+def _end_by(number: int, _frame: FrameType | None) -> None:
+    """Ends the process at once, as the signal does by itself."""
+    _mark()
+    signal.signal(number, signal.SIG_DFL)
+    os.kill(os.getpid(), number)
+
+
+def _mark() -> None:
+    """Ends an output that may be a history by the mark. Nobody audits what is on a terminal."""
+    with suppress(OSError):
+        if not os.isatty(1):
+            os.write(1, f"{MARK}\n".encode())
 
 
 def _fill_devices() -> None:

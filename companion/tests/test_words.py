@@ -103,28 +103,30 @@ class NamesTest(unittest.TestCase):
 
 
 class InterruptsTest(unittest.TestCase):
-    """An interrupt at the keyboard gives status 130 and no traceback, whatever is under way."""
+    """An interrupt at the keyboard gives status 130 and no traceback, whatever is under way, and no empty history."""
 
-    def check_interrupted(self, module: str) -> None:
-        """An interrupt comes while this module is looked for."""
+    def check_ended(self, module: str, number: int, status: int) -> None:
+        """A signal comes while this module is looked for."""
         script = textwrap.dedent(f"""
             import os, runpy, signal, sys
             class Interrupt:
                 def find_spec(self, name, *_):
                     if name == {module!r}:
-                        os.kill(os.getpid(), signal.SIGINT)
+                        os.kill(os.getpid(), {int(number)})
             sys.meta_path.insert(0, Interrupt())
             sys.argv = ["si-history", "--version"]
             runpy.run_module("si_history", run_name="__main__")
         """)
         done = subprocess.run([sys.executable, "-B", "-c", script], capture_output=True, timeout=LONG_SECONDS,
                               env={**os.environ, "PYTHONPATH": str(COMPANION)})
-        self.assertEqual((done.returncode, done.stdout, done.stderr), (130, b"", b""))
+        self.assertEqual((done.returncode, done.stdout, done.stderr), (status, MARKED, b""))
 
     def test_modules_load(self) -> None:
         for module in ("si_history.cli", "argparse", "si_history.graph", "json.decoder", "si_history.record.command"):
             with self.subTest(module):
-                self.check_interrupted(module)
+                self.check_ended(module, signal.SIGINT, 130)
+        for number in (signal.SIGTERM, signal.SIGHUP):
+            self.check_ended("si_history.cli", number, -number)
 
     def test_input_is_awaited(self) -> None:
         with subprocess.Popen([sys.executable, "-B", "-m", "si_history", "from-events", "-"], stdin=subprocess.PIPE,
