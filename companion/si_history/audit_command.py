@@ -20,7 +20,7 @@ from si_history.findings import groups_of
 from si_history.log_kinds import LogKind
 from si_history.naming import shown
 from si_history.policy import add_value_arguments, add_values_argument, add_writer_argument, policy_of
-from si_history.progress import Waiting, silence
+from si_history.progress import Waiting, silenced
 from si_history.unseen import visible
 
 MOST_TOLD = 20
@@ -88,18 +88,22 @@ def register(commands: argparse._SubParsersAction[argparse.ArgumentParser]) -> N
 
 def run(arguments: argparse.Namespace) -> int:
     """Audits the log, writes what is wanted, and answers the status."""
-    if arguments.quiet:
-        silence()
     _check_outputs(arguments)
-    source = source_name(arguments.log)
-    try:
-        made = _Made(arguments)
-    except BadInput as fault:
-        _write(arguments.json, json_of_fault(source, arguments.check, str(fault)))
-        _write(arguments.junit, junit_of_fault(source, arguments.check, str(fault)))
-        raise
-    made.write()
+    with silenced(arguments.quiet):
+        try:
+            made = _Made(arguments)
+        except BadInput as fault:
+            _write_fault(arguments, str(fault))
+            raise
+        made.write()
     return made.audited.status
+
+
+def _write_fault(arguments: argparse.Namespace, problem: str) -> None:
+    """Writes of a log that was not audited what is wanted as data. What can't be written is no news beside the problem."""
+    source, outputs = source_name(arguments.log), _Outputs()
+    outputs.write(arguments.json, json_of_fault(source, arguments.check, problem))
+    outputs.write(arguments.junit, junit_of_fault(source, arguments.check, problem))
 
 
 class _Made:

@@ -5,6 +5,8 @@ from __future__ import annotations
 import sys
 import threading
 import time
+from collections.abc import Iterator
+from contextlib import contextmanager
 
 REPORT_LINES = "lines of the report"
 SILENT_SECONDS = 1.0
@@ -35,9 +37,15 @@ class _Line:
             print(WIPE, end="", file=sys.stderr, flush=True)
 
 
-def silence() -> None:
-    """From here on nothing tells how far work has come."""
-    _Line.is_silenced = True
+@contextmanager
+def silenced(is_wanted: bool = True) -> Iterator[None]:
+    """Within it, where that is wanted, nothing tells how far work has come."""
+    before = _Line.is_silenced
+    _Line.is_silenced = before or is_wanted
+    try:
+        yield
+    finally:
+        _Line.is_silenced = before
 
 
 class Progress:

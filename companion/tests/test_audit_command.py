@@ -223,6 +223,11 @@ class FailureTest(AuditTest):
         self.fake("echo 'error: unexpected argument' >&2; exit 2")
         self.fails(2, "standard input: the auditor refused its arguments, so it is too old or too new: error: unexpected argument")
 
+    def test_data_of_a_fault_that_can_not_be_written(self) -> None:
+        """What went wrong first is told."""
+        self.fake("exit 0")
+        self.ends(2, "si-history: nosuch: No such file or directory\n", "--json", "no/json", "--junit", "no/junit", "nosuch")
+
     def test_another_program(self) -> None:
         self.auditor = "/bin/true"
         self.fails(2, '"/bin/true" is no auditor, or one that is too old: it tells no version; si_audit 0.2.0 or later is wanted')

@@ -47,9 +47,12 @@ class ProgressTest(unittest.TestCase):
         self.assertEqual(shown(io.StringIO(), (9.0, 1_000)), "")
 
     def test_silence(self) -> None:
-        with mock.patch.object(progress._Line, "is_silenced", False):
-            progress.silence()
+        with progress.silenced():
             self.assertEqual(shown(Terminal(), (9.0, 1_000)), "")
+            with progress.silenced(False):
+                self.assertEqual(shown(Terminal(), (9.0, 1_000)), "")
+        with progress.silenced(False):
+            self.assertNotEqual(shown(Terminal(), (9.0, 1_000)), "")
 
     def test_a_bar(self) -> None:
         for count, bar in ((0, "." * 24), (1, "###" + "." * 21), (7, "#" * 21 + "..."), (8, "#" * 24), (9, "#" * 24)):
