@@ -57,6 +57,9 @@ _TOKEN = re.compile(
     re.VERBOSE | re.DOTALL,
 )
 _WHOLE, _KEYWORD, _OPEN, _CLOSE, _STRING, _DISPATCH, _CHARACTER, _OTHER = range(1, 9)
+_PLAIN = rf"(?:0|-?[1-9][0-9]*+|nil|:[a-z-]++)(?!{_IN_WORD})"
+_RUN = re.compile(rf"{_PLAIN}(?:[ ,\n]++{_PLAIN})*+")
+_VECTOR = re.compile(rf"\[((?:{_PLAIN}(?:[ ,\n]++{_PLAIN})*+)?)\]")
 _BLANK = re.compile(r"(?:[ \t\r\n\f,]++|;[^\n]*+)*+")
 
 _CLOSES = {"(": ")", "[": "]", "{": "}", "#{": "}"}
@@ -75,6 +78,14 @@ _LEFT_OUT = "_"
 
 class _Bad(ValueError):
     """What is no EDN at the place that is being read. Its text is the reason."""
+
+
+class _Words(dict[str, Form]):
+    """Whole numbers, keywords and nil by how they are written, each made when it first comes."""
+
+    def __missing__(self, word: str) -> Form:
+        self[word] = Keyword(word) if word.startswith(":") else _CONSTANTS[word] if word in _CONSTANTS else _whole(word)
+        return self[word]
 
 
 @dataclass(slots=True)
@@ -111,17 +122,28 @@ class _Reader:
         self._text = text
         self._counted, self._line = 0, 1
         self._frames = [_Frame("", 0)]
+        self._words = _Words()
         self._begin = _end_of_blank(text, 0)
         self._base = 2 if text.startswith(("[", "("), self._begin) else 1
 
     def forms(self) -> Iterator[tuple[int, Form]]:
         """As the function of this name."""
-        frames, base, first = self._frames, self._base, -1
-        end = 0
-        while match := _TOKEN.match(self._text, end):
+        text, frames, base, words = self._text, self._frames, self._base, self._words
+        first, end = -1, 0
+        while match := _TOKEN.match(text, end):
             kind = match.lastindex or 0
             at, end = match.start(kind), match.end()
             try:
+                if len(frames) > base and not frames[-1].waiting:
+                    # What there is most of, at once: runs of words, and vectors of them.
+                    if kind <= _KEYWORD and (plain := _RUN.match(text, at)):
+                        end = plain.end()
+                        frames[-1].items += [words[word] for word in plain[0].replace(",", " ").split()]
+                        continue
+                    if kind == _OPEN and (plain := _VECTOR.match(text, at)):
+                        end = plain.end()
+                        frames[-1].items.append([words[word] for word in plain[1].replace(",", " ").split()])
+                        continue
                 self._take(kind, match[kind], at)
             except _Bad as fault:
                 self._refuse(str(fault), at)
@@ -131,7 +153,7 @@ class _Reader:
                 if frames[-1].items:
                     yield self._line_of(at if first < 0 else first), frames[-1].items.pop()
                 first = -1
-        self._check_end(_end_of_blank(self._text, end))
+        self._check_end(_end_of_blank(text, end))
 
     def _check_end(self, end: int) -> None:
         """Refuses a text that ends too early, or goes on with what is nothing."""
@@ -149,10 +171,8 @@ class _Reader:
         frame = self._frames[-1]
         if self._base == 2 and not frame.opened and at > self._begin:
             raise _Bad("something stands behind the end of the list that holds all forms")
-        if kind == _WHOLE:
-            frame.add(_whole(word))
-        elif kind == _KEYWORD:
-            frame.add(Keyword(word))
+        if kind <= _KEYWORD:
+            frame.add(self._words[word])
         elif kind == _OPEN or kind == _DISPATCH and word == "{":
             if len(self._frames) > MAX_DEPTH:
                 raise _Bad(f"a form stands deeper than {MAX_DEPTH}")
@@ -217,7 +237,11 @@ def _map_of(items: list[Form]) -> dict[Form, Form]:
     """A map of keys and values that come in turn."""
     if len(items) % 2:
         raise _Bad("a map has a key without a value")
-    made = dict(zip(map(_hashable, items[::2]), items[1::2]))
+    keys = items[::2]
+    try:
+        made = dict(zip(keys, items[1::2]))
+    except TypeError:
+        made = dict(zip(map(_hashable, keys), items[1::2]))
     if 2 * len(made) < len(items):
         raise _Bad("a key stands twice in a map")
     return made

@@ -110,7 +110,8 @@ def _add(entry: _Entry, invoked: _Entry | None, history: JepsenHistory, names: d
         entry.refuse(f"the index {index} is that of line {names[name]}")
     start, commit = _time(entry, invoked, times.start), _time(entry, invoked, times.commit)
     made = LogTransaction(entry.line, name, start or 0, commit, kind == FAIL, [], kind not in (OK, FAIL), has_start=start is not None)
-    made.others[0] = {str(name)[1:]: _json_of(value) for name, value in entry.fields.items() if name not in {*KNOWN, times.start, times.commit}}
+    known = KNOWN | {times.start, times.commit}
+    made.others[0] = {str(name)[1:]: _json_of(value) for name, value in entry.fields.items() if name not in known}
     _add_operations(entry, invoked, made, history)
     if kind == OK and commit is None and not made.has_writes():
         made.commit = made.start
@@ -215,6 +216,8 @@ def _scalar(entry: _Entry, form: Form, what: str) -> Key:
 
 def _json_of(form: Form) -> object:
     """A form as JSON has it: keywords and symbols are strings, and a tag leads to its form."""
+    if type(form) is int or type(form) is str or form is None:
+        return form
     if isinstance(form, Decimal):
         return int(form) if form.adjusted() < MOST_DIGITS and form == form.to_integral_value() else str(form)
     if isinstance(form, Fraction):

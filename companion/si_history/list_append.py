@@ -8,7 +8,6 @@ others come behind them, and those that committed come by their commits.
 from __future__ import annotations
 
 from dataclasses import dataclass, field
-from itertools import groupby
 
 from si_history.errors import BadInput, quoted
 from si_history.jepsen import JepsenHistory, SeenList
@@ -77,7 +76,7 @@ class _Lists:
         if len(set(items)) < len(items):
             twice = next(item for number, item in enumerate(items) if item in items[:number])
             raise BadInput(f"{_told(reader, key, items)} has {shown_key(twice)} twice", line=reader.line)
-        groups = [_Group(writer, list(run)) for writer, run in groupby(items, lambda item: self.writers.get((key, item)))]
+        groups = _groups(items, [self.writers.get((key, item)) for item in items])
         for number, group in enumerate(groups, 1):
             if group.writer is not None:
                 self._check_items(reader, key, items, group, is_last=number == len(groups))
@@ -106,6 +105,17 @@ class _Lists:
         place = next(firsts, operation) if has_own else operation
         self.before.setdefault(id(place), []).append(ReadOperation(operation.key, None, item))
         self.readers.add(reader.name)
+
+
+def _groups(items: list[Key], writers: list[LogTransaction | None]) -> list[_Group]:
+    """The items of a list by their writers."""
+    groups: list[_Group] = []
+    for item, writer in zip(items, writers):
+        if groups and groups[-1].writer is writer:
+            groups[-1].items.append(item)
+        else:
+            groups.append(_Group(writer, [item]))
+    return groups
 
 
 def _check_order(reader: LogTransaction, key: Key, items: list[Key], groups: list[_Group]) -> None:
