@@ -71,10 +71,14 @@ class Told:
 
 @dataclass(slots=True)
 class Account:
-    """What is told of an audit: how many findings there are of each name, and the first of them."""
+    """What is told of an audit: how many findings there are of each name, and the first of them.
+
+    `undecided` is how many of those that the report keeps depend on an outcome that the log doesn't tell.
+    """
 
     counts: dict[str, int]
     told: list[Told]
+    undecided: int = 0
 
     @property
     def total(self) -> int:
@@ -93,7 +97,16 @@ def account_of(audited: Audited, most: int | None) -> Account:
         for finding, found in zip(group.findings, _found(report, group.kind))
     ]
     told.sort(key=lambda one: audited.level not in one.breaks)
-    return Account(dict(_counts(report)), told[:most])
+    return Account(dict(_counts(report)), told[:most], _undecided(audited.log, report, facts))
+
+
+def _undecided(log: Log, report: Report, facts: Facts) -> int:
+    """How many findings depend on an outcome that the log doesn't tell; a pivot is no finding of its own."""
+    if log.legend is None or not log.legend.outcomes:
+        return 0
+    groups = groups_of(report, facts, log.names, None)
+    findings = [finding for group in groups if group.kind is not Kind.PIVOT for finding in group.findings]
+    return sum(log.names.is_undecided(finding.deciding) for finding in findings)
 
 
 def _counts(report: Report) -> Counter[str]:
@@ -136,7 +149,7 @@ class _Chronicle:
         ordered = sorted(moments.values(), key=lambda moment: (moment.place, moment.what == "start"))
         return Told(
             finding.kind, name_of(finding.kind, found), BREAKS[finding.kind], finding.title, finding.reasons, finding.more, found,
-            parties, tuple(ordered), self._log.legend is not None and self._log.legend.is_undecided(finding.transactions),
+            parties, tuple(ordered), self._names.is_undecided(finding.deciding),
         )
 
     def _moments(self, finding: Finding, parties: Sequence[int]) -> Iterator[Moment]:

@@ -25,7 +25,7 @@ def json_of_audit(audited: Audited, account: Account, auditor: str) -> str:
         teller = _Teller(audited.facts, log.legend or Legend())
         made |= {"verdicts": _verdicts(report), "levels": {level: report.meets(level) for level in LEVELS}}
         made |= {"counts": account.counts, "findings": [teller.finding(told) for told in account.told]}
-        made |= {"left_out": account.total - len(account.told)}
+        made |= {"left_out": account.total - len(account.told), "undecided": account.undecided}
     return _line(made)
 
 
@@ -42,7 +42,7 @@ def _head(source: str, level: str, status: int, problem: str | None) -> Json:
     return {
         "format": FORMAT, "log": source, "level": level, "status": status, "outcome": OUTCOMES[status], "problem": problem,
         "kind": None, "auditor": None, "history": None, "verdicts": None, "levels": None, "counts": {}, "findings": [],
-        "left_out": 0,
+        "left_out": 0, "undecided": 0,
     }
 
 

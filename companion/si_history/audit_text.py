@@ -92,6 +92,8 @@ def _names(account: Account) -> Iterator[str]:
         yield "no finding"
         return
     yield ", ".join(_counted(count, name) for name, count in account.counts.items())
+    if account.undecided:
+        yield f"of those looked at {account.undecided:,} undecided: the log does not tell an outcome on which they depend"
 
 
 def _counted(count: int, name: str) -> str:

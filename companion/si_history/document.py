@@ -147,7 +147,7 @@ def _group(group: Group, number: int, names: Names) -> Iterator[str]:
             f' data-transactions="{" ".join(map(str, finding.transactions))}" data-places="{" ".join(map(str, finding.places))}">'
             f"{escape(finding.title)}</button>"
         )
-        reasons = [*finding.reasons, *([UNDECIDED] if names.is_undecided(finding.transactions) else [])]
+        reasons = [*finding.reasons, *([UNDECIDED] if names.is_undecided(finding.deciding) else [])]
         yield "<ul>" + "".join(f"<li>{escape(reason)}</li>" for reason in reasons) + "</ul></li>"
     yield "</ol>"
     if group.count > len(group.findings):

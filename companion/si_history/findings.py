@@ -72,6 +72,11 @@ class Finding:
     arrows: tuple[Arrow, ...] = ()
     more: tuple[str, ...] = ()
 
+    @property
+    def deciding(self) -> tuple[int, ...]:
+        """The transactions on whose outcomes it depends. That of a reader makes no difference to what its read had to see."""
+        return self.transactions[1:] if self.kind in (Kind.BAD_READ, Kind.UNEXPLAINED) else self.transactions
+
 
 @dataclass(frozen=True, slots=True)
 class Group:

@@ -15,6 +15,8 @@ from si_history.reasons import is_remark, reason_of
 from si_history.report_text import INDENT, ReportText, edge_of, read_report
 from si_history.report_words import Malformed
 
+UNDECIDED = "undecided"
+
 EPILOG = """\
 Each line of the report comes out with the log's names in place of numbers, and with
 "line N", a line of the log, in place of the place of an event. Version 0, which no
@@ -31,7 +33,8 @@ what it is stands in words:
   saw: event 3 w2[1], event 4 c2  becomes  saw: event 3 (line 2) T2 wrote acct/5,
                                            event 4 (line 2) T2 committed
 
-A name that could be misread, with a space or a quote in it for example, is written as
+A finding that depends on whether a transaction committed of which the log doesn't tell
+that ends with "undecided". A name that could be misread, with a space or a quote in it for example, is written as
 a JSON string.
 
 examples:
@@ -82,9 +85,18 @@ def named_lines(text: ReportText, names: Names) -> Iterator[str]:
             if line.startswith(INDENT):
                 yield INDENT + _told(line.removeprefix(INDENT), names)
             else:
-                yield named_line(line, names)
+                yield named_line(line, names) + (f" {UNDECIDED}" if names.is_undecided(_deciding(line)) else "")
         except Malformed as fault:
             raise text.no_report(number, fault) from None
+
+
+def _deciding(line: str) -> list[int]:
+    """The transactions on whose outcomes the finding of a line depends. That of a reader makes no difference to its read."""
+    head, *words = line.split(" ")
+    if head in ("cycle", "dangerous"):
+        return [int(word) for word in words if word.isdigit()]
+    numbers = [int(words[at]) for at in _PARTIES.get(head, ())]
+    return [number for number in numbers if head == "bad-write" or number != int(words[1])]
 
 
 def _told(line: str, names: Names) -> str:
@@ -140,6 +152,9 @@ def _stop_or_step(names: Names, word: str) -> str:
         return f">{kind}:{_key(names, key)}>"
     return _transaction(names, word) if word.isdigit() else word
 
+
+_PARTIES = {"bad-read": (4, 6), "bad-write": (1, 2), "unexplained": (3,)}
+"""Which words of a line, after the first one, are transactions on whose outcomes it depends."""
 
 _PARTS: dict[str, tuple[Callable[[Names, str], str], ...]] = {
     "bad-read": (_place, _transaction, _key, _as_it_is, _version, _as_it_is, _version),

@@ -15,7 +15,7 @@ from si_history.legend import Legend
 from si_history.unseen import is_unmistakable
 
 MAX_LEGEND_BYTES = 1 << 28
-_WORDS_OF_REPORTS = {"0", "in", "out", "first", "saw", "due", "line"}
+_WORDS_OF_REPORTS = {"0", "in", "out", "first", "saw", "due", "line", "undecided"}
 """Words and the version 0 that stand beside names in a report with names."""
 _MISREAD = re.compile(r'[\s"\\<>]')
 _SIGNS_OF_EVENTS = re.compile(r"[\[\]:;,()]|\.\.")
