@@ -43,23 +43,24 @@ class Tagged:
 
 # What may stand in a word: all but white space, commas, and the signs that begin or end something else.
 _IN_WORD = r'[^ \t\r\n\f,;"()\[\]{}\\^`~@]'
+# What a history has most of is read at once: runs of plain words, and vectors of them.
+_PLAIN = rf"(?:0|-?[1-9][0-9]*+|nil|:[a-z-]++)(?!{_IN_WORD})"
+_RUN = rf"{_PLAIN}(?:[\ ,\n]++{_PLAIN})*+"
 _TOKEN = re.compile(
     rf"""(?:[ \t\r\n\f,]++|;[^\n]*+)*+(?:
-    ([+-]?(?:0|[1-9][0-9]*+)(?!{_IN_WORD}))
-    |(:{_IN_WORD}++)
+    ({_RUN})
+    |\[((?:{_RUN})?)\]
     |([(\[{{])
     |([)\]}}])
     |"((?:[^"\\]++|\\.)*+)"
+    |([+-]?(?:0|[1-9][0-9]*+)(?!{_IN_WORD})|:{_IN_WORD}++)
     |\#(_|\{{|\#-?[A-Za-z]++|:?[A-Za-z]{_IN_WORD}*+)
     |\\([a-z]++(?:[0-9a-fA-F]{{4}})?|[^ \t\r\n\f])
     |({_IN_WORD}++)
     )""",
     re.VERBOSE | re.DOTALL,
 )
-_WHOLE, _KEYWORD, _OPEN, _CLOSE, _STRING, _DISPATCH, _CHARACTER, _OTHER = range(1, 9)
-_PLAIN = rf"(?:0|-?[1-9][0-9]*+|nil|:[a-z-]++)(?!{_IN_WORD})"
-_RUN = re.compile(rf"{_PLAIN}(?:[ ,\n]++{_PLAIN})*+")
-_VECTOR = re.compile(rf"\[((?:{_PLAIN}(?:[ ,\n]++{_PLAIN})*+)?)\]")
+_WORDS, _VECTOR, _OPEN, _CLOSE, _STRING, _WORD, _DISPATCH, _CHARACTER, _OTHER = range(1, 10)
 _BLANK = re.compile(r"(?:[ \t\r\n\f,]++|;[^\n]*+)*+")
 
 _CLOSES = {"(": ")", "[": "]", "{": "}", "#{": "}"}
@@ -116,11 +117,15 @@ def forms(text: str) -> Iterator[tuple[int, Form]]:
 
 
 class _Reader:
-    """Reads a text form by form. `_base` is how many frames are open where a form is to be given."""
+    """Reads a text form by form.
+
+    `_base` is how many frames are open where a form is to be given, and `_first` where one began that isn't ended.
+    """
 
     def __init__(self, text: str) -> None:
         self._text = text
         self._counted, self._line = 0, 1
+        self._first = -1
         self._frames = [_Frame("", 0)]
         self._words = _Words()
         self._begin = _end_of_blank(text, 0)
@@ -129,31 +134,42 @@ class _Reader:
     def forms(self) -> Iterator[tuple[int, Form]]:
         """As the function of this name."""
         text, frames, base, words = self._text, self._frames, self._base, self._words
-        first, end = -1, 0
+        end = 0
         while match := _TOKEN.match(text, end):
-            kind = match.lastindex or 0
-            at, end = match.start(kind), match.end()
+            kind, end = match.lastindex or 0, match.end()
+            at = match.start(kind)
             try:
-                if len(frames) > base and not frames[-1].waiting:
-                    # What there is most of, at once: runs of words, and vectors of them.
-                    if kind <= _KEYWORD and (plain := _RUN.match(text, at)):
-                        end = plain.end()
-                        frames[-1].items += [words[word] for word in plain[0].replace(",", " ").split()]
-                        continue
-                    if kind == _OPEN and (plain := _VECTOR.match(text, at)):
-                        end = plain.end()
-                        frames[-1].items.append([words[word] for word in plain[1].replace(",", " ").split()])
-                        continue
-                self._take(kind, match[kind], at)
+                if kind <= _VECTOR and len(frames) > base and not frames[-1].waiting:
+                    made = [words[word] for word in match[kind].replace(",", " ").split()]
+                    frames[-1].items += made if kind == _WORDS else [made]
+                elif kind == _WORDS:
+                    yield from self._take_words(match[kind], at)
+                elif kind == _VECTOR:
+                    at, end = at - 1, at
+                    yield from self._take(_OPEN, "[", at)
+                else:
+                    yield from self._take(kind, match[kind], at)
             except _Bad as fault:
                 self._refuse(str(fault), at)
-            if len(frames) > base or frames[-1].waiting:
-                first = at if first < 0 else first
-            elif len(frames) == base:
-                if frames[-1].items:
-                    yield self._line_of(at if first < 0 else first), frames[-1].items.pop()
-                first = -1
         self._check_end(_end_of_blank(text, end))
+
+    def _take_words(self, words: str, at: int) -> Iterator[tuple[int, Form]]:
+        """Takes words one by one, as they stand from a place on."""
+        for word in words.replace(",", " ").split():
+            at = self._text.index(word, at)
+            yield from self._take(_WORD, word, at)
+            at += len(word)
+
+    def _take(self, kind: int, word: str, at: int) -> Iterator[tuple[int, Form]]:
+        """Takes one token, and gives the form that it ends, if it is one that is to be given."""
+        self._put(kind, word, at)
+        frame = self._frames[-1]
+        if len(self._frames) > self._base or frame.waiting:
+            self._first = at if self._first < 0 else self._first
+        elif len(self._frames) == self._base:
+            if frame.items:
+                yield self._line_of(at if self._first < 0 else self._first), frame.items.pop()
+            self._first = -1
 
     def _check_end(self, end: int) -> None:
         """Refuses a text that ends too early, or goes on with what is nothing."""
@@ -166,12 +182,12 @@ class _Reader:
         if frame.opened:
             self._refuse(f"what begins here with {frame.opened} doesn't end", frame.at)
 
-    def _take(self, kind: int, word: str, at: int) -> None:
-        """Takes one token."""
+    def _put(self, kind: int, word: str, at: int) -> None:
+        """Puts one token where it belongs."""
         frame = self._frames[-1]
         if self._base == 2 and not frame.opened and at > self._begin:
             raise _Bad("something stands behind the end of the list that holds all forms")
-        if kind <= _KEYWORD:
+        if kind == _WORD:
             frame.add(self._words[word])
         elif kind == _OPEN or kind == _DISPATCH and word == "{":
             if len(self._frames) > MAX_DEPTH:
