@@ -93,7 +93,7 @@ def _names(account: Account) -> Iterator[str]:
         return
     yield ", ".join(_counted(count, name) for name, count in account.counts.items())
     if account.undecided:
-        yield f"of those looked at {account.undecided:,} undecided: the log does not tell an outcome on which they depend"
+        yield f"{account.undecided:,} undecided, by an outcome that the log does not tell"
 
 
 def _counted(count: int, name: str) -> str:

@@ -35,7 +35,7 @@ class UndecidedTest(unittest.TestCase):
     def test_the_text(self) -> None:
         text = self.done.stdout.decode()
         self.assertEqual((self.done.returncode, self.done.stderr), (1, b""))
-        self.assertIn("of those looked at 1 undecided: the log does not tell an outcome on which they depend\n", text)
+        self.assertIn("  1 undecided, by an outcome that the log does not tell\n", text)
         self.assertEqual(text.count("   It depends on an outcome that the log does not tell.\n"), 1)
 
     def test_the_data(self) -> None:
