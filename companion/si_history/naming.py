@@ -14,6 +14,7 @@ from si_history.files import read_text, source_name
 from si_history.legend import Legend
 from si_history.unseen import is_unmistakable
 
+LONGEST_FIELD = 60
 MAX_LEGEND_BYTES = 1 << 28
 _WORDS_OF_REPORTS = {"0", "in", "out", "first", "saw", "due", "line", "undecided"}
 """Words and the version 0 that stand beside names in a report with names."""
@@ -86,6 +87,11 @@ class Names:
         line = self.line(place) if place else None
         return f"event {place}" if line is None else f"event {place} (line {line})"
 
+    def beside(self, place: int) -> str:
+        """What else the log says beside an event, in words, each cut where it is long. Empty where it says nothing else."""
+        fields = {} if self._legend is None else self._legend.fields.get(place, {})
+        return ", ".join(f"{shown(name)} {_cut(shown(said) if isinstance(said, str) else json.dumps(said))}" for name, said in fields.items())
+
     def is_undecided(self, transactions: Iterable[int]) -> bool:
         """Whether a finding about these transactions depends on an outcome that the log doesn't tell."""
         return self._legend is not None and self._legend.is_undecided(transactions)
@@ -94,6 +100,10 @@ class Names:
         """Raises BadInput where the legend was written with another history than the one with this text."""
         if self._legend is not None:
             self._legend.check(history)
+
+
+def _cut(text: str) -> str:
+    return text if len(text) <= LONGEST_FIELD else f"{text[:LONGEST_FIELD]}..."
 
 
 class _Table(dict[int, str]):

@@ -45,7 +45,10 @@ class Mark:
 
 @dataclass(frozen=True, slots=True)
 class Lane:
-    """A transaction with those of its events that are shown. `start` is the number of events recorded when it started."""
+    """A transaction with those of its events that are shown. `start` is the number of events recorded when it started.
+
+    `beside` is what else the log says where it began.
+    """
 
     transaction: int
     name: str
@@ -53,6 +56,7 @@ class Lane:
     start: int
     marks: tuple[Mark, ...]
     hidden_events: int
+    beside: str = ""
 
 
 @dataclass(frozen=True, slots=True)
@@ -112,13 +116,19 @@ def _lane(facts: Facts, transaction: Transaction, places: set[int] | None, named
         transaction.start,
         marks,
         len(transaction.places) - len(marks),
+        names.beside(transaction.places[0]),
     )
 
 
 def _mark(place: int, event: Event, is_named: bool, names: Names) -> Mark:
     kind, label, words = _look(event, names)
     sentence = f"{names.place(place)}: {Wording(names).transaction(event.transaction)} {words}"
-    return Mark(place, kind, label, sentence, is_named)
+    return Mark(place, kind, label, _with(sentence, names.beside(place)), is_named)
+
+
+def _with(sentence: str, beside: str) -> str:
+    """A sentence with what else the log says there."""
+    return f"{sentence}; {beside}" if beside else sentence
 
 
 def _look(event: Event, names: Names) -> tuple[MarkKind, tuple[str, ...], str]:

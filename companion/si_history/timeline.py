@@ -295,7 +295,8 @@ def _in_words(lane: Lane) -> str:
 
 
 def _start_in_words(lane: Lane) -> str:
-    return f"It started after event {lane.start}" if lane.start else "It started before all events"
+    words = f"It started after event {lane.start}" if lane.start else "It started before all events"
+    return f"{words}; {lane.beside}" if lane.beside else words
 
 
 def _cut(text: str, most: int) -> str:
