@@ -95,11 +95,12 @@ def settle(transactions: list[LogTransaction], keys: dict[Key, int], sights: Ite
 def _seen(transactions: list[LogTransaction], sights: Iterable[Sight]) -> dict[str, _Seen]:
     """Those of unknown outcome whose versions others saw. Raises BadInput where one was seen before it can have committed."""
     unknown = {transaction.name: transaction for transaction in transactions if transaction.is_unknown}
+    written = {(writer.name, key) for writer in unknown.values() for key in _written(writer)}
     seen: dict[str, _Seen] = {}
     for reader in transactions if unknown else ():
         for operation in reader.operations:
             for key, name in sightings(operation):
-                if name is not None and name in unknown and name != reader.name:
+                if name is not None and (name, key) in written and name != reader.name:
                     one = seen.setdefault(name, _Seen(unknown[name], reader, key))
                     one.take(reader, key)
                     one.keys.add(key)
@@ -113,6 +114,11 @@ def _seen(transactions: list[LogTransaction], sights: Iterable[Sight]) -> dict[s
         if one.writer.has_start and one.latest <= one.writer.start:
             raise _unplaced(one)
     return seen
+
+
+def _written(transaction: LogTransaction) -> set[Key]:
+    """The keys that a transaction wrote."""
+    return {operation.key for operation in transaction.operations if isinstance(operation, WriteOperation)}
 
 
 def _unplaced(one: _Seen) -> BadInput:
@@ -130,7 +136,7 @@ def _unplaced(one: _Seen) -> BadInput:
 def _commit(one: _Seen, times: dict[Key, _KeyTimes]) -> int:
     """The timestamp at which one is placed."""
     writer, latest = one.writer, one.latest
-    written = {operation.key for operation in writer.operations if isinstance(operation, WriteOperation)}
+    written = _written(writer)
     least, most = max(one.least, writer.start + 1 if writer.has_start else -math.inf), latest
     for key in written:
         least = max(least, _last(times[key].missed, latest - 1) + 1)
@@ -164,9 +170,8 @@ def _times(transactions: list[LogTransaction], seen: dict[str, _Seen], keys: dic
     """What happened to each key that one of unknown outcome wrote, where it was seen."""
     times: dict[Key, _KeyTimes] = {}
     for one in seen.values():
-        for operation in one.writer.operations:
-            if isinstance(operation, WriteOperation):
-                times.setdefault(operation.key, _KeyTimes())
+        for key in _written(one.writer):
+            times.setdefault(key, _KeyTimes())
     commits = {transaction.name: transaction.commit for transaction in transactions}
     ranges: list[_Range] = []
     for transaction in transactions:
@@ -196,7 +201,7 @@ def _note(
             continue
         for key, writer in sightings(operation):
             if key in times and key not in own:
-                commit = commits[writer] if writer is not None else None
+                commit = None if writer is None else commits.get(writer)
                 if writer is None:
                     times[key].missed.append(transaction.start)
                 elif commit is not None and commit <= transaction.start:

@@ -72,6 +72,11 @@ class PlaceTest(unittest.TestCase):
             'which started at 5, saw its version of "k"',
         )
 
+    def test_a_version_that_it_never_wrote_is_refused_as_ever(self) -> None:
+        with self.assertRaises(BadInput) as caught:
+            converted(convert, [txn("U", 1, "unknown", ["w", "k"]), txn("R", 5, 9, ["r", "j", "U"])])
+        self.assertEqual(str(caught.exception), 'line 2: "R" saw a version of "j" from nowhere: "U" never wrote that key')
+
     def test_what_is_undecided(self) -> None:
         legend = Legend(outcomes={2: "unknown", 3: "placed", 4: "not-in-the-log"})
         told = [legend.is_undecided(transactions) for transactions in ([1, 2], [3], [1, 4], [])]
