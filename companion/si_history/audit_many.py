@@ -16,9 +16,9 @@ from si_history.memory import LEAST_LIMIT, memory_limit
 from si_history.naming import shown
 from si_history.policy import add_policy_arguments, policy_of
 from si_history.pool import in_processes
-from si_history.progress import Progress
+from si_history.progress import Progress, silence
 from si_history.run_audit import Job, Row
-from si_history.runs import BY_PRODUCTS, logs_under
+from si_history.runs import BY_PRODUCTS, Folder, logs_under
 from si_history.runs_page import html, page_name
 from si_history.runs_table import status_of, summary_of, table_of
 from si_history.wording import counted
@@ -68,6 +68,7 @@ def register(commands: argparse._SubParsersAction[argparse.ArgumentParser]) -> N
     parser.add_argument("--pattern", metavar="GLOB", action="append", default=[], help="audit the files alone whose names are like this")
     parser.add_argument("--as", dest="kind", choices=[kind.value for kind in LogKind], help="what the logs are, where it doesn't show")
     parser.add_argument("--allow-empty", action="store_true", help="take histories of which nothing was committed as they are")
+    parser.add_argument("--quiet", action="store_true", help="write no table; the status tells")
     add_auditor_arguments(parser)
     add_policy_arguments(parser)
     parser.set_defaults(run=run, writes_history=False)
@@ -81,6 +82,8 @@ def _jobs(word: str) -> int:
 
 def run(arguments: argparse.Namespace) -> int:
     """Audits the logs that the arguments name, writes the table and the pages, and answers the status."""
+    if arguments.quiet:
+        silence()
     if arguments.dask is not None and arguments.jobs is not None:
         raise BadInput("--jobs is for this machine alone: how many runs a Dask cluster does is its own")
     if not os.path.isdir(arguments.folder):
@@ -92,10 +95,15 @@ def run(arguments: argparse.Namespace) -> int:
     if arguments.page is not None:
         index = html(shown(os.path.basename(os.path.abspath(arguments.folder))), arguments.check, rows, pages)
         write_output(index, os.path.join(_made(arguments.page), "index.html"))
+    if not arguments.quiet:
+        _write_table(arguments, rows, found)
+    return status_of(rows)
+
+
+def _write_table(arguments: argparse.Namespace, rows: list[Row], found: Folder) -> None:
     told = table_of(rows, arguments.check) + "\n" + summary_of(rows, arguments.check) if rows else "There is no log to audit."
     passed = f" Passed over: {counted(len(found.passed_over), 'other file')}." if found.passed_over else ""
     write_output(f"{told}{passed}\n")
-    return status_of(rows)
 
 
 def _rows(arguments: argparse.Namespace, logs: Iterable[str]) -> Iterator[Row]:

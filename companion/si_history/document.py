@@ -83,7 +83,8 @@ def _isolation(report: Report) -> Statement:
     if report.isolation.holds:
         meaning = "Each read saw the version that was due, and no two overlapping transactions that committed wrote one key."
         return Statement(True, "Snapshot isolation was kept", meaning)
-    counts = ((len(report.bad_reads), "bad read"), (len(report.bad_writes), "bad write"))
+    reads = len(report.bad_reads) + report.count_left_out("bad-read")
+    counts = ((reads, "bad read"), (len(report.bad_writes) + report.count_left_out("bad-write"), "bad write"))
     found = " and ".join(counted(count, noun) for count, noun in counts if count)
     return Statement(False, "Snapshot isolation was broken", f"Found: {found}." if found else "")
 
@@ -95,7 +96,8 @@ def _serializable(report: Report) -> Statement:
     if report.cycle:
         why.append(f"a cycle of {counted(len(report.cycle.steps), 'transaction')} rules every order out")
     if report.unexplained:
-        why.append(f"{counted(len(report.unexplained), 'read')} can't be explained by any order")
+        unexplained = len(report.unexplained) + report.count_left_out("unexplained")
+        why.append(f"{counted(unexplained, 'read')} can't be explained by any order")
     reason = " and ".join(why)
     return Statement(False, "The history is not serializable", f"{reason[:1].upper()}{reason[1:]}." if reason else "")
 

@@ -33,7 +33,6 @@ The finding is the first one, what breaks isolation first, or the first of the
 name that --finding gives:
   {", ".join(NAMES[:5])},
   {", ".join(NAMES[5:])}
-An allowed-cycle is one that snapshot isolation allows.
 
 Status 0: the finding was minimized. Status 2: there is none, or the log is bad.
 Status 3: the auditor refused the history. Status 4: the auditor failed.
@@ -96,7 +95,7 @@ class _Small:
 
     def __init__(self, log: Log, name: str | None, auditor: Auditor) -> None:
         began = time.monotonic()
-        whole = audited(log, auditor, LEVEL, takes_nothing=True)
+        whole = audited(log, auditor, LEVEL, takes_nothing=True, most=1 if name is None else None)
         if whole.report is None or whole.facts is None:
             raise AuditorFailed(whole)
         found = first_found(whole.report, whole.facts, name)

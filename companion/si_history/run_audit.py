@@ -6,6 +6,7 @@ from collections.abc import Mapping
 from dataclasses import dataclass, field
 from functools import lru_cache
 
+from si_history.account import account_of
 from si_history.audited import Audited, audited, log_of, read_log
 from si_history.auditor import BAD_COMMAND_LINE, FALLS_SHORT, FAULT, MEETS, Auditor
 from si_history.document import html
@@ -14,7 +15,9 @@ from si_history.findings import groups_of
 from si_history.log_kinds import LogKind
 from si_history.naming import shown
 from si_history.policy import STRICT, Policy
-from si_history.wanted import counts_of
+
+MOST_KEPT = 1000
+"""How many findings of a kind are kept. The others are counted."""
 
 
 @dataclass(frozen=True, slots=True)
@@ -55,7 +58,7 @@ def audit_run(job: Job) -> Row:
         auditor = _auditor(job.auditor, job.memory)
         content = read_log(job.path) if job.content is None else job.content
         log = log_of(content, job.name, job.kind, job.policy)
-        return _row(job, audited(log, auditor, job.level, job.takes_nothing))
+        return _row(job, audited(log, auditor, job.level, job.takes_nothing, MOST_KEPT))
     except BadInput as fault:
         return Row(job.name, BAD_COMMAND_LINE, str(fault).removeprefix(f"{fault.source}: "))
     except MemoryError:
@@ -75,4 +78,4 @@ def _row(job: Job, run: Audited) -> Row:
     if job.wants_page:
         names = run.log.names
         page = html(shown(job.name), run.report, run.facts, groups_of(run.report, run.facts, names), names)
-    return Row(job.name, run.status, None, run.report.serializable.holds, counts_of(run.report, run.facts), page)
+    return Row(job.name, run.status, None, run.report.serializable.holds, account_of(run, 0).counts, page)

@@ -38,9 +38,9 @@ class Told:
         return Pictures(self.facts, self.groups, self.names)
 
 
-def told(history: str, report: ReportText, legend: Legend | None = None) -> Told:
-    """What is made of a history and its report."""
-    names, facts, parsed = Names(legend), Facts(parse(history)), read_report(report)
+def told(history: str, report: ReportText, legend: Legend | None = None, most: int | None = None) -> Told:
+    """What is made of a history and its report, of which `most` findings of a kind are kept."""
+    names, facts, parsed = Names(legend), Facts(parse(history)), read_report(report, most)
     facts.check(parsed.counts)
     groups = groups_of(parsed, facts, names)
     scene = Pictures(facts, groups, names).scene()

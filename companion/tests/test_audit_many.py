@@ -85,12 +85,12 @@ class TableTest(unittest.TestCase):
 
     def test_a_table(self) -> None:
         rows = [
-            Row("a", 0, None, True), Row("long one", 1, None, False, {"stale-read": 1200, "cycle": 1}), Row("c", 2, "not UTF-8"),
+            Row("a", 0, None, True), Row("long one", 1, None, False, {"stale read": 1200, "cycle": 1}), Row("c", 2, "not UTF-8"),
         ]
         self.assertEqual(table_of(rows, "si").splitlines(), [
             "run         level              serializable  findings",
             "a           meets si           yes",
-            '"long one"  falls short of si  no            stale-read: 1,200, cycle: 1',
+            '"long one"  falls short of si  no            stale read: 1,200, cycle: 1',
             "c           no verdict                       not UTF-8",
         ])
         self.assertEqual(summary_of(rows, "si"), "3 runs: 1 meets si, 1 falls short of it, 1 has no verdict.")
@@ -109,9 +109,14 @@ class CommandTest(InFolder):
             outputs.add(done.stdout)
         self.assertEqual(len(outputs), 1)
         table = done.stdout.decode()
-        self.assertRegex(table, r"broken\.history +falls short of si +no +bad-write: 1, cycle: 1\n")
-        self.assertRegex(table, r"skew\.history +meets si +no +allowed-cycle: 1, dangerous: 1\n")
+        self.assertRegex(table, r"broken\.history +falls short of si +no +bad write: 1, cycle: 1\n")
+        self.assertRegex(table, r"skew\.history +meets si +no +cycle: 1, dangerous structure: 1\n")
         self.assertTrue(table.endswith("3 runs: 2 meet si, 1 falls short of it.\n"))
+
+    def test_quiet(self) -> None:
+        self.put(broken=BROKEN)
+        done = self.audit("--quiet")
+        self.assertEqual((done.returncode, done.stdout, done.stderr), (1, b"", b""))
 
     def test_levels(self) -> None:
         self.put(kept=KEPT, skew=SKEW)

@@ -345,7 +345,7 @@ class RefusedTest(CommandTest):
     def test_identities(self) -> None:
         """Two bad reads of one key are two findings, and a bad read has the name that the report gives it."""
         self.assertNotEqual(Wanted("stale-read", (1, 2, 0)), Wanted("stale-read", (1, 2, 3)))
-        self.assertEqual([name for name in NAMES if "-read" in name], ["aborted-read", "uncommitted-read", "future-read", "stale-read"])
+        self.assertEqual([name for name in NAMES if "-read" in name], ["aborted-read", "uncommitted-read", "future-read", "stale-read", "unexplained-read"])
         self.assertEqual(BadRead(1, 2, 3, 4, 5).reasons, [])
 
 

@@ -28,12 +28,12 @@ def lanes_of(scene: Scene) -> list[tuple[int, list[int], int]]:
     return [(lane.transaction, [mark.place for mark in lane.marks], lane.hidden_events) for lane in scene.lanes]
 
 
-def bad_reads(count: int) -> Told:
+def bad_reads(count: int, most: int | None = None) -> Told:
     """Each of so many transactions reads the aborted version of a key of its own."""
     history = " ".join(f"w{n + count}[{n}] r{n}[{n}:{n + count}] a{n + count}" for n in range(1, count + 1))
     reads = [f"bad-read {3 * n - 1} {n} {n} saw {n + count} due 0" for n in range(1, count + 1)]
     head = f"events {3 * count} committed 0 aborted {count} open {count}"
-    return told(history, lines(head, "isolation broken", *reads, "ssi fail", "serializable yes", "order"))
+    return told(history, lines(head, "isolation broken", *reads, "ssi fail", "serializable yes", "order"), most=most)
 
 
 class SceneTest(unittest.TestCase):
@@ -133,6 +133,12 @@ class MarkupTest(unittest.TestCase):
         page = example("clean").page
         for words in ("Snapshot isolation was kept.", "The history is serializable.", "The ssi test passes.", "explains the history: 2, 1."):
             self.assertIn(words, page)
+
+    def test_findings_that_are_only_counted(self) -> None:
+        found = bad_reads(30, most=3)
+        self.assertEqual([(len(group.findings), group.count) for group in found.groups], [(3, 30)])
+        for words in ("Found: 30 bad reads.", "And 27 more, which the report has."):
+            self.assertIn(words, found.page)
 
     def test_what_matters_first_stands_first(self) -> None:
         page = example("lost_update").page
