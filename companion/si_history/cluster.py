@@ -23,6 +23,8 @@ SECONDS_TO_CONNECT = 10
 SECONDS_BETWEEN = 1.0
 RUNS_AHEAD = 2
 """How many runs a thread of a worker is given at a time: the logs of these are in memory."""
+NOISY = ("asyncio", "distributed", "tornado")
+"""What writes on standard error by itself. What went wrong is told by the rows."""
 NO_SCHEDULER = "the Dask scheduler is gone"
 
 
@@ -45,7 +47,7 @@ def _distributed() -> Any:
     except ImportError:
         raise BadInput("--dask needs the package distributed, which this Python doesn't have (python3-distributed of Debian)") from None
     for name in list(logging.root.manager.loggerDict):
-        if name.split(".")[0] == "distributed":
+        if name.split(".")[0] in NOISY:
             logging.getLogger(name).setLevel(logging.CRITICAL)
     return distributed
 
