@@ -73,22 +73,24 @@ class _Cluster:
     def rows(self, jobs: Sequence[Job]) -> Iterator[Row]:
         left = list(reversed(jobs))
         while left or self._running:
-            problem = self._problem()
+            threads = self._threads()
+            problem = self._problem(threads)
             if problem is not None:
                 yield from (Row(job.name, FAULT, problem) for job in (*self._running.values(), *left))
                 return
-            while left and len(self._running) < max(1, self._threads() * RUNS_AHEAD):
+            while left and len(self._running) < max(1, (threads or 0) * RUNS_AHEAD):
                 yield from self._submit(left.pop())
             yield from self._done()
 
     def _submit(self, job: Job) -> Iterator[Row]:
-        """Gives a run to the cluster. Where its log can't be read that is its row."""
+        """Gives a run to the cluster. Where its log can't be read, or the cluster can't be told, that is its row."""
         try:
             content = read_log(job.path)
+            self._running[self._client.submit(audit_run, replace(job, content=content), pure=False)] = job
         except BadInput as fault:
             yield Row(job.name, BAD_COMMAND_LINE, fault.reason)
-            return
-        self._running[self._client.submit(audit_run, replace(job, content=content), pure=False)] = job
+        except Exception as fault:  # whatever Dask has
+            yield Row(job.name, FAULT, f"the Dask cluster does not take it: {_words(fault)}")
 
     def _done(self) -> Iterator[Row]:
         """The rows of the runs that are done, after at most a moment."""
@@ -112,21 +114,21 @@ class _Cluster:
             return Row(job.name, FAULT, "each worker that audited it died")
         return Row(job.name, FAULT, f"the worker failed: {_words(failure)}" if failure is not None else "the Dask scheduler lost it")
 
-    def _threads(self) -> int:
-        """How many runs the workers can do at a time."""
-        return sum(worker.get("nthreads", 1) for worker in self._client.scheduler_info()["workers"].values())
-
-    def _problem(self) -> str | None:
-        """Why no run will be done any more, if that is so."""
+    def _threads(self) -> int | None:
+        """How many runs the workers can do at a time, and None where the scheduler is gone."""
         try:
-            threads = self._threads()
-        except OSError:
-            return NO_SCHEDULER
-        if self._client.status != "running":
-            return NO_SCHEDULER
+            workers = self._client.scheduler_info()["workers"]
+            return sum(worker.get("nthreads", 1) for worker in workers.values()) if self._client.status == "running" else None
+        except (OSError, KeyError):
+            return None
+
+    def _problem(self, threads: int | None) -> str | None:
+        """Why no run will be done any more, if that is so."""
         now = time.monotonic()
         if threads:
             self._seen_worker = now
+        if threads is None:
+            return NO_SCHEDULER
         return f"the Dask cluster had no worker for {self._patience:g} seconds" if now - self._seen_worker > self._patience else None
 
 
