@@ -195,7 +195,9 @@ def _kept(directory: str, one: Audited) -> list[tuple[str, str]]:
         os.makedirs(directory, exist_ok=True)
     except (OSError, ValueError) as fault:
         raise BadInput(f"can't be made: {getattr(fault, 'strerror', None) or fault}", source=directory) from None
-    texts = {"history": one.log.history.decode("utf-8", "surrogateescape")}
+    texts: dict[str, str] = {}
+    if one.log.history.isascii():  # what isn't was refused, and is the log itself
+        texts["history"] = one.log.history.decode("ascii")
     if one.log.legend is not None:
         texts["legend"] = one.log.legend.to_json(one.log.history)
     if one.outcome.ending in (Ending.REPORT, Ending.REFUSAL):

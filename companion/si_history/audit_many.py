@@ -16,7 +16,7 @@ from si_history.memory import LEAST_LIMIT, memory_limit
 from si_history.naming import shown
 from si_history.policy import add_policy_arguments, policy_of
 from si_history.pool import in_processes
-from si_history.progress import Progress, silence
+from si_history.progress import Progress, silenced
 from si_history.run_audit import Job, Row
 from si_history.runs import BY_PRODUCTS, Folder, logs_under
 from si_history.runs_page import html, page_name
@@ -82,8 +82,11 @@ def _jobs(word: str) -> int:
 
 def run(arguments: argparse.Namespace) -> int:
     """Audits the logs that the arguments name, writes the table and the pages, and answers the status."""
-    if arguments.quiet:
-        silence()
+    with silenced(arguments.quiet):
+        return _run(arguments)
+
+
+def _run(arguments: argparse.Namespace) -> int:
     if arguments.dask is not None and arguments.jobs is not None:
         raise BadInput("--jobs is for this machine alone: how many runs a Dask cluster does is its own")
     if not os.path.isdir(arguments.folder):

@@ -18,6 +18,7 @@ from si_history.history import parse, text_of
 from si_history.legend import Legend
 from si_history.log_kinds import LogKind, kind_of
 from si_history.log_lines import MAX_LOG_BYTES
+from si_history.matching import check_report
 from si_history.naming import Names
 from si_history.policy import STRICT, Policy
 from si_history.report import Report
@@ -117,7 +118,7 @@ def audited(log: Log, auditor: Auditor, level: str, takes_nothing: bool = False,
     try:
         report = read_report(ReportText(outcome.report, "the auditor's report"), most)
         facts = Facts(parse(log.history.decode("ascii")))
-        facts.check(report.counts)
+        check_report(report, facts)
     except (BadInput, UnicodeDecodeError) as fault:
         return Audited(log, level, outcome, FAULT, f"the auditor made a report that can't be used: {fault}")
     if report.meets(level) != outcome.meets:

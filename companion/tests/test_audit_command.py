@@ -133,6 +133,14 @@ class VerdictTest(AuditTest):
         self.assertEqual({path.name for path in (self.place / "kept").iterdir()}, {"run.history", "run.report"})
         self.assertEqual((self.place / "kept" / "run.history").read_bytes(), SKEW)
 
+    def test_what_is_kept_of_a_refusal(self) -> None:
+        for name, content, kept in (("ascii", b"w1[1] x\n", {"ascii.history", "ascii.report"}), ("bytes", b"w1[\xff]\n", {"bytes.report"})):
+            self.write(f"{name}.history", content)
+            done = self.run_audit("--keep", name, f"{name}.history")
+            self.assertEqual((done.returncode, done.stdout, done.stderr.count(b"\n")), (3, b"", 1))
+            self.assertEqual({path.name for path in (self.place / name).iterdir()}, kept)
+            self.assertEqual((self.place / name / f"{name}.report").read_bytes()[:8], b"refused:")
+
     def test_an_output_that_ends_early(self) -> None:
         done = subprocess.run(
             ["sh", "-c", f"{sys.executable} -m si_history audit --auditor {self.auditor} --all - | head -n 1"],

@@ -106,6 +106,16 @@ class FakeTest(unittest.TestCase):
             " 1 committed, 0 aborted, 0 open transactions, and the report 3 events and 1 committed, 0 aborted, 0 open transactions",
         )
 
+    def test_a_report_whose_events_are_others(self) -> None:
+        """Its counts are those of the history, and what it says of an event is not so."""
+        broken = REPORT.replace("kept\\n", "broken\\nbad-write 1 1 2\\n").replace("pass", "fail").replace("2 committed 1", "4 committed 2")
+        content = b"b1@0 w1[1] c1 c2\n"
+        self.ends(
+            f"printf '{broken.replace('order 1', 'order 1 2')}'; exit 1", 4,
+            "the auditor made a report that can't be used: the history is not the one of the report: transaction 2 doesn't write key 1",
+            content,
+        )
+
     def test_a_report_that_is_cut(self) -> None:
         self.ends(
             "echo 'events 2 committed 1 aborted 0 open 0'", 4,
