@@ -54,6 +54,11 @@ class MarkTest(unittest.TestCase):
                 done = run_command(*words)
                 self.assertEqual((done.returncode, MARK.encode() + b"\n" in done.stdout), (0, False))
 
+    def test_no_python(self) -> None:
+        command = REPOSITORY / "companion" / "si-history"
+        done = subprocess.run(["/bin/sh", command, "from-events", "-"], capture_output=True, timeout=LONG_SECONDS, env={"PATH": "/nowhere"})
+        self.assertEqual((done.returncode, done.stdout, done.stderr), (2, MARKED, b"si-history: there is no python3\n"))
+
 
 @unittest.skipUnless(PROGRAM.exists(), NO_PROGRAM)
 class PipeTest(unittest.TestCase):
