@@ -48,6 +48,15 @@ class MarkTest(unittest.TestCase):
                 done = run_command(*words)
                 self.assertEqual((done.returncode, done.stdout, done.stderr.count(b"\n")), (2, b"", 1))
 
+    def test_an_output_that_goes_elsewhere(self) -> None:
+        """Where the history is to stand in a file that --output names, nothing is on standard output, and no mark is."""
+        words = f"import sys; sys.path.insert(0, {str(COMPANION)!r}); from si_history.cli import main; sys.exit(main(sys.argv[1:]))"
+        for output, marked in (("nosuch/x", b""), ("-", MARKED)):
+            done = subprocess.run(
+                [sys.executable, "-I", "-S", "-c", words, "record", "postgres", "-o", output], capture_output=True, timeout=LONG_SECONDS
+            )
+            self.assertEqual((done.returncode, done.stdout, done.stderr.count(b"\n")), (2, marked, 1))
+
     def test_what_is_no_failure_has_none(self) -> None:
         for words in (["--help"], ["--version"], ["from-events", "--help"], ["record", "postgres", "--help"]):
             with self.subTest(words=words):
