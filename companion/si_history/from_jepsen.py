@@ -64,7 +64,8 @@ def convert(file: BinaryIO, policy: Policy = STRICT, workload: str | None = None
     """The history of a Jepsen history, with its legend. Raises BadInput where it is none, or can't be told."""
     content = file.read(MAX_LOG_BYTES + 1)
     if len(content) > MAX_LOG_BYTES:
-        raise BadInput(f"log too long: the limit of bytes of a log is {MAX_LOG_BYTES:,}")
+        line = content.count(b"\n", 0, MAX_LOG_BYTES) + 1
+        raise BadInput(f"log too long: the limit of bytes of a log is {MAX_LOG_BYTES:,}", line=line)
     try:
         text = content.decode("utf-8")
     except UnicodeDecodeError as fault:

@@ -82,7 +82,8 @@ def history_of(log: TransactionsLog, policy: Policy, sights: Iterable[Sight] = (
     transactions = log.transactions
     numbers = {transaction.name: number for number, transaction in enumerate(transactions, 1)}
     numbering = Numbering(numbers, number_keys(log.tally))
-    settle(transactions, numbering.keys, sights)
+    for placed in settle(transactions, numbering.keys, sights):
+        log.tally.count(1, placed.line)
     check_ties(transactions, numbering.keys)
     graph = event_graph(transactions)
     ordered = order_of(graph)
@@ -92,16 +93,21 @@ def history_of(log: TransactionsLog, policy: Policy, sights: Iterable[Sight] = (
     events = [_event_of(event, graph, numbering, places) for event in ordered]
     lines = [graph.transactions[graph.owners[event]].line for event in ordered]
     legend = Legend(numbering.transaction_names(), numbering.key_names(), lines)
-    for number, transaction in enumerate(transactions, 1):
-        if transaction.is_unknown:
-            legend.outcomes[number] = UNKNOWN if transaction.commit is None else PLACED
-        elif transaction.name in stand_ins:
-            legend.outcomes[number] = stand_ins[transaction.name]
-        if transaction.name not in stand_ins:
-            legend.times[number] = transaction.start, None if transaction.is_unknown else transaction.commit
-        for index, others in transaction.others.items():
-            legend.fields[places[graph.firsts[number - 1] + index]] = others
+    for number, (transaction, first) in enumerate(zip(transactions, graph.firsts), 1):
+        _tell(legend, number, transaction, stand_ins.get(transaction.name))
+        legend.fields |= {places[first + index]: others for index, others in transaction.others.items()}
     return Conversion(events, legend, log.tally.warnings())
+
+
+def _tell(legend: Legend, number: int, transaction: LogTransaction, stand_in: str | None) -> None:
+    """Tells the legend what is known of a transaction, of which a stand-in has the kind."""
+    if stand_in is not None:
+        legend.outcomes[number] = stand_in
+        return
+    if transaction.is_unknown:
+        legend.outcomes[number] = UNKNOWN if transaction.commit is None else PLACED
+    start = transaction.start if transaction.has_start else None
+    legend.times[number] = start, None if transaction.is_unknown else transaction.commit
 
 
 def _add_stand_ins(log: TransactionsLog, policy: Policy) -> dict[str, str]:

@@ -208,6 +208,8 @@ def _value(entry: _Entry, form: Form, number: int) -> Key:
 
 
 def _scalar(entry: _Entry, form: Form, what: str) -> Key:
+    if type(form) is str and form.startswith(":"):
+        entry.refuse(f"{what} is a string that reads as a keyword: {quoted(form)}")
     try:
         return key_of(_json_of(form))
     except NoKey as fault:

@@ -77,19 +77,20 @@ class _KeyTimes:
 _Range = tuple[int, int, int, set[int]]
 
 
-def settle(transactions: list[LogTransaction], keys: dict[Key, int], sights: Iterable[Sight] = ()) -> None:
+def settle(transactions: list[LogTransaction], keys: dict[Key, int], sights: Iterable[Sight] = ()) -> list[LogTransaction]:
     """Gives a commit to those of unknown outcome that were seen, by reads of their versions or as `sights` say.
 
-    Raises BadInput where no time can be that of its commit.
+    Answers these. Raises BadInput where no time can be that of its commit.
     """
     seen = _seen(transactions, sights)
     if not seen:
-        return
+        return []
     times = _times(transactions, seen, keys)
     for one, commit in [(one, _commit(one, times)) for one in seen.values()]:
         one.writer.commit = commit
         if not one.writer.has_start:
             one.writer.start = commit
+    return [one.writer for one in seen.values()]
 
 
 def _seen(transactions: list[LogTransaction], sights: Iterable[Sight]) -> dict[str, _Seen]:

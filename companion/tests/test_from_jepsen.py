@@ -4,6 +4,7 @@ from __future__ import annotations
 
 import io
 import unittest
+from unittest import mock
 
 from si_history.errors import BadInput
 from si_history.from_jepsen import convert
@@ -101,6 +102,7 @@ class RefusalTest(unittest.TestCase):
             (ok(0, 1, 2, "[:r 1 nil]", "[:append 1 1]"), "operation 2 is none of :r, :w: :append"),
             (ok(0, 1, 2, "[:w 1 nil]"), "the value of operation 1 is nil, and so names the version that no transaction wrote"),
             (ok(0, 1, 2, "[:w {} 1]"), "the key of operation 1 is no key: a string, a number, true, false, null, or a list of these"),
+            (ok(0, 1, 2, '[:w ":x" 1]'), 'the key of operation 1 is a string that reads as a keyword: ":x"'),
             (ok(0, 3, 2), "it committed at 2, before its start at 3"),
             (ok(0, 2, 2, "[:w 1 2]"), "it wrote and committed at 2, which is its start: its own commit can't be in its snapshot"),
             (ok(0, 2, None, "[:w 1 2]"), '":commit-ts" is missing, and it wrote'),
@@ -148,6 +150,14 @@ class RefusalTest(unittest.TestCase):
             "committed at 4 came after its version of 5",
             "{:process 0 :type :info :f :txn :value [[:append 5 1]] :start-ts 4}", second, ok(1, 5, 6, "[:r 5 [1 3]]"),
         )
+
+    def test_the_limits(self) -> None:
+        text = "\n".join([ok(0, 1, 2, "[:w 1 1]"), ok(0, 3, 4, "[:w 1 2]")])
+        with mock.patch("si_history.from_jepsen.MAX_LOG_BYTES", len(text) - 1):
+            self.refused(f"line 2: log too long: the limit of bytes of a log is {len(text) - 1}", text)
+        unknown = "{:process 0 :type :info :f :txn :value [[:w 1 1]] :start-ts 1}"
+        with mock.patch("si_history.log_lines.MAX_EVENTS", 5):
+            self.refused("line 1: too many events: the limit of events of a history is 5", unknown, ok(0, 2, 2, "[:r 1 1]"))
 
     def test_not_utf_8(self) -> None:
         with self.assertRaises(BadInput) as caught:
