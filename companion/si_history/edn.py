@@ -137,39 +137,42 @@ class _Reader:
         end = 0
         while match := _TOKEN.match(text, end):
             kind, end = match.lastindex or 0, match.end()
-            at = match.start(kind)
             try:
                 if kind <= _VECTOR and len(frames) > base and not frames[-1].waiting:
                     made = [words[word] for word in match[kind].replace(",", " ").split()]
                     frames[-1].items += made if kind == _WORDS else [made]
-                elif kind == _WORDS:
+                    continue
+                at = match.start(kind)
+                if kind == _WORDS:
                     yield from self._take_words(match[kind], at)
-                elif kind == _VECTOR:
+                    continue
+                if kind == _VECTOR:
                     at, end = at - 1, at
-                    yield from self._take(_OPEN, "[", at)
+                    self._put(_OPEN, "[", at)
                 else:
-                    yield from self._take(kind, match[kind], at)
+                    self._put(kind, match[kind], at)
             except _Bad as fault:
-                self._refuse(str(fault), at)
+                self._refuse(str(fault), match.start(kind))
+            if len(frames) == base and not frames[-1].waiting:
+                yield from self._given(at)
+            elif self._first < 0:
+                self._first = at
         self._check_end(_end_of_blank(text, end))
 
     def _take_words(self, words: str, at: int) -> Iterator[tuple[int, Form]]:
         """Takes words one by one, as they stand from a place on."""
         for word in words.replace(",", " ").split():
             at = self._text.index(word, at)
-            yield from self._take(_WORD, word, at)
+            self._put(_WORD, word, at)
+            if len(self._frames) == self._base and not self._frames[-1].waiting:
+                yield from self._given(at)
             at += len(word)
 
-    def _take(self, kind: int, word: str, at: int) -> Iterator[tuple[int, Form]]:
-        """Takes one token, and gives the form that it ends, if it is one that is to be given."""
-        self._put(kind, word, at)
-        frame = self._frames[-1]
-        if len(self._frames) > self._base or frame.waiting:
-            self._first = at if self._first < 0 else self._first
-        elif len(self._frames) == self._base:
-            if frame.items:
-                yield self._line_of(at if self._first < 0 else self._first), frame.items.pop()
-            self._first = -1
+    def _given(self, at: int) -> Iterator[tuple[int, Form]]:
+        """The form that has ended by the token at a place, if it isn't left out, with the line where it began."""
+        if self._frames[-1].items:
+            yield self._line_of(at if self._first < 0 else self._first), self._frames[-1].items.pop()
+        self._first = -1
 
     def _check_end(self, end: int) -> None:
         """Refuses a text that ends too early, or goes on with what is nothing."""
@@ -187,14 +190,14 @@ class _Reader:
         frame = self._frames[-1]
         if self._base == 2 and not frame.opened and at > self._begin:
             raise _Bad("something stands behind the end of the list that holds all forms")
-        if kind == _WORD:
-            frame.add(self._words[word])
+        if kind == _CLOSE:
+            self._close(word)
         elif kind == _OPEN or kind == _DISPATCH and word == "{":
             if len(self._frames) > MAX_DEPTH:
                 raise _Bad(f"a form stands deeper than {MAX_DEPTH}")
             self._frames.append(_Frame(word if kind == _OPEN else "#{", at))
-        elif kind == _CLOSE:
-            self._close(word)
+        elif kind == _WORD:
+            frame.add(self._words[word])
         elif kind == _STRING:
             frame.add(_unescaped(word) if "\\" in word else word)
         elif kind == _CHARACTER:
