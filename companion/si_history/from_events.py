@@ -134,4 +134,5 @@ class _Teller:
     def _nowhere(self, record: LogEvent, key: Key, writer: str) -> BadInput:
         told = f"{quoted(record.transaction)} saw a version of {shown_key(key)} from nowhere: {quoted(writer)} "
         line = self._first_lines.get((writer, key))
-        return BadInput(told + ("never wrote that key" if line is None else f"wrote that key only at line {line}"), line=record.line)
+        why = "never wrote that key" if line is None else f"wrote that key only at line {line}"
+        return BadInput(told + why, line=record.line)

@@ -106,12 +106,14 @@ def _add(entry: _Entry, invoked: _Entry | None, history: JepsenHistory, names: d
     if type(index) is not int:
         entry.refuse('":index" is no whole number')
     name = f"T{index}"
-    if names.setdefault(name, entry.line) != entry.line:
+    if name in names:
         entry.refuse(f"the index {index} is that of line {names[name]}")
+    names[name] = entry.line
     start, commit = _time(entry, invoked, times.start), _time(entry, invoked, times.commit)
-    made = LogTransaction(entry.line, name, start or 0, commit, kind == FAIL, [], kind not in (OK, FAIL), has_start=start is not None)
+    made = LogTransaction(entry.line, name, start or 0, commit, kind == FAIL, [], is_unknown=kind not in (OK, FAIL))
+    made.has_start = start is not None
     known = KNOWN | {times.start, times.commit}
-    made.others[0] = {str(name)[1:]: _json_of(value) for name, value in entry.fields.items() if name not in known}
+    made.others[0] = {str(field).removeprefix(":"): _json_of(value) for field, value in entry.fields.items() if field not in known}
     _add_operations(entry, invoked, made, history)
     if kind == OK and commit is None and not made.has_writes():
         made.commit = made.start

@@ -90,7 +90,8 @@ class Names:
     def beside(self, place: int) -> str:
         """What else the log says beside an event, in words, each cut where it is long. Empty where it says nothing else."""
         fields = {} if self._legend is None else self._legend.fields.get(place, {})
-        return ", ".join(f"{shown(name)} {_cut(shown(said) if isinstance(said, str) else json.dumps(said))}" for name, said in fields.items())
+        said = ((name, shown(value) if isinstance(value, str) else json.dumps(value)) for name, value in fields.items())
+        return ", ".join(f"{shown(name)} {_cut(words)}" for name, words in said)
 
     def is_undecided(self, transactions: Iterable[int]) -> bool:
         """Whether a finding about these transactions depends on an outcome that the log doesn't tell."""

@@ -105,10 +105,12 @@ class _ByValues:
         if written is None:
             return self._unknown(reader, line, key, value)
         if self.is_in_order and written.line > line:
-            raise BadInput(f"{self._nowhere(reader, key)}the value {shown_key(value)} was written only at line {written.line}", line=line)
+            told = f"{self._nowhere(reader, key)}the value {shown_key(value)} was written only at line {written.line}"
+            raise BadInput(told, line=line)
         current = self.own.get((reader, key)) if written.writer == reader else self.last[written.writer, key]
         if current is None:
-            raise BadInput(f"{quoted(reader)} saw its own value {shown_key(value)} of {shown_key(key)} before it wrote that key", line=line)
+            told = f"{quoted(reader)} saw its own value {shown_key(value)} of {shown_key(key)} before it wrote that key"
+            raise BadInput(told, line=line)
         return written.writer if current == value else self._overwritten(reader, line, key, value, written, current)
 
     def _unknown(self, reader: str, line: int, key: Key, value: Key) -> str:

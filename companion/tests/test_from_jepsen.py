@@ -115,6 +115,10 @@ class RefusalTest(unittest.TestCase):
             with self.subTest(bad=bad):
                 self.refused(f"line 2: {said}", good, bad)
 
+    def test_one_index_twice_on_one_line(self) -> None:
+        one = ok(0, 1, 2, "[:w 1 1]").replace("}", " :index 4}")
+        self.refused("line 1: the index 4 is that of line 1", f"[{one} {one}]")
+
     def test_invocations(self) -> None:
         invoked = "{:process 4 :type :invoke :f :txn :value []}"
         self.refused("line 3: process 4 is not done with what it invoked at line 1", invoked, ok(0, 1, 2, "[:w 1 1]"), invoked)
