@@ -4,17 +4,32 @@ from __future__ import annotations
 
 import threading
 from collections.abc import Sequence
+from contextlib import AbstractContextManager, nullcontext
 
+from si_history.record.local import timeline
 from si_history.record.model import NOBODY, Aborted, Moment, Point, Recorded, Row, Timeline
 
 
 class SmallStore:
-    """Keeps all rows of all commits. One lock is held around each commit and each snapshot."""
+    """Keeps all rows of all commits. One lock is held around each commit and each snapshot.
 
-    def __init__(self) -> None:
-        self.lock = threading.Lock()
+    Where it is late the first statement takes the snapshot, and the lock is the one that the driver holds.
+    """
+
+    def __init__(self, late: bool = False) -> None:
+        self.lock = threading.RLock()
+        self.late = late
         self.commits: list[dict[int, Row]] = []
         self.points: Timeline = []
+
+    def version(self) -> str:
+        return "1"
+
+    def is_late(self, is_reader: bool) -> bool:
+        return self.late
+
+    def ordered(self) -> AbstractContextManager[object]:
+        return self.lock if self.late else nullcontext()
 
     def prepare(self, keys: Sequence[int]) -> None:
         self.commits.append({key: Row(key, NOBODY, False) for key in keys})
@@ -23,7 +38,7 @@ class SmallStore:
         return SmallConnection(self)
 
     def timeline(self, records: Sequence[Recorded]) -> Timeline:
-        return self.points
+        return timeline(records) if self.late else self.points
 
     def remove(self) -> None:
         self.commits.clear()
@@ -34,15 +49,19 @@ class SmallConnection:
 
     def __init__(self, store: SmallStore) -> None:
         self.store = store
-        self.start = 0
+        self.start: int | None = None
         self.own: dict[int, Row] = {}
 
-    def begin(self, number: int) -> None:
-        with self.store.lock:
-            self.start, self.own = len(self.store.commits), {}
-            self.store.points.append(Point(Moment.START, number))
+    def begin(self, number: int, is_reader: bool) -> None:
+        self.start, self.own = None, {}
+        if not self.store.late:
+            with self.store.lock:
+                self.start = len(self.store.commits)
+                self.store.points.append(Point(Moment.START, number))
 
     def rows(self) -> dict[int, Row]:
+        if self.start is None:
+            self.start = len(self.store.commits)
         seen: dict[int, Row] = {}
         for commit in self.store.commits[:self.start]:
             seen.update(commit)
@@ -63,7 +82,13 @@ class SmallConnection:
         self.own[key] = Row(key, number, is_gone)
 
     def put(self, key: int, number: int) -> None:
+        self.rows()
         self.own[key] = Row(key, number, False)
+
+    def bump(self, key: int, number: int) -> int:
+        row = self.read(key)
+        self.put(key, number)
+        return row.writer if row else NOBODY
 
     def commit(self, number: int) -> None:
         with self.store.lock:

@@ -7,15 +7,17 @@ import threading
 import time
 import unittest
 from collections.abc import Callable
+from dataclasses import replace
 
 from si_history import from_events
 from si_history.history import text_of
 from si_history.record.driver import Run, Settings, run, transact, watched
 from si_history.record.log import events_log
 from si_history.record.model import Aborted, RangeDone, ReadDone, Recorded, StoreFault, WriteDone
-from si_history.record.workloads import Flip, Look, Put, Scan, Workload, rows_at_first
+from si_history.record.script import read_script
+from si_history.record.workloads import Bump, Flip, GiveUp, Look, Put, Scan, Workload, rows_at_first
 from tests.small_store import SmallConnection, SmallStore
-from tests.support import LONG_SECONDS, NO_PROGRAM, PROGRAM, audit, converted
+from tests.support import LONG_SECONDS, NO_PROGRAM, PROGRAM, audit, converted, history_line
 
 
 def nothing() -> None:
@@ -26,9 +28,9 @@ def settings(interleave: bool, seed: int = 1, transactions: int | None = 60, eve
     return Settings(Workload.MIX, 8, 4, seed, interleave, transactions, events)
 
 
-def recorded(chosen: Settings) -> tuple[list[Recorded], SmallStore]:
-    store = SmallStore()
-    store.prepare(rows_at_first(chosen.keys))
+def recorded(chosen: Settings, late: bool = False) -> tuple[list[Recorded], SmallStore]:
+    store = SmallStore(late)
+    store.prepare(rows_at_first(range(chosen.keys)))
     return run(store, chosen, nothing, LONG_SECONDS), store
 
 
@@ -68,14 +70,33 @@ class Runs(unittest.TestCase):
                     self.assertIn("isolation kept\n", report)
 
 
+    @unittest.skipUnless(PROGRAM.is_file(), NO_PROGRAM)
+    def test_a_late_snapshot_is_noted_at_the_first_statement(self) -> None:
+        """And where it is noted at the begin, as a control does, some run is broken."""
+        broken = 0
+        for interleave in (True, False):
+            for seed in range(6):
+                for notes_begins in (False, True):
+                    with self.subTest(interleave=interleave, seed=seed, notes_begins=notes_begins):
+                        chosen = replace(settings(interleave, seed), workload=Workload.GENERAL, notes_begins=notes_begins)
+                        records, store = recorded(chosen, late=True)
+                        log = events_log(records, store.timeline(records)).encode().splitlines()
+                        _, report = audit(text_of(converted(from_events.convert, list(log)).events))
+                        if notes_begins:
+                            broken += "isolation broken\n" in report
+                        else:
+                            self.assertIn("isolation kept\n", report)
+        self.assertGreater(broken, 0)
+
+
 class Transactions(unittest.TestCase):
     def setUp(self) -> None:
         self.store = SmallStore()
         self.store.prepare([0, 2])
         self.run = Run(settings(True))
 
-    def transact(self, number: int, *steps: Look | Scan | Put | Flip) -> Recorded:
-        for _ in transact(self.store.connect(), steps, number, self.run):
+    def transact(self, number: int, *steps: Look | Scan | Put | Flip | Bump | GiveUp) -> Recorded:
+        for _ in transact(self.store, self.store.connect(), steps, number, self.run):
             pass
         return self.run.records[-1]
 
@@ -89,14 +110,73 @@ class Transactions(unittest.TestCase):
             self.assertEqual(self.transact(number, Scan(0, 3), Flip(1)).operations[-1].key, 1)
             self.assertEqual(self.store.commits[-1][1], (1, number, is_gone))
 
+    def test_a_bump_is_a_read_and_a_write(self) -> None:
+        self.transact(1, Bump(1), Bump(1), Bump(0))
+        self.assertEqual(self.transact(2, Bump(1)).operations, [ReadDone(10, 1, 1), WriteDone(11, 1)])
+        self.assertEqual(self.run.records[0].operations, [
+            ReadDone(2, 1, 0), WriteDone(3, 1), ReadDone(4, 1, 1), WriteDone(5, 1), ReadDone(6, 0, 0), WriteDone(7, 0)])
+
+    def test_a_transaction_that_gives_up_is_an_abort(self) -> None:
+        record = self.transact(1, Look(0), Put(1), GiveUp())
+        self.assertFalse(record.is_committed)
+        self.assertEqual(self.transact(2, Look(1)).operations[0].saw, 0)
+
+    def test_a_begin_that_is_refused_is_an_abort_with_nothing_done(self) -> None:
+        class Refusing(SmallConnection):
+            def begin(self, number: int, is_reader: bool) -> None:
+                raise Aborted("a writer is open")
+        for _ in transact(self.store, Refusing(self.store), (Look(0),), 1, self.run):
+            self.fail("it began")
+        self.assertEqual(self.run.records, [Recorded(1, 1, [], ended=2)])
+
     def test_a_refused_commit_is_an_abort(self) -> None:
-        held = transact(self.store.connect(), (Look(0), Put(0)), 1, self.run)
+        held = transact(self.store, self.store.connect(), (Look(0), Put(0)), 1, self.run)
         next(held)
         self.assertTrue(self.transact(2, Put(0)).is_committed)
         for _ in held:
             pass
         self.assertFalse(self.run.records[-1].is_committed)
         self.assertIsInstance(self.run.records[-1].operations[-1], WriteDone)
+
+
+class Scripts(unittest.TestCase):
+    def play(self, text: str, late: bool = True) -> str:
+        script, store = read_script(text), SmallStore(late)
+        store.prepare(script.keys)
+        records = run(store, settings(True), nothing, LONG_SECONDS, script)
+        log = events_log(records, store.timeline(records)).encode().splitlines()
+        return history_line(converted(from_events.convert, list(log)))
+
+    def test_a_script_is_played_as_it_stands(self) -> None:
+        self.assertEqual(self.play("r1[0:0] w2[0] w2[1] c2 r1[1:9] r3[0..1] a3 c1"),
+                         "b1@0 r1[0:0] b2@0 w2[0] w2[1] c2 r1[1:0] b3@6 r3[0..1;0:2,1:2] a3 c1")
+
+    def test_a_begin_takes_the_snapshot_of_a_store_that_takes_it_there(self) -> None:
+        text = "b1 w2[0] c2 r1[0:0] c1"
+        self.assertEqual(self.play(text, late=False), "b1@0 b2@0 w2[0] c2 r1[0:0] c1")
+        self.assertEqual(self.play(text, late=True), "b1@0 w1[0] c1 b2@3 r2[0:1] c2")
+
+    def test_what_the_store_refuses_is_over(self) -> None:
+        self.assertEqual(self.play("r1[0:0] r2[0:0] w1[0] w2[0] c1 c2 r3[0:1] c3"),
+                         "b1@0 r1[0:0] b2@0 r2[0:0] w1[0] w2[0] c1 a2 b3@7 r3[0:1] c3")
+
+    def test_what_has_no_end_gives_up(self) -> None:
+        self.assertEqual(self.play("r1[0:0] w2[0]"), "b1@0 r1[0:0] b2@0 w2[0] a1 a2")
+
+    def test_a_session_that_is_idle_is_used_again(self) -> None:
+        connections: list[SmallConnection] = []
+
+        class Watched(SmallStore):
+            def connect(self) -> SmallConnection:
+                connections.append(super().connect())
+                return connections[-1]
+
+        script = read_script("r1[0:0] w2[1] c2 a1 r3[1:2] r4[1:2] c3 c4 r5[0:0] c5")
+        self.assertEqual(script.sessions, 2)
+        store = Watched()
+        store.prepare(script.keys)
+        run(store, settings(True), nothing, LONG_SECONDS, script)
+        self.assertEqual(len(connections), 2)
 
 
 class Faults(unittest.TestCase):

@@ -6,8 +6,8 @@ import itertools
 import random
 import threading
 import time
-from collections.abc import Callable, Generator, Sequence
-from contextlib import ExitStack, closing
+from collections.abc import Callable, Iterator, Sequence
+from contextlib import ExitStack, closing, nullcontext
 from dataclasses import dataclass, field
 from functools import partial
 
@@ -15,15 +15,20 @@ from si_history.progress import Progress
 from si_history.record import signals
 from si_history.record.model import (
     NOBODY, Aborted, Connection, RangeDone, ReadDone, Recorded, Row, Store, StoreFault, WriteDone)
-from si_history.record.workloads import Flip, Look, Plan, Put, Scan, Step, Workload, plan
+from si_history.record.script import Script
+from si_history.record.workloads import Bump, Flip, GiveUp, Look, Plan, Put, Scan, Step, Workload, is_reader, plan
 
 SECONDS_BETWEEN_LOOKS = 0.05
+
+# The steps of one transaction.
+Steps = Iterator[None]
 
 
 @dataclass(frozen=True)
 class Settings:
     """What is run. Exactly one of `transactions` and `events` is given: how many transactions begin, or after how many
-    recorded events none begins any more."""
+    recorded events none begins any more. Where it `notes_begins`, a start is noted at the begin though the first statement
+    takes the snapshot: a fault on purpose, to see it found."""
 
     workload: Workload
     keys: int
@@ -32,6 +37,7 @@ class Settings:
     interleave: bool
     transactions: int | None = None
     events: int | None = None
+    notes_begins: bool = False
 
 
 @dataclass
@@ -64,15 +70,17 @@ class Run:
             self.events += len(record.operations) + 2
 
 
-def run(store: Store, settings: Settings, look: Callable[[], None], patience: float) -> list[Recorded]:
-    """Runs the transactions, and answers what was recorded of them, by their numbers.
+def run(store: Store, settings: Settings, look: Callable[[], None], patience: float, script: Script | None = None) -> list[Recorded]:
+    """Runs the transactions, those of a script where there is one, and answers what was recorded of them, by their numbers.
 
     `look` is called now and then and raises StoreFault where the server is known to have failed. `patience` is how many
     seconds the store may take for one statement. Raises StoreFault where the run can't be brought to its end.
     """
     the_run = Run(settings)
-    if settings.interleave:
-        jobs: list[Callable[[], None]] = [lambda: interleave(store, the_run)]
+    if script is not None:
+        jobs: list[Callable[[], None]] = [lambda: play(store, the_run, script)]
+    elif settings.interleave:
+        jobs = [lambda: interleave(store, the_run)]
     else:
         jobs = [partial(work, store, the_run, session) for session in range(settings.sessions)]
     with Progress("transactions recorded") as progress:
@@ -88,7 +96,7 @@ def work(store: Store, the_run: Run, session: int) -> None:
     dice = random.Random(f"{the_run.settings.seed} session {session}")
     with closing(store.connect()) as connection:
         while (number := the_run.next_number()) is not None:
-            for _ in transact(connection, _next_plan(the_run, dice), number, the_run):
+            for _ in transact(store, connection, _next_plan(the_run, dice), number, the_run):
                 the_run.steps += 1
                 if the_run.is_stopped.is_set():
                     return
@@ -97,13 +105,13 @@ def work(store: Store, the_run: Run, session: int) -> None:
 def interleave(store: Store, the_run: Run) -> None:
     """All sessions by one thread: each step is one of a session that the dice choose. A seed repeats the run."""
     dice = random.Random(f"{the_run.settings.seed} interleaved")
-    busy: list[tuple[Connection, Generator[None, None, None]]] = []
+    busy: list[tuple[Connection, Steps]] = []
     with ExitStack() as stack:
         idle = [stack.enter_context(closing(store.connect())) for _ in range(the_run.settings.sessions)]
         while not the_run.is_stopped.is_set():
             while idle and (number := the_run.next_number()) is not None:
                 connection = idle.pop(0)
-                busy.append((connection, transact(connection, _next_plan(the_run, dice), number, the_run)))
+                busy.append((connection, transact(store, connection, _next_plan(the_run, dice), number, the_run)))
             if not busy:
                 return
             place = dice.randrange(len(busy))
@@ -114,6 +122,27 @@ def interleave(store: Store, the_run: Run) -> None:
                 idle.append(connection)
 
 
+def play(store: Store, the_run: Run, script: Script) -> None:
+    """The transactions of a script, each in the first session that is idle when it begins. What the store has refused is over."""
+    running: dict[int, tuple[int, Steps]] = {}
+    begun: set[int] = set()
+    with ExitStack() as stack:
+        sessions = [stack.enter_context(closing(store.connect())) for _ in range(script.sessions)]
+        idle = list(range(len(sessions)))
+        for number in script.turns:
+            if the_run.is_stopped.is_set():
+                return
+            if number not in begun:
+                begun.add(number)
+                session = min(idle)
+                idle.remove(session)
+                running[number] = session, transact(store, sessions[session], script.plans[number], number, the_run)
+            session, steps = running.get(number, (0, iter(())))
+            the_run.steps += 1
+            if next(steps, _ENDED) is _ENDED and running.pop(number, None) is not None:
+                idle.append(session)
+
+
 _ENDED = object()
 
 
@@ -121,20 +150,30 @@ def _next_plan(the_run: Run, dice: random.Random) -> Plan:
     return plan(the_run.settings.workload, the_run.settings.keys, dice)
 
 
-def transact(connection: Connection, steps: Plan, number: int, the_run: Run) -> Generator[None, None, None]:
-    """One transaction: each step of the generator is its begin, one statement of its plan, or its commit."""
-    connection.begin(number)
-    record = Recorded(number, the_run.take_ticket())
+def transact(store: Store, connection: Connection, steps: Plan, number: int, the_run: Run) -> Steps:
+    """One transaction: each step of the generator is its begin, one statement of its plan, or its end."""
+    record = Recorded(number, 0)
+    is_late = store.is_late(is_reader(steps)) and not the_run.settings.notes_begins
     seen: dict[int, Row | None] = {}
-    yield
     try:
+        with store.ordered():
+            connection.begin(number, is_reader(steps))
+            record.begun = the_run.take_ticket()
+        yield
         for step in steps:
-            _perform(connection, step, record, seen, the_run.take_ticket)
+            if isinstance(step, GiveUp):
+                raise Aborted("the transaction gives up")
+            with store.ordered() if is_late else nullcontext():
+                if is_late:
+                    record.begun, is_late = the_run.take_ticket(), False
+                _perform(connection, step, record, seen, the_run.take_ticket)
             yield
-        record.ended = the_run.take_ticket()
-        connection.commit(number)
+        with store.ordered():
+            record.ended = the_run.take_ticket()
+            connection.commit(number)
         record.is_committed = True
     except Aborted:
+        record.begun = record.begun or the_run.take_ticket()
         record.ended = the_run.take_ticket()
         connection.rollback()
     the_run.keep(record)
@@ -159,6 +198,10 @@ def _perform(connection: Connection, step: Step, record: Recorded, seen: dict[in
             is_gone = isinstance(step, Flip) and (row := seen[key]) is not None and not row.is_gone
             _write(connection, key, record.number, is_gone, seen)
             seen[key] = Row(key, record.number, is_gone)
+        case Bump(key):
+            saw = connection.bump(key, record.number)
+            record.operations += [ReadDone(take_ticket(), key, saw), WriteDone(take_ticket(), key)]
+            seen[key] = Row(key, record.number, False)
 
 
 def _write(connection: Connection, key: int, number: int, is_gone: bool, seen: dict[int, Row | None]) -> None:

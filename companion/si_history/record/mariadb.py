@@ -5,7 +5,7 @@ from __future__ import annotations
 import itertools
 import signal
 from collections.abc import Iterator, Sequence
-from contextlib import contextmanager
+from contextlib import AbstractContextManager, contextmanager, nullcontext
 from pathlib import Path
 from typing import Any
 
@@ -98,17 +98,31 @@ class MariadbStore:
         connection.ask(f"INSERT INTO {self.marks_table} VALUES (%s, %s)", (connection.session, NOBODY))
         return connection
 
+    def version(self) -> str:
+        session = MariadbConnection(self, 0)
+        try:
+            [(version,)] = session.ask("SELECT VERSION()")
+        finally:
+            session.close()
+        return str(version).split("-")[0]
+
+    def is_late(self, is_reader: bool) -> bool:
+        return False
+
+    def ordered(self) -> AbstractContextManager[object]:
+        return nullcontext()
+
     def prepare(self, keys: Sequence[int]) -> None:
         session = MariadbConnection(self, 0)
         try:
             if session.ask("SELECT @@log_bin, @@sql_log_bin") != [(1, 1)]:
                 raise StoreFault("the MariaDB server keeps no binary log, which tells the order of commits: "
                                  "start it with --log-bin")
-            session.ask(f"CREATE TABLE {self.table} (`key` BIGINT PRIMARY KEY, writer BIGINT NOT NULL, gone BOOLEAN NOT NULL)"
-                        " ENGINE=InnoDB")
+            session.ask(f"CREATE TABLE {self.table} (`key` BIGINT PRIMARY KEY, writer BIGINT NOT NULL, gone BOOLEAN NOT NULL,"
+                        " previous BIGINT) ENGINE=InnoDB")
             session.ask(f"CREATE TABLE {self.marks_table} (session BIGINT PRIMARY KEY, number BIGINT NOT NULL) ENGINE=InnoDB")
             for key in keys:
-                session.ask(f"INSERT INTO {self.table} VALUES (%s, %s, FALSE)", (key, NOBODY))
+                session.ask(f"INSERT INTO {self.table} VALUES (%s, %s, FALSE, NULL)", (key, NOBODY))
         finally:
             session.close()
 
@@ -141,7 +155,7 @@ class MariadbConnection:
         self.ask(f"SET SESSION innodb_snapshot_isolation = {store.snapshot_isolation}")
         self.ask(f"SET SESSION innodb_lock_wait_timeout = {store.lock_seconds}")
 
-    def begin(self, number: int) -> None:
+    def begin(self, number: int, is_reader: bool) -> None:
         # The server takes the snapshot here, under the lock that commits take, and not with the first read. What it sees
         # of the marks is what it sees of the commits. The status variable binlog_snapshot_position would tell as much; but
         # the server keeps one for all sessions, and while others ask it tells one session the position of another.
@@ -158,7 +172,7 @@ class MariadbConnection:
         return self._rows("`key` BETWEEN %s AND %s", (low, high))
 
     def insert(self, key: int, number: int) -> None:
-        self.ask(f"INSERT INTO {self._store.table} VALUES (%s, %s, FALSE)", (key, number))
+        self.ask(f"INSERT INTO {self._store.table} VALUES (%s, %s, FALSE, NULL)", (key, number))
 
     def update(self, key: int, number: int, is_gone: bool) -> None:
         self.ask(f"UPDATE {self._store.table} SET writer = %s, gone = %s WHERE `key` = %s", (number, is_gone, key))
@@ -166,8 +180,14 @@ class MariadbConnection:
             raise StoreFault(f"an update of key {key} by T{number} found no row, though one had been read")
 
     def put(self, key: int, number: int) -> None:
-        self.ask(f"INSERT INTO {self._store.table} VALUES (%s, %s, FALSE)"
+        self.ask(f"INSERT INTO {self._store.table} VALUES (%s, %s, FALSE, NULL)"
                  " ON DUPLICATE KEY UPDATE writer = VALUES(writer), gone = FALSE", (key, number))
+
+    def bump(self, key: int, number: int) -> int:
+        self.ask(f"INSERT INTO {self._store.table} VALUES (%s, %s, FALSE, {NOBODY}) ON DUPLICATE KEY"
+                 " UPDATE previous = writer, writer = VALUES(writer), gone = FALSE", (key, number))
+        [(previous,)] = self.ask(f"SELECT previous FROM {self._store.table} WHERE `key` = %s", (key,))
+        return int(previous)
 
     def commit(self, number: int) -> None:
         self.ask(f"UPDATE {self._store.marks_table} SET number = %s WHERE session = %s", (number, self.session))

@@ -4,6 +4,7 @@ from __future__ import annotations
 
 import enum
 from collections.abc import Sequence
+from contextlib import AbstractContextManager
 from dataclasses import dataclass, field
 from typing import NamedTuple, Protocol
 
@@ -63,9 +64,10 @@ Operation = ReadDone | RangeDone | WriteDone
 class Recorded:
     """One transaction, as the session that ran it saw it.
 
-    Tickets count up over all sessions. `begun` was taken after the store had given the snapshot, the ticket of a read
-    after its answer, that of a write before it was sent, and `ended` before the commit was sent. So what one session read
-    of another's write has the later ticket. Nothing else is told by tickets: the order of starts and commits is the store's.
+    Tickets count up over all sessions. `begun` was taken after the store had given the snapshot, or right before the
+    statement that takes it, the ticket of a read after its answer, that of a write before it was sent, and `ended` before the
+    commit was sent. So what one session read of another's write has the later ticket. Tickets tell the order of starts and
+    commits only where one is taken at a time; else that order is the store's.
     """
 
     number: int
@@ -101,8 +103,8 @@ Timeline = list[Point]
 class Connection(Protocol):
     """One session of a store. Each call is one statement or a few; it raises Aborted or StoreFault where it fails."""
 
-    def begin(self, number: int) -> None:
-        """Begins transaction `number`, takes its snapshot and notes it in the store's own terms."""
+    def begin(self, number: int, is_reader: bool) -> None:
+        """Begins transaction `number`, which writes nothing where `is_reader`."""
 
     def read(self, key: int) -> Row | None:
         """Reads one key's row."""
@@ -119,6 +121,9 @@ class Connection(Protocol):
     def put(self, key: int, number: int) -> None:
         """Writes a row, by transaction `number`, whether it is there already or not."""
 
+    def bump(self, key: int, number: int) -> int:
+        """Reads and writes a key in one statement, and answers the writer of the version that it read."""
+
     def commit(self, number: int) -> None:
         """Commits transaction `number`, and notes its place in the store's own terms."""
 
@@ -130,16 +135,25 @@ class Connection(Protocol):
 
 
 class Store(Protocol):
-    """A store with a table for one run."""
+    """A store with what one run needs in it. A refusal of the store, of any statement, is Aborted."""
+
+    def version(self) -> str:
+        """The version of the store."""
 
     def prepare(self, keys: Sequence[int]) -> None:
-        """Makes the table, with a row of NOBODY for each of the keys."""
+        """Makes the tables, with a row of NOBODY for each of the keys."""
 
     def connect(self) -> Connection:
         """Opens a session."""
 
+    def is_late(self, is_reader: bool) -> bool:
+        """Whether a transaction's first statement takes its snapshot, and not its begin."""
+
+    def ordered(self) -> AbstractContextManager[object]:
+        """Held while a snapshot is taken or a commit is done, and the ticket for it is taken."""
+
     def timeline(self, records: Sequence[Recorded]) -> Timeline:
-        """The store's order of starts and commits. Raises StoreFault where what the server told is no such order."""
+        """The store's order of starts and commits. Raises StoreFault where what the store told is no such order."""
 
     def remove(self) -> None:
-        """Takes the table away again."""
+        """Takes the tables away again."""

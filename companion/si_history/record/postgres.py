@@ -4,7 +4,7 @@ from __future__ import annotations
 
 import signal
 from collections.abc import Iterator, Sequence
-from contextlib import contextmanager
+from contextlib import AbstractContextManager, contextmanager, nullcontext
 from pathlib import Path
 from typing import Any
 
@@ -77,12 +77,27 @@ class PostgresStore:
     def connect(self) -> PostgresConnection:
         return PostgresConnection(self)
 
+    def version(self) -> str:
+        session = self.connect()
+        try:
+            [(version,)] = session.ask("SHOW server_version")
+        finally:
+            session.close()
+        return str(version).split()[0]
+
+    def is_late(self, is_reader: bool) -> bool:
+        return False
+
+    def ordered(self) -> AbstractContextManager[object]:
+        return nullcontext()
+
     def prepare(self, keys: Sequence[int]) -> None:
         session = self.connect()
         try:
-            session.ask(f"CREATE TABLE {self.table} (key bigint PRIMARY KEY, writer bigint NOT NULL, gone boolean NOT NULL)")
+            session.ask(f"CREATE TABLE {self.table} (key bigint PRIMARY KEY, writer bigint NOT NULL, gone boolean NOT NULL,"
+                        " previous bigint)")
             for key in keys:
-                session.ask(f"INSERT INTO {self.table} VALUES (%s, 0, false)", (key,))
+                session.ask(f"INSERT INTO {self.table} VALUES (%s, 0, false, NULL)", (key,))
             session.ask(f"ANALYZE {self.table}")
         finally:
             session.close()
@@ -133,7 +148,7 @@ class PostgresConnection:
         """Sets how long a statement waits for a lock."""
         self.ask(f"SET lock_timeout = {max(1, round(seconds * 1000))}")
 
-    def begin(self, number: int) -> None:
+    def begin(self, number: int, is_reader: bool) -> None:
         # BEGIN takes no snapshot: the first statement does. It asks for the snapshot itself, and for the transaction's id,
         # which a transaction that writes nothing would not have, and without which nobody could tell when it committed.
         self.ask(f"BEGIN ISOLATION LEVEL {self._store.level}")
@@ -149,7 +164,7 @@ class PostgresConnection:
         return self._rows("key BETWEEN %s AND %s", (low, high))
 
     def insert(self, key: int, number: int) -> None:
-        self.ask(f"INSERT INTO {self._store.table} VALUES (%s, %s, false)", (key, number))
+        self.ask(f"INSERT INTO {self._store.table} VALUES (%s, %s, false, NULL)", (key, number))
 
     def update(self, key: int, number: int, is_gone: bool) -> None:
         self.ask(f"UPDATE {self._store.table} SET writer = %s, gone = %s WHERE key = %s", (number, is_gone, key))
@@ -157,8 +172,14 @@ class PostgresConnection:
             raise StoreFault(f"an update of key {key} by T{number} found no row, though one had been read")
 
     def put(self, key: int, number: int) -> None:
-        self.ask(f"INSERT INTO {self._store.table} VALUES (%s, %s, false)"
+        self.ask(f"INSERT INTO {self._store.table} VALUES (%s, %s, false, NULL)"
                  " ON CONFLICT (key) DO UPDATE SET writer = excluded.writer, gone = false", (key, number))
+
+    def bump(self, key: int, number: int) -> int:
+        [(previous,)] = self.ask(
+            f"INSERT INTO {self._store.table} AS t VALUES (%s, %s, false, 0) ON CONFLICT (key)"
+            " DO UPDATE SET previous = t.writer, writer = excluded.writer, gone = false RETURNING previous", (key, number))
+        return int(previous)
 
     def commit(self, number: int) -> None:
         self.ask("COMMIT")

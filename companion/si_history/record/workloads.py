@@ -4,11 +4,13 @@ from __future__ import annotations
 
 import enum
 import random
-from collections.abc import Callable
+from collections.abc import Callable, Iterable
 from dataclasses import dataclass
 
 # One transaction in four of a workload with writers reads only.
 READERS = 0.25
+# In the general workload one reader in two rolls back, as pools of connections do, and one writer in 25.
+READERS_GIVING_UP, WRITERS_GIVING_UP = 0.5, 0.04
 WIDEST_RANGE = 8
 # No transaction has more events: two keys are read and written, and it begins and ends.
 MOST_EVENTS = 6
@@ -43,7 +45,19 @@ class Flip:
     key: int
 
 
-Step = Look | Scan | Put | Flip
+@dataclass(frozen=True, slots=True)
+class Bump:
+    """Reads and writes a key in one statement."""
+
+    key: int
+
+
+@dataclass(frozen=True, slots=True)
+class GiveUp:
+    """Rolls back. It is the last step of a plan that has it."""
+
+
+Step = Look | Scan | Put | Flip | Bump | GiveUp
 Plan = tuple[Step, ...]
 
 
@@ -55,18 +69,44 @@ class Workload(enum.Enum):
     RANGES = "ranges"
     BLIND = "blind"
     MIX = "mix"
+    TRANSFERS = "transfers"
+    STATEMENTS = "statements"
+    WALKS = "walks"
+    GENERAL = "general"
 
 
-def rows_at_first(keys: int) -> list[int]:
-    """The keys that have a row before the run: the even ones. The others are inserted by transactions."""
-    return list(range(0, keys, 2))
+class Rows(enum.Enum):
+    """Which keys have a row before the run. The others are inserted by transactions."""
+
+    EVEN = "even"
+    ALL = "all"
+    NONE = "none"
+
+
+def rows_at_first(keys: Iterable[int], rows: Rows = Rows.EVEN) -> list[int]:
+    """Those of the keys that have a row before the run."""
+    return [key for key in keys if rows is Rows.ALL or (rows is Rows.EVEN and key % 2 == 0)]
 
 
 def plan(workload: Workload, keys: int, dice: random.Random) -> Plan:
     """What one transaction does, on keys from 0 to `keys` - 1, of which there are two at least."""
+    if workload is Workload.GENERAL:
+        return _general(keys, dice)
     if workload is Workload.MIX:
-        workload = dice.choice([Workload.COUNTERS, Workload.SKEW, Workload.RANGES, Workload.BLIND])
+        workload = dice.choice(_MIXED)
     return _PLANS[workload](keys, dice)
+
+
+def is_reader(steps: Plan) -> bool:
+    """Whether a transaction writes nothing."""
+    return not any(isinstance(step, Put | Flip | Bump) for step in steps)
+
+
+def _general(keys: int, dice: random.Random) -> Plan:
+    """A transaction of any kind; some roll back."""
+    steps = _PLANS[dice.choice(list(_PLANS))](keys, dice)
+    chance = READERS_GIVING_UP if is_reader(steps) else WRITERS_GIVING_UP
+    return (*steps, GiveUp()) if dice.random() < chance else steps
 
 
 def _counters(keys: int, dice: random.Random) -> Plan:
@@ -99,6 +139,27 @@ def _blind(keys: int, dice: random.Random) -> Plan:
     return tuple(Put(key) for key in _some_keys(keys, 3, dice))
 
 
+def _transfers(keys: int, dice: random.Random) -> Plan:
+    """Reads two accounts and writes both. Some read a range of accounts, as a sum over them does."""
+    if dice.random() < READERS:
+        return (_some_range(keys, dice), _some_range(keys, dice))
+    one, other = dice.sample(range(keys), 2)
+    return (Look(one), Look(other), Put(one), Put(other))
+
+
+def _statements(keys: int, dice: random.Random) -> Plan:
+    """Read, modify, write in one statement, of one key or two. Some only read."""
+    if dice.random() < READERS:
+        return _looks(keys, dice)
+    return tuple(Bump(key) for key in _some_keys(keys, 2, dice))
+
+
+def _walks(keys: int, dice: random.Random) -> Plan:
+    """Reads keys and ranges one after another; one in two then writes a key."""
+    looks = tuple(_some_range(keys, dice) if dice.random() < READERS else Look(dice.randrange(keys)) for _ in range(3))
+    return (*looks, Put(dice.randrange(keys))) if dice.random() < 0.5 else looks
+
+
 def _looks(keys: int, dice: random.Random) -> Plan:
     """Reads some keys, or a range."""
     if dice.random() < 0.5:
@@ -123,4 +184,8 @@ _PLANS: dict[Workload, Callable[[int, random.Random], Plan]] = {
     Workload.SKEW: _skew,
     Workload.RANGES: _ranges,
     Workload.BLIND: _blind,
+    Workload.TRANSFERS: _transfers,
+    Workload.STATEMENTS: _statements,
+    Workload.WALKS: _walks,
 }
+_MIXED = [Workload.COUNTERS, Workload.SKEW, Workload.RANGES, Workload.BLIND]

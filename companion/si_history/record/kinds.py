@@ -1,0 +1,8 @@
+"""The kinds of stores that the recorder runs in a folder of its own."""
+
+from __future__ import annotations
+
+from si_history.record import sqlite
+from si_history.record.local import Kind
+
+KINDS: tuple[Kind, ...] = (sqlite.KIND,)
