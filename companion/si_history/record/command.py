@@ -85,7 +85,8 @@ def register(commands: argparse._SubParsersAction[argparse.ArgumentParser]) -> N
         add_common(served, Workload.MIX)
         add_served(served)
     for kind in KINDS:
-        local = _add(databases, kind.name, kind.title, DESCRIPTION_LOCAL, EPILOG_LOCAL.format(kind.name), partial(open_local, kind))
+        local = _add(databases, kind.name, kind.title, DESCRIPTION_LOCAL, EPILOG_LOCAL.format(kind.name),
+                     partial(open_local, kind))
         add_common(local, Workload.GENERAL)
         add_local(local, kind)
 

@@ -78,7 +78,7 @@ def run(store: Store, settings: Settings, look: Callable[[], None], patience: fl
     """
     the_run = Run(settings)
     if script is not None:
-        jobs: list[Callable[[], None]] = [lambda: play(store, the_run, script)]
+        jobs: list[Callable[[], None]] = [partial(play, store, the_run, script)]
     elif settings.interleave:
         jobs = [lambda: interleave(store, the_run)]
     else:

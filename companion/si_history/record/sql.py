@@ -31,6 +31,9 @@ class SqlConnection(ABC):
     def change(self, statement: str, values: tuple[int, ...]) -> int:
         """Has the store change rows, and answers how many. Raises Aborted or StoreFault where it fails."""
 
+    def claim(self, key: int) -> None:
+        """Raises Aborted where a write of the key would wait without an end. Is called before each write."""
+
     def read(self, key: int) -> Row | None:
         rows = self.ask(f"SELECT id, writer, gone FROM {self._table(key)} WHERE id = ?", (key,))
         return _row(rows[0]) if rows else None
@@ -40,9 +43,11 @@ class SqlConnection(ABC):
         return sorted(_row(cells) for cells in self.ask(" UNION ALL ".join(selects), (low, high) * self._tables))
 
     def insert(self, key: int, number: int) -> None:
+        self.claim(key)
         self.change(f"INSERT INTO {self._table(key)} VALUES (?, ?, 0, NULL)", (key, number))
 
     def update(self, key: int, number: int, is_gone: bool) -> None:
+        self.claim(key)
         changed = self.change(f"UPDATE {self._table(key)} SET writer = ?, gone = ? WHERE id = ?", (number, int(is_gone), key))
         # A row that a transaction saw is missing only where it saw one that nobody committed.
         if changed == 0:
@@ -53,6 +58,7 @@ class SqlConnection(ABC):
 
     def bump(self, key: int, number: int) -> int:
         table = self._table(key)
+        self.claim(key)
         if self.change(f"UPDATE {table} SET prev = writer, writer = ?, gone = 0 WHERE id = ?", (number, key)) == 0:
             self.insert(key, number)
             return NOBODY
