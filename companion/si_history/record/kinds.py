@@ -2,7 +2,7 @@
 
 from __future__ import annotations
 
-from si_history.record import derby, h2, hsqldb, lmdb, sqlite
+from si_history.record import derby, firebird, h2, hsqldb, lmdb, sqlite
 from si_history.record.local import Kind
 
-KINDS: tuple[Kind, ...] = (sqlite.KIND, lmdb.KIND, h2.KIND, hsqldb.KIND, derby.KIND)
+KINDS: tuple[Kind, ...] = (sqlite.KIND, lmdb.KIND, h2.KIND, hsqldb.KIND, firebird.KIND, derby.KIND)

@@ -15,8 +15,8 @@ FEWEST_KEYS, MOST_KEYS = 2, 10_000
 LONGEST_LOCK_SECONDS = 3600.0
 WORKLOADS = """\
 counters: read, modify, write; skew: read a pair, write one of it; ranges: read a range, insert and delete in it; blind: write
-unread; mix: all of these; transfers: read two, write both; statements: read and write in one statement; walks: read keys and
-ranges, write one; general: all of these, and some roll back, of those that only read one in two"""
+unread; mix: these four; transfers: read two, write both; statements: read and write in one statement; walks: read keys and
+ranges, write one; readers: only read them; general: all of these, and some roll back, of those that only read one in two"""
 
 
 def add_common(parser: argparse.ArgumentParser, workload: Workload) -> None:

@@ -72,6 +72,7 @@ class Workload(enum.Enum):
     TRANSFERS = "transfers"
     STATEMENTS = "statements"
     WALKS = "walks"
+    READERS = "readers"
     GENERAL = "general"
 
 
@@ -103,8 +104,8 @@ def is_reader(steps: Plan) -> bool:
 
 
 def _general(keys: int, dice: random.Random) -> Plan:
-    """A transaction of any kind; some roll back."""
-    steps = _PLANS[dice.choice(list(_PLANS))](keys, dice)
+    """A transaction of any kind, most often one that only reads; some roll back."""
+    steps = _PLANS[dice.choice(_GENERAL)](keys, dice)
     chance = READERS_GIVING_UP if is_reader(steps) else WRITERS_GIVING_UP
     return (*steps, GiveUp()) if dice.random() < chance else steps
 
@@ -155,9 +156,18 @@ def _statements(keys: int, dice: random.Random) -> Plan:
 
 
 def _walks(keys: int, dice: random.Random) -> Plan:
-    """Reads keys and ranges one after another; one in two then writes a key."""
-    looks = tuple(_some_range(keys, dice) if dice.random() < READERS else Look(dice.randrange(keys)) for _ in range(3))
-    return (*looks, Put(dice.randrange(keys))) if dice.random() < 0.5 else looks
+    """Reads three keys or ranges one after another, and then writes a key."""
+    return (*_walk(keys, 3, dice), Put(dice.randrange(keys)))
+
+
+def _readers(keys: int, dice: random.Random) -> Plan:
+    """Reads from two to four keys or ranges one after another, and nothing else."""
+    return _walk(keys, dice.randint(2, 4), dice)
+
+
+def _walk(keys: int, length: int, dice: random.Random) -> Plan:
+    """Reads one after another, one in four of a range."""
+    return tuple(_some_range(keys, dice) if dice.random() < 0.25 else Look(dice.randrange(keys)) for _ in range(length))
 
 
 def _looks(keys: int, dice: random.Random) -> Plan:
@@ -187,5 +197,8 @@ _PLANS: dict[Workload, Callable[[int, random.Random], Plan]] = {
     Workload.TRANSFERS: _transfers,
     Workload.STATEMENTS: _statements,
     Workload.WALKS: _walks,
+    Workload.READERS: _readers,
 }
 _MIXED = [Workload.COUNTERS, Workload.SKEW, Workload.RANGES, Workload.BLIND]
+# Most transactions of most applications only read.
+_GENERAL = [*_MIXED, Workload.TRANSFERS, Workload.STATEMENTS, Workload.WALKS, *[Workload.READERS] * 5]
