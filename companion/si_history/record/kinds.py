@@ -2,7 +2,8 @@
 
 from __future__ import annotations
 
-from si_history.record import derby, firebird, h2, hsqldb, lmdb, sqlite
+from si_history.record import berkeley, derby, firebird, h2, hsqldb, lmdb, rocksdb, sqlite
 from si_history.record.local import Kind
 
-KINDS: tuple[Kind, ...] = (sqlite.KIND, lmdb.KIND, h2.KIND, hsqldb.KIND, firebird.KIND, derby.KIND)
+KINDS: tuple[Kind, ...] = (
+    sqlite.KIND, lmdb.KIND, berkeley.KIND, h2.KIND, hsqldb.KIND, firebird.KIND, derby.KIND, rocksdb.KIND)
