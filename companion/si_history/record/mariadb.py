@@ -36,12 +36,12 @@ WORDS = {"host": "host", "port": "port", "socket": "unix_socket", "user": "user"
 
 
 @contextmanager
-def started() -> Iterator[tuple[Server, dict[str, Any]]]:
+def started(title: str = TITLE, serving: Sequence[str] = SERVING) -> Iterator[tuple[Server, dict[str, Any]]]:
     """A server of one's own, with the words that connect to it."""
     driver = drivers.load(TITLE, DRIVERS)
     install, mariadbd = program("mariadb-install-db", TITLE, PLACES), program("mariadbd", TITLE, PLACES)
     # Its data is thrown away, so it need not end in peace.
-    with Server(TITLE, ACCOUNT, signal.SIGKILL, ROOM) as server:
+    with Server(title, ACCOUNT, signal.SIGKILL, ROOM) as server:
         socket = server.directory / "socket"
         words = {"unix_socket": str(socket), "user": "root"}
         server.prepare([install, *SETTINGS, f"--datadir={server.data}", "--auth-root-authentication-method=normal",
@@ -56,7 +56,7 @@ def started() -> Iterator[tuple[Server, dict[str, Any]]]:
                 return False
             return True
 
-        server.start([mariadbd, *SETTINGS, *SERVING, f"--datadir={server.data}", f"--socket={socket}",
+        server.start([mariadbd, *SETTINGS, *serving, f"--datadir={server.data}", f"--socket={socket}",
                       f"--tmpdir={server.directory}", f"--pid-file={server.directory / 'process'}"], is_ready)
         yield server, words | {"database": DATABASE}
 
