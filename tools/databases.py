@@ -1,135 +1,204 @@
 #!/usr/bin/env python3
 """Records real databases and audits the records.
 
-    databases.py PROGRAM [RUNS [EVENTS]]
+    databases.py PROGRAM [RUNS [EVENTS]] [--only STORE].. [--keep DIR]
 
-Each of four kinds (a database and a setting) is recorded RUNS times, 20 if it isn't said, with the seeds 1, 2, .., and
-EVENTS events in each run, 2,000 if it isn't said. PROGRAM audits each record. The table of what was found is printed, and
-beside it whether it is as expected: then the status is 0, else 1. It is 2 where a run could not be recorded, and then one line
-says why. `si_history` is to be found on the path (PYTHONPATH=companion).
+Each of the kinds in database_kinds.py (a store and a setting) is recorded RUNS times, 20 if it isn't said, with the seeds 1, 2,
+.., and EVENTS events in each run, 2,000 if it isn't said. PROGRAM audits each record. The table of what was found is printed,
+and beside it whether it is as expected: then the status is 0, else 1. It is 2 where a run could not be recorded, and then one
+line says why. A store that isn't installed is left out, and one line says so. --only names a store by its word for the recorder,
+and --keep a directory for the histories and the explained reports. `si_history` is to be found on the path.
 """
+import argparse
+import collections
 import dataclasses
+import os
 import re
 import signal
 import subprocess
 import sys
-from collections.abc import Callable, Sequence
+import threading
+from collections.abc import Iterable, Sequence
+from concurrent.futures import ThreadPoolExecutor
+from pathlib import Path
 
-EDGE = re.compile(r"edge ([0-9]+) rw ([0-9]+) [0-9]+")
-HEAD = ("store", "setting", "runs", "isolation kept", "bad reads", "bad writes", "write skew", "serializable", "as expected")
+from database_kinds import FEWEST_RUNS, KINDS, Kind, Share
 
-
-@dataclasses.dataclass(frozen=True)
-class Finding:
-    """What the report of one run says."""
-
-    is_kept: bool
-    is_serializable: bool
-    has_skew: bool
-    bad_reads: int
-    bad_writes: int
-
-    @classmethod
-    def of(cls, report: str) -> "Finding":
-        """Reads a report. Write skew is there if two transactions have an rw edge to each other, and isolation was kept."""
-        lines = report.split("\n")
-        forward = {(found[1], found[2]) for line in lines if (found := EDGE.fullmatch(line))}
-        is_kept = "isolation kept" in lines
-        return cls(is_kept, "serializable yes" in lines, is_kept and any((two, one) in forward for one, two in forward),
-                   sum(line.startswith("bad-read ") for line in lines), sum(line.startswith("bad-write ") for line in lines))
-
-
-@dataclasses.dataclass(frozen=True)
-class Kind:
-    """A database with a setting: its words for the recorder, and whether the findings of its runs are what is expected."""
-
-    store: str
-    setting: str
-    words: tuple[str, ...]
-    is_expected: Callable[[Sequence[Finding]], bool]
-
-
-KINDS = (
-    Kind("PostgreSQL", "repeatable read", ("postgres", "--level", "repeatable read"),
-         lambda runs: all(run.is_kept for run in runs) and any(run.has_skew and not run.is_serializable for run in runs)),
-    Kind("PostgreSQL", "serializable", ("postgres", "--level", "serializable"),
-         lambda runs: all(run.is_kept and run.is_serializable for run in runs)),
-    Kind("MariaDB", "innodb_snapshot_isolation=OFF", ("mariadb", "--snapshot-isolation", "off"),
-         lambda runs: all(not run.is_kept and run.bad_writes > 0 for run in runs)),
-    Kind("MariaDB", "innodb_snapshot_isolation=ON", ("mariadb", "--snapshot-isolation", "on"),
-         lambda runs: all(run.is_kept for run in runs)),
-)
+HEAD = ("store", "version", "setting", "runs", "isolation kept", "findings", "ssi", "serializable", "as expected")
+# Few keys and sessions bring transactions together, and many leave room for longer histories of each. A seed takes one of these.
+SIZES = ((4, 3), (8, 4), (16, 8))
+USAGE = "databases.py PROGRAM [RUNS [EVENTS]] [--only STORE].. [--keep DIR]"
 
 
 class Failure(Exception):
     """A run could not be recorded or audited; the text is the one line that says why."""
 
 
-def record(words: Sequence[str], seed: int, events: int) -> str:
-    """The history of one run."""
-    command = [sys.executable, "-m", "si_history", "record", *words, "--events", str(events), "--seed", str(seed),
-               "--format", "history"]
-    with subprocess.Popen(command, stdout=subprocess.PIPE, stderr=subprocess.PIPE, text=True) as process:
-        try:
-            written, said = process.communicate()
-        except KeyboardInterrupt:
-            # The recorder stops its server and takes its files away: it mustn't be killed at that.
-            process.send_signal(signal.SIGINT)
-            process.wait()
-            raise
-    if process.returncode != 0:
-        raise Failure(said.strip() or f"si-history record ended with status {process.returncode}")
-    return written
+@dataclasses.dataclass(frozen=True)
+class Outcome:
+    """What the explained report of one run says. `findings` counts what breaks isolation, by the names of the report."""
+
+    is_kept: bool
+    is_ssi: bool
+    is_serializable: bool
+    findings: collections.Counter[str]
+
+    @classmethod
+    def of(cls, report: str) -> "Outcome":
+        """Reads an explained report, in which the line below a bad read begins with its name."""
+        lines = report.split("\n")
+        findings = collections.Counter(after.split(":")[0].strip() for line, after in zip(lines, lines[1:])
+                                       if line.startswith("bad-read "))
+        findings["bad write"] += sum(line.startswith("bad-write ") for line in lines)
+        return cls("isolation kept" in lines, "ssi pass" in lines, "serializable yes" in lines, +findings)
 
 
-def audit(program: str, history: str) -> Finding:
-    """What the program says of a history."""
+class Recorder:
+    """Starts the recorder, several at a time, and ends all that run where it is asked to."""
+
+    def __init__(self) -> None:
+        self._running: set[subprocess.Popen[str]] = set()
+        self._lock = threading.Lock()
+        self._is_ended = False
+
+    def run(self, words: Sequence[str]) -> str:
+        """What the recorder writes, given these words."""
+        with self._lock:
+            if self._is_ended:
+                raise Failure("it was interrupted")
+            process = subprocess.Popen([sys.executable, "-m", "si_history", "record", *words], stdout=subprocess.PIPE,
+                                       stderr=subprocess.PIPE, text=True, start_new_session=True)
+            self._running.add(process)
+        written, said = process.communicate()
+        with self._lock:
+            self._running.remove(process)
+        if process.returncode != 0:
+            raise Failure(said.strip() or f"si-history record {' '.join(words)} ended with status {process.returncode}")
+        return written
+
+    def end(self) -> None:
+        """Has each recorder stop its store and take its files away, and starts no more."""
+        with self._lock:
+            self._is_ended = True
+            for process in self._running:
+                process.send_signal(signal.SIGTERM)
+
+
+def audit(program: str, history: str) -> str:
+    """The explained report of a history."""
     try:
-        done = subprocess.run([program], input=history, capture_output=True, text=True, check=False)
+        done = subprocess.run([program, "--explain"], input=history, capture_output=True, text=True, check=False)
     except OSError as fault:
         raise Failure(f"{program} did not start: {fault.strerror}") from None
     if done.returncode not in (0, 1):
         raise Failure(f"{program} ended with status {done.returncode}: {(done.stdout or done.stderr).strip()}")
-    return Finding.of(done.stdout)
+    return done.stdout
 
 
-def row(kind: Kind, runs: Sequence[Finding]) -> tuple[str, ...]:
+def outcome(recorder: Recorder, options: argparse.Namespace, kind: Kind, seed: int) -> Outcome:
+    """Records one run of a kind and audits it."""
+    keys, sessions = SIZES[seed % len(SIZES)]
+    history = recorder.run([kind.command, *kind.words, "--events", str(options.events), "--seed", str(seed), "--keys", str(keys),
+                            "--sessions", str(sessions), "--format", "history"])
+    report = audit(options.program, history)
+    if options.keep is not None:
+        name = re.sub("[^a-z0-9]+", "_", f"{kind.command} {kind.setting}".lower())
+        (options.keep / f"{name}.{seed}.history").write_text(history)
+        (options.keep / f"{name}.{seed}.explained").write_text(report)
+    return Outcome.of(report)
+
+
+def is_expected(kind: Kind, runs: Sequence[Outcome]) -> bool:
+    """Whether the runs of a kind are as expected."""
+    def holds(share: Share, count: int) -> bool:
+        return len(runs) < FEWEST_RUNS and share in (Share.SOME, Share.NOT_ALL) or share.holds(count, len(runs))
+
+    return (holds(kind.kept, sum(run.is_kept for run in runs))
+            and holds(kind.serializable, sum(run.is_serializable for run in runs))
+            and holds(Share.SOME if kind.finding else Share.ANY, sum(kind.finding in run.findings for run in runs)))
+
+
+def row(kind: Kind, version: str, runs: Sequence[Outcome]) -> tuple[str, ...]:
     """The line of the table for the runs of one kind."""
-    def span(counts: Sequence[int]) -> str:
-        return str(counts[0]) if min(counts) == max(counts) else f"{min(counts)} to {max(counts)} a run"
+    total = sum((run.findings for run in runs), collections.Counter())
+    findings = ", ".join(f"{name} {count} in {sum(name in run.findings for run in runs)}" for name, count in sorted(total.items()))
+    return (kind.store, version, kind.setting, str(len(runs)), f"in {sum(run.is_kept for run in runs)}", findings or "none",
+            f"in {sum(run.is_ssi for run in runs)}", f"in {sum(run.is_serializable for run in runs)}",
+            "yes" if is_expected(kind, runs) else "NO")
 
-    return (kind.store, kind.setting, str(len(runs)), f"in {sum(run.is_kept for run in runs)}",
-            span([run.bad_reads for run in runs]), span([run.bad_writes for run in runs]),
-            f"in {sum(run.has_skew for run in runs)}" if any(run.is_kept for run in runs) else "not asked",
-            f"in {sum(run.is_serializable for run in runs)}", "yes" if kind.is_expected(runs) else "NO")
+
+def versions(recorder: Recorder, pool: ThreadPoolExecutor, commands: Iterable[str]) -> dict[str, str]:
+    """The versions of the stores that are there. Of each other one a line says what is missing."""
+    def version(command: str) -> str | None:
+        try:
+            return recorder.run([command, "--tell-version"]).strip()
+        except Failure as failure:
+            print(f"make databases: {command} is left out: {str(failure).removeprefix('si-history: ')}", file=sys.stderr)
+            return None
+
+    names = list(dict.fromkeys(commands))
+    return {name: told for name, told in zip(names, pool.map(version, names)) if told is not None}
+
+
+def table(recorder: Recorder, options: argparse.Namespace, pool: ThreadPoolExecutor) -> list[tuple[str, ...]]:
+    """Records and audits every kind of the stores that are there."""
+    wanted = [kind for kind in KINDS if not options.only or kind.command in options.only]
+    told = versions(recorder, pool, (kind.command for kind in wanted))
+    kinds = [kind for kind in wanted if kind.command in told]
+    if not kinds:
+        raise Failure("there is no store to record")
+    seeds = range(1, options.runs + 1)
+    outcomes = pool.map(lambda pair: outcome(recorder, options, *pair), [(kind, seed) for kind in kinds for seed in seeds])
+    rows = []
+    for kind in kinds:
+        runs = []
+        for seed in seeds:
+            runs.append(next(outcomes))
+            if sys.stderr.isatty():
+                print(f"\r{kind.store}, {kind.setting}: {seed} of {options.runs}\x1b[K", end="", file=sys.stderr, flush=True)
+        rows.append(row(kind, told[kind.command], runs))
+    return rows
+
+
+def options_of(words: Sequence[str]) -> argparse.Namespace:
+    """What the command line asks for."""
+    def number(word: str) -> int:
+        if re.fullmatch("[1-9][0-9]{0,8}", word) is None:
+            raise argparse.ArgumentTypeError("no number")
+        return int(word)
+
+    parser = argparse.ArgumentParser(usage=USAGE)
+    parser.add_argument("program", nargs="?", default="crates/si_audit/out/si_audit")
+    parser.add_argument("runs", nargs="?", type=number, default=20)
+    parser.add_argument("events", nargs="?", type=number, default=2000)
+    parser.add_argument("--only", action="append", choices=sorted({kind.command for kind in KINDS}))
+    parser.add_argument("--keep", type=Path)
+    return parser.parse_args(words)
 
 
 def main(words: Sequence[str]) -> int:
     """Records and audits every kind, and prints the table."""
-    program, *numbers = words or ("crates/si_audit/out/si_audit",)
-    if len(numbers) > 2 or not all(re.fullmatch("[1-9][0-9]{0,8}", number) for number in numbers):
-        print("usage: databases.py PROGRAM [RUNS [EVENTS]]", file=sys.stderr)
-        return 2
-    runs, events = [int(number) for number in numbers] + [20, 2000][len(numbers):]
-    rows = [HEAD, ("---",) * len(HEAD)]
+    options = options_of(words)
+    if options.keep is not None:
+        options.keep.mkdir(parents=True, exist_ok=True)
+    recorder = Recorder()
+    # SIGTERM is met as SIGINT is, so that no store is left running.
+    signal.signal(signal.SIGTERM, signal.default_int_handler)
+    pool = ThreadPoolExecutor(os.cpu_count())
     try:
-        for kind in KINDS:
-            findings = []
-            for seed in range(1, runs + 1):
-                findings.append(audit(program, record(kind.words, seed, events)))
-                if sys.stderr.isatty():
-                    print(f"\r{kind.store}, {kind.setting}: {seed} of {runs}\x1b[K", end="", file=sys.stderr, flush=True)
-            rows.append(row(kind, findings))
+        rows = table(recorder, options, pool)
     except Failure as failure:
         print(f"make databases: {failure}", file=sys.stderr)
         return 2
     except KeyboardInterrupt:
         return 130
     finally:
+        recorder.end()
+        pool.shutdown(cancel_futures=True)
         if sys.stderr.isatty():
             print("\r\x1b[K", end="", file=sys.stderr, flush=True)
-    print("\n".join(f"| {' | '.join(cells)} |" for cells in rows))
-    return 0 if all(cells[-1] == "yes" for cells in rows[2:]) else 1
+    print("\n".join(f"| {' | '.join(cells)} |" for cells in [HEAD, ("---",) * len(HEAD), *rows]))
+    return 0 if all(cells[-1] == "yes" for cells in rows) else 1
 
 
 if __name__ == "__main__":

@@ -7,10 +7,6 @@ if ! command -v "$PYTHON" >/dev/null; then
     echo "make databases: there is no Python at $PYTHON; say, for example, make databases PYTHON=python3" >&2
     exit 2
 fi
-export PYTHONDONTWRITEBYTECODE=1 PYTHONPATH=companion
-# The recorder tells what is missing before the program is built, which may take long.
-for store in postgres mariadb; do
-    "$PYTHON" -m si_history record $store --transactions 1 --output /dev/null || exit 2
-done
 program=$(sh tools/program.sh) || exit 1
+export PYTHONDONTWRITEBYTECODE=1 PYTHONPATH=companion
 exec "$PYTHON" tools/databases.py "$program" "${1:-20}"
