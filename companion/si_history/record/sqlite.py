@@ -2,9 +2,9 @@
 
 from __future__ import annotations
 
-import sqlite3
 from collections.abc import Sequence
 from pathlib import Path
+from typing import Any
 
 from si_history.record import drivers
 from si_history.record.local import Choice, Kind, LocalStore, in_folder
@@ -23,12 +23,13 @@ class SqliteStore(LocalStore):
 
     def __init__(self, choice: Choice, place: Path) -> None:
         super().__init__()
+        self.driver = drivers.load(TITLE, ["sqlite3"])
         self.choice = choice
         cache = "shared" if choice.level == UNCOMMITTED else "private"
         self.url = f"{(place / 'store').as_uri()}?cache={cache}"
 
     def version(self) -> str:
-        return sqlite3.sqlite_version
+        return str(self.driver.sqlite_version)
 
     def prepare(self, keys: Sequence[int]) -> None:
         session = self.connect()
@@ -56,9 +57,10 @@ class SqliteConnection(SqlConnection):
         super().__init__(store.choice.tables)
         self._store = store
         try:
-            self._connection = sqlite3.connect(store.url, uri=True, timeout=0, isolation_level=None, check_same_thread=False)
-        except sqlite3.Error as fault:
-            raise StoreFault(f"{TITLE}: {drivers.first_line(fault)}") from None
+            self._connection: Any = store.driver.connect(
+                store.url, uri=True, timeout=0, isolation_level=None, check_same_thread=False)
+        except store.driver.Error as fault:
+            raise _meant(fault) from None
         self.ask("PRAGMA synchronous = OFF")
         if store.choice.level == UNCOMMITTED:
             self.ask("PRAGMA read_uncommitted = 1")
@@ -78,20 +80,20 @@ class SqliteConnection(SqlConnection):
 
     def ask(self, statement: str, values: tuple[int, ...] = ()) -> list[tuple[Cell, ...]]:
         try:
-            return self._connection.execute(statement, values).fetchall()
-        except sqlite3.Error as fault:
+            return list(self._connection.execute(statement, values).fetchall())
+        except self._store.driver.Error as fault:
             raise _meant(fault) from None
 
     def change(self, statement: str, values: tuple[int, ...]) -> int:
         try:
-            return self._connection.execute(statement, values).rowcount
-        except sqlite3.Error as fault:
+            return int(self._connection.execute(statement, values).rowcount)
+        except self._store.driver.Error as fault:
             raise _meant(fault) from None
 
 
-def _meant(fault: sqlite3.Error) -> Exception:
+def _meant(fault: Exception) -> Exception:
     """What a fault of the driver means."""
-    name = getattr(fault, "sqlite_errorname", "")
+    name = str(getattr(fault, "sqlite_errorname", ""))
     if name.startswith(ENDING):
         return Aborted(f"{name}: {drivers.first_line(fault)}")
     return StoreFault(f"{TITLE}: {drivers.first_line(fault)}")
