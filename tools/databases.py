@@ -3,8 +3,8 @@
 
     databases.py PROGRAM [RUNS [EVENTS]] [--only STORE].. [--keep DIR]
 
-Each of the kinds in database_kinds.py (a store and a setting) is recorded RUNS times, 20 if it isn't said, with the seeds 1, 2,
-.., and EVENTS events in each run, 2,000 if it isn't said. PROGRAM audits each record. The table of what was found is printed,
+Each of the kinds in database_kinds.py (a store and a setting) is recorded RUNS times, 20 if it isn't said, with the seeds 1,
+2, .., and EVENTS events in each run, 2,000 if it isn't said. PROGRAM audits each record. The table of what was found is printed,
 and beside it whether it is as expected: then the status is 0, else 1. It is 2 where a run could not be recorded, and then one
 line says why. A store that isn't installed is left out, and one line says so. --only names a store by its word for the recorder,
 and --keep a directory for the histories and the explained reports. `si_history` is to be found on the path.
@@ -25,7 +25,7 @@ from pathlib import Path
 from database_kinds import FEWEST_RUNS, KINDS, Kind, Share
 
 HEAD = ("store", "version", "setting", "runs", "isolation kept", "findings", "ssi", "serializable", "as expected")
-# Few keys and sessions bring transactions together, and many leave room for longer histories of each. A seed takes one of these.
+# How many keys and sessions a run has. Few of them bring transactions together; each seed takes one of these.
 SIZES = ((4, 3), (8, 4), (16, 8))
 USAGE = "databases.py PROGRAM [RUNS [EVENTS]] [--only STORE].. [--keep DIR]"
 
@@ -98,8 +98,8 @@ def audit(program: str, history: str) -> str:
 def outcome(recorder: Recorder, options: argparse.Namespace, kind: Kind, seed: int) -> Outcome:
     """Records one run of a kind and audits it."""
     keys, sessions = SIZES[seed % len(SIZES)]
-    history = recorder.run([kind.command, *kind.words, "--events", str(options.events), "--seed", str(seed), "--keys", str(keys),
-                            "--sessions", str(sessions), "--format", "history"])
+    history = recorder.run([kind.command, *kind.words, "--events", str(options.events), "--seed", str(seed),
+                            "--keys", str(keys), "--sessions", str(sessions), "--format", "history"])
     report = audit(options.program, history)
     if options.keep is not None:
         name = re.sub("[^a-z0-9]+", "_", f"{kind.command} {kind.setting}".lower())
@@ -121,7 +121,8 @@ def is_expected(kind: Kind, runs: Sequence[Outcome]) -> bool:
 def row(kind: Kind, version: str, runs: Sequence[Outcome]) -> tuple[str, ...]:
     """The line of the table for the runs of one kind."""
     total = sum((run.findings for run in runs), collections.Counter())
-    findings = ", ".join(f"{name} {count} in {sum(name in run.findings for run in runs)}" for name, count in sorted(total.items()))
+    findings = ", ".join(f"{name} {count} in {sum(name in run.findings for run in runs)}"
+                         for name, count in sorted(total.items()))
     return (kind.store, version, kind.setting, str(len(runs)), f"in {sum(run.is_kept for run in runs)}", findings or "none",
             f"in {sum(run.is_ssi for run in runs)}", f"in {sum(run.is_serializable for run in runs)}",
             "yes" if is_expected(kind, runs) else "NO")

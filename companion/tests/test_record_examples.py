@@ -1,4 +1,4 @@
-"""The logs of examples/databases: each becomes the history and the legend beside it, with the report that is there."""
+"""The runs of examples/databases: each history has the report that is there, and each log becomes the history and the legend."""
 
 from __future__ import annotations
 
@@ -10,12 +10,27 @@ from pathlib import Path
 from tests.support import NO_PROGRAM, PROGRAM, REPOSITORY, audit, run_command
 
 DATABASES = REPOSITORY / "examples" / "databases"
-# What each recorded run is known for: whether isolation was kept in it, and whether it is serializable.
+# What each recorded run is known for: whether isolation was kept in it, and whether it is serializable. Of the first runs
+# there are logs, too.
 KNOWN = {
     "postgres_repeatable_read": (True, False),
     "postgres_serializable": (True, True),
     "mariadb_off": (False, False),
     "mariadb_on": (True, False),
+}
+WITHOUT_LOGS = {
+    "sqlite_wal": (True, True),
+    "lmdb": (True, True),
+    "berkeley_snapshot": (True, False),
+    "h2_snapshot": (True, False),
+    "h2_stale_read": (False, True),
+    "h2_table_snapshots": (False, False),
+    "hsqldb_serializable": (True, False),
+    "firebird_snapshot": (True, False),
+    "firebird_table_stability": (True, False),
+    "derby_serializable": (False, True),
+    "rocksdb_optimistic": (True, False),
+    "myrocks_repeatable_read": (True, False),
 }
 
 
@@ -28,6 +43,7 @@ def log_of(name: str) -> tuple[str, Path]:
 class Examples(unittest.TestCase):
     def test_the_logs_are_those_that_are_known(self) -> None:
         self.assertEqual({path.name.split(".")[0] for path in DATABASES.glob("*.jsonl")}, set(KNOWN))
+        self.assertEqual({path.stem for path in DATABASES.glob("*.history")}, {*KNOWN, *WITHOUT_LOGS})
 
     def test_each_log_becomes_the_history_and_the_legend(self) -> None:
         for name in KNOWN:
@@ -41,7 +57,7 @@ class Examples(unittest.TestCase):
 
     @unittest.skipUnless(PROGRAM.is_file(), NO_PROGRAM)
     def test_each_history_has_the_report_that_its_store_is_known_for(self) -> None:
-        for name, (is_kept, is_serializable) in KNOWN.items():
+        for name, (is_kept, is_serializable) in (KNOWN | WITHOUT_LOGS).items():
             with self.subTest(name):
                 status, report = audit((DATABASES / f"{name}.history").read_text())
                 self.assertEqual(report, (DATABASES / f"{name}.report").read_text())

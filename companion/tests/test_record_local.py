@@ -17,7 +17,8 @@ from si_history.record.sql import Cell, SqlConnection
 
 class Order(unittest.TestCase):
     def test_the_order_is_that_of_the_tickets(self) -> None:
-        records = [Recorded(1, 1, ended=6, is_committed=True), Recorded(2, 2, ended=4, is_committed=True), Recorded(3, 5, ended=7)]
+        records = [Recorded(1, 1, ended=6, is_committed=True), Recorded(2, 2, ended=4, is_committed=True),
+                   Recorded(3, 5, ended=7)]
         self.assertEqual(timeline(records), [Point(Moment.START, 1), Point(Moment.START, 2), Point(Moment.COMMIT, 2),
                                              Point(Moment.START, 3), Point(Moment.COMMIT, 1)])
 

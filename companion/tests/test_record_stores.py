@@ -1,4 +1,4 @@
-"""Small runs of the stores that the recorder runs itself: SQLite, which comes with Python, and where SERVERS=1 asks for it all others.
+"""Small runs of the stores that the recorder runs itself: SQLite, which comes with Python, and others where SERVERS=1 asks for it.
 
 `make test` leaves the others out. `make test SERVERS=1` runs those that are installed, each in a directory of its own.
 """
@@ -24,8 +24,9 @@ IS_ASKED = os.environ.get("SERVERS") == "1"
 NOT_ASKED = "left out: it runs a store, which SERVERS=1 asks for"
 WITHOUT_INSTALLING = "sqlite"
 # What each store keeps at the first of its levels by its own manual: isolation, and serializability.
-FIRST_LEVELS = {"sqlite": (True, True), "lmdb": (True, True), "berkeley": (True, False), "h2": (True, False), "hsqldb": (True, False),
-                "firebird": (True, False), "derby": (False, True), "rocksdb": (True, False), "myrocks": (True, False)}
+FIRST_LEVELS = {
+    "sqlite": (True, True), "lmdb": (True, True), "berkeley": (True, False), "h2": (True, False), "hsqldb": (True, False),
+    "firebird": (True, False), "derby": (False, True), "rocksdb": (True, False), "myrocks": (True, False)}
 # A level of each that promises no snapshots, and that a run must show as broken.
 WEAKER = {"sqlite": "read uncommitted", "berkeley": "read committed", "h2": "read committed", "hsqldb": "read committed",
           "firebird": "read committed", "derby": "read committed", "rocksdb": "no snapshot", "myrocks": "read committed"}
@@ -124,7 +125,8 @@ class Findings(StoresCase):
 
     def test_h2_takes_a_snapshot_for_each_table_at_repeatable_read(self) -> None:
         script = "r1[0:0] w2[0] w2[1] c2 r1[1:0] c1"
-        self.assertEqual(self.played("h2", script, "--level", "repeatable read", "--tables", "2"), script.replace("[1:0]", "[1:2]"))
+        self.assertEqual(self.played("h2", script, "--level", "repeatable read", "--tables", "2"),
+                         script.replace("[1:0]", "[1:2]"))
         self.assertEqual(self.played("h2", script, "--level", "repeatable read"), script)
         self.assertEqual(self.played("h2", script, "--tables", "2"), script)
 

@@ -70,7 +70,8 @@ class Run:
             self.events += len(record.operations) + 2
 
 
-def run(store: Store, settings: Settings, look: Callable[[], None], patience: float, script: Script | None = None) -> list[Recorded]:
+def run(store: Store, settings: Settings, look: Callable[[], None], patience: float,
+        script: Script | None = None) -> list[Recorded]:
     """Runs the transactions, those of a script where there is one, and answers what was recorded of them, by their numbers.
 
     `look` is called now and then and raises StoreFault where the server is known to have failed. `patience` is how many
@@ -123,7 +124,7 @@ def interleave(store: Store, the_run: Run) -> None:
 
 
 def play(store: Store, the_run: Run, script: Script) -> None:
-    """The transactions of a script, each in the first session that is idle when it begins. What the store has refused is over."""
+    """The transactions of a script, each in the first session that is idle when it begins. What is refused is over."""
     running: dict[int, tuple[int, Steps]] = {}
     begun: set[int] = set()
     with ExitStack() as stack:

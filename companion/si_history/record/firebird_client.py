@@ -1,4 +1,4 @@
-"""Firebird's own client library, called through ctypes, since Debian has no Python driver for it. Numbers alone go in and out."""
+"""Firebird's own client library, by ctypes: Debian has no Python driver for it. Only whole numbers go in and out."""
 
 from __future__ import annotations
 
@@ -189,7 +189,7 @@ class Prepared:
         return _changed(answer.raw)
 
     def _execute(self, transaction: Transaction, values: tuple[int, ...]) -> None:
-        self._values.values[:len(values)] = values
+        self._values.values[:len(values)] = list(values)
         self._client.call("isc_dsql_execute", ctypes.byref(transaction.handle), ctypes.byref(self._handle), 1,
                           ctypes.byref(self._values.area))
 

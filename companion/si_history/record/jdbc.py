@@ -145,8 +145,9 @@ class JdbcConnection(SqlConnection):
 
     def ask(self, statement: str, values: tuple[int, ...] = ()) -> list[tuple[Cell, ...]]:
         columns = range(1, statement[:statement.index(" FROM ")].count(",") + 2)
+        found: list[tuple[Cell, ...]] = []
         try:
-            rows, found = self._prepared(statement, values).executeQuery(), []
+            rows = self._prepared(statement, values).executeQuery()
             while rows.next():
                 found.append(tuple(int(rows.getLong(column)) for column in columns))
             rows.close()

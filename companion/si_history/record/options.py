@@ -48,7 +48,7 @@ def add_common(parser: argparse.ArgumentParser, workload: Workload) -> None:
 def add_served(parser: argparse.ArgumentParser) -> None:
     """Adds what those databases take that tell their own order."""
     parser.add_argument("--interleave", action="store_true",
-                        help="one thread interleaves the sessions, so that the seed repeats the run; a script is always played so")
+                        help="one thread interleaves the sessions, so that the seed repeats the run, as it always does a script")
     parser.add_argument("--lock-timeout", type=_seconds, default=10.0, metavar="SECONDS",
                         help="how long a statement may wait for a lock (10); with MariaDB in whole seconds")
     parser.add_argument("--connect", metavar="WORDS", help="use the server that these words connect to")

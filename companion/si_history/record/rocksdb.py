@@ -33,7 +33,7 @@ class RocksdbStore(LocalStore):
         self.write_options = call("writeoptions_create")
         more = [] if choice.level == OPTIMISTIC else [call("transactiondb_options_create")]
         self.database = self.client.tried(f"{self.kind}db_open", options, *more, str(place / "store").encode())
-        self.options = call("optimistictransaction_options_create" if choice.level == OPTIMISTIC else "transaction_options_create")
+        self.options = call(f"{self.kind}_options_create")
         call(f"{self.kind}_options_set_set_snapshot", self.options, int(choice.level != NO_SNAPSHOT))
         if choice.level != OPTIMISTIC:
             call("transaction_options_set_lock_timeout", self.options, LOCK_MILLISECONDS)
@@ -118,5 +118,6 @@ KIND = Kind(
     "rocksdb", TITLE,
     {OPTIMISTIC: "OptimisticTransactionDB with set_snapshot", PESSIMISTIC: "TransactionDB with set_snapshot",
      NO_SNAPSHOT: "TransactionDB without set_snapshot, as a control"},
-    {FOR_UPDATE: "those that write read each key by GetForUpdate", KEY_BY_KEY: "a range is read key by key, and by no iterator"},
+    {FOR_UPDATE: "those that write read each key by GetForUpdate",
+     KEY_BY_KEY: "a range is read key by key, and by no iterator"},
     most_tables=1, has_threads=True, opened=in_folder(RocksdbStore))

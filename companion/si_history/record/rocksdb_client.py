@@ -80,7 +80,7 @@ class Client:
         return self._functions[name](*words)
 
     def tried(self, name: str, *words: object) -> Any:
-        """Calls a function that may fail, with one argument more for what it says of that. Raises Aborted or StoreFault then."""
+        """Calls a function that may fail, with one argument more for what it says then. Raises Aborted or StoreFault."""
         said = c_void_p(None)
         answer = self._functions[name](*words, ctypes.byref(said))
         if said.value is not None:

@@ -167,7 +167,10 @@ def _readers(keys: int, dice: random.Random) -> Plan:
 
 def _walk(keys: int, length: int, dice: random.Random) -> Plan:
     """Reads one after another, one in four of a range."""
-    return tuple(_some_range(keys, dice) if dice.random() < 0.25 else Look(dice.randrange(keys)) for _ in range(length))
+    def step() -> Step:
+        return _some_range(keys, dice) if dice.random() < 0.25 else Look(dice.randrange(keys))
+
+    return tuple(step() for _ in range(length))
 
 
 def _looks(keys: int, dice: random.Random) -> Plan:
