@@ -92,14 +92,17 @@ class Holders:
 
     def __init__(self) -> None:
         self._holders: dict[int, object] = {}
+        self._keeping = threading.Lock()
 
     def is_free(self, what: int, session: object) -> bool:
         """Whether a session may take it. Where it may, it has it from now on."""
-        return self._holders.setdefault(what, session) is session
+        with self._keeping:
+            return self._holders.setdefault(what, session) is session
 
     def let_go(self, session: object) -> None:
         """The session's transaction has ended."""
-        self._holders = {what: holder for what, holder in self._holders.items() if holder is not session}
+        with self._keeping:
+            self._holders = {what: holder for what, holder in self._holders.items() if holder is not session}
 
 
 def timeline(records: Sequence[Recorded]) -> Timeline:

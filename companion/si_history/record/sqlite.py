@@ -1,4 +1,4 @@
-"""SQLite, by Python's own module: one file, and a connection for each session. Nothing waits for a lock."""
+"""SQLite, by Python's own module: one file, and a connection for each session. No transaction waits for a lock."""
 
 from __future__ import annotations
 
@@ -14,6 +14,8 @@ from si_history.record.sql import CREATE, FILL, Cell, SqlConnection
 TITLE = "SQLite"
 WAL, DELETE, UNCOMMITTED = "wal", "delete", "read uncommitted"
 IMMEDIATE = "immediate"
+# While others commit, a new session may have to wait.
+CONNECTING_SECONDS = 10.0
 # The names of the errors by which a statement is refused for another transaction's sake.
 ENDING = ("SQLITE_BUSY", "SQLITE_LOCKED", "SQLITE_CONSTRAINT_PRIMARYKEY")
 
@@ -58,12 +60,13 @@ class SqliteConnection(SqlConnection):
         self._store = store
         try:
             self._connection: Any = store.driver.connect(
-                store.url, uri=True, timeout=0, isolation_level=None, check_same_thread=False)
+                store.url, uri=True, timeout=CONNECTING_SECONDS, isolation_level=None, check_same_thread=False)
         except store.driver.Error as fault:
             raise _meant(fault) from None
         self.ask("PRAGMA synchronous = OFF")
         if store.choice.level == UNCOMMITTED:
             self.ask("PRAGMA read_uncommitted = 1")
+        self.ask("PRAGMA busy_timeout = 0")
 
     def begin(self, number: int, is_reader: bool) -> None:
         self.ask("BEGIN" if self._store.is_late(is_reader) else "BEGIN IMMEDIATE")
