@@ -24,6 +24,7 @@ WITHOUT_LOGS = {
     "berkeley_snapshot": (True, False),
     "h2_snapshot": (True, False),
     "h2_stale_read": (False, True),
+    "h2_read_skew": (False, False),
     "h2_table_snapshots": (False, False),
     "hsqldb_serializable": (True, False),
     "firebird_snapshot": (True, False),

@@ -123,6 +123,16 @@ class Findings(StoresCase):
         committed = script.replace("a1", "c1")
         self.assertEqual(self.played("h2", committed), committed)
 
+    def test_what_h2_reads_stale_is_of_no_snapshot_and_loses_updates(self) -> None:
+        """The transaction sees one write of 2 and not the other; and it may write what it has read stale."""
+        for level in ("snapshot", "repeatable read", "serializable"):
+            for script, stale in (("r1[2:0] w2[0] w2[1] c2 r1[1:0] a1 r3[1:2] r3[0:2] c3", "r3[1:0] r3[0:2]"),
+                                  ("r1[0:0] w2[1] c2 r1[1:0] a1 r3[1:2] w3[1] c3", "r3[1:0] w3[1]")):
+                with self.subTest(level, script=script):
+                    wanted = script.replace(stale.replace("[1:0]", "[1:2]"), stale)
+                    self.assertEqual(self.played("h2", script, "--level", level), wanted)
+                    self.assertEqual(self.played("h2", script, "--level", level, "--setting", "no reuse"), script)
+
     def test_h2_takes_a_snapshot_for_each_table_at_repeatable_read(self) -> None:
         script = "r1[0:0] w2[0] w2[1] c2 r1[1:0] c1"
         self.assertEqual(self.played("h2", script, "--level", "repeatable read", "--tables", "2"),
