@@ -147,27 +147,41 @@ class Findings(StoresCase):
         self.assertNotIn("c2", self.played("firebird", script, *level, "--setting", "reserving"))
 
 
+class Threads(StoresCase):
+    def test_stores_keep_isolation_by_threads(self) -> None:
+        """But H2, whose stale reads may come, and which is asked without what makes them."""
+        for store, words in (("sqlite", ()), ("lmdb", ()), ("h2", ("--setting", "no reuse")), ("rocksdb", ())):
+            with self.subTest(store):
+                self.assertIn("isolation kept\n", self.report(store, *words, "--threads"))
+
+
 class Endings(StoresCase):
+    def interrupted(self, python: str, store: str, place: str) -> tuple[int, bytes]:
+        """The status and the output of a recorder that is interrupted in mid-run."""
+        words = [python, "-m", "si_history", "record", store, "--transactions", "16000"]
+        with subprocess.Popen(words, stdout=subprocess.PIPE, stderr=subprocess.PIPE,
+                              env={**os.environ, "PYTHONPATH": str(COMPANION), "TMPDIR": place}) as process:
+            end = time.monotonic() + LONG_SECONDS
+            while not list(Path(place).glob("*/*")) and time.monotonic() < end:
+                time.sleep(0.02)
+            time.sleep(0.5)
+            process.send_signal(signal.SIGTERM)
+            written, _ = process.communicate(timeout=LONG_SECONDS)
+        return process.returncode, written
+
     def test_a_signal_ends_the_store_and_its_files(self) -> None:
         for store in FIRST_LEVELS:
             with self.subTest(store):
                 self.record(store, "--transactions", "1")
                 python = python_for(store)
                 assert python is not None
-                with tempfile.TemporaryDirectory(prefix="si-test-") as place:
-                    Path(place).chmod(0o755)
-                    environment = {**os.environ, "PYTHONPATH": str(COMPANION), "TMPDIR": place}
-                    words = [python, "-m", "si_history", "record", store, "--transactions", "16000"]
-                    with subprocess.Popen(words, stdout=subprocess.PIPE, stderr=subprocess.PIPE, env=environment) as process:
-                        end = time.monotonic() + LONG_SECONDS
-                        while not list(Path(place).glob("*/*")) and time.monotonic() < end:
-                            time.sleep(0.02)
-                        time.sleep(0.5)
-                        process.send_signal(signal.SIGTERM)
-                        written, _ = process.communicate(timeout=LONG_SECONDS)
-                    self.assertEqual(process.returncode, -signal.SIGTERM)
-                    self.assertNotIn(b"txn", written)
-                    self.assertEqual(os.listdir(place), [])
+                for _ in range(3):
+                    with tempfile.TemporaryDirectory(prefix="si-test-") as place:
+                        Path(place).chmod(0o755)
+                        status, written = self.interrupted(python, store, place)
+                        self.assertEqual(status, -signal.SIGTERM)
+                        self.assertNotIn(b"txn", written)
+                        self.assertEqual(os.listdir(place), [])
 
 
 if __name__ == "__main__":

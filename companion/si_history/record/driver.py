@@ -19,6 +19,8 @@ from si_history.record.script import Script
 from si_history.record.workloads import Bump, Flip, GiveUp, Look, Plan, Put, Scan, Step, Workload, is_reader, plan
 
 SECONDS_BETWEEN_LOOKS = 0.05
+# How long jobs that are asked to stop are waited for.
+STOPPING_SECONDS = 3.0
 
 # The steps of one transaction.
 Steps = Iterator[None]
@@ -225,24 +227,27 @@ def watched(jobs: Sequence[Callable[[], None]], look: Callable[[], None], beat: 
     """
     is_stopped = is_stopped or threading.Event()
     faults: list[Exception] = []
-    threads = [threading.Thread(target=_caught, args=(job, faults), daemon=True) for job in jobs]
+    # Events tell which jobs are done: a thread whose join a signal interrupts counts as ended, though it isn't.
+    ends = [threading.Event() for _ in jobs]
+    threads = [threading.Thread(target=_caught, args=(job, faults, end), daemon=True) for job, end in zip(jobs, ends)]
     try:
         for thread in threads:
             thread.start()
         last, since = beat(), time.monotonic()
-        while any(thread.is_alive() for thread in threads) and not faults:
+        while (running := [end for end in ends if not end.is_set()]) and not faults:
             signals.look()
             look()
             if (now := beat()) != last:
                 last, since = now, time.monotonic()
             elif time.monotonic() - since > patience:
                 raise StoreFault(f"the store gave no answer for {patience:.0f} seconds")
-            next(thread for thread in threads if thread.is_alive() or thread is threads[-1]).join(SECONDS_BETWEEN_LOOKS)
+            running[0].wait(SECONDS_BETWEEN_LOOKS)
     finally:
         is_stopped.set()
-        end = time.monotonic() + SECONDS_BETWEEN_LOOKS * 20
-        for thread in threads:
-            thread.join(max(0.0, end - time.monotonic()))
+        last_moment = time.monotonic() + STOPPING_SECONDS
+        for thread, end in zip(threads, ends):
+            if thread.ident is not None and end.wait(max(0.0, last_moment - time.monotonic())):
+                thread.join()
     if faults:
         _look_again(look)
         raise faults[0]
@@ -255,11 +260,13 @@ def _look_again(look: Callable[[], None]) -> None:
         time.sleep(SECONDS_BETWEEN_LOOKS)
 
 
-def _caught(job: Callable[[], None], faults: list[Exception]) -> None:
-    """Does a job, and keeps the fault that it raises."""
+def _caught(job: Callable[[], None], faults: list[Exception], end: threading.Event) -> None:
+    """Does a job, keeps the fault that it raises, and tells its end."""
     try:
         job()
     except Aborted as fault:
         faults.append(StoreFault(f"the store refused a statement that none of its rules of isolation touches: {fault}"))
     except Exception as fault:
         faults.append(fault)
+    finally:
+        end.set()

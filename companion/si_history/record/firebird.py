@@ -9,6 +9,7 @@ from __future__ import annotations
 from collections.abc import Sequence
 from pathlib import Path
 
+from si_history.record import signals
 from si_history.record.firebird_client import Client, Prepared, Transaction
 from si_history.record.local import Choice, Kind, LocalStore, in_folder
 from si_history.record.sql import CREATE, FILL, Cell, SqlConnection
@@ -31,6 +32,8 @@ class FirebirdStore(LocalStore):
         self.client = Client(place)
         self.path = place / "store.fdb"
         self.admin = self.client.create(self.path)
+        # The engine would meet them itself, with a line in the log of the system's Firebird.
+        signals.taken_back()
 
     def version(self) -> str:
         return self.client.version()

@@ -45,6 +45,13 @@ def look() -> None:
     _gate.let_through()
 
 
+def taken_back() -> None:
+    """Takes the signals back from a library that has taken them for itself. Outside the main thread nothing is changed."""
+    if threading.current_thread() is threading.main_thread():
+        for number in ENDING:
+            signal.signal(number, signal.getsignal(number))
+
+
 @contextmanager
 def held() -> Iterator[None]:
     """A signal that comes meanwhile is met at the end of the outermost such context."""
