@@ -7,7 +7,7 @@
 #: make build                  proves and builds the program in any case; the kit knows what it has proved already
 #: make test                   tests the kept program and the companion, in minutes and without a proof, and says what it didn't test
 #: make test FULL=1            the whole gate: proves all from nothing, tries the wrong edits, and tests the program that it built
-#: make test SERVERS=1         also tests the recorder with PostgreSQL and MariaDB, where they are installed
+#: make test SERVERS=1         also tests the recorder with the stores that are installed
 #: make prove                  proves what isn't proved yet, builds the program, and runs the crates' own tests
 #: make witnesses              sees that each wrong edit answers otherwise than the code, and keeps both answers; ALL=1 tries all anew
 #: make install PREFIX=/usr    installs si_audit, si-history and their man pages in PREFIX/bin and PREFIX/share, under DESTDIR
@@ -16,7 +16,7 @@
 #: make release                proves, builds and keeps the program in release/, for make run, install, bench and databases
 #: make bench                  times the program on generated histories, and tells the change from the figures that were kept
 #: make bench KEEP=1           does the same, and keeps its figures in tools/bench_figures.txt
-#: make databases RUNS=20      records and audits PostgreSQL and MariaDB (sh tools/install_databases.sh installs what it needs)
+#: make databases RUNS=20      records and audits eleven stores (sh tools/install_databases.sh installs what it needs)
 #: make clean                  removes what was built and checked
 
 HISTORY = examples/write_skew.history
