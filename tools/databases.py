@@ -66,8 +66,11 @@ class Recorder:
         with self._lock:
             if self._is_ended:
                 raise Failure("it was interrupted")
-            process = subprocess.Popen([sys.executable, "-m", "si_history", "record", *words], stdout=subprocess.PIPE,
-                                       stderr=subprocess.PIPE, text=True, start_new_session=True)
+            try:
+                process = subprocess.Popen([sys.executable, "-m", "si_history", "record", *words], stdout=subprocess.PIPE,
+                                           stderr=subprocess.PIPE, text=True, start_new_session=True)
+            except OSError as fault:
+                raise Failure(f"{sys.executable} did not start: {fault.strerror}") from None
             self._running.add(process)
         written, said = process.communicate()
         with self._lock:
