@@ -32,8 +32,9 @@ policy=$out/policy-rc.d
 sed "s|^policy=.*|policy='$policy'|" tools/install_databases.sh >"$out/install_databases.sh"
 count "install_databases: the file of this test" "$(grep -qxF "policy='$policy'" "$out/install_databases.sh" || echo "it isn't taken")"
 printf '#!/bin/sh\necho 0\n' >"$out/kit/id"
-printf '#!/bin/sh\n' >"$out/kit/dpkg-query"
-printf '#!/bin/sh\n' >"$out/kit/systemctl"
+for command in dpkg-query dpkg-deb install systemctl; do
+    printf '#!/bin/sh\n' >"$out/kit/$command"
+done
 installs() {
     printf '#!/bin/sh\n[ -x "%s" ] && echo >>"%s/asked"\n%s\n' "$policy" "$out" "$1" >"$out/kit/apt-get"
     chmod 755 "$out"/kit/*
