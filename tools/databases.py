@@ -21,6 +21,7 @@ import threading
 from collections.abc import Iterable, Sequence
 from concurrent.futures import ThreadPoolExecutor
 from pathlib import Path
+from typing import NoReturn
 
 from database_kinds import FEWEST_RUNS, KINDS, Kind, Share
 
@@ -164,6 +165,13 @@ def table(recorder: Recorder, options: argparse.Namespace, pool: ThreadPoolExecu
     return rows
 
 
+class OneLineParser(argparse.ArgumentParser):
+    """A parser that tells a faulty command line in one line."""
+
+    def error(self, message: str) -> NoReturn:
+        self.exit(2, f"usage: {USAGE}\n")
+
+
 def options_of(words: Sequence[str]) -> argparse.Namespace:
     """What the command line asks for."""
     def number(word: str) -> int:
@@ -171,7 +179,7 @@ def options_of(words: Sequence[str]) -> argparse.Namespace:
             raise argparse.ArgumentTypeError("no number")
         return int(word)
 
-    parser = argparse.ArgumentParser(usage=USAGE)
+    parser = OneLineParser(usage=USAGE)
     parser.add_argument("program", nargs="?", default="crates/si_audit/out/si_audit")
     parser.add_argument("runs", nargs="?", type=number, default=20)
     parser.add_argument("events", nargs="?", type=number, default=2000)

@@ -73,7 +73,8 @@ case $1 in -m) exit 0 ;; esac
 exec python3 -B "$@"
 PYTHON
 chmod 755 "$out/python"
-failing "make databases of no number" "usage: databases.py PROGRAM [RUNS [EVENTS]]" databases PYTHON="$out/python" \
+failing "make databases of no number" "usage: databases.py PROGRAM [RUNS [EVENTS]] [--only STORE].. [--keep DIR]" \
+    databases PYTHON="$out/python" \
     RUNS="\"; touch $out/ran; echo \"\$(touch $out/ran)"
 count "odd names" "$([ ! -e "$out/ran" ] || echo "something ran")"
 
