@@ -29,6 +29,10 @@ class Scripts(unittest.TestCase):
         self.assertEqual(read_script("w1[0] c1 b2@2 r2[0:1] c2").turns, [1, 1, 1, 2, 2, 2])
         self.assertEqual(read_script("b2@0 r2[0:0] w1[0] b3@0 c2").turns, [2, 2, 1, 1, 3, 2, 1, 3])
 
+    def test_the_greatest_key_and_the_widest_range_are_taken(self) -> None:
+        script = read_script(f"w1[{2**63 - 1}] r1[1..10000] c1")
+        self.assertEqual(script.plans, {1: (Put(2**63 - 1), Scan(1, 10000))})
+
     def test_what_no_store_can_be_asked_for_is_refused(self) -> None:
         for text, wanted in (
             ("", "empty"),
@@ -38,6 +42,9 @@ class Scripts(unittest.TestCase):
             ("w1[0] b1 c1", "event 2, b1, is no first event"),
             ("w1[0] c1 b2@1 r2[0:0] c2", "event 3, b2@1, names a start before the commit at 2"),
             ("b2@1 c2", "event 1, b2@1, names a start"),
+            (f"w1[{2**63}] c1", "event 1, w1[9223372036854775808], has a key that is greater"),
+            ("r1[3..2] c1", "is of no range of from 1 to 10,000 keys"),
+            ("r1[0..10000] c1", "is of no range of from 1 to 10,000 keys"),
         ):
             with self.subTest(text), self.assertRaises(BadInput) as caught:
                 read_script(text)

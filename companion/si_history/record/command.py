@@ -23,6 +23,12 @@ from si_history.record.options import MOST_SESSIONS, add_common, add_local, add_
 from si_history.record.script import Script, read_script
 from si_history.record.workloads import Rows, Workload, rows_at_first
 
+DESCRIPTION_ALL = """\
+Runs transactions against a store and writes what they read and wrote, with the
+store's own order of snapshots and commits. Each store is started in a temporary
+directory, without a network port, and is stopped and removed at the end.
+docs/DATABASES.md says what the record is worth, and why."""
+
 DESCRIPTION = """\
 Runs transactions against a database and writes what they read and wrote, with the
 database's own order of snapshots and commits. It starts a server of its own in a
@@ -73,8 +79,8 @@ Open = Callable[[argparse.Namespace], AbstractContextManager[Opened]]
 
 def register(commands: argparse._SubParsersAction[argparse.ArgumentParser]) -> None:
     """Adds the command to the command line, with a command of its own for each database."""
-    parser = commands.add_parser("record", help="run transactions against a database, and record them",
-                                 description=DESCRIPTION, formatter_class=argparse.RawDescriptionHelpFormatter)
+    parser = commands.add_parser("record", help="run transactions against a store, and record them",
+                                 description=DESCRIPTION_ALL, formatter_class=argparse.RawDescriptionHelpFormatter)
     databases = parser.add_subparsers(metavar="DATABASE", required=True)
     one = _add(databases, "postgres", postgres.TITLE, DESCRIPTION, EPILOG_POSTGRES, open_postgres)
     one.add_argument("--level", choices=sorted(LEVELS), default="repeatable read", help="the isolation level (repeatable read)")

@@ -8,6 +8,10 @@ from si_history.errors import BadInput
 from si_history.history import Abort, Begin, Commit, Event, RangeRead, Read, Write, parse
 from si_history.record.workloads import GiveUp, Look, Plan, Put, Scan, Step
 
+# Stores have keys of 64 bits with a sign, and a range is gone through key by key.
+GREATEST_KEY = 2**63 - 1
+WIDEST_RANGE = 10_000
+
 
 @dataclass(frozen=True)
 class Script:
@@ -61,6 +65,7 @@ def read_script(text: str) -> Script:
         step = _step(event)
         if step is not None:
             steps.append(step)
+        _check_keys(event, place)
         keys.update(_keys(event))
         turns.append(number)
     if not plans:
@@ -78,6 +83,14 @@ def _check_begin(event: Begin, place: int, has_begun: bool, last_commit: int) ->
     if event.start is not None and not last_commit <= event.start < place:
         raise BadInput(f"event {place}, {event}, names a start before the commit at {last_commit}: "
                        "a store takes a snapshot where it is asked to")
+
+
+def _check_keys(event: Event, place: int) -> None:
+    """Raises BadInput for keys that a store doesn't take."""
+    if any(key > GREATEST_KEY for key in _keys(event)):
+        raise BadInput(f"event {place}, {event}, has a key that is greater than {GREATEST_KEY}, which no store takes")
+    if isinstance(event, RangeRead) and not 0 <= event.high - event.low < WIDEST_RANGE:
+        raise BadInput(f"event {place}, {event}, is of no range of from 1 to {WIDEST_RANGE:,} keys")
 
 
 def _step(event: Event) -> Step | None:
