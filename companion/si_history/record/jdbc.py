@@ -44,8 +44,8 @@ class JdbcStore(LocalStore):
         self.java = drivers.load(self.title, ["jpype"])
         if self.java.isJVMStarted():
             return
-        # -Xrs leaves the signals to Python.
-        options = ["-Xrs", "-Xmx512m", f"-Djava.io.tmpdir={self.place}", *self.options()]
+        # -Xrs leaves the signals to Python, and without the data on performance nothing is written outside the folder.
+        options = ["-Xrs", "-Xmx512m", "-XX:-UsePerfData", f"-Djava.io.tmpdir={self.place}", *self.options()]
         try:
             self.java.startJVM(*options, classpath=[str(JARS / self.jar), str(JARS / BRIDGE)], convertStrings=True)
         except Exception as fault:
