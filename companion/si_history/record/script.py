@@ -2,6 +2,7 @@
 
 from __future__ import annotations
 
+from collections import Counter
 from dataclasses import dataclass
 
 from si_history.errors import BadInput
@@ -28,7 +29,7 @@ class Script:
     @property
     def sessions(self) -> int:
         """How many sessions it takes."""
-        left = {number: len(steps) + 1 - _gives_up(steps) + 1 for number, steps in self.plans.items()}
+        left = Counter(self.turns)
         running: set[int] = set()
         most = 0
         for number in self.turns:
@@ -117,8 +118,3 @@ def _keys(event: Event) -> list[int]:
             return [low, high, *(key for key, _ in listed)]
         case _:
             return []
-
-
-def _gives_up(steps: Plan) -> int:
-    """1 where the last step is to give up, which is an end like a commit."""
-    return int(bool(steps) and isinstance(steps[-1], GiveUp))
