@@ -11,8 +11,9 @@ from pathlib import Path
 from witnesses.fault import Fault
 
 ROOT = Path(__file__).resolve().parents[2]
-# What a copy needs, so that the kit finds the crates.
+# What a copy needs, so that the kit finds the crates; and what of a crate it doesn't, since nothing is proved.
 LISTS = ("crates.txt", "HANDLES")
+LEFT_OUT = ("out", "must-fail", "proofs", "specs")
 
 
 def digest(content: bytes) -> str:
@@ -81,7 +82,7 @@ def edits() -> list[Edit]:
 
 
 def copy_into(room: Path) -> None:
-    """Copies the crates into the room, without what was built and without the edits."""
-    shutil.copytree(ROOT / "crates", room / "crates", ignore=shutil.ignore_patterns("out", "must-fail"))
+    """Copies the code of the crates into the room."""
+    shutil.copytree(ROOT / "crates", room / "crates", ignore=shutil.ignore_patterns(*LEFT_OUT))
     for name in LISTS:
         shutil.copy(ROOT / name, room / name)
