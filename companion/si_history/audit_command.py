@@ -19,7 +19,7 @@ from si_history.files import STANDARD_INPUT, STANDARD_OUTPUT, check_output, sour
 from si_history.findings import groups_of
 from si_history.log_kinds import LogKind
 from si_history.naming import shown
-from si_history.policy import add_value_arguments, add_values_argument, add_writer_argument, policy_of
+from si_history.policy import add_policy_arguments, policy_of
 from si_history.progress import Waiting, silenced
 from si_history.unseen import visible
 
@@ -80,9 +80,7 @@ def register(commands: argparse._SubParsersAction[argparse.ArgumentParser]) -> N
     parser.add_argument("--quiet", action="store_true", help="write no text; the status tells")
     parser.add_argument("--no-color", action="store_true", help="no colour; none is used either where NO_COLOR is set")
     add_auditor_arguments(parser)
-    add_values_argument(parser)
-    add_writer_argument(parser)
-    add_value_arguments(parser)
+    add_policy_arguments(parser)
     parser.set_defaults(run=run, writes_history=False)
 
 
