@@ -93,12 +93,14 @@ def _appends(handle: int) -> bool:
 def stops_met() -> Iterator[None]:
     """Within, a signal that asks the process to end raises Stopped, so that the mark can be written first.
 
-    A signal that the process was started to ignore stays ignored. Outside the main thread nothing is changed.
+    A signal that the process was started to ignore stays ignored, and one that isn't Python's stays as it is. Outside the main
+    thread nothing is changed.
     """
     if threading.current_thread() is not threading.main_thread():
         yield
         return
-    before = {number: signal.signal(number, _stop) for number in ENDING if signal.getsignal(number) != signal.SIG_IGN}
+    ours = [number for number in ENDING if signal.getsignal(number) not in (signal.SIG_IGN, None)]
+    before = {number: signal.signal(number, _stop) for number in ours}
     try:
         yield
     finally:
