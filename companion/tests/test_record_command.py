@@ -177,6 +177,16 @@ class Stores(unittest.TestCase):
         report = self.report("mariadb", "--interleave")
         self.assertIn("isolation broken\nbad-write ", report)
 
+    def test_a_lost_update_is_played_by_a_script(self) -> None:
+        script = "b1@0 b2@0 r1[7:0] r2[7:0] w1[7] c1 w2[7] "
+        for words, end in ((("mariadb", "--snapshot-isolation", "off"), "c2"), (("mariadb", "--snapshot-isolation", "on"), "a2"),
+                           (("postgres",), "a2")):
+            with self.subTest(words), tempfile.NamedTemporaryFile("w", suffix=".history") as file:
+                file.write(script + "c2")
+                file.flush()
+                history = self.record(*words, "--script", file.name, "--rows", "all", "--format", "history")
+                self.assertEqual(" ".join(history.decode().split()), script + end)
+
     def test_mariadb_keeps_isolation_with_the_setting(self) -> None:
         self.assertIn("isolation kept\n", self.report("mariadb", "--snapshot-isolation", "on"))
 

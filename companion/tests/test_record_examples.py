@@ -19,6 +19,7 @@ KNOWN = {
     "mariadb_on": (True, False),
 }
 WITHOUT_LOGS = {
+    "mariadb_lost_update": (False, False),
     "sqlite_wal": (True, True),
     "lmdb": (True, True),
     "berkeley_snapshot": (True, False),
