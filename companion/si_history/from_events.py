@@ -79,7 +79,8 @@ def convert(file: BinaryIO, policy: Policy = STRICT) -> Conversion:
     events = [teller.event(record) for record in log.events]
     legend = Legend(numbering.transaction_names(), numbering.key_names(), [record.line for record in log.events])
     legend.outcomes = {transactions[name]: kind for name, kind in stand_ins.items()}
-    legend.fields = {place: record.others for place, record in enumerate(log.events, 1) if record.others is not None}
+    legend.fields |= log.tally.header_fields()
+    legend.fields |= {place: record.others for place, record in enumerate(log.events, 1) if record.others is not None}
     return Conversion(events, legend, log.tally.warnings())
 
 

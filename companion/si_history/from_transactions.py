@@ -93,6 +93,7 @@ def history_of(log: TransactionsLog, policy: Policy, sights: Iterable[Sight] = (
     events = [_event_of(event, graph, numbering, places) for event in ordered]
     lines = [graph.transactions[graph.owners[event]].line for event in ordered]
     legend = Legend(numbering.transaction_names(), numbering.key_names(), lines)
+    legend.fields |= log.tally.header_fields()
     for number, (transaction, first) in enumerate(zip(transactions, graph.firsts), 1):
         _tell(legend, number, transaction, stand_ins.get(transaction.name))
         legend.fields |= {places[first + index]: others for index, others in transaction.others.items()}

@@ -30,9 +30,9 @@ class Legend:
 
     `transactions` and `keys` give the log's name of each number. `events` gives, for each place of the history in turn,
     the line of the log that the event came from; both are counted from 1. `outcomes` has the transactions of which the log
-    doesn't tell all: UNKNOWN, PLACED, or the kind of a stand-in. `fields` has what else the log says beside events. `times`
-    has the timestamps of a transaction's start and of its commit, where the log gives such. `history` is the hash of the
-    history's text, which a legend has that was read.
+    doesn't tell all: UNKNOWN, PLACED, or the kind of a stand-in. `fields` has what else the log says beside events, and at
+    place 0 in its first line. `times` has the timestamps of a transaction's start and of its commit, where the log gives
+    such. `history` is the hash of the history's text, which a legend has that was read.
     """
 
     transactions: dict[int, str] = field(default_factory=dict)

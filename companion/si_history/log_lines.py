@@ -59,6 +59,10 @@ class LogTally:
                 line.refuse('"values" of the header is not what --values says')
             self.by_values = self.header.values
 
+    def header_fields(self) -> dict[int, dict[str, object]]:
+        """The fields of the header that mean nothing here, as a legend has them: at place 0, before all events."""
+        return {0: self.header.others} if self.header.others else {}
+
     def warnings(self) -> list[str]:
         """What a person should know of a log that was taken."""
         return [

@@ -201,6 +201,12 @@ class FieldsTest(unittest.TestCase):
         made = made_of(event("A", "write", key=1, value="v"), event("A", "commit", ts=5), is_events=True)
         self.assertEqual((made.legend.fields, made.warnings), ({1: {"value": "v"}, 2: {"ts": 5}}, []))
 
+    def test_fields_of_the_header_are_kept_at_place_0(self) -> None:
+        header = {"values": "unique", "store": "TiDB 7.5"}
+        self.assertEqual(made_of(header, txn("A", 1, 2)).legend.fields, {0: {"store": "TiDB 7.5"}})
+        made = made_of(header, event("A", "commit", at=1), is_events=True)
+        self.assertEqual(made.legend.fields, {0: {"store": "TiDB 7.5"}, 1: {"at": 1}})
+
     def test_misspelt_fields_are_told(self) -> None:
         said = 'line {}: the field "{}" is kept, and means nothing here; is it a misspelt "{}"?'
         begins = [event("A", "begin", strat=0), event("B", "begin", strat=0), event("C", "begin", Start=0, stop=1)]
