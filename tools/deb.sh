@@ -17,10 +17,10 @@ DESTDIR=$tree PREFIX=/usr sh tools/install.sh >out/deb.log 2>&1 || {
 # The manifests are for make uninstall. Here dpkg knows what is installed.
 rm -f "$tree"/usr/share/si_audit/*.manifest
 share=$tree/usr/share
-completions=$share/bash-completion/completions
 docs=$share/doc/si-audit
-mkdir -p "$completions" "$docs" "$tree/DEBIAN" "$DEB_FOLDER" || exit 1
-cp packaging/si_audit.bash "$completions/si_audit" && cp packaging/si-history.bash "$completions/si-history" || exit 1
+mkdir -p "$docs" "$tree/DEBIAN" "$DEB_FOLDER" || exit 1
+# Debian's zsh looks for what packages complete in a folder of its own.
+mv "$share/zsh/site-functions" "$share/zsh/vendor-completions" || exit 1
 cp packaging/copyright LICENSE-MIT LICENSE-APACHE LICENSE-THIRD-PARTY "$docs" && gzip -9n -c CHANGELOG.md >"$docs/changelog.gz" || exit 1
 gzip -9n "$share"/man/man1/*.1 || exit 1
 cp packaging/prerm "$tree/DEBIAN/prerm" && chmod -R u=rwX,go=rX "$tree" && chmod 755 "$tree/DEBIAN/prerm" || exit 1

@@ -27,9 +27,12 @@ installs() {
             for page in si_audit.1 si-history.1; do
                 count "$1: $page" "$(cmp "docs/$page" "$root$2/share/man/man1/$page" 2>&1)"
             done
+            for file in bash-completion/completions/si_audit bash-completion/completions/si-history zsh/site-functions/_si-history; do
+                count "$1: $file" "$([ -s "$root$2/share/$file" ] || echo "it isn't there")"
+            done
         else
             count "$1: what make uninstall says" \
-                "$(grep -q -e "removed the 2 files of si_audit from" -e "nothing is removed" "$out/said" || cat "$out/said")"
+                "$(grep -q -e "removed the 3 files of si_audit from" -e "nothing is removed" "$out/said" || cat "$out/said")"
         fi
     done
     listed "$out/after"

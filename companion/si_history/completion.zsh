@@ -9,4 +9,9 @@ _si_history() {
         _files
     fi
 }
-compdef _si_history si-history
+# zsh runs this file as a function where it found it by itself, and then wants an answer at once.
+if [[ ${funcstack[1]} == _si-history ]]; then
+    _si_history "$@"
+else
+    compdef _si_history si-history
+fi
