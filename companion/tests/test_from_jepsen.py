@@ -28,6 +28,20 @@ LINES = """\
 """
 
 
+# As a client of Jepsen 0.3 writes it, with a nemesis, an exception, records, and forms that Clojure prints.
+WRITTEN = r"""
+{:type :invoke, :f :txn, :value [[:append 9 1] [:r 8 nil]], :time 3291485317, :process 0, :index 0}
+{:type :info, :f :start-partition, :value [:isolated {"n1" #{"n2" "n3"}, "n2" #{"n1"}}], :process :nemesis, :index 1}
+{:type :ok, :f :txn, :value [[:append 9 1] [:r 8 nil]], :process 0, :index 2, :start-ts 449, :commit-ts 450, :node "n1"}
+{:type :invoke, :f :txn, :value [[:append 9 2]], :time 3301485317, :process 1, :index 3}
+{:type :info, :f :txn, :value [[:append 9 2]], :process 1, :index 4, :error [:timeout "read timed out"], :exception {:via
+ [{:type java.sql.SQLException, :message "(conn=12)", :at [org.mariadb.jdbc.Foo$Bar lambda$run$0 "Foo.java" 203]}]}}
+#jepsen.history.Op{:index 5, :time 3310000000, :type :invoke, :process 0, :f :txn, :value [[:r 9 nil]]}
+#jepsen.history.Op{:index 6, :type :ok, :process 0, :f :txn, :value [[:r 9 [1 2]]], :start-ts 460, :at #inst "2024-01-01",
+ :client #object[jepsen.client$fn__123 0x1f2ab3 "jepsen.client$fn__123@1f2ab3"], :rate 1/3, :took 1.5E-4, :sign \a}
+"""
+
+
 def ok(process: int, start: int, commit: int | None, *operations: str) -> str:
     """An operation that is done, by itself: a history need not have invocations."""
     end = "" if commit is None else f" :commit-ts {commit}"
@@ -50,6 +64,17 @@ class HistoryTest(unittest.TestCase):
         )
         self.assertEqual(made.legend.outcomes, {2: "placed", 6: "unknown"})
         self.assertEqual(made.legend.fields[10], {"process": 1, "error": [":timeout", "x"]})
+
+    def test_what_jepsen_writes(self) -> None:
+        made = convert(io.BytesIO(WRITTEN.encode()))
+        # T4 tells no start, so it starts right before its commit, which is placed at the start of T6.
+        self.assertEqual(history_line(made), "b1@0 w1[9] r1[8:0] c1 b2@4 w2[9] c2 b3@7 r3[9:2] c3")
+        self.assertEqual((made.legend.events[0], made.legend.events[-1]), (4, 9))
+        self.assertEqual(made.legend.times, {1: (449, 450), 2: (None, None), 3: (460, 460)})
+        self.assertEqual(made.legend.fields[8], {
+            "process": 0, "at": {"#inst": "2024-01-01"}, "rate": "1/3", "took": 0.00015, "sign": "a",
+            "client": {"#object": ["jepsen.client$fn__123", 0x1f2ab3, "jepsen.client$fn__123@1f2ab3"]},
+        })
 
     def test_one_vector_of_records(self) -> None:
         tagged = LINES.replace("{:process", "#jepsen.history.Op{:process")
