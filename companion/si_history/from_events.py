@@ -31,7 +31,9 @@ recorded them, and writes it as a history, one event a line. Each line is one of
 "saw" and the second of each pair name the transaction that wrote the version
 seen, or are null where no transaction of the log did. "start" is how many of the
 log's commits the snapshot has; without it the snapshot is taken right before the
-transaction's first event. docs/RECORDING.md says how to record a store."""
+transaction's first event. With {"values": "unique"} as the first line, "value"
+stands in the place of "saw" and beside a write, and values in the pairs.
+docs/RECORDING.md says how to record a store."""
 
 EPILOG = """\
 examples:

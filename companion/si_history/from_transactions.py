@@ -28,9 +28,11 @@ and commit timestamps, and writes it as a history, one event a line. A line is
     ["range", "acct/1", "acct/9", [["acct/5", "T2"], ["acct/6", null]]]]}
 
 A writer is the name of the transaction that wrote the version seen, or null where
-no transaction of the log did. A snapshot has the commits up to its "start" and at
-it. "commit" is null where the transaction aborted, or where nobody knows. At one
-timestamp at most one transaction that wrote may commit. The lines may stand in any
+no transaction of the log did. With {"values": "unique"} as the first line, values
+stand in the writers' places, and behind the key of a write. A snapshot has the
+commits up to its "start" and at it. "commit" is null where the transaction didn't
+commit, and "unknown" where nobody knows. At one timestamp several that wrote may
+commit only where their order makes no difference. The lines may stand in any
 order. docs/RECORDING.md says how to record a store."""
 
 EPILOG = """\
