@@ -11,6 +11,10 @@ modules() {
 }
 
 case $name in
+    texts)
+        what="the program on 20,000 texts that nobody means"
+        set -- modules fuzz_texts "$PROGRAM"
+        ;;
     random)
         what="the program beside the definitions, on random histories"
         set -- modules oracle "$PROGRAM" small=1000 crowd=60 versions=30 ranges=24 rings=20 edges=12 most_edges=6
@@ -22,10 +26,6 @@ case $name in
     limits)
         what="the program on the longest texts and on hard ones, each within some seconds"
         set -- python3 -B tools/limits.py "$PROGRAM"
-        ;;
-    texts)
-        what="the program on 20,000 texts that nobody means"
-        set -- modules fuzz_texts "$PROGRAM"
         ;;
     logs)
         what="the companion on 2,000 logs that nobody means"

@@ -31,12 +31,11 @@ first() {
     fi
 }
 
-# others NAME..: these steps, side by side on half of the processors.
+# others NAME..: these steps, as many side by side as there are processors.
 others() {
-    lanes=$(($(getconf _NPROCESSORS_ONLN 2>/dev/null || echo 2) / 2))
     rm -rf out/steps
     mkdir -p out/steps
-    printf '%s\n' "$@" | xargs -n 1 -P "$((lanes > 0 ? lanes : 1))" sh tools/step.sh
+    printf '%s\n' "$@" | xargs -n 1 -P "$(getconf _NPROCESSORS_ONLN 2>/dev/null || echo 2)" sh tools/step.sh
     for name; do
         case $(cat "out/steps/$name.told" 2>/dev/null) in
             passed*) passed=$((passed + 1)) ;;
