@@ -109,6 +109,11 @@ class Facts:
             raise mismatch(f"transaction {number} doesn't write key {key}")
         return place
 
+    def touches(self, place: int, key: int) -> bool:
+        """Whether the event at a place reads or writes a key."""
+        event = self.event(place)
+        return event.key == key if isinstance(event, Write) else version_seen(event, key) is not None
+
     def check_read(self, place: int, number: int, key: int, saw: int) -> None:
         """Raises BadInput where the transaction doesn't read this version of the key at this place."""
         event = self.event(place)

@@ -59,7 +59,7 @@ class Arrow:
 
 @dataclass(frozen=True, slots=True)
 class Finding:
-    """One finding: what was found, why, and which transactions and places it is about, the foremost first.
+    """One finding: what was found, why, and which transactions, places and keys it is about, the foremost first.
 
     `more` are those of the reasons that only the report tells.
     """
@@ -69,6 +69,7 @@ class Finding:
     reasons: tuple[str, ...]
     transactions: tuple[int, ...]
     places: tuple[int, ...]
+    keys: tuple[int, ...] = ()
     arrows: tuple[Arrow, ...] = ()
     more: tuple[str, ...] = ()
 
@@ -172,6 +173,7 @@ class _Teller:
             tuple(self._why_bad_read(read)),
             _distinct((read.transaction, read.saw, read.due)),
             (read.place, *(self._facts.first_write(version, read.key) for version in (read.saw, read.due) if version)),
+            (read.key,),
             (*self._origin(read, read.saw, Look.SAW), *self._origin(read, read.due, Look.DUE)),
         )
 
@@ -208,6 +210,7 @@ class _Teller:
             ),
             (write.first, write.second),
             (*places, self._facts.end(write.first), self._facts.end(write.second)),
+            (write.key,),
         )
 
     def unexplained(self, read: Unexplained) -> Finding:
@@ -218,6 +221,7 @@ class _Teller:
             tuple(self._why_unexplained(read)),
             _distinct((read.transaction, read.saw)),
             (read.place, *((self._facts.first_write(read.saw, read.key),) if read.saw else ())),
+            (read.key,),
             tuple(self._origin(read, read.saw, Look.SAW)),
         )
 
@@ -239,6 +243,7 @@ class _Teller:
             (self._why_allowed(allowing), *self._why_steps(cycle.steps)),
             cycle.transactions,
             self._places(cycle.steps),
+            tuple(dict.fromkeys(step.key for step in cycle.steps[:MOST_STEPS])),
             self._arrows(cycle.steps),
         )
 
@@ -261,6 +266,7 @@ class _Teller:
             tuple(self._why_steps(structure.steps)),
             _distinct(structure.transactions),
             self._places(structure.steps),
+            tuple(dict.fromkeys(step.key for step in structure.steps)),
             self._arrows(structure.steps),
         )
 

@@ -10,12 +10,13 @@ from si_history.facts import Facts
 from si_history.findings import Finding, Group
 from si_history.naming import Names
 from si_history.overview import overview
-from si_history.scene import Scene, finding_scene, is_small, whole_scene
+from si_history.scene import Extent, Scene, finding_scene, is_small, whole_scene
 from si_history.wording import counted
 
-MOST_EVENTS = 40
+MOST_EVENTS = {Extent.ALL: 40, Extent.KEYS: 2000}
+"""With more events the transactions of a finding aren't shown so: the picture would be too wide."""
 FITTING_WIDTH = 860.0
-"""What has more events, or is wider, doesn't fit beside the findings, and is shown shorter."""
+"""What is wider doesn't fit beside the findings."""
 DESCRIPTION = "One lane a transaction, events from left to right."
 
 
@@ -46,11 +47,14 @@ class Pictures:
         return self._scene_of(self._findings[0])
 
     def _scene_of(self, finding: Finding) -> Scene:
-        if sum(len(self._facts.transaction(number).places) for number in finding.transactions) <= MOST_EVENTS:
-            scene = finding_scene(self._facts, finding, self._names, is_short=False)
-            if timeline.width(scene) <= FITTING_WIDTH:
-                return scene
-        return finding_scene(self._facts, finding, self._names, is_short=True)
+        """As much of a finding's transactions as fits beside the findings."""
+        events = sum(len(self._facts.transaction(number).places) for number in finding.transactions)
+        for extent, most in MOST_EVENTS.items():
+            if events <= most:
+                scene = finding_scene(self._facts, finding, self._names, extent)
+                if timeline.width(scene) <= FITTING_WIDTH:
+                    return scene
+        return finding_scene(self._facts, finding, self._names, Extent.FINDING)
 
     def _whole_scene(self) -> Scene:
         return whole_scene(self._facts, self._findings[0].arrows if self._findings else (), self._names)

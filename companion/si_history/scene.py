@@ -22,6 +22,14 @@ MOST_LANES = 40
 MOST_LISTED = 8
 
 
+class Extent(enum.Enum):
+    """How much is shown of a finding's transactions, from most to least."""
+
+    ALL = "all of their events"
+    KEYS = "what they do with the finding's keys, and their ends"
+    FINDING = "what the finding is about, and their ends"
+
+
 class MarkKind(enum.Enum):
     """What an event does, for its look."""
 
@@ -83,12 +91,14 @@ def whole_scene(facts: Facts, arrows: Iterable[Arrow], names: Names) -> Scene:
     return _scene(facts, list(facts.transactions.values()), None, set(), arrows, names)
 
 
-def finding_scene(facts: Facts, finding: Finding, names: Names, is_short: bool) -> Scene:
-    """A finding's transactions alone. If it is to be short, only the events that the finding is about, and the ends, are shown."""
+def finding_scene(facts: Facts, finding: Finding, names: Names, extent: Extent) -> Scene:
+    """A finding's transactions alone. Those that are left out are the finding's."""
     transactions = [facts.transaction(number) for number in finding.transactions[:MOST_LANES]]
     places = None
-    if is_short:
+    if extent is not Extent.ALL:
         places = {*finding.places, *(end for each in transactions if (end := each.end) is not None)}
+    if extent is Extent.KEYS and places is not None:
+        places.update(place for each in transactions for place in each.places if any(facts.touches(place, key) for key in finding.keys))
     return _scene(
         facts, transactions, places, set(finding.places), finding.arrows, names, len(finding.transactions) - len(transactions)
     )

@@ -13,7 +13,7 @@ from si_history.legend import Legend
 from si_history.naming import shown
 from si_history.overview import overview
 from si_history.report_text import ReportText
-from si_history.scene import Scene, finding_scene
+from si_history.scene import Extent, Scene, finding_scene
 from tests.pages import LOST_UPDATE_HISTORY, Told, example, told
 from tests.support import REPOSITORY, run_command
 from tests.test_report import LOST_UPDATE, lines, text_of
@@ -57,7 +57,7 @@ class SceneTest(unittest.TestCase):
     def test_a_finding_is_shown_alone(self) -> None:
         """Transaction 1 wrote key 1, 2 and 3 too; only 4, which read it, and 2 and 3, whose versions it saw and had to see, are drawn."""
         found = example("stale_read")
-        scene = finding_scene(found.facts, found.findings[0], found.names, is_short=False)
+        scene = finding_scene(found.facts, found.findings[0], found.names, Extent.ALL)
         self.assertEqual([lane.transaction for lane in scene.lanes], [2, 3, 4])
         self.assertEqual([mark.place for lane in scene.lanes for mark in lane.marks if mark.is_named], [3, 5, 7])
         self.assertEqual([arrow.label for arrow in scene.arrows], ["saw", "due"])
@@ -78,11 +78,17 @@ class SceneTest(unittest.TestCase):
         self.assertEqual(found.page.count('class="finding"'), 100)
 
     def test_a_transaction_of_many_events(self) -> None:
-        """Transaction 1 also reads key 9 a thousand times. What the bad write is about is drawn, and the ends."""
+        """Transaction 1 also reads key 9 a thousand times. What was done with key 1 is drawn, and the ends."""
         history = LOST_UPDATE_HISTORY.replace("w1[1]", "r1[9:0] " * 1000 + "w1[1]")
         found = told(history, text_of(LOST_UPDATE.replace("events 6", "events 1006")))
+        self.assertEqual(lanes_of(found.scene), [(1, [1, 1003, 1005], 1000), (2, [2, 1004, 1006], 0)])
+        self.assertIn("1,000 other events of these transactions are not drawn.", found.page)
+
+    def test_a_transaction_that_reads_one_key_often(self) -> None:
+        """Of a thousand reads of key 1 itself none is drawn that the finding isn't about."""
+        history = LOST_UPDATE_HISTORY.replace("w1[1]", "r1[1:0] " * 1000 + "w1[1]")
+        found = told(history, text_of(LOST_UPDATE.replace("events 6", "events 1006")))
         self.assertEqual(lanes_of(found.scene), [(1, [1003, 1005], 1001), (2, [1004, 1006], 1)])
-        self.assertIn("1,002 other events of these transactions are not drawn.", found.page)
 
 
 class OverviewTest(unittest.TestCase):
