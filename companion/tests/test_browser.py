@@ -20,6 +20,8 @@ from tests.test_report import LOST_UPDATE, lines, text_of
 BROWSER = shutil.which("chromium") or shutil.which("chromium-browser")
 NO_BROWSER = "left out: there is no browser chromium"
 MOST_SECONDS = 2.0
+TRIES = 3
+"""A machine that does much else can be slow once."""
 
 
 @unittest.skipUnless(BROWSER, NO_BROWSER)
@@ -114,8 +116,11 @@ class BrowserTest(unittest.TestCase):
         """The page opens in time, and its first screen has the first finding, and in each lane an event that it is about."""
         dom = self.dom(found.page, self.SEEN)
         self.assertEqual(re.findall('data-seen="(.*?)"', dom), [f"{named},true,0,true"])
-        took, nothing = self.seconds(found.page), self.seconds("<!DOCTYPE html><html><body>nothing</body></html>")
-        self.assertLess(took - nothing, MOST_SECONDS)
+        self.assertLess(min(self.seconds_for(found.page) for _ in range(TRIES)), MOST_SECONDS)
+
+    def seconds_for(self, page: str) -> float:
+        """How much longer the browser takes for a page than for an empty one."""
+        return self.seconds(page) - self.seconds("<!DOCTYPE html><html><body>nothing</body></html>")
 
     def seconds(self, page: str) -> float:
         """How long the browser takes to start and to draw a page."""
