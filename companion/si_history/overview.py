@@ -14,7 +14,7 @@ from si_history.facts import Facts, Fate, Transaction
 from si_history.naming import Names
 from si_history.wording import Wording
 
-WIDTH = 1180.0
+WIDTH = 846.0
 LEFT = 10.0
 TOP = 34.0
 BOTTOM = 40.0
