@@ -63,6 +63,8 @@ def audit_run(job: Job) -> Row:
         return Row(job.name, BAD_COMMAND_LINE, str(fault).removeprefix(f"{fault.source}: "))
     except MemoryError:
         return Row(job.name, FAULT, "memory ran out")
+    except Exception as fault:  # what is wrong with one run must not cost the others
+        return Row(job.name, FAULT, f"its audit failed: {type(fault).__name__}: {' '.join(str(fault).split())}")
 
 
 @lru_cache(maxsize=1)

@@ -13,11 +13,12 @@ import time
 import unittest
 from html import unescape
 from pathlib import Path
+from unittest import mock
 from urllib.parse import unquote
 
 from si_history.errors import BadInput
 from si_history.pool import DIED
-from si_history.run_audit import Row
+from si_history.run_audit import Job, Row, audit_run
 from si_history.runs import Folder, logs_under
 from si_history.runs_table import status_of, summary_of, table_of
 from tests.fake_auditor import fake_auditor
@@ -95,6 +96,18 @@ class TableTest(unittest.TestCase):
         ])
         self.assertEqual(summary_of(rows, "si"), "3 runs: 1 meets si, 1 falls short of it, 1 has no verdict.")
         self.assertEqual(summary_of(rows[:1] * 2, "ssi"), "2 runs: 2 meet ssi.")
+
+
+class RunTest(InFolder):
+    def test_what_nobody_expected(self) -> None:
+        """It is told of the run, on one line, and costs no other run."""
+        self.put(kept=KEPT)
+        path = str(self.folder / "kept.history")
+        job = Job("kept", path, "si", fake_auditor(self.beside, "exit 4"), None, False, False)
+        for fault, problem in ((ValueError("odd\n one"), "its audit failed: ValueError: odd one"), (MemoryError(), "memory ran out")):
+            with mock.patch("si_history.run_audit.audited", side_effect=fault):
+                self.assertEqual(audit_run(job), Row("kept", 4, problem))
+        self.assertEqual(audit_run(job).status, 4)
 
 
 @unittest.skipUnless(PROGRAM.exists(), NO_PROGRAM)
