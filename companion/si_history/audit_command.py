@@ -12,10 +12,10 @@ from si_history.account import Account, account_of
 from si_history.audit_json import json_of_audit, json_of_fault
 from si_history.audit_junit import junit_of_audit, junit_of_fault
 from si_history.audit_text import Style, text_of_audit
-from si_history.audited import Audited, Log, audited, log_of, read_log
+from si_history.audited import Audited, audited, log_of, read_log
 from si_history.auditor import LEVELS, Auditor, Ending, add_auditor_arguments, auditor_of
 from si_history.errors import BadInput
-from si_history.files import STANDARD_INPUT, STANDARD_OUTPUT, check_output, source_name, write_error, write_output
+from si_history.files import STANDARD_OUTPUT, check_output, source_name, write_error, write_output
 from si_history.findings import groups_of
 from si_history.log_kinds import LogKind
 from si_history.naming import shown

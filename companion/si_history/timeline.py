@@ -10,7 +10,7 @@ from html import escape
 from importlib.resources import files
 
 from si_history.facts import Fate
-from si_history.findings import Arrow, Look
+from si_history.findings import Look
 from si_history.scene import Lane, Mark, Scene
 
 LANE_HEIGHT = 84

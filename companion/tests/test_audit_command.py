@@ -17,7 +17,7 @@ from xml.etree import ElementTree
 
 from si_history.cli import main
 from tests.fake_auditor import fake_auditor
-from tests.support import COMPANION, LONG_SECONDS, NO_PROGRAM, PROGRAM, REPOSITORY, log_of
+from tests.support import COMPANION, LONG_SECONDS, NO_PROGRAM, PROGRAM, log_of
 from tests.test_audit_outputs import MANY, SCHEMA, SHOP, SKEW
 
 EVENTS = log_of([{"txn": "A", "op": "write", "key": "k"}, {"txn": "A", "op": "commit"}])

@@ -12,7 +12,6 @@ from xml.etree import ElementTree
 from si_history.legend import Legend
 from si_history.naming import shown
 from si_history.overview import overview
-from si_history.report_text import ReportText
 from si_history.scene import Extent, Scene, finding_scene
 from tests.pages import LOST_UPDATE_HISTORY, Told, example, told
 from tests.support import REPOSITORY, run_command

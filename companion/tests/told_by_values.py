@@ -3,7 +3,7 @@
 from __future__ import annotations
 
 from si_history.history import Event, RangeRead, Read, Write
-from tests.random_store import Line, Names, Run, events_log, transactions_log
+from tests.random_store import Line, Names, Run, events_log
 
 HEADER: Line = {"values": "unique"}
 

@@ -19,7 +19,7 @@ from collections.abc import Callable, Sequence
 from concurrent.futures import ThreadPoolExecutor, as_completed
 
 from witnesses import inputs, ledger
-from witnesses.edits import ROOT, Edit, edits
+from witnesses.edits import ROOT, edits
 from witnesses.fault import Fault
 from witnesses.inputs import Input, inputs_of
 from witnesses.ledger import Entry
