@@ -36,10 +36,12 @@ from si_history.findings import groups_of
 from si_history.graph import dot, graph_of
 from si_history.history import parse, text_of
 from si_history.legend import Legend
+from si_history.matching import check_report
 from si_history.names import named_lines
 from si_history.naming import Names
+from si_history.pictures import Pictures
 from si_history.report_text import ReportText, read_report
-from si_history.scene import scene_of
+from si_history.startup import MARK
 from si_history.unseen import is_seen
 
 SECONDS = 60
@@ -99,15 +101,15 @@ def audited(program: str, text: str) -> str:
 
 def use(conversion: Conversion, text: str, report_text: str) -> None:
     """Makes all that the companion makes of a report."""
-    names = Names(Legend.from_json(conversion.legend.to_json()))
+    names = Names(Legend.from_json(conversion.legend.to_json(text.encode())))
+    names.check_history(text.encode())
     lines = ReportText(report_text.encode())
     report = read_report(lines)
-    names.check(report.counts)
-    made = ["\n".join(named_lines(lines, names)), dot(graph_of(report, lines, False), names)]
     facts = Facts(parse(text))
+    check_report(report, facts)
+    made = ["\n".join(named_lines(lines, names)), dot(graph_of(report, lines, False), names)]
     groups = groups_of(report, facts, names)
-    scene = scene_of(facts, report.steps, groups, names)
-    made += [html("log", report, groups, scene, names), picture(report, scene)]
+    made += [html("log", report, facts, groups, names), picture(report, Pictures(facts, groups, names).scene())]
     for one in made:
         one.encode()
         assert is_seen(one.replace("\n", "")), "what was made holds what can't be seen"
@@ -117,10 +119,10 @@ def ended(kind: str, log: bytes) -> str:
     """What is wrong with the command line, given a log."""
     ran = subprocess.run([sys.executable, "-B", "-m", "si_history", f"from-{kind}", "-"], input=log, capture_output=True,
                          timeout=SECONDS)
-    if ran.returncode == 0 and not ran.stderr:
-        return ""
-    is_told = ran.returncode == 2 and not ran.stdout and ran.stderr.count(b"\n") == 1 and ran.stderr.startswith(b"si-history: ")
-    return "" if is_told else f"the command line ends with {ran.returncode}: {ran.stderr!r}"
+    said = ran.stderr.decode().splitlines()
+    is_told = all(line.startswith("si-history: ") for line in said)
+    is_refused = ran.returncode == 2 and len(said) == 1 and ran.stdout == f"{MARK}\n".encode()
+    return "" if is_told and (ran.returncode == 0 or is_refused) else f"the command line ends with {ran.returncode}: {ran.stderr!r}"
 
 
 def fault_of(program: str, number: int, rng: Random, outcomes: Counter[str]) -> str:

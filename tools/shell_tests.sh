@@ -35,11 +35,13 @@ printf '#!/bin/sh\necho 0\n' >"$out/kit/id"
 for command in dpkg-query dpkg-deb install systemctl; do
     printf '#!/bin/sh\n' >"$out/kit/$command"
 done
+# What a shell runs in the background ignores interrupts, and so does all that it starts, but for this.
+heeding='import os, signal, sys; signal.signal(signal.SIGINT, signal.SIG_DFL); os.execvp(sys.argv[1], sys.argv[1:])'
 installs() {
     printf '#!/bin/sh\n[ -x "%s" ] && echo >>"%s/asked"\n%s\n' "$policy" "$out" "$1" >"$out/kit/apt-get"
     chmod 755 "$out"/kit/*
     rm -f "$out/asked"
-    PATH=$out/kit:$PATH sh "$out/install_databases.sh" >"$out/report" 2>"$out/said"
+    PATH=$out/kit:$PATH python3 -c "$heeding" sh "$out/install_databases.sh" >"$out/report" 2>"$out/said"
     status=$?
     count "install_databases, $1: its status" "$([ "$status" = "$2" ] || echo "it is $status and not $2: $(cat "$out/said")")"
     count "install_databases, $1: policy-rc.d while it installs" "$([ -s "$out/asked" ] || echo "there is none")"
