@@ -1,6 +1,7 @@
 #!/bin/sh
 # Runs one step of make test: sh tools/step.sh NAME. PROGRAM is the program that it tries. What the step writes is kept in
-# out/steps/NAME.log, and shown where it fails. out/steps/NAME.told gets the line that tells what came of it.
+# out/steps/NAME.log, and shown where it fails. out/steps/NAME.told gets the line that tells what came of it. tools/test.sh runs
+# the steps in the order in which they stand here.
 : "${PROGRAM:=crates/si_audit/out/si_audit}"
 export PROGRAM
 name=$1
