@@ -27,7 +27,7 @@ LIMITS = {
     "README.md": 1_300,
     "CHANGELOG.md": 800,
     "CONTRIBUTING.md": 550,
-    "SECURITY.md": 350,
+    "SECURITY.md": 430,
     "companion/README.md": 500,
     "docs/AUDIT.md": 700,
     "docs/DATABASES.md": 2_450,
