@@ -130,6 +130,8 @@ usage "65 workers" "invalid value '65' for '--workers <N>': 65 is not in 1..=64"
 usage "no worker" "invalid value '0' for '--workers <N>': 0 is not in 1..=64" --workers 0
 usage "workers twice" "the argument '--workers <N>' cannot be used multiple times" --workers 4 --workers 4
 usage "a cut that is no number" "invalid value 'x' for '[CUT]...': invalid digit found in string" 14 x
+usage "a control character" "invalid value '\\x1b[31mX' for '[CUT]...': invalid digit found in string" "$(printf '\033[31mX')"
+count "a control character: standard error" "$(grep "$(printf '\033')" out/said)"
 usage "--brief with a value" "unexpected value '1' for '--brief...' found; no more were expected" --brief=1
 usage "--explain with a value" "unexpected value '1' for '--explain...' found; no more were expected" --explain=1
 usage "an unknown option" "unexpected argument '--parts' found" --parts 4
