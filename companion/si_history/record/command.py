@@ -151,7 +151,8 @@ def record(arguments: argparse.Namespace, script: Script | None = None) -> tuple
         watched([job], look, lambda: 0, 3 * patience)
 
     keys = rows_at_first(range(settings.keys) if script is None else script.keys, Rows(arguments.rows))
-    with arguments.open_store(arguments) as (store, look), ExitStack() as stack:
+    opened: AbstractContextManager[Opened] = arguments.open_store(arguments)
+    with opened as (store, look), ExitStack() as stack:
         if arguments.connect is not None:
             stack.push(lambda kind, *_: _remove(lambda: alone(store.remove, look), is_faulty=kind is not None))
         alone(lambda: store.prepare(keys), look)

@@ -203,7 +203,8 @@ class PostgresConnection:
         """Has the server do a statement, and answers its rows. Raises Aborted or StoreFault where it fails."""
         try:
             self._cursor.execute(statement, values)
-            return self._cursor.fetchall() if self._cursor.description is not None else []
+            rows: list[tuple[Any, ...]] = self._cursor.fetchall() if self._cursor.description is not None else []
+            return rows
         except self._store.driver.Error as fault:
             raise self._meant(fault) from None
 

@@ -114,7 +114,10 @@ def _counters(keys: int, dice: random.Random) -> Plan:
     """Read, modify, write: of one counter or two. Some only read, and so see whether an update was lost."""
     if dice.random() < READERS:
         return _looks(keys, dice)
-    return tuple(step for key in _some_keys(keys, 2, dice) for step in (Look(key), Put(key)))
+    steps: list[Step] = []
+    for key in _some_keys(keys, 2, dice):
+        steps += (Look(key), Put(key))
+    return tuple(steps)
 
 
 def _skew(keys: int, dice: random.Random) -> Plan:
