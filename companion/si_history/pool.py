@@ -8,7 +8,7 @@ from __future__ import annotations
 
 import signal
 from collections.abc import Iterator, Sequence
-from concurrent.futures import ProcessPoolExecutor, as_completed
+from concurrent.futures import Future, ProcessPoolExecutor, as_completed
 from concurrent.futures.process import BrokenProcessPool
 from multiprocessing import active_children
 
@@ -23,7 +23,12 @@ def in_processes(jobs: Sequence[Job], workers: int) -> Iterator[Row]:
     lost: list[Job] = []
     pool = ProcessPoolExecutor(min(workers, len(jobs)) or 1, initializer=_forget_signals)
     try:
-        done = {pool.submit(audit_run, job): job for job in jobs}
+        done: dict[Future[Row], Job] = {}
+        for job in jobs:
+            try:
+                done[pool.submit(audit_run, job)] = job
+            except BrokenProcessPool:
+                lost.append(job)
         for future in as_completed(done):
             try:
                 yield future.result()

@@ -11,13 +11,16 @@ import sys
 import tempfile
 import time
 import unittest
+from concurrent.futures import Future, ProcessPoolExecutor
+from concurrent.futures.process import BrokenProcessPool
 from html import unescape
 from pathlib import Path
+from typing import Any
 from unittest import mock
 from urllib.parse import unquote
 
 from si_history.errors import BadInput
-from si_history.pool import DIED
+from si_history.pool import DIED, in_processes
 from si_history.run_audit import Job, Row, audit_run
 from si_history.runs import Folder, logs_under
 from si_history.runs_table import status_of, summary_of, table_of
@@ -189,6 +192,24 @@ class CommandTest(InFolder):
         verdicts = dict(self.rows(done))
         self.assertEqual([name for name, said in verdicts.items() if said.startswith("no verdict")], ["evil", "worse"])
         self.assertEqual(len(verdicts), 22)
+
+    def test_a_process_that_dies_before_all_runs_are_handed_out(self) -> None:
+        """A pool that is broken takes no more runs: these are audited in another one."""
+        submit, told = ProcessPoolExecutor.submit, []
+
+        def broken_once(pool: ProcessPoolExecutor, *words: Any) -> Future[Row]:
+            told.append(words)
+            if len(told) in (3, 4):
+                raise BrokenProcessPool
+            return submit(pool, *words)
+
+        auditor = fake_auditor(self.beside, "exit 4")
+        jobs = [Job(f"run{number}", str(self.folder / "gone"), "si", auditor, None, False, False) for number in range(5)]
+        with mock.patch.object(ProcessPoolExecutor, "submit", broken_once):
+            rows = sorted(in_processes(jobs, 2), key=lambda row: row.name)
+        self.assertEqual([(row.name, row.problem) for row in rows], [(job.name, rows[0].problem) for job in jobs])
+        self.assertIn("No such file", str(rows[0].problem))
+        self.assertEqual(len(told), 7)
 
     def test_an_auditor_that_is_killed(self) -> None:
         self.put(kept=KEPT)
