@@ -28,8 +28,8 @@ SECONDS_OF_PATIENCE = 60.0
 
 DESCRIPTION = """\
 Audits every log under a folder side by side, and prints a table: of each run whether
-it meets the level, whether it is serializable, and its findings by their names. The
-verdicts are si_audit's alone. A log is told by what it holds, as by audit."""
+it meets the level, passes the ssi test and is serializable, and its findings by their
+names. The verdicts are si_audit's alone. A log is told by what it holds, as by audit."""
 
 EPILOG = f"""\
 Files whose names end in one of these are no logs, unless --pattern says so:

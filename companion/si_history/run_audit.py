@@ -43,6 +43,7 @@ class Row:
     name: str
     status: int
     problem: str | None = None
+    passes_ssi: bool | None = None
     is_serializable: bool | None = None
     counts: Mapping[str, int] = field(default_factory=dict)
     page: str | None = None
@@ -80,4 +81,4 @@ def _row(job: Job, run: Audited) -> Row:
     if job.wants_page:
         names = run.log.names
         page = html(shown(job.name), run.report, run.facts, groups_of(run.report, run.facts, names), names)
-    return Row(job.name, run.status, None, run.report.serializable.holds, account_of(run, 0).counts, page)
+    return Row(job.name, run.status, None, run.report.ssi.holds, run.report.serializable.holds, account_of(run, 0).counts, page)

@@ -13,7 +13,7 @@ from si_history.wording import counted
 
 WORST_FIRST = (FALLS_SHORT, FAULT, REFUSED, BAD_COMMAND_LINE, NOTHING)
 """The status of a run that falls short is that of all runs; else that of the first of these that a run has."""
-HEAD = ("run", "level", "serializable", "findings")
+HEAD = ("run", "level", "ssi", "serializable", "findings")
 
 
 def status_of(rows: Sequence[Row]) -> int:
@@ -24,13 +24,13 @@ def status_of(rows: Sequence[Row]) -> int:
     return next((status for status in WORST_FIRST if status in statuses), MEETS if statuses == {MEETS} else FAULT)
 
 
-def cells_of(row: Row, level: str) -> tuple[str, str, str, str]:
-    """The words of a run: its name, whether it meets the level, whether it is serializable, and how many findings of which name."""
+def cells_of(row: Row, level: str) -> tuple[str, str, str, str, str]:
+    """The words of a run: its name, whether it meets the level, the answers of `ssi` and `serializable`, and its findings by name."""
     if not row.has_verdict:
-        return shown(row.name), "no verdict", "", row.problem or f"status {row.status}"
+        return shown(row.name), "no verdict", "", "", row.problem or f"status {row.status}"
     found = ", ".join(f"{name}: {count:,}" for name, count in row.counts.items())
     meets = f"meets {level}" if row.status == MEETS else f"falls short of {level}"
-    return shown(row.name), meets, "yes" if row.is_serializable else "no", found
+    return shown(row.name), meets, "pass" if row.passes_ssi else "fail", "yes" if row.is_serializable else "no", found
 
 
 def summary_of(rows: Sequence[Row], level: str) -> str:

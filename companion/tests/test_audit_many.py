@@ -29,6 +29,8 @@ from tests.support import COMPANION, LONG_SECONDS, NO_PROGRAM, PROGRAM, REPOSITO
 
 KEPT, BROKEN, REFUSED, NOTHING = "r1[1:0] w1[1] c1\n", "r1[1:0] r2[1:0] w1[1] w2[1] c1 c2\n", "r1[1:2]\n", "w1[1] a1\n"
 SKEW = "r1[1:0] r2[2:0] w1[2] w2[1] c1 c2\n"
+STRUCTURE = "r1[1:0] r2[2:0] w2[1] w3[2] c3 c2 c1\n"
+"""It fails the ssi test and is serializable, as docs/FORMAT.md says."""
 
 
 class InFolder(unittest.TestCase):
@@ -89,15 +91,17 @@ class TableTest(unittest.TestCase):
 
     def test_a_table(self) -> None:
         rows = [
-            Row("a", 0, None, True), Row("long one", 1, None, False, {"stale read": 1200, "cycle": 1}), Row("c", 2, "not UTF-8"),
+            Row("a", 0, None, True, True), Row("long one", 1, None, False, False, {"stale read": 1200, "cycle": 1}),
+            Row("b", 0, None, False, True, {"dangerous structure": 1}), Row("c", 2, "not UTF-8"),
         ]
         self.assertEqual(table_of(rows, "si").splitlines(), [
-            "run         level              serializable  findings",
-            "a           meets si           yes",
-            '"long one"  falls short of si  no            stale read: 1,200, cycle: 1',
-            "c           no verdict                       not UTF-8",
+            "run         level              ssi   serializable  findings",
+            "a           meets si           pass  yes",
+            '"long one"  falls short of si  fail  no            stale read: 1,200, cycle: 1',
+            "b           meets si           fail  yes           dangerous structure: 1",
+            "c           no verdict                             not UTF-8",
         ])
-        self.assertEqual(summary_of(rows, "si"), "3 runs: 1 meets si, 1 falls short of it, 1 has no verdict.")
+        self.assertEqual(summary_of(rows, "si"), "4 runs: 2 meet si, 1 falls short of it, 1 has no verdict.")
         self.assertEqual(summary_of(rows[:1] * 2, "ssi"), "2 runs: 2 meet ssi.")
 
 
@@ -116,8 +120,8 @@ class RunTest(InFolder):
 @unittest.skipUnless(PROGRAM.exists(), NO_PROGRAM)
 class CommandTest(InFolder):
     def test_runs(self) -> None:
-        self.put(kept=KEPT, broken=BROKEN, skew=SKEW)
-        expected = [("broken", "falls short of si"), ("kept", "meets si"), ("skew", "meets si")]
+        self.put(kept=KEPT, broken=BROKEN, skew=SKEW, structure=STRUCTURE)
+        expected = [("broken", "falls short of si"), ("kept", "meets si"), ("skew", "meets si"), ("structure", "meets si")]
         outputs = set()
         for jobs in ("1", "4"):
             done = self.audit("--jobs", jobs)
@@ -125,9 +129,11 @@ class CommandTest(InFolder):
             outputs.add(done.stdout)
         self.assertEqual(len(outputs), 1)
         table = done.stdout.decode()
-        self.assertRegex(table, r"broken\.history +falls short of si +no +bad write: 1, cycle: 1\n")
-        self.assertRegex(table, r"skew\.history +meets si +no +cycle: 1, dangerous structure: 1\n")
-        self.assertTrue(table.endswith("3 runs: 2 meet si, 1 falls short of it.\n"))
+        self.assertRegex(table, r"broken\.history +falls short of si +fail +no +bad write: 1, cycle: 1\n")
+        self.assertRegex(table, r"kept\.history +meets si +pass +yes\n")
+        self.assertRegex(table, r"skew\.history +meets si +fail +no +cycle: 1, dangerous structure: 1\n")
+        self.assertRegex(table, r"structure\.history +meets si +fail +yes +dangerous structure: 1\n")
+        self.assertTrue(table.endswith("4 runs: 3 meet si, 1 falls short of it.\n"))
 
     def test_quiet(self) -> None:
         self.put(broken=BROKEN)
