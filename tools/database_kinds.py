@@ -1,6 +1,7 @@
 """What `make databases` records: stores with their settings, and what is expected of the runs of each."""
 import dataclasses
 import enum
+import re
 
 
 class Share(enum.Enum):
@@ -33,6 +34,11 @@ class Kind:
     kept: Share
     serializable: Share = Share.ANY
     finding: str = ""
+
+    @property
+    def folder(self) -> str:
+        """What the folder of its runs is called."""
+        return re.sub("[^a-z0-9]+", "_", f"{self.command} {self.setting}".lower())
 
 
 FEWEST_RUNS = 20

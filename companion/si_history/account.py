@@ -120,6 +120,12 @@ def _counts(report: Report) -> Counter[str]:
     return +counts
 
 
+def counts_against(level: str, counts: Mapping[str, int]) -> dict[str, int]:
+    """Of these counts those of findings that no history has which meets the level."""
+    others = {NAMES[kind] for kind, levels in BREAKS.items() if level not in levels}
+    return {name: count for name, count in counts.items() if name not in others}
+
+
 def _found(report: Report, kind: Kind) -> Sequence[Explained]:
     """What a report has of a kind."""
     found: dict[Kind, Sequence[Explained]] = {

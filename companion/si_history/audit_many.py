@@ -10,9 +10,9 @@ from dataclasses import replace
 from si_history.auditor import FAULT, LEVELS, Auditor, add_auditor_arguments
 from si_history.cluster import on_cluster
 from si_history.errors import BadInput, quoted
-from si_history.files import write_output
+from si_history.files import made_folder, write_output
 from si_history.log_kinds import LogKind
-from si_history.memory import LEAST_LIMIT, memory_limit
+from si_history.memory import memory_limit
 from si_history.naming import shown
 from si_history.policy import add_policy_arguments, policy_of
 from si_history.pool import in_processes
@@ -97,7 +97,7 @@ def _run(arguments: argparse.Namespace) -> int:
     pages = {row.name: page_name(row.name) for row in rows if row.has_verdict}
     if arguments.page is not None:
         index = html(shown(os.path.basename(os.path.abspath(arguments.folder))), arguments.check, rows, pages)
-        write_output(index, os.path.join(_made(arguments.page), "index.html"))
+        write_output(index, os.path.join(made_folder(arguments.page), "index.html"))
     if not arguments.quiet:
         _write_table(arguments, rows, found)
     return status_of(rows)
@@ -122,9 +122,8 @@ def _rows(arguments: argparse.Namespace, logs: Iterable[str]) -> Iterator[Row]:
     if arguments.dask is not None:
         return on_cluster(jobs, arguments.dask, arguments.patience)
     workers = arguments.jobs or os.cpu_count() or 1
-    memory = arguments.memory or max(LEAST_LIMIT, memory_limit() // workers)
-    auditor = Auditor.found(arguments.auditor, memory)
-    return in_processes([replace(job, auditor=auditor.path, memory=memory) for job in jobs], workers)
+    auditor = Auditor.found(arguments.auditor, arguments.memory or memory_limit(workers))
+    return in_processes([replace(job, auditor=auditor.path, memory=auditor.memory) for job in jobs], workers)
 
 
 def _kept(rows: Iterator[Row], count: int, pages: str | None) -> Iterator[Row]:
@@ -134,15 +133,6 @@ def _kept(rows: Iterator[Row], count: int, pages: str | None) -> Iterator[Row]:
             progress.step(number, count)
             if pages is not None and row.page is not None:
                 path = os.path.join(pages, page_name(row.name))
-                _made(os.path.dirname(path))
+                made_folder(os.path.dirname(path))
                 write_output(row.page, path)
             yield replace(row, page=None)
-
-
-def _made(folder: str) -> str:
-    """The folder, which is made where it is missing."""
-    try:
-        os.makedirs(folder, exist_ok=True)
-    except OSError as fault:
-        raise BadInput(f"the folder {quoted(folder)} can't be made: {fault.strerror}") from None
-    return folder

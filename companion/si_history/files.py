@@ -9,7 +9,7 @@ from collections.abc import Iterable, Iterator
 from contextlib import contextmanager, suppress
 from typing import BinaryIO
 
-from si_history.errors import BadInput, OutputIsInput
+from si_history.errors import BadInput, OutputIsInput, quoted
 from si_history.unseen import visible
 
 STANDARD_INPUT = STANDARD_OUTPUT = "-"
@@ -88,6 +88,15 @@ def write_output(text: str, path: str = STANDARD_OUTPUT) -> None:
     except OSError as fault:
         _drop(1)
         raise BadInput(f"can't be written: {_words(fault)}", source=output_name(path)) from None
+
+
+def made_folder(path: str) -> str:
+    """The folder, which is made where it is missing. Raises BadInput where that fails."""
+    try:
+        os.makedirs(path, exist_ok=True)
+    except OSError as fault:
+        raise BadInput(f"the folder {quoted(path)} can't be made: {fault.strerror}") from None
+    return path
 
 
 def write_error(line: str) -> None:

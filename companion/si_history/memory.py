@@ -32,9 +32,9 @@ def in_words(size: int) -> str:
     return f"{size} bytes"
 
 
-def memory_limit() -> int:
-    """Three quarters of the memory that there is."""
-    return max(LEAST_LIMIT, machine_memory() * 3 // 4)
+def memory_limit(programs: int = 1) -> int:
+    """What each of so many programs may take: together three quarters of the memory that there is."""
+    return max(LEAST_LIMIT, machine_memory() * 3 // 4 // programs)
 
 
 def machine_memory() -> int:
