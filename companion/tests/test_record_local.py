@@ -3,11 +3,12 @@
 from __future__ import annotations
 
 import os
+import signal
 import tempfile
 import unittest
 from unittest import mock
 
-from si_history.record import firebird_client, local
+from si_history.record import firebird_client, local, signals
 from si_history.record.keyvalue import KeyValueConnection, packed
 from si_history.record.kinds import KINDS
 from si_history.record.local import Holders, folder, timeline
@@ -50,6 +51,18 @@ class Folders(unittest.TestCase):
     def test_a_folder_is_removed_after_a_fault(self) -> None:
         with self.assertRaisesRegex(StoreFault, "no more"), folder():
             raise StoreFault("no more")
+        self.assertEqual(os.listdir(self.place.name), [])
+
+    def test_a_folder_is_removed_where_a_signal_comes_while_it_is_made(self) -> None:
+        make = tempfile.mkdtemp
+
+        def disturbed(prefix: str) -> str:
+            made = make(prefix=prefix)
+            os.kill(os.getpid(), signal.SIGINT)
+            return made
+
+        with mock.patch.object(tempfile, "mkdtemp", disturbed), self.assertRaises(KeyboardInterrupt), signals.met(), folder():
+            self.fail("the signal is lost")
         self.assertEqual(os.listdir(self.place.name), [])
 
     def test_a_disk_with_too_little_room_is_told(self) -> None:

@@ -124,16 +124,24 @@ def in_folder(make: Callable[[Choice, Path], LocalStore]) -> Callable[[Choice], 
 @contextmanager
 def folder() -> Iterator[Path]:
     """A new folder that nobody else may look into, removed at the end. Raises StoreFault where something of it stays."""
-    with signals.held():
-        place = Path(tempfile.mkdtemp(prefix="si-history-"))
+    place: Path | None = None
     try:
+        with signals.held():
+            place = Path(tempfile.mkdtemp(prefix="si-history-"))
         check_room(place)
         yield place
     finally:
         with signals.held():
-            shutil.rmtree(place, ignore_errors=True)
-            if place.exists():
-                raise StoreFault(f"the directory {place} could not be removed: remove it by hand")
+            _remove(place)
+
+
+def _remove(place: Path | None) -> None:
+    """Removes a folder, if it was made. Raises StoreFault where something of it stays."""
+    if place is None:
+        return
+    shutil.rmtree(place, ignore_errors=True)
+    if place.exists():
+        raise StoreFault(f"the directory {place} could not be removed: remove it by hand")
 
 
 def check_room(place: Path) -> None:
