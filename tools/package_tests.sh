@@ -1,6 +1,9 @@
 #!/bin/sh
 # Tests the packages: the companion as pip installs it from its folder and from a wheel, without a network, and the Debian package,
 # installed in a root of its own and removed. The last line is 'N passed, M failed'.
+# dpkg asks for programs that stand where only root's PATH leads.
+PATH=$PATH:/usr/sbin:/sbin
+export PATH
 . tools/counting.sh
 out=$PWD/out/package_tests
 rm -rf "$out"
