@@ -24,7 +24,7 @@ pub use gate::{Gate, OpenGate};
 pub use job::Job;
 pub use laws::{core_law, rule_law};
 pub use line::line_up;
-pub use pool::{Crew, work_off, work_off_with};
+pub use pool::{Crew, work_off};
 pub use taker::{Taken, Taker};
 
 #[cfg(test)]

@@ -1,5 +1,5 @@
 // The call that runs a job on all parts.
-ghost use Rattle.std.specs.Prelude.{◌≡◌, ℕ, ◌<◌, ◌≤◌, ◌-◌, [], length, drop, replicate, IfOk, All, IsPermutation};
+ghost use Rattle.std.specs.Prelude.{◌≡◌, ℕ, ◌<◌, ◌≤◌, [], length, IfOk, All, IsPermutation};
 ghost use Rattle.std.specs.List.{range_with_len, concat};
 ghost use Rattle.std.specs.List.Sorted.{IsStrictlyIncreasing};
 ghost use Rattle.sia_pool.specs.Core.{Reached};
@@ -23,48 +23,6 @@ pub struct Crew<Out> {
     pub outs: Vec<Out>,
     /// One list for each worker: the parts that it took, in the order in which it took them.
     pub shares: Vec<Vec<u32>>,
-}
-
-/// `work_off`, in which only the workers below `start` run. The shares of the others are empty.
-pub fn work_off_with<J: Job + Sync, G: Gate + Sync, R: Threads + Wait + Sync>(
-    rt: &R,
-    alloc: Global,
-    count: u32,
-    workers: u32,
-    start: u32,
-    job: &J,
-    gate: &G,
-) -> Result<Crew<J::Out>, NoMemory>
-where
-    J::Out: Send + Drop,
-    requires bounds { (count ≤ 1024) × (0 < start) × (start ≤ workers) × (workers ≤ 64) }
-    requires takes { (p : ℕ) → p < count → J.takes job.now p }
-
-    // One answer for each part, in order, each owed to its part.
-    ensures len { IfOk result (λ c. length c.outs.items ≡ count) }
-    ensures owed { IfOk result (λ c. AnswersEach (J.owes job.now) count c.outs.items) }
-
-    // With nothing left, the shares are a state of the core, so each part stands in them once.
-    ensures reached { IfOk result (λ c. Reached count workers [] (lists_of c.shares.items)) }
-    ensures workers { IfOk result (λ c. length c.shares.items ≡ workers) }
-    ensures once { IfOk result (λ c. IsPermutation (range_with_len 0 count) (concat (lists_of c.shares.items))) }
-    ensures ascending { IfOk result (λ c. All IsStrictlyIncreasing (lists_of c.shares.items)) }
-    ensures idle { IfOk result (λ c. drop start (lists_of c.shares.items) ≡ replicate (workers - start) []) }
-{
-    let mut takers = line_up(alloc, count, workers)?;
-    let idle = takers.split_off(start as usize)?;
-    let Worked {
-        mut taker,
-        mut answers,
-    } = run_all(rt, alloc, takers, job, gate)?;
-    taker.take_idle_back(idle);
-    // The owner, which has all views back, takes what is left. Its last pop shows that nothing is.
-    work(rt, &mut taker, &mut answers, job, gate)?;
-    let outs = in_order(alloc, answers)?;
-    Ok(Crew {
-        outs,
-        shares: taker.into_shares(),
-    })
 }
 
 /// Runs the job once on each part below `count`, by up to `workers` threads, of which the calling thread is worker 0.
@@ -95,5 +53,16 @@ where
     ensures once { IfOk result (λ c. IsPermutation (range_with_len 0 count) (concat (lists_of c.shares.items))) }
     ensures ascending { IfOk result (λ c. All IsStrictlyIncreasing (lists_of c.shares.items)) }
 {
-    work_off_with(rt, alloc, count, workers, workers, job, gate)
+    let takers = line_up(alloc, count, workers)?;
+    let Worked {
+        mut taker,
+        mut answers,
+    } = run_all(rt, alloc, takers, job, gate)?;
+    // The owner, which has all views back, takes what is left. Its last pop shows that nothing is.
+    work(rt, &mut taker, &mut answers, job, gate)?;
+    let outs = in_order(alloc, answers)?;
+    Ok(Crew {
+        outs,
+        shares: taker.into_shares(),
+    })
 }

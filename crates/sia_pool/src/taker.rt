@@ -74,17 +74,6 @@ impl Taker {
         owner.take_back(stealer);
     }
 
-    /// The owner takes back the views of those that never ran, whose shares are empty.
-    pub(crate) fn take_idle_back(&mut self, idle: Vec<Taker>)
-        requires owner { (taker_view self.old).number ≡ 0 }
-        requires line { let v = taker_view self.old in IsLine (taker_deque self.old) v.count v.workers (suc (length v.back)) idle.items }
-        ensures { taker_view self.new ≡ with_back (taker_view self.old) (replicate (length idle.items) []) }
-    {
-        'backing: for taker in idle {
-            self.take_back(taker);
-        }
-    }
-
     /// The shares of all takers, of an owner that has all views back.
     pub(crate) fn into_shares(self) -> Vec<Vec<u32>>
         requires owner { (taker_view self).number ≡ 0 }

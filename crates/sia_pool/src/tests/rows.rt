@@ -1,7 +1,7 @@
 // Answers of single calls, and that each call can succeed.
 ghost use Rattle.std.specs.Prelude.{◌≡◌, ◌+◌, ◌<◌};
 
-use crate::{Crew, Job, NoMemory, OpenGate, Taken, Taker, line_up, work_off, work_off_with};
+use crate::{Crew, Job, NoMemory, OpenGate, Taken, Taker, line_up, work_off};
 use std::alloc::Global;
 use std::test::*;
 
@@ -67,29 +67,24 @@ fn are_in_row(numbers: &[u32], first: u32, count: u32) -> bool {
     numbers.len() == count as usize
 }
 
-/// So many parts and workers, and how many of these run: 0 where all do. Then the part that there is no memory for, and what the
-/// first worker takes first, as far as that is known.
-const CREWS: &[(u32, u32, u32, Option<u32>, &[u32])] = &[
-    (3, 64, 0, None, &[]),
-    (0, 3, 0, None, &[]),
-    (1024, 64, 0, None, &[]),
-    (3, 4, 1, None, &[0, 1, 2]),
-    (0, 2, 2, None, &[]),
-    (3, 2, 0, Some(1), &[]),
+/// So many parts and workers. Then the part that there is no memory for, and what the first worker takes first, as far as that is
+/// known.
+const CREWS: &[(u32, u32, Option<u32>, &[u32])] = &[
+    (3, 64, None, &[]),
+    (0, 3, None, &[]),
+    (1024, 64, None, &[]),
+    (3, 1, None, &[0, 1, 2]),
+    (3, 2, Some(1), &[]),
 ];
 
 #[test]
 fn crews(rt: HostRuntime) -> Result<(), Fail> {
     assert!(rt; format!(in rt.alloc(); "{NoMemory}")?.as_str() == "no memory");
-    for (count, workers, start, part, first) in CREWS {
-        let (count, workers, start) = (*count, *workers, *start);
-        assert!(rt; count <= 1024 && 0 < workers && start <= workers && workers <= 64);
+    for (count, workers, part, first) in CREWS {
+        let (count, workers) = (*count, *workers);
+        assert!(rt; count <= 1024 && 0 < workers && workers <= 64);
         let job = Lacking { part: *part };
-        let worked = if start == 0 {
-            work_off(&rt, rt.alloc(), count, workers, &job, &OpenGate)
-        } else {
-            work_off_with(&rt, rt.alloc(), count, workers, start, &job, &OpenGate)
-        };
+        let worked = work_off(&rt, rt.alloc(), count, workers, &job, &OpenGate);
         if part.is_some() {
             assert!(rt; matches!(worked, Err(NoMemory)));
             continue;
