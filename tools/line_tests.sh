@@ -54,7 +54,7 @@ explained() {
     count "$example $*: its report" "$(cmp "examples/$example.explained" out/report 2>&1)"
 }
 
-# usage NAME TEXT ARGUMENTS..: the arguments are refused with status 2, and the first line on standard error is TEXT.
+# usage NAME TEXT ARGUMENTS..: the arguments are refused with status 2, and the first error on standard error is TEXT.
 usage() {
     name=$1
     text="error: $2"
@@ -64,8 +64,8 @@ usage() {
     why=
     if [ "$status" != 2 ]; then
         why="its status is $status and not 2"
-    elif [ "$(head -n 1 out/said)" != "$text" ]; then
-        why="standard error doesn't begin with '$text'"
+    elif [ "$(grep -m 1 '^error: ' out/said)" != "$text" ]; then
+        why="standard error doesn't say '$text'"
     elif [ -s out/report ]; then
         why="it wrote on standard output"
     fi
@@ -85,14 +85,14 @@ help() {
     count "$name: its text" "$why"
 }
 
-# hint NAME ARGUMENTS..: the arguments are refused, and the last line on standard error says where a history comes from.
+# hint NAME ARGUMENTS..: the arguments are refused, and the first line on standard error says where a history comes from.
 hint() {
     name=$1
     shift
     "$PROGRAM" "$@" <"$history" >out/report 2>out/said
-    told=$(tail -n 1 out/said)
+    told=$(head -n 1 out/said)
     wanted="A history is read from standard input: si_audit <FILE"
-    count "$name: the hint" "$([ "$told" = "$wanted" ] || echo "standard error doesn't end with '$wanted'")"
+    count "$name: the hint" "$([ "$told" = "$wanted" ] || echo "standard error doesn't begin with '$wanted'")"
 }
 
 # version NAME ARGUMENTS..: the version is printed with status 0, and it is the one that the sources name.
@@ -134,6 +134,7 @@ usage "a control character" "invalid value '\\x1b[31mX' for '[CUT]...': invalid 
 count "a control character: standard error" "$(grep "$(printf '\033')" out/said)"
 usage "--brief with a value" "unexpected value '1' for '--brief...' found; no more were expected" --brief=1
 usage "--explain with a value" "unexpected value '1' for '--explain...' found; no more were expected" --explain=1
+usage "a level that is none" "invalid value for '--check <LEVEL>'" --check SI
 usage "an unknown option" "unexpected argument '--parts' found" --parts 4
 hint "a cut that is a file's name" "$history"
 hint "a cut that is a file's name, behind others" --workers 4 14 "$history"
@@ -144,8 +145,6 @@ help "-h after others" --workers 64 14 -h
 
 "$PROGRAM" $(seq 1 1024) <"$history" >out/report 2>out/said
 told "too many cuts" $? 2 "si_audit: too many cuts"
-"$PROGRAM" --check SI <"$history" >out/report 2>out/said
-told "a level that is none" $? 2 "si_audit: the level of --check is serializable, ssi or si"
 for level in serializable:1 ssi:1 si:0; do
     "$PROGRAM" --brief --check "${level%:*}" <examples/write_skew.history >out/report 2>out/said
     told "write skew, held against ${level%:*}" $? "${level#*:}" ""

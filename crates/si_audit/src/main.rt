@@ -34,6 +34,13 @@ const LINE_REFUSED: u8 = 2;
 /// The status where a device failed or memory ran out.
 const NOT_DONE: u8 = 4;
 
+/// What is told where the words name a level that is none, in the words of the other faults.
+const NO_LEVEL: &str = "error: invalid value for '--check <LEVEL>'
+  [possible values: serializable, ssi, si]
+
+For more information, try '--help'.
+";
+
 /// Says a line on standard error, and answers the status. Where the line can't be written the status alone tells.
 fn say<R: Eprint, D: Display + Drop>(rt: &R, line: D, status: u8) -> u8 {
     let _ = eprintln!(rt; "si_audit: {line}");
@@ -68,11 +75,10 @@ fn tell<R: Alloc<A = Global> + Print + Eprint>(rt: &R, fault: LineFault) -> u8 {
             LINE_REFUSED
         }
         LineFault::TooManyCuts => say(rt, "too many cuts", LINE_REFUSED),
-        LineFault::UnknownLevel => say(
-            rt,
-            "the level of --check is serializable, ssi or si",
-            LINE_REFUSED,
-        ),
+        LineFault::UnknownLevel => {
+            let _ = rt.eprint(NO_LEVEL);
+            LINE_REFUSED
+        }
         LineFault::NoMemory => say(rt, RunFault::NoMemory, NOT_DONE),
     }
 }

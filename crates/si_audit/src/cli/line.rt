@@ -165,7 +165,7 @@ fn told(alloc: Global, error: &Error) -> LineFault
     if !error.use_stderr() {
         return LineFault::Help(text);
     }
-    if text.as_str().contains("for '[CUT]...'") && text.push_str(FILE_HINT).is_err() {
+    if text.as_str().contains("for '[CUT]...'") && text.insert_str(0, FILE_HINT).is_err() {
         return LineFault::NoMemory;
     }
     LineFault::Usage(text)
