@@ -9,8 +9,8 @@ use Rattle.sia_parts.specs.declared.finding.Edge.{Edge}
 use Rattle.sia_parts.specs.Findings.{ListsEdges}
 use Rattle.sia_parts.proofs.Members.{contains_none}
 use Rattle.sia_graph.specs.declared.pivot.Pivot.{Pivot}
-use Rattle.sia_graph.specs.declared.settling.Verdict.{Verdict}
-use Rattle.sia_graph.specs.declared.settling.Verdict.TheVariants.{Order, Cycle}
+use Rattle.sia_graph.specs.declared.verdict.Verdict.{Verdict}
+use Rattle.sia_graph.specs.declared.verdict.Verdict.TheVariants.{Order, Cycle}
 use Rattle.sia_graph.specs.Pivots.{ArePivots}
 use Rattle.sia_graph.specs.Verdicts.{IsVerdict}
 use Rattle.sia_graph.specs.declared.judgement.Judgement.{Judgement}

@@ -6,7 +6,7 @@ use Rattle.std.proofs.lemmas.Bool.{cases_eq, cases_lt}
 use Rattle.std.proofs.lemmas.List.Elements.{All-nil, All-cons}
 use Rattle.sia_events.proofs.Decisions.{Decided, first_below}
 use Rattle.sia_parts.specs.declared.finding.Edge.{Edge}
-use Rattle.sia_graph.specs.declared.settling.Step.{Step}
+use Rattle.sia_graph.specs.declared.cycle.Step.{Step}
 use Rattle.sia_graph.specs.Orders.{Leads}
 use Rattle.sia_graph.specs.Cycles.{GoesBack, GoesRound, IsPrevious, IsPrintedCycle, IsStuckSet, TakesLeastEdge}
 use Rattle.sia_graph.proofs.PartedLists.{contains_in}

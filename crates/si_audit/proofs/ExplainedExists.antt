@@ -27,10 +27,10 @@ use Rattle.sia_parts.specs.Entries.{EdgeOfKind, IsEdge}
 use Rattle.sia_parts.specs.Sightings.{Gives, reader_of}
 use Rattle.sia_parts.specs.Telling.{TellsUnless, TellsVersion, event_words}
 use Rattle.sia_parts.proofs.Members.{contains_first, contains_later}
-use Rattle.sia_graph.specs.declared.narrow.dangerous.Dangerous.{Dangerous}
-use Rattle.sia_graph.specs.declared.settling.Step.{Step}
-use Rattle.sia_graph.specs.declared.settling.Verdict.{Verdict}
-use Rattle.sia_graph.specs.declared.settling.Verdict.TheVariants.{Order, Cycle}
+use Rattle.sia_graph.specs.declared.ssi.Dangerous.{Dangerous}
+use Rattle.sia_graph.specs.declared.cycle.Step.{Step}
+use Rattle.sia_graph.specs.declared.verdict.Verdict.{Verdict}
+use Rattle.sia_graph.specs.declared.verdict.Verdict.TheVariants.{Order, Cycle}
 use Rattle.sia_graph.specs.Cycles.{GoesRound, step_edge}
 use Rattle.sia_graph.specs.Dangerous.{HasFirst, IsLeast, MayBeFirst}
 use Rattle.sia_graph.specs.Verdicts.{IsVerdict}

@@ -8,9 +8,9 @@ use Rattle.sia_events.specs.declared.fault.TextFault.TheVariants.{NoMemory, Text
 use Rattle.sia_events.specs.Locations.{hex_digit, is_plain_shown, shown, shown_byte}
 use Rattle.sia_events.specs.Text.{numeral}
 use Rattle.sia_parts.specs.declared.finding.Kind.TheVariants.{Rw}
-use Rattle.sia_graph.specs.declared.narrow.dangerous.Dangerous.{Dangerous}
-use Rattle.sia_graph.specs.declared.settling.Verdict.{Verdict}
-use Rattle.sia_graph.specs.declared.settling.Verdict.TheVariants.{Order, Cycle}
+use Rattle.sia_graph.specs.declared.ssi.Dangerous.{Dangerous}
+use Rattle.sia_graph.specs.declared.verdict.Verdict.{Verdict}
+use Rattle.sia_graph.specs.declared.verdict.Verdict.TheVariants.{Order, Cycle}
 use Rattle.si_audit.specs.Account.{Account}
 use Rattle.si_audit.specs.declared.cli.form.Form.TheVariants.{Brief}
 use Rattle.si_audit.specs.Explained.{IsExplained, TellsAll, TellsDanger, TellsVerdict, WithReasons, dangerous_edges, dangerous_line, edges_round}

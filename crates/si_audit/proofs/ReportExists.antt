@@ -25,8 +25,8 @@ use Rattle.sia_events.proofs.Histories.{has_history}
 use Rattle.sia_events.proofs.Judged.{JudgedAll-none, StopsAt-after, StopsAt-first, StopsAt-more}
 use Rattle.sia_events.proofs.TransactionDecisions.{aborted_or_not, committed_or_not, open_or_not, place_within}
 use Rattle.sia_parts.proofs.Members.{contains_first, contains_none}
-use Rattle.sia_graph.specs.declared.settling.Verdict.{Verdict}
-use Rattle.sia_graph.specs.declared.settling.Verdict.TheVariants.{Order, Cycle}
+use Rattle.sia_graph.specs.declared.verdict.Verdict.{Verdict}
+use Rattle.sia_graph.specs.declared.verdict.Verdict.TheVariants.{Order, Cycle}
 use Rattle.sia_graph.specs.Verdicts.{IsOrderVerdict}
 use Rattle.sia_graph.specs.declared.pivot.Pivot.{Pivot}
 use Rattle.sia_graph.specs.Pivots.{ListsNeighbours}

@@ -15,9 +15,9 @@ use Rattle.sia_parts.specs.declared.finding.Edge.{Edge}
 use Rattle.sia_parts.specs.declared.finding.Kind.{Kind}
 use Rattle.sia_parts.specs.declared.finding.Kind.TheVariants.{Ww, Wr, Rw}
 use Rattle.sia_graph.specs.declared.pivot.Pivot.{Pivot}
-use Rattle.sia_graph.specs.declared.settling.Step.{Step}
-use Rattle.sia_graph.specs.declared.settling.Verdict.{Verdict}
-use Rattle.sia_graph.specs.declared.settling.Verdict.TheVariants.{Order, Cycle}
+use Rattle.sia_graph.specs.declared.cycle.Step.{Step}
+use Rattle.sia_graph.specs.declared.verdict.Verdict.{Verdict}
+use Rattle.sia_graph.specs.declared.verdict.Verdict.TheVariants.{Order, Cycle}
 use Rattle.si_audit.specs.Account.{Account}
 use Rattle.si_audit.specs.declared.cli.form.Form.{Form}
 use Rattle.si_audit.specs.Laws.{begins}

@@ -5,8 +5,8 @@ use Rattle.std.proofs.lemmas.List.{take_more}
 use Rattle.std.proofs.lemmas.List.Elements.{All-cons, All-nil}
 use Rattle.sia_events.specs.declared.event.Event.{Event}
 use Rattle.sia_parts.specs.declared.finding.Edge.{Edge}
-use Rattle.sia_graph.specs.declared.settling.Step.{Step}
-use Rattle.sia_graph.specs.declared.settling.Verdict.TheVariants.{Cycle}
+use Rattle.sia_graph.specs.declared.cycle.Step.{Step}
+use Rattle.sia_graph.specs.declared.verdict.Verdict.TheVariants.{Cycle}
 use Rattle.sia_graph.specs.Cycles.{GoesRound, IsPrintedCycle, step_edge}
 use Rattle.si_audit.specs.Explained.{TellsAll, TellsVerdict, edges_round}
 use Rattle.si_audit.specs.Reasons.{TellsStep}

@@ -13,11 +13,11 @@ use Rattle.sia_parts.specs.declared.finding.Edge.{Edge}
 use Rattle.sia_parts.specs.Gathering.{AreChunkBounds, AreNumbersBetween}
 use Rattle.sia_parts.specs.Packing.{source_number, unpacked}
 use Rattle.sia_parts.proofs.FanEdges.{joined_rise, none_rise}
-use Rattle.sia_graph.specs.declared.pivoting.links.Link.{Link}
+use Rattle.sia_graph.specs.declared.pivot.Link.{Link}
 use Rattle.sia_graph.specs.Links.{AreEnds}
 use Rattle.sia_graph.proofs.LinkLists.{ends_joined, ends_none}
 use Rattle.sia_graph.proofs.Vulnerable.{all_vulnerable}
-use Rattle.sia_graph.specs.declared.listing.AllEdges.{AllEdges}
+use Rattle.sia_graph.specs.declared.edges.AllEdges.{AllEdges}
 use Rattle.si_audit.specs.declared.report.sheets.Sheet.{Sheet}
 use Rattle.si_audit.specs.Lines.{edge_line}
 use Rattle.sia_graph.specs.AllEdges.{AreAllEdges}

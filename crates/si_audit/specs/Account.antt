@@ -5,7 +5,7 @@ use Rattle.sia_parts.specs.declared.finding.BadWrite.{BadWrite}
 use Rattle.sia_parts.specs.declared.finding.Unexplained.{Unexplained}
 use Rattle.sia_parts.specs.declared.finding.Edge.{Edge}
 use Rattle.sia_graph.specs.declared.pivot.Pivot.{Pivot}
-use Rattle.sia_graph.specs.declared.settling.Verdict.{Verdict}
+use Rattle.sia_graph.specs.declared.verdict.Verdict.{Verdict}
 
 pub record Account : Type 0 where
   pub events : ℕ

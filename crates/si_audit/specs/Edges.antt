@@ -6,9 +6,9 @@ use Rattle.sia_parts.specs.declared.finding.Edge.{Edge}
 use Rattle.sia_parts.specs.Findings.{ListsEdges}
 use Rattle.sia_parts.specs.Gathering.{AreNumbersBetween}
 use Rattle.sia_parts.specs.Packing.{unpacked}
-use Rattle.sia_graph.specs.declared.pivoting.links.Link.{Link}
+use Rattle.sia_graph.specs.declared.pivot.Link.{Link}
 use Rattle.sia_graph.specs.Links.{AreEnds, AreVulnerable}
-use Rattle.sia_graph.specs.declared.listing.AllEdges.{AllEdges}
+use Rattle.sia_graph.specs.declared.edges.AllEdges.{AllEdges}
 use Rattle.si_audit.specs.Lines.{edge_line}
 use Rattle.si_audit.specs.Sheets.{number_lines}
 

@@ -6,10 +6,10 @@ use Rattle.sia_events.specs.Isolation.{IsolationKept}
 use Rattle.sia_events.specs.Text.{numeral}
 use Rattle.sia_parts.specs.declared.finding.Edge.{Edge}
 use Rattle.sia_parts.specs.declared.finding.Kind.TheVariants.{Rw}
-use Rattle.sia_graph.specs.declared.narrow.dangerous.Dangerous.{Dangerous}
-use Rattle.sia_graph.specs.declared.settling.Step.{Step}
-use Rattle.sia_graph.specs.declared.settling.Verdict.{Verdict}
-use Rattle.sia_graph.specs.declared.settling.Verdict.TheVariants.{Order, Cycle}
+use Rattle.sia_graph.specs.declared.ssi.Dangerous.{Dangerous}
+use Rattle.sia_graph.specs.declared.cycle.Step.{Step}
+use Rattle.sia_graph.specs.declared.verdict.Verdict.{Verdict}
+use Rattle.sia_graph.specs.declared.verdict.Verdict.TheVariants.{Order, Cycle}
 use Rattle.sia_graph.specs.Cycles.{step_edge}
 use Rattle.sia_graph.specs.Dangerous.{IsDangerous}
 use Rattle.si_audit.specs.Account.{Account}

@@ -5,8 +5,8 @@ use Rattle.sia_events.specs.declared.event.Event.{Event}
 use Rattle.sia_events.specs.declared.fault.TextFault.{TextFault}
 use Rattle.sia_events.specs.Text.{StandsFor}
 use Rattle.sia_events.specs.Refusals.{IsRefusal, IsAccepted}
-use Rattle.sia_graph.specs.declared.settling.Verdict.{Verdict}
-use Rattle.sia_graph.specs.declared.settling.Verdict.TheVariants.{Order, Cycle}
+use Rattle.sia_graph.specs.declared.verdict.Verdict.{Verdict}
+use Rattle.sia_graph.specs.declared.verdict.Verdict.TheVariants.{Order, Cycle}
 use Rattle.si_audit.specs.declared.cli.form.Form.{Form}
 use Rattle.si_audit.specs.Account.{Account}
 use Rattle.si_audit.specs.Accounts.{IsAccount}

@@ -6,7 +6,7 @@ use Rattle.std.proofs.lemmas.Bool.{cases_lt, cases_eq}
 use Rattle.std.proofs.lemmas.List.{get_or-set_same, get_or-set_other, length-set, map_more}
 use Rattle.std.proofs.lemmas.List.Elements.{Contains-append_left, Contains-append_right, Contains-append_cases, Contains-push, Contains-push_cases}
 use Rattle.sia_parts.specs.declared.looks.Absence.{Absence}
-use Rattle.sia_graph.specs.declared.narrow.two.Two.{Two}
+use Rattle.sia_graph.specs.declared.ranks.Two.{Two}
 use Rattle.sia_graph.specs.Absences.{AreNodes, AreTwosAt, IsAbsent, IsRankAt}
 use Rattle.sia_graph.specs.KeyBlocks.{IsOver, IsUnderSome}
 use Rattle.sia_graph.specs.Ranks.{IsLeastRank, IsRankOf, IsTwo}

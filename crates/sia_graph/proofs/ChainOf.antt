@@ -8,7 +8,7 @@ use Rattle.sia_events.specs.declared.event.Event.{Event}
 use Rattle.sia_events.specs.Places.{at_place}
 use Rattle.sia_events.specs.Events.{actor}
 use Rattle.sia_events.specs.Replay.{events_of}
-use Rattle.sia_graph.specs.declared.replaying.Mismatch.{Mismatch}
+use Rattle.sia_graph.specs.declared.serial_replay.Mismatch.{Mismatch}
 use Rattle.sia_graph.specs.Replaying.{AreNext, AreWritten, IsRight, IsWrongAt, Tells, after, first_at, version_in}
 use Rattle.sia_graph.proofs.LastWriter.{events_from}
 

@@ -1,7 +1,7 @@
 -- What is read behind the end of a list.
 use Rattle.sia_parts.specs.declared.lifetimes.Lifetime.{Lifetime}
 use Rattle.sia_parts.specs.declared.looks.Look.{Look}
-use Rattle.sia_graph.specs.declared.narrow.two.Two.{Two}
+use Rattle.sia_graph.specs.declared.ranks.Two.{Two}
 
 abbrev pub no_lifetime : Lifetime
 no_lifetime = record { start = 0; commit = 0 }

@@ -12,7 +12,7 @@ use Rattle.sia_parts.specs.declared.looks.Looks.{Looks}
 use Rattle.sia_parts.proofs.StartLemmas.{increasing}
 use Rattle.sia_parts.specs.declared.lifetimes.Lifetime.{Lifetime}
 use Rattle.sia_parts.specs.Lifetimes.{AreLifetimes}
-use Rattle.sia_graph.specs.declared.narrow.dangerous.Dangerous.{Dangerous}
+use Rattle.sia_graph.specs.declared.ssi.Dangerous.{Dangerous}
 use Rattle.sia_graph.specs.Dangerous.{HasFirst, IsDangerous, IsLeast, MayBeFirst}
 use Rattle.sia_graph.specs.Early.{CommitsFrom, IsEarly, IsEarlyFor, IsLeastPivot, TellFirsts}
 use Rattle.sia_graph.specs.Evidence.{IsEvidence}

@@ -16,10 +16,10 @@ use Rattle.sia_parts.specs.declared.finding.Kind.TheVariants.{Ww, Wr, Rw}
 use Rattle.sia_parts.specs.declared.finding.Unexplained.{Unexplained}
 use Rattle.sia_parts.specs.Entries.{EdgeOfKind, IsEdge, bad_read_rank, bad_write_rank, unexplained_rank}
 use Rattle.sia_parts.specs.Findings.{ListsUnexplained}
-use Rattle.sia_graph.specs.declared.settling.Verdict.{Verdict}
-use Rattle.sia_graph.specs.declared.settling.Verdict.TheVariants.{Order, Cycle}
+use Rattle.sia_graph.specs.declared.verdict.Verdict.{Verdict}
+use Rattle.sia_graph.specs.declared.verdict.Verdict.TheVariants.{Order, Cycle}
 use Rattle.sia_graph.specs.Dangerous.{IsDangerous}
-use Rattle.sia_graph.specs.declared.narrow.dangerous.Dangerous.{Dangerous}
+use Rattle.sia_graph.specs.declared.ssi.Dangerous.{Dangerous}
 use Rattle.sia_graph.specs.declared.judgement.Judgement.{Judgement}
 use Rattle.sia_graph.specs.Judgements.{IsJudgement}
 use Rattle.sia_graph.specs.Orders.{Leads, IsKeepingOrder}

@@ -1,9 +1,8 @@
 -- The least key of writes that an absence holds, or that meet other looks.
-use Rattle.std.proofs.Common.{◌≡◌, inl, inr, ℕ, ◌<◌, ◌≤◌, List, length, get_or, take, refl, ap, sym, ◌∙◌, subst, arith}
+use Rattle.std.proofs.Common.{◌≡◌, inl, inr, ℕ, ◌<◌, ◌≤◌, true, false, List, length, get_or, take, ltb, refl, ap, sym, ◌∙◌, subst, arith}
 use Rattle.std.specs.Prelude.{All, Contains}
-use Rattle.std.specs.List.{AllWithin}
-use Rattle.std.specs.List.Sorted.{IsNonDecreasingBy}
-use Rattle.std.proofs.lemmas.Bool.{cases_lt}
+use Rattle.std.specs.List.Sorted.{IsNonDecreasingBy, IsPartitionPoint}
+use Rattle.std.proofs.lemmas.Bool.{cases_lt, ltb-true, ltb-false}
 use Rattle.std.proofs.lemmas.List.{get_or_default, get_or-take, length-take}
 use Rattle.std.proofs.lemmas.List.Elements.{Contains-get_or}
 use Rattle.sia_parts.specs.declared.finding.Kind.{Kind}
@@ -13,7 +12,7 @@ use Rattle.sia_graph.specs.NumberEdges.{HasMeeting, IsMissedBy, Meets}
 use Rattle.sia_graph.specs.Ranks.{IsLeastRank}
 
 module _ (writes : List Look) (rise : IsNonDecreasingBy (λ (look : Look). look.key) writes) (s : Absence) (from first : ℕ) (is_from : from ≡ s.from)
-    (before : AllWithin (λ (look : Look). look.key < from) writes 0 first) (after : AllWithin (λ (look : Look). from ≤ look.key) writes first (length writes)) where
+    (point : IsPartitionPoint (λ (look : Look). ltb look.key from ≡ true) (λ (look : Look). ltb look.key from ≡ false) writes first) where
   -- the keys from the absence's first one on start at the point
   from_first : (d a : Look) → Contains writes a → s.from ≤ a.key → (first < length writes) × ((get_or writes first d).key ≤ a.key)
   from_first d a c more =
@@ -21,13 +20,13 @@ module _ (writes : List Look) (rise : IsNonDecreasingBy (λ (look : Look). look.
       let key : (get_or writes c.0 a).key ≡ a.key = ap (λ (x : Look). x.key) c.2 in
       let same : (get_or writes c.0 d).key ≡ a.key = ap (λ (x : Look). x.key) (get_or_default writes c.0 d a c.1 ∙ c.2) in
       elim (cases_lt c.0 first) [
-        | inl less ↦ let l = before c.0 a (omega arith) less in let e = is_from in absurd (omega arith)
+        | inl less ↦ let l = ltb-true (get_or writes c.0 a).key from (point.0 c.0 a (omega arith) less) in let e = is_from in absurd (omega arith)
         | inr past ↦ let r = rise first c.0 d past c.1 in (omega arith, omega arith)
       ]
 
   pub least_missed_key : (d : Look) → first < length writes → (get_or writes first d).key < s.to → IsLeastRank (IsMissedBy writes s) (get_or writes first d).key
   least_missed_key d within less = inl (
-    (get_or writes first d, Contains-get_or writes first d within, refl, subst (λ n. n ≤ (get_or writes first d).key) is_from (after first d (omega arith) within), less),
+    (get_or writes first d, Contains-get_or writes first d within, refl, subst (λ n. n ≤ (get_or writes first d).key) is_from (ltb-false (get_or writes first d).key from (point.1 first d (omega arith) within)), less),
     λ k has. let e = has.2 in let f = has.3 in let l = (from_first d has.0 has.1 (omega arith)).1 in omega arith,
   )
 

@@ -69,7 +69,7 @@ pub mod Uncut
 pub mod NarrowSteps
 pub mod WriterSteps
 pub mod AbsenceBlocks
-pub mod Adjacency
+pub mod AdjacencyRows
 pub mod NarrowStands
 pub mod TakenNodes
 pub mod TakenMembers

@@ -5,7 +5,7 @@ use Rattle.sia_parts.specs.Findings.{ListsEdges}
 use Rattle.sia_parts.specs.Gathering.{AreNumbersBetween, IsNumberIn}
 use Rattle.sia_parts.specs.Packing.{unpacked}
 use Rattle.sia_parts.proofs.StandingNumbers.{listed}
-use Rattle.sia_graph.specs.declared.listing.AllEdges.{AllEdges}
+use Rattle.sia_graph.specs.declared.edges.AllEdges.{AllEdges}
 use Rattle.sia_graph.specs.AllEdges.{AreAllEdges}
 
 -- the edges between the first and the last transaction are all

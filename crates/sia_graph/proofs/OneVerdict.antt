@@ -9,9 +9,9 @@ use Rattle.sia_parts.specs.declared.finding.Edge.{Edge}
 use Rattle.sia_parts.specs.declared.finding.Kind.{Kind}
 use Rattle.sia_parts.specs.declared.finding.Kind.TheVariants.{Ww, Wr, Rw}
 use Rattle.sia_parts.specs.Entries.{kind_number}
-use Rattle.sia_graph.specs.declared.settling.Step.{Step}
-use Rattle.sia_graph.specs.declared.settling.Verdict.{Verdict}
-use Rattle.sia_graph.specs.declared.settling.Verdict.TheVariants.{Order, Cycle}
+use Rattle.sia_graph.specs.declared.cycle.Step.{Step}
+use Rattle.sia_graph.specs.declared.verdict.Verdict.{Verdict}
+use Rattle.sia_graph.specs.declared.verdict.Verdict.TheVariants.{Order, Cycle}
 use Rattle.sia_graph.specs.Orders.{IsLeastOrder}
 use Rattle.sia_graph.specs.Cycles.{IsPrevious, GoesBack, GoesRound, TakesLeastEdge, StartsAtLeast, IsPrintedCycle, step_edge}
 use Rattle.sia_graph.specs.Verdicts.{IsVerdict}

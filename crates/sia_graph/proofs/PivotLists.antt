@@ -2,7 +2,7 @@
 use Rattle.std.proofs.Common.{◌↔◌, ℕ, List}
 use Rattle.sia_events.specs.declared.event.Event.{Event}
 use Rattle.sia_events.specs.DangerousStructures.{IsVulnerable, IsPivot}
-use Rattle.sia_graph.specs.declared.pivoting.links.Link.{Link}
+use Rattle.sia_graph.specs.declared.pivot.Link.{Link}
 use Rattle.sia_graph.specs.Links.{ListsLinks, AreLinked, link_rank}
 use Rattle.sia_graph.proofs.ListedAs.{listed_as}
 use Rattle.sia_graph.proofs.LinkLists.{IsLinked}

@@ -4,7 +4,7 @@ use Rattle.std.specs.Prelude.{Contains}
 use Rattle.std.specs.List.Sorted.{IsStrictlyIncreasing}
 use Rattle.std.proofs.lemmas.Bool.{cases_lt}
 use Rattle.sia_parts.specs.declared.finding.Edge.{Edge}
-use Rattle.sia_graph.specs.declared.settling.Step.{Step}
+use Rattle.sia_graph.specs.declared.cycle.Step.{Step}
 use Rattle.sia_graph.specs.Orders.{Leads}
 use Rattle.sia_graph.specs.Cycles.{IsPrevious, GoesBack, IsStuckSet, IsPrintedCycle}
 use Rattle.sia_graph.specs.Walks.{AreLeastSources, AreLeft, ArePreviousFrom, IsFedBack, IsLeastSource, GoesRoundFrom, LeadsBack, StaysWithin, back}

@@ -7,7 +7,7 @@ use Rattle.std.proofs.lemmas.Option.{same_Some, slice_get_within}
 use Rattle.sia_events.specs.declared.event.Event.{Event}
 use Rattle.sia_events.specs.declared.event.Event.TheVariants.{Begin, Read, Range, Write, Commit, Abort}
 use Rattle.sia_events.specs.Replay.{MayFollow, found_at, events_of, serial, IsRightAt, IsRightBelow, Replays, IsFirstMismatch}
-use Rattle.sia_graph.specs.declared.replaying.Mismatch.{Mismatch}
+use Rattle.sia_graph.specs.declared.serial_replay.Mismatch.{Mismatch}
 use Rattle.sia_graph.specs.Replaying.{AllRight, IsFirstWrong, IsRight, Tells, after}
 use Rattle.sia_graph.proofs.LastWriter.{last_from, last_from-append, found_is_last}
 use Rattle.sia_graph.proofs.Positions.{get_right}

@@ -7,7 +7,7 @@ use Rattle.std.proofs.lemmas.List.{reverse-append, length_push}
 use Rattle.std.proofs.lemmas.List.Elements.{All-push}
 use Rattle.std.proofs.lemmas.List.Sorted.{All-permutation, IsPermutation-reverse}
 use Rattle.sia_parts.specs.declared.finding.Edge.{Edge}
-use Rattle.sia_graph.specs.declared.settling.Step.{Step}
+use Rattle.sia_graph.specs.declared.cycle.Step.{Step}
 use Rattle.sia_graph.specs.Cycles.{IsPrevious, GoesRound, TakesLeastEdge, StartsAtLeast}
 use Rattle.sia_graph.specs.Walks.{back, StaysWithin, LeadsBack, GoesRoundFrom}
 use Rattle.sia_graph.proofs.AscendingIds.{ids_less}

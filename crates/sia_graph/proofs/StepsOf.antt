@@ -17,7 +17,7 @@ use Rattle.sia_graph.specs.Orders.{Leads}
 use Rattle.sia_graph.specs.Places.{AreSteps, AreStepsOf, IsStepOf}
 use Rattle.sia_graph.specs.Previous.{IsLeftIn}
 use Rattle.sia_graph.specs.StandIns.{LeadsByName}
-use Rattle.sia_graph.specs.declared.taking.Taken.{Taken}
+use Rattle.sia_graph.specs.declared.order.Taken.{Taken}
 use Rattle.sia_graph.specs.Taken.{AreTakenNodes, IsTaken, node_list}
 use Rattle.sia_graph.specs.Walks.{AreLeastSources, IsSource}
 use Rattle.sia_graph.proofs.AscendingIds.{ids_less, ids_no_less, one_id}

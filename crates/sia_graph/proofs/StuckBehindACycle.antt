@@ -6,7 +6,7 @@ use Rattle.sia_parts.specs.declared.finding.Kind.TheVariants.{Wr, Rw}
 use Rattle.sia_events.specs.Lists.{Precedes}
 use Rattle.sia_events.proofs.OneList.{Precedes-asym}
 use Rattle.sia_parts.specs.Entries.{kind_number}
-use Rattle.sia_graph.specs.declared.settling.Step.{Step}
+use Rattle.sia_graph.specs.declared.cycle.Step.{Step}
 use Rattle.sia_graph.specs.Orders.{Leads}
 use Rattle.sia_graph.specs.Cycles.{IsSelfFed, IsStuckSet, IsPrevious, TakesLeastEdge, IsPrintedCycle}
 

@@ -10,8 +10,8 @@ use Rattle.sia_events.specs.Transactions.{IsCommitted}
 use Rattle.sia_parts.specs.Entries.{IsEdge}
 use Rattle.sia_parts.specs.declared.looks.Looks.{Looks}
 use Rattle.sia_parts.specs.declared.finding.Edge.{Edge}
-use Rattle.sia_graph.specs.declared.taking.Taken.{Taken}
-use Rattle.sia_graph.specs.declared.taking.Taken.TheVariants.{Whole, Rest}
+use Rattle.sia_graph.specs.declared.order.Taken.{Taken}
+use Rattle.sia_graph.specs.declared.order.Taken.TheVariants.{Whole, Rest}
 use Rattle.sia_graph.specs.Blocks.{without_blocks}
 use Rattle.sia_graph.specs.Evidence.{IsEvidence}
 use Rattle.sia_graph.specs.NarrowSteps.{AreNarrowSteps, IsSizeFor, edges_of_steps, name_of}

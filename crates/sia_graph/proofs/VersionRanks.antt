@@ -7,7 +7,7 @@ use Rattle.std.proofs.lemmas.List.{get_or_default, get_or-replicate, get_or-set_
 use Rattle.std.proofs.lemmas.List.Elements.{Contains-append_left, Contains-get_or, Contains-push, Contains-push_cases}
 use Rattle.sia_parts.specs.declared.looks.Look.{Look}
 use Rattle.sia_parts.specs.Versions.{CanSearch, IsNewest, IsNextAt}
-use Rattle.sia_graph.specs.declared.narrow.two.Two.{Two}
+use Rattle.sia_graph.specs.declared.ranks.Two.{Two}
 use Rattle.sia_graph.specs.Absences.{AreTwosAt, IsRankAt}
 use Rattle.sia_graph.specs.Ranks.{IsRankBelow, IsRankOf, IsTwo}
 use Rattle.sia_graph.specs.VersionRanks.{AreTwos, AreTwosUpTo, IsRankUpTo}

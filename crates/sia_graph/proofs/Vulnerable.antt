@@ -20,7 +20,7 @@ use Rattle.sia_parts.specs.declared.finding.Edge.{Edge}
 use Rattle.sia_parts.specs.declared.finding.Kind.TheVariants.{Rw}
 use Rattle.sia_parts.specs.Entries.{EdgeOfKind}
 use Rattle.sia_parts.specs.Findings.{ListsEdges}
-use Rattle.sia_graph.specs.declared.pivoting.links.Link.{Link}
+use Rattle.sia_graph.specs.declared.pivot.Link.{Link}
 use Rattle.sia_graph.specs.Links.{AreEnds, AreVulnerable, HasRw}
 use Rattle.sia_graph.proofs.Facts.{from_one}
 

@@ -1,7 +1,7 @@
 -- Who is absent at a key, by blocks of keys.
 use Rattle.std.specs.Prelude.{◌≡◌, ◌↔◌, ℕ, ◌<◌, ◌≤◌, List, Contains, length, slice_index_or}
 use Rattle.sia_parts.specs.declared.looks.Absence.{Absence}
-use Rattle.sia_graph.specs.declared.narrow.two.Two.{Two}
+use Rattle.sia_graph.specs.declared.ranks.Two.{Two}
 use Rattle.sia_graph.specs.KeyBlocks.{IsOver}
 use Rattle.sia_graph.specs.Ranks.{IsRankOf, IsTwo}
 

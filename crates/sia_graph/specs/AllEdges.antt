@@ -3,7 +3,7 @@ use Rattle.std.specs.Prelude.{◌≤◌, length, ⊤}
 use Rattle.sia_parts.specs.EdgeNumbers.{AreEdgeTables, StandForEdges}
 use Rattle.sia_parts.specs.Gathering.{AreChunkBounds, CanSpread, IsNumberIn}
 use Rattle.sia_parts.specs.Lifetimes.{AreLifetimes}
-use Rattle.sia_graph.specs.declared.listing.AllEdges.{AllEdges}
+use Rattle.sia_graph.specs.declared.edges.AllEdges.{AllEdges}
 
 -- the fans have all edges of the index's history, by its committed transactions, whose lifetimes these are, and its written keys;
 -- the chunks that they are cut into have each source once, and there are at most 1,024

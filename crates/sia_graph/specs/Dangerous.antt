@@ -5,7 +5,7 @@ use Rattle.sia_events.specs.declared.event.Event.{Event}
 use Rattle.sia_events.specs.DangerousStructures.{IsFirst, IsVulnerable}
 use Rattle.sia_events.specs.Dependencies.{RwEdge}
 use Rattle.sia_events.specs.Transactions.{CommitsBefore}
-use Rattle.sia_graph.specs.declared.narrow.dangerous.Dangerous.{Dangerous}
+use Rattle.sia_graph.specs.declared.ssi.Dangerous.{Dangerous}
 
 -- x is the least that has P
 abbrev pub IsLeast : (ℕ → Type 0) → ℕ → Type 0

@@ -7,7 +7,7 @@ use Rattle.sia_parts.specs.declared.finding.Edge.{Edge}
 use Rattle.sia_parts.specs.declared.finding.Kind.{Kind}
 use Rattle.sia_parts.specs.declared.finding.Kind.TheVariants.{Ww, Wr, Rw}
 use Rattle.sia_parts.specs.Groups.{IsGroup}
-use Rattle.sia_graph.specs.declared.pivoting.links.Link.{Link}
+use Rattle.sia_graph.specs.declared.pivot.Link.{Link}
 
 abbrev pub link_rank : Link → List ℕ
 link_rank l = l.at ∷ l.other ∷ []

@@ -2,7 +2,7 @@
 -- which stands for none.
 use Rattle.std.specs.Prelude.{◌≡◌, ◌≢◌, ◌⊎◌, ℕ, ◌<◌, ◌≤◌, List, Contains, length, slice_index}
 use Rattle.sia_parts.specs.declared.looks.Look.{Look}
-use Rattle.sia_graph.specs.declared.narrow.two.Two.{Two}
+use Rattle.sia_graph.specs.declared.ranks.Two.{Two}
 
 -- r is the least that has P, or says that nothing has
 abbrev pub IsLeastRank : (ℕ → Type 0) → ℕ → Type 0

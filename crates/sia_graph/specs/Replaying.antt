@@ -8,7 +8,7 @@ use Rattle.sia_events.specs.Places.{at_place}
 use Rattle.sia_events.specs.Events.{actor, Saw}
 use Rattle.sia_events.specs.Transactions.{CommitsAt, Wrote}
 use Rattle.sia_events.specs.Replay.{MayFollow, is_write_of}
-use Rattle.sia_graph.specs.declared.replaying.Mismatch.{Mismatch}
+use Rattle.sia_graph.specs.declared.serial_replay.Mismatch.{Mismatch}
 
 -- what the event saw at k is what was found
 abbrev pub Agrees : (ℕ → ℕ) → Event → ℕ → Type 0

@@ -2,7 +2,7 @@
 use Rattle.std.specs.Prelude.{◌≡◌, ◌≢◌, ◌⊎◌, ℕ, ◌<◌, ◌≤◌, List, Contains, length, slice_index}
 use Rattle.sia_parts.specs.declared.looks.Look.{Look}
 use Rattle.sia_parts.specs.declared.looks.Looks.{Looks}
-use Rattle.sia_graph.specs.declared.narrow.earlier.Earlier.{Earlier}
+use Rattle.sia_graph.specs.declared.ranks.Earlier.{Earlier}
 use Rattle.sia_graph.specs.Absences.{AreNodes, IsAbsent}
 use Rattle.sia_graph.specs.Ranks.{IsLeastRank, IsRankOf}
 use Rattle.sia_graph.specs.VersionRanks.{AreTwos}

@@ -2,8 +2,8 @@
 use Rattle.std.specs.Prelude.{◌≡◌, ◌↔◌, ℕ, ◌+◌, ◌*◌, ◌<◌, Bool, false, List, map, Contains, IsTrue, length, slice_index_or}
 use Rattle.std.specs.List.{range_with_len}
 use Rattle.sia_parts.specs.declared.finding.Edge.{Edge}
-use Rattle.sia_graph.specs.declared.taking.Taken.{Taken}
-use Rattle.sia_graph.specs.declared.taking.Taken.TheVariants.{Whole, Rest}
+use Rattle.sia_graph.specs.declared.order.Taken.{Taken}
+use Rattle.sia_graph.specs.declared.order.Taken.TheVariants.{Whole, Rest}
 use Rattle.sia_graph.specs.Blocks.{without_blocks}
 use Rattle.sia_graph.specs.Cycles.{IsStuckSet}
 use Rattle.sia_graph.specs.NarrowSteps.{edges_of_steps, name_of}

@@ -2,7 +2,7 @@
 use Rattle.std.specs.Prelude.{◌≡◌, ℕ, ◌+◌, ◌<◌, ◌≤◌, List, Contains, length, slice_index_or}
 use Rattle.sia_parts.specs.declared.looks.Look.{Look}
 use Rattle.sia_parts.specs.Versions.{CanSearch}
-use Rattle.sia_graph.specs.declared.narrow.two.Two.{Two}
+use Rattle.sia_graph.specs.declared.ranks.Two.{Two}
 use Rattle.sia_graph.specs.Absences.{IsRankAt}
 use Rattle.sia_graph.specs.Ranks.{IsRankBelow, IsTwo}
 

@@ -10,11 +10,10 @@ ghost use Rattle.sia_graph.specs.Dangerous.{IsDangerous};
 ghost use Rattle.sia_graph.specs.Judgements.{IsJudgement};
 ghost use Rattle.sia_graph.specs.Verdicts.{IsOrderVerdict};
 
+use crate::evidence::Evidence;
 use crate::laws::{replay_law, ssi_law};
-use crate::narrow::Evidence;
-use crate::narrow::dangerous::{Dangerous, dangerous_of};
-use crate::narrow::judging::{passes, settle_looks};
-use crate::settling::Verdict;
+use crate::ssi::{Dangerous, dangerous_of, passes};
+use crate::verdict::{Verdict, settle_looks};
 use sia_events::{History, NoMemory};
 use sia_index::{Counts, Index, counted};
 use sia_parts::{BadRead, BadWrite, Committed, Gathering, Looks, Unexplained, places_of};

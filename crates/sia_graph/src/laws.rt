@@ -1,8 +1,8 @@
 //! The laws of histories, each carried by a function that does nothing.
-ghost use Rattle.std.specs.Prelude.{List, ℕ};
+ghost use Rattle.std.specs.Prelude.{ℕ, List};
 ghost use Rattle.sia_events.specs.declared.event.Event.{Event};
-ghost use Rattle.sia_events.specs.Refusals.{IsWellFormed};
 ghost use Rattle.sia_events.specs.Laws.{PivotLaw, ReplayLaw, SsiLaw};
+ghost use Rattle.sia_events.specs.Refusals.{IsWellFormed};
 ghost use Rattle.sia_parts.specs.declared.finding.Edge.{Edge};
 ghost use Rattle.sia_graph.specs.Blocks.{BlocksLaw};
 ghost use Rattle.sia_graph.specs.Closures.{ClosureLaw};

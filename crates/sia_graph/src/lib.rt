@@ -1,34 +1,33 @@
 //! Pivots, the least order or a cycle, and the replay of a history by an order.
 #![tactic(auto)]
 
+mod adjacency;
 mod cycle;
+mod edges;
+mod evidence;
 mod judgement;
 mod laws;
-mod listing;
-mod narrow;
+mod least_edges;
+mod order;
 mod pivot;
-mod pivoting;
-mod replaying;
-mod searching;
-mod settling;
-mod taking;
+mod ranks;
+mod serial_replay;
+mod sparse;
+mod ssi;
+mod verdict;
 
+pub use cycle::{Step, Steps};
+pub use edges::{AllEdges, Chunk, chunk_of, edges_of, listed};
+pub use evidence::Evidence;
 pub use judgement::{Judgement, danger_of, judge};
 pub use laws::{
     blocks_law, closure_law, firsts_law, listing_law, pivot_law, replay_law, ssi_law, stand_in_law,
 };
-pub use listing::{AllEdges, Chunk, chunk_of, edges_of, listed};
-pub use narrow::Evidence;
-pub use narrow::dangerous::{Dangerous, dangerous_of};
-pub use narrow::judging::{passes, settle_looks};
-pub use pivot::Pivot;
-pub use pivoting::links::Link;
-pub use pivoting::passing::ssi_pass;
-pub use pivoting::vulnerable_numbers::vulnerable_in;
-pub use pivoting::{pivots, pivots_of_links};
-pub use replaying::{Mismatch, ReplayFault, replay};
-pub use settling::txns::Txns;
-pub use settling::{Step, Steps, Verdict, settle};
+pub use order::Txns;
+pub use pivot::{Link, Pivot, pivots, pivots_of_links};
+pub use serial_replay::{Mismatch, ReplayFault, replay};
+pub use ssi::{Dangerous, dangerous_of, passes, ssi_pass};
+pub use verdict::{Verdict, settle, settle_looks};
 
 #[cfg(test)]
 mod tests;

@@ -1,5 +1,25 @@
-use crate::settling::txns::Txns;
-use sia_events::TxnId;
+//! The pivots among the transactions.
+ghost use Rattle.std.specs.Prelude.{◌≡◌, ◌↔◌, ◌⊎◌, ◌<◌, ◌≤◌, ℕ, All, AllPairs, Contains, IfOk, IsTrue, List, map, slice_index};
+ghost use Rattle.sia_events.specs.DangerousStructures.{IsFirst, IsVulnerable};
+ghost use Rattle.sia_events.specs.Lists.{ListsAscending, Precedes};
+ghost use Rattle.sia_events.specs.Transactions.{CommitsAt, Overlap};
+ghost use Rattle.sia_parts.specs.declared.finding.Kind.TheVariants.{Rw};
+ghost use Rattle.sia_parts.specs.Findings.{AreFindings};
+ghost use Rattle.sia_parts.specs.Lifetimes.{AreLifetimes};
+ghost use Rattle.sia_parts.specs.Packing.{IsPacked, kind_at, kind_digit, source_number, target_number, unpacked};
+ghost use Rattle.sia_graph.specs.declared.pivot.Link.{Link};
+ghost use Rattle.sia_graph.specs.Links.{AreEnds, AreLinked, AreLinksAt, AreVulnerable, ListsLinks, is_rw, link_rank};
+ghost use Rattle.sia_graph.specs.Pivots.{ArePivots, ListsNeighbours};
+
+use crate::order::Txns;
+use sia_events::{NoMemory, TxnId};
+use sia_index::Index;
+use sia_index::keyed::{By, place_from_near};
+use sia_index::ordering::put_in_order;
+use sia_parts::{
+    Edge, EdgeNumber, Findings, Kind, Lifetime, kind_in, lifetime_of, overlap, source_of, target_of,
+};
+use std::alloc::{AllocError, Global};
 
 /// The transaction in the middle of a dangerous structure, with all the transactions at its other ends.
 #[derive(Drop)]
@@ -11,4 +31,251 @@ pub struct Pivot {
     pub outs: Txns,
     /// Those of `outs` that commit first in some dangerous structure around it.
     pub firsts: Txns,
+}
+
+/// Two transactions that are linked, of which one is looked for: of an edge, its source.
+#[derive(Clone, Copy, PartialEq, Eq, PartialOrd, Ord)]
+pub struct Link {
+    pub at: TxnId,
+    pub other: TxnId,
+}
+
+/// By the end that is looked for.
+struct ByEnd;
+
+impl By<Link> for ByEnd {
+    ghost by = { λ link. link.at };
+
+    fn number(row: &Link) -> u64 {
+        u64::from(row.at)
+    }
+}
+
+fn leads_rw(kind: Kind) -> bool
+    ensures { result ≡ is_rw kind }
+{
+    matches!(kind, Kind::Rw)
+}
+
+/// Whether an edge is of the kind rw, and its ends overlap.
+fn is_vulnerable(ix: &Index, e: &Edge) -> bool
+    ensures { IsTrue result ↔ ((e.now.kind ≡ Rw) × Overlap ix.now e.now.src e.now.dst) }
+{
+    leads_rw(e.kind) && ix.overlap(e.src, e.dst)
+}
+
+/// The ends of each such edge, as a link at its source.
+#[inline(never)]
+fn vulnerable(alloc: Global, edges: &[Edge], ix: &Index) -> Result<Vec<Link>, AllocError>
+    ensures { IfOk result (λ links. AreEnds (Overlap ix.now) edges.now links.items) }
+{
+    let mut links = Vec::new(alloc);
+    for e in edges {
+        if is_vulnerable(ix, e) {
+            links.push(Link {
+                at: e.src,
+                other: e.dst,
+            })?;
+        }
+    }
+    Ok(links)
+}
+
+/// The same links at their other ends, in order.
+fn turned(alloc: Global, links: &[Link]) -> Result<Vec<Link>, AllocError>
+    ensures { IfOk result (λ turned. ListsLinks (λ t u. AreLinked links.now u t) turned.items) }
+{
+    let mut turned = Vec::new(alloc);
+    for l in links {
+        turned.push(Link {
+            at: l.other,
+            other: l.at,
+        })?;
+    }
+    put_in_order(&mut turned);
+    Ok(turned)
+}
+
+/// The links at a transaction, which are looked for from near a guess, and where they end.
+fn links_at(links: &[Link], txn: TxnId, near: usize) -> (&[Link], usize)
+    requires { AllPairs (λ k l. Precedes (link_rank k) (link_rank l)) links.now }
+    ensures { AreLinksAt links.now txn result.0.now }
+{
+    let number = u64::from(txn);
+    let start = place_from_near::<Link, ByEnd>(links, number, near);
+    let past = place_from_near::<Link, ByEnd>(links, number + 1, start.saturating_add(1));
+    let end = past.max(start);
+    (&links[start..end], end)
+}
+
+/// The transactions at the other ends.
+fn others(alloc: Global, links: &[Link]) -> Result<Vec<TxnId>, AllocError>
+    ensures { IfOk result (λ others. others.items ≡ map (λ l. l.other) links.now) }
+{
+    let mut others = Vec::new(alloc);
+    for l in links {
+        others.push(l.other)?;
+    }
+    Ok(others)
+}
+
+/// Whether the edge is of the kind rw, and its ends overlap.
+#[inline(always)]
+fn is_vulnerable_number(ix: &Index, txns: &[TxnId], lifetimes: &[Lifetime], n: EdgeNumber) -> bool
+    requires lifetimes { AreLifetimes ix.now txns.now lifetimes.now }
+    requires packed { (keys : List ℕ) × IsPacked txns.now keys n }
+    ensures { IsTrue result ↔ ((kind_at (kind_digit n) ≡ Rw) × Overlap ix.now (slice_index txns.now (source_number n)) (slice_index txns.now (target_number n))) }
+{
+    ix.law();
+    leads_rw(kind_in(n)) && overlap(lifetimes[source_of(n)], lifetimes[target_of(n)])
+}
+
+/// The rw edges between overlapping transactions, of edges that are kept as numbers: each pair once, as a link at its source.
+pub fn vulnerable_in(
+    alloc: Global,
+    ix: &Index,
+    txns: &[TxnId],
+    lifetimes: &[Lifetime],
+    numbers: &[EdgeNumber],
+) -> Result<Vec<Link>, NoMemory>
+    requires lifetimes { AreLifetimes ix.now txns.now lifetimes.now }
+    requires packed { (keys : List ℕ) × All (IsPacked txns.now keys) numbers.now }
+    ensures { IfOk result (λ links. (keys : List ℕ) → AreEnds (Overlap ix.now) (map (unpacked txns.now keys) numbers.now) links.items) }
+{
+    let mut links = Vec::new(alloc);
+    for n in numbers {
+        if is_vulnerable_number(ix, txns, lifetimes, *n) {
+            links.push(Link {
+                at: txns[source_of(*n)],
+                other: txns[target_of(*n)],
+            })?;
+        }
+    }
+    put_in_order(&mut links);
+    Ok(links)
+}
+
+/// The greatest commit among the transactions; 0 where none commits.
+fn last_commit(ix: &Index, txns: &[TxnId]) -> u32
+    ensures greatest { All (λ t. (c : ℕ) → CommitsAt ix.now t c → c ≤ result) txns.now }
+    ensures attained { (result ≡ 0) ⊎ ((t : ℕ) × Contains txns.now t × CommitsAt ix.now t result) }
+{
+    ix.law();
+    let mut last = 0;
+    for txn in txns {
+        if let Some(lifetime) = lifetime_of(ix, *txn) {
+            last = last.max(lifetime.commit);
+        }
+    }
+    last
+}
+
+/// Whether a transaction commits before one place and no later than another.
+fn commits_by(ix: &Index, txn: TxnId, before: u32, latest: u32) -> bool
+    ensures { IsTrue result ↔ ((c : ℕ) × CommitsAt ix.now txn c × (c < before) × (c ≤ latest)) }
+{
+    ix.law();
+    match lifetime_of(ix, txn) {
+        Some(lifetime) => lifetime.commit < before && lifetime.commit <= latest,
+        None => false,
+    }
+}
+
+/// Of the transactions to which `txn` has a vulnerable edge, those that commit before it and no later than some transaction
+/// that has one to `txn`.
+fn firsts(
+    alloc: Global,
+    ix: &Index,
+    txn: TxnId,
+    ins: &[TxnId],
+    outs: &[TxnId],
+) -> Result<Vec<TxnId>, AllocError>
+    requires ins { ListsAscending (λ t. IsVulnerable ix.now t txn) ins.now }
+    requires outs { ListsAscending (λ t. IsVulnerable ix.now txn t) outs.now }
+    ensures { IfOk result (λ firsts. ListsAscending (λ t. IsFirst ix.now txn t) firsts.items) }
+{
+    ix.law();
+    let mut firsts = Vec::new(alloc);
+    let Some(own) = lifetime_of(ix, txn) else {
+        return Ok(firsts);
+    };
+    let last = last_commit(ix, ins);
+    for out in outs {
+        if commits_by(ix, *out, own.commit, last) {
+            firsts.push(*out)?;
+        }
+    }
+    Ok(firsts)
+}
+
+/// The entry of a pivot, with the links of both sorts at it.
+fn pivot_at(
+    alloc: Global,
+    ix: &Index,
+    txn: TxnId,
+    into: &[Link],
+    out: &[Link],
+) -> Result<Pivot, AllocError>
+    requires into { (links : List Link) × ListsLinks (λ t u. IsVulnerable ix.now u t) links × AreLinksAt links txn into.now }
+    requires out { (links : List Link) × ListsLinks (IsVulnerable ix.now) links × AreLinksAt links txn out.now }
+    ensures txn { IfOk result (λ p. p.txn ≡ txn) }
+    ensures neighbours { IfOk result (ListsNeighbours ix.now) }
+{
+    let ins = others(alloc, into)?;
+    let outs = others(alloc, out)?;
+    let firsts = firsts(alloc, ix, txn, &ins, &outs)?;
+    Ok(Pivot {
+        txn,
+        ins: Txns::new(ins),
+        outs: Txns::new(outs),
+        firsts: Txns::new(firsts),
+    })
+}
+
+/// The entries of the transactions with links of both sorts.
+fn entries(alloc: Global, ix: &Index, into: &[Link], out: &[Link]) -> Result<Vec<Pivot>, AllocError>
+    requires into { ListsLinks (λ t u. IsVulnerable ix.now u t) into.now }
+    requires out { ListsLinks (IsVulnerable ix.now) out.now }
+    ensures { IfOk result (λ found. ArePivots ix.now found.items) }
+{
+    let mut linked = others(alloc, into)?;
+    put_in_order(&mut linked);
+    let mut found = Vec::new(alloc);
+    let mut near_in = 0usize;
+    let mut near_out = 0usize;
+    for txn in linked.as_slice() {
+        let (ins, in_end) = links_at(into, *txn, near_in);
+        let (outs, out_end) = links_at(out, *txn, near_out);
+        near_in = in_end;
+        near_out = out_end;
+        if !ins.is_empty() {
+            found.push(pivot_at(alloc, ix, *txn, ins, outs)?)?;
+        }
+    }
+    Ok(found)
+}
+
+/// Every pivot, ascending, with its neighbours. The findings are those of the index's history, at all keys.
+pub fn pivots(alloc: Global, f: &Findings, ix: &Index) -> Result<Vec<Pivot>, NoMemory>
+    requires { AreFindings ix.now f.now }
+    ensures { IfOk result (λ found. ArePivots ix.now found.items) }
+{
+    let links = vulnerable(alloc, &f.edges, ix)?;
+    pivots_of_links(alloc, ix, links)
+}
+
+/// The same, of the links of all vulnerable edges: each at least once, in any order, and no other.
+pub fn pivots_of_links(
+    alloc: Global,
+    ix: &Index,
+    mut links: Vec<Link>,
+) -> Result<Vec<Pivot>, NoMemory>
+    requires { AreVulnerable ix.now links.items }
+    ensures { IfOk result (λ found. ArePivots ix.now found.items) }
+{
+    put_in_order(&mut links);
+    let out = links.as_slice();
+    let into = turned(alloc, out)?;
+    let found = entries(alloc, ix, &into, out)?;
+    Ok(found)
 }

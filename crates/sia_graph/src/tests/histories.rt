@@ -6,12 +6,9 @@ ghost use Rattle.sia_events.specs.Transactions.{IsCommitted};
 ghost use Rattle.sia_parts.specs.Findings.{AreFindings};
 ghost use Rattle.sia_parts.specs.Gathering.{IsGathering};
 
-use crate::narrow::Evidence;
-use crate::narrow::dangerous::dangerous_of;
-use crate::narrow::judging::are_none;
-use crate::pivot::Pivot;
-use crate::pivoting::passing::ssi_pass;
-use crate::pivoting::pivots;
+use crate::evidence::Evidence;
+use crate::pivot::{Pivot, pivots};
+use crate::ssi::{are_none, dangerous_of, ssi_pass};
 use sia_events::{History, Key, NoMemory, TxnId, read_history};
 use sia_index::{Index, make};
 use sia_parts::{

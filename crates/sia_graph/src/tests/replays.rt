@@ -1,5 +1,5 @@
 //! Replays worked out by hand.
-use crate::replaying::{Mismatch, ReplayFault, replay};
+use crate::serial_replay::{Mismatch, ReplayFault, replay};
 use crate::tests::ids_to;
 use sia_events::{History, TxnId, read_history};
 use std::alloc::Global;

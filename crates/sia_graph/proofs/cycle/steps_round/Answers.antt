@@ -1,5 +1,5 @@
 use Rattle.std.proofs.Common.{List, length, get_or, reverse, sym, subst, ap, ◌∙◌}
-use Rattle.sia_graph.specs.declared.settling.Step.{Step}
+use Rattle.sia_graph.specs.declared.cycle.Step.{Step}
 use Rattle.sia_graph.specs.Orders.{Leads}
 use Rattle.sia_graph.specs.Searched.{IsEdgeIn}
 use Rattle.sia_graph.specs.Walks.{GoesRoundFrom}

@@ -1,5 +1,5 @@
 use Rattle.std.proofs.Common.{◌≡◌, ◌∷◌, List, take}
-use Rattle.sia_graph.specs.declared.settling.Step.{Step}
+use Rattle.sia_graph.specs.declared.cycle.Step.{Step}
 use Rattle.si_audit.specs.Explained.{edges_round}
 use Rattle.si_audit.proofs.explain.explaining.edges_of.Given as goal
 

@@ -1,8 +1,8 @@
 use Rattle.std.proofs.Common.{List, ℕ, [], ◌∷◌, ◌≡◌, ◌++◌, ap, codes, flat_map, subst, sym, ◌∙◌}
 use Rattle.std.proofs.lemmas.Result.{on_ok_weaker}
-use Rattle.sia_graph.specs.declared.settling.Step.{Step}
-use Rattle.sia_graph.specs.declared.settling.Verdict.{Verdict}
-use Rattle.sia_graph.specs.declared.settling.Verdict.TheVariants.{Cycle}
+use Rattle.sia_graph.specs.declared.cycle.Step.{Step}
+use Rattle.sia_graph.specs.declared.verdict.Verdict.{Verdict}
+use Rattle.sia_graph.specs.declared.verdict.Verdict.TheVariants.{Cycle}
 use Rattle.si_audit.specs.Lines.{home_word, step_words, verdict_line}
 use Rattle.si_audit.specs.Spaced.{spaced}
 use Rattle.si_audit.proofs.Chains.{four_written}

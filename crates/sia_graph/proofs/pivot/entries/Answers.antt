@@ -1,0 +1,65 @@
+use Rattle.std.proofs.Common.{◌≡◌, ℕ, List, ◌∷◌, [], ◌++◌, not, get_or, ap, map, sym, subst, ◌∙◌, arith}
+use Rattle.std.specs.Prelude.{All}
+use Rattle.std.proofs.lemmas.List.{map-append}
+use Rattle.std.proofs.lemmas.List.Elements.{All-push}
+use Rattle.sia_events.specs.DangerousStructures.{IsPivot}
+use Rattle.sia_events.specs.Lists.{ListsAscending}
+use Rattle.sia_graph.specs.declared.pivot.Pivot.{Pivot}
+use Rattle.sia_graph.specs.Links.{AreLinked}
+use Rattle.sia_graph.specs.Pivots.{ListsNeighbours}
+use Rattle.sia_graph.proofs.ListedAs.{listed_as}
+use Rattle.sia_graph.proofs.LinkLists.{IsLinked, ends_listed, linked_by}
+use Rattle.sia_graph.proofs.Picked.{ArePicked, none_picked, picked_more, picked_same, all_picked}
+use Rattle.sia_graph.proofs.PivotLists.{is_middle}
+use Rattle.sia_graph.proofs.pivot.entries.Goals.{then-not-is_empty+in_ok-pivot_at+in_ok-push, else-not-is_empty}
+use Rattle.sia_graph.proofs.pivot.entries.Goals as goal
+
+abbrev txn_of : Pivot → ℕ
+txn_of p = p.txn
+
+pub loop-txn-init : goal.loop-txn-init
+loop-txn-init c =
+    let into = c.args.into.now in
+    let linked = c.as_slice-txn-items.result.now in
+    subst (λ (l : List Pivot). ArePicked (λ t. t ∷ []) (IsLinked into) linked 0 (map txn_of l) × All (ListsNeighbours c.args.ix.now) l) (sym c.new-found.ensures.items)
+    (none_picked (λ t. t ∷ []) (IsLinked into) linked, λ k d l. absurd (omega arith))
+
+pub loop-txn-preserved : goal.loop-txn-preserved
+loop-txn-preserved c =
+    let into = c.args.into.now in
+    let linked = c.as_slice-txn-items.result.now in
+    let all = ends_listed into c.in_ok-linked.linked.items c.put_in_order.new.list.items c.in_ok-linked.ensures c.put_in_order.ensures.sorted c.put_in_order.ensures.keeps c.put_in_order.ensures.adds_none in
+    let are = subst (ListsAscending (λ t. (u : ℕ) × AreLinked into u t)) (sym c.as_slice-txn-items.ensures.value) all in
+    let n = c.loop-txn.txn-index in
+    let found = c.loop-txn.found.items in
+    let now = c.if-not-is_empty.found.items in
+    let has = linked_by into (get_or linked n 0) c.links_at-in_end.result.0.now c.links_at-in_end.ensures c.is_empty.result c.is_empty.ensures in
+    elim c.if-not-is_empty.branch [
+      | then-not-is_empty+in_ok-pivot_at+in_ok-push w ↦
+          let entry : Pivot = w.in_ok-pivot_at.field-0 in
+          let is : now ≡ found ++ entry ∷ [] = ap (λ v. v.items) w.found-is ∙ w.in_ok-push.ensures.items in
+          let names = ap (map txn_of) is ∙ map-append txn_of found (entry ∷ []) ∙ ap (λ t. map txn_of found ++ t ∷ []) w.in_ok-pivot_at.ensures.txn in (
+            picked_more (λ t. t ∷ []) (IsLinked into) linked are.ascending n 0 c.loop-txn-test.true (map txn_of found) (map txn_of now) c.loop-txn.invariant.0 (has.0 (ap not w.if-not-is_empty.true)) names,
+            subst (λ (l : List Pivot). All (ListsNeighbours c.args.ix.now) l) (sym is) (All-push (ListsNeighbours c.args.ix.now) found entry c.loop-txn.invariant.1 w.in_ok-pivot_at.ensures.neighbours),
+          )
+      | else-not-is_empty w ↦
+          let is : now ≡ found = ap (λ v. v.items) w.found-is in (
+            picked_same (λ t. t ∷ []) (IsLinked into) linked are.ascending n 0 c.loop-txn-test.true (map txn_of found) (map txn_of now) c.loop-txn.invariant.0
+                (λ there. let told = has.1 there in let f = ap not w.if-not-is_empty.false in absurd (let g = sym f ∙ told in cc)) (ap (map txn_of) is),
+            subst (λ (l : List Pivot). All (ListsNeighbours c.args.ix.now) l) (sym is) c.loop-txn.invariant.1,
+          )
+    ]
+
+pub returns : goal.returns
+returns c =
+    let h = c.args.ix.now in
+    let into = c.args.into.now in
+    let linked = c.as_slice-txn-items.result.now in
+    let all = ends_listed into c.in_ok-linked.linked.items c.put_in_order.new.list.items c.in_ok-linked.ensures c.put_in_order.ensures.sorted c.put_in_order.ensures.keeps c.put_in_order.ensures.adds_none in
+    let are = subst (ListsAscending (λ t. (u : ℕ) × AreLinked into u t)) (sym c.as_slice-txn-items.ensures.value) all in
+    let middle = is_middle h into c.requires.into in
+    record {
+      txns = listed_as (λ t. t ∷ []) _ (IsPivot h) (λ t. ((λ w. (middle t).0 ((are.each t).0 w.0, w.1)), (λ is. let w = (middle t).1 is in ((are.each t).1 w.0, w.1)))) _
+          (all_picked (λ t. t ∷ []) (IsLinked into) linked c.loop-txn.txn-index c.loop-txn-test.false (map txn_of c.loop-txn.found.items) c.loop-txn.invariant.0);
+      neighbours = c.loop-txn.invariant.1;
+    }

@@ -1,0 +1,10 @@
+use Rattle.std.proofs.Common.{◌∷◌, [], map}
+use Rattle.std.specs.Prelude.{All}
+use Rattle.sia_graph.specs.declared.pivot.Pivot.{Pivot}
+use Rattle.sia_graph.specs.Pivots.{ListsNeighbours}
+use Rattle.sia_graph.proofs.LinkLists.{IsLinked}
+use Rattle.sia_graph.proofs.Picked.{ArePicked}
+use Rattle.sia_graph.proofs.pivot.entries.Given as goal
+
+abbrev pub invariant-loop-txn : goal.invariant-loop-txn
+invariant-loop-txn l = ArePicked (λ t. t ∷ []) (IsLinked l.into) l.txn-items l.txn-index (map (λ (p : Pivot). p.txn) l.found.items) × All (ListsNeighbours l.ix) l.found.items

@@ -1,0 +1,32 @@
+use Rattle.std.proofs.Common.{◌≡◌, ◌+◌, ◌-◌, ℕ, Option, Some, unwrap_or, ap, sym, ◌∙◌, subst, arith}
+use Rattle.std.specs.BTreeMap.{get, Updates}
+use Rattle.std.specs.Ordering.{nat_cmp}
+use Rattle.sia_graph.specs.Replaying.{AreFirsts, AreNext}
+use Rattle.sia_graph.proofs.MapSteps.{chains_more, there_is_one}
+use Rattle.sia_graph.proofs.serial_replay.chains.Goals as goal
+
+pub loop-before-preserved-in_ok-insert : goal.loop-before-preserved-in_ok-insert
+loop-before-preserved-in_ok-insert c =
+    let h = c.args.h.now in
+    let b = c.loop-before.before - 1 in
+    let back : b + 1 ≡ c.loop-before.before = let l = c.loop-before-test.true in omega arith in
+    let firsts = c.loop-before.firsts in
+    let is = c.unwrap_or.ensures ∙ ap (λ (o : Option ℕ). unwrap_or o 0) (c.copied.ensures ∙ c.get.ensures.value ∙ ap (λ t. get nat_cmp firsts t) c.txn-txn.ensures) in
+    let u = subst (λ t. Updates nat_cmp firsts c.insert.new.self t (Some (b + 1))) c.txn-txn.ensures c.in_ok-insert.ensures.updates in
+    chains_more h b c.in-Some.event.now firsts c.insert.new.self c.loop-before.next.items c.unwrap_or.result (sym c.in-Some.ensures)
+    (subst (λ n. AreFirsts h n firsts × AreNext h n c.loop-before.next.items) (sym back) c.loop-before.invariant)
+    is u
+
+pub loop-before-preserved : goal.loop-before-preserved
+loop-before-preserved c =
+    absurd (there_is_one c.args.h.now (c.loop-before.before - 1) (let a = c.loop-before.auto.before in let b = c.len-before.ensures.len in let l = c.loop-before-test.true in omega arith) c.in_default.ensures)
+
+pub returns-clause-firsts : goal.returns-clause-firsts
+returns-clause-firsts c =
+    let zero : c.loop-before.before ≡ 0 = let a = c.loop-before-test.false in omega arith in
+    subst (λ n. AreFirsts c.args.h.now n c.loop-before.firsts) zero c.loop-before.invariant.0
+
+pub returns-clause-next : goal.returns-clause-next
+returns-clause-next c =
+    let zero : c.loop-before.before ≡ 0 = let a = c.loop-before-test.false in omega arith in
+    subst (λ n. AreNext c.args.h.now n c.loop-before.next.items) zero c.loop-before.invariant.1

@@ -1,0 +1,36 @@
+use Rattle.std.proofs.Common.{◌+◌, ℕ, List, Some, drop, sym, subst}
+use Rattle.sia_events.specs.declared.event.Event.{Event}
+use Rattle.sia_events.specs.Replay.{serial}
+use Rattle.sia_graph.specs.Replaying.{AreNext, Tells, version_in}
+use Rattle.sia_graph.proofs.Replayed.{serial_at}
+use Rattle.sia_graph.proofs.serial_replay.replay_order.Goals as goal
+
+pub returns-in-Some : goal.returns-in-Some
+returns-in-Some c =
+    let h = c.args.h.now in
+    let order = c.args.order.now in
+    let i = c.loop-txn.txn-index in
+    let m = c.in-Some.mismatch in
+    c.loop-txn.invariant.1 (Some m)
+    (subst (λ (l : List (ℕ × Event)). Tells h (version_in c.loop-txn.versions) l (Some m)) (sym (serial_at h order i 0 c.loop-txn-test.true))
+    (c.in_ok-mismatch.ensures.wrong m c.in-Some.is (serial h (drop (i + 1) order))))
+
+pub replay_txn-requires-clause-next : goal.replay_txn-requires-clause-next
+replay_txn-requires-clause-next c = subst (AreNext c.args.h.now 0) (sym c.as_slice-places.ensures.value) c.in_ok-firsts.ensures.next
+
+pub replay_txn-requires-clause-commits : goal.replay_txn-requires-clause-commits
+replay_txn-requires-clause-commits c = c.in_ok-commits.ensures
+
+pub replay_txn-requires-clause-written : goal.replay_txn-requires-clause-written
+replay_txn-requires-clause-written c = c.loop-txn.invariant.0
+
+pub loop-txn-preserved : goal.loop-txn-preserved
+loop-txn-preserved c =
+    let h = c.args.h.now in
+    let order = c.args.order.now in
+    let i = c.loop-txn.txn-index in (
+      c.in_ok-mismatch.ensures.written,
+      λ r told. c.loop-txn.invariant.1 r
+          (subst (λ (l : List (ℕ × Event)). Tells h (version_in c.loop-txn.versions) l r) (sym (serial_at h order i 0 c.loop-txn-test.true))
+          (c.in_ok-mismatch.ensures.right c.in_default.is (serial h (drop (i + 1) order)) r told)),
+    )
