@@ -1,10 +1,11 @@
 -- Whether an event of a replay is right at a key.
-use Rattle.std.proofs.Common.{◌≡◌, ◌≢◌, ◌⊎◌, inl, inr, ℕ, ◌+◌, ◌<◌, ◌≤◌, true, false, List, ◌∷◌, length, get_or, map, Option, Some, None, ltb, eqb, unwrap_or, ap, sym, ◌∙◌, refl, subst, arith}
+use Rattle.std.proofs.Common.{◌≡◌, ◌≢◌, ◌⊎◌, inl, inr, ℕ, ◌+◌, ◌<◌, ◌≤◌, true, false, List, ◌∷◌, length, get_or, map, Option, Some, None, Result, Ok, Err, ltb, unwrap_or, ap, sym, ◌∙◌, refl, subst, arith}
 use Rattle.std.specs.Prelude.{All, Contains, IsTrue, ◌↔◌, MatchOption}
-use Rattle.std.specs.List.Sorted.{IsStrictlyIncreasing, IsNonDecreasingBy, IsPartitionPoint}
-use Rattle.std.proofs.lemmas.Bool.{cases_lt, cases_eq, cases_order, ne_eqb, ltb-true, ltb-false, lt-ltb, le-ltb, eqb-true, eq-eqb}
+use Rattle.std.specs.List.Sorted.{IsStrictlyIncreasing, IsBinarySearchResult, IsSearchInRange}
+use Rattle.std.proofs.lemmas.Bool.{cases_lt, cases_eq, cases_order, ne_eqb, ltb-true, lt-ltb, le-ltb, eq-eqb}
 use Rattle.std.proofs.lemmas.List.{get_or-map, get_or_default, length-map}
 use Rattle.std.proofs.lemmas.List.Kept.{AllPairs-from_increasing}
+use Rattle.sia_events.proofs.ListedPairs.{found_pair, found_none}
 use Rattle.sia_events.specs.declared.event.Event.{Event}
 use Rattle.sia_events.specs.Transactions.{Wrote, CommitsAt}
 use Rattle.sia_events.specs.Refusals.{IsWellFormed}
@@ -14,6 +15,7 @@ use Rattle.std.specs.BTreeMap.Range.{IsRangeOf}
 use Rattle.std.specs.declared.ops.Bound.TheVariants.{Included}
 use Rattle.std.specs.Ordering.{nat_cmp, is_gt}
 use Rattle.std.specs.Option.{IsSome, is_some}
+use Rattle.std.specs.Result.{is_ok}
 use Rattle.sia_events.specs.declared.event.Event.TheVariants.{Read, Range, Write}
 use Rattle.sia_graph.specs.Replaying.{Agrees, IsRight, version_in}
 use Rattle.sia_graph.proofs.Facts.{commits_lt}
@@ -36,12 +38,6 @@ module _ (listed : List (ℕ × ℕ)) (up : IsStrictlyIncreasing (map (λ p. p.0
       let f = get_or-map (λ (p : ℕ × ℕ). p.0) listed j d 0 b in
       let m = AllPairs-from_increasing (map (λ p. p.0) listed) up i j 0 l (omega arith) in
       omega arith
-
-  pub keys_rise : IsNonDecreasingBy (λ p. p.0) listed
-  keys_rise i j d l b = elim (cases_lt i j) [
-    | inl less ↦ let m = keys_less i j d less b in omega arith
-    | inr more ↦ let e : i ≡ j = omega arith in let f = ap (λ k. (get_or listed k d).0) e in omega arith
-  ]
 
   -- a listed pair with the key at i is the pair at i
   pub at_key : (i k v : ℕ) (d : ℕ × ℕ) → i < length listed → (c : Contains listed (k, v)) → (get_or listed i d).0 ≡ k → get_or listed i d ≡ (k, v)
@@ -67,33 +63,10 @@ module _ (listed : List (ℕ × ℕ)) (up : IsStrictlyIncreasing (map (λ p. p.0
         | inr (inr before) ↦ before
       ]
 
-  module _ (key i : ℕ) (point : IsPartitionPoint (λ p. ltb p.0 key ≡ true) (λ p. ltb p.0 key ≡ false) listed i) where
-    listed_from : (v : ℕ) → (c : Contains listed (key, v)) → i ≤ c.0
-    listed_from v c = elim (cases_lt c.0 i) [
-      | inr more ↦ more
-      | inl less ↦
-          let f = ap (λ (p : ℕ × ℕ). p.0) c.2 in
-          let l = ltb-true (get_or listed c.0 (key, v)).0 key (point.0 c.0 (key, v) (omega arith) less) in
-          absurd (omega arith)
-    ]
-
-    pub is_listed_at : i < length listed → (d : ℕ × ℕ) → IsTrue (eqb (get_or listed i d).0 key) ↔ ((v : ℕ) × Contains listed (key, v))
-    is_listed_at l d = (
-      λ t.
-          let e = eqb-true (get_or listed i d).0 key t in
-          let v = (get_or listed i d).1 in
-          (v, (i, l, get_or_default listed i (key, v) d l ∙ (λ j. (e j, v)))),
-      λ w.
-          let c = w.1 in
-          let m = listed_from w.0 c in
-          let f : (get_or listed c.0 d).0 ≡ key = ap (λ (p : ℕ × ℕ). p.0) (get_or_default listed c.0 d (key, w.0) c.1 ∙ c.2) in
-          let n = ltb-false (get_or listed i d).0 key (point.1 i d (omega arith) l) in
-          let r = keys_rise i c.0 d m c.1 in
-          eq-eqb (get_or listed i d).0 key (omega arith),
-    )
-
-    pub none_listed : length listed ≤ i → ¬ ((v : ℕ) × Contains listed (key, v))
-    none_listed past w = let m = listed_from w.0 w.1 in let l = w.1.1 in omega arith
+  -- what a search for the key says
+  pub is_listed_by : (key : ℕ) (r : Result ℕ ℕ) → IsSearchInRange r (length listed) → IsBinarySearchResult (λ p. nat_cmp p.0 key) listed r → IsTrue (is_ok r) ↔ ((v : ℕ) × Contains listed (key, v))
+  is_listed_by key (Ok i) below at = ((λ _. ((get_or listed i (0, 0)).1, found_pair listed up key i below at (0, 0))), (λ _. refl))
+  is_listed_by key (Err i) below search = ((λ t. let e = t in cc), (λ w. absurd (found_none listed up key i search w.0 w.1)))
 
 -- of two committed writers the one that commits first may be followed by the other
 pub follows_iff : (h : List Event) → IsWellFormed h → (k v t c d : ℕ) → v ≢ 0 → v ≢ t → Wrote h v k → Wrote h t k → CommitsAt h v c → CommitsAt h t d → IsTrue (ltb c d) ↔ MayFollow h k v t

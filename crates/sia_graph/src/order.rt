@@ -65,7 +65,7 @@ impl Model for Ready {
 
 impl Ready {
     /// None.
-    pub(crate) fn new(alloc: Global) -> Ready
+    fn new(alloc: Global) -> Ready
         ensures { result ≡ [] }
     {
         Ready {
@@ -74,7 +74,7 @@ impl Ready {
     }
 
     /// Adds a place.
-    pub(crate) fn insert(&mut self, place: usize) -> Result<(), NoMemory>
+    fn insert(&mut self, place: usize) -> Result<(), NoMemory>
         ensures { OnOk result ((i : ℕ) → HasReady self.new i ↔ (HasReady self.old i ⊎ (place ≡ i))) }
     {
         self.heap.push(Reverse(place))?;
@@ -83,7 +83,7 @@ impl Ready {
 
     /// Takes the least place.
     #[tactic(auto, unfolding(crate::specs::ReadyHeaps::HasReady))]
-    pub(crate) fn pop_first(&mut self) -> Option<usize>
+    fn pop_first(&mut self) -> Option<usize>
         ensures empty { IfNone result ((i : ℕ) → ¬ HasReady self.old i) }
         ensures left { IfNone result ((i : ℕ) → ¬ HasReady self.new i) }
         ensures member { IfSome result (HasReady self.old) }

@@ -131,7 +131,7 @@ fn is_vulnerable_number(ix: &Index, txns: &[TxnId], lifetimes: &[Lifetime], n: E
 }
 
 /// The rw edges between overlapping transactions, of edges that are kept as numbers: each pair once, as a link at its source.
-pub fn vulnerable_in(
+pub(crate) fn vulnerable_in(
     alloc: Global,
     ix: &Index,
     txns: &[TxnId],

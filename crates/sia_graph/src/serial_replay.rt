@@ -10,9 +10,7 @@ ghost use Rattle.sia_graph.specs.declared.serial_replay.Mismatch.{Mismatch};
 ghost use Rattle.sia_graph.specs.Replaying.{Agrees, AreCommits, AreFirsts, AreNext, AreWritten, IsRight, IsWrongAt, Tells, after, first_at, version_in};
 ghost use Rattle.sia_graph.specs.declared.serial_replay.ReplayFault.TheVariants as faults;
 
-use crate::evidence::ByKey;
 use sia_events::{Event, History, Key, NoMemory, TxnId, Version};
-use sia_index::keyed::{By, place_from};
 use std::alloc::Global;
 use std::collections::BTreeMap;
 
@@ -81,14 +79,6 @@ fn is_order(alloc: Global, h: &History, order: &[TxnId]) -> Result<bool, NoMemor
     Ok(left.is_empty())
 }
 
-impl By<(Key, Version)> for ByKey {
-    ghost by = { λ pair. pair.0 };
-
-    fn number(row: &(Key, Version)) -> u64 {
-        row.0
-    }
-}
-
 /// The version of a key that the replay has.
 fn version_of(versions: &BTreeMap<Key, TxnId>, key: Key) -> Version
     ensures { result ≡ version_in versions.now key }
@@ -139,8 +129,7 @@ fn is_listed(listed: &[(Key, Version)], key: Key) -> bool
     requires { IsStrictlyIncreasing (map (λ p. p.0) listed.now) }
     ensures { IsTrue result ↔ ((v : ℕ) × Contains listed.now (key, v)) }
 {
-    let i = place_from::<(Key, Version), ByKey>(listed, key);
-    i < listed.len() && listed[i].0 == key
+    listed.binary_search_by_key(&key, |pair| pair.0).is_ok()
 }
 
 /// The least key of the range that the replay has, with its version.
