@@ -97,9 +97,6 @@ module _ (edges : List Edge) (sorted : AllPairs (λ d e. Precedes (edge_rank d) 
               ],
         )
       where
-        lesser : Edge → List ℕ
-        lesser e = kind_number e.kind ∷ e.key ∷ []
-
         no_less : (x e : Edge) → x ≡ e → ¬ Precedes (kind_number e.kind ∷ e.key ∷ []) (kind_number x.kind ∷ x.key ∷ [])
         no_less x e same (inl l) = let a = ap (λ (y : Edge). kind_number y.kind) same in omega arith
         no_less x e same (inr (k, inl l)) = let a = ap (λ (y : Edge). y.key) same in omega arith

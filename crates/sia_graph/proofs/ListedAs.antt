@@ -1,14 +1,13 @@
--- Lists of all that has a property: what a sort makes of a list, and what `retain` leaves of one.
-use Rattle.std.proofs.Common.{◌≡◌, ◌↔◌, inl, inr, ℕ, ◌<◌, Bool, true, false, cond, List, [], ◌∷◌, length, map, refl, ap, sym, ◌∙◌, arith}
-use Rattle.std.specs.Prelude.{All, Contains, slice_index_or}
-use Rattle.std.specs.List.{filter}
+-- Lists of all that has a property, and what a sort makes of a list.
+use Rattle.std.proofs.Common.{◌≡◌, ◌↔◌, inl, inr, ℕ, ◌<◌, List, [], ◌∷◌, length, map, refl, ap, sym, ◌∙◌, arith}
+use Rattle.std.specs.Prelude.{Contains, slice_index_or}
 use Rattle.std.specs.Ordering.{ordering_then, nat_cmp}
 use Rattle.std.specs.declared.cmp.Ordering.{Ordering}
 use Rattle.std.specs.declared.cmp.Ordering.TheVariants.{Less}
 use Rattle.std.specs.List.Sorted.{IsStrictlySortedBy}
 use Rattle.std.proofs.lemmas.Cmp.{ranked, by_ranked}
 use Rattle.std.proofs.lemmas.List.{get_or-map, length-map}
-use Rattle.std.proofs.lemmas.List.Elements.{All-nil, All-cons, All-weaker, All-contains, All-contains_itself, All-filter, filter_passes, Contains-get_or, Contains-append_right}
+use Rattle.std.proofs.lemmas.List.Elements.{Contains-get_or}
 use Rattle.std.proofs.lemmas.Map.Keys.{Less-from_sorted}
 use Rattle.sia_events.specs.Lists.{Precedes, ListsBy}
 
@@ -51,27 +50,4 @@ mapped {A} f (z ∷ zs) y = (
     (let l = has.1 in omega (arith, length-map (z ∷ zs) f)),
     get_or-map f (z ∷ zs) has.0 x y has.1 ∙ ap f has.2 ∙ is,
   )),
-)
-
-module _ {A : Type 0} (test : A → Bool) where
-  one_passes : (x : A) (xs : List A) (b : Bool) → test x ≡ b → All (λ y. test y ≡ true → Contains (filter test xs) y) xs
-      → All (λ y. test y ≡ true → Contains (cond b (x ∷ filter test xs) (filter test xs)) y) (x ∷ xs)
-  one_passes x xs true e rest =
-      let kept = filter test xs in
-      All-cons (λ y. test y ≡ true → Contains (x ∷ kept) y) x xs (λ yes. Contains-get_or (x ∷ kept) 0 x (omega arith))
-      (All-weaker (λ y. test y ≡ true → Contains kept y) (λ y. test y ≡ true → Contains (x ∷ kept) y) (λ y w yes. Contains-append_right (x ∷ []) kept y (w yes)) xs rest)
-  one_passes x xs false e rest = All-cons (λ y. test y ≡ true → Contains (filter test xs) y) x xs (λ yes. cc) rest
-
-  passes : (xs : List A) → All (λ y. test y ≡ true → Contains (filter test xs) y) xs
-  passes [] = All-nil (λ y. test y ≡ true → Contains (filter test []) y)
-  passes (x ∷ xs) = one_passes x xs (test x) refl (passes xs)
-
--- what the filtered list holds
-pub passed : {A : Type 0} (test : A → Bool) (xs : List A) (x : A) → Contains (filter test xs) x ↔ (Contains xs x × (test x ≡ true))
-passed {A} test xs x = (
-  (λ c. (
-    All-contains (Contains xs) (filter test xs) x (All-filter test (Contains xs) xs (All-contains_itself xs)) c,
-    All-contains (λ y. test y ≡ true) (filter test xs) x (filter_passes test xs) c,
-  )),
-  (λ (c, is). All-contains (λ y. test y ≡ true → Contains (filter test xs) y) xs x (passes test xs) c is),
 )

@@ -134,9 +134,6 @@ module _ (ids : List ℕ) (edges : List Edge) (counts front : List ℕ) (Ready :
       is_ready = now_ready;
     }
 
-abbrev pub IsMember : List ℕ → Edge → Type 0
-IsMember ids e = Contains ids e.dst
-
 -- nothing is taken yet
 pub taking_none : (ids : List ℕ) (edges : List Edge) (counts : List ℕ) (Ready : ℕ → Type 0) → AreWaiting [] ids edges counts
     → ((t : ℕ) → Ready t ↔ ((i : ℕ) × (i < length ids) × (get_or ids i 0 ≡ t) × (get_or counts i 0 ≡ 0))) → IsTaking ids edges counts [] Ready

@@ -16,7 +16,7 @@ use Rattle.std.specs.declared.ops.Bound.TheVariants.{Included}
 use Rattle.std.specs.Ordering.{nat_cmp, is_gt}
 use Rattle.std.specs.Option.{IsSome, is_some}
 use Rattle.std.specs.Result.{is_ok}
-use Rattle.sia_events.specs.declared.event.Event.TheVariants.{Read, Range, Write}
+use Rattle.sia_events.specs.declared.event.Event.TheVariants.{Range, Write}
 use Rattle.sia_graph.specs.Replaying.{Agrees, IsRight, version_in}
 use Rattle.sia_graph.proofs.Facts.{commits_lt}
 
@@ -38,18 +38,6 @@ module _ (listed : List (ℕ × ℕ)) (up : IsStrictlyIncreasing (map (λ p. p.0
       let f = get_or-map (λ (p : ℕ × ℕ). p.0) listed j d 0 b in
       let m = AllPairs-from_increasing (map (λ p. p.0) listed) up i j 0 l (omega arith) in
       omega arith
-
-  -- a listed pair with the key at i is the pair at i
-  pub at_key : (i k v : ℕ) (d : ℕ × ℕ) → i < length listed → (c : Contains listed (k, v)) → (get_or listed i d).0 ≡ k → get_or listed i d ≡ (k, v)
-  at_key i k v d l c e =
-      let j = c.0 in
-      let f : get_or listed j d ≡ (k, v) = get_or_default listed j d (k, v) c.1 ∙ c.2 in
-      let g = ap (λ (p : ℕ × ℕ). p.0) f in
-      elim (cases_order i j) [
-        | inl same ↦ ap (λ n. get_or listed n d) same ∙ f
-        | inr (inl less) ↦ let m = keys_less i j d less c.1 in absurd (omega arith)
-        | inr (inr more) ↦ let m = keys_less j i d more l in absurd (omega arith)
-      ]
 
   -- a listed pair with a lesser key than the one at i stands before it
   pub before_key : (i k v : ℕ) (d : ℕ × ℕ) → i < length listed → k < (get_or listed i d).0 → (c : Contains listed (k, v)) → c.0 < i
@@ -134,10 +122,7 @@ module _ (found : ℕ → ℕ) (t lo hi : ℕ) (listed : List (ℕ × ℕ)) wher
   unlisted_wrong key low high none other agrees = other (sym (agrees 0 (low, high, inr (none, refl))))
 
 module _ (h : List Event) (found : ℕ → ℕ) where
-  -- a read or a write is right at every key but its own
-  pub read_right : (t key saw : ℕ) → found key ≡ saw → (k : ℕ) → IsRight h found (Read t key saw) k
-  read_right t key saw e k v s = s.1 ∙ sym e ∙ ap found (sym s.0)
-
+  -- a write is right at every key but its own
   pub write_right : (t key : ℕ) → MayFollow h key (found key) t → (k : ℕ) → IsRight h found (Write t key) k
   write_right t key f k e = subst (λ n. MayFollow h n (found n) t) (sym e) f
 
