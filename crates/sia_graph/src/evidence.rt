@@ -8,7 +8,7 @@ ghost use Rattle.sia_graph.specs.NumberEdges.{AreByTxn, HoldSame};
 
 use sia_events::{Key, NoMemory, TxnId};
 use sia_index::Index;
-use sia_index::keyed::{By, between};
+use sia_index::keyed::{By, place_from_near};
 use sia_parts::{Absence, Look, Looks};
 use std::alloc::Global;
 
@@ -53,14 +53,26 @@ impl By<Look> for ByKey {
     }
 }
 
+/// The rows at the number, which are looked for from near a guess, and where they end.
+pub(crate) fn rows_near<T, O: By<T>>(rows: &[T], number: u64, near: usize) -> (&[T], usize)
+    requires rise { IsNonDecreasingBy O.by rows.now }
+    requires below { number < 18446744073709551615 }
+    ensures { IsGroup O.by rows.now number result.0.now }
+{
+    let start = place_from_near::<T, O>(rows, number, near);
+    let past = place_from_near::<T, O>(rows, number + 1, start.saturating_add(1));
+    let end = past.max(start);
+    (&rows[start..end], end)
+}
+
 /// The rows at the number.
 pub(crate) fn rows_at<T, O: By<T>>(rows: &[T], number: u32) -> &[T]
     requires { IsNonDecreasingBy O.by rows.now }
     ensures group { IsGroup O.by rows.now number result.now }
     ensures holds { (row : T) → Contains result.now row ↔ (Contains rows.now row × (O.by row ≡ number)) }
 {
-    let at = u64::from(number);
-    between::<T, O>(rows, at, at)
+    let (found, _) = rows_near::<T, O>(rows, u64::from(number), number as usize);
+    found
 }
 
 /// The same rows by one number, and those that share it by another.
@@ -82,7 +94,7 @@ pub(crate) fn of_txn(looks: &[Look], txn: u32) -> &[Look]
     rows_at::<Look, ByTxn>(looks, txn)
 }
 
-/// The same by transaction.
+/// The same looks by transaction.
 pub(crate) fn looks_by_txn(alloc: Global, looks: &Looks) -> Result<Looks, NoMemory>
     requires { (look : Look) → Contains looks.now.writers.items look → look.key < 4294967295 }
     ensures same { IfOk result (λ own. HoldSame own looks.now) }

@@ -11,10 +11,11 @@ ghost use Rattle.sia_graph.specs.declared.pivot.Link.{Link};
 ghost use Rattle.sia_graph.specs.Links.{AreEnds, AreLinked, AreLinksAt, AreVulnerable, ListsLinks, is_rw, link_rank};
 ghost use Rattle.sia_graph.specs.Pivots.{ArePivots, ListsNeighbours};
 
+use crate::evidence::rows_near;
 use crate::order::Txns;
 use sia_events::{NoMemory, TxnId};
 use sia_index::Index;
-use sia_index::keyed::{By, place_from_near};
+use sia_index::keyed::By;
 use sia_index::ordering::put_in_order;
 use sia_parts::{
     Edge, EdgeNumber, Findings, Kind, Lifetime, kind_in, lifetime_of, overlap, source_of, target_of,
@@ -101,11 +102,7 @@ fn links_at(links: &[Link], txn: TxnId, near: usize) -> (&[Link], usize)
     requires { AllPairs (λ k l. Precedes (link_rank k) (link_rank l)) links.now }
     ensures { AreLinksAt links.now txn result.0.now }
 {
-    let number = u64::from(txn);
-    let start = place_from_near::<Link, ByEnd>(links, number, near);
-    let past = place_from_near::<Link, ByEnd>(links, number + 1, start.saturating_add(1));
-    let end = past.max(start);
-    (&links[start..end], end)
+    rows_near::<Link, ByEnd>(links, u64::from(txn), near)
 }
 
 /// The transactions at the other ends.
