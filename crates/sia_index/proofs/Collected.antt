@@ -19,6 +19,7 @@ use Rattle.sia_events.proofs.WellFormed.{one_commit}
 use Rattle.sia_index.specs.declared.rows.WriteRow.{WriteRow}
 use Rattle.sia_index.specs.declared.info.KeyVersion.{KeyVersion}
 use Rattle.sia_index.proofs.Ordered.{lists_sorted, precedes_last, precedes_then}
+use Rattle.sia_index.specs.Info.{AreWrittenKeys}
 use Rattle.sia_index.specs.Rows.{AreWrites, AreVersionRows}
 
 -- xs holds what has Q at a place below n, and nothing else
@@ -47,6 +48,16 @@ module _ {A : Type 0} (Q : A → ℕ → Type 0) where
     (λ (q, below, has). elim (cases_lt q n) [
       | inl less ↦ Contains-append_left xs (y ∷ []) x ((holds x).1 (q, less, has))
       | inr more ↦ let at : q ≡ n = omega arith in subst (Contains (xs ++ y ∷ [])) (alone x (subst (Q x) at has)) (Contains-push xs y)
+    ]),
+  )
+
+  -- no more, where what has Q at the next place is there already
+  pub holds_again : (n : ℕ) (xs : List A) (y : A) → HoldsBelow Q n xs → Contains xs y → ((x : A) → Q x n → y ≡ x) → HoldsBelow Q (n + 1) xs
+  holds_again n xs y holds there alone x = (
+    (λ c. let found = (holds x).0 c in (found.0, (let less = found.1 in omega arith), found.2)),
+    (λ (q, below, has). elim (cases_lt q n) [
+      | inl less ↦ (holds x).1 (q, less, has)
+      | inr more ↦ let at : q ≡ n = omega arith in subst (Contains xs) (alone x (subst (Q x) at has)) there
     ]),
   )
 
@@ -103,13 +114,42 @@ writes_listed h n xs ys all holds = collected (IsWriteAt h) (λ w. w.txn ∷ w.k
     ))
     xs ys holds
 
--- the rows of the versions so far, where the next write is of a committed transaction
-pub version_more : (h : List Event) → IsWellFormed h → (ws : List WriteRow) (n c : ℕ) (xs : List KeyVersion) → HoldsBelow (IsVersionOf h ws) n xs → n < length ws → CommitsAt h (slice_index_or ws n no_write).txn c → HoldsBelow (IsVersionOf h ws) (n + 1) (xs ++ record { key = (slice_index_or ws n no_write).key; commit = c; txn = (slice_index_or ws n no_write).txn } ∷ [])
-version_more h wf ws n c xs holds within commits = holds_one (IsVersionOf h ws) n xs (record { key = (slice_index_or ws n no_write).key; commit = c; txn = (slice_index_or ws n no_write).txn }) holds (within, refl, refl, commits) (λ x is.
-    let key = is.1 in
-    let txn = is.2 in
-    let commit : c ≡ x.commit = one_commit h wf x.txn c x.commit (subst (λ u. CommitsAt h u c) txn commits) is.3 in
-    λ i. record { key = key i; commit = commit i; txn = txn i })
+-- the key of the write of a number in the list
+abbrev pub IsKeyOf : List WriteRow → ℕ → ℕ → Type 0
+IsKeyOf ws k q = (q < length ws) × ((slice_index_or ws q no_write).key ≡ k)
+
+-- over all writes they are the written keys
+pub keys_listed : (h : List Event) (ws : List WriteRow) → AreWrites h ws → (n : ℕ) (xs keys : List ℕ) → length ws ≡ n → HoldsBelow (IsKeyOf ws) n xs → IsStrictlySortedBy nat_cmp keys → ((k : ℕ) → Contains xs k → Contains keys k) → ((k : ℕ) → Contains keys k → Contains xs k) → AreWrittenKeys h keys
+keys_listed h ws are n xs keys all holds = collected (IsKeyOf ws) (λ k. k ∷ []) (λ k. (t : ℕ) × Wrote h t k) nat_cmp precedes_last n
+    (λ k. (
+      (λ (q, below, (within, key)).
+          let row : WriteRow = slice_index_or ws q no_write in
+          (row.txn, subst (Wrote h row.txn) key (row.place, (are.each row).0 (Contains-get_or ws q no_write within)))),
+      (λ (t, wrote).
+          let row : WriteRow = record { key = k; txn = t; place = wrote.0 } in
+          let c : Contains ws row = (are.each row).1 wrote.1 in
+          let is : slice_index_or ws c.0 no_write ≡ row = get_or_default ws c.0 no_write row c.1 ∙ c.2 in
+          (c.0, (let below = c.1 in omega arith), (c.1, ap (λ (w : WriteRow). w.key) is))),
+    ))
+    xs keys holds
+
+-- the rows of the versions so far, where the next write is of a committed transaction: with its row, which may be there already
+module _ (h : List Event) (wf : IsWellFormed h) (ws : List WriteRow) (n c : ℕ) (xs : List KeyVersion) (holds : HoldsBelow (IsVersionOf h ws) n xs) (commits : CommitsAt h (slice_index_or ws n no_write).txn c) where
+  abbrev version : KeyVersion
+  version = record { key = (slice_index_or ws n no_write).key; commit = c; txn = (slice_index_or ws n no_write).txn }
+
+  alone : (x : KeyVersion) → IsVersionOf h ws x n → version ≡ x
+  alone x is =
+      let key = is.1 in
+      let txn = is.2 in
+      let commit : c ≡ x.commit = one_commit h wf x.txn c x.commit (subst (λ u. CommitsAt h u c) txn commits) is.3 in
+      λ i. record { key = key i; commit = commit i; txn = txn i }
+
+  pub version_more : n < length ws → HoldsBelow (IsVersionOf h ws) (n + 1) (xs ++ version ∷ [])
+  version_more within = holds_one (IsVersionOf h ws) n xs version holds (within, refl, refl, commits) alone
+
+  pub version_again : Contains xs version → HoldsBelow (IsVersionOf h ws) (n + 1) xs
+  version_again there = holds_again (IsVersionOf h ws) n xs version holds there alone
 
 -- and where it is of another
 pub version_other : (h : List Event) (ws : List WriteRow) (n : ℕ) (xs : List KeyVersion) → HoldsBelow (IsVersionOf h ws) n xs → ¬ IsCommitted h (slice_index_or ws n no_write).txn → HoldsBelow (IsVersionOf h ws) (n + 1) xs

@@ -27,21 +27,3 @@ no_versions h keys are k none = record {
     (λ is. absurd (All-contains (λ x. x ≢ k) keys k none ((are.each k).1 (made.txn, is.0)) refl)),
   );
 }
-
--- the keys of all write events, each once and in order, are the written keys
-pub keys_listed : (h : List Event) (writes : List WriteRow) (keys others : List ℕ) → AreWrites h writes → length others ≡ length writes → ((i d : ℕ) (e : WriteRow) → i < length others → slice_index_or others i d ≡ (slice_index_or writes i e).key) → IsStrictlySortedBy nat_cmp keys → ((k : ℕ) → Contains others k → Contains keys k) → ((k : ℕ) → Contains keys k → Contains others k) → AreWrittenKeys h keys
-keys_listed h writes keys others are long at sorted keeps adds_none =
-    lists_sorted (λ k. k ∷ []) (λ k. (t : ℕ) × Wrote h t k) nat_cmp precedes_last keys sorted (λ k. (
-      (λ has.
-          let c = adds_none k has in
-          let none : WriteRow = record { key = 0; txn = 0; place = 0 } in
-          let row : WriteRow = slice_index_or writes c.0 none in
-          let below : c.0 < length writes = let b = c.1 in omega arith in
-          let key : row.key ≡ k = sym (at c.0 k none c.1) ∙ c.2 in
-          (row.txn, subst (Wrote h row.txn) key (row.place, (are.each row).0 (Contains-get_or writes c.0 none below)))),
-      (λ (t, wrote).
-          let row : WriteRow = record { key = k; txn = t; place = wrote.0 } in
-          let c = (are.each row).1 wrote.1 in
-          let below : c.0 < length others = let b = c.1 in omega arith in
-          keeps k (c.0, below, at c.0 k row below ∙ ap (λ (r : WriteRow). r.key) c.2)),
-    ))

@@ -5,6 +5,7 @@ pub mod AllChains
 pub mod Due
 pub mod Writes
 pub mod Collected
+pub mod Dealt
 pub mod EventKinds
 pub mod SpanRows
 pub mod Runs

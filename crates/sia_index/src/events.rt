@@ -3,7 +3,8 @@ ghost use Rattle.std.specs.Prelude.{IfOk};
 ghost use Rattle.sia_index.specs.Rows.{AreWrites, AreReads, AreRanges};
 
 use crate::info::{ItemRead, RangeRead};
-use crate::ordering::put_in_order;
+use crate::keyed::{ByKey, ByTxn};
+use crate::ordering::in_order;
 use crate::rows::WriteRow;
 use sia_events::{Event, History};
 use std::alloc::{AllocError, Global};
@@ -50,12 +51,9 @@ pub fn rows_of(alloc: Global, h: &History) -> Result<EventRows, AllocError>
             }
         }
     }
-    put_in_order(&mut writes);
-    put_in_order(&mut reads);
-    put_in_order(&mut ranges);
     Ok(EventRows {
-        writes,
-        reads,
-        ranges,
+        writes: in_order::<WriteRow, ByTxn>(alloc, writes)?,
+        reads: in_order::<ItemRead, ByKey>(alloc, reads)?,
+        ranges: in_order::<RangeRead, ByKey>(alloc, ranges)?,
     })
 }

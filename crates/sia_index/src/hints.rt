@@ -31,8 +31,8 @@ pub fn find<T, O: By<T>>(rows: &[T], number: u64, near: usize) -> Option<usize>
     }
 }
 
-// Whether the row at the place, if there is one, has the number.
-fn stands_at<T, O: By<T>>(rows: &[T], number: u64, at: usize) -> bool
+/// Whether the row at the place, if there is one, has the number.
+pub fn stands_at<T, O: By<T>>(rows: &[T], number: u64, at: usize) -> bool
     ensures here { IsTrue result → (at < length rows.now) × ((d : T) → O.by (slice_index_or rows.now at d) ≡ number) }
     ensures other { result ≡ false → at < length rows.now → (d : T) → O.by (slice_index_or rows.now at d) ≢ number }
 {

@@ -23,7 +23,7 @@ impl Index {
     pub fn txn_number(&self, t: TxnId) -> Option<usize>
         ensures { MatchOption result (¬ HasEvent self.now t) (λ i. IsTxnAt self.now i t) }
     {
-        find::<TxnId, ByTxn>(&self.ids, u64::from(t), self.slots.guess(t))
+        find::<TxnId, ByTxn>(&self.ids, u64::from(t), self.slots.guess(u64::from(t)))
     }
 
     /// What is known of transaction number `i`, counted from 0: no search is needed.

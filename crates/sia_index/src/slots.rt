@@ -1,36 +1,37 @@
-//! Guesses of numbers of transactions. Nothing rests on them: who asks for one looks where it points, and compares.
-use sia_events::TxnId;
+//! Guesses of the numbers that names have. Nothing rests on them: who asks for one looks where it points, and compares.
 use std::alloc::{AllocError, Global};
 
-/// More slots than there are transactions in a history.
-const SLOTS: usize = 131_072;
+/// There are no more slots than so many.
+const MOST: usize = 1 << 20;
 
-/// A slot for each transaction, which others may share.
+/// A slot for each name, which others may share.
 #[derive(Drop)]
 pub struct Slots {
     slots: Vec<u32>,
 }
 
-// The low bits of its name, mixed with the high ones.
-fn slot_of(t: TxnId) -> usize {
-    (t ^ t.wrapping_shr(16)) as usize & (SLOTS - 1)
-}
-
 impl Slots {
-    /// All numbers are 0 as yet.
-    pub fn new(alloc: Global) -> Result<Slots, AllocError> {
-        let slots = vec![in alloc; 0u32; SLOTS]?;
+    /// About as many slots as names are awaited. All numbers are 0 as yet.
+    pub fn new(alloc: Global, names: usize) -> Result<Slots, AllocError> {
+        let slots = vec![in alloc; 0u32; names.min(MOST).next_power_of_two()]?;
         Ok(Slots { slots })
     }
 
-    /// The number in the transaction's slot.
-    pub fn guess(&self, t: TxnId) -> usize {
-        self.slots.get(slot_of(t)).copied().unwrap_or(0) as usize
+    // The low bits of the name, mixed with the high ones.
+    fn slot_of(&self, name: u64) -> usize {
+        let mixed = name ^ name.wrapping_shr(32);
+        (mixed ^ mixed.wrapping_shr(16)) as usize & self.slots.len().wrapping_sub(1)
     }
 
-    /// Puts the number into the transaction's slot.
-    pub fn put(&mut self, t: TxnId, number: usize) {
-        if let Some(slot) = self.slots.get_mut(slot_of(t)) {
+    /// The number in the name's slot.
+    pub fn guess(&self, name: u64) -> usize {
+        self.slots.get(self.slot_of(name)).copied().unwrap_or(0) as usize
+    }
+
+    /// Puts the number into the name's slot.
+    pub fn put(&mut self, name: u64, number: usize) {
+        let slot = self.slot_of(name);
+        if let Some(slot) = self.slots.get_mut(slot) {
             *slot = number.min(u32::MAX as usize) as u32;
         }
     }

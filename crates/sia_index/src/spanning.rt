@@ -2,7 +2,8 @@
 ghost use Rattle.std.specs.Prelude.{◌≡◌, IsTrue, IfOk, false};
 ghost use Rattle.sia_index.specs.Rows.{AreSpans, IsLonger};
 
-use crate::ordering::put_in_order;
+use crate::keyed::ByTxn;
+use crate::ordering::in_order;
 use crate::rows::SpanRow;
 use crate::slots::Slots;
 use sia_events::{History, TxnId};
@@ -28,8 +29,8 @@ pub fn spans_of(alloc: Global, h: &History, slots: &mut Slots) -> Result<Vec<Spa
             }
         }
     }
-    put_in_order(&mut spans);
-    Ok(spans)
+    let sorted = in_order::<SpanRow, ByTxn>(alloc, spans)?;
+    Ok(sorted)
 }
 
 // Makes the row of the transaction's slot reach to the place, if it is its own. Else its next row has the slot.
@@ -37,12 +38,12 @@ fn reach(spans: &mut Vec<SpanRow>, slots: &mut Slots, t: TxnId, place: u32) -> b
     ensures longer { IsTrue result → IsLonger spans.old.items t place spans.new.items }
     ensures same { result ≡ false → spans.new.items ≡ spans.old.items }
 {
-    let number = slots.guess(t);
+    let number = slots.guess(u64::from(t));
     if number < spans.len() && spans[number].txn == t {
         spans[number].last = place;
         true
     } else {
-        slots.put(t, spans.len());
+        slots.put(u64::from(t), spans.len());
         false
     }
 }

@@ -30,7 +30,7 @@ pub fn txns_of(alloc: Global, h: &History) -> Result<Txns, AllocError>
     requires { IsWellFormed h.now }
     ensures { IfOk result (λ txns. AreTxns h.now txns.ids.items txns.infos.items) }
 {
-    let mut slots = Slots::new(alloc)?;
+    let mut slots = Slots::new(alloc, h.len() as usize)?;
     let rows = spans_of(alloc, h, &mut slots)?;
     let spans = rows.as_slice();
     let mut ids = Vec::with_capacity(alloc, spans.len())?;
@@ -41,7 +41,7 @@ pub fn txns_of(alloc: Global, h: &History) -> Result<Txns, AllocError>
         let to = end_of::<SpanRow, ByTxn>(spans, from, u64::from(txn));
         let last = last_of(spans, from, to);
         let info = info_of(h, spans[from].first, last);
-        slots.put(txn, ids.len());
+        slots.put(u64::from(txn), ids.len());
         ids.push(txn)?;
         infos.push(info)?;
         from = to;

@@ -48,12 +48,12 @@ loop-before-preserved c = elim c.match-event.branch [
 
 pub returns-clause-writes : goal.returns-clause-writes
 returns-clause-writes c =
-    writes_listed _ c.loop-before.before _ _ (omega (arith, c.len-before-end.ensures.len)) c.loop-before.invariant.0 c.put_in_order.ensures.sorted c.put_in_order.ensures.keeps c.put_in_order.ensures.adds_none
+    writes_listed _ c.loop-before.before _ _ (omega (arith, c.len-before-end.ensures.len)) c.loop-before.invariant.0 c.in_ok-in_order.ensures.sorted c.in_ok-in_order.ensures.keeps c.in_ok-in_order.ensures.adds_none
 
 pub returns-clause-reads : goal.returns-clause-reads
 returns-clause-reads c =
-    reads_listed _ c.loop-before.before _ _ (omega (arith, c.len-before-end.ensures.len)) c.loop-before.invariant.1 c.put_in_order-2.ensures.sorted c.put_in_order-2.ensures.keeps c.put_in_order-2.ensures.adds_none
+    reads_listed _ c.loop-before.before _ _ (omega (arith, c.len-before-end.ensures.len)) c.loop-before.invariant.1 c.in_ok-in_order-2.ensures.sorted c.in_ok-in_order-2.ensures.keeps c.in_ok-in_order-2.ensures.adds_none
 
 pub returns-clause-ranges : goal.returns-clause-ranges
 returns-clause-ranges c =
-    ranges_listed _ c.loop-before.before _ _ (omega (arith, c.len-before-end.ensures.len)) c.loop-before.invariant.2 c.put_in_order-3.ensures.sorted c.put_in_order-3.ensures.keeps c.put_in_order-3.ensures.adds_none
+    ranges_listed _ c.loop-before.before _ _ (omega (arith, c.len-before-end.ensures.len)) c.loop-before.invariant.2 c.in_ok-in_order-3.ensures.sorted c.in_ok-in_order-3.ensures.keeps c.in_ok-in_order-3.ensures.adds_none

@@ -1,7 +1,6 @@
--- Each key so far stands at the place of its row.
-use Rattle.sia_index.specs.declared.rows.WriteRow.{WriteRow}
-use Rattle.sia_index.proofs.Columns.{IsColumn}
+-- The keys so far are those of the writes so far.
+use Rattle.sia_index.proofs.Collected.{HoldsBelow, IsKeyOf}
 use Rattle.sia_index.proofs.grouping.keys_of.Given as goal
 
 abbrev pub invariant-loop-row : goal.invariant-loop-row
-invariant-loop-row l = IsColumn (λ (row : WriteRow). row.key) l.writes l.row-index l.keys.items
+invariant-loop-row l = HoldsBelow (IsKeyOf l.writes) l.row-index l.keys.items

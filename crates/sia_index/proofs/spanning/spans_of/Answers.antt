@@ -19,4 +19,4 @@ loop-before-preserved c = elim c.match-event.branch [
 
 pub returns : goal.returns
 returns c =
-    spans_listed _ c.loop-before.before _ _ (omega (arith, c.len-before-end.ensures.len)) c.loop-before.invariant c.put_in_order.ensures.sorted c.put_in_order.ensures.keeps c.put_in_order.ensures.adds_none
+    spans_listed _ c.loop-before.before _ _ (omega (arith, c.len-before-end.ensures.len)) c.loop-before.invariant c.in_ok-sorted.ensures.sorted c.in_ok-sorted.ensures.keeps c.in_ok-sorted.ensures.adds_none
