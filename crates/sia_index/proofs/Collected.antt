@@ -61,6 +61,16 @@ module _ {A : Type 0} (Q : A → ℕ → Type 0) where
     ]),
   )
 
+  -- no more up to a place, where nothing has Q from here on to below it
+  pub holds_over : (n m : ℕ) (xs : List A) → n ≤ m → HoldsBelow Q n xs → ((x : A) (q : ℕ) → n ≤ q → q < m → ¬ Q x q) → HoldsBelow Q m xs
+  holds_over n m xs forward holds none x = (
+    (λ c. let found = (holds x).0 c in (found.0, (let less = found.1 in omega arith), found.2)),
+    (λ (q, below, has). elim (cases_lt q n) [
+      | inl less ↦ (holds x).1 (q, less, has)
+      | inr more ↦ absurd (none x q more below has)
+    ]),
+  )
+
   -- no more, where nothing has Q at the next place
   pub holds_same : (n : ℕ) (xs : List A) → HoldsBelow Q n xs → ((x : A) → ¬ Q x n) → HoldsBelow Q (n + 1) xs
   holds_same n xs holds none x = (
@@ -151,9 +161,9 @@ module _ (h : List Event) (wf : IsWellFormed h) (ws : List WriteRow) (n c : ℕ)
   pub version_again : Contains xs version → HoldsBelow (IsVersionOf h ws) (n + 1) xs
   version_again there = holds_again (IsVersionOf h ws) n xs version holds there alone
 
--- and where it is of another
-pub version_other : (h : List Event) (ws : List WriteRow) (n : ℕ) (xs : List KeyVersion) → HoldsBelow (IsVersionOf h ws) n xs → ¬ IsCommitted h (slice_index_or ws n no_write).txn → HoldsBelow (IsVersionOf h ws) (n + 1) xs
-version_other h ws n xs holds none = holds_same (IsVersionOf h ws) n xs holds (λ x is. none (x.commit, subst (λ u. CommitsAt h u x.commit) (sym is.2) is.3))
+-- and where all up to a place are of another
+pub versions_none : (h : List Event) (ws : List WriteRow) (t from to : ℕ) (xs : List KeyVersion) → from ≤ to → HoldsBelow (IsVersionOf h ws) from xs → ((q : ℕ) → from ≤ q → q < to → (slice_index_or ws q no_write).txn ≡ t) → ¬ IsCommitted h t → HoldsBelow (IsVersionOf h ws) to xs
+versions_none h ws t from to xs forward holds own none = holds_over (IsVersionOf h ws) from to xs forward holds (λ x q after before is. none (x.commit, subst (λ u. CommitsAt h u x.commit) (sym is.2 ∙ own q after before) is.3))
 
 -- over all writes they are every committed transaction's
 pub versions_listed : (h : List Event) (ws : List WriteRow) → AreWrites h ws → (n : ℕ) (xs ys : List KeyVersion) → length ws ≡ n → HoldsBelow (IsVersionOf h ws) n xs → IsStrictlySortedBy (λ x y. ordering_then (nat_cmp x.key y.key) (ordering_then (nat_cmp x.commit y.commit) (nat_cmp x.txn y.txn))) ys → ((x : KeyVersion) → Contains xs x → Contains ys x) → ((x : KeyVersion) → Contains ys x → Contains xs x) → AreVersionRows h ys

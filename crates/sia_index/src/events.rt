@@ -4,7 +4,7 @@ ghost use Rattle.sia_index.specs.Rows.{AreWrites, AreReads, AreRanges};
 
 use crate::info::{ItemRead, RangeRead};
 use crate::keyed::{ByKey, ByTxn};
-use crate::ordering::in_order;
+use crate::ordering::{in_order, put_in_order};
 use crate::rows::WriteRow;
 use sia_events::{Event, History};
 use std::alloc::{AllocError, Global};
@@ -51,9 +51,10 @@ pub fn rows_of(alloc: Global, h: &History) -> Result<EventRows, AllocError>
             }
         }
     }
+    put_in_order(&mut ranges);
     Ok(EventRows {
         writes: in_order::<WriteRow, ByTxn>(alloc, writes)?,
         reads: in_order::<ItemRead, ByKey>(alloc, reads)?,
-        ranges: in_order::<RangeRead, ByKey>(alloc, ranges)?,
+        ranges,
     })
 }

@@ -26,12 +26,12 @@ pub fn index(alloc: Global, h: &History) -> Result<Index, NoMemory>
         reads,
         ranges,
     } = rows_of(alloc, h)?;
-    let rows = version_rows_of(alloc, h, &ids, &infos, &writes)?;
+    let starts = offsets_of::<TxnId, ByTxn, WriteRow, ByTxn>(alloc, &ids, &writes)?;
+    let rows = version_rows_of(alloc, h, &ids, &infos, &writes, &starts)?;
     let keys = keys_of(alloc, &writes)?;
     let offsets = offsets_of::<Key, ByKey, KeyVersion, ByKey>(alloc, &keys, &rows)?;
     let made = made_of(alloc, &rows)?;
     let commit_minima = minima_of::<KeyVersion, ByPlace>(alloc, &rows)?;
-    let starts = offsets_of::<TxnId, ByTxn, WriteRow, ByTxn>(alloc, &ids, &writes)?;
     let place_minima = minima_of::<WriteRow, ByPlace>(alloc, &writes)?;
     let reaches = reaches_of(alloc, &ranges)?;
     Ok(Index {
