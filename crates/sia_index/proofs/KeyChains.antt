@@ -1,15 +1,9 @@
 -- The written keys and their versions, as the tables of an index hold them.
-use Rattle.std.proofs.Common.{◌≡◌, ◌≢◌, ℕ, ◌<◌, List, [], ◌∷◌, length, refl, ap, sym, subst, ◌∙◌, arith}
-use Rattle.std.specs.Prelude.{All, slice_index, Contains, slice_index_or}
-use Rattle.std.specs.Ordering.{nat_cmp}
-use Rattle.std.specs.List.Sorted.{IsStrictlySortedBy}
-use Rattle.std.proofs.lemmas.List.Elements.{All-contains, Contains-get_or}
+use Rattle.std.proofs.Common.{◌≡◌, ◌≢◌, ℕ, ◌<◌, List, [], length, refl, subst, arith}
+use Rattle.std.specs.Prelude.{All, slice_index}
+use Rattle.std.proofs.lemmas.List.Elements.{All-contains}
 use Rattle.sia_events.specs.declared.event.Event.{Event}
-use Rattle.sia_events.specs.Transactions.{Wrote}
 use Rattle.sia_events.proofs.OneList.{one_list_by}
-use Rattle.sia_index.specs.declared.rows.WriteRow.{WriteRow}
-use Rattle.sia_index.specs.Rows.{AreWrites}
-use Rattle.sia_index.proofs.Ordered.{lists_sorted, precedes_last}
 use Rattle.sia_index.specs.Info.{AreVersions, AreWrittenKeys, IsKeyAt}
 
 -- key number i is so in every list of the written keys

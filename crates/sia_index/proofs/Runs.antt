@@ -12,7 +12,7 @@ use Rattle.sia_events.specs.Lists.{Precedes}
 use Rattle.sia_events.specs.Transactions.{ActsAt, HasEvent}
 use Rattle.sia_index.specs.Info.{IsInfo}
 use Rattle.sia_index.specs.declared.info.TxnInfo.{TxnInfo}
-use Rattle.sia_index.specs.declared.rows.SpanRow.{SpanRow}
+use Rattle.sia_index.specs.declared.txns.SpanRow.{SpanRow}
 use Rattle.sia_index.proofs.Ordered.{first_rises}
 use Rattle.sia_index.specs.Rows.{AreSpans, AreTxns, IsSpan}
 use Rattle.sia_index.specs.declared.info.Fate.TheVariants.{Committed}

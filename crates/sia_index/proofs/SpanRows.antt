@@ -14,7 +14,7 @@ use Rattle.sia_events.specs.Events.{actor}
 use Rattle.sia_events.specs.Transactions.{ActsAt}
 use Rattle.sia_events.proofs.Starts.{one_event}
 use Rattle.sia_events.proofs.TransactionDecisions.{place_within}
-use Rattle.sia_index.specs.declared.rows.SpanRow.{SpanRow}
+use Rattle.sia_index.specs.declared.txns.SpanRow.{SpanRow}
 use Rattle.sia_index.specs.Rows.{IsSpanRow, IsSpanned, AreSpans, IsLonger}
 use Rattle.sia_index.proofs.Ordered.{precedes_last, precedes_then}
 

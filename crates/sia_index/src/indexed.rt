@@ -1,18 +1,17 @@
 //! An index of a history, and what it answers.
-ghost use Rattle.std.specs.Prelude.{◌↔◌, ℕ, IsTrue, List, MatchOption};
+ghost use Rattle.std.specs.Prelude.{ℕ, MatchOption, ◌↔◌, IsTrue, List};
+ghost use Rattle.sia_events.specs.Lists.{ListsAscending};
+ghost use Rattle.sia_events.specs.Transactions.{HasEvent, Wrote, Overlap, StartsBeforeCommit};
+ghost use Rattle.sia_index.specs.Info.{IsInfo, IsKeyAt, AreVersions, AreWrittenKeys, AreAllVersions, IsFirstWrite, HasKeyAt, AreReadsWithin, AreRangesMeeting, AreWrittenWithin, AreVersionsWithin};
+ghost use Rattle.sia_index.specs.Numbers.{HasTxnAt, IsTxnAt};
 ghost use Rattle.sia_events.specs.declared.event.Event.{Event};
-ghost use Rattle.sia_events.specs.Transactions.{HasEvent, Overlap, StartsBeforeCommit, Wrote};
 ghost use Rattle.sia_events.specs.Refusals.{IsWellFormed};
 ghost use Rattle.sia_index.specs.declared.rows.WriteRow.{WriteRow};
-ghost use Rattle.sia_index.specs.Numbers.{IsTxnAt};
-ghost use Rattle.sia_index.specs.Rows.{AreWrites, IsStretch};
-ghost use Rattle.sia_index.specs.Info.{IsInfo, AreVersions, AreWrittenKeys, AreAllVersions, IsFirstWrite, HasKeyAt, IsKeyAt, AreReadsWithin, AreRangesMeeting, AreWrittenWithin, AreVersionsWithin};
+ghost use Rattle.sia_index.specs.Rows.{AreWrites, IsStretch, AreRanges, AreReaches, AscendsByRange};
 
-use crate::grouping::group_at;
-use crate::hints::find;
 use crate::info::{ItemRead, KeyVersion, Made, RangeRead, TxnInfo};
-use crate::keyed::{ByKey, between, place_from};
-use crate::reads::ranges_meeting;
+use crate::keyed::{ByKey, ByTxn, between, find, hint_in, place_above, place_from};
+use crate::ordering::group_at;
 use crate::rows::WriteRow;
 use crate::slots::Slots;
 use sia_events::{History, Key, TxnId};
@@ -64,6 +63,41 @@ impl Index {
         ensures { (keys : List ℕ) × AreWrittenKeys self.now keys }
     {
         let _ = &self.keys;
+    }
+
+    /// Each transaction that has an event, ascending.
+    pub fn txns(&self) -> &[TxnId]
+        ensures { ListsAscending (HasEvent self.now) result.now }
+    {
+        &self.ids
+    }
+
+    /// The number of a transaction among all of them, counted from 0. Mostly its slot tells it.
+    pub fn txn_number(&self, t: TxnId) -> Option<usize>
+        ensures { MatchOption result (¬ HasEvent self.now t) (λ i. IsTxnAt self.now i t) }
+    {
+        find::<TxnId, ByTxn>(&self.ids, u64::from(t), self.slots.guess(u64::from(t)))
+    }
+
+    /// What is known of transaction number `i`, counted from 0: no search is needed.
+    pub fn txn_at(&self, i: usize) -> TxnInfo
+        requires { HasTxnAt self.now i }
+        ensures { (t : ℕ) → IsTxnAt self.now i t → IsInfo self.now t result }
+    {
+        self.infos[i]
+    }
+
+    /// The number of a key among the written ones, counted from 0. It is looked for from `near`, if that isn't 0, and no answer
+    /// depends on it.
+    pub fn key_number(&self, k: Key, near: usize) -> Option<usize>
+        ensures { MatchOption result ((t : ℕ) → ¬ Wrote self.now t k) (λ i. IsKeyAt self.now i k) }
+    {
+        find::<Key, ByKey>(&self.keys, k, near)
+    }
+
+    /// The number that the key would have if the written keys lay evenly: near that it may be looked for.
+    pub fn key_hint(&self, k: Key) -> usize {
+        hint_in::<Key, ByKey>(&self.keys, k)
     }
 
     /// What is known of a transaction.
@@ -199,4 +233,15 @@ fn starts_before_commit(a: TxnInfo, b: TxnInfo) -> bool
         Some(commit) => a.start < commit,
         None => false,
     }
+}
+
+// The ranges that start at `hi` or below, without the first ones that all end below `lo`.
+fn ranges_meeting<'a>(ranges: &'a [RangeRead], reaches: &[Key], lo: Key, hi: Key) -> &'a [RangeRead]
+    requires ascending { AscendsByRange ranges.now }
+    requires reaches_are { AreReaches ranges.now reaches.now }
+    ensures { (h : List Event) → AreRanges h ranges.now → AreRangesMeeting h lo hi result.now }
+{
+    let from = place_from::<Key, ByKey>(reaches, lo);
+    let to = place_above::<RangeRead, ByKey>(ranges, hi);
+    &ranges[from..to.max(from)]
 }

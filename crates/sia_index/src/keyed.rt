@@ -1,10 +1,9 @@
-//! Rows in the order of a number, and the places in a list of them that part it by that number.
-ghost use Rattle.std.specs.Prelude.{◌≡◌, ◌≤◌, true, false, length, leb, ltb};
+//! Rows in the order of a number, and what is found in a list of them by that number.
+ghost use Rattle.std.specs.Prelude.{◌≡◌, ◌≤◌, true, false, length, leb, ltb, ◌≢◌, ◌<◌, All, AllPairs, IsTrue, MatchOption, slice_index_or};
 ghost use Rattle.std.specs.List.Sorted.{IsNonDecreasingBy, IsPartitionPoint};
 ghost use Rattle.sia_index.specs.Between.{IsBetween};
 
 use crate::info::{ItemRead, KeyVersion, Made, RangeRead};
-use crate::rows::{SpanRow, WriteRow};
 use crate::searching::partition_near;
 use sia_events::{Key, TxnId};
 
@@ -53,14 +52,6 @@ impl By<KeyVersion> for ByKey {
     }
 }
 
-impl By<WriteRow> for ByKey {
-    ghost by = { λ row. row.key };
-
-    fn number(row: &WriteRow) -> u64 {
-        row.key
-    }
-}
-
 /// By transaction.
 pub struct ByTxn;
 
@@ -72,32 +63,8 @@ impl By<TxnId> for ByTxn {
     }
 }
 
-impl By<WriteRow> for ByTxn {
-    ghost by = { λ row. row.txn };
-
-    fn number(row: &WriteRow) -> u64 {
-        u64::from(row.txn)
-    }
-}
-
-impl By<SpanRow> for ByTxn {
-    ghost by = { λ span. span.txn };
-
-    fn number(span: &SpanRow) -> u64 {
-        u64::from(span.txn)
-    }
-}
-
 /// By the place of an event: that of the write, or of the commit.
 pub struct ByPlace;
-
-impl By<WriteRow> for ByPlace {
-    ghost by = { λ row. row.place };
-
-    fn number(row: &WriteRow) -> u64 {
-        u64::from(row.place)
-    }
-}
 
 impl By<KeyVersion> for ByPlace {
     ghost by = { λ version. version.commit };
@@ -159,4 +126,56 @@ pub fn between<T, O: By<T>>(rows: &[T], lo: u64, hi: u64) -> &[T]
     let from = place_from::<T, O>(rows, lo);
     let to = place_above::<T, O>(rows, hi).max(from);
     &rows[from..to]
+}
+
+/// Spans of at least so many numbers lose bits, so that no product is too great.
+const WIDE: u64 = 1 << 46;
+
+/// How many bits they lose.
+const LOST: u32 = 18;
+
+/// The place of the row of the number. It is looked for from `near`, or where that is 0 from where the number would stand if
+/// all lay evenly.
+pub fn find<T, O: By<T>>(rows: &[T], number: u64, near: usize) -> Option<usize>
+    requires { AllPairs (λ x y. O.by x < O.by y) rows.now }
+    ensures { MatchOption result (All (λ row. O.by row ≢ number) rows.now) (λ i. (i < length rows.now) × ((d : T) → O.by (slice_index_or rows.now i d) ≡ number)) }
+{
+    if stands_at::<T, O>(rows, number, near) {
+        return Some(near);
+    }
+    let hint = if near > 0 {
+        near
+    } else {
+        hint_in::<T, O>(rows, number)
+    };
+    let at = place_from_near::<T, O>(rows, number, hint);
+    if stands_at::<T, O>(rows, number, at) {
+        Some(at)
+    } else {
+        None
+    }
+}
+
+/// Whether the row at the place, if there is one, has the number.
+pub fn stands_at<T, O: By<T>>(rows: &[T], number: u64, at: usize) -> bool
+    ensures here { IsTrue result → (at < length rows.now) × ((d : T) → O.by (slice_index_or rows.now at d) ≡ number) }
+    ensures other { result ≡ false → at < length rows.now → (d : T) → O.by (slice_index_or rows.now at d) ≢ number }
+{
+    match rows.get(at) {
+        Some(row) => O::number(row) == number,
+        None => false,
+    }
+}
+
+/// Where the number would stand if those of the rows lay evenly.
+pub fn hint_in<T, O: By<T>>(rows: &[T], number: u64) -> usize {
+    let (Some(first), Some(last)) = (rows.first(), rows.last()) else {
+        return 0;
+    };
+    let first = O::number(first);
+    let span = O::number(last).wrapping_sub(first);
+    let lost = if span < WIDE { 0 } else { LOST };
+    let offset = number.wrapping_sub(first) >> lost;
+    let steps = (rows.len() as u64).wrapping_sub(1);
+    (offset.wrapping_mul(steps) / (span >> lost).max(1)) as usize
 }

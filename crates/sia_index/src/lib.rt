@@ -2,25 +2,18 @@
 #![tactic(auto)]
 
 mod counts;
-mod events;
-mod grouping;
-mod hints;
 mod indexed;
 mod info;
 pub mod keyed;
 pub mod make;
 mod minima;
-mod numbers;
 pub mod ordering;
 mod readers;
-mod reads;
 mod rows;
 pub mod searching;
 mod seen;
 mod slots;
-mod spanning;
 mod txns;
-mod versions;
 
 pub use counts::{Counts, counted};
 pub use indexed::Index;

@@ -1,16 +1,13 @@
 //! How an index is made of a history.
 ghost use Rattle.std.specs.Prelude.{◌≡◌, IfOk};
 
-use crate::events::{EventRows, rows_of};
-use crate::grouping::{keys_of, offsets_of};
 use crate::indexed::Index;
 use crate::info::KeyVersion;
 use crate::keyed::{ByKey, ByPlace, ByTxn};
 use crate::minima::minima_of;
-use crate::reads::reaches_of;
-use crate::rows::WriteRow;
+use crate::ordering::offsets_of;
+use crate::rows::{EventRows, WriteRow, keys_of, made_of, reaches_of, rows_of, version_rows_of};
 use crate::txns::{Txns, txns_of};
-use crate::versions::{made_of, version_rows_of};
 use sia_events::{History, Key, NoMemory, TxnId};
 use std::alloc::Global;
 use std::snapshot::Snapshot;

@@ -1,19 +1,17 @@
-//! The table of transactions, made of rows that span their events.
-ghost use Rattle.std.specs.Prelude.{◌≡◌, ◌≤◌, ◌<◌, ℕ, IfOk, length, slice_index_or};
+//! The table of transactions: the first event of each and the last, and what these tell.
+ghost use Rattle.std.specs.Prelude.{◌≡◌, ◌≤◌, ◌<◌, ℕ, IfOk, length, slice_index_or, IsTrue, false};
 ghost use Rattle.std.specs.List.{AllWithin};
 ghost use Rattle.sia_events.specs.declared.event.Event.{Event};
 ghost use Rattle.sia_events.specs.Refusals.{IsWellFormed};
 ghost use Rattle.sia_events.specs.Transactions.{IsFirstEvent, StartsAt};
 ghost use Rattle.sia_index.specs.Info.{IsInfo};
-ghost use Rattle.sia_index.specs.declared.rows.SpanRow.{SpanRow};
-ghost use Rattle.sia_index.specs.Rows.{AreTxns, IsSpan};
+ghost use Rattle.sia_index.specs.declared.txns.SpanRow.{SpanRow};
+ghost use Rattle.sia_index.specs.Rows.{AreTxns, IsSpan, AreSpans, IsLonger};
 
-use crate::grouping::end_of;
 use crate::info::{Fate, TxnInfo};
-use crate::keyed::ByTxn;
-use crate::rows::SpanRow;
+use crate::keyed::{By, ByTxn};
+use crate::ordering::{end_of, in_order};
 use crate::slots::Slots;
-use crate::spanning::spans_of;
 use sia_events::{Event, History, TxnId};
 use std::alloc::{AllocError, Global};
 
@@ -92,5 +90,60 @@ fn start_of(h: &History, first: u32) -> u32
             None => first - 1,
         },
         None => 0,
+    }
+}
+
+/// The places of two events of a transaction, which may be one. The row stands for those in between too.
+#[derive(Clone, Copy, PartialEq, Eq, PartialOrd, Ord)]
+pub struct SpanRow {
+    pub txn: TxnId,
+    pub first: u32,
+    pub last: u32,
+}
+
+impl By<SpanRow> for ByTxn {
+    ghost by = { λ span. span.txn };
+
+    fn number(span: &SpanRow) -> u64 {
+        u64::from(span.txn)
+    }
+}
+
+/// Rows that span the events of every transaction, by transaction. Mostly each has one. A slot tells where it may stand, and
+/// what it tells is checked. A transaction has more rows where its slot was another's for a while, in the worst case one
+/// for each event.
+pub fn spans_of(alloc: Global, h: &History, slots: &mut Slots) -> Result<Vec<SpanRow>, AllocError>
+    ensures { IfOk result (λ spans. AreSpans h.now spans.items) }
+{
+    let mut spans = Vec::with_capacity(alloc, h.len() as usize)?;
+    for before in 0..h.len() {
+        let place = before + 1;
+        if let Some(event) = h.event(place) {
+            let txn = event.txn();
+            if !reach(&mut spans, slots, txn, place) {
+                spans.push(SpanRow {
+                    txn,
+                    first: place,
+                    last: place,
+                })?;
+            }
+        }
+    }
+    let sorted = in_order::<SpanRow, ByTxn>(alloc, spans)?;
+    Ok(sorted)
+}
+
+// Makes the row of the transaction's slot reach to the place, if it is its own. Else its next row has the slot.
+fn reach(spans: &mut Vec<SpanRow>, slots: &mut Slots, t: TxnId, place: u32) -> bool
+    ensures longer { IsTrue result → IsLonger spans.old.items t place spans.new.items }
+    ensures same { result ≡ false → spans.new.items ≡ spans.old.items }
+{
+    let number = slots.guess(u64::from(t));
+    if number < spans.len() && spans[number].txn == t {
+        spans[number].last = place;
+        true
+    } else {
+        slots.put(u64::from(t), spans.len());
+        false
     }
 }

@@ -2,7 +2,7 @@
 use Rattle.std.proofs.Common.{◌≡◌, ◌⊎◌, inl, inr, arith}
 use Rattle.std.specs.Prelude.{slice_index_or}
 use Rattle.std.proofs.lemmas.Bool.{cases_lt}
-use Rattle.sia_index.specs.declared.rows.SpanRow.{SpanRow}
+use Rattle.sia_index.specs.declared.txns.SpanRow.{SpanRow}
 use Rattle.sia_index.proofs.Runs.{last_more}
 use Rattle.sia_index.proofs.txns.last_of.Goals as goal
 

@@ -2,7 +2,7 @@
 use Rattle.std.proofs.Common.{◌≡◌, ◌≤◌, ◌<◌, ℕ}
 use Rattle.std.specs.Prelude.{slice_index_or}
 use Rattle.std.specs.List.{AllWithin}
-use Rattle.sia_index.specs.declared.rows.SpanRow.{SpanRow}
+use Rattle.sia_index.specs.declared.txns.SpanRow.{SpanRow}
 use Rattle.sia_index.proofs.txns.last_of.Given as goal
 
 abbrev pub invariant-loop-i : goal.invariant-loop-i

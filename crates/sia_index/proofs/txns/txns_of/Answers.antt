@@ -1,7 +1,7 @@
 -- Each turn adds the row of one run.
 use Rattle.std.proofs.Common.{[], ◌∷◌, ap, arith}
 use Rattle.std.proofs.lemmas.List.{get_or_default}
-use Rattle.sia_index.specs.declared.rows.SpanRow.{SpanRow}
+use Rattle.sia_index.specs.declared.txns.SpanRow.{SpanRow}
 use Rattle.sia_index.proofs.Ordered.{first_rises}
 use Rattle.sia_index.proofs.Runs.{rows_all, rows_more, run_has_span, span}
 use Rattle.sia_index.proofs.txns.txns_of.Goals as goal

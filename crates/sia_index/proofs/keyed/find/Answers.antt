@@ -1,0 +1,7 @@
+-- Where the row at the place of the search hasn't the number, none has.
+use Rattle.sia_index.proofs.Finding.{not_found}
+use Rattle.sia_index.proofs.keyed.find.Goals as goal
+
+pub returns-else-stands_at-2 : goal.returns-else-stands_at-2
+returns-else-stands_at-2 g c =
+    not_found g.O.By.by _ c.requires _ _ c.place_from_near-at.ensures.point (c.stands_at-2.ensures.other c.if-stands_at-2.false)
