@@ -27,14 +27,7 @@ abbrev pub HoldsBelow : {A : Type 0} → (A → ℕ → Type 0) → ℕ → List
 HoldsBelow {A} Q n xs = (x : A) → Contains xs x ↔ ((q : ℕ) × (q < n) × Q x q)
 
 module _ {A : Type 0} (Q : A → ℕ → Type 0) where
-  -- the empty list, before the first place
-  pub holds_none : ((x : A) → ¬ Q x 0) → HoldsBelow Q 1 []
-  holds_none none x = (
-    (λ c. absurd (let below = c.1 in omega arith)),
-    (λ (q, below, has). absurd (none x (let same : q ≡ 0 = omega arith in subst (Q x) same has))),
-  )
-
-  -- the same, before place 0
+  -- the empty list, before place 0
   pub holds_nothing : HoldsBelow Q 0 []
   holds_nothing x = ((λ c. absurd (let below = c.1 in omega arith)), (λ (q, below, has). absurd (omega arith)))
 
@@ -51,35 +44,20 @@ module _ {A : Type 0} (Q : A → ℕ → Type 0) where
     ]),
   )
 
+  -- no more up to a place, where what has Q from here on is there already
+  pub holds_past : (n m : ℕ) (xs : List A) → n ≤ m → HoldsBelow Q n xs → ((x : A) (q : ℕ) → n ≤ q → q < m → Q x q → Contains xs x) → HoldsBelow Q m xs
+  holds_past n m xs forward holds there x = (
+    (λ c. let found = (holds x).0 c in (found.0, (let less = found.1 in omega arith), found.2)),
+    (λ (q, below, has). elim (cases_lt q n) [ inl less ↦ (holds x).1 (q, less, has) | inr more ↦ there x q more below has ]),
+  )
+
   -- no more, where what has Q at the next place is there already
   pub holds_again : (n : ℕ) (xs : List A) (y : A) → HoldsBelow Q n xs → Contains xs y → ((x : A) → Q x n → y ≡ x) → HoldsBelow Q (n + 1) xs
-  holds_again n xs y holds there alone x = (
-    (λ c. let found = (holds x).0 c in (found.0, (let less = found.1 in omega arith), found.2)),
-    (λ (q, below, has). elim (cases_lt q n) [
-      | inl less ↦ (holds x).1 (q, less, has)
-      | inr more ↦ let at : q ≡ n = omega arith in subst (Contains xs) (alone x (subst (Q x) at has)) there
-    ]),
-  )
+  holds_again n xs y holds there alone = holds_past n (n + 1) xs (omega arith) holds (λ x q after before has. let at : q ≡ n = omega arith in subst (Contains xs) (alone x (subst (Q x) at has)) there)
 
-  -- no more up to a place, where nothing has Q from here on to below it
-  pub holds_over : (n m : ℕ) (xs : List A) → n ≤ m → HoldsBelow Q n xs → ((x : A) (q : ℕ) → n ≤ q → q < m → ¬ Q x q) → HoldsBelow Q m xs
-  holds_over n m xs forward holds none x = (
-    (λ c. let found = (holds x).0 c in (found.0, (let less = found.1 in omega arith), found.2)),
-    (λ (q, below, has). elim (cases_lt q n) [
-      | inl less ↦ (holds x).1 (q, less, has)
-      | inr more ↦ absurd (none x q more below has)
-    ]),
-  )
-
-  -- no more, where nothing has Q at the next place
+  -- or where nothing has it
   pub holds_same : (n : ℕ) (xs : List A) → HoldsBelow Q n xs → ((x : A) → ¬ Q x n) → HoldsBelow Q (n + 1) xs
-  holds_same n xs holds none x = (
-    (λ c. let found = (holds x).0 c in (found.0, (let less = found.1 in omega arith), found.2)),
-    (λ (q, below, has). elim (cases_lt q n) [
-      | inl less ↦ (holds x).1 (q, less, has)
-      | inr more ↦ let at : q ≡ n = omega arith in absurd (none x (subst (Q x) at has))
-    ]),
-  )
+  holds_same n xs holds none = holds_past n (n + 1) xs (omega arith) holds (λ x q after before has. let at : q ≡ n = omega arith in absurd (none x (subst (Q x) at has)))
 
 -- once put in order, what was collected over all places lists what has Q at some place
 pub collected : {A : Type 0} (Q : A → ℕ → Type 0) (rank : A → List ℕ) (P : A → Type 0) (c : A → A → Ordering) → ((x y : A) → c x y ≡ Less → Precedes (rank x) (rank y)) → (n : ℕ) → ((x : A) → ((q : ℕ) × (q < n) × Q x q) ↔ P x) → (xs ys : List A) → HoldsBelow Q n xs → IsStrictlySortedBy c ys → ((x : A) → Contains xs x → Contains ys x) → ((x : A) → Contains ys x → Contains xs x) → ListsBy rank P ys
@@ -163,7 +141,7 @@ module _ (h : List Event) (wf : IsWellFormed h) (ws : List WriteRow) (n c : ℕ)
 
 -- and where all up to a place are of another
 pub versions_none : (h : List Event) (ws : List WriteRow) (t from to : ℕ) (xs : List KeyVersion) → from ≤ to → HoldsBelow (IsVersionOf h ws) from xs → ((q : ℕ) → from ≤ q → q < to → (slice_index_or ws q no_write).txn ≡ t) → ¬ IsCommitted h t → HoldsBelow (IsVersionOf h ws) to xs
-versions_none h ws t from to xs forward holds own none = holds_over (IsVersionOf h ws) from to xs forward holds (λ x q after before is. none (x.commit, subst (λ u. CommitsAt h u x.commit) (sym is.2 ∙ own q after before) is.3))
+versions_none h ws t from to xs forward holds own none = holds_past (IsVersionOf h ws) from to xs forward holds (λ x q after before is. absurd (none (x.commit, subst (λ u. CommitsAt h u x.commit) (sym is.2 ∙ own q after before) is.3)))
 
 -- over all writes they are every committed transaction's
 pub versions_listed : (h : List Event) (ws : List WriteRow) → AreWrites h ws → (n : ℕ) (xs ys : List KeyVersion) → length ws ≡ n → HoldsBelow (IsVersionOf h ws) n xs → IsStrictlySortedBy (λ x y. ordering_then (nat_cmp x.key y.key) (ordering_then (nat_cmp x.commit y.commit) (nat_cmp x.txn y.txn))) ys → ((x : KeyVersion) → Contains xs x → Contains ys x) → ((x : KeyVersion) → Contains ys x → Contains xs x) → AreVersionRows h ys

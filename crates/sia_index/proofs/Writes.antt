@@ -47,15 +47,6 @@ module _ (h : List Event) (ids : List ℕ) (ids_are : ListsAscending (HasEvent h
         whole = λ j d below is. between_offsets (λ (w : WriteRow). w.txn) ids up rows txn_of_row starts offsets i j d some below is;
       }
 
-  -- what has no event has no rows
-  pub no_stretch : (t : ℕ) → ¬ HasEvent h t → IsStretch rows t 0 0
-  no_stretch t none = record {
-    le = omega arith;
-    bound = omega arith;
-    own = λ i d after before. absurd (omega arith);
-    whole = λ i d below is. absurd (none (subst (HasEvent h) is ((ids_are.each (slice_index_or rows i d).txn).0 (txn_of_row i d below))));
-  }
-
 -- what the rows say of a first write is so
 module _ (h : List Event) (rows : List WriteRow) (are : AreWrites h rows) (t k : ℕ) where
   pub first_written : (p : ℕ) → IsFirstRow rows t k p → IsFirstWrite h t k p

@@ -1,6 +1,6 @@
 -- Each place adds the row of its event, if it has one.
-use Rattle.std.proofs.Common.{Some, refl, ap, sym, ◌∙◌, arith}
-use Rattle.sia_index.proofs.Collected.{IsWriteAt, holds_none, write_more, write_same, writes_listed}
+use Rattle.std.proofs.Common.{[], Some, refl, ap, sym, ◌∙◌, arith}
+use Rattle.sia_index.proofs.Collected.{IsWriteAt, holds_nothing, holds_same, write_more, write_same, writes_listed}
 use Rattle.sia_index.proofs.ReadTables.{IsReadAt, IsRangeAt, read_more, read_same, reads_listed, range_more, range_same, ranges_listed}
 use Rattle.sia_index.proofs.EventKinds.{one_event, none_here, write_no_read, write_no_range, read_no_write, read_no_range, range_no_write, range_no_read}
 use Rattle.sia_index.proofs.rows.rows_of.Goals as goal
@@ -8,9 +8,9 @@ use Rattle.sia_index.proofs.rows.rows_of.Goals.{in-Some+in-Write+in_ok-push-in-W
 
 pub loop-before-init : goal.loop-before-init
 loop-before-init c = (
-  rw c.in_ok-writes.ensures.items (holds_none (IsWriteAt c.args.h.now) (λ w is. let none = is.1 in cc)),
-  rw c.in_ok-reads.ensures.items (holds_none (IsReadAt c.args.h.now) (λ r is. let place = is.0 in let at = is.1 in let none = rw place at at in cc)),
-  rw c.in_ok-ranges.ensures.items (holds_none (IsRangeAt c.args.h.now) (λ r is. let place = is.0 in let at = is.1.1 in let none = rw place at at in cc)),
+  rw c.in_ok-writes.ensures.items (holds_same (IsWriteAt c.args.h.now) 0 [] (holds_nothing (IsWriteAt c.args.h.now)) (λ w is. let none = is.1 in cc)),
+  rw c.in_ok-reads.ensures.items (holds_same (IsReadAt c.args.h.now) 0 [] (holds_nothing (IsReadAt c.args.h.now)) (λ r is. let place = is.0 in let at = is.1 in let none = rw place at at in cc)),
+  rw c.in_ok-ranges.ensures.items (holds_same (IsRangeAt c.args.h.now) 0 [] (holds_nothing (IsRangeAt c.args.h.now)) (λ r is. let place = is.0 in let at = is.1.1 in let none = rw place at at in cc)),
 )
 
 pub loop-before-preserved : goal.loop-before-preserved
