@@ -7,7 +7,7 @@ ghost use Rattle.sia_index.specs.Numbers.{HasTxnAt, IsTxnAt};
 ghost use Rattle.sia_events.specs.declared.event.Event.{Event};
 ghost use Rattle.sia_events.specs.Refusals.{IsWellFormed};
 ghost use Rattle.sia_index.specs.declared.rows.WriteRow.{WriteRow};
-ghost use Rattle.sia_index.specs.Rows.{AreWrites, IsStretch, AreRanges, AreReaches, AscendsByRange};
+ghost use Rattle.sia_index.specs.Rows.{AreWrites, IsStretch};
 
 use crate::info::{ItemRead, KeyVersion, Made, RangeRead, TxnInfo};
 use crate::keyed::{ByKey, ByTxn, between, find, hint_in, place_above, place_from};
@@ -221,7 +221,9 @@ impl Index {
     pub fn ranges_meeting(&self, lo: Key, hi: Key) -> &[RangeRead]
         ensures { AreRangesMeeting self.now lo hi result.now }
     {
-        ranges_meeting(&self.ranges, &self.reaches, lo, hi)
+        let from = place_from::<Key, ByKey>(&self.reaches, lo);
+        let to = place_above::<RangeRead, ByKey>(&self.ranges, hi);
+        &self.ranges[from..to.max(from)]
     }
 }
 
@@ -233,15 +235,4 @@ fn starts_before_commit(a: TxnInfo, b: TxnInfo) -> bool
         Some(commit) => a.start < commit,
         None => false,
     }
-}
-
-// The ranges that start at `hi` or below, without the first ones that all end below `lo`.
-fn ranges_meeting<'a>(ranges: &'a [RangeRead], reaches: &[Key], lo: Key, hi: Key) -> &'a [RangeRead]
-    requires ascending { AscendsByRange ranges.now }
-    requires reaches_are { AreReaches ranges.now reaches.now }
-    ensures { (h : List Event) → AreRanges h ranges.now → AreRangesMeeting h lo hi result.now }
-{
-    let from = place_from::<Key, ByKey>(reaches, lo);
-    let to = place_above::<RangeRead, ByKey>(ranges, hi);
-    &ranges[from..to.max(from)]
 }
