@@ -7,7 +7,7 @@ ghost use Rattle.sia_index.specs.Tables.{AreOffsets};
 
 use crate::info::{ItemRead, KeyVersion, Made, RangeRead, TxnInfo};
 use crate::keyed::{By, ByKey, ByPlace, ByTxn, stands_at};
-use crate::ordering::{group_at, in_order, put_in_order};
+use crate::ordering::{group_at, in_order};
 use crate::slots::Slots;
 use sia_events::{Event, History, Key, TxnId};
 use std::alloc::{AllocError, Global};
@@ -86,11 +86,10 @@ pub fn rows_of(alloc: Global, h: &History) -> Result<EventRows, AllocError>
             }
         }
     }
-    put_in_order(&mut ranges);
     Ok(EventRows {
         writes: in_order::<WriteRow, ByTxn>(alloc, writes)?,
         reads: in_order::<ItemRead, ByKey>(alloc, reads)?,
-        ranges,
+        ranges: in_order::<RangeRead, ByKey>(alloc, ranges)?,
     })
 }
 

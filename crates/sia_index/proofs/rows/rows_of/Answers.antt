@@ -56,4 +56,4 @@ returns-clause-reads c =
 
 pub returns-clause-ranges : goal.returns-clause-ranges
 returns-clause-ranges c =
-    ranges_listed _ c.loop-before.before _ _ (omega (arith, c.len-before-end.ensures.len)) c.loop-before.invariant.2 c.put_in_order.ensures.sorted c.put_in_order.ensures.keeps c.put_in_order.ensures.adds_none
+    ranges_listed _ c.loop-before.before _ _ (omega (arith, c.len-before-end.ensures.len)) c.loop-before.invariant.2 c.in_ok-in_order-3.ensures.sorted c.in_ok-in_order-3.ensures.keeps c.in_ok-in_order-3.ensures.adds_none
