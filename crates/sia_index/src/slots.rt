@@ -1,8 +1,8 @@
 //! Guesses of the numbers that names have. Nothing rests on them: who asks for one looks where it points, and compares.
 use std::alloc::{AllocError, Global};
 
-/// There are no more slots than so many.
-const MOST: usize = 1 << 20;
+/// There are no more slots than so many, since their numbers have 32 bits.
+const MOST: usize = 1 << 31;
 
 /// A slot for each name, which others may share.
 #[derive(Drop)]
