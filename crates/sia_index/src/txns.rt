@@ -109,10 +109,10 @@ impl By<SpanRow> for ByTxn {
     }
 }
 
-/// Rows that span the events of every transaction, by transaction. Mostly each has one. A slot tells where it may stand, and
-/// what it tells is checked. A transaction has more rows where its slot was another's for a while, in the worst case one
-/// for each event.
-pub fn spans_of(alloc: Global, h: &History, slots: &mut Slots) -> Result<Vec<SpanRow>, AllocError>
+// Rows that span the events of every transaction, by transaction. Mostly each has one. A slot tells where it may stand, and
+// what it tells is checked. A transaction has more rows where its slot was another's for a while, in the worst case one
+// for each event.
+fn spans_of(alloc: Global, h: &History, slots: &mut Slots) -> Result<Vec<SpanRow>, AllocError>
     ensures { IfOk result (λ spans. AreSpans h.now spans.items) }
 {
     let mut spans = Vec::with_capacity(alloc, h.len() as usize)?;
