@@ -1,7 +1,6 @@
 //! What is due to a transaction that reads, at one key and over a range of keys.
-ghost use Rattle.std.specs.Prelude.{◌≡◌, ◌↔◌, ◌≤◌, ◌<◌, ℕ, List, IsTrue, MatchOption, All};
-ghost use Rattle.sia_events.specs.declared.event.Event.{Event};
-ghost use Rattle.sia_events.specs.Transactions.{HasEvent, Wrote, WroteBefore};
+ghost use Rattle.std.specs.Prelude.{◌↔◌, ◌<◌, ℕ, IsTrue, MatchOption, All};
+ghost use Rattle.sia_events.specs.Transactions.{HasEvent, WroteBefore};
 ghost use Rattle.sia_events.specs.Reads.{IsVisible, IsDue};
 ghost use Rattle.sia_index.specs.Info.{IsReader, NoneDue, IsNextDue};
 ghost use Rattle.sia_index.specs.Rows.{AscendsByCommit, IsLastWithin, PassesNone, HasDue};
