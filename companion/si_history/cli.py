@@ -8,7 +8,7 @@ from typing import IO, Any, NoReturn, Protocol
 
 from si_history import (
     __version__, audit_command, audit_many, completion, from_events, from_jepsen, from_transactions, graph, minimize, names, page,
-    startup,
+    split, startup,
 )
 from si_history.errors import BadInput, OutputIsInput
 from si_history.files import STANDARD_OUTPUT, write_error, write_output
@@ -46,6 +46,7 @@ COMMANDS: tuple[Command, ...] = (
     audit_command,
     audit_many,
     minimize,
+    split,
     from_events,
     from_transactions,
     from_jepsen,
