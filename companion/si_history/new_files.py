@@ -23,16 +23,21 @@ class NewFiles:
 
     def write(self, end: str, text: str) -> str:
         """Writes the file whose name is the prefix and this end, and answers its path."""
-        write_output(text, os.path.join(self._folder, f"file{end}"))
+        path = self._prefix + end
+        try:
+            write_output(text, os.path.join(self._folder, f"file{end}"))
+        except BadInput as fault:
+            fault.source = path
+            raise
         self._ends.append(end)
-        return self._prefix + end
+        return path
 
     def put(self) -> None:
         """Puts all files into their place. Where that fails none of them stays there."""
         placed: list[str] = []
         try:
             for end in self._ends:
-                os.link(os.path.join(self._folder, f"file{end}"), self._prefix + end)
+                os.rename(os.path.join(self._folder, f"file{end}"), self._prefix + end)
                 placed.append(self._prefix + end)
         except BaseException:
             for path in placed:

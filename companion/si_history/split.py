@@ -3,8 +3,10 @@
 from __future__ import annotations
 
 import argparse
+import re
 from collections.abc import Iterator
 
+from si_history.conversion import without_collector
 from si_history.endings import endings_of
 from si_history.errors import BadInput, in_source
 from si_history.files import check_output, source_name, write_output
@@ -19,6 +21,8 @@ from si_history.wording import counted
 
 DEFAULT_EVENTS = 90_000
 HISTORY, LEGEND = ".history", ".legend"
+_ACTOR = re.compile("^[brwca]([0-9]+)", re.MULTILINE)
+_KEY = re.compile(r"(?:\[|\.\.|;|,)([0-9]+)")
 ENDS = r"-[0-9]{3,}\.(history|legend)"
 
 DESCRIPTION = """\
@@ -72,7 +76,7 @@ def run(arguments: argparse.Namespace) -> int:
     """Cuts the history that the arguments name, and tells what came of it."""
     name = source_name(arguments.history)
     check_output("-", [arguments.history])
-    with new_files(arguments.prefix, ENDS) as files, in_source(name):
+    with new_files(arguments.prefix, ENDS) as files, in_source(name), without_collector():
         parts = list(_written(arguments, files))
     write_output(told(name, parts))
     return 0
@@ -85,8 +89,17 @@ def _written(arguments: argparse.Namespace, files: NewFiles) -> Iterator[tuple[s
         for number, part in enumerate(parts_of(tokens_of(file), endings, arguments.events, progress), 1):
             text = "".join(f"{token}\n" for token in part.tokens)
             path = files.write(f"-{number:03}{HISTORY}", text)
-            files.write(f"-{number:03}{LEGEND}", Legend(events=part.places).to_json(text.encode("ascii")))
+            files.write(f"-{number:03}{LEGEND}", legend_of(text, part.places).to_json(text.encode("ascii")))
             yield path, PartText(part.first, part.last, added=part.added, over=part.over)
+
+
+def legend_of(text: str, places: list[int]) -> Legend:
+    """The legend of a part: each number is its own name, and the place in the whole stands for the line of a log."""
+    return Legend(_names(_ACTOR, text), _names(_KEY, text), places)
+
+
+def _names(number: re.Pattern[str], text: str) -> dict[int, str]:
+    return {int(name): name for name in dict.fromkeys(number.findall(text))}
 
 
 def told(name: str, parts: list[tuple[str, PartText]]) -> str:

@@ -51,7 +51,9 @@ def parts_of(tokens: Iterable[str], endings: Endings, most_events: int, progress
     for place, token in enumerate(tokens, 1):
         if place % EVENTS_BETWEEN_STEPS == 0 and progress is not None:
             progress.step(place, endings.events)
-        yield from splitter.take(token, place)
+        ended = splitter.history.take(token, place)
+        if ended is not None:
+            yield from splitter.end(ended)
     if place != endings.events or splitter.history.open:
         raise BadInput("it changed while it was read")
     if place == 0:
@@ -71,12 +73,9 @@ class _Splitter:
         self._quiet = 0
         self._room = PartRoom(0)
 
-    def take(self, token: str, place: int) -> Iterator[PartText]:
-        """Takes the next event, and answers the parts that are full."""
-        ended = self.history.take(token, place)
-        if ended is None:
-            return
-        self._ended.append(ended)
+    def end(self, transaction: Transaction) -> Iterator[PartText]:
+        """Takes the next transaction that ended, and answers the parts that are full."""
+        self._ended.append(transaction)
         while self._counted < len(self._ended):
             self._room.add(self._ended[self._counted])
             if self._room.is_over(self._most_events):
@@ -84,7 +83,7 @@ class _Splitter:
             else:
                 self._counted += 1
         if not self.history.open:
-            self._quiet = place
+            self._quiet = transaction.end
 
     def last(self, place: int) -> PartText:
         """The last part."""

@@ -58,7 +58,7 @@ def run_command(*words: str, given: bytes = b"") -> subprocess.CompletedProcess[
     )
 
 
-def audit(text: str) -> tuple[int, str]:
+def audit(text: str, *words: str) -> tuple[int, str]:
     """The status and the report that the auditor's program gives for a history."""
-    done = subprocess.run([PROGRAM], input=text.encode(), capture_output=True, timeout=LONG_SECONDS)
+    done = subprocess.run([PROGRAM, *words], input=text.encode(), capture_output=True, timeout=LONG_SECONDS)
     return done.returncode, done.stdout.decode()
