@@ -112,13 +112,13 @@ def told(name: str, parts: list[tuple[str, PartText]]) -> str:
     lines += ["", "Each bad read, bad write and unexplained read is in the report of one part."]
     if over:
         lines += [
-            f"{counted(over, 'committed transaction')} started before a cut and ended behind it.",
-            "If a part is not serializable or fails the test of ssi, so does the whole. If all pass, cycles and",
-            "dangerous structures that join transactions of several parts are still possible: nobody looked for them.",
+            f"{counted(over, 'committed transaction')} started before a cut and ended behind it. Cycles and",
+            "dangerous structures of several parts are in no report: the whole fails ssi or",
+            "serializable if a part does, and may fail them if none does.",
         ]
     else:
         lines += [
-            "No committed transaction started before a cut and ended behind it:",
-            "the whole meets a level exactly if each part meets it.",
+            "No committed transaction started before a cut and ended behind it: the whole meets",
+            "each level exactly if each part meets it.",
         ]
     return "".join(f"{line}\n" for line in lines)

@@ -295,7 +295,7 @@ class CommandTest(unittest.TestCase):
         status, told, fault = self.split("--events", "6", "-o", f"{self.place}/run", str(self.run_path))
         self.assertEqual((status, fault), (0, ""))
         self.assertRegex(told, r"^\S*run\.history: 7 events, in 2 parts\.\n\n  \S*run-001\.history  places 1 to 5, 0 added\n")
-        self.assertIn("the whole meets a level exactly if each part meets it.\n", told)
+        self.assertIn("the whole meets\neach level exactly if each part meets it.\n", told)
         self.assertEqual(
             self.names(), ["run-001.history", "run-001.legend", "run-002.history", "run-002.legend", "run.history"]
         )
@@ -313,7 +313,7 @@ class CommandTest(unittest.TestCase):
 
     def test_what_is_said_where_one_runs_over_a_cut(self) -> None:
         _, told, _ = self.split("--events", "6", "-o", f"{self.place}/p", "-", given=b"r4[4:0] w1[1] c1 w2[1] w2[3] c2 r4[3:0] c4")
-        self.assertIn("\n1 committed transaction started before a cut and ended behind it.\n", told)
+        self.assertIn("\n1 committed transaction started before a cut and ended behind it. Cycles", told)
 
     def test_faults(self) -> None:
         """Each is told in one line, and no file is left."""
