@@ -20,7 +20,8 @@ class Transaction:
 
     `needed` has the versions of others on which the findings about it depend: those that it saw, those that were due to it,
     and where it committed those of its own keys that were committed since its start. `unended_seen` has those that it saw
-    while their writers had not ended, each with the place of the read.
+    while their writers had not ended, each with the place of the read. `owed` has the keys of which it is known, until it ends,
+    which version is due to it.
     """
 
     number: int
@@ -31,6 +32,7 @@ class Transaction:
     tokens: list[str] = field(default_factory=list)
     size: int = 0
     written: set[int] = field(default_factory=set)
+    owed: set[int] = field(default_factory=set)
     needed: set[Version] = field(default_factory=set)
     unended_seen: list[tuple[int, Version]] = field(default_factory=list)
     end: int = 0
@@ -63,7 +65,7 @@ class LongHistory:
             case Read():
                 _check(event.saw == 0 or self._is_written((event.key, event.saw)), place, "version not written")
                 self._see(actor, (event.key, event.saw), place)
-                self._owe(actor, (event.key, self.versions.due(event.key, actor.start)))
+                self._owe(actor, event.key)
             case RangeRead():
                 self._take_range(actor, event, place)
             case Write():
@@ -100,8 +102,8 @@ class LongHistory:
         for version in event.listed:
             _check(version[1] == 0 or self._is_written(version), place, "version not written")
             self._see(actor, version, place)
-        for version in self.versions.due_within(event.low, event.high, actor.start):
-            self._owe(actor, version)
+        for key in self.versions.keys_within(event.low, event.high):
+            self._owe(actor, key)
 
     def _is_written(self, version: Version) -> bool:
         key, writer = version
@@ -116,16 +118,21 @@ class LongHistory:
             if writer in self.open:
                 actor.unended_seen.append((place, version))
 
-    def _owe(self, actor: Transaction, version: Version) -> None:
-        """A version that its snapshot has, which is due unless it wrote the key before."""
-        if version[1] and version[0] not in actor.written:
-            actor.needed.add(version)
+    def _owe(self, actor: Transaction, key: int) -> None:
+        """The version of a key that its snapshot has, which is due to its reads unless it wrote the key before."""
+        if key in actor.owed:
+            return
+        actor.owed.add(key)
+        writer = 0 if key in actor.written else self.versions.due(key, actor.start)
+        if writer:
+            actor.needed.add((key, writer))
 
     def _end(self, actor: Transaction, event: Event, place: int) -> None:
         """Ends a transaction. What it wrote are versions from here on."""
         del self.open[actor.number]
         self._ended.add(actor.number)
         actor.end = place
+        actor.owed.clear()
         if isinstance(event, Commit):
             actor.ending = Ending.COMMIT
             for key in actor.written:

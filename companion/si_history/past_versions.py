@@ -53,9 +53,6 @@ class PastVersions:
                     return
                 yield writer
 
-    def due_within(self, low: int, high: int, start: int) -> Iterator[tuple[int, int]]:
-        """The keys of a range of which a snapshot taken at the start has a version, each with its writer."""
-        for key in self._keys.within(low, high):
-            writer = self.due(key, start)
-            if writer:
-                yield key, writer
+    def keys_within(self, low: int, high: int) -> Iterator[int]:
+        """The keys of a range of which a version was committed."""
+        return self._keys.within(low, high)
