@@ -74,7 +74,7 @@ class PartWriter:
         return part
 
     def _load(self) -> None:
-        """Writes what is needed of transactions of earlier parts: first of those that didn't commit, then the commits in order."""
+        """Writes what is needed of transactions of earlier parts: of those that didn't commit, then the commits in their order."""
         others = self._others()
         for other in sorted(others, key=lambda it: (it.ending is Ending.COMMIT, it.end)):
             for token in other.tokens:

@@ -192,7 +192,7 @@ class RandomTest(unittest.TestCase):
 
 class CutTest(unittest.TestCase):
     def test_the_parts_of_a_small_run(self) -> None:
-        """The fourth transaction is open at the cut. What it needs is loaded: the version that was due, and the one that is newer."""
+        """Transaction 4 is open at the cut. What it needs is loaded: the version that was due, and the newer one."""
         text = "w1[1] c1 w2[1] c2 r4[1:2] w4[1] w3[1] c3 c4"
         first, second = split(text, 8)
         self.assertEqual((first.tokens, first.places), ("w1[1] c1 w2[1] c2 w3[1] c3".split(), [1, 2, 3, 4, 7, 8]))
@@ -247,6 +247,18 @@ class CutTest(unittest.TestCase):
         for before, after in (("c1", "c1 c2"), ("c1 c2", "c1"), ("w1[1] c1", "w1[1] w1[2]")):
             with self.subTest(before=before), self.assertRaisesRegex(BadInput, "^it changed while it was read$"):
                 list(parts_of(after.split(), endings_of(before.split()), 100))
+
+
+    def test_bytes(self) -> None:
+        """No part is longer than a text may be."""
+        with mock.patch("si_history.part_room.MAX_BYTES", 400):
+            for text, most in runs(RUNS // 4):
+                try:
+                    parts = split(text, most)
+                except BadInput:
+                    continue
+                for part in parts:
+                    self.assertLessEqual(len(text_of(part)) + 1, 400)
 
 
 class HelpersTest(unittest.TestCase):
