@@ -215,6 +215,18 @@ class CutTest(unittest.TestCase):
         with self.assertRaisesRegex(BadInput, "^it can't be cut behind token 0 into parts of 7 events"):
             split("w2[1] r1[1:2] w1[1] c1 w3[3] w3[4] w3[5] c3 c2", 7)
 
+    def test_two_versions_that_are_committed_later(self) -> None:
+        """Of two of one key, which are a bad write where both commit, a part has one at most."""
+        text = "w8[8] w8[7] w8[6] c8 w1[1] w2[1] r3[1:1] c3 r4[1:2] c4 w5[5] c5 c1 c2"
+        self.assertEqual([part.last for part in split(text, 12)], [9, 14])
+        self.assertEqual([part.last for part in split(text.replace("c2", "a2"), 12)], [11, 14])
+
+    def test_who_runs_over_a_cut(self) -> None:
+        """The transaction whose first event is the last one before the cut does, and one that aborts isn't counted."""
+        text = "b5 w1[1] w1[2] w1[3] c1 r4[4:0] c4 c5"
+        self.assertEqual([(part.last, part.over) for part in split(text, 5)], [(6, 0), (8, 2)])
+        self.assertEqual([(part.last, part.over) for part in split(text.replace("c5", "a5"), 5)], [(6, 0), (8, 1)])
+
     def test_no_room(self) -> None:
         with self.assertRaisesRegex(BadInput, "^transaction 3, which ends at token 7, has no room in a part of 5 events"):
             split("w1[1] c1 r2[1:1] w2[1] c2 r3[1:1] c3", 5)
