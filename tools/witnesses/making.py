@@ -5,12 +5,16 @@ from __future__ import annotations
 from collections.abc import Iterator
 from functools import lru_cache
 from itertools import groupby
+from threading import Lock
 
 from witnesses.answers import Answer, Copy, of_call, of_program, of_tests, of_texts
 from witnesses.edits import Edit
 from witnesses.fault import Fault
 from witnesses.inputs import Call, Input, Nothing, Test, Text, hash_of
 from witnesses.ledger import Entry
+
+# Whoever has it compiles the code as it is, so that no two do so for the same inputs.
+AS_IT_IS = Lock()
 
 
 def alike(given: Input) -> tuple[object, ...]:
@@ -36,11 +40,16 @@ def tried(edit: Edit | None, crate: str, group: tuple[Input, ...]) -> list[Answe
 
 
 @lru_cache(maxsize=None)
+def tried_as_it_is(crate: str, group: tuple[Input, ...]) -> list[Answer]:
+    return tried(None, crate, group)
+
+
 def of_code(program: str, crate: str, group: tuple[Input, ...]) -> list[Answer]:
     """What the code answers as it is: the program at hand, where no option of `rt try` is given."""
     if alike(group[0]) == (Text, ()):
         return [of_program(program, it) for it in group if isinstance(it, Text)]
-    return tried(None, crate, group)
+    with AS_IT_IS:
+        return tried_as_it_is(crate, group)
 
 
 def entry_of(program: str, edit: Edit, inputs: list[Input]) -> Entry:

@@ -7,7 +7,9 @@ from __future__ import annotations
 
 import os
 import tempfile
+import time
 import unittest
+from concurrent.futures import ThreadPoolExecutor
 from contextlib import redirect_stderr, redirect_stdout
 from dataclasses import replace
 from io import StringIO
@@ -21,7 +23,7 @@ from witnesses.edits import Edit, copy_into, edits
 from witnesses.fault import Fault
 from witnesses.inputs import Call, Input, Nothing, Test, Text, hash_of, spelled_out
 from witnesses.ledger import Entry
-from witnesses.making import entry_of
+from witnesses.making import entry_of, of_code
 
 # A kit that answers a text by its bytes in capitals, where the code isn't edited, and by its bytes where it is. A text of
 # two words it faults on. Its tests fail where the code is edited.
@@ -145,6 +147,19 @@ class Making(Kit):
     def test_test(self) -> None:
         entry = self.entry(Test("tests::one"), Test("tests::two"))
         self.assertEqual((entry.real, entry.edited[0]), (["test ok"], "test FAILED"))
+
+    def test_code_is_tried_once(self) -> None:
+        """Two edits that ask at once what the code answers share one try."""
+        tries: list[str] = []
+
+        def slow(_: Edit | None, crate: str, __: tuple[Input, ...]) -> list[list[str]]:
+            tries.append(crate)
+            time.sleep(0.1)
+            return [["test ok"]]
+
+        with mock.patch("witnesses.making.tried", slow), ThreadPoolExecutor(2) as pool:
+            told = list(pool.map(lambda _: of_code("", "low", (Test("tests::shared"),)), range(2)))
+        self.assertEqual((told, tries), ([[["test ok"]]] * 2, ["low"]))
 
     def test_same_answers(self) -> None:
         with self.assertRaisesRegex(Fault, "answers the same to each of its inputs"):
