@@ -77,6 +77,12 @@ asks() {
     count "$name: the kit" "$([ "$asked" = "$1" ] || echo "it was asked for '$asked' and not '$1'")"
 }
 
+# steps_with_kit COUNT: so many of the steps that run were the one that needs the kit.
+steps_with_kit() {
+    ran=$(grep -c '^witnesses by ' "$tree/ran")
+    count "$name: the step that needs the kit" "$([ "$ran" = "$1" ] || echo "it ran $ran times and not $1")"
+}
+
 # tries PROGRAM: the steps that are there were run with this program.
 tries() {
     count "$name: its program" "$([ -s "$tree/ran" ] && grep -v " by $1\$" "$tree/ran"; [ -s "$tree/ran" ] || echo "no step ran")"
@@ -103,6 +109,7 @@ says "make prove"
 says "make test FULL=1"
 says "left out: nothing to see"
 ends "$steps passed, 0 failed"
+steps_with_kit 0
 makes "a step that fails" 2 "$bare" test FAILING=links
 says "FAILED 1 s links"
 ends "$((steps - 1)) passed, 1 failed"
@@ -115,9 +122,12 @@ makes "make prove" 0 "$kit" prove
 asks "run test"
 tries crates/si_audit/out/si_audit
 ends "4 passed, 0 failed"
+steps_with_kit 0
 makes "the whole gate" 0 "$kit" test FULL=1
 asks ci
-ends "$((steps + 3)) passed, 0 failed"
+ends "$((steps + 4)) passed, 0 failed"
+steps_with_kit 1
+says "make witnesses ALL=1"
 echo fn last >>"$tree/crates/si_audit/src/main.rt"
 makes "the whole gate, and no program" 0 "$kit" test FULL=1
 asks "ci run"

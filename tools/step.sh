@@ -12,6 +12,10 @@ modules() {
 }
 
 case $name in
+    witnesses)
+        what="five wrong edits, other ones for each commit, answer to their witnesses as the ledger has it"
+        set -- env PYTHONPATH=tools nice -n 10 python3 -B -m witnesses try "$PROGRAM" 5
+        ;;
     texts)
         what="the program on 20,000 texts that nobody means"
         set -- modules fuzz_texts "$PROGRAM"
@@ -67,6 +71,10 @@ case $name in
     trying)
         what="what tries the witnesses of the wrong edits"
         set -- modules unittest -q witnesses.tests
+        ;;
+    ledger)
+        what="the ledger of the wrong edits' witnesses is of the edits and files at hand"
+        set -- modules witnesses check
         ;;
     lines)
         what="the program on command lines, and with devices that fail"

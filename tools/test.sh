@@ -5,12 +5,13 @@
 #   sh tools/test.sh prove   the kit proves what isn't proved yet and builds the program; then the crates' own tests
 #   sh tools/test.sh steps   tells the names of the steps that make test runs
 #   FULL=1 sh tools/test.sh  the whole gate: the kit proves all from nothing and tries the edits that it must refuse; then all
-#                            steps, on the program that it built
+#                            steps, on the program that it built, and five of those edits on their witnesses
 # The lines before the last one say what was not tested, and what tests it. The last line counts the steps.
 
-# The names of the steps, in their order, and those that are about what the kit left.
-steps=$(sed -n 's/^    \([a-z][a-z0-9 |]*\))$/\1/p' tools/step.sh | tr -d ' ' | tr '|' '\n' | grep -vx -e kept -e growths)
+# The names of the steps, in their order, those that are about what the kit left, and the one that runs the kit.
+steps=$(sed -n 's/^    \([a-z][a-z0-9 |]*\))$/\1/p' tools/step.sh | tr -d ' ' | tr '|' '\n' | grep -vx -e kept -e growths -e witnesses)
 proof_steps="kept growths"
+kit_steps=witnesses
 built=crates/si_audit/out/si_audit
 passed=0
 failed=0
@@ -51,11 +52,14 @@ finish() {
     case $mode in
         fast)
             echo "the proofs, and the crates' own tests: make prove, which needs the Rattle kit"
-            echo "the wrong edits that the prover must refuse, and all proofs from nothing: make test FULL=1, which needs it too"
+            echo "the wrong edits, which the prover must refuse, and all proofs from nothing: make test FULL=1, which needs it too"
             ;;
         prove)
             echo "the program and the companion: make test"
-            echo "the wrong edits that the prover must refuse, and all proofs from nothing: make test FULL=1"
+            echo "the wrong edits, which the prover must refuse, and all proofs from nothing: make test FULL=1"
+            ;;
+        full)
+            echo "the wrong edits on their witnesses, but for five: make witnesses ALL=1"
             ;;
     esac
     if [ "$mode" != prove ] && [ -z "$SERVERS" ]; then
@@ -131,7 +135,7 @@ case $mode in
         export PROGRAM="$built"
         first "all is proved from nothing, the prover refuses each wrong edit, and the crates' own tests" prove_all
         # shellcheck disable=SC2086
-        others $steps $proof_steps
+        others $kit_steps $steps $proof_steps
         ;;
 esac
 finish
