@@ -244,9 +244,7 @@ fn is_answered(alloc: Global, row: &Row) -> Result<bool, Fail> {
     match wanted {
         Ok(_) => Ok(false),
         Err((which, part)) => Ok(
-            kind == which
-                && said.contains(part)
-                && said.starts_with("error: ") == (kind == "usage"),
+            kind == which && said.contains(part) && said.contains("error: ") == (kind == "usage"),
         ),
     }
 }
