@@ -3,7 +3,7 @@ ghost use Rattle.std.specs.Prelude.{◌≡◌, ◌≢◌, ◌↔◌, ℕ, List, 
 ghost use Rattle.sia_events.specs.Limits.{Limits};
 ghost use Rattle.sia_events.specs.declared.event.Event.{Event};
 ghost use Rattle.sia_events.specs.Locating.{StandsForLocated};
-ghost use Rattle.sia_events.specs.Refusals.{IsRefusal, IsWellFormed};
+ghost use Rattle.sia_events.specs.Refusals.{IsRefusal};
 ghost use Rattle.sia_events.specs.Streaming.{Progress, StandsForRead};
 ghost use Rattle.sia_events.specs.declared.fault.TextFault.{TextFault};
 ghost use Rattle.si_audit.specs.declared.cli.form.Form.{Form};
@@ -24,11 +24,11 @@ use crate::explain::refused::push_place;
 use crate::report::lines::push_refusal;
 use crate::report::listing::sheets_of;
 use crate::report::sheets::one_sheet;
-use sia_events::{History, Locator, NoMemory, TextFault, TextReader};
+use sia_events::{Locator, Log, NoMemory, TextFault, TextReader};
 use sia_graph::Judgement;
 use sia_index::Index;
-use sia_index::make::index;
-use sia_parts::{Committed, Recorded};
+use sia_index::make::index_log;
+use sia_parts::Committed;
 use std::alloc::Global;
 
 /// What is written of a text, and how its run ends.
@@ -61,46 +61,39 @@ fn outcome_of(j: &Judgement, level: Level) -> Outcome
     }
 }
 
-/// The answer to a history by its index.
+/// The answer to the history of a log by its index.
 fn answer_by_index<C: Crew>(
     crew: &C,
     alloc: Global,
-    h: History,
+    log: Log,
     ix: &Index,
     o: &Options,
 ) -> Result<Answer, NoMemory>
     requires ready { C.ready crew.now }
-    requires index { ix.now ≡ h }
-    requires well_formed { IsWellFormed h }
-    ensures report { IfOk result (λ answer. IsReportOf o.now.form h (text_of answer.sheets.items)) }
-    ensures outcome { IfOk result (λ answer. IsOutcomeOf o.now.level h answer.outcome) }
+    requires index { ix.now ≡ log }
+    ensures report { IfOk result (λ answer. IsReportOf o.now.form log (text_of answer.sheets.items)) }
+    ensures outcome { IfOk result (λ answer. IsOutcomeOf o.now.level log answer.outcome) }
 {
     let committed = Committed::of(alloc, ix)?;
-    let of = Recorded {
-        history: &h,
-        index: ix,
-        committed: &committed,
-    };
-    let (judgement, looks) = judged(crew, alloc, &of, o)?;
+    let (judgement, looks) = judged(crew, alloc, &log, ix, &committed, o)?;
     let outcome = outcome_of(&judgement, o.level());
-    let sheets = sheets_of(crew, alloc, h, ix, &committed, &judgement, looks, o)?;
+    let sheets = sheets_of(crew, alloc, log, ix, &committed, &judgement, looks, o)?;
     Ok(Answer { sheets, outcome })
 }
 
-/// The answer to a history.
-fn answer_to_history<C: Crew>(
+/// The answer to the history of a log.
+fn answer_to_log<C: Crew>(
     crew: &C,
     alloc: Global,
-    h: History,
+    log: Log,
     o: &Options,
 ) -> Result<Answer, NoMemory>
     requires { C.ready crew.now }
-    ensures report { IfOk result (λ answer. IsReportOf o.now.form h (text_of answer.sheets.items)) }
-    ensures outcome { IfOk result (λ answer. IsOutcomeOf o.now.level h answer.outcome) }
+    ensures report { IfOk result (λ answer. IsReportOf o.now.form log (text_of answer.sheets.items)) }
+    ensures outcome { IfOk result (λ answer. IsOutcomeOf o.now.level log answer.outcome) }
 {
-    h.law();
-    let ix = index(alloc, &h)?;
-    answer_by_index(crew, alloc, h, &ix, o)
+    let ix = index_log(alloc, &log)?;
+    answer_by_index(crew, alloc, log, &ix, o)
 }
 
 /// The answer to a refused text, of which the locator tells where the refused token is.
@@ -148,8 +141,8 @@ pub(crate) fn answer_to_text<C: Crew>(
     ensures report { (limits : Limits) (bytes : List ℕ) → IsReceived limits (o.now.form ≡ Form.Explained) locator.now text bytes → IfOk result (λ answer. IsReport limits o.now.form bytes (text_of answer.sheets.items)) }
     ensures outcome { (limits : Limits) (bytes : List ℕ) → StandsForRead limits text bytes → IfOk result (λ answer. IsOutcome limits o.now.level bytes answer.outcome) }
 {
-    match text.finish() {
-        Ok(h) => answer_to_history(crew, alloc, h, o),
+    match text.finish_log() {
+        Ok(log) => answer_to_log(crew, alloc, log, o),
         Err(fault) => {
             if is_lost(&fault) {
                 return Err(NoMemory);

@@ -29,11 +29,11 @@ pub(crate) trait Crew {
     fn find(&self, alloc: Global, count: u32, job: &Auditing) -> Result<Vec<PartFound>, NoMemory>
         requires ready { ready self.now }
         requires few { count ≤ 1024 }
-        requires index { job.now.index.now ≡ job.now.history.now }
+        requires index { job.now.index.now ≡ job.now.log.now }
         requires committed { ListsAscending (IsCommitted job.now.index.now) job.now.committed.now }
         requires parts { count ≤ length job.now.parts.now }
         ensures len { IfOk result (λ found. length found.items ≡ count) }
-        ensures owed { IfOk result (λ found. AnswersEach (λ number one. IfSome (slice_get job.now.parts.now number) (λ part. IsPartFound job.now.history.now (IsInPart part) one)) count found.items) };
+        ensures owed { IfOk result (λ found. AnswersEach (λ number one. IfSome (slice_get job.now.parts.now number) (λ part. IsPartFound job.now.log.now (IsInPart part) one)) count found.items) };
 
     /// What is made of each of the first chunks of edges.
     fn print(&self, alloc: Global, count: u32, job: &Printing) -> Result<Vec<Sheet>, NoMemory>

@@ -14,7 +14,7 @@ use crate::evidence::Evidence;
 use crate::laws::{replay_law, ssi_law};
 use crate::ssi::{Dangerous, dangerous_of, passes};
 use crate::verdict::{Verdict, settle_looks};
-use sia_events::{History, NoMemory};
+use sia_events::{Log, NoMemory};
 use sia_index::{Counts, Index, counted};
 use sia_parts::{BadRead, BadWrite, Committed, Gathering, Looks, Unexplained, places_of};
 use std::alloc::Global;
@@ -50,19 +50,19 @@ fn is_serializable(verdict: &Verdict, unexplained: &[Unexplained]) -> bool
 /// Judges a history by what was found at all its keys. Beside the judgement stands what its edges are told by.
 pub fn judge(
     alloc: Global,
-    h: &History,
+    log: &Log,
     ix: &Index,
     committed: &Committed,
     found: Gathering,
 ) -> Result<(Judgement, Looks), NoMemory>
-    requires index { ix.now ≡ h.now }
+    requires index { ix.now ≡ log.now }
     requires committed { ListsAscending (IsCommitted ix.now) committed.now }
-    requires found { IsGathering h.now found }
-    ensures exact { IfOk result (λ (j, looks). IsJudgement h.now j) }
+    requires found { IsGathering log.now found }
+    ensures exact { IfOk result (λ (j, looks). IsJudgement log.now j) }
     ensures pass { IfOk result (λ (j, looks). IsTrue j.pass → IsTrue j.serializable × IsOrderVerdict j.verdict) }
     ensures looks { IfOk result (λ (j, looks). AreLooks ix.now (λ _. ⊤) looks) }
 {
-    h.law();
+    log.law();
     let places = places_of(alloc, &found.looks)?;
     let evidence = Evidence {
         index: ix,
@@ -73,7 +73,7 @@ pub fn judge(
     };
     let pass = passes(alloc, &evidence, &found.bad_reads, &found.bad_writes)?;
     let verdict = settle_looks(alloc, &evidence)?;
-    let counts = counted(h, ix);
+    let counts = counted(log, ix);
     let serializable = is_serializable(&verdict, &found.unexplained);
     replay_law();
     ssi_law();

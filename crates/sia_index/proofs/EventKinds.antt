@@ -5,12 +5,6 @@ use Rattle.sia_events.specs.declared.event.Listed.{Listed}
 use Rattle.sia_events.specs.declared.event.Event.TheVariants.{Write, Read, Range}
 
 module _ {x : Option Event} where
-  pub one_event : {a b : Event} → x ≡ Some a → x ≡ Some b → a ≡ b
-  one_event a b = cc
-
-  pub none_here : {e : Event} → x ≡ None → ¬ (x ≡ Some e)
-  none_here none is = cc
-
   pub write_no_read : {t k u l s : ℕ} → x ≡ Some (Write t k) → ¬ (x ≡ Some (Read u l s))
   write_no_read at is = cc
 

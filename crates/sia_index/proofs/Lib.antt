@@ -7,9 +7,6 @@ pub mod Writes
 pub mod Collected
 pub mod Dealt
 pub mod EventKinds
-pub mod SpanRows
-pub mod Runs
-pub mod Spans
 pub mod Offsets
 pub mod ReadTables
 pub mod NextKeys
@@ -22,3 +19,4 @@ pub mod Columns
 pub mod Fates
 pub mod Tallies
 pub mod KeptTransactions
+pub mod LogTxns

@@ -1,5 +1,5 @@
 -- The rows of an index's tables: what each says of a history, and the order that they stand in.
-use Rattle.std.specs.Prelude.{◌≡◌, ◌⊎◌, ◌<◌, ◌≤◌, ℕ, Option, MatchOption, List, [], ◌∷◌, All, AllPairs, Contains, length, slice_index, slice_index_or, slice_set}
+use Rattle.std.specs.Prelude.{◌≡◌, ◌⊎◌, ◌<◌, ◌≤◌, ℕ, Option, Some, MatchOption, List, [], ◌∷◌, All, AllPairs, Contains, length, slice_get, slice_index, slice_index_or}
 use Rattle.sia_events.specs.declared.event.Event.{Event}
 use Rattle.sia_events.specs.Lists.{ListsAscending, ListsBy, Precedes}
 use Rattle.sia_events.specs.Transactions.{ActsAt, HasEvent, WritesAt, Wrote, WroteBefore, CommitsAt}
@@ -9,37 +9,18 @@ use Rattle.sia_index.specs.declared.info.Made.{Made}
 use Rattle.sia_index.specs.declared.info.ItemRead.{ItemRead}
 use Rattle.sia_index.specs.declared.info.RangeRead.{RangeRead}
 use Rattle.sia_index.specs.declared.info.TxnInfo.{TxnInfo}
-use Rattle.sia_index.specs.declared.txns.SpanRow.{SpanRow}
+use Rattle.sia_index.specs.declared.txns.NumberedTxn.{NumberedTxn}
+use Rattle.sia_events.specs.Numbering.{txns_of}
 use Rattle.sia_index.specs.declared.rows.WriteRow.{WriteRow}
+use Rattle.sia_index.specs.declared.rows.EventRow.{EventRow}
+use Rattle.sia_index.specs.declared.rows.EventRow.TheVariants as event_rows
+use Rattle.sia_events.specs.declared.event.Event.TheVariants as events
+use Rattle.sia_events.specs.Places.{at_place}
 use Rattle.sia_index.specs.declared.info.KeyVersion.{KeyVersion}
 
-abbrev pub AscendsBySpan : List SpanRow → Type 0
-AscendsBySpan spans = AllPairs (λ x y. Precedes (x.txn ∷ x.first ∷ x.last ∷ []) (y.txn ∷ y.first ∷ y.last ∷ [])) spans
-
--- the row goes from one event of its transaction to another
-abbrev pub IsSpanRow : List Event → SpanRow → Type 0
-IsSpanRow h s = ActsAt h s.txn s.first × ActsAt h s.txn s.last
-
--- some row of t spans place p
-abbrev pub IsSpanned : List SpanRow → ℕ → ℕ → Type 0
-IsSpanned spans t p = (s : SpanRow) × Contains spans s × (s.txn ≡ t) × (s.first ≤ p) × (p ≤ s.last)
-
--- every event stands in a row of its transaction, by transaction
-pub record AreSpans (h : List Event) (spans : List SpanRow) : Type 0 where
-  pub ascending : AscendsBySpan spans
-  pub right : All (IsSpanRow h) spans
-  pub whole : (t p : ℕ) → ActsAt h t p → IsSpanned spans t p
-
--- one row of t now reaches to place p
-abbrev pub IsLonger : List SpanRow → ℕ → ℕ → List SpanRow → Type 0
-IsLonger old t p new = (i : ℕ) × (i < length old) × ((d : SpanRow) → ((slice_index_or old i d).txn ≡ t) × (new ≡ slice_set old i (record { txn = t; first = (slice_index_or old i d).first; last = p })))
-
--- the first event of t stands at place first, and its last at place last
-pub record IsSpan (h : List Event) (t first last : ℕ) : Type 0 where
-  pub starts : ActsAt h t first
-  pub none_before : (p : ℕ) → ActsAt h t p → first ≤ p
-  pub ends : ActsAt h t last
-  pub none_after : (p : ℕ) → ActsAt h t p → p ≤ last
+-- every transaction of a log, by name, with its number there
+abbrev pub AreNumbered : List Event → List NumberedTxn → Type 0
+AreNumbered h rows = ListsBy (λ row. row.txn ∷ row.number ∷ []) (λ row. slice_get (txns_of h) row.number ≡ Some row.txn) rows
 
 -- every write event, by transaction and key
 abbrev pub AreWrites : List Event → List WriteRow → Type 0
@@ -107,3 +88,10 @@ pub record AreReaches (ranges : List RangeRead) (reaches : List ℕ) : Type 0 wh
   pub count : length reaches ≡ length ranges
   pub forward : AllPairs (λ x y. x ≤ y) reaches
   pub far : (i : ℕ) (d : RangeRead) → i < length ranges → (slice_index_or ranges i d).hi ≤ slice_index reaches i
+
+-- the row of the event at place p, which is neither a write nor a read where it has none
+abbrev pub IsEventRow : List Event → ℕ → EventRow → Type 0
+IsEventRow h p (event_rows.Write row) = (row.place ≡ p) × (at_place h p ≡ Some (events.Write row.txn row.key))
+IsEventRow h p (event_rows.Read row) = (row.place ≡ p) × (at_place h p ≡ Some (events.Read row.txn row.key row.saw))
+IsEventRow h p (event_rows.Range row) = (row.place ≡ p) × (listed : List (ℕ × ℕ)) × (at_place h p ≡ Some (events.Range row.txn row.lo row.hi listed))
+IsEventRow h p event_rows.None = ((t k : ℕ) → ¬ (at_place h p ≡ Some (events.Write t k))) × ((t k v : ℕ) → ¬ (at_place h p ≡ Some (events.Read t k v))) × ((t lo hi : ℕ) (listed : List (ℕ × ℕ)) → ¬ (at_place h p ≡ Some (events.Range t lo hi listed)))

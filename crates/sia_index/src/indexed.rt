@@ -14,14 +14,14 @@ use crate::keyed::{ByKey, ByTxn, between, find, hint_in, place_above, place_from
 use crate::ordering::group_at;
 use crate::rows::WriteRow;
 use crate::slots::Slots;
-use sia_events::{History, Key, TxnId};
+use sia_events::{Key, Log, TxnId};
 use std::marker::Model;
 use std::snapshot::Snapshot;
 
 /// A history, as what is asked of it needs it. No answer takes memory.
 #[derive(Drop)]
 pub struct Index {
-    pub(crate) of: Snapshot<History>,
+    pub(crate) of: Snapshot<Log>,
     pub(crate) ids: Vec<TxnId>,
     pub(crate) infos: Vec<TxnInfo>,
     pub(crate) slots: Slots,

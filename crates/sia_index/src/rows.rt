@@ -1,6 +1,6 @@
 //! The rows of an index's tables, made of the events of a history. Each table ascends by the fields of its rows, from the first field on.
 ghost use Rattle.std.specs.Prelude.{IfOk, List, Contains, IsTrue, length};
-ghost use Rattle.sia_index.specs.Rows.{AreWrites, AreReads, AreRanges, AreMade, AreVersionRows, AreTxns, AreReaches};
+ghost use Rattle.sia_index.specs.Rows.{AreWrites, AreReads, AreRanges, AreMade, AreVersionRows, AreTxns, AreReaches, IsEventRow};
 ghost use Rattle.sia_events.specs.declared.event.Event.{Event};
 ghost use Rattle.sia_index.specs.Info.{AreWrittenKeys};
 ghost use Rattle.sia_index.specs.Tables.{AreOffsets};
@@ -9,7 +9,7 @@ use crate::info::{ItemRead, KeyVersion, Made, RangeRead, TxnInfo};
 use crate::keyed::{By, ByKey, ByPlace, ByTxn, stands_at};
 use crate::ordering::{group_at, in_order};
 use crate::slots::Slots;
-use sia_events::{Event, History, Key, TxnId};
+use sia_events::{Key, Log, Row, TxnId};
 use std::alloc::{AllocError, Global};
 
 /// A write event.
@@ -51,39 +51,23 @@ pub struct EventRows {
     pub ranges: Vec<RangeRead>,
 }
 
-/// The rows of a history's events, collected in one pass.
-pub fn rows_of(alloc: Global, h: &History) -> Result<EventRows, AllocError>
-    ensures writes { IfOk result (λ rows. AreWrites h.now rows.writes.items) }
-    ensures reads { IfOk result (λ rows. AreReads h.now rows.reads.items) }
-    ensures ranges { IfOk result (λ rows. AreRanges h.now rows.ranges.items) }
+/// The rows of a log's events, collected in one pass.
+pub fn rows_of(alloc: Global, log: &Log) -> Result<EventRows, AllocError>
+    ensures writes { IfOk result (λ rows. AreWrites log.now rows.writes.items) }
+    ensures reads { IfOk result (λ rows. AreReads log.now rows.reads.items) }
+    ensures ranges { IfOk result (λ rows. AreRanges log.now rows.ranges.items) }
 {
-    let count = h.len() as usize;
+    let count = log.len() as usize;
     let mut writes = Vec::with_capacity(alloc, count)?;
     let mut reads = Vec::with_capacity(alloc, count)?;
     let mut ranges = Vec::with_capacity(alloc, count)?;
-    for before in 0..h.len() {
+    for before in 0..log.len() {
         let place = before + 1;
-        if let Some(event) = h.event(place) {
-            match event {
-                Event::Write { txn, key } => writes.push(WriteRow {
-                    txn: *txn,
-                    key: *key,
-                    place,
-                })?,
-                Event::Read { txn, key, saw } => reads.push(ItemRead {
-                    key: *key,
-                    txn: *txn,
-                    place,
-                    saw: *saw,
-                })?,
-                Event::Range { txn, lo, hi, .. } => ranges.push(RangeRead {
-                    lo: *lo,
-                    hi: *hi,
-                    txn: *txn,
-                    place,
-                })?,
-                _ => {}
-            }
+        match event_row(log, place) {
+            EventRow::Write(row) => writes.push(row)?,
+            EventRow::Read(row) => reads.push(row)?,
+            EventRow::Range(row) => ranges.push(row)?,
+            EventRow::None => {}
         }
     }
     Ok(EventRows {
@@ -91,6 +75,46 @@ pub fn rows_of(alloc: Global, h: &History) -> Result<EventRows, AllocError>
         reads: in_order::<ItemRead, ByKey>(alloc, reads)?,
         ranges: in_order::<RangeRead, ByKey>(alloc, ranges)?,
     })
+}
+
+/// The row of an event, if it has one.
+enum EventRow {
+    Write(WriteRow),
+    Read(ItemRead),
+    Range(RangeRead),
+    None,
+}
+
+// The row of the event at the place.
+fn event_row(log: &Log, place: u32) -> EventRow
+    ensures { IsEventRow log.now place result }
+{
+    let Some(row) = log.row(place) else {
+        return EventRow::None;
+    };
+    match row {
+        Row::Write { txn, key, .. } => EventRow::Write(WriteRow {
+            txn: log.txn(txn).name,
+            key: log.key(key),
+            place,
+        }),
+        Row::Read { txn, key, saw } | Row::OwnRead { txn, key, saw } => EventRow::Read(ItemRead {
+            key: log.key(key),
+            txn: log.txn(txn).name,
+            place,
+            saw: log.version(saw),
+        }),
+        Row::Range { txn, range, .. } => {
+            let (lo, hi) = log.range(range);
+            EventRow::Range(RangeRead {
+                lo,
+                hi,
+                txn: log.txn(txn).name,
+                place,
+            })
+        }
+        _ => EventRow::None,
+    }
 }
 
 /// Each written key once, ascending.
@@ -112,18 +136,18 @@ pub fn keys_of(alloc: Global, writes: &[WriteRow]) -> Result<Vec<Key>, AllocErro
 /// Every version that a committed transaction made, by key and commit.
 pub fn version_rows_of(
     alloc: Global,
-    h: &History,
+    log: &Log,
     ids: &[TxnId],
     infos: &[TxnInfo],
     writes: &[WriteRow],
     starts: &[usize],
 ) -> Result<Vec<KeyVersion>, AllocError>
-    requires txns_are { AreTxns h.now ids.now infos.now }
-    requires writes_are { AreWrites h.now writes.now }
+    requires txns_are { AreTxns log.now ids.now infos.now }
+    requires writes_are { AreWrites log.now writes.now }
     requires starts_are { AreOffsets (λ w. w.txn) ids.now writes.now starts.now (length ids.now) }
-    ensures { IfOk result (λ rows. AreVersionRows h.now rows.items) }
+    ensures { IfOk result (λ rows. AreVersionRows log.now rows.items) }
 {
-    h.law();
+    log.law();
     let mut rows = Vec::with_capacity(alloc, writes.len())?;
     for i in 0..ids.len() {
         if let Some(commit) = infos[i].commit() {

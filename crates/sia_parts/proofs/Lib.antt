@@ -37,3 +37,4 @@ pub mod LifetimeTables
 pub mod LookPlaces
 pub mod NextVersions
 pub mod PushedWords
+pub mod ListedRuns

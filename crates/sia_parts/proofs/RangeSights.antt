@@ -27,9 +27,9 @@ use Rattle.sia_parts.proofs.Covering.{covers_nothing, covers_same}
 listed_of : (t lo hi u from to : ℕ) (a b : List (ℕ × ℕ)) → Range t lo hi a ≡ Range u from to b → a ≡ b
 listed_of t lo hi u from to a b same = cc
 
--- the list that stands in the event of a range read
-pub list_at : (h now : List Event) → h ≡ now → (range : RangeRead) → IsRangeRead h range → (listed : List (ℕ × ℕ)) → ((t lo hi : ℕ) (l : List (ℕ × ℕ)) → at_place now range.place ≡ Some (Range t lo hi l) → listed ≡ l) → at_place h range.place ≡ Some (Range range.txn range.lo range.hi listed)
-list_at h now same range is listed own = subst (λ (l : List (ℕ × ℕ)). at_place h range.place ≡ Some (Range range.txn range.lo range.hi l)) (sym (own range.txn range.lo range.hi is.0 (subst (λ e. at_place e range.place ≡ Some (Range range.txn range.lo range.hi is.0)) same is.1))) is.1
+-- the event of a range read stands in the same history by another name
+pub list_there : (h now : List Event) → h ≡ now → (range : RangeRead) → (is : IsRangeRead h range) → at_place now range.place ≡ Some (Range range.txn range.lo range.hi is.0)
+list_there h now same range is = subst (λ e. at_place e range.place ≡ Some (Range range.txn range.lo range.hi is.0)) same is.1
 
 module _ (h : List Event) (wf : IsWellFormed h) (part : Part) (range : RangeRead) (listed : List (ℕ × ℕ)) (at : at_place h range.place ≡ Some (Range range.txn range.lo range.hi listed)) where
   -- a key that it covers and lists, and one that it covers and doesn't list

@@ -33,7 +33,7 @@ use crate::finding::{BadRead, BadWrite, Unexplained};
 use crate::findings::PartFindings;
 use crate::looks::{Absence, Look};
 use crate::numbered::find_in_part;
-use sia_events::{History, NoMemory};
+use sia_events::{History, Log, NoMemory};
 use sia_index::Index;
 use sia_index::ordering::put_in_order;
 use std::alloc::Global;
@@ -59,7 +59,7 @@ pub fn audit_part(
     ix.law();
     let committed = Committed::of(alloc, ix)?;
     let keys = ix.written_keys();
-    let found = find_in_part(alloc, h, ix, &committed, part)?;
+    let found = find_in_part(alloc, h.log(), ix, &committed, part)?;
     let fans = Fans::of(alloc, ix, &committed, found.looks)?;
     let numbers = fans.chunk(alloc, 0, committed.ids().len())?;
     let edges = edges_of_numbers(alloc, committed.ids(), keys, numbers.as_slice())?;
@@ -74,12 +74,12 @@ pub fn audit_part(
 /// The bad reads at the keys of the part, and the looks and the absences of committed transactions there.
 pub(crate) fn seen_of(
     alloc: Global,
-    h: &History,
+    log: &Log,
     ix: &Index,
     committed: &Committed,
     part: Part,
 ) -> Result<Seen, NoMemory>
-    requires index { ix.now ≡ h.now }
+    requires index { ix.now ≡ log.now }
     requires committed { ListsAscending (IsCommitted ix.now) committed.now }
     ensures bad_reads { IfOk result (λ seen. ListsBadReads ix.now (IsInPart part) seen.bad_reads.items) }
     ensures seen { IfOk result (λ seen. AreSeen ix.now part seen.looks.items seen.absences.items) }
@@ -92,13 +92,20 @@ pub(crate) fn seen_of(
     let mut absences = Vec::new(alloc);
     let first = first_commit(ix, part);
     let scope = Scope {
-        h,
+        log,
         ix,
         committed,
         part,
         first,
     };
-    let ascend = put_range_reads(&scope, &turns, &mut bad_reads, &mut looks, &mut absences)?;
+    let ascend = put_range_reads(
+        alloc,
+        &scope,
+        &turns,
+        &mut bad_reads,
+        &mut looks,
+        &mut absences,
+    )?;
     let end = looks.len();
     put_item_reads(ix, committed, reads, &mut bad_reads, &mut looks)?;
     put_in_order(&mut bad_reads);
@@ -136,12 +143,10 @@ pub(crate) fn bad_writes_of(
 /// The unexplained reads at the keys of the part: each is a bad read too.
 pub(crate) fn unexplained_of(
     alloc: Global,
-    h: &History,
     ix: &Index,
     part: Part,
     bad: &[BadRead],
 ) -> Result<Vec<Unexplained>, NoMemory>
-    requires of { ix.now ≡ h.now }
     requires bad { ListsBadReads ix.now (IsInPart part) bad.now }
     ensures { IfOk result (λ found. ListsUnexplained ix.now (IsInPart part) found.items) }
 {

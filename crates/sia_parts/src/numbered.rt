@@ -11,27 +11,27 @@ use crate::edges::committed::Committed;
 use crate::findings::PartFound;
 use crate::looking::writers_of;
 use crate::looks::Looks;
-use sia_events::{History, NoMemory};
+use sia_events::{Log, NoMemory};
 use sia_index::Index;
 use std::alloc::Global;
 
-/// The findings at the keys of the part, by an index of the history and its committed transactions.
+/// The findings at the keys of the part, by the log of the history, its index and its committed transactions.
 pub fn find_in_part(
     alloc: Global,
-    h: &History,
+    log: &Log,
     ix: &Index,
     committed: &Committed,
     part: Part,
 ) -> Result<PartFound, NoMemory>
-    requires index { ix.now ≡ h.now }
+    requires index { ix.now ≡ log.now }
     requires committed { ListsAscending (IsCommitted ix.now) committed.now }
-    ensures { IfOk result (IsPartFound h.now (IsInPart part)) }
+    ensures { IfOk result (IsPartFound log.now (IsInPart part)) }
 {
     ix.law();
     ix.keys_law();
-    let seen = seen_of(alloc, h, ix, committed, part)?;
+    let seen = seen_of(alloc, log, ix, committed, part)?;
     let bad_writes = bad_writes_of(alloc, ix, part)?;
-    let unexplained = unexplained_of(alloc, h, ix, part, &seen.bad_reads)?;
+    let unexplained = unexplained_of(alloc, ix, part, &seen.bad_reads)?;
     let writers = writers_of(alloc, ix, committed, ix.versions_within(part.lo, part.hi))?;
     Ok(PartFound {
         bad_reads: seen.bad_reads,

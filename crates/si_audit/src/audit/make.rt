@@ -1,6 +1,5 @@
 // How a history is audited.
 ghost use Rattle.std.specs.Prelude.{◌≡◌, IfOk, IsTrue};
-ghost use Rattle.sia_events.specs.Refusals.{IsWellFormed};
 ghost use Rattle.sia_graph.specs.Verdicts.{IsOrderVerdict};
 ghost use Rattle.si_audit.specs.Accounts.{IsAccount};
 ghost use Rattle.si_audit.specs.Audits.{account_of};
@@ -9,36 +8,31 @@ use crate::audit::finding::judged;
 use crate::audit::findings::Audit;
 use crate::cli::options::Options;
 use crate::crew::{Crew, InThreads};
-use sia_events::{History, NoMemory};
+use sia_events::{History, Log, NoMemory};
 use sia_graph::listed;
 use sia_index::Index;
-use sia_index::make::index;
-use sia_parts::{Committed, Findings, Recorded};
+use sia_index::make::index_log;
+use sia_parts::{Committed, Findings};
 use std::alloc::Global;
 use std::sync::Wait;
 use std::thread::Threads;
 
-/// Audits a history by its index and by a crew.
+/// Audits the history of a log by its index and by a crew.
 fn audited<C: Crew>(
     crew: &C,
     alloc: Global,
-    h: &History,
+    log: &Log,
     ix: &Index,
     o: &Options,
 ) -> Result<Audit, NoMemory>
     requires ready { C.ready crew.now }
-    requires index { ix.now ≡ h.now }
-    requires well_formed { IsWellFormed h.now }
-    ensures exact { IfOk result (λ a. IsAccount h.now (account_of a)) }
+    requires index { ix.now ≡ log.now }
+    ensures exact { IfOk result (λ a. IsAccount log.now (account_of a)) }
     ensures pass { IfOk result (λ a. IsTrue a.pass → IsTrue a.serializable × IsOrderVerdict a.verdict) }
 {
+    ix.law();
     let committed = Committed::of(alloc, ix)?;
-    let of = Recorded {
-        history: h,
-        index: ix,
-        committed: &committed,
-    };
-    let (j, looks) = judged(crew, alloc, &of, o)?;
+    let (j, looks) = judged(crew, alloc, log, ix, &committed, o)?;
     let (edges, pivots) = listed(alloc, ix, &committed, looks)?;
     Ok(Audit {
         events: j.counts.events,
@@ -68,8 +62,8 @@ pub fn audit<R: Threads + Wait + Sync>(
     ensures exact { IfOk result (λ a. IsAccount h.now (account_of a)) }
     ensures pass { IfOk result (λ a. IsTrue a.pass → IsTrue a.serializable × IsOrderVerdict a.verdict) }
 {
-    h.law();
-    let ix = index(alloc, h)?;
+    let log = h.log();
+    let ix = index_log(alloc, log)?;
     let workers = o.workers();
-    audited(&InThreads { rt, workers }, alloc, h, &ix, o)
+    audited(&InThreads { rt, workers }, alloc, log, &ix, o)
 }

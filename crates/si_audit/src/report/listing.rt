@@ -13,18 +13,18 @@ use crate::crew::Crew;
 use crate::explain::explaining::explained;
 use crate::report::reporting::report_of;
 use crate::report::sheets::{one_sheet, sheets_of_edges};
-use sia_events::{History, NoMemory};
+use sia_events::{History, Log, NoMemory};
 use sia_graph::{Judgement, listing_law, pivots_of_links};
 use sia_index::Index;
 use sia_parts::{Committed, Looks, Recorded};
 use std::alloc::Global;
 
-/// The report of a history of which this is the judgement, in the form asked for. Makes no edge for a brief one. For a full one the
-/// history goes before the lines of its edges come, which take the most room.
+/// The report of the history of a log of which this is the judgement, in the form asked for. Makes no edge for a brief one. For a full one the
+/// log goes before the lines of its edges come, which take the most room.
 pub(crate) fn sheets_of<C: Crew>(
     crew: &C,
     alloc: Global,
-    history: History,
+    log: Log,
     index: &Index,
     committed: &Committed,
     j: &Judgement,
@@ -32,23 +32,24 @@ pub(crate) fn sheets_of<C: Crew>(
     o: &Options,
 ) -> Result<Vec<Vec<u8>>, NoMemory>
     requires ready { C.ready crew.now }
-    requires index { index.now ≡ history }
+    requires index { index.now ≡ log }
     requires committed { ListsAscending (IsCommitted index.now) committed.now }
     requires looks { AreLooks index.now (λ _. ⊤) looks }
-    requires judgement { IsJudgement history j.now }
-    ensures { IfOk result (λ sheets. IsReportOf o.now.form history (text_of sheets.items)) }
+    requires judgement { IsJudgement log j.now }
+    ensures { IfOk result (λ sheets. IsReportOf o.now.form log (text_of sheets.items)) }
 {
-    history.law();
+    log.law();
     listing_law();
     match o.form() {
         Form::Full => {
-            drop(history);
+            drop(log);
             let (sheets, links) = sheets_of_edges(crew, alloc, index, committed, looks)?;
             let pivots = pivots_of_links(alloc, index, links)?;
             report_of(alloc, j, sheets, &pivots)
         }
         Form::Brief => report_of(alloc, j, Vec::new(alloc), &[]),
         Form::Explained => {
+            let history = History::of(alloc, log)?;
             let of = Recorded {
                 history: &history,
                 index,

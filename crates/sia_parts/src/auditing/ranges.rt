@@ -1,7 +1,7 @@
 //! What range reads saw of the keys of a part: the keys that they listed, and the keys between these.
-ghost use Rattle.std.specs.Prelude.{◌≡◌, ◌↔◌, ◌≤◌, ℕ, All, Contains, List, false, IfOk, IsTrue, OnOk, map};
-ghost use Rattle.std.specs.List.Sorted.{IsStrictlyIncreasing};
+ghost use Rattle.std.specs.Prelude.{◌≡◌, ◌↔◌, ◌<◌, ◌≤◌, ℕ, All, Contains, List, Some, false, IfOk, IsTrue, OnOk, length, map, slice_index_or};
 ghost use Rattle.sia_events.specs.declared.event.Event.TheVariants as events;
+ghost use Rattle.sia_events.specs.Numbering.{names_of, pair_at, IsPair};
 ghost use Rattle.sia_events.specs.Places.{at_place};
 ghost use Rattle.sia_events.specs.Lists.{ListsAscending};
 ghost use Rattle.sia_events.specs.Refusals.{IsWellFormed};
@@ -22,8 +22,7 @@ use crate::cutting::Part;
 use crate::edges::committed::Committed;
 use crate::finding::BadRead;
 use crate::looks::{Absence, Look};
-use sia_events::{Event, History, Key, NoMemory, Version};
-use sia_index::keyed::{By, between};
+use sia_events::{Key, Log, NoMemory, Row, Version};
 use sia_index::{Index, RangeRead};
 use std::alloc::Global;
 
@@ -31,7 +30,7 @@ use std::alloc::Global;
 /// version was committed before the place `first`.
 #[derive(Clone, Copy)]
 pub(crate) struct Scope<'a> {
-    pub(crate) h: &'a History,
+    pub(crate) log: &'a Log,
     pub(crate) ix: &'a Index,
     pub(crate) committed: &'a Committed,
     pub(crate) part: Part,
@@ -55,13 +54,14 @@ pub(crate) fn ranges_in_turn(
 /// Adds the bad reads, the looks and the absences of range reads, one after another. Says whether the looks, of which there were
 /// none before, ascend by transaction and key.
 pub(crate) fn put_range_reads(
+    alloc: Global,
     scope: &Scope,
     ranges: &[RangeRead],
     bad: &mut Vec<BadRead>,
     looks: &mut Vec<Look>,
     absences: &mut Vec<Absence>,
 ) -> Result<bool, NoMemory>
-    requires of { scope.now.ix.now ≡ scope.now.h.now }
+    requires of { scope.now.ix.now ≡ scope.now.log.now }
     requires committed { ListsAscending (IsCommitted scope.now.ix.now) scope.now.committed.now }
     requires first { CommitsFrom scope.now.ix.now scope.now.part scope.now.first }
     requires ranges { All (IsRangeRead scope.now.ix.now) ranges.now }
@@ -71,24 +71,27 @@ pub(crate) fn put_range_reads(
 {
     let mut ascend = true;
     let mut last = None;
+    let mut room = Vec::new(alloc);
     for range in ranges {
         let end = looks.len();
-        last = put_range_read(scope, last, *range, bad, looks, absences)?;
+        last = put_range_read(scope, last, *range, &mut room, bad, looks, absences)?;
         ascend = still_ascend(ascend, looks, end);
     }
     Ok(ascend)
 }
 
-// Adds the bad reads, the looks and the absences of a range read, at the keys of the part. Passes on who read last.
+// Adds the bad reads, the looks and the absences of a range read, at the keys of the part, in a room that is used again. Passes
+// on who read last.
 fn put_range_read(
     scope: &Scope,
     last: Option<Known>,
     range: RangeRead,
+    room: &mut Vec<(Key, Version)>,
     bad: &mut Vec<BadRead>,
     looks: &mut Vec<Look>,
     absences: &mut Vec<Absence>,
 ) -> Result<Option<Known>, NoMemory>
-    requires of { scope.now.ix.now ≡ scope.now.h.now }
+    requires of { scope.now.ix.now ≡ scope.now.log.now }
     requires committed { ListsAscending (IsCommitted scope.now.ix.now) scope.now.committed.now }
     requires first { CommitsFrom scope.now.ix.now scope.now.part scope.now.first }
     requires last { IsLastKnown scope.now.ix.now last }
@@ -106,7 +109,7 @@ fn put_range_read(
     if lo > hi {
         return Ok(last);
     }
-    let listed = listed_within(listed_at(scope.h, range.place), lo, hi);
+    let listed = list_within(scope.log, range.place, lo, hi, room)?;
     let known = known_after(ix, scope.committed, last, range.txn, range.place);
     let own = ix.may_own(known.reader, lo, hi);
     let (first, end) = numbers_within(ix, lo, hi, ix.key_hint(lo), listed.len());
@@ -179,49 +182,60 @@ fn put_listed_keys(
     Ok(side_by_side)
 }
 
-// The keys that the range read at the place listed.
-fn listed_at(h: &History, place: u32) -> &[(Key, Version)]
-    ensures { (t lo hi : ℕ) (listed : List (ℕ × ℕ)) → at_place h.now place ≡ Some (events.Range t lo hi listed) → result.now ≡ listed }
+// Of the keys that the range read at the place listed those from `lo` to `hi`, in the room.
+fn list_within<'a>(
+    log: &Log,
+    place: u32,
+    lo: Key,
+    hi: Key,
+    room: &'a mut Vec<(Key, Version)>,
+) -> Result<&'a [(Key, Version)], NoMemory>
+    requires { (t from to : ℕ) × (all : List (ℕ × ℕ)) × (at_place log.now place ≡ Some (events.Range t from to all)) }
+    ensures ascending { IfOk result (λ listed. AscendsByKey listed.now) }
+    ensures each { IfOk result (λ listed. (t from to : ℕ) (all : List (ℕ × ℕ)) → at_place log.now place ≡ Some (events.Range t from to all) → (p : ℕ × ℕ) → Contains listed.now p ↔ (Contains all p × (lo ≤ p.0) × (p.0 ≤ hi))) }
 {
-    match h.event(place) {
-        Some(event) => match event {
-            Event::Range { listed, .. } => listed.as_slice(),
-            _ => &[],
-        },
-        None => &[],
+    log.law();
+    room.clear();
+    let listed = listed_at(log, place);
+    let from = first_from(log, listed, lo);
+    for at in from..listed.len() {
+        let pair = log.pair(listed[at]);
+        if pair.0 > hi {
+            return Ok(room.as_slice());
+        }
+        room.push(pair)?;
     }
+    Ok(room.as_slice())
 }
 
-/// Listed keys, each with a version.
-struct ByListed;
-
-impl By<(Key, Version)> for ByListed {
-    ghost by = { λ pair. pair.0 };
-
-    fn number(pair: &(Key, Version)) -> u64 {
-        pair.0
+// The first of listed pairs, by the log's numbers of them, whose key isn't below `lo`.
+fn first_from(log: &Log, listed: &[u32], lo: Key) -> usize
+    requires pairs { All (IsPair (names_of log.now)) listed.now }
+    requires ascending { AscendsByKey (map (pair_at (names_of log.now)) listed.now) }
+    ensures bound { result ≤ length listed.now }
+    ensures below { (i d : ℕ) → i < result → (pair_at (names_of log.now) (slice_index_or listed.now i d)).0 < lo }
+    ensures above { (i d : ℕ) → result ≤ i → i < length listed.now → lo ≤ (pair_at (names_of log.now) (slice_index_or listed.now i d)).0 }
+{
+    let mut low = 0;
+    let mut high = listed.len();
+    while low < high {
+        let middle = low + (high - low) / 2;
+        if log.pair(listed[middle]).0 < lo {
+            low = middle + 1;
+        } else {
+            high = middle;
+        }
     }
+    low
 }
 
-// Of listed keys those from `lo` to `hi`.
-fn listed_within(listed: &[(Key, Version)], lo: Key, hi: Key) -> &[(Key, Version)]
-    requires { IsStrictlyIncreasing (map (λ p. p.0) listed.now) }
-    ensures ascending { AscendsByKey result.now }
-    ensures each { (p : ℕ × ℕ) → Contains result.now p ↔ (Contains listed.now p × (lo ≤ p.0) × (p.0 ≤ hi)) }
+// The pairs that the range read at the place listed, by the log's numbers of them.
+fn listed_at(log: &Log, place: u32) -> &[u32]
+    ensures pairs { (t lo hi : ℕ) (all : List (ℕ × ℕ)) → at_place log.now place ≡ Some (events.Range t lo hi all) → map (pair_at (names_of log.now)) result.now ≡ all }
+    ensures within { All (IsPair (names_of log.now)) result.now }
 {
-    if are_within(listed, lo, hi) {
-        return listed;
+    match log.row(place) {
+        Some(Row::Range { range, .. }) => log.listed(range),
+        _ => &[],
     }
-    between::<(Key, Version), ByListed>(listed, lo, hi)
-}
-
-// Whether the first and the last of the listed keys show that all are from `lo` to `hi`.
-fn are_within(listed: &[(Key, Version)], lo: Key, hi: Key) -> bool
-    requires { AscendsByKey listed.now }
-    ensures { IsTrue result → All (λ p. (lo ≤ p.0) × (p.0 ≤ hi)) listed.now }
-{
-    if listed.is_empty() {
-        return true;
-    }
-    lo <= listed[0].0 && listed[listed.len() - 1].0 <= hi
 }

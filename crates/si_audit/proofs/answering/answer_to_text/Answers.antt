@@ -10,14 +10,14 @@ use Rattle.si_audit.proofs.answering.answer_to_text.Goals as goal
 pub returns-in-Ok-clause-report : goal.returns-in-Ok-clause-report
 returns-in-Ok-clause-report g c limits bytes received =
     let read = c.in-Ok.ensures.reads limits bytes received.0 in
-    ok_map _ (λ answer. IsReport limits c.args.o.now.form bytes (text_of answer.sheets.items)) c.answer_to_history.result
-    (λ answer is. report_of_text limits bytes c.in-Ok.h c.args.o.now.form (text_of answer.sheets.items) read.0 read.1 is) c.answer_to_history.ensures.report
+    ok_map _ (λ answer. IsReport limits c.args.o.now.form bytes (text_of answer.sheets.items)) c.answer_to_log.result
+    (λ answer is. report_of_text limits bytes c.in-Ok.log c.args.o.now.form (text_of answer.sheets.items) read.0 read.1 is) c.answer_to_log.ensures.report
 
 pub returns-in-Ok-clause-outcome : goal.returns-in-Ok-clause-outcome
 returns-in-Ok-clause-outcome g c limits bytes stands =
     let read = c.in-Ok.ensures.reads limits bytes stands in
-    ok_map _ (λ answer. IsOutcome limits c.args.o.now.level bytes answer.outcome) c.answer_to_history.result
-    (λ answer is. outcome_of_text limits bytes c.in-Ok.h c.args.o.now.level answer.outcome read.0 read.1 is) c.answer_to_history.ensures.outcome
+    ok_map _ (λ answer. IsOutcome limits c.args.o.now.level bytes answer.outcome) c.answer_to_log.result
+    (λ answer is. outcome_of_text limits bytes c.in-Ok.log c.args.o.now.level answer.outcome read.0 read.1 is) c.answer_to_log.ensures.outcome
 
 pub returns-else-is_lost-clause-report : goal.returns-else-is_lost-clause-report
 returns-else-is_lost-clause-report g c limits bytes received =

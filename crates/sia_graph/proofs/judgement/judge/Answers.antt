@@ -32,7 +32,7 @@ settle_looks-requires c =
 
 pub returns-clause-exact : goal.returns-clause-exact
 returns-clause-exact c =
-    let h = c.args.h.now in
+    let h = c.args.log.now in
     let wf = c.law.ensures in
     let is = c.requires.found in
     let verdict = c.in_ok-verdict.verdict in
@@ -49,7 +49,7 @@ returns-clause-exact c =
 
 pub returns-clause-pass : goal.returns-clause-pass
 returns-clause-pass c =
-    let h = c.args.h.now in
+    let h = c.args.log.now in
     let wf = c.law.ensures in
     let verdict = c.in_ok-verdict.verdict in
     let verdict_is = subst (λ i. IsVerdict (IsCommitted i) (IsEdge i) verdict) c.requires.index c.in_ok-verdict.ensures in

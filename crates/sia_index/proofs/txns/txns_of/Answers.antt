@@ -1,37 +1,24 @@
--- Each turn adds the row of one run.
-use Rattle.std.proofs.Common.{[], ◌∷◌, ap, arith}
-use Rattle.std.proofs.lemmas.List.{get_or_default}
-use Rattle.sia_index.specs.declared.txns.SpanRow.{SpanRow}
-use Rattle.sia_index.proofs.Ordered.{first_rises}
-use Rattle.sia_index.proofs.Runs.{rows_all, rows_more, run_has_span, span}
+-- Each row adds its transaction.
+use Rattle.std.proofs.Common.{◌≡◌, ◌∙◌, sym, subst, refl, arith}
+use Rattle.std.specs.Prelude.{slice_index_or}
+use Rattle.std.proofs.lemmas.Option.{slice_get_within, same_Some}
+use Rattle.sia_index.specs.Info.{IsInfo}
+use Rattle.sia_index.proofs.LogTxns.{no_txn, row_at, txns_none, txns_more, txns_all}
 use Rattle.sia_index.proofs.txns.txns_of.Goals as goal
 
-pub end_of-to-requires-clause-rise : goal.end_of-to-requires-clause-rise
-end_of-to-requires-clause-rise c = first_rises (λ (s : SpanRow). s.txn) (λ s. s.first ∷ s.last ∷ []) _ (rw c.as_slice-spans.ensures.value c.in_ok-rows.ensures.ascending)
+pub loop-row-init : goal.loop-row-init
+loop-row-init c = rw (c.in_ok-ids.ensures.items, c.in_ok-infos.ensures.items) (txns_none _ _)
 
-pub end_of-to-requires-clause-before : goal.end_of-to-requires-clause-before
-end_of-to-requires-clause-before c k d _ before =
-    let none : SpanRow = record { txn = 0; first = 0; last = 0 } in
-    let from = c.from.ensures in
-    let same = ap (λ (s : SpanRow). s.txn) (get_or_default c.as_slice-spans.result.now c.loop-from.from d none c.loop-from-test.true) in
-    let less = c.loop-from.invariant.passed k c.loop-from.from d before (omega arith) c.loop-from-test.true in
-    omega arith
+pub txn-requires : goal.txn-requires
+txn-requires c = slice_get_within _ _ _ (row_at _ _ (rw c.deref-row-items.ensures.value c.in_ok-rows.ensures) _ c.loop-row-test.true)
 
-pub last_of-last-requires-clause-some : goal.last_of-last-requires-clause-some
-last_of-last-requires-clause-some c =
-    let none : SpanRow = record { txn = 0; first = 0; last = 0 } in
-    run_has_span _ _ (rw c.as_slice-spans.ensures.value c.in_ok-rows.ensures) _ _ _ c.loop-from.invariant c.loop-from-test.true _ (λ d. ap (λ (s : SpanRow). s.txn) (get_or_default _ _ d none c.loop-from-test.true)) _ c.end_of-to.ensures.bound (rw c.from.ensures at c.end_of-to.ensures.end)
-
-pub info_of-info-requires-clause-spans : goal.info_of-info-requires-clause-spans
-info_of-info-requires-clause-spans c =
-    let none : SpanRow = record { txn = 0; first = 0; last = 0 } in
-    (_, span _ _ (rw c.as_slice-spans.ensures.value c.in_ok-rows.ensures) _ _ _ c.loop-from.invariant c.loop-from-test.true _ (λ d. ap (λ (s : SpanRow). s.txn) (get_or_default _ _ d none c.loop-from-test.true)) _ c.end_of-to.ensures.bound (rw c.from.ensures at c.end_of-to.ensures.end) _ c.last_of-last.ensures.one c.last_of-last.ensures.greatest none)
-
-pub loop-from-preserved : goal.loop-from-preserved
-loop-from-preserved c =
-    let none : SpanRow = record { txn = 0; first = 0; last = 0 } in
-    rw (c.in_ok-push.ensures.items, c.in_ok-push-2.ensures.items) (rows_more _ _ (rw c.as_slice-spans.ensures.value c.in_ok-rows.ensures) _ _ _ c.loop-from.invariant c.loop-from-test.true _ (λ d. ap (λ (s : SpanRow). s.txn) (get_or_default _ _ d none c.loop-from-test.true)) _ c.end_of-to.ensures.bound (rw c.from.ensures at c.end_of-to.ensures.end) _
-    (c.info_of-info.ensures _ (span _ _ (rw c.as_slice-spans.ensures.value c.in_ok-rows.ensures) _ _ _ c.loop-from.invariant c.loop-from-test.true _ (λ d. ap (λ (s : SpanRow). s.txn) (get_or_default _ _ d none c.loop-from-test.true)) _ c.end_of-to.ensures.bound (rw c.from.ensures at c.end_of-to.ensures.end) _ c.last_of-last.ensures.one c.last_of-last.ensures.greatest none)))
+pub loop-row-preserved : goal.loop-row-preserved
+loop-row-preserved c =
+    let h = c.args.log.now in
+    let rows = c.deref-row-items.result.now in
+    let at = row_at h rows (rw c.deref-row-items.ensures.value c.in_ok-rows.ensures) c.loop-row.row-index c.loop-row-test.true in
+    let name : c.txn.result.name ≡ (slice_index_or rows c.loop-row.row-index no_txn).txn = same_Some _ _ (sym c.txn.ensures.name ∙ at) in
+    rw (c.in_ok-push.ensures.items, c.in_ok-push-2.ensures.items) (txns_more h rows c.loop-row.row-index _ _ _ _ c.loop-row.invariant refl (subst (λ t. IsInfo h t c.info_of.result) name (c.info_of.ensures h c.txn.result.name c.txn.ensures.starts c.txn.ensures.ends)))
 
 pub returns : goal.returns
-returns c = rows_all _ _ (rw c.as_slice-spans.ensures.value c.in_ok-rows.ensures) _ _ _ c.loop-from.invariant c.loop-from-test.false
+returns c = txns_all _ _ (rw c.deref-row-items.ensures.value c.in_ok-rows.ensures) c.loop-row.row-index _ _ c.loop-row.invariant (let end = c.loop-row-test.false in let within = c.loop-row.auto in omega arith)

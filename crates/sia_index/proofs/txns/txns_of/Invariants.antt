@@ -1,10 +1,6 @@
--- The transactions so far are those whose spans were passed.
-use Rattle.std.proofs.Common.{◌-◌, length}
-use Rattle.sia_index.proofs.Runs.{RowsSoFar}
+-- The names so far are those of the first rows.
+use Rattle.sia_index.proofs.LogTxns.{TxnsSoFar}
 use Rattle.sia_index.proofs.txns.txns_of.Given as goal
 
-abbrev pub invariant-loop-from : goal.invariant-loop-from
-invariant-loop-from l = RowsSoFar l.h l.spans l.from l.ids.items l.infos.items
-
-abbrev pub decreases-loop-from : goal.decreases-loop-from
-decreases-loop-from l = length l.spans - l.from
+abbrev pub invariant-loop-row : goal.invariant-loop-row
+invariant-loop-row l = TxnsSoFar l.log l.row-items l.row-index l.ids.items l.infos.items

@@ -1,22 +1,22 @@
 -- The edges are those of the numbers of the fans.
-use Rattle.std.proofs.Common.{ℕ, Some, subst, sym, arith}
+use Rattle.std.proofs.Common.{ℕ, Some, subst, sym, ◌∙◌, arith}
 use Rattle.std.specs.Prelude.{◌↔◌, Contains}
 use Rattle.sia_parts.specs.EdgeNumbers.{AreEdgeTables}
 use Rattle.sia_parts.specs.Findings.{ListsEdges}
-use Rattle.sia_parts.specs.Gathering.{IsNumberIn}
+use Rattle.sia_parts.specs.Gathering.{IsNumberIn, IsPartFound}
 use Rattle.sia_parts.specs.Looks.{AreLooks}
 use Rattle.sia_parts.specs.Parts.{IsInPart}
 use Rattle.sia_parts.proofs.StandingNumbers.{listed}
 use Rattle.sia_parts.proofs.auditing.audit_part.Goals as goal
 
 pub of-requires-2-clause-looks : goal.of-requires-2-clause-looks
-of-requires-2-clause-looks c = (Some c.args.part, subst (λ h. AreLooks h (IsInPart c.args.part) c.in_ok-found.found.looks) (sym c.requires) c.in_ok-found.ensures.looks)
+of-requires-2-clause-looks c = (Some c.args.part, subst (λ h. AreLooks h (IsInPart c.args.part) c.in_ok-found.found.looks) (c.log.ensures ∙ sym c.requires) c.in_ok-found.ensures.looks)
 
 pub returns : goal.returns
 returns c =
     let of = c.requires in
     let within = IsInPart c.args.part in
-    let found = c.in_ok-found.ensures in
+    let found = subst (λ h. IsPartFound h within c.in_ok-found.found) c.log.ensures c.in_ok-found.ensures in
     let txns = c.in_ok-committed.committed in
     let keys = c.written_keys-keys.result.now in
     let stand = c.in_ok-fans.ensures.stand (Some c.args.part) (subst (λ h. AreLooks h within c.in_ok-found.found.looks) (sym of) found.looks) keys c.written_keys-keys.ensures in

@@ -1,6 +1,7 @@
 use Rattle.std.proofs.Common.{ℕ, List, ◌∙◌, ap, refl, subst, sym}
 use Rattle.si_audit.specs.declared.cli.form.Form.{Form}
 use Rattle.si_audit.specs.declared.cli.form.Form.TheVariants.{Full, Brief, Explained}
+use Rattle.sia_graph.specs.Judgements.{IsJudgement}
 use Rattle.si_audit.specs.Answering.{IsReportOf}
 use Rattle.si_audit.specs.Audits.{account_with}
 use Rattle.si_audit.specs.Sheets.{text_of}
@@ -9,7 +10,7 @@ use Rattle.si_audit.proofs.Results.{ok_map}
 use Rattle.si_audit.proofs.report.listing.sheets_of.Goals as goal
 
 pub explained-requires-clause-index : goal.explained-requires-clause-index
-explained-requires-clause-index g c = c.requires.index
+explained-requires-clause-index g c = c.requires.index ∙ sym c.in_ok-history-in-Explained.ensures
 
 pub explained-requires-clause-committed : goal.explained-requires-clause-committed
 explained-requires-clause-committed g c = c.requires.committed
@@ -18,14 +19,14 @@ pub explained-requires-clause-looks : goal.explained-requires-clause-looks
 explained-requires-clause-looks g c = c.requires.looks
 
 pub explained-requires-clause-judgement : goal.explained-requires-clause-judgement
-explained-requires-clause-judgement g c = c.requires.judgement
+explained-requires-clause-judgement g c = subst (λ h. IsJudgement h c.args.j.now) (sym c.in_ok-history-in-Explained.ensures) c.requires.judgement
 
 pub pivots_of_links-requires : goal.pivots_of_links-requires
 pivots_of_links-requires g c = c.in_ok-sheets-in-Full.ensures.1
 
 pub returns-in_ok-pivots-in-Full : goal.returns-in_ok-pivots-in-Full
 returns-in_ok-pivots-in-Full g c =
-    let h = c.args.history in
+    let h = c.args.log in
     let j = c.args.j.now in
     let edges = rw c.requires.index at c.in_ok-sheets-in-Full.ensures.0 in
     let pivots = rw c.requires.index at c.in_ok-pivots-in-Full.ensures in
@@ -40,7 +41,7 @@ returns-in_ok-pivots-in-Full g c =
 
 pub returns-in-Brief : goal.returns-in-Brief
 returns-in-Brief g c =
-    let h = c.args.history in
+    let h = c.args.log in
     let j = c.args.j.now in
     let law = c.listing_law.ensures h c.law.ensures in
     let edges = law.0 in
@@ -55,7 +56,7 @@ returns-in-Brief g c =
 
 pub returns-in_ok-sheet-in-Explained : goal.returns-in_ok-sheet-in-Explained
 returns-in_ok-sheet-in-Explained g c =
-    let report = λ (form : Form) (bytes : List ℕ). IsReportOf form c.args.history bytes in
+    let report = λ (form : Form) (bytes : List ℕ). IsReportOf form c.args.log bytes in
     ok_map _ _ c.one_sheet.result
-    (λ sheets is. subst (λ (form : Form). report form (text_of sheets.items)) (sym (sym c.form.ensures ∙ c.in-Explained.is)) (subst (report Explained) (sym is) c.in_ok-sheet-in-Explained.ensures))
+    (λ sheets is. subst (λ (form : Form). report form (text_of sheets.items)) (sym (sym c.form.ensures ∙ c.in-Explained.is)) (subst (report Explained) (sym is) (subst (λ h. IsReportOf Explained h c.in_ok-sheet-in-Explained.sheet.items) c.in_ok-history-in-Explained.ensures c.in_ok-sheet-in-Explained.ensures)))
     c.one_sheet.ensures

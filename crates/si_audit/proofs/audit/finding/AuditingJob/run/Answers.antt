@@ -13,5 +13,5 @@ find_in_part-requires c = record { index = c.requires.0; committed = c.requires.
 
 pub returns-in-Ok : goal.returns-in-Ok
 returns-in-Ok c =
-    subst (λ some. IfSome some (λ part. IsPartFound c.args.self.now.history.now (IsInPart part) c.in-Ok.found))
+    subst (λ some. IfSome some (λ part. IsPartFound c.args.self.now.log.now (IsInPart part) c.in-Ok.found))
     (sym (slice_get-get_or c.args.self.now.parts.now c.args.number _ c.requires.2)) c.in-Ok.ensures
