@@ -81,10 +81,15 @@ def far_apart() -> Case:
     return commits([MAX_TXN - 42_949 * it for it in range(MAX_EVENTS)])
 
 
+# The reader's tables (finder.rt) have a power of two of homes, at most 2^18 where there are 100,000 names. A name's home is its
+# low bits, or the bits above the low 32 of the name times this factor.
+FACTOR = 11_400_714_819_323_198_485
+HOMES = 2**18
+
+
 def sharing_slots() -> Case:
-    """Numbers that share four groups of slots of the reader's table (txn_states.rt), which has 131,089 for four numbers in
-    a row. Each of the transactions reads a key."""
-    ids = [524_356 * it + slot for it in range(1, 8_190) for slot in (0, 4, 8, 12)]
+    """Transactions with four homes among them in the reader's table. Each reads a key."""
+    ids = [2**16 * it + home for it in range(1, 8_190) for home in (0, 8, 16, 24)]
     tokens = [f"r{it}[{it}:0]" for it in ids] + [f"b{it}" for it in range(1, 10_000)] + [f"c{it}" for it in ids]
     return Case(joined(tokens), clean(len(tokens), ids, still_open=9_999))
 
@@ -158,28 +163,20 @@ def all_listed() -> Case:
 
 
 def writes_sharing_slots() -> Case:
-    """Keys whose writes have a bucket in common in the reader's table of writes (guesses.rt). A range lists them all."""
-    listed = sorted(map(key_in_first_bucket, range(MAX_EVENTS - 3)))
-    pairs = ",".join(f"{key}:1" for key in listed)
-    tokens = [*(f"w1[{key}]" for key in listed), "c1", f"r2[0..{MAX_KEY};{pairs}]", "c2"]
-    edges = "".join(f"edge 1 wr 2 {key}\n" for key in listed)
+    """Writes that share homes in the reader's table, which goes by the numbers of transaction and key: the first event lists a
+    million keys, which numbers them, and transaction 1 writes those of the first homes. A range lists them all."""
+    keys = range(1_000_000)
+    written = [it for it in keys if (it * FACTOR >> 32) % HOMES < 16_000]
+    tokens = [f"r1[0..{MAX_KEY};{','.join(f'{it}:0' for it in keys)}]", *(f"w1[{it}]" for it in written), "c1"]
+    tokens += [f"r2[0..{MAX_KEY};{','.join(f'{it}:1' for it in written)}]", "c2"]
+    edges = "".join(f"edge 1 wr 2 {it}\n" for it in written)
     return Case(joined(tokens), clean(len(tokens), [1, 2], edges=edges))
 
 
-def key_in_first_bucket(number: int) -> int:
-    """A key that the table has in its first bucket, where transaction 1 writes it: the steps of the hash taken back, from a
-    value whose bits 22 to 41 are 0."""
-    spread, mix, word = 11_400_714_819_323_198_485, 14_029_467_366_897_019_727, 2**64
-    mixed = number + (number * 2_654_435_769 % 2**22) * 2**42
-    turned = (mixed * pow(mix, -1, word) % word) ^ 1
-    both = turned ^ (turned >> 32)
-    return both * pow(spread, -1, word) % word
-
-
 def keys_sharing_slots() -> Case:
-    """Keys that share a slot in the index (guesses.rt of sia_index): times its factor they are small. Transaction 1 writes
-    each, and transaction 2 sees each one's version 0."""
-    back = pow(11_400_714_819_323_198_485, -1, 2**64)
+    """Keys with one home in the reader's table: times its factor they are small. Transaction 1 writes each, and transaction 2
+    sees each one's version 0."""
+    back = pow(FACTOR, -1, 2**64)
     keys = [back * it % 2**64 for it in range(1, 49_999)]
     tokens = ["b2", *(f"w1[{key}]" for key in keys), "c1", *(f"r2[{key}:0]" for key in keys), "c2"]
     # 2 started before 1 committed. 1 must stand behind it.

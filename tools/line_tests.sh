@@ -101,7 +101,7 @@ version() {
     shift
     "$PROGRAM" "$@" <"$history" >out/report 2>out/said
     told "$name" $? 0 ""
-    named=$(sed -n 's/^const VERSION: &str = "\(.*\)";$/si_audit \1/p' crates/si_audit/src/cli/line.rt)
+    named=$(sed -n 's/^const VERSION: &str = "\(.*\)";$/si_audit \1/p' crates/si_audit/src/words.rt)
     count "$name: its text" "$([ "$(cat out/report)" = "$named" ] || echo "it isn't '$named'")"
 }
 

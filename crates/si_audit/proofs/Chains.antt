@@ -33,18 +33,16 @@ front_alone o a b n r w u reads writes odd some others rest all =
     let third = lines_alone unexplained_line odd u rest in
     all ∙ (λ i. o ++ a ++ b ++ first i ++ second i ++ third i)
 
--- what stands before the edges, these, and what stands behind them, where the lists go by other names
-module _ (o m n r a s z v : List ℕ) (reads read : List BadRead) (writes written : List BadWrite) (odd odds : List Unexplained) (edges es : List Edge) (pivots ps : List Pivot)
-    (same_reads : reads ≡ read) (same_writes : writes ≡ written) (same_odd : odd ≡ odds) (same_edges : edges ≡ es) (same_pivots : pivots ≡ ps) where
-  pub report_of_pieces : m ≡ o ++ a ++ isolation_line (is_empty reads && is_empty writes) ++ flat_map bad_read_line reads ++ flat_map bad_write_line writes ++ flat_map unexplained_line odd
-      → n ≡ m ++ flat_map edge_line edges
-      → r ≡ n ++ flat_map pivot_line pivots ++ s ++ z ++ v
-      → r ≡ o ++ (a ++ isolation_line (is_empty read && is_empty written) ++ flat_map bad_read_line read ++ flat_map bad_write_line written ++ flat_map unexplained_line odds
-      ++ flat_map edge_line es ++ flat_map pivot_line ps ++ s ++ z ++ v)
-  report_of_pieces front middle back =
-      rw (sym same_reads, sym same_writes, sym same_odd, sym same_edges, sym same_pivots)
-      (back ∙ ap (λ (xs : List ℕ). xs ++ flat_map pivot_line pivots ++ s ++ z ++ v) (middle ∙ ap (λ (xs : List ℕ). xs ++ flat_map edge_line edges) front)
-      ∙ report_written o a (isolation_line (is_empty reads && is_empty writes)) (flat_map bad_read_line reads) (flat_map bad_write_line writes) (flat_map unexplained_line odd) (flat_map edge_line edges) (flat_map pivot_line pivots) s z v)
+-- what stands before the edges, these, and what stands behind them
+pub report_of_pieces : (o m n r a s z v : List ℕ) (reads : List BadRead) (writes : List BadWrite) (odd : List Unexplained) (edges : List Edge) (pivots : List Pivot)
+    → m ≡ o ++ a ++ isolation_line (is_empty reads && is_empty writes) ++ flat_map bad_read_line reads ++ flat_map bad_write_line writes ++ flat_map unexplained_line odd
+    → n ≡ m ++ flat_map edge_line edges
+    → r ≡ n ++ flat_map pivot_line pivots ++ s ++ z ++ v
+    → r ≡ o ++ (a ++ isolation_line (is_empty reads && is_empty writes) ++ flat_map bad_read_line reads ++ flat_map bad_write_line writes ++ flat_map unexplained_line odd
+    ++ flat_map edge_line edges ++ flat_map pivot_line pivots ++ s ++ z ++ v)
+report_of_pieces o m n r a s z v reads writes odd edges pivots front middle back =
+    back ∙ ap (λ (xs : List ℕ). xs ++ flat_map pivot_line pivots ++ s ++ z ++ v) (middle ∙ ap (λ (xs : List ℕ). xs ++ flat_map edge_line edges) front)
+    ∙ report_written o a (isolation_line (is_empty reads && is_empty writes)) (flat_map bad_read_line reads) (flat_map bad_write_line writes) (flat_map unexplained_line odd) (flat_map edge_line edges) (flat_map pivot_line pivots) s z v
 
 -- the line of the next thing in a list
 pub next_line : {X : Type 0} (f : X → List ℕ) (o m n : List ℕ) (xs : List X) (i : ℕ) (d : X) → i < length xs → n ≡ m ++ f (get_or xs i d) → m ≡ o ++ flat_map f (take i xs) → n ≡ o ++ flat_map f (take (i + 1) xs)

@@ -14,10 +14,8 @@ use Rattle.sia_graph.specs.declared.verdict.Verdict.TheVariants.{Order, Cycle}
 use Rattle.sia_graph.specs.Pivots.{ArePivots}
 use Rattle.sia_graph.specs.Verdicts.{IsVerdict}
 use Rattle.sia_graph.specs.declared.judgement.Judgement.{Judgement}
-use Rattle.si_audit.specs.Account.{Account}
-use Rattle.si_audit.specs.Accounts.{IsAccount}
+use Rattle.si_audit.specs.Account.{Account, IsAccount, account_with}
 use Rattle.sia_graph.specs.Judgements.{IsJudgement}
-use Rattle.si_audit.specs.Audits.{account_with}
 use Rattle.si_audit.specs.Report.{HasStep, CanBePrinted}
 
 has_step : (M : ℕ → Type 0) (E : _ → Type 0) (v : Verdict) → IsVerdict M E v → HasStep v

@@ -39,8 +39,7 @@ use Rattle.sia_graph.proofs.EdgesDecided.{edge_decided}
 use Rattle.sia_graph.proofs.Facts.{commits_before_decided}
 use Rattle.sia_graph.proofs.NoStuckSet.{vulnerable_decided}
 use Rattle.sia_graph.proofs.Vulnerable.{source_committed, target_committed}
-use Rattle.si_audit.specs.Account.{Account}
-use Rattle.si_audit.specs.Accounts.{IsAccount}
+use Rattle.si_audit.specs.Account.{Account, IsAccount}
 use Rattle.si_audit.specs.Explained.{IsExplained, TellsAll, TellsDanger, TellsVerdict, WithReasons, dangerous_edges, dangerous_line, edges_round}
 use Rattle.si_audit.specs.Lines.{bad_read_line, bad_write_line, edge_word, unexplained_line, verdict_line}
 use Rattle.si_audit.specs.Reasons.{TellsBadRead, TellsBadWrite, TellsEvents, TellsSight, TellsStep, TellsUnexplained, reason, untold_of}

@@ -12,7 +12,7 @@ use Rattle.sia_graph.specs.declared.ssi.Dangerous.{Dangerous}
 use Rattle.sia_graph.specs.declared.verdict.Verdict.{Verdict}
 use Rattle.sia_graph.specs.declared.verdict.Verdict.TheVariants.{Order, Cycle}
 use Rattle.si_audit.specs.Account.{Account}
-use Rattle.si_audit.specs.declared.cli.form.Form.TheVariants.{Brief}
+use Rattle.si_audit.specs.declared.options.Form.TheVariants.{Brief}
 use Rattle.si_audit.specs.Explained.{IsExplained, TellsAll, TellsDanger, TellsVerdict, WithReasons, dangerous_edges, dangerous_line, edges_round}
 use Rattle.si_audit.specs.Lines.{bad_read_line, bad_write_line, edge_word, events_line, is_empty, isolation_line, report_text, serializable_line, ssi_line, unexplained_line, verdict_line}
 use Rattle.si_audit.specs.Reasons.{TellsBadRead, TellsBadWrite, TellsStep, TellsUnexplained}

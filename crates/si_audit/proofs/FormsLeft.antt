@@ -8,9 +8,8 @@ use Rattle.sia_events.proofs.Canonical.{spellings_injective}
 use Rattle.sia_events.proofs.OneRefusal.{one_refusal}
 use Rattle.sia_graph.specs.declared.verdict.Verdict.{Verdict}
 use Rattle.sia_graph.specs.declared.verdict.Verdict.TheVariants.{Order, Cycle}
-use Rattle.si_audit.specs.Account.{Account}
-use Rattle.si_audit.specs.Accounts.{IsAccount}
-use Rattle.si_audit.specs.declared.cli.form.Form.TheVariants.{Full, Brief, Explained}
+use Rattle.si_audit.specs.Account.{Account, IsAccount}
+use Rattle.si_audit.specs.declared.options.Form.TheVariants.{Full, Brief, Explained}
 use Rattle.si_audit.specs.Laws.{FormsLaw}
 use Rattle.si_audit.specs.Lines.{refusal_line, report_text, verdict_line}
 use Rattle.si_audit.specs.Report.{IsReport}

@@ -10,8 +10,8 @@ use Rattle.sia_parts.proofs.Members.{contains_first, contains_later, contains_no
 use Rattle.sia_graph.specs.declared.verdict.Verdict.{Verdict}
 use Rattle.sia_graph.specs.declared.verdict.Verdict.TheVariants.{Order, Cycle}
 use Rattle.si_audit.specs.Account.{Account}
-use Rattle.si_audit.specs.declared.cli.form.Form.{Form}
-use Rattle.si_audit.specs.declared.cli.form.Form.TheVariants.{Full, Brief, Explained}
+use Rattle.si_audit.specs.declared.options.Form.{Form}
+use Rattle.si_audit.specs.declared.options.Form.TheVariants.{Full, Brief, Explained}
 use Rattle.si_audit.specs.Laws.{begins, lines_of}
 use Rattle.si_audit.specs.Lines.{is_empty, isolation_line, refusal_line, report_text, serializable_line, ssi_line, verdict_line}
 use Rattle.si_audit.specs.Report.{TellsAccount, TellsRefusal}

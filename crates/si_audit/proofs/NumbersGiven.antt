@@ -24,8 +24,7 @@ use Rattle.clap.specs.declared.parser.matches.MatchedArg.{MatchedArg}
 use Rattle.clap.proofs.CallerLemmas.{default_present, entry_by_id, same_rules_by_id}
 use Rattle.clap.proofs.SimpleLemmas.{ready_simple, simple_groups}
 use Rattle.clap.proofs.WalkLemmas.{first_value-rows, raw_values-rows}
-use Rattle.si_audit.specs.LineAnswers.{HasNumbers}
-use Rattle.si_audit.specs.Words.{brief_rule, check_rule, cuts_rule, explain_rule, program, workers_rule}
+use Rattle.si_audit.specs.Words.{HasNumbers, brief_rule, check_rule, cuts_rule, explain_rule, program, workers_rule}
 
 abbrev rules : List Rule
 rules = workers_rule ∷ cuts_rule ∷ brief_rule ∷ explain_rule ∷ check_rule ∷ []

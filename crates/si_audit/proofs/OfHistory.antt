@@ -9,9 +9,9 @@ use Rattle.sia_events.specs.Reading.{ReadsAs}
 use Rattle.sia_events.specs.Refusals.{IsAccepted, IsRefusal}
 use Rattle.si_audit.specs.declared.engine.Outcome.{Outcome}
 use Rattle.si_audit.specs.declared.engine.Outcome.TheVariants.{Clean, Faulty, Refused}
-use Rattle.si_audit.specs.declared.cli.form.Form.{Form}
-use Rattle.si_audit.specs.declared.cli.level.Level.{Level}
-use Rattle.si_audit.specs.Answering.{IsOutcomeOf, IsReportOf}
+use Rattle.si_audit.specs.declared.options.Form.{Form}
+use Rattle.si_audit.specs.declared.options.Level.{Level}
+use Rattle.si_audit.specs.Engine.{IsOutcomeOf, IsReportOf}
 use Rattle.si_audit.specs.Outcomes.{IsOutcome}
 use Rattle.si_audit.specs.Report.{IsReport}
 

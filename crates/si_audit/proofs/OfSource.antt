@@ -2,7 +2,7 @@
 use Rattle.std.proofs.Common.{◌≡◌, ℕ, List, ◌++◌, Option, Some, None, IfSome, subst}
 use Rattle.std.specs.Io.KnownBytes.{Appends}
 use Rattle.sia_events.specs.Limits.{Limits}
-use Rattle.si_audit.specs.declared.cli.form.Form.{Form}
+use Rattle.si_audit.specs.declared.options.Form.{Form}
 use Rattle.si_audit.specs.Report.{IsReport}
 
 -- a fact of each text that what was read stands for, of the text that the source had

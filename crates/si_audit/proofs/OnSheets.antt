@@ -6,8 +6,8 @@ use Rattle.std.proofs.lemmas.Grind.{flat_map-append}
 use Rattle.sia_parts.specs.declared.finding.Edge.{Edge}
 use Rattle.sia_graph.specs.declared.pivot.Pivot.{Pivot}
 use Rattle.sia_graph.specs.declared.judgement.Judgement.{Judgement}
-use Rattle.si_audit.specs.declared.cli.form.Form.{Form}
-use Rattle.si_audit.specs.Audits.{account_with}
+use Rattle.si_audit.specs.declared.options.Form.{Form}
+use Rattle.si_audit.specs.Account.{account_with}
 use Rattle.si_audit.specs.Lines as lines
 use Rattle.si_audit.specs.Sheets.{text_of}
 

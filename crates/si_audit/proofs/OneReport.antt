@@ -21,10 +21,9 @@ use Rattle.sia_parts.specs.Entries.{IsEdge, bad_read_rank, bad_write_rank, unexp
 use Rattle.sia_graph.specs.declared.pivot.Pivot.{Pivot}
 use Rattle.sia_graph.specs.Pivots.{ListsNeighbours, ArePivots}
 use Rattle.sia_graph.proofs.OneVerdict.{one_verdict}
-use Rattle.si_audit.specs.declared.cli.form.Form.{Form}
-use Rattle.si_audit.specs.Account.{Account}
-use Rattle.si_audit.specs.Accounts.{IsAccount}
-use Rattle.si_audit.specs.declared.cli.form.Form.TheVariants.{Full, Brief, Explained}
+use Rattle.si_audit.specs.declared.options.Form.{Form}
+use Rattle.si_audit.specs.Account.{Account, IsAccount}
+use Rattle.si_audit.specs.declared.options.Form.TheVariants.{Full, Brief, Explained}
 use Rattle.si_audit.specs.Lines.{refusal_line}
 use Rattle.si_audit.specs.RefusedPlaces.{TellsToken, place_line}
 use Rattle.si_audit.specs.Report.{OneReport, HasSameReport, TellsAccount, TellsRefusal}

@@ -15,12 +15,11 @@ use Rattle.sia_parts.specs.declared.finding.BadWrite.{BadWrite}
 use Rattle.sia_parts.specs.Findings.{ListsBadReads, ListsBadWrites}
 use Rattle.sia_parts.specs.Entries.{bad_read_rank, bad_write_rank}
 use Rattle.sia_graph.proofs.Judging.{empty_list, none_listed}
-use Rattle.si_audit.specs.Account.{Account}
-use Rattle.si_audit.specs.Accounts.{IsAccount}
-use Rattle.si_audit.specs.declared.cli.form.Form.{Form}
-use Rattle.si_audit.specs.declared.cli.form.Form.TheVariants.{Full, Brief, Explained}
-use Rattle.si_audit.specs.declared.cli.level.Level.{Level}
-use Rattle.si_audit.specs.declared.cli.level.Level.TheVariants.{Serializable, Ssi, Si}
+use Rattle.si_audit.specs.Account.{Account, IsAccount}
+use Rattle.si_audit.specs.declared.options.Form.{Form}
+use Rattle.si_audit.specs.declared.options.Form.TheVariants.{Full, Brief, Explained}
+use Rattle.si_audit.specs.declared.options.Level.{Level}
+use Rattle.si_audit.specs.declared.options.Level.TheVariants.{Serializable, Ssi, Si}
 use Rattle.si_audit.specs.declared.engine.Outcome.TheVariants.{Clean, Faulty}
 use Rattle.si_audit.specs.Laws.{LinesLaw, TellsOutcomes, begins}
 use Rattle.si_audit.specs.Lines.{is_empty, refusal_line}

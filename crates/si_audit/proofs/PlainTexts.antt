@@ -12,7 +12,7 @@ use Rattle.sia_events.specs.Places.{at_place}
 use Rattle.sia_events.specs.Refusals.{AnyForm, HasReasonIn, IsAccepted, IsAcceptedIn, IsRefusal, IsRefusalIn, TokenHas}
 use Rattle.sia_events.specs.Text.{spell, tokens}
 use Rattle.sia_events.proofs.NamedStarts.{named_starts_only_add}
-use Rattle.si_audit.specs.declared.cli.form.Form.{Form}
+use Rattle.si_audit.specs.declared.options.Form.{Form}
 use Rattle.si_audit.specs.Laws.{IsPlainReport, PlainTextLaw}
 use Rattle.si_audit.specs.Report.{IsReport}
 

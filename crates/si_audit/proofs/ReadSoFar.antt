@@ -4,11 +4,10 @@ use Rattle.std.specs.Io.KnownBytes.{Consumes, IsAtEnd}
 use Rattle.sia_events.specs.Limits.{Limits}
 use Rattle.sia_events.specs.Locating.{Located}
 use Rattle.sia_events.specs.Streaming.{Progress, StandsForRead}
-use Rattle.si_audit.specs.declared.cli.form.Form.TheVariants.{Explained}
+use Rattle.si_audit.specs.declared.options.Form.TheVariants.{Explained}
 use Rattle.si_audit.specs.declared.engine.Auditor.{Auditor}
-use Rattle.si_audit.specs.Choices.{Choices}
-use Rattle.si_audit.specs.Engine.{IsFed}
-use Rattle.si_audit.specs.Receiving.{IsReceived}
+use Rattle.si_audit.specs.Options.{Choices}
+use Rattle.si_audit.specs.Engine.{IsFed, IsReceived}
 
 -- what is too long already stands for every text that goes on from it
 stands_longer : (limits : Limits) (r : Progress) (front rest : List ℕ) → limits.bytes < length front → StandsForRead limits r front → StandsForRead limits r (front ++ rest)

@@ -36,10 +36,9 @@ use Rattle.sia_graph.proofs.Positions.{contains_stands, stands_contains}
 use Rattle.sia_graph.proofs.FiniteHistories.{listing_holds}
 use Rattle.sia_graph.proofs.Judging.{serializable_where}
 use Rattle.sia_graph.proofs.ReplayLaw.{replay_holds}
-use Rattle.si_audit.specs.Account.{Account}
-use Rattle.si_audit.specs.Accounts.{IsAccount}
-use Rattle.si_audit.specs.declared.cli.form.Form.{Form}
-use Rattle.si_audit.specs.declared.cli.form.Form.TheVariants.{Full, Brief, Explained}
+use Rattle.si_audit.specs.Account.{Account, IsAccount}
+use Rattle.si_audit.specs.declared.options.Form.{Form}
+use Rattle.si_audit.specs.declared.options.Form.TheVariants.{Full, Brief, Explained}
 use Rattle.si_audit.specs.RefusedPlaces.{TellsToken, place_line}
 use Rattle.si_audit.specs.Report.{IsReport, TellsAccount, TellsRefusal}
 use Rattle.si_audit.proofs.OneReport.{one_report_of}

@@ -19,7 +19,7 @@ use Rattle.sia_graph.specs.declared.cycle.Step.{Step}
 use Rattle.sia_graph.specs.declared.verdict.Verdict.{Verdict}
 use Rattle.sia_graph.specs.declared.verdict.Verdict.TheVariants.{Order, Cycle}
 use Rattle.si_audit.specs.Account.{Account}
-use Rattle.si_audit.specs.declared.cli.form.Form.{Form}
+use Rattle.si_audit.specs.declared.options.Form.{Form}
 use Rattle.si_audit.specs.Laws.{begins}
 use Rattle.si_audit.specs.Lines.{line, reason_words, refusal_line, kind_word, is_empty, bad_read_line, bad_write_line, unexplained_line, edge_line, first_words, pivot_line, edge_word, step_words, home_word, verdict_line, events_line, isolation_line, ssi_line, serializable_line, told, report_text}
 use Rattle.si_audit.proofs.TextLines.{IsLine, Leaves, is_unbroken, leaves_both, leaves_each, leaves_line, unbroken_both}

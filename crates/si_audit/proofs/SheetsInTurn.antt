@@ -18,12 +18,11 @@ use Rattle.sia_graph.specs.Links.{AreEnds}
 use Rattle.sia_graph.proofs.LinkLists.{ends_joined, ends_none}
 use Rattle.sia_graph.proofs.Vulnerable.{all_vulnerable}
 use Rattle.sia_graph.specs.declared.edges.AllEdges.{AllEdges}
-use Rattle.si_audit.specs.declared.report.sheets.Sheet.{Sheet}
+use Rattle.si_audit.specs.declared.report.edges.Sheet.{Sheet}
 use Rattle.si_audit.specs.Lines.{edge_line}
 use Rattle.sia_graph.specs.AllEdges.{AreAllEdges}
 use Rattle.sia_graph.proofs.ListedEdges.{all_listed}
-use Rattle.si_audit.specs.Edges.{AreLinesAndLinks, IsSheet}
-use Rattle.si_audit.specs.Sheets.{text_of}
+use Rattle.si_audit.specs.Sheets.{AreLinesAndLinks, IsSheet, text_of}
 
 -- a greater number has no lesser quotient
 div_rises : (k n m : ℕ) → 0 < k → n ≤ m → n / k ≤ m / k

@@ -4,7 +4,7 @@ use Rattle.std.specs.List.{join_with_byte}
 use Rattle.std.proofs.lemmas.Grind.{flat_map-append}
 use Rattle.std.proofs.lemmas.List.{take_more}
 use Rattle.sia_graph.specs.declared.cycle.Step.{Step}
-use Rattle.si_audit.specs.declared.report.words.Words.{Words}
+use Rattle.si_audit.specs.declared.report.line.Words.{Words}
 use Rattle.si_audit.specs.Lines.{step_words, home_word, cycle_line}
 use Rattle.si_audit.specs.Spaced.{spaced, words_of}
 use Rattle.si_audit.proofs.Chains.{one_more_mapped}

@@ -3,8 +3,7 @@ use Rattle.std.proofs.Common.{◌≡◌, Bor, Option, Some, None, ℕ, ◌+◌, 
 use Rattle.std.proofs.lemmas.List.{take_more}
 use Rattle.sia_events.specs.declared.event.Event.{Event}
 use Rattle.sia_parts.specs.declared.recorded.Recorded.{Recorded}
-use Rattle.si_audit.specs.Explained.{TellsAll, WithReasons}
-use Rattle.si_audit.specs.Wanted.{TellsIf}
+use Rattle.si_audit.specs.Explained.{TellsAll, WithReasons, TellsIf}
 
 -- the bytes behind some are told of what has P
 abbrev pub IsToldBehind : (List ℕ → Type 0) → List ℕ → List ℕ → Type 0

@@ -1,8 +1,8 @@
 -- What each form tells of a refusal and of an account.
 use Rattle.std.proofs.Common.{◌≡◌, ◌≢◌, refl, List, ℕ, ◌++◌}
 use Rattle.sia_events.specs.declared.fault.TextFault.{TextFault}
-use Rattle.si_audit.specs.declared.cli.form.Form.{Form}
-use Rattle.si_audit.specs.declared.cli.form.Form.TheVariants.{Full, Brief, Explained}
+use Rattle.si_audit.specs.declared.options.Form.{Form}
+use Rattle.si_audit.specs.declared.options.Form.TheVariants.{Full, Brief, Explained}
 use Rattle.si_audit.specs.Lines.{refusal_line}
 use Rattle.si_audit.specs.RefusedPlaces.{TellsToken}
 use Rattle.si_audit.specs.Report.{TellsRefusal}

@@ -5,7 +5,7 @@ use Rattle.sia_events.specs.declared.fault.Reason.TheVariants.{NotWritten}
 use Rattle.sia_events.specs.declared.fault.TextFault.TheVariants.{TextTooLong, Refused}
 use Rattle.sia_parts.specs.declared.finding.Kind.TheVariants.{Ww, Rw}
 use Rattle.sia_graph.specs.declared.verdict.Verdict.TheVariants.{Order, Cycle}
-use Rattle.si_audit.specs.declared.cli.form.Form.TheVariants.{Full, Brief}
+use Rattle.si_audit.specs.declared.options.Form.TheVariants.{Full, Brief}
 use Rattle.si_audit.specs.Account.{Account}
 use Rattle.si_audit.specs.Lines.{report_text, refusal_line}
 

@@ -1,6 +1,6 @@
 -- What a reader or writer of std becomes as a source or a sink.
 use Rattle.std.specs.Prelude.{◌≡◌, ℕ, zero, suc, ◌+◌, min, Result, Ok, Err, Bool, true, false, ◌||◌, IsTrue, refl}
-use Rattle.si_audit.specs.declared.io.device.FromStd.{FromStd}
+use Rattle.si_audit.specs.declared.devices.FromStd.{FromStd}
 
 -- the reader or writer itself
 abbrev pub device_of : {D : Type 0} → FromStd D → D

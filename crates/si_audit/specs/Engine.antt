@@ -1,13 +1,25 @@
--- What an auditor was fed, and what a report has yet to give.
+-- What an auditor was fed, what a run answers to one history, and what a report has yet to give.
 use Rattle.std.specs.Prelude.{◌≡◌, ℕ, ◌≤◌, List, length, drop, take}
 use Rattle.std.specs.Global.{Vec}
 use Rattle.sia_events.specs.Limits.{Limits}
-use Rattle.si_audit.specs.declared.cli.form.Form.TheVariants.{Explained}
+use Rattle.si_audit.specs.declared.options.Form.TheVariants.{Explained}
 use Rattle.si_audit.specs.declared.engine.Auditor.{Auditor}
 use Rattle.si_audit.specs.declared.engine.Outcome.{Outcome}
-use Rattle.si_audit.specs.Choices.{Choices}
-use Rattle.si_audit.specs.Receiving.{IsReceived}
+use Rattle.si_audit.specs.Options.{Choices}
+use Rattle.si_audit.specs.Outcomes.{IsOutcome, Meets}
+use Rattle.si_audit.specs.Report.{IsReport, TellsAccount}
 use Rattle.si_audit.specs.Sheets.{text_of}
+use Rattle.sia_events.specs.declared.event.Event.{Event}
+use Rattle.si_audit.specs.declared.engine.Outcome.TheVariants.{Clean, Faulty, Refused}
+use Rattle.si_audit.specs.declared.options.Form.{Form}
+use Rattle.si_audit.specs.declared.options.Level.{Level}
+use Rattle.si_audit.specs.Account.{Account, IsAccount}
+use Rattle.sia_events.specs.Locating.{Located, StandsForLocated}
+use Rattle.sia_events.specs.Streaming.{Progress, StandsForRead}
+
+-- the reader stands for the text, and so does the locator if it is wanted
+abbrev pub IsReceived : Limits → Type 0 → Located → Progress → List ℕ → Type 0
+IsReceived limits IsWanted l r text = StandsForRead limits r text × (IsWanted → StandsForLocated limits l r text)
 
 -- the auditor goes by these options, and was fed this text under these limits
 pub record IsFed (limits : Limits) (o : Choices) (a : Auditor) (text : List ℕ) : Type 0 where
@@ -19,6 +31,14 @@ pub record Told : Type 0 where
   pub outcome : Outcome
   pub bytes : List ℕ
 
+-- the bytes are the report of whatever text the auditor was fed, in the form of its options
+abbrev pub TellsFed : Auditor → Told → Type 0
+TellsFed a r = (limits : Limits) (o : Choices) (text : List ℕ) → IsFed limits o a text → IsReport limits o.form text r.bytes
+
+-- and so the run over it ends, at their level
+abbrev pub EndsFed : Auditor → Told → Type 0
+EndsFed a r = (limits : Limits) (o : Choices) (text : List ℕ) → IsFed limits o a text → IsOutcome limits o.level text r.outcome
+
 -- what stands on the sheets from this one on, without the first bytes of it
 abbrev pub rest_from : List (Vec ℕ) → ℕ → ℕ → List ℕ
 rest_from sheets sheet at = drop at (text_of (drop sheet sheets))
@@ -27,3 +47,13 @@ rest_from sheets sheet at = drop at (text_of (drop sheet sheets))
 pub record IsAt (sheets : List (Vec ℕ)) (sheet at : ℕ) : Type 0 where
   pub within : sheet ≤ length sheets
   pub on_it : at ≤ length (text_of (take 1 (drop sheet sheets)))
+
+-- how a run over this history ends
+abbrev pub IsOutcomeOf : Level → List Event → Outcome → Type 0
+IsOutcomeOf level h Refused = ⊥
+IsOutcomeOf level h Clean = Meets level h
+IsOutcomeOf level h Faulty = ¬ Meets level h
+
+-- the bytes are what the form tells of its account
+abbrev pub IsReportOf : Form → List Event → List ℕ → Type 0
+IsReportOf form h bytes = (a : Account) × IsAccount h a × TellsAccount form h a bytes

@@ -1,5 +1,5 @@
 -- The explained report of a history: the lines of the brief one, with reasons.
-use Rattle.std.specs.Prelude.{◌≡◌, ◌⊎◌, ℕ, List, [], ◌∷◌, ◌++◌, ◌&&◌, codes}
+use Rattle.std.specs.Prelude.{◌≡◌, ◌⊎◌, ℕ, List, [], ◌∷◌, ◌++◌, ◌&&◌, codes, Option, Some, None}
 use Rattle.sia_events.specs.declared.event.Event.{Event}
 use Rattle.sia_events.specs.DangerousStructures.{NoFirst}
 use Rattle.sia_events.specs.Isolation.{IsolationKept}
@@ -15,6 +15,8 @@ use Rattle.sia_graph.specs.Dangerous.{IsDangerous}
 use Rattle.si_audit.specs.Account.{Account}
 use Rattle.si_audit.specs.Lines.{line, edge_word, is_empty, bad_read_line, bad_write_line, unexplained_line, events_line, isolation_line, ssi_line, serializable_line, verdict_line}
 use Rattle.si_audit.specs.Reasons.{TellsBadRead, TellsBadWrite, TellsUnexplained, TellsStep}
+use Rattle.std.specs.Borrow.{Bor}
+use Rattle.sia_parts.specs.declared.recorded.Recorded.{Recorded}
 
 -- what is told of each of these, one after another
 abbrev pub TellsAll : {A : Type 0} → (A → List ℕ → Type 0) → List A → List ℕ → Type 0
@@ -63,3 +65,8 @@ IsExplained h a bytes = (reads : List ℕ) × (writes : List ℕ) × (unexplaine
     ++ ssi_line a.pass ++ danger
     ++ serializable_line a.serializable
     ++ verdict)
+
+-- what the history shows that was recorded, or nothing
+abbrev pub TellsIf : {A : Type 0} → Option (Bor Recorded) → (List Event → A → List ℕ → Type 0) → A → List ℕ → Type 0
+TellsIf None Tells = λ x bytes. bytes ≡ []
+TellsIf (Some of) Tells = Tells of.now.history.now

@@ -8,12 +8,11 @@ use Rattle.sia_events.specs.Laws.{IsPlain, NamesStart, StartsPlainly}
 use Rattle.sia_events.specs.Refusals.{IsAccepted, IsAcceptedIn, IsRefusalIn}
 use Rattle.sia_events.specs.Text.{StandsFor}
 use Rattle.sia_events.specs.Transactions.{StartsAt}
-use Rattle.si_audit.specs.Account.{Account}
-use Rattle.si_audit.specs.Accounts.{IsAccount}
-use Rattle.si_audit.specs.declared.cli.form.Form.{Form}
-use Rattle.si_audit.specs.declared.cli.form.Form.TheVariants.{Full, Brief, Explained}
-use Rattle.si_audit.specs.declared.cli.level.Level.{Level}
-use Rattle.si_audit.specs.declared.cli.level.Level.TheVariants.{Serializable, Ssi, Si}
+use Rattle.si_audit.specs.Account.{Account, IsAccount}
+use Rattle.si_audit.specs.declared.options.Form.{Form}
+use Rattle.si_audit.specs.declared.options.Form.TheVariants.{Full, Brief, Explained}
+use Rattle.si_audit.specs.declared.options.Level.{Level}
+use Rattle.si_audit.specs.declared.options.Level.TheVariants.{Serializable, Ssi, Si}
 use Rattle.si_audit.specs.declared.engine.Outcome.TheVariants.{Clean, Faulty, Refused}
 use Rattle.si_audit.specs.Outcomes.{IsOutcome, Meets}
 use Rattle.si_audit.specs.Report.{IsReport, TellsAccount, TellsRefusal}

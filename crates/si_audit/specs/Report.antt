@@ -7,10 +7,9 @@ use Rattle.sia_events.specs.Text.{StandsFor}
 use Rattle.sia_events.specs.Refusals.{IsRefusal, IsAccepted}
 use Rattle.sia_graph.specs.declared.verdict.Verdict.{Verdict}
 use Rattle.sia_graph.specs.declared.verdict.Verdict.TheVariants.{Order, Cycle}
-use Rattle.si_audit.specs.declared.cli.form.Form.{Form}
-use Rattle.si_audit.specs.Account.{Account}
-use Rattle.si_audit.specs.Accounts.{IsAccount}
-use Rattle.si_audit.specs.declared.cli.form.Form.TheVariants.{Full, Brief, Explained}
+use Rattle.si_audit.specs.declared.options.Form.{Form}
+use Rattle.si_audit.specs.Account.{Account, IsAccount}
+use Rattle.si_audit.specs.declared.options.Form.TheVariants.{Full, Brief, Explained}
 use Rattle.si_audit.specs.Explained.{IsExplained}
 use Rattle.si_audit.specs.Lines.{refusal_line, report_text}
 use Rattle.si_audit.specs.RefusedPlaces.{TellsToken}

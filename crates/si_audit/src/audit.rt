@@ -1,4 +1,87 @@
-//! The audit: what is found in a history by workers, and what follows from it.
-pub(crate) mod finding;
-pub(crate) mod findings;
-pub(crate) mod make;
+//! How a history is audited.
+ghost use Rattle.std.specs.Prelude.{◌≡◌, ◌<◌, ⊤, IfOk, IsTrue};
+ghost use Rattle.sia_parts.specs.Looks.{AreLooks};
+ghost use Rattle.sia_parts.specs.Placing.{ArePlaced};
+ghost use Rattle.sia_graph.specs.Judgements.{IsJudgement};
+ghost use Rattle.sia_graph.specs.Verdicts.{IsOrderVerdict};
+ghost use Rattle.si_audit.specs.Account.{IsAccount, account_of};
+
+use crate::account::Audit;
+use crate::crew::{Auditing, Crew, InThreads};
+use crate::options::Options;
+use sia_events::{History, Log, NoMemory};
+use sia_graph::{Judgement, judge, listed};
+use sia_index::Index;
+use sia_index::make::index_log;
+use sia_parts::{Findings, Gathering, Looks, Reads};
+use std::alloc::Global;
+use std::sync::Wait;
+use std::thread::Threads;
+
+/// Judges the history of a log by its index and by a crew. Beside the judgement stands what its edges are told by.
+pub(crate) fn judged<C: Crew>(
+    crew: &C,
+    alloc: Global,
+    log: &Log,
+    ix: &Index,
+    o: &Options,
+) -> Result<(Judgement, Looks), NoMemory>
+    requires ready { C.ready crew.now }
+    requires index { ix.now ≡ log.now }
+    ensures exact { IfOk result (λ (j, looks). IsJudgement log.now j) }
+    ensures pass { IfOk result (λ (j, looks). IsTrue j.pass → IsTrue j.serializable × IsOrderVerdict j.verdict) }
+    ensures looks { IfOk result (λ (j, looks). AreLooks ix.now (λ _. ⊤) looks × ArePlaced looks) }
+{
+    log.law();
+    let parts = o.parts();
+    let reads = Reads::of(alloc, log, parts)?;
+    let job = Auditing {
+        alloc,
+        log,
+        index: ix,
+        parts,
+        reads: &reads,
+    };
+    let count = parts.len() as u32;
+    match crew.find(alloc, count, &job) {
+        Ok(parts) => {
+            let found = Gathering::of(alloc, ix, parts)?;
+            judge(alloc, log, ix, found)
+        }
+        Err(_) => Err(NoMemory),
+    }
+}
+
+/// Audits a history by workers, and waits for them. What it answers depends on the history alone.
+pub fn audit<R: Threads + Wait + Sync>(
+    rt: &R,
+    alloc: Global,
+    h: &History,
+    o: &Options,
+) -> Result<Audit, NoMemory>
+    ensures exact { IfOk result (λ a. IsAccount h.now (account_of a)) }
+    ensures pass { IfOk result (λ a. IsTrue a.pass → IsTrue a.serializable × IsOrderVerdict a.verdict) }
+{
+    let log = h.log();
+    let ix = index_log(alloc, log)?;
+    let workers = o.workers();
+    let crew = InThreads { rt, workers };
+    let (j, looks) = judged(&crew, alloc, log, &ix, o)?;
+    let (edges, pivots) = listed(alloc, &ix, looks)?;
+    Ok(Audit {
+        events: j.counts.events,
+        committed: j.counts.committed,
+        aborted: j.counts.aborted,
+        unfinished: j.counts.unfinished,
+        findings: Findings {
+            bad_reads: j.bad_reads,
+            bad_writes: j.bad_writes,
+            unexplained: j.unexplained,
+            edges,
+        },
+        pivots,
+        pass: j.pass,
+        serializable: j.serializable,
+        verdict: j.verdict,
+    })
+}

@@ -1,27 +1,78 @@
-// Who works off the jobs of an audit: the calling thread alone, or threads.
-ghost use Rattle.std.specs.Prelude.{◌≡◌, ℕ, ◌<◌, ◌≤◌, length, max, min, IfOk};
+//! The jobs of an audit, and who works them off: the calling thread alone, or threads.
+ghost use Rattle.std.specs.Prelude.{◌≡◌, ◌<◌, ⊤, length, IfOk, IfSome, ◌+◌, slice_index, ℕ, ◌≤◌, max, min};
+ghost use Rattle.std.specs.List.{slice_get};
+ghost use Rattle.sia_parts.specs.Dealing.{AreReads};
+ghost use Rattle.sia_parts.specs.Gathering.{IsPartFound};
+ghost use Rattle.sia_parts.specs.Parts.{IsInPart};
+ghost use Rattle.sia_graph.specs.AllEdges.{AreAllEdges};
+ghost use Rattle.si_audit.specs.Sheets.{IsSheet};
 ghost use Rattle.sia_pool.specs.Answers.{AnswersEach};
+ghost use denote.Param.Send.{IsSync};
 
-use crate::audit::finding::Auditing;
-use crate::report::sheets::{Printing, Sheet};
-use sia_parts::PartFound;
+use crate::report::edges::{Sheet, sheet_between};
+use sia_events::Log;
+use sia_graph::AllEdges;
+use sia_index::Index;
+use sia_parts::{Part, PartFound, Reads, find_in_part};
 use sia_pool::{Job, NoMemory, OpenGate, work_off};
 use std::alloc::Global;
 use std::sync::Wait;
 use std::thread::Threads;
 
+/// The audit of the parts, of which the workers take one after another.
+#[derive(Drop)]
+pub(crate) struct Auditing<'a> {
+    pub(crate) alloc: Global,
+    pub(crate) log: &'a Log,
+    pub(crate) index: &'a Index,
+    pub(crate) parts: &'a [Part],
+    pub(crate) reads: &'a Reads,
+}
+
+impl Job for Auditing<'_> {
+    type Out = PartFound;
+
+    ghost takes = { λ job number. (job.index.now ≡ job.log.now) × AreReads job.log.now job.parts.now job.reads.now × (number < length job.parts.now) };
+
+    ghost owes = { λ job number found. IfSome (slice_get job.parts.now number) (λ part. IsPartFound job.log.now (IsInPart part) found) };
+
+    fn run(&self, number: u32) -> Result<PartFound, NoMemory> {
+        let number = number as usize;
+        let places = self.reads.of_part(number);
+        match find_in_part(self.alloc, self.log, self.index, self.parts[number], places) {
+            Ok(found) => Ok(found),
+            Err(_) => Err(NoMemory),
+        }
+    }
+}
+
+/// The work, of whose chunks the workers take one after another.
+#[derive(Drop)]
+pub(crate) struct Printing<'a> {
+    pub(crate) alloc: Global,
+    pub(crate) edges: &'a AllEdges<'a>,
+}
+
+impl Job for Printing<'_> {
+    type Out = Sheet;
+
+    ghost takes = { λ job number. AreAllEdges job.edges.now × (number + 1 < length job.edges.now.chunk_bounds.places.items) };
+
+    ghost owes = { λ job number sheet. IsSheet job.edges.now (slice_index job.edges.now.chunk_bounds.places.items number) (slice_index job.edges.now.chunk_bounds.places.items (number + 1))
+        sheet.lines.items sheet.links.items };
+
+    fn run(&self, number: u32) -> Result<Sheet, NoMemory> {
+        let places = &self.edges.chunk_bounds.places;
+        let number = number as usize;
+        match sheet_between(self.alloc, self.edges, places[number], places[number + 1]) {
+            Ok(sheet) => Ok(sheet),
+            Err(_) => Err(NoMemory),
+        }
+    }
+}
+
 /// Those who work off the jobs of an audit. They answer each part once, in order.
 pub(crate) trait Crew {
-    ghost use Rattle.std.specs.Prelude.{◌≡◌, ℕ, ◌+◌, ◌<◌, ◌≤◌, length, slice_index, IfOk, IfSome};
-    ghost use Rattle.std.specs.List.{slice_get};
-    ghost use Rattle.sia_events.specs.Lists.{ListsAscending};
-    ghost use Rattle.sia_events.specs.Transactions.{IsCommitted};
-    ghost use Rattle.sia_parts.specs.Gathering.{IsPartFound};
-    ghost use Rattle.sia_parts.specs.Parts.{IsInPart};
-    ghost use Rattle.sia_graph.specs.AllEdges.{AreAllEdges};
-    ghost use Rattle.sia_pool.specs.Answers.{AnswersEach};
-    ghost use Rattle.si_audit.specs.Edges.{IsSheet};
-
     /// What the calls ask of those who work.
     ghost ready: { Self → Type 0 };
 
@@ -29,11 +80,11 @@ pub(crate) trait Crew {
     fn find(&self, alloc: Global, count: u32, job: &Auditing) -> Result<Vec<PartFound>, NoMemory>
         requires ready { ready self.now }
         requires few { count ≤ 1024 }
-        requires index { job.now.index.now ≡ job.now.history.now }
-        requires committed { ListsAscending (IsCommitted job.now.index.now) job.now.committed.now }
+        requires index { job.now.index.now ≡ job.now.log.now }
+        requires reads { AreReads job.now.log.now job.now.parts.now job.now.reads.now }
         requires parts { count ≤ length job.now.parts.now }
         ensures len { IfOk result (λ found. length found.items ≡ count) }
-        ensures owed { IfOk result (λ found. AnswersEach (λ number one. IfSome (slice_get job.now.parts.now number) (λ part. IsPartFound job.now.history.now (IsInPart part) one)) count found.items) };
+        ensures owed { IfOk result (λ found. AnswersEach (λ number one. IfSome (slice_get job.now.parts.now number) (λ part. IsPartFound job.now.log.now (IsInPart part) one)) count found.items) };
 
     /// What is made of each of the first chunks of edges.
     fn print(&self, alloc: Global, count: u32, job: &Printing) -> Result<Vec<Sheet>, NoMemory>
@@ -51,8 +102,6 @@ pub(crate) trait Crew {
 pub(crate) struct Alone;
 
 impl Crew for Alone {
-    ghost use Rattle.std.specs.Prelude.{⊤};
-
     ghost ready = { λ _. ⊤ };
 
     fn find(&self, alloc: Global, count: u32, job: &Auditing) -> Result<Vec<PartFound>, NoMemory> {
@@ -73,8 +122,6 @@ pub(crate) struct InThreads<'a, R: Threads + Wait + Sync> {
 }
 
 impl<R: Threads + Wait + Sync> Crew for InThreads<'_, R> {
-    ghost use denote.Param.Send.{IsSync};
-
     ghost ready = { λ _. IsSync R.row };
 
     fn find(&self, alloc: Global, count: u32, job: &Auditing) -> Result<Vec<PartFound>, NoMemory> {
@@ -86,7 +133,6 @@ impl<R: Threads + Wait + Sync> Crew for InThreads<'_, R> {
     }
 }
 
-/// The answers of a job to its first parts, one after another.
 fn one_by_one<J: Job>(alloc: Global, count: u32, job: &J) -> Result<Vec<J::Out>, NoMemory>
 where
     J::Out: Drop,
@@ -101,7 +147,6 @@ where
     Ok(outs)
 }
 
-/// The same by threads.
 fn in_threads<R: Threads + Wait + Sync, J: Job + Sync>(
     rt: &R,
     alloc: Global,

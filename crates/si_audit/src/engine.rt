@@ -1,17 +1,29 @@
 //! The engine: a text goes in, a report comes out, and it knows no device.
-ghost use Rattle.std.specs.Prelude.{◌≡◌, ◌≢◌, ◌<◌, ◌≤◌, ◌++◌, ℕ, List, [], drop, take, length, vec_capacity, IfOk, OnOk, IsFalse, IsTrue};
+ghost use Rattle.std.specs.Prelude.{◌≡◌, ◌≢◌, ◌<◌, ◌≤◌, ◌++◌, ℕ, List, [], drop, take, length, vec_capacity, IfOk, OnOk, IsFalse, IsTrue, ◌↔◌};
 ghost use Rattle.sia_events.specs.Limits.{Limits, standard};
-ghost use Rattle.si_audit.specs.Choices.{Choices};
-ghost use Rattle.si_audit.specs.Engine.{IsFed, IsAt, rest_from};
-ghost use Rattle.si_audit.specs.Report.{IsReport};
-ghost use Rattle.si_audit.specs.Outcomes.{IsOutcome};
+ghost use Rattle.si_audit.specs.Options.{Choices};
+ghost use Rattle.si_audit.specs.Engine.{EndsFed, IsAt, IsFed, TellsFed, rest_from, IsReceived, IsReportOf, IsOutcomeOf, Told};
+ghost use Rattle.si_audit.specs.Report.{IsReport, TellsRefusal};
+ghost use Rattle.si_audit.specs.Outcomes.{IsOutcome, Meets};
 ghost use Rattle.si_audit.specs.Sheets.{text_of};
+ghost use Rattle.sia_events.specs.declared.event.Event.{Event};
+ghost use Rattle.sia_events.specs.Locating.{StandsForLocated};
+ghost use Rattle.sia_events.specs.Refusals.{IsRefusal};
+ghost use Rattle.sia_events.specs.Streaming.{Progress, StandsForRead};
+ghost use Rattle.sia_events.specs.declared.fault.TextFault.{TextFault};
+ghost use Rattle.si_audit.specs.declared.options.Form.{Form};
+ghost use Rattle.si_audit.specs.Lines.{refusal_line};
+ghost use Rattle.sia_graph.specs.Judgements.{IsJudgement};
 
-use crate::answering::{Answer, answer_to_text};
-use crate::cli::form::Form;
-use crate::cli::options::Options;
+use crate::audit::judged;
 use crate::crew::{Alone, Crew, InThreads};
-use sia_events::{Locator, NoMemory, TextReader};
+use crate::explain::refused::push_place;
+use crate::options::{Form, Level, Options};
+use crate::report::line::push_refusal;
+use crate::sheets::{one_sheet, sheets_of};
+use sia_events::{Locator, Log, NoMemory, TextFault, TextReader};
+use sia_graph::Judgement;
+use sia_index::make::index_log;
 use std::alloc::Global;
 use std::marker::Model;
 use std::sync::Wait;
@@ -53,7 +65,7 @@ impl<'a> Auditor<'a> {
         ensures { OnOk result ((limits : Limits) (o : Choices) (text : List ℕ) → IsFed limits o self.old text → IsFed limits o self.new (text ++ piece.now)) }
     {
         self.text.feed(piece)?;
-        if self.options.form().is_explained() {
+        if self.options.form() == Form::Explained {
             self.locator.feed(piece, self.text.refused());
         }
         Ok(())
@@ -62,28 +74,28 @@ impl<'a> Auditor<'a> {
     /// The report of the text, by a crew.
     fn finish_by<C: Crew>(self, alloc: Global, crew: &C) -> Result<Report, NoMemory>
         requires { C.ready crew.now }
-        ensures report { IfOk result (λ r. (limits : Limits) (o : Choices) (text : List ℕ) → IsFed limits o self.entry text → IsReport limits o.form text r.bytes) }
-        ensures outcome { IfOk result (λ r. (limits : Limits) (o : Choices) (text : List ℕ) → IsFed limits o self.entry text → IsOutcome limits o.level text r.outcome) }
+        ensures report { IfOk result (TellsFed self.entry) }
+        ensures outcome { IfOk result (EndsFed self.entry) }
     {
         let Auditor {
             options,
             text,
             locator,
         } = self;
-        let Answer { sheets, outcome } = answer_to_text(crew, alloc, text, &locator, options)?;
-        Ok(Report {
-            outcome,
-            sheets,
-            sheet: 0,
-            at: 0,
-        })
+        match text.finish_log() {
+            Ok(log) => report_of_log(crew, alloc, log, options),
+            Err(fault) => match &fault {
+                TextFault::NoMemory => Err(NoMemory),
+                _ => report_of_refusal(alloc, &fault, &locator, options),
+            },
+        }
     }
 
     /// The report of the text, in the form of the options, and the outcome at their level. It is made by the calling thread,
     /// and the call returns.
     pub fn finish_alone(self, alloc: Global) -> Result<Report, NoMemory>
-        ensures report { IfOk result (λ r. (limits : Limits) (o : Choices) (text : List ℕ) → IsFed limits o self.entry text → IsReport limits o.form text r.bytes) }
-        ensures outcome { IfOk result (λ r. (limits : Limits) (o : Choices) (text : List ℕ) → IsFed limits o self.entry text → IsOutcome limits o.level text r.outcome) }
+        ensures report { IfOk result (TellsFed self.entry) }
+        ensures outcome { IfOk result (EndsFed self.entry) }
     {
         self.finish_by(alloc, &Alone)
     }
@@ -91,8 +103,8 @@ impl<'a> Auditor<'a> {
     /// The same by as many workers as the options say, where there is something to share. The call waits for its threads, so
     /// nothing promises that it returns.
     pub fn finish<R: Threads + Wait + Sync>(self, rt: &R, alloc: Global) -> Result<Report, NoMemory>
-        ensures report { IfOk result (λ r. (limits : Limits) (o : Choices) (text : List ℕ) → IsFed limits o self.entry text → IsReport limits o.form text r.bytes) }
-        ensures outcome { IfOk result (λ r. (limits : Limits) (o : Choices) (text : List ℕ) → IsFed limits o self.entry text → IsOutcome limits o.level text r.outcome) }
+        ensures report { IfOk result (TellsFed self.entry) }
+        ensures outcome { IfOk result (EndsFed self.entry) }
     {
         let workers = self.options.workers();
         let is_one_part = self.options.parts().len() == 1 && self.options.form() != Form::Full;
@@ -114,8 +126,6 @@ pub struct Report {
 }
 
 impl Model for Report {
-    ghost use Rattle.si_audit.specs.Engine.{Told, IsAt, rest_from};
-
     ghost Value = { Told };
 
     ghost view = { λ r. record { outcome = r.outcome; bytes = rest_from r.sheets.items r.sheet r.at } };
@@ -156,7 +166,6 @@ impl Report {
     }
 }
 
-/// Where the next byte is, on this sheet from this place on or on a later one: a sheet and a place on it, or behind all sheets.
 fn next_byte(sheets: &[Vec<u8>], sheet: usize, at: usize) -> (usize, usize)
     requires { IsAt sheets.now sheet at }
     ensures same { rest_from sheets.now result.0 result.1 ≡ rest_from sheets.now sheet at }
@@ -170,4 +179,70 @@ fn next_byte(sheets: &[Vec<u8>], sheet: usize, at: usize) -> (usize, usize)
         at = 0;
     }
     (sheet, at)
+}
+
+fn meets(j: &Judgement, level: Level) -> bool
+    ensures { (h : List Event) → IsJudgement h j.now → IsTrue result ↔ Meets level h }
+{
+    match level {
+        Level::Serializable => j.is_kept() && j.serializable,
+        Level::Ssi => j.pass,
+        Level::Si => j.is_kept(),
+    }
+}
+
+/// How the run of the history ends of which this is the judgement.
+fn outcome_of(j: &Judgement, level: Level) -> Outcome
+    ensures { (h : List Event) → IsJudgement h j.now → IsOutcomeOf level h result }
+{
+    if meets(j, level) {
+        Outcome::Clean
+    } else {
+        Outcome::Faulty
+    }
+}
+
+fn report_of_log<C: Crew>(
+    crew: &C,
+    alloc: Global,
+    log: Log,
+    o: &Options,
+) -> Result<Report, NoMemory>
+    requires { C.ready crew.now }
+    ensures report { IfOk result (λ r. IsReportOf o.now.form log r.bytes) }
+    ensures outcome { IfOk result (λ r. IsOutcomeOf o.now.level log r.outcome) }
+{
+    let ix = index_log(alloc, &log)?;
+    let (judgement, looks) = judged(crew, alloc, &log, &ix, o)?;
+    let outcome = outcome_of(&judgement, o.level());
+    let sheets = sheets_of(crew, alloc, log, &ix, &judgement, looks, o)?;
+    Ok(Report {
+        outcome,
+        sheets,
+        sheet: 0,
+        at: 0,
+    })
+}
+
+fn report_of_refusal(
+    alloc: Global,
+    fault: &TextFault,
+    locator: &Locator,
+    o: &Options,
+) -> Result<Report, NoMemory>
+    ensures report { (limits : Limits) (bytes : List ℕ) (reader : Progress) → IsReceived limits (o.now.form ≡ Form.Explained) locator.now reader bytes → IsRefusal limits bytes fault.now
+        → IfOk result (λ r. TellsRefusal o.now.form bytes fault.now r.bytes) }
+    ensures outcome { IfOk result (λ r. r.outcome ≡ Outcome.Refused) }
+{
+    let mut sheet = Vec::new(alloc);
+    push_refusal(&mut sheet, fault)?;
+    if let Form::Explained = o.form() {
+        push_place(&mut sheet, fault, locator)?;
+    }
+    Ok(Report {
+        outcome: Outcome::Refused,
+        sheets: one_sheet(alloc, sheet)?,
+        sheet: 0,
+        at: 0,
+    })
 }

@@ -1,11 +1,11 @@
-// Laws over the definitions of a report. Their bodies are empty: what they say is all in the contract.
+//! Laws over the definitions of a report. Their bodies are empty: what they say is all in the contract.
 ghost use Rattle.std.specs.Prelude.{List, ℕ};
 ghost use Rattle.sia_events.specs.Limits.{Limits, greatest, AreWithin};
 ghost use Rattle.sia_events.specs.declared.event.Event.{Event};
 ghost use Rattle.sia_events.specs.Refusals.{IsWellFormed};
 ghost use Rattle.si_audit.specs.Laws.{CleanLaw, FormsLaw, HasOneReport, LevelsLaw, LinesLaw, PlainTextLaw};
 ghost use Rattle.si_audit.specs.Report.{HasSameReport, OneReport};
-ghost use Rattle.si_audit.specs.declared.cli.form.Form.{Form};
+ghost use Rattle.si_audit.specs.declared.options.Form.{Form};
 
 /// A text has one report of each form at most: whatever bytes are a report of it are the same bytes.
 pub fn one_report()

@@ -2,28 +2,30 @@
 //! report to standard output.
 #![tactic(auto)]
 
-mod answering;
+mod account;
 mod audit;
-mod cli;
 mod crew;
+mod devices;
 mod engine;
 mod explain;
-mod io;
 mod laws;
+mod options;
 mod report;
 mod run;
+mod sheets;
 #[cfg(test)]
 mod tests;
+mod words;
 
-use cli::line::{LineFault, options_from};
-use cli::options::Options;
-use io::device::FromStd;
+use devices::FromStd;
+use options::Options;
 use run::{RunFault, run, status};
 use std::alloc::{AllocError, Global};
 use std::env::Env;
 use std::fmt::Display;
 use std::io::ErrorKind;
 use std::process::ExitCode;
+use words::{LineFault, options_from};
 
 /// The status where help was asked for.
 const HELPED: u8 = 0;

@@ -1,8 +1,4 @@
-//! The report: its lines, on one sheet after another.
-pub(crate) mod found;
-pub(crate) mod lines;
-pub(crate) mod listing;
-pub(crate) mod number_lines;
-pub(crate) mod reporting;
-pub(crate) mod sheets;
-pub(crate) mod words;
+//! The lines of a report, by kind of line.
+pub(crate) mod edges;
+pub(crate) mod findings;
+pub(crate) mod line;

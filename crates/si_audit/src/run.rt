@@ -1,14 +1,15 @@
-ghost use Rattle.std.specs.Prelude.{◌≡◌, ◌≢◌, ◌↔◌, ◌+◌, ◌≤◌, ℕ, List, ◌++◌, IfOk, IfErr, IfSome, OnOk, Err, IsTrue, IsFalse};
+//! A run is two loops: a text is read to its end, or past the limit, and its report is written out whole.
+ghost use Rattle.std.specs.Prelude.{◌≡◌, ◌≢◌, ◌↔◌, ◌+◌, ◌≤◌, ℕ, List, ◌++◌, IfOk, IfErr, IfSome, OnOk, Err, IsTrue, IsFalse, ◌<◌, vec_capacity, OnErr, IsErr};
 ghost use Rattle.std.specs.Io.KnownBytes.{Appends, Keeps};
 ghost use Rattle.sia_events.specs.Limits.{standard};
 ghost use Rattle.si_audit.specs.Report.{IsReport};
 ghost use Rattle.si_audit.specs.Outcomes.{IsOutcome, status_of};
+ghost use Rattle.si_audit.specs.Engine.{IsFed};
+ghost use Rattle.si_audit.specs.declared.run.RunFault.TheVariants.{NoMemory as no_memory};
 
-use crate::cli::options::Options;
-use crate::engine::Outcome;
-use crate::io::device::{Failed, Sink, Source};
-use crate::io::input::read_text;
-use crate::io::output::write_whole;
+use crate::devices::{Failed, Sink, Source};
+use crate::engine::{Auditor, Outcome, Report};
+use crate::options::Options;
 use sia_events::NoMemory;
 use std::alloc::Global;
 use std::error::Error;
@@ -17,7 +18,7 @@ use std::sync::Wait;
 use std::thread::Threads;
 
 /// How many bytes a piece of the text or of the report mostly has.
-pub(crate) const PIECE: usize = 65_536;
+const PIECE: usize = 65_536;
 
 /// Why a run ended before its report was written.
 #[derive(Clone, Copy, Debug, PartialEq, Eq)]
@@ -40,9 +41,6 @@ impl fmt::Display for RunFault {
 impl Error for RunFault {}
 
 impl From<NoMemory> for RunFault {
-    ghost use Rattle.std.specs.Prelude.{◌≡◌};
-    ghost use Rattle.si_audit.specs.declared.run.RunFault.TheVariants.{NoMemory as no_memory};
-
     ghost from_gives = { λ _ e. e ≡ no_memory };
 
     fn from(_refused: NoMemory) -> RunFault {
@@ -105,4 +103,76 @@ pub fn status(r: &Result<Outcome, RunFault>) -> u8
         Ok(Outcome::Refused) => 3,
         Err(_) => 4,
     }
+}
+
+/// The bytes of the longest text that is judged.
+const LONGEST_TEXT: usize = 16_777_216;
+
+/// Feeds an auditor with all that comes, or until the text is past the limit; what follows then is left unread.
+fn read_text<'a, R: Source>(
+    alloc: Global,
+    source: &mut R,
+    o: &'a Options,
+) -> Result<Auditor<'a>, RunFault>
+    requires { IsFalse (R.has_failed source.old) }
+    ensures text { IfOk result (λ auditor. IfSome (R.remaining source.old) (IsFed standard o.now auditor)) }
+    ensures failed { (result ≡ Err RunFault.Read) ↔ IsTrue (R.has_failed source.new) }
+    ensures reads { R.reads source.new ≤ R.reads source.old + 16777217 }
+    ensures no_write { result ≡ Err RunFault.Write → ⊥ }
+{
+    let mut auditor = Auditor::new(alloc, o);
+    let mut piece = [0u8; PIECE];
+    let mut count = 0;
+    'reading: while count <= LONGEST_TEXT {
+        let Ok(n) = source.read(&mut piece) else {
+            return Err(RunFault::Read);
+        };
+        if n == 0 {
+            break;
+        }
+        auditor.feed(&piece[..n])?;
+        count += n;
+    }
+    Ok(auditor)
+}
+
+fn write_bytes<W: Sink>(writer: &mut W, bytes: &[u8]) -> Result<(), Failed>
+    requires { IsFalse (W.has_failed writer.old) }
+    ensures ok { OnOk result (Appends (W.taken writer.old) (W.taken writer.new) bytes.now) }
+    ensures err { OnErr result ((front : List ℕ) × (rest : List ℕ) × (bytes.now ≡ front ++ rest) × Appends (W.taken writer.old) (W.taken writer.new) front) }
+    ensures failed { IsTrue (W.has_failed writer.new) ↔ IsErr result }
+    ensures refused { IsTrue (W.has_refused writer.new) ↔ IsErr result }
+{
+    let mut rest = bytes;
+    'writing: while !rest.is_empty() {
+        let taken = writer.write(rest)?;
+        if taken == 0 {
+            return Err(Failed);
+        }
+        rest = &rest[taken..];
+    }
+    Ok(())
+}
+
+/// Writes what the report gives, piece by piece, through a buffer, and flushes once.
+fn write_whole<W: Sink>(
+    writer: &mut W,
+    report: &mut Report,
+    buffer: &mut Vec<u8>,
+) -> Result<(), Failed>
+    requires sound { IsFalse (W.has_failed writer.old) }
+    requires room { 0 < vec_capacity buffer.old }
+    ensures ok { OnOk result (Appends (W.taken writer.old) (W.taken writer.new) report.old.bytes) }
+    ensures front { OnErr result ((front : List ℕ) × (rest : List ℕ) × (report.old.bytes ≡ front ++ rest) × Appends (W.taken writer.old) (W.taken writer.new) front) }
+    ensures whole { IsFalse (W.has_refused writer.new) → Appends (W.taken writer.old) (W.taken writer.new) report.old.bytes }
+    ensures failed { IsTrue (W.has_failed writer.new) ↔ IsErr result }
+    ensures flushed { OnOk result (IsTrue (W.is_flushed writer.new)) }
+    ensures outcome { report.new.outcome ≡ report.old.outcome }
+{
+    buffer.clear();
+    'giving: while report.give(buffer) {
+        write_bytes(writer, buffer.as_slice())?;
+        buffer.clear();
+    }
+    writer.flush()
 }

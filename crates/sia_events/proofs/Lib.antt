@@ -37,7 +37,14 @@ pub mod WorkedStarts
 pub mod Digits
 pub mod NumberLaws
 pub mod Tokens
-mod TxnSlots
+mod Finders
+mod OwnWrites
+pub mod Logs
+pub mod LogReads
+pub mod Taken
+pub mod Drafted
+pub mod Lived
+pub mod Distinct
 mod Flattened
 mod OneToken
 mod TokenSteps

@@ -1,14 +1,12 @@
 -- Reading listed keys one after the other, as a loop does.
 use Rattle.std.proofs.Common.{◌≡◌, ℕ, zero, suc, ◌+◌, ◌<◌, ◌≤◌, true, false, List, [], length, take, drop, Option, Some, None, Result, Ok, Err, refl, sym, ap, ◌∙◌, append_assoc, arith}
 use Rattle.std.specs.Prelude.{Bool, ◌&&◌, ◌==◌, nat_eq, ◌∷◌, ◌++◌, is_some, unwrap_or}
-use Rattle.std.specs.Bool.{then_some}
 use Rattle.std.specs.Cmp.Lexicographic.{pointwise}
 use Rattle.std.proofs.Math.Bool.{and-true}
-use Rattle.std.specs.Global.{Vec}
 use Rattle.sia_events.specs.declared.fault.Reason.{Reason}
 use Rattle.sia_events.specs.declared.fault.Refusal.{Refusal}
 use Rattle.sia_events.specs.declared.fault.Refusal.TheVariants as refusals
-use Rattle.sia_events.specs.Parsing.{◌>>=◌, Fails, items_of, kept, joined, one_pair, begins_with, pair_at, pairs_within, pairs_at}
+use Rattle.sia_events.specs.Parsing.{◌>>=◌, Fails, kept, joined, one_pair, begins_with, pair_at, pairs_within, pairs_at}
 
 abbrev pub with_front : Option (List (ℕ × ℕ)) → Result (Option (List (ℕ × ℕ)) × List ℕ) Reason → Result (Option (List (ℕ × ℕ)) × List ℕ) Reason
 with_front front read = read >>= λ x. Ok (joined front x.0, x.1)
@@ -28,10 +26,6 @@ pub one_pushed : (old : Bool) {some : Bool} (pairs : List (ℕ × ℕ)) {all : L
 one_pushed false pairs next s o a = refl
 one_pushed true pairs None s o a = rw s refl
 one_pushed true pairs (Some p) s o a = rw (s, a, o) refl
-
-pub items_of-then_some : (b : Bool) (pairs : Vec (ℕ × ℕ)) → items_of (then_some b pairs) ≡ kept b pairs.items
-items_of-then_some true pairs = refl
-items_of-then_some false pairs = refl
 
 pub starts : (bytes : List ℕ) → with_front (Some []) (pairs_within (length bytes + 1) bytes) ≡ pairs_at bytes
 unfolding pairs_at

@@ -1,6 +1,6 @@
 -- A text that comes in pieces: what one piece adds to the events, and where it stops them.
 use Rattle.std.proofs.Common.{◌≡◌, ◌≢◌, inl, inr, ℕ, true, false, List, [], ◌∷◌, ◌++◌, length, All, Result, Ok, Err, refl, ap, sym, subst, ◌∙◌, append_assoc}
-use Rattle.std.specs.Prelude.{IfErr, OnErr}
+use Rattle.std.specs.Prelude.{IfErr}
 use Rattle.std.proofs.lemmas.List.{append-nil}
 use Rattle.std.proofs.lemmas.List.Elements.{recursion_from_All, All-from_recursion, All-nil}
 use Rattle.sia_events.specs.Limits.{Limits}
@@ -11,6 +11,7 @@ use Rattle.sia_events.specs.Text.{is_separator, tokens}
 use Rattle.sia_events.specs.Parsing.{Fails}
 use Rattle.sia_events.specs.Streaming.{IsCutAtLastSeparator}
 use Rattle.sia_events.specs.Judging.{judged, JudgedAll, StopsAt, Halts, HaltsIn, as_token, IsSplitAfter}
+use Rattle.sia_events.specs.Drafts.{Stays}
 use Rattle.sia_events.proofs.Canonical.{HasNoSeparator, HasNoSeparator-append}
 use Rattle.sia_events.proofs.Tokens.{IsClosed, tokens-append, tokens_ended}
 use Rattle.sia_events.proofs.Judged.{JudgedAll-append, JudgedAll-none, StopsAt-after, StopsAt-first}
@@ -21,7 +22,7 @@ one_token [] some = absurd (some refl)
 one_token (c ∷ cs) some = refl
 
 -- a refused token stops the events at it
-pub halts_first : (limits : Limits) {X : Type 0} (result : Result X Refusal) (events all : List Event) (token : List ℕ) → length token ≢ 0 → IfErr result (λ fault. Fails fault (judged limits events token)) → OnErr result (all ≡ events) → IfErr result (λ fault. Halts limits fault events (as_token token) all)
+pub halts_first : (limits : Limits) {X : Type 0} (result : Result X Refusal) (events all : List Event) (token : List ℕ) → length token ≢ 0 → IfErr result (λ fault. Fails fault (judged limits events token)) → IfErr result (λ fault. Stays fault events all) → IfErr result (λ fault. Halts limits fault events (as_token token) all)
 halts_first limits (Ok x) events all token some fails kept = tt
 halts_first limits (Err refusals.NoMemory) events all token some fails kept = tt
 halts_first limits (Err (refusals.Bad r)) events all token some fails kept = subst (λ ts. StopsAt limits events ts all r) (sym (one_token token some)) (StopsAt-first limits events all token r kept fails)

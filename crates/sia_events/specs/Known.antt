@@ -1,14 +1,11 @@
 -- What the reader knows of the events so far, and the reasons of the next event by it.
-use Rattle.std.specs.Prelude.{◌≡◌, ℕ, ◌+◌, Bool, true, false, ◌&&◌, ◌||◌, not, List, [], ◌∷◌, ◌==◌, nat_lt, Option, Some, None, if◌then◌else◌}
+use Rattle.std.specs.Prelude.{ℕ, ◌+◌, Bool, true, false, ◌&&◌, ◌||◌, not, List, [], ◌∷◌, ◌==◌, nat_lt, Option, Some, None, if◌then◌else◌}
 use Rattle.std.specs.List.{list_any, list_all}
 use Rattle.sia_events.specs.declared.event.Event.{Event}
 use Rattle.sia_events.specs.declared.event.Event.TheVariants.{Begin, Read, Range, Write, Commit, Abort}
 use Rattle.sia_events.specs.declared.fault.Reason.{Reason}
 use Rattle.sia_events.specs.declared.fault.Reason.TheVariants.{AlreadyEnded, AlreadyBegun, EmptyRange, BadList, NotWritten, BadStart}
-use Rattle.sia_events.specs.declared.tables.Tables.{Tables}
 use Rattle.sia_events.specs.Events.{actor}
-use Rattle.sia_events.specs.TxnStates.{has_begun, has_ended, IsSound as IsSoundTxns}
-use Rattle.sia_events.specs.WriteSets.{wrote, IsSound}
 
 -- the event is one of t
 abbrev pub acts : ℕ → Event → Bool
@@ -31,14 +28,6 @@ writes p (Read u k v) = false
 writes p (Range u lo hi listed) = false
 writes p (Commit u) = false
 writes p (Abort u) = false
-
--- the tables hold what these events are
-pub record Knows (tables : Tables) (events : List Event) : Type 0 where
-  pub begun : (t : ℕ) → has_begun tables.txns t ≡ list_any (acts t) events
-  pub ended : (t : ℕ) → has_ended tables.txns t ≡ list_any (ends t) events
-  pub written : (p : ℕ × ℕ) → wrote tables.written p ≡ list_any (writes p) events
-  pub sound : IsSound tables.written
-  pub txns_sound : IsSoundTxns tables.txns
 
 -- the version of that key is 0 or was written
 unfoldable pub is_explained : List Event → ℕ × ℕ → Bool

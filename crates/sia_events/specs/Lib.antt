@@ -6,8 +6,11 @@ pub mod Spelled
 pub mod Events
 pub mod Refusals
 pub mod Parsing
-pub mod TxnStates
-pub mod WriteSets
+pub mod Numbering
+pub mod OwnWrites
+pub mod LogTables
+pub mod Finding
+pub mod Drafts
 pub mod Known
 pub mod Reading
 pub mod Streaming

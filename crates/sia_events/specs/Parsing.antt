@@ -2,9 +2,10 @@
 -- token: first where the bytes have no form, and where they have one, where a number is out of its range.
 use Rattle.std.specs.Prelude.{◌≡◌, ℕ, zero, suc, ◌+◌, ◌-◌, ◌*◌, ◌^◌, Bool, true, false, ◌||◌, ◌&&◌, if◌then◌else◌, List, [], ◌∷◌, length, take, drop, fold, ⊤, ◌++◌, Option, Some, None, Result, Ok, Err, nat_lt, nat_le, ◌==◌, slice_index}
 use Rattle.std.specs.List.{prefix_len}
-use Rattle.std.specs.Global.{Vec}
 use Rattle.sia_events.specs.declared.event.Event.{Event}
 use Rattle.sia_events.specs.declared.event.Event.TheVariants.{Begin, Read, Range, Write, Commit, Abort}
+use Rattle.sia_events.specs.declared.token.Token.{Token}
+use Rattle.sia_events.specs.declared.token.Token.TheVariants as spelled
 use Rattle.sia_events.specs.declared.fault.Reason.{Reason}
 use Rattle.sia_events.specs.declared.fault.Reason.TheVariants.{BadEvent, BadNumber}
 use Rattle.sia_events.specs.declared.fault.Refusal.{Refusal}
@@ -24,10 +25,14 @@ abbrev pub Gives : {X Y : Type 0} → (X → Y) → Result X Refusal → Result 
 Gives view (Ok x) read = read ≡ Ok (view x)
 Gives view (Err e) read = Fails e read
 
--- the pairs of a list that may be missing
-abbrev pub items_of : Option (Vec (ℕ × ℕ)) → Option (List (ℕ × ℕ))
-items_of None = None
-items_of (Some pairs) = Some pairs.items
+-- the event of a token beside which its listed pairs stand
+abbrev pub event_with : List (ℕ × ℕ) → Token → Event
+event_with listed (spelled.Begin t start) = Begin t start
+event_with listed (spelled.Read t k v) = Read t k v
+event_with listed (spelled.Range t lo hi) = Range t lo hi listed
+event_with listed (spelled.Write t k) = Write t k
+event_with listed (spelled.Commit t) = Commit t
+event_with listed (spelled.Abort t) = Abort t
 
 abbrev pub is_digit : ℕ → Bool
 is_digit c = nat_le 48 c && nat_le c 57

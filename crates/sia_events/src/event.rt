@@ -1,5 +1,5 @@
 ghost use Rattle.std.specs.Prelude.{◌≡◌};
-ghost use Rattle.sia_events.specs.Events.{actor, named_start};
+ghost use Rattle.sia_events.specs.Events.{actor};
 
 use std::marker::Model;
 
@@ -81,16 +81,6 @@ impl Event {
             | Event::Write { txn, .. }
             | Event::Commit { txn }
             | Event::Abort { txn } => *txn,
-        }
-    }
-
-    /// The start that a begin names, in events recorded before it; nothing for every other event.
-    pub fn named_start(&self) -> Option<u32>
-        ensures { result ≡ named_start self.now }
-    {
-        match self {
-            Event::Begin { start, .. } => *start,
-            _ => None,
         }
     }
 }

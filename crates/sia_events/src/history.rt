@@ -1,30 +1,42 @@
-ghost use Rattle.std.specs.Prelude.{◌≡◌, length};
+ghost use Rattle.std.specs.Prelude.{◌≡◌, All, IfOk, map, length, List};
 ghost use Rattle.std.specs.Option.{option_copied};
+ghost use Rattle.sia_events.specs.Numbering.{names_of, event_of, pair_at, IsWithin, IsPair};
 ghost use Rattle.sia_events.specs.Places.{at_place};
 ghost use Rattle.sia_events.specs.Refusals.{IsWellFormed};
+ghost use Rattle.sia_events.specs.declared.event.Event.{Event};
 
-use crate::event::Event;
+use crate::event::{Event, Key, Listed, Version};
+use crate::fault::NoMemory;
+use crate::log::Log;
+use crate::rows::Row;
+use std::alloc::{AllocError, Global};
 use std::marker::Model;
 
 /// A well-formed history: its events, in the order in which they were recorded.
 #[derive(Drop)]
 pub struct History {
     pub(crate) events: Vec<Event>,
+    pub(crate) log: Log,
 }
 
 impl Model for History {
-    ghost use Rattle.std.specs.Prelude.{List};
-    ghost use Rattle.sia_events.specs.declared.event.Event.{Event};
-    ghost use Rattle.sia_events.specs.Refusals.{IsWellFormed};
-
     ghost Value = { List Event };
 
     ghost view = { λ h. h.events.items };
 
-    ghost invariant = { λ h. IsWellFormed h.events.items };
+    ghost invariant = { λ h. (h.log ≡ h.events.items) × IsWellFormed h.events.items };
 }
 
 impl History {
+    /// The history that the log is of, which keeps the log.
+    pub fn of(alloc: Global, log: Log) -> Result<History, NoMemory>
+        ensures { IfOk result (λ h. h ≡ log) }
+    {
+        log.law();
+        let events = listed_out(alloc, &log)?;
+        Ok(History { events, log })
+    }
+
     /// A law of every history, and nothing else: it is well-formed.
     pub fn law(&self)
         ensures { IsWellFormed self.now }
@@ -40,6 +52,13 @@ impl History {
         self.events.len() as u32
     }
 
+    /// The same history, by numbers.
+    pub fn log(&self) -> &Log
+        ensures { result.now ≡ self.now }
+    {
+        &self.log
+    }
+
     /// The event at a place, counted from 1. There is none at 0 and above the length.
     pub fn event(&self, place: u32) -> Option<&Event>
         ensures { option_copied result ≡ at_place self.now place }
@@ -49,4 +68,64 @@ impl History {
         }
         self.events.get(place as usize - 1)
     }
+}
+
+/// The events of the log.
+fn listed_out(alloc: Global, log: &Log) -> Result<Vec<Event>, AllocError>
+    ensures { IfOk result (λ events. events.items ≡ log.now) }
+{
+    let mut events = Vec::with_capacity(alloc, log.len() as usize)?;
+    for before in 0..log.len() {
+        if let Some(row) = log.row(before + 1) {
+            events.push(event_from(alloc, log, row)?)?;
+        }
+    }
+    Ok(events)
+}
+
+fn event_from(alloc: Global, log: &Log, row: Row) -> Result<Event, AllocError>
+    requires { IsWithin (names_of log.now) row }
+    ensures { IfOk result (λ event. event ≡ event_of (names_of log.now) row) }
+{
+    Ok(match row {
+        Row::Begin { txn, start } => Event::Begin {
+            txn: log.txn(txn).name,
+            start,
+        },
+        Row::Read { txn, key, saw } | Row::OwnRead { txn, key, saw } => Event::Read {
+            txn: log.txn(txn).name,
+            key: log.key(key),
+            saw: log.version(saw),
+        },
+        Row::Range { txn, range, .. } => {
+            let (lo, hi) = log.range(range);
+            Event::Range {
+                txn: log.txn(txn).name,
+                lo,
+                hi,
+                listed: Listed::new(pairs_of(alloc, log, log.listed(range))?),
+            }
+        }
+        Row::Write { txn, key, .. } => Event::Write {
+            txn: log.txn(txn).name,
+            key: log.key(key),
+        },
+        Row::Commit { txn } => Event::Commit {
+            txn: log.txn(txn).name,
+        },
+        Row::Abort { txn } => Event::Abort {
+            txn: log.txn(txn).name,
+        },
+    })
+}
+
+fn pairs_of(alloc: Global, log: &Log, listed: &[u32]) -> Result<Vec<(Key, Version)>, AllocError>
+    requires { All (IsPair (names_of log.now)) listed.now }
+    ensures { IfOk result (λ pairs. pairs.items ≡ map (pair_at (names_of log.now)) listed.now) }
+{
+    let mut pairs = Vec::with_capacity(alloc, listed.len())?;
+    for pair in listed {
+        pairs.push(log.pair(*pair))?;
+    }
+    Ok(pairs)
 }

@@ -1,19 +1,20 @@
 //! The events of a text so far, and the judgement of its next token.
-ghost use Rattle.std.specs.Prelude.{◌≡◌, ◌+◌, ◌≤◌, ℕ, ◌<◌, length, List, [], ◌∷◌, ◌++◌, Ok, true, false, drop, All, slice_index, nat_le, OnOk, OnErr, IfOk, IfErr, IfSome, IfNone};
+ghost use Rattle.std.specs.Prelude.{◌≡◌, ◌+◌, ◌≤◌, ℕ, ◌<◌, ◌^◌, length, List, [], ◌∷◌, ◌++◌, Ok, true, false, drop, All, slice_index, nat_le, OnOk, OnErr, IfOk, IfErr, IfSome, IfNone};
 ghost use Rattle.std.specs.List.{AllByRecursion, position_or_len};
 ghost use Rattle.std.specs.Simd.Lanes.{chunk};
 ghost use Rattle.sia_events.specs.declared.event.Event.{Event as AnEvent};
-ghost use Rattle.sia_events.specs.Parsing.{Fails};
-ghost use Rattle.sia_events.specs.Known.{Knows};
+ghost use Rattle.sia_events.specs.Parsing.{Fails, event_with};
+ghost use Rattle.sia_events.specs.Drafts.{Knows, CanTake, Takes, Stays};
+ghost use Rattle.sia_events.specs.LogTables.{events_of};
 ghost use Rattle.sia_events.specs.Limits.{standard};
 ghost use Rattle.sia_events.specs.Judging.{judged, JudgedAll, Halts, HaltsIn, as_token, IsSplitAfter};
 ghost use Rattle.sia_events.specs.Text.{is_separator, tokens};
 ghost use Rattle.sia_events.specs.Streaming.{IsCutAtLastSeparator};
 
-use crate::event::Event;
+use crate::draft::Draft;
+use crate::event::{Key, Version};
 use crate::fault::{Reason, Refusal};
-use crate::tables::Tables;
-use crate::token::event_of;
+use crate::token::{Token, event_of};
 use std::alloc::Global;
 use std::simd::prelude::*;
 
@@ -22,52 +23,64 @@ pub(crate) const MAX_EVENTS: usize = 100_000;
 
 #[derive(Drop)]
 pub(crate) struct Judge {
-    alloc: Global,
-    pub(crate) events: Vec<Event>,
-    tables: Tables,
+    pub(crate) draft: Draft,
+    listed: Vec<(Key, Version)>,
 }
 
 impl Judge {
     pub(crate) fn new(alloc: Global) -> Self
-        ensures none { result.events.items ≡ [] }
-        ensures knows { Knows result.tables result.events.items }
+        ensures none { events_of result.draft.tables ≡ [] }
+        ensures knows { Knows result.draft }
     {
         Judge {
-            alloc,
-            events: Vec::new(alloc),
-            tables: Tables::new(alloc),
+            draft: Draft::new(alloc),
+            listed: Vec::new(alloc),
         }
     }
 
     /// Takes the event of the next token. After `NoMemory` the tables may lack it, or have it without the events.
     #[tactic(auto, unfolding(crate::specs::Judging::judged))]
     pub(crate) fn take(&mut self, token: &[u8]) -> Result<(), Refusal>
-        requires { Knows self.old.tables self.old.events.items }
-        ensures taken { OnOk result ((e : AnEvent) × (judged standard self.old.events.items token.now ≡ Ok e) × (self.new.events.items ≡ self.old.events.items ++ e ∷ [])) }
-        ensures knows { OnOk result (Knows self.new.tables self.new.events.items) }
-        ensures refused { IfErr result (λ fault. Fails fault (judged standard self.old.events.items token.now)) }
-        ensures kept { OnErr result (self.new.events.items ≡ self.old.events.items) }
+        requires { Knows self.old.draft }
+        ensures taken { OnOk result ((e : AnEvent) × (judged standard (events_of self.old.draft.tables) token.now ≡ Ok e) × ((events_of self.new.draft.tables) ≡ (events_of self.old.draft.tables) ++ e ∷ [])) }
+        ensures knows { OnOk result (Knows self.new.draft) }
+        ensures refused { IfErr result (λ fault. Fails fault (judged standard (events_of self.old.draft.tables) token.now)) }
+        ensures kept { IfErr result (λ fault. Stays fault (events_of self.old.draft.tables) (events_of self.new.draft.tables)) }
     {
-        if self.events.len() == MAX_EVENTS {
+        let count = self.draft.tables.events.len();
+        if count == MAX_EVENTS {
             return Err(Refusal::Bad(Reason::TooManyEvents));
         }
-        let event = event_of(self.alloc, token)?;
-        let past = self.tables.past(&event);
-        if let Some(reason) = self.tables.fault(&event, past, self.events.len()) {
-            return Err(Refusal::Bad(reason));
+        // There are never more.
+        if count > MAX_EVENTS {
+            return Err(Refusal::NoMemory);
         }
-        self.tables.add(&event, past.0)?;
-        self.events.push(event)?;
-        Ok(())
+        let token = event_of(&mut self.listed, token)?;
+        self.admit(token)
+    }
+
+    /// Takes the event of a token beside which its listed pairs stand, unless it has a reason.
+    fn admit(&mut self, token: Token) -> Result<(), Refusal>
+        requires { CanTake self.old.draft }
+        ensures { Takes self.old.draft self.new.draft (event_with self.old.listed.items token) result }
+    {
+        match token {
+            Token::Begin { txn, start } => self.draft.begin(txn, start),
+            Token::Read { txn, key, saw } => self.draft.read(txn, key, saw),
+            Token::Range { txn, lo, hi } => self.draft.range(txn, lo, hi, &self.listed),
+            Token::Write { txn, key } => self.draft.write(txn, key),
+            Token::Commit { txn } => self.draft.commit(txn),
+            Token::Abort { txn } => self.draft.abort(txn),
+        }
     }
 
     /// Takes the event of the token, if there is one.
     #[tactic(auto, unfolding(crate::specs::Judging::JudgedAll))]
     pub(crate) fn take_some(&mut self, token: &[u8]) -> Result<(), Refusal>
-        requires { Knows self.old.tables self.old.events.items }
-        ensures taken { OnOk result (JudgedAll standard self.old.events.items (as_token token.now) self.new.events.items) }
-        ensures knows { OnOk result (Knows self.new.tables self.new.events.items) }
-        ensures refused { IfErr result (λ fault. Halts standard fault self.old.events.items (as_token token.now) self.new.events.items) }
+        requires { Knows self.old.draft }
+        ensures taken { OnOk result (JudgedAll standard (events_of self.old.draft.tables) (as_token token.now) (events_of self.new.draft.tables)) }
+        ensures knows { OnOk result (Knows self.new.draft) }
+        ensures refused { IfErr result (λ fault. Halts standard fault (events_of self.old.draft.tables) (as_token token.now) (events_of self.new.draft.tables)) }
     {
         if token.is_empty() {
             return Ok(());
@@ -77,10 +90,10 @@ impl Judge {
 
     /// Takes the events of all tokens that a separator follows, and answers what comes after the last separator.
     pub(crate) fn take_closed<'a>(&mut self, text: &'a [u8]) -> Result<&'a [u8], Refusal>
-        requires { Knows self.old.tables self.old.events.items }
-        ensures taken { IfOk result (λ rest. (closed : List ℕ) × IsCutAtLastSeparator text.now closed rest.now × JudgedAll standard self.old.events.items (tokens closed) self.new.events.items) }
-        ensures knows { OnOk result (Knows self.new.tables self.new.events.items) }
-        ensures refused { IfErr result (λ fault. HaltsIn standard fault self.old.events.items text.now self.new.events.items) }
+        requires { Knows self.old.draft }
+        ensures taken { IfOk result (λ rest. (closed : List ℕ) × IsCutAtLastSeparator text.now closed rest.now × JudgedAll standard (events_of self.old.draft.tables) (tokens closed) (events_of self.new.draft.tables)) }
+        ensures knows { OnOk result (Knows self.new.draft) }
+        ensures refused { IfErr result (λ fault. HaltsIn standard fault (events_of self.old.draft.tables) text.now (events_of self.new.draft.tables)) }
     {
         let mut rest = text;
         while let Some((token, after)) = split_token(rest) {
@@ -97,11 +110,11 @@ impl Judge {
         unfinished: &mut Vec<u8>,
         piece: &[u8],
     ) -> Result<(), Refusal>
-        requires knows { Knows self.old.tables self.old.events.items }
+        requires knows { Knows self.old.draft }
         requires unbroken { All (λ c. is_separator c ≡ false) unfinished.old.items }
-        ensures taken { OnOk result ((closed : List ℕ) × IsCutAtLastSeparator (unfinished.old.items ++ piece.now) closed unfinished.new.items × JudgedAll standard self.old.events.items (tokens closed) self.new.events.items) }
-        ensures knows { OnOk result (Knows self.new.tables self.new.events.items) }
-        ensures refused { IfErr result (λ fault. HaltsIn standard fault self.old.events.items (unfinished.old.items ++ piece.now) self.new.events.items) }
+        ensures taken { OnOk result ((closed : List ℕ) × IsCutAtLastSeparator (unfinished.old.items ++ piece.now) closed unfinished.new.items × JudgedAll standard (events_of self.old.draft.tables) (tokens closed) (events_of self.new.draft.tables)) }
+        ensures knows { OnOk result (Knows self.new.draft) }
+        ensures refused { IfErr result (λ fault. HaltsIn standard fault (events_of self.old.draft.tables) (unfinished.old.items ++ piece.now) (events_of self.new.draft.tables)) }
     {
         let Some((front, after)) = split_token(piece) else {
             unfinished.extend_from_slice(piece)?;
@@ -115,11 +128,10 @@ impl Judge {
         Ok(())
     }
 
-    /// The number of the next token.
     pub(crate) fn next_token(&self) -> u32
-        ensures { length self.now.events.items ≤ 100000 → result ≡ length self.now.events.items + 1 }
+        ensures { length (events_of self.now.draft.tables) ≤ 100000 → result ≡ length (events_of self.now.draft.tables) + 1 }
     {
-        self.events.len().min(MAX_EVENTS) as u32 + 1
+        self.draft.tables.events.len().min(MAX_EVENTS) as u32 + 1
     }
 }
 

@@ -2,21 +2,22 @@
 #![tactic(auto)]
 
 mod anomaly;
+mod draft;
 mod event;
 mod fault;
-mod guesses;
+mod finder;
 mod history;
 mod judge;
 mod laws;
 mod locating;
+mod log;
 mod number;
+mod own_writes;
 mod reader;
+mod rows;
 mod shown;
-mod tables;
 mod telling;
 mod token;
-mod txn_states;
-mod write_set;
 mod writer;
 
 pub use anomaly::Anomaly;
@@ -28,7 +29,9 @@ pub use laws::{
     named_starts_only_add, narrow_law, one_history, one_refusal, round_trip, unwritten_law,
 };
 pub use locating::{Locator, Place};
+pub use log::Log;
 pub use reader::{TextReader, read_history};
+pub use rows::{Row, TxnEnd, TxnRow, WriteRow};
 pub use shown::push_shown;
 pub use writer::{push_number, write_history};
 

@@ -2,7 +2,7 @@
 ghost use Rattle.std.specs.Prelude.{◌≡◌, ◌+◌, ◌<◌, ◌≤◌, ◌++◌, ◌∷◌, ℕ, List, [], length, take, true, false};
 ghost use Rattle.std.specs.Option.{option_map};
 ghost use Rattle.sia_events.specs.Limits.{Limits};
-ghost use Rattle.sia_events.specs.Locating.{Follows, StandsForLocated};
+ghost use Rattle.sia_events.specs.Locating.{Follows, StandsForLocated, Located};
 ghost use Rattle.sia_events.specs.Locations.{IsPlaceAfter, IsLocated};
 ghost use Rattle.sia_events.specs.Refusals.{IsRefusal};
 ghost use Rattle.sia_events.specs.declared.fault.Reason.{Reason as AReason};
@@ -24,7 +24,6 @@ pub struct Place {
 }
 
 impl Place {
-    /// The place behind a byte that stands here.
     fn behind(self, byte: u8) -> Place
         ensures { (front : List ℕ) → length front < 16777216 → IsPlaceAfter front self.line self.column → IsPlaceAfter (front ++ byte ∷ []) result.line result.column }
     {
@@ -54,9 +53,6 @@ pub struct Locator {
 }
 
 impl Model for Locator {
-    ghost use Rattle.std.specs.Prelude.{◌≤◌, take};
-    ghost use Rattle.sia_events.specs.Locating.{Located};
-
     ghost Value = { Located };
 
     ghost view = { λ l. record { number = l.number; next = l.next; place = l.place; token = take l.len l.token; is_open = l.is_open } };

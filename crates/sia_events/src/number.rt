@@ -11,7 +11,6 @@ pub(crate) type Number = Option<u64>;
 /// So many digits have room in 64 bits, whatever they are.
 const SHORT: usize = 19;
 
-/// The digit at the place, if one stands there.
 fn digit_at(text: &[u8], at: usize) -> Option<u64>
     ensures { MatchOption result (is_digit (slice_index text.now at) ≡ false) (λ digit. (is_digit (slice_index text.now at) ≡ true) × (digit ≡ slice_index text.now at - 48) × (at < length text.now)) }
 {
@@ -44,7 +43,6 @@ fn digits(text: &[u8]) -> (usize, Number)
     (len, if fits { Some(value) } else { None })
 }
 
-/// The number that the bytes begin with, and what follows its last digit.
 #[inline(always)]
 #[tactic(auto, unfolding(crate::specs::Parsing::number_at))]
 pub(crate) fn number(text: &[u8]) -> Result<(Number, &[u8]), Refusal>
@@ -58,7 +56,6 @@ pub(crate) fn number(text: &[u8]) -> Result<(Number, &[u8]), Refusal>
     Ok((value, &text[len..]))
 }
 
-/// A version, or a start: a number of 32 bits.
 #[tactic(auto, unfolding(crate::specs::Parsing::version_of))]
 pub(crate) fn version_in(number: Number) -> Result<Version, Refusal>
     ensures { Gives (λ x. x) result (version_of number) }

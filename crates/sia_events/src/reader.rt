@@ -3,15 +3,17 @@ ghost use Rattle.std.specs.Prelude.{◌≡◌, ◌⊎◌, ◌+◌, ◌<◌, ◌�
 ghost use Rattle.std.specs.Option.{option_map};
 ghost use Rattle.sia_events.specs.declared.fault.TextFault.TheVariants.{NoMemory as OutOfMemory};
 ghost use Rattle.sia_events.specs.Judging.{HasText};
-ghost use Rattle.sia_events.specs.Known.{Knows};
+ghost use Rattle.sia_events.specs.Drafts.{Knows};
+ghost use Rattle.sia_events.specs.LogTables.{AreTables, events_of};
 ghost use Rattle.sia_events.specs.Limits.{Limits, standard};
 ghost use Rattle.sia_events.specs.Reading.{EndsAs, ReadsAs};
 ghost use Rattle.sia_events.specs.Refusals.{IsWellFormed};
-ghost use Rattle.sia_events.specs.Streaming.{StandsForRead};
+ghost use Rattle.sia_events.specs.Streaming.{StandsForRead, Progress};
 
 use crate::fault::{NoMemory, Reason, Refusal, TextFault};
 use crate::history::History;
 use crate::judge::Judge;
+use crate::log::Log;
 use std::alloc::Global;
 use std::marker::Model;
 
@@ -25,6 +27,7 @@ const MAX_BYTES: usize = 16_777_216;
 /// for that, whatever else it holds.
 #[derive(Drop)]
 pub struct TextReader {
+    alloc: Global,
     judge: Judge,
     count: usize,
     fault: Option<(u32, Reason)>,
@@ -33,17 +36,11 @@ pub struct TextReader {
 }
 
 impl Model for TextReader {
-    ghost use Rattle.std.specs.Prelude.{◌≡◌, ◌≤◌, false, IsNone};
-    ghost use Rattle.sia_events.specs.Streaming.{Progress};
-    ghost use Rattle.sia_events.specs.Known.{Knows};
-    ghost use Rattle.sia_events.specs.Limits.{standard};
-    ghost use Rattle.sia_events.specs.Judging.{HasText};
-
     ghost Value = { Progress };
 
-    ghost view = { λ r. record { limits = standard; count = r.count; fault = r.fault; events = r.judge.events.items; unfinished = r.unfinished.items; lost = r.lost } };
+    ghost view = { λ r. record { limits = standard; count = r.count; fault = r.fault; events = events_of r.judge.draft.tables; unfinished = r.unfinished.items; lost = r.lost } };
 
-    ghost invariant = { λ r. r.lost ≡ false → IsNone r.fault → r.count ≤ 16777216 → Knows r.judge.tables r.judge.events.items × HasText standard r.count r.judge.events.items r.unfinished.items };
+    ghost invariant = { λ r. r.lost ≡ false → IsNone r.fault → r.count ≤ 16777216 → Knows r.judge.draft × HasText standard r.count (events_of r.judge.draft.tables) r.unfinished.items };
 }
 
 impl TextReader {
@@ -53,6 +50,7 @@ impl TextReader {
         ensures not_lost { result.lost ≡ false }
     {
         TextReader {
+            alloc,
             judge: Judge::new(alloc),
             count: 0,
             fault: None,
@@ -98,10 +96,8 @@ impl TextReader {
     pub fn refused(&self) -> Option<u32>
         ensures { result ≡ option_map (λ fault. fault.0) self.now.fault }
     {
-        match self.fault {
-            Some((token, _)) => Some(token),
-            None => None,
-        }
+        let (token, _) = self.fault?;
+        Some(token)
     }
 
     /// The history that the text stands for, or why there is none.
@@ -109,7 +105,21 @@ impl TextReader {
         ensures reads { (limits : Limits) (text : List ℕ) → StandsForRead limits self text → ReadsAs limits text result }
         ensures lost { self.lost ≡ true → result ≡ Err OutOfMemory }
     {
+        let alloc = self.alloc;
+        let log = self.finish_log()?;
+        match History::of(alloc, log) {
+            Ok(history) => Ok(history),
+            Err(NoMemory) => Err(TextFault::NoMemory),
+        }
+    }
+
+    /// The log of the history that the text stands for, or why there is none.
+    pub fn finish_log(self) -> Result<Log, TextFault>
+        ensures reads { (limits : Limits) (text : List ℕ) → StandsForRead limits self text → ReadsAs limits text result }
+        ensures lost { self.lost ≡ true → result ≡ Err OutOfMemory }
+    {
         let TextReader {
+            alloc: _,
             mut judge,
             count,
             fault,
@@ -117,8 +127,8 @@ impl TextReader {
             lost,
         } = self;
         end(&mut judge, count, fault, &unfinished, lost)?;
-        Ok(History {
-            events: judge.events,
+        Ok(Log {
+            tables: judge.draft.tables,
         })
     }
 }
@@ -131,9 +141,10 @@ fn end(
     unfinished: &[u8],
     lost: bool,
 ) -> Result<(), TextFault>
-    requires { lost ≡ false → IsNone fault → count ≤ 16777216 → Knows judge.old.tables judge.old.events.items × HasText standard count judge.old.events.items unfinished.now }
-    ensures reads { (text : List ℕ) → StandsForRead standard (record { limits = standard; count = count; fault = fault; events = judge.old.events.items; unfinished = unfinished.now; lost = lost }) text → EndsAs standard text judge.new.events.items result }
-    ensures well_formed { OnOk result (IsWellFormed judge.new.events.items) }
+    requires { lost ≡ false → IsNone fault → count ≤ 16777216 → Knows judge.old.draft × HasText standard count (events_of judge.old.draft.tables) unfinished.now }
+    ensures reads { (text : List ℕ) → StandsForRead standard (record { limits = standard; count = count; fault = fault; events = events_of judge.old.draft.tables; unfinished = unfinished.now; lost = lost }) text → EndsAs standard text (events_of judge.new.draft.tables) result }
+    ensures well_formed { OnOk result (IsWellFormed (events_of judge.new.draft.tables)) }
+    ensures tables { OnOk result (AreTables judge.new.draft.tables) }
     ensures lost { lost ≡ true → result ≡ Err OutOfMemory }
 {
     if lost {

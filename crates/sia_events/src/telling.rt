@@ -74,7 +74,6 @@ impl History {
     }
 }
 
-// The version that listed pairs have of a key, if it is listed.
 fn version_in(listed: &[(Key, Version)], key: Key) -> Option<Version>
     requires { IsStrictlyIncreasing (map (λ pair. pair.0) listed.now) }
     ensures { MatchOption result ((v : ℕ) → ¬ Contains listed.now (key, v)) (λ v. Contains listed.now (key, v)) }

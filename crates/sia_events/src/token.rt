@@ -1,11 +1,21 @@
 //! One token: the event that it spells.
-ghost use Rattle.std.specs.Prelude.{◌≡◌, ◌≤◌, IfOk, length};
-ghost use Rattle.sia_events.specs.Parsing.{Gives, items_of, after_byte, ended, begin_at, write_at, item_at, pair_at, pairs_at, list_at, list_of, range_at, read_at, commit_at, abort_at, event_at};
+ghost use Rattle.std.specs.Prelude.{◌≡◌, ◌≤◌, ℕ, List, IfOk, length};
+ghost use Rattle.sia_events.specs.Parsing.{Gives, kept, event_with, after_byte, ended, begin_at, write_at, item_at, pair_at, pairs_at, list_at, list_of, range_at, read_at, commit_at, abort_at, event_at};
 
-use crate::event::{Event, Key, Listed, Version};
+use crate::event::{Key, TxnId, Version};
 use crate::fault::{Reason, Refusal};
 use crate::number::{Number, number, txn_in, version_in};
-use std::alloc::Global;
+
+/// An event whose listed pairs, if there are any, stand beside it.
+#[derive(Clone, Copy)]
+pub(crate) enum Token {
+    Begin { txn: TxnId, start: Option<u32> },
+    Read { txn: TxnId, key: Key, saw: Version },
+    Range { txn: TxnId, lo: Key, hi: Key },
+    Write { txn: TxnId, key: Key },
+    Commit { txn: TxnId },
+    Abort { txn: TxnId },
+}
 
 /// What follows one byte.
 #[tactic(auto, unfolding(crate::specs::Parsing::after_byte))]
@@ -19,7 +29,6 @@ fn after(text: &[u8], byte: u8) -> Result<&[u8], Refusal>
     }
 }
 
-/// The end of the token.
 #[tactic(auto, unfolding(crate::specs::Parsing::ended))]
 fn end(text: &[u8]) -> Result<(), Refusal>
     ensures { Gives (λ x. x) result (ended text.now) }
@@ -31,57 +40,49 @@ fn end(text: &[u8]) -> Result<(), Refusal>
 }
 
 #[tactic(auto, unfolding(crate::specs::Parsing::begin_at, crate::specs::Parsing::after_byte))]
-fn begin(txn: Number, text: &[u8]) -> Result<Event, Refusal>
-    ensures { Gives (λ x. x) result (begin_at txn text.now) }
+fn begin(txn: Number, text: &[u8]) -> Result<Token, Refusal>
+    ensures { (pairs : List (ℕ × ℕ)) → Gives (event_with pairs) result (begin_at txn text.now) }
 {
     match text {
         [] => {
             let txn = txn_in(txn)?;
-            Ok(Event::Begin { txn, start: None })
+            Ok(Token::Begin { txn, start: None })
         }
-        [b'@', rest @ ..] => {
-            let (start, rest) = number(rest)?;
+        _ => {
+            let (start, rest) = number(after(text, b'@')?)?;
             end(rest)?;
             let txn = txn_in(txn)?;
-            let start = version_in(start)?;
-            Ok(Event::Begin {
-                txn,
-                start: Some(start),
-            })
+            let start = Some(version_in(start)?);
+            Ok(Token::Begin { txn, start })
         }
-        _ => Err(Refusal::Bad(Reason::BadEvent)),
     }
 }
 
 #[tactic(auto, unfolding(crate::specs::Parsing::write_at, crate::specs::Parsing::key_of))]
-fn write(txn: Number, text: &[u8]) -> Result<Event, Refusal>
-    ensures { Gives (λ x. x) result (write_at txn text.now) }
+fn write(txn: Number, text: &[u8]) -> Result<Token, Refusal>
+    ensures { (pairs : List (ℕ × ℕ)) → Gives (event_with pairs) result (write_at txn text.now) }
 {
-    let rest = after(text, b'[')?;
-    let (key, rest) = number(rest)?;
-    let rest = after(rest, b']')?;
-    end(rest)?;
+    let (key, rest) = number(after(text, b'[')?)?;
+    end(after(rest, b']')?)?;
     let txn = txn_in(txn)?;
     match key {
-        Some(key) => Ok(Event::Write { txn, key }),
+        Some(key) => Ok(Token::Write { txn, key }),
         None => Err(Refusal::Bad(Reason::BadNumber)),
     }
 }
 
-/// An item read, from its version on.
 #[tactic(auto, unfolding(crate::specs::Parsing::item_at, crate::specs::Parsing::key_of))]
-fn item(txn: Number, key: Number, text: &[u8]) -> Result<Event, Refusal>
-    ensures { Gives (λ x. x) result (item_at txn key text.now) }
+fn item(txn: Number, key: Number, text: &[u8]) -> Result<Token, Refusal>
+    ensures { (pairs : List (ℕ × ℕ)) → Gives (event_with pairs) result (item_at txn key text.now) }
 {
     let (saw, rest) = number(text)?;
-    let rest = after(rest, b']')?;
-    end(rest)?;
+    end(after(rest, b']')?)?;
     let txn = txn_in(txn)?;
     let Some(key) = key else {
         return Err(Refusal::Bad(Reason::BadNumber));
     };
     let saw = version_in(saw)?;
-    Ok(Event::Read { txn, key, saw })
+    Ok(Token::Read { txn, key, saw })
 }
 
 /// A listed key with its version, or None where one of them is out of its range.
@@ -91,8 +92,7 @@ fn pair(text: &[u8]) -> Result<(Option<(Key, Version)>, &[u8]), Refusal>
     ensures shorter { IfOk result (λ x. length x.1.now ≤ length text.now) }
 {
     let (key, rest) = number(text)?;
-    let rest = after(rest, b':')?;
-    let (saw, rest) = number(rest)?;
+    let (saw, rest) = number(after(rest, b':')?)?;
     let pair = match (key, saw) {
         (Some(key), Some(saw)) if saw <= u64::from(u32::MAX) => Some((key, saw as u32)),
         _ => None,
@@ -100,99 +100,74 @@ fn pair(text: &[u8]) -> Result<(Option<(Key, Version)>, &[u8]), Refusal>
     Ok((pair, rest))
 }
 
-/// The bytes of the shortest listed key with its comma.
-const LEAST_PAIR: usize = 4;
-
-/// How many bytes are counted together: few enough for a count of 8 bits.
-const BLOCK: usize = 128;
-
-/// How many commas a block holds.
-fn commas_in(block: &[u8]) -> u8 {
-    let mut count: u8 = 0;
-    for byte in block {
-        count = count.wrapping_add(u8::from(*byte == b','));
-    }
-    count
-}
-
-/// A room that no list of the token outgrows. It saves growing, and nothing else rests on it.
-fn room_for(text: &[u8]) -> usize {
-    let mut count: usize = 1;
-    for block in text.chunks(BLOCK) {
-        count = count.saturating_add(usize::from(commas_in(block)));
-    }
-    count.min(text.len() / LEAST_PAIR + 1)
-}
-
-/// Listed keys with commas between, or None where a number is out of its range, and what follows the last.
-fn pairs(alloc: Global, text: &[u8]) -> Result<(Option<Vec<(Key, Version)>>, &[u8]), Refusal>
-    ensures { Gives (λ x. (items_of x.0, x.1.now)) result (pairs_at text.now) }
+/// Takes in listed keys with commas between. It answers whether all numbers are in their ranges, and what follows the last.
+fn pairs<'a>(listed: &mut Vec<(Key, Version)>, text: &'a [u8]) -> Result<(bool, &'a [u8]), Refusal>
+    ensures { Gives (λ x. (kept x.0 listed.new.items, x.1.now)) result (pairs_at text.now) }
 {
-    let mut found = Vec::with_capacity(alloc, room_for(text))?;
+    listed.clear();
     // Once a number was out of its range, the pairs count for nothing.
     let mut in_range = true;
     let mut rest = text;
     loop {
         let (next, after) = pair(rest)?;
         in_range &= next.is_some();
-        found.push(next.unwrap_or((0, 0)))?;
+        listed.push(next.unwrap_or((0, 0)))?;
         match after.strip_prefix(b",") {
             Some(more) => rest = more,
-            None => return Ok((in_range.then_some(found), after)),
+            None => return Ok((in_range, after)),
         }
     }
 }
 
-/// The listed keys of a range, if there are any.
 #[tactic(auto, unfolding(crate::specs::Parsing::list_at))]
-fn list(alloc: Global, text: &[u8]) -> Result<(Option<Vec<(Key, Version)>>, &[u8]), Refusal>
-    ensures { Gives (λ x. (items_of x.0, x.1.now)) result (list_at text.now) }
+fn list<'a>(listed: &mut Vec<(Key, Version)>, text: &'a [u8]) -> Result<(bool, &'a [u8]), Refusal>
+    ensures { Gives (λ x. (kept x.0 listed.new.items, x.1.now)) result (list_at text.now) }
 {
     match text {
-        [b';', rest @ ..] => pairs(alloc, rest),
-        _ => Ok((Some(Vec::new(alloc)), text)),
+        [b';', rest @ ..] => pairs(listed, rest),
+        _ => {
+            listed.clear();
+            Ok((true, text))
+        }
     }
 }
 
-/// A range read, from its upper end on.
 #[tactic(auto, unfolding(crate::specs::Parsing::range_at, crate::specs::Parsing::key_of, crate::specs::Parsing::list_of))]
-fn range(alloc: Global, txn: Number, lo: Number, text: &[u8]) -> Result<Event, Refusal>
-    ensures { Gives (λ x. x) result (range_at txn lo text.now) }
+fn range(
+    listed: &mut Vec<(Key, Version)>,
+    txn: Number,
+    lo: Number,
+    text: &[u8],
+) -> Result<Token, Refusal>
+    ensures { Gives (event_with listed.new.items) result (range_at txn lo text.now) }
 {
     let (hi, rest) = number(text)?;
-    let (listed, rest) = list(alloc, rest)?;
-    let rest = after(rest, b']')?;
-    end(rest)?;
+    let (in_range, rest) = list(listed, rest)?;
+    end(after(rest, b']')?)?;
     let txn = txn_in(txn)?;
-    match (lo, hi, listed) {
-        (Some(lo), Some(hi), Some(pairs)) => Ok(Event::Range {
-            txn,
-            lo,
-            hi,
-            listed: Listed::new(pairs),
-        }),
+    match (lo, hi) {
+        (Some(lo), Some(hi)) if in_range => Ok(Token::Range { txn, lo, hi }),
         _ => Err(Refusal::Bad(Reason::BadNumber)),
     }
 }
 
-/// A read, from the bracket on.
 #[tactic(auto, unfolding(crate::specs::Parsing::read_at, crate::specs::Parsing::after_byte))]
-fn read(alloc: Global, txn: Number, text: &[u8]) -> Result<Event, Refusal>
-    ensures { Gives (λ x. x) result (read_at txn text.now) }
+fn read(listed: &mut Vec<(Key, Version)>, txn: Number, text: &[u8]) -> Result<Token, Refusal>
+    ensures { Gives (event_with listed.new.items) result (read_at txn text.now) }
 {
-    let rest = after(text, b'[')?;
-    let (first, rest) = number(rest)?;
+    let (first, rest) = number(after(text, b'[')?)?;
+    if let [b':', rest @ ..] = rest {
+        return item(txn, first, rest);
+    }
     match rest {
-        [b':', rest @ ..] => item(txn, first, rest),
-        [b'.', b'.', rest @ ..] => range(alloc, txn, first, rest),
+        [b'.', b'.', rest @ ..] => range(listed, txn, first, rest),
         _ => Err(Refusal::Bad(Reason::BadEvent)),
     }
 }
 
-/// The event that the token spells, all of it.
 #[tactic(auto, unfolding(crate::specs::Parsing::event_at, crate::specs::Parsing::commit_at, crate::specs::Parsing::abort_at))]
-pub(crate) fn event_of(alloc: Global, token: &[u8]) -> Result<Event, Refusal>
-    ensures { Gives (λ x. x) result (event_at token.now) }
+pub(crate) fn event_of(listed: &mut Vec<(Key, Version)>, token: &[u8]) -> Result<Token, Refusal>
+    ensures { Gives (event_with listed.new.items) result (event_at token.now) }
 {
     let [letter, rest @ ..] = token else {
         return Err(Refusal::Bad(Reason::BadEvent));
@@ -200,17 +175,17 @@ pub(crate) fn event_of(alloc: Global, token: &[u8]) -> Result<Event, Refusal>
     let (txn, rest) = number(rest)?;
     match *letter {
         b'b' => begin(txn, rest),
-        b'r' => read(alloc, txn, rest),
+        b'r' => read(listed, txn, rest),
         b'w' => write(txn, rest),
         b'c' => {
             end(rest)?;
             let txn = txn_in(txn)?;
-            Ok(Event::Commit { txn })
+            Ok(Token::Commit { txn })
         }
         b'a' => {
             end(rest)?;
             let txn = txn_in(txn)?;
-            Ok(Event::Abort { txn })
+            Ok(Token::Abort { txn })
         }
         _ => Err(Refusal::Bad(Reason::BadEvent)),
     }

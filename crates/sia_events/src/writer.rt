@@ -63,7 +63,6 @@ fn push_pieces(out: &mut Vec<u8>, pieces: &[Piece]) -> Result<(), AllocError>
     Ok(())
 }
 
-/// Writes a range read that listed these pairs.
 pub(crate) fn push_range(
     out: &mut Vec<u8>,
     txn: u64,

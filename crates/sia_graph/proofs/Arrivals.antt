@@ -8,15 +8,15 @@ use Rattle.sia_graph.specs.NarrowSteps.{step_target}
 use Rattle.sia_graph.specs.Places.{arriving_at, meeting_at, IsFreedAt}
 
 -- the counts of the first numbers, by one of their ends, are at most how many they are, and at most those of all
-module _ (end_of : ℕ → ℕ) where
-  pub meeting_few : (numbers : List ℕ) (k i : ℕ) → meeting_at end_of (take k numbers) i ≤ k
+module _ {A : Type 0} (end_of : A → ℕ) where
+  pub meeting_few : (numbers : List A) (k i : ℕ) → meeting_at end_of (take k numbers) i ≤ k
   meeting_few numbers k i = let a = count_by-le-length (λ n. eqb (end_of n) i) (take k numbers) in let b = length-take k numbers in omega arith
 
-  pub meeting_part : (numbers : List ℕ) (k i : ℕ) → meeting_at end_of (take k numbers) i ≤ meeting_at end_of numbers i
+  pub meeting_part : (numbers : List A) (k i : ℕ) → meeting_at end_of (take k numbers) i ≤ meeting_at end_of numbers i
   meeting_part numbers k i = sum_by-take-le (λ n. cond (eqb (end_of n) i) 1 0) numbers k
 
   -- one number more, which has the place j there
-  module _ (numbers : List ℕ) (k d : ℕ) (within : k < length numbers) (j : ℕ) (at : end_of (get_or numbers k d) ≡ j) where
+  module _ (numbers : List A) (k : ℕ) (d : A) (within : k < length numbers) (j : ℕ) (at : end_of (get_or numbers k d) ≡ j) where
     pub one_more : meeting_at end_of (take (k + 1) numbers) j ≡ meeting_at end_of (take k numbers) j + 1
     one_more = count_by_more_yes (λ n. eqb (end_of n) j) numbers k d within (eq-eqb (end_of (get_or numbers k d)) j at)
 

@@ -3,7 +3,7 @@ use Rattle.std.proofs.Common.{◌≡◌, ℕ, ◌<◌, leb, Bool, false, List, l
 use Rattle.std.proofs.lemmas.Bool.{le-leb, leb-true}
 use Rattle.std.proofs.lemmas.List.{get_or-map, length-map}
 use Rattle.sia_parts.specs.declared.looks.Looks.{Looks}
-use Rattle.sia_parts.specs.declared.lifetimes.Lifetime.{Lifetime}
+use Rattle.sia_index.specs.declared.info.Lifetime.{Lifetime}
 use Rattle.sia_graph.specs.Early.{CommitsFrom}
 use Rattle.sia_graph.specs.Previous.{AreLeftRanks}
 use Rattle.sia_graph.specs.Ranks.{IsLeastRank, IsRankOf}

@@ -69,12 +69,12 @@ pub mod Uncut
 pub mod NarrowSteps
 pub mod WriterSteps
 pub mod AbsenceBlocks
-pub mod AdjacencyRows
+pub mod DealtRows
 pub mod NarrowStands
 pub mod TakenNodes
 pub mod TakenMembers
 pub mod StepsOf
-pub mod ReadyHeaps
+pub mod ReadySets
 pub mod NoPivotal
 pub mod ListedEdges
 pub mod Judging

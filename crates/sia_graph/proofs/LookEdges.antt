@@ -10,7 +10,7 @@ use Rattle.sia_events.specs.Transactions.{IsCommitted, CommitsAt, Wrote}
 use Rattle.sia_events.proofs.OneList.{one_list_by}
 use Rattle.sia_events.proofs.TransactionDecisions.{place_within}
 use Rattle.sia_index.specs.Info.{IsKeyAt}
-use Rattle.sia_parts.specs.EdgeNumbers.{IsCommittedAt}
+use Rattle.sia_index.specs.Numbers.{IsCommittedAt}
 use Rattle.sia_parts.specs.Looks.{AreLooks, IsAbsentAt, IsLookOf}
 use Rattle.sia_parts.specs.declared.looks.Absence.{Absence}
 use Rattle.sia_parts.specs.declared.looks.Look.{Look}

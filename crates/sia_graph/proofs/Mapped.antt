@@ -1,16 +1,9 @@
--- Lists that are made of the elements of another, one after the other.
+-- The names of nodes that are no blocks, made one after the other.
 use Rattle.std.proofs.Common.{◌≡◌, ℕ, ◌+◌, ◌<◌, ◌≤◌, true, false, not, cond, List, [], ◌∷◌, ◌++◌, length, get_or, map, nat_lt, take, append-nil, ap, sym, ◌∙◌}
 use Rattle.std.proofs.lemmas.Bool.{le-ltb, lt-ltb, not_from_false, not_from_true}
 use Rattle.std.proofs.lemmas.List.Elements.{filter_more}
 use Rattle.sia_graph.specs.Blocks.{without_blocks}
-use Rattle.std.proofs.lemmas.List.{map-append, map_more, take_all}
-
-module _ {A B : Type 0} (f : A → B) (xs : List A) (k : ℕ) (made : List B) (is : made ≡ map f (take k xs)) where
-  pub made_more : (d : A) → k < length xs → (y : B) → y ≡ f (get_or xs k d) → (more : List B) → more ≡ made ++ y ∷ [] → more ≡ map f (take (k + 1) xs)
-  made_more d l y e more pushed = pushed ∙ (λ i. is i ++ e i ∷ []) ∙ sym (map_more f xs k d l)
-
-  pub made_all : length xs ≤ k → made ≡ map f xs
-  made_all l = is ∙ ap (map f) (take_all k xs l)
+use Rattle.std.proofs.lemmas.List.{map-append}
 
 -- of the nodes that are no blocks
 module _ (floor : ℕ) (f : ℕ → ℕ) (nodes : List ℕ) (k : ℕ) (within : k < length nodes) (made : List ℕ) (is : made ≡ map f (without_blocks floor (take k nodes))) where

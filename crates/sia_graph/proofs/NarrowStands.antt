@@ -28,12 +28,12 @@ use Rattle.sia_parts.specs.declared.finding.Kind.TheVariants.{Ww, Wr, Rw}
 use Rattle.sia_parts.specs.declared.looks.Absence.{Absence}
 use Rattle.sia_parts.specs.declared.looks.Look.{Look}
 use Rattle.sia_parts.specs.declared.looks.Looks.{Looks}
-use Rattle.sia_parts.specs.EdgeNumbers.{IsCommittedAt}
+use Rattle.sia_index.specs.Numbers.{IsCommittedAt}
 use Rattle.sia_parts.specs.Looks.{IsLookOf}
 use Rattle.sia_parts.specs.Sights.{FromSome}
 use Rattle.sia_parts.specs.Versions.{CanSearch, IsNewest, IsNext}
 use Rattle.sia_graph.specs.Blocks.{IsWayThrough, LeadsThrough}
-use Rattle.sia_graph.specs.Evidence.{IsEvidence}
+use Rattle.sia_graph.specs.Evidence.{IsEvidenceFor}
 use Rattle.sia_graph.specs.KeyBlocks.{IsOver}
 use Rattle.sia_graph.specs.NarrowSteps.{AreNarrowSteps, FitsKeys, IsAbsenceStep, IsHalfStep, IsLeafStep, IsMemberStep, IsNewestStep, IsNextStep, IsSizeFor, edge_of_step, edges_of_steps, name_of, node_of, step_number, step_source, step_target}
 use Rattle.sia_graph.specs.Orders.{Leads}
@@ -75,7 +75,7 @@ over_half size b c j low high over =
     let h : (b + 1) * 2 ^ (e + 1) ≡ (2 * (b + 1)) * 2 ^ e = ap (λ y. (b + 1) * y) (doubled e) ∙ sym (mul_assoc (b + 1) 2 (2 ^ e)) ∙ ap (λ y. y * 2 ^ e) (mul_comm (b + 1) 2) in
     (e + 1, (let f = over.1 in omega arith), (let f = over.2 in omega arith))
 
-module _ (h : List Event) (txns keys : List ℕ) (looks : Looks) (is : IsEvidence h txns keys looks) where
+module _ (h : List Event) (txns keys : List ℕ) (looks : Looks) (is : IsEvidenceFor h txns keys looks) where
   txn_at : (i t : ℕ) → IsCommittedAt h i t → (i < length txns) × (get_or txns i 0 ≡ t)
   txn_at i t at =
       let same = one_list_by (λ x. x ∷ []) (IsCommitted h) at.0 txns at.1 is.txns_are in

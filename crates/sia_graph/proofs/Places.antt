@@ -1,12 +1,14 @@
 -- Steps by their ends, and what that says of the edges that they are.
-use Rattle.std.proofs.Common.{◌≡◌, ◌≢◌, ℕ, ◌+◌, ◌<◌, Bool, cond, List, [], ◌∷◌, length, get_or, map, eqb, refl, ap, sym, ◌∙◌, subst, arith}
-use Rattle.std.specs.Prelude.{All, Contains, count_by}
-use Rattle.std.proofs.lemmas.Bool.{and_parts, eq-eqb, eqb-true}
+use Rattle.std.proofs.Common.{◌≡◌, ◌≢◌, ℕ, ◌+◌, ◌<◌, Bool, cond, List, [], ◌∷◌, inl, inr, length, get_or, map, eqb, refl, ap, sym, ◌∙◌, subst, arith}
+use Rattle.std.specs.Prelude.{◌&&◌, All, Contains, count_by}
+use Rattle.std.specs.List.{filter}
+use Rattle.std.proofs.lemmas.Bool.{and_parts, cases_Bool, eq-eqb, eqb-true}
 use Rattle.std.proofs.lemmas.List.{get_or-map, get_or_default, length-map}
 use Rattle.std.proofs.lemmas.List.Sums.{get_or-le-sum_by, sum_by-cons}
 use Rattle.sia_parts.specs.declared.finding.Edge.{Edge}
 use Rattle.sia_graph.specs.Fronts.{AreEdgesFrom, AreWaiting, arriving, joins_both, leads_to}
 use Rattle.sia_graph.specs.NarrowSteps.{edge_of_step, edges_of_steps, step_source, step_target}
+use Rattle.sia_graph.specs.Rows.{rows_of}
 use Rattle.sia_graph.specs.Places.{AreMeeting, AreSteps, AreStepsFrom, arriving_at, leads_between}
 use Rattle.sia_graph.proofs.OneTaken.{Joins}
 use Rattle.sia_graph.proofs.Waiting.{all_at, one, some_counted}
@@ -18,6 +20,27 @@ count_map p f (x ∷ xs) =
     sum_by-cons (λ y. cond (p y) 1 0) (f x) (map f xs)
     ∙ ap (λ m. cond (p (f x)) 1 0 + m) (count_map p f xs)
     ∙ sym (sum_by-cons (λ y. cond (p (f y)) 1 0) x xs)
+
+count_filter : {A : Type 0} (p q : A → Bool) (xs : List A) → count_by q (filter p xs) ≡ count_by (λ x. p x && q x) xs
+count_filter p q [] = refl
+count_filter p q (x ∷ xs) = elim (cases_Bool (p x)) [
+  | inl is ↦
+      ap (λ b. count_by q (cond b (x ∷ filter p xs) (filter p xs))) is
+      ∙ sum_by-cons (λ y. cond (q y) 1 0) x (filter p xs)
+      ∙ ap (λ m. cond (q x) 1 0 + m) (count_filter p q xs)
+      ∙ ap (λ b. cond (b && q x) 1 0 + count_by (λ y. p y && q y) xs) (sym is)
+      ∙ sym (sum_by-cons (λ y. cond (p y && q y) 1 0) x xs)
+  | inr other ↦
+      ap (λ b. count_by q (cond b (x ∷ filter p xs) (filter p xs))) other
+      ∙ count_filter p q xs
+      ∙ (let z : 0 + count_by (λ y. p y && q y) xs ≡ count_by (λ y. p y && q y) xs = omega arith in sym z)
+      ∙ ap (λ b. cond (b && q x) 1 0 + count_by (λ y. p y && q y) xs) (sym other)
+      ∙ sym (sum_by-cons (λ y. cond (p y && q y) 1 0) x xs)
+]
+
+-- the rows of a place are the steps from it
+pub rows_lead : (steps : List ℕ) (place : ℕ) (group : List ℕ) → group ≡ rows_of step_source steps place → AreStepsFrom steps place group
+rows_lead steps place group is i = ap (λ l. arriving_at l i) is ∙ count_filter (λ n. eqb (step_source n) place) (λ n. eqb (step_target n) i) steps
 
 module _ (ids steps : List ℕ) (are : AreSteps ids steps) where
   abbrev edges : List Edge

@@ -9,17 +9,19 @@ use Rattle.sia_parts.specs.declared.looks.Look.{Look}
 use Rattle.sia_parts.specs.declared.looks.Looks.{Looks}
 use Rattle.sia_parts.specs.Entries.{IsEdge}
 use Rattle.sia_parts.proofs.Committing.{committed_number}
-use Rattle.sia_graph.specs.Evidence.{IsEvidence}
+use Rattle.sia_graph.specs.Evidence.{IsEvidenceFor}
+use Rattle.sia_graph.specs.declared.evidence.LooksByTxn.{LooksByTxn}
+use Rattle.sia_graph.specs.NumberEdges.{AreByTxn, AreOfTxns, CanMeet}
 use Rattle.sia_graph.specs.Previous.{AreWithin, IsLeftIn, IsLeftSource, IsPreviousOf}
 use Rattle.sia_graph.specs.VersionRanks.{AreVersions}
 use Rattle.sia_graph.specs.Walks.{AreLeastSources, IsSource}
-use Rattle.sia_graph.proofs.EvidenceEdges.{edge_at, leads_by_numbers}
+use Rattle.sia_graph.proofs.EvidenceEdges.{edge_at, few_write_keys, leads_by_numbers}
 use Rattle.sia_graph.proofs.NarrowStands.{can_search}
 
 each_of : {A : Type 0} (P : A → Type 0) (xs : List A) → ((x : A) → Contains xs x → P x) → All P xs
 each_of P xs holds k d l = holds (get_or xs k d) (Contains-get_or xs k d l)
 
-module _ (h : List Event) (txns keys : List ℕ) (looks : Looks) (is : IsEvidence h txns keys looks) where
+module _ (h : List Event) (txns keys : List ℕ) (looks : Looks) (is : IsEvidenceFor h txns keys looks) where
   pub are_within : AreWithin looks (length txns) (length keys)
   are_within = record {
     writers = each_of (λ look. look.txn < length txns) looks.writers.items (λ look c. let m = is.looks_are.made look c in (committed_number h txns is.txns_are look.txn m.0 m.3.0.0).0);
@@ -35,6 +37,25 @@ module _ (h : List Event) (txns keys : List ℕ) (looks : Looks) (is : IsEvidenc
 
   pub are_versions : (xs : List Look) → xs ≡ looks.writers.items → AreVersions xs
   are_versions xs same = subst AreVersions (sym same) (record { search = can_search h txns keys looks is; at_once = are_within.versions })
+
+  pub are_of_txns : AreOfTxns (length txns) looks
+  are_of_txns = record {
+    writers = are_within.writers;
+    readers = are_within.readers;
+    absences = each_of (λ (s : Absence). s.from < s.to → s.txn < length txns) looks.absences.items (λ s c less. let m = is.looks_are.absent s c (s.to - 1) (omega arith) (omega arith) in (committed_number h txns is.txns_are s.txn m.0 m.2).0);
+  }
+
+  -- the looks by transaction tell of any two
+  pub can_meet : (own : LooksByTxn) → AreByTxn (length txns) looks own → (t u : ℕ) → t < length txns → u < length txns → CanMeet (length txns) looks own t u
+  can_meet own by_txn t u tl ul =
+      let search = can_search h txns keys looks is in
+      record {
+        by_txn = by_txn;
+        rise = λ i j d l b. let a = search.rise i j d l b in let m = search.small j d b in omega arith;
+        few = few_write_keys h txns keys looks is;
+        first = tl;
+        second = ul;
+      }
 
   -- what is a source by numbers is one
   module _ (left : List Bool) (long : length left ≡ length txns) (t : ℕ) (tl : t < length left) where

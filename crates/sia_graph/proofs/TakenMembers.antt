@@ -13,7 +13,7 @@ use Rattle.sia_parts.specs.declared.finding.Edge.{Edge}
 use Rattle.sia_graph.specs.declared.order.Taken.{Taken}
 use Rattle.sia_graph.specs.declared.order.Taken.TheVariants.{Whole, Rest}
 use Rattle.sia_graph.specs.Blocks.{without_blocks}
-use Rattle.sia_graph.specs.Evidence.{IsEvidence}
+use Rattle.sia_graph.specs.Evidence.{IsEvidenceFor}
 use Rattle.sia_graph.specs.NarrowSteps.{AreNarrowSteps, IsSizeFor, edges_of_steps, name_of}
 use Rattle.sia_graph.specs.Orders.{IsLeastOrder}
 use Rattle.sia_graph.specs.Places.{AreSteps}
@@ -94,7 +94,7 @@ module _ (M : ℕ → Type 0) (E : Edge → Type 0) (size : ℕ) (txns steps : L
   taken_members (Whole order) w = subst (λ (l : List ℕ). IsLeastOrder M E l) (sym w.2) (least M E (2 * size) ids (edges_of_steps steps) name stands w.0 w.1)
   taken_members (Rest left) w = left_over left.items w
 
-module _ (h : List Event) (txns keys : List ℕ) (looks : Looks) (is : IsEvidence h txns keys looks) (size : ℕ) (sized : IsSizeFor size keys looks.absences.items)
+module _ (h : List Event) (txns keys : List ℕ) (looks : Looks) (is : IsEvidenceFor h txns keys looks) (size : ℕ) (sized : IsSizeFor size keys looks.absences.items)
     (steps : List ℕ) (narrow : AreNarrowSteps size looks.writers.items looks.readers.items looks.absences.items steps) where
   pub nodes_are_steps : AreSteps (node_list size txns) steps
   nodes_are_steps =

@@ -90,7 +90,7 @@ module _ (versions : List Look) (search : CanSearch versions) where
       }
         where
           none : Look
-          none = record { txn = 0; key = 0; low = 0; high = 0 }
+          none = record { txn = 0; key = 0; low = 0; high = 0; at = 0 }
 
           alone : (q : ℕ) → IsRankUpTo versions entries ranks n q → IsRankAt entries ranks n q
           alone q is = elim (cases_lt is.0 n) [
@@ -174,7 +174,7 @@ module _ (versions : List Look) (search : CanSearch versions) where
     }
 
   abbrev none : Look
-  none = record { txn = 0; key = 0; low = 0; high = 0 }
+  none = record { txn = 0; key = 0; low = 0; high = 0; at = 0 }
 
   -- who stands with this version or an earlier one saw a version before it, and the other way round
   pub of_readers : (looks : List Look) (ranks : List ℕ) (entries : List (ℕ × ℕ)) (twos : List Two) → length twos ≡ length versions → AreMarks versions looks entries

@@ -5,7 +5,7 @@ use Rattle.sia_events.specs.declared.event.Event.{Event}
 use Rattle.sia_events.specs.DangerousStructures.{IsFirst}
 use Rattle.sia_parts.specs.declared.looks.Look.{Look}
 use Rattle.sia_parts.specs.declared.looks.Looks.{Looks}
-use Rattle.sia_parts.specs.declared.lifetimes.Lifetime.{Lifetime}
+use Rattle.sia_index.specs.declared.info.Lifetime.{Lifetime}
 use Rattle.sia_graph.specs.Limits.{IsWithinLimit}
 use Rattle.sia_graph.specs.Ranks.{IsLeastRank, IsRankOf}
 use Rattle.sia_graph.specs.Sources.{SeesBefore}

@@ -9,13 +9,20 @@ use Rattle.sia_parts.specs.declared.looks.Absence.{Absence}
 use Rattle.sia_parts.specs.declared.looks.Look.{Look}
 use Rattle.sia_parts.specs.declared.looks.Looks.{Looks}
 use Rattle.sia_parts.specs.Looks.{AreLooks, IsAbsentAt, IsLookOf}
+use Rattle.sia_parts.specs.Placing.{ArePlaced}
+use Rattle.sia_graph.specs.declared.evidence.Evidence.{Evidence}
 
--- the committed transactions, the written keys, and what was written and seen at all of these
-pub record IsEvidence (h : List Event) (txns keys : List ℕ) (looks : Looks) : Type 0 where
+-- the committed transactions, the written keys, and what was written and seen at all of these, with its places
+pub record IsEvidenceFor (h : List Event) (txns keys : List ℕ) (looks : Looks) : Type 0 where
   pub well_formed : IsWellFormed h
   pub txns_are : ListsAscending (IsCommitted h) txns
   pub keys_are : AreWrittenKeys h keys
   pub looks_are : AreLooks h (λ _. ⊤) looks
+  pub placed : ArePlaced looks
+
+-- the same of an index
+abbrev pub IsEvidence : Evidence → Type 0
+IsEvidence e = IsEvidenceFor e.index.now e.txns.now e.keys.now e.looks.now
 
 -- t and u wrote k, t first
 abbrev pub HasWwLooks : List Event → Looks → ℕ → ℕ → ℕ → Type 0

@@ -3,7 +3,7 @@
 use Rattle.std.specs.Prelude.{◌≡◌, ◌↔◌, ℕ, ◌-◌, ◌<◌, ◌≤◌, List, length, slice_index_or}
 use Rattle.sia_parts.specs.declared.looks.Look.{Look}
 use Rattle.sia_parts.specs.declared.looks.Looks.{Looks}
-use Rattle.sia_parts.specs.declared.lifetimes.Lifetime.{Lifetime}
+use Rattle.sia_index.specs.declared.info.Lifetime.{Lifetime}
 use Rattle.sia_graph.specs.Ranks.{IsRankOf}
 use Rattle.sia_graph.specs.Sources.{IsSource, SeesBefore}
 

@@ -1,5 +1,6 @@
 -- Edges by the numbers of transactions and keys, told from looks alone. They join different transactions.
-use Rattle.std.specs.Prelude.{◌≡◌, ◌⊎◌, ◌↔◌, ℕ, ◌<◌, ◌≤◌, List, [], ◌∷◌, Contains}
+use Rattle.std.specs.Prelude.{◌≡◌, ◌⊎◌, ℕ, ◌<◌, ◌≤◌, Bool, List, [], ◌∷◌, All, Contains, ltb}
+use Rattle.std.specs.List.{filter}
 use Rattle.std.specs.List.Sorted.{IsNonDecreasingBy}
 use Rattle.sia_events.specs.Lists.{Precedes}
 use Rattle.sia_parts.specs.declared.finding.Kind.{Kind}
@@ -8,7 +9,8 @@ use Rattle.sia_parts.specs.declared.looks.Absence.{Absence}
 use Rattle.sia_parts.specs.declared.looks.Look.{Look}
 use Rattle.sia_parts.specs.declared.looks.Looks.{Looks}
 use Rattle.sia_parts.specs.Entries.{kind_number}
-use Rattle.sia_parts.specs.Grouped.{RiseByTxn}
+use Rattle.sia_graph.specs.declared.evidence.LooksByTxn.{LooksByTxn}
+use Rattle.sia_graph.specs.Rows.{AreRows}
 
 -- at one key, a write comes before another one or before what was seen last, or after what was seen first
 abbrev pub Meets : Kind → Look → Look → Type 0
@@ -16,9 +18,9 @@ Meets Ww write later = write.high < later.high
 Meets Wr write seen = write.high ≤ seen.high
 Meets Rw write seen = seen.low < write.high
 
--- some write and some other look at key k meet
-abbrev pub HasMeeting : Kind → List Look → List Look → ℕ → Type 0
-HasMeeting kind writes others k = (a : Look) × (b : Look) × Contains writes a × Contains others b × (a.key ≡ k) × (b.key ≡ k) × Meets kind a b
+-- some write and the other look at key k meet
+abbrev pub IsMetBy : Kind → List Look → Look → ℕ → Type 0
+IsMetBy kind writes b k = (a : Look) × Contains writes a × (a.key ≡ k) × (b.key ≡ k) × Meets kind a b
 
 -- some write is at key k, which the absence holds
 abbrev pub IsMissedBy : List Look → Absence → ℕ → Type 0
@@ -40,15 +42,30 @@ abbrev pub IsLeastEdge : Looks → ℕ → ℕ → Kind → ℕ → Type 0
 IsLeastEdge looks t u kind k = HasNumberEdge looks kind t u k
     × ((other : Kind) (j : ℕ) → HasNumberEdge looks other t u j → ¬ Precedes (kind_number other ∷ j ∷ []) (kind_number kind ∷ k ∷ []))
 
--- both hold the same
-pub record HoldSame (looks others : Looks) : Type 0 where
-  pub writers : (look : Look) → Contains looks.writers.items look ↔ Contains others.writers.items look
-  pub readers : (look : Look) → Contains looks.readers.items look ↔ Contains others.readers.items look
-  pub absences : (absence : Absence) → Contains looks.absences.items absence ↔ Contains others.absences.items absence
+-- some edge leads from t to u
+abbrev pub HasEdgeBetween : Looks → ℕ → ℕ → Type 0
+HasEdgeBetween looks t u = (kind : Kind) × (k : ℕ) × HasNumberEdge looks kind t u k
 
--- all by transaction, and writes at keys whose numbers aren't the greatest of 32 bits
-pub record AreByTxn (looks : Looks) : Type 0 where
-  pub writers : RiseByTxn looks.writers.items
-  pub readers : RiseByTxn looks.readers.items
-  pub absences : IsNonDecreasingBy (λ (s : Absence). s.txn) looks.absences.items
+-- the absence holds a key
+abbrev pub holds_some : Absence → Bool
+holds_some s = ltb s.from s.to
+
+-- the transactions have numbers below so many
+pub record AreOfTxns (txns : ℕ) (looks : Looks) : Type 0 where
+  pub writers : All (λ look. look.txn < txns) looks.writers.items
+  pub readers : All (λ look. look.txn < txns) looks.readers.items
+  pub absences : All (λ (s : Absence). s.from < s.to → s.txn < txns) looks.absences.items
+
+-- these are the looks by transaction
+pub record AreByTxn (txns : ℕ) (looks : Looks) (own : LooksByTxn) : Type 0 where
+  pub writers : AreRows (λ (look : Look). look.txn) txns looks.writers.items own.writers
+  pub readers : AreRows (λ (look : Look). look.txn) txns looks.readers.items own.readers
+  pub absences : AreRows (λ (s : Absence). s.txn) txns (filter holds_some looks.absences.items) own.absences
+
+-- and the writes stand by key, at keys whose numbers aren't the greatest of 32 bits; t and u are two of the transactions
+pub record CanMeet (txns : ℕ) (looks : Looks) (own : LooksByTxn) (t u : ℕ) : Type 0 where
+  pub by_txn : AreByTxn txns looks own
+  pub rise : IsNonDecreasingBy (λ (look : Look). look.key) looks.writers.items
   pub few : (look : Look) → Contains looks.writers.items look → look.key < 4294967295
+  pub first : t < txns
+  pub second : u < txns

@@ -1,6 +1,8 @@
 -- Steps between places, which are the nodes 0, 1, 2 and so on.
-use Rattle.std.specs.Prelude.{◌≡◌, ◌≢◌, ◌⊎◌, ℕ, ◌<◌, ◌≤◌, ◌==◌, ◌&&◌, Bool, List, All, count_by, length, slice_index, slice_index_or}
+use Rattle.std.specs.Prelude.{◌≡◌, ◌≢◌, ◌⊎◌, ℕ, ◌<◌, ◌≤◌, ◌==◌, ◌&&◌, Bool, IsTrue, List, All, count_by, length, slice_index, slice_index_or}
+use Rattle.std.specs.BTreeSet.{BTreeSet, contains}
 use Rattle.std.specs.List.Sorted.{IsStrictlyIncreasing}
+use Rattle.std.specs.Ordering.{nat_cmp}
 use Rattle.sia_parts.specs.declared.finding.Edge.{Edge}
 use Rattle.sia_graph.specs.NarrowSteps.{step_source, step_target}
 
@@ -19,12 +21,12 @@ abbrev pub AreStepsOf : List ℕ → List Edge → List ℕ → Type 0
 AreStepsOf ids edges steps = (length steps ≡ length edges) × ((i : ℕ) (d : Edge) → i < length edges → IsStepOf ids (slice_index_or edges i d) (slice_index steps i))
 
 -- how many of the steps have i at one of their ends
-abbrev pub meeting_at : (ℕ → ℕ) → List ℕ → ℕ → ℕ
-meeting_at end_of steps i = count_by (λ n. end_of n == i) steps
+abbrev pub meeting_at : {A : Type 0} → (A → ℕ) → List A → ℕ → ℕ
+meeting_at {A} end_of steps i = count_by (λ n. end_of n == i) steps
 
 -- one count for each place
-abbrev pub AreMeeting : (ℕ → ℕ) → ℕ → List ℕ → List ℕ → Type 0
-AreMeeting end_of places steps counts = (length counts ≡ places) × ((i : ℕ) → i < places → slice_index counts i ≡ meeting_at end_of steps i)
+abbrev pub AreMeeting : {A : Type 0} → (A → ℕ) → ℕ → List A → List ℕ → Type 0
+AreMeeting {A} end_of places steps counts = (length counts ≡ places) × ((i : ℕ) → i < places → slice_index counts i ≡ meeting_at end_of steps i)
 
 -- how many of the steps lead to i
 abbrev pub arriving_at : List ℕ → ℕ → ℕ
@@ -49,3 +51,7 @@ StandsWhere ids P t = (i : ℕ) × (i < length ids) × (slice_index ids i ≡ t)
 -- i is ready: it is one of those behind the end, or it stands from the end on and no step leads to it
 abbrev pub IsReadyAt : (ℕ → Type 0) → ℕ → List ℕ → ℕ → Type 0
 IsReadyAt IsBehind end counts i = IsBehind i ⊎ ((end ≤ i) × (i < length counts) × (slice_index counts i ≡ 0))
+
+-- the place is one of those that are ready
+abbrev pub HasReady : BTreeSet ℕ → ℕ → Type 0
+HasReady places i = IsTrue (contains nat_cmp places i)

@@ -4,22 +4,23 @@ ghost use Rattle.std.specs.List.Sorted.{IsPartitionPoint, IsStrictlyIncreasing};
 ghost use Rattle.sia_events.specs.Lists.{Precedes};
 ghost use Rattle.sia_events.specs.Transactions.{IsCommitted};
 ghost use Rattle.sia_parts.specs.Entries.{IsEdge, edge_rank};
-ghost use Rattle.sia_parts.specs.Placing.{ArePlaced, ArePlaces};
+ghost use Rattle.sia_parts.specs.Placing.{ArePlaces};
 ghost use Rattle.sia_graph.specs.Cycles.{IsPrintedCycle, IsStuckSet, TakesLeastEdge};
 ghost use Rattle.sia_graph.specs.Evidence.{IsEvidence};
-ghost use Rattle.sia_graph.specs.NumberEdges.{AreByTxn, HoldSame};
+ghost use Rattle.sia_graph.specs.NumberEdges.{AreByTxn};
 ghost use Rattle.sia_graph.specs.Orders.{Leads};
-ghost use Rattle.sia_graph.specs.Previous.{AreLeftRanks, AreLowered, IsLeftIn, IsPlaceOf};
+ghost use Rattle.sia_graph.specs.Previous.{AreLowered, IsLeftIn, IsPlaceOf};
 ghost use Rattle.sia_graph.specs.Searched.{CanFind, IsEdgeIn, IsMemberIn};
 ghost use Rattle.sia_graph.specs.Taken.{AreLeftOver};
 ghost use Rattle.sia_graph.specs.VersionRanks.{AreTwos, AreVersions};
 ghost use Rattle.sia_graph.specs.Walks.{AreLeastSources, AreLeft, GoesRoundFrom, LeadsBack, StaysWithin, back, is_before};
+ghost use Rattle.sia_graph.specs.declared.cycle.Step.{Step};
 
-use crate::evidence::{Evidence, looks_by_txn};
+use crate::evidence::{Evidence, LooksByTxn};
 use crate::least_edges::least_edge;
-use crate::ranks::{NONE, Two, other, rank, ranks_of_sources, twos_of_writers};
+use crate::ranks::{NONE, Two, left_ranks, other, ranks_of_sources, twos_of_writers};
 use sia_events::{Key, NoMemory, TxnId};
-use sia_parts::{Edge, Kind, Look, Looks, newest_place};
+use sia_parts::{Edge, Kind, Look, newest_place};
 use std::alloc::Global;
 use std::marker::Model;
 
@@ -38,9 +39,6 @@ pub struct Steps {
 }
 
 impl Model for Steps {
-    ghost use Rattle.std.specs.Prelude.{List};
-    ghost use Rattle.sia_graph.specs.declared.cycle.Step.{Step};
-
     ghost Value = { List Step };
 
     ghost view = { λ a. a.steps.items };
@@ -60,7 +58,6 @@ impl Steps {
     }
 }
 
-/// Whether an edge stands before those from one transaction to another.
 fn stands_before(e: &Edge, src: TxnId, dst: TxnId) -> bool
     ensures { result ≡ is_before src dst e.now }
 {
@@ -92,10 +89,9 @@ fn listed_step(edges: &[Edge], src: TxnId, dst: TxnId) -> Step
 }
 
 /// The step by the least edge from one transaction to another. `own` holds the looks by transaction.
-fn seen_step(evidence: &Evidence, own: &Looks, before: usize, at: usize) -> Step
-    requires is { IsEvidence evidence.now.index.now evidence.now.txns.now evidence.now.keys.now evidence.now.looks.now }
-    requires same { HoldSame own.now evidence.now.looks.now }
-    requires by_txn { AreByTxn own.now }
+fn seen_step(evidence: &Evidence, own: &LooksByTxn, before: usize, at: usize) -> Step
+    requires is { IsEvidence evidence.now }
+    requires own { AreByTxn (length evidence.now.txns.now) evidence.now.looks.now own.now }
     requires within { (before < length evidence.now.txns.now) × (at < length evidence.now.txns.now) }
     requires leads { Leads (IsEdge evidence.now.index.now) (slice_index evidence.now.txns.now before) (slice_index evidence.now.txns.now at) }
     ensures from { result.txn ≡ slice_index evidence.now.txns.now before }
@@ -115,10 +111,9 @@ pub(crate) enum EdgesIn<'a> {
     /// In a list, which is in order.
     Listed(&'a [Edge]),
     /// In what was written and seen, and in the same by transaction.
-    Seen(&'a Evidence<'a>, &'a Looks),
+    Seen(&'a Evidence<'a>, &'a LooksByTxn),
 }
 
-/// The step by the least edge from one transaction to another, by their places.
 fn least_step(edges: &EdgesIn, ids: &[TxnId], before: usize, at: usize) -> Step
     requires can { CanFind ids.now edges.now }
     requires within { (before < length ids.now) × (at < length ids.now) }
@@ -172,21 +167,6 @@ fn least_within(previous: &[usize], start: usize, count: usize) -> usize
     least
 }
 
-/// The first entry that says so.
-fn first_left(left: &[bool]) -> usize
-    requires { (i : ℕ) × (i < length left.now) × IsLeftIn left.now i }
-    ensures within { result < length left.now }
-    ensures left { IsLeftIn left.now result }
-    ensures first { (i : ℕ) → i < result → ¬ IsLeftIn left.now i }
-{
-    for i in 0..left.len() {
-        if left[i] {
-            return i;
-        }
-    }
-    0
-}
-
 /// The steps of the cycle on which `home` is the least, from `home` on. Going back from it leads to it after `period` steps.
 fn steps_round(
     alloc: Global,
@@ -238,37 +218,24 @@ pub(crate) fn cycle_of(
     requires least { AreLeastSources ids.now (IsEdgeIn edges.now) (IsLeftIn left.now) previous.now }
     ensures { IfOk result (λ steps. IsPrintedCycle (IsMemberIn ids.now edges.now) (IsEdgeIn edges.now) steps.items) }
 {
-    let start = first_left(left);
+    let start = left.iter().position(|is_left| *is_left).unwrap_or(0);
     let (place, period) = reach_cycle(alloc, previous, start)?;
     let home = least_within(previous, place, period);
     steps_round(alloc, edges, ids, previous, home, period)
 }
 
-/// The numbers of those that are left as their ranks.
-fn ranks_of(alloc: Global, left: &[bool]) -> Result<Vec<u32>, NoMemory>
-    requires { length left.now < 4294967295 }
-    ensures long { IfOk result (λ ranks. length ranks.items ≡ length left.now) }
-    ensures each { IfOk result (λ ranks. AreLeftRanks left.now ranks.items) }
-{
-    let mut ranks = Vec::new(alloc);
-    for i in 0..left.len() {
-        ranks.push(rank(left[i], i as u32))?;
-    }
-    Ok(ranks)
-}
-
 /// Lowers for each transaction its rank to the least one, but its own number, of those who made the versions of a key up to where
-/// one of its looks ends, by the places of these.
-fn lower_by_seen(versions: &[Look], twos: &[Two], looks: &[Look], places: &[u32], least: &mut [u32])
+/// one of its looks ends.
+fn lower_by_seen(versions: &[Look], twos: &[Two], looks: &[Look], least: &mut [u32])
     requires versions { AreVersions versions.now }
     requires long { length twos.now ≡ length versions.now }
     requires within { All (λ look. look.txn < length least.old) looks.now }
-    requires places { ArePlaces versions.now looks.now places.now }
+    requires places { ArePlaces versions.now looks.now }
     ensures { (ranks : List ℕ) → AreTwos versions.now versions.now ranks 1 twos.now → AreLowered versions.now ranks looks.now least.old least.new }
 {
-    for i in 0..looks.len() {
-        let t = looks[i].txn;
-        if let Some(at) = newest_place(versions, looks[i], places[i] as usize) {
+    for look in looks {
+        let t = look.txn;
+        if let Some(at) = newest_place(versions, *look) {
             least[t as usize] = least[t as usize].min(other(twos[at], t));
         }
     }
@@ -287,14 +254,12 @@ fn lower_by_made(versions: &[Look], twos: &[Two], least: &mut [u32])
     }
 }
 
-/// A rank as a place, or where there is none one's own.
 fn place(rank: u32, own: usize) -> usize
     ensures { IsPlaceOf rank own result }
 {
     if rank < NONE { rank as usize } else { own }
 }
 
-/// Each transaction's rank as a place.
 fn places(alloc: Global, ranks: &[u32]) -> Result<Vec<usize>, NoMemory>
     ensures long { IfOk result (λ previous. length previous.items ≡ length ranks.now) }
     ensures each { IfOk result (λ previous. (t : ℕ) → t < length ranks.now → IsPlaceOf (slice_index ranks.now t) t (slice_index previous.items t)) }
@@ -310,36 +275,33 @@ fn places(alloc: Global, ranks: &[u32]) -> Result<Vec<usize>, NoMemory>
 /// before it, or by what it saw or what was before that. What has none leads to itself.
 fn previous_of(alloc: Global, evidence: &Evidence, left: &[bool]) -> Result<Vec<usize>, NoMemory>
     requires long { length left.now ≡ length evidence.now.txns.now }
-    requires is { IsEvidence evidence.now.index.now evidence.now.txns.now evidence.now.keys.now evidence.now.looks.now }
-    requires places { ArePlaced evidence.now.looks.now evidence.now.places.now }
+    requires is { IsEvidence evidence.now }
     ensures long { IfOk result (λ previous. length previous.items ≡ length left.now) }
     ensures least { IfOk result (λ previous. AreLeastSources evidence.now.txns.now (IsEdge evidence.now.index.now) (IsLeftIn left.now) previous.items) }
 {
-    let ranks = ranks_of(alloc, left)?;
+    let ranks = left_ranks(alloc, left)?;
     let writers = evidence.looks.writers.as_slice();
     let twos = twos_of_writers(alloc, writers, &ranks)?;
     let mut sources = ranks_of_sources(alloc, evidence, &ranks)?;
     let least = sources.as_mut_slice();
     let readers = evidence.looks.readers.as_slice();
     lower_by_made(writers, &twos, least);
-    lower_by_seen(writers, &twos, readers, evidence.places, least);
+    lower_by_seen(writers, &twos, readers, least);
     let previous = places(alloc, least)?;
     Ok(previous)
 }
 
-/// The cycle that is printed, where these transactions are left.
 pub(crate) fn cycle_of_left(
     alloc: Global,
     evidence: &Evidence,
     left: &[bool],
 ) -> Result<Vec<Step>, NoMemory>
-    requires is { IsEvidence evidence.now.index.now evidence.now.txns.now evidence.now.keys.now evidence.now.looks.now }
-    requires places { ArePlaced evidence.now.looks.now evidence.now.places.now }
+    requires is { IsEvidence evidence.now }
     requires left { AreLeftOver (IsCommitted evidence.now.index.now) (IsEdge evidence.now.index.now) evidence.now.txns.now left.now }
     ensures { IfOk result (λ steps. IsPrintedCycle (IsCommitted evidence.now.index.now) (IsEdge evidence.now.index.now) steps.items) }
 {
     let previous = previous_of(alloc, evidence, left)?;
-    let own = looks_by_txn(alloc, evidence.looks)?;
+    let own = LooksByTxn::of(alloc, evidence.txns.len(), evidence.looks)?;
     let edges = EdgesIn::Seen(evidence, &own);
     cycle_of(alloc, &edges, evidence.txns, left, &previous)
 }

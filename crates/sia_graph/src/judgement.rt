@@ -2,10 +2,9 @@
 ghost use Rattle.std.specs.Prelude.{◌≡◌, ◌↔◌, [], ⊤, IfOk, IsTrue, MatchOption};
 ghost use Rattle.sia_events.specs.DangerousStructures.{NoFirst};
 ghost use Rattle.sia_events.specs.Isolation.{IsolationKept};
-ghost use Rattle.sia_events.specs.Lists.{ListsAscending};
-ghost use Rattle.sia_events.specs.Transactions.{IsCommitted};
 ghost use Rattle.sia_parts.specs.Gathering.{IsGathering};
 ghost use Rattle.sia_parts.specs.Looks.{AreLooks};
+ghost use Rattle.sia_parts.specs.Placing.{ArePlaced};
 ghost use Rattle.sia_graph.specs.Dangerous.{IsDangerous};
 ghost use Rattle.sia_graph.specs.Judgements.{IsJudgement};
 ghost use Rattle.sia_graph.specs.Verdicts.{IsOrderVerdict};
@@ -14,9 +13,9 @@ use crate::evidence::Evidence;
 use crate::laws::{replay_law, ssi_law};
 use crate::ssi::{Dangerous, dangerous_of, passes};
 use crate::verdict::{Verdict, settle_looks};
-use sia_events::{History, NoMemory};
+use sia_events::{Log, NoMemory};
 use sia_index::{Counts, Index, counted};
-use sia_parts::{BadRead, BadWrite, Committed, Gathering, Looks, Unexplained, places_of};
+use sia_parts::{BadRead, BadWrite, Gathering, Looks, Unexplained};
 use std::alloc::Global;
 
 /// All that the audit of a history found, but for its edges and its pivots.
@@ -50,30 +49,26 @@ fn is_serializable(verdict: &Verdict, unexplained: &[Unexplained]) -> bool
 /// Judges a history by what was found at all its keys. Beside the judgement stands what its edges are told by.
 pub fn judge(
     alloc: Global,
-    h: &History,
+    log: &Log,
     ix: &Index,
-    committed: &Committed,
     found: Gathering,
 ) -> Result<(Judgement, Looks), NoMemory>
-    requires index { ix.now ≡ h.now }
-    requires committed { ListsAscending (IsCommitted ix.now) committed.now }
-    requires found { IsGathering h.now found }
-    ensures exact { IfOk result (λ (j, looks). IsJudgement h.now j) }
+    requires index { ix.now ≡ log.now }
+    requires found { IsGathering log.now found }
+    ensures exact { IfOk result (λ (j, looks). IsJudgement log.now j) }
     ensures pass { IfOk result (λ (j, looks). IsTrue j.pass → IsTrue j.serializable × IsOrderVerdict j.verdict) }
-    ensures looks { IfOk result (λ (j, looks). AreLooks ix.now (λ _. ⊤) looks) }
+    ensures looks { IfOk result (λ (j, looks). AreLooks ix.now (λ _. ⊤) looks × ArePlaced looks) }
 {
-    h.law();
-    let places = places_of(alloc, &found.looks)?;
+    log.law();
     let evidence = Evidence {
         index: ix,
-        txns: committed.ids(),
+        txns: ix.committed(),
         keys: ix.written_keys(),
         looks: &found.looks,
-        places: places.as_slice(),
     };
     let pass = passes(alloc, &evidence, &found.bad_reads, &found.bad_writes)?;
     let verdict = settle_looks(alloc, &evidence)?;
-    let counts = counted(h, ix);
+    let counts = counted(log, ix);
     let serializable = is_serializable(&verdict, &found.unexplained);
     replay_law();
     ssi_law();
@@ -94,12 +89,10 @@ pub fn judge(
 pub fn danger_of(
     alloc: Global,
     ix: &Index,
-    committed: &Committed,
     looks: &Looks,
     j: &Judgement,
 ) -> Result<Option<Dangerous>, NoMemory>
-    requires committed { ListsAscending (IsCommitted ix.now) committed.now }
-    requires looks { AreLooks ix.now (λ _. ⊤) looks.now }
+    requires looks { AreLooks ix.now (λ _. ⊤) looks.now × ArePlaced looks.now }
     requires judgement { IsJudgement ix.now j.now }
     ensures { IfOk result (λ found. MatchOption found (IsolationKept ix.now → NoFirst ix.now) (λ d. IsolationKept ix.now × IsDangerous ix.now d)) }
 {
@@ -107,13 +100,11 @@ pub fn danger_of(
     if j.pass || !j.is_kept() {
         return Ok(None);
     }
-    let places = places_of(alloc, looks)?;
     let evidence = Evidence {
         index: ix,
-        txns: committed.ids(),
+        txns: ix.committed(),
         keys: ix.written_keys(),
         looks,
-        places: places.as_slice(),
     };
     dangerous_of(alloc, &evidence)
 }

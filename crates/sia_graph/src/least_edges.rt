@@ -3,14 +3,15 @@ ghost use Rattle.std.specs.Prelude.{◌≡◌, ◌↔◌, ◌<◌, ℕ, Contains
 ghost use Rattle.std.specs.List.Sorted.{IsNonDecreasingBy};
 ghost use Rattle.sia_parts.specs.declared.finding.Kind.TheVariants.{Rw};
 ghost use Rattle.sia_parts.specs.declared.looks.Look.{Look};
+ghost use Rattle.sia_parts.specs.declared.looks.Looks.{Looks};
 ghost use Rattle.sia_parts.specs.Sights.{FromSome};
-ghost use Rattle.sia_graph.specs.NumberEdges.{AreByTxn, HasMeeting, HasNumberEdge, IsLeastEdge, IsMissedBy, Meets};
+ghost use Rattle.sia_graph.specs.NumberEdges.{CanMeet, HasEdgeBetween, HasNumberEdge, IsLeastEdge, IsMetBy, IsMissedBy, Meets};
 ghost use Rattle.sia_graph.specs.Ranks.{IsLeastRank};
 
-use crate::evidence::{ByKey, ByTxn, of_txn, rows_at};
+use crate::evidence::{ByKey, LooksByTxn};
 use crate::ranks::NONE;
-use sia_index::keyed::place_from;
-use sia_parts::{Absence, Kind, Look, Looks};
+use sia_index::keyed::{between, place_from};
+use sia_parts::{Absence, Kind, Look};
 
 /// Whether a write and another look at its key make an edge of this kind.
 fn meets(kind: Kind, write: &Look, other: &Look) -> bool
@@ -23,31 +24,31 @@ fn meets(kind: Kind, write: &Look, other: &Look) -> bool
     }
 }
 
-/// Whether a write makes an edge of this kind with some of the others, which stand by key.
-fn meets_some(kind: Kind, write: &Look, others: &[Look]) -> bool
-    requires { IsNonDecreasingBy (λ look. look.key) others.now }
-    ensures { IsTrue result ↔ ((b : Look) × Contains others.now b × (b.key ≡ write.now.key) × Meets kind write.now b) }
+/// The key of a look, where some write there makes an edge of this kind with it. The writes stand by key.
+fn key_met(kind: Kind, writes: &[Look], other: &Look) -> u32
+    requires { IsNonDecreasingBy (λ look. look.key) writes.now }
+    ensures { IsLeastRank (IsMetBy kind writes.now other.now) result }
 {
-    for other in rows_at::<Look, ByKey>(others, write.key) {
+    let key = u64::from(other.key);
+    for write in between::<Look, ByKey>(writes, key, key) {
         if meets(kind, write, other) {
-            return true;
-        }
-    }
-    false
-}
-
-/// The least key at which some write makes an edge of this kind with some of the others. Both stand by key.
-fn least_meeting(kind: Kind, writes: &[Look], others: &[Look]) -> u32
-    requires writes { IsNonDecreasingBy (λ look. look.key) writes.now }
-    requires others { IsNonDecreasingBy (λ look. look.key) others.now }
-    ensures { IsLeastRank (HasMeeting kind writes.now others.now) result }
-{
-    for write in writes {
-        if meets_some(kind, write, others) {
-            return write.key;
+            return other.key;
         }
     }
     NONE
+}
+
+/// The least key at which some write makes an edge of this kind with some of the others. The writes stand by key.
+fn least_meeting(kind: Kind, writes: &[Look], others: &[Look]) -> u32
+    requires rise { IsNonDecreasingBy (λ look. look.key) writes.now }
+    requires few { (look : Look) → Contains writes.now look → look.key < 4294967295 }
+    ensures { IsLeastRank (FromSome (IsMetBy kind writes.now) others.now) result }
+{
+    let mut least = NONE;
+    for other in others {
+        least = least.min(key_met(kind, writes, other));
+    }
+    least
 }
 
 /// The least key of these writes that the absence holds. They stand by key.
@@ -76,31 +77,28 @@ fn least_missed(absences: &[Absence], writes: &[Look]) -> u32
     least
 }
 
-/// The least key of an rw edge from one transaction to another, or `NONE`.
-pub(crate) fn least_rw(looks: &Looks, t: u32, u: u32) -> u32
-    requires { AreByTxn looks.now }
-    ensures { IsLeastRank (HasNumberEdge looks.now Rw t u) result }
+pub(crate) fn least_rw(own: &LooksByTxn, t: u32, u: u32) -> u32
+    requires { (txns : ℕ) × (looks : Looks) × CanMeet txns looks own.now t u }
+    ensures { (txns : ℕ) (looks : Looks) → CanMeet txns looks own.now t u → IsLeastRank (HasNumberEdge looks Rw t u) result }
 {
-    let writes = of_txn(&looks.writers, u);
-    let seen = least_meeting(Kind::Rw, writes, of_txn(&looks.readers, t));
-    let missed = least_missed(rows_at::<Absence, ByTxn>(&looks.absences, t), writes);
+    let writes = own.writers.at(u as usize);
+    let seen = least_meeting(Kind::Rw, writes, own.readers.at(t as usize));
+    let missed = least_missed(own.absences.at(t as usize), writes);
     seen.min(missed)
 }
 
-/// The least edge from one transaction to another.
-pub(crate) fn least_edge(looks: &Looks, t: u32, u: u32) -> (Kind, u32)
-    requires by_txn { AreByTxn looks.now }
-    requires leads { (kind : Kind) × (k : ℕ) × HasNumberEdge looks.now kind t u k }
-    ensures { IsLeastEdge looks.now t u result.0 result.1 }
+pub(crate) fn least_edge(own: &LooksByTxn, t: u32, u: u32) -> (Kind, u32)
+    requires { (txns : ℕ) × (looks : Looks) × CanMeet txns looks own.now t u }
+    ensures { (txns : ℕ) (looks : Looks) → CanMeet txns looks own.now t u → HasEdgeBetween looks t u → IsLeastEdge looks t u result.0 result.1 }
 {
-    let writes = of_txn(&looks.writers, t);
-    let ww = least_meeting(Kind::Ww, writes, of_txn(&looks.writers, u));
+    let writes = own.writers.at(t as usize);
+    let ww = least_meeting(Kind::Ww, writes, own.writers.at(u as usize));
     if ww < NONE {
         return (Kind::Ww, ww);
     }
-    let wr = least_meeting(Kind::Wr, writes, of_txn(&looks.readers, u));
+    let wr = least_meeting(Kind::Wr, writes, own.readers.at(u as usize));
     if wr < NONE {
         return (Kind::Wr, wr);
     }
-    (Kind::Rw, least_rw(looks, t, u))
+    (Kind::Rw, least_rw(own, t, u))
 }

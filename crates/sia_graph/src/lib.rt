@@ -1,7 +1,6 @@
 //! Pivots, the least order or a cycle, and the replay of a history by an order.
 #![tactic(auto)]
 
-mod adjacency;
 mod cycle;
 mod edges;
 mod evidence;
@@ -11,9 +10,11 @@ mod least_edges;
 mod order;
 mod pivot;
 mod ranks;
+mod rows;
 mod serial_replay;
 mod sparse;
 mod ssi;
+mod steps;
 mod verdict;
 
 pub use cycle::{Step, Steps};

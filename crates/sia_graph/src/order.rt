@@ -1,20 +1,17 @@
 //! The least order that keeps every step, by Kahn's algorithm: always the least place that is ready is taken.
-ghost use Rattle.std.specs.Prelude.{◌≡◌, ◌≢◌, ◌↔◌, ◌⊎◌, ◌<◌, ◌≤◌, ◌+◌, ◌*◌, [], ℕ, All, Contains, IfNone, IfOk, IfSome, IsTrue, MatchOption, OnOk, false, length, map, slice_index, slice_index_or};
-ghost use Rattle.std.specs.declared.cmp.Reverse.{Reverse};
-ghost use Rattle.std.specs.BinaryHeap.{IsHeap, heap_items, heap_len};
+ghost use Rattle.std.specs.Prelude.{◌≡◌, ◌≢◌, ◌↔◌, ◌⊎◌, ◌<◌, ◌≤◌, ◌+◌, ◌*◌, [], ℕ, All, Contains, IfNone, IfOk, IfSome, IsTrue, MatchOption, OnOk, false, length, map, slice_index, slice_index_or, List};
 ghost use Rattle.std.specs.List.{range_with_len};
 ghost use Rattle.sia_graph.specs.Blocks.{without_blocks};
 ghost use Rattle.sia_graph.specs.Fronts.{AreWaiting, IsLastFront};
 ghost use Rattle.sia_graph.specs.NarrowSteps.{edges_of_steps, name_of, step_target};
-ghost use Rattle.sia_graph.specs.Places.{AreSteps, IsFreedAt, IsReadyAt, arriving_at};
-ghost use Rattle.sia_graph.specs.ReadyHeaps.{HasReady, later, place_in};
+ghost use Rattle.sia_graph.specs.Places.{AreSteps, HasReady, IsFreedAt, IsReadyAt, arriving_at};
 ghost use Rattle.sia_graph.specs.Taken.{AreTakenNodes, node_list};
 
-use crate::adjacency::{Adjacency, ByTarget, count_steps};
+use crate::rows::{Rows, count_rows};
+use crate::steps::{BySource, ByTarget, target_of};
 use sia_events::{NoMemory, TxnId};
 use std::alloc::Global;
-use std::cmp::Reverse;
-use std::collections::BinaryHeap;
+use std::collections::BTreeSet;
 use std::marker::Model;
 
 /// A list of transactions.
@@ -24,8 +21,6 @@ pub struct Txns {
 }
 
 impl Model for Txns {
-    ghost use Rattle.std.specs.Prelude.{List, ℕ};
-
     ghost Value = { List ℕ };
 
     ghost view = { λ a. a.txns.items };
@@ -45,114 +40,31 @@ impl Txns {
     }
 }
 
-/// Places that are ready. What is added twice is taken once.
-#[derive(Drop)]
-struct Ready {
-    heap: BinaryHeap<Reverse<usize>>,
-}
-
-impl Model for Ready {
-    ghost use Rattle.std.specs.Prelude.{List, ℕ, map};
-    ghost use Rattle.std.specs.BinaryHeap.{IsHeap, heap_items};
-    ghost use Rattle.sia_graph.specs.ReadyHeaps.{later, place_in};
-
-    ghost Value = { List ℕ };
-
-    ghost view = { λ ready. map place_in (heap_items ready.heap) };
-
-    ghost invariant = { λ ready. IsHeap later (heap_items ready.heap) };
-}
-
-impl Ready {
-    /// None.
-    fn new(alloc: Global) -> Ready
-        ensures { result ≡ [] }
-    {
-        Ready {
-            heap: BinaryHeap::new(alloc),
-        }
-    }
-
-    /// Adds a place.
-    fn insert(&mut self, place: usize) -> Result<(), NoMemory>
-        ensures { OnOk result ((i : ℕ) → HasReady self.new i ↔ (HasReady self.old i ⊎ (place ≡ i))) }
-    {
-        self.heap.push(Reverse(place))?;
-        Ok(())
-    }
-
-    /// Takes the least place.
-    #[tactic(auto, unfolding(crate::specs::ReadyHeaps::HasReady))]
-    fn pop_first(&mut self) -> Option<usize>
-        ensures empty { IfNone result ((i : ℕ) → ¬ HasReady self.old i) }
-        ensures left { IfNone result ((i : ℕ) → ¬ HasReady self.new i) }
-        ensures member { IfSome result (HasReady self.old) }
-        ensures least { IfSome result (λ p. (i : ℕ) → HasReady self.old i → p ≤ i) }
-        ensures rest { IfSome result (λ p. (i : ℕ) → HasReady self.new i ↔ (HasReady self.old i × (p ≢ i))) }
-    {
-        let Reverse(place) = self.heap.pop()?;
-        pass_over(&mut self.heap, place);
-        Some(place)
-    }
-}
-
-/// Whether the place comes next, where none that is less is left.
-fn is_next(heap: &BinaryHeap<Reverse<usize>>, place: usize) -> bool
-    requires heap { IsHeap later (heap_items heap.now) }
-    requires least { (i : ℕ) → Contains (map place_in (heap_items heap.now)) i → place ≤ i }
-    ensures some { IsTrue result → 0 < heap_len heap.now }
-    ensures none { result ≡ false → ¬ Contains (map place_in (heap_items heap.now)) place }
-    ensures top { IsTrue result → (d : Reverse ℕ) → slice_index_or (heap_items heap.now) 0 d ≡ d → d.0 ≡ place }
-{
-    match heap.peek() {
-        Some(next) => next.0 == place,
-        None => false,
-    }
-}
-
-/// Takes out the place, where it comes next.
-fn pass_over(heap: &mut BinaryHeap<Reverse<usize>>, place: usize)
-    requires heap { IsHeap later (heap_items heap.old) }
-    requires least { (i : ℕ) → Contains (map place_in (heap_items heap.old)) i → place ≤ i }
-    ensures heap { IsHeap later (heap_items heap.new) }
-    ensures rest { (i : ℕ) → Contains (map place_in (heap_items heap.new)) i ↔ (Contains (map place_in (heap_items heap.old)) i × (place ≢ i)) }
-{
-    while is_next(heap, place) {
-        heap.pop();
-    }
-}
-
-/// Adds the place to those that are ready, where it stands before `end`.
-#[inline(never)]
-fn note_behind(behind: &mut Ready, place: usize, end: usize) -> Result<(), NoMemory>
-    ensures { OnOk result ((i : ℕ) → HasReady behind.new i
-        ↔ (HasReady behind.old i ⊎ ((place ≡ i) × (place < end)))) }
-{
-    if place < end {
-        behind.insert(place)?;
-    }
-    Ok(())
-}
-
-/// The same, where its count is 0.
+/// Adds the place to those that are ready, where it stands before `end` and its count is 0.
 #[inline(always)]
-fn note_freed(behind: &mut Ready, place: usize, count: usize, end: usize) -> Result<(), NoMemory>
+fn note_freed(
+    behind: &mut BTreeSet<usize>,
+    place: usize,
+    count: usize,
+    end: usize,
+) -> Result<(), NoMemory>
     ensures { OnOk result ((i : ℕ) → HasReady behind.new i
         ↔ (HasReady behind.old i ⊎ ((place ≡ i) × (place < end) × (count ≡ 0)))) }
 {
-    if count > 0 {
+    if count > 0 || place >= end {
         return Ok(());
     }
-    note_behind(behind, place, end)
+    behind.insert(place)?;
+    Ok(())
 }
 
-/// Takes steps that leave, by their targets, from the counts, and adds the places before `end` that become ready.
+/// Takes steps that leave from the counts of their targets, and adds the places before `end` that become ready.
 #[inline(never)]
 fn release(
-    leaving: &[u32],
+    leaving: &[u64],
     counts: &mut [usize],
     end: usize,
-    behind: &mut Ready,
+    behind: &mut BTreeSet<usize>,
 ) -> Result<(), NoMemory>
     requires within { All (λ n. step_target n < length counts.old) leaving.now }
     requires enough { (i : ℕ) → i < length counts.old → arriving_at leaving.now i ≤ slice_index counts.old i }
@@ -161,7 +73,7 @@ fn release(
         ↔ (HasReady behind.old i ⊎ ((i < end) × IsFreedAt leaving.now counts.new i))) }
 {
     for n in leaving {
-        let i = *n as usize;
+        let i = target_of(*n) as usize;
         counts[i] -= 1;
         note_freed(behind, i, counts[i], end)?;
     }
@@ -184,7 +96,7 @@ fn first_free(counts: &[usize], end: usize) -> Option<usize>
 /// Takes the least ready place: the least of those behind `end`, or the first from there on, which is then passed.
 ///
 /// Each place is looked at once from `end` on, so only those that become ready behind it cost a search.
-fn next_ready(behind: &mut Ready, counts: &[usize], end: &mut usize) -> Option<usize>
+fn next_ready(behind: &mut BTreeSet<usize>, counts: &[usize], end: &mut usize) -> Option<usize>
     requires behind { (i : ℕ) → HasReady behind.old i → i < end.old }
     requires within { end.old ≤ length counts.now }
     ensures empty { IfNone result ((i : ℕ) → IsReadyAt (HasReady behind.old) end.old counts.now i → ⊥) }
@@ -215,13 +127,13 @@ fn take_steps(
     requires counted { AreWaiting [] (range_with_len 0 places) (edges_of_steps steps.now) counts.old }
     ensures { IfOk result (λ order. IsLastFront (range_with_len 0 places) (edges_of_steps steps.now) counts.new order.items) }
 {
-    let mut behind = Ready::new(alloc);
+    let mut behind = BTreeSet::new(alloc);
     let mut end = 0usize;
-    let rows = Adjacency::of(alloc, places, steps)?;
+    let rows = Rows::of::<BySource>(alloc, places, steps)?;
     let mut order = Vec::with_capacity(alloc, places)?;
     while let Some(place) = next_ready(&mut behind, counts, &mut end) {
         order.push(place)?;
-        release(rows.leaving(place), counts, end, &mut behind)?;
+        release(rows.at(place), counts, end, &mut behind)?;
     }
     Ok(order)
 }
@@ -267,27 +179,10 @@ fn left_of(
     ensures long { IfOk result (λ left. length left.items ≡ count) }
     ensures each { IfOk result (λ left. (i : ℕ) → i < count → IsTrue (slice_index_or left.items i false) ↔ (0 < slice_index counts.now (floor + i))) }
 {
-    let mut left = Vec::new(alloc);
-    for i in 0..count {
-        left.push(counts[floor + i] > 0)?;
-    }
-    Ok(left)
+    let members = &counts[floor..];
+    Ok(members.iter().map(|count| *count > 0).collect(alloc)?)
 }
 
-/// The first count that isn't 0, by its place.
-fn first_left(counts: &[usize]) -> Option<usize>
-    ensures { MatchOption result ((i : ℕ) → i < length counts.now → slice_index counts.now i ≡ 0)
-        (λ start. (start < length counts.now) × (0 < slice_index counts.now start) × ((i : ℕ) → i < start → slice_index counts.now i ≡ 0)) }
-{
-    for i in 0..counts.len() {
-        if counts[i] > 0 {
-            return Some(i);
-        }
-    }
-    None
-}
-
-/// Takes the nodes, where blocks are over so many keys.
 pub(crate) fn take_nodes(
     alloc: Global,
     size: u32,
@@ -300,10 +195,10 @@ pub(crate) fn take_nodes(
 {
     let floor = 2 * size as usize;
     let places = floor + txns.len();
-    let mut counted = count_steps::<ByTarget>(alloc, places, steps)?;
+    let mut counted = count_rows::<u64, ByTarget>(alloc, places, steps)?;
     let counts = counted.as_mut_slice();
     let order = take_steps(alloc, places, steps, counts)?;
-    match first_left(counts) {
+    match counts.iter().position(|count| *count > 0) {
         None => Ok(Taken::Whole(names_of(alloc, size, txns, &order)?)),
         Some(_) => Ok(Taken::Rest(left_of(alloc, floor, txns.len(), counts)?)),
     }

@@ -2,24 +2,21 @@
 ghost use Rattle.std.specs.Prelude.{◌≡◌, ◌↔◌, ◌⊎◌, ◌<◌, ◌≤◌, ℕ, All, AllPairs, Contains, IfOk, IsTrue, List, map, slice_index};
 ghost use Rattle.sia_events.specs.DangerousStructures.{IsFirst, IsVulnerable};
 ghost use Rattle.sia_events.specs.Lists.{ListsAscending, Precedes};
-ghost use Rattle.sia_events.specs.Transactions.{CommitsAt, Overlap};
+ghost use Rattle.sia_events.specs.Transactions.{CommitsAt, IsCommitted, Overlap};
 ghost use Rattle.sia_parts.specs.declared.finding.Kind.TheVariants.{Rw};
 ghost use Rattle.sia_parts.specs.Findings.{AreFindings};
-ghost use Rattle.sia_parts.specs.Lifetimes.{AreLifetimes};
+ghost use Rattle.sia_index.specs.Lifetimes.{AreLifetimes};
 ghost use Rattle.sia_parts.specs.Packing.{IsPacked, kind_at, kind_digit, source_number, target_number, unpacked};
 ghost use Rattle.sia_graph.specs.declared.pivot.Link.{Link};
 ghost use Rattle.sia_graph.specs.Links.{AreEnds, AreLinked, AreLinksAt, AreVulnerable, ListsLinks, is_rw, link_rank};
 ghost use Rattle.sia_graph.specs.Pivots.{ArePivots, ListsNeighbours};
 
-use crate::evidence::rows_near;
 use crate::order::Txns;
 use sia_events::{NoMemory, TxnId};
-use sia_index::Index;
-use sia_index::keyed::By;
+use sia_index::keyed::{By, between};
 use sia_index::ordering::put_in_order;
-use sia_parts::{
-    Edge, EdgeNumber, Findings, Kind, Lifetime, kind_in, lifetime_of, overlap, source_of, target_of,
-};
+use sia_index::{Index, Lifetime, overlap};
+use sia_parts::{Edge, EdgeNumber, Findings, Kind, kind_in, lifetime_of, source_of, target_of};
 use std::alloc::{AllocError, Global};
 
 /// The transaction in the middle of a dangerous structure, with all the transactions at its other ends.
@@ -82,38 +79,36 @@ fn vulnerable(alloc: Global, edges: &[Edge], ix: &Index) -> Result<Vec<Link>, Al
     Ok(links)
 }
 
+/// The same link at its other end.
+fn turn(link: Link) -> Link
+    ensures { result ≡ record { at = link.other; other = link.at } }
+{
+    Link {
+        at: link.other,
+        other: link.at,
+    }
+}
+
 /// The same links at their other ends, in order.
 fn turned(alloc: Global, links: &[Link]) -> Result<Vec<Link>, AllocError>
     ensures { IfOk result (λ turned. ListsLinks (λ t u. AreLinked links.now u t) turned.items) }
 {
-    let mut turned = Vec::new(alloc);
-    for l in links {
-        turned.push(Link {
-            at: l.other,
-            other: l.at,
-        })?;
-    }
+    let mut turned = links.iter().map(|link| turn(*link)).collect(alloc)?;
     put_in_order(&mut turned);
     Ok(turned)
 }
 
-/// The links at a transaction, which are looked for from near a guess, and where they end.
-fn links_at(links: &[Link], txn: TxnId, near: usize) -> (&[Link], usize)
+fn links_at(links: &[Link], txn: TxnId) -> &[Link]
     requires { AllPairs (λ k l. Precedes (link_rank k) (link_rank l)) links.now }
-    ensures { AreLinksAt links.now txn result.0.now }
+    ensures { AreLinksAt links.now txn result.now }
 {
-    rows_near::<Link, ByEnd>(links, u64::from(txn), near)
+    between::<Link, ByEnd>(links, u64::from(txn), u64::from(txn))
 }
 
-/// The transactions at the other ends.
 fn others(alloc: Global, links: &[Link]) -> Result<Vec<TxnId>, AllocError>
     ensures { IfOk result (λ others. others.items ≡ map (λ l. l.other) links.now) }
 {
-    let mut others = Vec::new(alloc);
-    for l in links {
-        others.push(l.other)?;
-    }
-    Ok(others)
+    links.iter().map(|link| link.other).collect(alloc)
 }
 
 /// Whether the edge is of the kind rw, and its ends overlap.
@@ -132,13 +127,13 @@ pub(crate) fn vulnerable_in(
     alloc: Global,
     ix: &Index,
     txns: &[TxnId],
-    lifetimes: &[Lifetime],
     numbers: &[EdgeNumber],
 ) -> Result<Vec<Link>, NoMemory>
-    requires lifetimes { AreLifetimes ix.now txns.now lifetimes.now }
+    requires txns { ListsAscending (IsCommitted ix.now) txns.now }
     requires packed { (keys : List ℕ) × All (IsPacked txns.now keys) numbers.now }
     ensures { IfOk result (λ links. (keys : List ℕ) → AreEnds (Overlap ix.now) (map (unpacked txns.now keys) numbers.now) links.items) }
 {
+    let lifetimes = ix.lifetimes();
     let mut links = Vec::new(alloc);
     for n in numbers {
         if is_vulnerable_number(ix, txns, lifetimes, *n) {
@@ -205,7 +200,6 @@ fn firsts(
     Ok(firsts)
 }
 
-/// The entry of a pivot, with the links of both sorts at it.
 fn pivot_at(
     alloc: Global,
     ix: &Index,
@@ -229,7 +223,6 @@ fn pivot_at(
     })
 }
 
-/// The entries of the transactions with links of both sorts.
 fn entries(alloc: Global, ix: &Index, into: &[Link], out: &[Link]) -> Result<Vec<Pivot>, AllocError>
     requires into { ListsLinks (λ t u. IsVulnerable ix.now u t) into.now }
     requires out { ListsLinks (IsVulnerable ix.now) out.now }
@@ -238,15 +231,10 @@ fn entries(alloc: Global, ix: &Index, into: &[Link], out: &[Link]) -> Result<Vec
     let mut linked = others(alloc, into)?;
     put_in_order(&mut linked);
     let mut found = Vec::new(alloc);
-    let mut near_in = 0usize;
-    let mut near_out = 0usize;
     for txn in linked.as_slice() {
-        let (ins, in_end) = links_at(into, *txn, near_in);
-        let (outs, out_end) = links_at(out, *txn, near_out);
-        near_in = in_end;
-        near_out = out_end;
+        let ins = links_at(into, *txn);
         if !ins.is_empty() {
-            found.push(pivot_at(alloc, ix, *txn, ins, outs)?)?;
+            found.push(pivot_at(alloc, ix, *txn, ins, links_at(out, *txn))?)?;
         }
     }
     Ok(found)

@@ -3,10 +3,11 @@ ghost use Rattle.std.specs.Prelude.{◌≡◌, ◌≢◌, ◌⊎◌, ◌<◌, �
 ghost use Rattle.sia_parts.specs.declared.looks.Absence.{Absence};
 ghost use Rattle.sia_parts.specs.declared.looks.Look.{Look};
 ghost use Rattle.sia_parts.specs.declared.looks.Looks.{Looks};
-ghost use Rattle.sia_parts.specs.Placing.{ArePlaced, ArePlaces};
+ghost use Rattle.sia_parts.specs.Placing.{ArePlaces};
 ghost use Rattle.sia_parts.specs.Versions.{CanSearch};
 ghost use Rattle.sia_graph.specs.Absences.{AreNodes, AreTwosAt, IsAbsent, IsRankAt};
 ghost use Rattle.sia_graph.specs.Evidence.{IsEvidence};
+ghost use Rattle.sia_graph.specs.Previous.{AreLeftRanks};
 ghost use Rattle.sia_graph.specs.Ranks.{AreRanks, IsLeastRank, IsRankOf};
 ghost use Rattle.sia_graph.specs.Sources.{AreEarlier, AreLeastOfSources, SeesBefore};
 ghost use Rattle.sia_graph.specs.VersionRanks.{AreTwos, AreTwosUpTo, AreVersions};
@@ -62,25 +63,31 @@ pub(crate) fn other(two: Two, me: u32) -> u32
     if two.least == me { two.next } else { two.least }
 }
 
-/// A number as a rank, where it is left.
-pub(crate) fn rank(is_left: bool, number: u32) -> u32
+fn rank(is_left: bool, number: u32) -> u32
     ensures left { is_left ≡ true → result ≡ number }
     ensures gone { is_left ≡ false → result ≡ 4294967295 }
 {
     if is_left { number } else { NONE }
 }
 
-/// The rank of the transaction of that number, or `NONE`.
+pub(crate) fn left_ranks(alloc: Global, left: &[bool]) -> Result<Vec<u32>, NoMemory>
+    requires { length left.now < 4294967295 }
+    ensures long { IfOk result (λ ranks. length ranks.items ≡ length left.now) }
+    ensures each { IfOk result (λ ranks. AreLeftRanks left.now ranks.items) }
+{
+    let mut ranks = Vec::new(alloc);
+    for i in 0..left.len() {
+        ranks.push(rank(left[i], i as u32))?;
+    }
+    Ok(ranks)
+}
+
 fn rank_of(ranks: &[u32], i: u32) -> u32
     ensures { (r : ℕ) → IsRankOf ranks.now i r ↔ ((r ≡ result) × (r < 4294967295)) }
 {
-    match ranks.get(i as usize) {
-        Some(rank) => *rank,
-        None => NONE,
-    }
+    ranks.get(i as usize).copied().unwrap_or(NONE)
 }
 
-/// Adds the transaction's rank to those that stand at the place.
 fn put_rank(twos: &mut [Two], at: usize, ranks: &[u32], txn: u32)
     requires { at < length twos.old }
     ensures { (entries : List (ℕ × ℕ)) → AreTwosAt entries ranks.now twos.old → AreTwosAt (entries ++ (at, txn) ∷ []) ranks.now twos.new }
@@ -88,7 +95,6 @@ fn put_rank(twos: &mut [Two], at: usize, ranks: &[u32], txn: u32)
     twos[at] = with(twos[at], rank_of(ranks, txn));
 }
 
-/// Adds to the ranks at each version those at earlier versions of its key.
 fn add_earlier(versions: &[Look], twos: &mut [Two])
     requires search { CanSearch versions.now }
     requires long { length twos.old ≡ length versions.now }
@@ -107,17 +113,16 @@ fn twos_of_readers(
     alloc: Global,
     versions: &[Look],
     readers: &[Look],
-    places: &[u32],
     ranks: &[u32],
 ) -> Result<Vec<Two>, NoMemory>
     requires search { CanSearch versions.now }
-    requires places { ArePlaces versions.now readers.now places.now }
+    requires places { ArePlaces versions.now readers.now }
     ensures { IfOk result (λ twos. AreTwos versions.now readers.now ranks.now 0 twos.items) }
 {
     let mut twos = vec![in alloc; NO_RANKS; versions.len()]?;
-    for i in 0..readers.len() {
-        if look_at(versions, places[i] as usize, readers[i].key).is_some() {
-            put_rank(&mut twos, places[i] as usize, ranks, readers[i].txn);
+    for look in readers {
+        if look_at(versions, look.at as usize, look.key).is_some() {
+            put_rank(&mut twos, look.at as usize, ranks, look.txn);
         }
     }
     add_earlier(versions, &mut twos);
@@ -152,29 +157,6 @@ fn put_txn(blocks: &[u32], ranks: &[u32], txn: u32, nodes: &mut [Two])
     }
 }
 
-/// Adds the rank of what is absent to blocks over its keys.
-fn put_absence(
-    absence: Absence,
-    ranks: &[u32],
-    size: u32,
-    blocks: &mut Vec<u32>,
-    nodes: &mut [Two],
-) -> Result<(), NoMemory>
-    requires few { size ≤ 1000000000 }
-    requires within { absence.from < absence.to → absence.to ≤ size }
-    requires long { length nodes.old ≡ 2 * size }
-    ensures { OnOk result ((absences : List Absence) → AreNodes absences ranks.now size nodes.old
-        → AreNodes (absences ++ absence ∷ []) ranks.now size nodes.new) }
-{
-    if absence.from >= absence.to {
-        return Ok(());
-    }
-    blocks.clear();
-    put_blocks(size, absence.from, absence.to, blocks)?;
-    put_txn(blocks, ranks, absence.txn, nodes);
-    Ok(())
-}
-
 /// The two least ranks at each block of `size` keys. There are no blocks where nothing is absent.
 fn nodes_of(
     alloc: Global,
@@ -192,12 +174,15 @@ fn nodes_of(
     let mut nodes = vec![in alloc; NO_RANKS; 2 * size as usize]?;
     let mut blocks = Vec::new(alloc);
     for absence in absences {
-        put_absence(*absence, ranks, size, &mut blocks, &mut nodes)?;
+        if absence.from < absence.to {
+            blocks.clear();
+            put_blocks(size, absence.from, absence.to, &mut blocks)?;
+            put_txn(&blocks, ranks, absence.txn, &mut nodes);
+        }
     }
     Ok(nodes)
 }
 
-/// Of the ranks but `me` the least at the block.
 fn least_at(nodes: &[Two], block: u32, me: u32) -> u32
     ensures { (absences : List Absence) (ranks : List ℕ) (size : ℕ) (are : AreNodes absences ranks size nodes.now)
         → IsLeastRank (λ r. IsRankAt are.entries ranks block r × (r ≢ me)) result }
@@ -208,7 +193,6 @@ fn least_at(nodes: &[Two], block: u32, me: u32) -> u32
     }
 }
 
-/// Of the ranks but `me` the least of what is absent at the key.
 fn least_absent(nodes: &[Two], size: u32, key: u32, me: u32) -> u32
     requires few { size ≤ 1000000000 }
     requires within { key < size }
@@ -238,20 +222,13 @@ pub struct Earlier {
 impl Earlier {
     /// The tables for these ranks.
     pub(crate) fn of(alloc: Global, evidence: &Evidence, ranks: &[u32]) -> Result<Earlier, NoMemory>
-        requires evidence { IsEvidence evidence.now.index.now evidence.now.txns.now evidence.now.keys.now evidence.now.looks.now }
-        requires places { ArePlaced evidence.now.looks.now evidence.now.places.now }
+        requires evidence { IsEvidence evidence.now }
         ensures made { IfOk result (AreEarlier evidence.now.looks.now ranks.now) }
         ensures size { IfOk result (λ earlier. earlier.size ≡ length evidence.now.keys.now) }
     {
         let looks = evidence.looks;
         let size = evidence.keys.len() as u32;
-        let twos = twos_of_readers(
-            alloc,
-            &looks.writers,
-            &looks.readers,
-            evidence.places,
-            ranks,
-        )?;
+        let twos = twos_of_readers(alloc, &looks.writers, &looks.readers, ranks)?;
         let nodes = nodes_of(alloc, &looks.absences, ranks, size)?;
         Ok(Earlier { twos, nodes, size })
     }
@@ -276,8 +253,7 @@ pub(crate) fn ranks_of_sources(
     evidence: &Evidence,
     ranks: &[u32],
 ) -> Result<Vec<u32>, NoMemory>
-    requires is { IsEvidence evidence.now.index.now evidence.now.txns.now evidence.now.keys.now evidence.now.looks.now }
-    requires places { ArePlaced evidence.now.looks.now evidence.now.places.now }
+    requires is { IsEvidence evidence.now }
     requires long { length ranks.now ≡ length evidence.now.txns.now }
     requires apart { AreRanks ranks.now }
     ensures { IfOk result (λ least. AreLeastOfSources evidence.now.looks.now ranks.now least.items) }

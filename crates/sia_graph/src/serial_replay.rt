@@ -42,7 +42,6 @@ impl From<NoMemory> for ReplayFault {
     }
 }
 
-/// The transaction that commits at a place.
 fn committer(h: &History, place: u32) -> Option<TxnId>
     ensures { MatchOption result ((t : ℕ) → ¬ CommitsAt h.now t place) (λ t. CommitsAt h.now t place) }
 {
@@ -79,7 +78,6 @@ fn is_order(alloc: Global, h: &History, order: &[TxnId]) -> Result<bool, NoMemor
     Ok(left.is_empty())
 }
 
-/// The version of a key that the replay has.
 fn version_of(versions: &BTreeMap<Key, TxnId>, key: Key) -> Version
     ensures { result ≡ version_in versions.now key }
 {
@@ -124,7 +122,6 @@ fn wrong_listed(versions: &BTreeMap<Key, TxnId>, listed: &[(Key, Version)]) -> O
     None
 }
 
-/// Whether the key is listed.
 fn is_listed(listed: &[(Key, Version)], key: Key) -> bool
     requires { IsStrictlyIncreasing (map (λ p. p.0) listed.now) }
     ensures { IsTrue result ↔ ((v : ℕ) × Contains listed.now (key, v)) }
@@ -139,10 +136,8 @@ fn next_version(versions: &BTreeMap<Key, TxnId>, from: Key, hi: Key) -> Option<(
         (λ r. (from ≤ r.0) × (r.0 ≤ hi) × (r.1 ≡ version_in versions.now r.0)
         × ((k : ℕ) → from ≤ k → k < r.0 → version_in versions.now k ≡ 0)) }
 {
-    match versions.range(from..=hi).next() {
-        Some((key, version)) => Some((*key, *version)),
-        None => None,
-    }
+    let (key, version) = versions.range(from..=hi).next()?;
+    Some((*key, *version))
 }
 
 /// The least key of the range that isn't listed and that the replay has at another version than 0.
@@ -195,45 +190,28 @@ fn wrong_in_range(
     }
 }
 
-/// The least key at which an event isn't right, with the version that the replay has there.
-fn first_wrong(
+/// The least key at which an event isn't right.
+fn wrong_key(
     h: &History,
     event: &Event,
     versions: &BTreeMap<Key, TxnId>,
     commits: &BTreeMap<TxnId, u32>,
-) -> Option<(Key, Version)>
+) -> Option<Key>
     requires event { (p : ℕ) × (at_place h.now p ≡ Some event.now) }
     requires commits { AreCommits h.now commits.now }
     requires written { AreWritten h.now versions.now }
     ensures { MatchOption result ((k : ℕ) → IsRight h.now (version_in versions.now) event.now k)
-        (λ r. IsWrongAt h.now (version_in versions.now) event.now r.0 r.1) }
+        (λ key. IsWrongAt h.now (version_in versions.now) event.now key (version_in versions.now key)) }
 {
     let _events = h.len();
     match event {
-        Event::Read { key, saw, .. } => {
-            let found = version_of(versions, *key);
-            if found == *saw {
-                None
-            } else {
-                Some((*key, found))
-            }
+        Event::Read { key, saw, .. } => (version_of(versions, *key) != *saw).then_some(*key),
+        Event::Range { lo, hi, listed, .. } => {
+            wrong_in_range(versions, *lo, *hi, listed.as_slice())
         }
-        Event::Range { lo, hi, listed, .. } => match wrong_in_range(
-            versions,
-            *lo,
-            *hi,
-            listed.as_slice(),
-        ) {
-            None => None,
-            Some(key) => Some((key, version_of(versions, key))),
-        },
         Event::Write { txn, key } => {
             let found = version_of(versions, *key);
-            if may_follow(h, commits, *key, found, *txn) {
-                None
-            } else {
-                Some((*key, found))
-            }
+            (!may_follow(h, commits, *key, found, *txn)).then_some(*key)
         }
         _ => None,
     }
@@ -263,11 +241,8 @@ fn keep_write(event: &Event, versions: &mut BTreeMap<Key, TxnId>) -> Result<(), 
     ensures versions { OnOk result ((k : ℕ) → version_in versions.new k ≡ after (version_in versions.old) event.now k) }
     ensures written { OnOk result ((h : List Event) (p : ℕ) → at_place h p ≡ Some event.now → AreWritten h versions.old → AreWritten h versions.new) }
 {
-    match event {
-        Event::Write { txn, key } => {
-            versions.insert(*key, *txn)?;
-        }
-        _ => {}
+    if let Event::Write { txn, key } = event {
+        versions.insert(*key, *txn)?;
     }
     Ok(())
 }
@@ -294,7 +269,8 @@ fn replay_txn(
     let mut at = first;
     while at != 0 {
         if let Some(event) = h.event(at) {
-            if let Some((key, found)) = first_wrong(h, event, versions, commits) {
+            if let Some(key) = wrong_key(h, event, versions, commits) {
+                let found = version_of(versions, key);
                 return Ok(Some(Mismatch {
                     place: at,
                     key,

@@ -9,14 +9,13 @@ ghost use Rattle.sia_graph.specs.KeyBlocks.{IsUnderSome};
 ghost use Rattle.sia_graph.specs.NarrowSteps.{AreFirsts, AreNarrowSteps, FitsKeys, HasAbsenceSteps, IsAbsenceStep, IsHalfStep, IsLeafStep, IsLookStep, IsMissedAt, KeepsAll, node_of, step_number, step_source, step_target};
 ghost use Rattle.sia_graph.specs.VersionRanks.{AreVersions};
 
-use crate::adjacency::{source_of, step, target_of};
+use crate::steps::{source_of, step, target_of};
 use sia_events::NoMemory;
 use sia_index::keyed::{ByKey, place_from};
 use sia_index::ordering::put_in_order;
 use sia_parts::{Absence, Look, Looks, count_up_to, look_at, newest_place};
 use std::alloc::Global;
 
-/// Adds the block where the number is odd.
 fn put_where_odd(number: u32, block: u32, blocks: &mut Vec<u32>) -> Result<(), NoMemory>
     ensures { OnOk result ((b : ℕ) → Contains blocks.new.items b ↔ (Contains blocks.old.items b ⊎ ((b ≡ block) × (number % 2 ≡ 1)))) }
 {
@@ -50,7 +49,6 @@ pub(crate) fn put_blocks(
     Ok(())
 }
 
-/// The node of a committed transaction, where blocks are over so many keys.
 fn node(size: u32, txn: u32) -> u32
     requires few { (size ≤ 1048576) × (txn < 1048576) }
     ensures { result ≡ node_of size txn }
@@ -89,20 +87,18 @@ fn put_reader_steps(
     size: u32,
     writers: &[Look],
     readers: &[Look],
-    places: &[u32],
     steps: &mut Vec<u64>,
 ) -> Result<(), NoMemory>
     requires writers { CanSearch writers.now }
     requires few { (size ≤ 1048576) × All (λ a. a.txn < 1048576) readers.now }
-    requires places { ArePlaces writers.now readers.now places.now }
+    requires places { ArePlaces writers.now readers.now }
     ensures { OnOk result (Adds (FromSome (IsLookStep size writers.now) readers.now) steps.old.items steps.new.items) }
 {
-    for i in 0..readers.len() {
-        let look = readers[i];
-        if let Some(a) = look_at(writers, places[i] as usize, look.key) {
+    for look in readers {
+        if let Some(a) = look_at(writers, look.at as usize, look.key) {
             put_between(size, look.txn, a.txn, steps)?;
         }
-        if let Some(at) = newest_place(writers, look, places[i] as usize) {
+        if let Some(at) = newest_place(writers, *look) {
             put_between(size, writers[at].txn, look.txn, steps)?;
         }
     }
@@ -147,7 +143,6 @@ fn put_leaf_steps(size: u32, firsts: &[u64], steps: &mut Vec<u64>) -> Result<(),
     Ok(())
 }
 
-/// Who made the first version of each of the keys, by transaction and key.
 fn firsts_of(alloc: Global, size: u32, writers: &[Look]) -> Result<Vec<u64>, NoMemory>
     requires { CanSearch writers.now }
     ensures { IfOk result (λ firsts. AreFirsts size writers.now firsts.items) }
@@ -156,9 +151,8 @@ fn firsts_of(alloc: Global, size: u32, writers: &[Look]) -> Result<Vec<u64>, NoM
     let mut near = 0usize;
     for key in 0..size {
         near = count_up_to(writers, key, 0, near);
-        match look_at(writers, near, key) {
-            Some(a) => firsts.push(step(a.txn, key))?,
-            None => {}
+        if let Some(a) = look_at(writers, near, key) {
+            firsts.push(step(a.txn, key))?;
         }
     }
     put_in_order(&mut firsts);
@@ -201,7 +195,6 @@ fn put_missed(
     Ok(())
 }
 
-/// Adds the steps from a node to some others.
 fn put_steps_to(source: u32, targets: &[u32], steps: &mut Vec<u64>) -> Result<(), NoMemory>
     ensures { OnOk result (Adds (FromSome (λ b n. n ≡ step_number source b) targets.now) steps.old.items steps.new.items) }
 {
@@ -236,15 +229,9 @@ fn put_absence_steps(
     Ok(())
 }
 
-/// All steps, where blocks are over so many keys.
-pub(crate) fn steps_of(
-    alloc: Global,
-    size: u32,
-    looks: &Looks,
-    places: &[u32],
-) -> Result<Vec<u64>, NoMemory>
+pub(crate) fn steps_of(alloc: Global, size: u32, looks: &Looks) -> Result<Vec<u64>, NoMemory>
     requires writers { AreVersions looks.now.writers.items }
-    requires places { ArePlaced looks.now places.now }
+    requires placed { ArePlaced looks.now }
     requires few { (size ≤ 1048576) × All (λ a. a.txn < 1048576) looks.now.readers.items }
     requires fits { All (FitsKeys size) looks.now.absences.items }
     ensures { IfOk result (λ steps. AreNarrowSteps size looks.now.writers.items looks.now.readers.items looks.now.absences.items steps.items) }
@@ -254,7 +241,7 @@ pub(crate) fn steps_of(
     let absences = looks.absences.as_slice();
     let mut steps = Vec::with_capacity(alloc, readers.len())?;
     put_writer_steps(size, writers, &mut steps)?;
-    put_reader_steps(size, writers, readers, places, &mut steps)?;
+    put_reader_steps(size, writers, readers, &mut steps)?;
     put_half_steps(size, &mut steps)?;
     let firsts = firsts_of(alloc, size, writers)?;
     put_leaf_steps(size, &firsts, &mut steps)?;

@@ -7,8 +7,6 @@ ghost use Rattle.sia_events.specs.Isolation.{IsolationKept};
 ghost use Rattle.sia_parts.specs.declared.looks.Look.{Look};
 ghost use Rattle.sia_parts.specs.declared.looks.Looks.{Looks};
 ghost use Rattle.sia_parts.specs.Findings.{AreFindings, ListsBadReads, ListsBadWrites};
-ghost use Rattle.sia_parts.specs.Lifetimes.{AreLifetimes};
-ghost use Rattle.sia_parts.specs.Placing.{ArePlaced};
 ghost use Rattle.sia_graph.specs.Dangerous.{IsDangerous, IsLeast};
 ghost use Rattle.sia_graph.specs.Early.{CommitsFrom, IsEarly, IsLeastPivot, TellFirsts};
 ghost use Rattle.sia_graph.specs.Evidence.{IsEvidence};
@@ -16,31 +14,29 @@ ghost use Rattle.sia_graph.specs.Extremes.{HasRwEdge};
 ghost use Rattle.sia_graph.specs.Limits.{IsLimit, IsWithinLimit};
 ghost use Rattle.sia_graph.specs.Pivotal.{HasMade, HasSeen};
 ghost use Rattle.sia_graph.specs.Pivots.{ArePivots};
-ghost use Rattle.sia_graph.specs.Previous.{AreLeftRanks};
 ghost use Rattle.sia_graph.specs.Ranks.{IsLeastRank, IsRankOf};
 ghost use Rattle.sia_graph.specs.Sources.{AreEarlier, IsSource};
 
-use crate::evidence::{ByTxn, Evidence, looks_by_txn};
+use crate::evidence::{ByTxn, Evidence, LooksByTxn};
 use crate::least_edges::least_rw;
 use crate::pivot::Pivot;
-use crate::ranks::{Earlier, NONE, rank, ranks_of_sources};
+use crate::ranks::{Earlier, NONE, left_ranks, ranks_of_sources};
 use sia_events::{Key, NoMemory, TxnId};
+use sia_index::Lifetime;
 use sia_index::keyed::By;
-use sia_parts::{Absence, BadRead, BadWrite, Findings, Lifetime, Look, lifetimes_of};
+use sia_parts::{Absence, BadRead, BadWrite, Findings, Look};
 use std::alloc::{AllocError, Global};
 
 /// The greatest rank. A rank stands for the place that is left of it, so that the least rank is the last place.
 const LAST: u32 = u32::MAX - 1;
 
-/// For each commit its rank.
 fn ranks_of(alloc: Global, lifetimes: &[Lifetime]) -> Result<Vec<u32>, AllocError>
     ensures { IfOk result (λ ranks. ranks.items ≡ map (λ lifetime. 4294967294 - lifetime.commit) lifetimes.now) }
 {
-    let mut ranks = Vec::new(alloc);
-    for lifetime in lifetimes {
-        ranks.push(LAST.saturating_sub(lifetime.commit))?;
-    }
-    Ok(ranks)
+    lifetimes
+        .iter()
+        .map(|lifetime| LAST.saturating_sub(lifetime.commit))
+        .collect(alloc)
 }
 
 /// The rank of the last place before the commit of number `t`, up to that of its last source, whose rank is given. `LAST` if it
@@ -69,18 +65,12 @@ fn is_within(earlier: &Earlier, at: usize, made: Look) -> bool
     made.high <= LAST - rank
 }
 
-/// The limit of each transaction of a history that keeps isolation. These are their lifetimes.
-fn limits_in(
-    alloc: Global,
-    evidence: &Evidence,
-    lifetimes: &[Lifetime],
-) -> Result<Vec<u32>, NoMemory>
-    requires evidence { IsEvidence evidence.now.index.now evidence.now.txns.now evidence.now.keys.now evidence.now.looks.now }
-    requires places { ArePlaced evidence.now.looks.now evidence.now.places.now }
+fn limits_in(alloc: Global, evidence: &Evidence) -> Result<Vec<u32>, NoMemory>
+    requires evidence { IsEvidence evidence.now }
     requires kept { IsolationKept evidence.now.index.now }
-    requires lived { AreLifetimes evidence.now.index.now evidence.now.txns.now lifetimes.now }
     ensures { IfOk result (λ limits. TellFirsts evidence.now.index.now evidence.now.txns.now evidence.now.looks.now limits.items) }
 {
+    let lifetimes = evidence.index.lifetimes();
     let ranks = ranks_of(alloc, lifetimes)?;
     let owned = ranks_of_sources(alloc, evidence, &ranks)?;
     let sources = owned.as_slice();
@@ -93,8 +83,7 @@ fn limits_in(
 
 /// The least number that made a version that commits up to one of these limits, of one who saw what was before it, or `NONE`.
 fn least_early(alloc: Global, evidence: &Evidence, limits: &[u32]) -> Result<u32, NoMemory>
-    requires evidence { IsEvidence evidence.now.index.now evidence.now.txns.now evidence.now.keys.now evidence.now.looks.now }
-    requires places { ArePlaced evidence.now.looks.now evidence.now.places.now }
+    requires evidence { IsEvidence evidence.now }
     ensures { IfOk result (IsLeastRank (IsEarly evidence.now.looks.now limits.now)) }
 {
     let earlier = Earlier::of(alloc, evidence, limits)?;
@@ -136,7 +125,7 @@ fn are_of_others<T, O: By<T>>(marks: &[bool], rows: &[T]) -> bool
 
 /// Whether some transaction may be a pivot. Where none made a version and saw another, or saw none of a key, nobody is one.
 fn may_have_pivot(alloc: Global, evidence: &Evidence) -> Result<bool, NoMemory>
-    requires { IsEvidence evidence.now.index.now evidence.now.txns.now evidence.now.keys.now evidence.now.looks.now }
+    requires { IsEvidence evidence.now }
     ensures { IfOk result (λ may. may ≡ false → (i : ℕ) → HasMade evidence.now.looks.now i → ¬ HasSeen evidence.now.looks.now i) }
 {
     let looks = evidence.looks;
@@ -163,8 +152,7 @@ pub fn passes(
     bad_reads: &[BadRead],
     bad_writes: &[BadWrite],
 ) -> Result<bool, NoMemory>
-    requires evidence { IsEvidence evidence.now.index.now evidence.now.txns.now evidence.now.keys.now evidence.now.looks.now }
-    requires places { ArePlaced evidence.now.looks.now evidence.now.places.now }
+    requires evidence { IsEvidence evidence.now }
     requires bad_reads { ListsBadReads evidence.now.index.now (λ _. ⊤) bad_reads.now }
     requires bad_writes { ListsBadWrites evidence.now.index.now (λ _. ⊤) bad_writes.now }
     ensures { IfOk result (λ passes. IsTrue passes ↔ PassesSsi evidence.now.index.now) }
@@ -176,22 +164,9 @@ pub fn passes(
     if !may {
         return Ok(true);
     }
-    let lifetimes = lifetimes_of(alloc, evidence.index, evidence.txns)?;
-    let limits = limits_in(alloc, evidence, &lifetimes)?;
+    let limits = limits_in(alloc, evidence)?;
     let early = least_early(alloc, evidence, &limits)?;
     Ok(early == NONE)
-}
-
-/// Whether there is no bad read, no bad write, and no pivot with a first.
-fn has_none(bad_reads: &[BadRead], bad_writes: &[BadWrite], p: &[Pivot]) -> bool
-    ensures { IsTrue result ↔ ((bad_reads.now ≡ []) × (bad_writes.now ≡ []) × All (λ pivot. pivot.firsts ≡ []) p.now) }
-{
-    for pivot in p {
-        if !pivot.firsts.as_slice().is_empty() {
-            return false;
-        }
-    }
-    are_none(bad_reads, bad_writes)
 }
 
 /// Whether there is no bad read, no bad write, and no dangerous structure whose last transaction commits first. The pivots
@@ -201,7 +176,12 @@ pub fn ssi_pass(f: &Findings, p: &[Pivot]) -> bool
     ensures empty { IsTrue result ↔ ((f.now.bad_reads.items ≡ []) × (f.now.bad_writes.items ≡ []) × All (λ pivot. pivot.firsts ≡ []) p.now) }
     ensures passes { (h : List Event) → AreFindings h f.now → ArePivots h p.now → IsTrue result ↔ PassesSsi h }
 {
-    has_none(&f.bad_reads, &f.bad_writes, p)
+    for pivot in p {
+        if !pivot.firsts.as_slice().is_empty() {
+            return false;
+        }
+    }
+    are_none(&f.bad_reads, &f.bad_writes)
 }
 
 /// A dangerous structure whose last transaction commits first: an rw edge leads from the first transaction to the pivot, and one
@@ -218,8 +198,7 @@ pub struct Dangerous {
 /// The least number whose limit some version is within, if there is one, and the least number that made such a version, or
 /// `NONE`.
 fn least_pivot(alloc: Global, evidence: &Evidence, limits: &[u32]) -> Result<(u32, u32), NoMemory>
-    requires evidence { IsEvidence evidence.now.index.now evidence.now.txns.now evidence.now.keys.now evidence.now.looks.now }
-    requires places { ArePlaced evidence.now.looks.now evidence.now.places.now }
+    requires evidence { IsEvidence evidence.now }
     requires few { length limits.now ≤ 1000000000 }
     ensures { IfOk result (λ (pivot, last). IsLeastPivot evidence.now.looks.now limits.now pivot last) }
 {
@@ -238,19 +217,6 @@ fn least_pivot(alloc: Global, evidence: &Evidence, limits: &[u32]) -> Result<(u3
     Ok((low as u32, last))
 }
 
-/// The numbers of those that commit at the place or after it as their ranks.
-fn late_ranks(alloc: Global, lifetimes: &[Lifetime], place: u32) -> Result<Vec<u32>, NoMemory>
-    requires { length lifetimes.now < 4294967295 }
-    ensures long { IfOk result (λ ranks. length ranks.items ≡ length lifetimes.now) }
-    ensures each { IfOk result (λ ranks. AreLeftRanks (map (λ lifetime. leb place lifetime.commit) lifetimes.now) ranks.items) }
-{
-    let mut ranks = Vec::new(alloc);
-    for i in 0..lifetimes.len() {
-        ranks.push(rank(place <= lifetimes[i].commit, i as u32))?;
-    }
-    Ok(ranks)
-}
-
 /// Of those with an rw edge to the pivot the least that commits at this place or after it, or `NONE`.
 fn least_first(
     alloc: Global,
@@ -259,63 +225,43 @@ fn least_first(
     place: u32,
     pivot: u32,
 ) -> Result<u32, NoMemory>
-    requires evidence { IsEvidence evidence.now.index.now evidence.now.txns.now evidence.now.keys.now evidence.now.looks.now }
-    requires places { ArePlaced evidence.now.looks.now evidence.now.places.now }
+    requires evidence { IsEvidence evidence.now }
     requires long { length lifetimes.now ≡ length evidence.now.txns.now }
     requires pivot { pivot < length lifetimes.now }
     ensures { IfOk result (IsLeastRank (λ t. IsSource evidence.now.looks.now t pivot × CommitsFrom lifetimes.now place t)) }
 {
-    let ranks = late_ranks(alloc, lifetimes, place)?;
+    let late: Vec<bool> = lifetimes
+        .iter()
+        .map(|it| place <= it.commit)
+        .collect(alloc)?;
+    let ranks = left_ranks(alloc, &late)?;
     let sources = ranks_of_sources(alloc, evidence, &ranks)?;
     Ok(sources[pivot as usize])
-}
-
-/// The structure of transactions of these numbers.
-fn with_keys(
-    alloc: Global,
-    evidence: &Evidence,
-    first: u32,
-    pivot: u32,
-    last: u32,
-) -> Result<Dangerous, NoMemory>
-    requires evidence { IsEvidence evidence.now.index.now evidence.now.txns.now evidence.now.keys.now evidence.now.looks.now }
-    requires within { (first < length evidence.now.txns.now) × (pivot < length evidence.now.txns.now) × (last < length evidence.now.txns.now) }
-    requires into { HasRwEdge evidence.now.index.now (slice_index evidence.now.txns.now first) (slice_index evidence.now.txns.now pivot) }
-    requires out { HasRwEdge evidence.now.index.now (slice_index evidence.now.txns.now pivot) (slice_index evidence.now.txns.now last) }
-    ensures txns { IfOk result (λ d. (d.first ≡ slice_index evidence.now.txns.now first) × (d.pivot ≡ slice_index evidence.now.txns.now pivot)
-        × (d.last ≡ slice_index evidence.now.txns.now last)) }
-    ensures first_key { IfOk result (λ d. IsLeast (RwEdge evidence.now.index.now (slice_index evidence.now.txns.now first) (slice_index evidence.now.txns.now pivot)) d.first_key) }
-    ensures last_key { IfOk result (λ d. IsLeast (RwEdge evidence.now.index.now (slice_index evidence.now.txns.now pivot) (slice_index evidence.now.txns.now last)) d.last_key) }
-{
-    let own = looks_by_txn(alloc, evidence.looks)?;
-    let into = least_rw(&own, first, pivot);
-    let out = least_rw(&own, pivot, last);
-    Ok(Dangerous {
-        first: evidence.txns[first as usize],
-        first_key: evidence.keys[into as usize],
-        pivot: evidence.txns[pivot as usize],
-        last_key: evidence.keys[out as usize],
-        last: evidence.txns[last as usize],
-    })
 }
 
 /// The dangerous structure that is told of a history that keeps isolation: that of the least pivot that has a first. None, if the
 /// history passes the test of serializable snapshot isolation.
 pub fn dangerous_of(alloc: Global, evidence: &Evidence) -> Result<Option<Dangerous>, NoMemory>
-    requires evidence { IsEvidence evidence.now.index.now evidence.now.txns.now evidence.now.keys.now evidence.now.looks.now }
-    requires places { ArePlaced evidence.now.looks.now evidence.now.places.now }
+    requires evidence { IsEvidence evidence.now }
     requires kept { IsolationKept evidence.now.index.now }
     ensures { IfOk result (λ found. MatchOption found (NoFirst evidence.now.index.now) (IsDangerous evidence.now.index.now)) }
 {
-    let spans = lifetimes_of(alloc, evidence.index, evidence.txns)?;
-    let lifetimes = spans.as_slice();
-    let limits = limits_in(alloc, evidence, lifetimes)?;
+    let lifetimes = evidence.index.lifetimes();
+    let limits = limits_in(alloc, evidence)?;
     let (pivot, last) = least_pivot(alloc, evidence, &limits)?;
     if last == NONE {
         return Ok(None);
     }
     let place = lifetimes[last as usize].commit;
     let first = least_first(alloc, evidence, lifetimes, place, pivot)?;
-    let found = with_keys(alloc, evidence, first, pivot, last)?;
-    Ok(Some(found))
+    let own = LooksByTxn::of(alloc, evidence.txns.len(), evidence.looks)?;
+    let into = least_rw(&own, first, pivot);
+    let out = least_rw(&own, pivot, last);
+    Ok(Some(Dangerous {
+        first: evidence.txns[first as usize],
+        first_key: evidence.keys[into as usize],
+        pivot: evidence.txns[pivot as usize],
+        last_key: evidence.keys[out as usize],
+        last: evidence.txns[last as usize],
+    }))
 }

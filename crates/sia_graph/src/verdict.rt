@@ -4,24 +4,22 @@ ghost use Rattle.std.specs.List.Sorted.{IsStrictlyIncreasing};
 ghost use Rattle.sia_events.specs.Lists.{Precedes};
 ghost use Rattle.sia_events.specs.Transactions.{IsCommitted};
 ghost use Rattle.sia_parts.specs.Entries.{IsEdge, edge_rank};
-ghost use Rattle.sia_parts.specs.Placing.{ArePlaced};
 ghost use Rattle.sia_graph.specs.Evidence.{IsEvidence};
 ghost use Rattle.sia_graph.specs.NarrowSteps.{IsSizeFor};
 ghost use Rattle.sia_graph.specs.Places.{AreStepsOf};
 ghost use Rattle.sia_graph.specs.Previous.{IsLeftIn};
-ghost use Rattle.sia_graph.specs.Taken.{IsTaken};
 ghost use Rattle.sia_graph.specs.Verdicts.{IsVerdict};
 ghost use Rattle.sia_graph.specs.Walks.{AreLeastSources};
 
-use crate::adjacency::{source_of, step, target_of};
 use crate::cycle::{EdgesIn, Steps, cycle_of, cycle_of_left};
 use crate::evidence::Evidence;
 use crate::order::{Taken, Txns, take_nodes};
 use crate::sparse::steps_of;
+use crate::steps::{source_of, step, target_of};
 use sia_events::{NoMemory, TxnId};
 use sia_index::keyed::{ByTxn, place_from};
 use sia_parts::Edge;
-use std::alloc::{AllocError, Global};
+use std::alloc::Global;
 
 /// How the dependencies are settled.
 #[derive(Drop)]
@@ -32,7 +30,6 @@ pub enum Verdict {
     Cycle(Steps),
 }
 
-/// The position of a transaction among the ids.
 fn position_of(ids: &[TxnId], txn: TxnId) -> u32
     requires ascending { IsStrictlyIncreasing ids.now }
     requires member { Contains ids.now txn }
@@ -42,7 +39,6 @@ fn position_of(ids: &[TxnId], txn: TxnId) -> u32
     place_from::<TxnId, ByTxn>(ids, u64::from(txn)) as u32
 }
 
-/// For each edge, at its place, the step between the places of its ends.
 fn steps_between(alloc: Global, ids: &[TxnId], edges: &[Edge]) -> Result<Vec<u64>, NoMemory>
     requires ascending { IsStrictlyIncreasing ids.now }
     requires joins { All (λ e. Contains ids.now e.src × Contains ids.now e.dst × (e.src ≢ e.dst)) edges.now }
@@ -53,14 +49,6 @@ fn steps_between(alloc: Global, ids: &[TxnId], edges: &[Edge]) -> Result<Vec<u64
         steps.push(step(position_of(ids, e.src), position_of(ids, e.dst)))?;
     }
     Ok(steps)
-}
-
-/// So many positions, each of which leads to itself.
-fn themselves(alloc: Global, count: usize) -> Result<Vec<usize>, AllocError>
-    ensures long { IfOk result (λ positions. length positions.items ≡ count) }
-    ensures each { IfOk result (λ positions. (i : ℕ) → i < count → slice_index positions.items i ≡ i) }
-{
-    (0..count).collect(alloc)
 }
 
 /// For each place the least one that is left and from which a step leads to it. What has none leads to itself.
@@ -78,7 +66,7 @@ fn least_sources(
     ensures long { IfOk result (λ previous. length previous.items ≡ length ids.now) }
     ensures least { IfOk result (λ previous. AreLeastSources ids.now (Contains edges.now) (IsLeftIn left.now) previous.items) }
 {
-    let mut previous = themselves(alloc, left.len())?;
+    let mut previous: Vec<usize> = (0..left.len()).collect(alloc)?;
     for i in (0..steps.len()).rev() {
         let source = source_of(steps[i]) as usize;
         if left[source] {
@@ -109,7 +97,7 @@ pub fn settle(alloc: Global, ids: &[TxnId], edges: &[Edge]) -> Result<Verdict, N
 
 /// How many keys blocks are to be over: none where no one was absent.
 fn size_for(evidence: &Evidence) -> u32
-    requires { IsEvidence evidence.now.index.now evidence.now.txns.now evidence.now.keys.now evidence.now.looks.now }
+    requires { IsEvidence evidence.now }
     ensures { IsSizeFor result evidence.now.keys.now evidence.now.looks.now.absences.items }
 {
     if evidence.looks.absences.is_empty() {
@@ -119,26 +107,16 @@ fn size_for(evidence: &Evidence) -> u32
     }
 }
 
-/// The least order of the committed transactions that keeps every edge, or who is left where none does.
-fn take_members(alloc: Global, evidence: &Evidence) -> Result<Taken, NoMemory>
-    requires evidence { IsEvidence evidence.now.index.now evidence.now.txns.now evidence.now.keys.now evidence.now.looks.now }
-    requires places { ArePlaced evidence.now.looks.now evidence.now.places.now }
-    ensures { IfOk result (IsTaken (IsCommitted evidence.now.index.now) (IsEdge evidence.now.index.now) evidence.now.txns.now) }
-{
-    let size = size_for(evidence);
-    let steps = steps_of(alloc, size, evidence.looks, evidence.places)?;
-    let taken = take_nodes(alloc, size, evidence.txns, &steps)?;
-    Ok(taken)
-}
-
 /// The least order of the committed transactions that keeps every edge of the history, or where none does the cycle that is
 /// printed, as `settle` tells it of a list of edges. No edge is made: a few steps lead wherever the edges lead.
 pub fn settle_looks(alloc: Global, evidence: &Evidence) -> Result<Verdict, NoMemory>
-    requires evidence { IsEvidence evidence.now.index.now evidence.now.txns.now evidence.now.keys.now evidence.now.looks.now }
-    requires places { ArePlaced evidence.now.looks.now evidence.now.places.now }
+    requires evidence { IsEvidence evidence.now }
     ensures { IfOk result (IsVerdict (IsCommitted evidence.now.index.now) (IsEdge evidence.now.index.now)) }
 {
-    match take_members(alloc, evidence)? {
+    let size = size_for(evidence);
+    let steps = steps_of(alloc, size, evidence.looks)?;
+    let taken = take_nodes(alloc, size, evidence.txns, &steps)?;
+    match taken {
         Taken::Whole(order) => Ok(Verdict::Order(Txns::new(order))),
         Taken::Rest(left) => {
             let steps = cycle_of_left(alloc, evidence, &left)?;

@@ -1,26 +1,21 @@
 -- Lists that a loop over the places of a history collects.
-use Rattle.std.proofs.Common.{◌≡◌, ◌↔◌, inl, inr, ℕ, ◌+◌, ◌<◌, ◌≤◌, List, [], ◌∷◌, ◌++◌, length, Some, refl, sym, subst, ap, ◌∙◌, arith}
-use Rattle.std.specs.Prelude.{Contains, slice_index_or}
+use Rattle.std.proofs.Common.{◌≡◌, ◌↔◌, inl, inr, ℕ, ◌+◌, ◌<◌, ◌≤◌, List, [], ◌∷◌, ◌++◌, length, Some, refl, sym, subst, ◌∙◌, arith}
+use Rattle.std.specs.Prelude.{Contains}
 use Rattle.std.specs.declared.cmp.Ordering.{Ordering}
 use Rattle.std.specs.declared.cmp.Ordering.TheVariants.{Less}
 use Rattle.std.specs.Ordering.{nat_cmp, ordering_then}
 use Rattle.std.specs.List.Sorted.{IsStrictlySortedBy}
 use Rattle.std.proofs.lemmas.Bool.{cases_lt}
-use Rattle.std.proofs.lemmas.List.{get_or_default}
-use Rattle.std.proofs.lemmas.List.Elements.{Contains-get_or, Contains-append_left, Contains-push, Contains-push_cases}
+use Rattle.std.proofs.lemmas.List.Elements.{Contains-append_left, Contains-push, Contains-push_cases}
 use Rattle.sia_events.specs.declared.event.Event.{Event}
 use Rattle.sia_events.specs.declared.event.Event.TheVariants.{Write}
 use Rattle.sia_events.specs.Lists.{Precedes, ListsBy}
 use Rattle.sia_events.specs.Places.{at_place}
-use Rattle.sia_events.specs.Refusals.{IsWellFormed}
-use Rattle.sia_events.specs.Transactions.{WritesAt, Wrote, CommitsAt, IsCommitted}
+use Rattle.sia_events.specs.Transactions.{WritesAt}
 use Rattle.sia_events.proofs.TransactionDecisions.{place_within}
-use Rattle.sia_events.proofs.WellFormed.{one_commit}
-use Rattle.sia_index.specs.declared.rows.WriteRow.{WriteRow}
-use Rattle.sia_index.specs.declared.info.KeyVersion.{KeyVersion}
+use Rattle.sia_index.specs.declared.writes.WriteRow.{WriteRow}
 use Rattle.sia_index.proofs.Ordered.{lists_sorted, precedes_last, precedes_then}
-use Rattle.sia_index.specs.Info.{AreWrittenKeys}
-use Rattle.sia_index.specs.Rows.{AreWrites, AreVersionRows}
+use Rattle.sia_index.specs.Rows.{AreWrites}
 
 -- xs holds what has Q at a place below n, and nothing else
 abbrev pub HoldsBelow : {A : Type 0} → (A → ℕ → Type 0) → ℕ → List A → Type 0
@@ -64,16 +59,9 @@ pub collected : {A : Type 0} (Q : A → ℕ → Type 0) (rank : A → List ℕ) 
 collected Q rank P c before n same xs ys holds sorted keeps adds_none =
     lists_sorted rank P c before ys sorted (λ x. ((λ has. (same x).0 ((holds x).0 (adds_none x has))), (λ is. keeps x ((holds x).1 ((same x).1 is)))))
 
-abbrev pub no_write : WriteRow
-no_write = record { key = 0; txn = 0; place = 0 }
-
 -- the row of the write event at a place
 abbrev pub IsWriteAt : List Event → WriteRow → ℕ → Type 0
 IsWriteAt h w q = (w.place ≡ q) × WritesAt h w.txn w.key q
-
--- the row of the version that the write of a number in the list makes
-abbrev pub IsVersionOf : List Event → List WriteRow → KeyVersion → ℕ → Type 0
-IsVersionOf h ws v q = (q < length ws) × ((slice_index_or ws q no_write).key ≡ v.key) × ((slice_index_or ws q no_write).txn ≡ v.txn) × CommitsAt h v.txn v.commit
 
 -- the rows of the writes so far, where the next place has a write event
 pub write_more : (h : List Event) (n : ℕ) (w : WriteRow) (xs : List WriteRow) → HoldsBelow (IsWriteAt h) n xs → IsWriteAt h w n → HoldsBelow (IsWriteAt h) (n + 1) (xs ++ w ∷ [])
@@ -99,64 +87,5 @@ writes_listed h n xs ys all holds = collected (IsWriteAt h) (λ w. w.txn ∷ w.k
     (λ x. (
       (λ (q, below, is). subst (WritesAt h x.txn x.key) (sym is.0) is.1),
       (λ writes. (x.place, (let within : x.place ≤ length h = (place_within h x.place (Write x.txn x.key) writes).1 in omega arith), (refl, writes))),
-    ))
-    xs ys holds
-
--- the key of the write of a number in the list
-abbrev pub IsKeyOf : List WriteRow → ℕ → ℕ → Type 0
-IsKeyOf ws k q = (q < length ws) × ((slice_index_or ws q no_write).key ≡ k)
-
--- over all writes they are the written keys
-pub keys_listed : (h : List Event) (ws : List WriteRow) → AreWrites h ws → (n : ℕ) (xs keys : List ℕ) → length ws ≡ n → HoldsBelow (IsKeyOf ws) n xs → IsStrictlySortedBy nat_cmp keys → ((k : ℕ) → Contains xs k → Contains keys k) → ((k : ℕ) → Contains keys k → Contains xs k) → AreWrittenKeys h keys
-keys_listed h ws are n xs keys all holds = collected (IsKeyOf ws) (λ k. k ∷ []) (λ k. (t : ℕ) × Wrote h t k) nat_cmp precedes_last n
-    (λ k. (
-      (λ (q, below, (within, key)).
-          let row : WriteRow = slice_index_or ws q no_write in
-          (row.txn, subst (Wrote h row.txn) key (row.place, (are.each row).0 (Contains-get_or ws q no_write within)))),
-      (λ (t, wrote).
-          let row : WriteRow = record { key = k; txn = t; place = wrote.0 } in
-          let c : Contains ws row = (are.each row).1 wrote.1 in
-          let is : slice_index_or ws c.0 no_write ≡ row = get_or_default ws c.0 no_write row c.1 ∙ c.2 in
-          (c.0, (let below = c.1 in omega arith), (c.1, ap (λ (w : WriteRow). w.key) is))),
-    ))
-    xs keys holds
-
--- the rows of the versions so far, where the next write is of a committed transaction: with its row, which may be there already
-module _ (h : List Event) (wf : IsWellFormed h) (ws : List WriteRow) (n c : ℕ) (xs : List KeyVersion) (holds : HoldsBelow (IsVersionOf h ws) n xs) (commits : CommitsAt h (slice_index_or ws n no_write).txn c) where
-  abbrev version : KeyVersion
-  version = record { key = (slice_index_or ws n no_write).key; commit = c; txn = (slice_index_or ws n no_write).txn }
-
-  alone : (x : KeyVersion) → IsVersionOf h ws x n → version ≡ x
-  alone x is =
-      let key = is.1 in
-      let txn = is.2 in
-      let commit : c ≡ x.commit = one_commit h wf x.txn c x.commit (subst (λ u. CommitsAt h u c) txn commits) is.3 in
-      λ i. record { key = key i; commit = commit i; txn = txn i }
-
-  pub version_more : n < length ws → HoldsBelow (IsVersionOf h ws) (n + 1) (xs ++ version ∷ [])
-  version_more within = holds_one (IsVersionOf h ws) n xs version holds (within, refl, refl, commits) alone
-
-  pub version_again : Contains xs version → HoldsBelow (IsVersionOf h ws) (n + 1) xs
-  version_again there = holds_again (IsVersionOf h ws) n xs version holds there alone
-
--- and where all up to a place are of another
-pub versions_none : (h : List Event) (ws : List WriteRow) (t from to : ℕ) (xs : List KeyVersion) → from ≤ to → HoldsBelow (IsVersionOf h ws) from xs → ((q : ℕ) → from ≤ q → q < to → (slice_index_or ws q no_write).txn ≡ t) → ¬ IsCommitted h t → HoldsBelow (IsVersionOf h ws) to xs
-versions_none h ws t from to xs forward holds own none = holds_past (IsVersionOf h ws) from to xs forward holds (λ x q after before is. absurd (none (x.commit, subst (λ u. CommitsAt h u x.commit) (sym is.2 ∙ own q after before) is.3)))
-
--- over all writes they are every committed transaction's
-pub versions_listed : (h : List Event) (ws : List WriteRow) → AreWrites h ws → (n : ℕ) (xs ys : List KeyVersion) → length ws ≡ n → HoldsBelow (IsVersionOf h ws) n xs → IsStrictlySortedBy (λ x y. ordering_then (nat_cmp x.key y.key) (ordering_then (nat_cmp x.commit y.commit) (nat_cmp x.txn y.txn))) ys → ((x : KeyVersion) → Contains xs x → Contains ys x) → ((x : KeyVersion) → Contains ys x → Contains xs x) → AreVersionRows h ys
-versions_listed h ws are n xs ys all holds = collected (IsVersionOf h ws) (λ v. v.key ∷ v.commit ∷ v.txn ∷ []) (λ v. Wrote h v.txn v.key × CommitsAt h v.txn v.commit) (λ x y. ordering_then (nat_cmp x.key y.key) (ordering_then (nat_cmp x.commit y.commit) (nat_cmp x.txn y.txn)))
-    (λ x y less. precedes_then x.key y.key (ordering_then (nat_cmp x.commit y.commit) (nat_cmp x.txn y.txn)) (x.commit ∷ x.txn ∷ []) (y.commit ∷ y.txn ∷ []) less
-    (λ rest. precedes_then x.commit y.commit (nat_cmp x.txn y.txn) (x.txn ∷ []) (y.txn ∷ []) rest (precedes_last x.txn y.txn)))
-    n
-    (λ x. (
-      (λ (q, below, (within, key, txn, commits)).
-          let written = (are.each (slice_index_or ws q no_write)).0 (Contains-get_or ws q no_write within) in
-          (((slice_index_or ws q no_write).place, subst (λ k. WritesAt h x.txn k (slice_index_or ws q no_write).place) key (subst (λ u. WritesAt h u (slice_index_or ws q no_write).key (slice_index_or ws q no_write).place) txn written)), commits)),
-      (λ (wrote, commits).
-          let row : WriteRow = record { key = x.key; txn = x.txn; place = wrote.0 } in
-          let c : Contains ws row = (are.each row).1 wrote.1 in
-          let is : slice_index_or ws c.0 no_write ≡ row = get_or_default ws c.0 no_write row c.1 ∙ c.2 in
-          (c.0, (let below = c.1 in omega arith), (c.1, ap (λ (w : WriteRow). w.key) is, ap (λ (w : WriteRow). w.txn) is, commits))),
     ))
     xs ys holds

@@ -3,7 +3,7 @@ use Rattle.std.proofs.Common.{◌≡◌, ◌≢◌, inl, inr, ℕ, ◌<◌, List
 use Rattle.std.specs.Prelude.{All, slice_index_or}
 use Rattle.std.proofs.lemmas.Bool.{cases_lt}
 use Rattle.sia_index.proofs.Ordered.{AscendsBy}
-use Rattle.sia_index.proofs.ReadTables.{PointBelow, point_below, point_from}
+use Rattle.sia_index.proofs.Points.{PointBelow, point_below, point_from}
 
 pub not_found : {A : Type 0} (by : A → ℕ) (rows : List A) → AscendsBy by rows → (number at : ℕ) → PointBelow by rows number at → (at < length rows → (d : A) → by (slice_index_or rows at d) ≢ number) → All (λ row. by row ≢ number) rows
 not_found by rows up number at point other k d below same = elim (cases_lt k at) [

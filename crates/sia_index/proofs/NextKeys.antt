@@ -1,31 +1,22 @@
 -- The keys that a search finds from a key on.
-use Rattle.std.proofs.Common.{◌≡◌, ◌↔◌, ◌⊎◌, ℕ, ◌<◌, ◌≤◌, List, [], ◌∷◌, length, Option, Some, None, inl, inr, refl, ap, ◌+◌, ◌-◌, subst, ◌∙◌, arith}
+use Rattle.std.proofs.Common.{◌≡◌, ◌⊎◌, ℕ, ◌<◌, ◌≤◌, List, length, Option, Some, None, inl, inr, refl, ap, sym, ◌+◌, ◌-◌, subst, ◌∙◌, arith}
 use Rattle.std.specs.List.{AllWithin}
-use Rattle.std.specs.Prelude.{slice_index_or, slice_range}
+use Rattle.std.specs.Prelude.{slice_index, slice_index_or, slice_range}
 use Rattle.std.proofs.lemmas.Bool.{cases_lt}
 use Rattle.std.proofs.lemmas.List.{get_or_default}
 use Rattle.std.proofs.lemmas.List.Edits.{length-between, get_or-between}
 use Rattle.sia_events.specs.declared.event.Event.{Event}
-use Rattle.sia_events.specs.Lists.{ListsBy}
 use Rattle.sia_events.specs.Reads.{IsVisible}
-use Rattle.sia_events.specs.Transactions.{StartsAt, WroteBefore}
+use Rattle.sia_events.specs.Transactions.{StartsAt, Wrote, WroteBefore}
 use Rattle.sia_events.proofs.Starts.{one_start}
+use Rattle.sia_index.specs.Info.{AreWrittenKeys}
+use Rattle.sia_index.specs.Tables.{AreFirsts}
 use Rattle.sia_index.specs.declared.info.KeyVersion.{KeyVersion}
-use Rattle.sia_index.specs.declared.rows.WriteRow.{WriteRow}
+use Rattle.sia_index.specs.declared.writes.WriteRow.{WriteRow}
 use Rattle.sia_index.specs.Minima.{IsNextBelow, IsNextKey}
-use Rattle.sia_index.specs.Rows.{AreVersionRows, AreWrites, AscendsByVersion, IsStretch, PassesNone}
-use Rattle.sia_index.proofs.Ordered.{first_rises}
-use Rattle.sia_index.proofs.ReadTables.{Rises, PointBelow, PointWithin, point_below, point_from, point_within, point_above}
-
--- what lists by one property lists by another that says the same
-pub listed_same : {A : Type 0} (rank : A → List ℕ) (P Q : A → Type 0) (xs : List A) → ((x : A) → P x ↔ Q x) → ListsBy rank P xs → ListsBy rank Q xs
-listed_same rank P Q xs same are = record {
-  ascending = are.ascending;
-  each = λ x. ((λ c. (same x).0 ((are.each x).0 c)), (λ is. (are.each x).1 ((same x).1 is)));
-}
-
-pub versions_rise : (versions : List KeyVersion) → AscendsByVersion versions → Rises (λ (v : KeyVersion). v.key) versions
-versions_rise versions up = first_rises (λ (v : KeyVersion). v.key) (λ v. v.commit ∷ v.txn ∷ []) versions up
+use Rattle.sia_index.specs.Rows.{AreVersionRows, AreWrites, IsStretch, PassesNone}
+use Rattle.sia_index.proofs.Ordered.{ascends, rises}
+use Rattle.sia_index.proofs.Points.{Rises, PointBelow, PointWithin, point_below, point_from, point_within, point_above}
 
 -- what visits each number of which one thing holds visits each of which another does, where the one holds of all these
 pub passes_same : (P Q : ℕ → Type 0) (lo hi : ℕ) (found : Option ℕ) → ((k : ℕ) → Q k → P k) → PassesNone P lo hi found → PassesNone Q lo hi found
@@ -144,13 +135,28 @@ own_next h rows are t from to stretch p lo hi found next =
     let within = stretch.whole c.0 row c.1 (ap (λ (w : WriteRow). w.txn) c.2) in
     (row, c.0, within.0, within.1, c.2, refl, before.1)) next
 
--- of the versions those that t sees
-pub seen_next : (h : List Event) (rows : List KeyVersion) → AreVersionRows h rows → (t start : ℕ) → StartsAt h t start → (n limit lo hi : ℕ) (found : Option ℕ) → n ≡ length rows → limit ≡ start + 1 → IsNextKey (λ (v : KeyVersion). v.key) (λ (v : KeyVersion). v.commit) rows 0 n limit lo hi found → PassesNone (λ k. (u : ℕ) × IsVisible h t k u) lo hi found
-seen_next h rows are t start starts n limit lo hi found all below next =
-    passes_same (λ k. (row : KeyVersion) × (i : ℕ) × (0 ≤ i) × (i < n) × (slice_index_or rows i row ≡ row) × (row.key ≡ k) × (row.commit < limit)) (λ k. (u : ℕ) × IsVisible h t k u) lo hi found (λ k (u, visible).
-    let row : KeyVersion = record { key = k; commit = visible.1.1; txn = u } in
-    let c = (are.each row).1 (visible.0, visible.1.3) in
-    let same : visible.1.0 ≡ start = one_start h t visible.1.0 start visible.1.2 starts in
-    let within : visible.1.1 ≤ visible.1.0 = visible.1.4 in
-    let inside = c.1 in
-    (row, c.0, omega arith, omega arith, c.2, refl, omega arith)) next
+module _ (h : List Event) (keys : List ℕ) (keys_are : AreWrittenKeys h keys) (rows : List KeyVersion) (rows_are : AreVersionRows h rows) (firsts : List KeyVersion) (are : AreFirsts keys rows firsts) where
+  pub firsts_rise : Rises (λ (f : KeyVersion). f.key) firsts
+  firsts_rise i j d le below =
+      let up = rises (λ (k : ℕ). k) keys (ascends (λ (k : ℕ). k) (λ k. (t : ℕ) × Wrote h t k) keys keys_are) i j 0 le (omega (arith, are.count)) in
+      let first = are.key i d (omega (arith, are.count)) in
+      let second = are.key j d (omega (arith, are.count)) in
+      omega arith
+
+  -- of the keys those with a version that t sees
+  pub seen_next : (t start : ℕ) → StartsAt h t start → (n limit lo hi : ℕ) (found : Option ℕ) → n ≡ length firsts → limit ≡ start + 1 → IsNextKey (λ (f : KeyVersion). f.key) (λ (f : KeyVersion). f.commit) firsts 0 n limit lo hi found → PassesNone (λ k. (u : ℕ) × IsVisible h t k u) lo hi found
+  seen_next t start starts n limit lo hi found all below next =
+      passes_same (λ k. (row : KeyVersion) × (i : ℕ) × (0 ≤ i) × (i < n) × (slice_index_or firsts i row ≡ row) × (row.key ≡ k) × (row.commit < limit)) (λ k. (u : ℕ) × IsVisible h t k u) lo hi found (λ k (u, visible).
+      let version : KeyVersion = record { key = k; commit = visible.1.1; txn = u } in
+      let c = (rows_are.each version).1 (visible.0, visible.1.3) in
+      let key = (keys_are.each k).1 (u, visible.0) in
+      let is : slice_index keys key.0 ≡ k = get_or_default keys key.0 0 k key.1 ∙ key.2 in
+      let same : visible.1.0 ≡ start = one_start h t visible.1.0 start visible.1.2 starts in
+      let within : visible.1.1 ≤ visible.1.0 = visible.1.4 in
+      let none : KeyVersion = record { key = 0; commit = 0; txn = 0 } in
+      let first : KeyVersion = slice_index_or firsts key.0 none in
+      let at : (slice_index_or rows c.0 version).key ≡ slice_index keys key.0 = ap (λ (v : KeyVersion). v.key) c.2 ∙ sym is in
+      let least = are.least key.0 c.0 none version key.1 c.1 at in
+      let commit = ap (λ (v : KeyVersion). v.commit) c.2 in
+      let some = key.1 in
+      (first, key.0, omega arith, omega (arith, are.count), get_or_default firsts key.0 first none (omega (arith, are.count)), are.key key.0 none key.1 ∙ is, omega arith)) next

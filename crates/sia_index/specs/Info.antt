@@ -1,17 +1,11 @@
 -- What is known of a transaction, and of a committed transaction's version of a key.
-use Rattle.std.specs.Prelude.{◌≡◌, ◌≢◌, ◌<◌, ◌≤◌, ℕ, true, false, List, [], ◌∷◌, Option, Some, None, slice_index, length, flat_map, All, Contains}
-use Rattle.std.specs.List.{AllZip}
+use Rattle.std.specs.Prelude.{◌≡◌, ◌≢◌, ◌<◌, ◌≤◌, ℕ, true, false, List, [], ◌∷◌, Option, Some, None, slice_index, length}
 use Rattle.sia_events.specs.declared.event.Event.{Event}
-use Rattle.sia_events.specs.declared.event.Event.TheVariants.{Read, Range}
-use Rattle.sia_events.specs.Places.{at_place}
 use Rattle.sia_events.specs.Lists.{ListsBy, ListsAscending}
 use Rattle.sia_events.specs.Reads.{IsDue}
 use Rattle.sia_events.specs.Transactions.{StartsAt, CommitsAt, AbortsAt, IsOpen, WritesAt, Wrote}
 use Rattle.sia_index.specs.declared.info.DueAt.{DueAt}
-use Rattle.sia_index.specs.declared.info.KeyVersion.{KeyVersion}
 use Rattle.sia_index.specs.declared.info.Made.{Made}
-use Rattle.sia_index.specs.declared.info.ItemRead.{ItemRead}
-use Rattle.sia_index.specs.declared.info.RangeRead.{RangeRead}
 use Rattle.sia_index.specs.declared.info.Reader.{Reader}
 use Rattle.sia_index.specs.declared.info.TxnInfo.{TxnInfo}
 use Rattle.sia_index.specs.declared.info.Fate.{Fate}
@@ -43,10 +37,6 @@ AreVersions h k versions = ListsBy (λ made. made.commit ∷ []) (IsMade h k) ve
 abbrev pub AreWrittenKeys : List Event → List ℕ → Type 0
 AreWrittenKeys h keys = ListsAscending (λ k. (t : ℕ) × Wrote h t k) keys
 
--- of these the keys from lo to hi
-abbrev pub AreWrittenWithin : List Event → ℕ → ℕ → List ℕ → Type 0
-AreWrittenWithin h lo hi keys = ListsAscending (λ k. ((t : ℕ) × Wrote h t k) × (lo ≤ k) × (k ≤ hi)) keys
-
 -- p is the place where t wrote key k first
 abbrev pub IsFirstWrite : List Event → ℕ → ℕ → ℕ → Type 0
 IsFirstWrite h t k p = WritesAt h t k p × ((q : ℕ) → WritesAt h t k q → p ≤ q)
@@ -58,28 +48,6 @@ HasKeyAt h i = (keys : List ℕ) × AreWrittenKeys h keys × (i < length keys)
 -- k is number i of the written keys, counted from 0
 abbrev pub IsKeyAt : List Event → ℕ → ℕ → Type 0
 IsKeyAt h i k = (keys : List ℕ) × AreWrittenKeys h keys × (i < length keys) × (slice_index keys i ≡ k)
-
--- the versions of each written key, one key after another
-abbrev pub AreAllVersions : List Event → List Made → Type 0
-AreAllVersions h versions = (keys : List ℕ) × (chains : List (List Made)) × AreWrittenKeys h keys
-    × AllZip (AreVersions h) keys chains × (versions ≡ flat_map (λ chain. chain) chains)
-
--- the read event stands in the history
-abbrev pub IsItemRead : List Event → ItemRead → Type 0
-IsItemRead h read = at_place h read.place ≡ Some (Read read.txn read.key read.saw)
-
--- the range read event stands in the history, with some listed keys
-abbrev pub IsRangeRead : List Event → RangeRead → Type 0
-IsRangeRead h read = (listed : List (ℕ × ℕ)) × (at_place h read.place ≡ Some (Range read.txn read.lo read.hi listed))
-
--- every read event of a key from lo to hi, by key, transaction and place
-abbrev pub AreReadsWithin : List Event → ℕ → ℕ → List ItemRead → Type 0
-AreReadsWithin h lo hi reads = ListsBy (λ read. read.key ∷ read.txn ∷ read.place ∷ read.saw ∷ []) (λ read. IsItemRead h read × (lo ≤ read.key) × (read.key ≤ hi)) reads
-
--- range read events, and among them each that shares a key with those from lo to hi
-pub record AreRangesMeeting (h : List Event) (lo hi : ℕ) (ranges : List RangeRead) : Type 0 where
-  pub right : All (IsRangeRead h) ranges
-  pub whole : (read : RangeRead) → IsRangeRead h read → read.lo ≤ hi → lo ≤ read.hi → Contains ranges read
 
 -- what is known of t, which reads at place p: where it starts, whether it committed, and whether it wrote at all
 pub record IsReader (h : List Event) (t p : ℕ) (r : Reader) : Type 0 where
@@ -97,7 +65,3 @@ NoneDue h t p lo hi = (k : ℕ) → lo ≤ k → k ≤ hi → IsDue h t p k 0
 -- of the keys from lo to hi the least at which another version than 0 is due to t at place p, and that version
 abbrev pub IsNextDue : List Event → ℕ → ℕ → ℕ → ℕ → DueAt → Type 0
 IsNextDue h t p lo hi d = (lo ≤ d.key) × (d.key ≤ hi) × (d.due ≢ 0) × IsDue h t p d.key d.due × ((j : ℕ) → lo ≤ j → j < d.key → IsDue h t p j 0)
-
--- the versions that committed transactions made of the keys from lo to hi, by key and commit
-abbrev pub AreVersionsWithin : List Event → ℕ → ℕ → List KeyVersion → Type 0
-AreVersionsWithin h lo hi versions = ListsBy (λ v. v.key ∷ v.commit ∷ v.txn ∷ []) (λ v. Wrote h v.txn v.key × CommitsAt h v.txn v.commit × (lo ≤ v.key) × (v.key ≤ hi)) versions

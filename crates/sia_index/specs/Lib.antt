@@ -1,8 +1,9 @@
 pub mod Info
-pub mod Minima
 pub mod Rows
 pub mod Tables
 pub mod Numbers
-pub mod Seen
+pub mod Positions
+pub mod Lifetimes
 pub mod Between
 pub mod Counting
+pub mod Minima

@@ -1,8 +1,8 @@
--- The numbers of transactions: the place of each in the ascending list of all.
+-- The numbers of transactions: the place of each in the ascending list of all, and of the committed ones in that of these.
 use Rattle.std.specs.Prelude.{◌≡◌, ◌<◌, ℕ, List, slice_index, length}
 use Rattle.sia_events.specs.declared.event.Event.{Event}
 use Rattle.sia_events.specs.Lists.{ListsAscending}
-use Rattle.sia_events.specs.Transactions.{HasEvent}
+use Rattle.sia_events.specs.Transactions.{HasEvent, IsCommitted}
 
 -- t is number i of the transactions that have an event, counted from 0
 abbrev pub IsTxnAt : List Event → ℕ → ℕ → Type 0
@@ -11,3 +11,7 @@ IsTxnAt h i t = (txns : List ℕ) × ListsAscending (HasEvent h) txns × (i < le
 -- there is a number i of the transactions that have an event, counted from 0
 abbrev pub HasTxnAt : List Event → ℕ → Type 0
 HasTxnAt h i = (txns : List ℕ) × ListsAscending (HasEvent h) txns × (i < length txns)
+
+-- t is number i of the committed transactions, counted from 0
+abbrev pub IsCommittedAt : List Event → ℕ → ℕ → Type 0
+IsCommittedAt h i t = (txns : List ℕ) × ListsAscending (IsCommitted h) txns × (i < length txns) × (slice_index txns i ≡ t)

@@ -2,9 +2,9 @@
 ghost use Rattle.std.specs.Prelude.{◌≡◌};
 ghost use Rattle.sia_index.specs.Counting.{AreCounts};
 
-use crate::indexed::Index;
+use crate::index::Index;
 use crate::info::Fate;
-use sia_events::History;
+use sia_events::Log;
 
 /// How many events a history has, and how many transactions ended in which way.
 #[derive(Clone, Copy)]
@@ -16,8 +16,8 @@ pub struct Counts {
     pub unfinished: u32,
 }
 
-/// The counts of a history.
-pub fn counted(h: &History, ix: &Index) -> Counts
+/// The counts of the history that the log is of.
+pub fn counted(h: &Log, ix: &Index) -> Counts
     requires { ix.now ≡ h.now }
     ensures { AreCounts h.now result }
 {

@@ -1,16 +1,14 @@
 //! Rows in the order of a number, and what is found in a list of them by that number.
-ghost use Rattle.std.specs.Prelude.{◌≡◌, ◌≤◌, true, false, length, leb, ltb, ◌≢◌, ◌<◌, All, AllPairs, IsTrue, MatchOption, slice_index_or};
+ghost use Rattle.std.specs.Prelude.{◌≡◌, ◌≤◌, true, false, length, leb, ltb, ◌≢◌, ◌<◌, All, AllPairs, IsTrue, MatchOption, slice_index_or, ℕ};
 ghost use Rattle.std.specs.List.Sorted.{IsNonDecreasingBy, IsPartitionPoint};
 ghost use Rattle.sia_index.specs.Between.{IsBetween};
 
-use crate::info::{ItemRead, KeyVersion, Made, RangeRead};
+use crate::info::{KeyVersion, Made};
 use crate::searching::partition_near;
 use sia_events::{Key, TxnId};
 
 /// The number that a list of rows goes by.
 pub trait By<T> {
-    ghost use Rattle.std.specs.Prelude.{◌≡◌, ℕ};
-
     ghost by: { T → ℕ };
 
     fn number(row: &T) -> u64
@@ -25,22 +23,6 @@ impl By<Key> for ByKey {
 
     fn number(key: &Key) -> u64 {
         *key
-    }
-}
-
-impl By<ItemRead> for ByKey {
-    ghost by = { λ read. read.key };
-
-    fn number(read: &ItemRead) -> u64 {
-        read.key
-    }
-}
-
-impl By<RangeRead> for ByKey {
-    ghost by = { λ read. read.lo };
-
-    fn number(read: &RangeRead) -> u64 {
-        read.lo
     }
 }
 
@@ -128,27 +110,12 @@ pub fn between<T, O: By<T>>(rows: &[T], lo: u64, hi: u64) -> &[T]
     &rows[from..to]
 }
 
-/// Spans of at least so many numbers lose bits, so that no product is too great.
-const WIDE: u64 = 1 << 46;
-
-/// How many bits they lose.
-const LOST: u32 = 18;
-
-/// The place of the row of the number. It is looked for from `near`, or where that is 0 from where the number would stand if
-/// all lay evenly.
-pub fn find<T, O: By<T>>(rows: &[T], number: u64, near: usize) -> Option<usize>
+/// The place of the row of the number.
+pub(crate) fn find<T, O: By<T>>(rows: &[T], number: u64) -> Option<usize>
     requires { AllPairs (λ x y. O.by x < O.by y) rows.now }
     ensures { MatchOption result (All (λ row. O.by row ≢ number) rows.now) (λ i. (i < length rows.now) × ((d : T) → O.by (slice_index_or rows.now i d) ≡ number)) }
 {
-    if stands_at::<T, O>(rows, number, near) {
-        return Some(near);
-    }
-    let hint = if near > 0 {
-        near
-    } else {
-        hint_in::<T, O>(rows, number)
-    };
-    let at = place_from_near::<T, O>(rows, number, hint);
+    let at = place_from::<T, O>(rows, number);
     if stands_at::<T, O>(rows, number, at) {
         Some(at)
     } else {
@@ -156,8 +123,8 @@ pub fn find<T, O: By<T>>(rows: &[T], number: u64, near: usize) -> Option<usize>
     }
 }
 
-/// Whether the row at the place, if there is one, has the number.
-pub fn stands_at<T, O: By<T>>(rows: &[T], number: u64, at: usize) -> bool
+// Whether the row at the place, if there is one, has the number.
+fn stands_at<T, O: By<T>>(rows: &[T], number: u64, at: usize) -> bool
     ensures here { IsTrue result → (at < length rows.now) × ((d : T) → O.by (slice_index_or rows.now at d) ≡ number) }
     ensures other { result ≡ false → at < length rows.now → (d : T) → O.by (slice_index_or rows.now at d) ≢ number }
 {
@@ -165,17 +132,4 @@ pub fn stands_at<T, O: By<T>>(rows: &[T], number: u64, at: usize) -> bool
         Some(row) => O::number(row) == number,
         None => false,
     }
-}
-
-/// Where the number would stand if those of the rows lay evenly.
-pub fn hint_in<T, O: By<T>>(rows: &[T], number: u64) -> usize {
-    let (Some(first), Some(last)) = (rows.first(), rows.last()) else {
-        return 0;
-    };
-    let first = O::number(first);
-    let span = O::number(last).wrapping_sub(first);
-    let lost = if span < WIDE { 0 } else { LOST };
-    let offset = number.wrapping_sub(first) >> lost;
-    let steps = (rows.len() as u64).wrapping_sub(1);
-    (offset.wrapping_mul(steps) / (span >> lost).max(1)) as usize
 }

@@ -2,23 +2,24 @@
 #![tactic(auto)]
 
 mod counts;
-mod indexed;
+mod index;
 mod info;
 pub mod keyed;
+mod keys;
 pub mod make;
 mod minima;
+mod names;
 pub mod ordering;
+mod positions;
 mod readers;
-mod rows;
 pub mod searching;
-mod seen;
-mod slots;
 mod txns;
+mod versions;
+mod writes;
 
 pub use counts::{Counts, counted};
-pub use indexed::Index;
-pub use info::{DueAt, Fate, ItemRead, KeyVersion, Made, RangeRead, Reader, TxnInfo};
-pub use seen::Seen;
+pub use index::Index;
+pub use info::{DueAt, Fate, KeyVersion, Lifetime, Made, Reader, TxnInfo, WriteAt, overlap};
 
 #[cfg(test)]
 mod tests;

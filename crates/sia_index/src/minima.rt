@@ -22,7 +22,6 @@ pub fn minima_of<T, O: By<T>>(alloc: Global, rows: &[T]) -> Result<Vec<u64>, All
     Ok(minima)
 }
 
-// The least number of the block that starts there.
 fn least_from<T, O: By<T>>(rows: &[T], from: usize) -> u64
     requires { from + 64 ≤ length rows.now }
     ensures { AllWithin (λ row. result ≤ O.by row) rows.now from (from + 64) }

@@ -1,15 +1,17 @@
 //! What is due to a transaction that reads, at one key and over a range of keys.
-ghost use Rattle.std.specs.Prelude.{◌↔◌, ◌<◌, ℕ, IsTrue, MatchOption, All};
+ghost use Rattle.std.specs.Prelude.{◌≡◌, ◌↔◌, ◌<◌, ◌≤◌, ℕ, IsTrue, MatchOption, All, false, length};
+ghost use Rattle.sia_events.specs.Numbering.{names_of, txns_of, txn_at};
 ghost use Rattle.sia_events.specs.Transactions.{HasEvent, WroteBefore};
 ghost use Rattle.sia_events.specs.Reads.{IsVisible, IsDue};
 ghost use Rattle.sia_index.specs.Info.{IsReader, NoneDue, IsNextDue};
+ghost use Rattle.sia_index.specs.Numbers.{IsTxnAt};
 ghost use Rattle.sia_index.specs.Rows.{AscendsByCommit, IsLastWithin, PassesNone, HasDue};
 
-use crate::indexed::Index;
+use crate::index::Index;
 use crate::info::{DueAt, KeyVersion, Made, Reader};
 use crate::keyed::{ByKey, ByPlace, place_above};
 use crate::minima::next_key;
-use crate::rows::WriteRow;
+use crate::writes::WriteRow;
 use sia_events::{Key, TxnId, Version};
 
 impl Index {
@@ -19,7 +21,24 @@ impl Index {
         ensures { IsReader self.now t place result }
     {
         let _ = &self.of;
-        let number = self.txn_number(t).unwrap_or(0);
+        self.reader_of(t, self.txn_number(t).unwrap_or(0), place)
+    }
+
+    /// The same of the log's transaction: no search is needed.
+    pub fn reader_at(&self, txn: u32, place: u32) -> Reader
+        requires { txn < length (txns_of self.now) }
+        ensures { IsReader self.now (txn_at (names_of self.now) txn) place result }
+    {
+        let number = self.txns.numbers[txn as usize].unwrap_or(0) as usize;
+        self.reader_of(self.txns.ids[number], number, place)
+    }
+
+    // The same of transaction number `i`.
+    fn reader_of(&self, t: TxnId, number: usize, place: u32) -> Reader
+        requires { IsTxnAt self.now number t }
+        ensures { IsReader self.now t place result }
+    {
+        let _ = &self.of;
         let (from, to) = self.stretch_at(t, number);
         Reader {
             txn: t,
@@ -68,6 +87,17 @@ impl Index {
         }
     }
 
+    /// Whether the reader may have written a key from `lo` to `hi` before its place.
+    pub fn may_own(&self, reader: Reader, lo: Key, hi: Key) -> bool
+        requires { IsReader self.now reader.txn reader.place reader }
+        ensures { result ≡ false → (k : ℕ) → lo ≤ k → k ≤ hi → ¬ WroteBefore self.now reader.txn k reader.place }
+    {
+        match self.next_own(reader, lo, hi) {
+            Some(_) => true,
+            None => false,
+        }
+    }
+
     /// Of the keys from `lo` to `hi` the least at which another version than 0 is due to the reader.
     pub fn next_due(&self, reader: Reader, lo: Key, hi: Key) -> Option<DueAt>
         requires { IsReader self.now reader.txn reader.place reader }
@@ -105,14 +135,14 @@ impl Index {
     }
 
     // The least key from `lo` to `hi` that the reader wrote before its place.
-    pub(crate) fn next_own(&self, reader: Reader, lo: Key, hi: Key) -> Option<Key>
+    fn next_own(&self, reader: Reader, lo: Key, hi: Key) -> Option<Key>
         requires { IsReader self.now reader.txn reader.place reader }
         ensures { PassesNone (λ k. WroteBefore self.now reader.txn k reader.place) lo hi result }
     {
         if reader.has_written {
             next_key::<WriteRow, ByKey, ByPlace>(
-                &self.writes,
-                &self.place_minima,
+                &self.writes.rows,
+                &self.writes.minima,
                 self.stretch_at(reader.txn, reader.number),
                 lo,
                 hi,
@@ -129,9 +159,9 @@ impl Index {
         ensures { PassesNone (λ k. (u : ℕ) × IsVisible self.now reader.txn k u) lo hi result }
     {
         next_key::<KeyVersion, ByKey, ByPlace>(
-            &self.versions,
-            &self.commit_minima,
-            (0, self.versions.len()),
+            &self.versions.firsts,
+            &self.versions.minima,
+            (0, self.versions.firsts.len()),
             lo,
             hi,
             u64::from(reader.start) + 1,
@@ -140,7 +170,7 @@ impl Index {
 }
 
 // Of versions by commit the last that commits at most at the place.
-pub(crate) fn last_within(versions: &[Made], place: u32) -> Option<Made>
+fn last_within(versions: &[Made], place: u32) -> Option<Made>
     requires { AscendsByCommit versions.now }
     ensures { MatchOption result (All (λ made. place < made.commit) versions.now) (IsLastWithin versions.now place) }
 {

@@ -8,7 +8,7 @@ use std::test::*;
 
 mod histories;
 
-use histories::{Asked, Due, HISTORIES, OF_MANY};
+use histories::{Asked, Due, HISTORIES, NUMBERED, OF_MANY};
 
 // An index of the history that the text stands for.
 fn index_of(alloc: Global, text: &[u8]) -> Result<Index, Fail> {
@@ -33,8 +33,6 @@ fn has_keys(index: &Index, keys: &[(Key, &[Made])]) -> bool {
     let mut is_so = index.written_keys().len() == keys.len();
     for (i, (k, versions)) in keys.iter().enumerate() {
         is_so &= index.written_keys().get(i) == Some(k)
-            && index.key_number(*k, i / 2) == Some(i)
-            && index.key_number(*k, 0) == Some(i)
             && index.versions(*k) == *versions
             && i < index.written_keys().len()
             && index.versions_at(i) == *versions;
@@ -43,14 +41,22 @@ fn has_keys(index: &Index, keys: &[(Key, &[Made])]) -> bool {
 }
 
 fn is_answered(index: &Index, asked: &Asked<'_>) -> bool {
+    let keys = index.written_keys();
     match asked {
         Asked::NoTxn(t) => index.txn(*t).is_none() && index.txn_number(*t).is_none(),
-        Asked::NoKey(k) => index.key_number(*k, 0).is_none() && index.versions(*k).is_empty(),
+        Asked::NoKey(k) => !keys.contains(k) && index.versions(*k).is_empty(),
         Asked::Overlap(t, u, is_told) => index.overlap(*t, *u) == *is_told,
         Asked::FirstWrite(t, k, place) => index.first_write(*t, *k) == *place,
-        Asked::Versions(lo, hi, versions) => index.versions_within(*lo, *hi) == *versions,
-        Asked::Reads(lo, hi, reads) => index.reads_within(*lo, *hi) == *reads,
-        Asked::Ranges(lo, hi, ranges) => index.ranges_meeting(*lo, *hi) == *ranges,
+        Asked::Newest(i, position, place, is_told) => {
+            (*i as usize) < keys.len() && index.is_newest(*i, *position, *place) == *is_told
+        }
+        Asked::AsOf(i, place, position) => {
+            (*i as usize) < keys.len() && index.position_as_of(*i, *place) == *position
+        }
+        Asked::Version(i, position, made) => {
+            (*i as usize) < keys.len() && index.version_at(*i, *position) == *made
+        }
+        Asked::Makers(i, makers) => *i < keys.len() && index.makers_at(*i) == *makers,
     }
 }
 
@@ -67,9 +73,6 @@ fn is_due(index: &Index, wanted: &Reader, dues: &[Due]) -> bool {
             Due::At(k, version) => {
                 index.due(t, place, *k) == *version && index.due_to(reader, *k) == *version
             }
-            Due::Seen(i, seen) => {
-                *i < index.written_keys().len() && index.seen_at(reader, *i) == *seen
-            }
             Due::MayOwn(lo, hi, is_told) => index.may_own(reader, *lo, *hi) == *is_told,
             Due::Next(lo, hi, next) => index.next_due(reader, *lo, *hi) == *next,
         };
@@ -81,9 +84,7 @@ fn is_due(index: &Index, wanted: &Reader, dues: &[Due]) -> bool {
 fn worked_histories(rt: HostRuntime) -> Result<(), Fail> {
     for (i, it) in HISTORIES.iter().enumerate() {
         let index = index_of(rt.alloc(), it.text)?;
-        let mut is_so = has_txns(&index, it.txns)
-            && has_keys(&index, it.keys)
-            && index.all_versions() == it.all_versions;
+        let mut is_so = has_txns(&index, it.txns) && has_keys(&index, it.keys);
         for asked in it.asked {
             is_so &= is_answered(&index, asked);
         }
@@ -91,6 +92,51 @@ fn worked_histories(rt: HostRuntime) -> Result<(), Fail> {
             is_so &= is_due(&index, reader, dues);
         }
         assert!(rt; is_so, "history {i}");
+    }
+    Ok(())
+}
+
+#[test]
+fn numbers(rt: HostRuntime) -> Result<(), Fail> {
+    let history = read_history(rt.alloc(), NUMBERED.text)?;
+    let log = history.log();
+    let index = make::index_log(rt.alloc(), log)?;
+    let mut committed = Vec::new(rt.alloc());
+    for (t, lifetime) in index.committed().iter().zip(index.lifetimes()) {
+        committed.push((*t, lifetime.start, lifetime.commit))?;
+    }
+    assert!(rt; committed.as_slice() == NUMBERED.committed);
+    for txn in 0..log.txn_count() {
+        let (number, reader) = (index.committed_number(txn), index.reader_at(txn, 10));
+        assert!(rt;
+            NUMBERED.numbers.get(txn as usize) == Some(&number),
+            "transaction {txn}"
+        );
+        assert!(rt;
+            NUMBERED.readers.get(txn as usize) == Some(&reader),
+            "reader {txn}"
+        );
+    }
+    for key in 0..log.key_count() {
+        let number = index.written_number(key);
+        assert!(rt;
+            NUMBERED.keys.get(key as usize) == Some(&number),
+            "key {key}"
+        );
+    }
+    for before in 0..log.write_count() {
+        let write = index.write_at(before + 1);
+        assert!(rt;
+            NUMBERED.writes.get(before as usize) == Some(&write),
+            "write {before}"
+        );
+    }
+    for (i, position) in NUMBERED.first_positions.iter().enumerate() {
+        let is_so = i < index.written_keys().len() && index.first_position(i as u32) == *position;
+        assert!(rt; is_so, "first position {i}");
+    }
+    for asked in NUMBERED.asked {
+        assert!(rt; is_answered(&index, asked));
     }
     Ok(())
 }

@@ -9,7 +9,7 @@ use Rattle.sia_events.specs.declared.event.Event.TheVariants.{Commit}
 use Rattle.sia_events.specs.Lists.{Precedes, ListsAscending}
 use Rattle.sia_events.specs.Transactions.{HasEvent, IsCommitted}
 use Rattle.sia_events.proofs.OneList.{one_list_by}
-use Rattle.sia_parts.specs.EdgeNumbers.{IsCommittedAt}
+use Rattle.sia_index.specs.Numbers.{IsCommittedAt}
 
 -- what committed has an event
 pub committed_has : (h : List Event) (t : ℕ) → IsCommitted h t → HasEvent h t

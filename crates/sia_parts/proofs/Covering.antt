@@ -29,19 +29,6 @@ module _ {A B : Type 0} (E H : A → B → Type 0) where
     holds = λ y e. covers.holds y (elim e [ inl f ↦ inl f | inr s ↦ inr (from y s) ]);
   }
 
-  -- one after another
-  pub covers_both : (P R : B → Type 0) (old mid new : List A) → Covers E H P P old mid → Covers E H R R mid new → Covers E H (λ y. P y ⊎ R y) (λ y. P y ⊎ R y) old new
-  covers_both P R old mid new first second = record {
-    ends = λ y f. elim (second.ends y f) [
-      | inl before ↦ elim (first.ends y before) [ inl more ↦ inl more | inr p ↦ inr (inl p) ]
-      | inr r ↦ inr (inr r)
-    ];
-    holds = λ y e. second.holds y (elim e [
-      | inl before ↦ inl (first.holds y (inl before))
-      | inr either ↦ elim either [ inl p ↦ inl (first.holds y (inr p)) | inr r ↦ inr r ]
-    ]);
-  }
-
   -- a row at the end
   pub covers_push : (xs : List A) (x : A) → Covers E H (E x) (H x) xs (xs ++ x ∷ [])
   covers_push xs x = record {
@@ -82,16 +69,3 @@ module _ {A B : Type 0} (E H : A → B → Type 0) where
         | inr is ↦ (both, there, joint.holds y (inr is))
       ];
     }
-
-  module _ {C : Type 0} (P : C → B → Type 0) (zs : List C) where
-    pub cover_none : (old : List A) → Covers E H (FromFirst P zs 0) (FromFirst P zs 0) old old
-    cover_none old = covers_nothing (FromFirst P zs 0) old (none_from P)
-
-    pub cover_more : (i : ℕ) (d : C) (old mid new : List A) → i < length zs → Covers E H (FromFirst P zs i) (FromFirst P zs i) old mid → Covers E H (P (get_or zs i d)) (P (get_or zs i d)) mid new → Covers E H (FromFirst P zs (i + 1)) (FromFirst P zs (i + 1)) old new
-    cover_more i d old mid new below before here =
-        covers_same (λ y. FromFirst P zs i y ⊎ P (get_or zs i d) y) (λ y. FromFirst P zs i y ⊎ P (get_or zs i d) y) (FromFirst P zs (i + 1)) (FromFirst P zs (i + 1)) old new
-        (λ y. (first_more P zs i d below y).0) (λ y. (first_more P zs i d below y).1)
-        (covers_both (FromFirst P zs i) (P (get_or zs i d)) old mid new before here)
-
-    pub cover_all : (i : ℕ) (old new : List A) → length zs ≤ i → Covers E H (FromFirst P zs i) (FromFirst P zs i) old new → Covers E H (FromSome P zs) (FromSome P zs) old new
-    cover_all i old new all covers = subst (λ ws. Covers E H (FromSome P ws) (FromSome P ws) old new) (take_all i zs all) covers

@@ -8,7 +8,7 @@ use Rattle.sia_index.proofs.Ordered.{precedes_last}
 use Rattle.std.proofs.lemmas.Bool.{cases_lt}
 use Rattle.std.proofs.lemmas.List.{get_or_append_left, get_or-append-add, get_or-map, length-map, get_or-take}
 use Rattle.std.proofs.lemmas.List.Elements.{Contains-get_or}
-use Rattle.sia_index.proofs.ReadTables.{part_has, part_gives}
+use Rattle.sia_index.proofs.Points.{part_has, part_gives}
 use Rattle.sia_parts.specs.Sights.{Adds, FromSome}
 use Rattle.sia_parts.proofs.Adding.{FromFirst, adds_same, adds_both}
 

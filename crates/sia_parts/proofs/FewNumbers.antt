@@ -15,7 +15,7 @@ use Rattle.sia_events.specs.Refusals.{IsWellFormed}
 use Rattle.sia_events.specs.Transactions.{IsCommitted, Wrote}
 use Rattle.sia_events.proofs.WellFormed.{few_events}
 use Rattle.sia_index.specs.Info.{AreWrittenKeys, IsKeyAt}
-use Rattle.sia_parts.specs.EdgeNumbers.{IsCommittedAt}
+use Rattle.sia_index.specs.Numbers.{IsCommittedAt}
 use Rattle.sia_parts.proofs.Members.{contains_first, contains_later}
 
 equal_laws : IsEquivalence eqb

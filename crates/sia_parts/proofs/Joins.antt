@@ -1,9 +1,9 @@
 -- Rows that are joined with their neighbours.
-use Rattle.std.proofs.Common.{◌≡◌, inl, inr, ℕ, ◌+◌, ◌<◌, ◌≤◌, List, [], length, get_or, sym, subst}
+use Rattle.std.proofs.Common.{◌≡◌, inl, inr, ℕ, ◌+◌, ◌<◌, ◌≤◌, List, [], ◌++◌, take, drop, length, get_or, sym, subst}
 use Rattle.std.specs.Prelude.{Contains}
 use Rattle.std.specs.List.Sorted.{IsPermutation}
-use Rattle.std.proofs.lemmas.List.{take_all}
-use Rattle.std.proofs.lemmas.List.Elements.{Contains-get_or}
+use Rattle.std.proofs.lemmas.List.{take_all, take-append-drop}
+use Rattle.std.proofs.lemmas.List.Elements.{Contains-append_cases, Contains-append_left, Contains-append_right, Contains-get_or}
 use Rattle.std.proofs.lemmas.List.Sorted.{Contains-permutation, IsPermutation-sym}
 use Rattle.sia_parts.specs.Joining.{Covers, Keeps}
 use Rattle.sia_parts.specs.Sights.{FromSome}
@@ -45,3 +45,21 @@ module _ {A B : Type 0} (E H : A → B → Type 0) where
       ends = so.ends;
       holds = λ y f. so.holds y (subst (λ xs. FromSome H xs y) (sym (take_all n narrow all)) f);
     }
+
+  -- the rows from a place on, joined
+  pub keeps_tail : (xs wide : List A) (n : ℕ) → Keeps E H (drop n xs) wide → Keeps E H xs (take n xs ++ wide)
+  keeps_tail xs wide n keeps = record {
+    ends = λ y f. elim (Contains-append_cases (take n xs) wide f.0 f.1) [
+      | inl c ↦ (f.0, from_take f.0 c, f.2)
+      | inr c ↦ let g = keeps.ends y (f.0, c, f.2) in (g.0, from_drop g.0 g.1, g.2)
+    ];
+    holds = λ y f. elim (Contains-append_cases (take n xs) (drop n xs) f.0 (subst (λ l. Contains l f.0) (sym (take-append-drop n xs)) f.1)) [
+      | inl c ↦ (f.0, Contains-append_left (take n xs) wide f.0 c, f.2)
+      | inr c ↦ let g = keeps.holds y (f.0, c, f.2) in (g.0, Contains-append_right (take n xs) wide g.0 g.1, g.2)
+    ];
+  } where
+    from_take : (x : A) → Contains (take n xs) x → Contains xs x
+    from_take x c = subst (λ l. Contains l x) (take-append-drop n xs) (Contains-append_left (take n xs) (drop n xs) x c)
+
+    from_drop : (x : A) → Contains (drop n xs) x → Contains xs x
+    from_drop x c = subst (λ l. Contains l x) (take-append-drop n xs) (Contains-append_right (take n xs) (drop n xs) x c)

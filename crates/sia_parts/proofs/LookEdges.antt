@@ -19,7 +19,8 @@ use Rattle.sia_parts.specs.declared.finding.Kind.TheVariants.{Ww, Wr, Rw}
 use Rattle.sia_parts.specs.declared.looks.Absence.{Absence}
 use Rattle.sia_parts.specs.declared.looks.Look.{Look}
 use Rattle.sia_parts.specs.declared.looks.Looks.{Looks}
-use Rattle.sia_parts.specs.EdgeNumbers.{IsCommittedAt, StandForEdges}
+use Rattle.sia_index.specs.Numbers.{IsCommittedAt}
+use Rattle.sia_parts.specs.EdgeNumbers.{StandForEdges}
 use Rattle.sia_parts.specs.Entries.{EdgeOfKind, IsEdge, kind_number}
 use Rattle.sia_parts.specs.Fans.{HasDigits, IsNumberFound, IsNumberTo}
 use Rattle.sia_parts.specs.Looks.{AreLooks, IsLookOf, look_rank, rank_of}

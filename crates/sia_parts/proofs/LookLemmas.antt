@@ -7,13 +7,11 @@ use Rattle.std.proofs.lemmas.List.Elements.{Contains-get_or}
 use Rattle.sia_events.specs.declared.event.Event.{Event}
 use Rattle.sia_events.specs.Transactions.{IsCommitted, Wrote}
 use Rattle.sia_index.specs.Info.{IsKeyAt}
-use Rattle.sia_parts.specs.EdgeNumbers.{IsCommittedAt}
+use Rattle.sia_index.specs.Numbers.{IsCommittedAt}
 use Rattle.sia_index.proofs.Ordered.{ascends}
 use Rattle.sia_index.proofs.KeyChains.{key_number}
-use Rattle.sia_index.proofs.ReadTables.{PointBelow, part_has, part_gives, point_below, point_from}
-use Rattle.sia_index.specs.declared.info.KeyVersion.{KeyVersion}
+use Rattle.sia_index.proofs.Points.{PointBelow, part_has, part_gives, point_below, point_from}
 use Rattle.sia_parts.specs.declared.looks.Look.{Look}
-use Rattle.sia_parts.specs.Looking.{IsVersionLook}
 use Rattle.sia_parts.specs.Looks.{look_rank}
 use Rattle.sia_parts.proofs.Committing.{at_is_committed, committed_number}
 
@@ -61,15 +59,6 @@ committed_none h t none j = ((λ same. absurd cc), (λ at. absurd (none (at_is_c
 
 pub key_some : (h : List Event) (i k : ℕ) → IsKeyAt h i k → (j : ℕ) → (Some i ≡ Some j) ↔ IsKeyAt h j k
 key_some h i k at j = ((λ same. subst (λ n. IsKeyAt h n k) (same_Some i j same) at), (λ other. ap Some (one_key_number h i j k at other)))
-
--- so a version has one look
-pub one_look : (h : List Event) (made : KeyVersion) (x y : Look) → IsVersionLook h made x → IsVersionLook h made y → x ≡ y
-one_look h made x y is other =
-    let txn = one_committed_number h x.txn y.txn made.txn is.0.0 other.0.0 in
-    let key = one_key_number h x.key y.key made.key is.0.1 other.0.1 in
-    let low = is.1 ∙ sym other.1 in
-    let high = is.2 ∙ sym other.2 in
-    λ i. record { txn = txn i; key = key i; low = low i; high = high i }
 
 -- between the places of two ranks stand the looks from the one to below the other
 pub looks_between : (looks : List Look) (from to start end stop : ℕ) → PointBelow look_rank looks from start → PointBelow look_rank looks to end → start ≤ stop → end ≤ stop → stop ≤ length looks → ((k : ℕ) → start ≤ k → k < stop → k < end) → (x : Look) → Contains (slice_range looks start stop) x ↔ (Contains looks x × (from ≤ look_rank x) × (look_rank x < to))

@@ -14,10 +14,6 @@ pub record AreEdgeTables (h : List Event) (txns keys : List ℕ) : Type 0 where
   pub txns_are : ListsAscending (IsCommitted h) txns
   pub keys_are : AreWrittenKeys h keys
 
--- t is number i of the committed transactions, counted from 0
-abbrev pub IsCommittedAt : List Event → ℕ → ℕ → Type 0
-IsCommittedAt h i t = (txns : List ℕ) × ListsAscending (IsCommitted h) txns × (i < length txns) × (slice_index txns i ≡ t)
-
 -- the numbers stand for the edges at these keys, each once, in the order of the edges
 pub record AreEdgeNumbers (h : List Event) (txns keys : List ℕ) (Within : ℕ → Type 0) (numbers : List ℕ) : Type 0 where
   pub each : All (IsPacked txns keys) numbers

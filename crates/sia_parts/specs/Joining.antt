@@ -1,11 +1,9 @@
 -- Looks and absences by points, where a point is a committed transaction and a written key, by their numbers, and the commit of
 -- a version, or 0 for version 0: what looks and absences rest on, and what lies in them.
-use Rattle.std.specs.Prelude.{◌≡◌, ◌⊎◌, ℕ, ◌<◌, ◌≤◌, List, Option, Some}
-use Rattle.sia_events.specs.declared.event.Event.{Event}
-use Rattle.sia_parts.specs.declared.auditing.sights.Sight.{Sight}
+use Rattle.std.specs.Prelude.{◌≡◌, ◌⊎◌, ℕ, ◌<◌, ◌≤◌, List, Option, Some, MatchOption}
 use Rattle.sia_parts.specs.declared.looks.Absence.{Absence}
 use Rattle.sia_parts.specs.declared.looks.Look.{Look}
-use Rattle.sia_parts.specs.Sights.{FromSome, LooksAt}
+use Rattle.sia_parts.specs.Sights.{FromSome}
 
 -- the look has the point as an end
 abbrev pub IsEnd : Look → ℕ × ℕ × ℕ → Type 0
@@ -38,14 +36,18 @@ pub record IsJoined {A B : Type 0} (Ends Holds : A → B → Type 0) (last next 
   pub ends : (y : B) → Ends both y → Ends last y ⊎ Ends next y
   pub holds : (y : B) → Holds last y ⊎ Holds next y → Holds both y
 
--- the new looks are the old ones and those of points with P, of which some may be joined
-abbrev pub JoinsTo : (ℕ × ℕ × ℕ → Type 0) → List Look → List Look → Type 0
-JoinsTo P old new = Covers IsEnd IsInLook P P old new
-
 -- the new absences hold what the old ones held, and what has P, and nothing else
 abbrev pub Spreads : (ℕ × ℕ × ℕ → Type 0) → List Absence → List Absence → Type 0
 Spreads P old new = Covers IsInAbsence IsInAbsence P P old new
 
--- the look is of the points of the sight
-abbrev pub IsLookOfSight : List Event → Sight → Look → Type 0
-IsLookOfSight h s look = (at : ℕ × ℕ × ℕ) → (IsEnd look at → LooksAt h s at) × (LooksAt h s at → IsInLook look at)
+-- the point is an end of the look, or, where it has a position, it is what the look says of its oldest version
+abbrev pub IsEndOf : Look → ℕ × ℕ × ℕ × Option ℕ → Type 0
+IsEndOf look at = MatchOption at.3 (IsEnd look (at.0, at.1, at.2)) (λ q. (look.key ≡ at.1) × (look.low ≡ at.2) × (look.at ≡ q))
+
+-- the point lies in the look
+abbrev pub IsHeldBy : Look → ℕ × ℕ × ℕ × Option ℕ → Type 0
+IsHeldBy look at = MatchOption at.3 (IsInLook look (at.0, at.1, at.2)) (λ q. ⊥)
+
+-- and in the absence
+abbrev pub IsPassedBy : Absence → ℕ × ℕ × ℕ × Option ℕ → Type 0
+IsPassedBy absence at = MatchOption at.3 (IsInAbsence absence (at.0, at.1, at.2)) (λ q. ⊥)

@@ -1,27 +1,14 @@
--- How the looks at the keys of a part come about: from versions, and from what reads saw.
-use Rattle.std.specs.Prelude.{◌≡◌, ◌⊎◌, ℕ, List}
+-- The looks of those who made versions.
+use Rattle.std.specs.Prelude.{◌≡◌, ◌↔◌, ◌<◌, ◌≤◌, ℕ, List, AllPairs, Contains}
 use Rattle.sia_events.specs.declared.event.Event.{Event}
-use Rattle.sia_events.specs.NarrowDependencies.{Looked}
-use Rattle.sia_index.specs.declared.info.KeyVersion.{KeyVersion}
-use Rattle.sia_index.specs.Info.{IsKeyAt}
-use Rattle.sia_parts.specs.declared.cutting.Part.{Part}
-use Rattle.sia_parts.specs.declared.looks.Absence.{Absence}
 use Rattle.sia_parts.specs.declared.looks.Look.{Look}
-use Rattle.sia_parts.specs.EdgeNumbers.{IsCommittedAt}
-use Rattle.sia_parts.specs.Joining.{IsEnd, IsInLook, IsInAbsence}
-use Rattle.sia_parts.specs.Looks.{IsLookOf}
-use Rattle.sia_parts.specs.Parts.{IsInPart}
-use Rattle.sia_parts.specs.Sights.{FromSome}
+use Rattle.sia_parts.specs.Looks.{IsWriterOf, look_rank}
 
--- the look of a version
-abbrev pub IsVersionLook : List Event → KeyVersion → Look → Type 0
-IsVersionLook h made look = IsLookOf h look made.txn made.key × (look.low ≡ made.commit) × (look.high ≡ made.commit)
+-- the look of a version of a key whose number is from the one to before the other
+abbrev pub IsWriterIn : List Event → ℕ → ℕ → Look → Type 0
+IsWriterIn h from to look = (t : ℕ) × (k : ℕ) × (c : ℕ) × IsWriterOf h look t k c × (look.at ≡ 0) × (from ≤ look.key) × (look.key < to)
 
--- the transaction looked at a version of the key, which is of the part, as of the point's commit
-abbrev pub IsLookedAt : List Event → Part → ℕ × ℕ × ℕ → Type 0
-IsLookedAt h part at = (t : ℕ) × (k : ℕ) × IsCommittedAt h at.0 t × IsKeyAt h at.1 k × Looked h t k at.2 × IsInPart part k
-
--- looks and absences at the keys of a part: they rest on what was looked at, and all of that lies in them
-pub record AreSeen (h : List Event) (part : Part) (looks : List Look) (absences : List Absence) : Type 0 where
-  pub ends : (at : ℕ × ℕ × ℕ) → FromSome IsEnd looks at ⊎ FromSome IsInAbsence absences at → IsLookedAt h part at
-  pub whole : (at : ℕ × ℕ × ℕ) → IsLookedAt h part at → FromSome IsInLook looks at ⊎ FromSome IsInAbsence absences at
+-- each of these once, by key and commit
+pub record AreWriters (h : List Event) (from to : ℕ) (writers : List Look) : Type 0 where
+  pub ascend : AllPairs (λ a b. look_rank a < look_rank b) writers
+  pub each : (look : Look) → Contains writers look ↔ IsWriterIn h from to look

@@ -1,24 +1,17 @@
 -- How the findings of a part come about: from pairs of a key's versions, and from what reads saw of a key.
-use Rattle.std.specs.Prelude.{◌≡◌, ◌≢◌, ◌⊎◌, ◌↔◌, ℕ, ◌<◌, List, AllPairs, Contains, Some}
+use Rattle.std.specs.Prelude.{◌≡◌, ◌≢◌, ◌⊎◌, ◌↔◌, ℕ, ◌<◌, List, AllPairs, Contains}
 use Rattle.sia_events.specs.declared.event.Event.{Event}
-use Rattle.sia_events.specs.declared.event.Event.TheVariants.{Range}
-use Rattle.sia_events.specs.Places.{at_place}
 use Rattle.sia_events.specs.NarrowDependencies.{IsAsOf}
 use Rattle.sia_events.specs.Transactions.{StartsAt}
 use Rattle.sia_events.specs.Reads.{SawAt}
 use Rattle.sia_events.specs.Isolation.{IsBadRead, IsUnexplained}
 use Rattle.sia_index.specs.declared.info.Made.{Made}
-use Rattle.sia_index.specs.declared.info.ItemRead.{ItemRead}
-use Rattle.sia_index.specs.declared.info.RangeRead.{RangeRead}
-use Rattle.sia_index.specs.declared.info.Reader.{Reader}
 use Rattle.sia_index.specs.Info.{IsKeyAt, IsMade}
-use Rattle.sia_parts.specs.declared.cutting.Part.{Part}
 use Rattle.sia_parts.specs.declared.finding.BadRead.{BadRead}
 use Rattle.sia_parts.specs.declared.finding.BadWrite.{BadWrite}
 use Rattle.sia_parts.specs.declared.finding.Unexplained.{Unexplained}
 use Rattle.sia_parts.specs.declared.auditing.sights.Sight.{Sight}
-use Rattle.sia_parts.specs.EdgeNumbers.{IsCommittedAt}
-use Rattle.sia_parts.specs.Parts.{IsInPart}
+use Rattle.sia_index.specs.Numbers.{IsCommittedAt}
 
 -- new holds what old held, and what has P, and nothing else
 abbrev pub Adds : {A : Type 0} → (A → Type 0) → List A → List A → Type 0
@@ -38,31 +31,6 @@ AscendsByCommit versions = AllPairs (λ x y. x.commit < y.commit) versions
 -- at its place the transaction saw this version of the key
 abbrev pub IsSight : List Event → Sight → Type 0
 IsSight h s = SawAt h s.place s.txn s.key s.saw
-
--- what a read event saw
-abbrev pub read_sight : ItemRead → Sight
-read_sight read = record { place = read.place; txn = read.txn; key = read.key; saw = read.saw }
-
--- listed keys, each greater than those before it
-abbrev pub AscendsByKey : List (ℕ × ℕ) → Type 0
-AscendsByKey listed = AllPairs (λ p q. p.0 < q.0) listed
-
--- what a range read saw of a key that it listed
-abbrev pub listed_sight : RangeRead → ℕ × ℕ → Sight
-listed_sight range pair = record { place = range.place; txn = range.txn; key = pair.0; saw = pair.1 }
-
--- what a range read saw of a key that it covered and didn't list
-abbrev pub unlisted_sight : Reader → ℕ → Sight
-unlisted_sight reader k = record { place = reader.place; txn = reader.txn; key = k; saw = 0 }
-
--- what a range read saw of some key of the part
-abbrev pub IsRangeSight : List Event → Part → RangeRead → Sight → Type 0
-IsRangeSight h part range s = (s.place ≡ range.place) × (s.txn ≡ range.txn) × IsSight h s × IsInPart part s.key
-
--- what a range read saw of some key of the part that it listed
-abbrev pub IsListedSight : List Event → Part → RangeRead → Sight → Type 0
-IsListedSight h part range s = (s.place ≡ range.place) × (s.txn ≡ range.txn) × IsInPart part s.key
-    × (listed : List (ℕ × ℕ)) × (at_place h range.place ≡ Some (Range range.txn range.lo range.hi listed)) × Contains listed (s.key, s.saw)
 
 -- what a bad read saw
 abbrev pub bad_sight : BadRead → Sight

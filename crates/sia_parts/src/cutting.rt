@@ -53,7 +53,6 @@ pub fn cut(alloc: Global, points: &[Key]) -> Result<Vec<Part>, CutFault>
     Ok(parts)
 }
 
-/// Where parts start: at 0 and at the points, ascending.
 fn starts_of(alloc: Global, points: &[Key]) -> Result<Vec<Key>, AllocError>
     ensures { IfOk result (λ starts. ListsAscending (λ s. (s ≡ 0) ⊎ Contains points.now s) starts.items) }
 {
@@ -65,7 +64,6 @@ fn starts_of(alloc: Global, points: &[Key]) -> Result<Vec<Key>, AllocError>
     Ok(starts)
 }
 
-/// The parts from each start to one below the next.
 fn parts_of(alloc: Global, starts: &[Key]) -> Result<Vec<Part>, AllocError>
     requires { IsStrictlyIncreasing starts.now }
     ensures parts { IfOk result (λ parts. parts.items ≡ parts_from starts.now) }

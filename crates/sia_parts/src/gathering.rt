@@ -37,7 +37,6 @@ pub fn gather(alloc: Global, parts: Vec<PartFindings>) -> Result<Findings, NoMem
     Ok(all)
 }
 
-/// Adds the lists of the parts, one behind another.
 fn put_parts(parts: &[PartFindings], all: &mut Findings) -> Result<(), NoMemory>
     ensures bad_reads { OnOk result (Adds (FromSome (λ part. Contains part.bad_reads.items) parts.now) all.old.bad_reads.items all.new.bad_reads.items) }
     ensures bad_writes { OnOk result (Adds (FromSome (λ part. Contains part.bad_writes.items) parts.now) all.old.bad_writes.items all.new.bad_writes.items) }

@@ -13,31 +13,27 @@ mod looking;
 mod looks;
 mod naming;
 mod numbered;
-mod placing;
+mod reads;
 mod recorded;
 mod sighting;
 mod telling;
 mod versions;
 
 pub use auditing::audit_part;
-pub use auditing::sights::commit_of;
 pub use cutting::{CutFault, Part, cut};
-pub use edges::committed::Committed;
 pub use edges::fans::Fans;
-pub use edges::numbers::{
-    EdgeNumber, edge_of, edges_of_numbers, key_of, kind_in, source_of, target_of,
-};
+pub use edges::numbers::{EdgeNumber, edge_of, edges_of_numbers, kind_in, source_of, target_of};
 pub use finding::{BadRead, BadWrite, Edge, Kind, Unexplained};
 pub use findings::{Findings, PartFindings, PartFound};
 pub use gathering::all_found::Gathering;
 pub use gathering::chunking::ChunkBounds;
 pub use gathering::gather;
 pub use laws::one_part;
-pub use lifetimes::{Lifetime, lifetime_of, lifetimes_of, overlap};
+pub use lifetimes::lifetime_of;
 pub use looks::{Absence, Look, Looks};
 pub use naming::anomaly_of;
 pub use numbered::find_in_part;
-pub use placing::places_of;
+pub use reads::Reads;
 pub use recorded::Recorded;
 pub use sighting::{Act, FirstSight, acts_of, first_sight};
 pub use telling::{push_event, push_start, push_unless, push_version};

@@ -1,64 +1,46 @@
-//! The looks of those who made the versions of a part's keys.
-ghost use Rattle.std.specs.Prelude.{◌↔◌, Contains, IfOk, OnOk};
-ghost use Rattle.sia_events.specs.Lists.{ListsAscending};
-ghost use Rattle.sia_events.specs.Refusals.{IsWellFormed};
-ghost use Rattle.sia_events.specs.Transactions.{IsCommitted};
-ghost use Rattle.sia_parts.specs.Looking.{IsVersionLook};
-ghost use Rattle.sia_parts.specs.Looks.{RiseByRank};
-ghost use Rattle.sia_parts.specs.Sights.{Adds, FromSome};
+//! The looks of those who made versions.
+ghost use Rattle.std.specs.Prelude.{◌<◌, ◌≤◌, ◌+◌, ℕ, IfOk, OnOk};
+ghost use Rattle.sia_index.specs.Info.{HasKeyAt};
+ghost use Rattle.sia_parts.specs.Looking.{AreWriters};
 
-use crate::auditing::keys::key_near;
-use crate::edges::committed::Committed;
-use crate::edges::ranks::rank_all;
 use crate::looks::Look;
 use sia_events::NoMemory;
-use sia_index::{Index, KeyVersion};
+use sia_index::Index;
 use std::alloc::Global;
 
-/// The looks of the versions, by key and commit.
 pub(crate) fn writers_of(
     alloc: Global,
     ix: &Index,
-    committed: &Committed,
-    versions: &[KeyVersion],
+    from: u32,
+    to: u32,
 ) -> Result<Vec<Look>, NoMemory>
-    requires well_formed { IsWellFormed ix.now }
-    requires committed { ListsAscending (IsCommitted ix.now) committed.now }
-    ensures looks { IfOk result (λ looks. (look : Look) → Contains looks.items look ↔ FromSome (IsVersionLook ix.now) versions.now look) }
-    ensures rise { IfOk result (λ looks. RiseByRank looks.items) }
+    requires { (i : ℕ) → from ≤ i → i < to → HasKeyAt ix.now i }
+    ensures { IfOk result (λ writers. AreWriters ix.now from to writers.items) }
 {
-    let mut looks = Vec::with_capacity(alloc, versions.len())?;
-    let mut near = 0;
-    for made in versions {
-        near = put_writer(ix, committed, *made, near, &mut looks)?;
+    let mut writers = Vec::new(alloc);
+    for key in from..to {
+        put_makers(ix, key, &mut writers)?;
     }
-    rank_all(&mut looks)?;
-    Ok(looks)
+    Ok(writers)
 }
 
-// Adds the look of the version, whose key may have this number among the written ones. Answers the number.
-fn put_writer(
-    ix: &Index,
-    committed: &Committed,
-    made: KeyVersion,
-    near: u32,
-    looks: &mut Vec<Look>,
-) -> Result<u32, NoMemory>
-    requires well_formed { IsWellFormed ix.now }
-    requires committed { ListsAscending (IsCommitted ix.now) committed.now }
-    ensures { OnOk result (Adds (IsVersionLook ix.now made) looks.old.items looks.new.items) }
+// Adds those of the key, behind those of lesser ones.
+fn put_makers(ix: &Index, key: u32, writers: &mut Vec<Look>) -> Result<(), NoMemory>
+    requires { HasKeyAt ix.now key }
+    ensures { (from : ℕ) → from ≤ key → AreWriters ix.now from key writers.old.items → OnOk result (AreWriters ix.now from (key + 1) writers.new.items) }
 {
-    let Some(key) = key_near(ix, made.key, near) else {
-        return Ok(near);
-    };
-    let number = ix.txn_number(made.txn).unwrap_or(0);
-    if let Some(txn) = committed.number(ix, made.txn, number) {
-        looks.push(Look {
-            txn,
+    ix.law();
+    let versions = ix.versions_at(key as usize);
+    let makers = ix.makers_at(key as usize);
+    for i in 0..versions.len() {
+        let commit = versions[i].commit;
+        writers.push(Look {
+            txn: makers[i],
             key,
-            low: made.commit,
-            high: made.commit,
+            low: commit,
+            high: commit,
+            at: 0,
         })?;
     }
-    Ok(key)
+    Ok(())
 }

@@ -11,6 +11,8 @@ pub struct Look {
     pub low: u32,
     /// The commit of the version, or the greatest commit of those that it saw.
     pub high: u32,
+    /// Of one who saw versions how many of all versions stand up to the oldest of those, by key and commit. Else 0.
+    pub at: u32,
 }
 
 /// A committed transaction that saw version 0 of each written key from one number to before another.

@@ -6,12 +6,11 @@ ghost use Rattle.sia_events.specs.Isolation.{IsBadRead};
 ghost use Rattle.sia_events.specs.Transactions.{StartsAt};
 ghost use Rattle.sia_parts.specs.Wrong.{IsWrong};
 
-use crate::auditing::sights::commit_of;
 use crate::finding::BadRead;
+use crate::lifetimes::commit_of;
 use sia_events::{Anomaly, History, Version};
 use sia_index::{Fate, Index};
 
-/// What is wrong with the transaction of the version that was seen, for a reader that starts so.
 fn wrong_with(ix: &Index, saw: Version, start: u32) -> Option<Anomaly>
     ensures { MatchOption result ((name : AnAnomaly) → ¬ IsWrong ix.now saw start name) (IsWrong ix.now saw start) }
 {

@@ -1,46 +1,40 @@
 //! What is found at the keys of a part, where the edges are told by looks.
 ghost use Rattle.std.specs.Prelude.{◌≡◌, IfOk};
-ghost use Rattle.sia_events.specs.Lists.{ListsAscending};
-ghost use Rattle.sia_events.specs.Transactions.{IsCommitted};
+ghost use Rattle.sia_parts.specs.Dealing.{HasReadsOf};
 ghost use Rattle.sia_parts.specs.Gathering.{IsPartFound};
 ghost use Rattle.sia_parts.specs.Parts.{IsInPart};
 
-use crate::auditing::{bad_writes_of, seen_of, unexplained_of};
+use crate::auditing::seen::{Scope, seen_of};
+use crate::auditing::{bad_writes_of, unexplained_of};
 use crate::cutting::Part;
-use crate::edges::committed::Committed;
 use crate::findings::PartFound;
-use crate::looking::writers_of;
-use crate::looks::Looks;
-use sia_events::{History, NoMemory};
+use sia_events::{Log, NoMemory};
 use sia_index::Index;
 use std::alloc::Global;
 
-/// The findings at the keys of the part, by an index of the history and its committed transactions.
+/// The findings at the keys of the part, by the log of the history, its index, and the places of the part's reads. More places
+/// do no harm. They are worked off fastest transaction by transaction.
 pub fn find_in_part(
     alloc: Global,
-    h: &History,
+    log: &Log,
     ix: &Index,
-    committed: &Committed,
     part: Part,
+    places: &[u32],
 ) -> Result<PartFound, NoMemory>
-    requires index { ix.now ≡ h.now }
-    requires committed { ListsAscending (IsCommitted ix.now) committed.now }
-    ensures { IfOk result (IsPartFound h.now (IsInPart part)) }
+    requires index { ix.now ≡ log.now }
+    requires places { HasReadsOf log.now part places.now }
+    ensures { IfOk result (IsPartFound log.now (IsInPart part)) }
 {
     ix.law();
-    ix.keys_law();
-    let seen = seen_of(alloc, h, ix, committed, part)?;
-    let bad_writes = bad_writes_of(alloc, ix, part)?;
-    let unexplained = unexplained_of(alloc, h, ix, part, &seen.bad_reads)?;
-    let writers = writers_of(alloc, ix, committed, ix.versions_within(part.lo, part.hi))?;
+    let scope = Scope::of(log, ix, part);
+    let seen = seen_of(alloc, &scope, places)?;
+    let bad_writes = bad_writes_of(alloc, &scope)?;
+    let unexplained = unexplained_of(alloc, ix, part, &seen.bad_reads)?;
     Ok(PartFound {
         bad_reads: seen.bad_reads,
         bad_writes,
         unexplained,
-        looks: Looks {
-            writers,
-            readers: seen.looks,
-            absences: seen.absences,
-        },
+        readers: seen.looks,
+        absences: seen.absences,
     })
 }

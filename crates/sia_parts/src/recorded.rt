@@ -1,13 +1,11 @@
 //! A history, and what is at hand of it.
 
-use crate::edges::committed::Committed;
 use sia_events::History;
 use sia_index::Index;
 
-/// A history, its index, and its committed transactions.
+/// A history and its index.
 #[derive(Clone, Copy)]
 pub struct Recorded<'a> {
     pub history: &'a History,
     pub index: &'a Index,
-    pub committed: &'a Committed,
 }

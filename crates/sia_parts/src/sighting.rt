@@ -8,8 +8,8 @@ ghost use Rattle.sia_parts.specs.Grouped.{RiseBy};
 ghost use Rattle.sia_parts.specs.Sightings.{Gives, IsFirstSight, reader_of};
 ghost use Rattle.sia_parts.specs.declared.sighting.Act.{Act};
 
-use crate::auditing::sights::commit_of;
 use crate::finding::{Edge, Kind};
+use crate::lifetimes::commit_of;
 use sia_events::{History, NoMemory, TxnId, Version};
 use sia_index::Index;
 use sia_index::keyed::{By, ByTxn, between};
@@ -57,7 +57,6 @@ fn acts_by(acts: &[Act], txn: TxnId) -> &[Act]
     between::<Act, ByTxn>(acts, u64::from(txn), u64::from(txn))
 }
 
-/// Whether the first committed before the second.
 fn commits_before(ix: &Index, first: TxnId, second: TxnId) -> bool
     ensures { IsTrue result ↔ CommitsBefore ix.now first second }
 {
@@ -68,7 +67,6 @@ fn commits_before(ix: &Index, first: TxnId, second: TxnId) -> bool
     }
 }
 
-/// The one of both that reads, where the edge comes of a read.
 fn reader_of_edge(e: &Edge) -> TxnId
     ensures { result ≡ reader_of e.now.kind e.now.src e.now.dst }
 {
@@ -78,7 +76,6 @@ fn reader_of_edge(e: &Edge) -> TxnId
     }
 }
 
-/// Whether the version, seen by the one that reads, gives the edge.
 fn gives(ix: &Index, e: &Edge, version: Version) -> bool
     requires edge { IsEdge ix.now e.now }
     requires seen { (p : ℕ) × SawAt ix.now p (reader_of e.now.kind e.now.src e.now.dst) e.now.key version }

@@ -27,27 +27,27 @@ pub fn look_at(writers: &[Look], at: usize, key: u32) -> Option<Look>
     (look.key == key).then_some(look)
 }
 
-/// How many writers stand up to the newest version that the look saw of its key, where so many stand up to the oldest one. Mostly
-/// both are the same.
-fn count_to_newest(writers: &[Look], look: Look, at: usize) -> usize
+/// How many writers stand up to the newest version that the look saw of its key. Mostly as many as up to the oldest one.
+fn count_to_newest(writers: &[Look], look: Look) -> usize
     requires rise { RiseByRank writers.now }
-    requires at { IsPlace writers.now look.key look.low at }
+    requires at { IsPlace writers.now look.key look.low look.at }
     ensures { IsPlace writers.now look.key look.high result }
 {
+    let at = look.at as usize;
     if look.low == look.high {
         return at;
     }
     count_up_to(writers, look.key, look.high, at)
 }
 
-/// Where the last version of its key up to the newest one that the look saw stands, where so many stand up to the oldest one.
-pub fn newest_place(writers: &[Look], look: Look, at: usize) -> Option<usize>
+/// Where the last version of its key up to the newest one that the look saw stands.
+pub fn newest_place(writers: &[Look], look: Look) -> Option<usize>
     requires search { CanSearch writers.now }
-    requires at { IsPlace writers.now look.key look.low at }
+    requires at { IsPlace writers.now look.key look.low look.at }
     ensures { MatchOption result ((a : Look) → Contains writers.now a → a.key ≡ look.key → look.high < a.high)
         (λ i. (i < length writers.now) × ((d : Look) → IsNewest writers.now look.key look.high (slice_index_or writers.now i d))) }
 {
-    let last = count_to_newest(writers, look, at).checked_sub(1)?;
+    let last = count_to_newest(writers, look).checked_sub(1)?;
     match look_at(writers, last, look.key) {
         Some(_) => Some(last),
         None => None,

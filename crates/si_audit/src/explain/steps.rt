@@ -4,21 +4,11 @@ ghost use Rattle.sia_parts.specs.declared.finding.Kind.TheVariants.{Ww};
 ghost use Rattle.sia_parts.specs.Entries.{IsEdge};
 ghost use Rattle.sia_parts.specs.Acts.{AreActs};
 ghost use Rattle.si_audit.specs.Explained.{TellsAll};
-ghost use Rattle.si_audit.specs.Reasons.{TellsEvents, TellsSight, TellsStep, untold_of};
+ghost use Rattle.si_audit.specs.Reasons.{TellsEvents, TellsSight, TellsStep};
 
-use crate::report::words::{Words, number, push_words};
-use sia_events::{NoMemory, Version};
+use crate::report::line::{Words, number, push_words};
+use sia_events::NoMemory;
 use sia_parts::{Act, Edge, Kind, Recorded, first_sight, push_event, push_unless, push_version};
-
-/// The version that is told already, or has no writer.
-fn untold_of_edge(e: &Edge) -> Version
-    ensures { result ≡ untold_of e.now.kind e.now.src }
-{
-    match e.kind {
-        Kind::Wr => e.src,
-        Kind::Ww | Kind::Rw => 0,
-    }
-}
 
 /// Some words, the first read at which a version was seen that gives the edge, and this version.
 fn push_sight(
@@ -38,11 +28,10 @@ fn push_sight(
         return Ok(());
     };
     push_event(out, before, of.history, e.key, sight.place)?;
-    let known = untold_of_edge(e);
+    let known = if let Kind::Wr = e.kind { e.src } else { 0 };
     push_unless(out, of, e.key, sight.version, known, (b"; ", b""))
 }
 
-/// The events by which the edge is there.
 fn push_events(out: &mut Vec<u8>, of: &Recorded, acts: &[Act], e: &Edge) -> Result<(), NoMemory>
     requires index { of.now.index.now ≡ of.now.history.now }
     requires acts { AreActs of.now.history.now acts.now }
@@ -65,7 +54,6 @@ fn push_events(out: &mut Vec<u8>, of: &Recorded, acts: &[Act], e: &Edge) -> Resu
     }
 }
 
-/// The lines of steps along these edges.
 pub(crate) fn push_steps(
     out: &mut Vec<u8>,
     of: &Recorded,

@@ -1,7 +1,7 @@
 // Devices that fail: which fault comes, and what stands written by then.
-use crate::cli::options::Options;
+use crate::devices::FromStd;
 use crate::engine::Outcome;
-use crate::io::device::FromStd;
+use crate::options::Options;
 use crate::run::{RunFault, run, status};
 use crate::tests::devices::{Giving, Taking};
 use std::alloc::Global;

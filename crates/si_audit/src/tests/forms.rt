@@ -1,5 +1,5 @@
 // Brief and explained reports of worked histories.
-use crate::cli::form::Form;
+use crate::options::Form;
 use crate::tests::rows::{BROKEN, KEPT, NO_ORDER, NOT_SSI, Row, UNREAD};
 
 /// Brief reports, and full ones of the same texts.

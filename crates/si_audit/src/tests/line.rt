@@ -1,8 +1,6 @@
 //! Command lines: what the program's words give, worked out by hand.
-use crate::cli::form::Form;
-use crate::cli::level::Level;
-use crate::cli::line::{LineFault, options_from};
-use crate::cli::options::Options;
+use crate::options::{Form, Level, Options};
+use crate::words::{LineFault, options_from};
 use sia_events::{Key, NoMemory};
 use sia_parts::Part;
 use std::alloc::{AllocError, Global};

@@ -1,5 +1,5 @@
 // Options of numbers of workers and cuts.
-use crate::cli::options::{Options, OptionsFault};
+use crate::options::{Options, OptionsFault};
 use sia_events::Key;
 use sia_parts::Part;
 use std::test::*;

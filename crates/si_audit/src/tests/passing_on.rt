@@ -1,6 +1,6 @@
 // `FromStd` passes each call on to its device, once, and tells what the device answered. Of a device that doesn't tell its
 // bytes, as a file or a pipe, no contract says so.
-use crate::io::device::{Failed, FromStd, Sink, Source};
+use crate::devices::{Failed, FromStd, Sink, Source};
 use crate::tests::devices::{Giving, Taking};
 use std::io::ErrorKind;
 use std::test::*;

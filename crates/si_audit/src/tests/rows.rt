@@ -1,11 +1,9 @@
 // The reports of worked histories, in each form and at each level, by one, two, three and 64 workers.
-use crate::audit::make::audit;
-use crate::cli::form::Form;
-use crate::cli::level::Level;
-use crate::cli::options::Options;
+use crate::account::report;
+use crate::audit::audit;
+use crate::devices::FromStd;
 use crate::engine::Outcome;
-use crate::io::device::FromStd;
-use crate::report::reporting::report;
+use crate::options::{Form, Level, Options};
 use crate::run::run;
 use crate::tests::forms::{BRIEF, EXPLAINED};
 use sia_events::{Key, read_history};

@@ -1,19 +1,15 @@
 //! Pivots, the test of serializable snapshot isolation, and the dangerous structure that is told, of histories worked out by
 //! hand.
 ghost use Rattle.std.specs.Prelude.{◌≡◌, IfOk};
-ghost use Rattle.sia_events.specs.Lists.{ListsAscending};
-ghost use Rattle.sia_events.specs.Transactions.{IsCommitted};
 ghost use Rattle.sia_parts.specs.Findings.{AreFindings};
 ghost use Rattle.sia_parts.specs.Gathering.{IsGathering};
 
 use crate::evidence::Evidence;
 use crate::pivot::{Pivot, pivots};
 use crate::ssi::{are_none, dangerous_of, ssi_pass};
-use sia_events::{History, Key, NoMemory, TxnId, read_history};
+use sia_events::{History, Key, Log, NoMemory, TxnId, read_history};
 use sia_index::{Index, make};
-use sia_parts::{
-    Committed, Findings, Gathering, Part, audit_part, find_in_part, gather, places_of,
-};
+use sia_parts::{Findings, Gathering, Part, Reads, audit_part, find_in_part, gather};
 use std::alloc::Global;
 use std::test::Fail;
 
@@ -48,44 +44,34 @@ fn findings(alloc: Global, h: &History, ix: &Index) -> Result<Findings, NoMemory
 }
 
 /// The same, with looks in place of edges.
-fn gathered(
-    alloc: Global,
-    h: &History,
-    ix: &Index,
-    committed: &Committed,
-) -> Result<Gathering, NoMemory>
-    requires index { ix.now ≡ h.now }
-    requires committed { ListsAscending (IsCommitted ix.now) committed.now }
+fn gathered(alloc: Global, log: &Log, ix: &Index) -> Result<Gathering, NoMemory>
+    requires { ix.now ≡ log.now }
     ensures { IfOk result (IsGathering ix.now) }
 {
-    ix.law();
     let whole = Part {
         lo: 0,
         hi: Key::MAX,
     };
+    let reads = Reads::of(alloc, log, &[whole])?;
     let mut parts = Vec::new(alloc);
-    parts.push(find_in_part(alloc, h, ix, committed, whole)?)?;
-    let found = Gathering::of(alloc, parts)?;
-    Ok(found)
+    parts.push(find_in_part(alloc, log, ix, whole, reads.of_part(0))?)?;
+    Gathering::of(alloc, ix, parts)
 }
 
 /// The dangerous structure that is told of a history. None either where isolation is broken.
-fn dangerous(alloc: Global, h: &History, ix: &Index) -> Result<Option<Structure>, NoMemory>
-    requires { ix.now ≡ h.now }
+fn dangerous(alloc: Global, log: &Log, ix: &Index) -> Result<Option<Structure>, NoMemory>
+    requires { ix.now ≡ log.now }
 {
     ix.law();
-    let committed = Committed::of(alloc, ix)?;
-    let found = gathered(alloc, h, ix, &committed)?;
+    let found = gathered(alloc, log, ix)?;
     if !are_none(&found.bad_reads, &found.bad_writes) {
         return Ok(None);
     }
-    let places = places_of(alloc, &found.looks)?;
     let evidence = Evidence {
         index: ix,
-        txns: committed.ids(),
+        txns: ix.committed(),
         keys: ix.written_keys(),
         looks: &found.looks,
-        places: &places,
     };
     match dangerous_of(alloc, &evidence)? {
         Some(it) => Ok(Some((it.first, it.first_key, it.pivot, it.last_key, it.last))),
@@ -111,7 +97,7 @@ fn are(found: &[Pivot], wanted: &[Around<'_>]) -> bool {
 /// Whether what is told of the history is what the row says.
 fn is_told(alloc: Global, h: &History, row: &Row) -> Result<bool, NoMemory> {
     let ix = make::index(alloc, h)?;
-    let structure = dangerous(alloc, h, &ix)?;
+    let structure = dangerous(alloc, h.log(), &ix)?;
     let f = findings(alloc, h, &ix)?;
     let found = pivots(alloc, &f, &ix)?;
     Ok(are(&found, row.1) && ssi_pass(&f, &found) == row.2 && structure == row.3)

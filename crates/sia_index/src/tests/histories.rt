@@ -33,38 +33,6 @@ macro_rules! made {
     };
 }
 
-macro_rules! item {
-    ($key:expr, $txn:expr, $place:expr, $saw:expr) => {
-        ItemRead {
-            key: $key,
-            txn: $txn,
-            place: $place,
-            saw: $saw,
-        }
-    };
-}
-
-macro_rules! range {
-    ($lo:expr, $hi:expr, $txn:expr, $place:expr) => {
-        RangeRead {
-            lo: $lo,
-            hi: $hi,
-            txn: $txn,
-            place: $place,
-        }
-    };
-}
-
-macro_rules! version {
-    ($key:expr, $commit:expr, $txn:expr) => {
-        KeyVersion {
-            key: $key,
-            commit: $commit,
-            txn: $txn,
-        }
-    };
-}
-
 /// A transaction, its number, a place, where it starts, and whether it wrote.
 macro_rules! reader {
     ($txn:expr, $number:expr, $place:expr, $start:expr, $has_written:expr) => {
@@ -94,7 +62,6 @@ pub struct Answers<'a> {
     pub txns: &'a [(TxnId, TxnInfo)],
     /// All written keys, each with its versions.
     pub keys: &'a [(Key, &'a [Made])],
-    pub all_versions: &'a [Made],
     pub asked: &'a [Asked<'a>],
     pub readers: &'a [(Reader, &'a [Due])],
 }
@@ -105,18 +72,20 @@ pub enum Asked<'a> {
     NoKey(Key),
     Overlap(TxnId, TxnId, bool),
     FirstWrite(TxnId, Key, Option<u32>),
-    /// The versions at the keys from one to another, and the reads.
-    Versions(Key, Key, &'a [KeyVersion]),
-    Reads(Key, Key, &'a [ItemRead]),
-    Ranges(Key, Key, &'a [RangeRead]),
+    /// Whether the newest version of the written key with a number has a position as of a place.
+    Newest(u32, u32, u32, bool),
+    /// The position of its newest version as of a place.
+    AsOf(u32, u32, u32),
+    /// The version at a position.
+    Version(u32, u32, Made),
+    /// The numbers of the makers of its versions.
+    Makers(usize, &'a [u32]),
 }
 
 /// What an index is asked of a transaction that reads at a place, and its answer.
 pub enum Due {
     /// The version due at a key.
     At(Key, Version),
-    /// What is seen of the written key with a number.
-    Seen(usize, Seen),
     /// Whether it may have written a key from one to another.
     MayOwn(Key, Key, bool),
     /// The least key from one to another at which something is due.
@@ -127,19 +96,8 @@ const NONE: Answers<'static> = Answers {
     text: b"",
     txns: &[],
     keys: &[],
-    all_versions: &[],
     asked: &[],
     readers: &[],
-};
-
-const OF_ONE: Seen = Seen {
-    version: 1,
-    commit: 3,
-};
-
-const UNSEEN: Seen = Seen {
-    version: 0,
-    commit: 0,
 };
 
 pub const HISTORIES: &[Answers<'static>] = &[
@@ -156,7 +114,6 @@ pub const HISTORIES: &[Answers<'static>] = &[
             (3, ended!(5, 8, Committed)),
         ],
         keys: &[(1, &[made!(2, 10)]), (2, &[made!(1, 5)])],
-        all_versions: &[made!(2, 10), made!(1, 5)],
         asked: &[
             Asked::NoTxn(9),
             Asked::Overlap(2, 1, true),
@@ -181,7 +138,6 @@ pub const HISTORIES: &[Answers<'static>] = &[
             (7, ended!(3, 6, Aborted)),
         ],
         keys: &[(6, &[]), (8, &[made!(5, 3)])],
-        all_versions: &[made!(5, 3)],
         asked: &[Asked::NoTxn(4), Asked::NoKey(9)],
         ..NONE
     },
@@ -209,7 +165,6 @@ pub const HISTORIES: &[Answers<'static>] = &[
         text: b"w1[1] c1 b2@0 r2[1:0] c2",
         txns: &[(1, ended!(0, 2, Committed)), (2, ended!(0, 5, Committed))],
         keys: &[(1, &[made!(1, 2)])],
-        all_versions: &[made!(1, 2)],
         asked: &[Asked::Overlap(1, 2, true)],
         readers: &[(reader!(2, 1, 4, 0, false), &[Due::At(1, 0)])],
         ..NONE
@@ -218,7 +173,6 @@ pub const HISTORIES: &[Answers<'static>] = &[
         text: b"w1[1] c1 b2 r2[1:1] c2",
         txns: &[(1, ended!(0, 2, Committed)), (2, ended!(2, 5, Committed))],
         keys: &[(1, &[made!(1, 2)])],
-        all_versions: &[made!(1, 2)],
         asked: &[Asked::Overlap(1, 2, false)],
         readers: &[(reader!(2, 1, 4, 2, false), &[Due::At(1, 1)])],
         ..NONE
@@ -232,51 +186,11 @@ pub const HISTORIES: &[Answers<'static>] = &[
             (3, ended!(2, 5, Aborted)),
         ],
         keys: &[(7, &[made!(2, 6), made!(1, 8)])],
-        all_versions: &[made!(2, 6), made!(1, 8)],
         asked: &[
             Asked::NoTxn(4),
             Asked::FirstWrite(2, 7, Some(2)),
             Asked::FirstWrite(3, 7, Some(3)),
             Asked::FirstWrite(4, 7, None),
-        ],
-        ..NONE
-    },
-    // The reads of some keys go by key, then by transaction and place; a range read isn't one of them.
-    Answers {
-        text: b"w1[3] r2[9:0] r1[3:1] r2[3:0] r1[3:1] r3[0..9] r3[4:0]",
-        txns: &[(1, open!(0)), (2, open!(1)), (3, open!(5))],
-        keys: &[(3, &[])],
-        asked: &[
-            Asked::Reads(
-                3,
-                3,
-                &[item!(3, 1, 3, 1), item!(3, 1, 5, 1), item!(3, 2, 4, 0)],
-            ),
-            Asked::Reads(
-                0,
-                8,
-                &[
-                    item!(3, 1, 3, 1),
-                    item!(3, 1, 5, 1),
-                    item!(3, 2, 4, 0),
-                    item!(4, 3, 7, 0),
-                ],
-            ),
-            Asked::Reads(5, 8, &[]),
-            Asked::Reads(9, 3, &[]),
-        ],
-        ..NONE
-    },
-    // A range read is found from the part of its first key, its last key and each between; one that lies elsewhere isn't.
-    Answers {
-        text: b"r1[5..20] r2[1..2] r3[15..18446744073709551615]",
-        txns: &[(1, open!(0)), (2, open!(1)), (3, open!(2))],
-        asked: &[
-            Asked::Ranges(0, 4, &[range!(1, 2, 2, 2)]),
-            Asked::Ranges(3, 5, &[range!(5, 20, 1, 1)]),
-            Asked::Ranges(7, 9, &[range!(5, 20, 1, 1)]),
-            Asked::Ranges(20, 20, &[range!(5, 20, 1, 1), range!(15, Key::MAX, 3, 3)]),
-            Asked::Ranges(21, Key::MAX, &[range!(15, Key::MAX, 3, 3)]),
         ],
         ..NONE
     },
@@ -295,23 +209,6 @@ pub const HISTORIES: &[Answers<'static>] = &[
             (5, &[made!(1, 3), made!(2, 8)]),
             (9, &[]),
         ],
-        all_versions: &[
-            made!(1, 3),
-            made!(2, 8),
-            made!(2, 8),
-            made!(1, 3),
-            made!(2, 8),
-        ],
-        asked: &[
-            Asked::Versions(
-                2,
-                4,
-                &[version!(2, 3, 1), version!(3, 8, 2), version!(4, 8, 2)],
-            ),
-            Asked::Versions(5, 5, &[version!(5, 3, 1), version!(5, 8, 2)]),
-            Asked::Versions(6, Key::MAX, &[]),
-            Asked::Versions(5, 4, &[]),
-        ],
         ..NONE
     },
     // What is seen of one written key after another.
@@ -329,7 +226,6 @@ pub const HISTORIES: &[Answers<'static>] = &[
             (5, &[made!(1, 3)]),
             (9, &[]),
         ],
-        all_versions: &[made!(1, 3), made!(2, 8), made!(1, 3)],
         asked: &[Asked::NoKey(6), Asked::NoKey(8)],
         readers: &[
             (
@@ -346,10 +242,6 @@ pub const HISTORIES: &[Answers<'static>] = &[
                 &[
                     Due::At(2, 1),
                     Due::At(4, 0),
-                    Due::Seen(0, OF_ONE),
-                    Due::Seen(1, UNSEEN),
-                    Due::Seen(2, OF_ONE),
-                    Due::Seen(3, UNSEEN),
                     Due::MayOwn(0, Key::MAX, false),
                 ],
             ),
@@ -372,7 +264,6 @@ pub const HISTORIES: &[Answers<'static>] = &[
             (5, &[made!(1, 3)]),
             (9, &[]),
         ],
-        all_versions: &[made!(1, 3), made!(2, 9), made!(2, 9), made!(1, 3)],
         readers: &[
             (
                 reader!(2, 1, 7, 3, true),
@@ -397,6 +288,88 @@ pub const HISTORIES: &[Answers<'static>] = &[
         ..NONE
     },
 ];
+
+/// What the numbers of a log's transactions, keys and writes are to stand for.
+pub struct Numbers<'a> {
+    pub text: &'a [u8],
+    /// The committed transactions, with their starts and commits.
+    pub committed: &'a [(TxnId, u32, u32)],
+    /// By the log's transaction, its number among these.
+    pub numbers: &'a [Option<u32>],
+    /// By the log's key, its number among the written ones.
+    pub keys: &'a [Option<u32>],
+    /// By the log's write, the number of its key and the position of its version.
+    pub writes: &'a [WriteAt],
+    /// By the log's transaction, what is known of it as it reads at the place.
+    pub readers: &'a [Reader],
+    /// By the written key, the position of its version 0.
+    pub first_positions: &'a [u32],
+    pub asked: &'a [Asked<'a>],
+}
+
+macro_rules! write_at {
+    ($key:expr, $position:expr) => {
+        WriteAt {
+            key: $key,
+            position: $position,
+        }
+    };
+}
+
+/// Transactions 9, 4, 2, 5 and 6, keys 7, 5, 3 and 1: 5 aborts, 4 and 6 are open, and nothing writes 5. The versions are 2's of 3,
+/// 9's of 7 and 2's of 7.
+pub const NUMBERED: &Numbers<'static> = &Numbers {
+    text: b"w9[7] r4[5:0] w2[3] c9 w2[7] w5[1] c2 w5[7] a5 r4[7:2] w6[3]",
+    committed: &[(2, 2, 7), (9, 0, 4)],
+    numbers: &[Some(1), None, Some(0), None, None],
+    keys: &[Some(2), None, Some(1), Some(0)],
+    writes: &[
+        write_at!(2, Some(2)),
+        write_at!(1, Some(1)),
+        write_at!(2, Some(3)),
+        write_at!(0, None),
+        write_at!(2, None),
+        write_at!(1, None),
+    ],
+    readers: &[
+        reader!(9, 4, 10, 0, true),
+        reader!(4, 1, 10, 1, false),
+        reader!(2, 0, 10, 2, true),
+        reader!(5, 2, 10, 5, true),
+        reader!(6, 3, 10, 10, true),
+    ],
+    first_positions: &[0, 0, 1],
+    asked: &[
+        Asked::Newest(0, 0, 11, true),
+        Asked::Newest(1, 0, 6, true),
+        Asked::Newest(1, 1, 6, false),
+        Asked::Newest(1, 1, 7, true),
+        Asked::Newest(1, 2, 9, false),
+        Asked::Newest(2, 0, 1, false),
+        Asked::Newest(2, 1, 3, true),
+        Asked::Newest(2, 1, 4, false),
+        Asked::Newest(2, 2, 4, true),
+        Asked::Newest(2, 2, 6, true),
+        Asked::Newest(2, 2, 7, false),
+        Asked::Newest(2, 3, 7, true),
+        Asked::AsOf(0, 11, 0),
+        Asked::AsOf(1, 6, 0),
+        Asked::AsOf(1, 7, 1),
+        Asked::AsOf(2, 3, 1),
+        Asked::AsOf(2, 4, 2),
+        Asked::AsOf(2, 6, 2),
+        Asked::AsOf(2, 99, 3),
+        Asked::Version(0, 0, made!(0, 0)),
+        Asked::Version(1, 0, made!(0, 0)),
+        Asked::Version(1, 1, made!(2, 7)),
+        Asked::Version(2, 1, made!(0, 0)),
+        Asked::Version(2, 2, made!(9, 4)),
+        Asked::Version(2, 3, made!(2, 7)),
+        Asked::Makers(0, &[]),
+        Asked::Makers(1, &[0]),
+        Asked::Makers(2, &[1, 0]),
+    ],
+};
 
 /// Of `w2[350] c2`, five hundred keys of the open 1, and ` w3[480] r3[350:2]`. One key of a committed transaction and one own key
 /// are found: both lie far from the start of the range and from each other.

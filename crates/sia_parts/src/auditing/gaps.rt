@@ -1,81 +1,45 @@
-//! Keys that a range read covered and didn't list, so that it saw version 0 of each.
-ghost use Rattle.std.specs.Prelude.{◌≤◌, ℕ, All, OnOk};
+//! Written keys that a range read covered and didn't list, so that it saw version 0 of each.
+ghost use Rattle.std.specs.Prelude.{◌<◌, ◌≤◌, ℕ, IsTrue, OnOk};
+ghost use Rattle.sia_events.specs.Reads.{SawAt};
 ghost use Rattle.sia_events.specs.Refusals.{IsWellFormed};
-ghost use Rattle.sia_index.specs.Info.{IsReader};
-ghost use Rattle.sia_parts.specs.Gaps.{FromKeys, IsGapOf, IsBetween, IsUnlisted};
-ghost use Rattle.sia_parts.specs.Joining.{Spreads};
-ghost use Rattle.sia_parts.specs.Sights.{Adds, IsSight, IsBadOf, unlisted_sight, AscendsByKey};
-ghost use Rattle.sia_parts.specs.Unseen.{IsKnown};
+ghost use Rattle.sia_events.specs.Transactions.{Wrote};
+ghost use Rattle.sia_index.specs.Info.{IsKeyAt, IsReader};
+ghost use Rattle.sia_parts.specs.Gaps.{FromKeys, IsBetween, unlisted_sight};
+ghost use Rattle.sia_parts.specs.Joining.{IsAbsentFrom, IsInAbsence, Spreads};
+ghost use Rattle.sia_parts.specs.Known.{IsKnown};
+ghost use Rattle.sia_parts.specs.Seeing.{Gains, IsSightWithin};
+ghost use Rattle.sia_parts.specs.Sights.{Adds, FromSome, IsSight, IsBadOf};
 
-use crate::auditing::keys::{key_near, numbers_within};
-use crate::auditing::sights::Reading;
-use crate::auditing::unseen::put_absence;
+use crate::auditing::known::Known;
+use crate::auditing::seen::Seen;
 use crate::finding::BadRead;
 use crate::looks::Absence;
-use sia_events::{Key, NoMemory, Version};
+use sia_events::{Key, NoMemory};
 use sia_index::{Index, Reader};
 
-/// Adds the bad reads and the absences of a range read of the keys from `lo` to `hi`, at those that it didn't list.
-pub(crate) fn put_unlisted(
-    reading: &Reading,
-    listed: &[(Key, Version)],
-    lo: Key,
-    hi: Key,
-    bad: &mut Vec<BadRead>,
-    absences: &mut Vec<Absence>,
+/// Adds what was seen of the keys with numbers from the one to before the other, none of which was listed. Mostly there is none.
+#[inline(always)]
+pub(crate) fn put_gap(
+    ix: &Index,
+    known: &Known,
+    from: u32,
+    to: u32,
+    seen: &mut Seen,
 ) -> Result<(), NoMemory>
-    requires well_formed { IsWellFormed reading.now.ix.now }
-    requires known { IsKnown reading.now.ix.now reading.now.known.reader.txn reading.now.known.reader.place reading.now.known }
-    requires ascending { AscendsByKey listed.now }
-    requires within { All (λ p. (lo ≤ p.0) × (p.0 ≤ hi)) listed.now }
-    requires some { lo ≤ hi }
-    requires sights { (k : ℕ) → IsUnlisted listed.now lo hi k → IsSight reading.now.ix.now (unlisted_sight reading.now.known.reader k) }
-    ensures bad { OnOk result (Adds (FromKeys (IsUnlisted listed.now lo hi) (λ k. IsBadOf reading.now.ix.now (unlisted_sight reading.now.known.reader k))) bad.old.items bad.new.items) }
-    ensures absences { OnOk result (Spreads (IsGapOf reading.now.ix.now reading.now.known.reader (IsUnlisted listed.now lo hi)) absences.old.items absences.new.items) }
+    requires well_formed { IsWellFormed ix.now }
+    requires known { IsKnown ix.now known.now }
+    requires unlisted { (i : ℕ) → from ≤ i → i < to → (k : ℕ) × IsKeyAt ix.now i k × SawAt ix.now known.now.reader.place known.now.reader.txn k 0 }
+    ensures { OnOk result (Gains ix.now (IsSightWithin ix.now known.now.reader.place from to) seen.old seen.new) }
 {
-    let mut from = lo;
-    let mut near = reading.first;
-    for pair in listed {
-        let key = pair.0;
-        near = key_near(reading.ix, key, near).unwrap_or(near);
-        if from < key {
-            put_stretch(reading, from, key - 1, near, bad, absences)?;
-        }
-        if key >= hi {
-            return Ok(());
-        }
-        from = key + 1;
-        near = near.saturating_add(1);
+    if from >= to {
+        return Ok(());
     }
-    put_stretch(reading, from, hi, near, bad, absences)?;
-    Ok(())
+    let keys = ix.written_keys();
+    let (lo, hi) = (keys[from as usize], keys[to as usize - 1]);
+    put_due(ix, known.reader, lo, hi, &mut seen.bad_reads)?;
+    put_absence(known.number, from, to, &mut seen.absences)
 }
 
-// The same for the keys from `lo` to `hi`, none of which the range read listed. The first written key from `lo` on may have
-// number `near` among the written keys. Where none of them is written there is nothing to add.
-fn put_stretch(
-    reading: &Reading,
-    lo: Key,
-    hi: Key,
-    near: u32,
-    bad: &mut Vec<BadRead>,
-    absences: &mut Vec<Absence>,
-) -> Result<(), NoMemory>
-    requires well_formed { IsWellFormed reading.now.ix.now }
-    requires known { IsKnown reading.now.ix.now reading.now.known.reader.txn reading.now.known.reader.place reading.now.known }
-    requires sights { (k : ℕ) → IsBetween lo hi k → IsSight reading.now.ix.now (unlisted_sight reading.now.known.reader k) }
-    ensures bad { OnOk result (Adds (FromKeys (IsBetween lo hi) (λ k. IsBadOf reading.now.ix.now (unlisted_sight reading.now.known.reader k))) bad.old.items bad.new.items) }
-    ensures absences { OnOk result (Spreads (IsGapOf reading.now.ix.now reading.now.known.reader (IsBetween lo hi)) absences.old.items absences.new.items) }
-{
-    let (from, to) = numbers_within(reading.ix, lo, hi, near as usize, 0);
-    if from < to {
-        put_due(reading.ix, reading.known.reader, lo, hi, bad)?;
-        put_absence(reading.known.number, from, to, absences)?;
-    }
-    Ok(())
-}
-
-// Adds the bad reads at the keys from `lo` to `hi`: where another version than 0 is due.
 fn put_due(
     ix: &Index,
     reader: Reader,
@@ -84,7 +48,7 @@ fn put_due(
     bad: &mut Vec<BadRead>,
 ) -> Result<(), NoMemory>
     requires reader { IsReader ix.now reader.txn reader.place reader }
-    requires sights { (k : ℕ) → IsBetween lo hi k → IsSight ix.now (unlisted_sight reader k) }
+    requires sights { (k u : ℕ) → IsBetween lo hi k → Wrote ix.now u k → IsSight ix.now (unlisted_sight reader k) }
     ensures { OnOk result (Adds (FromKeys (IsBetween lo hi) (λ k. IsBadOf ix.now (unlisted_sight reader k))) bad.old.items bad.new.items) }
 {
     let mut from = lo;
@@ -102,4 +66,38 @@ fn put_due(
         from = next.key + 1;
     }
     Ok(())
+}
+
+// Adds the absence from one number of a key to before another, if the transaction has a number, and the last absence doesn't
+// hold it all.
+fn put_absence(
+    number: Option<u32>,
+    from: u32,
+    to: u32,
+    absences: &mut Vec<Absence>,
+) -> Result<(), NoMemory>
+    ensures { OnOk result (Spreads (IsAbsentFrom number from to) absences.old.items absences.new.items) }
+{
+    if let Some(txn) = number {
+        let absence = Absence { txn, from, to };
+        if is_held(absences, absence) {
+            return Ok(());
+        }
+        absences.push(absence)?;
+    }
+    Ok(())
+}
+
+// Whether the absence is of no key, or lies in the last one.
+#[inline(always)]
+fn is_held(absences: &[Absence], next: Absence) -> bool
+    ensures { IsTrue result → (at : ℕ × ℕ × ℕ) → IsInAbsence next at → FromSome IsInAbsence absences.now at }
+{
+    if next.from >= next.to {
+        return true;
+    }
+    match absences.last() {
+        Some(last) => last.txn == next.txn && last.from <= next.from && next.to <= last.to,
+        None => false,
+    }
 }

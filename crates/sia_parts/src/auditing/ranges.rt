@@ -1,227 +1,182 @@
-//! What range reads saw of the keys of a part: the keys that they listed, and the keys between these.
-ghost use Rattle.std.specs.Prelude.{◌≡◌, ◌↔◌, ◌≤◌, ℕ, All, Contains, List, false, IfOk, IsTrue, OnOk, map};
-ghost use Rattle.std.specs.List.Sorted.{IsStrictlyIncreasing};
+//! What a range read saw of the keys of a part: the keys that it listed, and the keys between these.
+ghost use Rattle.std.specs.Prelude.{◌≡◌, ◌↔◌, ◌<◌, ◌≤◌, ℕ, All, Contains, OnOk, IsTrue, Some, false, length, slice_index_or};
 ghost use Rattle.sia_events.specs.declared.event.Event.TheVariants as events;
+ghost use Rattle.sia_events.specs.Numbering.{names_of, pair_at, range_at, ranges_of, IsPair};
 ghost use Rattle.sia_events.specs.Places.{at_place};
-ghost use Rattle.sia_events.specs.Lists.{ListsAscending};
-ghost use Rattle.sia_events.specs.Refusals.{IsWellFormed};
-ghost use Rattle.sia_events.specs.Transactions.{IsCommitted, WroteBefore};
-ghost use Rattle.sia_index.specs.declared.info.RangeRead.{RangeRead};
-ghost use Rattle.sia_index.specs.Info.{AreRangesMeeting, IsRangeRead};
-ghost use Rattle.sia_parts.specs.Sights.{Adds, FromSome, FromSight, IsSight, IsRangeSight, IsListedSight, IsBadOf, LooksAt, listed_sight, AscendsByKey};
-ghost use Rattle.sia_parts.specs.Gaps.{AreWrittenFrom, IsUnlistedBy};
-ghost use Rattle.sia_parts.specs.Joining.{JoinsTo, Spreads};
-ghost use Rattle.sia_parts.specs.Unseen.{CommitsFrom, IsKnown, IsLastKnown};
+ghost use Rattle.sia_events.specs.Transactions.{WroteBefore};
+ghost use Rattle.sia_parts.specs.Known.{IsKnown};
+ghost use Rattle.sia_parts.specs.Seeing.{AscendByKey, Gains, IsCover, IsOrigin, IsScope, IsSightWithin, origin_in};
 
-use crate::auditing::gaps::put_unlisted;
-use crate::auditing::keys::{key_near, numbers_within};
-use crate::auditing::nearby::{first_near, next_near, still_ascend};
-use crate::auditing::sights::{Reading, Sight, put_bad_read, put_sight};
-use crate::auditing::unseen::{Known, known_after, put_absence, sees_none};
-use crate::cutting::Part;
-use crate::edges::committed::Committed;
-use crate::finding::BadRead;
-use crate::looks::{Absence, Look};
-use sia_events::{Event, History, Key, NoMemory, Version};
-use sia_index::keyed::{By, between};
-use sia_index::{Index, RangeRead};
-use std::alloc::Global;
+use crate::auditing::gaps::put_gap;
+use crate::auditing::keys::numbers_within;
+use crate::auditing::known::Known;
+use crate::auditing::seen::{Scope, Seen};
+use crate::auditing::sights::{Origin, View, put_view};
+use sia_events::{Key, Log, NoMemory};
 
-/// Where range reads are looked at: in a history, its index and its committed transactions, at the keys of a part, of which no
-/// version was committed before the place `first`.
+/// What a range read covers of a part: the keys from `lo` to `hi`, whose numbers among the written ones are those from `first` to
+/// before `end`, and the pairs that it listed of these. Where `own` isn't true, its reader is known not to have written them before.
 #[derive(Clone, Copy)]
-pub(crate) struct Scope<'a> {
-    pub(crate) h: &'a History,
-    pub(crate) ix: &'a Index,
-    pub(crate) committed: &'a Committed,
-    pub(crate) part: Part,
+pub(crate) struct Cover<'a> {
+    pub(crate) pairs: &'a [u32],
+    pub(crate) lo: Key,
+    pub(crate) hi: Key,
     pub(crate) first: u32,
+    pub(crate) end: u32,
+    pub(crate) own: bool,
 }
 
-/// The range reads that meet the part, by transaction and first key: so those of one transaction, which lie close together in the
-/// history, come one after another, and what they saw comes almost in order.
-pub(crate) fn ranges_in_turn(
-    alloc: Global,
-    ix: &Index,
-    part: Part,
-) -> Result<Vec<RangeRead>, NoMemory>
-    ensures { IfOk result (λ turns. AreRangesMeeting ix.now part.lo part.hi turns.items) }
-{
-    let mut turns = ix.ranges_meeting(part.lo, part.hi).to_vec(alloc)?;
-    turns.sort_unstable_by_key(|range| (range.txn, range.lo));
-    Ok(turns)
-}
-
-/// Adds the bad reads, the looks and the absences of range reads, one after another. Says whether the looks, of which there were
-/// none before, ascend by transaction and key.
-pub(crate) fn put_range_reads(
+pub(crate) fn put_range(
     scope: &Scope,
-    ranges: &[RangeRead],
-    bad: &mut Vec<BadRead>,
-    looks: &mut Vec<Look>,
-    absences: &mut Vec<Absence>,
-) -> Result<bool, NoMemory>
-    requires of { scope.now.ix.now ≡ scope.now.h.now }
-    requires committed { ListsAscending (IsCommitted scope.now.ix.now) scope.now.committed.now }
-    requires first { CommitsFrom scope.now.ix.now scope.now.part scope.now.first }
-    requires ranges { All (IsRangeRead scope.now.ix.now) ranges.now }
-    ensures bad { OnOk result (Adds (FromSome (λ range. FromSight (IsRangeSight scope.now.ix.now scope.now.part range) (IsBadOf scope.now.ix.now)) ranges.now) bad.old.items bad.new.items) }
-    ensures looks { OnOk result (JoinsTo (FromSome (λ range. FromSight (IsListedSight scope.now.ix.now scope.now.part range) (LooksAt scope.now.ix.now)) ranges.now) looks.old.items looks.new.items) }
-    ensures absences { OnOk result (Spreads (FromSome (IsUnlistedBy scope.now.ix.now scope.now.part) ranges.now) absences.old.items absences.new.items) }
+    known: &Known,
+    range: u32,
+    seen: &mut Seen,
+) -> Result<(), NoMemory>
+    requires scope { IsScope scope.now }
+    requires known { IsKnown scope.now.ix.now known.now }
+    requires range { range < length (ranges_of scope.now.ix.now) }
+    requires event { at_place scope.now.ix.now known.now.reader.place ≡ Some (events.Range known.now.reader.txn (range_at (names_of scope.now.ix.now) range).0 (range_at (names_of scope.now.ix.now) range).1 (range_at (names_of scope.now.ix.now) range).2) }
+    ensures { OnOk result (Gains scope.now.ix.now (IsSightWithin scope.now.ix.now known.now.reader.place scope.now.first scope.now.end) seen.old seen.new) }
 {
-    let mut ascend = true;
-    let mut last = None;
-    for range in ranges {
-        let end = looks.len();
-        last = put_range_read(scope, last, *range, bad, looks, absences)?;
-        ascend = still_ascend(ascend, looks, end);
-    }
-    Ok(ascend)
-}
-
-// Adds the bad reads, the looks and the absences of a range read, at the keys of the part. Passes on who read last.
-fn put_range_read(
-    scope: &Scope,
-    last: Option<Known>,
-    range: RangeRead,
-    bad: &mut Vec<BadRead>,
-    looks: &mut Vec<Look>,
-    absences: &mut Vec<Absence>,
-) -> Result<Option<Known>, NoMemory>
-    requires of { scope.now.ix.now ≡ scope.now.h.now }
-    requires committed { ListsAscending (IsCommitted scope.now.ix.now) scope.now.committed.now }
-    requires first { CommitsFrom scope.now.ix.now scope.now.part scope.now.first }
-    requires last { IsLastKnown scope.now.ix.now last }
-    requires range { IsRangeRead scope.now.ix.now range }
-    ensures last { IfOk result (λ next. IsLastKnown scope.now.ix.now next) }
-    ensures bad { OnOk result (Adds (FromSight (IsRangeSight scope.now.ix.now scope.now.part range) (IsBadOf scope.now.ix.now)) bad.old.items bad.new.items) }
-    ensures looks { OnOk result (JoinsTo (FromSight (IsListedSight scope.now.ix.now scope.now.part range) (LooksAt scope.now.ix.now)) looks.old.items looks.new.items) }
-    ensures absences { OnOk result (Spreads (IsUnlistedBy scope.now.ix.now scope.now.part range) absences.old.items absences.new.items) }
-{
-    let ix = scope.ix;
-    ix.law();
-    ix.keys_law();
-    let lo = scope.part.lo.max(range.lo);
-    let hi = scope.part.hi.min(range.hi);
+    let (from, to) = scope.log.range(range);
+    let listed = scope.log.listed(range);
+    let lo = from.max(scope.part.lo);
+    let hi = to.min(scope.part.hi);
     if lo > hi {
-        return Ok(last);
+        return Ok(());
     }
-    let listed = listed_within(listed_at(scope.h, range.place), lo, hi);
-    let known = known_after(ix, scope.committed, last, range.txn, range.place);
-    let own = ix.may_own(known.reader, lo, hi);
-    let (first, end) = numbers_within(ix, lo, hi, ix.key_hint(lo), listed.len());
-    if listed.is_empty() {
-        if sees_none(known.reader, own, scope.first) {
-            put_absence(known.number, first, end, absences)?;
-            return Ok(Some(known));
-        }
-    }
-    let reading = Reading {
-        ix,
-        known,
+    let behind = pairs_from(scope.log, listed, from, lo);
+    let pairs = pairs_up_to(scope.log, behind, hi, to);
+    let (near, past) = guess(scope, pairs, hi);
+    let (first, end) = numbers_within(scope.ix, lo, hi, near, past);
+    let cover = Cover {
+        pairs,
+        lo,
+        hi,
         first,
-        own,
+        end,
+        own: scope.ix.may_own(known.reader, lo, hi),
     };
-    let side_by_side = put_listed_keys(&reading, range, listed, bad, looks)?;
-    if side_by_side {
-        if listed.len() == end.saturating_sub(first) as usize {
-            return Ok(Some(known));
-        }
-    }
-    put_unlisted(&reading, listed, lo, hi, bad, absences)?;
-    Ok(Some(known))
+    put_covered(scope, known, &cover, seen)
 }
 
-// Adds the bad reads and the looks of keys that a range read listed. Says whether these are the written keys from the first number
-// on, side by side.
-fn put_listed_keys(
-    reading: &Reading,
-    range: RangeRead,
-    listed: &[(Key, Version)],
-    bad: &mut Vec<BadRead>,
-    looks: &mut Vec<Look>,
-) -> Result<bool, NoMemory>
-    requires well_formed { IsWellFormed reading.now.ix.now }
-    requires known { IsKnown reading.now.ix.now range.txn range.place reading.now.known }
-    requires sights { All (λ pair. IsSight reading.now.ix.now (listed_sight range pair)) listed.now }
-    requires own { reading.now.own ≡ false → All (λ pair. ¬ WroteBefore reading.now.ix.now range.txn pair.0 range.place) listed.now }
-    ensures side_by_side { IfOk result (λ so. IsTrue so → AreWrittenFrom reading.now.ix.now reading.now.first listed.now) }
-    ensures bad { OnOk result (Adds (FromSome (λ pair. IsBadOf reading.now.ix.now (listed_sight range pair)) listed.now) bad.old.items bad.new.items) }
-    ensures looks { OnOk result (JoinsTo (FromSome (λ pair. LooksAt reading.now.ix.now (listed_sight range pair)) listed.now) looks.old.items looks.new.items) }
+// Adds what was seen of the keys listed, and of those between them.
+fn put_covered(scope: &Scope, known: &Known, cover: &Cover, seen: &mut Seen) -> Result<(), NoMemory>
+    requires scope { IsScope scope.now }
+    requires known { IsKnown scope.now.ix.now known.now }
+    requires cover { IsCover scope.now.ix.now known.now cover.now }
+    ensures { OnOk result (Gains scope.now.ix.now (IsSightWithin scope.now.ix.now known.now.reader.place cover.now.first cover.now.end) seen.old seen.new) }
 {
-    let mut near = reading.first;
-    let mut side_by_side = true;
-    let mut place = first_near(looks, reading.known.number.unwrap_or(0), near);
-    let end = looks.len();
-    for pair in listed {
-        let sight = Sight {
-            place: range.place,
-            txn: range.txn,
-            key: pair.0,
-            saw: pair.1,
-        };
-        match key_near(reading.ix, pair.0, near) {
-            Some(number) => {
-                if number != near {
-                    side_by_side = false;
-                }
-                place = next_near(looks, place, end, number);
-                put_sight(reading, sight, number, place, bad, looks)?;
-                near = number + 1;
-            }
-            // Version 0 of a key that isn't written is due to everyone.
-            None => {
-                side_by_side = false;
-                put_bad_read(sight, 0, bad)?;
-            }
+    let mut next = cover.first;
+    for pair in cover.pairs {
+        let origin = origin_of_pair(scope.log, *pair);
+        // Version 0 of a key that isn't written is due to everyone.
+        if let Some(at) = origin.stands(scope.ix) {
+            put_gap(scope.ix, known, next, at.key, seen)?;
+            next = at.key + 1;
+            let mine = wrote(scope, known, cover, origin);
+            put_view(scope, known, &View { origin, at, mine }, seen)?;
         }
     }
-    Ok(side_by_side)
+    put_gap(scope.ix, known, next, cover.end, seen)
 }
 
-// The keys that the range read at the place listed.
-fn listed_at(h: &History, place: u32) -> &[(Key, Version)]
-    ensures { (t lo hi : ℕ) (listed : List (ℕ × ℕ)) → at_place h.now place ≡ Some (events.Range t lo hi listed) → result.now ≡ listed }
+// What made the version that was listed.
+#[inline(always)]
+fn origin_of_pair(log: &Log, pair: u32) -> Origin
+    requires { IsPair (names_of log.now) pair }
+    ensures origin { IsOrigin (names_of log.now) result }
+    ensures same { origin_in (names_of log.now) result ≡ pair_at (names_of log.now) pair }
 {
-    match h.event(place) {
-        Some(event) => match event {
-            Event::Range { listed, .. } => listed.as_slice(),
-            _ => &[],
+    log.law();
+    if pair <= log.write_count() {
+        Origin::Write(pair)
+    } else {
+        Origin::Nobody(log.pair_numbers(pair).0)
+    }
+}
+
+// Whether the reader had written the key before.
+#[inline(always)]
+fn wrote(scope: &Scope, known: &Known, cover: &Cover, origin: Origin) -> bool
+    requires scope { IsScope scope.now }
+    requires known { IsKnown scope.now.ix.now known.now }
+    requires origin { IsOrigin (names_of scope.now.ix.now) origin }
+    requires own { cover.now.own ≡ false → ¬ WroteBefore scope.now.ix.now known.now.reader.txn (origin_in (names_of scope.now.ix.now) origin).0 known.now.reader.place }
+    ensures { IsTrue result ↔ WroteBefore scope.now.ix.now known.now.reader.txn (origin_in (names_of scope.now.ix.now) origin).0 known.now.reader.place }
+{
+    if cover.own {
+        scope
+            .ix
+            .wrote_before(known.reader, origin.names(scope.log).0)
+    } else {
+        false
+    }
+}
+
+// Guesses of the numbers of the first covered key, and behind the last one. Nothing rests on them.
+fn guess(scope: &Scope, pairs: &[u32], hi: Key) -> (usize, usize)
+    requires scope { IsScope scope.now }
+    requires pairs { All (IsPair (names_of scope.now.ix.now)) pairs.now }
+{
+    let first = match pairs.first() {
+        Some(pair) => match origin_of_pair(scope.log, *pair).stands(scope.ix) {
+            Some(at) => at.key,
+            None => scope.first,
         },
-        None => &[],
+        None => scope.first,
+    };
+    let near = first as usize;
+    if hi < scope.part.hi {
+        (near, near.saturating_add(pairs.len()))
+    } else {
+        (near, scope.end as usize)
     }
 }
 
-/// Listed keys, each with a version.
-struct ByListed;
-
-impl By<(Key, Version)> for ByListed {
-    ghost by = { λ pair. pair.0 };
-
-    fn number(pair: &(Key, Version)) -> u64 {
-        pair.0
-    }
-}
-
-// Of listed keys those from `lo` to `hi`.
-fn listed_within(listed: &[(Key, Version)], lo: Key, hi: Key) -> &[(Key, Version)]
-    requires { IsStrictlyIncreasing (map (λ p. p.0) listed.now) }
-    ensures ascending { AscendsByKey result.now }
-    ensures each { (p : ℕ × ℕ) → Contains result.now p ↔ (Contains listed.now p × (lo ≤ p.0) × (p.0 ≤ hi)) }
+fn pairs_from<'a>(log: &Log, pairs: &'a [u32], least: Key, lo: Key) -> &'a [u32]
+    requires numbers { All (IsPair (names_of log.now)) pairs.now }
+    requires ascend { AscendByKey log.now pairs.now }
+    requires inside { All (λ p. least ≤ (pair_at (names_of log.now) p).0) pairs.now }
+    ensures ascend { AscendByKey log.now result.now }
+    ensures each { (p : ℕ) → Contains result.now p ↔ (Contains pairs.now p × (lo ≤ (pair_at (names_of log.now) p).0)) }
 {
-    if are_within(listed, lo, hi) {
-        return listed;
+    if lo <= least {
+        return pairs;
     }
-    between::<(Key, Version), ByListed>(listed, lo, hi)
+    &pairs[place_of(log, pairs, lo)..]
 }
 
-// Whether the first and the last of the listed keys show that all are from `lo` to `hi`.
-fn are_within(listed: &[(Key, Version)], lo: Key, hi: Key) -> bool
-    requires { AscendsByKey listed.now }
-    ensures { IsTrue result → All (λ p. (lo ≤ p.0) × (p.0 ≤ hi)) listed.now }
+fn pairs_up_to<'a>(log: &Log, pairs: &'a [u32], hi: Key, most: Key) -> &'a [u32]
+    requires numbers { All (IsPair (names_of log.now)) pairs.now }
+    requires ascend { AscendByKey log.now pairs.now }
+    requires inside { All (λ p. (pair_at (names_of log.now) p).0 ≤ most) pairs.now }
+    ensures ascend { AscendByKey log.now result.now }
+    ensures each { (p : ℕ) → Contains result.now p ↔ (Contains pairs.now p × ((pair_at (names_of log.now) p).0 ≤ hi)) }
 {
-    if listed.is_empty() {
-        return true;
+    if most <= hi {
+        return pairs;
     }
-    lo <= listed[0].0 && listed[listed.len() - 1].0 <= hi
+    &pairs[..place_of(log, pairs, hi + 1)]
+}
+
+// How many of the pairs are of keys before this one.
+fn place_of(log: &Log, pairs: &[u32], key: Key) -> usize
+    requires numbers { All (IsPair (names_of log.now)) pairs.now }
+    requires ascend { AscendByKey log.now pairs.now }
+    ensures bound { result ≤ length pairs.now }
+    ensures below { (i d : ℕ) → i < result → (pair_at (names_of log.now) (slice_index_or pairs.now i d)).0 < key }
+    ensures above { (i d : ℕ) → result ≤ i → i < length pairs.now → key ≤ (pair_at (names_of log.now) (slice_index_or pairs.now i d)).0 }
+{
+    let mut low = 0;
+    let mut high = pairs.len();
+    while low < high {
+        let middle = low + (high - low) / 2;
+        if log.pair(pairs[middle]).0 < key {
+            low = middle + 1;
+        } else {
+            high = middle;
+        }
+    }
+    low
 }

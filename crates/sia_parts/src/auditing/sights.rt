@@ -1,25 +1,26 @@
-//! What reads saw of the keys of a part: bad reads, and the looks that give edges.
-ghost use Rattle.std.specs.Prelude.{◌≡◌, ◌↔◌, ℕ, All, List, Some, false, IsTrue, OnOk, MatchOption};
+//! What a read saw of one key: whether it is bad, and the look that gives edges.
+ghost use Rattle.std.specs.Prelude.{◌≡◌, ◌≢◌, ◌↔◌, ◌+◌, ◌<◌, ◌≤◌, ℕ, List, Some, IsTrue, OnOk, MatchOption};
 ghost use Rattle.sia_events.specs.declared.event.Event.{Event};
-ghost use Rattle.sia_events.specs.Lists.{ListsAscending};
+ghost use Rattle.sia_events.specs.Numbering.{names_of};
 ghost use Rattle.sia_events.specs.NarrowDependencies.{IsAsOf};
-ghost use Rattle.sia_events.specs.Transactions.{IsCommitted, CommitsAt, WroteBefore};
+ghost use Rattle.sia_events.specs.declared.event.Event.TheVariants as events;
+ghost use Rattle.sia_events.specs.Places.{at_place};
 ghost use Rattle.sia_events.specs.Reads.{IsDue};
 ghost use Rattle.sia_events.specs.Refusals.{IsWellFormed};
-ghost use Rattle.sia_index.specs.Info.{IsItemRead, IsKeyAt};
-ghost use Rattle.sia_index.specs.Seen.{IsSeen};
-ghost use Rattle.sia_parts.specs.Joining.{JoinsTo, IsLookOfSight};
-ghost use Rattle.sia_parts.specs.Sights.{Adds, FromSome, IsSight, IsBadOf, LooksAt, read_sight};
-ghost use Rattle.sia_parts.specs.Unseen.{IsKnown};
+ghost use Rattle.sia_events.specs.Transactions.{Wrote, WroteBefore};
+ghost use Rattle.sia_index.specs.Info.{HasKeyAt, IsKeyAt};
+ghost use Rattle.sia_index.specs.Positions.{IsPosition};
+ghost use Rattle.sia_parts.specs.declared.auditing.sights.Sight.{Sight as sight};
+ghost use Rattle.sia_parts.specs.Known.{IsKnown};
+ghost use Rattle.sia_parts.specs.Seeing.{Gains, GainsLook, IsOrigin, IsScope, IsSightWithin, IsVersionAt, IsView, IsVersionOf, origin_in};
+ghost use Rattle.sia_parts.specs.Sights.{Adds, IsSight, IsBadOf};
 
-use crate::auditing::joining::put_joined;
-use crate::auditing::keys::key_near;
-use crate::auditing::unseen::{Known, known_after};
-use crate::edges::committed::Committed;
+use crate::auditing::known::Known;
+use crate::auditing::seen::{Scope, Seen};
 use crate::finding::BadRead;
 use crate::looks::Look;
-use sia_events::{Key, NoMemory, TxnId, Version};
-use sia_index::{Index, ItemRead, Seen};
+use sia_events::{Key, Log, NoMemory, TxnId, Version};
+use sia_index::{Index, WriteAt};
 
 /// A version of a key that a transaction saw at a place.
 #[derive(Clone, Copy)]
@@ -30,111 +31,146 @@ pub(crate) struct Sight {
     pub(crate) saw: Version,
 }
 
-/// A read by an index: what is known of who reads, and the number that the first key may have among the written ones. Where
-/// `own` isn't true, it is known not to have written the keys before.
+/// What made a version: a write of the log, or nobody, for version 0 of a key of the log.
 #[derive(Clone, Copy)]
-pub(crate) struct Reading<'a> {
-    pub(crate) ix: &'a Index,
-    pub(crate) known: Known,
-    pub(crate) first: u32,
-    pub(crate) own: bool,
+pub(crate) enum Origin {
+    Write(u32),
+    Nobody(u32),
 }
 
-/// Adds the bad reads and the looks of read events.
-pub(crate) fn put_item_reads(
-    ix: &Index,
-    committed: &Committed,
-    reads: &[ItemRead],
-    bad: &mut Vec<BadRead>,
-    looks: &mut Vec<Look>,
-) -> Result<(), NoMemory>
-    requires well_formed { IsWellFormed ix.now }
-    requires committed { ListsAscending (IsCommitted ix.now) committed.now }
-    requires reads { All (IsItemRead ix.now) reads.now }
-    ensures bad { OnOk result (Adds (FromSome (λ read. IsBadOf ix.now (read_sight read)) reads.now) bad.old.items bad.new.items) }
-    ensures looks { OnOk result (JoinsTo (FromSome (λ read. LooksAt ix.now (read_sight read)) reads.now) looks.old.items looks.new.items) }
-{
-    let mut last = None;
-    let mut first = 0;
-    for read in reads {
-        let sight = Sight {
-            place: read.place,
-            txn: read.txn,
-            key: read.key,
-            saw: read.saw,
-        };
-        let known = known_after(ix, committed, last, read.txn, read.place);
-        last = Some(known);
-        let own = known.reader.has_written;
-        match key_near(ix, read.key, first) {
-            Some(number) => {
-                first = number;
-                // Reads of one transaction and key stand side by side.
-                let place = looks.len().saturating_sub(1);
-                let reading = Reading {
-                    ix,
-                    known,
-                    first,
-                    own,
-                };
-                put_sight(&reading, sight, number, place, bad, looks)?;
+/// A version that a reader saw, and where it stands. `mine` says whether the reader had written the key before.
+#[derive(Clone, Copy)]
+pub(crate) struct View {
+    pub(crate) origin: Origin,
+    pub(crate) at: WriteAt,
+    pub(crate) mine: bool,
+}
+
+impl Origin {
+    pub(crate) fn names(self, log: &Log) -> (Key, Version)
+        requires { IsOrigin (names_of log.now) self }
+        ensures { result ≡ origin_in (names_of log.now) self }
+    {
+        match self {
+            Origin::Write(write) => (log.key(log.write(write).key), log.version(write)),
+            Origin::Nobody(key) => (log.key(key), 0),
+        }
+    }
+
+    #[inline(always)]
+    pub(crate) fn stands(self, ix: &Index) -> Option<WriteAt>
+        requires well_formed { IsWellFormed ix.now }
+        requires origin { IsOrigin (names_of ix.now) self }
+        ensures { MatchOption result ((t : ℕ) → ¬ Wrote ix.now t (origin_in (names_of ix.now) self).0) (IsVersionAt ix.now (origin_in (names_of ix.now) self).0 (origin_in (names_of ix.now) self).1) }
+    {
+        match self {
+            Origin::Write(write) => Some(ix.write_at(write)),
+            Origin::Nobody(key) => {
+                let number = ix.written_number(key)?;
+                Some(WriteAt {
+                    key: number,
+                    position: Some(ix.first_position(number)),
+                })
             }
-            // Version 0 of a key that isn't written is due to everyone.
-            None => put_bad_read(sight, 0, bad)?,
         }
     }
-    Ok(())
 }
 
-/// Adds the bad read of a sight, if it is one, and its look, if it has one, joined with the one at the place, if that is of its
-/// transaction and key. Its key has the number among the written ones.
 #[inline(always)]
-pub(crate) fn put_sight(
-    reading: &Reading,
-    sight: Sight,
-    number: u32,
-    place: usize,
-    bad: &mut Vec<BadRead>,
-    looks: &mut Vec<Look>,
+pub(crate) fn put_read(
+    scope: &Scope,
+    known: &Known,
+    origin: Origin,
+    mine: bool,
+    seen: &mut Seen,
 ) -> Result<(), NoMemory>
-    requires well_formed { IsWellFormed reading.now.ix.now }
-    requires known { IsKnown reading.now.ix.now sight.txn sight.place reading.now.known }
-    requires sight { IsSight reading.now.ix.now sight }
-    requires number { IsKeyAt reading.now.ix.now number sight.key }
-    requires own { reading.now.own ≡ false → ¬ WroteBefore reading.now.ix.now sight.txn sight.key sight.place }
-    ensures bad { OnOk result (Adds (IsBadOf reading.now.ix.now sight) bad.old.items bad.new.items) }
-    ensures looks { OnOk result (JoinsTo (LooksAt reading.now.ix.now sight) looks.old.items looks.new.items) }
+    requires scope { IsScope scope.now }
+    requires known { IsKnown scope.now.ix.now known.now }
+    requires origin { IsOrigin (names_of scope.now.ix.now) origin }
+    requires event { at_place scope.now.ix.now known.now.reader.place ≡ Some (events.Read known.now.reader.txn (origin_in (names_of scope.now.ix.now) origin).0 (origin_in (names_of scope.now.ix.now) origin).1) }
+    requires mine { IsTrue mine ↔ WroteBefore scope.now.ix.now known.now.reader.txn (origin_in (names_of scope.now.ix.now) origin).0 known.now.reader.place }
+    ensures { OnOk result (Gains scope.now.ix.now (IsSightWithin scope.now.ix.now known.now.reader.place scope.now.first scope.now.end) seen.old seen.new) }
 {
-    let seen = reading.ix.seen_at(reading.known.reader, number as usize);
-    let due = due_at(reading, sight, seen);
-    put_bad_read(sight, due, bad)?;
-    if let Some(look) = look_of(reading, sight, seen, number) {
-        put_joined(looks, look, place)?;
+    let Some(at) = origin.stands(scope.ix) else {
+        return Ok(());
+    };
+    if !is_in(scope, at.key) {
+        return Ok(());
     }
-    Ok(())
+    let view = View { origin, at, mine };
+    put_view(scope, known, &view, seen)
 }
 
-// The version due at a sight.
-fn due_at(reading: &Reading, sight: Sight, seen: Seen) -> Version
-    requires known { IsKnown reading.now.ix.now sight.txn sight.place reading.now.known }
-    requires own { reading.now.own ≡ false → ¬ WroteBefore reading.now.ix.now sight.txn sight.key sight.place }
-    requires seen { IsSeen reading.now.ix.now sight.txn sight.place sight.key seen }
-    ensures { IsDue reading.now.ix.now sight.txn sight.place sight.key result }
+fn is_in(scope: &Scope, key: u32) -> bool
+    ensures { IsTrue result ↔ ((scope.now.first ≤ key) × (key < scope.now.end)) }
 {
-    if reading.own {
-        if reading.ix.wrote_before(reading.known.reader, sight.key) {
-            return sight.txn;
+    scope.first <= key && key < scope.end
+}
+
+/// Adds what was seen of a written key. Mostly it was due, which two loads tell.
+#[inline(always)]
+pub(crate) fn put_view(
+    scope: &Scope,
+    known: &Known,
+    view: &View,
+    seen: &mut Seen,
+) -> Result<(), NoMemory>
+    requires scope { IsScope scope.now }
+    requires known { IsKnown scope.now.ix.now known.now }
+    requires view { IsView scope.now.ix.now known.now view.now }
+    ensures { OnOk result (Gains scope.now.ix.now (IsSightWithin scope.now.ix.now known.now.reader.place view.now.at.key (view.now.at.key + 1)) seen.old seen.new) }
+{
+    if !view.mine {
+        if let Some(position) = view.at.position {
+            if scope
+                .ix
+                .is_newest(view.at.key, position, known.reader.start)
+            {
+                return put_look(scope.ix, known, view.at.key, position, &mut seen.looks);
+            }
         }
     }
-    seen.version
+    put_doubtful(scope, known, view, seen)
 }
 
-/// Adds the bad read of a sight at which this version is due, if it is one.
-pub(crate) fn put_bad_read(
-    sight: Sight,
-    due: Version,
-    bad: &mut Vec<BadRead>,
-) -> Result<(), NoMemory>
+// The same, where it may not have been due.
+fn put_doubtful(scope: &Scope, known: &Known, view: &View, seen: &mut Seen) -> Result<(), NoMemory>
+    requires scope { IsScope scope.now }
+    requires known { IsKnown scope.now.ix.now known.now }
+    requires view { IsView scope.now.ix.now known.now view.now }
+    ensures { OnOk result (Gains scope.now.ix.now (IsSightWithin scope.now.ix.now known.now.reader.place view.now.at.key (view.now.at.key + 1)) seen.old seen.new) }
+{
+    let (key, saw) = view.origin.names(scope.log);
+    let sight = Sight {
+        place: known.reader.place,
+        txn: known.reader.txn,
+        key,
+        saw,
+    };
+    put_bad_read(sight, due_at(scope.ix, known, view), &mut seen.bad_reads)?;
+    if saw == known.reader.txn {
+        return Ok(());
+    }
+    match view.at.position {
+        Some(position) => put_look(scope.ix, known, view.at.key, position, &mut seen.looks),
+        None => Ok(()),
+    }
+}
+
+fn due_at(ix: &Index, known: &Known, view: &View) -> Version
+    requires well_formed { IsWellFormed ix.now }
+    requires known { IsKnown ix.now known.now }
+    requires view { IsView ix.now known.now view.now }
+    ensures { IsDue ix.now known.now.reader.txn known.now.reader.place (origin_in (names_of ix.now) view.now.origin).0 result }
+{
+    if view.mine {
+        return known.reader.txn;
+    }
+    let position = ix.position_as_of(view.at.key, known.reader.start);
+    ix.version_at(view.at.key, position).txn
+}
+
+fn put_bad_read(sight: Sight, due: Version, bad: &mut Vec<BadRead>) -> Result<(), NoMemory>
     ensures { (h : List Event) → IsSight h sight → IsDue h sight.txn sight.place sight.key due → OnOk result (Adds (IsBadOf h sight) bad.old.items bad.new.items) }
 {
     if due != sight.saw {
@@ -149,55 +185,28 @@ pub(crate) fn put_bad_read(
     Ok(())
 }
 
-// The look of a sight by a committed transaction, of a written key, which has the number, and of a version that isn't its own and
-// that 0 or a committed one made.
-fn look_of(reading: &Reading, sight: Sight, seen: Seen, number: u32) -> Option<Look>
-    requires well_formed { IsWellFormed reading.now.ix.now }
-    requires known { IsKnown reading.now.ix.now sight.txn sight.place reading.now.known }
-    requires seen { IsSeen reading.now.ix.now sight.txn sight.place sight.key seen }
-    requires number { IsKeyAt reading.now.ix.now number sight.key }
-    ensures { MatchOption result ((at : ℕ × ℕ × ℕ) → ¬ LooksAt reading.now.ix.now sight at) (IsLookOfSight reading.now.ix.now sight) }
-{
-    if sight.saw == sight.txn {
-        return None;
-    }
-    let txn = reading.known.number?;
-    let at = as_of_seen(reading.ix, sight.saw, seen)?;
-    Some(Look {
-        txn,
-        key: number,
-        low: at,
-        high: at,
-    })
-}
-
-// The place as of which the version is, which is known of the one that is seen.
-fn as_of_seen(ix: &Index, v: Version, seen: Seen) -> Option<u32>
+#[inline(always)]
+fn put_look(
+    ix: &Index,
+    known: &Known,
+    key: u32,
+    position: u32,
+    looks: &mut Vec<Look>,
+) -> Result<(), NoMemory>
     requires well_formed { IsWellFormed ix.now }
-    requires seen { IsAsOf ix.now seen.version seen.commit }
-    ensures { (c : ℕ) → (result ≡ Some c) ↔ IsAsOf ix.now v c }
+    requires known { IsKnown ix.now known.now }
+    requires key { HasKeyAt ix.now key }
+    ensures { (s : sight) (c : ℕ) → s.txn ≡ known.now.reader.txn → s.saw ≢ s.txn → IsKeyAt ix.now key s.key → IsVersionOf ix.now s.key s.saw c → IsPosition ix.now s.key c position → OnOk result (GainsLook ix.now s looks.old.items looks.new.items) }
 {
-    if v == seen.version {
-        return Some(seen.commit);
+    if let Some(txn) = known.number {
+        let commit = ix.version_at(key, position).commit;
+        looks.push(Look {
+            txn,
+            key,
+            low: commit,
+            high: commit,
+            at: position,
+        })?;
     }
-    if v == 0 {
-        return Some(0);
-    }
-    commit_of(ix, v)
-}
-
-/// Whether the transaction committed.
-pub(crate) fn is_committed(ix: &Index, t: TxnId) -> bool
-    requires { IsWellFormed ix.now }
-    ensures { IsTrue result ↔ IsCommitted ix.now t }
-{
-    commit_of(ix, t).is_some()
-}
-
-/// Where the transaction commits, if it does.
-pub fn commit_of(ix: &Index, txn: TxnId) -> Option<u32>
-    ensures { MatchOption result (¬ IsCommitted ix.now txn) (CommitsAt ix.now txn) }
-{
-    ix.law();
-    ix.txn(txn)?.commit()
+    Ok(())
 }

@@ -40,7 +40,6 @@ pub(crate) fn put_runs(
     Ok(())
 }
 
-// Where the run of fans from the same source ends.
 fn run_end(fans: &[Fan], from: usize) -> usize
     requires { from < length fans.now }
     ensures forward { from < result }
@@ -54,7 +53,6 @@ fn run_end(fans: &[Fan], from: usize) -> usize
     to
 }
 
-// Adds the numbers of these fans in order.
 fn put_run(
     alloc: Global,
     looks: &Looks,
@@ -72,7 +70,6 @@ fn put_run(
     Ok(())
 }
 
-// The looks that edges of the kind lead to.
 fn of_kind(looks: &Looks, kind: Kind) -> &[Look]
     ensures { result.now ≡ looks_for looks.now kind }
 {
@@ -98,7 +95,6 @@ fn looks_of_fan(looks: &Looks, fan: Fan) -> &[Look]
     }
 }
 
-// Adds the numbers of the edges to the looks.
 fn put_numbers_to(
     src: u32,
     kind: Kind,
@@ -120,7 +116,6 @@ fn put_numbers_to(
     Ok(())
 }
 
-// The number of the edge to the look.
 fn number_to(src: u32, kind: Kind, look: Look) -> u64
     requires source { src < 1048576 }
     requires look { HasDigits look }
@@ -130,7 +125,6 @@ fn number_to(src: u32, kind: Kind, look: Look) -> u64
     (pair * 4 + number_of(kind)) * BASE + u64::from(look.key)
 }
 
-// The place of a kind among the kinds.
 fn number_of(kind: Kind) -> u64
     ensures { result ≡ kind_number kind }
 {

@@ -13,7 +13,6 @@ ghost use Rattle.sia_parts.specs.Looks.{AreLooks, RiseByRank};
 ghost use Rattle.sia_parts.specs.Parts.{IsWithin};
 ghost use Rattle.sia_parts.specs.Sights.{FromSome, Gives};
 
-use crate::edges::committed::Committed;
 use crate::edges::fanning::{count, put_runs};
 use crate::edges::numbers::EdgeNumber;
 use crate::edges::ranks::{places, rank, rank_above, rank_all};
@@ -66,20 +65,14 @@ struct Reach {
 
 impl Fans {
     /// The fans of all edges between those who looked.
-    pub fn of(
-        alloc: Global,
-        ix: &Index,
-        committed: &Committed,
-        mut looks: Looks,
-    ) -> Result<Fans, NoMemory>
-        requires committed { ListsAscending (IsCommitted ix.now) committed.now }
+    pub fn of(alloc: Global, ix: &Index, mut looks: Looks) -> Result<Fans, NoMemory>
         requires looks { (at : Option Part) × AreLooks ix.now (IsWithin at) looks }
-        ensures stand { IfOk result (λ fans. (at : Option Part) → AreLooks ix.now (IsWithin at) looks → (keys : List ℕ) → AreWrittenKeys ix.now keys
-            → StandForEdges ix.now committed.now keys (IsWithin at) (IsNumberIn fans)) }
+        ensures stand { IfOk result (λ fans. (at : Option Part) → AreLooks ix.now (IsWithin at) looks
+            → (txns keys : List ℕ) → ListsAscending (IsCommitted ix.now) txns → AreWrittenKeys ix.now keys
+            → StandForEdges ix.now txns keys (IsWithin at) (IsNumberIn fans)) }
         ensures spread { IfOk result CanSpread }
     {
         ix.law();
-        let _ = committed;
         let mut fans = Vec::new(alloc);
         put_reader_fans(&looks.writers, &looks.readers, &mut fans)?;
         put_absence_fans(&looks.writers, &looks.absences, &mut fans)?;
@@ -103,7 +96,6 @@ impl Fans {
     }
 }
 
-// The fans of these sources.
 fn fans_between(fans: &[Fan], from: usize, to: usize) -> &[Fan]
     requires { RiseBySource fans.now }
     ensures { (f : fan) → Contains result.now f ↔ (Contains fans.now f × (from ≤ f.src) × (f.src < to)) }
@@ -160,13 +152,11 @@ fn put_fans_of_writer(
     Ok((first, second))
 }
 
-// Adds the fans of the readers: to the versions after the first one that each saw.
 fn put_reader_fans(writers: &[Look], readers: &[Look], fans: &mut Vec<Fan>) -> Result<(), NoMemory>
     requires writers { RiseByRank writers.now }
     requires readers { All HasDigits readers.now }
     ensures { OnOk result (GivesTo Rw writers.now (FromSome (IsReaderNumber writers.now) readers.now) fans.old.items fans.new.items) }
 {
-    let mut near = 0;
     for look in readers {
         let reach = Reach {
             src: look.txn,
@@ -174,12 +164,11 @@ fn put_reader_fans(writers: &[Look], readers: &[Look], fans: &mut Vec<Fan>) -> R
             from: rank(look.key, look.low) + 1,
             to: rank_above(look.key),
         };
-        near = put_fan(writers, reach, near, fans)?;
+        put_fan(writers, reach, look.at as usize, fans)?;
     }
     Ok(())
 }
 
-// Adds the fans of the absences: to the versions of their keys.
 fn put_absence_fans(
     writers: &[Look],
     absences: &[Absence],

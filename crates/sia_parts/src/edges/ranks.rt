@@ -19,7 +19,6 @@ impl By<Look> for ByRank {
     }
 }
 
-/// Puts the looks in the order of their ranks.
 pub(crate) fn rank_all(looks: &mut Vec<Look>) -> Result<(), NoMemory>
     ensures same { OnOk result ((look : Look) → Contains looks.new.items look ↔ Contains looks.old.items look) }
     ensures rise { OnOk result (RiseByRank looks.new.items) }
@@ -35,7 +34,6 @@ pub(crate) fn rank(key: u32, place: u32) -> u64
     u64::from(key) * 4_294_967_296 + u64::from(place)
 }
 
-/// The rank above those of all looks at the key.
 pub(crate) fn rank_above(key: u32) -> u64
     requires { key < 1048576 }
     ensures { result ≡ rank_of (key + 1) 0 }
@@ -43,7 +41,6 @@ pub(crate) fn rank_above(key: u32) -> u64
     (u64::from(key) + 1) * 4_294_967_296
 }
 
-/// Where the looks from one rank to below another start and stop. They are looked for from the place on.
 pub(crate) fn places(looks: &[Look], from: u64, to: u64, near: usize) -> (usize, usize)
     requires { RiseByRank looks.now }
     ensures forward { result.0 ≤ result.1 }

@@ -71,7 +71,6 @@ fn put_chunk_bounds(
     Ok(())
 }
 
-// Whether a chunk with so many edges is long enough, where so many places stand before its end.
 fn ends_chunk(sum: usize, size: usize, places: usize) -> bool
     ensures { IsTrue result → places < 1024 }
 {

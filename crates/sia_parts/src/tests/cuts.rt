@@ -1,6 +1,6 @@
-//! Cuttings of the keys, and an edge as a number.
+//! Cuttings of the keys, reads dealt to parts, and an edge as a number.
 use crate::*;
-use sia_events::Key;
+use sia_events::{Key, read_history};
 use std::test::*;
 
 const CUTTINGS: &[(&[Key], &[Part])] = &[
@@ -29,5 +29,22 @@ fn parts_and_numbers(rt: HostRuntime) -> Result<(), Fail> {
     // the only key.
     let edges = edges_of_numbers(rt.alloc(), &[2, 5], &[7], &[5 * 1_048_576])?;
     assert!(rt; edges.as_slice() == [edge!(2, Wr, 5, 7)].as_slice());
+    Ok(())
+}
+
+// 2 comes first in the log, so that it has the lesser number. Its range at place 5 is of the keys on both sides of a cut, and so
+// is 3's at place 9. An own write is read at places 3 and 7.
+const DEALT: &[&[u32]] = &[&[1, 5, 3], &[5, 9], &[7, 9], &[]];
+
+#[test]
+fn reads_of_parts(rt: HostRuntime) -> Result<(), Fail> {
+    let text = b"r2[3:0] w1[3] r1[3:1] c1 r2[1..8;3:1] w2[9] r2[9:2] c2 r3[8..9]";
+    let history = read_history(rt.alloc(), text)?;
+    let parts = cut(rt.alloc(), &[5, 9, 10])?;
+    let reads = Reads::of(rt.alloc(), history.log(), &parts)?;
+    for (i, wanted) in DEALT.iter().enumerate() {
+        assert!(rt; reads.of_part(i) == *wanted, "part {i}");
+    }
+    assert!(rt; reads.of_part(4).is_empty());
     Ok(())
 }

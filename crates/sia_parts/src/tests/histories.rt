@@ -3,12 +3,13 @@ use crate::*;
 use sia_events::{Key, TxnId};
 
 macro_rules! look {
-    ($txn:expr, $key:expr, $low:expr, $high:expr) => {
+    ($txn:expr, $key:expr, $low:expr, $high:expr, $at:expr) => {
         Look {
             txn: $txn,
             key: $key,
             low: $low,
             high: $high,
+            at: $at,
         }
     };
 }
@@ -370,14 +371,40 @@ pub const MORE: &[(Worked<'static>, More<'static>)] = &[
         },
         More {
             writers: &[
-                look!(0, 0, 6, 6),
-                look!(0, 1, 6, 6),
-                look!(0, 2, 6, 6),
-                look!(1, 2, 10, 10),
-                look!(0, 3, 6, 6),
+                look!(0, 0, 6, 6, 0),
+                look!(0, 1, 6, 6, 0),
+                look!(0, 2, 6, 6, 0),
+                look!(1, 2, 10, 10, 0),
+                look!(0, 3, 6, 6, 0),
             ],
-            readers: &[look!(1, 0, 0, 6), look!(1, 2, 6, 6)],
+            readers: &[look!(1, 0, 0, 6, 0), look!(1, 2, 6, 6, 3)],
             absences: &[absence!(1, 1, 2), absence!(1, 3, 4)],
+            ..NO_MORE
+        },
+    ),
+    // 4 saw 2's version of key 1 and then 1's, which is the first version of all, and 3's of key 5, which is the third, also where
+    // the keys are cut between.
+    (
+        Worked {
+            text: b"w1[1] c1 w2[1] c2 w3[5] c3 r4[1:2] r4[1:1] r4[5:3] c4",
+            cuttings: &[&[], &[3]],
+            bad_reads: &[bad_read!(8, 4, 1, 1, 2)],
+            edges: &[
+                edge!(1, Ww, 2, 1),
+                edge!(1, Wr, 4, 1),
+                edge!(2, Wr, 4, 1),
+                edge!(3, Wr, 4, 5),
+                edge!(4, Rw, 2, 1),
+            ],
+            ..NOTHING
+        },
+        More {
+            writers: &[
+                look!(0, 0, 2, 2, 0),
+                look!(1, 0, 4, 4, 0),
+                look!(2, 1, 6, 6, 0),
+            ],
+            readers: &[look!(3, 0, 2, 4, 1), look!(3, 1, 6, 6, 3)],
             ..NO_MORE
         },
     ),

@@ -1,8 +1,7 @@
 //! Findings of worked histories, of audited parts, and the same edges from what was seen.
 ghost use Rattle.std.specs.Prelude.{◌≡◌, IfOk};
 ghost use Rattle.std.specs.List.{AllZip};
-ghost use Rattle.sia_events.specs.Lists.{ListsAscending};
-ghost use Rattle.sia_events.specs.Transactions.{IsCommitted};
+ghost use Rattle.sia_parts.specs.Dealing.{AreReads};
 ghost use Rattle.sia_parts.specs.Findings.{ArePartFindings};
 ghost use Rattle.sia_parts.specs.Gathering.{CanSpread, IsPartFound};
 ghost use Rattle.sia_parts.specs.Parts.{IsInPart};
@@ -21,20 +20,20 @@ fn found_in_parts(
     alloc: Global,
     h: &History,
     ix: &Index,
-    committed: &Committed,
+    reads: &Reads,
     parts: &[Part],
 ) -> Result<(Vec<PartFindings>, Vec<PartFound>), NoMemory>
     requires index { ix.now ≡ h.now }
-    requires committed { ListsAscending (IsCommitted ix.now) committed.now }
+    requires reads { AreReads h.now parts.now reads.now }
     ensures { IfOk result (λ (audited, seen). AllZip (ArePartFindings h.now) parts.now audited.items
         × AllZip (λ part found. IsPartFound h.now (IsInPart part) found) parts.now seen.items) }
 {
     let mut audited = Vec::new(alloc);
     let mut seen = Vec::new(alloc);
-    for part in parts {
-        let audit = audit_part(alloc, h, ix, *part)?;
+    for i in 0..parts.len() {
+        let audit = audit_part(alloc, h, ix, parts[i])?;
         audited.push(audit)?;
-        let found = find_in_part(alloc, h, ix, committed, *part)?;
+        let found = find_in_part(alloc, h.log(), ix, parts[i], reads.of_part(i))?;
         seen.push(found)?;
     }
     Ok((audited, seen))
@@ -108,23 +107,17 @@ fn is_found(
 {
     ix.law();
     let parts = cut(alloc, points)?;
-    let committed = Committed::of(alloc, ix)?;
-    let (audited, seen) = found_in_parts(alloc, h, ix, &committed, &parts)?;
+    let reads = Reads::of(alloc, h.log(), &parts)?;
+    let (audited, seen) = found_in_parts(alloc, h, ix, &reads, &parts)?;
     let findings = gather(alloc, audited)?;
-    let gathering = Gathering::of(alloc, seen)?;
+    let gathering = Gathering::of(alloc, ix, seen)?;
+    let committed = ix.committed();
     let mut is_so = are_findings(&findings, edges, it)
-        && (more.committed.is_empty() || committed.ids() == more.committed)
+        && (more.committed.is_empty() || committed == more.committed)
         && (more.writers.is_empty() || are_looks(&gathering.looks, more));
-    let fans = Fans::of(alloc, ix, &committed, gathering.looks)?;
+    let fans = Fans::of(alloc, ix, gathering.looks)?;
     for size in [1, 7, 48, 1000] {
-        let (places, is_same) = in_chunks(
-            alloc,
-            &fans,
-            committed.ids(),
-            ix.written_keys(),
-            size,
-            edges,
-        )?;
+        let (places, is_same) = in_chunks(alloc, &fans, committed, ix.written_keys(), size, edges)?;
         is_so &= is_same && (size != 48 || places >= more.places);
     }
     Ok(is_so)

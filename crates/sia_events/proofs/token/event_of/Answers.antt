@@ -11,13 +11,13 @@ returns-in_err-txn c =
     rw (p.1, p.2) (number_fails c.in_err-txn.field-0.0 c.args.token.now c.in-len1-up.len_at_least c.in_err-txn.ensures.gives)
 
 pub returns-in-98 : goal.returns-in-98
-returns-in-98 c = rw (event_by c.args.token.now _ _ c.in-len1-up.len_at_least c.in_ok-txn.ensures.gives, c.in-98.is) c.begin.ensures
+returns-in-98 c = rw (event_by c.args.token.now _ _ c.in-len1-up.len_at_least c.in_ok-txn.ensures.gives, c.in-98.is) (c.begin.ensures _)
 
 pub returns-in-114 : goal.returns-in-114
 returns-in-114 c = rw (event_by c.args.token.now _ _ c.in-len1-up.len_at_least c.in_ok-txn.ensures.gives, c.in-114.is) c.read.ensures
 
 pub returns-in-119 : goal.returns-in-119
-returns-in-119 c = rw (event_by c.args.token.now _ _ c.in-len1-up.len_at_least c.in_ok-txn.ensures.gives, c.in-119.is) c.write.ensures
+returns-in-119 c = rw (event_by c.args.token.now _ _ c.in-len1-up.len_at_least c.in_ok-txn.ensures.gives, c.in-119.is) (c.write.ensures _)
 
 pub returns-in_err-end-in-99 : goal.returns-in_err-end-in-99
 unfolding commit_at

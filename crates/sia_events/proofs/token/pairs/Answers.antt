@@ -2,40 +2,40 @@
 use Rattle.std.proofs.Common.{◌≡◌, ℕ, ◌<◌, ◌≤◌, ◌+◌, List, Some, length, drop, sym, ◌∙◌, subst, arith}
 use Rattle.std.proofs.lemmas.Result.{err_from_is_err_and}
 use Rattle.sia_events.specs.Parsing.{kept, pairs_within, pairs_at}
-use Rattle.sia_events.proofs.Pairs.{with_front, one_pushed, comma_ahead, items_of-then_some, starts, goes_on, is_done, fails}
+use Rattle.sia_events.proofs.Pairs.{with_front, one_pushed, comma_ahead, starts, goes_on, is_done, fails}
 use Rattle.sia_events.proofs.token.pairs.Goals as goal
 
-pub loop-found-init : goal.loop-found-init
-loop-found-init c =
+pub loop-next-init : goal.loop-next-init
+loop-next-init c =
     let text = c.args.text.now in
-    (length text + 1, omega arith, subst (λ (pairs : List (ℕ × ℕ)). with_front (Some pairs) (pairs_within (length text + 1) text) ≡ pairs_at text) (sym c.in_ok-found.ensures.items) (starts text))
+    (length text + 1, omega arith, subst (λ (pairs : List (ℕ × ℕ)). with_front (Some pairs) (pairs_within (length text + 1) text) ≡ pairs_at text) (sym c.clear.ensures.items) (starts text))
 
 pub returns-in_err-next : goal.returns-in_err-next
 returns-in_err-next c =
-    let p = err_from_is_err_and c.from_residual-in_err-next.result c.from_residual-in_err-next.ensures.1 in
-    let i = c.loop-found.invariant in
-    rw (p.1, p.2) (fails c.in_err-next.field-0.0 i.0 (kept c.loop-found.in_range c.loop-found.found.items) c.loop-found.rest.now (pairs_at c.args.text.now) i.1 c.in_err-next.ensures.gives i.2)
+    let p = err_from_is_err_and c.from_residual.result c.from_residual.ensures.1 in
+    let i = c.loop-next.invariant in
+    rw (p.1, p.2) (fails c.in_err-next.field-0.0 i.0 (kept c.loop-next.in_range c.loop-next.listed.items) c.loop-next.rest.now (pairs_at c.args.text.now) i.1 c.in_err-next.ensures.gives i.2)
 
 pub returns-in-None : goal.returns-in-None
 returns-in-None c =
-    let i = c.loop-found.invariant in
-    let e = is_done i.0 (kept c.loop-found.in_range c.loop-found.found.items) c.loop-found.rest.now c.in_ok-next.next c.in_ok-next.after.now (pairs_at c.args.text.now) i.1 c.in_ok-next.ensures.gives (sym (comma_ahead c.in_ok-next.after.now) ∙ c.in-None.ensures.cases) i.2 in
-    let pushed = one_pushed c.loop-found.in_range c.loop-found.found.items c.in_ok-next.next c.is_some-in_range.ensures c.unwrap_or.ensures c.in_ok-push.ensures.items in
-    rw (c.then_some.ensures, items_of-then_some, pushed) e
+    let i = c.loop-next.invariant in
+    let e = is_done i.0 (kept c.loop-next.in_range c.loop-next.listed.items) c.loop-next.rest.now c.in_ok-next.next c.in_ok-next.after.now (pairs_at c.args.text.now) i.1 c.in_ok-next.ensures.gives (sym (comma_ahead c.in_ok-next.after.now) ∙ c.in-None.ensures.cases) i.2 in
+    let pushed = one_pushed c.loop-next.in_range c.loop-next.listed.items c.in_ok-next.next c.is_some-in_range.ensures c.unwrap_or.ensures c.in_ok-push.ensures.items in
+    rw (pushed) e
 
-pub loop-found-smaller : goal.loop-found-smaller
-loop-found-smaller c =
-    let s : length c.in_ok-next.after.now ≤ length c.loop-found.rest.now = c.in_ok-next.ensures.shorter in
+pub loop-next-smaller : goal.loop-next-smaller
+loop-next-smaller c =
+    let s : length c.in_ok-next.after.now ≤ length c.loop-next.rest.now = c.in_ok-next.ensures.shorter in
     let t : length c.in-Some.more.now + 1 ≡ length c.in_ok-next.after.now = c.in-Some.ensures.cases.2 in
-    let goes_down : length c.in-Some.more.now < length c.loop-found.rest.now = omega arith in
+    let goes_down : length c.in-Some.more.now < length c.loop-next.rest.now = omega arith in
     goes_down
 
-pub loop-found-preserved : goal.loop-found-preserved
-loop-found-preserved c =
-    let i = c.loop-found.invariant in
-    let s : length c.in_ok-next.after.now ≤ length c.loop-found.rest.now = c.in_ok-next.ensures.shorter in
+pub loop-next-preserved : goal.loop-next-preserved
+loop-next-preserved c =
+    let i = c.loop-next.invariant in
+    let s : length c.in_ok-next.after.now ≤ length c.loop-next.rest.now = c.in_ok-next.ensures.shorter in
     let m = c.in-Some.ensures.cases in
     let is : c.in-Some.more.now ≡ drop 1 c.in_ok-next.after.now = m.1 in
     let shorter : length c.in-Some.more.now < length c.in_ok-next.after.now = omega (arith, m.2) in
-    let pushed = one_pushed c.loop-found.in_range c.loop-found.found.items c.in_ok-next.next c.is_some-in_range.ensures c.unwrap_or.ensures c.in_ok-push.ensures.items in
-    rw (is, pushed) (goes_on i.0 (kept c.loop-found.in_range c.loop-found.found.items) c.loop-found.rest.now c.in_ok-next.next c.in_ok-next.after.now (pairs_at c.args.text.now) i.1 (rw (← is) shorter) s c.in_ok-next.ensures.gives (sym (comma_ahead c.in_ok-next.after.now) ∙ m.0) i.2)
+    let pushed = one_pushed c.loop-next.in_range c.loop-next.listed.items c.in_ok-next.next c.is_some-in_range.ensures c.unwrap_or.ensures c.in_ok-push.ensures.items in
+    rw (is, pushed) (goes_on i.0 (kept c.loop-next.in_range c.loop-next.listed.items) c.loop-next.rest.now c.in_ok-next.next c.in_ok-next.after.now (pairs_at c.args.text.now) i.1 (rw (← is) shorter) s c.in_ok-next.ensures.gives (sym (comma_ahead c.in_ok-next.after.now) ∙ m.0) i.2)

@@ -2,13 +2,14 @@ use Rattle.sia_graph.specs.Walks.{AreLeastSources}
 use Rattle.sia_graph.specs.Previous.{IsLeftIn}
 use Rattle.sia_parts.specs.Entries.{IsEdge}
 use Rattle.std.proofs.Common.{refl, sym, subst, ◌∙◌}
-use Rattle.sia_graph.proofs.EvidenceEdges.{few_write_keys}
+use Rattle.sia_graph.proofs.EvidenceNumbers.{few_txns}
+use Rattle.sia_graph.proofs.PreviousEdges.{are_of_txns}
 use Rattle.sia_graph.proofs.cycle.cycle_of_left.Goals as goal
 
-pub looks_by_txn-requires : goal.looks_by_txn-requires
-looks_by_txn-requires c =
+pub of-requires : goal.of-requires
+of-requires c =
     let e = c.args.evidence.now in
-    few_write_keys e.index.now e.txns.now e.keys.now e.looks.now c.requires.is
+    record { few = few_txns e.index.now e.txns.now e.keys.now e.looks.now c.requires.is; within = are_of_txns e.index.now e.txns.now e.keys.now e.looks.now c.requires.is }
 
 pub previous_of-requires-clause-long : goal.previous_of-requires-clause-long
 previous_of-requires-clause-long c = c.requires.left.long
@@ -17,7 +18,7 @@ pub previous_of-requires-clause-is : goal.previous_of-requires-clause-is
 previous_of-requires-clause-is c = c.requires.is
 
 pub cycle_of-requires-clause-can : goal.cycle_of-requires-clause-can
-cycle_of-requires-clause-can c = (refl, c.requires.is, c.in_ok-own.ensures.same, c.in_ok-own.ensures.by_txn)
+cycle_of-requires-clause-can c = (refl, c.requires.is, c.in_ok-own.ensures)
 
 pub cycle_of-requires-clause-long : goal.cycle_of-requires-clause-long
 cycle_of-requires-clause-long c = (c.requires.left.long, rw c.deref.ensures.value c.in_ok-previous.ensures.long ∙ c.requires.left.long)

@@ -21,11 +21,8 @@ returns-in-Listed-clause-least c = subst (λ (e : EdgesIn). TakesLeastEdge (IsEd
 pub seen_step-requires-clause-is : goal.seen_step-requires-clause-is
 seen_step-requires-clause-is c = (subst (CanFind c.args.ids.now) c.in-Seen.is c.requires.can).1
 
-pub seen_step-requires-clause-same : goal.seen_step-requires-clause-same
-seen_step-requires-clause-same c = (subst (CanFind c.args.ids.now) c.in-Seen.is c.requires.can).2
-
-pub seen_step-requires-clause-by_txn : goal.seen_step-requires-clause-by_txn
-seen_step-requires-clause-by_txn c = (subst (CanFind c.args.ids.now) c.in-Seen.is c.requires.can).3
+pub seen_step-requires-clause-own : goal.seen_step-requires-clause-own
+seen_step-requires-clause-own c = (subst (CanFind c.args.ids.now) c.in-Seen.is c.requires.can).2
 
 pub seen_step-requires-clause-within : goal.seen_step-requires-clause-within
 seen_step-requires-clause-within c =

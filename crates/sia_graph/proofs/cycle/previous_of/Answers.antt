@@ -11,8 +11,8 @@ use Rattle.sia_graph.proofs.Previous.{left_apart, previous_is}
 use Rattle.sia_graph.proofs.PreviousEdges.{are_versions, are_within, least_sources_are}
 use Rattle.sia_graph.proofs.cycle.previous_of.Goals as goal
 
-pub ranks_of-requires : goal.ranks_of-requires
-ranks_of-requires c =
+pub left_ranks-requires : goal.left_ranks-requires
+left_ranks-requires c =
     let e = c.args.evidence.now in
     let few = few_txns e.index.now e.txns.now e.keys.now e.looks.now c.requires.is in
     let long = c.requires.long in
@@ -59,8 +59,8 @@ lower_by_seen-requires-clause-within c =
 pub lower_by_seen-requires-clause-places : goal.lower_by_seen-requires-clause-places
 lower_by_seen-requires-clause-places c =
     let e = c.args.evidence.now in
-    subst (λ (ws : List Look). ArePlaces ws c.as_slice-readers.result.now e.places.now) (sym c.as_slice-writers.ensures.value)
-    (subst (λ (rs : List Look). ArePlaces e.looks.now.writers.items rs e.places.now) (sym c.as_slice-readers.ensures.value) c.requires.places)
+    subst (λ (ws : List Look). ArePlaces ws c.as_slice-readers.result.now) (sym c.as_slice-writers.ensures.value)
+    (subst (ArePlaces e.looks.now.writers.items) (sym c.as_slice-readers.ensures.value) c.requires.is.placed)
 
 pub returns-clause-long : goal.returns-clause-long
 returns-clause-long c =

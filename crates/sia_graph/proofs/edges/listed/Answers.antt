@@ -4,9 +4,6 @@ use Rattle.sia_graph.proofs.Vulnerable.{all_vulnerable}
 use Rattle.sia_graph.proofs.ListedEdges.{all_listed}
 use Rattle.sia_graph.proofs.edges.listed.Goals as goal
 
-pub edges_of-requires : goal.edges_of-requires
-edges_of-requires c = record { committed = c.requires.committed; looks = c.requires.looks }
-
 pub chunk_of-requires : goal.chunk_of-requires
 chunk_of-requires c = c.in_ok-all.ensures.are
 

@@ -3,36 +3,30 @@ use Rattle.std.specs.Prelude.{IsTrue}
 use Rattle.sia_events.specs.DangerousStructures.{PassesSsi}
 use Rattle.sia_events.specs.Transactions.{IsCommitted}
 use Rattle.sia_parts.specs.Entries.{IsEdge}
-use Rattle.sia_parts.specs.Placing.{ArePlaced}
 use Rattle.sia_graph.specs.Verdicts.{IsVerdict}
 use Rattle.sia_graph.proofs.Judging.{passed_is_serializable, serializable_where}
 use Rattle.sia_graph.proofs.judgement.judge.Goals.{After-deref-2}
 use Rattle.sia_graph.proofs.judgement.judge.Goals as goal
 
-pub places_of-requires : goal.places_of-requires
-places_of-requires c = c.requires.found.looks.rise
-
 pub passes-requires : goal.passes-requires
 passes-requires c = record {
   evidence = record {
     well_formed = rw c.requires.index c.law.ensures;
-    txns_are = rw c.ids.ensures c.requires.committed;
+    txns_are = c.committed.ensures;
     keys_are = c.written_keys.ensures;
     looks_are = rw c.requires.index c.requires.found.looks;
+    placed = c.requires.found.placed;
   };
-  places = subst (ArePlaced c.args.found.looks) (sym c.as_slice.ensures.value) c.in_ok-places.ensures;
   bad_reads = rw (c.requires.index, c.deref.ensures.value) c.requires.found.bad_reads;
   bad_writes = rw (c.requires.index, c.deref-2.ensures.value) c.requires.found.bad_writes;
 }
 
 pub settle_looks-requires : goal.settle_looks-requires
-settle_looks-requires c =
-    let same = passes-requires (goal.at.settle_looks-requires c).After-deref-2 in
-    record { evidence = same.evidence; places = same.places }
+settle_looks-requires c = record { evidence = (passes-requires (goal.at.settle_looks-requires c).After-deref-2).evidence }
 
 pub returns-clause-exact : goal.returns-clause-exact
 returns-clause-exact c =
-    let h = c.args.h.now in
+    let h = c.args.log.now in
     let wf = c.law.ensures in
     let is = c.requires.found in
     let verdict = c.in_ok-verdict.verdict in
@@ -49,7 +43,7 @@ returns-clause-exact c =
 
 pub returns-clause-pass : goal.returns-clause-pass
 returns-clause-pass c =
-    let h = c.args.h.now in
+    let h = c.args.log.now in
     let wf = c.law.ensures in
     let verdict = c.in_ok-verdict.verdict in
     let verdict_is = subst (λ i. IsVerdict (IsCommitted i) (IsEdge i) verdict) c.requires.index c.in_ok-verdict.ensures in

@@ -1,8 +1,8 @@
-use Rattle.std.proofs.Common.{◌≡◌, take}
-use Rattle.std.specs.Prelude.{All, Contains}
-use Rattle.sia_parts.specs.declared.looks.Look.{Look}
-use Rattle.sia_graph.specs.NumberEdges.{Meets}
+use Rattle.std.proofs.Common.{take}
+use Rattle.sia_parts.specs.Sights.{FromSome}
+use Rattle.sia_graph.specs.NumberEdges.{IsMetBy}
+use Rattle.sia_graph.specs.Ranks.{IsLeastRank}
 use Rattle.sia_graph.proofs.least_edges.least_meeting.Given as goal
 
-abbrev pub invariant-loop-write : goal.invariant-loop-write
-invariant-loop-write l = All (λ (a : Look). ¬ ((b : Look) × Contains l.others b × (b.key ≡ a.key) × Meets l.kind a b)) (take l.write-index l.writes)
+abbrev pub invariant-loop-other : goal.invariant-loop-other
+invariant-loop-other l = IsLeastRank (FromSome (IsMetBy l.kind l.writes) (take l.other-index l.others)) l.least

@@ -4,7 +4,7 @@ use Rattle.sia_graph.proofs.least_edges.least_within.Goals as goal
 
 pub returns-then-first-writes : goal.returns-then-first-writes
 returns-then-first-writes c =
-    none_missed c.args.writes.now c.requires c.args.absence.now c.from.result c.place_from-first.result c.from.ensures c.place_from-first.ensures.point (record { txn = 0; key = 0; low = 0; high = 0 })
+    none_missed c.args.writes.now c.requires c.args.absence.now c.from.result c.place_from-first.result c.from.ensures c.place_from-first.ensures.point (record { txn = 0; key = 0; low = 0; high = 0; at = 0 })
     (λ less. let e = c.if-first-writes.true in let no : ⊥ = omega arith in absurd no)
 
 pub returns-then-key-absence : goal.returns-then-key-absence

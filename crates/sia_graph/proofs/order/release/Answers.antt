@@ -1,18 +1,15 @@
-use Rattle.sia_graph.specs.Places.{IsFreedAt, arriving_at}
-use Rattle.std.proofs.Common.{◌≡◌, ◌⊎◌, ◌-◌, ◌<◌, length, get_or, subst, arith, inl, inr, ℕ, ◌+◌, List}
+use Rattle.sia_graph.specs.Places.{HasReady, IsFreedAt, arriving_at}
+use Rattle.std.proofs.Common.{◌≡◌, ◌⊎◌, ◌-◌, ◌<◌, length, get_or, subst, sym, arith, inl, inr, ℕ, ◌+◌, List}
 use Rattle.std.specs.Prelude.{◌↔◌}
-use Rattle.sia_graph.specs.NarrowSteps.{step_target}
-use Rattle.sia_graph.specs.ReadyHeaps.{HasReady}
 use Rattle.std.proofs.lemmas.List.{get_or-set_same, length-set, take_all}
-use Rattle.sia_graph.proofs.AdjacencyRows.{own_target}
 use Rattle.sia_graph.proofs.Arrivals.{some_left, released_more, freed_more}
 use Rattle.sia_graph.proofs.order.release.Goals as goal
 
 pub overflow_sub-counts : goal.overflow_sub-counts
 overflow_sub-counts c =
     let counts = c.loop-n.counts in
-    let j = get_or c.args.leaving.now c.loop-n.n-index 0 in
-    let at : step_target j ≡ j = own_target j (let f = c.type_inv.leaving c.loop-n.n-index in omega arith) in
+    let j = c.target_of-i.result in
+    let at = sym c.target_of-i.ensures in
     let long : length counts ≡ length c.args.counts.now = let a = c.loop-n.auto.counts in omega arith in
     let below : j < length counts = let a = c.requires.within c.loop-n.n-index 0 c.loop-n-test.true in omega arith in
     some_left c.args.leaving.now c.loop-n.n-index 0 c.loop-n-test.true j at counts below c.args.counts.now c.loop-n.invariant.0
@@ -22,8 +19,8 @@ pub loop-n-preserved : goal.loop-n-preserved
 loop-n-preserved c =
     let leaving = c.args.leaving.now in
     let counts = c.loop-n.counts in
-    let j = get_or leaving c.loop-n.n-index 0 in
-    let at : step_target j ≡ j = own_target j (let f = c.type_inv.leaving c.loop-n.n-index in omega arith) in
+    let j = c.target_of-i.result in
+    let at = sym c.target_of-i.ensures in
     let long : length counts ≡ length c.args.counts.now = let a = c.loop-n.auto.counts in omega arith in
     let below : j < length counts = let a = c.requires.within c.loop-n.n-index 0 c.loop-n-test.true in omega arith in
     let some = some_left leaving c.loop-n.n-index 0 c.loop-n-test.true j at counts below c.args.counts.now c.loop-n.invariant.0 (λ i l. c.requires.enough i (omega arith)) in

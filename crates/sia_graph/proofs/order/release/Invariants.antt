@@ -1,7 +1,6 @@
 use Rattle.std.proofs.Common.{◌≡◌, ℕ, ◌+◌, ◌<◌, length, get_or, take}
 use Rattle.std.specs.Prelude.{◌↔◌, ◌⊎◌}
-use Rattle.sia_graph.specs.ReadyHeaps.{HasReady}
-use Rattle.sia_graph.specs.Places.{arriving_at, IsFreedAt}
+use Rattle.sia_graph.specs.Places.{HasReady, arriving_at, IsFreedAt}
 use Rattle.sia_graph.proofs.order.release.Given as goal
 
 abbrev pub invariant-loop-n : goal.invariant-loop-n

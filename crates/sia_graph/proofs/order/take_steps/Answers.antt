@@ -1,13 +1,12 @@
 use Rattle.std.proofs.Common.{◌≡◌, inl, inr, ◌<◌, ◌++◌, ◌∷◌, [], length, ap, ◌∙◌, refl, sym, subst, arith}
-use Rattle.sia_graph.specs.ReadyHeaps.{HasReady}
-use Rattle.sia_graph.proofs.ReadyHeaps.{none_ready}
+use Rattle.sia_graph.proofs.ReadySets.{none_ready}
 use Rattle.sia_graph.specs.Fronts.{IsTaking, left_over}
-use Rattle.sia_graph.specs.Places.{IsReadyAt, StandsWhere}
-use Rattle.sia_graph.specs.NarrowSteps.{edges_of_steps}
+use Rattle.sia_graph.specs.Places.{HasReady, IsReadyAt, StandsWhere}
+use Rattle.sia_graph.specs.NarrowSteps.{edges_of_steps, step_source}
 use Rattle.std.specs.List.{range_with_len}
 use Rattle.std.proofs.lemmas.List.FromFn.{length-range_with_len}
 use Rattle.sia_graph.proofs.OneTaken.{smaller, none_left}
-use Rattle.sia_graph.proofs.Places.{group_joins}
+use Rattle.sia_graph.proofs.Places.{group_joins, rows_lead}
 use Rattle.sia_graph.proofs.ReadyPlaces.{ready_released, ready_within}
 use Rattle.sia_graph.proofs.TakenPlaces.{no_place_taken, place_fits, taken_place}
 use Rattle.sia_graph.proofs.order.take_steps.Goals.{In-Some}
@@ -19,7 +18,7 @@ loop-place-init c =
     let counts = c.args.counts.now in
     let behind = c.new-behind.result in
     let long = c.requires.counted.0 in
-    let none = none_ready behind c.new-behind.ensures in (
+    let none = none_ready behind c.new-behind.ensures.len in (
       subst (λ l. IsTaking ids (edges_of_steps c.args.steps.now) counts l (StandsWhere ids (IsReadyAt (HasReady behind) 0 counts))) (sym c.in_ok-order.ensures.items)
           (no_place_taken ids c.args.steps.now c.requires.steps counts (IsReadyAt (HasReady behind) 0 counts) c.requires.counted
           (λ i l. ((λ r. elim r [ inl b ↦ absurd (none i b) | inr w ↦ w.2 ]), (λ z. inr (omega arith, omega arith, z))))),
@@ -39,11 +38,11 @@ below c =
     ready_within (HasReady c.loop-place.behind) c.loop-place.end c.loop-place.counts (range_with_len 0 c.args.places) c.loop-place.invariant.1 c.loop-place.invariant.2 c.loop-place.invariant.0.counted.0
     c.in-Some.place c.in-Some.ensures.member
 
-pub leaving-requires : goal.leaving-requires
-leaving-requires c =
-    let l = below (goal.at.leaving-requires c).In-Some in
+pub at-requires : goal.at-requires
+at-requires c =
+    let l = below (goal.at.at-requires c).In-Some in
     let many = length-range_with_len 0 c.args.places in
-    (c.args.places, c.args.steps.now, c.in_ok-rows.ensures, omega arith)
+    (step_source, c.args.places, c.args.steps.now, c.in_ok-rows.ensures, omega arith)
 
 pub release-requires-clause-within : goal.release-requires-clause-within
 release-requires-clause-within c k d l =
@@ -51,7 +50,7 @@ release-requires-clause-within c k d l =
     let long = c.loop-place.invariant.0.counted.0 in
     let b = below (goal.at.release-requires-clause-within c).In-Some in
     let many = length-range_with_len 0 c.args.places in
-    let a = group_joins ids c.args.steps.now c.requires.steps c.in-Some.place c.leaving.result.now (c.leaving.ensures c.args.places c.args.steps.now c.in_ok-rows.ensures (omega arith)) k d l in
+    let a = group_joins ids c.args.steps.now c.requires.steps c.in-Some.place c.at.result.now (rows_lead c.args.steps.now c.in-Some.place c.at.result.now (c.at.ensures step_source c.args.places c.args.steps.now c.in_ok-rows.ensures (omega arith))) k d l in
     omega arith
 
 pub release-requires-clause-enough : goal.release-requires-clause-enough
@@ -62,7 +61,7 @@ release-requires-clause-enough c i l =
     let b = below (goal.at.release-requires-clause-enough c).In-Some in
     let many = length-range_with_len 0 c.args.places in
     place_fits ids c.args.steps.now c.requires.steps counts c.loop-place.order.items (IsReadyAt (HasReady c.loop-place.behind) c.loop-place.end counts) c.loop-place.invariant.0
-    c.in-Some.place b c.in-Some.ensures.member c.leaving.result.now (c.leaving.ensures c.args.places c.args.steps.now c.in_ok-rows.ensures (omega arith)) i (omega arith)
+    c.in-Some.place b c.in-Some.ensures.member c.at.result.now (rows_lead c.args.steps.now c.in-Some.place c.at.result.now (c.at.ensures step_source c.args.places c.args.steps.now c.in_ok-rows.ensures (omega arith))) i (omega arith)
 
 pub loop-place-smaller : goal.loop-place-smaller
 loop-place-smaller c =
@@ -83,11 +82,11 @@ loop-place-preserved c =
     let counts = c.loop-place.counts in
     let less = c.release.new.counts in
     let p = c.in-Some.place in
-    let group = c.leaving.result.now in
+    let group = c.at.result.now in
     let was : length counts ≡ length ids = c.loop-place.invariant.0.counted.0 in
     let b = below (goal.at.loop-place-preserved c).In-Some in
     let many = length-range_with_len 0 c.args.places in
-    let from = c.leaving.ensures c.args.places steps c.in_ok-rows.ensures (omega arith) in
+    let from = rows_lead steps p group (c.at.ensures step_source c.args.places steps c.in_ok-rows.ensures (omega arith)) in
     let same : length less ≡ length counts = let a = c.release.auto.counts in omega arith in
     let long : length less ≡ length ids = omega arith in
     let end = c.next_ready.new.end in

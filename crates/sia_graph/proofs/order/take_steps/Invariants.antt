@@ -1,9 +1,8 @@
 use Rattle.std.proofs.Common.{ℕ, ◌<◌, ◌≤◌, length}
-use Rattle.sia_graph.specs.ReadyHeaps.{HasReady}
 use Rattle.std.specs.List.{range_with_len}
 use Rattle.sia_graph.specs.Fronts.{IsTaking, left_over}
 use Rattle.sia_graph.specs.NarrowSteps.{edges_of_steps}
-use Rattle.sia_graph.specs.Places.{IsReadyAt, StandsWhere}
+use Rattle.sia_graph.specs.Places.{HasReady, IsReadyAt, StandsWhere}
 use Rattle.sia_graph.proofs.order.take_steps.Given as goal
 
 abbrev pub invariant-loop-place : goal.invariant-loop-place

@@ -33,7 +33,7 @@ loop-txn-preserved c =
     let n = c.loop-txn.txn-index in
     let found = c.loop-txn.found.items in
     let now = c.if-not-is_empty.found.items in
-    let has = linked_by into (get_or linked n 0) c.links_at-in_end.result.0.now c.links_at-in_end.ensures c.is_empty.result c.is_empty.ensures in
+    let has = linked_by into (get_or linked n 0) c.links_at-ins.result.now c.links_at-ins.ensures c.is_empty.result c.is_empty.ensures in
     elim c.if-not-is_empty.branch [
       | then-not-is_empty+in_ok-pivot_at+in_ok-push w ↦
           let entry : Pivot = w.in_ok-pivot_at.field-0 in

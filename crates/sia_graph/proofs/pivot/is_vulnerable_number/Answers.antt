@@ -2,8 +2,8 @@ use Rattle.std.proofs.Common.{◌≡◌, sym, subst, ◌∙◌, get_or}
 use Rattle.std.specs.Prelude.{slice_index}
 use Rattle.sia_parts.specs.declared.finding.Kind.TheVariants.{Rw}
 use Rattle.sia_parts.specs.Packing.{kind_at, kind_digit, source_number, target_number}
-use Rattle.sia_parts.specs.declared.lifetimes.Lifetime.{Lifetime}
-use Rattle.sia_parts.specs.Lifetimes.{IsLifetime}
+use Rattle.sia_index.specs.declared.info.Lifetime.{Lifetime}
+use Rattle.sia_index.specs.Lifetimes.{IsLifetime}
 use Rattle.sia_parts.proofs.LifetimeTables.{overlap_by}
 use Rattle.sia_graph.proofs.LinkLists.{rw_kind}
 use Rattle.sia_graph.proofs.pivot.is_vulnerable_number.Goals as goal

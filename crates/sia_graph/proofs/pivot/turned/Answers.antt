@@ -1,22 +1,16 @@
-use Rattle.std.proofs.Common.{refl}
+use Rattle.std.proofs.Common.{ℕ, Ok, rules}
+use Rattle.std.proofs.lemmas.Iterator.{YieldsList-from_map, YieldsList-from_slice, items_from_collect}
+use Rattle.std.proofs.lemmas.Iterator.Consumers.{YieldsList-at}
 use Rattle.sia_graph.specs.declared.pivot.Link.{Link}
 use Rattle.sia_graph.proofs.LinkLists.{one_link, turned_listed}
-use Rattle.sia_graph.proofs.Mapped.{made_all, made_more}
 use Rattle.sia_graph.proofs.pivot.turned.Goals as goal
-
-pub loop-l-init : goal.loop-l-init
-loop-l-init c = c.new-turned.ensures.items
-
-pub loop-l-preserved : goal.loop-l-preserved
-loop-l-preserved c =
-    made_more (λ (k : Link). record { at = k.other; other = k.at }) c.args.links.now c.loop-l.l-index c.loop-l.turned.items c.loop-l.invariant (record { at = 0; other = 0 }) c.loop-l-test.true _ refl
-    c.push.new.self.items c.in_ok-push.ensures.items
 
 pub put_in_order-requires : goal.put_in_order-requires
 put_in_order-requires c = one_link
 
 pub returns : goal.returns
 returns c =
-    turned_listed c.args.links.now c.loop-l.turned.items c.put_in_order.new.list.items
-    (made_all (λ (k : Link). record { at = k.other; other = k.at }) c.args.links.now c.loop-l.l-index c.loop-l.turned.items c.loop-l.invariant c.loop-l-test.false)
+    turned_listed c.args.links.now c.in_ok-turned.turned.items c.put_in_order.new.list.items
+    (items_from_collect {E = ℕ} (Ok c.in_ok-turned.turned) c.in_ok-turned.ensures.ran
+    (YieldsList-from_map _ (λ (k : Link). record { at = k.other; other = k.at }) (YieldsList-at c.map.ensures.source (YieldsList-from_slice c.args.links.now c.iter.ensures.rest)) c.map.ensures.closure (λ x r q k. search rules)))
     c.put_in_order.ensures.sorted c.put_in_order.ensures.keeps c.put_in_order.ensures.adds_none

@@ -13,32 +13,32 @@ use Rattle.sia_graph.proofs.VersionRanks.{AreMarks, marks_more, marks_same, no_m
 use Rattle.sia_graph.proofs.ranks.twos_of_readers.Goals.{then-is_some, else-is_some}
 use Rattle.sia_graph.proofs.ranks.twos_of_readers.Goals as goal
 
-pub loop-i-init : goal.loop-i-init
-loop-i-init c =
+pub loop-look-init : goal.loop-look-init
+loop-look-init c =
     let yet = none_yet c.args.ranks.now c.in_ok-twos.twos.items (length c.args.versions.now) (c.in_ok-twos.ensures.items_if_clones_equal (λ y k. search rules)) in
     (yet.0, [], no_marks c.args.versions.now c.requires.search, yet.1)
 
 pub put_rank-requires : goal.put_rank-requires
 put_rank-requires c =
-    let within = if_there _ c.look_at.result (sym c.is_some.ensures ∙ c.if-is_some.true) (some_of _ _ (λ a. get_or c.args.places.now c.loop-i.i 0 < length c.args.versions.now) c.look_at.result (λ a is. is.0) c.look_at.ensures) in
-    let long = c.loop-i.invariant.0 in
+    let within = if_there _ c.look_at.result (sym c.is_some.ensures ∙ c.if-is_some.true) (some_of _ _ (λ a. (get_or c.args.readers.now c.loop-look.look-index no_look).at < length c.args.versions.now) c.look_at.result (λ a is. is.0) c.look_at.ensures) in
+    let long = c.loop-look.invariant.0 in
     let lent = ap (length {A = Two}) c.deref_mut.ensures.value in
     omega arith
 
-pub loop-i-preserved : goal.loop-i-preserved
-loop-i-preserved c =
+pub loop-look-preserved : goal.loop-look-preserved
+loop-look-preserved c =
     let versions = c.args.versions.now in
     let search = c.requires.search in
     let readers = c.args.readers.now in
     let ranks = c.args.ranks.now in
-    let n = c.loop-i.i in
-    let twos = c.loop-i.twos in
+    let n = c.loop-look.look-index in
+    let twos = c.loop-look.twos in
     let look = get_or readers n no_look in
-    let before = c.loop-i.invariant in
+    let before = c.loop-look.invariant in
     let entries = before.1 in
-    let at = get_or c.args.places.now n 0 in
-    let place = c.requires.places.each n no_look c.loop-i-test.true in
-    let more = take_more readers n no_look c.loop-i-test.true in
+    let at = look.at in
+    let place = c.requires.places n no_look c.loop-look-test.true in
+    let more = take_more readers n no_look c.loop-look-test.true in
     elim c.if-is_some.branch [
       | then-is_some w ↦
           let next = if_there (IsNextAt versions look.key look.low at) c.look_at.result (sym c.is_some.ensures ∙ w.if-is_some.true)
@@ -67,10 +67,10 @@ returns c =
     let versions = c.args.versions.now in
     let readers = c.args.readers.now in
     let ranks = c.args.ranks.now in
-    let twos = c.loop-i.twos in
-    let before = c.loop-i.invariant in
+    let twos = c.loop-look.twos in
+    let before = c.loop-look.invariant in
     let new = c.add_earlier.new.twos in
     let long : length new ≡ twos.len = let a = c.add_earlier.auto.twos in let b = c.deref_mut-2.ensures.len in let o = twos.ok in omega arith in
     let are = c.add_earlier.ensures before.1 ranks (subst (AreTwosAt before.1 ranks) (sym c.deref_mut-2.ensures.value) before.3) in
     subst (AreTwos versions readers ranks 0) (sym (written new (drop (length new) twos.items) twos.len long))
-    (of_readers versions c.requires.search readers ranks before.1 new (let o = twos.ok in let l = before.0 in omega arith) (subst (λ xs. AreMarks versions xs before.1) (take_all c.loop-i.i readers c.loop-i-test.false) before.2) are)
+    (of_readers versions c.requires.search readers ranks before.1 new (let o = twos.ok in let l = before.0 in omega arith) (subst (λ xs. AreMarks versions xs before.1) (take_all c.loop-look.look-index readers c.loop-look-test.false) before.2) are)

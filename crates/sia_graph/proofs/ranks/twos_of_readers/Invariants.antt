@@ -3,5 +3,5 @@ use Rattle.sia_graph.specs.Absences.{AreTwosAt}
 use Rattle.sia_graph.proofs.VersionRanks.{AreMarks}
 use Rattle.sia_graph.proofs.ranks.twos_of_readers.Given as goal
 
-abbrev pub invariant-loop-i : goal.invariant-loop-i
-invariant-loop-i l = (length l.twos.items ≡ length l.versions) × (entries : List (ℕ × ℕ)) × AreMarks l.versions (take l.i l.readers) entries × AreTwosAt entries l.ranks l.twos.items
+abbrev pub invariant-loop-look : goal.invariant-loop-look
+invariant-loop-look l = (length l.twos.items ≡ length l.versions) × (entries : List (ℕ × ℕ)) × AreMarks l.versions (take l.look-index l.readers) entries × AreTwosAt entries l.ranks l.twos.items

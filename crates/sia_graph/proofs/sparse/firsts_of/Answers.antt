@@ -6,7 +6,7 @@ use Rattle.sia_parts.specs.Versions.{IsNext}
 use Rattle.sia_graph.specs.NarrowSteps.{IsFirstNumber, step_number}
 use Rattle.sia_parts.proofs.NextVersions.{look_next}
 use Rattle.sia_graph.proofs.NarrowSteps.{adds_one, first_put, firsts_made, firsts_more, no_first}
-use Rattle.sia_graph.proofs.sparse.firsts_of.Goals.{in-Some+in_ok-push-in-Some, in-None}
+use Rattle.sia_graph.proofs.sparse.firsts_of.Goals.{in-Some+in_ok-push, in_default}
 use Rattle.sia_graph.proofs.sparse.firsts_of.Goals as goal
 
 pub loop-key-preserved : goal.loop-key-preserved
@@ -19,15 +19,15 @@ loop-key-preserved c =
     let next = look_next writers c.requires.rise c.requires.small key 0 c.count_up_to-near.result place.before place.after c.look_at.result c.look_at.ensures in
     let More = λ (l : List ℕ). Adds (IsFirstNumber (key + 1) writers) [] l in
     elim c.match-look_at.branch [
-      | in-Some+in_ok-push-in-Some w ↦
+      | in-Some+in_ok-push w ↦
           let new = w.push.new.self.items in
           subst More (sym (ap (λ v. v.items) w.firsts-is))
           (firsts_more writers key [] old new c.loop-key.invariant
           (first_put writers c.requires key old new w.in-Some.a (subst Found w.in-Some.is next)
-          (adds_one (λ n. n ≡ step_number w.in-Some.a.txn key) w.step.result _ _ w.in_ok-push-in-Some.ensures.items w.step.ensures (λ n e. w.step.ensures ∙ sym e))))
-      | in-None w ↦
+          (adds_one (λ n. n ≡ step_number w.in-Some.a.txn key) w.step.result _ _ w.in_ok-push.ensures.items w.step.ensures (λ n e. w.step.ensures ∙ sym e))))
+      | in_default w ↦
           subst More (sym (ap (λ v. v.items) w.firsts-is))
-          (firsts_more writers key [] old old c.loop-key.invariant (no_first writers key old (subst Found w.in-None.is next)))
+          (firsts_more writers key [] old old c.loop-key.invariant (no_first writers key old (subst Found w.in_default.is next)))
     ]
 
 pub returns : goal.returns

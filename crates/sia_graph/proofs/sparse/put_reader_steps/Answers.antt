@@ -13,18 +13,18 @@ use Rattle.sia_graph.proofs.sparse.put_reader_steps.Goals.{in-Some+in_ok-put_bet
 use Rattle.sia_graph.proofs.sparse.put_reader_steps.Goals as goal
 
 pub newest_place-requires-clause-at : goal.newest_place-requires-clause-at
-newest_place-requires-clause-at c = c.requires.places.each c.loop-i.i no_look c.loop-i-test.true
+newest_place-requires-clause-at c = c.requires.places c.loop-look.look-index no_look c.loop-look-test.true
 
-pub loop-i-preserved : goal.loop-i-preserved
-loop-i-preserved c =
+pub loop-look-preserved : goal.loop-look-preserved
+loop-look-preserved c =
     let size = c.args.size in
     let writers = c.args.writers.now in
     let readers = c.args.readers.now in
-    let i = c.loop-i.i in
+    let i = c.loop-look.look-index in
     let look = get_or readers i no_look in
-    let place = c.requires.places.each i no_look c.loop-i-test.true in
+    let place = c.requires.places i no_look c.loop-look-test.true in
     let can = c.requires.writers in
-    let old = c.loop-i.steps.items in
+    let old = c.loop-look.steps.items in
     let mid = c.match-look_at.steps.items in
     let Next = λ (o : Option Look). MatchOption o ((a : Look) → Contains writers a → a.key ≡ look.key → a.high ≤ look.low) (IsNext writers look.key look.low) in
     let next = look_next writers can.rise can.small look.key look.low _ place.before place.after c.look_at.result c.look_at.ensures in
@@ -42,8 +42,8 @@ loop-i-preserved c =
           (newest_put size writers can look mid new (get_or writers w.in-Some-newest_place.at no_look) (w.in-Some-newest_place.ensures.1 no_look) w.in_ok-put_between-2.ensures)
       | in_default-newest_place w ↦ subst (Adds (IsNewestStep size writers look) mid) (sym (ap (λ v. v.items) w.steps-is)) (no_newest size writers look mid w.in_default-newest_place.ensures)
     ] in
-    from_more (IsLookStep size writers) readers i no_look _ _ _ c.loop-i-test.true c.loop-i.invariant
+    from_more (IsLookStep size writers) readers i no_look _ _ _ c.loop-look-test.true c.loop-look.invariant
     (adds_both (IsNextStep size writers look) (IsNewestStep size writers look) old mid _ first second)
 
 pub returns : goal.returns
-returns c = from_all (IsLookStep c.args.size c.args.writers.now) c.args.readers.now c.loop-i.i _ _ (let a = c.loop-i-test.false in omega arith) c.loop-i.invariant
+returns c = from_all (IsLookStep c.args.size c.args.writers.now) c.args.readers.now c.loop-look.look-index _ _ (let a = c.loop-look-test.false in omega arith) c.loop-look.invariant

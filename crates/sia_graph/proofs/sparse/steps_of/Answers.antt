@@ -52,8 +52,8 @@ put_reader_steps-requires-clause-writers c = subst CanSearch (sym c.as_slice-wri
 
 pub put_reader_steps-requires-clause-places : goal.put_reader_steps-requires-clause-places
 put_reader_steps-requires-clause-places c =
-    subst (λ (l : List Look). ArePlaces l c.as_slice-readers.result.now c.args.places.now) (sym c.as_slice-writers.ensures.value)
-    (subst (λ (l : List Look). ArePlaces c.args.looks.now.writers.items l c.args.places.now) (sym c.as_slice-readers.ensures.value) c.requires.places)
+    subst (λ (l : List Look). ArePlaces l c.as_slice-readers.result.now) (sym c.as_slice-writers.ensures.value)
+    (subst (ArePlaces c.args.looks.now.writers.items) (sym c.as_slice-readers.ensures.value) c.requires.placed)
 
 pub put_reader_steps-requires-clause-few : goal.put_reader_steps-requires-clause-few
 put_reader_steps-requires-clause-few c =

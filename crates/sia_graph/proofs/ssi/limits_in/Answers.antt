@@ -1,7 +1,7 @@
 -- By the ranks and the sources of all, one transaction more each time.
 use Rattle.std.proofs.Common.{◌≡◌, ℕ, ◌+◌, ◌-◌, ◌<◌, length, get_or, map, subst, sym, ap, ◌∙◌, arith}
 use Rattle.std.proofs.lemmas.List.{get_or_default, length_push, length-map}
-use Rattle.sia_parts.specs.declared.lifetimes.Lifetime.{Lifetime}
+use Rattle.sia_index.specs.declared.info.Lifetime.{Lifetime}
 use Rattle.sia_graph.specs.Limits.{AreLimits, IsLimit}
 use Rattle.sia_graph.specs.Ranks.{AreRanks, IsLeastRank, IsRankOf}
 use Rattle.sia_graph.specs.Sources.{AreLeastOfSources, IsSource}
@@ -14,17 +14,17 @@ abbrev rank_of : Lifetime → ℕ
 rank_of lifetime = 4294967294 - lifetime.commit
 
 pub ranks_of_sources-requires-clause-long : goal.ranks_of_sources-requires-clause-long
-ranks_of_sources-requires-clause-long c = ap (length {A = ℕ}) (c.deref.ensures.value ∙ c.in_ok-ranks.ensures) ∙ length-map c.args.lifetimes.now rank_of ∙ c.requires.lived.long
+ranks_of_sources-requires-clause-long c = ap (length {A = ℕ}) (c.deref.ensures.value ∙ c.in_ok-ranks.ensures) ∙ length-map c.lifetimes-lifetimes.result.now rank_of ∙ (c.lifetimes-lifetimes.ensures _ c.requires.evidence.txns_are).long
 
 pub ranks_of_sources-requires-clause-apart : goal.ranks_of_sources-requires-clause-apart
 ranks_of_sources-requires-clause-apart c =
     let e = c.args.evidence.now in
     subst AreRanks (sym c.deref.ensures.value)
-    (ranks_apart e.index.now e.txns.now e.keys.now e.looks.now c.requires.evidence c.args.lifetimes.now c.requires.lived c.in_ok-ranks.ranks.items c.in_ok-ranks.ensures)
+    (ranks_apart e.index.now e.txns.now e.keys.now e.looks.now c.requires.evidence c.lifetimes-lifetimes.result.now (c.lifetimes-lifetimes.ensures _ c.requires.evidence.txns_are) c.in_ok-ranks.ranks.items c.in_ok-ranks.ensures)
 
 pub bounds-sources-t : goal.bounds-sources-t
 bounds-sources-t c =
-    let long = ap (length {A = ℕ}) c.as_slice-sources.ensures.value ∙ c.in_ok-owned.ensures.0 ∙ ap (length {A = ℕ}) (c.deref.ensures.value ∙ c.in_ok-ranks.ensures) ∙ length-map c.args.lifetimes.now rank_of in
+    let long = ap (length {A = ℕ}) c.as_slice-sources.ensures.value ∙ c.in_ok-owned.ensures.0 ∙ ap (length {A = ℕ}) (c.deref.ensures.value ∙ c.in_ok-ranks.ensures) ∙ length-map c.lifetimes-lifetimes.result.now rank_of in
     let below = c.loop-t-test.true in
     omega arith
 
@@ -32,7 +32,7 @@ pub loop-t-preserved : goal.loop-t-preserved
 loop-t-preserved c =
     let t = c.loop-t.t in
     let looks = c.args.evidence.now.looks.now in
-    let lifetimes = c.args.lifetimes.now in
+    let lifetimes = c.lifetimes-lifetimes.result.now in
     let ranks = map rank_of lifetimes in
     let sources = c.as_slice-sources.result.now in
     let limits = c.loop-t.limits.items in
@@ -55,14 +55,14 @@ pub returns : goal.returns
 returns c =
     let e = c.args.evidence.now in
     let looks = e.looks.now in
-    let lifetimes = c.args.lifetimes.now in
+    let lifetimes = c.lifetimes-lifetimes.result.now in
     let limits = c.loop-t.limits.items in
     let t = c.loop-t.t in
     let end = c.loop-t-test.false in
     let within = c.loop-t.auto.t-end in
     let same : t ≡ length lifetimes = omega arith in
     let are : AreLimits looks (map rank_of lifetimes) lifetimes limits = (c.loop-t.invariant.0 ∙ same, λ i d f l. c.loop-t.invariant.1 i d f (subst (λ n. i < n) (sym same) l)) in
-    limits_tell e.index.now e.txns.now e.keys.now looks c.requires.evidence lifetimes c.requires.lived c.in_ok-ranks.ranks.items c.in_ok-ranks.ensures limits
+    limits_tell e.index.now e.txns.now e.keys.now looks c.requires.evidence lifetimes (c.lifetimes-lifetimes.ensures _ c.requires.evidence.txns_are) c.in_ok-ranks.ranks.items c.in_ok-ranks.ensures limits
     (subst (λ xs. AreLimits looks xs lifetimes limits) (sym c.in_ok-ranks.ensures) are) c.requires.kept
 
 pub ranks_of_sources-requires-clause-is : goal.ranks_of_sources-requires-clause-is

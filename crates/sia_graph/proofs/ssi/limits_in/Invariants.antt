@@ -1,5 +1,5 @@
 use Rattle.std.proofs.Common.{◌≡◌, ℕ, ◌-◌, ◌<◌, length, get_or, map}
-use Rattle.sia_parts.specs.declared.lifetimes.Lifetime.{Lifetime}
+use Rattle.sia_index.specs.declared.info.Lifetime.{Lifetime}
 use Rattle.sia_graph.specs.Limits.{IsLimit}
 use Rattle.sia_graph.proofs.ssi.limits_in.Given as goal
 

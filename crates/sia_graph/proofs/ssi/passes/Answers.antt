@@ -1,7 +1,5 @@
 use Rattle.std.proofs.Common.{refl, subst, sym, ◌∙◌}
 use Rattle.std.proofs.lemmas.Bool.{eqb-true, eq-eqb}
-use Rattle.std.proofs.lemmas.List.Elements.{All-contains_itself}
-use Rattle.sia_parts.specs.Lifetimes.{AreLifetimes}
 use Rattle.sia_graph.specs.Early.{IsEarly}
 use Rattle.sia_graph.specs.Ranks.{IsLeastRank}
 use Rattle.sia_graph.proofs.FirstsTold.{passes_told}
@@ -26,18 +24,10 @@ returns-then-not-may c =
     let isolated = kept e.index.now c.args.bad_reads.now c.args.bad_writes.now c.requires.bad_reads c.requires.bad_writes none.0 none.1 in
     ((λ is. (isolated, none_pivotal e.index.now e.txns.now e.keys.now e.looks.now c.requires.evidence (c.in_ok-may.ensures c.if-not-may.true))), (λ passes. refl))
 
-pub lifetimes_of-requires : goal.lifetimes_of-requires
-lifetimes_of-requires c k d l = (c.requires.evidence.txns_are.each _).0 (All-contains_itself c.args.evidence.now.txns.now k d l)
-
 pub limits_in-requires-clause-kept : goal.limits_in-requires-clause-kept
 limits_in-requires-clause-kept c =
     let none = c.are_none.ensures.0 c.if-not-are_none.false in
     kept c.args.evidence.now.index.now c.args.bad_reads.now c.args.bad_writes.now c.requires.bad_reads c.requires.bad_writes none.0 none.1
-
-pub limits_in-requires-clause-lived : goal.limits_in-requires-clause-lived
-limits_in-requires-clause-lived c =
-    let e = c.args.evidence.now in
-    subst (AreLifetimes e.index.now e.txns.now) (sym c.deref.ensures.value) c.in_ok-lifetimes.ensures
 
 pub returns : goal.returns
 returns c =
@@ -46,6 +36,6 @@ returns c =
     let none = c.are_none.ensures.0 c.if-not-are_none.false in
     let isolated = kept e.index.now c.args.bad_reads.now c.args.bad_writes.now c.requires.bad_reads c.requires.bad_writes none.0 none.1 in
     let early = c.in_ok-early.early in
-    let least = subst (λ xs. IsLeastRank (IsEarly e.looks.now xs) early) c.deref-2.ensures.value c.in_ok-early.ensures in
+    let least = subst (λ xs. IsLeastRank (IsEarly e.looks.now xs) early) c.deref.ensures.value c.in_ok-early.ensures in
     let told = passes_told e.index.now e.txns.now e.keys.now e.looks.now c.requires.evidence limits c.in_ok-limits.ensures isolated early least in
     ((λ is. told.0 (eqb-true early 4294967295 is)), (λ passes. eq-eqb early 4294967295 (told.1 passes)))

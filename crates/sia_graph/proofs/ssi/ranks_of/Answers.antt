@@ -1,16 +1,10 @@
-use Rattle.std.proofs.Common.{◌-◌}
-use Rattle.sia_parts.specs.declared.lifetimes.Lifetime.{Lifetime}
-use Rattle.sia_graph.proofs.Mapped.{made_all, made_more}
+use Rattle.std.proofs.Common.{◌-◌, rules}
+use Rattle.std.proofs.lemmas.Iterator.{YieldsList-from_map, YieldsList-from_slice, items_from_collect}
+use Rattle.std.proofs.lemmas.Iterator.Consumers.{YieldsList-at}
+use Rattle.sia_index.specs.declared.info.Lifetime.{Lifetime}
 use Rattle.sia_graph.proofs.ssi.ranks_of.Goals as goal
-
-pub loop-lifetime-init : goal.loop-lifetime-init
-loop-lifetime-init c = c.new-ranks.ensures.items
-
-pub loop-lifetime-preserved : goal.loop-lifetime-preserved
-loop-lifetime-preserved c =
-    made_more (λ (lifetime : Lifetime). 4294967294 - lifetime.commit) c.args.lifetimes.now c.loop-lifetime.lifetime-index c.loop-lifetime.ranks.items c.loop-lifetime.invariant (record { start = 0; commit = 0 })
-    c.loop-lifetime-test.true c.saturating_sub.result c.saturating_sub.ensures c.push.new.self.items c.in_ok-push.ensures.items
 
 pub returns : goal.returns
 returns c =
-    made_all (λ (lifetime : Lifetime). 4294967294 - lifetime.commit) c.args.lifetimes.now c.loop-lifetime.lifetime-index c.loop-lifetime.ranks.items c.loop-lifetime.invariant c.loop-lifetime-test.false
+    items_from_collect _ c.collect.ensures.ran
+    (YieldsList-from_map _ (λ (lifetime : Lifetime). 4294967294 - lifetime.commit) (YieldsList-at c.map.ensures.source (YieldsList-from_slice c.args.lifetimes.now c.iter.ensures.rest)) c.map.ensures.closure (λ x r q k. search rules))

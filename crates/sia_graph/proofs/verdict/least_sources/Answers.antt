@@ -1,4 +1,6 @@
-use Rattle.std.proofs.Common.{◌≡◌, inl, false, ap, ◌+◌, ◌-◌, ◌<◌, ◌∙◌, arith, get_or, length, set, subst, sym}
+use Rattle.std.proofs.Common.{◌≡◌, inl, ℕ, List, Ok, refl, false, ap, ◌+◌, ◌-◌, ◌<◌, ◌∙◌, arith, get_or, length, set, subst, sym}
+use Rattle.std.proofs.lemmas.Iterator.{YieldsList-from_range, items_from_collect}
+use Rattle.std.proofs.lemmas.List.FromFn.{get_or-range_with_len, length-range_with_len}
 use Rattle.sia_graph.specs.NarrowSteps.{step_source}
 use Rattle.sia_graph.specs.Previous.{IsLeftIn}
 use Rattle.sia_graph.proofs.StepsOf.{AreLeastFrom, kept_back, least_found, led_back, steps_rise, steps_within}
@@ -54,8 +56,10 @@ returns-clause-least c =
 pub loop-i-init : goal.loop-i-init
 loop-i-init c =
     let same = c.requires.long in
-    let long = c.in_ok-previous.ensures.long in
-    let each = c.in_ok-previous.ensures.each in (
+    let n = length c.args.left.now in
+    let items = items_from_collect {E = ℕ} (Ok c.in_ok-previous.previous) c.in_ok-previous.ensures.ran (YieldsList-from_range 0 n n refl (omega arith)) in
+    let long = ap (length {A = ℕ}) items ∙ length-range_with_len 0 n in
+    let each : (i : ℕ) → i < n → get_or c.in_ok-previous.previous.items i 0 ≡ i = λ i l. let at = ap (λ (xs : List ℕ). get_or xs i 0) items ∙ get_or-range_with_len 0 n i 0 l in omega arith in (
       long ∙ same,
       (λ j l. let e = each j (omega arith) in omega arith),
       (λ j l. inl (each j (omega arith), λ k a b. absurd (omega arith))),

@@ -2,6 +2,5 @@
 use Rattle.sia_index.proofs.Finding.{not_found}
 use Rattle.sia_index.proofs.keyed.find.Goals as goal
 
-pub returns-else-stands_at-2 : goal.returns-else-stands_at-2
-returns-else-stands_at-2 g c =
-    not_found g.O.By.by _ c.requires _ _ c.place_from_near-at.ensures.point (c.stands_at-2.ensures.other c.if-stands_at-2.false)
+pub returns-else-stands_at : goal.returns-else-stands_at
+returns-else-stands_at g c = not_found g.O.By.by _ c.requires _ _ c.place_from-at.ensures.point (c.stands_at.ensures.other c.if-stands_at.false)

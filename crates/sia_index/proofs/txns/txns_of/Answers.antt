@@ -1,37 +1,52 @@
--- Each turn adds the row of one run.
-use Rattle.std.proofs.Common.{[], ◌∷◌, ap, arith}
-use Rattle.std.proofs.lemmas.List.{get_or_default}
-use Rattle.sia_index.specs.declared.txns.SpanRow.{SpanRow}
-use Rattle.sia_index.proofs.Ordered.{first_rises}
-use Rattle.sia_index.proofs.Runs.{rows_all, rows_more, run_has_span, span}
+-- The tables are those of the rows.
+use Rattle.std.proofs.Common.{◌↔◌, ℕ, List, true, false, length, refl}
+use Rattle.sia_events.specs.declared.event.Event.{Event}
+use Rattle.sia_events.specs.Numbering.{txns_of}
+use Rattle.sia_events.specs.Transactions.{HasEvent, IsCommitted}
+use Rattle.sia_index.specs.Rows.{IsAmong}
+use Rattle.sia_index.specs.Tables.{ArePlaces}
+use Rattle.sia_index.specs.declared.names.Numbered.{Numbered}
+use Rattle.sia_index.specs.declared.info.Fate.TheVariants.{Committed}
+use Rattle.sia_index.proofs.Fates.{ended_has_event}
+use Rattle.sia_index.proofs.LogNames.{txns_stand_once, event_has_number}
+use Rattle.sia_index.proofs.NumberedNames.{rows_apart, rows_have, rows_named, rows_within, numbers_are}
 use Rattle.sia_index.proofs.txns.txns_of.Goals as goal
 
-pub end_of-to-requires-clause-rise : goal.end_of-to-requires-clause-rise
-end_of-to-requires-clause-rise c = first_rises (λ (s : SpanRow). s.txn) (λ s. s.first ∷ s.last ∷ []) _ (rw c.as_slice-spans.ensures.value c.in_ok-rows.ensures.ascending)
+pub infos_of-requires : goal.infos_of-requires
+infos_of-requires c = rw c.deref.ensures.value (rows_named (IsAmong c.args.log.now false) _ _ c.in_ok-rows.ensures)
 
-pub end_of-to-requires-clause-before : goal.end_of-to-requires-clause-before
-end_of-to-requires-clause-before c k d _ before =
-    let none : SpanRow = record { txn = 0; first = 0; last = 0 } in
-    let from = c.from.ensures in
-    let same = ap (λ (s : SpanRow). s.txn) (get_or_default c.as_slice-spans.result.now c.loop-from.from d none c.loop-from-test.true) in
-    let less = c.loop-from.invariant.passed k c.loop-from.from d before (omega arith) c.loop-from-test.true in
-    omega arith
+pub places_of-requires-clause-apart : goal.places_of-requires-clause-apart
+places_of-requires-clause-apart c = rw c.deref-2.ensures.value (rows_apart (IsAmong c.args.log.now false) _ _ c.in_ok-rows.ensures)
 
-pub last_of-last-requires-clause-some : goal.last_of-last-requires-clause-some
-last_of-last-requires-clause-some c =
-    let none : SpanRow = record { txn = 0; first = 0; last = 0 } in
-    run_has_span _ _ (rw c.as_slice-spans.ensures.value c.in_ok-rows.ensures) _ _ _ c.loop-from.invariant c.loop-from-test.true _ (λ d. ap (λ (s : SpanRow). s.txn) (get_or_default _ _ d none c.loop-from-test.true)) _ c.end_of-to.ensures.bound (rw c.from.ensures at c.end_of-to.ensures.end)
+pub places_of-requires-clause-within : goal.places_of-requires-clause-within
+places_of-requires-clause-within c = rw (c.deref-2.ensures.value, c.txn_count.ensures) (rows_within (IsAmong c.args.log.now false) _ _ c.in_ok-rows.ensures)
 
-pub info_of-info-requires-clause-spans : goal.info_of-info-requires-clause-spans
-info_of-info-requires-clause-spans c =
-    let none : SpanRow = record { txn = 0; first = 0; last = 0 } in
-    (_, span _ _ (rw c.as_slice-spans.ensures.value c.in_ok-rows.ensures) _ _ _ c.loop-from.invariant c.loop-from-test.true _ (λ d. ap (λ (s : SpanRow). s.txn) (get_or_default _ _ d none c.loop-from-test.true)) _ c.end_of-to.ensures.bound (rw c.from.ensures at c.end_of-to.ensures.end) _ c.last_of-last.ensures.one c.last_of-last.ensures.greatest none)
+pub lifetimes_of-requires-clause-named : goal.lifetimes_of-requires-clause-named
+lifetimes_of-requires-clause-named c = rw c.deref-3.ensures.value (rows_named (IsAmong c.args.log.now true) _ _ c.in_ok-ended.ensures)
 
-pub loop-from-preserved : goal.loop-from-preserved
-loop-from-preserved c =
-    let none : SpanRow = record { txn = 0; first = 0; last = 0 } in
-    rw (c.in_ok-push.ensures.items, c.in_ok-push-2.ensures.items) (rows_more _ _ (rw c.as_slice-spans.ensures.value c.in_ok-rows.ensures) _ _ _ c.loop-from.invariant c.loop-from-test.true _ (λ d. ap (λ (s : SpanRow). s.txn) (get_or_default _ _ d none c.loop-from-test.true)) _ c.end_of-to.ensures.bound (rw c.from.ensures at c.end_of-to.ensures.end) _
-    (c.info_of-info.ensures _ (span _ _ (rw c.as_slice-spans.ensures.value c.in_ok-rows.ensures) _ _ _ c.loop-from.invariant c.loop-from-test.true _ (λ d. ap (λ (s : SpanRow). s.txn) (get_or_default _ _ d none c.loop-from-test.true)) _ c.end_of-to.ensures.bound (rw c.from.ensures at c.end_of-to.ensures.end) _ c.last_of-last.ensures.one c.last_of-last.ensures.greatest none)))
+pub lifetimes_of-requires-clause-committed : goal.lifetimes_of-requires-clause-committed
+lifetimes_of-requires-clause-committed c = rw c.deref-3.ensures.value (λ i d below. (rows_have (IsAmong c.args.log.now true) _ _ c.in_ok-ended.ensures i d below).1 refl)
+
+pub places_of-requires-2-clause-apart : goal.places_of-requires-2-clause-apart
+places_of-requires-2-clause-apart c = rw c.deref-4.ensures.value (rows_apart (IsAmong c.args.log.now true) _ _ c.in_ok-ended.ensures)
+
+pub places_of-requires-2-clause-within : goal.places_of-requires-2-clause-within
+places_of-requires-2-clause-within c = rw (c.deref-4.ensures.value, c.txn_count-2.ensures) (rows_within (IsAmong c.args.log.now true) _ _ c.in_ok-ended.ensures)
+
+all_among : (h : List Event) (t : ℕ) → IsAmong h false t ↔ HasEvent h t
+all_among h t = ((λ among. among.0), (λ has. (has, λ never. absurd cc)))
+
+committed_among : (h : List Event) (t : ℕ) → IsAmong h true t ↔ IsCommitted h t
+committed_among h t = ((λ among. among.1 refl), (λ done. (ended_has_event h t Committed done, λ is. done)))
 
 pub returns : goal.returns
-returns c = rows_all _ _ (rw c.as_slice-spans.ensures.value c.in_ok-rows.ensures) _ _ _ c.loop-from.invariant c.loop-from-test.false
+returns c =
+    let h = c.args.log.now in
+    let numbers : ArePlaces (λ (row : Numbered). row.number) c.in_ok-rows.rows.items (length (txns_of h)) c.in_ok-numbers.numbers.items = rw (c.deref-2.ensures.value, c.txn_count.ensures) at c.in_ok-numbers.ensures in
+    let committed : ArePlaces (λ (row : Numbered). row.number) c.in_ok-ended.ended.items (length (txns_of h)) c.in_ok-committed_numbers.committed_numbers.items = rw (c.deref-4.ensures.value, c.txn_count-2.ensures) at c.in_ok-committed_numbers.ensures in
+    record {
+      all = numbers_are (IsAmong h false) (txns_of h) c.in_ok-rows.rows.items c.in_ok-rows.ensures (txns_stand_once h) (HasEvent h) (all_among h) (event_has_number h) _ (rw c.deref.ensures.value at c.in_ok-ids.ensures.names) _ numbers;
+      infos = c.in_ok-ids.ensures.infos;
+      committed = numbers_are (IsAmong h true) (txns_of h) c.in_ok-ended.ended.items c.in_ok-ended.ensures (txns_stand_once h) (IsCommitted h) (committed_among h) (λ t done. event_has_number h t (ended_has_event h t Committed done)) _ (rw c.deref-3.ensures.value at c.in_ok-committed.ensures.names) _ committed;
+      lifetimes = c.in_ok-committed.ensures.lifetimes;
+    }

@@ -1,8 +1,11 @@
 -- The bad writes of the keys so far.
-use Rattle.std.proofs.Common.{[]}
-use Rattle.sia_parts.specs.Sights.{Adds, IsPairBad, KeyPair}
-use Rattle.sia_parts.proofs.Adding.{FromFirst}
+use Rattle.std.proofs.Common.{[], ◌≡◌, ◌⊎◌, ◌≤◌}
+use Rattle.sia_parts.specs.Sights.{Adds}
+use Rattle.sia_parts.proofs.Sources.{BadWritesTo}
 use Rattle.sia_parts.proofs.auditing.bad_writes_of.Given as goal
 
-abbrev pub invariant-loop-key : goal.invariant-loop-key
-invariant-loop-key l = Adds (FromFirst (KeyPair l.ix (IsPairBad l.ix)) l.keys l.key-index) [] l.bad.items
+abbrev pub invariant-loop-i : goal.invariant-loop-i
+invariant-loop-i l = record {
+  stop : (l.i ≡ l.scope.first) ⊎ (l.i ≤ l.scope.end);
+  adds : Adds (BadWritesTo l.scope.ix.now l.scope.first l.i) [] l.bad.items;
+}

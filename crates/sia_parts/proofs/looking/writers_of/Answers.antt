@@ -1,19 +1,29 @@
--- Each of the versions adds its look.
-use Rattle.std.proofs.Common.{[]}
-use Rattle.sia_parts.specs.Looking.{IsVersionLook}
-use Rattle.sia_parts.specs.Sights.{FromSome}
-use Rattle.sia_parts.proofs.Adding.{added_to_none, from_none, from_more, from_all}
+-- Each key adds the looks of its versions.
+use Rattle.std.proofs.Common.{[], inl, inr, refl, ◌≡◌, ◌≤◌, ◌<◌, arith}
+use Rattle.std.specs.Prelude.{◌↔◌}
+use Rattle.sia_parts.specs.Looking.{AreWriters}
 use Rattle.sia_parts.proofs.looking.writers_of.Goals as goal
 
-pub loop-made-init : goal.loop-made-init
-loop-made-init c = rw c.in_ok-looks.ensures.items (from_none (IsVersionLook c.args.ix.now) c.args.versions.now [])
+pub loop-key-init : goal.loop-key-init
+loop-key-init c = record {
+  stop = inl refl;
+  writers = rw c.new-writers.ensures.items (record { ascend = λ i j d less below. absurd (omega arith); each = λ look. ((λ has. absurd (let b = has.1 in omega arith)), (λ is. absurd (let low = is.5 in let less = is.6 in omega arith))) });
+}
 
-pub loop-made-preserved : goal.loop-made-preserved
-loop-made-preserved c =
-    from_more (IsVersionLook c.args.ix.now) c.args.versions.now c.loop-made.made-index (record { key = 0; commit = 0; txn = 0 }) [] _ _ c.loop-made-test.true c.loop-made.invariant c.in_ok-near.ensures
+pub loop-key-preserved : goal.loop-key-preserved
+loop-key-preserved c = record {
+  stop = inr (let less = c.loop-key-test.true in omega arith);
+  writers = c.in_ok-put_makers.ensures c.args.from c.loop-key.auto.key c.loop-key.invariant.writers;
+}
 
-pub returns-clause-looks : goal.returns-clause-looks
-returns-clause-looks c look =
-    let added = added_to_none (FromSome (IsVersionLook c.args.ix.now) c.args.versions.now) _ (from_all (IsVersionLook c.args.ix.now) c.args.versions.now c.loop-made.made-index [] _ c.loop-made-test.false c.loop-made.invariant) look in
-    let same = c.in_ok-rank_all.ensures.same look in
-    ((λ has. added.0 (same.0 has)), (λ is. same.1 (added.1 is)))
+pub returns : goal.returns
+returns c =
+    let writers = c.loop-key.invariant.writers in
+    let over = c.loop-key-test.false in
+    record {
+      ascend = writers.ascend;
+      each = λ look. (
+        (λ has. let is = (writers.each look).0 has in let low = is.5 in let less = is.6 in (is.0, is.1, is.2, is.3, is.4, is.5, elim c.loop-key.invariant.stop [ inl none ↦ absurd (omega arith) | inr le ↦ omega arith ])),
+        (λ is. let less = is.6 in (writers.each look).1 (is.0, is.1, is.2, is.3, is.4, is.5, omega arith)),
+      );
+    }

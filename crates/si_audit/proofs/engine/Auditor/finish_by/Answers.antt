@@ -1,13 +1,33 @@
--- The report is that of the text, in the form of the auditor's options.
-use Rattle.std.proofs.Common.{◌≡◌, subst, sym}
-use Rattle.si_audit.specs.declared.cli.form.Form.TheVariants.{Explained}
-use Rattle.si_audit.specs.Choices.{Choices}
-use Rattle.si_audit.specs.Receiving.{IsReceived}
+-- The report is that of the text that was fed, and so is how the run ends.
+use Rattle.std.proofs.Common.{◌≡◌, ℕ, List, Result, Ok, Err, IfOk, inl, subst, sym}
+use Rattle.sia_events.specs.Limits.{Limits}
+use Rattle.si_audit.specs.declared.engine.Auditor.{Auditor}
+use Rattle.si_audit.specs.declared.options.Form.TheVariants.{Explained}
+use Rattle.si_audit.specs.Engine.{IsFed, IsReceived}
+use Rattle.si_audit.specs.Options.{Choices}
+use Rattle.si_audit.specs.Outcomes.{IsOutcome}
 use Rattle.si_audit.specs.Report.{IsReport}
-use Rattle.si_audit.specs.Sheets.{text_of}
+use Rattle.si_audit.proofs.OfHistory.{refusal_of}
+use Rattle.si_audit.proofs.Results.{ok_map}
 use Rattle.si_audit.proofs.engine.Auditor.finish_by.Goals as goal
 
-pub returns-clause-report : goal.returns-clause-report
-returns-clause-report g c = λ limits o text fed.
-    subst (λ (chosen : Choices). IsReport limits chosen.form text (text_of c.in_ok-sheets.field-0.sheets.items)) fed.options
-    (c.in_ok-sheets.ensures.report limits text (subst (λ (chosen : Choices). IsReceived limits (chosen.form ≡ Explained) c.args.self.locator c.args.self.text text) (sym fed.options) fed.received))
+-- a fact of the answer for each text that was fed
+of_each : {A E : Type 0} (a : Auditor) (P : Limits → Choices → List ℕ → A → Type 0) (r : Result A E)
+    → ((limits : Limits) (o : Choices) (text : List ℕ) → IsFed limits o a text → IfOk r (P limits o text))
+    → IfOk r (λ x. (limits : Limits) (o : Choices) (text : List ℕ) → IsFed limits o a text → P limits o text x)
+of_each a P (Ok x) each = each
+of_each a P (Err e) each = tt
+
+pub returns-in_default : goal.returns-in_default
+returns-in_default g c =
+    let a = c.args.self in
+    let answer = c.report_of_refusal in
+    let fault = c.in-Err.fault in record {
+      report = of_each a (λ limits o text r. IsReport limits o.form text r.bytes) answer.result (λ limits o text fed.
+          let refusal = refusal_of limits text fault c.in_default.not-NoMemory (c.in-Err.ensures.reads limits text fed.received.0) in
+          let received = subst (λ (chosen : Choices). IsReceived limits (chosen.form ≡ Explained) a.locator a.text text) (sym fed.options) fed.received in
+          ok_map _ _ answer.result (λ r told. subst (λ (chosen : Choices). IsReport limits chosen.form text r.bytes) fed.options (inl (fault, refusal, told))) (answer.ensures.report limits text a.text received refusal));
+      outcome = of_each a (λ limits o text r. IsOutcome limits o.level text r.outcome) answer.result (λ limits o text fed.
+          let refusal = refusal_of limits text fault c.in_default.not-NoMemory (c.in-Err.ensures.reads limits text fed.received.0) in
+          ok_map _ _ answer.result (λ r is. subst (IsOutcome limits o.level text) (sym is) (fault, refusal)) answer.ensures.outcome);
+    }

@@ -1,16 +1,17 @@
 -- The text up to what is left ends at a separator, and its tokens are judged.
 use Rattle.std.proofs.Common.{◌≡◌, ℕ, ◌++◌, List, length}
+use Rattle.sia_events.specs.LogTables.{events_of}
 use Rattle.sia_events.specs.Limits.{standard}
 use Rattle.sia_events.specs.Text.{tokens}
-use Rattle.sia_events.specs.Known.{Knows}
+use Rattle.sia_events.specs.Drafts.{Knows}
 use Rattle.sia_events.specs.Judging.{JudgedAll}
 use Rattle.sia_events.proofs.Tokens.{IsClosed}
 use Rattle.sia_events.proofs.judge.Judge.take_closed.Given as goal
 
 abbrev pub invariant-loop-token : goal.invariant-loop-token
 invariant-loop-token l = record {
-  cut : (closed : List ℕ) × (l.text ≡ closed ++ l.rest) × IsClosed closed × JudgedAll standard l.initial.self.events.items (tokens closed) l.self.events.items;
-  knows : Knows l.self.tables l.self.events.items;
+  cut : (closed : List ℕ) × (l.text ≡ closed ++ l.rest) × IsClosed closed × JudgedAll standard (events_of l.initial.self.draft.tables) (tokens closed) (events_of l.self.draft.tables);
+  knows : Knows l.self.draft;
 }
 
 abbrev pub decreases-loop-token : goal.decreases-loop-token

@@ -1,9 +1,9 @@
 -- One key at which something is due after another.
 use Rattle.std.proofs.Common.{◌⊎◌, inl, inr, ℕ, ◌+◌, ◌<◌, ◌≤◌, refl, arith}
 use Rattle.std.proofs.lemmas.Bool.{cases_lt}
-use Rattle.sia_parts.specs.Sights.{IsBadOf, unlisted_sight}
-use Rattle.sia_parts.specs.Gaps.{IsBelow, IsBetween}
-use Rattle.sia_parts.proofs.GapLemmas.{keys_of_both, keys_of_none, due_none, due_one}
+use Rattle.sia_parts.specs.Sights.{IsBadOf}
+use Rattle.sia_parts.specs.Gaps.{IsBelow, IsBetween, unlisted_sight}
+use Rattle.sia_parts.proofs.GapLemmas.{keys_of_both, keys_of_none, due_is_written, due_none, due_one}
 use Rattle.sia_parts.proofs.auditing.gaps.put_due.Goals as goal
 
 pub loop-next-init : goal.loop-next-init
@@ -33,7 +33,7 @@ returns-then-next-hi c =
     (λ k at. (at.0, (let less = at.1 in omega arith)))
     (λ k at. ((let more = at.0 in omega arith), (let less = at.1 in omega arith)))
     (λ k. IsBadOf c.args.ix.now (unlisted_sight c.args.reader k)) _ _ _ c.loop-next.invariant.bad
-    (due_one c.args.ix.now c.args.reader _ c.args.lo from c.args.hi next low is (c.requires.sights next.key (omega arith, last))))
+    (due_one c.args.ix.now c.args.reader _ c.args.lo from c.args.hi next low is (let wrote = due_is_written c.args.ix.now c.args.reader.txn c.args.reader.place next.key next.due is.3 is.2 in c.requires.sights next.key wrote.0 (omega arith, last) wrote.1)))
 
 pub loop-next-preserved : goal.loop-next-preserved
 loop-next-preserved c =
@@ -51,7 +51,7 @@ loop-next-preserved c =
           (λ k at. (at.0, (let less = at.1 in omega arith)))
           (λ k at. ((let more = at.0 in omega arith), at.1))
           (λ k. IsBadOf c.args.ix.now (unlisted_sight c.args.reader k)) _ _ _ c.loop-next.invariant.bad
-          (due_one c.args.ix.now c.args.reader _ c.args.lo from c.args.hi next low is (c.requires.sights next.key (omega arith, last))));
+          (due_one c.args.ix.now c.args.reader _ c.args.lo from c.args.hi next low is (let wrote = due_is_written c.args.ix.now c.args.reader.txn c.args.reader.place next.key next.due is.3 is.2 in c.requires.sights next.key wrote.0 (omega arith, last) wrote.1)));
     }
 
 pub returns : goal.returns

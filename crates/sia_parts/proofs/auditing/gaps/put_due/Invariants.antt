@@ -1,7 +1,7 @@
 -- The keys below `from` have given their bad reads.
 use Rattle.std.proofs.Common.{◌≡◌, ◌⊎◌, ◌-◌, ◌+◌, ◌≤◌}
-use Rattle.sia_parts.specs.Sights.{Adds, IsBadOf, unlisted_sight}
-use Rattle.sia_parts.specs.Gaps.{FromKeys, IsBelow}
+use Rattle.sia_parts.specs.Sights.{Adds, IsBadOf}
+use Rattle.sia_parts.specs.Gaps.{FromKeys, IsBelow, unlisted_sight}
 use Rattle.sia_parts.proofs.auditing.gaps.put_due.Given as goal
 
 abbrev pub invariant-loop-next : goal.invariant-loop-next

@@ -1,5 +1,5 @@
 -- A sort changes the order alone, and each row is joined or added.
-use Rattle.sia_parts.proofs.Joins.{keeps_itself, keeps_sorted, joins_none, joins_more, joins_all}
+use Rattle.sia_parts.proofs.Joins.{keeps_sorted, joins_none, joins_more, joins_all}
 use Rattle.sia_parts.proofs.auditing.joining.joined.Goals as goal
 
 pub loop-row-init : goal.loop-row-init
@@ -7,9 +7,6 @@ loop-row-init g c = rw c.new-wide.ensures.items (joins_none g.T.Join.ends g.T.Jo
 
 pub loop-row-preserved : goal.loop-row-preserved
 loop-row-preserved g c = joins_more g.T.Join.ends g.T.Join.holds _ c.loop-row.row-index c.row-item.result c.row-item.is c.loop-row-test.true _ _ c.loop-row.invariant c.in_ok-put_joined.ensures
-
-pub returns-then-apart : goal.returns-then-apart
-returns-then-apart g c = keeps_itself g.T.Join.ends g.T.Join.holds c.args.rows.items
 
 pub returns : goal.returns
 returns g c =

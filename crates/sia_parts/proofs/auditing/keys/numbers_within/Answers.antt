@@ -2,7 +2,7 @@
 use Rattle.std.proofs.Common.{ℕ, arith}
 use Rattle.sia_index.proofs.Ordered.{ascends, rises}
 use Rattle.sia_parts.proofs.FewNumbers.{few_written}
-use Rattle.sia_parts.proofs.KeyNumbers.{numbers_each, numbers_none}
+use Rattle.sia_parts.proofs.KeyNumbers.{numbers_each}
 use Rattle.sia_parts.proofs.auditing.keys.numbers_within.Goals as goal
 
 pub place_from_near-from-requires : goal.place_from_near-from-requires
@@ -17,8 +17,5 @@ overflow_cast-result c = let few = few_written c.args.ix.now c.requires c.writte
 pub overflow_cast-result-2 : goal.overflow_cast-result-2
 overflow_cast-result-2 c = let few = few_written c.args.ix.now c.requires c.written_keys-keys.result.now c.written_keys-keys.ensures in let b = c.place_above_near-to.ensures.bound in omega arith
 
-pub returns-clause-each : goal.returns-clause-each
-returns-clause-each c = numbers_each c.args.ix.now c.written_keys-keys.result.now c.written_keys-keys.ensures c.args.lo c.args.hi _ _ c.place_from_near-from.ensures.point c.place_above_near-to.ensures.point c.place_above_near-to.ensures.bound
-
-pub returns-clause-none : goal.returns-clause-none
-returns-clause-none c = numbers_none c.args.ix.now c.written_keys-keys.result.now c.written_keys-keys.ensures c.args.lo c.args.hi _ _ c.place_from_near-from.ensures.point c.place_above_near-to.ensures.point c.place_above_near-to.ensures.bound
+pub returns : goal.returns
+returns c = numbers_each c.args.ix.now c.written_keys-keys.result.now c.written_keys-keys.ensures c.args.lo c.args.hi _ _ c.place_from_near-from.ensures.point c.place_above_near-to.ensures.point c.place_above_near-to.ensures.bound

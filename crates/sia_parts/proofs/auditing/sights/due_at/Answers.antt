@@ -1,16 +1,17 @@
--- A key's own write comes first.
-use Rattle.std.proofs.Common.{inl, refl}
-use Rattle.sia_parts.proofs.Saw.{own_reader}
+-- The newest version as of the start is due, unless the reader wrote the key.
+use Rattle.std.proofs.Common.{inl, sym, subst, ◌∙◌, refl}
+use Rattle.std.proofs.lemmas.Bool.{false≢true}
+use Rattle.sia_events.specs.Numbering.{names_of}
+use Rattle.sia_parts.specs.Seeing.{origin_in}
+use Rattle.sia_parts.proofs.Positions.{newest_is_due}
 use Rattle.sia_parts.proofs.auditing.sights.due_at.Goals as goal
 
-pub wrote_before-requires : goal.wrote_before-requires
-wrote_before-requires c = own_reader c.args.reading.now.ix.now c.args.sight.txn c.args.sight.place c.args.reading.now.known.reader c.requires.known.reader
-
-pub returns-then-wrote_before : goal.returns-then-wrote_before
-returns-then-wrote_before c = inl ((rw (c.requires.known.reader.txn_is, c.requires.known.reader.place_is) at c.wrote_before.ensures).0 c.if-wrote_before.true, refl)
-
-pub returns-else-wrote_before : goal.returns-else-wrote_before
-returns-else-wrote_before c = c.requires.seen.due (λ wrote. let found = (rw (c.requires.known.reader.txn_is, c.requires.known.reader.place_is) at c.wrote_before.ensures).1 wrote in let other = c.if-wrote_before.false in cc)
-
-pub returns-else-reading : goal.returns-else-reading
-returns-else-reading c = c.requires.seen.due (c.requires.own c.if-reading.false)
+pub returns : goal.returns
+returns c =
+    let h = c.args.ix.now in
+    let view = c.requires.view in
+    let key = view.at.key in
+    let k = (origin_in (names_of h) c.args.view.now.origin).0 in
+    newest_is_due h c.requires.well_formed c.args.known.now.reader.txn c.args.known.now.reader.place k c.args.known.now.reader.start c.version_at.result c.requires.known.reader.starts
+    (λ before. let mine = view.mine.1 before in let no = c.if-view.false in cc)
+    (c.version_at.ensures k c.args.known.now.reader.start key (c.position_as_of-position.ensures k key))

@@ -9,7 +9,7 @@ use Rattle.sia_parts.proofs.edges.fanning.put_numbers_to.Goals as goal
 use Rattle.sia_parts.proofs.edges.fanning.put_numbers_to.Goals.{then-look-src+in_ok-push, else-look-src}
 
 abbrev none : Look
-none = record { txn = 0; key = 0; low = 0; high = 0 }
+none = record { txn = 0; key = 0; low = 0; high = 0; at = 0 }
 
 pub loop-look-init : goal.loop-look-init
 loop-look-init c = (from_none (IsNumberTo c.args.src c.args.kind) c.args.looks.now _, omega arith)

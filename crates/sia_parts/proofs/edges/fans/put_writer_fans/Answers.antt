@@ -8,7 +8,7 @@ loop-look-init c = gives_none (IsFanNumber c.args.looks.now) (IsWriterNumber c.a
 
 pub loop-look-preserved : goal.loop-look-preserved
 loop-look-preserved c =
-    gives_more (IsFanNumber c.args.looks.now) (IsWriterNumber c.args.looks.now) c.args.looks.now.writers.items c.loop-look.look-index (record { txn = 0; key = 0; low = 0; high = 0 }) _ _ _ (rw c.deref-look-items.ensures.value at c.loop-look-test.true) c.loop-look.invariant
+    gives_more (IsFanNumber c.args.looks.now) (IsWriterNumber c.args.looks.now) c.args.looks.now.writers.items c.loop-look.look-index (record { txn = 0; key = 0; low = 0; high = 0; at = 0 }) _ _ _ (rw c.deref-look-items.ensures.value at c.loop-look-test.true) c.loop-look.invariant
     (rw c.deref-look-items.ensures.value at c.in_ok-near.ensures)
 
 pub returns : goal.returns

@@ -20,7 +20,7 @@ put_writer_fans-requires-clause-digits c =
     have_digits c.args.ix.now c.law.ensures (IsWithin given.0) c.args.looks given.1 c.rank_all.new.looks.items (λ x. (c.in_ok-rank_all.ensures.same x).0)
 
 pub returns-clause-stand : goal.returns-clause-stand
-returns-clause-stand c at are keys keys_are =
+returns-clause-stand c at are txns keys txns_are keys_are =
     let same = c.in_ok-rank_all.ensures.same in
     let looks = ranked c.args.looks c.rank_all.new.looks c.new.result same in
     let W = c.args.looks.writers.items in
@@ -28,7 +28,7 @@ returns-clause-stand c at are keys keys_are =
     let missed = gives_both (IsFanNumber looks) read (FromSome (IsAbsenceNumber W) c.args.looks.absences.items) [] _ _
     (subst (λ old. Gives (IsFanNumber looks) read old c.put_reader_fans.new.fans.items) c.new-fans.ensures.items (rw (c.deref.ensures.value, c.deref-2.ensures.value) at c.in_ok-put_reader_fans.ensures looks refl))
     (rw (c.deref-3.ensures.value, c.deref-4.ensures.value) at c.in_ok-put_absence_fans.ensures looks refl) in
-    numbers_stand c.args.ix.now c.law.ensures (IsWithin at) c.args.looks are c.args.committed.now keys c.requires.committed keys_are _
+    numbers_stand c.args.ix.now c.law.ensures (IsWithin at) c.args.looks are txns keys txns_are keys_are _
     (found_by c.args.looks c.rank_all.new.looks c.new.result same c.put_absence_fans.new.fans.items _ missed
     (gives_arranged (IsFanNumber looks) (FromSome (IsWriterNumber looks) W) _ _ _ c.in_ok-put_writer_fans.ensures c.sort_by_key.ensures.permutation))
 

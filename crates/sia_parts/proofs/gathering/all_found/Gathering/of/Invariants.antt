@@ -1,5 +1,5 @@
 -- What the parts so far add.
-use Rattle.std.proofs.Common.{[]}
+use Rattle.std.proofs.Common.{◌≡◌, []}
 use Rattle.std.specs.Prelude.{Contains}
 use Rattle.sia_parts.specs.declared.findings.PartFound.{PartFound}
 use Rattle.sia_parts.specs.Sights.{Adds, FromSome}
@@ -10,7 +10,7 @@ invariant-loop-part l = record {
   bad_reads : Adds (FromSome (λ (part : PartFound). Contains part.bad_reads.items) l.yielded) [] l.all.bad_reads.items;
   bad_writes : Adds (FromSome (λ (part : PartFound). Contains part.bad_writes.items) l.yielded) [] l.all.bad_writes.items;
   unexplained : Adds (FromSome (λ (part : PartFound). Contains part.unexplained.items) l.yielded) [] l.all.unexplained.items;
-  writers : Adds (FromSome (λ (part : PartFound). Contains part.looks.writers.items) l.yielded) [] l.all.looks.writers.items;
-  readers : Adds (FromSome (λ (part : PartFound). Contains part.looks.readers.items) l.yielded) [] l.all.looks.readers.items;
-  absences : Adds (FromSome (λ (part : PartFound). Contains part.looks.absences.items) l.yielded) [] l.all.looks.absences.items;
+  readers : Adds (FromSome (λ (part : PartFound). Contains part.readers.items) l.yielded) [] l.all.looks.readers.items;
+  absences : Adds (FromSome (λ (part : PartFound). Contains part.absences.items) l.yielded) [] l.all.looks.absences.items;
+  writers : l.all.looks.writers ≡ l.initial.all.looks.writers;
 }

@@ -1,0 +1,18 @@
+use Rattle.sia_parts.specs.declared.cutting.Part.{Part}
+use Rattle.sia_parts.specs.declared.findings.PartFound.{PartFound}
+use Rattle.std.proofs.Common.{subst, sym}
+use Rattle.std.specs.List.{AllZip}
+use Rattle.sia_parts.specs.Gathering.{IsPartFound}
+use Rattle.sia_parts.specs.Parts.{IsInPart}
+use Rattle.si_audit.proofs.Owed.{each_owed}
+use Rattle.si_audit.proofs.audit.judged.Goals as goal
+
+pub of-requires : goal.of-requires
+of-requires g c = c.parts-parts.ensures.cutting
+
+pub of-requires-in-Ok : goal.of-requires-in-Ok
+of-requires-in-Ok g c =
+    let parts = c.parts-parts.result.now in
+    let owed = each_owed (λ (part : Part) (found : PartFound). IsPartFound c.args.log.now (IsInPart part) found) parts c.in-Ok.parts.items c.in-Ok.ensures.len c.in-Ok.ensures.owed in
+    let cutting = c.parts-parts.ensures.cutting in
+    (cutting.0, parts, cutting.1, subst (λ h. AllZip (λ (part : Part) (found : PartFound). IsPartFound h (IsInPart part) found) parts c.in-Ok.parts.items) (sym c.requires.index) owed)

@@ -1,0 +1,130 @@
+//! The report of a history, on one sheet after another. Workers make the lines of its edges side by side, those of a chunk on each
+//! sheet. Of the edges only the links of the vulnerable ones are kept beside their lines.
+ghost use Rattle.std.specs.Prelude.{◌≡◌, ◌++◌, List, flat_map, IfOk, OnOk, ⊤, ◌+◌, ◌<◌};
+ghost use Rattle.si_audit.specs.Account.{account_of, account_with};
+ghost use Rattle.si_audit.specs.Report.{CanBePrinted};
+ghost use Rattle.si_audit.specs.Sheets.{text_of, AreLinesAndLinks};
+ghost use Rattle.sia_parts.specs.Looks.{AreLooks};
+ghost use Rattle.sia_parts.specs.Placing.{ArePlaced};
+ghost use Rattle.si_audit.specs.Engine.{IsReportOf};
+ghost use Rattle.sia_graph.specs.Judgements.{IsJudgement};
+ghost use Rattle.si_audit.specs.Lines as lines;
+
+use crate::crew::{Crew, Printing};
+use crate::explain::explained;
+use crate::options::{Form, Options};
+use crate::report::edges::Sheet;
+use crate::report::findings::{push_back, push_front};
+use sia_events::{History, Log, NoMemory};
+use sia_graph::{Judgement, Link, Pivot, edges_of, listing_law, pivots_of_links};
+use sia_index::Index;
+use sia_parts::{Edge, Looks, Recorded};
+use std::alloc::Global;
+
+/// The lines of a judgement: those of its edges stand on these sheets, and these pivots are told.
+pub(crate) fn report_of(
+    alloc: Global,
+    j: &Judgement,
+    edges: Vec<Vec<u8>>,
+    pivots: &[Pivot],
+) -> Result<Vec<Vec<u8>>, NoMemory>
+    ensures { IfOk result (λ all. (form : Form) (es : List Edge) (ps : List Pivot) → text_of edges.items ≡ flat_map lines.edge_line (lines.told form es)
+        → pivots.now ≡ lines.told form ps → text_of all.items ≡ lines.report_text form (account_with j.now es ps)) }
+{
+    let mut front = Vec::new(alloc);
+    push_front(&mut front, None, j)?;
+    let mut back = Vec::new(alloc);
+    push_back(&mut back, pivots, j.pass, j.serializable, &j.verdict)?;
+    let mut sheets = edges;
+    sheets.insert(0, front)?;
+    sheets.push(back)?;
+    Ok(sheets)
+}
+
+/// How many edges a chunk mostly has: so few that no worker waits long for the last one, and that the memory of a chunk, and
+/// that of its lines, is one that an allocator gives each worker apart from the others, and gives again.
+const STRETCH: usize = 6_000;
+
+/// The sheet alone.
+pub(crate) fn one_sheet(alloc: Global, sheet: Vec<u8>) -> Result<Vec<Vec<u8>>, NoMemory>
+    ensures { IfOk result (λ sheets. text_of sheets.items ≡ sheet.items) }
+{
+    let sheets = vec![in alloc; sheet]?;
+    Ok(sheets)
+}
+
+/// The lines, and all links together.
+fn parted(alloc: Global, made: Vec<Sheet>) -> Result<(Vec<Vec<u8>>, Vec<Link>), NoMemory>
+    ensures lines { IfOk result (λ (sheets, links). text_of sheets.items ≡ flat_map (λ s. s.lines.items) made.items) }
+    ensures links { IfOk result (λ (sheets, links). links.items ≡ flat_map (λ s. s.links.items) made.items) }
+{
+    let mut sheets = Vec::new(alloc);
+    let mut links = Vec::new(alloc);
+    for sheet in made {
+        links.extend_from_slice(&sheet.links)?;
+        sheets.push(sheet.lines)?;
+    }
+    Ok((sheets, links))
+}
+
+/// The lines of all edges, by a crew, and the links of the vulnerable ones.
+pub(crate) fn sheets_of_edges<C: Crew>(
+    crew: &C,
+    alloc: Global,
+    ix: &Index,
+    looks: Looks,
+) -> Result<(Vec<Vec<u8>>, Vec<Link>), NoMemory>
+    requires ready { C.ready crew.now }
+    requires looks { AreLooks ix.now (λ _. ⊤) looks }
+    ensures { IfOk result (λ (sheets, links). AreLinesAndLinks ix.now (text_of sheets.items) links.items) }
+{
+    let edges = edges_of(alloc, ix, looks, STRETCH)?;
+    let count = edges.chunk_bounds.places.len().saturating_sub(1) as u32;
+    let job = Printing {
+        alloc,
+        edges: &edges,
+    };
+    match crew.print(alloc, count, &job) {
+        Ok(sheets) => parted(alloc, sheets),
+        Err(_) => Err(NoMemory),
+    }
+}
+
+/// The report of the history of a log of which this is the judgement, in the form asked for. Makes no edge for a brief one. For a full one the
+/// log goes before the lines of its edges come, which take the most room.
+pub(crate) fn sheets_of<C: Crew>(
+    crew: &C,
+    alloc: Global,
+    log: Log,
+    index: &Index,
+    j: &Judgement,
+    looks: Looks,
+    o: &Options,
+) -> Result<Vec<Vec<u8>>, NoMemory>
+    requires ready { C.ready crew.now }
+    requires index { index.now ≡ log }
+    requires looks { AreLooks index.now (λ _. ⊤) looks × ArePlaced looks }
+    requires judgement { IsJudgement log j.now }
+    ensures { IfOk result (λ sheets. IsReportOf o.now.form log (text_of sheets.items)) }
+{
+    log.law();
+    listing_law();
+    match o.form() {
+        Form::Full => {
+            drop(log);
+            let (sheets, links) = sheets_of_edges(crew, alloc, index, looks)?;
+            let pivots = pivots_of_links(alloc, index, links)?;
+            report_of(alloc, j, sheets, &pivots)
+        }
+        Form::Brief => report_of(alloc, j, Vec::new(alloc), &[]),
+        Form::Explained => {
+            let history = History::of(alloc, log)?;
+            let of = Recorded {
+                history: &history,
+                index,
+            };
+            let sheet = explained(alloc, &of, j, &looks)?;
+            one_sheet(alloc, sheet)
+        }
+    }
+}

@@ -1,0 +1,186 @@
+-- A finder that finds names goes on finding them where one more is taken in.
+use Rattle.std.proofs.Common.{◌≡◌, ◌≢◌, ◌⊎◌, inl, inr, ℕ, zero, suc, ◌+◌, ◌<◌, ◌≤◌, nat_lt, Bool, true, false, List, [], ◌∷◌, ◌++◌, length, set, map, Option, Some, None, refl, sym, subst, ◌∙◌, ap, arith, slice_get}
+use Rattle.std.specs.Prelude.{◌==◌, ◌-◌}
+use Rattle.std.specs.BTreeMap.{is_at, get}
+use Rattle.std.specs.Ordering.{nat_cmp}
+use Rattle.std.proofs.lemmas.Bool.Decides.{nat_tests}
+use Rattle.std.proofs.lemmas.Bool.{eqb-true}
+use Rattle.std.proofs.lemmas.List.{length-map, length-append}
+use Rattle.std.proofs.lemmas.Option.{slice_get_within}
+use Rattle.sia_events.specs.declared.finder.Finder.{Finder}
+use Rattle.sia_events.specs.Finding.{home, AreTaken, IsInSlots, IsInTree, IsOther, Reaches, Finds, FindsBelow}
+
+set_read : (xs : List ℕ) (s i y v : ℕ) → slice_get (set xs s y) i ≡ Some v → (v ≡ y) ⊎ (slice_get xs i ≡ Some v)
+set_read [] s i y v is = inr is
+set_read (x ∷ xs) zero zero y v is = inl (let e : Some y ≡ Some v = is in cc)
+set_read (x ∷ xs) zero (suc i) y v is = inr is
+set_read (x ∷ xs) (suc s) zero y v is = inr is
+set_read (x ∷ xs) (suc s) (suc i) y v is = set_read xs s i y v is
+
+set_other : (xs : List ℕ) (s i y v w : ℕ) → slice_get xs s ≡ Some w → slice_get xs i ≡ Some v → v ≢ w → slice_get (set xs s y) i ≡ Some v
+set_other [] s i y v w at is ne = is
+set_other (x ∷ xs) zero zero y v w at is ne = let a : Some x ≡ Some w = at in let b : Some x ≡ Some v = is in absurd (ne cc)
+set_other (x ∷ xs) zero (suc i) y v w at is ne = is
+set_other (x ∷ xs) (suc s) zero y v w at is ne = is
+set_other (x ∷ xs) (suc s) (suc i) y v w at is ne = set_other xs s i y v w at is ne
+
+set_same : (xs : List ℕ) (s y w : ℕ) → slice_get xs s ≡ Some w → slice_get (set xs s y) s ≡ Some y
+set_same [] s y w at = absurd cc
+set_same (x ∷ xs) zero y w at = refl
+set_same (x ∷ xs) (suc s) y w at = set_same xs s y w at
+
+moved : (old now slots : List ℕ) (here there e : ℕ) → slots ≡ now → there ≡ here → slice_get slots (there + e) ≡ Some 0 → slice_get now (here + e) ≡ Some 0
+moved old now slots here there e is at free = rw (← is, ← at) free
+
+-- a free slot is filled
+pub record IsFilled (f g : Finder) (s n : ℕ) : Type 0 where
+  pub factor : g.factor ≡ f.factor
+  pub mask : g.mask ≡ f.mask
+  pub tree : g.tree ≡ f.tree
+  pub slots : g.slots.items ≡ set f.slots.items s (n + 1)
+  pub free : slice_get f.slots.items s ≡ Some 0
+
+module _ (f g : Finder) (s n : ℕ) (p : IsFilled f g s n) where
+  same_home : (name : ℕ) → home g name ≡ home f name
+  unfolding home
+  same_home name = rw (p.factor, p.mask) refl
+
+  still_taken : (name d : ℕ) → AreTaken f.slots.items (home f name) d → AreTaken g.slots.items (home g name) d
+  still_taken name d taken = λ e less free.
+      elim (set_read f.slots.items s (home f name + e) (n + 1) 0 (moved f.slots.items (set f.slots.items s (n + 1)) g.slots.items (home f name) (home g name) e p.slots (same_home name) free)) [
+        | inl wrong ↦ absurd (omega arith)
+        | inr was ↦ taken e less was
+      ]
+
+  pub filled_keeps : (names : List ℕ) (name : ℕ) → Reaches f names name → Reaches g names name
+  unfolding Reaches
+  filled_keeps names name (inl (d, m, less, at, named, taken)) = inl (d, m, less, rw (same_home name, p.slots) (set_other f.slots.items s (home f name + d) (n + 1) (m + 1) 0 p.free at (λ e. omega arith)), named, still_taken name d taken)
+  filled_keeps names name (inr (m, at, named, taken)) = inr (m, rw (p.tree) at, named, still_taken name 8 taken)
+
+  pub filled_finds : (names : List ℕ) (name d : ℕ) → s ≡ home f name + d → d < 8 → AreTaken f.slots.items (home f name) d → slice_get names n ≡ Some name → Reaches g names name
+  unfolding Reaches
+  filled_finds names name d here less taken named = inl (d, n, less, rw (same_home name, ← here, p.slots) (set_same f.slots.items s (n + 1) 0 p.free), named, still_taken name d taken)
+
+-- the tree gets one more
+pub record IsGrown (f g : Finder) (name n : ℕ) : Type 0 where
+  pub factor : g.factor ≡ f.factor
+  pub mask : g.mask ≡ f.mask
+  pub slots : g.slots.items ≡ f.slots.items
+  pub here : get nat_cmp g.tree name ≡ Some n
+  pub others : (q : ℕ) → is_at (nat_cmp name) q ≡ false → get nat_cmp g.tree q ≡ get nat_cmp f.tree q
+  pub taken : AreTaken f.slots.items (home f name) 8
+
+other_in_tree : (u t : ℕ) → (t == u) ≡ false → is_at (nat_cmp u) t ≡ false
+other_in_tree u t other = grind (arith, nat_tests)
+
+module _ (f g : Finder) (name n : ℕ) (p : IsGrown f g name n) where
+  same_home_grown : (x : ℕ) → home g x ≡ home f x
+  unfolding home
+  same_home_grown x = rw (p.factor, p.mask) refl
+
+  taken_grown : (x d : ℕ) → AreTaken f.slots.items (home f x) d → AreTaken g.slots.items (home g x) d
+  taken_grown x d taken = λ e less free. taken e less (moved f.slots.items f.slots.items g.slots.items (home f x) (home g x) e p.slots (same_home_grown x) free)
+
+  pub grown_finds : (names : List ℕ) → slice_get names n ≡ Some name → Reaches g names name
+  unfolding Reaches
+  grown_finds names named = inr (n, p.here, named, taken_grown name 8 p.taken)
+
+  pub grown_keeps : (names : List ℕ) (x : ℕ) → slice_get names n ≡ Some name → Reaches f names x → Reaches g names x
+  unfolding Reaches
+  grown_keeps names x named (inl (d, m, less, at, is, taken)) = inl (d, m, less, rw (same_home_grown x, p.slots) at, is, taken_grown x d taken)
+  grown_keeps names x named (inr (m, at, is, taken)) = by_name (x == name) refl where
+    by_name : (b : Bool) → (x == name) ≡ b → IsInSlots g names x ⊎ IsInTree g names x
+    by_name true same = let e : x ≡ name = eqb-true x name same in subst (λ (y : ℕ). IsInSlots g names y ⊎ IsInTree g names y) (sym e) (inr (n, p.here, named, taken_grown name 8 p.taken))
+    by_name false other = inr (m, p.others x (other_in_tree name x other) ∙ at, is, taken_grown x 8 taken)
+
+-- more names leave those before as they are
+slice_get_more : (xs ys : List ℕ) (i v : ℕ) → slice_get xs i ≡ Some v → slice_get (xs ++ ys) i ≡ Some v
+slice_get_more [] ys i v at = absurd cc
+slice_get_more (x ∷ xs) ys zero v at = at
+slice_get_more (x ∷ xs) ys (suc i) v at = slice_get_more xs ys i v at
+
+slice_get_less : (xs ys : List ℕ) (i v : ℕ) → i < length xs → slice_get (xs ++ ys) i ≡ Some v → slice_get xs i ≡ Some v
+slice_get_less [] ys i v less at = absurd (omega arith)
+slice_get_less (x ∷ xs) ys zero v less at = at
+slice_get_less (x ∷ xs) ys (suc i) v less at = slice_get_less xs ys i v (omega arith) at
+
+reaches_more : (f : Finder) (names more : List ℕ) (x : ℕ) → Reaches f names x → Reaches f (names ++ more) x
+unfolding Reaches
+reaches_more f names more x (inl (d, m, less, at, is, taken)) = inl (d, m, less, at, slice_get_more names more m x is, taken)
+reaches_more f names more x (inr (m, at, is, taken)) = inr (m, at, slice_get_more names more m x is, taken)
+
+pub below_last : (f : Finder) (names before : List ℕ) (last end : ℕ) → names ≡ before ++ last ∷ [] → end ≡ length before → Finds f before → FindsBelow f names end
+unfolding Finds FindsBelow
+below_last f names before last end is at finds = rw (is) (λ n x less here. reaches_more f before (last ∷ []) x (finds n x (slice_get_less before (last ∷ []) n x (rw (← at) less) here)))
+
+pub below_append : (f : Finder) (names more : List ℕ) (end : ℕ) → end ≤ length names → FindsBelow f names end → FindsBelow f (names ++ more) end
+unfolding FindsBelow
+below_append f names more end within below = λ n x less here. reaches_more f names more x (below n x less (slice_get_less names more n x (omega arith) here))
+
+pub finds_below : (f : Finder) (names : List ℕ) (end : ℕ) → Finds f names → FindsBelow f names end
+unfolding Finds FindsBelow
+finds_below f names end finds = λ n x less here. finds n x here
+
+pub below_none : (f : Finder) (names : List ℕ) → FindsBelow f names 0
+unfolding FindsBelow
+below_none f names = λ n x less here. absurd (omega arith)
+
+pub below_all : (f : Finder) (names : List ℕ) (end : ℕ) → length names ≤ end → FindsBelow f names end → Finds f names
+unfolding Finds FindsBelow
+below_all f names end all finds = λ n x here. let less = slice_get_within names n x here in finds n x (omega arith) here
+
+pub below_more : (f g : Finder) (names : List ℕ) (n x : ℕ) → slice_get names n ≡ Some x → ((y : ℕ) → Reaches f names y → Reaches g names y) → Reaches g names x → FindsBelow f names n → FindsBelow g names (n + 1)
+unfolding FindsBelow
+below_more f g names n x named keeps taken finds = λ m y less here. by_number m y less here (m == n) refl where
+  by_number : (m y : ℕ) → m < n + 1 → slice_get names m ≡ Some y → (b : Bool) → (m == n) ≡ b → Reaches g names y
+  by_number m y less here true same = let e : m ≡ n = eqb-true m n same in let again : slice_get names n ≡ Some y = rw (← e) here in let is : x ≡ y = cc in subst (λ (z : ℕ). Reaches g names z) is taken
+  by_number m y less here false other = let ne : m ≢ n = grind (arith, nat_tests) in keeps y (finds m y (omega arith) here)
+
+-- all names are those below their number
+pub from_below : (f : Finder) (names : List ℕ) (name : ℕ) → (FindsBelow f names (length names) → (n : ℕ) → n < length names → slice_get names n ≢ Some name) → Finds f names → (n : ℕ) → slice_get names n ≢ Some name
+unfolding Finds FindsBelow
+from_below f names name none finds n here = none (λ m x less at. finds m x at) n (slice_get_within names n name here) here
+
+pub nothing_found : (f : Finder) → Finds f []
+unfolding Finds
+nothing_found f = λ n x here. absurd cc
+
+-- the slots and the tree have been looked at
+pub not_found : (f : Finder) (names : List ℕ) (name from step end : ℕ) → from ≡ home f name → 8 ≤ step → ((e : ℕ) → e < step → IsOther f.slots.items names (from + e) name) → ((n : ℕ) → get nat_cmp f.tree name ≡ Some n → slice_get names n ≢ Some name) → FindsBelow f names end → (n : ℕ) → n < end → slice_get names n ≢ Some name
+unfolding FindsBelow Reaches
+not_found f names name from step end is all others none finds n within here = elim (finds n name within here) [
+  | inl (d, m, less, at, named, taken) ↦ (others d (omega arith)).1 m (rw (is) at) named
+  | inr (m, at, named, taken) ↦ none m at named
+]
+
+pub one_more_other : (slots names : List ℕ) (from name step : ℕ) → ((e : ℕ) → e < step → IsOther slots names (from + e) name) → IsOther slots names (from + step) name → (e : ℕ) → e < step + 1 → IsOther slots names (from + e) name
+one_more_other slots names from name step others one e less = by_step (e == step) refl where
+  by_step : (b : Bool) → (e == step) ≡ b → IsOther slots names (from + e) name
+  by_step true same = let is : e ≡ step = eqb-true e step same in subst (λ i. IsOther slots names (from + i) name) (sym is) one
+  by_step false other = let ne : e ≢ step = grind (arith, nat_tests) in others e (omega arith)
+
+-- a slot is free before one that has it
+pub free_first : (f : Finder) (names : List ℕ) (name from step end : ℕ) → from ≡ home f name → step < 8 → ((e : ℕ) → e < step → IsOther f.slots.items names (from + e) name) → slice_get f.slots.items (from + step) ≡ Some 0 → FindsBelow f names end → (n : ℕ) → n < end → slice_get names n ≢ Some name
+unfolding FindsBelow Reaches
+free_first f names name from step end is within others free finds n below here = elim (finds n name below here) [
+  | inl (d, m, less, at, named, taken) ↦ by_step d m (rw (is) at) named (λ e below. rw (is) (taken e below)) (nat_lt step d) (nat_lt d step) refl refl
+  | inr (m, at, named, taken) ↦ taken step within (rw (← is) free)
+]
+  where
+    by_step : (d m : ℕ) → slice_get f.slots.items (from + d) ≡ Some (m + 1) → slice_get names m ≡ Some name → AreTaken f.slots.items from d → (before behind : Bool) → nat_lt step d ≡ before → nat_lt d step ≡ behind → ⊥
+    by_step d m at is taken true behind e o = let less : step < d = grind (arith, nat_tests) in taken step less free
+    by_step d m at is taken false true e o = let less : d < step = grind (arith, nat_tests) in (others d less).1 m at is
+    by_step d m at is taken false false e o = let same : d ≡ step = grind (arith, nat_tests) in let here : slice_get f.slots.items (from + step) ≡ Some (m + 1) = rw (← same) at in let no : m + 1 ≡ 0 = cc in omega arith
+
+-- what a search of the tree says of a number there
+pub of_tree : (names : List ℕ) (name number : ℕ) (found : Option ℕ) → Some number ≡ found → slice_get names number ≢ Some name → (n : ℕ) → found ≡ Some n → slice_get names n ≢ Some name
+of_tree names name number found is other n at = let e : number ≡ n = (let j : Some number ≡ Some n = is ∙ at in cc) in subst (λ m. slice_get names m ≢ Some name) e other
+
+pub none_in_tree : (names : List ℕ) (name : ℕ) (found : Option ℕ) → None ≡ found → (n : ℕ) → found ≡ Some n → slice_get names n ≢ Some name
+none_in_tree names name found is n at = let j : None ≡ Some n = is ∙ at in absurd cc
+
+-- the last of the names
+pub one_less : {R : Type 0} (rows : List R) (named : R → ℕ) (before : List ℕ) (last end count : ℕ) → count ≡ length rows → end ≡ count - 1 → map named rows ≡ before ++ last ∷ [] → end ≡ length before
+one_less rows named before last end count all less is =
+    let more : length rows ≡ length before + 1 = sym (length-map rows named) ∙ ap length is ∙ length-append before (last ∷ []) in
+    omega arith

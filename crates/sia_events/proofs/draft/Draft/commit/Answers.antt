@@ -1,0 +1,34 @@
+-- A transaction that hasn't ended ends.
+use Rattle.std.proofs.Common.{◌≡◌, ◌++◌, ◌∷◌, [], ℕ, ◌+◌, suc, length, refl, ap, subst, arith, List, Some, None}
+use Rattle.std.proofs.lemmas.Result.{err_from_is_err_and}
+use Rattle.std.proofs.lemmas.List.{length-map}
+use Rattle.sia_events.specs.declared.event.Event.{Event}
+use Rattle.sia_events.specs.declared.event.Event.TheVariants.{Commit}
+use Rattle.sia_events.specs.declared.rows.Row.TheVariants as rows
+use Rattle.sia_events.specs.declared.rows.TxnEnd.TheVariants.{Committed}
+use Rattle.sia_events.specs.Places.{at_place}
+use Rattle.sia_events.specs.LogTables.{events_of, names_in}
+use Rattle.sia_events.specs.Numbering.{event_of}
+use Rattle.sia_events.specs.Known.{own_fault}
+use Rattle.sia_events.proofs.Lived.{at_last, other_false}
+use Rattle.sia_events.proofs.Drafted.{stops, txn_within, ends_now}
+use Rattle.sia_events.proofs.draft.Draft.commit.Goals as goal
+
+pub returns-in_err-txn : goal.returns-in_err-txn
+returns-in_err-txn c =
+    let p = err_from_is_err_and c.from_residual.result c.from_residual.ensures.1 in
+    rw (p.1, p.2) (stops c.args.self.now c.actor.new.self c.args.txn (Commit c.args.txn) c.in_err-txn.field-0.0 refl c.in_err-txn.ensures.refused)
+
+pub index_mut-requires : goal.index_mut-requires
+index_mut-requires c = let w = txn_within c.actor.new.self.tables.txns.items c.in_ok-txn.txn c.args.txn c.in_ok-txn.ensures.acts.is in let ok = c.actor.new.self.tables.txns.ok in omega arith
+
+own_none : (h : List Event) (n t : ℕ) → own_fault h n (Commit t) ≡ None
+unfolding own_fault
+own_none h n t = refl
+
+pub returns : goal.returns
+returns c =
+    let count : suc (length (events_of c.args.self.now.tables)) ≡ c.count.result + 1 = (let l = length-map c.args.self.now.tables.events.items (event_of (names_in c.args.self.now.tables)) in let same = ap length c.in_ok-txn.ensures.acts.same.events in omega (arith, c.count.ensures)) in
+    ends_now c.args.self.now c.actor.new.self _ c.args.txn c.in_ok-txn.txn (Commit c.args.txn) (rows.Commit c.in_ok-txn.txn) c.index_mut.result.now (record { name = c.index_mut.result.now.name; start = c.index_mut.result.now.start; end = Committed (c.count.result + 1) }) c.requires.knows c.in_ok-txn.ensures.acts c.in_ok-txn.ensures.found c.index_mut.ensures.value refl refl
+    (subst (λ p. at_place (events_of c.args.self.now.tables ++ Commit c.args.txn ∷ []) p ≡ Some (Commit c.args.txn)) count (at_last (events_of c.args.self.now.tables) (Commit c.args.txn)))
+    refl refl refl refl refl refl refl refl refl c.in_ok-push.ensures.items refl refl refl refl refl (λ m ne. other_false m c.args.txn ne) (λ names less. less) (λ names is. ap (λ t. Commit t) is) (λ names h. tt) (own_none (events_of c.args.self.now.tables) (length (events_of c.args.self.now.tables)) c.args.txn)

@@ -1,0 +1,5 @@
+use Rattle.sia_events.proofs.Finders.{nothing_found}
+use Rattle.sia_events.proofs.finder.Finder.new.Goals as goal
+
+pub returns : goal.returns
+returns c = nothing_found _

@@ -1,0 +1,13 @@
+-- The pairs of the range's row.
+use Rattle.std.proofs.Common.{◌≡◌, ℕ, ◌<◌, ◌-◌, List, length, map, take, drop, subst, sym}
+use Rattle.sia_events.specs.declared.event.Event.{Event}
+use Rattle.sia_events.specs.Numbering.{names_of, ranges_of, range_at, pair_at}
+use Rattle.sia_events.proofs.LogReads.{range_listed, range_room}
+use Rattle.sia_events.proofs.log.Log.listed.Goals as goal
+
+pub returns-clause-pairs : goal.returns-clause-pairs
+returns-clause-pairs c =
+    let r = c.index-range.result.now in
+    let room = range_room c.self.inside.tables c.args.number c.self.invariant.0 (subst (λ (h : List Event). c.args.number < length (ranges_of h)) (sym c.self.view_is) c.requires) in
+    let stored = subst (λ (h : List Event). map (pair_at (names_of h)) (take (r.to - r.from) (drop r.from c.self.inside.tables.pairs.items)) ≡ (range_at (names_of h) c.args.number).2) c.self.view_is (range_listed c.self.inside.tables c.args.number r c.self.invariant.0 room c.index-range.ensures) in
+    subst (λ (ps : List ℕ). map (pair_at (names_of c.args.self.now)) (take (r.to - r.from) (drop r.from ps)) ≡ (range_at (names_of c.args.self.now) c.args.number).2) (sym c.deref.ensures.value) stored

@@ -1,0 +1,443 @@
+//! A log as it is made, event by event.
+ghost use Rattle.std.specs.Prelude.{◌≡◌, ◌≢◌, ◌+◌, ◌-◌, ◌*◌, ◌^◌, ◌≤◌, ◌<◌, ◌++◌, ◌∷◌, [], ℕ, List, Some, None, true, false, length, map, drop, take, not, nat_lt, slice_get, IfOk, IfErr, IfSome, IfNone, MatchOption, OnOk, OnErr};
+ghost use Rattle.std.specs.List.{list_any};
+ghost use Rattle.sia_events.specs.declared.event.Event.TheVariants as an_event;
+ghost use Rattle.sia_events.specs.Drafts.{AreFound, Knows, CanTake, SameButTxns, SameButKeys, SameButWrites, IsNew, new_txn, Acts, HasKey, HasWrite, IsReadRow, IsWriteOr, Lists, ListsOne, StopsListing, StopsAtPair, StopsActing, Takes};
+ghost use Rattle.sia_events.specs.Known.{ends, goes_up, least_after};
+ghost use Rattle.sia_events.specs.LogTables.{events_of, names_in, txn_names};
+ghost use Rattle.sia_events.specs.Numbering.{IsSeen, same_pair};
+ghost use Rattle.sia_events.specs.OwnWrites.{new_write};
+
+use crate::event::{Key, TxnId, Version};
+use crate::fault::{Reason, Refusal};
+use crate::finder::{Finder, IN_ORDER, SPREAD};
+use crate::log::MARK;
+use crate::own_writes::OwnWrites;
+use crate::rows::{RangeRow, Row, SeenRow, Tables, TxnEnd, TxnRow, WriteRow};
+use std::alloc::{AllocError, Global};
+
+/// No table has more rows.
+const MOST_ROWS: usize = 536_870_912;
+
+/// The tables of the events so far, with what finds their rows by names.
+#[derive(Drop)]
+pub(crate) struct Draft {
+    pub(crate) tables: Tables,
+    txns: Finder,
+    keys: Finder,
+    writes: OwnWrites,
+    last_seen: Vec<SeenRow>,
+}
+
+/// The number of a listed pair: its write's, or the mark and its key's where version 0 was seen.
+fn pair_number(key: u32, write: u32) -> u32
+    requires key { key < 2 ^ 29 }
+    requires write { write ≤ 2 ^ 29 }
+    ensures some { 0 < write → result ≡ write }
+    ensures none { write ≡ 0 → result ≡ 2147483648 + key }
+{
+    if write == 0 {
+        return MARK + key;
+    }
+    write
+}
+
+fn follows(before: Option<Key>, lo: Key, key: Key) -> bool
+    ensures { result ≡ not (nat_lt key (least_after before lo)) }
+{
+    match before {
+        None => lo <= key,
+        Some(before) => before < key,
+    }
+}
+
+/// Whether the listed keys lie from `lo` to `hi`, each greater than the one before it.
+fn is_good_list(lo: Key, hi: Key, listed: &[(Key, Version)]) -> bool
+    ensures { result ≡ goes_up lo hi listed.now }
+{
+    let mut before: Option<Key> = None;
+    for (key, _) in listed {
+        if !follows(before, lo, *key) {
+            return false;
+        }
+        if hi < *key {
+            return false;
+        }
+        before = Some(*key);
+    }
+    true
+}
+
+impl Draft {
+    pub(crate) fn new(alloc: Global) -> Self
+        ensures none { events_of result.tables ≡ [] }
+        ensures knows { Knows result }
+    {
+        Draft {
+            tables: Tables {
+                txns: Vec::new(alloc),
+                keys: Vec::new(alloc),
+                writes: Vec::new(alloc),
+                ranges: Vec::new(alloc),
+                pairs: Vec::new(alloc),
+                events: Vec::new(alloc),
+            },
+            txns: Finder::new(alloc, IN_ORDER),
+            keys: Finder::new(alloc, SPREAD),
+            writes: OwnWrites::new(alloc),
+            last_seen: Vec::new(alloc),
+        }
+    }
+
+    /// How many events there are.
+    fn count(&self) -> u32
+        requires { length self.now.tables.events.items ≤ 2 ^ 29 }
+        ensures { result ≡ length self.now.tables.events.items }
+    {
+        self.tables.events.len() as u32
+    }
+
+    /// The number of a new transaction.
+    fn new_txn(&mut self, name: TxnId, start: u32) -> Result<u32, AllocError>
+        requires found { AreFound self.old }
+        requires new { IsNew (txn_names self.old.tables.txns.items) name }
+        ensures found { OnOk result (AreFound self.new) }
+        ensures same { OnOk result (SameButTxns self.old.tables self.new.tables) }
+        ensures rows { OnOk result (self.new.tables.txns.items ≡ self.old.tables.txns.items ++ new_txn name start ∷ []) }
+        ensures is { IfOk result (λ n. slice_get (txn_names self.new.tables.txns.items) n ≡ Some name) }
+    {
+        let number = self.tables.txns.len();
+        if number >= MOST_ROWS {
+            return Err(AllocError);
+        }
+        self.writes.add_txn()?;
+        self.tables.txns.push(TxnRow {
+            name,
+            start,
+            end: TxnEnd::Open,
+        })?;
+        self.txns.add(&self.tables.txns)?;
+        Ok(number as u32)
+    }
+
+    /// The number of the transaction, if it has an event.
+    fn find_txn(&self, name: TxnId) -> Option<u32>
+        requires { AreFound self.now }
+        ensures { MatchOption result (IsNew (txn_names self.now.tables.txns.items) name) (λ n. slice_get (txn_names self.now.tables.txns.items) n ≡ Some name) }
+    {
+        self.txns.find(&self.tables.txns, u64::from(name))
+    }
+
+    /// Whether the transaction has not ended.
+    fn is_open(&self, txn: u32) -> bool
+        requires knows { Knows self.now }
+        requires within { txn < length self.now.tables.txns.items }
+        ensures { (name : ℕ) → slice_get (txn_names self.now.tables.txns.items) txn ≡ Some name → list_any (ends name) (events_of self.now.tables) ≡ not result }
+    {
+        match self.tables.txns[txn as usize].end {
+            TxnEnd::Open => true,
+            _ => false,
+        }
+    }
+
+    /// The number of a transaction that acts and hasn't ended. It starts here if it has no event yet.
+    fn actor(&mut self, name: TxnId) -> Result<u32, Refusal>
+        requires { CanTake self.old }
+        ensures found { OnOk result (AreFound self.new) }
+        ensures acts { IfOk result (λ n. Acts self.old.tables self.new.tables name n) }
+        ensures refused { IfErr result (StopsActing self.old self.new name) }
+    {
+        match self.find_txn(name) {
+            Some(txn) => {
+                if self.is_open(txn) {
+                    return Ok(txn);
+                }
+                Err(Refusal::Bad(Reason::AlreadyEnded))
+            }
+            None => {
+                let start = self.count();
+                Ok(self.new_txn(name, start)?)
+            }
+        }
+    }
+
+    fn is_key(&self, number: u32, name: Key) -> bool
+        ensures { result ≡ true → slice_get self.now.tables.keys.items number ≡ Some name }
+    {
+        match self.tables.keys.get(number as usize) {
+            Some(key) => *key == name,
+            None => false,
+        }
+    }
+
+    fn key(&mut self, guess: u32, name: Key) -> Result<u32, AllocError>
+        requires { AreFound self.old }
+        ensures found { OnOk result (AreFound self.new) }
+        ensures has { IfOk result (λ n. HasKey self.old.tables self.new.tables name n) }
+    {
+        if self.is_key(guess, name) {
+            return Ok(guess);
+        }
+        match self.keys.find(&self.tables.keys, name) {
+            Some(number) => Ok(number),
+            None => self.new_key(name),
+        }
+    }
+
+    fn new_key(&mut self, name: Key) -> Result<u32, AllocError>
+        requires found { AreFound self.old }
+        requires new { IsNew self.old.tables.keys.items name }
+        ensures found { OnOk result (AreFound self.new) }
+        ensures has { IfOk result (λ n. HasKey self.old.tables self.new.tables name n) }
+    {
+        let number = self.tables.keys.len();
+        if number >= MOST_ROWS {
+            return Err(AllocError);
+        }
+        self.last_seen.push(SeenRow {
+            version: 0,
+            write: 0,
+        })?;
+        self.tables.keys.push(name)?;
+        self.keys.add(&self.tables.keys)?;
+        Ok(number as u32)
+    }
+
+    fn write_by(&self, txn: u32, key: u32) -> u32
+        requires found { AreFound self.now }
+        ensures { (t k : ℕ) → slice_get (txn_names self.now.tables.txns.items) txn ≡ Some t → slice_get self.now.tables.keys.items key ≡ Some k → IsWriteOr (names_in self.now.tables) (k, t) result }
+    {
+        match self.writes.find(&self.tables.writes, txn, key) {
+            Some(number) => number + 1,
+            None => 0,
+        }
+    }
+
+    fn seen_last(&self, key: u32, saw: Version) -> Option<u32>
+        requires { AreFound self.now }
+        ensures { (k : ℕ) → slice_get self.now.tables.keys.items key ≡ Some k → IfSome result (IsSeen (names_in self.now.tables) k saw) }
+    {
+        match self.last_seen.get(key as usize) {
+            Some(row) if row.version == saw => Some(row.write),
+            _ => None,
+        }
+    }
+
+    /// The write that made the version of the key: 0 made version 0.
+    fn seen(&mut self, key: u32, saw: Version) -> Option<u32>
+        requires { AreFound self.old }
+        ensures same { self.new.tables ≡ self.old.tables }
+        ensures found { AreFound self.new }
+        ensures some { (k : ℕ) → slice_get self.old.tables.keys.items key ≡ Some k → IfSome result (IsSeen (names_in self.old.tables) k saw) }
+        ensures none { (k : ℕ) → slice_get self.old.tables.keys.items key ≡ Some k → IfNone result ((saw ≢ 0) × (list_any (same_pair (k, saw)) (names_in self.old.tables).writes ≡ false)) }
+    {
+        if let Some(write) = self.seen_last(key, saw) {
+            return Some(write);
+        }
+        if saw == 0 {
+            return Some(0);
+        }
+        let txn = self.find_txn(saw)?;
+        let write = self.write_by(txn, key);
+        if write == 0 {
+            return None;
+        }
+        if let Some(row) = self.last_seen.get_mut(key as usize) {
+            *row = SeenRow {
+                version: saw,
+                write,
+            };
+        }
+        Some(write)
+    }
+
+    #[tactic(auto, unfolding(crate::specs::Drafts::Takes))]
+    pub(crate) fn begin(&mut self, txn: TxnId, start: Option<u32>) -> Result<(), Refusal>
+        requires { CanTake self.old }
+        ensures { Takes self.old self.new (an_event.Begin txn start) result }
+    {
+        if let Some(number) = self.find_txn(txn) {
+            if self.is_open(number) {
+                return Err(Refusal::Bad(Reason::AlreadyBegun));
+            }
+            return Err(Refusal::Bad(Reason::AlreadyEnded));
+        }
+        let count = self.count();
+        let at = start.unwrap_or(count);
+        if count < at {
+            return Err(Refusal::Bad(Reason::BadStart));
+        }
+        let txn = self.new_txn(txn, at)?;
+        self.tables.events.push(Row::Begin { txn, start })?;
+        Ok(())
+    }
+
+    #[tactic(auto, unfolding(crate::specs::Drafts::Takes))]
+    pub(crate) fn read(&mut self, txn: TxnId, key: Key, saw: Version) -> Result<(), Refusal>
+        requires { CanTake self.old }
+        ensures { Takes self.old self.new (an_event.Read txn key saw) result }
+    {
+        let txn = self.actor(txn)?;
+        let key = self.key(u32::MAX, key)?;
+        let Some(saw) = self.seen(key, saw) else {
+            return Err(Refusal::Bad(Reason::NotWritten));
+        };
+        let row = self.read_row(txn, key, saw);
+        self.tables.events.push(row)?;
+        Ok(())
+    }
+
+    fn read_row(&self, txn: u32, key: u32, saw: u32) -> Row
+        requires { AreFound self.now }
+        ensures { (t k v : ℕ) → slice_get (txn_names self.now.tables.txns.items) txn ≡ Some t → slice_get self.now.tables.keys.items key ≡ Some k → IsSeen (names_in self.now.tables) k v saw → IsReadRow (names_in self.now.tables) t k v result }
+    {
+        if self.write_by(txn, key) == 0 {
+            return Row::Read { txn, key, saw };
+        }
+        Row::OwnRead { txn, key, saw }
+    }
+
+    #[tactic(auto, unfolding(crate::specs::Drafts::Takes))]
+    pub(crate) fn range(
+        &mut self,
+        txn: TxnId,
+        lo: Key,
+        hi: Key,
+        listed: &[(Key, Version)],
+    ) -> Result<(), Refusal>
+        requires { CanTake self.old }
+        ensures { Takes self.old self.new (an_event.Range txn lo hi listed.now) result }
+    {
+        let txn = self.actor(txn)?;
+        if hi < lo {
+            return Err(Refusal::Bad(Reason::EmptyRange));
+        }
+        if !is_good_list(lo, hi, listed) {
+            return Err(Refusal::Bad(Reason::BadList));
+        }
+        let from = self.tables.pairs.len();
+        self.list(listed)?;
+        let to = self.tables.pairs.len();
+        let range = self.tables.ranges.len();
+        if range >= MOST_ROWS {
+            return Err(Refusal::NoMemory);
+        }
+        self.tables.ranges.push(RangeRow {
+            lo,
+            hi,
+            from: from as u32,
+            to: to as u32,
+        })?;
+        let writes = self.tables.writes.len() as u32;
+        self.tables.events.push(Row::Range {
+            txn,
+            range: range as u32,
+            writes,
+        })?;
+        Ok(())
+    }
+
+    /// Takes in the listed pairs. Mostly the keys were numbered in the order in which they are listed.
+    fn list(&mut self, listed: &[(Key, Version)]) -> Result<(), Refusal>
+        requires { AreFound self.old }
+        ensures found { OnOk result (AreFound self.new) }
+        ensures lists { OnOk result (Lists self.old.tables self.new.tables listed.now) }
+        ensures refused { IfErr result (StopsListing self.old self.new listed.now) }
+    {
+        let mut near = u32::MAX;
+        for (key, saw) in listed {
+            near = self.list_one(near, *key, *saw)?;
+        }
+        Ok(())
+    }
+
+    /// Takes in a listed pair, and answers the number of the key that may well be listed next.
+    fn list_one(&mut self, near: u32, key: Key, saw: Version) -> Result<u32, Refusal>
+        requires { AreFound self.old }
+        ensures found { OnOk result (AreFound self.new) }
+        ensures lists { OnOk result (ListsOne self.old.tables self.new.tables key saw) }
+        ensures refused { IfErr result (StopsAtPair self.old self.new key saw) }
+    {
+        let number = self.key(near, key)?;
+        let Some(write) = self.seen(number, saw) else {
+            return Err(Refusal::Bad(Reason::NotWritten));
+        };
+        if self.tables.pairs.len() >= MOST_PAIRS {
+            return Err(Refusal::NoMemory);
+        }
+        self.tables.pairs.push(pair_number(number, write))?;
+        Ok(number.wrapping_add(1))
+    }
+
+    #[tactic(auto, unfolding(crate::specs::Drafts::Takes))]
+    pub(crate) fn write(&mut self, txn: TxnId, key: Key) -> Result<(), Refusal>
+        requires { CanTake self.old }
+        ensures { Takes self.old self.new (an_event.Write txn key) result }
+    {
+        let txn = self.actor(txn)?;
+        let key = self.key(u32::MAX, key)?;
+        let write = self.first_write(txn, key)?;
+        self.tables.events.push(Row::Write { txn, key, write })?;
+        Ok(())
+    }
+
+    fn first_write(&mut self, txn: u32, key: u32) -> Result<u32, AllocError>
+        requires found { AreFound self.old }
+        requires txn { txn < length self.old.tables.txns.items }
+        requires key { key < length self.old.tables.keys.items }
+        ensures found { OnOk result (AreFound self.new) }
+        ensures has { (t k : ℕ) → slice_get (txn_names self.old.tables.txns.items) txn ≡ Some t → slice_get self.old.tables.keys.items key ≡ Some k → IfOk result (HasWrite self.old.tables self.new.tables (k, t)) }
+    {
+        let write = self.write_by(txn, key);
+        if write != 0 {
+            return Ok(write);
+        }
+        let write = self.new_write(txn, key)?;
+        Ok(write)
+    }
+
+    fn new_write(&mut self, txn: u32, key: u32) -> Result<u32, AllocError>
+        requires found { AreFound self.old }
+        requires txn { txn < length self.old.tables.txns.items }
+        requires key { key < length self.old.tables.keys.items }
+        ensures found { OnOk result (AreFound self.new) }
+        ensures same { OnOk result (SameButWrites self.old.tables self.new.tables) }
+        ensures rows { OnOk result (self.new.tables.writes.items ≡ self.old.tables.writes.items ++ new_write txn key ∷ []) }
+        ensures is { IfOk result (λ w. w ≡ length self.old.tables.writes.items + 1) }
+    {
+        let number = self.tables.writes.len();
+        if number >= MOST_ROWS {
+            return Err(AllocError);
+        }
+        self.tables.writes.push(WriteRow { txn, key })?;
+        self.writes.add(&self.tables.writes, txn)?;
+        Ok(number as u32 + 1)
+    }
+
+    #[tactic(auto, unfolding(crate::specs::Drafts::Takes))]
+    pub(crate) fn commit(&mut self, txn: TxnId) -> Result<(), Refusal>
+        requires { CanTake self.old }
+        ensures { Takes self.old self.new (an_event.Commit txn) result }
+    {
+        let txn = self.actor(txn)?;
+        let end = TxnEnd::Committed(self.count() + 1);
+        self.tables.txns[txn as usize].end = end;
+        self.tables.events.push(Row::Commit { txn })?;
+        Ok(())
+    }
+
+    #[tactic(auto, unfolding(crate::specs::Drafts::Takes))]
+    pub(crate) fn abort(&mut self, txn: TxnId) -> Result<(), Refusal>
+        requires { CanTake self.old }
+        ensures { Takes self.old self.new (an_event.Abort txn) result }
+    {
+        let txn = self.actor(txn)?;
+        let end = TxnEnd::Aborted(self.count() + 1);
+        self.tables.txns[txn as usize].end = end;
+        self.tables.events.push(Row::Abort { txn })?;
+        Ok(())
+    }
+}
+
+/// No more pairs are listed.
+const MOST_PAIRS: usize = 2_147_483_648;

@@ -1,0 +1,169 @@
+//! A log: a well-formed history as rows of numbers.
+ghost use Rattle.std.specs.Prelude.{◌≡◌, All, Some, ◌<◌, ◌≤◌, ◌-◌, ℕ, length, map, IfSome, MatchOption, slice_get, take, List};
+ghost use Rattle.std.specs.Option.{option_map};
+ghost use Rattle.sia_events.specs.LogTables.{events_of, AreTables};
+ghost use Rattle.sia_events.specs.Numbering.{names_of, txns_of, keys_of, writes_of, ranges_of, event_of, pair_at, txn_at, key_at, write_at, version_at, range_at, IsPair, IsWithin, IsMarked, Ends};
+ghost use Rattle.sia_events.specs.Places.{at_place};
+ghost use Rattle.sia_events.specs.Refusals.{IsWellFormed};
+ghost use Rattle.sia_events.specs.Transactions.{StartsAt};
+ghost use Rattle.sia_events.specs.declared.event.Event.{Event};
+
+use crate::event::{Key, Version};
+use crate::rows::{Row, Tables, TxnRow, WriteRow};
+use std::marker::Model;
+
+/// What stands at the mark and above it among listed pairs is a key that was seen at version 0.
+pub(crate) const MARK: u32 = 2_147_483_648;
+
+/// A well-formed history, in which transactions, keys, first writes and ranges are numbered as they first appear.
+#[derive(Drop)]
+pub struct Log {
+    pub(crate) tables: Tables,
+}
+
+impl Model for Log {
+    ghost Value = { List Event };
+
+    ghost view = { λ l. events_of l.tables };
+
+    ghost invariant = { λ l. AreTables l.tables × IsWellFormed (events_of l.tables) };
+}
+
+/// The row of the event with the number, counted from 0.
+fn stored_row(tables: &Tables, number: usize) -> Option<Row>
+    ensures { result ≡ slice_get tables.now.events.items number }
+{
+    tables.events.get(number).copied()
+}
+
+impl Log {
+    /// A law of every log, and nothing else: it is well-formed.
+    pub fn law(&self)
+        ensures { IsWellFormed self.now }
+    {
+        let _ = &self.tables;
+    }
+
+    /// How many events there are.
+    pub fn len(&self) -> u32
+        ensures len { result ≡ length self.now }
+        ensures well_formed { IsWellFormed self.now }
+    {
+        self.tables.events.len() as u32
+    }
+
+    /// The event at a place, counted from 1, by numbers. There is none at 0 and above the length.
+    pub fn row(&self, place: u32) -> Option<Row>
+        ensures event { option_map (event_of (names_of self.now)) result ≡ at_place self.now place }
+        ensures within { IfSome result (IsWithin (names_of self.now)) }
+        ensures marked { IfSome result (IsMarked (names_of self.now) (take (place - 1) self.now)) }
+    {
+        if place == 0 {
+            return None;
+        }
+        stored_row(&self.tables, place as usize - 1)
+    }
+
+    /// How many transactions there are.
+    pub fn txn_count(&self) -> u32
+        ensures { result ≡ length (txns_of self.now) }
+    {
+        self.tables.txns.len() as u32
+    }
+
+    /// What is known of a transaction.
+    pub fn txn(&self, number: u32) -> TxnRow
+        requires { number < length (txns_of self.now) }
+        ensures name { slice_get (txns_of self.now) number ≡ Some result.name }
+        ensures starts { StartsAt self.now result.name result.start }
+        ensures ends { Ends self.now result.name result.end }
+    {
+        self.tables.txns[number as usize]
+    }
+
+    /// How many keys were read, listed or written.
+    pub fn key_count(&self) -> u32
+        ensures { result ≡ length (keys_of self.now) }
+    {
+        self.tables.keys.len() as u32
+    }
+
+    pub fn key(&self, number: u32) -> Key
+        requires { number < length (keys_of self.now) }
+        ensures { slice_get (keys_of self.now) number ≡ Some result }
+    {
+        self.tables.keys[number as usize]
+    }
+
+    /// How many first writes there are. They are numbered from 1.
+    pub fn write_count(&self) -> u32
+        ensures { result ≡ length (writes_of self.now) }
+    {
+        self.tables.writes.len() as u32
+    }
+
+    /// The transaction and the key of a write.
+    pub fn write(&self, number: u32) -> WriteRow
+        requires above { 0 < number }
+        requires bound { number ≤ length (writes_of self.now) }
+        ensures txn { result.txn < length (txns_of self.now) }
+        ensures key { result.key < length (keys_of self.now) }
+        ensures write { slice_get (writes_of self.now) (number - 1) ≡ Some (key_at (names_of self.now) result.key, txn_at (names_of self.now) result.txn) }
+    {
+        self.tables.writes[number as usize - 1]
+    }
+
+    /// The version that a write made: write 0 stands for version 0.
+    pub fn version(&self, write: u32) -> Version
+        requires { write ≤ length (writes_of self.now) }
+        ensures { result ≡ version_at (names_of self.now) write }
+    {
+        if write == 0 {
+            return 0;
+        }
+        self.txn(self.write(write).txn).name
+    }
+
+    /// The first and the last key of a range.
+    pub fn range(&self, number: u32) -> (Key, Key)
+        requires { number < length (ranges_of self.now) }
+        ensures lo { result.0 ≡ (range_at (names_of self.now) number).0 }
+        ensures hi { result.1 ≡ (range_at (names_of self.now) number).1 }
+    {
+        let range = &self.tables.ranges[number as usize];
+        (range.lo, range.hi)
+    }
+
+    /// The pairs that a range listed, each as a number that `pair` and `listed_numbers` understand.
+    pub fn listed(&self, number: u32) -> &[u32]
+        requires { number < length (ranges_of self.now) }
+        ensures pairs { map (pair_at (names_of self.now)) result.now ≡ (range_at (names_of self.now) number).2 }
+        ensures within { All (IsPair (names_of self.now)) result.now }
+    {
+        let range = &self.tables.ranges[number as usize];
+        &self.tables.pairs[range.from as usize..range.to as usize]
+    }
+
+    /// The key and the version of a listed pair.
+    pub fn pair(&self, pair: u32) -> (Key, Version)
+        requires { IsPair (names_of self.now) pair }
+        ensures { result ≡ pair_at (names_of self.now) pair }
+    {
+        let (key, write) = self.pair_numbers(pair);
+        (self.key(key), self.version(write))
+    }
+
+    /// The numbers of the key and of the write of a listed pair.
+    pub fn pair_numbers(&self, pair: u32) -> (u32, u32)
+        requires { IsPair (names_of self.now) pair }
+        ensures key { result.0 < length (keys_of self.now) }
+        ensures write { result.1 ≤ length (writes_of self.now) }
+        ensures pair { pair_at (names_of self.now) pair ≡ (key_at (names_of self.now) result.0, version_at (names_of self.now) result.1) }
+    {
+        if pair < MARK {
+            (self.write(pair).key, pair)
+        } else {
+            (pair - MARK, 0)
+        }
+    }
+}

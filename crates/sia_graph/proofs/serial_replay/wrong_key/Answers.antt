@@ -1,0 +1,62 @@
+use Rattle.std.proofs.Common.{arith, Bool, true, false, ◌≡◌, ◌<◌, ◌≤◌, ℕ, List, Option, None, Some, refl, ap, sym, subst, ◌∙◌, map}
+use Rattle.std.specs.Prelude.{◌↔◌, All, IsTrue, MatchOption, not}
+use Rattle.std.specs.Bool.{then_some}
+use Rattle.sia_events.specs.declared.event.Event.{Event}
+use Rattle.sia_events.specs.declared.event.Event.TheVariants.{Range, Write}
+use Rattle.sia_events.specs.Replay.{MayFollow}
+use Rattle.sia_graph.specs.Replaying.{IsRight, IsWrongAt, version_in}
+use Rattle.std.specs.List.Sorted.{IsStrictlyIncreasing}
+use Rattle.sia_events.proofs.Ranges.{bounds_in_order, list_in_order}
+use Rattle.sia_graph.proofs.RightAt.{write_right}
+use Rattle.sia_graph.proofs.serial_replay.wrong_key.Goals as goal
+
+pub wrong_in_range-requires-clause-forward : goal.wrong_in_range-requires-clause-forward
+wrong_in_range-requires-clause-forward c =
+    bounds_in_order c.args.h.now c.len-events.ensures.well_formed c.requires.event.0 c.in-Range.txn c.in-Range.lo c.in-Range.hi c.in-Range.listed (c.requires.event.1 ∙ ap Some c.in-Range.is)
+
+pub wrong_in_range-requires-clause-listed : goal.wrong_in_range-requires-clause-listed
+wrong_in_range-requires-clause-listed c =
+    subst (λ l. IsStrictlyIncreasing (map (λ (p : ℕ × ℕ). p.0) l)) (sym c.as_slice.ensures)
+    (list_in_order c.args.h.now c.len-events.ensures.well_formed c.requires.event.0 c.in-Range.txn c.in-Range.lo c.in-Range.hi c.in-Range.listed (c.requires.event.1 ∙ ap Some c.in-Range.is)).1
+
+pub wrong_in_range-requires-clause-within : goal.wrong_in_range-requires-clause-within
+wrong_in_range-requires-clause-within c =
+    subst (λ l. All (λ (p : ℕ × ℕ). (c.in-Range.lo ≤ p.0) × (p.0 ≤ c.in-Range.hi)) l) (sym c.as_slice.ensures)
+    (list_in_order c.args.h.now c.len-events.ensures.well_formed c.requires.event.0 c.in-Range.txn c.in-Range.lo c.in-Range.hi c.in-Range.listed (c.requires.event.1 ∙ ap Some c.in-Range.is)).0
+
+-- of an event what was found at the least key
+told : (h : List Event) (found : ℕ → ℕ) (e : Event) (r : Option ℕ) → MatchOption r ((k : ℕ) → IsRight h found e k) (λ key. ¬ IsRight h found e key × ((k : ℕ) → k < key → IsRight h found e k))
+    → MatchOption r ((k : ℕ) → IsRight h found e k) (λ key. IsWrongAt h found e key (found key))
+told h found e None right = right
+told h found e (Some key) wrong = (wrong.0, wrong.1, refl)
+
+pub returns-in-Range : goal.returns-in-Range
+returns-in-Range c =
+    let found = version_in c.args.versions.now in
+    let is = c.in-Range.is ∙ ap (λ (l : List (ℕ × ℕ)). Range c.in-Range.txn c.in-Range.lo c.in-Range.hi l) (sym c.as_slice.ensures) in
+    subst (λ (e : Event). MatchOption c.wrong_in_range.result ((k : ℕ) → IsRight c.args.h.now found e k) (λ key. IsWrongAt c.args.h.now found e key (found key))) (sym is)
+    (told c.args.h.now found (Range c.in-Range.txn c.in-Range.lo c.in-Range.hi c.as_slice.result.now) c.wrong_in_range.result (c.wrong_in_range.ensures c.in-Range.txn))
+
+-- of a write event what it may follow
+write_told : (h : List Event) (found : ℕ → ℕ) (t key : ℕ) (may : Bool) (r : Option ℕ) → r ≡ then_some (not may) key → IsTrue may ↔ MayFollow h key (found key) t
+    → MatchOption r ((k : ℕ) → IsRight h found (Write t key) k) (λ k. IsWrongAt h found (Write t key) k (found k))
+write_told h found t key true r is may = subst (λ r. MatchOption r ((k : ℕ) → IsRight h found (Write t key) k) (λ k. IsWrongAt h found (Write t key) k (found k))) (sym is) (write_right h found t key (may.0 refl))
+write_told h found t key false r is may =
+    subst (λ r. MatchOption r ((k : ℕ) → IsRight h found (Write t key) k) (λ k. IsWrongAt h found (Write t key) k (found k))) (sym is)
+    ((λ right. let no = may.1 (right refl) in cc), (λ k l e. absurd (omega arith)), refl)
+
+pub returns-in-Write : goal.returns-in-Write
+returns-in-Write c =
+    let h = c.args.h.now in
+    let found = version_in c.args.versions.now in
+    let key = c.in-Write.key in
+    let txn = c.in-Write.txn in
+    let r = c.then_some-in-Write.result in
+    subst (λ (e : Event). MatchOption r ((k : ℕ) → IsRight h found e k) (λ k. IsWrongAt h found e k (found k))) (sym c.in-Write.is)
+    (write_told h found txn key c.may_follow.result r c.then_some-in-Write.ensures (subst (λ v. IsTrue c.may_follow.result ↔ MayFollow h key v txn) c.version_of-found.ensures c.may_follow.ensures))
+
+pub may_follow-requires-clause-commits : goal.may_follow-requires-clause-commits
+may_follow-requires-clause-commits c = c.requires.commits
+
+pub may_follow-requires-clause-writes : goal.may_follow-requires-clause-writes
+may_follow-requires-clause-writes c = (c.requires.event.0, c.requires.event.1 ∙ ap Some c.in-Write.is)

@@ -1,0 +1,16 @@
+-- The number that the table has, and no other.
+use Rattle.std.proofs.Common.{None, ◌∙◌, arith, subst}
+use Rattle.std.proofs.lemmas.List.{get_or_default}
+use Rattle.sia_index.proofs.NumberedNames.{number_exactly}
+use Rattle.sia_index.specs.Tables.{AreTables}
+use Rattle.sia_index.proofs.index.Index.committed_number.Goals as goal
+
+pub index-requires : goal.index-requires
+index-requires c =
+    let are = subst (λ h. AreTables h c.self.inside.txns c.self.inside.keys c.self.inside.versions c.self.inside.writes) c.self.view_is c.self.invariant in
+    omega (arith, are.txns_are.committed.long, c.requires, c.self.inside.txns.committed_numbers.ok)
+
+pub returns : goal.returns
+returns c i =
+    let are = subst (λ h. AreTables h c.self.inside.txns c.self.inside.keys c.self.inside.versions c.self.inside.writes) c.self.view_is c.self.invariant in
+    number_exactly _ _ _ _ are.txns_are.committed c.args.txn c.requires _ (c.index.ensures ∙ get_or_default _ c.args.txn _ None (omega (arith, are.txns_are.committed.long, c.requires))) i

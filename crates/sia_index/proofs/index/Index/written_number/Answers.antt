@@ -1,0 +1,16 @@
+-- The number that the table has.
+use Rattle.std.proofs.Common.{None, ◌∙◌, arith, subst}
+use Rattle.std.proofs.lemmas.List.{get_or_default}
+use Rattle.sia_index.proofs.NumberedNames.{number_written}
+use Rattle.sia_index.specs.Tables.{AreTables}
+use Rattle.sia_index.proofs.index.Index.written_number.Goals as goal
+
+pub index-requires : goal.index-requires
+index-requires c =
+    let are = subst (λ h. AreTables h c.self.inside.txns c.self.inside.keys c.self.inside.versions c.self.inside.writes) c.self.view_is c.self.invariant in
+    omega (arith, are.keys_are.long, c.requires, c.self.inside.keys.numbers.ok)
+
+pub returns : goal.returns
+returns c =
+    let are = subst (λ h. AreTables h c.self.inside.txns c.self.inside.keys c.self.inside.versions c.self.inside.writes) c.self.view_is c.self.invariant in
+    number_written c.args.self.now _ _ _ are.keys_are c.args.key c.requires _ (c.index.ensures ∙ get_or_default _ c.args.key _ None (omega (arith, are.keys_are.long, c.requires)))

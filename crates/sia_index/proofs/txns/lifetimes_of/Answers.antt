@@ -1,0 +1,40 @@
+-- Each row adds its transaction.
+use Rattle.std.proofs.Common.{◌≡◌, ◌+◌, ◌∙◌, [], ◌∷◌, ◌++◌, length, sym, subst, ap, arith}
+use Rattle.std.specs.Prelude.{slice_index_or}
+use Rattle.sia_events.specs.Transactions.{IsCommitted}
+use Rattle.sia_index.specs.Lifetimes.{IsLifetime}
+use Rattle.sia_index.specs.declared.names.Numbered.{Numbered}
+use Rattle.sia_index.proofs.Columns.{IsColumn, column_more}
+use Rattle.sia_index.proofs.KnownTxns.{beside_more}
+use Rattle.sia_index.proofs.NumberedNames.{none_numbered, same_some}
+use Rattle.sia_index.proofs.txns.lifetimes_of.Goals as goal
+
+pub loop-row-init : goal.loop-row-init
+loop-row-init c =
+    let long = ap length c.in_ok-committed.ensures.items in
+    ((long, λ i d e below. absurd (omega arith)), (ap length c.in_ok-lifetimes.ensures.items, λ i d below. absurd (omega arith)))
+
+pub loop-row-preserved : goal.loop-row-preserved
+loop-row-preserved c =
+    let rows = c.args.rows.now in
+    let n = c.loop-row.row-index in
+    let ids = c.loop-row.committed.items in
+    let row = slice_index_or rows n none_numbered in
+    let name : c.txn-txn.result.name ≡ row.name = same_some _ _ (sym c.txn-txn.ensures.name ∙ c.requires.named n none_numbered c.loop-row-test.true) in
+    let so = c.loop-row.invariant in
+    let done = subst (IsCommitted c.args.log.now) (sym name) (c.requires.committed n none_numbered c.loop-row-test.true) in
+    rw (c.in_ok-push.ensures.items, c.in_ok-push-2.ensures.items) (
+      subst (λ t. IsColumn (λ (r : Numbered). r.name) rows (n + 1) (ids ++ t ∷ [])) (sym name) (column_more (λ (r : Numbered). r.name) rows n ids so.0 none_numbered c.loop-row-test.true),
+      beside_more (IsLifetime c.args.log.now) n ids _ _ _ so.0.0 so.1 (c.lifetime_of.ensures c.args.log.now c.txn-txn.result.name c.law.ensures c.txn-txn.ensures.starts c.txn-txn.ensures.ends done),
+    )
+
+pub returns-clause-names : goal.returns-clause-names
+returns-clause-names c =
+    let end : c.loop-row.row-index ≡ length c.args.rows.now = (let last = c.loop-row-test.false in let most = c.loop-row.auto in omega arith) in
+    subst (λ n. IsColumn (λ (r : Numbered). r.name) c.args.rows.now n c.loop-row.committed.items) end c.loop-row.invariant.0
+
+pub returns-clause-lifetimes : goal.returns-clause-lifetimes
+returns-clause-lifetimes c =
+    let so = c.loop-row.invariant in
+    let long = so.0.0 in
+    record { long = so.1.0 ∙ sym so.0.0; each = λ i d below. so.1.1 i d (omega arith) }

@@ -1,0 +1,154 @@
+//! Read events dealt to parts of the keys.
+ghost use Rattle.std.specs.Prelude.{◌≡◌, ◌<◌, ◌≤◌, ℕ, List, Some, AllPairs, MatchOption, Contains, IfOk, OnOk, length};
+ghost use Rattle.std.specs.List.{slice_get};
+ghost use Rattle.std.specs.List.Sorted.{IsNonDecreasingBy};
+ghost use Rattle.sia_events.specs.declared.event.Event.{Event};
+ghost use Rattle.sia_events.specs.Events.{Saw};
+ghost use Rattle.sia_events.specs.Numbering.{names_of, event_of, IsWithin};
+ghost use Rattle.sia_events.specs.Reads.{SawAt};
+ghost use Rattle.sia_parts.specs.declared.cutting.Part.{Part as part};
+ghost use Rattle.sia_parts.specs.declared.reads.Read.{Read as read};
+ghost use Rattle.sia_parts.specs.Dealing.{AreReads, Deals, DealsWithin, HasReadsOf};
+ghost use Rattle.sia_parts.specs.Parts.{IsCutting};
+
+use crate::auditing::seen::txn_of;
+use crate::cutting::Part;
+use sia_events::{Key, Log, NoMemory, Row};
+use sia_index::keyed::{By, ByTxn, place_above};
+use sia_index::ordering::in_order;
+use std::alloc::Global;
+
+/// For each of some parts the places of the read events that concern it, transaction by transaction in the order of the log's
+/// numbers, and then by place.
+#[derive(Drop)]
+pub struct Reads {
+    pub(crate) dealt: Vec<Vec<u32>>,
+}
+
+/// A read event: the log's transaction, and its place.
+#[derive(Clone, Copy, PartialEq, Eq, PartialOrd, Ord)]
+struct Read {
+    txn: u32,
+    place: u32,
+}
+
+impl By<Read> for ByTxn {
+    ghost by = { λ r. r.txn };
+
+    fn number(r: &Read) -> u64 {
+        u64::from(r.txn)
+    }
+}
+
+/// Parts by their first key.
+struct ByFirst;
+
+impl By<Part> for ByFirst {
+    ghost by = { λ p. p.lo };
+
+    fn number(p: &Part) -> u64 {
+        p.lo
+    }
+}
+
+impl Reads {
+    /// Those of the parts that points cut the keys into.
+    pub fn of(alloc: Global, log: &Log, parts: &[Part]) -> Result<Reads, NoMemory>
+        requires { (points : List ℕ) × IsCutting points parts.now }
+        ensures { IfOk result (λ reads. AreReads log.now parts.now reads) }
+    {
+        let reads = reads_by_txn(alloc, log)?;
+        let mut dealt = no_places(alloc, parts.len())?;
+        for i in 0..reads.len() {
+            put_read(log, parts, reads[i].place, &mut dealt)?;
+        }
+        Ok(Reads { dealt })
+    }
+
+    /// Those of part number `i`, counted from 0.
+    pub fn of_part(&self, i: usize) -> &[u32]
+        ensures { (h : List Event) (parts : List part) (one : part) → AreReads h parts self.now → slice_get parts i ≡ Some one → HasReadsOf h one result.now }
+    {
+        match self.dealt.get(i) {
+            Some(places) => places.as_slice(),
+            None => &[],
+        }
+    }
+}
+
+fn no_places(alloc: Global, count: usize) -> Result<Vec<Vec<u32>>, NoMemory>
+    ensures { IfOk result (λ lists. length lists.items ≡ count) }
+{
+    let mut lists = Vec::with_capacity(alloc, count)?;
+    for _ in 0..count {
+        lists.push(Vec::new(alloc))?;
+    }
+    Ok(lists)
+}
+
+fn reads_by_txn(alloc: Global, log: &Log) -> Result<Vec<Read>, NoMemory>
+    ensures { IfOk result (λ reads. (p t k v : ℕ) → SawAt log.now p t k v → (r : read) × Contains reads.items r × (r.place ≡ p)) }
+{
+    let count = log.len();
+    let mut reads = Vec::with_capacity(alloc, count as usize)?;
+    for before in 0..count {
+        if let Some(row) = log.row(before + 1) {
+            if covered(log, row).is_some() {
+                reads.push(Read {
+                    txn: txn_of(row),
+                    place: before + 1,
+                })?;
+            }
+        }
+    }
+    let reads = in_order::<Read, ByTxn>(alloc, reads)?;
+    Ok(reads)
+}
+
+// The first and the last key that the event may have seen, if it is a read.
+#[inline(always)]
+fn covered(log: &Log, row: Row) -> Option<(Key, Key)>
+    requires { IsWithin (names_of log.now) row }
+    ensures { MatchOption result ((k v : ℕ) → ¬ Saw (event_of (names_of log.now) row) k v)
+        (λ ends. (k v : ℕ) → Saw (event_of (names_of log.now) row) k v → (ends.0 ≤ k) × (k ≤ ends.1)) }
+{
+    match row {
+        Row::Read { key, .. } | Row::OwnRead { key, .. } => {
+            let k = log.key(key);
+            Some((k, k))
+        }
+        Row::Range { range, .. } => Some(log.range(range)),
+        _ => None,
+    }
+}
+
+fn put_read(
+    log: &Log,
+    parts: &[Part],
+    place: u32,
+    dealt: &mut Vec<Vec<u32>>,
+) -> Result<(), NoMemory>
+    requires first { IsNonDecreasingBy (λ p. p.lo) parts.now }
+    requires apart { AllPairs (λ p q. p.hi < q.lo) parts.now }
+    requires long { length parts.now ≤ length dealt.old.items }
+    ensures { OnOk result (Deals log.now parts.now place dealt.old.items dealt.new.items) }
+{
+    if let Some(row) = log.row(place) {
+        if let Some((lo, hi)) = covered(log, row) {
+            let from = place_above::<Part, ByFirst>(parts, lo).saturating_sub(1);
+            let to = place_above::<Part, ByFirst>(parts, hi);
+            put_place(place, from, to, dealt)?;
+        }
+    }
+    Ok(())
+}
+
+fn put_place(place: u32, from: usize, to: usize, dealt: &mut Vec<Vec<u32>>) -> Result<(), NoMemory>
+    requires { to ≤ length dealt.old.items }
+    ensures { OnOk result (DealsWithin place from to dealt.old.items dealt.new.items) }
+{
+    for i in from..to {
+        dealt[i].push(place)?;
+    }
+    Ok(())
+}
