@@ -213,7 +213,7 @@ class ProgramTest(unittest.TestCase):
 
     def test_memory(self) -> None:
         self.assertIs(self.run_program(LONG_HISTORY, memory=1 << 30).ending, Ending.REPORT)
-        for memory in (16 << 20, 18 << 20):
+        for memory in (12 << 20, 14 << 20):
             self.assertIs(self.run_program(LONG_HISTORY, memory=memory).ending, Ending.MEMORY)
 
     @unittest.skipUnless(os.path.exists("/dev/full"), "left out: there is no /dev/full")
