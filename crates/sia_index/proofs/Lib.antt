@@ -9,7 +9,6 @@ pub mod Offsets
 pub mod Points
 pub mod NextKeys
 pub mod DueWithin
-pub mod Blocks
 pub mod Finding
 pub mod PartedRows
 pub mod Columns
@@ -22,3 +21,4 @@ pub mod PlacesOf
 pub mod VersionRows
 pub mod PositionLaws
 pub mod NumberedNames
+pub mod Trees
