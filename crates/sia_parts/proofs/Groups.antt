@@ -62,21 +62,3 @@ group_between {A} key xs ys t found =
       (λ k d a b. at k d ∙ found.high.0 (first + k) d (omega arith) (elim found.no_more [ inl under ↦ omega arith | inr none ↦ absurd (omega arith) ])),
       (λ k d a b. at k d ∙ found.high.1 (first + k) d (omega arith) (omega arith)),
     ))
-
--- what stands between two places, where what is before is less, and what is after greater
-pub between : {A : Type 0} (key : A → ℕ) (xs : List A) (t first end : ℕ) → first ≤ end → end ≤ length xs
-    → AllWithin (λ x. key x < t) xs 0 first → AllWithin (λ x. key x ≡ t) xs first end → AllWithin (λ x. t < key x) xs end (length xs)
-    → IsGroup key xs t (take (end - first) (drop first xs))
-between {A} key xs t first end l m below at above =
-    let no_less = λ (k : ℕ) (d : A) (a : first ≤ k) (b : k < length xs). no_less_at k d a b (cases_lt k end) in
-    let long = length-drop first xs in
-    let same = λ (k : ℕ) (d : A). ap key (get_or-drop first xs k d) in
-    cut_out key xs (drop first xs) t first (end - first) refl
-    ((λ k d a b. lt-ltb (key (get_or xs k d)) t (below k d a b)), (λ k d a b. le-ltb (key (get_or xs k d)) t (no_less k d a b))) (
-      (λ k d a b. le-leb (key (get_or (drop first xs) k d)) t (let e = same k d in let f = at (first + k) d (omega arith) (omega arith) in omega arith)),
-      (λ k d a b. lt-leb (key (get_or (drop first xs) k d)) t (let e = same k d in let f = above (first + k) d (omega arith) (omega arith) in omega arith)),
-    )
-  where
-    no_less_at : (k : ℕ) (d : A) → first ≤ k → k < length xs → (k < end) ⊎ (end ≤ k) → t ≤ key (get_or xs k d)
-    no_less_at k d a b (inl less) = let e = at k d a less in omega arith
-    no_less_at k d a b (inr more) = let e = above k d more b in omega arith

@@ -1,9 +1,7 @@
 -- The numbers of the written keys from one to another.
-use Rattle.std.proofs.Common.{◌≡◌, inl, inr, ℕ, ◌+◌, ◌-◌, ◌<◌, ◌≤◌, List, length, refl, ◌∙◌, sym, subst, arith}
-use Rattle.std.specs.Prelude.{◌↔◌, Contains, slice_index, slice_index_or}
-use Rattle.std.proofs.lemmas.Bool.{cases_eq, cases_lt}
-use Rattle.std.proofs.lemmas.List.{get_or_default}
-use Rattle.std.proofs.lemmas.List.Elements.{Contains-get_or}
+use Rattle.std.proofs.Common.{inl, inr, ℕ, ◌<◌, ◌≤◌, List, length, refl, arith}
+use Rattle.std.specs.Prelude.{◌↔◌, slice_index}
+use Rattle.std.proofs.lemmas.Bool.{cases_lt}
 use Rattle.sia_events.specs.declared.event.Event.{Event}
 use Rattle.sia_events.specs.Transactions.{Wrote}
 use Rattle.sia_index.specs.Info.{AreWrittenKeys, IsKeyAt}
@@ -30,7 +28,3 @@ module _ (h : List Event) (keys : List ℕ) (are : AreWrittenKeys h keys) (lo hi
           ],
         )),
   )
-
--- version 0 of a key that isn't written is due to everyone
-pub unwritten_due : (h : List Event) (t p k : ℕ) → ((u : ℕ) → ¬ Wrote h u k) → IsDue h t p k 0
-unwritten_due h t p k none = inr ((λ before. none t (before.0, before.2)), inr ((λ u seen. none u seen.0), refl))

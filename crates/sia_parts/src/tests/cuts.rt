@@ -1,4 +1,4 @@
-//! Cuttings of the keys, reads dealt to parts, and an edge as a number.
+//! Cuttings of the keys, and reads dealt to parts.
 use crate::*;
 use sia_events::{Key, read_history};
 use std::test::*;
@@ -13,7 +13,7 @@ const CUTTINGS: &[(&[Key], &[Part])] = &[
 
 // At most there are 1,024 parts.
 #[test]
-fn parts_and_numbers(rt: HostRuntime) -> Result<(), Fail> {
+fn parts(rt: HostRuntime) -> Result<(), Fail> {
     for (points, wanted) in CUTTINGS {
         let parts = cut(rt.alloc(), points)?;
         assert!(rt; parts.as_slice() == *wanted, "{points:?}");
@@ -25,10 +25,6 @@ fn parts_and_numbers(rt: HostRuntime) -> Result<(), Fail> {
     assert!(rt; cut(rt.alloc(), &points)?.len() == 1024);
     points.push(1024)?;
     assert_eq!(rt; cut(rt.alloc(), &points).err(), Some(CutFault::TooMany));
-    // Of the committed 2 and 5 the first is number 0, and the second is number 1: the edge from 2 to 5, of the second kind, at
-    // the only key.
-    let edges = edges_of_numbers(rt.alloc(), &[2, 5], &[7], &[5 * 1_048_576])?;
-    assert!(rt; edges.as_slice() == [edge!(2, Wr, 5, 7)].as_slice());
     Ok(())
 }
 

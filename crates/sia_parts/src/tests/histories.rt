@@ -2,22 +2,9 @@
 use crate::*;
 use sia_events::{Key, TxnId};
 
-macro_rules! look {
-    ($txn:expr, $key:expr, $low:expr, $high:expr, $at:expr) => {
-        Look {
-            txn: $txn,
-            key: $key,
-            low: $low,
-            high: $high,
-            at: $at,
-        }
-    };
-}
-
-macro_rules! absence {
-    ($txn:expr, $from:expr, $to:expr) => {
-        Absence {
-            txn: $txn,
+macro_rules! miss {
+    ($from:expr, $to:expr) => {
+        RangeMiss {
             from: $from,
             to: $to,
         }
@@ -48,14 +35,11 @@ const NOTHING: Worked<'static> = Worked {
 pub struct More<'a> {
     /// Behind the edges, more that lead from one to each target up to before another, and what their keys rise by.
     pub edges: &'a [(Edge, TxnId, Key)],
-    /// How many places chunks of about 48 edges lie between at least.
-    pub places: usize,
     /// The committed transactions, where any are named.
     pub committed: &'a [TxnId],
-    /// Who wrote and saw keys, where anyone is named.
-    pub writers: &'a [Look],
-    pub readers: &'a [Look],
-    pub absences: &'a [Absence],
+    /// The positions that each committed transaction saw, and its range misses, each ascending, where any are named.
+    pub saw: &'a [&'a [u32]],
+    pub missed: &'a [&'a [RangeMiss]],
     /// Single parts of the keys, and the edges in each. There is no other finding.
     pub parts: &'a [(Part, &'a [Edge])],
 }
@@ -63,11 +47,9 @@ pub struct More<'a> {
 /// No more than that.
 const NO_MORE: More<'static> = More {
     edges: &[],
-    places: 0,
     committed: &[],
-    writers: &[],
-    readers: &[],
-    absences: &[],
+    saw: &[],
+    missed: &[],
     parts: &[],
 };
 
@@ -351,9 +333,9 @@ pub const MORE: &[(Worked<'static>, More<'static>)] = &[
             ..NO_MORE
         },
     ),
-    // 1 is number 0, and 2 number 1. 2 saw version 0 and then 1's version of key 3, 1's version of key 5, which its range lists,
-    // and version 0 of keys 4 and 6, which its range passes over: these have the numbers 1 and 3. Key 3, with number 0, lies
-    // before the range, and nobody wrote key 7.
+    // 2 saw version 0 and then 1's version of key 3, at the positions 0 and 1, 1's version of key 5, which its range lists, at
+    // position 5, and version 0 of keys 4 and 6, which its range passes over: these have the numbers 1 and 3. Key 3, with number
+    // 0, lies before the range, and nobody wrote key 7.
     (
         Worked {
             text: b"r2[3:0] w1[3] w1[4] w1[5] w1[6] c1 r2[3:1] r2[4..7;5:1] w2[5] c2",
@@ -370,20 +352,12 @@ pub const MORE: &[(Worked<'static>, More<'static>)] = &[
             ..NOTHING
         },
         More {
-            writers: &[
-                look!(0, 0, 6, 6, 0),
-                look!(0, 1, 6, 6, 0),
-                look!(0, 2, 6, 6, 0),
-                look!(1, 2, 10, 10, 0),
-                look!(0, 3, 6, 6, 0),
-            ],
-            readers: &[look!(1, 0, 0, 6, 0), look!(1, 2, 6, 6, 3)],
-            absences: &[absence!(1, 1, 2), absence!(1, 3, 4)],
+            saw: &[&[], &[0, 1, 5]],
+            missed: &[&[], &[miss!(1, 2), miss!(3, 4)]],
             ..NO_MORE
         },
     ),
-    // 4 saw 2's version of key 1 and then 1's, which is the first version of all, and 3's of key 5, which is the third, also where
-    // the keys are cut between.
+    // 4 saw 2's version of key 1 and then 1's, and 3's of key 5, also where the keys are cut between.
     (
         Worked {
             text: b"w1[1] c1 w2[1] c2 w3[5] c3 r4[1:2] r4[1:1] r4[5:3] c4",
@@ -399,12 +373,8 @@ pub const MORE: &[(Worked<'static>, More<'static>)] = &[
             ..NOTHING
         },
         More {
-            writers: &[
-                look!(0, 0, 2, 2, 0),
-                look!(1, 0, 4, 4, 0),
-                look!(2, 1, 6, 6, 0),
-            ],
-            readers: &[look!(3, 0, 2, 4, 1), look!(3, 1, 6, 6, 3)],
+            saw: &[&[], &[], &[], &[1, 2, 4]],
+            missed: &[&[], &[], &[], &[]],
             ..NO_MORE
         },
     ),
@@ -492,7 +462,6 @@ pub const MORE: &[(Worked<'static>, More<'static>)] = &[
                 (edge!(32, Rw, 1, 7), 21, 0),
                 (edge!(33, Rw, 1, 7), 21, 0),
             ],
-            places: 3,
             ..NO_MORE
         },
     ),

@@ -1,9 +1,9 @@
-//! Findings of worked histories, of audited parts, and the same edges from what was seen.
+//! Findings of worked histories, of audited parts, and what was seen.
 ghost use Rattle.std.specs.Prelude.{◌≡◌, IfOk};
 ghost use Rattle.std.specs.List.{AllZip};
 ghost use Rattle.sia_parts.specs.Dealing.{AreReads};
 ghost use Rattle.sia_parts.specs.Findings.{ArePartFindings};
-ghost use Rattle.sia_parts.specs.Gathering.{CanSpread, IsPartFound};
+ghost use Rattle.sia_parts.specs.Gathering.{IsPartFound};
 ghost use Rattle.sia_parts.specs.Parts.{IsInPart};
 
 use super::histories::{HISTORIES, MANY_MISSED, MORE, More, NOTHING_MORE, Worked};
@@ -15,7 +15,7 @@ use std::alloc::Global;
 use std::fmt::Write;
 use std::test::*;
 
-// What is found in each part, in order: with edges, and with looks.
+// What is found in each part, in order: with edges, and with what was seen.
 fn found_in_parts(
     alloc: Global,
     h: &History,
@@ -59,41 +59,25 @@ fn are_findings(found: &Findings, edges: &[Edge], it: &Worked<'_>) -> bool {
         && found.edges.as_slice() == edges
 }
 
-// The readers stand in any order.
-fn are_looks(looks: &Looks, it: &More<'_>) -> bool {
-    for reader in it.readers {
-        if !looks.readers.contains(reader) {
-            return false;
+// Whether each transaction saw and missed what is wanted, in any order.
+fn are_accesses(alloc: Global, accesses: &Accesses, it: &More<'_>) -> Result<bool, NoMemory> {
+    let mut is_so = accesses.saw.len() == it.saw.len() && accesses.missed.len() == it.missed.len();
+    if is_so {
+        for i in 0..it.saw.len() {
+            let mut saw = Vec::from_slice(alloc, accesses.saw.at(i))?;
+            saw.sort_unstable();
+            is_so &= saw.as_slice() == it.saw[i];
+        }
+        for i in 0..it.missed.len() {
+            let mut missed = Vec::from_slice(alloc, accesses.missed.at(i))?;
+            missed.sort_unstable();
+            is_so &= missed.as_slice() == it.missed[i];
         }
     }
-    looks.readers.len() == it.readers.len()
-        && looks.writers.as_slice() == it.writers
-        && looks.absences.as_slice() == it.absences
+    Ok(is_so)
 }
 
-// How many places the chunks of about the size lie between, and whether they have the edges, one after another.
-fn in_chunks(
-    alloc: Global,
-    fans: &Fans,
-    ids: &[TxnId],
-    keys: &[Key],
-    size: usize,
-    wanted: &[Edge],
-) -> Result<(usize, bool), NoMemory>
-    requires { CanSpread fans.now }
-{
-    let bounds = ChunkBounds::of(alloc, fans, ids.len(), size)?;
-    let places = bounds.places.as_slice();
-    let mut numbers = Vec::new(alloc);
-    for i in 1..places.len() {
-        let some = fans.chunk(alloc, places[i - 1], places[i])?;
-        numbers.extend_from_slice(&some)?;
-    }
-    let edges = edges_of_numbers(alloc, ids, keys, &numbers)?;
-    Ok((places.len(), edges.as_slice() == wanted))
-}
-
-// Whether all that is wanted is found, with these edges, part by part of the cutting and gathered, and the same edges in chunks.
+// Whether all that is wanted is found, with these edges, part by part of the cutting and gathered.
 fn is_found(
     alloc: Global,
     h: &History,
@@ -105,22 +89,19 @@ fn is_found(
 ) -> Result<bool, Fail>
     requires { ix.now ≡ h.now }
 {
-    ix.law();
     let parts = cut(alloc, points)?;
     let reads = Reads::of(alloc, h.log(), &parts)?;
     let (audited, seen) = found_in_parts(alloc, h, ix, &reads, &parts)?;
     let findings = gather(alloc, audited)?;
     let gathering = Gathering::of(alloc, ix, seen)?;
     let committed = ix.committed();
-    let mut is_so = are_findings(&findings, edges, it)
-        && (more.committed.is_empty() || committed == more.committed)
-        && (more.writers.is_empty() || are_looks(&gathering.looks, more));
-    let fans = Fans::of(alloc, ix, gathering.looks)?;
-    for size in [1, 7, 48, 1000] {
-        let (places, is_same) = in_chunks(alloc, &fans, committed, ix.written_keys(), size, edges)?;
-        is_so &= is_same && (size != 48 || places >= more.places);
-    }
-    Ok(is_so)
+    let found = are_findings(&findings, edges, it)
+        && gathering.bad_reads.as_slice() == it.bad_reads
+        && gathering.bad_writes.as_slice() == it.bad_writes
+        && gathering.unexplained.as_slice() == it.unexplained;
+    let committed = more.committed.is_empty() || committed == more.committed;
+    let seen = more.saw.is_empty() || are_accesses(alloc, &gathering.accesses, more)?;
+    Ok(found && committed && seen)
 }
 
 // The same, cut in each of the ways, and in the single parts.
