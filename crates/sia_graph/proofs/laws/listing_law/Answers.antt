@@ -1,6 +1,0 @@
--- The law of listings, by its lemma.
-use Rattle.sia_graph.proofs.FiniteHistories.{listing_holds}
-use Rattle.sia_graph.proofs.laws.listing_law.Goals as goal
-
-pub returns : goal.returns
-returns c = listing_holds
