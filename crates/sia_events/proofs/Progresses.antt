@@ -1,5 +1,5 @@
 -- What a reader keeps stands for a text: after one more piece, and as it ends.
-use Rattle.std.proofs.Common.{◌≡◌, inl, ℕ, suc, ◌+◌, ◌<◌, ◌≤◌, Bool, true, false, List, [], ◌++◌, map, length, Option, Some, None, refl, ap, sym, subst, ◌∙◌, arith}
+use Rattle.std.proofs.Common.{◌≡◌, inl, ℕ, suc, ◌+◌, ◌≤◌, Bool, true, false, List, [], ◌++◌, map, length, Option, Some, None, refl, ap, sym, subst, ◌∙◌, arith}
 use Rattle.std.specs.Prelude.{min, is_some}
 use Rattle.std.proofs.lemmas.List.{length-append}
 use Rattle.std.proofs.lemmas.List.Elements.{All-nil}
@@ -91,13 +91,6 @@ module _ (limits : Limits) (text piece : List ℕ) (count more : ℕ) (counts : 
       → StandsForRead limits (record { limits = limits; count = more; fault = fault; events = events; unfinished = unfinished; lost = lost }) (text ++ piece)
   stands_decided None events unfinished lost some stands = absurd cc
   stands_decided (Some f) events unfinished lost some stands = stands_kept events unfinished lost lost f.0 f.1 stands
-
-  -- the text is too long
-  pub stands_long : (fault now : Option (ℕ × Reason)) (events all : List Event) (unfinished kept : List ℕ) (lost after : Bool) → limits.bytes < more → StandsForRead limits (record { limits = limits; count = count; fault = fault; events = events; unfinished = unfinished; lost = lost }) text
-      → StandsForRead limits (record { limits = limits; count = more; fault = now; events = all; unfinished = kept; lost = after }) (text ++ piece)
-  stands_long fault now events all unfinished kept lost after long stands =
-      let c = counted_more text piece limits.bytes count more stands.counted counts in
-      record { limits_are = refl; within = stands.within; counted = c; judged = λ short. absurd (omega arith) }
 
 -- ---- the end
 

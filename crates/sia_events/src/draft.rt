@@ -170,7 +170,28 @@ impl Draft {
         }
     }
 
-    fn key(&mut self, guess: u32, name: Key) -> Result<u32, AllocError>
+    /// The number of the key, if it was read, listed or written.
+    pub(crate) fn find_key(&self, name: Key) -> Option<u32>
+        ensures some { IfSome result (λ n. slice_get self.now.tables.keys.items n ≡ Some name) }
+        ensures none { AreFound self.now → IfNone result (IsNew self.now.tables.keys.items name) }
+    {
+        self.keys.find(&self.tables.keys, name)
+    }
+
+    fn key(&mut self, name: Key) -> Result<u32, AllocError>
+        requires { AreFound self.old }
+        ensures found { OnOk result (AreFound self.new) }
+        ensures has { IfOk result (λ n. HasKey self.old.tables self.new.tables name n) }
+    {
+        match self.find_key(name) {
+            Some(number) => Ok(number),
+            None => self.new_key(name),
+        }
+    }
+
+    /// The number of the key, which may well be the guess.
+    #[inline(always)]
+    fn key_near(&mut self, guess: u32, name: Key) -> Result<u32, AllocError>
         requires { AreFound self.old }
         ensures found { OnOk result (AreFound self.new) }
         ensures has { IfOk result (λ n. HasKey self.old.tables self.new.tables name n) }
@@ -178,10 +199,7 @@ impl Draft {
         if self.is_key(guess, name) {
             return Ok(guess);
         }
-        match self.keys.find(&self.tables.keys, name) {
-            Some(number) => Ok(number),
-            None => self.new_key(name),
-        }
+        self.key(name)
     }
 
     fn new_key(&mut self, name: Key) -> Result<u32, AllocError>
@@ -278,7 +296,7 @@ impl Draft {
         ensures { Takes self.old self.new (an_event.Read txn key saw) result }
     {
         let txn = self.actor(txn)?;
-        let key = self.key(u32::MAX, key)?;
+        let key = self.key(key)?;
         let Some(saw) = self.seen(key, saw) else {
             return Err(Refusal::Bad(Reason::NotWritten));
         };
@@ -358,7 +376,7 @@ impl Draft {
         ensures lists { OnOk result (ListsOne self.old.tables self.new.tables key saw) }
         ensures refused { IfErr result (StopsAtPair self.old self.new key saw) }
     {
-        let number = self.key(near, key)?;
+        let number = self.key_near(near, key)?;
         let Some(write) = self.seen(number, saw) else {
             return Err(Refusal::Bad(Reason::NotWritten));
         };
@@ -375,7 +393,7 @@ impl Draft {
         ensures { Takes self.old self.new (an_event.Write txn key) result }
     {
         let txn = self.actor(txn)?;
-        let key = self.key(u32::MAX, key)?;
+        let key = self.key(key)?;
         let write = self.first_write(txn, key)?;
         self.tables.events.push(Row::Write { txn, key, write })?;
         Ok(())

@@ -12,9 +12,8 @@ ghost use Rattle.sia_events.specs.Text.{is_separator, tokens};
 ghost use Rattle.sia_events.specs.Streaming.{IsCutAtLastSeparator};
 
 use crate::draft::Draft;
-use crate::event::{Key, Version};
 use crate::fault::{Reason, Refusal};
-use crate::token::{Token, event_of};
+use crate::token::{Listing, Token, event_of};
 use std::alloc::Global;
 use std::simd::prelude::*;
 
@@ -24,7 +23,7 @@ pub(crate) const MAX_EVENTS: usize = 100_000;
 #[derive(Drop)]
 pub(crate) struct Judge {
     pub(crate) draft: Draft,
-    listed: Vec<(Key, Version)>,
+    listing: Listing,
 }
 
 impl Judge {
@@ -34,7 +33,7 @@ impl Judge {
     {
         Judge {
             draft: Draft::new(alloc),
-            listed: Vec::new(alloc),
+            listing: Listing::new(alloc),
         }
     }
 
@@ -55,19 +54,19 @@ impl Judge {
         if count > MAX_EVENTS {
             return Err(Refusal::NoMemory);
         }
-        let token = event_of(&mut self.listed, token)?;
+        let token = event_of(&mut self.listing, &self.draft, token)?;
         self.admit(token)
     }
 
     /// Takes the event of a token beside which its listed pairs stand, unless it has a reason.
     fn admit(&mut self, token: Token) -> Result<(), Refusal>
         requires { CanTake self.old.draft }
-        ensures { Takes self.old.draft self.new.draft (event_with self.old.listed.items token) result }
+        ensures { Takes self.old.draft self.new.draft (event_with self.old.listing.pairs.items token) result }
     {
         match token {
             Token::Begin { txn, start } => self.draft.begin(txn, start),
             Token::Read { txn, key, saw } => self.draft.read(txn, key, saw),
-            Token::Range { txn, lo, hi } => self.draft.range(txn, lo, hi, &self.listed),
+            Token::Range { txn, lo, hi } => self.draft.range(txn, lo, hi, &self.listing.pairs),
             Token::Write { txn, key } => self.draft.write(txn, key),
             Token::Commit { txn } => self.draft.commit(txn),
             Token::Abort { txn } => self.draft.abort(txn),

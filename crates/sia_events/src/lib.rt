@@ -11,6 +11,7 @@ mod judge;
 mod laws;
 mod locating;
 mod log;
+mod mentions;
 mod number;
 mod own_writes;
 mod reader;

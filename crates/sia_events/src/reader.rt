@@ -21,7 +21,7 @@ use std::marker::Model;
 const MAX_BYTES: usize = 16_777_216;
 
 /// Reads a text that comes in pieces. It keeps the events so far and the bytes of the token that no separator has ended
-/// yet, and no other part of the text.
+/// yet, and of other parts of the text only how keys were listed last.
 ///
 /// A token's fault is kept, and told by `finish`. The bytes go on being counted, since a text that is too long is refused
 /// for that, whatever else it holds.

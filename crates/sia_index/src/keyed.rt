@@ -3,7 +3,7 @@ ghost use Rattle.std.specs.Prelude.{◌≡◌, ◌≤◌, true, false, length, l
 ghost use Rattle.std.specs.List.Sorted.{IsNonDecreasingBy, IsPartitionPoint};
 ghost use Rattle.sia_index.specs.Between.{IsBetween};
 
-use crate::info::{KeyVersion, Made};
+use crate::info::Made;
 use crate::searching::partition_near;
 use sia_events::{Key, TxnId};
 
@@ -26,14 +26,6 @@ impl By<Key> for ByKey {
     }
 }
 
-impl By<KeyVersion> for ByKey {
-    ghost by = { λ version. version.key };
-
-    fn number(version: &KeyVersion) -> u64 {
-        version.key
-    }
-}
-
 /// By transaction.
 pub struct ByTxn;
 
@@ -48,11 +40,11 @@ impl By<TxnId> for ByTxn {
 /// By the place of an event: that of the write, or of the commit.
 pub struct ByPlace;
 
-impl By<KeyVersion> for ByPlace {
-    ghost by = { λ version. version.commit };
+impl By<u32> for ByPlace {
+    ghost by = { λ place. place };
 
-    fn number(version: &KeyVersion) -> u64 {
-        u64::from(version.commit)
+    fn number(place: &u32) -> u64 {
+        u64::from(*place)
     }
 }
 

@@ -1,36 +1,54 @@
-//! Rows in blocks, with the least number of each block. A search for a low number passes whole blocks by these.
-ghost use Rattle.std.specs.Prelude.{◌≡◌, ◌<◌, ◌≤◌, ◌+◌, ◌*◌, ℕ, IsTrue, IfOk, MatchOption, length, slice_index, slice_range};
+//! The least numbers of rows in blocks, and of blocks in a tree. A search for a low number passes all rows below a node at once.
+ghost use Rattle.std.specs.Prelude.{◌≡◌, ◌<◌, ◌≤◌, ◌+◌, ◌*◌, ◌/◌, ℕ, IsTrue, IfOk, MatchOption, length, slice_index, slice_range};
 ghost use Rattle.std.specs.List.{AllWithin};
 ghost use Rattle.std.specs.List.Sorted.{IsNonDecreasingBy};
-ghost use Rattle.sia_index.specs.Minima.{AreMinima, IsNextBelow, IsNextKey};
+ghost use Rattle.sia_index.specs.Minima.{AreLeaves, AreMinima, Covers, IsNextBelow, IsNextKey, IsPower, PassesBlocks};
 
 use crate::keyed::{By, place_above, place_from};
 use sia_events::Key;
 use std::alloc::{AllocError, Global};
 
 /// How many rows a block has.
-const BLOCK: usize = 64;
+const BLOCK: usize = 16;
 
-/// The least number of each whole block.
+/// The least number below each node of a tree: the nodes below node `n` are `2 * n` and `2 * n + 1`, the root is node 1, and the
+/// second half of all nodes are the blocks of rows in a row.
 pub fn minima_of<T, O: By<T>>(alloc: Global, rows: &[T]) -> Result<Vec<u64>, AllocError>
     ensures { IfOk result (λ minima. AreMinima O.by rows.now minima.items) }
 {
-    let mut minima = Vec::new(alloc);
-    for block in 0..rows.len() / BLOCK {
-        minima.push(least_from::<T, O>(rows, block * BLOCK))?;
+    let size = size_for(rows.len());
+    let mut minima = leaves_of::<T, O>(alloc, size, rows)?;
+    for node in (1..size).rev() {
+        minima[node] = minima[2 * node].min(minima[2 * node + 1]);
     }
     Ok(minima)
 }
 
-fn least_from<T, O: By<T>>(rows: &[T], from: usize) -> u64
-    requires { from + 64 ≤ length rows.now }
-    ensures { AllWithin (λ row. result ≤ O.by row) rows.now from (from + 64) }
+// The least power of 2 that is enough blocks.
+fn size_for(rows: usize) -> usize
+    ensures power { IsPower result }
+    ensures enough { rows ≤ result * 16 }
+    ensures few { result ≤ 2305843009213693952 }
 {
-    let mut least = u64::MAX;
-    for i in from..from + BLOCK {
-        least = least.min(O::number(&rows[i]));
+    let mut size = 1;
+    while size < rows.div_ceil(BLOCK) {
+        size *= 2;
     }
-    least
+    size
+}
+
+// The least number of each block, behind as many places for the nodes above.
+fn leaves_of<T, O: By<T>>(alloc: Global, size: usize, rows: &[T]) -> Result<Vec<u64>, AllocError>
+    requires enough { length rows.now ≤ size * 16 }
+    requires few { size ≤ 2305843009213693952 }
+    ensures { IfOk result (λ minima. AreLeaves O.by rows.now (length rows.now) size minima.items) }
+{
+    let mut minima = vec![in alloc; u64::MAX; 2 * size]?;
+    for (i, row) in rows.iter().enumerate() {
+        let leaf = size + i / BLOCK;
+        minima[leaf] = minima[leaf].min(O::number(row));
+    }
+    Ok(minima)
 }
 
 /// Of the keys from `lo` to `hi` the least that a row of the stretch has with a number below the limit.
@@ -57,8 +75,8 @@ pub fn next_key<T, K: By<T>, O: By<T>>(
     }
 }
 
-// The first place, from `from` to below `to`, whose number is below the limit.
-fn next_below<T, O: By<T>>(
+/// The first place, from `from` to below `to`, of a row whose number is below the limit.
+pub fn next_below<T, O: By<T>>(
     rows: &[T],
     minima: &[u64],
     from: usize,
@@ -71,24 +89,42 @@ fn next_below<T, O: By<T>>(
 {
     let mut i = from;
     while i < to {
-        if is_block_above(minima, i, limit) {
-            if to - i <= BLOCK {
-                return None;
-            }
-            i += BLOCK;
-        } else if O::number(&rows[i]) < limit {
+        if O::number(&rows[i]) < limit {
             return Some(i);
-        } else {
-            i += 1;
         }
+        let block = next_block(minima, 1, 0, minima.len() / 2, (i + 1) / BLOCK, limit);
+        i = (i + 1).max(block * BLOCK);
     }
     None
 }
 
-// Whether a block starts at the place, none of whose numbers is below the limit.
-fn is_block_above(minima: &[u64], i: usize, limit: u64) -> bool
-    ensures { IsTrue result → (block : ℕ) × (block * 64 ≡ i) × (block < length minima.now) × (limit ≤ slice_index minima.now block) }
+// Of the `width` blocks below a node, from `low` on, the first from `from` on that has a number below the limit, or the one behind them.
+fn next_block(
+    minima: &[u64],
+    node: usize,
+    low: usize,
+    width: usize,
+    from: usize,
+    limit: u64,
+) -> usize
+    requires { Covers minima.now node low width }
+    ensures first { low ≤ result }
+    ensures last { result ≤ low + width }
+    ensures passed { (at : ℕ) → low ≤ at → from ≤ at → PassesBlocks minima.now limit at result }
 {
-    let block = i / BLOCK;
-    block * BLOCK == i && block < minima.len() && limit <= minima[block]
+    let half = width / 2;
+    if low + width <= from {
+        low + width
+    } else if limit <= minima[node] {
+        low + width
+    } else if half == 0 {
+        low
+    } else {
+        let next = next_block(minima, 2 * node, low, half, from, limit);
+        if next < low + half {
+            next
+        } else {
+            next_block(minima, 2 * node + 1, low + half, half, from, limit)
+        }
+    }
 }

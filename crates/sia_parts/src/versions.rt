@@ -1,13 +1,32 @@
 //! The version of a key before or after a place, by who made it.
 ghost use Rattle.std.specs.Prelude.{◌≡◌, ◌≢◌, ◌<◌, ◌≤◌, Contains, MatchOption, length, slice_index_or};
 ghost use Rattle.sia_parts.specs.declared.looks.Look.{Look};
-ghost use Rattle.sia_parts.specs.Looks.{RiseByRank};
+ghost use Rattle.sia_parts.specs.Looks.{RiseByRank, rank_of};
 ghost use Rattle.sia_parts.specs.Placing.{IsPlace};
 ghost use Rattle.sia_parts.specs.Versions.{CanSearch, IsNewest};
 
-use crate::edges::ranks::{ByRank, rank};
 use crate::looks::Look;
-use sia_index::keyed::place_above_near;
+use sia_index::keyed::{By, place_above_near};
+
+/// By key and commit.
+struct ByRank;
+
+impl By<Look> for ByRank {
+    ghost use Rattle.sia_parts.specs.Looks.{look_rank};
+
+    ghost by = { look_rank };
+
+    fn number(row: &Look) -> u64 {
+        rank(row.key, row.high)
+    }
+}
+
+/// The number by which looks are in order: by key, and then by the greatest commit.
+fn rank(key: u32, place: u32) -> u64
+    ensures { result ≡ rank_of key place }
+{
+    u64::from(key) * 4_294_967_296 + u64::from(place)
+}
 
 /// How many writers stand up to the key and the place. They are counted from near a guess.
 pub fn count_up_to(writers: &[Look], key: u32, place: u32, near: usize) -> usize

@@ -1,6 +1,6 @@
 -- Each name so far stands at the place of its row.
 use Rattle.sia_index.specs.declared.names.Numbered.{Numbered}
-use Rattle.sia_index.proofs.Columns.{IsColumn}
+use Rattle.sia_index.specs.Rows.{IsColumn}
 use Rattle.sia_index.proofs.keys.names_of.Given as goal
 
 abbrev pub invariant-loop-row : goal.invariant-loop-row

@@ -1,10 +1,10 @@
--- None so far has a number below the limit. A block that was passed may reach past the last place.
-use Rattle.std.proofs.Common.{ℕ, ◌≤◌, ◌<◌, ◌-◌}
+-- The rows so far aren't below the limit.
+use Rattle.std.proofs.Common.{ℕ, ◌-◌, ◌<◌, ◌≤◌}
 use Rattle.std.specs.Prelude.{slice_index_or}
 use Rattle.sia_index.proofs.minima.next_below.Given as goal
 
 abbrev pub invariant-loop-i : goal.invariant-loop-i
-invariant-loop-i g l = (l.fn.from ≤ l.i) × ((k : ℕ) (d : g.row.T.Denot) → l.fn.from ≤ k → k < l.i → k < l.to → l.limit ≤ g.O.By.by (slice_index_or l.rows k d))
+invariant-loop-i g l = (l.from ≤ l.i) × ((k : ℕ) (d : g.row.T.Denot) → l.from ≤ k → k < l.i → k < l.to → l.limit ≤ g.O.By.by (slice_index_or l.rows k d))
 
 abbrev pub decreases-loop-i : goal.decreases-loop-i
 decreases-loop-i g l = l.to - l.i
