@@ -14,7 +14,7 @@
 #: make uninstall PREFIX=/usr  removes what make install put there, and nothing else
 #: make deb                    makes a Debian package of the program, si-history, their man pages and completions, in out/
 #: make release                proves, builds and keeps the program in release/, for make run, install, bench and databases
-#: make bench                  times the program on generated histories, and tells the change from the figures that were kept
+#: make bench                  times the program on generated histories, with one worker and with four, and tells the change from kept figures
 #: make bench KEEP=1           does the same, and keeps its figures in tools/bench_figures.txt
 #: make databases RUNS=20      records and audits eleven stores (sh tools/install_databases.sh installs what it needs)
 #: make clean                  removes what was built and checked

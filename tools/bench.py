@@ -1,9 +1,9 @@
-"""Times a program on generated histories, in the three forms of the report, and prints a table.
+"""Times a program on generated histories, in the three forms of the report, with one worker and with four, and prints a table.
 
     python3 tools/bench.py [--keep] [--events N] PROGRAM
 
-Each figure is the median of some runs: the seconds, and the peak memory in megabytes of a million bytes. Where
-tools/bench_figures.txt is there, which has the figures of an earlier day, each stands with its change from that day in
+Each figure is the median of some runs: the seconds, and the peak memory in megabytes of a million bytes, which is shown of
+one worker. Where tools/bench_figures.txt is there, which has the figures of an earlier day, each stands with its change from that day in
 percent. With --keep that file is written anew. The histories of hard.py have some N events, and 100,000 where it isn't
 given. The system counts the peak memory of a program from that of the process that
 starts it, so the last line tells the peak of a program that does nothing.
@@ -31,7 +31,8 @@ TIMES = 5
 # No run may take longer.
 SECONDS = 60
 FORMS: dict[str, list[str]] = {"full": [], "brief": ["--brief"], "explained": ["--explain"]}
-Name = tuple[str, str, str]
+WORKERS = ("1", "4")
+Name = tuple[str, str, str, str]
 
 
 @dataclass(frozen=True)
@@ -42,7 +43,7 @@ class Figure:
 
 @dataclass(frozen=True)
 class Kept:
-    """What was seen on a day: of which program, by which machine, and the figures by kind, events and form."""
+    """What was seen on a day: of which program, by which machine, and the figures by kind, events, form and workers."""
 
     day: str
     machine: str
@@ -51,7 +52,7 @@ class Kept:
 
     def lines(self) -> list[str]:
         """The lines of the file."""
-        head = ["# Written by `make bench KEEP=1`: seconds and peak megabytes of each kind, number of events and form."]
+        head = ["# Written by `make bench KEEP=1`: seconds and peak megabytes of each kind, number of events, form and number of workers."]
         head += [f"day {self.day}", f"machine {self.machine}", f"program {self.program}"]
         return head + [f"{' '.join(name)} {it.seconds:.4f} {it.megabytes:.1f}" for name, it in self.figures.items()]
 
@@ -67,8 +68,8 @@ def read_kept(path: Path) -> Kept | None:
         if word in heads:
             heads[word] = rest
         elif word != "#":
-            kind, events, form, seconds, megabytes = line.split()
-            figures[kind, events, form] = Figure(float(seconds), float(megabytes))
+            kind, events, form, workers, seconds, megabytes = line.split()
+            figures[kind, events, form, workers] = Figure(float(seconds), float(megabytes))
     return Kept(**heads, figures=figures)
 
 
@@ -107,13 +108,9 @@ def change(now: float, before: float | None) -> str:
     return f"{round(100 * (now / before - 1)):+}%" if before else ""
 
 
-def cells(figure: Figure | None, before: Figure | None, why: str) -> str:
-    """The cells of a form: both numbers, each with its change; or why there are none."""
-    if figure is None:
-        return f"{why:>32}"
-    seconds = change(figure.seconds, before and before.seconds)
-    megabytes = change(figure.megabytes, before and before.megabytes)
-    return f"{figure.seconds:>10.3f}{seconds:>6}{figure.megabytes:>10.1f}{megabytes:>6}"
+def cell(number: float, digits: int, before: float | None) -> str:
+    """A number, and its change."""
+    return f"{number:>9.{digits}f}{change(number, before):>6}"
 
 
 class Bench:
@@ -129,18 +126,24 @@ class Bench:
         """Times one text, and answers its row of the table."""
         with open(self.text, "wb") as it:
             subprocess.run([sys.executable, "-B", HERE / "histories.py", kind, str(events)], stdout=it, check=True)
-        told = f"{kind:<16}{events:>7}"
-        for form in FORMS:
-            name = (kind, str(events), form)
-            why = self.time(name) if form in forms else "-"
-            told += cells(self.figures.get(name), self.before.get(name), why)
-        return told
+        return f"{kind:<16}{events:>7}" + "".join(self.cells(kind, str(events), form, form in forms) for form in FORMS)
+
+    def cells(self, kind: str, events: str, form: str, wanted: bool) -> str:
+        """The cells of a form: the seconds with one worker and with four, and the memory with one; or why there are none."""
+        names = [(kind, events, form, workers) for workers in WORKERS]
+        why = "-" if not wanted else next(filter(None, map(self.time, names)), "")
+        if why:
+            return f"{why:>45}"
+        now, before = [self.figures[name] for name in names], [self.before.get(name) for name in names]
+        seconds = "".join(cell(it.seconds, 3, was and was.seconds) for it, was in zip(now, before))
+        return seconds + cell(now[0].megabytes, 1, before[0] and before[0].megabytes)
 
     def time(self, name: Name) -> str:
-        """Takes the figure of a text and form, or answers why there is none."""
+        """Takes the figure of a text, form and number of workers, or answers why there is none."""
         runs: list[Run] = []
+        words = [self.program, "--workers", name[3], *FORMS[name[2]]]
         for _ in range(TIMES):
-            runs.append(run([self.program, *FORMS[name[2]]], self.text, self.report, SECONDS))
+            runs.append(run(words, self.text, self.report, SECONDS))
             if runs[-1].status not in (0, 1):
                 self.faults += 1
                 return runs[-1].said.decode(errors="replace").strip() or f"status {runs[-1].status}"
@@ -172,7 +175,7 @@ def main(words: Sequence[str]) -> int:
     asked = chosen(words)
     before, at, program = read_kept(FIGURES), machine(), version(asked.program)
     print(f"{program}, on {at}", told_before(before, at), sep="\n")
-    forms = "".join(f"{form + ' s':>16}{'MB':>16}" for form in FORMS)
+    forms = "".join(f"{form + ' s':>15}{'with 4':>15}{'MB':>15}" for form in FORMS)
     print(f"{'text':<16}{'events':>7}{forms.removeprefix(' ' * 6)}")
     with tempfile.TemporaryDirectory() as room:
         bench = Bench(asked.program, room, before)

@@ -22,11 +22,11 @@ use Rattle.sia_parts.proofs.StartLemmas.{increasing}
 use Rattle.sia_graph.specs.Cycles.{TakesLeastEdge}
 use Rattle.sia_graph.specs.Orders.{Leads}
 use Rattle.sia_graph.proofs.AscendingIds.{ids_no_less}
-use Rattle.sia_graph.specs.Evidence.{IsEvidenceFor}
+use Rattle.sia_graph.specs.LookEvidence.{IsLookEvidenceFor}
 use Rattle.sia_graph.specs.NumberEdges.{HasNumberEdge, IsLeastEdge}
 use Rattle.sia_graph.proofs.LookEdges.{ww_looks, wr_looks, rw_looks, writer_commits}
 
-module _ (h : List Event) (txns keys : List ℕ) (looks : Looks) (is : IsEvidenceFor h txns keys looks) where
+module _ (h : List Event) (txns keys : List ℕ) (looks : Looks) (is : IsLookEvidenceFor h txns keys looks) where
   txn_at : (t : ℕ) → t < length txns → IsCommittedAt h t (get_or txns t 0)
   txn_at t l = (txns, is.txns_are, l, refl)
 

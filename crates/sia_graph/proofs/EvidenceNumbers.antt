@@ -14,12 +14,12 @@ use Rattle.sia_parts.specs.declared.looks.Look.{Look}
 use Rattle.sia_parts.specs.declared.looks.Looks.{Looks}
 use Rattle.sia_parts.proofs.LookLemmas.{one_committed_number, one_key_number}
 use Rattle.sia_parts.proofs.FewNumbers.{few_committed, few_keys}
-use Rattle.sia_graph.specs.Evidence.{IsEvidenceFor}
+use Rattle.sia_graph.specs.LookEvidence.{IsLookEvidenceFor}
 use Rattle.sia_graph.specs.Extremes.{HasRwEdge}
 use Rattle.sia_graph.specs.Sources.{IsSource}
 use Rattle.sia_graph.proofs.LookEdges.{rw_looks}
 
-module _ (h : List Event) (txns keys : List ℕ) (looks : Looks) (evidence : IsEvidenceFor h txns keys looks) where
+module _ (h : List Event) (txns keys : List ℕ) (looks : Looks) (evidence : IsLookEvidenceFor h txns keys looks) where
   -- each number is that of a transaction in the list, and the other way round
   pub txn_at : (i : ℕ) → i < length txns → IsCommittedAt h i (slice_index txns i)
   txn_at i l = (txns, evidence.txns_are, l, refl)

@@ -15,7 +15,7 @@ use Rattle.sia_index.specs.Lifetimes.{AreLifetimes}
 use Rattle.sia_graph.specs.declared.ssi.Dangerous.{Dangerous}
 use Rattle.sia_graph.specs.Dangerous.{HasFirst, IsDangerous, IsLeast, MayBeFirst}
 use Rattle.sia_graph.specs.Early.{CommitsFrom, IsEarly, IsEarlyFor, IsLeastPivot, TellFirsts}
-use Rattle.sia_graph.specs.Evidence.{IsEvidenceFor}
+use Rattle.sia_graph.specs.LookEvidence.{IsLookEvidenceFor}
 use Rattle.sia_graph.specs.Extremes.{HasRwEdge}
 use Rattle.sia_graph.specs.NumberEdges.{HasNumberEdge}
 use Rattle.sia_graph.specs.Ranks.{IsLeastRank}
@@ -45,7 +45,7 @@ named h d first pivot last same a b c e f = record {
   last_key = subst (λ t. IsLeast (RwEdge h t d.last) d.last_key) (sym same.1) (subst (λ t. IsLeast (RwEdge h pivot t) d.last_key) (sym same.2) f);
 }
 
-module _ (h : List Event) (txns keys : List ℕ) (looks : Looks) (evidence : IsEvidenceFor h txns keys looks) where
+module _ (h : List Event) (txns keys : List ℕ) (looks : Looks) (evidence : IsLookEvidenceFor h txns keys looks) where
   rise : (i j : ℕ) → i ≤ j → j < length txns → slice_index txns i ≤ slice_index txns j
   rise = ids_no_less txns (increasing txns evidence.txns_are.ascending)
 

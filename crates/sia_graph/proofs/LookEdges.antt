@@ -16,7 +16,7 @@ use Rattle.sia_parts.specs.declared.looks.Absence.{Absence}
 use Rattle.sia_parts.specs.declared.looks.Look.{Look}
 use Rattle.sia_parts.specs.declared.looks.Looks.{Looks}
 use Rattle.sia_parts.proofs.Sources.{wr_from_look, look_of_wr, rw_from_look, look_of_rw}
-use Rattle.sia_graph.specs.Evidence.{HasWwLooks, HasWrLooks, HasRwLooks}
+use Rattle.sia_graph.specs.LookEvidence.{HasWwLooks, HasWrLooks, HasRwLooks}
 
 -- each number is that of one transaction, and of one key
 pub one_txn_at : (h : List Event) (i t u : ℕ) → IsCommittedAt h i t → IsCommittedAt h i u → t ≡ u

@@ -16,7 +16,7 @@ use Rattle.sia_parts.proofs.LookLemmas.{one_committed_number}
 use Rattle.sia_index.specs.declared.info.Lifetime.{Lifetime}
 use Rattle.sia_index.specs.Lifetimes.{AreLifetimes}
 use Rattle.sia_graph.specs.Early.{CommitsFrom, IsEarlyFor, TellFirsts}
-use Rattle.sia_graph.specs.Evidence.{IsEvidenceFor}
+use Rattle.sia_graph.specs.LookEvidence.{IsLookEvidenceFor}
 use Rattle.sia_graph.specs.Extremes.{HasRwEdge, IsFirstByCommits}
 use Rattle.sia_graph.specs.Limits.{AreLimits, IsLimit}
 use Rattle.sia_graph.specs.Ranks.{AreRanks, IsRankOf}
@@ -25,7 +25,7 @@ use Rattle.sia_graph.proofs.EvidenceNumbers.{made_commits, number_of, source_edg
 use Rattle.sia_graph.proofs.Extremes.{firsts_hold}
 use Rattle.sia_graph.proofs.Facts.{commits_lt}
 
-module _ (h : List Event) (txns keys : List ℕ) (looks : Looks) (evidence : IsEvidenceFor h txns keys looks) (lifetimes : List Lifetime) (lived : AreLifetimes h txns lifetimes) where
+module _ (h : List Event) (txns keys : List ℕ) (looks : Looks) (evidence : IsLookEvidenceFor h txns keys looks) (lifetimes : List Lifetime) (lived : AreLifetimes h txns lifetimes) where
   -- the commit of number i
   abbrev commit_of : ℕ → ℕ
   commit_of i = (get_or lifetimes i no_lifetime).commit

@@ -10,7 +10,7 @@ use Rattle.sia_parts.specs.declared.looks.Look.{Look}
 use Rattle.sia_parts.specs.declared.looks.Looks.{Looks}
 use Rattle.sia_index.specs.Numbers.{IsCommittedAt}
 use Rattle.sia_parts.proofs.LookLemmas.{one_committed_number}
-use Rattle.sia_graph.specs.Evidence.{IsEvidenceFor}
+use Rattle.sia_graph.specs.LookEvidence.{IsLookEvidenceFor}
 use Rattle.sia_graph.specs.Extremes.{HasRwEdge}
 use Rattle.sia_graph.specs.Pivotal.{HasMade, HasSeen}
 use Rattle.sia_graph.specs.Sources.{IsSource, SeesBefore}
@@ -32,7 +32,7 @@ pub none_both : (looks : Looks) (marks : List Bool) → ((look : Look) → Conta
 none_both looks marks makers readers absences i made (inl seen) = readers seen.0 seen.1 (subst (λ t. IsTrue (get_or marks t false)) (made.2 ∙ sym seen.2) (makers made.0 made.1))
 none_both looks marks makers readers absences i made (inr absent) = absences absent.0 absent.1 (subst (λ t. IsTrue (get_or marks t false)) (made.2 ∙ sym absent.2) (makers made.0 made.1))
 
-module _ (h : List Event) (txns keys : List ℕ) (looks : Looks) (evidence : IsEvidenceFor h txns keys looks) where
+module _ (h : List Event) (txns keys : List ℕ) (looks : Looks) (evidence : IsLookEvidenceFor h txns keys looks) where
   -- a vulnerable edge leads from one who saw a version, or none, to one who made one
   ends_of : (t u : ℕ) → IsVulnerable h t u → (i : ℕ) × (j : ℕ) × (i < length txns) × (j < length txns) × (slice_index txns i ≡ t) × (slice_index txns j ≡ u) × IsSource looks i j
   ends_of t u v =

@@ -9,19 +9,19 @@ use Rattle.sia_parts.specs.declared.looks.Look.{Look}
 use Rattle.sia_parts.specs.declared.looks.Looks.{Looks}
 use Rattle.sia_parts.specs.Entries.{IsEdge}
 use Rattle.sia_parts.proofs.Committing.{committed_number}
-use Rattle.sia_graph.specs.Evidence.{IsEvidenceFor}
-use Rattle.sia_graph.specs.declared.evidence.LooksByTxn.{LooksByTxn}
+use Rattle.sia_graph.specs.LookEvidence.{IsLookEvidenceFor}
+use Rattle.sia_graph.specs.declared.look_evidence.LooksByTxn.{LooksByTxn}
 use Rattle.sia_graph.specs.NumberEdges.{AreByTxn, AreOfTxns, CanMeet}
 use Rattle.sia_graph.specs.Previous.{AreWithin, IsLeftIn, IsLeftSource, IsPreviousOf}
 use Rattle.sia_graph.specs.VersionRanks.{AreVersions}
 use Rattle.sia_graph.specs.Walks.{AreLeastSources, IsSource}
 use Rattle.sia_graph.proofs.EvidenceEdges.{edge_at, few_write_keys, leads_by_numbers}
-use Rattle.sia_graph.proofs.NarrowStands.{can_search}
+use Rattle.sia_graph.proofs.SearchedLooks.{can_search}
 
 each_of : {A : Type 0} (P : A → Type 0) (xs : List A) → ((x : A) → Contains xs x → P x) → All P xs
 each_of P xs holds k d l = holds (get_or xs k d) (Contains-get_or xs k d l)
 
-module _ (h : List Event) (txns keys : List ℕ) (looks : Looks) (is : IsEvidenceFor h txns keys looks) where
+module _ (h : List Event) (txns keys : List ℕ) (looks : Looks) (is : IsLookEvidenceFor h txns keys looks) where
   pub are_within : AreWithin looks (length txns) (length keys)
   are_within = record {
     writers = each_of (λ look. look.txn < length txns) looks.writers.items (λ look c. let m = is.looks_are.made look c in (committed_number h txns is.txns_are look.txn m.0 m.3.0.0).0);

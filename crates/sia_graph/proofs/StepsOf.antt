@@ -1,6 +1,6 @@
 -- A list of edges by its steps: what is settled of the places is settled of the ids, and how the least sources are found.
 use Rattle.std.proofs.Common.{◌≡◌, ◌≢◌, ◌⊎◌, inl, inr, ℕ, zero, suc, ◌+◌, ◌-◌, ◌*◌, ◌<◌, ◌≤◌, Bool, List, length, get_or, set, refl, ap, sym, ◌∙◌, subst, arith}
-use Rattle.std.specs.Prelude.{AllPairs, Contains}
+use Rattle.std.specs.Prelude.{All, AllPairs, Contains}
 use Rattle.std.specs.List.Sorted.{IsNonDecreasing, IsStrictlyIncreasing}
 use Rattle.std.proofs.lemmas.Bool.{cases_eq, cases_lt}
 use Rattle.std.proofs.lemmas.List.{get_or-set_same, get_or-set_other, get_or_default, length-set}
@@ -12,19 +12,27 @@ use Rattle.sia_parts.specs.declared.finding.Edge.{Edge}
 use Rattle.sia_parts.specs.declared.finding.Kind.TheVariants.{Ww}
 use Rattle.sia_parts.specs.Entries.{edge_rank}
 use Rattle.sia_graph.specs.Blocks.{IsWayThrough, LeadsThrough}
-use Rattle.sia_graph.specs.NarrowSteps.{edges_of_steps, name_of, step_number, step_source, step_target}
+use Rattle.sia_graph.specs.Graphs.{IsGraphEdge}
+use Rattle.sia_graph.specs.NarrowSteps.{name_of}
+use Rattle.sia_graph.specs.Steps.{HasSteps, step_number, step_source, step_target}
+use Rattle.sia_graph.specs.declared.order.Graph.{Graph}
 use Rattle.sia_graph.specs.Orders.{Leads}
-use Rattle.sia_graph.specs.Places.{AreSteps, AreStepsOf, IsStepOf}
+use Rattle.sia_graph.specs.Places.{AreStepsOf, IsStepOf}
 use Rattle.sia_graph.specs.Previous.{IsLeftIn}
 use Rattle.sia_graph.specs.StandIns.{LeadsByName}
 use Rattle.sia_graph.specs.declared.order.Taken.{Taken}
 use Rattle.sia_graph.specs.Taken.{AreTakenNodes, IsTaken, node_list}
 use Rattle.sia_graph.specs.Walks.{AreLeastSources, IsSource}
 use Rattle.sia_graph.proofs.AscendingIds.{ids_less, ids_no_less, one_id}
-use Rattle.sia_graph.proofs.NarrowStands.{leads_step, step_ends}
-use Rattle.sia_graph.proofs.OneTaken.{Joins, edge_joins}
 use Rattle.sia_graph.proofs.StandIns.{StandFor}
-use Rattle.sia_graph.proofs.TakenMembers.{range_is, range_up, taken_members}
+use Rattle.sia_graph.proofs.Ranges.{range_is}
+use Rattle.sia_graph.proofs.TakenMembers.{taken_members}
+
+abbrev pub Joins : List ℕ → List Edge → Type 0
+Joins ids edges = All (λ e. Contains ids e.src × Contains ids e.dst × (e.src ≢ e.dst)) edges
+
+pub edge_joins : (ids : List ℕ) (edges : List Edge) → Joins ids edges → (e : Edge) → Contains edges e → Contains ids e.src × Contains ids e.dst × (e.src ≢ e.dst)
+edge_joins ids edges joins e c = subst (λ (x : Edge). Contains ids x.src × Contains ids x.dst × (x.src ≢ x.dst)) c.2 (joins c.0 e c.1)
 
 abbrev pub none : Edge
 none = record { src = 0; dst = 0; kind = Ww; key = 0 }
@@ -117,86 +125,89 @@ module _ (ids : List ℕ) (up : IsStrictlyIncreasing ids) (edges : List Edge) (s
     many : length (node_list 0 ids) ≡ length ids
     many = let m = length-range_with_len 0 (2 * 0 + length ids) in omega arith
 
-    pub list_steps : AreSteps (node_list 0 ids) steps
-    list_steps = record {
-      ids_up = range_up (2 * 0 + length ids);
-      are_places = range_is (2 * 0 + length ids);
-      joins = λ k d l.
-          let n = get_or steps k d in
-          let c : Contains steps n = (k, l, get_or_default steps k n d l) in
-          let w = edge_of n c in
+    -- each step is between two of the ids
+    pub list_steps : All (λ n. (step_source n < length ids) × (step_target n < length ids) × (step_source n ≢ step_target n)) steps
+    list_steps k d l =
+        let n = get_or steps k d in
+        let c : Contains steps n = (k, l, get_or_default steps k n d l) in
+        let w = edge_of n c in
+        (w.1, w.2, differ n c)
+
+    module _ (graph : Graph) (has : HasSteps steps graph) where
+      abbrev Step : ℕ → ℕ → Type 0
+      Step = Leads (IsGraphEdge graph)
+
+      leads_step : (a b : ℕ) → Step a b → (n : ℕ) × Contains steps n × (step_source n ≡ a) × (step_target n ≡ b)
+      leads_step a b leads =
+          let w = (has leads.0.src leads.0.dst).0 leads.1.0 in
+          (w.0, w.1, w.2 ∙ leads.2, w.3 ∙ leads.3)
+
+      step_ends : (n : ℕ) → Contains steps n → Step (step_source n) (step_target n)
+      step_ends n c = (record { src = step_source n; dst = step_target n; kind = Ww; key = 0 }, ((has (step_source n) (step_target n)).1 (n, c, refl, refl), refl, refl), refl, refl)
+
+      abbrev By : ℕ → ℕ → Type 0
+      By = LeadsByName (name_of 0 ids) (LeadsThrough (2 * 0) Step)
+
+      is_node : (a : ℕ) → a < length ids → Contains (node_list 0 ids) a
+      is_node a l = let m = many in let b : a < length (node_list 0 ids) = omega arith in (a, b, get_or_default (node_list 0 ids) a a 0 b ∙ range_is (2 * 0 + length ids) a b)
+
+      node_within : (a : ℕ) → Contains (node_list 0 ids) a → a < length ids
+      node_within a c =
           let m = many in
-          let a = w.1 in
-          let b = w.2 in
-          (omega arith, omega arith, differ n c);
-    }
+          let l = c.1 in
+          let e = range_is (2 * 0 + length ids) c.0 c.1 in
+          let f = get_or_default (node_list 0 ids) c.0 0 a c.1 in
+          let g = c.2 in
+          omega arith
 
-    abbrev Step : ℕ → ℕ → Type 0
-    Step = Leads (Contains (edges_of_steps steps))
+      named_by : (a : ℕ) → name_of 0 ids a ≡ get_or ids a 0
+      named_by a = let e : a - 2 * 0 ≡ a = omega arith in ap (λ n. get_or ids n 0) e
 
-    abbrev By : ℕ → ℕ → Type 0
-    By = LeadsByName (name_of 0 ids) (LeadsThrough (2 * 0) Step)
+      step_within : (a b : ℕ) → Step a b → (a < length ids) × (b < length ids) × Leads (Contains edges) (get_or ids a 0) (get_or ids b 0)
+      step_within a b leads =
+          let w = leads_step a b leads in
+          let x = edge_of w.0 w.1 in (
+            subst (λ n. n < length ids) w.2 x.1,
+            subst (λ n. n < length ids) w.3 x.2,
+            subst (λ n. Leads (Contains edges) (get_or ids a 0) (get_or ids n 0)) w.3 (subst (λ n. Leads (Contains edges) (get_or ids n 0) (get_or ids (step_target w.0) 0)) w.2 x.0),
+          )
 
-    is_node : (a : ℕ) → a < length ids → Contains (node_list 0 ids) a
-    is_node a l = let m = many in let b : a < length (node_list 0 ids) = omega arith in (a, b, get_or_default (node_list 0 ids) a a 0 b ∙ range_is (2 * 0 + length ids) a b)
+      by_edge : (t u : ℕ) → By t u → Leads (Contains edges) t u
+      by_edge t u by = of_way by.4.2 by.4.3
+        where
+          of_way : (n : ℕ) → IsWayThrough (2 * 0) Step n by.0 by.1 → Leads (Contains edges) t u
+          of_way zero way =
+              subst (λ x. Leads (Contains edges) t x) (sym (named_by by.1) ∙ by.3)
+              (subst (λ x. Leads (Contains edges) x (get_or ids by.1 0)) (sym (named_by by.0) ∙ by.2) (step_within by.0 by.1 way).2)
+          of_way (suc n) way = let l = way.2 in absurd (omega arith)
 
-    node_within : (a : ℕ) → Contains (node_list 0 ids) a → a < length ids
-    node_within a c =
-        let m = many in
-        let l = c.1 in
-        let e = range_is (2 * 0 + length ids) c.0 c.1 in
-        let f = get_or_default (node_list 0 ids) c.0 0 a c.1 in
-        let g = c.2 in
-        omega arith
+      edge_by : (t u : ℕ) → Leads (Contains edges) t u → By t u
+      edge_by t u leads =
+          let w = step_of t u leads in
+          let n = get_or steps w.0 0 in
+          let c : Contains steps n = (w.0, w.1, get_or_default steps w.0 n 0 w.1) in
+          (step_source n, step_target n, named_by (step_source n) ∙ w.3, named_by (step_target n) ∙ w.5, (omega arith, omega arith, 0, step_ends n c))
 
-    named_by : (a : ℕ) → name_of 0 ids a ≡ get_or ids a 0
-    named_by a = let e : a - 2 * 0 ≡ a = omega arith in ap (λ n. get_or ids n 0) e
+      list_stands : StandFor (Contains ids) (Contains edges) (2 * 0) (node_list 0 ids) (IsGraphEdge graph) (name_of 0 ids)
+      list_stands = record {
+        blocks = record { joins = λ a b leads. let w = step_within a b leads in (is_node a w.0, is_node b w.1); ascends = λ a b leads first second. absurd (omega arith) };
+        ascend = λ a b m n less.
+            let x = named_by a in
+            let y = named_by b in
+            let z = ids_less ids up a b less (node_within b n.0) in
+            omega arith;
+        named = λ t. (
+          (λ c. (c.0, (is_node c.0 c.1, omega arith), named_by c.0 ∙ get_or_default ids c.0 0 t c.1 ∙ c.2)),
+          (λ w.
+              let l = node_within w.0 w.1.0 in
+              (w.0, l, get_or_default ids w.0 t 0 l ∙ sym (named_by w.0) ∙ w.2)),
+        );
+        reach = λ t u. ((λ l. leads_through (λ x y e. step (edge_by x y e)) l), (λ l. leads_through (λ x y e. step (by_edge x y e)) l));
+        into = λ t u leads. subst (λ x. Contains ids x) leads.3 (edge_joins ids edges joins leads.0 leads.1).1;
+      }
 
-    step_within : (a b : ℕ) → Step a b → (a < length ids) × (b < length ids) × Leads (Contains edges) (get_or ids a 0) (get_or ids b 0)
-    step_within a b leads =
-        let w = leads_step steps a b leads in
-        let x = edge_of w.0 w.1 in (
-          subst (λ n. n < length ids) w.2 x.1,
-          subst (λ n. n < length ids) w.3 x.2,
-          subst (λ n. Leads (Contains edges) (get_or ids a 0) (get_or ids n 0)) w.3 (subst (λ n. Leads (Contains edges) (get_or ids n 0) (get_or ids (step_target w.0) 0)) w.2 x.0),
-        )
-
-    by_edge : (t u : ℕ) → By t u → Leads (Contains edges) t u
-    by_edge t u by = of_way by.4.2 by.4.3
-      where
-        of_way : (n : ℕ) → IsWayThrough (2 * 0) Step n by.0 by.1 → Leads (Contains edges) t u
-        of_way zero way =
-            subst (λ x. Leads (Contains edges) t x) (sym (named_by by.1) ∙ by.3)
-            (subst (λ x. Leads (Contains edges) x (get_or ids by.1 0)) (sym (named_by by.0) ∙ by.2) (step_within by.0 by.1 way).2)
-        of_way (suc n) way = let l = way.2 in absurd (omega arith)
-
-    edge_by : (t u : ℕ) → Leads (Contains edges) t u → By t u
-    edge_by t u leads =
-        let w = step_of t u leads in
-        let n = get_or steps w.0 0 in
-        let c : Contains steps n = (w.0, w.1, get_or_default steps w.0 n 0 w.1) in
-        (step_source n, step_target n, named_by (step_source n) ∙ w.3, named_by (step_target n) ∙ w.5, (omega arith, omega arith, 0, step_ends steps n c))
-
-    list_stands : StandFor (Contains ids) (Contains edges) (2 * 0) (node_list 0 ids) (edges_of_steps steps) (name_of 0 ids)
-    list_stands = record {
-      blocks = record { joins = λ a b leads. let w = step_within a b leads in (is_node a w.0, is_node b w.1); ascends = λ a b leads first second. absurd (omega arith) };
-      ascend = λ a b m n less.
-          let x = named_by a in
-          let y = named_by b in
-          let z = ids_less ids up a b less (node_within b n.0) in
-          omega arith;
-      named = λ t. (
-        (λ c. (c.0, (is_node c.0 c.1, omega arith), named_by c.0 ∙ get_or_default ids c.0 0 t c.1 ∙ c.2)),
-        (λ w.
-            let l = node_within w.0 w.1.0 in
-            (w.0, l, get_or_default ids w.0 t 0 l ∙ sym (named_by w.0) ∙ w.2)),
-      );
-      reach = λ t u. ((λ l. leads_through (λ x y e. step (edge_by x y e)) l), (λ l. leads_through (λ x y e. step (by_edge x y e)) l));
-      into = λ t u leads. subst (λ x. Contains ids x) leads.3 (edge_joins ids edges joins leads.0 leads.1).1;
-    }
-
-    pub list_taken : (taken : Taken) → AreTakenNodes 0 ids steps taken → IsTaken (Contains ids) (Contains edges) ids taken
-    list_taken = taken_members (Contains ids) (Contains edges) 0 ids steps list_stands
+      pub list_taken : (taken : Taken) → AreTakenNodes 0 ids graph taken → IsTaken (Contains ids) (Contains edges) ids taken
+      list_taken = taken_members (Contains ids) (Contains edges) 0 ids graph list_stands
 
   module _ (left : List Bool) where
     -- one step more, which leads elsewhere or from one that isn't left

@@ -13,7 +13,7 @@ use Rattle.sia_graph.specs.Walks.{AreLeft, HasCount}
 use Rattle.sia_graph.proofs.Positions.{Stands, contains_stands, stands_contains, stands_false, false_stands}
 use Rattle.sia_graph.proofs.Fronts.{none_fed, whole_front}
 use Rattle.sia_graph.proofs.Waiting.{some_waits}
-use Rattle.sia_graph.proofs.OneTaken.{Joins, edge_joins}
+use Rattle.sia_graph.proofs.StepsOf.{Joins, edge_joins}
 
 module _ {A : Type 0} (p : A → Bool) where
   filter_first : (y : A) (xs : List A) → p y ≡ true → filter p (y ∷ xs) ≡ y ∷ filter p xs

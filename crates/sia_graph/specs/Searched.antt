@@ -6,7 +6,7 @@ use Rattle.sia_parts.specs.declared.finding.Edge.{Edge}
 use Rattle.sia_parts.specs.Entries.{IsEdge, edge_rank}
 use Rattle.sia_graph.specs.declared.cycle.EdgesIn.{EdgesIn}
 use Rattle.sia_graph.specs.declared.cycle.EdgesIn.TheVariants.{Listed, Seen}
-use Rattle.sia_graph.specs.Evidence.{IsEvidence}
+use Rattle.sia_graph.specs.LookEvidence.{IsLookEvidence}
 use Rattle.sia_graph.specs.NumberEdges.{AreByTxn}
 
 abbrev pub IsEdgeIn : EdgesIn → Edge → Type 0
@@ -21,5 +21,5 @@ IsMemberIn ids (Seen evidence own) = IsCommitted evidence.now.index.now
 -- the list is in order; the evidence is that of its index's history, and its looks are at hand by transaction
 abbrev pub CanFind : List ℕ → EdgesIn → Type 0
 CanFind ids (Listed edges) = AllPairs (λ d e. Precedes (edge_rank d) (edge_rank e)) edges.now
-CanFind ids (Seen evidence own) = (evidence.now.txns.now ≡ ids) × IsEvidence evidence.now
+CanFind ids (Seen evidence own) = (evidence.now.txns.now ≡ ids) × IsLookEvidence evidence.now
     × AreByTxn (length evidence.now.txns.now) evidence.now.looks.now own.now

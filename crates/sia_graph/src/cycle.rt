@@ -1,12 +1,13 @@
 //! The cycle that is printed where no order keeps every edge.
 ghost use Rattle.std.specs.Prelude.{◌≡◌, ◌<◌, ◌≤◌, ℕ, All, AllPairs, Contains, IfOk, List, false, length, slice_index, true};
 ghost use Rattle.std.specs.List.Sorted.{IsPartitionPoint, IsStrictlyIncreasing};
-ghost use Rattle.sia_events.specs.Lists.{Precedes};
+ghost use Rattle.sia_events.specs.Lists.{ListsAscending, Precedes};
 ghost use Rattle.sia_events.specs.Transactions.{IsCommitted};
 ghost use Rattle.sia_parts.specs.Entries.{IsEdge, edge_rank};
 ghost use Rattle.sia_parts.specs.Placing.{ArePlaces};
 ghost use Rattle.sia_graph.specs.Cycles.{IsPrintedCycle, IsStuckSet, TakesLeastEdge};
 ghost use Rattle.sia_graph.specs.Evidence.{IsEvidence};
+ghost use Rattle.sia_graph.specs.LookEvidence.{IsLookEvidence};
 ghost use Rattle.sia_graph.specs.NumberEdges.{AreByTxn};
 ghost use Rattle.sia_graph.specs.Orders.{Leads};
 ghost use Rattle.sia_graph.specs.Previous.{AreLowered, IsLeftIn, IsPlaceOf};
@@ -16,11 +17,12 @@ ghost use Rattle.sia_graph.specs.VersionRanks.{AreTwos, AreVersions};
 ghost use Rattle.sia_graph.specs.Walks.{AreLeastSources, AreLeft, GoesRoundFrom, LeadsBack, StaysWithin, back, is_before};
 ghost use Rattle.sia_graph.specs.declared.cycle.Step.{Step};
 
-use crate::evidence::{Evidence, LooksByTxn};
+use crate::evidence::Evidence;
+use crate::look_evidence::{LookEvidence, LooksByTxn};
 use crate::least_edges::least_edge;
 use crate::ranks::{NONE, Two, left_ranks, other, ranks_of_sources, twos_of_writers};
 use sia_events::{Key, NoMemory, TxnId};
-use sia_parts::{Edge, Kind, Look, newest_place};
+use sia_parts::{Edge, Kind, Look, Looks, newest_place};
 use std::alloc::Global;
 use std::marker::Model;
 
@@ -89,8 +91,8 @@ fn listed_step(edges: &[Edge], src: TxnId, dst: TxnId) -> Step
 }
 
 /// The step by the least edge from one transaction to another. `own` holds the looks by transaction.
-fn seen_step(evidence: &Evidence, own: &LooksByTxn, before: usize, at: usize) -> Step
-    requires is { IsEvidence evidence.now }
+fn seen_step(evidence: &LookEvidence, own: &LooksByTxn, before: usize, at: usize) -> Step
+    requires is { IsLookEvidence evidence.now }
     requires own { AreByTxn (length evidence.now.txns.now) evidence.now.looks.now own.now }
     requires within { (before < length evidence.now.txns.now) × (at < length evidence.now.txns.now) }
     requires leads { Leads (IsEdge evidence.now.index.now) (slice_index evidence.now.txns.now before) (slice_index evidence.now.txns.now at) }
@@ -111,7 +113,7 @@ pub(crate) enum EdgesIn<'a> {
     /// In a list, which is in order.
     Listed(&'a [Edge]),
     /// In what was written and seen, and in the same by transaction.
-    Seen(&'a Evidence<'a>, &'a LooksByTxn),
+    Seen(&'a LookEvidence<'a>, &'a LooksByTxn),
 }
 
 fn least_step(edges: &EdgesIn, ids: &[TxnId], before: usize, at: usize) -> Step
@@ -273,9 +275,9 @@ fn places(alloc: Global, ranks: &[u32]) -> Result<Vec<usize>, NoMemory>
 
 /// For each transaction the least one that is left and has an edge to it: by what saw a version before its own, by what wrote
 /// before it, or by what it saw or what was before that. What has none leads to itself.
-fn previous_of(alloc: Global, evidence: &Evidence, left: &[bool]) -> Result<Vec<usize>, NoMemory>
+fn previous_of(alloc: Global, evidence: &LookEvidence, left: &[bool]) -> Result<Vec<usize>, NoMemory>
     requires long { length left.now ≡ length evidence.now.txns.now }
-    requires is { IsEvidence evidence.now }
+    requires is { IsLookEvidence evidence.now }
     ensures long { IfOk result (λ previous. length previous.items ≡ length left.now) }
     ensures least { IfOk result (λ previous. AreLeastSources evidence.now.txns.now (IsEdge evidence.now.index.now) (IsLeftIn left.now) previous.items) }
 {
@@ -291,12 +293,8 @@ fn previous_of(alloc: Global, evidence: &Evidence, left: &[bool]) -> Result<Vec<
     Ok(previous)
 }
 
-pub(crate) fn cycle_of_left(
-    alloc: Global,
-    evidence: &Evidence,
-    left: &[bool],
-) -> Result<Vec<Step>, NoMemory>
-    requires is { IsEvidence evidence.now }
+fn cycle_in(alloc: Global, evidence: &LookEvidence, left: &[bool]) -> Result<Vec<Step>, NoMemory>
+    requires is { IsLookEvidence evidence.now }
     requires left { AreLeftOver (IsCommitted evidence.now.index.now) (IsEdge evidence.now.index.now) evidence.now.txns.now left.now }
     ensures { IfOk result (λ steps. IsPrintedCycle (IsCommitted evidence.now.index.now) (IsEdge evidence.now.index.now) steps.items) }
 {
@@ -304,4 +302,25 @@ pub(crate) fn cycle_of_left(
     let own = LooksByTxn::of(alloc, evidence.txns.len(), evidence.looks)?;
     let edges = EdgesIn::Seen(evidence, &own);
     cycle_of(alloc, &edges, evidence.txns, left, &previous)
+}
+
+/// The steps of the cycle that is printed, where these committed transactions are left.
+pub(crate) fn cycle_of_left(
+    alloc: Global,
+    evidence: &Evidence,
+    left: &[bool],
+) -> Result<Vec<Step>, NoMemory>
+    requires is { IsEvidence evidence.now }
+    requires left { (txns : List ℕ) × ListsAscending (IsCommitted evidence.now.index.now) txns × AreLeftOver (IsCommitted evidence.now.index.now) (IsEdge evidence.now.index.now) txns left.now }
+    ensures { IfOk result (λ steps. IsPrintedCycle (IsCommitted evidence.now.index.now) (IsEdge evidence.now.index.now) steps.items) }
+{
+    let index = evidence.index;
+    let looks = Looks::of(alloc, index, None, evidence.accesses)?;
+    let looked = LookEvidence {
+        index,
+        txns: index.committed(),
+        keys: index.written_keys(),
+        looks: &looks,
+    };
+    cycle_in(alloc, &looked, left)
 }

@@ -7,7 +7,11 @@ mod evidence;
 mod judgement;
 mod laws;
 mod least_edges;
+mod listed_edges;
+mod look_evidence;
+mod makers;
 mod order;
+mod passed;
 mod pivot;
 mod ranks;
 mod rows;
@@ -24,11 +28,12 @@ pub use judgement::{Judgement, danger_of, judge};
 pub use laws::{
     blocks_law, closure_law, firsts_law, listing_law, pivot_law, replay_law, ssi_law, stand_in_law,
 };
+pub use listed_edges::settle;
 pub use order::Txns;
 pub use pivot::{Link, Pivot, pivots, pivots_of_links};
 pub use serial_replay::{Mismatch, ReplayFault, replay};
 pub use ssi::{Dangerous, dangerous_of, passes, ssi_pass};
-pub use verdict::{Verdict, settle, settle_looks};
+pub use verdict::{Verdict, settle_accesses};
 
 #[cfg(test)]
 mod tests;

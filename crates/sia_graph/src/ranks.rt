@@ -6,13 +6,13 @@ ghost use Rattle.sia_parts.specs.declared.looks.Looks.{Looks};
 ghost use Rattle.sia_parts.specs.Placing.{ArePlaces};
 ghost use Rattle.sia_parts.specs.Versions.{CanSearch};
 ghost use Rattle.sia_graph.specs.Absences.{AreNodes, AreTwosAt, IsAbsent, IsRankAt};
-ghost use Rattle.sia_graph.specs.Evidence.{IsEvidence};
+ghost use Rattle.sia_graph.specs.LookEvidence.{IsLookEvidence};
 ghost use Rattle.sia_graph.specs.Previous.{AreLeftRanks};
 ghost use Rattle.sia_graph.specs.Ranks.{AreRanks, IsLeastRank, IsRankOf};
 ghost use Rattle.sia_graph.specs.Sources.{AreEarlier, AreLeastOfSources, SeesBefore};
 ghost use Rattle.sia_graph.specs.VersionRanks.{AreTwos, AreTwosUpTo, AreVersions};
 
-use crate::evidence::Evidence;
+use crate::look_evidence::LookEvidence;
 use crate::sparse::put_blocks;
 use sia_events::NoMemory;
 use sia_parts::{Absence, Look, look_at};
@@ -221,8 +221,8 @@ pub struct Earlier {
 
 impl Earlier {
     /// The tables for these ranks.
-    pub(crate) fn of(alloc: Global, evidence: &Evidence, ranks: &[u32]) -> Result<Earlier, NoMemory>
-        requires evidence { IsEvidence evidence.now }
+    pub(crate) fn of(alloc: Global, evidence: &LookEvidence, ranks: &[u32]) -> Result<Earlier, NoMemory>
+        requires evidence { IsLookEvidence evidence.now }
         ensures made { IfOk result (AreEarlier evidence.now.looks.now ranks.now) }
         ensures size { IfOk result (λ earlier. earlier.size ≡ length evidence.now.keys.now) }
     {
@@ -250,10 +250,10 @@ impl Earlier {
 /// For each transaction the least rank of those with an rw edge to it, or `NONE`.
 pub(crate) fn ranks_of_sources(
     alloc: Global,
-    evidence: &Evidence,
+    evidence: &LookEvidence,
     ranks: &[u32],
 ) -> Result<Vec<u32>, NoMemory>
-    requires is { IsEvidence evidence.now }
+    requires is { IsLookEvidence evidence.now }
     requires long { length ranks.now ≡ length evidence.now.txns.now }
     requires apart { AreRanks ranks.now }
     ensures { IfOk result (λ least. AreLeastOfSources evidence.now.looks.now ranks.now least.items) }

@@ -10,6 +10,7 @@ ghost use Rattle.sia_parts.specs.Findings.{AreFindings, ListsBadReads, ListsBadW
 ghost use Rattle.sia_graph.specs.Dangerous.{IsDangerous, IsLeast};
 ghost use Rattle.sia_graph.specs.Early.{CommitsFrom, IsEarly, IsLeastPivot, TellFirsts};
 ghost use Rattle.sia_graph.specs.Evidence.{IsEvidence};
+ghost use Rattle.sia_graph.specs.LookEvidence.{IsLookEvidence};
 ghost use Rattle.sia_graph.specs.Extremes.{HasRwEdge};
 ghost use Rattle.sia_graph.specs.Limits.{IsLimit, IsWithinLimit};
 ghost use Rattle.sia_graph.specs.Pivotal.{HasMade, HasSeen};
@@ -17,14 +18,15 @@ ghost use Rattle.sia_graph.specs.Pivots.{ArePivots};
 ghost use Rattle.sia_graph.specs.Ranks.{IsLeastRank, IsRankOf};
 ghost use Rattle.sia_graph.specs.Sources.{AreEarlier, IsSource};
 
-use crate::evidence::{ByTxn, Evidence, LooksByTxn};
+use crate::evidence::Evidence;
+use crate::look_evidence::{ByTxn, LookEvidence, LooksByTxn};
 use crate::least_edges::least_rw;
 use crate::pivot::Pivot;
 use crate::ranks::{Earlier, NONE, left_ranks, ranks_of_sources};
 use sia_events::{Key, NoMemory, TxnId};
 use sia_index::Lifetime;
 use sia_index::keyed::By;
-use sia_parts::{Absence, BadRead, BadWrite, Findings, Look};
+use sia_parts::{Absence, BadRead, BadWrite, Findings, Look, Looks};
 use std::alloc::{AllocError, Global};
 
 /// The greatest rank. A rank stands for the place that is left of it, so that the least rank is the last place.
@@ -65,8 +67,8 @@ fn is_within(earlier: &Earlier, at: usize, made: Look) -> bool
     made.high <= LAST - rank
 }
 
-fn limits_in(alloc: Global, evidence: &Evidence) -> Result<Vec<u32>, NoMemory>
-    requires evidence { IsEvidence evidence.now }
+fn limits_in(alloc: Global, evidence: &LookEvidence) -> Result<Vec<u32>, NoMemory>
+    requires evidence { IsLookEvidence evidence.now }
     requires kept { IsolationKept evidence.now.index.now }
     ensures { IfOk result (λ limits. TellFirsts evidence.now.index.now evidence.now.txns.now evidence.now.looks.now limits.items) }
 {
@@ -82,8 +84,8 @@ fn limits_in(alloc: Global, evidence: &Evidence) -> Result<Vec<u32>, NoMemory>
 }
 
 /// The least number that made a version that commits up to one of these limits, of one who saw what was before it, or `NONE`.
-fn least_early(alloc: Global, evidence: &Evidence, limits: &[u32]) -> Result<u32, NoMemory>
-    requires evidence { IsEvidence evidence.now }
+fn least_early(alloc: Global, evidence: &LookEvidence, limits: &[u32]) -> Result<u32, NoMemory>
+    requires evidence { IsLookEvidence evidence.now }
     ensures { IfOk result (IsLeastRank (IsEarly evidence.now.looks.now limits.now)) }
 {
     let earlier = Earlier::of(alloc, evidence, limits)?;
@@ -124,8 +126,8 @@ fn are_of_others<T, O: By<T>>(marks: &[bool], rows: &[T]) -> bool
 }
 
 /// Whether some transaction may be a pivot. Where none made a version and saw another, or saw none of a key, nobody is one.
-fn may_have_pivot(alloc: Global, evidence: &Evidence) -> Result<bool, NoMemory>
-    requires { IsEvidence evidence.now }
+fn may_have_pivot(alloc: Global, evidence: &LookEvidence) -> Result<bool, NoMemory>
+    requires { IsLookEvidence evidence.now }
     ensures { IfOk result (λ may. may ≡ false → (i : ℕ) → HasMade evidence.now.looks.now i → ¬ HasSeen evidence.now.looks.now i) }
 {
     let looks = evidence.looks;
@@ -143,16 +145,13 @@ pub(crate) fn are_none(bad_reads: &[BadRead], bad_writes: &[BadWrite]) -> bool
     bad_reads.is_empty() && bad_writes.is_empty()
 }
 
-/// Whether there is no bad read, no bad write, and no dangerous structure whose last transaction commits first, as `ssi_pass`
-/// tells it of all findings: whether no version commits before one who saw what was before it, and no later than one that in turn
-/// saw a version before the reader's own. The bad reads and the bad writes are those of the history at all keys.
-pub fn passes(
+fn passes_in(
     alloc: Global,
-    evidence: &Evidence,
+    evidence: &LookEvidence,
     bad_reads: &[BadRead],
     bad_writes: &[BadWrite],
 ) -> Result<bool, NoMemory>
-    requires evidence { IsEvidence evidence.now }
+    requires evidence { IsLookEvidence evidence.now }
     requires bad_reads { ListsBadReads evidence.now.index.now (λ _. ⊤) bad_reads.now }
     requires bad_writes { ListsBadWrites evidence.now.index.now (λ _. ⊤) bad_writes.now }
     ensures { IfOk result (λ passes. IsTrue passes ↔ PassesSsi evidence.now.index.now) }
@@ -167,6 +166,31 @@ pub fn passes(
     let limits = limits_in(alloc, evidence)?;
     let early = least_early(alloc, evidence, &limits)?;
     Ok(early == NONE)
+}
+
+/// Whether there is no bad read, no bad write, and no dangerous structure whose last transaction commits first, as `ssi_pass`
+/// tells it of all findings: whether no version commits before one who saw what was before it, and no later than one that in turn
+/// saw a version before the reader's own. The bad reads and the bad writes are those of the history at all keys.
+pub fn passes(
+    alloc: Global,
+    evidence: &Evidence,
+    bad_reads: &[BadRead],
+    bad_writes: &[BadWrite],
+) -> Result<bool, NoMemory>
+    requires evidence { IsEvidence evidence.now }
+    requires bad_reads { ListsBadReads evidence.now.index.now (λ _. ⊤) bad_reads.now }
+    requires bad_writes { ListsBadWrites evidence.now.index.now (λ _. ⊤) bad_writes.now }
+    ensures { IfOk result (λ passes. IsTrue passes ↔ PassesSsi evidence.now.index.now) }
+{
+    let index = evidence.index;
+    let looks = Looks::of(alloc, index, None, evidence.accesses)?;
+    let looked = LookEvidence {
+        index,
+        txns: index.committed(),
+        keys: index.written_keys(),
+        looks: &looks,
+    };
+    passes_in(alloc, &looked, bad_reads, bad_writes)
 }
 
 /// Whether there is no bad read, no bad write, and no dangerous structure whose last transaction commits first. The pivots
@@ -197,8 +221,8 @@ pub struct Dangerous {
 
 /// The least number whose limit some version is within, if there is one, and the least number that made such a version, or
 /// `NONE`.
-fn least_pivot(alloc: Global, evidence: &Evidence, limits: &[u32]) -> Result<(u32, u32), NoMemory>
-    requires evidence { IsEvidence evidence.now }
+fn least_pivot(alloc: Global, evidence: &LookEvidence, limits: &[u32]) -> Result<(u32, u32), NoMemory>
+    requires evidence { IsLookEvidence evidence.now }
     requires few { length limits.now ≤ 1000000000 }
     ensures { IfOk result (λ (pivot, last). IsLeastPivot evidence.now.looks.now limits.now pivot last) }
 {
@@ -220,12 +244,12 @@ fn least_pivot(alloc: Global, evidence: &Evidence, limits: &[u32]) -> Result<(u3
 /// Of those with an rw edge to the pivot the least that commits at this place or after it, or `NONE`.
 fn least_first(
     alloc: Global,
-    evidence: &Evidence,
+    evidence: &LookEvidence,
     lifetimes: &[Lifetime],
     place: u32,
     pivot: u32,
 ) -> Result<u32, NoMemory>
-    requires evidence { IsEvidence evidence.now }
+    requires evidence { IsLookEvidence evidence.now }
     requires long { length lifetimes.now ≡ length evidence.now.txns.now }
     requires pivot { pivot < length lifetimes.now }
     ensures { IfOk result (IsLeastRank (λ t. IsSource evidence.now.looks.now t pivot × CommitsFrom lifetimes.now place t)) }
@@ -239,10 +263,8 @@ fn least_first(
     Ok(sources[pivot as usize])
 }
 
-/// The dangerous structure that is told of a history that keeps isolation: that of the least pivot that has a first. None, if the
-/// history passes the test of serializable snapshot isolation.
-pub fn dangerous_of(alloc: Global, evidence: &Evidence) -> Result<Option<Dangerous>, NoMemory>
-    requires evidence { IsEvidence evidence.now }
+fn dangerous_in(alloc: Global, evidence: &LookEvidence) -> Result<Option<Dangerous>, NoMemory>
+    requires evidence { IsLookEvidence evidence.now }
     requires kept { IsolationKept evidence.now.index.now }
     ensures { IfOk result (λ found. MatchOption found (NoFirst evidence.now.index.now) (IsDangerous evidence.now.index.now)) }
 {
@@ -264,4 +286,22 @@ pub fn dangerous_of(alloc: Global, evidence: &Evidence) -> Result<Option<Dangero
         last_key: evidence.keys[out as usize],
         last: evidence.txns[last as usize],
     }))
+}
+
+/// The dangerous structure that is told of a history that keeps isolation: that of the least pivot that has a first. None, if the
+/// history passes the test of serializable snapshot isolation.
+pub fn dangerous_of(alloc: Global, evidence: &Evidence) -> Result<Option<Dangerous>, NoMemory>
+    requires evidence { IsEvidence evidence.now }
+    requires kept { IsolationKept evidence.now.index.now }
+    ensures { IfOk result (λ found. MatchOption found (NoFirst evidence.now.index.now) (IsDangerous evidence.now.index.now)) }
+{
+    let index = evidence.index;
+    let looks = Looks::of(alloc, index, None, evidence.accesses)?;
+    let looked = LookEvidence {
+        index,
+        txns: index.committed(),
+        keys: index.written_keys(),
+        looks: &looks,
+    };
+    dangerous_in(alloc, &looked)
 }

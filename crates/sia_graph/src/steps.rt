@@ -1,6 +1,6 @@
 //! Steps from one node to another as single numbers.
 ghost use Rattle.std.specs.Prelude.{◌≡◌};
-ghost use Rattle.sia_graph.specs.NarrowSteps.{step_number, step_source, step_target};
+ghost use Rattle.sia_graph.specs.Steps.{step_number, step_source, step_target};
 
 use sia_index::keyed::By;
 
@@ -32,16 +32,5 @@ impl By<u64> for BySource {
 
     fn number(row: &u64) -> u64 {
         u64::from(source_of(*row))
-    }
-}
-
-/// Steps by the place to which they lead.
-pub(crate) struct ByTarget;
-
-impl By<u64> for ByTarget {
-    ghost by = { step_target };
-
-    fn number(row: &u64) -> u64 {
-        u64::from(target_of(*row))
     }
 }

@@ -8,13 +8,13 @@ use Rattle.sia_events.specs.Numbering.{names_of, pair_at}
 use Rattle.sia_events.specs.Reads.{SawAt}
 use Rattle.sia_events.specs.Transactions.{Wrote}
 use Rattle.sia_index.specs.Info.{IsKeyAt}
-use Rattle.sia_parts.specs.declared.auditing.known.Known.{Known}
-use Rattle.sia_parts.specs.declared.auditing.ranges.Cover.{Cover}
-use Rattle.sia_parts.specs.declared.auditing.seen.Seen.{Seen}
-use Rattle.sia_parts.specs.declared.auditing.sights.Sight.{Sight}
+use Rattle.sia_parts.specs.declared.audit.scope.Known.{Known}
+use Rattle.sia_parts.specs.declared.audit.ranges.Cover.{Cover}
+use Rattle.sia_parts.specs.declared.audit.seen.Seen.{Seen}
+use Rattle.sia_parts.specs.declared.audit.sights.Sight.{Sight}
 use Rattle.sia_parts.specs.Seeing.{Gains, IsCover, IsSightWithin}
 use Rattle.sia_parts.proofs.Gaining.{gains_both}
-use Rattle.sia_parts.proofs.LookLemmas.{at_is_written, one_key_number}
+use Rattle.sia_parts.proofs.Numbers.{at_is_written, one_key_number}
 use Rattle.sia_parts.proofs.Passing.{number_before}
 
 -- the numbers of the first n listed keys are below next, and those of the others aren't

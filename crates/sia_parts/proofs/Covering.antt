@@ -1,27 +1,37 @@
 -- Rows that are added one after another, where one may be joined with another, by the points that they rest on and hold.
-use Rattle.std.proofs.Common.{◌≡◌, ◌⊎◌, inl, inr, ℕ, ◌+◌, ◌<◌, ◌≤◌, List, [], ◌∷◌, ◌++◌, length, get_or, set, ap, sym, subst, ◌∙◌, arith}
+use Rattle.std.proofs.Common.{◌≡◌, ◌⊎◌, inl, inr, ℕ, ◌<◌, List, [], ◌∷◌, ◌++◌, length, get_or, set, ap, sym, subst, ◌∙◌, arith}
 use Rattle.std.specs.Prelude.{Contains}
 use Rattle.std.proofs.lemmas.Bool.{cases_eq}
-use Rattle.std.proofs.lemmas.List.{take_all, get_or-set_same, get_or-set_other, length-set, get_or_default}
+use Rattle.std.proofs.lemmas.List.{get_or-set_same, get_or-set_other, length-set, get_or_default}
 use Rattle.std.proofs.lemmas.List.Elements.{Contains-get_or}
 use Rattle.sia_parts.specs.Joining.{Covers, IsJoined}
 use Rattle.sia_parts.specs.Sights.{FromSome}
-use Rattle.sia_parts.proofs.Adding.{FromFirst, first_more, some_push}
+use Rattle.sia_parts.proofs.Adding.{some_push}
 
 -- nothing is in an empty list
 pub none_from : {A B : Type 0} (P : A → B → Type 0) (y : B) → ¬ FromSome P [] y
 none_from P y f = let below = f.1.1 in absurd (omega arith)
 
 module _ {A B : Type 0} (E H : A → B → Type 0) where
-  -- what lies in the rows already adds nothing
-  pub covers_held : (P : B → Type 0) (xs : List A) → ((y : B) → P y → FromSome H xs y) → Covers E H P P xs xs
-  covers_held P xs held = record {
+  -- what nothing has adds nothing
+  pub covers_nothing : (P : B → Type 0) (xs : List A) → ((y : B) → ¬ P y) → Covers E H P P xs xs
+  covers_nothing P xs none = record {
     ends = λ y f. inl f;
-    holds = λ y e. elim e [ inl f ↦ f | inr p ↦ held y p ];
+    holds = λ y e. elim e [ inl f ↦ f | inr p ↦ absurd (none y p) ];
   }
 
-  pub covers_nothing : (P : B → Type 0) (xs : List A) → ((y : B) → ¬ P y) → Covers E H P P xs xs
-  covers_nothing P xs none = covers_held P xs (λ y p. absurd (none y p))
+  -- one after another
+  pub covers_both : (P Q : B → Type 0) (xs ys zs : List A) → Covers E H P P xs ys → Covers E H Q Q ys zs → Covers E H (λ y. P y ⊎ Q y) (λ y. P y ⊎ Q y) xs zs
+  covers_both P Q xs ys zs first second = record {
+    ends = λ y f. elim (second.ends y f) [
+      | inl before ↦ elim (first.ends y before) [ inl old ↦ inl old | inr p ↦ inr (inl p) ]
+      | inr q ↦ inr (inr q)
+    ];
+    holds = λ y e. elim e [
+      | inl f ↦ second.holds y (inl (first.holds y (inl f)))
+      | inr either ↦ elim either [ inl p ↦ second.holds y (inl (first.holds y (inr p))) | inr q ↦ second.holds y (inr q) ]
+    ];
+  }
 
   pub covers_same : (P Q R S : B → Type 0) (old new : List A) → ((y : B) → P y → R y) → ((y : B) → S y → Q y) → Covers E H P Q old new → Covers E H R S old new
   covers_same P Q R S old new to from covers = record {

@@ -27,7 +27,7 @@ use Rattle.sia_parts.specs.Looks.{AreLooks, IsLookOf, look_rank, rank_of}
 use Rattle.sia_parts.specs.Packing.{Packs, unpacked}
 use Rattle.sia_parts.proofs.Committing.{committed_number}
 use Rattle.sia_parts.proofs.FewNumbers.{few_committed, few_keys}
-use Rattle.sia_parts.proofs.LookLemmas.{one_committed, one_committed_number, one_key, one_key_number}
+use Rattle.sia_parts.proofs.Numbers.{one_committed, one_committed_number, one_key, one_key_number}
 use Rattle.sia_parts.proofs.PackedEdges.{packs}
 use Rattle.sia_parts.proofs.Sources.{look_of_rw, look_of_wr, rw_from_look, wr_from_look}
 

@@ -14,13 +14,13 @@ use Rattle.sia_events.specs.Refusals.{IsWellFormed}
 use Rattle.sia_events.proofs.Ranges.{list_in_order}
 use Rattle.sia_events.proofs.Starts.{one_event}
 use Rattle.sia_index.specs.Info.{IsKeyAt}
-use Rattle.sia_parts.specs.declared.auditing.seen.Seen.{Seen}
-use Rattle.sia_parts.specs.declared.auditing.sights.Sight.{Sight}
+use Rattle.sia_parts.specs.declared.audit.seen.Seen.{Seen}
+use Rattle.sia_parts.specs.declared.audit.sights.Sight.{Sight}
 use Rattle.sia_parts.specs.declared.cutting.Part.{Part}
 use Rattle.sia_parts.specs.Parts.{IsInPart}
 use Rattle.sia_parts.specs.Seeing.{AscendByKey, Gains, IsSightWithin}
 use Rattle.sia_parts.proofs.Gaining.{gains_same}
-use Rattle.sia_parts.proofs.LookLemmas.{one_key}
+use Rattle.sia_parts.proofs.Numbers.{one_key}
 
 pub all_from : {A : Type 0} (P : A → Type 0) (xs : List A) → ((x : A) → Contains xs x → P x) → All P xs
 all_from P xs each k d below = each (get_or xs k d) (Contains-get_or xs k d below)

@@ -1,5 +1,5 @@
 -- The edges of a history as single numbers, by the places of committed transactions and of written keys in their lists.
-use Rattle.std.specs.Prelude.{◌≡◌, ◌↔◌, ◌<◌, ℕ, List, All, AllPairs, length, map, slice_index}
+use Rattle.std.specs.Prelude.{◌≡◌, ◌↔◌, ◌<◌, ℕ, List, All, AllPairs, map}
 use Rattle.sia_events.specs.declared.event.Event.{Event}
 use Rattle.sia_events.specs.Lists.{ListsAscending}
 use Rattle.sia_events.specs.Transactions.{IsCommitted}

@@ -6,11 +6,10 @@ use Rattle.sia_parts.specs.declared.edges.fans.Fan.{Fan}
 use Rattle.sia_parts.specs.declared.edges.fans.Fans.{Fans}
 use Rattle.sia_parts.specs.declared.findings.PartFound.{PartFound}
 use Rattle.sia_parts.specs.declared.gathering.all_found.Gathering.{Gathering}
-use Rattle.sia_parts.specs.Findings.{ListsBadReads, ListsBadWrites, ListsUnexplained}
+use Rattle.sia_parts.specs.Accesses.{AreAccesses, AreSights}
 use Rattle.sia_parts.specs.Fans.{HaveDigits, IsFanNumber}
-use Rattle.sia_parts.specs.Looks.{AreLooks, AreSights}
+use Rattle.sia_parts.specs.Findings.{ListsBadReads, ListsBadWrites, ListsUnexplained}
 use Rattle.sia_parts.specs.Packing.{source_number}
-use Rattle.sia_parts.specs.Placing.{ArePlaced}
 use Rattle.sia_parts.specs.Sights.{FromSome}
 
 -- what is found at these keys
@@ -18,15 +17,14 @@ pub record IsPartFound (h : List Event) (Within : ℕ → Type 0) (found : PartF
   pub bad_reads : ListsBadReads h Within found.bad_reads.items
   pub bad_writes : ListsBadWrites h Within found.bad_writes.items
   pub unexplained : ListsUnexplained h Within found.unexplained.items
-  pub sights : AreSights h Within found.readers.items found.absences.items
+  pub sights : AreSights h Within found.saw found.missed
 
 -- what is found at all keys
 pub record IsGathering (h : List Event) (g : Gathering) : Type 0 where
   pub bad_reads : ListsBadReads h (λ _. ⊤) g.bad_reads.items
   pub bad_writes : ListsBadWrites h (λ _. ⊤) g.bad_writes.items
   pub unexplained : ListsUnexplained h (λ _. ⊤) g.unexplained.items
-  pub looks : AreLooks h (λ _. ⊤) g.looks
-  pub placed : ArePlaced g.looks
+  pub accesses : AreAccesses h (λ _. ⊤) g.accesses
 
 -- the fans come by their sources
 abbrev pub RiseBySource : List Fan → Type 0

@@ -1,11 +1,10 @@
 -- What committed transactions wrote and saw of the written keys. What one saw of a key is told by the oldest and the newest
 -- version that it looked at: those between add no edge that these don't give.
-use Rattle.std.specs.Prelude.{◌≡◌, ◌⊎◌, ℕ, ◌+◌, ◌*◌, ◌<◌, ◌≤◌, List, All, Contains, length, slice_index_or}
+use Rattle.std.specs.Prelude.{◌≡◌, ◌⊎◌, ℕ, ◌+◌, ◌*◌, ◌<◌, ◌≤◌, List, Contains, length, slice_index_or}
 use Rattle.sia_events.specs.declared.event.Event.{Event}
 use Rattle.sia_events.specs.NarrowDependencies.{CommitsVersion, Looked}
 use Rattle.sia_events.specs.Transactions.{Wrote}
 use Rattle.sia_index.specs.Info.{IsKeyAt}
-use Rattle.sia_index.specs.Positions.{IsPosition}
 use Rattle.sia_parts.specs.declared.looks.Absence.{Absence}
 use Rattle.sia_parts.specs.declared.looks.Look.{Look}
 use Rattle.sia_parts.specs.declared.looks.Looks.{Looks}
@@ -32,10 +31,6 @@ abbrev pub IsCovered : List Event → List Look → List Absence → ℕ → ℕ
 IsCovered h readers absences t k c = ((look : Look) × Contains readers look × IsLookOf h look t k × (look.low ≤ c) × (c ≤ look.high))
     ⊎ ((c ≡ 0) × (absence : Absence) × Contains absences absence × IsAbsentAt h absence t k)
 
--- of all versions that committed transactions made, as many stand up to the oldest that the look saw of its key as it says
-abbrev pub HasPosition : List Event → Look → Type 0
-HasPosition h look = (k : ℕ) → IsKeyAt h look.key k → IsPosition h k look.low look.at
-
 -- by key, and then by commit
 abbrev pub rank_of : ℕ → ℕ → ℕ
 rank_of key place = key * 4294967296 + place
@@ -46,15 +41,7 @@ look_rank look = rank_of look.key look.high
 abbrev pub RiseByRank : List Look → Type 0
 RiseByRank looks = (i j : ℕ) (d : Look) → i ≤ j → j < length looks → look_rank (slice_index_or looks i d) ≤ look_rank (slice_index_or looks j d)
 
--- what committed transactions saw at the written keys that lie within
-pub record AreSights (h : List Event) (Within : ℕ → Type 0) (readers : List Look) (absences : List Absence) : Type 0 where
-  pub seen : (look : Look) → Contains readers look → (t : ℕ) × (k : ℕ) × IsReaderOf h look t k × Within k
-  pub placed : All (HasPosition h) readers
-  pub absent : (absence : Absence) → Contains absences absence → (j : ℕ) → absence.from ≤ j → j < absence.to
-      → (t : ℕ) × (k : ℕ) × IsCommittedAt h absence.txn t × IsKeyAt h j k × Looked h t k 0 × Within k
-  pub each_seen : (t k c u : ℕ) → Looked h t k c → Wrote h u k → Within k → IsCovered h readers absences t k c
-
--- what they wrote there, and what they saw
+-- what committed transactions wrote at the written keys that lie within, and what they saw there
 pub record AreLooks (h : List Event) (Within : ℕ → Type 0) (looks : Looks) : Type 0 where
   pub made : (look : Look) → Contains looks.writers.items look → (t : ℕ) × (k : ℕ) × (c : ℕ) × IsWriterOf h look t k c × Within k
   pub each_made : (t k c : ℕ) → CommitsVersion h k t c → Within k → (look : Look) × Contains looks.writers.items look × IsWriterOf h look t k c

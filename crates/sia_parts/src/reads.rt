@@ -11,7 +11,7 @@ ghost use Rattle.sia_parts.specs.declared.reads.Read.{Read as read};
 ghost use Rattle.sia_parts.specs.Dealing.{AreReads, Deals, DealsWithin, HasReadsOf};
 ghost use Rattle.sia_parts.specs.Parts.{IsCutting};
 
-use crate::auditing::seen::txn_of;
+use crate::audit::seen::txn_of;
 use crate::cutting::Part;
 use sia_events::{Key, Log, NoMemory, Row};
 use sia_index::keyed::{By, ByTxn, place_above};

@@ -4,7 +4,7 @@ ghost use Rattle.std.specs.Prelude.{◌≡◌, IfOk};
 ghost use Rattle.sia_parts.specs.Findings.{AreFindings};
 ghost use Rattle.sia_parts.specs.Gathering.{IsGathering};
 
-use crate::evidence::Evidence;
+use crate::look_evidence::LookEvidence;
 use crate::pivot::{Pivot, pivots};
 use crate::ssi::{are_none, dangerous_of, ssi_pass};
 use sia_events::{History, Key, Log, NoMemory, TxnId, read_history};
@@ -67,7 +67,7 @@ fn dangerous(alloc: Global, log: &Log, ix: &Index) -> Result<Option<Structure>, 
     if !are_none(&found.bad_reads, &found.bad_writes) {
         return Ok(None);
     }
-    let evidence = Evidence {
+    let evidence = LookEvidence {
         index: ix,
         txns: ix.committed(),
         keys: ix.written_keys(),

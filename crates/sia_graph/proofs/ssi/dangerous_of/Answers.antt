@@ -3,7 +3,7 @@ use Rattle.std.proofs.Common.{◌≢◌, ◌<◌, ◌≤◌, ℕ, refl, length, 
 use Rattle.std.specs.Prelude.{slice_index}
 use Rattle.sia_events.specs.Transactions.{CommitsAt}
 use Rattle.sia_index.specs.Lifetimes.{AreLifetimes}
-use Rattle.sia_graph.specs.declared.evidence.LooksByTxn.{LooksByTxn}
+use Rattle.sia_graph.specs.declared.look_evidence.LooksByTxn.{LooksByTxn}
 use Rattle.sia_graph.specs.Dangerous.{IsLeast, MayBeFirst}
 use Rattle.sia_graph.specs.Early.{CommitsFrom, IsLeastPivot}
 use Rattle.sia_graph.specs.Extremes.{HasRwEdge}

@@ -1,10 +1,6 @@
--- The looks of the keys so far.
-use Rattle.std.proofs.Common.{◌≡◌, ◌⊎◌, ◌≤◌}
-use Rattle.sia_parts.specs.Looking.{AreWriters}
+-- The looks of the positions so far.
+use Rattle.sia_parts.proofs.Makers.{AreMadeTo}
 use Rattle.sia_parts.proofs.looking.writers_of.Given as goal
 
-abbrev pub invariant-loop-key : goal.invariant-loop-key
-invariant-loop-key l = record {
-  stop : (l.key ≡ l.from) ⊎ (l.key ≤ l.to);
-  writers : AreWriters l.ix l.from l.key l.writers.items;
-}
+abbrev pub invariant-loop-position : goal.invariant-loop-position
+invariant-loop-position l = AreMadeTo l.ix l.from l.to l.position l.writers.items

@@ -1,5 +1,4 @@
 -- The lists so far hold the place.
-use Rattle.std.proofs.Common.{◌≡◌, ◌⊎◌, ◌≤◌}
 use Rattle.sia_parts.specs.Dealing.{DealsWithin}
 use Rattle.sia_parts.proofs.reads.put_place.Given as goal
 

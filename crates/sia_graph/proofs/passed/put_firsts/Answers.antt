@@ -1,0 +1,51 @@
+use Rattle.std.proofs.Common.{ℕ, List, [], arith, get_or, subst, sym}
+use Rattle.std.proofs.lemmas.List.Elements.{Contains-get_or}
+use Rattle.std.proofs.lemmas.Map.Keys.{non_decreasing_from_sorted}
+use Rattle.sia_parts.specs.Sights.{Adds}
+use Rattle.sia_parts.proofs.Adding.{FromFirst, from_all, from_more, from_none}
+use Rattle.sia_graph.proofs.FirstKeys.{IsFirstKeyAt, first_put, firsts_are}
+use Rattle.sia_graph.proofs.passed.put_firsts.Goals as goal
+
+pub loop-position-init : goal.loop-position-init
+loop-position-init c =
+    let made = c.made_by-position-items.result.now in
+    subst (λ (l : List ℕ). Adds (FromFirst (IsFirstKeyAt c.args.index.now c.args.txn) made 0) [] l) (sym c.clear.ensures.items) (from_none (IsFirstKeyAt c.args.index.now c.args.txn) made [])
+
+pub key_at-requires : goal.key_at-requires
+key_at-requires c =
+    let made = c.made_by-position-items.result.now in
+    let n = c.loop-position.position-index in
+    let w = ((c.made_by-position-items.ensures c.requires.txn.0 c.requires.txn.1).each (get_or made n 0)).0 (Contains-get_or made n 0 c.loop-position-test.true) in
+    (w.0, w.1)
+
+pub put_if_first-requires : goal.put_if_first-requires
+put_if_first-requires c =
+    let made = c.made_by-position-items.result.now in
+    let n = c.loop-position.position-index in
+    let w = ((c.made_by-position-items.ensures c.requires.txn.0 c.requires.txn.1).each (get_or made n 0)).0 (Contains-get_or made n 0 c.loop-position-test.true) in
+    let key = c.key_at.ensures w.0 w.1 in
+    (key.0, key.1, key.2)
+
+pub loop-position-preserved : goal.loop-position-preserved
+loop-position-preserved c =
+    let h = c.args.index.now in
+    let txn = c.args.txn in
+    let made = c.made_by-position-items.result.now in
+    let n = c.loop-position.position-index in
+    let w = ((c.made_by-position-items.ensures c.requires.txn.0 c.requires.txn.1).each (get_or made n 0)).0 (Contains-get_or made n 0 c.loop-position-test.true) in
+    from_more (IsFirstKeyAt h txn) made n 0 [] c.loop-position.firsts.items c.put_if_first.new.firsts.items c.loop-position-test.true c.loop-position.invariant
+    (first_put h txn (get_or made n 0) w.0 w.1 c.key_at.result (c.key_at.ensures w.0 w.1) c.loop-position.firsts.items c.put_if_first.new.firsts.items c.in_ok-put_if_first.ensures)
+
+pub returns-clause-rise : goal.returns-clause-rise
+returns-clause-rise c = non_decreasing_from_sorted c.put_in_order.new.list.items c.put_in_order.ensures.sorted
+
+pub returns-clause-each : goal.returns-clause-each
+returns-clause-each c j =
+    let h = c.args.index.now in
+    let txn = c.requires.txn in
+    let made = c.made_by-position-items.result.now in
+    let put = c.loop-position.firsts.items in
+    let all = from_all (IsFirstKeyAt h c.args.txn) made c.loop-position.position-index [] put (omega arith) c.loop-position.invariant in
+    let are = firsts_are h c.args.txn c.position_count-positions.result txn.0 c.position_count-positions.ensures txn.1 made (c.made_by-position-items.ensures txn.0 txn.1) put all j in
+    let order = c.put_in_order.ensures in
+    ((λ has. are.0 (order.adds_none j has)), (λ m. order.keeps j (are.1 m)))
