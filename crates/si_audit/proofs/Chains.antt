@@ -23,15 +23,16 @@ pub report_written : (o a b c d e f g s z v : List ℕ) → o ++ a ++ b ++ c ++ 
 report_written o a b c d e f g s z v = simp append_assoc
 
 -- what stands before the edges, where no reasons are wanted
-pub front_alone : (o a b n r w u : List ℕ) (reads : List BadRead) (writes : List BadWrite) (odd : List Unexplained)
+pub front_alone : (o a b n k r w u : List ℕ) (reads : List BadRead) (writes : List BadWrite) (odd : List Unexplained)
     → TellsAll (WithReasons bad_read_line (λ x below. below ≡ [])) reads r → TellsAll (WithReasons bad_write_line (λ x below. below ≡ [])) writes w
-    → TellsAll (WithReasons unexplained_line (λ x below. below ≡ [])) odd u → n ≡ o ++ a ++ b ++ r ++ w ++ u
+    → TellsAll (WithReasons unexplained_line (λ x below. below ≡ [])) odd u → k ≡ [] → n ≡ o ++ a ++ b ++ k ++ r ++ w ++ u
     → n ≡ o ++ a ++ b ++ flat_map bad_read_line reads ++ flat_map bad_write_line writes ++ flat_map unexplained_line odd
-front_alone o a b n r w u reads writes odd some others rest all =
+front_alone o a b n k r w u reads writes odd some others rest none all =
     let first = lines_alone bad_read_line reads r some in
     let second = lines_alone bad_write_line writes w others in
     let third = lines_alone unexplained_line odd u rest in
-    all ∙ (λ i. o ++ a ++ b ++ first i ++ second i ++ third i)
+    all ∙ (λ i. o ++ a ++ b ++ none i ++ first i ++ second i ++ third i)
+    ∙ ap (λ (x : List ℕ). x ++ flat_map bad_read_line reads ++ flat_map bad_write_line writes ++ flat_map unexplained_line odd) (append-nil (o ++ a ++ b))
 
 -- what stands before the edges, these, and what stands behind them
 pub report_of_pieces : (o m n r a s z v : List ℕ) (reads : List BadRead) (writes : List BadWrite) (odd : List Unexplained) (edges : List Edge) (pivots : List Pivot)

@@ -14,9 +14,16 @@ place_pushed o first second third all a b c kept token l x row y column same_row
     ∙ chained o a (numeral x) b (numeral y) c kept l
     ∙ (λ i. o ++ (a ++ numeral (same_row i) ++ b ++ numeral (same_column i) ++ c ++ same_token i ++ l))
 
--- a start, and two things with the same word before each
-pub two_things : (o p a t x m y s c d q : List ℕ) → (((((((o ++ (p ++ a ++ t)) ++ x) ++ m) ++ y) ++ s) ++ [] ++ c) ++ (s ++ d ++ q)) ≡ o ++ (p ++ (a ++ (t ++ x ++ m ++ y) ++ s ++ c ++ s ++ d) ++ q)
-two_things o p a t x m y s c d q = simp (append_assoc, append-nil)
+-- a name and a start, and what stands behind them
+pub start_pushed : (o p a t x m y s e : List ℕ) → ((((((o ++ (p ++ a ++ t)) ++ x) ++ m) ++ y) ++ s) ++ [] ++ e) ≡ (o ++ p) ++ (a ++ (t ++ x ++ m ++ y) ++ s ++ e)
+start_pushed o p a t x m y s e = simp (append_assoc, append-nil)
+
+pub start_alone : (o p a t x m y : List ℕ) → (((((o ++ (p ++ a ++ t)) ++ x) ++ m) ++ y) ++ []) ≡ (o ++ p) ++ (a ++ (t ++ x ++ m ++ y))
+start_alone o p a t x m y = simp (append_assoc, append-nil)
+
+-- a name, and two things with the same word before each
+pub two_things : (o p n s c d q : List ℕ) → (((((o ++ p) ++ n) ++ s) ++ c) ++ (s ++ d ++ q)) ≡ o ++ (p ++ (n ++ s ++ c ++ s ++ d) ++ q)
+two_things o p n s c d q = simp append_assoc
 
 -- a name, an event, and a start behind it
 pub named_event : (o p a b e s t x m y q : List ℕ) → ((((((o ++ (p ++ a ++ b)) ++ e) ++ (s ++ t)) ++ x) ++ m) ++ y) ++ q ≡ o ++ (p ++ (a ++ b ++ e ++ s ++ (t ++ x ++ m ++ y)) ++ q)
@@ -29,13 +36,13 @@ pub step_words_behind : (o a s e w t d words z m r y : List ℕ)
 step_words_behind o a s e w t d words z m r y first second third =
     third ∙ ap (λ (x : List ℕ). x ++ z) (second ∙ ap (λ (x : List ℕ). x ++ words) first) ∙ simp append_assoc
 
--- what is told of three lists, behind what was pushed before
-pub findings_pushed : (o a b k l m n r w u : List ℕ) → k ≡ o ++ a ++ b → l ≡ k ++ r → m ≡ l ++ w → n ≡ m ++ u → n ≡ o ++ a ++ b ++ r ++ w ++ u
-findings_pushed o a b k l m n r w u first second third fourth =
-    fourth ∙ ap (λ (x : List ℕ). x ++ u) (third ∙ ap (λ (x : List ℕ). x ++ w) (second ∙ ap (λ (x : List ℕ). x ++ r) first)) ∙ simp append_assoc
+-- the counts, and what is told of three lists, behind what was pushed before
+pub findings_pushed : (o a b c k h l m n r w u : List ℕ) → h ≡ o ++ a ++ b → k ≡ h ++ c → l ≡ k ++ r → m ≡ l ++ w → n ≡ m ++ u → n ≡ o ++ a ++ b ++ c ++ r ++ w ++ u
+findings_pushed o a b c k h l m n r w u before first second third fourth =
+    fourth ∙ ap (λ (x : List ℕ). x ++ u) (third ∙ ap (λ (x : List ℕ). x ++ w) (second ∙ ap (λ (x : List ℕ). x ++ r) (first ∙ ap (λ (x : List ℕ). x ++ c) before))) ∙ simp append_assoc
 
 -- all lines of an explained report
-pub explained_pushed : (o a b r w u s d z v k l m n p : List ℕ) → o ≡ [] → k ≡ o ++ a ++ b ++ r ++ w ++ u → l ≡ k ++ s → m ≡ l ++ d → n ≡ m ++ z → p ≡ n ++ v
-    → p ≡ a ++ b ++ r ++ w ++ u ++ s ++ d ++ z ++ v
-explained_pushed o a b r w u s d z v k l m n p none first second third fourth fifth =
-    fifth ∙ ap (λ (x : List ℕ). x ++ v) (fourth ∙ ap (λ (x : List ℕ). x ++ z) (third ∙ ap (λ (x : List ℕ). x ++ d) (second ∙ ap (λ (x : List ℕ). x ++ s) (first ∙ ap (λ (x : List ℕ). x ++ a ++ b ++ r ++ w ++ u) none))))
+pub explained_pushed : (o a b c r w u s d z v k l m n p : List ℕ) → o ≡ [] → k ≡ o ++ a ++ b ++ c ++ r ++ w ++ u → l ≡ k ++ s → m ≡ l ++ d → n ≡ m ++ z → p ≡ n ++ v
+    → p ≡ a ++ b ++ c ++ r ++ w ++ u ++ s ++ d ++ z ++ v
+explained_pushed o a b c r w u s d z v k l m n p none first second third fourth fifth =
+    fifth ∙ ap (λ (x : List ℕ). x ++ v) (fourth ∙ ap (λ (x : List ℕ). x ++ z) (third ∙ ap (λ (x : List ℕ). x ++ d) (second ∙ ap (λ (x : List ℕ). x ++ s) (first ∙ ap (λ (x : List ℕ). x ++ a ++ b ++ c ++ r ++ w ++ u) none))))

@@ -1,6 +1,7 @@
 //! The explained report: the lines of the brief one, with reasons.
 ghost use Rattle.std.specs.Prelude.{◌≡◌, ◌++◌, ◌∷◌, ⊤, ℕ, List, IfOk, OnOk};
 ghost use Rattle.sia_events.specs.Transactions.{IsCommitted};
+ghost use Rattle.sia_parts.specs.Acts.{AreActs};
 ghost use Rattle.sia_parts.specs.Entries.{IsEdge};
 ghost use Rattle.sia_parts.specs.Looks.{AreLooks};
 ghost use Rattle.sia_parts.specs.Placing.{ArePlaced};
@@ -10,17 +11,18 @@ ghost use Rattle.si_audit.specs.Explained.{TellsDanger, TellsVerdict, WithReason
 ghost use Rattle.sia_graph.specs.Judgements.{IsJudgement};
 ghost use Rattle.si_audit.specs.Lines as lines;
 
+pub(crate) mod counts;
 pub(crate) mod findings;
 pub(crate) mod refused;
 pub(crate) mod steps;
 
-use crate::explain::steps::push_steps;
+use crate::explain::steps::{push_class, push_steps};
 use crate::options::Form;
 use crate::report::findings::push_front;
 use crate::report::line::{Words, number, push_line, push_verdict, push_whether};
 use sia_events::NoMemory;
 use sia_graph::{Judgement, Step, Verdict, danger_of, listing_law};
-use sia_parts::{Edge, Kind, Looks, Recorded, acts_of};
+use sia_parts::{Edge, Kind, Looks, Recorded};
 use std::alloc::Global;
 
 /// The dangerous structure with the reasons of its steps, where isolation was kept and the test of serializable snapshot
@@ -33,6 +35,7 @@ fn push_danger(
     looks: &Looks,
 ) -> Result<(), NoMemory>
     requires index { of.now.index.now ≡ of.now.history.now }
+    requires acts { AreActs of.now.history.now of.now.acts.now }
     requires looks { AreLooks of.now.index.now (λ _. ⊤) looks.now × ArePlaced looks.now }
     requires judgement { IsJudgement of.now.history.now j.now }
     ensures { OnOk result ((bytes : List ℕ) × TellsDanger of.now.history.now bytes × (out.new.items ≡ out.old.items ++ bytes)) }
@@ -62,8 +65,7 @@ fn push_danger(
             key: d.last_key,
         },
     ];
-    let acts = acts_of(alloc, of.history)?;
-    push_steps(out, of, &acts, &edges)
+    push_steps(out, of, &edges)
 }
 
 fn edges_of(alloc: Global, steps: &[Step]) -> Result<Vec<Edge>, NoMemory>
@@ -83,7 +85,7 @@ fn edges_of(alloc: Global, steps: &[Step]) -> Result<Vec<Edge>, NoMemory>
     Ok(edges)
 }
 
-/// The order, or the cycle with the reasons of its steps.
+/// The order, or the cycle with the reasons of its steps and its class.
 fn push_verdict_reasons(
     alloc: Global,
     out: &mut Vec<u8>,
@@ -91,6 +93,7 @@ fn push_verdict_reasons(
     verdict: &Verdict,
 ) -> Result<(), NoMemory>
     requires index { of.now.index.now ≡ of.now.history.now }
+    requires acts { AreActs of.now.history.now of.now.acts.now }
     requires verdict { IsVerdict (IsCommitted of.now.history.now) (IsEdge of.now.history.now) verdict.now }
     ensures { OnOk result ((bytes : List ℕ) × WithReasons lines.verdict_line (TellsVerdict of.now.history.now) verdict.now bytes × (out.new.items ≡ out.old.items ++ bytes)) }
 {
@@ -99,8 +102,8 @@ fn push_verdict_reasons(
         Verdict::Order(_) => Ok(()),
         Verdict::Cycle(steps) => {
             let edges = edges_of(alloc, steps.as_slice())?;
-            let acts = acts_of(alloc, of.history)?;
-            push_steps(out, of, &acts, &edges)
+            push_steps(out, of, &edges)?;
+            push_class(out, of, &edges)
         }
     }
 }
@@ -112,6 +115,7 @@ pub(crate) fn explained(
     looks: &Looks,
 ) -> Result<Vec<u8>, NoMemory>
     requires index { of.now.index.now ≡ of.now.history.now }
+    requires acts { AreActs of.now.history.now of.now.acts.now }
     requires looks { AreLooks of.now.index.now (λ _. ⊤) looks.now × ArePlaced looks.now }
     requires judgement { IsJudgement of.now.history.now j.now }
     ensures { IfOk result (λ sheet. IsReportOf Form.Explained of.now.history.now sheet.items) }

@@ -18,7 +18,7 @@ use crate::report::findings::{push_back, push_front};
 use sia_events::{History, Log, NoMemory};
 use sia_graph::{Judgement, Link, Pivot, edges_of, listing_law, pivots_of_links};
 use sia_index::Index;
-use sia_parts::{Edge, Looks, Recorded};
+use sia_parts::{Edge, Looks, Recorded, acts_of};
 use std::alloc::Global;
 
 /// The lines of a judgement: those of its edges stand on these sheets, and these pivots are told.
@@ -119,9 +119,11 @@ pub(crate) fn sheets_of<C: Crew>(
         Form::Brief => report_of(alloc, j, Vec::new(alloc), &[]),
         Form::Explained => {
             let history = History::of(alloc, log)?;
+            let acts = acts_of(alloc, &history)?;
             let of = Recorded {
                 history: &history,
                 index,
+                acts: &acts,
             };
             let sheet = explained(alloc, &of, j, &looks)?;
             one_sheet(alloc, sheet)

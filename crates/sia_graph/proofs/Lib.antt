@@ -78,3 +78,4 @@ pub mod ReadySets
 pub mod NoPivotal
 pub mod ListedEdges
 pub mod Judging
+pub mod AllowedCycles

@@ -56,7 +56,7 @@ fn leads_rw(kind: Kind) -> bool
 }
 
 /// Whether an edge is of the kind rw, and its ends overlap.
-fn is_vulnerable(ix: &Index, e: &Edge) -> bool
+pub(crate) fn is_vulnerable(ix: &Index, e: &Edge) -> bool
     ensures { IsTrue result ↔ ((e.now.kind ≡ Rw) × Overlap ix.now e.now.src e.now.dst) }
 {
     leads_rw(e.kind) && ix.overlap(e.src, e.dst)

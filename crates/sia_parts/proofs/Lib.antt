@@ -48,3 +48,4 @@ pub mod PartOrder
 pub mod DealtReads
 pub mod AllLooks
 pub mod WriterPlaces
+pub mod Losses

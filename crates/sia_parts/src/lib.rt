@@ -31,7 +31,7 @@ pub use gathering::gather;
 pub use laws::one_part;
 pub use lifetimes::lifetime_of;
 pub use looks::{Absence, Look, Looks};
-pub use naming::anomaly_of;
+pub use naming::{anomaly_of, loss_of};
 pub use numbered::find_in_part;
 pub use reads::Reads;
 pub use recorded::Recorded;

@@ -1,13 +1,17 @@
-//! The name of a bad read.
+//! The names of bad reads and bad writes.
 ghost use Rattle.std.specs.Prelude.{◌≡◌, MatchOption};
 ghost use Rattle.sia_events.specs.declared.anomaly.Anomaly.{Anomaly as AnAnomaly};
 ghost use Rattle.sia_events.specs.Anomalies.{IsNamed};
-ghost use Rattle.sia_events.specs.Isolation.{IsBadRead};
+ghost use Rattle.sia_events.specs.Isolation.{IsBadRead, IsBadWrite};
 ghost use Rattle.sia_events.specs.Transactions.{StartsAt};
+ghost use Rattle.sia_parts.specs.Acts.{AreActs};
+ghost use Rattle.sia_parts.specs.LostUpdates.{IsLostUpdate, LosesFirstAt};
 ghost use Rattle.sia_parts.specs.Wrong.{IsWrong};
 
-use crate::finding::BadRead;
+use crate::finding::{BadRead, BadWrite, Edge, Kind};
 use crate::lifetimes::commit_of;
+use crate::recorded::Recorded;
+use crate::sighting::first_sight;
 use sia_events::{Anomaly, History, Version};
 use sia_index::{Fate, Index};
 
@@ -50,4 +54,27 @@ pub fn anomaly_of(h: &History, ix: &Index, b: &BadRead, start: u32) -> Anomaly
         return Anomaly::Phantom;
     }
     Anomaly::StaleRead
+}
+
+/// Where the later committer of a bad write first saw a version before the other one's, if it did so before it wrote the key:
+/// the bad write is a lost update then.
+pub fn loss_of(of: &Recorded, b: &BadWrite) -> Option<u32>
+    requires index { of.now.index.now ≡ of.now.history.now }
+    requires acts { AreActs of.now.history.now of.now.acts.now }
+    requires bad { IsBadWrite of.now.history.now b.now.key b.now.first b.now.second }
+    ensures { MatchOption result (¬ IsLostUpdate of.now.history.now b.now.key b.now.first b.now.second) (LosesFirstAt of.now.history.now b.now.key b.now.first b.now.second) }
+{
+    of.history.law();
+    let missed = Edge {
+        src: b.second,
+        dst: b.first,
+        kind: Kind::Rw,
+        key: b.key,
+    };
+    let sight = first_sight(of.history, of.index, of.acts, &missed)?;
+    let write = of.index.first_write(b.second, b.key)?;
+    if sight.place < write {
+        return Some(sight.place);
+    }
+    None
 }

@@ -1,11 +1,11 @@
 //! Where a transaction first saw a version of a key that gives an edge.
 ghost use Rattle.std.specs.Prelude.{◌≡◌, ◌↔◌, ℕ, Contains, IfOk, IsTrue, MatchOption};
+ghost use Rattle.sia_events.specs.Dependencies.{IsCommittedWriter};
 ghost use Rattle.sia_events.specs.Reads.{SawAt};
 ghost use Rattle.sia_events.specs.Transactions.{CommitsBefore};
-ghost use Rattle.sia_parts.specs.Entries.{IsEdge};
 ghost use Rattle.sia_parts.specs.Acts.{AreActs};
 ghost use Rattle.sia_parts.specs.Grouped.{RiseBy};
-ghost use Rattle.sia_parts.specs.Sightings.{Gives, IsFirstSight, reader_of};
+ghost use Rattle.sia_parts.specs.Sightings.{Gives, IsFirstSight, reader_of, writer_of};
 ghost use Rattle.sia_parts.specs.declared.sighting.Act.{Act};
 
 use crate::finding::{Edge, Kind};
@@ -77,7 +77,7 @@ fn reader_of_edge(e: &Edge) -> TxnId
 }
 
 fn gives(ix: &Index, e: &Edge, version: Version) -> bool
-    requires edge { IsEdge ix.now e.now }
+    requires writer { IsCommittedWriter ix.now e.now.key (writer_of e.now.kind e.now.src e.now.dst) }
     requires seen { (p : ℕ) × SawAt ix.now p (reader_of e.now.kind e.now.src e.now.dst) e.now.key version }
     ensures { IsTrue result ↔ Gives e.now.kind ix.now e.now.src e.now.dst e.now.key version }
 {
@@ -113,7 +113,7 @@ pub struct FirstSight {
 pub fn first_sight(h: &History, ix: &Index, acts: &[Act], e: &Edge) -> Option<FirstSight>
     requires index { ix.now ≡ h.now }
     requires acts { AreActs h.now acts.now }
-    requires edge { IsEdge h.now e.now }
+    requires writer { IsCommittedWriter h.now e.now.key (writer_of e.now.kind e.now.src e.now.dst) }
     ensures { MatchOption result ((p v : ℕ) → SawAt h.now p (reader_of e.now.kind e.now.src e.now.dst) e.now.key v → ¬ Gives e.now.kind h.now e.now.src e.now.dst e.now.key v)
         (λ sight. IsFirstSight (Gives e.now.kind h.now e.now.src e.now.dst e.now.key) h.now (reader_of e.now.kind e.now.src e.now.dst) e.now.key sight.place sight.version) }
 {

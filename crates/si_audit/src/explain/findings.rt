@@ -1,6 +1,8 @@
 //! The lines of bad reads, bad writes and unexplained reads, and what stands below.
-ghost use Rattle.std.specs.Prelude.{◌≡◌, ◌++◌, codes};
+ghost use Rattle.std.specs.Prelude.{◌≡◌, ◌++◌, ℕ, List, OnOk, codes};
 ghost use Rattle.sia_events.specs.Isolation.{IsBadRead, IsBadWrite, IsUnexplained};
+ghost use Rattle.sia_parts.specs.Acts.{AreActs};
+ghost use Rattle.sia_parts.specs.Telling.{start_words};
 ghost use Rattle.si_audit.specs.Reasons as reasons;
 ghost use Rattle.si_audit.specs.Lines as lines;
 
@@ -8,8 +10,8 @@ use crate::report::findings::Finding;
 use crate::report::line::{Words, number, push_line};
 use sia_events::{Anomaly, NoMemory};
 use sia_parts::{
-    BadRead, BadWrite, Recorded, Unexplained, anomaly_of, push_event, push_start, push_unless,
-    push_version,
+    BadRead, BadWrite, Recorded, Unexplained, anomaly_of, loss_of, push_event, push_start,
+    push_unless, push_version,
 };
 use std::alloc::AllocError;
 
@@ -60,6 +62,25 @@ impl Finding for BadRead {
     }
 }
 
+/// The name of a bad write and the start of its second writer, and of a lost update the read that makes it one.
+fn push_conflict(out: &mut Vec<u8>, of: &Recorded, b: &BadWrite, start: u32) -> Result<(), NoMemory>
+    requires index { of.now.index.now ≡ of.now.history.now }
+    requires acts { AreActs of.now.history.now of.now.acts.now }
+    requires bad { IsBadWrite of.now.history.now b.now.key b.now.first b.now.second }
+    ensures { OnOk result ((words : List ℕ) × reasons.TellsConflict of.now.history.now b.now (start_words b.now.second start) words × (out.new.items ≡ out.old.items ++ codes "  " ++ words)) }
+{
+    match loss_of(of, b) {
+        Some(place) => {
+            push_start(out, b"  lost update: transaction ", b.second, start, b"; ")?;
+            push_event(out, b"", of.history, b.key, place)
+        }
+        None => {
+            push_start(out, b"  write conflict: transaction ", b.second, start, b"")?;
+            Ok(())
+        }
+    }
+}
+
 impl Finding for BadWrite {
     ghost line = { lines.bad_write_line };
 
@@ -81,9 +102,8 @@ impl Finding for BadWrite {
         let Some(info) = of.index.txn(self.second) else {
             return Ok(());
         };
-        let words = b"  both write and overlap: transaction ";
-        push_start(out, words, self.second, info.start, b"; ")?;
-        push_version(out, b"", of, self.key, self.first)?;
+        push_conflict(out, of, self, info.start)?;
+        push_version(out, b"; ", of, self.key, self.first)?;
         push_unless(out, of, self.key, self.second, self.first, (b"; ", b"\n"))
     }
 }

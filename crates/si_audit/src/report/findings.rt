@@ -2,11 +2,14 @@
 //! behind them.
 ghost use Rattle.std.specs.Prelude.{◌≡◌, ◌++◌, ◌&&◌, ℕ, List, All, IfSome, OnOk, flat_map};
 ghost use Rattle.sia_graph.specs.Judgements.{IsJudgement};
+ghost use Rattle.sia_parts.specs.Acts.{AreActs};
+ghost use Rattle.si_audit.specs.Counts.{TellsCounts};
 ghost use Rattle.si_audit.specs.Explained.{TellsAll, WithReasons, TellsIf};
 ghost use Rattle.si_audit.specs.Reasons.{TellsBadRead, TellsBadWrite, TellsUnexplained};
 ghost use Rattle.sia_events.specs.declared.event.Event.{Event};
 ghost use Rattle.si_audit.specs.Lines as lines;
 
+use crate::explain::counts::push_counts_if;
 use crate::report::line::{Words, number, push_line, push_verdict, push_whether};
 use sia_events::NoMemory;
 use sia_graph::{Judgement, Pivot, Verdict};
@@ -27,6 +30,7 @@ pub(crate) trait Finding {
 
     fn push_reasons(&self, out: &mut Vec<u8>, of: &Recorded) -> Result<(), NoMemory>
         requires index { of.now.index.now ≡ of.now.history.now }
+        requires acts { AreActs of.now.history.now of.now.acts.now }
         requires found { is_found of.now.history.now self.now }
         ensures { OnOk result ((bytes : List ℕ) × tells of.now.history.now self.now bytes × (out.new.items ≡ out.old.items ++ bytes)) };
 }
@@ -37,6 +41,7 @@ pub(crate) fn push_all<T: Finding>(
     found: &[T],
 ) -> Result<(), NoMemory>
     requires index { IfSome of (λ of. of.now.index.now ≡ of.now.history.now) }
+    requires acts { IfSome of (λ of. AreActs of.now.history.now of.now.acts.now) }
     requires found { IfSome of (λ of. All (T.is_found of.now.history.now) found.now) }
     ensures { OnOk result ((bytes : List ℕ) × TellsAll (WithReasons T.line (TellsIf of.entry T.tells)) found.now bytes × (out.new.items ≡ out.old.items ++ bytes)) }
 {
@@ -80,17 +85,20 @@ pub(crate) fn push_front(
     j: &Judgement,
 ) -> Result<(), NoMemory>
     requires index { IfSome of (λ of. of.now.index.now ≡ of.now.history.now) }
+    requires acts { IfSome of (λ of. AreActs of.now.history.now of.now.acts.now) }
     requires judgement { IfSome of (λ of. IsJudgement of.now.history.now j.now) }
-    ensures { OnOk result ((reads : List ℕ) × (writes : List ℕ) × (others : List ℕ)
+    ensures { OnOk result ((reads : List ℕ) × (writes : List ℕ) × (others : List ℕ) × (counts : List ℕ)
         × TellsAll (WithReasons lines.bad_read_line (TellsIf of.entry TellsBadRead)) j.now.bad_reads.items reads
         × TellsAll (WithReasons lines.bad_write_line (TellsIf of.entry TellsBadWrite)) j.now.bad_writes.items writes
         × TellsAll (WithReasons lines.unexplained_line (TellsIf of.entry TellsUnexplained)) j.now.unexplained.items others
+        × TellsIf of.entry TellsCounts (j.now.bad_reads.items, j.now.bad_writes.items) counts
         × (out.new.items ≡ out.old.items
         ++ lines.events_line j.now.counts.events j.now.counts.committed j.now.counts.aborted j.now.counts.unfinished
         ++ lines.isolation_line (lines.is_empty j.now.bad_reads.items && lines.is_empty j.now.bad_writes.items)
-        ++ reads ++ writes ++ others)) }
+        ++ counts ++ reads ++ writes ++ others)) }
 {
     push_head(out, &j.counts, &j.bad_reads, &j.bad_writes)?;
+    push_counts_if(out, of, &j.bad_reads, &j.bad_writes)?;
     push_all(out, of, &j.bad_reads)?;
     push_all(out, of, &j.bad_writes)?;
     push_all(out, of, &j.unexplained)

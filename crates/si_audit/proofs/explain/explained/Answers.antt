@@ -5,17 +5,18 @@ use Rattle.si_audit.proofs.Pushed.{explained_pushed}
 use Rattle.si_audit.proofs.explain.explained.Goals as goal
 
 pub push_front-requires : goal.push_front-requires
-push_front-requires c = record { index = c.requires.index; judgement = c.requires.judgement }
+push_front-requires c = record { index = c.requires.index; acts = c.requires.acts; judgement = c.requires.judgement }
 
 pub push_danger-requires : goal.push_danger-requires
 push_danger-requires c = record {
   index = c.requires.index;
+  acts = c.requires.acts;
   looks = c.requires.looks;
   judgement = c.requires.judgement;
 }
 
 pub push_verdict_reasons-requires : goal.push_verdict_reasons-requires
-push_verdict_reasons-requires c = record { index = c.requires.index; verdict = c.requires.judgement.verdict }
+push_verdict_reasons-requires c = record { index = c.requires.index; acts = c.requires.acts; verdict = c.requires.judgement.verdict }
 
 pub returns : goal.returns
 returns c =
@@ -37,8 +38,10 @@ returns c =
       told.3,
       told.4,
       told.5,
+      told.6,
       danger.1,
       verdict.1,
-      explained_pushed c.new-out.result.items _ _ _ _ _ _ _ _ _ _ _ _ _ _ c.new-out.ensures.items told.6 c.in_ok-push_whether.ensures danger.2 c.in_ok-push_whether-2.ensures verdict.2,
+      told.7,
+      explained_pushed c.new-out.result.items _ _ _ _ _ _ _ _ _ _ _ _ _ _ _ c.new-out.ensures.items told.8 c.in_ok-push_whether.ensures danger.2 c.in_ok-push_whether-2.ensures verdict.2,
     ) in
     (a, account_is h j c.requires.judgement edges.0 edges.1 pivots.0 pivots.1, all)

@@ -1,6 +1,7 @@
 use Rattle.std.proofs.Common.{ℕ, List, ◌∙◌, ap, refl, subst, sym}
 use Rattle.si_audit.specs.declared.options.Form.{Form}
 use Rattle.si_audit.specs.declared.options.Form.TheVariants.{Full, Brief, Explained}
+use Rattle.sia_parts.specs.Acts.{AreActs}
 use Rattle.sia_graph.specs.Judgements.{IsJudgement}
 use Rattle.si_audit.specs.Engine.{IsReportOf}
 use Rattle.si_audit.specs.Account.{account_with}
@@ -11,6 +12,9 @@ use Rattle.si_audit.proofs.sheets.sheets_of.Goals as goal
 
 pub explained-requires-clause-index : goal.explained-requires-clause-index
 explained-requires-clause-index g c = c.requires.index ∙ sym c.in_ok-history-in-Explained.ensures
+
+pub explained-requires-clause-acts : goal.explained-requires-clause-acts
+explained-requires-clause-acts g c = subst (AreActs _) (sym c.deref-in-Explained.ensures.value) c.in_ok-acts-in-Explained.ensures
 
 pub explained-requires-clause-looks : goal.explained-requires-clause-looks
 explained-requires-clause-looks g c = c.requires.looks

@@ -1,5 +1,6 @@
 use Rattle.std.proofs.Common.{◌≡◌, Option, Bor, subst, sym}
 use Rattle.std.specs.Prelude.{All, IfSome}
+use Rattle.sia_parts.specs.Acts.{AreActs}
 use Rattle.sia_parts.specs.declared.recorded.Recorded.{Recorded}
 use Rattle.std.proofs.lemmas.List.{take_all}
 use Rattle.si_audit.specs.Explained.{TellsAll, WithReasons, TellsIf}
@@ -13,6 +14,10 @@ loop-x-init g c = told_none (WithReasons g.T.Finding.line (TellsIf c.args.of g.T
 pub push_reasons-requires-clause-index : goal.push_reasons-requires-clause-index
 push_reasons-requires-clause-index g c =
     subst (λ (o : Option (Bor Recorded)). IfSome o (λ of. of.now.index.now ≡ of.now.history.now)) c.in-Some.is c.requires.index
+
+pub push_reasons-requires-clause-acts : goal.push_reasons-requires-clause-acts
+push_reasons-requires-clause-acts g c =
+    subst (λ (o : Option (Bor Recorded)). IfSome o (λ of. AreActs of.now.history.now of.now.acts.now)) c.in-Some.is c.requires.acts
 
 pub push_reasons-requires-clause-found : goal.push_reasons-requires-clause-found
 push_reasons-requires-clause-found g c =

@@ -13,37 +13,61 @@ all_found None P Q items xs same each none = none
 all_found (Some of) P Q items xs same each some =
     λ k d below. each of some (get_or xs k d) (subst (λ l. Contains l (get_or xs k d)) same (All-contains_itself xs k d below))
 
+pub push_counts_if-requires-clause-index : goal.push_counts_if-requires-clause-index
+push_counts_if-requires-clause-index c = c.requires.index
+
+pub push_counts_if-requires-clause-acts : goal.push_counts_if-requires-clause-acts
+push_counts_if-requires-clause-acts c = c.requires.acts
+
+pub push_counts_if-requires-clause-reads : goal.push_counts_if-requires-clause-reads
+push_counts_if-requires-clause-reads c = all_found c.args.of _ _ _ _ c.deref-3.ensures.value (λ of is x listed. ((is.bad_reads.each x).0 listed).0) c.requires.judgement
+
+pub push_counts_if-requires-clause-writes : goal.push_counts_if-requires-clause-writes
+push_counts_if-requires-clause-writes c = all_found c.args.of _ _ _ _ c.deref-4.ensures.value (λ of is x listed. ((is.bad_writes.each x).0 listed).0) c.requires.judgement
+
 pub push_all-requires-clause-index : goal.push_all-requires-clause-index
 push_all-requires-clause-index c = c.requires.index
 
+pub push_all-requires-clause-acts : goal.push_all-requires-clause-acts
+push_all-requires-clause-acts c = c.requires.acts
+
 pub push_all-requires-clause-found : goal.push_all-requires-clause-found
-push_all-requires-clause-found c = all_found c.args.of _ _ _ _ c.deref-3.ensures.value (λ of is x listed. ((is.bad_reads.each x).0 listed).0) c.requires.judgement
+push_all-requires-clause-found c = all_found c.args.of _ _ _ _ c.deref-5.ensures.value (λ of is x listed. ((is.bad_reads.each x).0 listed).0) c.requires.judgement
 
 pub push_all-requires-2-clause-index : goal.push_all-requires-2-clause-index
 push_all-requires-2-clause-index c = c.requires.index
 
+pub push_all-requires-2-clause-acts : goal.push_all-requires-2-clause-acts
+push_all-requires-2-clause-acts c = c.requires.acts
+
 pub push_all-requires-2-clause-found : goal.push_all-requires-2-clause-found
-push_all-requires-2-clause-found c = all_found c.args.of _ _ _ _ c.deref-4.ensures.value (λ of is x listed. ((is.bad_writes.each x).0 listed).0) c.requires.judgement
+push_all-requires-2-clause-found c = all_found c.args.of _ _ _ _ c.deref-6.ensures.value (λ of is x listed. ((is.bad_writes.each x).0 listed).0) c.requires.judgement
 
 pub push_all-requires-3-clause-index : goal.push_all-requires-3-clause-index
 push_all-requires-3-clause-index c = c.requires.index
 
+pub push_all-requires-3-clause-acts : goal.push_all-requires-3-clause-acts
+push_all-requires-3-clause-acts c = c.requires.acts
+
 pub push_all-requires-3-clause-found : goal.push_all-requires-3-clause-found
-push_all-requires-3-clause-found c = all_found c.args.of _ _ _ _ c.deref-5.ensures.value (λ of is x listed. ((is.unexplained.each x).0 listed).0) c.requires.judgement
+push_all-requires-3-clause-found c = all_found c.args.of _ _ _ _ c.deref-7.ensures.value (λ of is x listed. ((is.unexplained.each x).0 listed).0) c.requires.judgement
 
 pub returns : goal.returns
 returns c =
     let head = rw (c.deref.ensures.value, c.deref-2.ensures.value) at c.in_ok-push_head.ensures in
-    let reads = rw c.deref-3.ensures.value at c.in_ok-push_all.ensures in
-    let writes = rw c.deref-4.ensures.value at c.in_ok-push_all-2.ensures in
+    let counts = rw (c.deref-3.ensures.value, c.deref-4.ensures.value) at c.in_ok-push_counts_if.ensures in
+    let reads = rw c.deref-5.ensures.value at c.in_ok-push_all.ensures in
+    let writes = rw c.deref-6.ensures.value at c.in_ok-push_all-2.ensures in
     ok_map _ _ c.push_all-3.result
     (λ x others. (
       reads.0,
       writes.0,
       others.0,
+      counts.0,
       reads.1,
       writes.1,
       others.1,
-      findings_pushed c.args.out.now.items _ _ _ _ _ _ _ _ _ head reads.2 writes.2 others.2,
+      counts.1,
+      findings_pushed c.args.out.now.items _ _ _ _ _ _ _ _ _ _ _ head counts.2 reads.2 writes.2 others.2,
     ))
-    (rw c.deref-5.ensures.value at c.push_all-3.ensures)
+    (rw c.deref-7.ensures.value at c.push_all-3.ensures)

@@ -1,10 +1,8 @@
 use Rattle.std.proofs.Common.{◌≡◌, ◌++◌, codes, inl, inr, refl, subst, sym, arith}
 use Rattle.std.proofs.lemmas.Result.{on_ok_weaker}
 use Rattle.sia_events.specs.declared.event.Event.TheVariants.{Write}
-use Rattle.sia_events.specs.Text.{numeral}
 use Rattle.sia_events.specs.Transactions.{CommitsAt, HasEvent, StartsAt}
 use Rattle.sia_events.proofs.WellFormed.{one_commit}
-use Rattle.sia_parts.specs.Telling.{start_words}
 use Rattle.si_audit.specs.Reasons.{reason}
 use Rattle.si_audit.proofs.Pushed.{two_things}
 use Rattle.si_audit.proofs.explain.findings.BadWriteFinding.push_reasons.Goals as goal
@@ -23,6 +21,7 @@ returns c =
     let b = c.args.self.now in
     let h = c.args.of.now.history.now in
     let s = c.in-Some.info.start in
+    let name = c.in_ok-push_conflict.ensures in
     let first = c.in_ok-push_version.ensures in
     let known = c.in-Some.ensures in
     let before = c.requires.found.3 in
@@ -32,13 +31,13 @@ returns c =
           let less = before.4 in
           omega arith)
       | inr second ↦ (
-        reason (codes "both write and overlap: " ++ start_words b.second s ++ codes "; " ++ first.0 ++ codes "; " ++ second.1),
-        (s, first.0, second.1, subst (λ h. StartsAt h b.second s) c.requires.index known.0, first.1, second.2, refl),
+        reason (name.0 ++ codes "; " ++ first.0 ++ codes "; " ++ second.1),
+        (s, name.0, first.0, second.1, subst (λ h. StartsAt h b.second s) c.requires.index known.0, name.1, first.1, second.2, refl),
         rw (
           told.2,
           second.3,
           first.2,
-          c.in_ok-push_start.ensures,
-        ) (two_things c.args.out.now.items (codes "  ") (codes "both write and overlap: ") (codes "transaction ") (numeral b.second) (codes " starts after event ") (numeral s) (codes "; ") first.0 second.1 (codes "\n")),
+          name.2,
+        ) (two_things c.args.out.now.items (codes "  ") name.0 (codes "; ") first.0 second.1 (codes "\n")),
       )
     ]) c.push_unless.ensures
