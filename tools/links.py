@@ -9,6 +9,7 @@ The last line is 'N passed, M failed'.
 
 from __future__ import annotations
 
+import os
 import re
 import sys
 from collections.abc import Iterator
@@ -50,8 +51,10 @@ ALL_PAGES = 26_000
 
 
 def pages() -> Iterator[Path]:
-    """The pages, but for what was built."""
-    return (page for page in sorted(ROOT.rglob("*.md")) if "out" not in page.relative_to(ROOT).parts)
+    """The pages, but for what was built: a folder `out` may change at any time, so none is looked into."""
+    for folder, folders, files in os.walk(ROOT):
+        folders[:] = sorted(name for name in folders if name not in ("out", ".git"))
+        yield from (Path(folder, name) for name in sorted(files) if name.endswith(".md"))
 
 
 def anchors(page: Path) -> set[str]:
