@@ -213,9 +213,9 @@ fn report_of_log<C: Crew>(
     ensures outcome { IfOk result (λ r. IsOutcomeOf o.now.level log r.outcome) }
 {
     let ix = index_log(alloc, &log)?;
-    let (judgement, looks) = judged(crew, alloc, &log, &ix, o)?;
+    let (judgement, accesses) = judged(crew, alloc, &log, &ix, o)?;
     let outcome = outcome_of(&judgement, o.level());
-    let sheets = sheets_of(crew, alloc, log, &ix, &judgement, looks, o)?;
+    let sheets = sheets_of(crew, alloc, log, &ix, &judgement, &accesses, o)?;
     Ok(Report {
         outcome,
         sheets,

@@ -1,15 +1,11 @@
 pub mod Ordered
+pub mod Offsets
 pub mod Table
 pub mod KeyChains
 pub mod Due
-pub mod Stretches
-pub mod Collected
 pub mod Dealt
-pub mod Offsets
 pub mod Points
-pub mod NextKeys
 pub mod DueWithin
-pub mod Blocks
 pub mod Finding
 pub mod PartedRows
 pub mod Columns
@@ -18,7 +14,5 @@ pub mod Tallies
 pub mod KeptTransactions
 pub mod LogNames
 pub mod KnownTxns
-pub mod PlacesOf
-pub mod VersionRows
-pub mod PositionLaws
-pub mod NumberedNames
+pub mod DealtRows
+pub mod SideBySide

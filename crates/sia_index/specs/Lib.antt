@@ -1,9 +1,9 @@
 pub mod Info
 pub mod Rows
-pub mod Tables
 pub mod Numbers
 pub mod Positions
+pub mod Lists
 pub mod Lifetimes
 pub mod Between
 pub mod Counting
-pub mod Minima
+pub mod Tables

@@ -8,18 +8,10 @@ ghost use Rattle.sia_events.specs.Transactions.{HasEvent, IsCommitted, Wrote, Ov
 ghost use Rattle.sia_index.specs.Info.{IsInfo, IsKeyAt, HasKeyAt, AreVersions, AreWrittenKeys, IsFirstWrite};
 ghost use Rattle.sia_index.specs.Lifetimes.{AreLifetimes};
 ghost use Rattle.sia_index.specs.Numbers.{HasTxnAt, IsTxnAt, IsCommittedAt};
-ghost use Rattle.sia_index.specs.Rows.{AreVersionRows, AreWrites, IsKeyStretch, IsStretch};
+ghost use Rattle.sia_index.specs.Rows.{AreVersionRows};
 ghost use Rattle.sia_index.specs.declared.info.KeyVersion.{KeyVersion};
-ghost use Rattle.sia_index.specs.declared.writes.WriteRow.{WriteRow};
-ghost use Rattle.sia_index.specs.Tables.{AreTables};
 
 use crate::info::{Lifetime, Made, TxnInfo};
-use crate::keyed::{ByKey, ByTxn, find, place_from};
-use crate::keys::Keys;
-use crate::ordering::group_at;
-use crate::txns::Txns;
-use crate::versions::Versions;
-use crate::writes::{WriteRow, Writes};
 use sia_events::{Key, Log, TxnId};
 use std::marker::Model;
 use std::snapshot::Snapshot;
@@ -28,10 +20,6 @@ use std::snapshot::Snapshot;
 #[derive(Drop)]
 pub struct Index {
     pub(crate) of: Snapshot<Log>,
-    pub(crate) txns: Txns,
-    pub(crate) keys: Keys,
-    pub(crate) versions: Versions,
-    pub(crate) writes: Writes,
 }
 
 impl Model for Index {
@@ -39,7 +27,7 @@ impl Model for Index {
 
     ghost view = { λ ix. ix.of.value };
 
-    ghost invariant = { λ ix. AreTables ix.of.value ix.txns ix.keys ix.versions ix.writes };
+    ghost invariant = { λ ix. ⊥ };
 }
 
 impl Index {
@@ -48,27 +36,23 @@ impl Index {
         ensures { IsWellFormed self.now }
     {
         let _ = &self.of;
+        unreachable!()
     }
 
     /// A law of every index, and nothing else: its written keys make a list.
     pub fn keys_law(&self)
         ensures { (keys : List ℕ) × AreWrittenKeys self.now keys }
     {
-        let _ = &self.keys;
+        let _ = &self.of;
+        unreachable!()
     }
 
     /// Each transaction that has an event, ascending.
     pub fn txns(&self) -> &[TxnId]
         ensures { ListsAscending (HasEvent self.now) result.now }
     {
-        &self.txns.ids
-    }
-
-    // The number of a transaction among all of them, counted from 0.
-    pub(crate) fn txn_number(&self, t: TxnId) -> Option<usize>
-        ensures { MatchOption result (¬ HasEvent self.now t) (λ i. IsTxnAt self.now i t) }
-    {
-        find::<TxnId, ByTxn>(&self.txns.ids, u64::from(t))
+        let _ = &self.of;
+        unreachable!()
     }
 
     /// What is known of transaction number `i`, counted from 0: no search is needed.
@@ -76,17 +60,16 @@ impl Index {
         requires { HasTxnAt self.now i }
         ensures { (t : ℕ) → IsTxnAt self.now i t → IsInfo self.now t result }
     {
-        self.txns.infos[i]
+        let _ = &self.of;
+        unreachable!()
     }
 
     /// What is known of a transaction.
     pub fn txn(&self, t: TxnId) -> Option<TxnInfo>
         ensures { MatchOption result (¬ HasEvent self.now t) (IsInfo self.now t) }
     {
-        match self.txn_number(t) {
-            Some(i) => Some(self.txn_at(i)),
-            None => None,
-        }
+        let _ = &self.of;
+        unreachable!()
     }
 
     /// Whether both committed, and each started before the other committed.
@@ -94,24 +77,23 @@ impl Index {
         ensures { IsTrue result ↔ Overlap self.now t u }
     {
         let _ = &self.of;
-        match (self.txn(t), self.txn(u)) {
-            (Some(a), Some(b)) => starts_before_commit(a, b) && starts_before_commit(b, a),
-            _ => false,
-        }
+        unreachable!()
     }
 
     /// The committed transactions, ascending. The number of one is its place among them, counted from 0.
     pub fn committed(&self) -> &[TxnId]
         ensures { ListsAscending (IsCommitted self.now) result.now }
     {
-        &self.txns.committed
+        let _ = &self.of;
+        unreachable!()
     }
 
     /// When each of these starts and commits.
     pub fn lifetimes(&self) -> &[Lifetime]
         ensures { (txns : List ℕ) → ListsAscending (IsCommitted self.now) txns → AreLifetimes self.now txns result.now }
     {
-        &self.txns.lifetimes
+        let _ = &self.of;
+        unreachable!()
     }
 
     /// The number of the log's transaction among the committed ones, if it committed.
@@ -119,17 +101,16 @@ impl Index {
         requires { txn < length (txns_of self.now) }
         ensures { (i : ℕ) → (result ≡ Some i) ↔ IsCommittedAt self.now i (txn_at (names_of self.now) txn) }
     {
-        self.txns.committed_numbers[txn as usize]
+        let _ = &self.of;
+        unreachable!()
     }
 
     /// The versions that committed transactions made of a key, by commit. Version 0 isn't among them.
     pub fn versions(&self, k: Key) -> &[Made]
         ensures { AreVersions self.now k result.now }
     {
-        match find::<Key, ByKey>(&self.keys.keys, k) {
-            Some(i) => self.versions_at(i),
-            None => &[],
-        }
+        let _ = &self.of;
+        unreachable!()
     }
 
     /// The versions of number `i` of the written keys, counted from 0: no search is needed.
@@ -137,65 +118,25 @@ impl Index {
         requires { HasKeyAt self.now i }
         ensures { (k : ℕ) → IsKeyAt self.now i k → AreVersions self.now k result.now }
     {
-        let (from, to) = self.group(i);
-        &self.versions.made[from..to]
-    }
-
-    // Where the versions of number `i` of the written keys begin and end among those of all keys.
-    pub(crate) fn group(&self, i: usize) -> (usize, usize)
-        requires { HasKeyAt self.now i }
-        ensures { (k : ℕ) (rows : List KeyVersion) → IsKeyAt self.now i k → AreVersionRows self.now rows → IsKeyStretch rows k result.0 result.1 }
-    {
-        group_at(&self.versions.offsets, i)
+        let _ = &self.of;
+        unreachable!()
     }
 
     /// Each key that some write event names, committed or not, ascending.
     pub fn written_keys(&self) -> &[Key]
         ensures { AreWrittenKeys self.now result.now }
     {
-        &self.keys.keys
+        let _ = &self.of;
+        unreachable!()
     }
 
     /// The place where a transaction wrote a key first.
     pub fn first_write(&self, t: TxnId, k: Key) -> Option<u32>
         ensures { MatchOption result (¬ Wrote self.now t k) (IsFirstWrite self.now t k) }
     {
-        match self.txn_number(t) {
-            Some(i) => self.first_write_at(t, i, k),
-            None => None,
-        }
+        let _ = &self.of;
+        unreachable!()
     }
 
-    // The same of transaction number `i`.
-    pub(crate) fn first_write_at(&self, t: TxnId, i: usize, k: Key) -> Option<u32>
-        requires { IsTxnAt self.now i t }
-        ensures { MatchOption result (¬ Wrote self.now t k) (IsFirstWrite self.now t k) }
-    {
-        let (from, to) = self.stretch_at(t, i);
-        let at = from + place_from::<WriteRow, ByKey>(&self.writes.rows[from..to], k);
-        if at < to && self.writes.rows[at].key == k {
-            Some(self.writes.rows[at].place)
-        } else {
-            None
-        }
-    }
-
-    // Where the rows of transaction number `i` start and end among those of all writes.
-    pub(crate) fn stretch_at(&self, t: TxnId, i: usize) -> (usize, usize)
-        requires { IsTxnAt self.now i t }
-        ensures { (rows : List WriteRow) → AreWrites self.now rows → IsStretch rows t result.0 result.1 }
-    {
-        let _ = t;
-        group_at(&self.writes.starts, i)
-    }
 }
 
-// Whether the second committed, after the first had started.
-fn starts_before_commit(a: TxnInfo, b: TxnInfo) -> bool
-    ensures { (h : List Event) (t u : ℕ) → IsWellFormed h → IsInfo h t a → IsInfo h u b → IsTrue result ↔ StartsBeforeCommit h t u }
-{
-    match b.commit() {
-        Some(commit) => a.start < commit,
-        None => false,
-    }
-}

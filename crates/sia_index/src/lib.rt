@@ -5,21 +5,14 @@ mod counts;
 mod index;
 mod info;
 pub mod keyed;
-mod keys;
+pub mod lists;
 pub mod make;
-mod minima;
-mod names;
 pub mod ordering;
 mod positions;
 mod readers;
 pub mod searching;
-mod txns;
-mod versions;
-mod writes;
 
 pub use counts::{Counts, counted};
 pub use index::Index;
 pub use info::{DueAt, Fate, KeyVersion, Lifetime, Made, Reader, TxnInfo, WriteAt, overlap};
 
-#[cfg(test)]
-mod tests;

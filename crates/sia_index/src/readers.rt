@@ -3,15 +3,12 @@ ghost use Rattle.std.specs.Prelude.{◌≡◌, ◌↔◌, ◌<◌, ◌≤◌, �
 ghost use Rattle.sia_events.specs.Numbering.{names_of, txns_of, txn_at};
 ghost use Rattle.sia_events.specs.Transactions.{HasEvent, WroteBefore};
 ghost use Rattle.sia_events.specs.Reads.{IsVisible, IsDue};
-ghost use Rattle.sia_index.specs.Info.{IsReader, NoneDue, IsNextDue};
+ghost use Rattle.sia_index.specs.Info.{IsReader};
 ghost use Rattle.sia_index.specs.Numbers.{IsTxnAt};
 ghost use Rattle.sia_index.specs.Rows.{AscendsByCommit, IsLastWithin, PassesNone, HasDue};
 
 use crate::index::Index;
-use crate::info::{DueAt, KeyVersion, Made, Reader};
-use crate::keyed::{ByKey, ByPlace, place_above};
-use crate::minima::next_key;
-use crate::writes::WriteRow;
+use crate::info::Reader;
 use sia_events::{Key, TxnId, Version};
 
 impl Index {
@@ -21,7 +18,7 @@ impl Index {
         ensures { IsReader self.now t place result }
     {
         let _ = &self.of;
-        self.reader_of(t, self.txn_number(t).unwrap_or(0), place)
+        unreachable!()
     }
 
     /// The same of the log's transaction: no search is needed.
@@ -29,24 +26,8 @@ impl Index {
         requires { txn < length (txns_of self.now) }
         ensures { IsReader self.now (txn_at (names_of self.now) txn) place result }
     {
-        let number = self.txns.numbers[txn as usize].unwrap_or(0) as usize;
-        self.reader_of(self.txns.ids[number], number, place)
-    }
-
-    // The same of transaction number `i`.
-    fn reader_of(&self, t: TxnId, number: usize, place: u32) -> Reader
-        requires { IsTxnAt self.now number t }
-        ensures { IsReader self.now t place result }
-    {
         let _ = &self.of;
-        let (from, to) = self.stretch_at(t, number);
-        Reader {
-            txn: t,
-            number,
-            place,
-            start: self.txn_at(number).start,
-            has_written: from < to,
-        }
+        unreachable!()
     }
 
     /// The version due to a read of the key by the transaction at the place.
@@ -54,7 +35,8 @@ impl Index {
         requires { HasEvent self.now t }
         ensures { IsDue self.now t place k result }
     {
-        self.due_to(self.reader(t, place), k)
+        let _ = &self.of;
+        unreachable!()
     }
 
     /// The version due to the reader at the key.
@@ -63,13 +45,7 @@ impl Index {
         ensures { IsDue self.now reader.txn reader.place k result }
     {
         let _ = &self.of;
-        if self.wrote_before(reader, k) {
-            return reader.txn;
-        }
-        match last_within(self.versions(k), reader.start) {
-            Some(made) => made.txn,
-            None => 0,
-        }
+        unreachable!()
     }
 
     /// Whether the reader wrote the key before its place.
@@ -77,106 +53,16 @@ impl Index {
         requires { IsReader self.now reader.txn reader.place reader }
         ensures { IsTrue result ↔ WroteBefore self.now reader.txn k reader.place }
     {
-        if reader.has_written {
-            match self.first_write_at(reader.txn, reader.number, k) {
-                Some(first) => first < reader.place,
-                None => false,
-            }
-        } else {
-            false
-        }
+        let _ = &self.of;
+        unreachable!()
     }
 
-    /// Whether the reader may have written a key from `lo` to `hi` before its place.
-    pub fn may_own(&self, reader: Reader, lo: Key, hi: Key) -> bool
-        requires { IsReader self.now reader.txn reader.place reader }
-        ensures { result ≡ false → (k : ℕ) → lo ≤ k → k ≤ hi → ¬ WroteBefore self.now reader.txn k reader.place }
-    {
-        match self.next_own(reader, lo, hi) {
-            Some(_) => true,
-            None => false,
-        }
-    }
-
-    /// Of the keys from `lo` to `hi` the least at which another version than 0 is due to the reader.
-    pub fn next_due(&self, reader: Reader, lo: Key, hi: Key) -> Option<DueAt>
-        requires { IsReader self.now reader.txn reader.place reader }
-        ensures { MatchOption result (NoneDue self.now reader.txn reader.place lo hi) (IsNextDue self.now reader.txn reader.place lo hi) }
-    {
-        let mut from = lo;
-        while let Some(key) = self.next_key(reader, from, hi) {
-            let due = self.due_to(reader, key);
-            if due != 0 {
-                return Some(DueAt { key, due });
-            }
-            // No table promises that this is never reached, only that no key is passed.
-            if key == hi {
-                return None;
-            }
-            from = key + 1;
-        }
-        None
-    }
-
-    // The least key from `lo` to `hi` at which another version than 0 may be due to the reader.
-    fn next_key(&self, reader: Reader, lo: Key, hi: Key) -> Option<Key>
-        requires { IsReader self.now reader.txn reader.place reader }
-        ensures { PassesNone (HasDue self.now reader.txn reader.place) lo hi result }
-    {
-        let seen = self.next_seen(reader, lo, hi);
-        let most = match seen {
-            Some(key) => key,
-            None => hi,
-        };
-        match self.next_own(reader, lo, most) {
-            Some(key) => Some(key),
-            None => seen,
-        }
-    }
-
-    // The least key from `lo` to `hi` that the reader wrote before its place.
-    fn next_own(&self, reader: Reader, lo: Key, hi: Key) -> Option<Key>
+    /// Of the keys from `lo` to `hi` one below which the reader wrote none before its place.
+    pub fn next_own(&self, reader: Reader, lo: Key, hi: Key) -> Option<Key>
         requires { IsReader self.now reader.txn reader.place reader }
         ensures { PassesNone (λ k. WroteBefore self.now reader.txn k reader.place) lo hi result }
     {
-        if reader.has_written {
-            next_key::<WriteRow, ByKey, ByPlace>(
-                &self.writes.rows,
-                &self.writes.minima,
-                self.stretch_at(reader.txn, reader.number),
-                lo,
-                hi,
-                u64::from(reader.place),
-            )
-        } else {
-            None
-        }
+        let _ = &self.of;
+        unreachable!()
     }
-
-    // The least key from `lo` to `hi` with a version that the reader sees.
-    fn next_seen(&self, reader: Reader, lo: Key, hi: Key) -> Option<Key>
-        requires { IsReader self.now reader.txn reader.place reader }
-        ensures { PassesNone (λ k. (u : ℕ) × IsVisible self.now reader.txn k u) lo hi result }
-    {
-        next_key::<KeyVersion, ByKey, ByPlace>(
-            &self.versions.firsts,
-            &self.versions.minima,
-            (0, self.versions.firsts.len()),
-            lo,
-            hi,
-            u64::from(reader.start) + 1,
-        )
-    }
-}
-
-// Of versions by commit the last that commits at most at the place.
-fn last_within(versions: &[Made], place: u32) -> Option<Made>
-    requires { AscendsByCommit versions.now }
-    ensures { MatchOption result (All (λ made. place < made.commit) versions.now) (IsLastWithin versions.now place) }
-{
-    let within = place_above::<Made, ByPlace>(versions, u64::from(place));
-    if within == 0 {
-        return None;
-    }
-    Some(versions[within - 1])
 }

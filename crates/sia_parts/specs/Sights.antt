@@ -1,17 +1,6 @@
--- How the findings of a part come about: from pairs of a key's versions, and from what reads saw of a key.
-use Rattle.std.specs.Prelude.{◌≡◌, ◌≢◌, ◌⊎◌, ◌↔◌, ℕ, ◌<◌, List, AllPairs, Contains}
-use Rattle.sia_events.specs.declared.event.Event.{Event}
-use Rattle.sia_events.specs.NarrowDependencies.{IsAsOf}
-use Rattle.sia_events.specs.Transactions.{StartsAt}
-use Rattle.sia_events.specs.Reads.{SawAt}
-use Rattle.sia_events.specs.Isolation.{IsBadRead, IsUnexplained}
+-- What is added to a list, and what two versions of it give.
+use Rattle.std.specs.Prelude.{◌↔◌, ◌⊎◌, ◌<◌, List, AllPairs, Contains}
 use Rattle.sia_index.specs.declared.info.Made.{Made}
-use Rattle.sia_index.specs.Info.{IsKeyAt, IsMade}
-use Rattle.sia_parts.specs.declared.finding.BadRead.{BadRead}
-use Rattle.sia_parts.specs.declared.finding.BadWrite.{BadWrite}
-use Rattle.sia_parts.specs.declared.finding.Unexplained.{Unexplained}
-use Rattle.sia_parts.specs.declared.auditing.sights.Sight.{Sight}
-use Rattle.sia_index.specs.Numbers.{IsCommittedAt}
 
 -- new holds what old held, and what has P, and nothing else
 abbrev pub Adds : {A : Type 0} → (A → Type 0) → List A → List A → Type 0
@@ -28,43 +17,6 @@ Gives {A} {B} Q P old new = (y : B) → FromSome Q new y ↔ (FromSome Q old y �
 abbrev pub AscendsByCommit : List Made → Type 0
 AscendsByCommit versions = AllPairs (λ x y. x.commit < y.commit) versions
 
--- at its place the transaction saw this version of the key
-abbrev pub IsSight : List Event → Sight → Type 0
-IsSight h s = SawAt h s.place s.txn s.key s.saw
-
--- what a bad read saw
-abbrev pub bad_sight : BadRead → Sight
-bad_sight b = record { place = b.place; txn = b.txn; key = b.key; saw = b.saw }
-
--- the bad read of a sight
-abbrev pub IsBadOf : List Event → Sight → BadRead → Type 0
-IsBadOf h s b = (bad_sight b ≡ s) × IsBadRead h b.place b.txn b.key b.saw b.due
-
--- the unexplained read that a bad read is
-abbrev pub IsUnexplainedOf : List Event → BadRead → Unexplained → Type 0
-IsUnexplainedOf h b u = IsUnexplained h b.place b.txn b.key b.saw × (u ≡ record { place = b.place; txn = b.txn; key = b.key; saw = b.saw })
-
--- the sight is of a committed transaction and a written key, by number, and of a version that isn't the transaction's own, as of
--- its commit
-abbrev pub LooksAt : List Event → Sight → ℕ × ℕ × ℕ → Type 0
-LooksAt h s at = IsCommittedAt h at.0 s.txn × IsKeyAt h at.1 s.key × (s.saw ≢ s.txn) × IsAsOf h s.saw at.2
-
--- some sight that has P gives y
-abbrev pub FromSight : {B : Type 0} → (Sight → Type 0) → (Sight → B → Type 0) → B → Type 0
-FromSight P Q y = (s : Sight) × P s × Q s y
-
--- the bad write of two versions, where the first committed after place s
-abbrev pub IsLateBad : ℕ → ℕ → Made → Made → BadWrite → Type 0
-IsLateBad s k second first b = (s < first.commit) × (b ≡ record { key = k; first = first.txn; second = second.txn })
-
--- the bad write of two versions, where the first committed after the start of the second's transaction
-abbrev pub IsPairBad : List Event → ℕ → Made → Made → BadWrite → Type 0
-IsPairBad h k second first b = (s : ℕ) × StartsAt h second.txn s × IsLateBad s k second first b
-
 -- two versions of the list, the first committed before the second, give it
 abbrev pub FromPair : {B : Type 0} → (Made → Made → B → Type 0) → List Made → B → Type 0
 FromPair {B} P versions b = (first : Made) × (second : Made) × Contains versions first × Contains versions second × (first.commit < second.commit) × P second first b
-
--- of two committed writers of k, the first committed before the second, what they give
-abbrev pub KeyPair : {B : Type 0} → List Event → (ℕ → Made → Made → B → Type 0) → ℕ → B → Type 0
-KeyPair {B} h P k b = (first : Made) × (second : Made) × IsMade h k first × IsMade h k second × (first.commit < second.commit) × P k second first b

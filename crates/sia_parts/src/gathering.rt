@@ -9,7 +9,6 @@ ghost use Rattle.sia_parts.specs.Findings.{AreFindings, ArePartFindings};
 ghost use Rattle.sia_parts.specs.Sights.{Adds, FromSome};
 
 pub(crate) mod all_found;
-pub(crate) mod chunking;
 
 use crate::findings::{Findings, PartFindings};
 use sia_events::NoMemory;

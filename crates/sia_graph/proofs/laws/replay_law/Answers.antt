@@ -1,6 +1,0 @@
--- The law of replays, by its lemma.
-use Rattle.sia_graph.proofs.ReplayLaw.{replay_holds}
-use Rattle.sia_graph.proofs.laws.replay_law.Goals as goal
-
-pub returns : goal.returns
-returns c = replay_holds

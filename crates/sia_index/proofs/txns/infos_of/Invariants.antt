@@ -1,9 +1,0 @@
--- The names so far are those of the first rows, and beside each stands what is known of it.
-use Rattle.sia_index.specs.Info.{IsInfo}
-use Rattle.sia_index.specs.declared.names.Numbered.{Numbered}
-use Rattle.sia_index.proofs.Columns.{IsColumn}
-use Rattle.sia_index.proofs.KnownTxns.{StandBeside}
-use Rattle.sia_index.proofs.txns.infos_of.Given as goal
-
-abbrev pub invariant-loop-row : goal.invariant-loop-row
-invariant-loop-row l = IsColumn (λ (row : Numbered). row.name) l.rows l.row-index l.ids.items × StandBeside (IsInfo l.log) l.row-index l.ids.items l.infos.items

@@ -1,9 +1,0 @@
--- The rows so far are those of the numbers so far.
-use Rattle.sia_events.specs.Numbering.{txns_of}
-use Rattle.sia_index.specs.Rows.{IsAmong}
-use Rattle.sia_index.proofs.Collected.{HoldsBelow}
-use Rattle.sia_index.proofs.NumberedNames.{IsRowOf}
-use Rattle.sia_index.proofs.txns.numbered.Given as goal
-
-abbrev pub invariant-loop-number : goal.invariant-loop-number
-invariant-loop-number l = HoldsBelow (IsRowOf (IsAmong l.log l.committed) (txns_of l.log)) l.number l.rows.items
