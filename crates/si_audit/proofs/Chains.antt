@@ -56,6 +56,6 @@ pub one_more_mapped : {X Y : Type 0} (f : X → List Y) (xs : List X) (x : X) �
 one_more_mapped {X} {Y} f xs x = flat_map-append f xs (x ∷ []) ∙ ap (λ (ys : List Y). flat_map f xs ++ ys) (append-nil (f x))
 
 -- what has no length is nothing
-pub nothing_left : (xs : List ℕ) → length xs ≡ 0 → xs ≡ []
-nothing_left [] none = refl
-nothing_left (x ∷ xs) none = absurd (omega arith)
+pub nothing_left : {A : Type 0} (xs : List A) → length xs ≡ 0 → xs ≡ []
+nothing_left {A} [] none = refl
+nothing_left {A} (x ∷ xs) none = absurd (omega arith)

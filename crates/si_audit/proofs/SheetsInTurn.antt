@@ -1,100 +1,105 @@
--- What is made of the chunks of the edges, one after another, is what is made of all edges.
-use Rattle.std.proofs.Common.{◌≡◌, inl, inr, ℕ, suc, ◌+◌, ◌-◌, ◌/◌, ◌<◌, ◌≤◌, List, [], ◌∷◌, ◌++◌, length, map, flat_map, refl, ap, sym, subst, ◌∙◌, arith}
+-- What is made of sources that follow one another is what is made of all of them.
+use Rattle.std.proofs.Common.{◌≡◌, inl, inr, ℕ, suc, ◌+◌, ◌-◌, ◌<◌, ◌≤◌, List, [], ◌∷◌, ◌++◌, length, map, flat_map, refl, ap, sym, subst, ◌∙◌, arith}
 use Rattle.std.specs.Global.{Vec}
-use Rattle.std.specs.Prelude.{Err, IfOk, Ok, Result, slice_index, slice_index_or}
-use Rattle.std.proofs.Math.Nat.{div-mul-le_self}
+use Rattle.std.specs.Prelude.{Contains, Err, IfOk, Ok, Result, slice_index, slice_index_or, ⊤}
 use Rattle.std.proofs.lemmas.Bool.{cases_lt}
 use Rattle.std.proofs.lemmas.Grind.{flat_map-append}
-use Rattle.std.proofs.lemmas.List.{map-append}
-use Rattle.std.proofs.lemmas.Nat.{le-div}
-use Rattle.std.proofs.lemmas.List.Elements.{Contains-get_or, Contains-append_left, Contains-append_right, Contains-append_cases}
-use Rattle.sia_events.specs.Transactions.{Overlap}
-use Rattle.sia_parts.specs.declared.finding.Edge.{Edge}
-use Rattle.sia_parts.specs.Gathering.{AreChunkBounds, AreNumbersBetween}
-use Rattle.sia_parts.specs.Packing.{source_number, unpacked}
-use Rattle.sia_parts.proofs.FanEdges.{joined_rise, none_rise}
+use Rattle.std.proofs.lemmas.List.{get_or_default}
+use Rattle.std.proofs.lemmas.List.Elements.{Contains-append_left, Contains-append_right, Contains-append_cases}
+use Rattle.sia_events.specs.declared.event.Event.{Event}
+use Rattle.sia_events.specs.Lists.{ListsAscending}
+use Rattle.sia_events.specs.Transactions.{IsCommitted}
+use Rattle.sia_index.specs.Info.{AreWrittenKeys}
+use Rattle.sia_parts.specs.declared.edges.EdgeTo.{EdgeTo}
+use Rattle.sia_parts.specs.Chunks.{AreChunkBounds}
+use Rattle.sia_parts.specs.EdgeRows.{AreEdgesFrom, edge_of}
+use Rattle.sia_parts.specs.Sights.{Adds}
+use Rattle.sia_parts.proofs.EdgeLists.{edges_all, edges_joined, edges_none}
 use Rattle.sia_graph.specs.declared.pivot.Link.{Link}
-use Rattle.sia_graph.specs.Links.{AreEnds}
-use Rattle.sia_graph.proofs.LinkLists.{ends_joined, ends_none}
-use Rattle.sia_graph.proofs.Vulnerable.{all_vulnerable}
-use Rattle.sia_graph.specs.declared.edges.AllEdges.{AllEdges}
+use Rattle.sia_graph.specs.AllEdges.{AreLinksBetween, IsLinkFrom}
+use Rattle.sia_graph.proofs.Vulnerable.{source_committed}
 use Rattle.si_audit.specs.declared.report.edges.Sheet.{Sheet}
 use Rattle.si_audit.specs.Lines.{edge_line}
-use Rattle.sia_graph.specs.AllEdges.{AreAllEdges}
-use Rattle.sia_graph.proofs.ListedEdges.{all_listed}
-use Rattle.si_audit.specs.Sheets.{AreLinesAndLinks, IsSheet, text_of}
+use Rattle.si_audit.specs.Sheets.{AreLinesAndLinks, IsSheet, row_lines, text_of}
 
--- a greater number has no lesser quotient
-div_rises : (k n m : ℕ) → 0 < k → n ≤ m → n / k ≤ m / k
-div_rises k n m some l = le-div (n / k) m k some (let a = div-mul-le_self n k in omega arith)
-
--- and no lesser source
-source_rises : (n m : ℕ) → n ≤ m → source_number n ≤ source_number m
-source_rises n m l = div_rises 1048576 (n / 1048576 / 4) (m / 1048576 / 4) (omega arith) (div_rises 4 (n / 1048576) (m / 1048576) (omega arith) (div_rises 1048576 n m (omega arith) l))
-
-module _ (e : AllEdges) where
-  abbrev edge : ℕ → Edge
-  edge = unpacked e.txns.now e.keys.now
-
-  pub all_made : AreAllEdges e → (lines : List ℕ) (links : List Link) → IsSheet e 0 (length e.txns.now) lines links → AreLinesAndLinks e.index.now lines links
-  all_made all lines links (numbers, are, is, ends) =
-      let lists = all_listed e all numbers are in
-      ((map edge numbers, lists, is), all_vulnerable e.index.now (map edge numbers) lists links ends)
-
-  module _ (from mid to : ℕ) (low : from ≤ mid) (high : mid ≤ to) where
-    -- the numbers from one place to before another, and those from there on
-    numbers_joined : (ms ns : List ℕ) → AreNumbersBetween e.fans from mid ms → AreNumbersBetween e.fans mid to ns → AreNumbersBetween e.fans from to (ms ++ ns)
-    numbers_joined ms ns are too = record {
-      ascending = joined_rise ms ns are.ascending too.ascending (λ d f some more.
-          let m = slice_index_or ms (length ms - 1) d in
-          let n = slice_index_or ns 0 f in
-          let a = ((are.each m).0 (Contains-get_or ms (length ms - 1) d (omega arith))).2 in
-          let b = ((too.each n).0 (Contains-get_or ns 0 f more)).1 in
-          elim (cases_lt m n) [ inl under ↦ under | inr over ↦ absurd (let rises = source_rises n m over in omega arith) ]);
-      each = λ n. (
-        (λ c. elim (Contains-append_cases ms ns n c) [
-          | inl first ↦ let w = (are.each n).0 first in let under = w.2 in (w.0, w.1, omega arith)
-          | inr second ↦ let w = (too.each n).0 second in let over = w.1 in (w.0, omega arith, w.2)
-        ]),
-        (λ w. elim (cases_lt (source_number n) mid) [
-          | inl under ↦ Contains-append_left ms ns n ((are.each n).1 (w.0, w.1, under))
-          | inr over ↦ Contains-append_right ms ns n ((too.each n).1 (w.0, over, w.2))
-        ]),
-      );
-    }
-
-    sheets_joined : (lines more : List ℕ) (links others : List Link) → IsSheet e from mid lines links → IsSheet e mid to more others → IsSheet e from to (lines ++ more) (links ++ others)
-    sheets_joined lines more links others (ms, are, is, ends) (ns, too, so, rest) = (
-      ms ++ ns,
-      numbers_joined ms ns are too,
-      ap (λ (l : List ℕ). l ++ more) is ∙ ap (λ (l : List ℕ). flat_map edge_line (map edge ms) ++ l) so ∙ sym (flat_map-append edge_line (map edge ms) (map edge ns)) ∙ ap (flat_map edge_line) (sym (map-append edge ms ns)),
-      subst (λ (es : List Edge). AreEnds (Overlap e.index.now) es (links ++ others)) (sym (map-append edge ms ns)) (ends_joined (Overlap e.index.now) (map edge ms) (map edge ns) links others ends rest),
-    )
-
-  no_sheet : (at : ℕ) → IsSheet e at at [] []
-  no_sheet at = (
-    [],
-    record {
-      ascending = none_rise;
-      each = λ n. ((λ c. absurd (let b = c.1 in omega arith)), (λ w. absurd (let a = w.1 in let b = w.2 in omega arith)));
-    },
-    refl,
-    ends_none (Overlap e.index.now),
+module _ (h : List Event) where
+  pub all_made : (txns : List ℕ) → ListsAscending (IsCommitted h) txns → (lines : List ℕ) (links : List Link) → IsSheet h 0 (length txns) lines links → AreLinesAndLinks h lines links
+  all_made txns are lines links ((edges, between, is), linked) = (
+    (edges, edges_all h (λ _. ⊤) txns are (length txns) refl edges between, is),
+    λ l. (
+      (λ c. ((linked l).0 c).3.0),
+      (λ v. (
+          let at = (are.each l.at).1 (source_committed h l.at l.other v) in
+          (linked l).1 (at.0, omega arith, at.1, (v, (txns, are, at.1, get_or_default txns at.0 0 l.at at.1 ∙ at.2))))),
+    ),
   )
 
-  module _ (places : List ℕ) (bounds : AreChunkBounds (length e.txns.now) places) where
+  module _ (from mid to : ℕ) (low : from ≤ mid) (high : mid ≤ to) where
+    pub sheets_joined : (lines more : List ℕ) (links others : List Link) → IsSheet h from mid lines links → IsSheet h mid to more others → IsSheet h from to (lines ++ more) (links ++ others)
+    sheets_joined lines more links others ((es, are, is), ends) ((fs, too, so), rest) = (
+      (
+        es ++ fs,
+        edges_joined h (λ _. ⊤) from mid to low high es fs are too,
+        ap (λ (l : List ℕ). l ++ more) is ∙ ap (λ (l : List ℕ). flat_map edge_line es ++ l) so ∙ sym (flat_map-append edge_line es fs),
+      ),
+      λ l. (
+        (λ c. elim (Contains-append_cases links others l c) [
+          | inl first ↦ let w = (ends l).0 first in (w.0, w.1, (let less = w.2 in omega arith), w.3)
+          | inr second ↦ let w = (rest l).0 second in (w.0, (let most = w.1 in omega arith), w.2, w.3)
+        ]),
+        (λ w. elim (cases_lt w.0 mid) [
+          | inl under ↦ Contains-append_left links others l ((ends l).1 (w.0, w.1, under, w.3))
+          | inr over ↦ Contains-append_right links others l ((rest l).1 (w.0, over, w.2, w.3))
+        ]),
+      ),
+    )
+
+  pub no_sheet : (at : ℕ) → IsSheet h at at [] []
+  no_sheet at = (([], edges_none h (λ _. ⊤) at, refl), λ l. ((λ c. absurd (let b = c.1 in omega arith)), (λ w. absurd (let a = w.1 in let b = w.2 in omega arith))))
+
+  -- one source more
+  pub sheet_more : (from i : ℕ) → from ≤ i → (txns keys : List ℕ) → ListsAscending (IsCommitted h) txns → AreWrittenKeys h keys → (rows : List EdgeTo) → AreEdgesFrom h (λ _. ⊤) i rows
+      → (lines : List ℕ) (links more : List Link) → Adds (IsLinkFrom h i) links more → IsSheet h from i lines links → IsSheet h from (i + 1) (lines ++ row_lines txns keys i rows) more
+  sheet_more from i low txns keys txns_are keys_are rows are lines links more adds ((es, before, is), ends) = (
+    (
+      es ++ map (edge_of txns keys i) rows,
+      edges_joined h (λ _. ⊤) from i (i + 1) low (omega arith) es (map (edge_of txns keys i) rows) before (are.edges txns keys txns_are keys_are),
+      ap (λ (l : List ℕ). l ++ row_lines txns keys i rows) is ∙ sym (flat_map-append edge_line es (map (edge_of txns keys i) rows)),
+    ),
+    λ l. (
+      (λ c. elim ((adds l).0 c) [
+        | inl first ↦ let w = (ends l).0 first in (w.0, w.1, (let less = w.2 in omega arith), w.3)
+        | inr own ↦ (i, low, omega arith, own)
+      ]),
+      (λ w. elim (cases_lt w.0 i) [
+        | inl under ↦ (adds l).1 (inl ((ends l).1 (w.0, w.1, under, w.3)))
+        | inr over ↦ (adds l).1 (inr (subst (λ n. IsLinkFrom h n l) (let less = w.2 in let same : w.0 ≡ i = omega arith in same) w.3))
+      ]),
+    ),
+  )
+
+  module _ (sources : ℕ) (places : List ℕ) (bounds : AreChunkBounds sources places) where
     no_later : (i n : ℕ) → i + n < length places → slice_index places i ≤ slice_index places (i + n)
     no_later i n below = elim (cases_lt 0 n) [
       | inl some ↦ let less = bounds.ascending i (i + n) 0 (omega arith) below in omega arith
       | inr none ↦ let same : i ≡ i + n = omega arith in let at = ap (slice_index places) same in omega arith
     ]
 
-    -- what is made between two places, of a sheet, and of several
-    abbrev IsBetween : ℕ → ℕ → List Sheet → Type 0
-    IsBetween i j sheets = IsSheet e (slice_index places i) (slice_index places j) (flat_map (λ s. s.lines.items) sheets) (flat_map (λ s. s.links.items) sheets)
+    -- a chunk has an end, and its sources are some of all
+    pub chunk_within : (i : ℕ) → i + 1 < length places → (slice_index places i ≤ slice_index places (i + 1)) × (slice_index places (i + 1) ≤ sources)
+    chunk_within i below =
+        let rest : ℕ = length places - 1 - (i + 1) in
+        let last = no_later (i + 1) rest (omega arith) in
+        let at : i + 1 + rest ≡ length places - 1 = omega arith in
+        let end = ap (slice_index places) at ∙ bounds.last in
+        (no_later i 1 below, omega arith)
 
-    abbrev IsAt : ℕ → Sheet → Type 0
-    IsAt i s = IsSheet e (slice_index places i) (slice_index places (i + 1)) s.lines.items s.links.items
+    -- what is made between two places, of a sheet, and of several
+    abbrev pub IsAt : ℕ → Sheet → Type 0
+    IsAt i s = IsSheet h (slice_index places i) (slice_index places (i + 1)) s.lines.items s.links.items
+
+    abbrev IsBetween : ℕ → ℕ → List Sheet → Type 0
+    IsBetween i j sheets = IsSheet h (slice_index places i) (slice_index places j) (flat_map (λ s. s.lines.items) sheets) (flat_map (λ s. s.links.items) sheets)
 
     in_turn : (sheets : List Sheet) (i : ℕ) → i + length sheets < length places → ((k : ℕ) (d : Sheet) → k < length sheets → IsAt (i + k) (slice_index_or sheets k d)) → IsBetween i (i + length sheets) sheets
     in_turn [] i long each = subst (λ n. IsBetween i n []) (let same : i ≡ i + 0 = omega arith in same) (no_sheet (slice_index places i))
@@ -106,13 +111,13 @@ module _ (e : AllEdges) where
 
     -- a sheet for each chunk
     pub all_in_turn : (sheets : List Sheet) → length sheets ≡ length places - 1 → ((k : ℕ) (d : Sheet) → k < length sheets → IsAt k (slice_index_or sheets k d))
-        → IsSheet e 0 (length e.txns.now) (flat_map (λ s. s.lines.items) sheets) (flat_map (λ s. s.links.items) sheets)
+        → IsSheet h 0 sources (flat_map (λ s. s.lines.items) sheets) (flat_map (λ s. s.links.items) sheets)
     all_in_turn sheets long each =
         let some = bounds.some in
         let all = in_turn sheets 0 (omega arith) (λ k d below. subst (λ n. IsAt n (slice_index_or sheets k d)) (let same : k ≡ 0 + k = omega arith in same) (each k d below)) in
-        let end : slice_index places (0 + length sheets) ≡ length e.txns.now = ap (slice_index places) (let same : 0 + length sheets ≡ length places - 1 = omega arith in same) ∙ bounds.last in
-        subst (λ n. IsSheet e 0 n (flat_map (λ s. s.lines.items) sheets) (flat_map (λ s. s.links.items) sheets)) end
-        (subst (λ n. IsSheet e n (slice_index places (0 + length sheets)) (flat_map (λ s. s.lines.items) sheets) (flat_map (λ s. s.links.items) sheets)) bounds.first all)
+        let end : slice_index places (0 + length sheets) ≡ sources = ap (slice_index places) (let same : 0 + length sheets ≡ length places - 1 = omega arith in same) ∙ bounds.last in
+        subst (λ n. IsSheet h 0 n (flat_map (λ s. s.lines.items) sheets) (flat_map (λ s. s.links.items) sheets)) end
+        (subst (λ n. IsSheet h n (slice_index places (0 + length sheets)) (flat_map (λ s. s.lines.items) sheets) (flat_map (λ s. s.links.items) sheets)) bounds.first all)
 
 -- what is told of some lines and links is told of what they were parted into
 pub as_parted : {E : Type 0} (lines : List ℕ) (links : List Link) (r : Result (Vec (Vec ℕ) × Vec Link) E) (P : List ℕ → List Link → Type 0) → P lines links

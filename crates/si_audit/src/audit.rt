@@ -1,7 +1,6 @@
 //! How a history is audited.
 ghost use Rattle.std.specs.Prelude.{◌≡◌, ◌<◌, ⊤, IfOk, IsTrue};
-ghost use Rattle.sia_parts.specs.Looks.{AreLooks};
-ghost use Rattle.sia_parts.specs.Placing.{ArePlaced};
+ghost use Rattle.sia_parts.specs.Accesses.{AreAccesses};
 ghost use Rattle.sia_graph.specs.Judgements.{IsJudgement};
 ghost use Rattle.sia_graph.specs.Verdicts.{IsOrderVerdict};
 ghost use Rattle.si_audit.specs.Account.{IsAccount, account_of};
@@ -13,24 +12,24 @@ use sia_events::{History, Log, NoMemory};
 use sia_graph::{Judgement, judge, listed};
 use sia_index::Index;
 use sia_index::make::index_log;
-use sia_parts::{Findings, Gathering, Looks, Reads};
+use sia_parts::{Accesses, Findings, Gathering, Reads};
 use std::alloc::Global;
 use std::sync::Wait;
 use std::thread::Threads;
 
-/// Judges the history of a log by its index and by a crew. Beside the judgement stands what its edges are told by.
+/// Judges the history of a log by its index and by a crew. Beside the judgement stands what its edges are made from.
 pub(crate) fn judged<C: Crew>(
     crew: &C,
     alloc: Global,
     log: &Log,
     ix: &Index,
     o: &Options,
-) -> Result<(Judgement, Looks), NoMemory>
+) -> Result<(Judgement, Accesses), NoMemory>
     requires ready { C.ready crew.now }
     requires index { ix.now ≡ log.now }
-    ensures exact { IfOk result (λ (j, looks). IsJudgement log.now j) }
-    ensures pass { IfOk result (λ (j, looks). IsTrue j.pass → IsTrue j.serializable × IsOrderVerdict j.verdict) }
-    ensures looks { IfOk result (λ (j, looks). AreLooks ix.now (λ _. ⊤) looks × ArePlaced looks) }
+    ensures exact { IfOk result (λ (j, accesses). IsJudgement log.now j) }
+    ensures pass { IfOk result (λ (j, accesses). IsTrue j.pass → IsTrue j.serializable × IsOrderVerdict j.verdict) }
+    ensures accesses { IfOk result (λ (j, accesses). AreAccesses ix.now (λ _. ⊤) accesses) }
 {
     log.law();
     let parts = o.parts();
@@ -66,8 +65,8 @@ pub fn audit<R: Threads + Wait + Sync>(
     let ix = index_log(alloc, log)?;
     let workers = o.workers();
     let crew = InThreads { rt, workers };
-    let (j, looks) = judged(&crew, alloc, log, &ix, o)?;
-    let (edges, pivots) = listed(alloc, &ix, looks)?;
+    let (j, accesses) = judged(&crew, alloc, log, &ix, o)?;
+    let (edges, pivots) = listed(alloc, &ix, &accesses)?;
     Ok(Audit {
         events: j.counts.events,
         committed: j.counts.committed,

@@ -9,7 +9,7 @@ ghost use Rattle.si_audit.specs.Sheets.{IsSheet};
 ghost use Rattle.sia_pool.specs.Answers.{AnswersEach};
 ghost use denote.Param.Send.{IsSync};
 
-use crate::report::edges::{Sheet, sheet_between};
+use crate::report::edges::{Sheet, sheet_of};
 use sia_events::Log;
 use sia_graph::AllEdges;
 use sia_index::Index;
@@ -56,15 +56,13 @@ pub(crate) struct Printing<'a> {
 impl Job for Printing<'_> {
     type Out = Sheet;
 
-    ghost takes = { λ job number. AreAllEdges job.edges.now × (number + 1 < length job.edges.now.chunk_bounds.places.items) };
+    ghost takes = { λ job number. AreAllEdges job.edges.now × (number + 1 < length job.edges.now.bounds.items) };
 
-    ghost owes = { λ job number sheet. IsSheet job.edges.now (slice_index job.edges.now.chunk_bounds.places.items number) (slice_index job.edges.now.chunk_bounds.places.items (number + 1))
+    ghost owes = { λ job number sheet. IsSheet job.edges.now.edges.index.now (slice_index job.edges.now.bounds.items number) (slice_index job.edges.now.bounds.items (number + 1))
         sheet.lines.items sheet.links.items };
 
     fn run(&self, number: u32) -> Result<Sheet, NoMemory> {
-        let places = &self.edges.chunk_bounds.places;
-        let number = number as usize;
-        match sheet_between(self.alloc, self.edges, places[number], places[number + 1]) {
+        match sheet_of(self.alloc, self.edges, number as usize) {
             Ok(sheet) => Ok(sheet),
             Err(_) => Err(NoMemory),
         }
@@ -91,9 +89,9 @@ pub(crate) trait Crew {
         requires ready { ready self.now }
         requires few { count ≤ 1024 }
         requires edges { AreAllEdges job.now.edges.now }
-        requires chunks { (p : ℕ) → p < count → p + 1 < length job.now.edges.now.chunk_bounds.places.items }
+        requires chunks { (p : ℕ) → p < count → p + 1 < length job.now.edges.now.bounds.items }
         ensures len { IfOk result (λ sheets. length sheets.items ≡ count) }
-        ensures owed { IfOk result (λ sheets. AnswersEach (λ number sheet. IsSheet job.now.edges.now (slice_index job.now.edges.now.chunk_bounds.places.items number) (slice_index job.now.edges.now.chunk_bounds.places.items (number + 1))
+        ensures owed { IfOk result (λ sheets. AnswersEach (λ number sheet. IsSheet job.now.edges.now.edges.index.now (slice_index job.now.edges.now.bounds.items number) (slice_index job.now.edges.now.bounds.items (number + 1))
             sheet.lines.items sheet.links.items) count sheets.items) };
 }
 

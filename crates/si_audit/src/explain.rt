@@ -2,8 +2,7 @@
 ghost use Rattle.std.specs.Prelude.{◌≡◌, ◌++◌, ◌∷◌, ⊤, ℕ, List, IfOk, OnOk};
 ghost use Rattle.sia_events.specs.Transactions.{IsCommitted};
 ghost use Rattle.sia_parts.specs.Entries.{IsEdge};
-ghost use Rattle.sia_parts.specs.Looks.{AreLooks};
-ghost use Rattle.sia_parts.specs.Placing.{ArePlaced};
+ghost use Rattle.sia_parts.specs.Accesses.{AreAccesses};
 ghost use Rattle.sia_graph.specs.Verdicts.{IsVerdict};
 ghost use Rattle.si_audit.specs.Engine.{IsReportOf};
 ghost use Rattle.si_audit.specs.Explained.{TellsDanger, TellsVerdict, WithReasons, edges_round};
@@ -20,7 +19,7 @@ use crate::report::findings::push_front;
 use crate::report::line::{Words, number, push_line, push_verdict, push_whether};
 use sia_events::NoMemory;
 use sia_graph::{Judgement, Step, Verdict, danger_of, listing_law};
-use sia_parts::{Edge, Kind, Looks, Recorded, acts_of};
+use sia_parts::{Accesses, Edge, Kind, Recorded, acts_of};
 use std::alloc::Global;
 
 /// The dangerous structure with the reasons of its steps, where isolation was kept and the test of serializable snapshot
@@ -30,14 +29,14 @@ fn push_danger(
     out: &mut Vec<u8>,
     of: &Recorded,
     j: &Judgement,
-    looks: &Looks,
+    accesses: &Accesses,
 ) -> Result<(), NoMemory>
     requires index { of.now.index.now ≡ of.now.history.now }
-    requires looks { AreLooks of.now.index.now (λ _. ⊤) looks.now × ArePlaced looks.now }
+    requires accesses { AreAccesses of.now.index.now (λ _. ⊤) accesses.now }
     requires judgement { IsJudgement of.now.history.now j.now }
     ensures { OnOk result ((bytes : List ℕ) × TellsDanger of.now.history.now bytes × (out.new.items ≡ out.old.items ++ bytes)) }
 {
-    let Some(d) = danger_of(alloc, of.index, looks, j)? else {
+    let Some(d) = danger_of(alloc, of.index, accesses, j)? else {
         return Ok(());
     };
     let words = [
@@ -109,10 +108,10 @@ pub(crate) fn explained(
     alloc: Global,
     of: &Recorded,
     j: &Judgement,
-    looks: &Looks,
+    accesses: &Accesses,
 ) -> Result<Vec<u8>, NoMemory>
     requires index { of.now.index.now ≡ of.now.history.now }
-    requires looks { AreLooks of.now.index.now (λ _. ⊤) looks.now × ArePlaced looks.now }
+    requires accesses { AreAccesses of.now.index.now (λ _. ⊤) accesses.now }
     requires judgement { IsJudgement of.now.history.now j.now }
     ensures { IfOk result (λ sheet. IsReportOf Form.Explained of.now.history.now sheet.items) }
 {
@@ -121,7 +120,7 @@ pub(crate) fn explained(
     let mut out = Vec::new(alloc);
     push_front(&mut out, Some(of), j)?;
     push_whether(&mut out, b"ssi", j.pass, b"pass", b"fail")?;
-    push_danger(alloc, &mut out, of, j, looks)?;
+    push_danger(alloc, &mut out, of, j, accesses)?;
     push_whether(&mut out, b"serializable", j.serializable, b"yes", b"no")?;
     push_verdict_reasons(alloc, &mut out, of, &j.verdict)?;
     Ok(out)

@@ -1,11 +1,9 @@
 //! The report of a history, on one sheet after another. Workers make the lines of its edges side by side, those of a chunk on each
 //! sheet. Of the edges only the links of the vulnerable ones are kept beside their lines.
-ghost use Rattle.std.specs.Prelude.{◌≡◌, ◌++◌, List, flat_map, IfOk, OnOk, ⊤, ◌+◌, ◌<◌};
-ghost use Rattle.si_audit.specs.Account.{account_of, account_with};
-ghost use Rattle.si_audit.specs.Report.{CanBePrinted};
+ghost use Rattle.std.specs.Prelude.{◌≡◌, List, flat_map, IfOk, ⊤, ◌<◌};
+ghost use Rattle.si_audit.specs.Account.{account_with};
 ghost use Rattle.si_audit.specs.Sheets.{text_of, AreLinesAndLinks};
-ghost use Rattle.sia_parts.specs.Looks.{AreLooks};
-ghost use Rattle.sia_parts.specs.Placing.{ArePlaced};
+ghost use Rattle.sia_parts.specs.Accesses.{AreAccesses};
 ghost use Rattle.si_audit.specs.Engine.{IsReportOf};
 ghost use Rattle.sia_graph.specs.Judgements.{IsJudgement};
 ghost use Rattle.si_audit.specs.Lines as lines;
@@ -18,7 +16,7 @@ use crate::report::findings::{push_back, push_front};
 use sia_events::{History, Log, NoMemory};
 use sia_graph::{Judgement, Link, Pivot, edges_of, listing_law, pivots_of_links};
 use sia_index::Index;
-use sia_parts::{Edge, Looks, Recorded};
+use sia_parts::{Accesses, Edge, Recorded};
 use std::alloc::Global;
 
 /// The lines of a judgement: those of its edges stand on these sheets, and these pivots are told.
@@ -43,7 +41,7 @@ pub(crate) fn report_of(
 
 /// How many edges a chunk mostly has: so few that no worker waits long for the last one, and that the memory of a chunk, and
 /// that of its lines, is one that an allocator gives each worker apart from the others, and gives again.
-const STRETCH: usize = 6_000;
+const STRETCH: u64 = 6_000;
 
 /// The sheet alone.
 pub(crate) fn one_sheet(alloc: Global, sheet: Vec<u8>) -> Result<Vec<Vec<u8>>, NoMemory>
@@ -72,14 +70,15 @@ pub(crate) fn sheets_of_edges<C: Crew>(
     crew: &C,
     alloc: Global,
     ix: &Index,
-    looks: Looks,
+    accesses: &Accesses,
 ) -> Result<(Vec<Vec<u8>>, Vec<Link>), NoMemory>
     requires ready { C.ready crew.now }
-    requires looks { AreLooks ix.now (λ _. ⊤) looks }
+    requires accesses { AreAccesses ix.now (λ _. ⊤) accesses.now }
     ensures { IfOk result (λ (sheets, links). AreLinesAndLinks ix.now (text_of sheets.items) links.items) }
 {
-    let edges = edges_of(alloc, ix, looks, STRETCH)?;
-    let count = edges.chunk_bounds.places.len().saturating_sub(1) as u32;
+    ix.committed();
+    let edges = edges_of(alloc, ix, accesses, STRETCH)?;
+    let count = edges.bounds.len().saturating_sub(1) as u32;
     let job = Printing {
         alloc,
         edges: &edges,
@@ -98,12 +97,12 @@ pub(crate) fn sheets_of<C: Crew>(
     log: Log,
     index: &Index,
     j: &Judgement,
-    looks: Looks,
+    accesses: &Accesses,
     o: &Options,
 ) -> Result<Vec<Vec<u8>>, NoMemory>
     requires ready { C.ready crew.now }
     requires index { index.now ≡ log }
-    requires looks { AreLooks index.now (λ _. ⊤) looks × ArePlaced looks }
+    requires accesses { AreAccesses index.now (λ _. ⊤) accesses.now }
     requires judgement { IsJudgement log j.now }
     ensures { IfOk result (λ sheets. IsReportOf o.now.form log (text_of sheets.items)) }
 {
@@ -112,7 +111,7 @@ pub(crate) fn sheets_of<C: Crew>(
     match o.form() {
         Form::Full => {
             drop(log);
-            let (sheets, links) = sheets_of_edges(crew, alloc, index, looks)?;
+            let (sheets, links) = sheets_of_edges(crew, alloc, index, accesses)?;
             let pivots = pivots_of_links(alloc, index, links)?;
             report_of(alloc, j, sheets, &pivots)
         }
@@ -123,7 +122,7 @@ pub(crate) fn sheets_of<C: Crew>(
                 history: &history,
                 index,
             };
-            let sheet = explained(alloc, &of, j, &looks)?;
+            let sheet = explained(alloc, &of, j, accesses)?;
             one_sheet(alloc, sheet)
         }
     }

@@ -36,7 +36,7 @@ not_before (x ∷ xs) (y ∷ ys) (inr a) (inl b) = let e = a.0 in omega arith
 not_before (x ∷ xs) (y ∷ ys) (inr a) (inr b) = not_before xs ys a.1 b.1
 
 module _ (M : ℕ → Type 0) (E : Edge → Type 0) where
-  abbrev IsReady : List ℕ → ℕ → Type 0
+  abbrev pub IsReady : List ℕ → ℕ → Type 0
   IsReady front t = M t × ¬ Stands front t × ((s : ℕ) → Leads E s t → Stands front s)
 
   -- an order that goes on from a front goes on with a ready one

@@ -57,6 +57,7 @@ pub record IsClimbing (size from to : ℕ) (old blocks : List ℕ) (low high : �
   pub starts : size ≤ low * 2 ^ height
   pub ends : high * 2 ^ height ≤ 2 * size
   pub over : (j : ℕ) → j < size → (IsUnderSome size blocks j ⊎ ((low * 2 ^ height ≤ size + j) × (size + j < high * 2 ^ height))) ↔ (IsUnderSome size old j ⊎ ((from ≤ j) × (j < to)))
+  pub keeps : (b : ℕ) → Contains old b → Contains blocks b
   pub within : (b : ℕ) → Contains blocks b → Contains old b ⊎ ((0 < b) × (b < 2 * size))
 
 pub climb_none : (size from to : ℕ) → to ≤ size → (old : List ℕ) → IsClimbing size from to old old (size + from) (size + to)
@@ -68,6 +69,7 @@ climb_none size from to h old = record {
     (λ w. elim w [ inl u ↦ inl u | inr b ↦ inr (omega arith, omega arith) ]),
     (λ w. elim w [ inl u ↦ inl u | inr b ↦ inr (omega arith, omega arith) ]),
   );
+  keeps = λ b i. i;
   within = λ b i. inl i;
 }
 
@@ -193,6 +195,7 @@ climb_more size from to old blocks low high climbing l mid new first last =
           let o = over_higher size j is_key low high e climbing.starts climbing.ends l blocks mid new first last in
           let p = climbing.over j is_key in
           ((λ w. p.0 (o.0 w)), (λ w. o.1 (p.1 w)));
+      keeps = λ b i. (last b).1 (inl ((first b).1 (inl (climbing.keeps b i))));
       within = λ b i. elim ((last b).0 i) [
         | inl m ↦ elim ((first b).0 m) [
           | inl o ↦ climbing.within b o

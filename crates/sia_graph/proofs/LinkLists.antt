@@ -6,7 +6,7 @@ use Rattle.std.specs.Ordering.{ordering_then, nat_cmp}
 use Rattle.std.specs.declared.cmp.Ordering.{Ordering}
 use Rattle.std.specs.declared.cmp.Ordering.TheVariants.{Less}
 use Rattle.std.proofs.lemmas.Bool.{and_parts, eqb-true, ne_eqb}
-use Rattle.std.proofs.lemmas.List.{take_more, map-append, get_or-map, length-map, length-append, get_or-append-add, get_or_append_left}
+use Rattle.std.proofs.lemmas.List.{take_more, get_or-map, length-map, length-append, get_or-append-add, get_or_append_left}
 use Rattle.std.proofs.lemmas.List.Elements.{All-contains, Contains-append_left, Contains-append_right, Contains-append_cases}
 use Rattle.sia_events.specs.Lists.{Precedes, ListsAscending}
 use Rattle.sia_graph.specs.declared.pivot.Link.{Link}
@@ -195,37 +195,6 @@ module _ (R : ℕ → ℕ → Type 0) where
     next_same other is =
         subst (λ xs. AreEnds R xs now) (sym (take_more edges n d within))
         (subst (AreEnds R (take n edges ++ get_or edges n d ∷ [])) (sym is) (ends_same (take n edges) links are (get_or edges n d) other))
-
-  -- the same of edges that are made of the first elements of a list
-  module _ {A : Type 0} (edge : A → Edge) (xs : List A) (n : ℕ) (d : A) (within : n < length xs) (links now : List Link) (are : AreEnds R (map edge (take n xs)) links) where
-    abbrev next : Edge
-    next = edge (get_or xs n d)
-
-    one_further : map edge (take (n + 1) xs) ≡ map edge (take n xs) ++ next ∷ []
-    one_further = ap (map edge) (take_more xs n d within) ∙ map-append edge (take n xs) (get_or xs n d ∷ [])
-
-    pub mapped_more : (next.kind ≡ Rw) × R next.src next.dst → now ≡ links ++ ends_of next ∷ [] → AreEnds R (map edge (take (n + 1) xs)) now
-    mapped_more has is =
-        subst (λ edges. AreEnds R edges now) (sym one_further)
-        (subst (AreEnds R (map edge (take n xs) ++ next ∷ [])) (sym is) (ends_more (map edge (take n xs)) links are next has))
-
-    pub mapped_same : ¬ ((next.kind ≡ Rw) × R next.src next.dst) → now ≡ links → AreEnds R (map edge (take (n + 1) xs)) now
-    mapped_same other is =
-        subst (λ edges. AreEnds R edges now) (sym one_further)
-        (subst (AreEnds R (map edge (take n xs) ++ next ∷ [])) (sym is) (ends_same (map edge (take n xs)) links are next other))
-
-  -- the ends of some edges, and of others behind them
-  pub ends_joined : (edges more : List Edge) (links others : List Link) → AreEnds R edges links → AreEnds R more others → AreEnds R (edges ++ more) (links ++ others)
-  ends_joined edges more links others are too l = (
-    (λ c. elim (Contains-append_cases links others l c) [
-      | inl a ↦ let w = (are l).0 a in ((w.0.0, Contains-append_left edges more w.0.0 w.0.1, w.0.2, w.0.3, w.0.4), w.1)
-      | inr b ↦ let w = (too l).0 b in ((w.0.0, Contains-append_right edges more w.0.0 w.0.1, w.0.2, w.0.3, w.0.4), w.1)
-    ]),
-    (λ ((e, c, rw_kind, src, dst), has). elim (Contains-append_cases edges more e c) [
-      | inl a ↦ Contains-append_left links others l ((are l).1 ((e, a, rw_kind, src, dst), has))
-      | inr b ↦ Contains-append_right links others l ((too l).1 ((e, b, rw_kind, src, dst), has))
-    ]),
-  )
 
   -- links put in order
   pub links_in_order : (links found : List Link) → ((l : Link) → Contains links l ↔ R l.at l.other) → IsStrictlySortedBy by_link found

@@ -6,7 +6,7 @@ use Rattle.std.specs.BTreeMap.{is_at}
 use Rattle.std.specs.BTreeSet.{BTreeSet, IsLowerBound, Updates}
 use Rattle.std.specs.Ordering.{nat_cmp}
 use Rattle.std.proofs.lemmas.Bool.Decides.{nat_tests}
-use Rattle.sia_graph.specs.Places.{HasReady}
+use Rattle.sia_graph.specs.UnderWay.{HasReady}
 
 module _ (old new : BTreeSet ℕ) (place : ℕ) where
   -- one that is taken out

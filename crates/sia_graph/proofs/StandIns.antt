@@ -33,38 +33,38 @@ pub settles_edges : (h : List Event) (Step : ℕ → ℕ → Type 0) → HaveSam
 settles_edges h Step same = settles_alike (IsCommitted h) (IsEdge h) Step (edge_into h) same
 
 -- nodes stand for members as in the law, and the edges lead to members
-pub record StandFor (M : ℕ → Type 0) (E : Edge → Type 0) (floor : ℕ) (ids : List ℕ) (edges : List Edge) (name : ℕ → ℕ) : Type 0 where
-  pub blocks : HasBlocks floor (Contains ids) (Leads (Contains edges))
+pub record StandFor (M : ℕ → Type 0) (E : Edge → Type 0) (floor : ℕ) (ids : List ℕ) (HasEntry : Edge → Type 0) (name : ℕ → ℕ) : Type 0 where
+  pub blocks : HasBlocks floor (Contains ids) (Leads HasEntry)
   pub ascend : NamesAscend (IsMemberOf floor (Contains ids)) name
   pub named : (t : ℕ) → M t ↔ IsNameOf (IsMemberOf floor (Contains ids)) name t
-  pub reach : HaveSameClosure (Leads E) (LeadsByName name (LeadsThrough floor (Leads (Contains edges))))
+  pub reach : HaveSameClosure (Leads E) (LeadsByName name (LeadsThrough floor (Leads HasEntry)))
   pub into : (t u : ℕ) → Leads E t u → M u
 
-module _ (M : ℕ → Type 0) (E : Edge → Type 0) (floor : ℕ) (ids : List ℕ) (edges : List Edge) (name : ℕ → ℕ) (stand : StandFor M E floor ids edges name) where
+module _ (M : ℕ → Type 0) (E : Edge → Type 0) (floor : ℕ) (ids : List ℕ) (HasEntry : Edge → Type 0) (name : ℕ → ℕ) (stand : StandFor M E floor ids HasEntry name) where
   abbrev Member : ℕ → Type 0
   Member = IsMemberOf floor (Contains ids)
 
   abbrev Through : ℕ → ℕ → Type 0
-  Through = LeadsThrough floor (Leads (Contains edges))
+  Through = LeadsThrough floor (Leads HasEntry)
 
-  pub members : SettlesMembers floor (Contains ids) (Contains edges)
-  members = settles_members floor (Contains ids) (Contains edges) stand.blocks
+  pub members : SettlesMembers floor (Contains ids) HasEntry
+  members = settles_members floor (Contains ids) HasEntry stand.blocks
 
   alike : SettlesAlike M E (LeadsByName name Through)
   alike = settles_alike M E (LeadsByName name Through) stand.into stand.reach
 
   joins : (t u : ℕ) → Through t u → Member t × Member u
-  joins = through_joins floor (Contains ids) (Leads (Contains edges)) stand.blocks
+  joins = through_joins floor (Contains ids) (Leads HasEntry) stand.blocks
 
-  pub least : (order : List ℕ) → IsLeastOrder (Contains ids) (Contains edges) order → IsLeastOrder M E (map name (without_blocks floor order))
+  pub least : (order : List ℕ) → IsLeastOrder (Contains ids) HasEntry order → IsLeastOrder M E (map name (without_blocks floor order))
   least order l = (alike.least (map name (without_blocks floor order))).1
       (least_named name Member stand.ascend M stand.named Through joins (without_blocks floor order) (members.least order l))
 
-  pub stuck : (set : List ℕ) → IsStuckSet (Contains ids) (Contains edges) set → IsStuckSet M E (map name (without_blocks floor set))
+  pub stuck : (set : List ℕ) → IsStuckSet (Contains ids) HasEntry set → IsStuckSet M E (map name (without_blocks floor set))
   stuck set s = (alike.stuck (map name (without_blocks floor set))).1
       (stuck_named name Member stand.ascend M stand.named Through joins (without_blocks floor set) (members.stuck set s))
 
-  pub none_keeps : (set : List ℕ) → IsStuckSet (Contains ids) (Contains edges) set → (t : ℕ) → Contains set t → (order : List ℕ) → ¬ IsKeepingOrder M E order
+  pub none_keeps : (set : List ℕ) → IsStuckSet (Contains ids) HasEntry set → (t : ℕ) → Contains set t → (order : List ℕ) → ¬ IsKeepingOrder M E order
   none_keeps set s t c order =
       let u = members.any_stuck set s t c in
       let fed = stuck set s in
@@ -72,14 +72,14 @@ module _ (M : ℕ → Type 0) (E : Edge → Type 0) (floor : ℕ) (ids : List �
       (in_contains (name u.0) (map name (without_blocks floor set)) (in_map name (without_blocks floor set) u.0 (contains_in (without_blocks floor set) u.0 u.1))) order
 
 -- the committed transactions of a history are such members
-pub of_history : (h : List Event) (floor : ℕ) (ids : List ℕ) (edges : List Edge) (name : ℕ → ℕ) → StandForAll h floor ids edges name → StandFor (IsCommitted h) (IsEdge h) floor ids edges name
-of_history h floor ids edges name stand = record { blocks = stand.blocks; ascend = stand.ascend; named = stand.named; reach = stand.reach; into = edge_into h }
+pub of_history : (h : List Event) (floor : ℕ) (ids : List ℕ) (HasEntry : Edge → Type 0) (name : ℕ → ℕ) → StandForAll h floor ids HasEntry name → StandFor (IsCommitted h) (IsEdge h) floor ids HasEntry name
+of_history h floor ids HasEntry name stand = record { blocks = stand.blocks; ascend = stand.ascend; named = stand.named; reach = stand.reach; into = edge_into h }
 
 pub stand_in_holds : (h : List Event) → StandInLaw h
 stand_in_holds h floor ids edges name stand =
-    let for = of_history h floor ids edges name stand in
+    let for = of_history h floor ids (Contains edges) name stand in
     record {
-      least = least (IsCommitted h) (IsEdge h) floor ids edges name for;
-      stuck = stuck (IsCommitted h) (IsEdge h) floor ids edges name for;
-      none_keeps = none_keeps (IsCommitted h) (IsEdge h) floor ids edges name for;
+      least = least (IsCommitted h) (IsEdge h) floor ids (Contains edges) name for;
+      stuck = stuck (IsCommitted h) (IsEdge h) floor ids (Contains edges) name for;
+      none_keeps = none_keeps (IsCommitted h) (IsEdge h) floor ids (Contains edges) name for;
     }

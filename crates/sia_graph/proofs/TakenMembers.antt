@@ -1,32 +1,20 @@
 -- What is taken of the nodes is, by name and without the blocks, taken of the members that they stand for.
 use Rattle.std.proofs.Common.{◌≡◌, ℕ, ◌+◌, ◌-◌, ◌*◌, ◌<◌, ◌≤◌, List, Bool, false, length, get_or, map, ap, sym, subst, ◌∙◌, arith}
 use Rattle.std.specs.Prelude.{Contains, IsTrue}
-use Rattle.std.specs.List.{range_with_len}
-use Rattle.std.specs.List.Sorted.{IsStrictlyIncreasing}
 use Rattle.std.proofs.lemmas.List.{get_or-map, get_or_default, length-map}
-use Rattle.std.proofs.lemmas.List.FromFn.{get_or-range_with_len, length-range_with_len}
-use Rattle.sia_events.specs.declared.event.Event.{Event}
-use Rattle.sia_events.specs.Transactions.{IsCommitted}
-use Rattle.sia_parts.specs.Entries.{IsEdge}
-use Rattle.sia_parts.specs.declared.looks.Looks.{Looks}
+use Rattle.std.proofs.lemmas.List.FromFn.{length-range_with_len}
 use Rattle.sia_parts.specs.declared.finding.Edge.{Edge}
+use Rattle.sia_graph.specs.declared.order.Graph.{Graph}
 use Rattle.sia_graph.specs.declared.order.Taken.{Taken}
 use Rattle.sia_graph.specs.declared.order.Taken.TheVariants.{Whole, Rest}
 use Rattle.sia_graph.specs.Blocks.{without_blocks}
-use Rattle.sia_graph.specs.Evidence.{IsEvidenceFor}
-use Rattle.sia_graph.specs.NarrowSteps.{AreNarrowSteps, IsSizeFor, edges_of_steps, name_of}
+use Rattle.sia_graph.specs.Graphs.{IsGraphEdge}
+use Rattle.sia_graph.specs.NarrowSteps.{name_of}
 use Rattle.sia_graph.specs.Orders.{IsLeastOrder}
-use Rattle.sia_graph.specs.Places.{AreSteps}
 use Rattle.sia_graph.specs.Taken.{AreLeftNodes, AreLeftOver, AreTakenNodes, IsTaken, node_list}
 use Rattle.sia_graph.proofs.Blocks.{in_members, members_in}
-use Rattle.sia_graph.proofs.NarrowStands.{are_steps, stand}
-use Rattle.sia_graph.proofs.StandIns.{StandFor, least, members, none_keeps, of_history, stuck}
-
-pub range_is : (n i : ℕ) → i < length (range_with_len 0 n) → get_or (range_with_len 0 n) i 0 ≡ i
-range_is n i l = let m = length-range_with_len 0 n in let e = get_or-range_with_len 0 n i 0 (omega arith) in omega arith
-
-pub range_up : (n : ℕ) → IsStrictlyIncreasing (range_with_len 0 n)
-range_up n k below = let a = range_is n k (omega arith) in let b = range_is n (k + 1) below in omega arith
+use Rattle.sia_graph.proofs.Ranges.{range_is}
+use Rattle.sia_graph.proofs.StandIns.{StandFor, least, members, none_keeps, stuck}
 
 module _ (f : ℕ → ℕ) (xs : List ℕ) where
   to_map : (a : ℕ) → Contains xs a → Contains (map f xs) (f a)
@@ -38,7 +26,7 @@ module _ (f : ℕ → ℕ) (xs : List ℕ) where
       let a = get_or xs c.0 0 in
       (a, (c.0, inside, get_or_default xs c.0 a 0 inside), sym (get_or-map f xs c.0 0 t inside) ∙ c.2)
 
-module _ (M : ℕ → Type 0) (E : Edge → Type 0) (size : ℕ) (txns steps : List ℕ) (stands : StandFor M E (2 * size) (node_list size txns) (edges_of_steps steps) (name_of size txns)) where
+module _ (M : ℕ → Type 0) (E : Edge → Type 0) (size : ℕ) (txns : List ℕ) (graph : Graph) (stands : StandFor M E (2 * size) (node_list size txns) (IsGraphEdge graph) (name_of size txns)) where
   abbrev ids : List ℕ
   ids = node_list size txns
 
@@ -48,13 +36,13 @@ module _ (M : ℕ → Type 0) (E : Edge → Type 0) (size : ℕ) (txns steps : L
   many : length (node_list size txns) ≡ 2 * size + length txns
   many = length-range_with_len 0 (2 * size + length txns)
 
-  left_over : (left : List Bool) → AreLeftNodes size txns steps left → AreLeftOver M E txns left
+  left_over : (left : List Bool) → AreLeftNodes size txns graph left → AreLeftOver M E txns left
   left_over left w = record {
     long = w.long;
     some = some_left;
-    none_keeps = none_keeps M E (2 * size) ids (edges_of_steps steps) name stands w.set w.is_stuck w.some.0 w.some.1;
+    none_keeps = none_keeps M E (2 * size) ids (IsGraphEdge graph) name stands w.set w.is_stuck w.some.0 w.some.1;
     stuck = map name (without_blocks (2 * size) w.set);
-    is_stuck = stuck M E (2 * size) ids (edges_of_steps steps) name stands w.set w.is_stuck;
+    is_stuck = stuck M E (2 * size) ids (IsGraphEdge graph) name stands w.set w.is_stuck;
     each = λ t. (
       (λ c.
           let a = from_map name (without_blocks (2 * size) w.set) t c in
@@ -85,22 +73,11 @@ module _ (M : ℕ → Type 0) (E : Edge → Type 0) (size : ℕ) (txns steps : L
 
       some_left : (i : ℕ) × (i < length left) × IsTrue (get_or left i false)
       some_left =
-          let u = (members M E (2 * size) ids (edges_of_steps steps) name stands).any_stuck w.set w.is_stuck w.some.0 w.some.1 in
+          let u = (members M E (2 * size) ids (IsGraphEdge graph) name stands).any_stuck w.set w.is_stuck w.some.0 w.some.1 in
           let m = members_in (2 * size) w.set u.0 u.1 in
           let i = of_node u.0 m.0 m.1 in
           (i.0, (let l = i.1 in let e = w.long in omega arith), i.3)
 
-  pub taken_members : (taken : Taken) → AreTakenNodes size txns steps taken → IsTaken M E txns taken
-  taken_members (Whole order) w = subst (λ (l : List ℕ). IsLeastOrder M E l) (sym w.2) (least M E (2 * size) ids (edges_of_steps steps) name stands w.0 w.1)
+  pub taken_members : (taken : Taken) → AreTakenNodes size txns graph taken → IsTaken M E txns taken
+  taken_members (Whole order) w = subst (λ (l : List ℕ). IsLeastOrder M E l) (sym w.2) (least M E (2 * size) ids (IsGraphEdge graph) name stands w.0 w.1)
   taken_members (Rest left) w = left_over left.items w
-
-module _ (h : List Event) (txns keys : List ℕ) (looks : Looks) (is : IsEvidenceFor h txns keys looks) (size : ℕ) (sized : IsSizeFor size keys looks.absences.items)
-    (steps : List ℕ) (narrow : AreNarrowSteps size looks.writers.items looks.readers.items looks.absences.items steps) where
-  pub nodes_are_steps : AreSteps (node_list size txns) steps
-  nodes_are_steps =
-      are_steps h txns keys looks is size sized steps narrow (node_list size txns) (length-range_with_len 0 (2 * size + length txns)) (range_is (2 * size + length txns)) (range_up (2 * size + length txns))
-
-  pub nodes_stand : StandFor (IsCommitted h) (IsEdge h) (2 * size) (node_list size txns) (edges_of_steps steps) (name_of size txns)
-  nodes_stand =
-      of_history h (2 * size) (node_list size txns) (edges_of_steps steps) (name_of size txns)
-      (stand h txns keys looks is size sized steps narrow (node_list size txns) (length-range_with_len 0 (2 * size + length txns)) (range_is (2 * size + length txns)))

@@ -6,7 +6,7 @@ use Rattle.std.proofs.lemmas.List.{get_or-set_same, get_or-set_other, length-set
 use Rattle.std.proofs.lemmas.List.Sums.{sum_by-set}
 use Rattle.std.proofs.lemmas.Option.{same_Some, slice_get_within, slice_get-get_or, get_or_from_slice_get}
 use Rattle.sia_graph.specs.Walks.{back, StaysWithin}
-use Rattle.sia_graph.proofs.Waiting.{count_first}
+use Rattle.sia_graph.proofs.Counted.{count_first}
 
 module _ (previous : List ℕ) where
   pub back_more : (m n i : ℕ) → back previous (m + n) i ≡ back previous n (back previous m i)

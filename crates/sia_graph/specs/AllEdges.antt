@@ -1,14 +1,26 @@
--- All edges of a history as fans.
-use Rattle.std.specs.Prelude.{◌≤◌, length, ⊤}
-use Rattle.sia_parts.specs.EdgeNumbers.{AreEdgeTables, StandForEdges}
-use Rattle.sia_parts.specs.Gathering.{AreChunkBounds, CanSpread, IsNumberIn}
+-- All edges of a history, in chunks of their sources.
+use Rattle.std.specs.Prelude.{◌≡◌, ℕ, ◌<◌, ◌≤◌, List, ◌↔◌, Contains, None, length}
+use Rattle.sia_events.specs.declared.event.Event.{Event}
+use Rattle.sia_events.specs.DangerousStructures.{IsVulnerable}
+use Rattle.sia_events.specs.Lists.{ListsAscending}
+use Rattle.sia_events.specs.Transactions.{IsCommitted}
+use Rattle.sia_index.specs.Numbers.{IsCommittedAt}
+use Rattle.sia_parts.specs.Chunks.{AreChunkBounds}
+use Rattle.sia_parts.specs.EdgeRows.{CanTell}
 use Rattle.sia_graph.specs.declared.edges.AllEdges.{AllEdges}
+use Rattle.sia_graph.specs.declared.pivot.Link.{Link}
 
--- the fans have all edges of the index's history, by its committed transactions and its written keys;
--- the chunks that they are cut into have each source once, and there are at most 1,024
-pub record AreAllEdges (e : AllEdges) : Type 0 where
-  pub tables : AreEdgeTables e.index.now e.txns.now e.keys.now
-  pub stand : StandForEdges e.index.now e.txns.now e.keys.now (λ _. ⊤) (IsNumberIn e.fans)
-  pub spread : CanSpread e.fans
-  pub bounds : AreChunkBounds (length e.txns.now) e.chunk_bounds.places.items
-  pub few : length e.chunk_bounds.places.items ≤ 1025
+-- they can be told at all keys, and each source stands in one chunk; there are at most 1,024
+pub record AreAllEdges (all : AllEdges) : Type 0 where
+  pub tell : CanTell all.edges
+  pub within : all.edges.within ≡ None
+  pub bounds : (txns : List ℕ) → ListsAscending (IsCommitted all.edges.index.now) txns → AreChunkBounds (length txns) all.bounds.items
+  pub few : length all.bounds.items ≤ 1025
+
+-- the link is that of a vulnerable edge from number i
+abbrev pub IsLinkFrom : List Event → ℕ → Link → Type 0
+IsLinkFrom h i l = IsVulnerable h l.at l.other × IsCommittedAt h i l.at
+
+-- the links of the vulnerable edges whose sources have numbers from the one to before the other
+abbrev pub AreLinksBetween : List Event → ℕ → ℕ → List Link → Type 0
+AreLinksBetween h from to links = (l : Link) → Contains links l ↔ ((i : ℕ) × (from ≤ i) × (i < to) × IsLinkFrom h i l)

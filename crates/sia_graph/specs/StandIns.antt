@@ -23,11 +23,11 @@ abbrev pub LeadsByName : (ℕ → ℕ) → (ℕ → ℕ → Type 0) → ℕ → 
 LeadsByName name Step t u = (a : ℕ) × (b : ℕ) × (name a ≡ t) × (name b ≡ u) × Step a b
 
 -- the nodes that are no blocks stand for the committed transactions, in their order, and reach what the edges reach
-pub record StandForAll (h : List Event) (floor : ℕ) (ids : List ℕ) (edges : List Edge) (name : ℕ → ℕ) : Type 0 where
-  pub blocks : HasBlocks floor (Contains ids) (Leads (Contains edges))
+pub record StandForAll (h : List Event) (floor : ℕ) (ids : List ℕ) (HasEntry : Edge → Type 0) (name : ℕ → ℕ) : Type 0 where
+  pub blocks : HasBlocks floor (Contains ids) (Leads HasEntry)
   pub ascend : NamesAscend (IsMemberOf floor (Contains ids)) name
   pub named : (t : ℕ) → IsCommitted h t ↔ IsNameOf (IsMemberOf floor (Contains ids)) name t
-  pub reach : HaveSameClosure (Leads (IsEdge h)) (LeadsByName name (LeadsThrough floor (Leads (Contains edges))))
+  pub reach : HaveSameClosure (Leads (IsEdge h)) (LeadsByName name (LeadsThrough floor (Leads HasEntry)))
 
 -- what is settled of the nodes is, by name and without the blocks, settled of the history: the least order, the stuck set, and
 -- that no order keeps every edge
@@ -40,4 +40,4 @@ pub record SettlesHistory (h : List Event) (floor : ℕ) (ids : List ℕ) (edges
 
 -- the law of stand-ins
 abbrev pub StandInLaw : List Event → Type 0
-StandInLaw h = (floor : ℕ) (ids : List ℕ) (edges : List Edge) (name : ℕ → ℕ) → StandForAll h floor ids edges name → SettlesHistory h floor ids edges name
+StandInLaw h = (floor : ℕ) (ids : List ℕ) (edges : List Edge) (name : ℕ → ℕ) → StandForAll h floor ids (Contains edges) name → SettlesHistory h floor ids edges name

@@ -6,7 +6,9 @@ use Rattle.sia_graph.specs.declared.order.Taken.{Taken}
 use Rattle.sia_graph.specs.declared.order.Taken.TheVariants.{Whole, Rest}
 use Rattle.sia_graph.specs.Blocks.{without_blocks}
 use Rattle.sia_graph.specs.Cycles.{IsStuckSet}
-use Rattle.sia_graph.specs.NarrowSteps.{edges_of_steps, name_of}
+use Rattle.sia_graph.specs.declared.order.Graph.{Graph}
+use Rattle.sia_graph.specs.Graphs.{IsGraphEdge}
+use Rattle.sia_graph.specs.NarrowSteps.{name_of}
 use Rattle.sia_graph.specs.Orders.{IsKeepingOrder, IsLeastOrder}
 use Rattle.sia_graph.specs.Previous.{IsLeftIn}
 use Rattle.sia_graph.specs.Walks.{AreLeft}
@@ -30,14 +32,14 @@ abbrev pub node_list : ℕ → List ℕ → List ℕ
 node_list size txns = range_with_len 0 (2 * size + length txns)
 
 -- the same of the nodes, of which some may be left
-pub record AreLeftNodes (size : ℕ) (txns steps : List ℕ) (left : List Bool) : Type 0 where
+pub record AreLeftNodes (size : ℕ) (txns : List ℕ) (graph : Graph) (left : List Bool) : Type 0 where
   pub long : length left ≡ length txns
   pub set : List ℕ
-  pub is_stuck : IsStuckSet (Contains (node_list size txns)) (Contains (edges_of_steps steps)) set
+  pub is_stuck : IsStuckSet (Contains (node_list size txns)) (IsGraphEdge graph) set
   pub some : (t : ℕ) × Contains set t
   pub each : (i : ℕ) → i < length txns → IsTrue (slice_index_or left i false) ↔ Contains set (2 * size + i)
 
-abbrev pub AreTakenNodes : ℕ → List ℕ → List ℕ → Taken → Type 0
-AreTakenNodes size txns steps (Whole order) = (nodes : List ℕ) × IsLeastOrder (Contains (node_list size txns)) (Contains (edges_of_steps steps)) nodes
+abbrev pub AreTakenNodes : ℕ → List ℕ → Graph → Taken → Type 0
+AreTakenNodes size txns graph (Whole order) = (nodes : List ℕ) × IsLeastOrder (Contains (node_list size txns)) (IsGraphEdge graph) nodes
     × (order.items ≡ map (name_of size txns) (without_blocks (2 * size) nodes))
-AreTakenNodes size txns steps (Rest left) = AreLeftNodes size txns steps left.items
+AreTakenNodes size txns graph (Rest left) = AreLeftNodes size txns graph left.items

@@ -3,8 +3,7 @@ ghost use Rattle.std.specs.Prelude.{◌≡◌, ◌↔◌, [], ⊤, IfOk, IsTrue,
 ghost use Rattle.sia_events.specs.DangerousStructures.{NoFirst};
 ghost use Rattle.sia_events.specs.Isolation.{IsolationKept};
 ghost use Rattle.sia_parts.specs.Gathering.{IsGathering};
-ghost use Rattle.sia_parts.specs.Looks.{AreLooks};
-ghost use Rattle.sia_parts.specs.Placing.{ArePlaced};
+ghost use Rattle.sia_parts.specs.Accesses.{AreAccesses};
 ghost use Rattle.sia_graph.specs.Dangerous.{IsDangerous};
 ghost use Rattle.sia_graph.specs.Judgements.{IsJudgement};
 ghost use Rattle.sia_graph.specs.Verdicts.{IsOrderVerdict};
@@ -12,10 +11,10 @@ ghost use Rattle.sia_graph.specs.Verdicts.{IsOrderVerdict};
 use crate::evidence::Evidence;
 use crate::laws::{replay_law, ssi_law};
 use crate::ssi::{Dangerous, dangerous_of, passes};
-use crate::verdict::{Verdict, settle_looks};
+use crate::verdict::{Verdict, settle_accesses};
 use sia_events::{Log, NoMemory};
 use sia_index::{Counts, Index, counted};
-use sia_parts::{BadRead, BadWrite, Gathering, Looks, Unexplained};
+use sia_parts::{Accesses, BadRead, BadWrite, Gathering, Unexplained};
 use std::alloc::Global;
 
 /// All that the audit of a history found, but for its edges and its pivots.
@@ -52,22 +51,20 @@ pub fn judge(
     log: &Log,
     ix: &Index,
     found: Gathering,
-) -> Result<(Judgement, Looks), NoMemory>
+) -> Result<(Judgement, Accesses), NoMemory>
     requires index { ix.now ≡ log.now }
     requires found { IsGathering log.now found }
-    ensures exact { IfOk result (λ (j, looks). IsJudgement log.now j) }
-    ensures pass { IfOk result (λ (j, looks). IsTrue j.pass → IsTrue j.serializable × IsOrderVerdict j.verdict) }
-    ensures looks { IfOk result (λ (j, looks). AreLooks ix.now (λ _. ⊤) looks × ArePlaced looks) }
+    ensures exact { IfOk result (λ (j, accesses). IsJudgement log.now j) }
+    ensures pass { IfOk result (λ (j, accesses). IsTrue j.pass → IsTrue j.serializable × IsOrderVerdict j.verdict) }
+    ensures accesses { IfOk result (λ (j, accesses). AreAccesses ix.now (λ _. ⊤) accesses) }
 {
     log.law();
     let evidence = Evidence {
         index: ix,
-        txns: ix.committed(),
-        keys: ix.written_keys(),
-        looks: &found.looks,
+        accesses: &found.accesses,
     };
     let pass = passes(alloc, &evidence, &found.bad_reads, &found.bad_writes)?;
-    let verdict = settle_looks(alloc, &evidence)?;
+    let verdict = settle_accesses(alloc, &evidence)?;
     let counts = counted(log, ix);
     let serializable = is_serializable(&verdict, &found.unexplained);
     replay_law();
@@ -81,7 +78,7 @@ pub fn judge(
         serializable,
         verdict,
     };
-    Ok((judgement, found.looks))
+    Ok((judgement, found.accesses))
 }
 
 /// The dangerous structure that is told of the history of which this is the judgement, if isolation was kept and the test of
@@ -89,10 +86,10 @@ pub fn judge(
 pub fn danger_of(
     alloc: Global,
     ix: &Index,
-    looks: &Looks,
+    accesses: &Accesses,
     j: &Judgement,
 ) -> Result<Option<Dangerous>, NoMemory>
-    requires looks { AreLooks ix.now (λ _. ⊤) looks.now × ArePlaced looks.now }
+    requires accesses { AreAccesses ix.now (λ _. ⊤) accesses.now }
     requires judgement { IsJudgement ix.now j.now }
     ensures { IfOk result (λ found. MatchOption found (IsolationKept ix.now → NoFirst ix.now) (λ d. IsolationKept ix.now × IsDangerous ix.now d)) }
 {
@@ -102,9 +99,7 @@ pub fn danger_of(
     }
     let evidence = Evidence {
         index: ix,
-        txns: ix.committed(),
-        keys: ix.written_keys(),
-        looks,
+        accesses,
     };
     dangerous_of(alloc, &evidence)
 }

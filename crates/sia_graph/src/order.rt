@@ -1,15 +1,15 @@
-//! The least order that keeps every step, by Kahn's algorithm: always the least place that is ready is taken.
-ghost use Rattle.std.specs.Prelude.{◌≡◌, ◌≢◌, ◌↔◌, ◌⊎◌, ◌<◌, ◌≤◌, ◌+◌, ◌*◌, [], ℕ, All, Contains, IfNone, IfOk, IfSome, IsTrue, MatchOption, OnOk, false, length, map, slice_index, slice_index_or, List};
+//! The least order that keeps every step, by Kahn's algorithm: always the least node that is ready is taken.
+ghost use Rattle.std.specs.Prelude.{◌≡◌, ◌≢◌, ◌↔◌, ◌⊎◌, ◌<◌, ◌≤◌, ◌+◌, ◌*◌, [], ℕ, Bool, All, Contains, IfNone, IfOk, IfSome, MatchOption, OnOk, length, map, slice_index, slice_index_or, List};
 ghost use Rattle.std.specs.List.{range_with_len};
 ghost use Rattle.sia_graph.specs.Blocks.{without_blocks};
-ghost use Rattle.sia_graph.specs.Fronts.{AreWaiting, IsLastFront};
-ghost use Rattle.sia_graph.specs.NarrowSteps.{edges_of_steps, name_of, step_target};
-ghost use Rattle.sia_graph.specs.Places.{AreSteps, HasReady, IsFreedAt, IsReadyAt, arriving_at};
-ghost use Rattle.sia_graph.specs.Taken.{AreTakenNodes, node_list};
+ghost use Rattle.sia_graph.specs.Graphs.{IsGraph};
+ghost use Rattle.sia_graph.specs.NarrowSteps.{name_of};
+ghost use Rattle.sia_graph.specs.Taken.{AreTakenNodes};
+ghost use Rattle.sia_graph.specs.declared.order.Graph.{Graph};
+ghost use Rattle.sia_graph.specs.UnderWay.{HasReady, IsDone, IsLastFront, IsOneFewer, IsReadyAt, IsTaking, WaitsAt, none_pending, times, told};
 
-use crate::rows::{Rows, count_rows};
-use crate::steps::{BySource, ByTarget, target_of};
 use sia_events::{NoMemory, TxnId};
+use sia_index::lists::Lists;
 use std::alloc::Global;
 use std::collections::BTreeSet;
 use std::marker::Model;
@@ -40,50 +40,51 @@ impl Txns {
     }
 }
 
-/// Adds the place to those that are ready, where it stands before `end` and its count is 0.
+/// Which nodes lead to which: a node leads to its targets, and is led to from its sources. Each step is told once, at its target or
+/// at its source.
+#[derive(Drop)]
+pub struct Graph {
+    pub(crate) targets: Lists<u32>,
+    pub(crate) sources: Lists<u32>,
+}
+
+/// No number of a node, a transaction or a key.
+pub(crate) const NONE: u32 = u32::MAX;
+
+/// Nodes that are taken one after another, each once all that lead to it are done.
+///
+/// Steps that are told at their sources' lists of targets are counted. Those told at a target's list of sources are waited for: a
+/// node that nothing else holds back passes its sources, and waits at the first that isn't done.
+#[derive(Drop)]
+pub(crate) struct Taking {
+    /// What holds each node back: steps that are counted, and one more until its sources are passed.
+    counts: Vec<u32>,
+    /// How many of its sources each node passed.
+    passed: Vec<usize>,
+    /// The first of those that wait at each node, and for each that waits the next.
+    first_waiting: Vec<u32>,
+    next_waiting: Vec<u32>,
+    /// What is ready before `end`. From there on, that is told by the counts.
+    behind: BTreeSet<usize>,
+    end: usize,
+}
+
+/// Adds the place to those that are ready, where it stands before `end`.
 #[inline(always)]
-fn note_freed(
-    behind: &mut BTreeSet<usize>,
-    place: usize,
-    count: usize,
-    end: usize,
-) -> Result<(), NoMemory>
-    ensures { OnOk result ((i : ℕ) → HasReady behind.new i
-        ↔ (HasReady behind.old i ⊎ ((place ≡ i) × (place < end) × (count ≡ 0)))) }
+fn note_ready(behind: &mut BTreeSet<usize>, place: usize, end: usize) -> Result<(), NoMemory>
+    ensures { OnOk result ((i : ℕ) → HasReady behind.new i ↔ (HasReady behind.old i ⊎ ((place ≡ i) × (place < end)))) }
 {
-    if count > 0 || place >= end {
-        return Ok(());
-    }
-    behind.insert(place)?;
-    Ok(())
-}
-
-/// Takes steps that leave from the counts of their targets, and adds the places before `end` that become ready.
-#[inline(never)]
-fn release(
-    leaving: &[u64],
-    counts: &mut [usize],
-    end: usize,
-    behind: &mut BTreeSet<usize>,
-) -> Result<(), NoMemory>
-    requires within { All (λ n. step_target n < length counts.old) leaving.now }
-    requires enough { (i : ℕ) → i < length counts.old → arriving_at leaving.now i ≤ slice_index counts.old i }
-    ensures fewer { OnOk result ((i : ℕ) → i < length counts.old → slice_index counts.new i + arriving_at leaving.now i ≡ slice_index counts.old i) }
-    ensures behind { OnOk result ((i : ℕ) → HasReady behind.new i
-        ↔ (HasReady behind.old i ⊎ ((i < end) × IsFreedAt leaving.now counts.new i))) }
-{
-    for n in leaving {
-        let i = target_of(*n) as usize;
-        counts[i] -= 1;
-        note_freed(behind, i, counts[i], end)?;
+    if place < end {
+        behind.insert(place)?;
     }
     Ok(())
 }
 
-/// The first place from `end` on to which no step leads.
-fn first_free(counts: &[usize], end: usize) -> Option<usize>
+/// The first place from `end` on in whose count nothing is left.
+fn first_free(counts: &[u32], end: usize) -> Option<usize>
     ensures { MatchOption result ((i : ℕ) → end ≤ i → i < length counts.now → 0 < slice_index counts.now i)
-        (λ p. (end ≤ p) × (p < length counts.now) × (slice_index counts.now p ≡ 0) × ((i : ℕ) → end ≤ i → i < p → 0 < slice_index counts.now i)) }
+        (λ p. (end ≤ p) × (p < length counts.now) × (slice_index counts.now p ≡ 0)
+        × ((i : ℕ) → end ≤ i → i < p → 0 < slice_index counts.now i)) }
 {
     for i in end..counts.len() {
         if counts[i] == 0 {
@@ -96,7 +97,7 @@ fn first_free(counts: &[usize], end: usize) -> Option<usize>
 /// Takes the least ready place: the least of those behind `end`, or the first from there on, which is then passed.
 ///
 /// Each place is looked at once from `end` on, so only those that become ready behind it cost a search.
-fn next_ready(behind: &mut BTreeSet<usize>, counts: &[usize], end: &mut usize) -> Option<usize>
+fn next_ready(behind: &mut BTreeSet<usize>, counts: &[u32], end: &mut usize) -> Option<usize>
     requires behind { (i : ℕ) → HasReady behind.old i → i < end.old }
     requires within { end.old ≤ length counts.now }
     ensures empty { IfNone result ((i : ℕ) → IsReadyAt (HasReady behind.old) end.old counts.now i → ⊥) }
@@ -115,27 +116,157 @@ fn next_ready(behind: &mut BTreeSet<usize>, counts: &[usize], end: &mut usize) -
     Some(place)
 }
 
-/// Takes the least place to which no step leads from one that is left, again and again, while there is one. Leaves in
-/// `counts` how many steps lead to each place from those that are left.
-fn take_steps(
-    alloc: Global,
-    places: usize,
-    steps: &[u64],
-    counts: &mut [usize],
-) -> Result<Vec<usize>, NoMemory>
-    requires steps { AreSteps (range_with_len 0 places) steps.now }
-    requires counted { AreWaiting [] (range_with_len 0 places) (edges_of_steps steps.now) counts.old }
-    ensures { IfOk result (λ order. IsLastFront (range_with_len 0 places) (edges_of_steps steps.now) counts.new order.items) }
+/// The place of the first of these nodes, from a place on, that isn't done.
+fn first_left(nodes: &[u32], done: &[bool], from: usize) -> Option<usize>
+    requires { All (λ s. s < length done.now) nodes.now }
+    ensures { MatchOption result ((i : ℕ) → from ≤ i → i < length nodes.now → IsDone done.now (slice_index nodes.now i))
+        (λ p. (from ≤ p) × (p < length nodes.now) × (¬ IsDone done.now (slice_index nodes.now p))
+        × ((i : ℕ) → from ≤ i → i < p → IsDone done.now (slice_index nodes.now i))) }
 {
-    let mut behind = BTreeSet::new(alloc);
-    let mut end = 0usize;
-    let rows = Rows::of::<BySource>(alloc, places, steps)?;
-    let mut order = Vec::with_capacity(alloc, places)?;
-    while let Some(place) = next_ready(&mut behind, counts, &mut end) {
-        order.push(place)?;
-        release(rows.at(place), counts, end, &mut behind)?;
+    for i in from..nodes.len() {
+        if !done[nodes[i] as usize] {
+            return Some(i);
+        }
     }
-    Ok(order)
+    None
+}
+
+/// For each node how many steps to it are told at their sources, and two.
+fn counts_of(alloc: Global, graph: &Graph, nodes: usize) -> Result<Vec<u32>, NoMemory>
+    requires { IsGraph nodes graph.now }
+    ensures { IfOk result (λ counts. (length counts.items ≡ nodes)
+        × ((t : ℕ) → t < nodes → slice_index counts.items t ≡ told graph.now.targets [] t + 2)) }
+{
+    let mut counts = vec![in alloc; 2u32; nodes]?;
+    for node in 0..nodes {
+        for target in graph.targets.at(node) {
+            let target = *target as usize;
+            counts[target] = counts[target].checked_add(1).ok_or(NoMemory)?;
+        }
+    }
+    Ok(counts)
+}
+
+impl Taking {
+    /// Nothing is taken, and each node is to be released once.
+    fn of(alloc: Global, graph: &Graph, nodes: usize) -> Result<Taking, NoMemory>
+        requires { IsGraph nodes graph.now }
+        ensures long { IfOk result (λ taking. length taking.counts.items ≡ nodes) }
+        ensures is { IfOk result (λ taking. (done : List Bool) → length done ≡ nodes
+            → ((s : ℕ) → ¬ IsDone done s) → IsTaking graph.now done taking (λ t. 1) nodes) }
+    {
+        let counts = counts_of(alloc, graph, nodes)?;
+        let passed = vec![in alloc; 0usize; nodes]?;
+        let first_waiting = vec![in alloc; NONE; nodes]?;
+        let next_waiting = vec![in alloc; NONE; nodes]?;
+        Ok(Taking {
+            counts,
+            passed,
+            first_waiting,
+            next_waiting,
+            behind: BTreeSet::new(alloc),
+            end: 0,
+        })
+    }
+
+    /// One less holds the node back. Once its sources alone do it passes those that are done, and waits or is ready.
+    fn release(&mut self, graph: &Graph, done: &[bool], node: usize) -> Result<(), NoMemory>
+        requires graph { IsGraph (length self.old.counts.items) graph.now }
+        requires node { (node < length self.old.counts.items) × (length self.old.counts.items < 4294967295) }
+        requires is { (pending : ℕ → ℕ) × (waking : ℕ) × IsTaking graph.now done.now self.old pending waking
+            × (0 < pending node) }
+        ensures is { OnOk result ((pending less : ℕ → ℕ) (waking : ℕ)
+            → IsTaking graph.now done.now self.old pending waking → IsOneFewer node pending less
+            → IsTaking graph.now done.now self.new less waking) }
+        ensures long { OnOk result (length self.new.counts.items ≡ length self.old.counts.items) }
+        ensures others { OnOk result ((t s : ℕ)
+            → WaitsAt graph.now.sources self.new.counts.items self.new.passed.items t s → IsDone done.now s
+            → WaitsAt graph.now.sources self.old.counts.items self.old.passed.items t s × (t ≢ node)) }
+    {
+        self.counts[node] -= 1;
+        if self.counts[node] > 1 {
+            return Ok(());
+        }
+        let sources = graph.sources.at(node);
+        match first_left(sources, done, self.passed[node]) {
+            Some(place) => {
+                self.passed[node] = place;
+                let at = sources[place] as usize;
+                self.next_waiting[node] = self.first_waiting[at];
+                self.first_waiting[at] = node as u32;
+                Ok(())
+            }
+            None => {
+                self.counts[node] = 0;
+                note_ready(&mut self.behind, node, self.end)
+            }
+        }
+    }
+
+    /// The first of those that wait at a node waits there no more, but is to be released.
+    fn wake(&mut self, at: usize) -> Option<usize>
+        requires at { at < length self.old.counts.items }
+        requires is { (g : Graph) × (done : List Bool) × (pending : ℕ → ℕ) × IsTaking g done self.old pending at }
+        ensures long { length self.new.counts.items ≡ length self.old.counts.items }
+        ensures none { IfNone result ((g : Graph) (done : List Bool) (pending : ℕ → ℕ) → IsTaking g done self.old pending at
+            → IsTaking g done self.new pending (length self.new.counts.items)) }
+        ensures one { IfSome result (λ t. (g : Graph) (done : List Bool) (pending more : ℕ → ℕ)
+            → IsTaking g done self.old pending at → IsOneFewer t more pending → IsTaking g done self.new more at) }
+        ensures waited { IfSome result (λ t. (g : Graph) (done : List Bool) (pending : ℕ → ℕ)
+            → IsTaking g done self.old pending at → WaitsAt g.sources self.old.counts.items self.old.passed.items t at) }
+        ensures others { IfSome result (λ t. (g : Graph) (done : List Bool) (pending : ℕ → ℕ) (u s : ℕ)
+            → IsTaking g done self.old pending at → WaitsAt g.sources self.new.counts.items self.new.passed.items u s
+            → WaitsAt g.sources self.old.counts.items self.old.passed.items u s × (u ≢ t)) }
+    {
+        let node = self.first_waiting[at];
+        if node == NONE {
+            return None;
+        }
+        let node = node as usize;
+        self.first_waiting[at] = self.next_waiting[node];
+        self.counts[node] += 1;
+        Some(node)
+    }
+
+    /// The node is done: those that wait at it are looked at, and its targets are released.
+    fn finish(&mut self, graph: &Graph, done: &[bool], node: usize) -> Result<(), NoMemory>
+        requires graph { IsGraph (length self.old.counts.items) graph.now }
+        requires node { (node < length self.old.counts.items) × (length self.old.counts.items < 4294967295) }
+        requires done { IsDone done.now node }
+        requires is { IsTaking graph.now done.now self.old (λ t. times t (slice_index_or graph.now.targets node [])) node }
+        ensures is { OnOk result (IsTaking graph.now done.now self.new none_pending (length self.new.counts.items)) }
+        ensures long { OnOk result (length self.new.counts.items ≡ length self.old.counts.items) }
+    {
+        while let Some(waiting) = self.wake(node) {
+            self.release(graph, done, waiting)?;
+        }
+        for target in graph.targets.at(node) {
+            self.release(graph, done, *target as usize)?;
+        }
+        Ok(())
+    }
+}
+
+/// Takes the least node to which no step leads from one that is left, again and again, while there is one. Beside those that were
+/// taken stands for each node whether it was.
+fn take_all(alloc: Global, graph: &Graph, nodes: usize) -> Result<(Vec<usize>, Vec<bool>), NoMemory>
+    requires few { nodes < 4294967295 }
+    requires graph { IsGraph nodes graph.now }
+    ensures long { IfOk result (λ (order, done). length done.items ≡ nodes) }
+    ensures last { IfOk result (λ (order, done). IsLastFront (Contains (range_with_len 0 nodes)) graph.now done.items order.items) }
+{
+    let mut taking = Taking::of(alloc, graph, nodes)?;
+    let mut done = vec![in alloc; false; nodes]?;
+    for node in 0..nodes {
+        taking.release(graph, &done, node)?;
+    }
+    let mut order = Vec::with_capacity(alloc, nodes)?;
+    while let Some(node) = next_ready(&mut taking.behind, &taking.counts, &mut taking.end) {
+        order.push(node)?;
+        done[node] = true;
+        taking.finish(graph, &done, node)?;
+    }
+    Ok((order, done))
 }
 
 /// How taking one transaction after another ends.
@@ -154,7 +285,6 @@ fn names_of(
     txns: &[TxnId],
     nodes: &[usize],
 ) -> Result<Vec<TxnId>, NoMemory>
-    requires few { size ≤ 1048576 }
     requires within { All (λ a. a < 2 * size + length txns.now) nodes.now }
     ensures { IfOk result (λ names. names.items ≡ map (name_of size txns.now) (without_blocks (2 * size) nodes.now)) }
 {
@@ -168,38 +298,23 @@ fn names_of(
     Ok(names)
 }
 
-/// Whether each of the last so many counts isn't 0.
-fn left_of(
-    alloc: Global,
-    floor: usize,
-    count: usize,
-    counts: &[usize],
-) -> Result<Vec<bool>, NoMemory>
-    requires { length counts.now ≡ floor + count }
-    ensures long { IfOk result (λ left. length left.items ≡ count) }
-    ensures each { IfOk result (λ left. (i : ℕ) → i < count → IsTrue (slice_index_or left.items i false) ↔ (0 < slice_index counts.now (floor + i))) }
-{
-    let members = &counts[floor..];
-    Ok(members.iter().map(|count| *count > 0).collect(alloc)?)
-}
-
+/// The least order of the transactions that keeps every step of a graph of blocks over `size` keys and transactions, or those that
+/// are left where none does.
 pub(crate) fn take_nodes(
     alloc: Global,
     size: u32,
     txns: &[TxnId],
-    steps: &[u64],
+    graph: &Graph,
 ) -> Result<Taken, NoMemory>
-    requires few { size ≤ 1048576 }
-    requires steps { AreSteps (node_list size txns.now) steps.now }
-    ensures { IfOk result (AreTakenNodes size txns.now steps.now) }
+    requires few { 2 * size + length txns.now < 4294967295 }
+    requires graph { IsGraph (2 * size + length txns.now) graph.now }
+    ensures { IfOk result (AreTakenNodes size txns.now graph.now) }
 {
     let floor = 2 * size as usize;
-    let places = floor + txns.len();
-    let mut counted = count_rows::<u64, ByTarget>(alloc, places, steps)?;
-    let counts = counted.as_mut_slice();
-    let order = take_steps(alloc, places, steps, counts)?;
-    match counts.iter().position(|count| *count > 0) {
-        None => Ok(Taken::Whole(names_of(alloc, size, txns, &order)?)),
-        Some(_) => Ok(Taken::Rest(left_of(alloc, floor, txns.len(), counts)?)),
+    let (order, done) = take_all(alloc, graph, floor + txns.len())?;
+    if done.iter().all(|is_done| *is_done) {
+        return Ok(Taken::Whole(names_of(alloc, size, txns, &order)?));
     }
+    let members = &done[floor..];
+    Ok(Taken::Rest(members.iter().map(|is_done| !*is_done).collect(alloc)?))
 }

@@ -1,14 +1,17 @@
 //! The pivots among the transactions.
-ghost use Rattle.std.specs.Prelude.{◌≡◌, ◌↔◌, ◌⊎◌, ◌<◌, ◌≤◌, ℕ, All, AllPairs, Contains, IfOk, IsTrue, List, map, slice_index};
+ghost use Rattle.std.specs.Prelude.{◌≡◌, ◌↔◌, ◌⊎◌, ◌<◌, ◌≤◌, ℕ, ⊤, All, AllPairs, Contains, IfOk, IsTrue, List, OnOk, map};
 ghost use Rattle.sia_events.specs.DangerousStructures.{IsFirst, IsVulnerable};
 ghost use Rattle.sia_events.specs.Lists.{ListsAscending, Precedes};
 ghost use Rattle.sia_events.specs.Transactions.{CommitsAt, IsCommitted, Overlap};
 ghost use Rattle.sia_parts.specs.declared.finding.Kind.TheVariants.{Rw};
 ghost use Rattle.sia_parts.specs.Findings.{AreFindings};
+ghost use Rattle.sia_parts.specs.EdgeRows.{AreEdgesFrom};
+ghost use Rattle.sia_parts.specs.Sights.{Adds};
 ghost use Rattle.sia_index.specs.Lifetimes.{AreLifetimes};
-ghost use Rattle.sia_parts.specs.Packing.{IsPacked, kind_at, kind_digit, source_number, target_number, unpacked};
+ghost use Rattle.sia_index.specs.Numbers.{IsCommittedAt};
+ghost use Rattle.sia_graph.specs.AllEdges.{IsLinkFrom};
 ghost use Rattle.sia_graph.specs.declared.pivot.Link.{Link};
-ghost use Rattle.sia_graph.specs.Links.{AreEnds, AreLinked, AreLinksAt, AreVulnerable, ListsLinks, is_rw, link_rank};
+ghost use Rattle.sia_graph.specs.Links.{AreEnds, AreLinksAt, AreVulnerable, ListsLinks, is_rw, link_rank};
 ghost use Rattle.sia_graph.specs.Pivots.{ArePivots, ListsNeighbours};
 
 use crate::order::Txns;
@@ -16,7 +19,7 @@ use sia_events::{NoMemory, TxnId};
 use sia_index::keyed::{By, between};
 use sia_index::ordering::put_in_order;
 use sia_index::{Index, Lifetime, overlap};
-use sia_parts::{Edge, EdgeNumber, Findings, Kind, kind_in, lifetime_of, source_of, target_of};
+use sia_parts::{Edge, EdgeTo, Findings, Kind, lifetime_of};
 use std::alloc::{AllocError, Global};
 
 /// The transaction in the middle of a dangerous structure, with all the transactions at its other ends.
@@ -55,21 +58,14 @@ fn leads_rw(kind: Kind) -> bool
     matches!(kind, Kind::Rw)
 }
 
-/// Whether an edge is of the kind rw, and its ends overlap.
-fn is_vulnerable(ix: &Index, e: &Edge) -> bool
-    ensures { IsTrue result ↔ ((e.now.kind ≡ Rw) × Overlap ix.now e.now.src e.now.dst) }
-{
-    leads_rw(e.kind) && ix.overlap(e.src, e.dst)
-}
-
-/// The ends of each such edge, as a link at its source.
+/// The ends of each edge of the kind rw whose ends overlap, as a link at its source.
 #[inline(never)]
-fn vulnerable(alloc: Global, edges: &[Edge], ix: &Index) -> Result<Vec<Link>, AllocError>
+pub(crate) fn vulnerable(alloc: Global, edges: &[Edge], ix: &Index) -> Result<Vec<Link>, AllocError>
     ensures { IfOk result (λ links. AreEnds (Overlap ix.now) edges.now links.items) }
 {
     let mut links = Vec::new(alloc);
     for e in edges {
-        if is_vulnerable(ix, e) {
+        if leads_rw(e.kind) && ix.overlap(e.src, e.dst) {
             links.push(Link {
                 at: e.src,
                 other: e.dst,
@@ -77,25 +73,6 @@ fn vulnerable(alloc: Global, edges: &[Edge], ix: &Index) -> Result<Vec<Link>, Al
         }
     }
     Ok(links)
-}
-
-/// The same link at its other end.
-fn turn(link: Link) -> Link
-    ensures { result ≡ record { at = link.other; other = link.at } }
-{
-    Link {
-        at: link.other,
-        other: link.at,
-    }
-}
-
-/// The same links at their other ends, in order.
-fn turned(alloc: Global, links: &[Link]) -> Result<Vec<Link>, AllocError>
-    ensures { IfOk result (λ turned. ListsLinks (λ t u. AreLinked links.now u t) turned.items) }
-{
-    let mut turned = links.iter().map(|link| turn(*link)).collect(alloc)?;
-    put_in_order(&mut turned);
-    Ok(turned)
 }
 
 fn links_at(links: &[Link], txn: TxnId) -> &[Link]
@@ -111,40 +88,52 @@ fn others(alloc: Global, links: &[Link]) -> Result<Vec<TxnId>, AllocError>
     links.iter().map(|link| link.other).collect(alloc)
 }
 
-/// Whether the edge is of the kind rw, and its ends overlap.
-#[inline(always)]
-fn is_vulnerable_number(ix: &Index, txns: &[TxnId], lifetimes: &[Lifetime], n: EdgeNumber) -> bool
-    requires lifetimes { AreLifetimes ix.now txns.now lifetimes.now }
-    requires packed { (keys : List ℕ) × IsPacked txns.now keys n }
-    ensures { IsTrue result ↔ ((kind_at (kind_digit n) ≡ Rw) × Overlap ix.now (slice_index txns.now (source_number n)) (slice_index txns.now (target_number n))) }
-{
-    ix.law();
-    leads_rw(kind_in(n)) && overlap(lifetimes[source_of(n)], lifetimes[target_of(n)])
-}
-
-/// The rw edges between overlapping transactions, of edges that are kept as numbers: each pair once, as a link at its source.
-pub(crate) fn vulnerable_in(
-    alloc: Global,
+/// Adds the links of the vulnerable edges among those from a source.
+pub(crate) fn put_vulnerable(
     ix: &Index,
-    txns: &[TxnId],
-    numbers: &[EdgeNumber],
-) -> Result<Vec<Link>, NoMemory>
-    requires txns { ListsAscending (IsCommitted ix.now) txns.now }
-    requires packed { (keys : List ℕ) × All (IsPacked txns.now keys) numbers.now }
-    ensures { IfOk result (λ links. (keys : List ℕ) → AreEnds (Overlap ix.now) (map (unpacked txns.now keys) numbers.now) links.items) }
+    source: u32,
+    rows: &[EdgeTo],
+    links: &mut Vec<Link>,
+) -> Result<(), NoMemory>
+    requires source { (t : ℕ) × IsCommittedAt ix.now source t }
+    requires rows { AreEdgesFrom ix.now (λ _. ⊤) source rows.now }
+    ensures { OnOk result (Adds (IsLinkFrom ix.now source) links.old.items links.new.items) }
 {
+    ix.keys_law();
+    let txns = ix.committed();
     let lifetimes = ix.lifetimes();
-    let mut links = Vec::new(alloc);
-    for n in numbers {
-        if is_vulnerable_number(ix, txns, lifetimes, *n) {
-            links.push(Link {
-                at: txns[source_of(*n)],
-                other: txns[target_of(*n)],
-            })?;
+    for row in rows {
+        if is_vulnerable_row(ix, lifetimes, source, *row) {
+            let link = Link {
+                at: txns[source as usize],
+                other: txns[row.target as usize],
+            };
+            put_link(link, links)?;
         }
     }
-    put_in_order(&mut links);
-    Ok(links)
+    Ok(())
+}
+
+/// Whether the row from the source is of the kind rw, and its ends overlap.
+#[inline(always)]
+fn is_vulnerable_row(ix: &Index, lifetimes: &[Lifetime], source: u32, row: EdgeTo) -> bool
+    requires lifetimes { (txns : List ℕ) → ListsAscending (IsCommitted ix.now) txns → AreLifetimes ix.now txns lifetimes.now }
+    requires source { (t : ℕ) × IsCommittedAt ix.now source t }
+    requires target { (u : ℕ) × IsCommittedAt ix.now row.target u }
+    ensures { (t u : ℕ) → IsCommittedAt ix.now source t → IsCommittedAt ix.now row.target u → IsTrue result ↔ ((row.kind ≡ Rw) × Overlap ix.now t u) }
+{
+    ix.law();
+    leads_rw(row.kind) && overlap(lifetimes[source as usize], lifetimes[row.target as usize])
+}
+
+/// Adds the link, unless it is the last one already.
+fn put_link(link: Link, links: &mut Vec<Link>) -> Result<(), NoMemory>
+    ensures { OnOk result (Adds (λ l. link ≡ l) links.old.items links.new.items) }
+{
+    match links.last() {
+        Some(last) if *last == link => Ok(()),
+        _ => Ok(links.push(link)?),
+    }
 }
 
 /// The greatest commit among the transactions; 0 where none commits.
@@ -229,7 +218,7 @@ fn entries(alloc: Global, ix: &Index, into: &[Link], out: &[Link]) -> Result<Vec
     ensures { IfOk result (λ found. ArePivots ix.now found.items) }
 {
     let mut linked = others(alloc, into)?;
-    put_in_order(&mut linked);
+    put_in_order(&mut linked)?;
     let mut found = Vec::new(alloc);
     for txn in linked.as_slice() {
         let ins = links_at(into, *txn);
@@ -258,9 +247,14 @@ pub fn pivots_of_links(
     requires { AreVulnerable ix.now links.items }
     ensures { IfOk result (λ found. ArePivots ix.now found.items) }
 {
-    put_in_order(&mut links);
+    put_in_order(&mut links)?;
     let out = links.as_slice();
-    let into = turned(alloc, out)?;
+    let turn = |link: &Link| Link {
+        at: link.other,
+        other: link.at,
+    };
+    let mut into = out.iter().map(turn).collect(alloc)?;
+    put_in_order(&mut into)?;
     let found = entries(alloc, ix, &into, out)?;
     Ok(found)
 }

@@ -1,19 +1,23 @@
-//! Few edges with the closure of all: steps between committed transactions, and through blocks of keys.
-ghost use Rattle.std.specs.Prelude.{◌≡◌, ◌↔◌, ◌⊎◌, ◌*◌, ◌%◌, ◌<◌, ◌≤◌, ◌≢◌, ℕ, All, Contains, IfOk, IsTrue, OnOk};
-ghost use Rattle.std.specs.List.Sorted.{IsNonDecreasing};
-ghost use Rattle.sia_parts.specs.declared.looks.Absence.{Absence};
-ghost use Rattle.sia_parts.specs.Placing.{ArePlaced, ArePlaces};
-ghost use Rattle.sia_parts.specs.Sights.{Adds, FromSome};
-ghost use Rattle.sia_parts.specs.Versions.{CanSearch};
+//! Few steps with the closure of all edges: between committed transactions, and through blocks of keys.
+ghost use Rattle.std.specs.Prelude.{◌≡◌, ◌↔◌, ◌⊎◌, ◌*◌, ◌%◌, ◌+◌, ◌++◌, ◌∷◌, ◌<◌, ◌≤◌, ◌≢◌, [], ℕ, Contains, IfOk, IsTrue, List, OnOk, Some};
+ghost use Rattle.sia_events.specs.Lists.{ListsAscending};
+ghost use Rattle.sia_events.specs.Transactions.{IsCommitted};
+ghost use Rattle.sia_index.specs.Numbers.{IsCommittedAt};
+ghost use Rattle.sia_parts.specs.Sights.{Adds};
+ghost use Rattle.sia_graph.specs.Evidence.{IsEvidence};
 ghost use Rattle.sia_graph.specs.KeyBlocks.{IsUnderSome};
-ghost use Rattle.sia_graph.specs.NarrowSteps.{AreFirsts, AreNarrowSteps, FitsKeys, HasAbsenceSteps, IsAbsenceStep, IsHalfStep, IsLeafStep, IsLookStep, IsMissedAt, KeepsAll, node_of, step_number, step_source, step_target};
-ghost use Rattle.sia_graph.specs.VersionRanks.{AreVersions};
+ghost use Rattle.sia_graph.specs.NarrowSteps.{node_of};
+ghost use Rattle.sia_graph.specs.Passed.{IsHeldBy, IsPassed, IsSizeFor};
+ghost use Rattle.sia_graph.specs.SparseGraphs.{AreMemberTargets, AreSourcesOf, IsBlockStep, IsSparse};
 
-use crate::steps::{source_of, step, target_of};
+use crate::evidence::Evidence;
+use crate::makers::{first_maker, maker_before, next_maker};
+use crate::order::Graph;
+use crate::passed::Passed;
 use sia_events::NoMemory;
-use sia_index::keyed::{ByKey, place_from};
-use sia_index::ordering::put_in_order;
-use sia_parts::{Absence, Look, Looks, count_up_to, look_at, newest_place};
+use sia_index::Index;
+use sia_index::lists::Lists;
+use sia_parts::RangeMiss;
 use std::alloc::Global;
 
 fn put_where_odd(number: u32, block: u32, blocks: &mut Vec<u32>) -> Result<(), NoMemory>
@@ -36,6 +40,7 @@ pub(crate) fn put_blocks(
     requires within { (from ≤ size) × (to ≤ size) }
     requires few { size ≤ 1000000000 }
     ensures over { OnOk result ((j : ℕ) → j < size → IsUnderSome size blocks.new.items j ↔ (IsUnderSome size blocks.old.items j ⊎ ((from ≤ j) × (j < to)))) }
+    ensures keeps { OnOk result ((b : ℕ) → Contains blocks.old.items b → Contains blocks.new.items b) }
     ensures within { OnOk result ((b : ℕ) → Contains blocks.new.items b → Contains blocks.old.items b ⊎ ((0 < b) × (b < 2 * size))) }
 {
     let mut low = size + from;
@@ -49,202 +54,140 @@ pub(crate) fn put_blocks(
     Ok(())
 }
 
-fn node(size: u32, txn: u32) -> u32
-    requires few { (size ≤ 1048576) × (txn < 1048576) }
-    ensures { result ≡ node_of size txn }
+/// The same for stretches of keys.
+pub(crate) fn put_all_blocks(
+    size: u32,
+    stretches: &[RangeMiss],
+    blocks: &mut Vec<u32>,
+) -> Result<(), NoMemory>
+    requires { size ≤ 1000000000 }
+    ensures over { OnOk result ((j : ℕ) → j < size → IsUnderSome size blocks.new.items j ↔ (IsUnderSome size blocks.old.items j ⊎ IsHeldBy stretches.now j)) }
+    ensures keeps { OnOk result ((b : ℕ) → Contains blocks.old.items b → Contains blocks.new.items b) }
+    ensures within { OnOk result ((b : ℕ) → Contains blocks.new.items b → Contains blocks.old.items b ⊎ ((0 < b) × (b < 2 * size))) }
 {
-    2 * size + txn
+    for stretch in stretches {
+        put_blocks(size, stretch.from.min(size), stretch.to.min(size), blocks)?;
+    }
+    Ok(())
 }
 
-/// Whether the step is one of the last two.
-fn is_among_last(steps: &[u64], step: u64) -> bool
-    ensures { IsTrue result → Contains steps.now step }
+/// Whether the node is one of the last two.
+fn is_among_last(row: &[u32], node: u32) -> bool
+    ensures { IsTrue result → Contains row.now node }
 {
-    match steps {
-        [.., first, last] => *first == step || *last == step,
+    match row {
+        [.., first, last] => *first == node || *last == node,
         _ => false,
     }
 }
 
-/// Adds the step from one transaction to another, where they differ. What a transaction saw of keys side by side mostly gives
-/// the same two steps again and again, which are added once.
-fn put_between(size: u32, source: u32, target: u32, steps: &mut Vec<u64>) -> Result<(), NoMemory>
-    requires few { (size ≤ 1048576) × (source < 1048576) × (target < 1048576) }
-    ensures { OnOk result (Adds (λ n. (source ≢ target) × (n ≡ step_number (node_of size source) (node_of size target))) steps.old.items steps.new.items) }
+/// Adds the node of another transaction, if there is one. What a transaction saw of keys side by side mostly gives the same two
+/// again and again, which are added once.
+fn put_other(size: u32, txn: u32, other: Option<u32>, row: &mut Vec<u32>) -> Result<(), NoMemory>
+    requires { (size ≤ 536870912) × ((i : ℕ) → other ≡ Some i → i < 1073741824) }
+    ensures { OnOk result (Adds (λ n. (i : ℕ) × (other ≡ Some i) × (i ≢ txn) × (n ≡ node_of size i)) row.old.items row.new.items) }
 {
-    if source == target {
+    let Some(other) = other else { return Ok(()) };
+    let node = 2 * size + other;
+    if other != txn && !is_among_last(row, node) {
+        row.push(node)?;
+    }
+    Ok(())
+}
+
+/// Adds the halves of the block, or who made the first version of the key whose leaf it is.
+fn put_block_steps(
+    evidence: &Evidence,
+    size: u32,
+    block: u32,
+    targets: &mut Vec<u32>,
+) -> Result<(), NoMemory>
+    requires evidence { IsEvidence evidence.now }
+    requires size { IsSizeFor size evidence.now.index.now evidence.now.accesses.now }
+    requires block { block < 2 * size }
+    requires none { targets.old.items ≡ [] }
+    ensures { OnOk result ((n : ℕ) → Contains targets.new.items n ↔ IsBlockStep evidence.now.index.now size block n) }
+{
+    if block == 0 {
         return Ok(());
     }
-    let next = step(node(size, source), node(size, target));
-    if !is_among_last(steps, next) {
-        steps.push(next)?;
+    if block < size {
+        targets.push(2 * block)?;
+        targets.push(2 * block + 1)?;
+        return Ok(());
     }
+    let first = first_maker(evidence.index, block - size);
+    put_other(size, u32::MAX, first, targets)?;
     Ok(())
 }
 
-/// Adds the steps of those who saw versions: to the next version, and from who made the newest one that was seen, or the one before.
-fn put_reader_steps(
+/// Adds the steps of a transaction: what it waits for to `sources`, and what it is before to `targets`.
+fn put_member_steps(
+    evidence: &Evidence,
     size: u32,
-    writers: &[Look],
-    readers: &[Look],
-    steps: &mut Vec<u64>,
+    txn: u32,
+    passed: &Passed,
+    sources: &mut Vec<u32>,
+    targets: &mut Vec<u32>,
 ) -> Result<(), NoMemory>
-    requires writers { CanSearch writers.now }
-    requires few { (size ≤ 1048576) × All (λ a. a.txn < 1048576) readers.now }
-    requires places { ArePlaces writers.now readers.now }
-    ensures { OnOk result (Adds (FromSome (IsLookStep size writers.now) readers.now) steps.old.items steps.new.items) }
+    requires evidence { IsEvidence evidence.now }
+    requires size { IsSizeFor size evidence.now.index.now evidence.now.accesses.now }
+    requires txn { (t : ℕ) × IsCommittedAt evidence.now.index.now txn t }
+    requires passed { (j : ℕ) → IsHeldBy passed.now.stretches.items j ↔ IsPassed evidence.now.index.now evidence.now.accesses.now txn j }
+    requires none { (sources.old.items ≡ []) × (targets.old.items ≡ []) }
+    ensures sources { OnOk result (AreSourcesOf evidence.now.index.now evidence.now.accesses.now size (node_of size txn) sources.new.items) }
+    ensures targets { OnOk result (AreMemberTargets evidence.now.index.now evidence.now.accesses.now size txn targets.new.items) }
 {
-    for look in readers {
-        if let Some(a) = look_at(writers, look.at as usize, look.key) {
-            put_between(size, look.txn, a.txn, steps)?;
-        }
-        if let Some(at) = newest_place(writers, *look) {
-            put_between(size, writers[at].txn, look.txn, steps)?;
-        }
+    let index = evidence.index;
+    for seen in evidence.accesses.saw.at(txn as usize) {
+        put_other(size, txn, index.maker_at(*seen), sources)?;
+        put_other(size, txn, next_maker(index, *seen), targets)?;
+    }
+    for made in index.made_by(txn as usize) {
+        put_other(size, txn, maker_before(index, *made), sources)?;
+    }
+    put_all_blocks(size, &passed.stretches, targets)?;
+    Ok(())
+}
+
+pub(crate) fn put_row(lists: &mut Lists<u32>, row: &[u32]) -> Result<(), NoMemory>
+    ensures { OnOk result (lists.new ≡ lists.old ++ (row.now ∷ [])) }
+{
+    lists.open()?;
+    for node in row {
+        lists.put(*node)?;
     }
     Ok(())
 }
 
-/// Adds the steps of those who made versions: from each to who made the next one of its key, which stands behind it.
-fn put_writer_steps(size: u32, versions: &[Look], steps: &mut Vec<u64>) -> Result<(), NoMemory>
-    requires versions { AreVersions versions.now }
-    requires few { size ≤ 1048576 }
-    ensures { OnOk result (Adds (FromSome (IsLookStep size versions.now) versions.now) steps.old.items steps.new.items) }
+/// The graph of few steps, where blocks are over so many keys.
+pub(crate) fn graph_of(alloc: Global, evidence: &Evidence, size: u32) -> Result<Graph, NoMemory>
+    requires evidence { IsEvidence evidence.now }
+    requires size { IsSizeFor size evidence.now.index.now evidence.now.accesses.now }
+    ensures { IfOk result (λ g. (txns : List ℕ) → ListsAscending (IsCommitted evidence.now.index.now) txns → IsSparse evidence.now.index.now size txns g) }
 {
-    for i in 1..versions.len() {
-        if versions[i].key == versions[i - 1].key {
-            put_between(size, versions[i - 1].txn, versions[i].txn, steps)?;
-        }
+    let nodes = 2 * size as usize + evidence.index.committed().len();
+    let positions = evidence.index.position_count() as usize;
+    let mut graph = Graph {
+        targets: Lists::with_capacity(alloc, nodes, positions)?,
+        sources: Lists::with_capacity(alloc, nodes, positions)?,
+    };
+    let mut passed = Passed::none(alloc);
+    let mut sources = Vec::new(alloc);
+    let mut targets = Vec::new(alloc);
+    for block in 0..2 * size {
+        targets.clear();
+        put_block_steps(evidence, size, block, &mut targets)?;
+        put_row(&mut graph.targets, &targets)?;
+        put_row(&mut graph.sources, &[])?;
     }
-    Ok(())
-}
-
-/// Adds the steps from each block to its halves.
-fn put_half_steps(size: u32, steps: &mut Vec<u64>) -> Result<(), NoMemory>
-    requires few { size ≤ 1048576 }
-    ensures { OnOk result (Adds (IsHalfStep size) steps.old.items steps.new.items) }
-{
-    for h in 1..size {
-        steps.push(step(h, 2 * h))?;
-        steps.push(step(h, 2 * h + 1))?;
+    for txn in 0..evidence.index.committed().len() as u32 {
+        passed.fill(evidence, txn)?;
+        sources.clear();
+        targets.clear();
+        put_member_steps(evidence, size, txn, &passed, &mut sources, &mut targets)?;
+        put_row(&mut graph.targets, &targets)?;
+        put_row(&mut graph.sources, &sources)?;
     }
-    Ok(())
-}
-
-/// Adds the steps from the keys' leaves to who made the first versions.
-fn put_leaf_steps(size: u32, firsts: &[u64], steps: &mut Vec<u64>) -> Result<(), NoMemory>
-    requires few { (size ≤ 1048576) × All (λ f. (step_source f < 1048576) × (step_target f < 1048576)) firsts.now }
-    ensures { OnOk result (Adds (FromSome (IsLeafStep size) firsts.now) steps.old.items steps.new.items) }
-{
-    for first in firsts {
-        let leaf = size + target_of(*first);
-        steps.push(step(leaf, node(size, source_of(*first))))?;
-    }
-    Ok(())
-}
-
-fn firsts_of(alloc: Global, size: u32, writers: &[Look]) -> Result<Vec<u64>, NoMemory>
-    requires { CanSearch writers.now }
-    ensures { IfOk result (λ firsts. AreFirsts size writers.now firsts.items) }
-{
-    let mut firsts = Vec::new(alloc);
-    let mut near = 0usize;
-    for key in 0..size {
-        near = count_up_to(writers, key, 0, near);
-        if let Some(a) = look_at(writers, near, key) {
-            firsts.push(step(a.txn, key))?;
-        }
-    }
-    put_in_order(&mut firsts);
-    Ok(firsts)
-}
-
-/// The first key from one to before another whose first version the transaction made, or the other.
-fn next_own(firsts: &[u64], txn: u32, from: u32, to: u32) -> u32
-    requires rise { IsNonDecreasing firsts.now }
-    requires order { from ≤ to }
-    ensures within { (from ≤ result) × (result ≤ to) }
-    ensures before { (j : ℕ) → from ≤ j → j < result → ¬ Contains firsts.now (step_number txn j) }
-    ensures own { result < to → Contains firsts.now (step_number txn result) }
-{
-    let at = place_from::<u64, ByKey>(firsts, step(txn, from));
-    match firsts.get(at) {
-        Some(first) => target_of(step(txn, to).min(*first)),
-        None => to,
-    }
-}
-
-/// Adds blocks that are over the keys of the absence, but those of which its transaction made the first version.
-fn put_missed(
-    size: u32,
-    firsts: &[u64],
-    absence: Absence,
-    blocks: &mut Vec<u32>,
-) -> Result<(), NoMemory>
-    requires rise { IsNonDecreasing firsts.now }
-    requires fits { (size ≤ 1048576) × FitsKeys size absence }
-    ensures over { OnOk result ((j : ℕ) → j < size → IsUnderSome size blocks.new.items j ↔ (IsUnderSome size blocks.old.items j ⊎ IsMissedAt firsts.now absence j)) }
-    ensures within { OnOk result ((b : ℕ) → Contains blocks.new.items b → Contains blocks.old.items b ⊎ ((0 < b) × (b < 2 * size))) }
-{
-    let mut from = absence.from;
-    while from < absence.to {
-        let own = next_own(firsts, absence.txn, from, absence.to);
-        put_blocks(size, from, own, blocks)?;
-        from = own + 1;
-    }
-    Ok(())
-}
-
-fn put_steps_to(source: u32, targets: &[u32], steps: &mut Vec<u64>) -> Result<(), NoMemory>
-    ensures { OnOk result (Adds (FromSome (λ b n. n ≡ step_number source b) targets.now) steps.old.items steps.new.items) }
-{
-    for target in targets {
-        steps.push(step(source, *target))?;
-    }
-    Ok(())
-}
-
-/// Adds the steps from who was absent at keys to blocks of these, but those of which it made the first version.
-fn put_absence_steps(
-    alloc: Global,
-    size: u32,
-    firsts: &[u64],
-    absences: &[Absence],
-    steps: &mut Vec<u64>,
-) -> Result<(), NoMemory>
-    requires rise { IsNonDecreasing firsts.now }
-    requires fits { (size ≤ 1048576) × All (FitsKeys size) absences.now }
-    ensures kept { OnOk result (KeepsAll steps.old.items steps.new.items) }
-    ensures each { OnOk result ((n : ℕ) → Contains steps.new.items n → Contains steps.old.items n ⊎ FromSome (IsAbsenceStep size firsts.now) absences.now n) }
-    ensures has { OnOk result ((s : Absence) → Contains absences.now s → HasAbsenceSteps size firsts.now s steps.new.items) }
-{
-    let mut blocks = Vec::new(alloc);
-    for absence in absences {
-        if absence.from < absence.to {
-            blocks.clear();
-            put_missed(size, firsts, *absence, &mut blocks)?;
-            put_steps_to(node(size, absence.txn), &blocks, steps)?;
-        }
-    }
-    Ok(())
-}
-
-pub(crate) fn steps_of(alloc: Global, size: u32, looks: &Looks) -> Result<Vec<u64>, NoMemory>
-    requires writers { AreVersions looks.now.writers.items }
-    requires placed { ArePlaced looks.now }
-    requires few { (size ≤ 1048576) × All (λ a. a.txn < 1048576) looks.now.readers.items }
-    requires fits { All (FitsKeys size) looks.now.absences.items }
-    ensures { IfOk result (λ steps. AreNarrowSteps size looks.now.writers.items looks.now.readers.items looks.now.absences.items steps.items) }
-{
-    let writers = looks.writers.as_slice();
-    let readers = looks.readers.as_slice();
-    let absences = looks.absences.as_slice();
-    let mut steps = Vec::with_capacity(alloc, readers.len())?;
-    put_writer_steps(size, writers, &mut steps)?;
-    put_reader_steps(size, writers, readers, &mut steps)?;
-    put_half_steps(size, &mut steps)?;
-    let firsts = firsts_of(alloc, size, writers)?;
-    put_leaf_steps(size, &firsts, &mut steps)?;
-    put_absence_steps(alloc, size, &firsts, absences, &mut steps)?;
-    Ok(steps)
+    Ok(graph)
 }

@@ -1,142 +1,84 @@
 //! The test of serializable snapshot isolation, and the dangerous structure that is told where it fails.
-ghost use Rattle.std.specs.Prelude.{◌≡◌, ◌↔◌, ◌-◌, ◌<◌, ◌≤◌, [], ℕ, ⊤, All, Contains, IfOk, IsTrue, List, MatchOption, false, leb, length, map, slice_index, slice_index_or};
+ghost use Rattle.std.specs.Prelude.{◌≡◌, ◌↔◌, ◌<◌, [], ℕ, ⊤, All, IfOk, IsTrue, List, MatchOption};
 ghost use Rattle.sia_events.specs.declared.event.Event.{Event};
-ghost use Rattle.sia_events.specs.DangerousStructures.{NoFirst, PassesSsi};
-ghost use Rattle.sia_events.specs.Dependencies.{RwEdge};
+ghost use Rattle.sia_events.specs.DangerousStructures.{IsFirst, NoFirst, PassesSsi};
 ghost use Rattle.sia_events.specs.Isolation.{IsolationKept};
-ghost use Rattle.sia_parts.specs.declared.looks.Look.{Look};
-ghost use Rattle.sia_parts.specs.declared.looks.Looks.{Looks};
+ghost use Rattle.sia_events.specs.Refusals.{IsWellFormed};
+ghost use Rattle.sia_events.specs.Transactions.{CommitsAt};
+ghost use Rattle.sia_index.specs.declared.info.KeyVersion.{KeyVersion};
+ghost use Rattle.sia_index.specs.Numbers.{IsCommittedAt};
+ghost use Rattle.sia_index.specs.Positions.{HasPosition, IsAtPosition};
 ghost use Rattle.sia_parts.specs.Findings.{AreFindings, ListsBadReads, ListsBadWrites};
-ghost use Rattle.sia_graph.specs.Dangerous.{IsDangerous, IsLeast};
-ghost use Rattle.sia_graph.specs.Early.{CommitsFrom, IsEarly, IsLeastPivot, TellFirsts};
+ghost use Rattle.sia_graph.specs.Dangerous.{HasFirst, IsDangerous, IsLeast, MayBeFirst};
+ghost use Rattle.sia_graph.specs.EarlyVersions.{HasEarly, IsFollowedBy, IsLimit};
 ghost use Rattle.sia_graph.specs.Evidence.{IsEvidence};
-ghost use Rattle.sia_graph.specs.Extremes.{HasRwEdge};
-ghost use Rattle.sia_graph.specs.Limits.{IsLimit, IsWithinLimit};
-ghost use Rattle.sia_graph.specs.Pivotal.{HasMade, HasSeen};
 ghost use Rattle.sia_graph.specs.Pivots.{ArePivots};
-ghost use Rattle.sia_graph.specs.Ranks.{IsLeastRank, IsRankOf};
-ghost use Rattle.sia_graph.specs.Sources.{AreEarlier, IsSource};
 
-use crate::evidence::{ByTxn, Evidence, LooksByTxn};
+use crate::evidence::Evidence;
+use crate::late::{greatest_entering, late_of};
 use crate::least_edges::least_rw;
 use crate::pivot::Pivot;
-use crate::ranks::{Earlier, NONE, left_ranks, ranks_of_sources};
 use sia_events::{Key, NoMemory, TxnId};
-use sia_index::Lifetime;
-use sia_index::keyed::By;
-use sia_parts::{Absence, BadRead, BadWrite, Findings, Look};
-use std::alloc::{AllocError, Global};
+use sia_index::Index;
+use sia_parts::{BadRead, BadWrite, Findings};
+use std::alloc::Global;
 
-/// The greatest rank. A rank stands for the place that is left of it, so that the least rank is the last place.
-const LAST: u32 = u32::MAX - 1;
-
-fn ranks_of(alloc: Global, lifetimes: &[Lifetime]) -> Result<Vec<u32>, AllocError>
-    ensures { IfOk result (λ ranks. ranks.items ≡ map (λ lifetime. 4294967294 - lifetime.commit) lifetimes.now) }
+/// Whether the next version of the same key is committed up to the place.
+fn is_next_by(index: &Index, position: u32, place: u32) -> bool
+    requires well_formed { IsWellFormed index.now }
+    requires position { HasPosition index.now position }
+    ensures { (v : KeyVersion) → IsAtPosition index.now position v → IsTrue result ↔ IsFollowedBy index.now v place }
 {
-    lifetimes
-        .iter()
-        .map(|lifetime| LAST.saturating_sub(lifetime.commit))
-        .collect(alloc)
-}
-
-/// The rank of the last place before the commit of number `t`, up to that of its last source, whose rank is given. `LAST` if it
-/// has none.
-fn limit_of(rank: u32, commit: u32) -> u32
-    ensures { (looks : Looks) (ranks : List ℕ) (t : ℕ) → IsLeastRank (λ r. (i : ℕ) × IsSource looks i t × IsRankOf ranks i r) rank → IsLimit looks ranks t commit result }
-{
-    if rank == NONE {
-        return LAST;
+    match index.next_position(position) {
+        Some(next) => index.commit_at(next) <= place,
+        None => false,
     }
-    rank.max(LAST.saturating_sub(commit.saturating_sub(1)))
 }
 
-/// Whether the version at the place commits up to the limit of one who saw what was before it.
-fn is_within(earlier: &Earlier, at: usize, made: Look) -> bool
-    requires are { (looks : Looks) × (limits : List ℕ) × AreEarlier looks limits earlier.now }
-    requires key { made.key < earlier.now.size }
-    requires within { at < length earlier.now.twos.items }
-    ensures { (looks : Looks) (limits : List ℕ) → AreEarlier looks limits earlier.now
-        → ((d : Look) → slice_index_or looks.writers.items at d ≡ made) → IsTrue result ↔ IsWithinLimit looks limits made }
+/// Whether an rw edge leads from the transaction to one that commits up to the place, which is before its own commit.
+fn has_early(evidence: &Evidence, txn: u32, place: u32) -> bool
+    requires evidence { IsEvidence evidence.now }
+    requires txn { (t : ℕ) × (c : ℕ) × IsCommittedAt evidence.now.index.now txn t × CommitsAt evidence.now.index.now t c × (place < c) }
+    ensures { (t : ℕ) → IsCommittedAt evidence.now.index.now txn t → IsTrue result ↔ HasEarly evidence.now.index.now t place }
 {
-    let rank = earlier.least(at, made.key, NONE);
-    if rank == NONE {
-        return false;
+    let index = evidence.index;
+    for position in evidence.accesses.saw.at(txn as usize) {
+        if is_next_by(index, *position, place) {
+            return true;
+        }
     }
-    made.high <= LAST - rank
+    for miss in evidence.accesses.missed.at(txn as usize) {
+        if index.next_visible(miss.from, miss.to, place).is_some() {
+            return true;
+        }
+    }
+    false
 }
 
-fn limits_in(alloc: Global, evidence: &Evidence) -> Result<Vec<u32>, NoMemory>
+/// The least number whose transaction has a first, and its limit.
+fn least_pivot(alloc: Global, evidence: &Evidence) -> Result<Option<(u32, u32)>, NoMemory>
     requires evidence { IsEvidence evidence.now }
     requires kept { IsolationKept evidence.now.index.now }
-    ensures { IfOk result (λ limits. TellFirsts evidence.now.index.now evidence.now.txns.now evidence.now.looks.now limits.items) }
+    ensures { IfOk result (λ found. MatchOption found (NoFirst evidence.now.index.now)
+        (λ (pivot, limit). (t : ℕ) × IsCommittedAt evidence.now.index.now pivot t × IsLeast (HasFirst evidence.now.index.now) t × IsLimit evidence.now.index.now t limit)) }
 {
+    let txns = evidence.index.committed();
     let lifetimes = evidence.index.lifetimes();
-    let ranks = ranks_of(alloc, lifetimes)?;
-    let owned = ranks_of_sources(alloc, evidence, &ranks)?;
-    let sources = owned.as_slice();
-    let mut limits = Vec::new(alloc);
-    for t in 0..lifetimes.len() {
-        limits.push(limit_of(sources[t], lifetimes[t].commit))?;
-    }
-    Ok(limits)
-}
-
-/// The least number that made a version that commits up to one of these limits, of one who saw what was before it, or `NONE`.
-fn least_early(alloc: Global, evidence: &Evidence, limits: &[u32]) -> Result<u32, NoMemory>
-    requires evidence { IsEvidence evidence.now }
-    ensures { IfOk result (IsLeastRank (IsEarly evidence.now.looks.now limits.now)) }
-{
-    let earlier = Earlier::of(alloc, evidence, limits)?;
-    let writers = evidence.looks.writers.as_slice();
-    let mut least = NONE;
-    for at in 0..writers.len() {
-        let made = writers[at];
-        if is_within(&earlier, at, made) {
-            least = least.min(made.txn);
+    let commits: Vec<u32> = lifetimes
+        .iter()
+        .map(|lifetime| lifetime.commit)
+        .collect(alloc)?;
+    let late = late_of(alloc, evidence, &commits)?;
+    for txn in 0..txns.len() as u32 {
+        let last = lifetimes[txn as usize].commit - 1;
+        let limit = greatest_entering(evidence.index, &late, txn).min(last);
+        if has_early(evidence, txn, limit) {
+            return Ok(Some((txn, limit)));
         }
     }
-    Ok(least)
+    Ok(None)
 }
 
-/// For each of so many transactions whether it made one of these versions.
-fn makers_of(alloc: Global, count: usize, versions: &[Look]) -> Result<Vec<bool>, NoMemory>
-    requires { All (λ look. look.txn < count) versions.now }
-    ensures long { IfOk result (λ makers. length makers.items ≡ count) }
-    ensures each { IfOk result (λ makers. (look : Look) → Contains versions.now look → IsTrue (slice_index_or makers.items look.txn false)) }
-{
-    let mut makers = vec![in alloc; false; count]?;
-    for look in versions {
-        makers[look.txn as usize] = true;
-    }
-    Ok(makers)
-}
-
-/// Whether no row is of a transaction that is marked.
-fn are_of_others<T, O: By<T>>(marks: &[bool], rows: &[T]) -> bool
-    ensures { IsTrue result → (row : T) → Contains rows.now row → ¬ IsTrue (slice_index_or marks.now (O.by row) false) }
-{
-    for row in rows {
-        if marks.get(O::number(row) as usize).copied().unwrap_or(false) {
-            return false;
-        }
-    }
-    true
-}
-
-/// Whether some transaction may be a pivot. Where none made a version and saw another, or saw none of a key, nobody is one.
-fn may_have_pivot(alloc: Global, evidence: &Evidence) -> Result<bool, NoMemory>
-    requires { IsEvidence evidence.now }
-    ensures { IfOk result (λ may. may ≡ false → (i : ℕ) → HasMade evidence.now.looks.now i → ¬ HasSeen evidence.now.looks.now i) }
-{
-    let looks = evidence.looks;
-    let makers = makers_of(alloc, evidence.txns.len(), &looks.writers)?;
-    if !are_of_others::<Look, ByTxn>(&makers, &looks.readers) {
-        return Ok(true);
-    }
-    Ok(!are_of_others::<Absence, ByTxn>(&makers, &looks.absences))
-}
-
-/// Whether both lists are empty.
 pub(crate) fn are_none(bad_reads: &[BadRead], bad_writes: &[BadWrite]) -> bool
     ensures { IsTrue result ↔ ((bad_reads.now ≡ []) × (bad_writes.now ≡ [])) }
 {
@@ -160,13 +102,8 @@ pub fn passes(
     if !are_none(bad_reads, bad_writes) {
         return Ok(false);
     }
-    let may = may_have_pivot(alloc, evidence)?;
-    if !may {
-        return Ok(true);
-    }
-    let limits = limits_in(alloc, evidence)?;
-    let early = least_early(alloc, evidence, &limits)?;
-    Ok(early == NONE)
+    let pivot = least_pivot(alloc, evidence)?;
+    Ok(pivot.is_none())
 }
 
 /// Whether there is no bad read, no bad write, and no dangerous structure whose last transaction commits first. The pivots
@@ -195,48 +132,50 @@ pub struct Dangerous {
     pub last: TxnId,
 }
 
-/// The least number whose limit some version is within, if there is one, and the least number that made such a version, or
-/// `NONE`.
-fn least_pivot(alloc: Global, evidence: &Evidence, limits: &[u32]) -> Result<(u32, u32), NoMemory>
+/// The least number to which an rw edge leads from the pivot and that commits up to the limit. There is one.
+fn least_last(alloc: Global, evidence: &Evidence, pivot: u32, limit: u32) -> Result<u32, NoMemory>
     requires evidence { IsEvidence evidence.now }
-    requires few { length limits.now ≤ 1000000000 }
-    ensures { IfOk result (λ (pivot, last). IsLeastPivot evidence.now.looks.now limits.now pivot last) }
+    requires kept { IsolationKept evidence.now.index.now }
+    requires pivot { (t : ℕ) × IsCommittedAt evidence.now.index.now pivot t × HasFirst evidence.now.index.now t × IsLimit evidence.now.index.now t limit }
+    ensures { IfOk result (λ last. (t : ℕ) → IsCommittedAt evidence.now.index.now pivot t → (u : ℕ) × IsCommittedAt evidence.now.index.now last u × IsLeast (IsFirst evidence.now.index.now t) u) }
 {
-    let mut low = 0;
-    let mut high = limits.len();
-    'halving: while high - low > 1 {
-        let middle = low + (high - low) / 2;
-        let early = least_early(alloc, evidence, &limits[..middle])?;
-        if early == NONE {
-            low = middle;
-        } else {
-            high = middle;
+    let count = evidence.index.committed().len();
+    let lifetimes = evidence.index.lifetimes();
+    let mut values = vec![in alloc; 0u32; count]?;
+    values[pivot as usize] = 1;
+    let late = late_of(alloc, evidence, &values)?;
+    for txn in 0..count as u32 {
+        let is_early = lifetimes[txn as usize].commit <= limit;
+        if is_early && greatest_entering(evidence.index, &late, txn) > 0 {
+            return Ok(txn);
         }
     }
-    let last = least_early(alloc, evidence, &limits[..high])?;
-    Ok((low as u32, last))
+    Ok(pivot)
 }
 
-/// Of those with an rw edge to the pivot the least that commits at this place or after it, or `NONE`.
-fn least_first(
-    alloc: Global,
-    evidence: &Evidence,
-    lifetimes: &[Lifetime],
-    place: u32,
-    pivot: u32,
-) -> Result<u32, NoMemory>
+/// The least number with an rw edge to the pivot that commits at the place or after it. There is one.
+fn least_first(alloc: Global, evidence: &Evidence, pivot: u32, place: u32) -> Result<u32, NoMemory>
     requires evidence { IsEvidence evidence.now }
-    requires long { length lifetimes.now ≡ length evidence.now.txns.now }
-    requires pivot { pivot < length lifetimes.now }
-    ensures { IfOk result (IsLeastRank (λ t. IsSource evidence.now.looks.now t pivot × CommitsFrom lifetimes.now place t)) }
+    requires kept { IsolationKept evidence.now.index.now }
+    requires pivot { (t : ℕ) × (last : ℕ) × IsCommittedAt evidence.now.index.now pivot t × CommitsAt evidence.now.index.now last place × IsFirst evidence.now.index.now t last }
+    ensures { IfOk result (λ first. (t last : ℕ) → IsCommittedAt evidence.now.index.now pivot t → CommitsAt evidence.now.index.now last place → IsFirst evidence.now.index.now t last
+        → (u : ℕ) × IsCommittedAt evidence.now.index.now first u × IsLeast (MayBeFirst evidence.now.index.now t last) u) }
 {
-    let late: Vec<bool> = lifetimes
-        .iter()
-        .map(|it| place <= it.commit)
-        .collect(alloc)?;
-    let ranks = left_ranks(alloc, &late)?;
-    let sources = ranks_of_sources(alloc, evidence, &ranks)?;
-    Ok(sources[pivot as usize])
+    let txns = evidence.index.committed();
+    let lifetimes = evidence.index.lifetimes();
+    let mut values = Vec::with_capacity(alloc, lifetimes.len())?;
+    // The lesser the number, the greater its value.
+    for txn in 0..lifetimes.len() {
+        let left = (lifetimes.len() - txn) as u32;
+        let value = if place <= lifetimes[txn].commit {
+            left
+        } else {
+            0
+        };
+        values.push(value)?;
+    }
+    let late = late_of(alloc, evidence, &values)?;
+    Ok(txns.len() as u32 - greatest_entering(evidence.index, &late, pivot))
 }
 
 /// The dangerous structure that is told of a history that keeps isolation: that of the least pivot that has a first. None, if the
@@ -246,22 +185,22 @@ pub fn dangerous_of(alloc: Global, evidence: &Evidence) -> Result<Option<Dangero
     requires kept { IsolationKept evidence.now.index.now }
     ensures { IfOk result (λ found. MatchOption found (NoFirst evidence.now.index.now) (IsDangerous evidence.now.index.now)) }
 {
-    let lifetimes = evidence.index.lifetimes();
-    let limits = limits_in(alloc, evidence)?;
-    let (pivot, last) = least_pivot(alloc, evidence, &limits)?;
-    if last == NONE {
-        return Ok(None);
-    }
-    let place = lifetimes[last as usize].commit;
-    let first = least_first(alloc, evidence, lifetimes, place, pivot)?;
-    let own = LooksByTxn::of(alloc, evidence.txns.len(), evidence.looks)?;
-    let into = least_rw(&own, first, pivot);
-    let out = least_rw(&own, pivot, last);
+    let found = least_pivot(alloc, evidence)?;
+    let Some((pivot, limit)) = found else {
+        return Ok(None)
+    };
+    let last = least_last(alloc, evidence, pivot, limit)?;
+    let place = evidence.index.lifetimes()[last as usize].commit;
+    let first = least_first(alloc, evidence, pivot, place)?;
+    let txns = evidence.index.committed();
+    let keys = evidence.index.written_keys();
+    let into = least_rw(evidence, first, pivot);
+    let out = least_rw(evidence, pivot, last);
     Ok(Some(Dangerous {
-        first: evidence.txns[first as usize],
-        first_key: evidence.keys[into as usize],
-        pivot: evidence.txns[pivot as usize],
-        last_key: evidence.keys[out as usize],
-        last: evidence.txns[last as usize],
+        first: txns[first as usize],
+        first_key: keys[into as usize],
+        pivot: txns[pivot as usize],
+        last_key: keys[out as usize],
+        last: txns[last as usize],
     }))
 }

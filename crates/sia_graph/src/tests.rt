@@ -1,11 +1,12 @@
 //! Orders and cycles worked out by hand, and graphs of the greatest sizes.
-ghost use Rattle.std.specs.Prelude.{◌≡◌, ◌≢◌, ℕ, ◌<◌, All, AllPairs, Contains, IsTrue, length};
+ghost use Rattle.std.specs.Prelude.{◌≢◌, ◌<◌, All, AllPairs, Contains, IsTrue};
 ghost use Rattle.std.specs.List.Sorted.{IsStrictlyIncreasing};
 ghost use Rattle.sia_events.specs.Lists.{Precedes};
 ghost use Rattle.sia_parts.specs.Entries.{edge_rank};
 
 use crate::cycle::Step;
-use crate::verdict::{Verdict, settle};
+use crate::listed_edges::settle;
+use crate::verdict::Verdict;
 use sia_events::{Key, NoMemory, TxnId};
 use sia_parts::{Edge, Kind};
 use std::alloc::{AllocError, Global};

@@ -3,12 +3,9 @@ use Rattle.std.proofs.Common.{◌≡◌, inl, inr, ℕ, ◌+◌, ◌<◌, List, 
 use Rattle.std.specs.Prelude.{slice_index_or}
 use Rattle.std.proofs.lemmas.Bool.{cases_lt}
 use Rattle.std.proofs.lemmas.List.{length_push, get_or_append_left, get_or_default, get_or_push}
+use Rattle.sia_index.specs.Rows.{IsColumn}
 
--- what f gives of the first n rows, each at the place of its row
-abbrev pub IsColumn : {A B : Type 0} → (A → B) → List A → ℕ → List B → Type 0
-IsColumn {A} {B} f rows n ys = (length ys ≡ n) × ((i : ℕ) (d : B) (e : A) → i < length ys → slice_index_or ys i d ≡ f (slice_index_or rows i e))
-
--- and of the next row
+-- one row more
 pub column_more : {A B : Type 0} (f : A → B) (rows : List A) (n : ℕ) (ys : List B) → IsColumn f rows n ys → (r : A) → n < length rows → IsColumn f rows (n + 1) (ys ++ f (slice_index_or rows n r) ∷ [])
 column_more {A} {B} f rows n ys so r some = (
   length_push ys y ∙ ap (λ k. k + 1) so.0,

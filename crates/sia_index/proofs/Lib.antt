@@ -8,7 +8,6 @@ pub mod Dealt
 pub mod Offsets
 pub mod Points
 pub mod NextKeys
-pub mod DueWithin
 pub mod Finding
 pub mod PartedRows
 pub mod Columns
@@ -18,7 +17,13 @@ pub mod KeptTransactions
 pub mod LogNames
 pub mod KnownTxns
 pub mod PlacesOf
-pub mod VersionRows
-pub mod PositionLaws
 pub mod NumberedNames
+pub mod DealtRows
+pub mod SideBySide
+pub mod StableDeal
+pub mod DealtVersions
+pub mod VersionTables
+pub mod PositionLaws
+pub mod RowsByPosition
+pub mod MadeBy
 pub mod Trees

@@ -1,55 +1,21 @@
 -- The keys that a search finds from a key on.
-use Rattle.std.proofs.Common.{◌≡◌, ◌⊎◌, ℕ, ◌<◌, ◌≤◌, List, length, Option, Some, None, inl, inr, refl, ap, sym, ◌+◌, ◌-◌, subst, ◌∙◌, arith}
+use Rattle.std.proofs.Common.{◌≡◌, ℕ, ◌<◌, ◌≤◌, List, length, Option, Some, None, inl, inr, refl, ap, ◌+◌, ◌-◌, subst, ◌∙◌, arith}
 use Rattle.std.specs.List.{AllWithin}
-use Rattle.std.specs.Prelude.{slice_index, slice_index_or, slice_range}
+use Rattle.std.specs.Prelude.{slice_index_or, slice_range}
 use Rattle.std.proofs.lemmas.Bool.{cases_lt}
 use Rattle.std.proofs.lemmas.List.{get_or_default}
 use Rattle.std.proofs.lemmas.List.Edits.{length-between, get_or-between}
 use Rattle.sia_events.specs.declared.event.Event.{Event}
-use Rattle.sia_events.specs.Reads.{IsVisible}
-use Rattle.sia_events.specs.Transactions.{StartsAt, Wrote, WroteBefore}
-use Rattle.sia_events.proofs.Starts.{one_start}
-use Rattle.sia_index.specs.Info.{AreWrittenKeys}
-use Rattle.sia_index.specs.Tables.{AreFirsts}
-use Rattle.sia_index.specs.declared.info.KeyVersion.{KeyVersion}
+use Rattle.sia_events.specs.Transactions.{WroteBefore}
 use Rattle.sia_index.specs.declared.writes.WriteRow.{WriteRow}
 use Rattle.sia_index.specs.Minima.{IsNextBelow, IsNextKey}
-use Rattle.sia_index.specs.Rows.{AreVersionRows, AreWrites, IsStretch, PassesNone}
-use Rattle.sia_index.proofs.Ordered.{ascends, rises}
+use Rattle.sia_index.specs.Rows.{AreWrites, IsStretch, PassesNone}
 use Rattle.sia_index.proofs.Points.{Rises, PointBelow, PointWithin, point_below, point_from, point_within, point_above}
 
 -- what visits each number of which one thing holds visits each of which another does, where the one holds of all these
 pub passes_same : (P Q : ℕ → Type 0) (lo hi : ℕ) (found : Option ℕ) → ((k : ℕ) → Q k → P k) → PassesNone P lo hi found → PassesNone Q lo hi found
 passes_same P Q lo hi None same none = λ k low high has. none k low high (same k has)
 passes_same P Q lo hi (Some i) same next = (next.0, next.1, λ j low less has. next.2 j low less (same j has))
-
--- what passes none of Q, and what up to there passes none of P
-module _ (P Q : ℕ → Type 0) (lo hi : ℕ) where
-  pub own_before : (k a : ℕ) → PassesNone Q lo hi (Some k) → PassesNone P lo k (Some a) → PassesNone (λ j. P j ⊎ Q j) lo hi (Some a)
-  own_before k a q p =
-      let last = q.1 in
-      let before = p.1 in (
-        p.0,
-        omega arith,
-        λ j from less has. elim has [ inl one ↦ p.2 j from less one | inr other ↦ q.2 j from (omega arith) other ],
-      )
-
-  pub own_alone : (a : ℕ) → PassesNone Q lo hi None → PassesNone P lo hi (Some a) → PassesNone (λ j. P j ⊎ Q j) lo hi (Some a)
-  own_alone a q p = (
-    p.0,
-    p.1,
-    λ j from less has. elim has [ inl one ↦ p.2 j from less one | inr other ↦ q j from (let high = p.1 in omega arith) other ],
-  )
-
-  pub seen_first : (k : ℕ) → PassesNone Q lo hi (Some k) → PassesNone P lo k None → PassesNone (λ j. P j ⊎ Q j) lo hi (Some k)
-  seen_first k q p = (
-    q.0,
-    q.1,
-    λ j from less has. elim has [ inl one ↦ p j from (omega arith) one | inr other ↦ q.2 j from less other ],
-  )
-
-  pub passes_neither : PassesNone Q lo hi None → PassesNone P lo hi None → PassesNone (λ j. P j ⊎ Q j) lo hi None
-  passes_neither q p j low high has = elim has [ inl one ↦ p j low high one | inr other ↦ q j low high other ]
 
 -- a place from one to another that parts the rows between by a number of each
 pub record IsPointIn {A : Type 0} (key : A → ℕ) (before after : ℕ → Type 0) (rows : List A) (from to at : ℕ) : Type 0 where
@@ -134,29 +100,3 @@ own_next h rows are t from to stretch p lo hi found next =
     let c = (are.each row).1 before.2 in
     let within = stretch.whole c.0 row c.1 (ap (λ (w : WriteRow). w.txn) c.2) in
     (row, c.0, within.0, within.1, c.2, refl, before.1)) next
-
-module _ (h : List Event) (keys : List ℕ) (keys_are : AreWrittenKeys h keys) (rows : List KeyVersion) (rows_are : AreVersionRows h rows) (firsts : List KeyVersion) (are : AreFirsts keys rows firsts) where
-  pub firsts_rise : Rises (λ (f : KeyVersion). f.key) firsts
-  firsts_rise i j d le below =
-      let up = rises (λ (k : ℕ). k) keys (ascends (λ (k : ℕ). k) (λ k. (t : ℕ) × Wrote h t k) keys keys_are) i j 0 le (omega (arith, are.count)) in
-      let first = are.key i d (omega (arith, are.count)) in
-      let second = are.key j d (omega (arith, are.count)) in
-      omega arith
-
-  -- of the keys those with a version that t sees
-  pub seen_next : (t start : ℕ) → StartsAt h t start → (n limit lo hi : ℕ) (found : Option ℕ) → n ≡ length firsts → limit ≡ start + 1 → IsNextKey (λ (f : KeyVersion). f.key) (λ (f : KeyVersion). f.commit) firsts 0 n limit lo hi found → PassesNone (λ k. (u : ℕ) × IsVisible h t k u) lo hi found
-  seen_next t start starts n limit lo hi found all below next =
-      passes_same (λ k. (row : KeyVersion) × (i : ℕ) × (0 ≤ i) × (i < n) × (slice_index_or firsts i row ≡ row) × (row.key ≡ k) × (row.commit < limit)) (λ k. (u : ℕ) × IsVisible h t k u) lo hi found (λ k (u, visible).
-      let version : KeyVersion = record { key = k; commit = visible.1.1; txn = u } in
-      let c = (rows_are.each version).1 (visible.0, visible.1.3) in
-      let key = (keys_are.each k).1 (u, visible.0) in
-      let is : slice_index keys key.0 ≡ k = get_or_default keys key.0 0 k key.1 ∙ key.2 in
-      let same : visible.1.0 ≡ start = one_start h t visible.1.0 start visible.1.2 starts in
-      let within : visible.1.1 ≤ visible.1.0 = visible.1.4 in
-      let none : KeyVersion = record { key = 0; commit = 0; txn = 0 } in
-      let first : KeyVersion = slice_index_or firsts key.0 none in
-      let at : (slice_index_or rows c.0 version).key ≡ slice_index keys key.0 = ap (λ (v : KeyVersion). v.key) c.2 ∙ sym is in
-      let least = are.least key.0 c.0 none version key.1 c.1 at in
-      let commit = ap (λ (v : KeyVersion). v.commit) c.2 in
-      let some = key.1 in
-      (first, key.0, omega arith, omega (arith, are.count), get_or_default firsts key.0 first none (omega (arith, are.count)), are.key key.0 none key.1 ∙ is, omega arith)) next

@@ -1,10 +1,8 @@
 -- What is known of a transaction, and of a committed transaction's version of a key.
-use Rattle.std.specs.Prelude.{◌≡◌, ◌≢◌, ◌<◌, ◌≤◌, ℕ, true, false, List, [], ◌∷◌, Option, Some, None, slice_index, length}
+use Rattle.std.specs.Prelude.{◌≡◌, ◌<◌, ◌≤◌, ℕ, true, false, List, [], ◌∷◌, Option, Some, None, slice_index, length}
 use Rattle.sia_events.specs.declared.event.Event.{Event}
 use Rattle.sia_events.specs.Lists.{ListsBy, ListsAscending}
-use Rattle.sia_events.specs.Reads.{IsDue}
 use Rattle.sia_events.specs.Transactions.{StartsAt, CommitsAt, AbortsAt, IsOpen, WritesAt, Wrote}
-use Rattle.sia_index.specs.declared.info.DueAt.{DueAt}
 use Rattle.sia_index.specs.declared.info.Made.{Made}
 use Rattle.sia_index.specs.declared.info.Reader.{Reader}
 use Rattle.sia_index.specs.declared.info.TxnInfo.{TxnInfo}
@@ -57,11 +55,3 @@ pub record IsReader (h : List Event) (t p : ℕ) (r : Reader) : Type 0 where
   pub numbered : IsTxnAt h r.number t
   pub wrote_none : r.has_written ≡ false → (k : ℕ) → ¬ Wrote h t k
   pub wrote_some : r.has_written ≡ true → (k : ℕ) × Wrote h t k
-
--- version 0 is due to t at place p on every key from lo to hi
-abbrev pub NoneDue : List Event → ℕ → ℕ → ℕ → ℕ → Type 0
-NoneDue h t p lo hi = (k : ℕ) → lo ≤ k → k ≤ hi → IsDue h t p k 0
-
--- of the keys from lo to hi the least at which another version than 0 is due to t at place p, and that version
-abbrev pub IsNextDue : List Event → ℕ → ℕ → ℕ → ℕ → DueAt → Type 0
-IsNextDue h t p lo hi d = (lo ≤ d.key) × (d.key ≤ hi) × (d.due ≢ 0) × IsDue h t p d.key d.due × ((j : ℕ) → lo ≤ j → j < d.key → IsDue h t p j 0)

@@ -1,8 +1,10 @@
 pub mod Info
 pub mod Rows
+pub mod VersionRows
 pub mod Tables
 pub mod Numbers
 pub mod Positions
+pub mod Lists
 pub mod Lifetimes
 pub mod Between
 pub mod Counting

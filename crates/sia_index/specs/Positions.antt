@@ -1,30 +1,46 @@
--- Positions: all versions that committed transactions made stand in one list, by key and then by commit. The position of a place
--- at a key is how many of them stand up to it.
-use Rattle.std.specs.Prelude.{◌≡◌, ◌⊎◌, ℕ, ◌<◌, ◌≤◌, List, length}
-use Rattle.std.specs.List.{AllWithin}
+-- Positions: all versions of the written keys stand in one list, by key and then by commit, version 0 of each key first, as of 0.
+-- A position is a place in it, counted from 0.
+use Rattle.std.specs.Prelude.{◌≡◌, ◌⊎◌, ℕ, zero, suc, ◌+◌, ◌≤◌, List, [], ◌∷◌, Some, length}
+use Rattle.std.specs.List.{slice_get}
 use Rattle.sia_events.specs.declared.event.Event.{Event}
-use Rattle.sia_events.specs.NarrowDependencies.{CommitsVersion}
+use Rattle.sia_events.specs.Lists.{ListsBy}
+use Rattle.sia_events.specs.NarrowDependencies.{CommitsVersion, IsNextVersion}
+use Rattle.sia_index.specs.Rows.{IsWritten}
 use Rattle.sia_index.specs.declared.info.KeyVersion.{KeyVersion}
-use Rattle.sia_index.specs.declared.info.Made.{Made}
-use Rattle.sia_index.specs.Rows.{AreVersionRows}
 
--- a version that stands up to place c at key k
-abbrev pub IsUpTo : ℕ → ℕ → KeyVersion → Type 0
-IsUpTo k c v = (v.key < k) ⊎ ((v.key ≡ k) × (v.commit ≤ c))
+-- version 0 of a written key, as of 0, or a version that a committed transaction made, as of its commit
+abbrev pub IsVersion : List Event → KeyVersion → Type 0
+IsVersion h v = (IsWritten h v.key × (v.commit ≡ 0) × (v.txn ≡ 0)) ⊎ CommitsVersion h v.key v.txn v.commit
 
--- a version that stands behind it
-abbrev pub IsBehind : ℕ → ℕ → KeyVersion → Type 0
-IsBehind k c v = (k < v.key) ⊎ ((v.key ≡ k) × (c < v.commit))
+-- all of them, by key and then by commit
+abbrev pub AreAllVersions : List Event → List KeyVersion → Type 0
+AreAllVersions h versions = ListsBy (λ v. v.key ∷ v.commit ∷ []) (IsVersion h) versions
 
--- of all versions that committed transactions made, so many stand up to place c at key k: the first q by key and commit
-abbrev pub IsPosition : List Event → ℕ → ℕ → ℕ → Type 0
-IsPosition h k c q = (rows : List KeyVersion) × AreVersionRows h rows × (q ≤ length rows) × AllWithin (IsUpTo k c) rows 0 q × AllWithin (IsBehind k c) rows q (length rows)
+-- the version at position q
+abbrev pub IsAtPosition : List Event → ℕ → KeyVersion → Type 0
+IsAtPosition h q v = (versions : List KeyVersion) × AreAllVersions h versions × (slice_get versions q ≡ Some v)
 
--- no version of k is committed up to place c
-abbrev pub NoneUpTo : List Event → ℕ → ℕ → Type 0
-NoneUpTo h k c = (u : ℕ) (d : ℕ) → CommitsVersion h k u d → c < d
+-- there is a version at position q
+abbrev pub HasPosition : List Event → ℕ → Type 0
+HasPosition h q = (v : KeyVersion) × IsAtPosition h q v
 
--- the newest version of k as of place c: version 0, as of 0, where none is committed up to there
-abbrev pub IsNewestAsOf : List Event → ℕ → ℕ → Made → Type 0
-IsNewestAsOf h k c made = ((made.txn ≡ 0) × (made.commit ≡ 0) × NoneUpTo h k c)
-    ⊎ (CommitsVersion h k made.txn made.commit × (made.commit ≤ c) × ((u : ℕ) (d : ℕ) → CommitsVersion h k u d → d ≤ c → d ≤ made.commit))
+-- there are so many positions
+abbrev pub ArePositions : List Event → ℕ → Type 0
+ArePositions h count = (versions : List KeyVersion) × AreAllVersions h versions × (length versions ≡ count)
+
+-- no version of k is committed behind place c
+abbrev pub NoneBehind : List Event → ℕ → ℕ → Type 0
+NoneBehind h k c = (u : ℕ) (d : ℕ) → CommitsVersion h k u d → d ≤ c
+
+-- the version is the newest of its key as of place c
+abbrev pub IsNewestAsOf : List Event → ℕ → KeyVersion → Type 0
+IsNewestAsOf h c v = (v.commit ≤ c) × ((u : ℕ) (d : ℕ) → CommitsVersion h v.key u d → d ≤ c → d ≤ v.commit)
+
+-- some version of k is committed up to place c
+abbrev pub HasVersionUpTo : List Event → ℕ → ℕ → Type 0
+HasVersionUpTo h k c = (u : ℕ) × (d : ℕ) × CommitsVersion h k u d × (d ≤ c)
+
+-- the version behind that at position q is the next of its key and commits there, or there is none and the place is 0
+abbrev pub IsCommitBehind : List Event → ℕ → KeyVersion → ℕ → Type 0
+IsCommitBehind h q v zero = NoneBehind h v.key v.commit
+IsCommitBehind h q v (suc before) = (w : KeyVersion) × IsAtPosition h (q + 1) w × (w.key ≡ v.key) × (w.commit ≡ suc before) × IsNextVersion h v.key v.commit w.txn

@@ -1,16 +1,17 @@
 -- What the tables of an index hold of its history.
-use Rattle.std.specs.Prelude.{◌≡◌, ◌<◌, ◌≤◌, ◌+◌, ◌^◌, ℕ, Option, Some, None, MatchOption, List, length, slice_index, slice_index_or}
+use Rattle.std.specs.Prelude.{◌≡◌, ◌<◌, ◌≤◌, ◌+◌, ℕ, Option, Some, None, MatchOption, List, [], length, slice_get, slice_index, slice_index_or}
 use Rattle.std.specs.List.Sorted.{IsPartitionPoint}
 use Rattle.sia_events.specs.declared.event.Event.{Event}
 use Rattle.sia_events.specs.Lists.{ListsAscending}
-use Rattle.sia_events.specs.Numbering.{names_of, txns_of, keys_of, writes_of, write_at}
+use Rattle.sia_events.specs.Numbering.{txns_of, keys_of}
 use Rattle.sia_events.specs.Refusals.{IsWellFormed}
 use Rattle.sia_events.specs.Transactions.{HasEvent, IsCommitted}
 use Rattle.sia_index.specs.Info.{IsInfo}
 use Rattle.sia_index.specs.Lifetimes.{AreLifetimes}
 use Rattle.sia_index.specs.Minima.{AreMinima}
-use Rattle.sia_index.specs.Rows.{AreVersionRows, AreMade, AreWrites, IsWritten}
-use Rattle.sia_index.specs.declared.info.KeyVersion.{KeyVersion}
+use Rattle.sia_index.specs.Rows.{AreWrites, IsColumn, IsWritten}
+use Rattle.sia_index.specs.VersionRows.{AreFirsts, AreRowsByPosition, AreWritesAt, commit_behind, made_row}
+use Rattle.sia_index.specs.declared.versions.VersionRow.{VersionRow}
 use Rattle.sia_index.specs.declared.info.TxnInfo.{TxnInfo}
 use Rattle.sia_index.specs.declared.keys.Keys.{Keys}
 use Rattle.sia_index.specs.declared.txns.Txns.{Txns}
@@ -52,40 +53,23 @@ pub record AreTxns (h : List Event) (t : Txns) : Type 0 where
 abbrev pub AreKeys : List Event → Keys → Type 0
 AreKeys h k = AreNumbers (IsWritten h) (keys_of h) k.keys.items k.numbers.items
 
--- each write has the number of its key
-pub record AreWriteKeys (h : List Event) (keys write_keys : List ℕ) : Type 0 where
-  pub count : length write_keys ≡ length (writes_of h)
-  pub each : (w : ℕ) → w < length (writes_of h) → (slice_index write_keys w < length keys) × (slice_index keys (slice_index write_keys w) ≡ (write_at (names_of h) w).0)
+-- the positions of the versions that each of so many transactions made, by its number, each ascending
+abbrev pub AreMadeBy : List VersionRow → ℕ → List (List ℕ) → Type 0
+AreMadeBy rows txns lists = (length lists ≡ txns)
+    × ((t : ℕ) → t < txns → ListsAscending (λ q. (row : VersionRow) × (slice_get rows q ≡ Some row) × (0 < row.write) × (row.maker ≡ t)) (slice_index_or lists t []))
 
--- and the place of the row of its version, if its transaction committed
-pub record AreWritePlaces (h : List Event) (rows : List KeyVersion) (places : List (Option ℕ)) : Type 0 where
-  pub count : length places ≡ length (writes_of h)
-  pub each : (w : ℕ) → w < length (writes_of h) → MatchOption (slice_index_or places w None) (¬ IsCommitted h (write_at (names_of h) w).1)
-      (λ j. (j < length rows) × ((d : KeyVersion) → ((slice_index_or rows j d).key ≡ (write_at (names_of h) w).0) × ((slice_index_or rows j d).txn ≡ (write_at (names_of h) w).1)))
-
--- of each version's maker the number among the committed transactions
-pub record AreMakers (committed : List ℕ) (rows : List KeyVersion) (makers : List ℕ) : Type 0 where
-  pub count : length makers ≡ length rows
-  pub each : (j : ℕ) (d : KeyVersion) → j < length rows → (slice_index makers j < length committed) × (slice_index committed (slice_index makers j) ≡ (slice_index_or rows j d).txn)
-
--- of each key a place that none of its versions commits before
-pub record AreFirsts (keys : List ℕ) (rows : List KeyVersion) (firsts : List KeyVersion) : Type 0 where
-  pub count : length firsts ≡ length keys
-  pub key : (i : ℕ) (d : KeyVersion) → i < length keys → (slice_index_or firsts i d).key ≡ slice_index keys i
-  pub least : (i j : ℕ) (d : KeyVersion) (e : KeyVersion) → i < length keys → j < length rows → (slice_index_or rows j e).key ≡ slice_index keys i → (slice_index_or firsts i d).commit ≤ (slice_index_or rows j e).commit
-
--- the versions of every written key, one key after another
+-- the tables by position, by key, by write and by transaction
 pub record AreVersionTables (h : List Event) (committed keys : List ℕ) (v : Versions) : Type 0 where
-  pub rows : List KeyVersion
-  pub rows_are : AreVersionRows h rows
-  pub few : length rows < 2 ^ 32
-  pub offsets_are : AreOffsets (λ row. row.key) keys rows v.offsets.items (length keys)
-  pub made_are : AreMade rows v.made.items
-  pub makers_are : AreMakers committed rows v.makers.items
-  pub write_keys_are : AreWriteKeys h keys v.write_keys.items
-  pub places_are : AreWritePlaces h rows v.places.items
-  pub firsts_are : AreFirsts keys rows v.firsts.items
-  pub minima_are : AreMinima (λ row. row.commit) v.firsts.items v.minima.items
+  pub rows : List VersionRow
+  pub rows_are : AreRowsByPosition h committed keys rows
+  pub made_are : IsColumn (made_row h) rows (length rows) v.made.items
+  pub makers_are : IsColumn (λ row. row.maker) rows (length rows) v.makers.items
+  pub keys_are : IsColumn (λ row. row.key) rows (length rows) v.key_numbers.items
+  pub firsts_are : AreFirsts rows (length rows) (length keys) v.firsts.items
+  pub writes_are : AreWritesAt h keys rows (length rows) v.writes.items
+  pub made_by_are : AreMadeBy rows (length committed) v.made_by
+  pub first_commits_are : IsColumn (commit_behind v.made.items) v.firsts.items (length v.firsts.items) v.first_commits.items
+  pub minima_are : AreMinima (λ place. place) v.first_commits.items v.minima.items
 
 -- the writes of every transaction, one after another
 pub record AreWriteTables (h : List Event) (ids : List ℕ) (w : Writes) : Type 0 where

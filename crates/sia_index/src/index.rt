@@ -8,7 +8,8 @@ ghost use Rattle.sia_events.specs.Transactions.{HasEvent, IsCommitted, Wrote, Ov
 ghost use Rattle.sia_index.specs.Info.{IsInfo, IsKeyAt, HasKeyAt, AreVersions, AreWrittenKeys, IsFirstWrite};
 ghost use Rattle.sia_index.specs.Lifetimes.{AreLifetimes};
 ghost use Rattle.sia_index.specs.Numbers.{HasTxnAt, IsTxnAt, IsCommittedAt};
-ghost use Rattle.sia_index.specs.Rows.{AreVersionRows, AreWrites, IsKeyStretch, IsStretch};
+ghost use Rattle.sia_index.specs.Positions.{AreAllVersions};
+ghost use Rattle.sia_index.specs.Rows.{AreWrites, IsKeyStretch, IsStretch};
 ghost use Rattle.sia_index.specs.declared.info.KeyVersion.{KeyVersion};
 ghost use Rattle.sia_index.specs.declared.writes.WriteRow.{WriteRow};
 ghost use Rattle.sia_index.specs.Tables.{AreTables};
@@ -16,6 +17,7 @@ ghost use Rattle.sia_index.specs.Tables.{AreTables};
 use crate::info::{Lifetime, Made, TxnInfo};
 use crate::keyed::{ByKey, ByTxn, find, place_from};
 use crate::keys::Keys;
+use crate::lists::end_at;
 use crate::ordering::group_at;
 use crate::txns::Txns;
 use crate::versions::Versions;
@@ -83,10 +85,8 @@ impl Index {
     pub fn txn(&self, t: TxnId) -> Option<TxnInfo>
         ensures { MatchOption result (¬ HasEvent self.now t) (IsInfo self.now t) }
     {
-        match self.txn_number(t) {
-            Some(i) => Some(self.txn_at(i)),
-            None => None,
-        }
+        let number = self.txn_number(t)?;
+        Some(self.txn_at(number))
     }
 
     /// Whether both committed, and each started before the other committed.
@@ -138,15 +138,16 @@ impl Index {
         ensures { (k : ℕ) → IsKeyAt self.now i k → AreVersions self.now k result.now }
     {
         let (from, to) = self.group(i);
-        &self.versions.made[from..to]
+        &self.versions.made[from + 1..to]
     }
 
-    // Where the versions of number `i` of the written keys begin and end among those of all keys.
+    // Where the versions of number `i` of the written keys begin, with version 0, and where they end.
     pub(crate) fn group(&self, i: usize) -> (usize, usize)
         requires { HasKeyAt self.now i }
-        ensures { (k : ℕ) (rows : List KeyVersion) → IsKeyAt self.now i k → AreVersionRows self.now rows → IsKeyStretch rows k result.0 result.1 }
+        ensures { (k : ℕ) (versions : List KeyVersion) → IsKeyAt self.now i k → AreAllVersions self.now versions → IsKeyStretch versions k result.0 result.1 }
     {
-        group_at(&self.versions.offsets, i)
+        let (firsts, count) = (&self.versions.firsts, self.versions.made.len());
+        (firsts[i] as usize, end_at(firsts, i, count))
     }
 
     /// Each key that some write event names, committed or not, ascending.
@@ -160,10 +161,8 @@ impl Index {
     pub fn first_write(&self, t: TxnId, k: Key) -> Option<u32>
         ensures { MatchOption result (¬ Wrote self.now t k) (IsFirstWrite self.now t k) }
     {
-        match self.txn_number(t) {
-            Some(i) => self.first_write_at(t, i, k),
-            None => None,
-        }
+        let number = self.txn_number(t)?;
+        self.first_write_at(t, number, k)
     }
 
     // The same of transaction number `i`.

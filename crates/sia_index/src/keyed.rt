@@ -1,9 +1,9 @@
 //! Rows in the order of a number, and what is found in a list of them by that number.
-ghost use Rattle.std.specs.Prelude.{◌≡◌, ◌≤◌, true, false, length, leb, ltb, ◌≢◌, ◌<◌, All, AllPairs, IsTrue, MatchOption, slice_index_or, ℕ};
+ghost use Rattle.std.specs.Prelude.{◌≡◌, ◌≤◌, true, false, length, leb, ltb, ◌≢◌, ◌<◌, All, AllPairs, MatchOption, slice_index_or, ℕ};
 ghost use Rattle.std.specs.List.Sorted.{IsNonDecreasingBy, IsPartitionPoint};
 ghost use Rattle.sia_index.specs.Between.{IsBetween};
 
-use crate::info::{KeyVersion, Made};
+use crate::info::Made;
 use crate::searching::partition_near;
 use sia_events::{Key, TxnId};
 
@@ -26,14 +26,6 @@ impl By<Key> for ByKey {
     }
 }
 
-impl By<KeyVersion> for ByKey {
-    ghost by = { λ version. version.key };
-
-    fn number(version: &KeyVersion) -> u64 {
-        version.key
-    }
-}
-
 /// By transaction.
 pub struct ByTxn;
 
@@ -48,11 +40,11 @@ impl By<TxnId> for ByTxn {
 /// By the place of an event: that of the write, or of the commit.
 pub struct ByPlace;
 
-impl By<KeyVersion> for ByPlace {
-    ghost by = { λ version. version.commit };
+impl By<u32> for ByPlace {
+    ghost by = { λ place. place };
 
-    fn number(version: &KeyVersion) -> u64 {
-        u64::from(version.commit)
+    fn number(place: &u32) -> u64 {
+        u64::from(*place)
     }
 }
 
@@ -116,20 +108,8 @@ pub(crate) fn find<T, O: By<T>>(rows: &[T], number: u64) -> Option<usize>
     ensures { MatchOption result (All (λ row. O.by row ≢ number) rows.now) (λ i. (i < length rows.now) × ((d : T) → O.by (slice_index_or rows.now i d) ≡ number)) }
 {
     let at = place_from::<T, O>(rows, number);
-    if stands_at::<T, O>(rows, number, at) {
-        Some(at)
-    } else {
-        None
+    if O::number(rows.get(at)?) != number {
+        return None;
     }
-}
-
-// Whether the row at the place, if there is one, has the number.
-fn stands_at<T, O: By<T>>(rows: &[T], number: u64, at: usize) -> bool
-    ensures here { IsTrue result → (at < length rows.now) × ((d : T) → O.by (slice_index_or rows.now at d) ≡ number) }
-    ensures other { result ≡ false → at < length rows.now → (d : T) → O.by (slice_index_or rows.now at d) ≢ number }
-{
-    match rows.get(at) {
-        Some(row) => O::number(row) == number,
-        None => false,
-    }
+    Some(at)
 }

@@ -1,10 +1,10 @@
 //! The table of written keys.
-ghost use Rattle.std.specs.Prelude.{◌≡◌, ℕ, List, IsTrue, IfOk, Contains};
+ghost use Rattle.std.specs.Prelude.{IsTrue, IfOk, Contains};
 ghost use Rattle.sia_events.specs.Numbering.{keys_of};
-ghost use Rattle.sia_index.specs.Rows.{AreNamesOf, AreNumbered, IsWritten};
+ghost use Rattle.sia_index.specs.Rows.{AreNumbered, IsWritten};
 ghost use Rattle.sia_index.specs.Tables.{AreKeys};
 
-use crate::names::{ByName, ByNumber, Numbered, places_of};
+use crate::names::{ByName, Numbered, places_of};
 use crate::ordering::in_order;
 use sia_events::{Key, Log};
 use std::alloc::{AllocError, Global};
@@ -21,8 +21,11 @@ pub fn keys_of(alloc: Global, log: &Log) -> Result<Keys, AllocError>
     ensures { IfOk result (λ keys. AreKeys log.now keys) }
 {
     let rows = written(alloc, log)?;
-    let keys = names_of(alloc, &rows)?;
-    let numbers = places_of::<Numbered, ByNumber>(alloc, log.key_count(), &rows)?;
+    let mut keys = Vec::with_capacity(alloc, rows.len())?;
+    for row in &rows {
+        keys.push(row.name)?;
+    }
+    let numbers = places_of(alloc, log.key_count(), &rows)?;
     Ok(Keys { keys, numbers })
 }
 
@@ -54,14 +57,4 @@ fn stands_at(rows: &[Numbered], row: Numbered, place: usize) -> bool
         Some(there) => *there == row,
         None => false,
     }
-}
-
-fn names_of(alloc: Global, rows: &[Numbered]) -> Result<Vec<Key>, AllocError>
-    ensures { IfOk result (λ names. AreNamesOf rows.now names.items) }
-{
-    let mut names = Vec::with_capacity(alloc, rows.len())?;
-    for row in rows {
-        names.push(row.name)?;
-    }
-    Ok(names)
 }

@@ -6,6 +6,7 @@ mod index;
 mod info;
 pub mod keyed;
 mod keys;
+pub mod lists;
 pub mod make;
 mod minima;
 mod names;
@@ -19,7 +20,7 @@ mod writes;
 
 pub use counts::{Counts, counted};
 pub use index::Index;
-pub use info::{DueAt, Fate, KeyVersion, Lifetime, Made, Reader, TxnInfo, WriteAt, overlap};
+pub use info::{Fate, KeyVersion, Lifetime, Made, Reader, TxnInfo, WriteAt, overlap};
 
 #[cfg(test)]
 mod tests;

@@ -1,8 +1,8 @@
 //! The least numbers of rows in blocks, and of blocks in a tree. A search for a low number passes all rows below a node at once.
-ghost use Rattle.std.specs.Prelude.{◌≡◌, ◌<◌, ◌≤◌, ◌+◌, ◌*◌, ◌/◌, ℕ, IsTrue, IfOk, MatchOption, length, slice_index, slice_range};
+ghost use Rattle.std.specs.Prelude.{◌<◌, ◌≤◌, ◌+◌, ◌*◌, ◌/◌, ℕ, IfOk, MatchOption, length, slice_range};
 ghost use Rattle.std.specs.List.{AllWithin};
 ghost use Rattle.std.specs.List.Sorted.{IsNonDecreasingBy};
-ghost use Rattle.sia_index.specs.Minima.{AreLeaves, AreMinima, Covers, IsNextBelow, IsNextKey, IsPower, PassesBlocks};
+ghost use Rattle.sia_index.specs.Minima.{AreMinima, Covers, IsNextBelow, IsNextKey, IsPower, PassesBlocks};
 
 use crate::keyed::{By, place_above, place_from};
 use sia_events::Key;
@@ -17,7 +17,11 @@ pub fn minima_of<T, O: By<T>>(alloc: Global, rows: &[T]) -> Result<Vec<u64>, All
     ensures { IfOk result (λ minima. AreMinima O.by rows.now minima.items) }
 {
     let size = size_for(rows.len());
-    let mut minima = leaves_of::<T, O>(alloc, size, rows)?;
+    let mut minima = vec![in alloc; u64::MAX; 2 * size]?;
+    for (i, row) in rows.iter().enumerate() {
+        let leaf = size + i / BLOCK;
+        minima[leaf] = minima[leaf].min(O::number(row));
+    }
     for node in (1..size).rev() {
         minima[node] = minima[2 * node].min(minima[2 * node + 1]);
     }
@@ -35,20 +39,6 @@ fn size_for(rows: usize) -> usize
         size *= 2;
     }
     size
-}
-
-// The least number of each block, behind as many places for the nodes above.
-fn leaves_of<T, O: By<T>>(alloc: Global, size: usize, rows: &[T]) -> Result<Vec<u64>, AllocError>
-    requires enough { length rows.now ≤ size * 16 }
-    requires few { size ≤ 2305843009213693952 }
-    ensures { IfOk result (λ minima. AreLeaves O.by rows.now (length rows.now) size minima.items) }
-{
-    let mut minima = vec![in alloc; u64::MAX; 2 * size]?;
-    for (i, row) in rows.iter().enumerate() {
-        let leaf = size + i / BLOCK;
-        minima[leaf] = minima[leaf].min(O::number(row));
-    }
-    Ok(minima)
 }
 
 /// Of the keys from `lo` to `hi` the least that a row of the stretch has with a number below the limit.
@@ -69,10 +59,8 @@ pub fn next_key<T, K: By<T>, O: By<T>>(
     let (from, to) = stretch;
     let first = from + place_from::<T, K>(&rows[from..to], lo);
     let last = from + place_above::<T, K>(&rows[from..to], hi);
-    match next_below::<T, O>(rows, minima, first, last, limit) {
-        Some(i) => Some(K::number(&rows[i])),
-        None => None,
-    }
+    let next = next_below::<T, O>(rows, minima, first, last, limit)?;
+    Some(K::number(&rows[next]))
 }
 
 /// The first place, from `from` to below `to`, of a row whose number is below the limit.

@@ -23,30 +23,19 @@ impl By<Numbered> for ByName {
     }
 }
 
-/// By the number in the log.
-pub struct ByNumber;
-
-impl By<Numbered> for ByNumber {
-    ghost by = { λ row. row.number };
-
-    fn number(row: &Numbered) -> u64 {
-        u64::from(row.number)
-    }
-}
-
 /// For each number below the count the place of the row that has it, if there is one.
-pub fn places_of<T, O: By<T>>(
+pub fn places_of(
     alloc: Global,
     count: u32,
-    rows: &[T],
+    rows: &[Numbered],
 ) -> Result<Vec<Option<u32>>, AllocError>
-    requires apart { AllPairs (λ x y. O.by x ≢ O.by y) rows.now }
-    requires within { All (λ row. O.by row < count) rows.now }
-    ensures { IfOk result (λ places. ArePlaces O.by rows.now count places.items) }
+    requires apart { AllPairs (λ x y. x.number ≢ y.number) rows.now }
+    requires within { All (λ row. row.number < count) rows.now }
+    ensures { IfOk result (λ places. ArePlaces (λ row. row.number) rows.now count places.items) }
 {
     let mut places = vec![in alloc; None; count as usize]?;
     for (i, row) in rows.iter().enumerate() {
-        places[O::number(row) as usize] = Some(i as u32);
+        places[row.number as usize] = Some(i as u32);
     }
     Ok(places)
 }

@@ -1,17 +1,19 @@
-//! The written keys of an index, and the positions of their versions.
-ghost use Rattle.std.specs.Prelude.{◌≡◌, ◌<◌, ◌≤◌, ◌-◌, ℕ, MatchOption, ◌↔◌, IsTrue, List, length, slice_index, slice_index_or};
+//! The positions of versions, and what stands next to one.
+ghost use Rattle.std.specs.Prelude.{◌≡◌, ◌<◌, ◌≤◌, ◌-◌, ℕ, MatchOption, ◌↔◌, IsTrue, length};
 ghost use Rattle.sia_events.specs.Numbering.{names_of, keys_of, writes_of, key_at, write_at};
-ghost use Rattle.sia_events.specs.Transactions.{IsCommitted, CommitsAt, Wrote};
-ghost use Rattle.sia_index.specs.Info.{IsKeyAt, HasKeyAt, AreVersions};
+ghost use Rattle.sia_events.specs.Lists.{ListsAscending};
+ghost use Rattle.sia_events.specs.NarrowDependencies.{IsNextVersion};
+ghost use Rattle.sia_events.specs.Transactions.{IsCommitted, Wrote};
+ghost use Rattle.sia_index.specs.Info.{IsKeyAt, HasKeyAt};
 ghost use Rattle.sia_index.specs.Numbers.{IsCommittedAt};
-ghost use Rattle.sia_index.specs.declared.info.Made.{Made};
-ghost use Rattle.sia_index.specs.Rows.{AscendsByCommit};
-ghost use Rattle.std.specs.List.Sorted.{IsPartitionPoint};
-ghost use Rattle.sia_index.specs.Positions.{IsPosition, IsNewestAsOf};
+ghost use Rattle.sia_index.specs.declared.info.KeyVersion.{KeyVersion};
+ghost use Rattle.sia_index.specs.Positions.{ArePositions, HasPosition, IsCommitBehind, HasVersionUpTo, IsAtPosition, IsNewestAsOf, NoneBehind};
 
 use crate::index::Index;
 use crate::info::{Made, WriteAt};
 use crate::keyed::{ByPlace, place_above};
+use crate::minima::next_below;
+use crate::versions::before_commit;
 
 impl Index {
     /// The number of the log's key among the written ones, if it is written.
@@ -28,85 +30,135 @@ impl Index {
         requires bound { write ≤ length (writes_of self.now) }
         ensures key { IsKeyAt self.now result.key (write_at (names_of self.now) (write - 1)).0 }
         ensures position { MatchOption result.position (¬ IsCommitted self.now (write_at (names_of self.now) (write - 1)).1)
-            (λ q. IsCommitted self.now (write_at (names_of self.now) (write - 1)).1
-            × ((c : ℕ) → CommitsAt self.now (write_at (names_of self.now) (write - 1)).1 c → IsPosition self.now (write_at (names_of self.now) (write - 1)).0 c q)) }
+            (λ q. (v : KeyVersion) × IsAtPosition self.now q v × (v.key ≡ (write_at (names_of self.now) (write - 1)).0) × (v.txn ≡ (write_at (names_of self.now) (write - 1)).1) × (0 < v.commit)) }
     {
-        let write = write as usize - 1;
-        WriteAt {
-            key: self.versions.write_keys[write],
-            position: match self.versions.places[write] {
-                Some(place) => Some(place + 1),
-                None => None,
-            },
-        }
+        self.versions.writes[write as usize - 1]
+    }
+
+    /// How many positions there are.
+    pub fn position_count(&self) -> u32
+        ensures { ArePositions self.now result }
+    {
+        self.versions.made.len() as u32
     }
 
     /// The position of version 0 of written key number `i`.
     pub fn first_position(&self, i: u32) -> u32
         requires { HasKeyAt self.now i }
-        ensures { (k : ℕ) → IsKeyAt self.now i k → IsPosition self.now k 0 result }
+        ensures { (v : KeyVersion) × IsAtPosition self.now result v × IsKeyAt self.now i v.key × (v.commit ≡ 0) }
     {
-        let _ = &self.of;
-        self.group(i as usize).0 as u32
+        self.versions.firsts[i as usize]
     }
 
-    /// Whether the version of written key number `i` that stands at the position is the newest as of the place: two looks, and no search.
-    pub fn is_newest(&self, i: u32, position: u32, place: u32) -> bool
-        requires { HasKeyAt self.now i }
-        ensures { (k : ℕ) → IsKeyAt self.now i k → IsTrue result ↔ IsPosition self.now k place position }
+    /// The number of the key of the version at the position.
+    pub fn key_at(&self, position: u32) -> u32
+        requires { HasPosition self.now position }
+        ensures { (v : KeyVersion) → IsAtPosition self.now position v → IsKeyAt self.now result v.key }
+    {
+        self.versions.key_numbers[position as usize]
+    }
+
+    /// When the version at the position was committed: 0 for version 0.
+    pub fn commit_at(&self, position: u32) -> u32
+        requires { HasPosition self.now position }
+        ensures { (v : KeyVersion) → IsAtPosition self.now position v → result ≡ v.commit }
+    {
+        self.versions.made[position as usize].commit
+    }
+
+    /// The number, among the committed transactions, of who made the version at the position. Nobody made version 0.
+    pub fn maker_at(&self, position: u32) -> Option<u32>
+        requires { HasPosition self.now position }
+        ensures { (v : KeyVersion) → IsAtPosition self.now position v → MatchOption result (v.commit ≡ 0) (λ i. (0 < v.commit) × IsCommittedAt self.now i v.txn) }
+    {
+        if self.commit_at(position) == 0 {
+            return None;
+        }
+        Some(self.versions.makers[position as usize])
+    }
+
+    // When the version behind the position was committed: 0 where that is another key's version 0, or there is none.
+    fn commit_behind(&self, position: u32) -> u32
+        requires { HasPosition self.now position }
+        ensures { (v : KeyVersion) → IsAtPosition self.now position v → IsCommitBehind self.now position v result }
+    {
+        match self.versions.made.get(position as usize + 1) {
+            Some(next) => next.commit,
+            None => 0,
+        }
+    }
+
+    /// The position of the next version of the same key, if there is one.
+    pub fn next_position(&self, position: u32) -> Option<u32>
+        requires { HasPosition self.now position }
+        ensures { (v : KeyVersion) → IsAtPosition self.now position v → MatchOption result (NoneBehind self.now v.key v.commit)
+            (λ q. (w : KeyVersion) × IsAtPosition self.now q w × (w.key ≡ v.key) × (0 < w.commit) × IsNextVersion self.now v.key v.commit w.txn × (position < q)) }
     {
         let _ = &self.of;
-        let (from, to) = self.group(i as usize);
-        let at = position as usize;
-        if at < from || to < at {
+        if self.commit_behind(position) == 0 {
+            return None;
+        }
+        Some(position + 1)
+    }
+
+    /// The position of the version of the same key before this one, version 0 among them, if there is one.
+    pub fn position_before(&self, position: u32) -> Option<u32>
+        requires { HasPosition self.now position }
+        ensures { (v : KeyVersion) → IsAtPosition self.now position v → MatchOption result (v.commit ≡ 0)
+            (λ q. (w : KeyVersion) × IsAtPosition self.now q w × (w.key ≡ v.key) × (w.commit < v.commit) × IsNextVersion self.now v.key w.commit v.txn × (q < position)) }
+    {
+        let _ = &self.of;
+        if self.commit_at(position) == 0 {
+            return None;
+        }
+        Some(position - 1)
+    }
+
+    /// Whether the version at the position is the newest of its key as of the place: two looks, and no search.
+    pub fn is_newest(&self, position: u32, place: u32) -> bool
+        requires { HasPosition self.now position }
+        ensures { (v : KeyVersion) → IsAtPosition self.now position v → IsTrue result ↔ IsNewestAsOf self.now place v }
+    {
+        let _ = &self.of;
+        if self.commit_at(position) > place {
             return false;
         }
-        parts_at(&self.versions.made[from..to], at - from, place)
+        place <= before_commit(self.commit_behind(position))
     }
 
     /// The position of the newest version of written key number `i` as of the place, by a search.
     pub fn position_as_of(&self, i: u32, place: u32) -> u32
         requires { HasKeyAt self.now i }
-        ensures { (k : ℕ) → IsKeyAt self.now i k → IsPosition self.now k place result }
+        ensures { (v : KeyVersion) × IsAtPosition self.now result v × IsKeyAt self.now i v.key × IsNewestAsOf self.now place v }
     {
         let (from, to) = self.group(i as usize);
-        (from
-            + place_above::<Made, ByPlace>(&self.versions.made[from..to], u64::from(place))) as u32
+        let versions = &self.versions.made[from + 1..to];
+        (from + place_above::<Made, ByPlace>(versions, u64::from(place))) as u32
     }
 
-    /// The version of written key number `i` that stands at the position: version 0, as of 0, where none stands there.
-    pub fn version_at(&self, i: u32, position: u32) -> Made
-        requires { HasKeyAt self.now i }
-        ensures { (k : ℕ) (c : ℕ) → IsKeyAt self.now i k → IsPosition self.now k c position → IsNewestAsOf self.now k c result }
+    /// The positions of the versions that number `t` of the committed transactions made, ascending.
+    pub fn made_by(&self, t: usize) -> &[u32]
+        requires { (u : ℕ) × IsCommittedAt self.now t u }
+        ensures { (u : ℕ) → IsCommittedAt self.now t u → ListsAscending (λ q. (v : KeyVersion) × IsAtPosition self.now q v × (0 < v.commit) × (v.txn ≡ u)) result.now }
     {
-        let (from, to) = self.group(i as usize);
-        let at = position as usize;
-        if from < at && at <= to {
-            self.versions.made[at - 1]
-        } else {
-            Made { txn: 0, commit: 0 }
-        }
+        self.versions.made_by.at(t)
     }
 
-    /// The numbers, among the committed transactions, of those who made these versions, in their order.
-    pub fn makers_at(&self, i: usize) -> &[u32]
-        requires { HasKeyAt self.now i }
-        ensures { (k : ℕ) (versions : List Made) → IsKeyAt self.now i k → AreVersions self.now k versions
-            → (length result.now ≡ length versions) × ((j : ℕ) (d : Made) → j < length versions → IsCommittedAt self.now (slice_index result.now j) (slice_index_or versions j d).txn) }
+    /// Of the written keys from number `from` to before number `to` the least with a version that is committed up to the place. `to` is at most the number of written keys.
+    pub fn next_visible(&self, from: u32, to: u32, place: u32) -> Option<u32>
+        requires { (i : ℕ) → i < to → HasKeyAt self.now i }
+        ensures { MatchOption result ((i k : ℕ) → from ≤ i → i < to → IsKeyAt self.now i k → ¬ HasVersionUpTo self.now k place)
+            (λ j. (from ≤ j) × (j < to) × ((i k : ℕ) → from ≤ i → i < j → IsKeyAt self.now i k → ¬ HasVersionUpTo self.now k place)
+            × ((k : ℕ) → IsKeyAt self.now j k → HasVersionUpTo self.now k place)) }
     {
-        let (from, to) = self.group(i);
-        &self.versions.makers[from..to]
+        let commits = &self.versions.first_commits;
+        let found = next_below::<u32, ByPlace>(
+            commits,
+            &self.versions.minima,
+            from as usize,
+            to as usize,
+            u64::from(place),
+        )?;
+        Some(found as u32)
     }
-}
-
-// Whether the versions before the place of the list are those that commit at most at the other place.
-fn parts_at(versions: &[Made], at: usize, place: u32) -> bool
-    requires ascend { AscendsByCommit versions.now }
-    requires within { at ≤ length versions.now }
-    ensures { IsTrue result ↔ IsPartitionPoint (λ made. made.commit ≤ place) (λ made. place < made.commit) versions.now at }
-{
-    if at > 0 && versions[at - 1].commit > place {
-        return false;
-    }
-    at == versions.len() || versions[at].commit > place
 }

@@ -1,14 +1,14 @@
 //! What is due to a transaction that reads, at one key and over a range of keys.
-ghost use Rattle.std.specs.Prelude.{◌≡◌, ◌↔◌, ◌<◌, ◌≤◌, ℕ, IsTrue, MatchOption, All, false, length};
+ghost use Rattle.std.specs.Prelude.{◌↔◌, ◌<◌, IsTrue, MatchOption, All, length};
 ghost use Rattle.sia_events.specs.Numbering.{names_of, txns_of, txn_at};
 ghost use Rattle.sia_events.specs.Transactions.{HasEvent, WroteBefore};
-ghost use Rattle.sia_events.specs.Reads.{IsVisible, IsDue};
-ghost use Rattle.sia_index.specs.Info.{IsReader, NoneDue, IsNextDue};
+ghost use Rattle.sia_events.specs.Reads.{IsDue};
+ghost use Rattle.sia_index.specs.Info.{IsReader};
 ghost use Rattle.sia_index.specs.Numbers.{IsTxnAt};
-ghost use Rattle.sia_index.specs.Rows.{AscendsByCommit, IsLastWithin, PassesNone, HasDue};
+ghost use Rattle.sia_index.specs.Rows.{AscendsByCommit, IsLastWithin, PassesNone};
 
 use crate::index::Index;
-use crate::info::{DueAt, KeyVersion, Made, Reader};
+use crate::info::{Made, Reader};
 use crate::keyed::{ByKey, ByPlace, place_above};
 use crate::minima::next_key;
 use crate::writes::WriteRow;
@@ -87,55 +87,8 @@ impl Index {
         }
     }
 
-    /// Whether the reader may have written a key from `lo` to `hi` before its place.
-    pub fn may_own(&self, reader: Reader, lo: Key, hi: Key) -> bool
-        requires { IsReader self.now reader.txn reader.place reader }
-        ensures { result ≡ false → (k : ℕ) → lo ≤ k → k ≤ hi → ¬ WroteBefore self.now reader.txn k reader.place }
-    {
-        match self.next_own(reader, lo, hi) {
-            Some(_) => true,
-            None => false,
-        }
-    }
-
-    /// Of the keys from `lo` to `hi` the least at which another version than 0 is due to the reader.
-    pub fn next_due(&self, reader: Reader, lo: Key, hi: Key) -> Option<DueAt>
-        requires { IsReader self.now reader.txn reader.place reader }
-        ensures { MatchOption result (NoneDue self.now reader.txn reader.place lo hi) (IsNextDue self.now reader.txn reader.place lo hi) }
-    {
-        let mut from = lo;
-        while let Some(key) = self.next_key(reader, from, hi) {
-            let due = self.due_to(reader, key);
-            if due != 0 {
-                return Some(DueAt { key, due });
-            }
-            // No table promises that this is never reached, only that no key is passed.
-            if key == hi {
-                return None;
-            }
-            from = key + 1;
-        }
-        None
-    }
-
-    // The least key from `lo` to `hi` at which another version than 0 may be due to the reader.
-    fn next_key(&self, reader: Reader, lo: Key, hi: Key) -> Option<Key>
-        requires { IsReader self.now reader.txn reader.place reader }
-        ensures { PassesNone (HasDue self.now reader.txn reader.place) lo hi result }
-    {
-        let seen = self.next_seen(reader, lo, hi);
-        let most = match seen {
-            Some(key) => key,
-            None => hi,
-        };
-        match self.next_own(reader, lo, most) {
-            Some(key) => Some(key),
-            None => seen,
-        }
-    }
-
-    // The least key from `lo` to `hi` that the reader wrote before its place.
-    fn next_own(&self, reader: Reader, lo: Key, hi: Key) -> Option<Key>
+    /// The least key from `lo` to `hi` that the reader wrote before its place.
+    pub fn next_own(&self, reader: Reader, lo: Key, hi: Key) -> Option<Key>
         requires { IsReader self.now reader.txn reader.place reader }
         ensures { PassesNone (λ k. WroteBefore self.now reader.txn k reader.place) lo hi result }
     {
@@ -151,21 +104,6 @@ impl Index {
         } else {
             None
         }
-    }
-
-    // The least key from `lo` to `hi` with a version that the reader sees.
-    fn next_seen(&self, reader: Reader, lo: Key, hi: Key) -> Option<Key>
-        requires { IsReader self.now reader.txn reader.place reader }
-        ensures { PassesNone (λ k. (u : ℕ) × IsVisible self.now reader.txn k u) lo hi result }
-    {
-        next_key::<KeyVersion, ByKey, ByPlace>(
-            &self.versions.firsts,
-            &self.versions.minima,
-            (0, self.versions.firsts.len()),
-            lo,
-            hi,
-            u64::from(reader.start) + 1,
-        )
     }
 }
 

@@ -27,7 +27,12 @@ pub fn partition_near<T, P: Fn(&T) -> bool>(rows: &[T], near: usize, below: P) -
     };
     let mut step = 1usize;
     while low < high {
-        let at = next_try(low, high, guess);
+        // The guess if it lies between the two, and else the middle.
+        let at = if low <= guess && guess < high {
+            guess
+        } else {
+            low + (high - low) / 2
+        };
         if below(&rows[at]) {
             low = at + 1;
             guess = at.saturating_add(step);
@@ -38,17 +43,4 @@ pub fn partition_near<T, P: Fn(&T) -> bool>(rows: &[T], near: usize, below: P) -
         step = step.saturating_mul(2);
     }
     low
-}
-
-// The guess if it lies between the two, and else the middle.
-fn next_try(low: usize, high: usize, guess: usize) -> usize
-    requires { low < high }
-    ensures from { low ≤ result }
-    ensures below { result < high }
-{
-    if low <= guess && guess < high {
-        guess
-    } else {
-        low + (high - low) / 2
-    }
 }

@@ -1,4 +1,6 @@
 //! What an index answers of worked histories.
+ghost use Rattle.sia_index.specs.Positions.{HasPosition};
+
 use super::*;
 use crate::searching::partition_near;
 use sia_events::{Key, TxnId, read_history};
@@ -8,7 +10,7 @@ use std::test::*;
 
 mod histories;
 
-use histories::{Asked, Due, HISTORIES, NUMBERED, OF_MANY};
+use histories::{Asked, Due, HISTORIES, NUMBERED, OF_MANY, VISIBLE_OF_MANY};
 
 // An index of the history that the text stands for.
 fn index_of(alloc: Global, text: &[u8]) -> Result<Index, Fail> {
@@ -47,17 +49,41 @@ fn is_answered(index: &Index, asked: &Asked<'_>) -> bool {
         Asked::NoKey(k) => !keys.contains(k) && index.versions(*k).is_empty(),
         Asked::Overlap(t, u, is_told) => index.overlap(*t, *u) == *is_told,
         Asked::FirstWrite(t, k, place) => index.first_write(*t, *k) == *place,
-        Asked::Newest(i, position, place, is_told) => {
-            (*i as usize) < keys.len() && index.is_newest(*i, *position, *place) == *is_told
+        Asked::Newest(position, place, is_told) => {
+            *position < index.position_count() && index.is_newest(*position, *place) == *is_told
         }
         Asked::AsOf(i, place, position) => {
             (*i as usize) < keys.len() && index.position_as_of(*i, *place) == *position
         }
-        Asked::Version(i, position, made) => {
-            (*i as usize) < keys.len() && index.version_at(*i, *position) == *made
+        Asked::At(position, version, beside) => {
+            *position < index.position_count() && is_at(index, *position, *version, *beside)
         }
-        Asked::Makers(i, makers) => *i < keys.len() && index.makers_at(*i) == *makers,
+        Asked::MadeBy(txn, positions) => {
+            *txn < index.committed().len() && index.made_by(*txn) == *positions
+        }
+        Asked::Visible(from, to, place, found) => {
+            (*to as usize) <= keys.len() && index.next_visible(*from, *to, *place) == *found
+        }
     }
+}
+
+// Whether the version at the position has this key, this commit and this maker, and these positions stand before and behind.
+fn is_at(
+    index: &Index,
+    position: u32,
+    version: (u32, u32, Option<u32>),
+    beside: (Option<u32>, Option<u32>),
+) -> bool
+    requires { HasPosition index.now position }
+{
+    let (key, commit, maker) = version;
+    let (before, behind) = beside;
+    let mut is_so = index.key_at(position) == key;
+    is_so &= index.commit_at(position) == commit;
+    is_so &= index.maker_at(position) == maker;
+    is_so &= index.position_before(position) == before;
+    is_so &= index.next_position(position) == behind;
+    is_so
 }
 
 // Whether this is the reader of a transaction that has an event, and what is due to it.
@@ -73,8 +99,7 @@ fn is_due(index: &Index, wanted: &Reader, dues: &[Due]) -> bool {
             Due::At(k, version) => {
                 index.due(t, place, *k) == *version && index.due_to(reader, *k) == *version
             }
-            Due::MayOwn(lo, hi, is_told) => index.may_own(reader, *lo, *hi) == *is_told,
-            Due::Next(lo, hi, next) => index.next_due(reader, *lo, *hi) == *next,
+            Due::Own(lo, hi, own) => index.next_own(reader, *lo, *hi) == *own,
         };
     }
     is_so
@@ -152,6 +177,9 @@ fn due_among_many(rt: HostRuntime) -> Result<(), Fail> {
     let index = index_of(rt.alloc(), text.as_bytes())?;
     for (reader, dues) in OF_MANY {
         assert!(rt; is_due(&index, reader, dues));
+    }
+    for asked in VISIBLE_OF_MANY {
+        assert!(rt; is_answered(&index, asked));
     }
     Ok(())
 }

@@ -10,7 +10,7 @@ ghost use Rattle.sia_index.specs.Rows.{AreNumbered, AreNamesOf, IsAmong};
 ghost use Rattle.sia_index.specs.Tables.{AreInfos, AreTxns};
 
 use crate::info::{Fate, Lifetime, TxnInfo};
-use crate::names::{ByName, ByNumber, Numbered, places_of};
+use crate::names::{ByName, Numbered, places_of};
 use crate::ordering::in_order;
 use sia_events::{Log, TxnEnd, TxnId, TxnRow};
 use std::alloc::{AllocError, Global};
@@ -34,10 +34,10 @@ pub fn txns_of(alloc: Global, log: &Log) -> Result<Txns, AllocError>
     log.law();
     let rows = numbered(alloc, log, false)?;
     let (ids, infos) = infos_of(alloc, log, &rows)?;
-    let numbers = places_of::<Numbered, ByNumber>(alloc, log.txn_count(), &rows)?;
+    let numbers = places_of(alloc, log.txn_count(), &rows)?;
     let ended = numbered(alloc, log, true)?;
     let (committed, lifetimes) = lifetimes_of(alloc, log, &ended)?;
-    let committed_numbers = places_of::<Numbered, ByNumber>(alloc, log.txn_count(), &ended)?;
+    let committed_numbers = places_of(alloc, log.txn_count(), &ended)?;
     Ok(Txns {
         ids,
         infos,

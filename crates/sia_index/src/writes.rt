@@ -1,5 +1,5 @@
 //! The table of write events, by transaction and key.
-ghost use Rattle.std.specs.Prelude.{◌≡◌, IfOk, List, ℕ, length};
+ghost use Rattle.std.specs.Prelude.{IfOk};
 ghost use Rattle.sia_events.specs.Lists.{ListsAscending};
 ghost use Rattle.sia_events.specs.Transactions.{HasEvent};
 ghost use Rattle.sia_index.specs.Rows.{AreWrites, IsWriteEvent};

@@ -1,11 +1,9 @@
 -- What a list holds once something was added, thing by thing.
-use Rattle.std.proofs.Common.{◌≡◌, ◌⊎◌, inl, inr, ℕ, ◌+◌, ◌<◌, ◌≤◌, List, [], ◌∷◌, ◌++◌, length, take, get_or, ap, sym, subst, ◌∙◌, arith}
+use Rattle.std.proofs.Common.{◌≡◌, ◌⊎◌, inl, inr, ℕ, ◌+◌, ◌<◌, ◌≤◌, List, [], ◌∷◌, ◌++◌, length, take, get_or, sym, subst, arith}
 use Rattle.std.specs.Prelude.{◌↔◌, Contains}
-use Rattle.std.proofs.lemmas.Bool.{cases_lt}
-use Rattle.std.proofs.lemmas.List.{take_more, take_all, get_or-take, length-take, get_or_default}
+use Rattle.std.proofs.lemmas.List.{take_more, take_all}
 use Rattle.std.proofs.lemmas.List.Elements.{Contains-append_left, Contains-append_right, Contains-append_cases, Contains-push, Contains-push_cases}
-use Rattle.sia_index.specs.declared.info.Made.{Made}
-use Rattle.sia_parts.specs.Sights.{Adds, FromSome, FromPair, AscendsByCommit}
+use Rattle.sia_parts.specs.Sights.{Adds, FromSome, Gives}
 
 module _ {A : Type 0} (P : A → Type 0) where
   -- what nothing has adds nothing
@@ -96,70 +94,6 @@ module _ {A B : Type 0} (P : A → B → Type 0) (xs : List A) where
   pub from_all : (n : ℕ) (old new : List B) → length xs ≤ n → Adds (FromFirst P xs n) old new → Adds (FromSome P xs) old new
   from_all n old new all adds = subst (λ zs. Adds (FromSome P zs) old new) (take_all n xs all) adds
 
--- the first n of versions that ascend
-pub ascend_before : (versions : List Made) → AscendsByCommit versions → (n : ℕ) → AscendsByCommit (take n versions)
-ascend_before versions up n i j d less below =
-    let long = length-take n versions in
-    let before : j < n = omega arith in
-    rw (get_or-take n versions i d (omega arith), get_or-take n versions j d before) (up i j d less (omega arith))
-
--- two versions, the second among the first n, give it
-abbrev pub FromFirstPairs : {B : Type 0} → (Made → Made → B → Type 0) → List Made → ℕ → B → Type 0
-FromFirstPairs {B} P versions n b = (first : Made) × (second : Made) × Contains versions first × Contains (take n versions) second × (first.commit < second.commit) × P second first b
-
-module _ {B : Type 0} (P : Made → Made → B → Type 0) (versions : List Made) (up : AscendsByCommit versions) where
-  pub pairs_none : (old : List B) → Adds (FromFirstPairs P versions 0) old old
-  pairs_none old = adds_nothing (FromFirstPairs P versions 0) old (λ b f. let below = f.3.1 in absurd (omega arith))
-
-  -- a version that stands at n or later doesn't commit before the one at n
-  not_before : (n m : ℕ) (d e : Made) → n ≤ m → m < length versions → ¬ ((get_or versions m e).commit < (get_or versions n d).commit)
-  not_before n m d e after below less = elim (cases_lt n m) [
-    | inl later ↦
-        let above : (get_or versions n d).commit < (get_or versions m d).commit = up n m d later below in
-        let same = ap (λ (x : Made). x.commit) (get_or_default versions m d e below) in
-        omega arith
-    | inr none ↦
-        let same : n ≡ m = omega arith in
-        let at = ap (λ (x : Made). x.commit) (get_or_default versions m d e below) in
-        let moved : (get_or versions n d).commit ≡ (get_or versions m d).commit = ap (λ k. (get_or versions k d).commit) same in
-        omega arith
-  ]
-
-  -- what commits before the version at n is among the first n
-  before_it : (n : ℕ) (d first : Made) → n < length versions → Contains versions first → first.commit < (get_or versions n d).commit → Contains (take n versions) first
-  before_it n d first below c less = elim (cases_lt c.0 n) [
-    | inl before ↦ (c.0, (let b = c.1 in omega (arith, length-take n versions)), get_or-take n versions c.0 first before ∙ c.2)
-    | inr after ↦ absurd (not_before n c.0 d first after c.1 (subst (λ (x : Made). x.commit < (get_or versions n d).commit) (sym c.2) less))
-  ]
-
-  -- and the first n commit before it
-  pub earlier_first : (n : ℕ) (d first : Made) → n < length versions → Contains (take n versions) first → Contains versions first × (first.commit < (get_or versions n d).commit)
-  earlier_first n d first below c =
-      let before : c.0 < n = let b = c.1 in omega (arith, length-take n versions) in
-      let is : get_or versions c.0 first ≡ first = sym (get_or-take n versions c.0 first before) ∙ c.2 in
-      let less : (get_or versions c.0 first).commit < (get_or versions n first).commit = up c.0 n first before below in
-      let at = ap (λ (x : Made). x.commit) (get_or_default versions n first d below) in
-      let own = ap (λ (x : Made). x.commit) is in
-      ((c.0, (let b = before in omega arith), is), omega arith)
-
-  pub pairs_more : (n : ℕ) (d : Made) (old mid new : List B) → n < length versions → Adds (FromFirstPairs P versions n) old mid → Adds (FromSome (P (get_or versions n d)) (take n versions)) mid new → Adds (FromFirstPairs P versions (n + 1)) old new
-  pairs_more n d old mid new below before here =
-      adds_same (λ b. FromFirstPairs P versions n b ⊎ FromSome (P (get_or versions n d)) (take n versions) b) (FromFirstPairs P versions (n + 1)) old new
-      (λ b e. elim e [
-        | inl f ↦ (f.0, f.1, f.2, subst (λ zs. Contains zs f.1) (sym (take_more versions n d below)) (Contains-append_left (take n versions) (get_or versions n d ∷ []) f.1 f.3), f.4, f.5)
-        | inr p ↦
-            let early = earlier_first n d p.0 below p.1 in
-            (p.0, get_or versions n d, early.0, subst (λ zs. Contains zs (get_or versions n d)) (sym (take_more versions n d below)) (Contains-push (take n versions) (get_or versions n d)), early.1, p.2)
-      ])
-      (λ b f. elim (Contains-push_cases (take n versions) (get_or versions n d) f.1 (subst (λ zs. Contains zs f.1) (take_more versions n d below) f.3)) [
-        | inl c ↦ inl (f.0, f.1, f.2, c, f.4, f.5)
-        | inr same ↦ inr (
-          f.0,
-          before_it n d f.0 below f.2 (subst (λ (x : Made). f.0.commit < x.commit) (sym same) f.4),
-          subst (λ (x : Made). P x f.0 b) (sym same) f.5,
-        )
-      ])
-      (adds_both (FromFirstPairs P versions n) (FromSome (P (get_or versions n d)) (take n versions)) old mid new before here)
-
-  pub pairs_all : (n : ℕ) (old new : List B) → length versions ≤ n → Adds (FromFirstPairs P versions n) old new → Adds (FromPair P versions) old new
-  pairs_all n old new all adds = subst (λ zs. Adds (λ b. (first : Made) × (second : Made) × Contains versions first × Contains zs second × (first.commit < second.commit) × P second first b) old new) (take_all n versions all) adds
+-- what a list gives already
+pub gives_held : {A B : Type 0} (Q : A → B → Type 0) (P : B → Type 0) (xs : List A) → ((y : B) → P y → FromSome Q xs y) → Gives Q P xs xs
+gives_held Q P xs held y = ((λ f. inl f), (λ e. elim e [ inl f ↦ f | inr p ↦ held y p ]))

@@ -3,7 +3,7 @@ use Rattle.std.proofs.Common.{◌≡◌, ◌⊎◌, inl, inr, ℕ, zero, suc, �
 use Rattle.std.specs.Prelude.{All, AllPairs, slice_index}
 use Rattle.std.proofs.lemmas.Bool.{cases_lt}
 use Rattle.std.proofs.lemmas.List.{get_or_append_left, get_or_push, length-append}
-use Rattle.sia_parts.specs.Gathering.{AreChunkBounds}
+use Rattle.sia_parts.specs.Chunks.{AreChunkBounds}
 
 -- places that stand below one
 pub record ChunkBoundsBelow (place : ℕ) (places : List ℕ) : Type 0 where

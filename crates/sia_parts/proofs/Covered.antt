@@ -1,20 +1,18 @@
 -- How far the listed keys of a range read have been gone through.
-use Rattle.std.proofs.Common.{◌≡◌, ◌≢◌, ◌⊎◌, inl, inr, ℕ, ◌+◌, ◌<◌, ◌≤◌, List, length, get_or, ap, sym, subst, ◌∙◌, arith}
-use Rattle.std.specs.Prelude.{All, Contains}
+use Rattle.std.proofs.Common.{◌≡◌, ◌⊎◌, inl, inr, ℕ, false, ◌+◌, ◌<◌, ◌≤◌, List, length, get_or, ap, sym, subst, ◌∙◌, arith}
 use Rattle.std.proofs.lemmas.Bool.{cases_eq, cases_lt}
 use Rattle.std.proofs.lemmas.List.{get_or_default}
 use Rattle.sia_events.specs.declared.event.Event.{Event}
 use Rattle.sia_events.specs.Numbering.{names_of, pair_at}
 use Rattle.sia_events.specs.Reads.{SawAt}
-use Rattle.sia_events.specs.Transactions.{Wrote}
+use Rattle.sia_events.specs.Transactions.{Wrote, WroteBefore}
 use Rattle.sia_index.specs.Info.{IsKeyAt}
-use Rattle.sia_parts.specs.declared.auditing.known.Known.{Known}
-use Rattle.sia_parts.specs.declared.auditing.ranges.Cover.{Cover}
-use Rattle.sia_parts.specs.declared.auditing.seen.Seen.{Seen}
-use Rattle.sia_parts.specs.declared.auditing.sights.Sight.{Sight}
+use Rattle.sia_parts.specs.declared.audit.scope.Known.{Known}
+use Rattle.sia_parts.specs.declared.audit.ranges.Cover.{Cover}
+use Rattle.sia_parts.specs.declared.audit.seen.Seen.{Seen}
 use Rattle.sia_parts.specs.Seeing.{Gains, IsCover, IsSightWithin}
 use Rattle.sia_parts.proofs.Gaining.{gains_both}
-use Rattle.sia_parts.proofs.LookLemmas.{at_is_written, one_key_number}
+use Rattle.sia_parts.proofs.Numbers.{at_is_written, one_key, one_key_number}
 use Rattle.sia_parts.proofs.Passing.{number_before}
 
 -- the numbers of the first n listed keys are below next, and those of the others aren't
@@ -32,6 +30,12 @@ module _ (h : List Event) (known : Known) (cover : Cover) (is : IsCover h known 
     behind = λ m i d none below at. absurd (omega arith);
     ahead = λ m i d after below at. ((is.each i).1 (_, at, (is.inside m d below).0, (is.inside m d below).1)).0;
   }
+
+  -- where the reader is known not to have written the covered keys
+  pub not_own_within : cover.own ≡ false → (i k : ℕ) → cover.first ≤ i → i < cover.end → IsKeyAt h i k → ¬ WroteBefore h known.reader.txn k known.reader.place
+  not_own_within none i k low less at =
+      let own = (is.each i).0 (low, less) in
+      is.own none k (subst (λ j. cover.lo ≤ j) (one_key h i own.0 k own.1 at) own.2) (subst (λ j. j ≤ cover.hi) (one_key h i own.0 k own.1 at) own.3)
 
   module _ (n next : ℕ) (so : HasCovered h cover n next) where
     module _ (d : ℕ) (below : n < length cover.pairs.now) where

@@ -1,5 +1,5 @@
 -- Listed pairs that ascend by key, cut where their keys pass a number.
-use Rattle.std.proofs.Common.{◌≡◌, inl, inr, ℕ, ◌+◌, ◌<◌, ◌≤◌, List, length, take, get_or, ap, sym, ◌∙◌, arith}
+use Rattle.std.proofs.Common.{◌≡◌, inl, inr, ℕ, ◌<◌, ◌≤◌, List, length, take, get_or, ap, sym, ◌∙◌, arith}
 use Rattle.std.specs.Prelude.{◌↔◌, AllPairs, Contains, slice_range}
 use Rattle.std.proofs.lemmas.Bool.{cases_lt}
 use Rattle.std.proofs.lemmas.List.{get_or-take, length-take}

@@ -1,8 +1,9 @@
 -- What is seen, sight by sight.
-use Rattle.std.proofs.Common.{◌≡◌, ◌≢◌, ◌⊎◌, inl, inr, ℕ, ◌+◌, ◌<◌, ◌≤◌, List, [], ◌∷◌, ◌++◌, Option, Some, None, Vec, Global, length, get_or, refl, ap, sym, subst, ◌∙◌, arith}
-use Rattle.std.specs.Prelude.{◌↔◌, All, Contains}
+use Rattle.std.proofs.Common.{◌≡◌, ◌≢◌, ◌⊎◌, inl, inr, ℕ, ◌+◌, ◌<◌, ◌≤◌, List, Option, Some, None, Vec, Global, length, get_or, refl, ap, sym, subst, ◌∙◌, arith}
+use Rattle.std.specs.Prelude.{◌↔◌, All}
 use Rattle.std.proofs.lemmas.Bool.{cases_lt}
-use Rattle.std.proofs.lemmas.List.Elements.{All-contains, Contains-push_cases, Contains-get_or}
+use Rattle.std.proofs.lemmas.List.{take_all}
+use Rattle.std.proofs.lemmas.List.Elements.{All-contains, Contains-get_or}
 use Rattle.sia_events.specs.declared.event.Event.{Event}
 use Rattle.sia_events.specs.Events.{actor, Saw}
 use Rattle.sia_events.specs.NarrowDependencies.{IsAsOf}
@@ -11,39 +12,54 @@ use Rattle.sia_events.specs.Reads.{SawAt}
 use Rattle.sia_events.specs.Refusals.{IsWellFormed}
 use Rattle.sia_events.proofs.Ranges.{one_version}
 use Rattle.sia_events.proofs.Starts.{one_event}
+use Rattle.sia_index.specs.declared.info.KeyVersion.{KeyVersion}
 use Rattle.sia_index.specs.Info.{IsKeyAt}
 use Rattle.sia_index.specs.Numbers.{IsCommittedAt}
-use Rattle.sia_index.specs.Positions.{IsPosition}
-use Rattle.sia_parts.specs.declared.auditing.seen.Seen.{Seen}
-use Rattle.sia_parts.specs.declared.auditing.sights.Sight.{Sight}
+use Rattle.sia_index.specs.Positions.{IsAtPosition}
+use Rattle.sia_parts.specs.declared.audit.seen.Seen.{Seen}
+use Rattle.sia_parts.specs.declared.audit.sights.Sight.{Sight}
 use Rattle.sia_parts.specs.declared.finding.BadRead.{BadRead}
-use Rattle.sia_parts.specs.declared.looks.Absence.{Absence}
-use Rattle.sia_parts.specs.declared.looks.Look.{Look}
-use Rattle.sia_parts.specs.Joining.{Covers, IsAbsentFrom, IsEnd, IsEndOf, IsHeldBy, IsInAbsence, IsInLook, Keeps, Spreads}
-use Rattle.sia_parts.specs.Looks.{HasPosition}
-use Rattle.sia_parts.specs.Seeing.{Gains, GainsLook, IsEndIn, IsHeldIn, IsSightWithin, IsVersionOf}
-use Rattle.sia_parts.specs.Sights.{Adds, FromSome, FromSight, IsBadOf, IsSight, LooksAt}
-use Rattle.std.proofs.lemmas.List.{take_all}
-use Rattle.sia_parts.proofs.Adding.{FromFirst, adds_both, adds_nothing, adds_same, first_more, some_push}
-use Rattle.sia_parts.proofs.LookLemmas.{one_committed_number, one_key, one_key_number}
-use Rattle.sia_parts.proofs.Sources.{one_as_of}
+use Rattle.sia_parts.specs.Seeing.{Gains, IsPlaced, IsPositionOf, IsSeenAt, IsSightWithin}
+use Rattle.sia_parts.specs.Sights.{Adds, FromSome, FromSight, IsBadOf, LooksAt}
+use Rattle.sia_parts.proofs.Adding.{FromFirst, adds_both, adds_nothing, adds_same, first_more}
+use Rattle.sia_parts.proofs.AsOf.{one_as_of}
+use Rattle.sia_parts.proofs.Numbers.{one_key}
+use Rattle.sia_parts.proofs.Positions.{at_as_of, one_at}
+
+-- the rows of the reader's look at a sight are new, and no others
+pub record GainsLook (h : List Event) (s : Sight) (old new : List (ℕ × ℕ)) : Type 0 where
+  pub looks : (at : ℕ × ℕ × ℕ) → FromSome (IsSeenAt h) new at ↔ (FromSome (IsSeenAt h) old at ⊎ LooksAt h s at)
+  pub placed : All (IsPlaced h) old → All (IsPlaced h) new
+
+-- all of a list, once something was added
+pub all_adds : {A : Type 0} (Q P : A → Type 0) (old new : List A) → Adds P old new → ((x : A) → P x → Q x) → All Q old → All Q new
+all_adds {A} Q P old new adds each all i d below =
+    let x = get_or new i d in
+    elim ((adds x).0 (Contains-get_or new i d below)) [ inl c ↦ All-contains Q old x all c | inr p ↦ each x p ]
 
 module _ (h : List Event) where
   pub gains_none : (P : Sight → Type 0) → ((s : Sight) → ¬ P s) → (seen : Seen) → Gains h P seen seen
   gains_none P none seen = record {
     bad_reads = adds_nothing (FromSight P (IsBadOf h)) seen.bad_reads.items (λ b f. none f.0 f.1);
-    ends = λ at e. inl e;
-    holds = λ at e. elim e [ inl old ↦ old | inr f ↦ absurd (none f.0 f.1) ];
+    looks = λ at. ((λ e. inl e), (λ e. elim e [ inl old ↦ old | inr f ↦ absurd (none f.0 f.1) ]));
     placed = λ all. all;
+    some = λ all. all;
   }
 
   pub gains_same : (P Q : Sight → Type 0) → ((s : Sight) → P s → Q s) → ((s : Sight) → Q s → P s) → (old new : Seen) → Gains h P old new → Gains h Q old new
   gains_same P Q to from old new gains = record {
     bad_reads = adds_same (FromSight P (IsBadOf h)) (FromSight Q (IsBadOf h)) old.bad_reads.items new.bad_reads.items (λ b f. (f.0, to f.0 f.1, f.2)) (λ b f. (f.0, from f.0 f.1, f.2)) gains.bad_reads;
-    ends = λ at e. elim (gains.ends at e) [ inl before ↦ inl before | inr f ↦ inr (f.0, to f.0 f.1, f.2) ];
-    holds = λ at e. gains.holds at (elim e [ inl before ↦ inl before | inr f ↦ inr (f.0, from f.0 f.1, f.2) ]);
+    looks = λ at. (
+      (λ e. elim ((gains.looks at).0 e) [ inl before ↦ inl before | inr f ↦ inr (f.0, to f.0 f.1, f.2) ]),
+      (λ e. (gains.looks at).1 (elim e [ inl before ↦ inl before | inr f ↦ inr (f.0, from f.0 f.1, f.2) ])),
+    );
     placed = gains.placed;
+    some = gains.some;
   }
+
+  -- where the next search starts makes no difference
+  pub gains_near : (P : Sight → Type 0) (old new : Seen) (near : ℕ × ℕ) → Gains h P (record { bad_reads = old.bad_reads; saw = old.saw; missed = old.missed; near = near }) new → Gains h P old new
+  gains_near P old new near gains = record { bad_reads = gains.bad_reads; looks = gains.looks; placed = gains.placed; some = gains.some }
 
   -- one after another
   pub gains_both : (P Q R : Sight → Type 0) → ((s : Sight) → R s → P s ⊎ Q s) → ((s : Sight) → P s → R s) → ((s : Sight) → Q s → R s) → (old mid new : Seen) → Gains h P old mid → Gains h Q mid new → Gains h R old new
@@ -52,18 +68,21 @@ module _ (h : List Event) where
         (λ b e. elim e [ inl f ↦ (f.0, one f.0 f.1, f.2) | inr f ↦ (f.0, other f.0 f.1, f.2) ])
         (λ b f. elim (to f.0 f.1) [ inl p ↦ inl (f.0, p, f.2) | inr q ↦ inr (f.0, q, f.2) ])
         (adds_both (FromSight P (IsBadOf h)) (FromSight Q (IsBadOf h)) old.bad_reads.items mid.bad_reads.items new.bad_reads.items first.bad_reads second.bad_reads);
-    ends = λ at e. elim (second.ends at e) [
-      | inl middle ↦ elim (first.ends at middle) [ inl before ↦ inl before | inr f ↦ inr (f.0, one f.0 f.1, f.2) ]
-      | inr f ↦ inr (f.0, other f.0 f.1, f.2)
-    ];
-    holds = λ at e. elim e [
-      | inl before ↦ second.holds at (inl (first.holds at (inl before)))
-      | inr f ↦ elim (to f.0 f.1) [
-        | inl p ↦ second.holds at (inl (first.holds at (inr (f.0, p, f.2))))
-        | inr q ↦ second.holds at (inr (f.0, q, f.2))
-      ]
-    ];
+    looks = λ at. (
+      (λ e. elim ((second.looks at).0 e) [
+        | inl middle ↦ elim ((first.looks at).0 middle) [ inl before ↦ inl before | inr f ↦ inr (f.0, one f.0 f.1, f.2) ]
+        | inr f ↦ inr (f.0, other f.0 f.1, f.2)
+      ]),
+      (λ e. elim e [
+        | inl before ↦ (second.looks at).1 (inl ((first.looks at).1 (inl before)))
+        | inr f ↦ elim (to f.0 f.1) [
+          | inl p ↦ (second.looks at).1 (inl ((first.looks at).1 (inr (f.0, p, f.2))))
+          | inr q ↦ (second.looks at).1 (inr (f.0, q, f.2))
+        ]
+      ]),
+    );
     placed = λ all. second.placed (first.placed all);
+    some = λ all. second.some (first.some all);
   }
 
   -- one stretch of numbers after another
@@ -75,39 +94,28 @@ module _ (h : List Event) where
       old mid new first second
 
   -- the only sight
-  pub gains_one : (P : Sight → Type 0) (s : Sight) → P s → ((x : Sight) → P x → x ≡ s) → (old : Seen) (bad : Vec BadRead Global) (looks : Vec Look Global)
-      → Adds (IsBadOf h s) old.bad_reads.items bad.items → GainsLook h s old.looks.items looks.items → Gains h P old (record { bad_reads = bad; looks = looks; absences = old.absences })
-  gains_one P s has only old bad looks adds gains = record {
+  pub gains_one : (P : Sight → Type 0) (s : Sight) → P s → ((x : Sight) → P x → x ≡ s) → (old : Seen) (bad : Vec BadRead Global) (saw : List (ℕ × ℕ))
+      → Adds (IsBadOf h s) old.bad_reads.items bad.items → GainsLook h s old.saw saw → Gains h P old (record { bad_reads = bad; saw = saw; missed = old.missed; near = old.near })
+  gains_one P s has only old bad saw adds gains = record {
     bad_reads = adds_same (IsBadOf h s) (FromSight P (IsBadOf h)) old.bad_reads.items bad.items (λ b is. (s, has, is)) (λ b f. subst (λ (x : Sight). IsBadOf h x b) (only f.0 f.1) f.2) adds;
-    ends = λ at e. elim e [
-      | inl f ↦ elim (gains.ends at f) [ inl before ↦ inl (inl before) | inr is ↦ inr (s, has, is) ]
-      | inr f ↦ inl (inr f)
-    ];
-    holds = λ at e. elim e [
-      | inl before ↦ elim before [ inl f ↦ inl (gains.holds at (inl f)) | inr f ↦ inr f ]
-      | inr f ↦ inl (gains.holds at (inr (subst (λ (x : Sight). LooksAt h x at) (only f.0 f.1) f.2)))
-    ];
+    looks = λ at. (
+      (λ e. elim e [
+        | inl f ↦ elim ((gains.looks at).0 f) [ inl before ↦ inl (inl before) | inr is ↦ inr (s, has, is) ]
+        | inr f ↦ inl (inr f)
+      ]),
+      (λ e. elim e [
+        | inl before ↦ elim before [ inl f ↦ inl ((gains.looks at).1 (inl f)) | inr f ↦ inr f ]
+        | inr f ↦ inl ((gains.looks at).1 (inr (subst (λ (x : Sight). LooksAt h x at) (only f.0 f.1) f.2)))
+      ]),
+    );
     placed = gains.placed;
+    some = λ all. all;
   }
 
-  pub no_look : (s : Sight) → ((at : ℕ × ℕ × ℕ) → ¬ LooksAt h s at) → (looks : List Look) → GainsLook h s looks looks
-  no_look s none looks = record {
-    ends = λ at f. inl f;
-    holds = λ at e. elim e [ inl f ↦ f | inr is ↦ absurd (none at is) ];
+  pub no_look : (s : Sight) → ((at : ℕ × ℕ × ℕ) → ¬ LooksAt h s at) → (saw : List (ℕ × ℕ)) → GainsLook h s saw saw
+  no_look s none saw = record {
+    looks = λ at. ((λ f. inl f), (λ e. elim e [ inl f ↦ f | inr is ↦ absurd (none at is) ]));
     placed = λ all. all;
-  }
-
-  -- looks that are joined
-  pub gains_joined : (P : Sight → Type 0) (old mid : Seen) (looks : Vec Look Global) → Gains h P old mid → Keeps IsEndOf IsHeldBy mid.looks.items looks.items → Gains h P old (record { bad_reads = mid.bad_reads; looks = looks; absences = mid.absences })
-  gains_joined P old mid looks gains keeps = record {
-    bad_reads = gains.bad_reads;
-    ends = λ at e. gains.ends at (elim e [ inl f ↦ inl (keeps.ends (at.0, at.1, at.2, None) f) | inr f ↦ inr f ]);
-    holds = λ at e. elim (gains.holds at e) [ inl f ↦ inl (keeps.holds (at.0, at.1, at.2, None) f) | inr f ↦ inr f ];
-    placed = λ all i d below.
-        (let look = get_or looks.items i d in
-        let from = keeps.ends (look.txn, look.key, look.low, Some look.at) (look, Contains-get_or looks.items i d below, (refl, refl, refl)) in
-        let own = All-contains (HasPosition h) mid.looks.items from.0 (gains.placed all) from.1 in
-        λ k at. subst (λ c. IsPosition h k c look.at) from.2.1 (subst (λ q. IsPosition h k from.0.low q) from.2.2 (own k (subst (λ n. IsKeyAt h n k) (sym from.2.0) at))));
   }
 
   module _ (wf : IsWellFormed h) where
@@ -129,36 +137,36 @@ module _ (h : List Event) where
           let version : s.saw ≡ v = one_version h wf p k s.saw v saw.0 saw.1 seen saw.3 in
           λ j. record { place = is.0 j; txn = txn j; key = own j; saw = version j }
 
-    -- a look at a version
-    pub look_gains : (s : Sight) (txn key c at : ℕ) → IsCommittedAt h txn s.txn → IsKeyAt h key s.key → s.saw ≢ s.txn → IsAsOf h s.saw c → IsPosition h s.key c at → (looks : List Look)
-        → GainsLook h s looks (looks ++ record { txn = txn; key = key; low = c; high = c; at = at } ∷ [])
-    look_gains s txn key c at committed number other version position looks = record {
-      ends = λ y f. elim ((some_push IsEnd looks look y).1 f) [
-        | inl before ↦ inl before
-        | inr is ↦
-            let as_of : c ≡ y.2 = elim is.2 [ inl low ↦ low | inr high ↦ high ] in
-            inr (subst (λ n. IsCommittedAt h n s.txn) is.0 committed, subst (λ n. IsKeyAt h n s.key) is.1 number, other, subst (IsAsOf h s.saw) as_of version)
-      ];
-      holds = λ y e. (some_push IsInLook looks look y).0 (elim e [
-        | inl before ↦ inl before
-        | inr is ↦
-            let as_of : c ≡ y.2 = one_as_of h wf s.saw c y.2 version is.3 in
-            inr (one_committed_number h txn y.0 s.txn committed is.0, one_key_number h key y.1 s.key number is.1, omega arith, omega arith)
-      ]);
-      placed = λ all. all_push (HasPosition h) looks look all (λ k is. subst (λ j. IsPosition h j c at) (one_key h key s.key k number is) position);
-    } where
-      look : Look
-      look = record { txn = txn; key = key; low = c; high = c; at = at }
-
-      all_push : (P : Look → Type 0) (xs : List Look) (x : Look) → All P xs → P x → All P (xs ++ x ∷ [])
-      all_push P xs x all is i d below = elim (Contains-push_cases xs x (get_or (xs ++ x ∷ []) i d) (Contains-get_or (xs ++ x ∷ []) i d below)) [
-        | inl c ↦ All-contains P xs (get_or (xs ++ x ∷ []) i d) all c
-        | inr same ↦ subst P same is
-      ]
-
-pub as_of_version : (h : List Event) (k v c : ℕ) → IsVersionOf h k v c → IsAsOf h v c
-as_of_version h k v c (inl zero) = inl zero
-as_of_version h k v c (inr version) = inr version.1
+    -- a look at a version, of the reader whose number is told
+    pub look_gains : (s : Sight) (number : Option ℕ) (q : ℕ) → ((i : ℕ) → (number ≡ Some i) ↔ IsCommittedAt h i s.txn) → s.saw ≢ s.txn → IsPositionOf h s.key s.saw q → (old new : List (ℕ × ℕ))
+        → Adds (λ p. (number ≡ Some p.0) × (p.1 ≡ q)) old new → GainsLook h s old new
+    look_gains s number q reader other position old new adds = record {
+      looks = λ at. (
+        (λ f. elim ((adds f.0).0 f.1) [
+          | inl before ↦ inl (f.0, before, f.2)
+          | inr own ↦
+              let v = f.2.1 in
+              let w = position.0 in
+              let one : v ≡ w = one_at h q v w (subst (λ n. IsAtPosition h n v) own.1 f.2.2) position.1 in
+              let key : v.key ≡ s.key = ap (λ (x : KeyVersion). x.key) one ∙ position.2 in
+              let as_of : IsAsOf h s.saw w.commit = subst (λ u. IsAsOf h u w.commit) position.3 (at_as_of h q w position.1) in
+              inr (
+                (reader at.0).0 (own.0 ∙ ap Some f.2.0),
+                subst (IsKeyAt h at.1) key f.2.3,
+                other,
+                subst (IsAsOf h s.saw) (sym (ap (λ (x : KeyVersion). x.commit) one) ∙ f.2.4) as_of,
+              )
+        ]),
+        (λ e. elim e [
+          | inl f ↦ (f.0, (adds f.0).1 (inl f.1), f.2)
+          | inr is ↦
+              let w = position.0 in
+              let as_of : IsAsOf h s.saw w.commit = subst (λ u. IsAsOf h u w.commit) position.3 (at_as_of h q w position.1) in
+              ((at.0, q), (adds (at.0, q)).1 (inr ((reader at.0).1 is.0, refl)), (refl, w, position.1, subst (IsKeyAt h at.1) (sym position.2) is.1, one_as_of h wf s.saw w.commit at.2 as_of is.3))
+        ]),
+      );
+      placed = all_adds (IsPlaced h) (λ p. (number ≡ Some p.0) × (p.1 ≡ q)) old new adds (λ p own. (position.0, subst (λ n. IsAtPosition h n position.0) (sym own.1) position.1));
+    }
 
 module _ (h : List Event) (P : ℕ → Sight → Type 0) (xs : List ℕ) where
   -- one place after another

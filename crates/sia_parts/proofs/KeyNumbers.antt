@@ -1,9 +1,7 @@
 -- The numbers of the written keys from one to another.
-use Rattle.std.proofs.Common.{◌≡◌, inl, inr, ℕ, ◌+◌, ◌-◌, ◌<◌, ◌≤◌, List, length, refl, ◌∙◌, sym, subst, arith}
-use Rattle.std.specs.Prelude.{◌↔◌, Contains, slice_index, slice_index_or}
-use Rattle.std.proofs.lemmas.Bool.{cases_eq, cases_lt}
-use Rattle.std.proofs.lemmas.List.{get_or_default}
-use Rattle.std.proofs.lemmas.List.Elements.{Contains-get_or}
+use Rattle.std.proofs.Common.{inl, inr, ℕ, ◌<◌, ◌≤◌, List, length, refl, arith}
+use Rattle.std.specs.Prelude.{◌↔◌, slice_index}
+use Rattle.std.proofs.lemmas.Bool.{cases_lt}
 use Rattle.sia_events.specs.declared.event.Event.{Event}
 use Rattle.sia_events.specs.Transactions.{Wrote}
 use Rattle.sia_index.specs.Info.{AreWrittenKeys, IsKeyAt}

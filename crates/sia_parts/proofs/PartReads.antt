@@ -1,6 +1,6 @@
 -- The unexplained reads of a part are among its bad reads.
-use Rattle.std.proofs.Common.{◌≢◌, inl, inr, ℕ, ◌<◌, List, length, get_or, refl, sym, subst, ◌∙◌, arith}
-use Rattle.std.specs.Prelude.{◌↔◌, Contains}
+use Rattle.std.proofs.Common.{◌≢◌, inl, inr, ℕ, ◌<◌, List, length, get_or, refl, sym, subst, ◌∙◌}
+use Rattle.std.specs.Prelude.{◌↔◌}
 use Rattle.std.proofs.lemmas.List.Elements.{Contains-get_or}
 use Rattle.sia_events.specs.declared.event.Event.{Event}
 use Rattle.sia_events.specs.Refusals.{IsWellFormed}

@@ -1,32 +1,33 @@
 -- Keys that a range read passed over, by their numbers.
-use Rattle.std.proofs.Common.{◌≡◌, ◌≢◌, ◌⊎◌, inl, inr, ℕ, ◌+◌, ◌-◌, ◌<◌, ◌≤◌, List, Some, Vec, Global, length, refl, ap, sym, subst, ◌∙◌, arith}
-use Rattle.std.specs.Prelude.{◌↔◌, Contains, slice_index}
+use Rattle.std.proofs.Common.{◌≡◌, ◌⊎◌, inl, inr, ℕ, ◌+◌, ◌-◌, ◌<◌, ◌≤◌, List, Option, Some, None, unwrap_or, Vec, Global, length, refl, ap, subst, ◌∙◌, arith}
+use Rattle.std.specs.Prelude.{All, Bool, MatchOption, slice_index}
 use Rattle.std.proofs.lemmas.Bool.{cases_eq, cases_lt}
 use Rattle.std.proofs.lemmas.List.{get_or_default}
 use Rattle.sia_events.specs.declared.event.Event.{Event}
-use Rattle.sia_events.specs.NarrowDependencies.{IsAsOf}
-use Rattle.sia_events.specs.Reads.{SawAt}
+use Rattle.sia_events.specs.Reads.{IsDue, SawAt}
 use Rattle.sia_events.specs.Refusals.{IsWellFormed}
-use Rattle.sia_events.specs.Transactions.{Wrote}
+use Rattle.sia_events.specs.Transactions.{Wrote, WroteBefore}
 use Rattle.sia_events.proofs.Seen.{actor_is_txn}
-use Rattle.sia_index.specs.Info.{AreWrittenKeys, IsKeyAt}
+use Rattle.sia_index.specs.Info.{AreWrittenKeys, HasKeyAt, IsKeyAt}
 use Rattle.sia_index.proofs.KeyChains.{key_number}
 use Rattle.sia_index.proofs.Ordered.{ascends}
-use Rattle.sia_parts.specs.declared.auditing.known.Known.{Known}
-use Rattle.sia_parts.specs.declared.auditing.seen.Seen.{Seen}
-use Rattle.sia_parts.specs.declared.auditing.sights.Sight.{Sight}
+use Rattle.sia_index.proofs.Points.{PointBelow, point_below, point_from}
+use Rattle.sia_index.specs.Positions.{HasVersionUpTo}
+use Rattle.sia_parts.proofs.Positions.{none_is_due}
+use Rattle.sia_parts.specs.declared.audit.scope.Known.{Known}
+use Rattle.sia_parts.specs.declared.audit.seen.Seen.{Seen}
+use Rattle.sia_parts.specs.declared.audit.sights.Sight.{Sight}
 use Rattle.sia_parts.specs.declared.finding.BadRead.{BadRead}
-use Rattle.sia_parts.specs.declared.looks.Absence.{Absence}
-use Rattle.sia_parts.specs.Gaps.{FromKeys, IsBetween, unlisted_sight}
-use Rattle.sia_parts.specs.Joining.{IsAbsentFrom, IsInAbsence, Spreads}
+use Rattle.sia_parts.specs.declared.accesses.RangeMiss.{RangeMiss}
+use Rattle.sia_parts.specs.Accesses.{IsMissAt, IsPassedBy}
 use Rattle.sia_parts.specs.Known.{IsKnown}
-use Rattle.sia_parts.specs.Seeing.{Gains, IsSightWithin}
-use Rattle.sia_parts.specs.Sights.{Adds, FromSight, IsBadOf, IsSight, LooksAt}
-use Rattle.sia_parts.proofs.Adding.{adds_same}
-use Rattle.sia_parts.proofs.Gaining.{one_sight}
-use Rattle.sia_parts.proofs.GapLemmas.{due_is_written}
-use Rattle.sia_parts.proofs.LookLemmas.{one_key, one_key_number}
-use Rattle.sia_parts.proofs.Sources.{one_as_of}
+use Rattle.sia_parts.specs.Seeing.{Gains, HaveUpTo, IsGap, IsMiss, IsSightWithin}
+use Rattle.sia_parts.specs.Sights.{Adds, FromSight, Gives, IsBadOf, LooksAt}
+use Rattle.sia_parts.proofs.Adding.{adds_both, adds_nothing, adds_same}
+use Rattle.sia_parts.proofs.AsOf.{one_as_of}
+use Rattle.sia_parts.proofs.Gaining.{is_sight, one_sight}
+use Rattle.sia_parts.proofs.Numbers.{one_key, one_key_number}
+use Rattle.sia_parts.proofs.Saw.{bad_none}
 
 module _ (h : List Event) (keys : List ℕ) (are : AreWrittenKeys h keys) where
   up : (i j : ℕ) → i < j → j < length keys → slice_index keys i < slice_index keys j
@@ -71,84 +72,169 @@ module _ (h : List Event) (keys : List ℕ) (are : AreWrittenKeys h keys) where
   pub has_number : (k u : ℕ) → Wrote h u k → (j : ℕ) × IsKeyAt h j k
   has_number k u wrote = let c = (are.each k).1 (u, wrote) in (c.0, (keys, are, c.1, get_or_default keys c.0 0 k c.1 ∙ c.2))
 
-  module _ (wf : IsWellFormed h) (known : Known) (is_known : IsKnown h known) (from to : ℕ) (some : from < to)
-      (unlisted : (i : ℕ) → from ≤ i → i < to → (k : ℕ) × IsKeyAt h i k × SawAt h known.reader.place known.reader.txn k 0) where
-    pub low : (from < length keys) × IsKeyAt h from (slice_index keys from)
-    low =
-        let first = unlisted from (omega arith) some in
-        let at = key_number h keys are from first.0 first.1 in
-        (at.0, (keys, are, at.0, refl))
+  -- a number that there is
+  pub key_there : (i : ℕ) → HasKeyAt h i → (i < length keys) × IsKeyAt h i (slice_index keys i)
+  key_there i has =
+      let at : IsKeyAt h i (slice_index has.0 i) = (has.0, has.1, has.2, refl) in
+      let own = key_number h keys are i (slice_index has.0 i) at in
+      (own.0, (keys, are, own.0, refl))
 
-    pub high : (to - 1 < length keys) × IsKeyAt h (to - 1) (slice_index keys (to - 1))
-    high =
-        let last = unlisted (to - 1) (omega arith) (omega arith) in
-        let at = key_number h keys are (to - 1) last.0 last.1 in
-        (at.0, (keys, are, at.0, refl))
+  pub there_before : (i j k : ℕ) → IsKeyAt h j k → i ≤ j → HasKeyAt h i
+  there_before i j k at le = (at.0, at.1, (let below = at.2 in omega arith))
 
-    within : (j k : ℕ) → IsKeyAt h j k → IsBetween (slice_index keys from) (slice_index keys (to - 1)) k → (from ≤ j) × (j < to)
-    within j k at is = (
-      number_from from j (slice_index keys from) k low.1 at is.0,
-      (let most = number_from j (to - 1) k (slice_index keys (to - 1)) at high.1 is.1 in omega arith),
+  -- of the keys with numbers from one to before another none below a key has P
+  module _ (P : ℕ → Type 0) (from to : ℕ) (some : from < to) (has : (i : ℕ) → i < to → HasKeyAt h i) where
+    abbrev pub lo : ℕ
+    lo = slice_index keys from
+
+    abbrev pub hi : ℕ
+    hi = slice_index keys (to - 1)
+
+    low : IsKeyAt h from lo
+    low = (key_there from (has from some)).1
+
+    high : IsKeyAt h (to - 1) hi
+    high = (key_there (to - 1) (has (to - 1) (omega arith))).1
+
+    pub passes_none : ((k : ℕ) → lo ≤ k → k ≤ hi → ¬ P k) → (i k : ℕ) → from ≤ i → i < to → IsKeyAt h i k → ¬ P k
+    passes_none none i k first last at = none k (key_before from i lo k low at first) (key_before i (to - 1) k hi at high (omega arith))
+
+    pub passes_some : (key n : ℕ) → PointBelow (λ (k : ℕ). k) keys key n → lo ≤ key → key ≤ hi → ((k : ℕ) → lo ≤ k → k < key → ¬ P k)
+        → (from ≤ n) × (n < to) × ((i k : ℕ) → from ≤ i → i < n → IsKeyAt h i k → ¬ P k)
+    passes_some key n point above under none = (
+      elim (cases_lt n from) [
+        | inl less ↦
+            let first = (key_there from (has from some)).0 in
+            let at = point_from (λ (k : ℕ). k) keys key n point n 0 (omega arith) (omega arith) in
+            let rise = up n from less first in
+            absurd (omega arith)
+        | inr more ↦ more
+      ],
+      elim (cases_lt n to) [
+        | inl less ↦ less
+        | inr more ↦
+            let last = (key_there (to - 1) (has (to - 1) (omega arith))).0 in
+            let at = point_below (λ (k : ℕ). k) keys key n point (to - 1) 0 last (omega arith) in
+            absurd (omega arith)
+      ],
+      λ i k first less at.
+          let own = key_number h keys are i k at in
+          let under = point_below (λ (k : ℕ). k) keys key n point i 0 own.0 less in
+          none k (key_before from i lo k low at first) (let e = own.1 in omega arith),
     )
 
-    between : (j k : ℕ) → IsKeyAt h j k → from ≤ j → j < to → IsBetween (slice_index keys from) (slice_index keys (to - 1)) k
-    between j k at first last = (key_before from j (slice_index keys from) k low.1 at first, key_before j (to - 1) k (slice_index keys (to - 1)) at high.1 (omega arith))
+module _ (h : List Event) (wf : IsWellFormed h) (known : Known) (is_known : IsKnown h known) (own : Bool) (from to : ℕ) (gap : IsGap h known own from to) where
+  abbrev P : Sight → Type 0
+  P = IsSightWithin h known.reader.place from to
 
-    pub passed_sight : (k u : ℕ) → IsBetween (slice_index keys from) (slice_index keys (to - 1)) k → Wrote h u k → IsSight h (unlisted_sight known.reader k)
-    passed_sight k u is wrote =
-        let j = has_number k u wrote in
-        let inside = within j.0 k j.1 is in
-        let saw = unlisted j.0 inside.0 inside.1 in
-        subst (λ l. SawAt h known.reader.place known.reader.txn l 0) (one_key h j.0 saw.0 k saw.1 j.1) saw.2
+  -- what is seen of a key that wasn't listed is version 0
+  saw_none : (s : Sight) (is : P s) → SawAt h known.reader.place known.reader.txn s.key 0
+  saw_none s is =
+      let saw = gap.unlisted is.2 is.4 is.5 in
+      subst (λ k. SawAt h known.reader.place known.reader.txn k 0) (one_key h is.2 saw.0 s.key saw.1 is.3) saw.2
 
-    abbrev P : Sight → Type 0
-    P = IsSightWithin h known.reader.place from to
+  abbrev unlisted : ℕ → Sight
+  unlisted k = record { place = known.reader.place; txn = known.reader.txn; key = k; saw = 0 }
 
-    -- what is seen of one of them is version 0
-    only : (s : Sight) → (is : P s) → s ≡ unlisted_sight known.reader (unlisted is.2 is.4 is.5).0
-    only s is =
-        let own = unlisted is.2 is.4 is.5 in
-        one_sight h wf known.reader.place known.reader.txn own.0 0 is.2 own.2 own.1 s (is.0, is.1, is.2, is.3, omega arith, omega arith)
+  only : (s : Sight) → P s → s ≡ unlisted s.key
+  only s is = one_sight h wf known.reader.place known.reader.txn s.key 0 is.2 (saw_none s is) is.3 s (is.0, is.1, is.2, is.3, omega arith, omega arith)
 
-    pub gap_gains : (old : Seen) (bad : Vec BadRead Global) (absences : Vec Absence Global)
-        → Adds (FromKeys (IsBetween (slice_index keys from) (slice_index keys (to - 1))) (λ k. IsBadOf h (unlisted_sight known.reader k))) old.bad_reads.items bad.items
-        → Spreads (IsAbsentFrom known.number from to) old.absences.items absences.items
-        → Gains h P old (record { bad_reads = bad; looks = old.looks; absences = absences })
-    gap_gains old bad absences adds spreads = record {
-      bad_reads = adds_same (FromKeys (IsBetween (slice_index keys from) (slice_index keys (to - 1))) (λ k. IsBadOf h (unlisted_sight known.reader k))) (FromSight P (IsBadOf h)) old.bad_reads.items bad.items
-          (λ b f.
-          let same = f.2.0 in
-          let saw : b.saw ≡ 0 = ap (λ (s : Sight). s.saw) same in
-          let key : b.key ≡ f.0 = ap (λ (s : Sight). s.key) same in
-          let wrote = due_is_written h b.txn b.place b.key b.due f.2.1.1 (λ zero. f.2.1.2 (saw ∙ sym zero)) in
-          let j = has_number f.0 wrote.0 (subst (Wrote h wrote.0) key wrote.1) in
-          let inside = within j.0 f.0 j.1 f.1 in
-          (unlisted_sight known.reader f.0, (refl, subst (IsSight h) same f.2.1.0, j.0, j.1, inside.0, inside.1), f.2))
-          (λ b f.
-          let is = f.1 in
-          let own = unlisted is.2 is.4 is.5 in
-          (own.0, between is.2 own.0 own.1 is.4 is.5, subst (λ (s : Sight). IsBadOf h s b) (only f.0 is) f.2))
-          adds;
-      ends = λ at e. elim e [
+  -- where version 0 was due there is no bad read
+  pub none_bad : (a b : ℕ) → from ≤ a → b ≤ to → ((i k : ℕ) → a ≤ i → i < b → IsKeyAt h i k → IsDue h known.reader.txn known.reader.place k 0) → (old : List BadRead) → Adds (FromSight (IsSightWithin h known.reader.place a b) (IsBadOf h)) old old
+  none_bad a b low high due old = adds_nothing (FromSight (IsSightWithin h known.reader.place a b) (IsBadOf h)) old (λ x f.
+      let is = f.1 in
+      let first = is.4 in
+      let last = is.5 in
+      let same : f.0 ≡ unlisted f.0.key = only f.0 (is.0, is.1, is.2, is.3, omega arith, omega arith) in
+      bad_none h (unlisted f.0.key) 0 (due is.2 f.0.key is.4 is.5 is.3) refl x (subst (λ (s : Sight). IsBadOf h s x) same f.2))
+
+  -- where the reader wrote none of the keys before, and none has a version as of its start, version 0 is due
+  abbrev pub OwnNone : ℕ → Type 0
+  OwnNone k = ¬ WroteBefore h known.reader.txn k known.reader.place
+
+  abbrev pub DueNone : ℕ → Type 0
+  DueNone k = IsDue h known.reader.txn known.reader.place k 0
+
+  abbrev pub IsVisibleFrom : ℕ → ℕ → Option ℕ → Type 0
+  IsVisibleFrom a b visible = MatchOption visible ((i k : ℕ) → a ≤ i → i < b → IsKeyAt h i k → ¬ HasVersionUpTo h k known.reader.start)
+      (λ j. (a ≤ j) × (j < b) × ((i k : ℕ) → a ≤ i → i < j → IsKeyAt h i k → ¬ HasVersionUpTo h k known.reader.start) × ((k : ℕ) → IsKeyAt h j k → HasVersionUpTo h k known.reader.start))
+
+  due_none : (k : ℕ) → OwnNone k → ¬ HasVersionUpTo h k known.reader.start → DueNone k
+  due_none k other none = none_is_due h wf known.reader.txn known.reader.place k known.reader.start is_known.reader.starts other none
+
+  pub visible_due : (a b : ℕ) (visible : Option ℕ) → ((i k : ℕ) → a ≤ i → i < b → IsKeyAt h i k → OwnNone k) → IsVisibleFrom a b visible → HaveUpTo DueNone h a b visible
+  visible_due a b None other none = λ i k first last at. due_none k (other i k first last at) (none i k first last at)
+  visible_due a b (Some j) other is = (is.0, is.1, λ i k first less at. due_none k (other i k first (let below = is.1 in omega arith) at) (is.2 i k first less at))
+
+  pub own_due : (a b : ℕ) (visible : Option ℕ) (end n : ℕ) → end ≡ unwrap_or visible b → IsVisibleFrom a b visible → (a ≤ n) × (n < end) × ((i k : ℕ) → a ≤ i → i < n → IsKeyAt h i k → OwnNone k) → HaveUpTo DueNone h a b (Some n)
+  own_due a b None end n same none own = (own.0, (let less = own.1 in omega arith), λ i k first less at. due_none k (own.2 i k first less at) (none i k first (let below = own.1 in omega arith) at))
+  own_due a b (Some j) end n same is own = (own.0, (let less = own.1 in let below = is.1 in omega arith), λ i k first less at. due_none k (own.2 i k first less at) (is.2 i k first (let below = own.1 in omega arith) at))
+
+  pub no_own_due : (a b : ℕ) (visible : Option ℕ) (end : ℕ) → end ≡ unwrap_or visible b → IsVisibleFrom a b visible → ((i k : ℕ) → a ≤ i → i < end → IsKeyAt h i k → OwnNone k) → HaveUpTo DueNone h a b visible
+  no_own_due a b None end same none other = λ i k first last at. due_none k (other i k first (omega arith) at) (none i k first last at)
+  no_own_due a b (Some j) end same is other = (is.0, is.1, λ i k first less at. due_none k (other i k first (omega arith) at) (is.2 i k first less at))
+
+  -- the bad reads of one key
+  pub one_bad : (i k : ℕ) → from ≤ i → i < to → IsKeyAt h i k → (old new : List BadRead) → (SawAt h known.reader.place known.reader.txn k 0 → Adds (IsBadOf h (unlisted k)) old new) → Adds (FromSight (IsSightWithin h known.reader.place i (i + 1)) (IsBadOf h)) old new
+  one_bad i k low less at old new adds =
+      let saw = gap.unlisted i low less in
+      let here : SawAt h known.reader.place known.reader.txn k 0 = subst (λ j. SawAt h known.reader.place known.reader.txn j 0) (one_key h i saw.0 k saw.1 at) saw.2 in
+      adds_same (IsBadOf h (unlisted k)) (FromSight (IsSightWithin h known.reader.place i (i + 1)) (IsBadOf h)) old new
+      (λ x is. (unlisted k, is_sight h wf known.reader.place known.reader.txn k 0 i here at, is))
+      (λ x f. subst (λ (s : Sight). IsBadOf h s x) (one_sight h wf known.reader.place known.reader.txn k 0 i here at f.0 f.1) f.2)
+      (adds here)
+
+  -- those passed over give no look but the range miss
+  pub gap_gains : (old : Seen) (bad : Vec BadRead Global) (missed : List (ℕ × RangeMiss))
+      → Adds (FromSight P (IsBadOf h)) old.bad_reads.items bad.items
+      → Gives IsPassedBy (λ at. (known.number ≡ Some at.0) × IsMissAt (record { from = from; to = to }) at.1) old.missed missed
+      → (All IsMiss old.missed → All IsMiss missed)
+      → Gains h P old (record { bad_reads = bad; saw = old.saw; missed = missed; near = old.near })
+  gap_gains old bad missed adds gives some = record {
+    bad_reads = adds;
+    looks = λ at. (
+      (λ e. elim e [
         | inl look ↦ inl (inl look)
-        | inr f ↦ elim (spreads.ends at f) [
-          | inl before ↦ inl (inr before)
+        | inr f ↦ elim ((gives (at.0, at.1)).0 f.0) [
+          | inl before ↦ inl (inr (before, f.1))
           | inr is ↦
-              let own = unlisted at.1 is.1 is.2 in
-              let positive : 0 < known.reader.txn = (actor_is_txn h wf known.reader.txn known.reader.place (own.2.0, own.2.1, own.2.2)).0 in
-              inr (unlisted_sight known.reader own.0, (refl, own.2, at.1, own.1, is.1, is.2), ((is_known.number at.0).0 is.0, own.1, (λ zero. omega arith), inl (refl, is.3)))
+              let saw = gap.unlisted at.1 is.1.0 is.1.1 in
+              let positive : 0 < known.reader.txn = (actor_is_txn h wf known.reader.txn known.reader.place (saw.2.0, saw.2.1, saw.2.2)).0 in
+              inr (unlisted saw.0, (refl, saw.2, at.1, saw.1, is.1.0, is.1.1), ((is_known.number at.0).0 is.0, saw.1, (λ zero. omega arith), inl (refl, f.1)))
         ]
-      ];
-      holds = λ at e. elim e [
-        | inl before ↦ elim before [ inl look ↦ inl look | inr f ↦ inr (spreads.holds at (inl f)) ]
+      ]),
+      (λ e. elim e [
+        | inl before ↦ elim before [ inl look ↦ inl look | inr f ↦ inr ((gives (at.0, at.1)).1 (inl f.0), f.1) ]
         | inr f ↦
             let is = f.1 in
             let look = subst (λ (s : Sight). LooksAt h s at) (only f.0 is) f.2 in
-            let own = unlisted is.2 is.4 is.5 in
-            let number : is.2 ≡ at.1 = one_key_number h is.2 at.1 own.0 own.1 look.1 in
+            let number : is.2 ≡ at.1 = one_key_number h is.2 at.1 f.0.key is.3 look.1 in
             let first = is.4 in
             let last = is.5 in
-            inr (spreads.holds at (inr ((is_known.number at.0).1 look.0, omega arith, omega arith, one_as_of h wf 0 at.2 0 look.3 (inl (refl, refl)))))
-      ];
-      placed = λ all. all;
-    }
+            inr ((gives (at.0, at.1)).1 (inr ((is_known.number at.0).1 look.0, (omega arith, omega arith))), one_as_of h wf 0 at.2 0 look.3 (inl (refl, refl)))
+      ]),
+    );
+    placed = λ all. all;
+    some = some;
+  }
+
+-- the bad reads of one stretch of numbers after another
+pub bad_then : (h : List Event) (p a b c : ℕ) → a ≤ b → b ≤ c → (old mid new : List BadRead) → Adds (FromSight (IsSightWithin h p a b) (IsBadOf h)) old mid → Adds (FromSight (IsSightWithin h p b c) (IsBadOf h)) mid new → Adds (FromSight (IsSightWithin h p a c) (IsBadOf h)) old new
+bad_then h p a b c le more old mid new first second = adds_same
+    (λ x. FromSight (IsSightWithin h p a b) (IsBadOf h) x ⊎ FromSight (IsSightWithin h p b c) (IsBadOf h) x) (FromSight (IsSightWithin h p a c) (IsBadOf h)) old new
+    (λ x e. elim e [
+      | inl f ↦ (f.0, (f.1.0, f.1.1, f.1.2, f.1.3, f.1.4, (let less = f.1.5 in omega arith)), f.2)
+      | inr f ↦ (f.0, (f.1.0, f.1.1, f.1.2, f.1.3, (let low = f.1.4 in omega arith), f.1.5), f.2)
+    ])
+    (λ x f. elim (cases_lt f.1.2 b) [
+      | inl less ↦ inl (f.0, (f.1.0, f.1.1, f.1.2, f.1.3, f.1.4, less), f.2)
+      | inr after ↦ inr (f.0, (f.1.0, f.1.1, f.1.2, f.1.3, after, f.1.5), f.2)
+    ])
+    (adds_both (FromSight (IsSightWithin h p a b) (IsBadOf h)) (FromSight (IsSightWithin h p b c) (IsBadOf h)) old mid new first second)
+
+-- the keys with numbers from within the gap
+pub part_of_gap : (h : List Event) (known : Known) (own : Bool) (from to : ℕ) → IsGap h known own from to → (a b : ℕ) → from ≤ a → b ≤ to → IsGap h known own a b
+part_of_gap h known own from to gap a b low high = record {
+  unlisted = λ i first last. gap.unlisted i (omega arith) (omega arith);
+  not_own = λ told i k first last at. gap.not_own told i k (omega arith) (omega arith) at;
+}

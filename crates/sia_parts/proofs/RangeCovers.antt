@@ -1,26 +1,26 @@
 -- A range read, and what it covers of a part.
-use Rattle.std.proofs.Common.{◌≡◌, ◌≢◌, inl, inr, ℕ, ◌<◌, ◌≤◌, max, min, List, Some, Vec, Global, length, map, get_or, refl, ap, sym, subst, ◌∙◌, arith}
+use Rattle.std.proofs.Common.{◌≡◌, ◌≢◌, inl, inr, ℕ, ◌<◌, ◌≤◌, max, min, List, Some, length, map, get_or, refl, ap, sym, subst, ◌∙◌, arith}
 use Rattle.std.specs.Prelude.{◌↔◌, All, Contains}
-use Rattle.std.proofs.lemmas.List.{get_or-map, get_or_default, length-map}
+use Rattle.std.proofs.lemmas.List.{get_or-map, length-map}
 use Rattle.std.proofs.lemmas.List.Elements.{All-contains, Contains-get_or}
 use Rattle.std.proofs.lemmas.List.Kept.{AllPairs-from_increasing}
 use Rattle.sia_events.specs.declared.event.Event.{Event}
 use Rattle.sia_events.specs.declared.event.Event.TheVariants.{Range}
 use Rattle.sia_events.specs.Events.{Saw}
-use Rattle.sia_events.specs.Numbering.{names_of, pair_at, IsPair}
+use Rattle.sia_events.specs.Numbering.{names_of, pair_at}
 use Rattle.sia_events.specs.Places.{at_place}
 use Rattle.sia_events.specs.Reads.{SawAt}
 use Rattle.sia_events.specs.Refusals.{IsWellFormed}
 use Rattle.sia_events.proofs.Ranges.{list_in_order}
 use Rattle.sia_events.proofs.Starts.{one_event}
 use Rattle.sia_index.specs.Info.{IsKeyAt}
-use Rattle.sia_parts.specs.declared.auditing.seen.Seen.{Seen}
-use Rattle.sia_parts.specs.declared.auditing.sights.Sight.{Sight}
+use Rattle.sia_parts.specs.declared.audit.seen.Seen.{Seen}
+use Rattle.sia_parts.specs.declared.audit.sights.Sight.{Sight}
 use Rattle.sia_parts.specs.declared.cutting.Part.{Part}
 use Rattle.sia_parts.specs.Parts.{IsInPart}
 use Rattle.sia_parts.specs.Seeing.{AscendByKey, Gains, IsSightWithin}
 use Rattle.sia_parts.proofs.Gaining.{gains_same}
-use Rattle.sia_parts.proofs.LookLemmas.{one_key}
+use Rattle.sia_parts.proofs.Numbers.{one_key}
 
 pub all_from : {A : Type 0} (P : A → Type 0) (xs : List A) → ((x : A) → Contains xs x → P x) → All P xs
 all_from P xs each k d below = each (get_or xs k d) (Contains-get_or xs k d below)

@@ -1,25 +1,15 @@
 -- What reads saw of keys: the sights of read events, and what comes of a sight.
-use Rattle.std.proofs.Common.{◌≡◌, ◌≢◌, ◌⊎◌, inl, inr, ℕ, ◌-◌, ◌<◌, ◌≤◌, List, [], ◌∷◌, length, get_or, map, Option, Some, None, Bool, true, false, not, ◌==◌, refl, ap, sym, subst, ◌∙◌, arith}
-use Rattle.std.specs.Prelude.{◌↔◌, All, Contains, IsTrue, MatchOption}
-use Rattle.std.proofs.lemmas.Bool.{cases_eq}
-use Rattle.std.specs.List.Sorted.{IsStrictlyIncreasing}
-use Rattle.std.proofs.lemmas.List.{get_or-map, get_or_default, length-map}
-use Rattle.std.proofs.lemmas.List.Kept.{AllPairs-from_increasing}
-use Rattle.std.proofs.lemmas.Option.{same_Some}
+use Rattle.std.proofs.Common.{◌≡◌, ℕ, List, Bool, true, false, not, ◌==◌, refl, ap, sym, subst, ◌∙◌}
+use Rattle.std.specs.Prelude.{◌↔◌, IsTrue}
 use Rattle.sia_events.specs.declared.event.Event.{Event}
-use Rattle.sia_events.specs.declared.event.Event.TheVariants.{Read}
-use Rattle.sia_events.specs.Lists.{ListsBy}
-use Rattle.sia_events.specs.Refusals.{IsWellFormed}
-use Rattle.sia_events.specs.Transactions.{IsCommitted, CommitsAt, WroteBefore}
+use Rattle.sia_events.specs.Transactions.{IsCommitted, WroteBefore}
 use Rattle.sia_events.specs.Reads.{IsDue}
 use Rattle.sia_events.proofs.Due.{one_due}
 use Rattle.sia_index.specs.declared.info.Reader.{Reader}
 use Rattle.sia_index.specs.Info.{IsReader}
 use Rattle.sia_parts.specs.declared.finding.BadRead.{BadRead}
-use Rattle.sia_parts.specs.declared.auditing.sights.Sight.{Sight}
-use Rattle.sia_events.specs.NarrowDependencies.{IsAsOf}
-use Rattle.sia_parts.specs.Sights.{IsSight, IsBadOf}
-use Rattle.sia_parts.proofs.Sources.{one_as_of}
+use Rattle.sia_parts.specs.declared.audit.sights.Sight.{Sight}
+use Rattle.sia_parts.specs.Sights.{IsBadOf}
 
 -- the bad read of a sight has the version due
 pub bad_alone : (h : List Event) (s : Sight) (due : ℕ) → IsDue h s.txn s.place s.key due → (x : BadRead) → IsBadOf h s x → ◌≡◌ {A = BadRead} (record { place = s.place; txn = s.txn; key = s.key; saw = s.saw; due = due }) x

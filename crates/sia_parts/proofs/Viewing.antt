@@ -1,35 +1,38 @@
 -- What follows from a view: what is due, and which look it gives.
-use Rattle.std.proofs.Common.{◌≡◌, ◌≢◌, inl, inr, ℕ, ◌+◌, ◌<◌, ◌≤◌, List, Option, Some, None, Result, Ok, Err, Vec, Global, Bool, true, false, refl, sym, subst, ◌∙◌, arith}
-use Rattle.std.specs.Prelude.{◌↔◌, IsTrue, MatchOption, OnOk}
+use Rattle.std.proofs.Common.{◌≡◌, ◌≢◌, inl, inr, ℕ, ◌+◌, ◌<◌, ◌≤◌, List, Option, Some, None, Result, Ok, Err, Vec, Global, false, subst, arith}
+use Rattle.std.specs.Prelude.{MatchOption, OnOk}
 use Rattle.sia_events.specs.declared.event.Event.{Event}
 use Rattle.sia_events.specs.declared.event.Event.TheVariants.{Read}
 use Rattle.sia_events.specs.Events.{Saw}
-use Rattle.sia_events.specs.NarrowDependencies.{IsAsOf}
 use Rattle.sia_events.specs.Numbering.{names_of}
 use Rattle.sia_events.specs.Places.{at_place}
 use Rattle.sia_events.specs.Reads.{IsDue}
 use Rattle.sia_events.specs.Refusals.{IsWellFormed}
-use Rattle.sia_events.specs.Transactions.{CommitsAt, IsCommitted, Wrote, WroteBefore}
+use Rattle.sia_events.specs.Transactions.{IsCommitted, Wrote, WroteBefore}
 use Rattle.sia_events.proofs.Seen.{actor_is_txn, saw_written}
 use Rattle.sia_events.proofs.Starts.{one_event}
 use Rattle.sia_index.specs.Info.{IsKeyAt}
-use Rattle.sia_index.specs.Positions.{IsPosition}
-use Rattle.sia_parts.specs.declared.auditing.known.Known.{Known}
-use Rattle.sia_parts.specs.declared.auditing.seen.Seen.{Seen}
-use Rattle.sia_parts.specs.declared.auditing.sights.Sight.{Sight}
-use Rattle.sia_parts.specs.declared.auditing.sights.View.{View}
+use Rattle.sia_index.specs.declared.info.KeyVersion.{KeyVersion}
+use Rattle.sia_index.specs.Positions.{IsAtPosition, IsNewestAsOf}
+use Rattle.sia_parts.specs.declared.audit.scope.Known.{Known}
+use Rattle.sia_parts.specs.declared.audit.seen.Seen.{Seen}
+use Rattle.sia_parts.specs.declared.audit.sights.Sight.{Sight}
+use Rattle.sia_parts.specs.declared.audit.sights.View.{View}
 use Rattle.sia_parts.specs.declared.finding.BadRead.{BadRead}
-use Rattle.sia_parts.specs.declared.looks.Look.{Look}
 use Rattle.sia_parts.specs.Known.{IsKnown}
-use Rattle.sia_parts.specs.Seeing.{Gains, GainsLook, IsSightWithin, IsVersionAt, IsVersionOf, IsView, origin_in}
+use Rattle.sia_parts.specs.Seeing.{Gains, IsPositionOf, IsSightWithin, IsView, origin_in}
 use Rattle.sia_parts.specs.Sights.{Adds, IsBadOf, IsSight, LooksAt}
-use Rattle.sia_parts.proofs.Gaining.{gains_one, gains_same, is_sight, one_sight}
-use Rattle.sia_parts.proofs.LookLemmas.{at_is_written, one_key_number}
-use Rattle.sia_parts.proofs.Positions.{newest_is_due, newest_there, version_of_seen}
+use Rattle.sia_parts.proofs.Gaining.{GainsLook, gains_one, gains_same, is_sight, one_sight}
+use Rattle.sia_parts.proofs.Numbers.{at_is_written, one_key_number}
+use Rattle.sia_parts.proofs.Positions.{newest_is_due}
 
 pub on_ok : {T E : Type 0} (r : Result T E) (P Q : Type 0) → (P → Q) → OnOk r P → OnOk r Q
 on_ok (Ok x) P Q to p = to p
 on_ok (Err e) P Q to p = tt
+
+pub on_both : {T E : Type 0} (r : Result T E) (P Q R : Type 0) → (P → Q → R) → OnOk r P → OnOk r Q → OnOk r R
+on_both (Ok x) P Q R to p q = to p q
+on_both (Err e) P Q R to p q = tt
 
 module _ (h : List Event) (wf : IsWellFormed h) (known : Known) (is_known : IsKnown h known) (view : View) (is : IsView h known view) where
   t : ℕ
@@ -48,10 +51,8 @@ module _ (h : List Event) (wf : IsWellFormed h) (known : Known) (is_known : IsKn
   seen_sight = record { place = known.reader.place; txn = known.reader.txn; key = k; saw = v }
 
   -- where the version stands
-  pub stands : (q : ℕ) → view.at.position ≡ Some q → (c : ℕ) × IsVersionOf h k v c × IsPosition h k c q
-  stands q some =
-      let at = subst (λ (o : Option ℕ). MatchOption o ((v ≢ 0) × ¬ IsCommitted h v) (λ q. (c : ℕ) × IsAsOf h v c × IsPosition h k c q)) some is.at.position in
-      (at.0, version_of_seen h wf known.reader.place known.reader.txn k v at.0 is.saw at.1, at.2)
+  pub stands : (q : ℕ) → view.at.position ≡ Some q → IsPositionOf h k v q
+  stands q some = subst (λ (o : Option ℕ). MatchOption o ((v ≢ 0) × ¬ IsCommitted h v) (IsPositionOf h k v)) some is.at.position
 
   -- who hadn't written the key saw another's version
   pub saw_other : view.mine ≡ false → v ≢ known.reader.txn
@@ -62,16 +63,18 @@ module _ (h : List Event) (wf : IsWellFormed h) (known : Known) (is_known : IsKn
       cc
 
   -- what is the newest as of the start is due to it
-  pub seen_is_due : (q : ℕ) → view.at.position ≡ Some q → view.mine ≡ false → IsPosition h k known.reader.start q → IsDue h known.reader.txn known.reader.place k v
-  seen_is_due q some told at =
+  pub seen_is_due : (q : ℕ) → view.at.position ≡ Some q → view.mine ≡ false → ((w : KeyVersion) → IsAtPosition h q w → IsNewestAsOf h known.reader.start w) → IsDue h known.reader.txn known.reader.place k v
+  seen_is_due q some told newest =
       let there = stands q some in
-      newest_is_due h wf known.reader.txn known.reader.place k known.reader.start (record { txn = v; commit = there.0 }) is_known.reader.starts (λ before. let mine = is.mine.1 before in cc)
-      (newest_there h wf k v there.0 known.reader.start q there.1 there.2 at)
+      let w = there.0 in
+      let other : ¬ WroteBefore h known.reader.txn w.key known.reader.place = λ before. let mine = is.mine.1 (subst (λ j. WroteBefore h known.reader.txn j known.reader.place) there.2 before) in cc in
+      subst (IsDue h known.reader.txn known.reader.place k) there.3 (subst (λ j. IsDue h known.reader.txn known.reader.place j w.txn) there.2
+      (newest_is_due h wf known.reader.txn known.reader.place known.reader.start q w there.1 is_known.reader.starts other (newest w there.1)))
 
   -- a version without a position, or the reader's own, gives no look
   pub looks_not : view.at.position ≡ None → (at : ℕ × ℕ × ℕ) → ¬ LooksAt h seen_sight at
   looks_not none at look =
-      let loose = subst (λ (o : Option ℕ). MatchOption o ((v ≢ 0) × ¬ IsCommitted h v) (λ q. (c : ℕ) × IsAsOf h v c × IsPosition h k c q)) none is.at.position in
+      let loose = subst (λ (o : Option ℕ). MatchOption o ((v ≢ 0) × ¬ IsCommitted h v) (IsPositionOf h k v)) none is.at.position in
       elim look.3 [ inl zero ↦ loose.0 zero.0 | inr commits ↦ loose.1 (at.2, commits) ]
 
   pub own_not : v ≡ known.reader.txn → (at : ℕ × ℕ × ℕ) → ¬ LooksAt h seen_sight at
@@ -84,12 +87,12 @@ module _ (h : List Event) (wf : IsWellFormed h) (known : Known) (is_known : IsKn
   bad_named names same due is_due old new adds = subst (λ (q : ℕ × ℕ). IsSight h (record { place = known.reader.place; txn = known.reader.txn; key = q.0; saw = q.1 }) → IsDue h known.reader.txn known.reader.place q.0 due
       → Adds (IsBadOf h (record { place = known.reader.place; txn = known.reader.txn; key = q.0; saw = q.1 })) old new) same (adds h) is.saw is_due
 
-  pub gains_view : (old : Seen) (bad : Vec BadRead Global) (looks : Vec Look Global) → Adds (IsBadOf h seen_sight) old.bad_reads.items bad.items → GainsLook h seen_sight old.looks.items looks.items
-      → Gains h (IsSightWithin h known.reader.place view.at.key (view.at.key + 1)) old (record { bad_reads = bad; looks = looks; absences = old.absences })
-  gains_view old bad looks adds gains = gains_one h (IsSightWithin h known.reader.place view.at.key (view.at.key + 1)) seen_sight
+  pub gains_view : (old : Seen) (bad : Vec BadRead Global) (saw : List (ℕ × ℕ)) → Adds (IsBadOf h seen_sight) old.bad_reads.items bad.items → GainsLook h seen_sight old.saw saw
+      → Gains h (IsSightWithin h known.reader.place view.at.key (view.at.key + 1)) old (record { bad_reads = bad; saw = saw; missed = old.missed; near = old.near })
+  gains_view old bad saw adds gains = gains_one h (IsSightWithin h known.reader.place view.at.key (view.at.key + 1)) seen_sight
       (is_sight h wf known.reader.place known.reader.txn k v view.at.key is.saw is.at.key)
       (one_sight h wf known.reader.place known.reader.txn k v view.at.key is.saw is.at.key)
-      old bad looks adds gains
+      old bad saw adds gains
 
 -- where a transaction read a key only, all that is seen there is of that key
 module _ (h : List Event) (p t k v : ℕ) (at : at_place h p ≡ Some (Read t k v)) where

@@ -1,6 +1,5 @@
 -- Lists in the order of two numbers.
 use Rattle.std.specs.Prelude.{◌≡◌, ◌⊎◌, ℕ, ◌<◌, ◌≤◌, List, length, slice_index_or}
-use Rattle.sia_parts.specs.declared.looks.Look.{Look}
 
 -- a has the lesser first number, or the same one and no greater second number
 abbrev pub StandsBy : {A : Type 0} → (A → ℕ) → (A → ℕ) → A → A → Type 0
@@ -9,7 +8,3 @@ StandsBy first second a b = (first a < first b) ⊎ ((first a ≡ first b) × (s
 -- by the first number, and then by the second
 abbrev pub RiseBy : {A : Type 0} → (A → ℕ) → (A → ℕ) → List A → Type 0
 RiseBy {A} first second xs = (i j : ℕ) (d : A) → i ≤ j → j < length xs → StandsBy first second (slice_index_or xs i d) (slice_index_or xs j d)
-
--- by transaction, and then by key
-abbrev pub RiseByTxn : List Look → Type 0
-RiseByTxn looks = RiseBy (λ look. look.txn) (λ look. look.key) looks

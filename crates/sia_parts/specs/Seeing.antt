@@ -1,27 +1,26 @@
 -- What reads saw at the keys of a part, by numbers of the log and by positions.
-use Rattle.std.specs.Prelude.{◌≡◌, ◌≢◌, ◌⊎◌, ◌↔◌, ℕ, ◌+◌, ◌-◌, ◌<◌, ◌≤◌, List, All, AllPairs, Contains, false, IsTrue, MatchOption, length}
+use Rattle.std.specs.Prelude.{◌≡◌, ◌≢◌, ◌⊎◌, ◌↔◌, ℕ, ◌-◌, ◌<◌, ◌≤◌, List, Bool, All, AllPairs, false, IsTrue, MatchOption, Option, length}
 use Rattle.sia_events.specs.declared.event.Event.{Event}
 use Rattle.sia_events.specs.declared.rows.Row.{Row}
 use Rattle.sia_events.specs.declared.rows.Row.TheVariants as rows
-use Rattle.sia_events.specs.NarrowDependencies.{CommitsVersion, IsAsOf}
 use Rattle.sia_events.specs.Numbering.{Names, names_of, key_at, pair_at, write_at, IsPair}
 use Rattle.sia_events.specs.Reads.{SawAt}
 use Rattle.sia_events.specs.Refusals.{IsWellFormed}
 use Rattle.sia_events.specs.Transactions.{IsCommitted, WroteBefore}
+use Rattle.sia_index.specs.declared.info.KeyVersion.{KeyVersion}
 use Rattle.sia_index.specs.declared.info.WriteAt.{WriteAt}
 use Rattle.sia_index.specs.Info.{IsKeyAt}
-use Rattle.sia_index.specs.Positions.{IsPosition}
-use Rattle.sia_parts.specs.declared.auditing.known.Known.{Known}
-use Rattle.sia_parts.specs.declared.auditing.ranges.Cover.{Cover}
-use Rattle.sia_parts.specs.declared.auditing.seen.Scope.{Scope}
-use Rattle.sia_parts.specs.declared.auditing.seen.Seen.{Seen}
-use Rattle.sia_parts.specs.declared.auditing.sights.Origin.{Origin}
-use Rattle.sia_parts.specs.declared.auditing.sights.Origin.TheVariants as origins
-use Rattle.sia_parts.specs.declared.auditing.sights.Sight.{Sight}
-use Rattle.sia_parts.specs.declared.auditing.sights.View.{View}
-use Rattle.sia_parts.specs.declared.looks.Look.{Look}
-use Rattle.sia_parts.specs.Joining.{IsEnd, IsInLook, IsInAbsence}
-use Rattle.sia_parts.specs.Looks.{HasPosition}
+use Rattle.sia_index.specs.Positions.{HasPosition, IsAtPosition}
+use Rattle.sia_parts.specs.declared.audit.scope.Known.{Known}
+use Rattle.sia_parts.specs.declared.audit.ranges.Cover.{Cover}
+use Rattle.sia_parts.specs.declared.audit.scope.Scope.{Scope}
+use Rattle.sia_parts.specs.declared.audit.seen.Seen.{Seen}
+use Rattle.sia_parts.specs.declared.audit.sights.Origin.{Origin}
+use Rattle.sia_parts.specs.declared.audit.sights.Origin.TheVariants as origins
+use Rattle.sia_parts.specs.declared.audit.sights.Sight.{Sight}
+use Rattle.sia_parts.specs.declared.audit.sights.View.{View}
+use Rattle.sia_parts.specs.declared.accesses.RangeMiss.{RangeMiss}
+use Rattle.sia_parts.specs.Accesses.{IsPassedBy}
 use Rattle.sia_parts.specs.Parts.{IsInPart}
 use Rattle.sia_parts.specs.Sights.{Adds, FromSome, FromSight, IsSight, IsBadOf, LooksAt}
 
@@ -45,25 +44,28 @@ pub record IsScope (scope : Scope) : Type 0 where
 abbrev pub IsSightWithin : List Event → ℕ → ℕ → ℕ → Sight → Type 0
 IsSightWithin h p from to s = (s.place ≡ p) × IsSight h s × (i : ℕ) × IsKeyAt h i s.key × (from ≤ i) × (i < to)
 
--- the points that what was seen rests on, and those that lie in it
-abbrev pub IsEndIn : Seen → ℕ × ℕ × ℕ → Type 0
-IsEndIn seen at = FromSome IsEnd seen.looks.items at ⊎ FromSome IsInAbsence seen.absences.items at
+-- the row is of the reader with number at.0, and of the version of key number at.1 as of at.2
+abbrev pub IsSeenAt : List Event → ℕ × ℕ → ℕ × ℕ × ℕ → Type 0
+IsSeenAt h row at = (row.0 ≡ at.0) × (v : KeyVersion) × IsAtPosition h row.1 v × IsKeyAt h at.1 v.key × (v.commit ≡ at.2)
 
-abbrev pub IsHeldIn : Seen → ℕ × ℕ × ℕ → Type 0
-IsHeldIn seen at = FromSome IsInLook seen.looks.items at ⊎ FromSome IsInAbsence seen.absences.items at
+-- that reader saw that version, or passed over the key
+abbrev pub HasSeenAt : List Event → Seen → ℕ × ℕ × ℕ → Type 0
+HasSeenAt h seen at = FromSome (IsSeenAt h) seen.saw at ⊎ (FromSome IsPassedBy seen.missed (at.0, at.1) × (at.2 ≡ 0))
+
+-- a row at a position that there is
+abbrev pub IsPlaced : List Event → ℕ × ℕ → Type 0
+IsPlaced h row = HasPosition h row.1
+
+-- a range miss of some key
+abbrev pub IsMiss : ℕ × RangeMiss → Type 0
+IsMiss row = row.1.from < row.1.to
 
 -- the new one has what the old one had, and what the sights with P give, and nothing else
 pub record Gains (h : List Event) (P : Sight → Type 0) (old new : Seen) : Type 0 where
   pub bad_reads : Adds (FromSight P (IsBadOf h)) old.bad_reads.items new.bad_reads.items
-  pub ends : (at : ℕ × ℕ × ℕ) → IsEndIn new at → IsEndIn old at ⊎ FromSight P (LooksAt h) at
-  pub holds : (at : ℕ × ℕ × ℕ) → IsHeldIn old at ⊎ FromSight P (LooksAt h) at → IsHeldIn new at
-  pub placed : All (HasPosition h) old.looks.items → All (HasPosition h) new.looks.items
-
--- the same of looks alone, of one sight
-pub record GainsLook (h : List Event) (s : Sight) (old new : List Look) : Type 0 where
-  pub ends : (at : ℕ × ℕ × ℕ) → FromSome IsEnd new at → FromSome IsEnd old at ⊎ LooksAt h s at
-  pub holds : (at : ℕ × ℕ × ℕ) → FromSome IsInLook old at ⊎ LooksAt h s at → FromSome IsInLook new at
-  pub placed : All (HasPosition h) old → All (HasPosition h) new
+  pub looks : (at : ℕ × ℕ × ℕ) → HasSeenAt h new at ↔ (HasSeenAt h old at ⊎ FromSight P (LooksAt h) at)
+  pub placed : All (IsPlaced h) old.saw → All (IsPlaced h) new.saw
+  pub some : All IsMiss old.missed → All IsMiss new.missed
 
 -- the key and the version that something made
 abbrev pub origin_in : Names → Origin → ℕ × ℕ
@@ -75,14 +77,14 @@ abbrev pub IsOrigin : Names → Origin → Type 0
 IsOrigin names (origins.Write w) = (0 < w) × (w ≤ length names.writes)
 IsOrigin names (origins.Nobody k) = k < length names.keys
 
--- v is version 0 of k as of 0, or wrote k and commits at c
-abbrev pub IsVersionOf : List Event → ℕ → ℕ → ℕ → Type 0
-IsVersionOf h k v c = ((v ≡ 0) × (c ≡ 0)) ⊎ CommitsVersion h k v c
+-- the version of k that v made, or version 0, stands at position q
+abbrev pub IsPositionOf : List Event → ℕ → ℕ → ℕ → Type 0
+IsPositionOf h k v q = (w : KeyVersion) × IsAtPosition h q w × (w.key ≡ k) × (w.txn ≡ v)
 
 -- version v of k stands where it is said, and nowhere where it didn't commit
 pub record IsVersionAt (h : List Event) (k v : ℕ) (at : WriteAt) : Type 0 where
   pub key : IsKeyAt h at.key k
-  pub position : MatchOption at.position ((v ≢ 0) × ¬ IsCommitted h v) (λ q. (c : ℕ) × IsAsOf h v c × IsPosition h k c q)
+  pub position : MatchOption at.position ((v ≢ 0) × ¬ IsCommitted h v) (IsPositionOf h k v)
 
 -- the reader saw the version at its place
 pub record IsView (h : List Event) (known : Known) (view : View) : Type 0 where
@@ -104,3 +106,13 @@ pub record IsCover (h : List Event) (known : Known) (cover : Cover) : Type 0 whe
   pub listed : All (λ p. SawAt h known.reader.place known.reader.txn (pair_at (names_of h) p).0 (pair_at (names_of h) p).1) cover.pairs.now
   pub unlisted : (k : ℕ) → cover.lo ≤ k → k ≤ cover.hi → All (λ p. (pair_at (names_of h) p).0 ≢ k) cover.pairs.now → SawAt h known.reader.place known.reader.txn k 0
   pub own : cover.own ≡ false → (k : ℕ) → cover.lo ≤ k → k ≤ cover.hi → ¬ WroteBefore h known.reader.txn k known.reader.place
+
+-- the reader saw version 0 of the keys with numbers from the one to before the other, and hadn't written them where it is said
+pub record IsGap (h : List Event) (known : Known) (own : Bool) (from to : ℕ) : Type 0 where
+  pub unlisted : (i : ℕ) → from ≤ i → i < to → (k : ℕ) × IsKeyAt h i k × SawAt h known.reader.place known.reader.txn k 0
+  pub not_own : own ≡ false → (i k : ℕ) → from ≤ i → i < to → IsKeyAt h i k → ¬ WroteBefore h known.reader.txn k known.reader.place
+
+-- all keys with numbers from the one to before the other have P, or those below the number that was found
+abbrev pub HaveUpTo : (ℕ → Type 0) → List Event → ℕ → ℕ → Option ℕ → Type 0
+HaveUpTo P h from to found = MatchOption found ((i k : ℕ) → from ≤ i → i < to → IsKeyAt h i k → P k)
+    (λ j. (from ≤ j) × (j < to) × ((i k : ℕ) → from ≤ i → i < j → IsKeyAt h i k → P k))

@@ -1,16 +1,15 @@
 -- How the findings of a part come about: from pairs of a key's versions, and from what reads saw of a key.
-use Rattle.std.specs.Prelude.{◌≡◌, ◌≢◌, ◌⊎◌, ◌↔◌, ℕ, ◌<◌, List, AllPairs, Contains}
+use Rattle.std.specs.Prelude.{◌≡◌, ◌≢◌, ◌⊎◌, ◌↔◌, ℕ, List, Contains}
 use Rattle.sia_events.specs.declared.event.Event.{Event}
 use Rattle.sia_events.specs.NarrowDependencies.{IsAsOf}
-use Rattle.sia_events.specs.Transactions.{StartsAt}
 use Rattle.sia_events.specs.Reads.{SawAt}
-use Rattle.sia_events.specs.Isolation.{IsBadRead, IsUnexplained}
-use Rattle.sia_index.specs.declared.info.Made.{Made}
-use Rattle.sia_index.specs.Info.{IsKeyAt, IsMade}
+use Rattle.sia_events.specs.Isolation.{IsBadRead, IsBadWrite, IsUnexplained}
+use Rattle.sia_index.specs.declared.info.KeyVersion.{KeyVersion}
+use Rattle.sia_index.specs.Info.{IsKeyAt}
 use Rattle.sia_parts.specs.declared.finding.BadRead.{BadRead}
 use Rattle.sia_parts.specs.declared.finding.BadWrite.{BadWrite}
 use Rattle.sia_parts.specs.declared.finding.Unexplained.{Unexplained}
-use Rattle.sia_parts.specs.declared.auditing.sights.Sight.{Sight}
+use Rattle.sia_parts.specs.declared.audit.sights.Sight.{Sight}
 use Rattle.sia_index.specs.Numbers.{IsCommittedAt}
 
 -- new holds what old held, and what has P, and nothing else
@@ -24,9 +23,6 @@ FromSome {A} P xs y = (x : A) × Contains xs x × P x y
 -- the new list gives what the old one gave, and what has P, and nothing else
 abbrev pub Gives : {A B : Type 0} → (A → B → Type 0) → (B → Type 0) → List A → List A → Type 0
 Gives {A} {B} Q P old new = (y : B) → FromSome Q new y ↔ (FromSome Q old y ⊎ P y)
-
-abbrev pub AscendsByCommit : List Made → Type 0
-AscendsByCommit versions = AllPairs (λ x y. x.commit < y.commit) versions
 
 -- at its place the transaction saw this version of the key
 abbrev pub IsSight : List Event → Sight → Type 0
@@ -53,18 +49,10 @@ LooksAt h s at = IsCommittedAt h at.0 s.txn × IsKeyAt h at.1 s.key × (s.saw �
 abbrev pub FromSight : {B : Type 0} → (Sight → Type 0) → (Sight → B → Type 0) → B → Type 0
 FromSight P Q y = (s : Sight) × P s × Q s y
 
--- the bad write of two versions, where the first committed after place s
-abbrev pub IsLateBad : ℕ → ℕ → Made → Made → BadWrite → Type 0
-IsLateBad s k second first b = (s < first.commit) × (b ≡ record { key = k; first = first.txn; second = second.txn })
+-- the bad write has the version as its second
+abbrev pub IsBadWith : List Event → KeyVersion → BadWrite → Type 0
+IsBadWith h second b = (b.key ≡ second.key) × (b.second ≡ second.txn) × IsBadWrite h b.key b.first b.second
 
--- the bad write of two versions, where the first committed after the start of the second's transaction
-abbrev pub IsPairBad : List Event → ℕ → Made → Made → BadWrite → Type 0
-IsPairBad h k second first b = (s : ℕ) × StartsAt h second.txn s × IsLateBad s k second first b
-
--- two versions of the list, the first committed before the second, give it
-abbrev pub FromPair : {B : Type 0} → (Made → Made → B → Type 0) → List Made → B → Type 0
-FromPair {B} P versions b = (first : Made) × (second : Made) × Contains versions first × Contains versions second × (first.commit < second.commit) × P second first b
-
--- of two committed writers of k, the first committed before the second, what they give
-abbrev pub KeyPair : {B : Type 0} → List Event → (ℕ → Made → Made → B → Type 0) → ℕ → B → Type 0
-KeyPair {B} h P k b = (first : Made) × (second : Made) × IsMade h k first × IsMade h k second × (first.commit < second.commit) × P k second first b
+-- it is of versions of k
+abbrev pub IsBadOfKey : List Event → ℕ → BadWrite → Type 0
+IsBadOfKey h k b = (b.key ≡ k) × IsBadWrite h b.key b.first b.second

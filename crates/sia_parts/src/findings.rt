@@ -1,5 +1,6 @@
+use crate::accesses::RangeMiss;
+use crate::by_reader::ByReader;
 use crate::finding::{BadRead, BadWrite, Edge, Unexplained};
-use crate::looks::{Absence, Look};
 
 /// What was found at the keys of one part.
 #[derive(Drop)]
@@ -19,14 +20,13 @@ pub struct Findings {
     pub edges: Vec<Edge>,
 }
 
-/// What was found at the keys of one part, where edges are told by what committed transactions saw.
+/// What was found at the keys of one part, with what the committed transactions saw there instead of edges.
 #[derive(Drop)]
 pub struct PartFound {
     pub bad_reads: Vec<BadRead>,
     pub bad_writes: Vec<BadWrite>,
     pub unexplained: Vec<Unexplained>,
-    /// Who saw versions, in any order.
-    pub readers: Vec<Look>,
-    /// Who saw version 0 of keys that range reads passed over, in any order.
-    pub absences: Vec<Absence>,
+    /// The positions of the versions that they saw, their own left out.
+    pub saw: ByReader<u32>,
+    pub missed: ByReader<RangeMiss>,
 }

@@ -1,15 +1,13 @@
 //! The findings of all parts together.
-ghost use Rattle.std.specs.Prelude.{ℕ, List, Contains, IfOk, OnOk};
+ghost use Rattle.std.specs.Prelude.{ℕ, List, IfOk};
 ghost use Rattle.std.specs.List.{AllZip};
 ghost use Rattle.sia_events.specs.declared.event.Event.{Event};
 ghost use Rattle.sia_events.specs.Refusals.{IsWellFormed};
 ghost use Rattle.sia_parts.specs.declared.cutting.Part.{Part};
 ghost use Rattle.sia_parts.specs.Parts.{IsCutting};
 ghost use Rattle.sia_parts.specs.Findings.{AreFindings, ArePartFindings};
-ghost use Rattle.sia_parts.specs.Sights.{Adds, FromSome};
 
 pub(crate) mod all_found;
-pub(crate) mod chunking;
 
 use crate::findings::{Findings, PartFindings};
 use sia_events::NoMemory;
@@ -29,25 +27,15 @@ pub fn gather(alloc: Global, parts: Vec<PartFindings>) -> Result<Findings, NoMem
         unexplained: Vec::new(alloc),
         edges: Vec::new(alloc),
     };
-    put_parts(&parts, &mut all)?;
-    put_in_order(&mut all.bad_reads);
-    put_in_order(&mut all.bad_writes);
-    put_in_order(&mut all.unexplained);
-    put_in_order(&mut all.edges);
-    Ok(all)
-}
-
-fn put_parts(parts: &[PartFindings], all: &mut Findings) -> Result<(), NoMemory>
-    ensures bad_reads { OnOk result (Adds (FromSome (λ part. Contains part.bad_reads.items) parts.now) all.old.bad_reads.items all.new.bad_reads.items) }
-    ensures bad_writes { OnOk result (Adds (FromSome (λ part. Contains part.bad_writes.items) parts.now) all.old.bad_writes.items all.new.bad_writes.items) }
-    ensures unexplained { OnOk result (Adds (FromSome (λ part. Contains part.unexplained.items) parts.now) all.old.unexplained.items all.new.unexplained.items) }
-    ensures edges { OnOk result (Adds (FromSome (λ part. Contains part.edges.items) parts.now) all.old.edges.items all.new.edges.items) }
-{
-    for part in parts {
+    for part in &parts {
         all.bad_reads.extend_from_slice(&part.bad_reads)?;
         all.bad_writes.extend_from_slice(&part.bad_writes)?;
         all.unexplained.extend_from_slice(&part.unexplained)?;
         all.edges.extend_from_slice(&part.edges)?;
     }
-    Ok(())
+    put_in_order(&mut all.bad_reads)?;
+    put_in_order(&mut all.bad_writes)?;
+    put_in_order(&mut all.unexplained)?;
+    put_in_order(&mut all.edges)?;
+    Ok(all)
 }

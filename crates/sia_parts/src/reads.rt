@@ -8,13 +8,13 @@ ghost use Rattle.sia_events.specs.Numbering.{names_of, event_of, IsWithin};
 ghost use Rattle.sia_events.specs.Reads.{SawAt};
 ghost use Rattle.sia_parts.specs.declared.cutting.Part.{Part as part};
 ghost use Rattle.sia_parts.specs.declared.reads.Read.{Read as read};
-ghost use Rattle.sia_parts.specs.Dealing.{AreReads, Deals, DealsWithin, HasReadsOf};
+ghost use Rattle.sia_parts.specs.Dealing.{AreReads, Deals, HasReadsOf};
 ghost use Rattle.sia_parts.specs.Parts.{IsCutting};
 
-use crate::auditing::seen::txn_of;
+use crate::audit::seen::txn_of;
 use crate::cutting::Part;
 use sia_events::{Key, Log, NoMemory, Row};
-use sia_index::keyed::{By, ByTxn, place_above};
+use sia_index::keyed::{By, ByKey, ByTxn, place_above};
 use sia_index::ordering::in_order;
 use std::alloc::Global;
 
@@ -40,10 +40,7 @@ impl By<Read> for ByTxn {
     }
 }
 
-/// Parts by their first key.
-struct ByFirst;
-
-impl By<Part> for ByFirst {
+impl By<Part> for ByKey {
     ghost by = { λ p. p.lo };
 
     fn number(p: &Part) -> u64 {
@@ -58,7 +55,10 @@ impl Reads {
         ensures { IfOk result (λ reads. AreReads log.now parts.now reads) }
     {
         let reads = reads_by_txn(alloc, log)?;
-        let mut dealt = no_places(alloc, parts.len())?;
+        let mut dealt = Vec::with_capacity(alloc, parts.len())?;
+        for _ in 0..parts.len() {
+            dealt.push(Vec::new(alloc))?;
+        }
         for i in 0..reads.len() {
             put_read(log, parts, reads[i].place, &mut dealt)?;
         }
@@ -74,16 +74,6 @@ impl Reads {
             None => &[],
         }
     }
-}
-
-fn no_places(alloc: Global, count: usize) -> Result<Vec<Vec<u32>>, NoMemory>
-    ensures { IfOk result (λ lists. length lists.items ≡ count) }
-{
-    let mut lists = Vec::with_capacity(alloc, count)?;
-    for _ in 0..count {
-        lists.push(Vec::new(alloc))?;
-    }
-    Ok(lists)
 }
 
 fn reads_by_txn(alloc: Global, log: &Log) -> Result<Vec<Read>, NoMemory>
@@ -135,20 +125,12 @@ fn put_read(
 {
     if let Some(row) = log.row(place) {
         if let Some((lo, hi)) = covered(log, row) {
-            let from = place_above::<Part, ByFirst>(parts, lo).saturating_sub(1);
-            let to = place_above::<Part, ByFirst>(parts, hi);
-            put_place(place, from, to, dealt)?;
+            let from = place_above::<Part, ByKey>(parts, lo).saturating_sub(1);
+            let to = place_above::<Part, ByKey>(parts, hi);
+            for i in from..to {
+                dealt[i].push(place)?;
+            }
         }
-    }
-    Ok(())
-}
-
-fn put_place(place: u32, from: usize, to: usize, dealt: &mut Vec<Vec<u32>>) -> Result<(), NoMemory>
-    requires { to ≤ length dealt.old.items }
-    ensures { OnOk result (DealsWithin place from to dealt.old.items dealt.new.items) }
-{
-    for i in from..to {
-        dealt[i].push(place)?;
     }
     Ok(())
 }

@@ -1,10 +1,9 @@
 //! Where a transaction first saw a version of a key that gives an edge.
-ghost use Rattle.std.specs.Prelude.{◌≡◌, ◌↔◌, ℕ, Contains, IfOk, IsTrue, MatchOption};
+ghost use Rattle.std.specs.Prelude.{◌≡◌, ◌↔◌, ℕ, IfOk, IsTrue, MatchOption};
 ghost use Rattle.sia_events.specs.Reads.{SawAt};
 ghost use Rattle.sia_events.specs.Transactions.{CommitsBefore};
 ghost use Rattle.sia_parts.specs.Entries.{IsEdge};
 ghost use Rattle.sia_parts.specs.Acts.{AreActs};
-ghost use Rattle.sia_parts.specs.Grouped.{RiseBy};
 ghost use Rattle.sia_parts.specs.Sightings.{Gives, IsFirstSight, reader_of};
 ghost use Rattle.sia_parts.specs.declared.sighting.Act.{Act};
 
@@ -48,15 +47,6 @@ pub fn acts_of(alloc: Global, h: &History) -> Result<Vec<Act>, NoMemory>
     Ok(acts)
 }
 
-/// Those of one transaction, by place.
-fn acts_by(acts: &[Act], txn: TxnId) -> &[Act]
-    requires { RiseBy (λ act. act.txn) (λ act. act.place) acts.now }
-    ensures holds { (act : Act) → Contains result.now act ↔ (Contains acts.now act × (act.txn ≡ txn)) }
-    ensures rise { RiseBy (λ act. act.txn) (λ act. act.place) result.now }
-{
-    between::<Act, ByTxn>(acts, u64::from(txn), u64::from(txn))
-}
-
 fn commits_before(ix: &Index, first: TxnId, second: TxnId) -> bool
     ensures { IsTrue result ↔ CommitsBefore ix.now first second }
 {
@@ -87,18 +77,8 @@ fn gives(ix: &Index, e: &Edge, version: Version) -> bool
     }
     match e.kind {
         Kind::Ww => false,
-        Kind::Wr => {
-            if version == e.src {
-                return true;
-            }
-            commits_before(ix, e.src, version)
-        }
-        Kind::Rw => {
-            if version == 0 {
-                return true;
-            }
-            commits_before(ix, version, e.dst)
-        }
+        Kind::Wr => version == e.src || commits_before(ix, e.src, version),
+        Kind::Rw => version == 0 || commits_before(ix, version, e.dst),
     }
 }
 
@@ -118,7 +98,8 @@ pub fn first_sight(h: &History, ix: &Index, acts: &[Act], e: &Edge) -> Option<Fi
         (λ sight. IsFirstSight (Gives e.now.kind h.now e.now.src e.now.dst e.now.key) h.now (reader_of e.now.kind e.now.src e.now.dst) e.now.key sight.place sight.version) }
 {
     h.law();
-    for act in acts_by(acts, reader_of_edge(e)) {
+    let reader = u64::from(reader_of_edge(e));
+    for act in between::<Act, ByTxn>(acts, reader, reader) {
         if let Some(version) = h.saw(act.place, e.key) {
             if gives(ix, e, version) {
                 return Some(FirstSight {

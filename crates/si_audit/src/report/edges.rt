@@ -1,15 +1,15 @@
-//! The lines of edges that are numbers, of which a report can have millions. Some lines at a time are put together in a block,
+//! The lines of edges, of which a report can have millions. Some lines at a time are put together in a block,
 //! from its end to its start, so that nothing is counted before, and appended at once.
-ghost use Rattle.std.specs.Prelude.{◌≡◌, ◌+◌, ◌≤◌, ◌∷◌, ◌++◌, [], length, drop, IfOk, ◌<◌};
+ghost use Rattle.std.specs.Prelude.{◌≡◌, ◌+◌, ◌≤◌, ◌∷◌, ◌++◌, [], length, drop, slice_index, IfOk, OnOk, ◌<◌};
 ghost use Rattle.sia_events.specs.Text.{numeral};
-ghost use Rattle.si_audit.specs.Sheets.{number_lines, IsSheet};
+ghost use Rattle.si_audit.specs.Sheets.{row_lines, IsSheet};
 ghost use Rattle.sia_graph.specs.AllEdges.{AreAllEdges};
 ghost use Rattle.si_audit.specs.Lines as lines;
 
 use itoa::write_digits;
 use sia_events::{Key, NoMemory, TxnId};
-use sia_graph::{AllEdges, Link, chunk_of};
-use sia_parts::{Edge, EdgeNumber, Kind, edge_of};
+use sia_graph::{AllEdges, Link, put_edges};
+use sia_parts::{Edge, EdgeTo, Kind};
 use std::alloc::{AllocError, Global};
 
 /// How many lines are put together before they are appended.
@@ -67,50 +67,47 @@ fn put_line(block: &mut [u8; ROOM], e: &Edge, end: usize) -> usize
     put(block, b"edge ", end)
 }
 
-/// Puts the lines of the edges of some numbers at the end of the block. Answers where they start.
+/// Puts the lines of some edges from a source at the end of the block. Answers where they start.
 #[inline]
-fn put_lines(block: &mut [u8; ROOM], txns: &[TxnId], keys: &[Key], numbers: &[EdgeNumber]) -> usize
-    requires { length numbers.now ≤ 64 }
+fn put_lines(
+    block: &mut [u8; ROOM],
+    txns: &[TxnId],
+    keys: &[Key],
+    source: u32,
+    rows: &[EdgeTo],
+) -> usize
+    requires { length rows.now ≤ 64 }
     ensures room { result ≤ 4608 }
-    ensures bytes { drop result block.new ≡ number_lines txns.now keys.now numbers.now }
+    ensures bytes { drop result block.new ≡ row_lines txns.now keys.now source rows.now }
 {
     let mut end = ROOM;
-    let mut left = numbers.len();
+    let mut left = rows.len();
     while left > 0 {
         left -= 1;
-        end = put_line(block, &edge_of(txns, keys, numbers[left]), end);
+        end = put_line(block, &rows[left].named(txns, keys, source), end);
     }
     end
 }
 
-/// The lines of the edges of these numbers, on a sheet of their own. It has the room for them from the start: both lists ascend,
-/// so that no line is longer than one with the last transaction twice and the last key.
-pub(crate) fn sheet_of(
-    alloc: Global,
+/// Adds the lines of the edges from a source, by a block.
+fn push_lines(
+    out: &mut Vec<u8>,
+    block: &mut [u8; ROOM],
     txns: &[TxnId],
     keys: &[Key],
-    numbers: &[EdgeNumber],
-) -> Result<Vec<u8>, AllocError>
-    ensures { IfOk result (λ sheet. sheet.items ≡ number_lines txns.now keys.now numbers.now) }
+    source: u32,
+    rows: &[EdgeTo],
+) -> Result<(), AllocError>
+    ensures { OnOk result (out.new.items ≡ out.old.items ++ row_lines txns.now keys.now source rows.now) }
 {
-    let txn = *txns.last().unwrap_or(&0);
-    let longest = Edge {
-        src: txn,
-        dst: txn,
-        kind: Kind::Rw,
-        key: *keys.last().unwrap_or(&0),
-    };
-    let mut block = [0; ROOM];
-    let most = ROOM - put_line(&mut block, &longest, ROOM);
-    let mut sheet = Vec::with_capacity(alloc, numbers.len().saturating_mul(most))?;
-    let mut rest = numbers;
+    let mut rest = rows;
     while !rest.is_empty() {
         let count = rest.len().min(LINES);
-        let start = put_lines(&mut block, txns, keys, &rest[..count]);
-        sheet.extend_from_slice(&block[start..])?;
+        let start = put_lines(block, txns, keys, source, &rest[..count]);
+        out.extend_from_slice(&block[start..])?;
         rest = &rest[count..];
     }
-    Ok(sheet)
+    Ok(())
 }
 
 /// What is made of a chunk of the edges.
@@ -121,18 +118,22 @@ pub(crate) struct Sheet {
     pub(crate) links: Vec<Link>,
 }
 
-/// What is made of the edges whose sources stand from the one place to before the other.
-pub(crate) fn sheet_between(
-    alloc: Global,
-    edges: &AllEdges,
-    from: usize,
-    to: usize,
-) -> Result<Sheet, NoMemory>
-    requires { AreAllEdges edges.now }
-    ensures { IfOk result (λ sheet. IsSheet edges.now from to sheet.lines.items sheet.links.items) }
+/// What is made of a chunk of all edges, by its number.
+pub(crate) fn sheet_of(alloc: Global, all: &AllEdges, number: usize) -> Result<Sheet, NoMemory>
+    requires all { AreAllEdges all.now }
+    requires chunk { number + 1 < length all.now.bounds.items }
+    ensures { IfOk result (λ sheet. IsSheet all.now.edges.index.now (slice_index all.now.bounds.items number) (slice_index all.now.bounds.items (number + 1)) sheet.lines.items sheet.links.items) }
 {
-    let chunk = chunk_of(alloc, edges, from, to)?;
-    let lines = sheet_of(alloc, edges.txns, edges.keys, &chunk.numbers)?;
-    let links = chunk.links;
+    let index = all.edges.index;
+    let txns = index.committed();
+    let keys = index.written_keys();
+    let mut block = [0; ROOM];
+    let mut rows = Vec::new(alloc);
+    let mut lines = Vec::new(alloc);
+    let mut links = Vec::new(alloc);
+    for source in all.bounds[number]..all.bounds[number + 1] {
+        put_edges(alloc, all, source, &mut rows, &mut links)?;
+        push_lines(&mut lines, &mut block, txns, keys, source, &rows)?;
+    }
     Ok(Sheet { lines, links })
 }

@@ -43,7 +43,7 @@ fn findings(alloc: Global, h: &History, ix: &Index) -> Result<Findings, NoMemory
     Ok(found)
 }
 
-/// The same, with looks in place of edges.
+/// The same, with what was seen in place of edges.
 fn gathered(alloc: Global, log: &Log, ix: &Index) -> Result<Gathering, NoMemory>
     requires { ix.now ≡ log.now }
     ensures { IfOk result (IsGathering ix.now) }
@@ -69,9 +69,7 @@ fn dangerous(alloc: Global, log: &Log, ix: &Index) -> Result<Option<Structure>, 
     }
     let evidence = Evidence {
         index: ix,
-        txns: ix.committed(),
-        keys: ix.written_keys(),
-        looks: &found.looks,
+        accesses: &found.accesses,
     };
     match dangerous_of(alloc, &evidence)? {
         Some(it) => Ok(Some((it.first, it.first_key, it.pivot, it.last_key, it.last))),

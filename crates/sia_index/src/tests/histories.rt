@@ -46,15 +46,6 @@ macro_rules! reader {
     };
 }
 
-macro_rules! due {
-    ($key:expr, $due:expr) => {
-        Some(DueAt {
-            key: $key,
-            due: $due,
-        })
-    };
-}
-
 /// What an index of the text's history is to answer.
 pub struct Answers<'a> {
     pub text: &'a [u8],
@@ -72,24 +63,24 @@ pub enum Asked<'a> {
     NoKey(Key),
     Overlap(TxnId, TxnId, bool),
     FirstWrite(TxnId, Key, Option<u32>),
-    /// Whether the newest version of the written key with a number has a position as of a place.
-    Newest(u32, u32, u32, bool),
-    /// The position of its newest version as of a place.
+    /// Whether the version at a position is the newest of its key as of a place.
+    Newest(u32, u32, bool),
+    /// The position of the newest version of the written key with a number as of a place.
     AsOf(u32, u32, u32),
-    /// The version at a position.
-    Version(u32, u32, Made),
-    /// The numbers of the makers of its versions.
-    Makers(usize, &'a [u32]),
+    /// Of the version at a position its key, its commit, its maker, and the positions before and behind.
+    At(u32, (u32, u32, Option<u32>), (Option<u32>, Option<u32>)),
+    /// The positions of a committed transaction's versions.
+    MadeBy(usize, &'a [u32]),
+    /// The least of the written keys from one number to before another that has a version up to a place.
+    Visible(u32, u32, u32, Option<u32>),
 }
 
 /// What an index is asked of a transaction that reads at a place, and its answer.
 pub enum Due {
     /// The version due at a key.
     At(Key, Version),
-    /// Whether it may have written a key from one to another.
-    MayOwn(Key, Key, bool),
-    /// The least key from one to another at which something is due.
-    Next(Key, Key, Option<DueAt>),
+    /// The least key from one to another that it wrote before.
+    Own(Key, Key, Option<Key>),
 }
 
 const NONE: Answers<'static> = Answers {
@@ -232,18 +223,14 @@ pub const HISTORIES: &[Answers<'static>] = &[
                 reader!(2, 1, 7, 3, true),
                 &[
                     Due::At(4, 2),
-                    Due::MayOwn(3, 4, true),
-                    Due::MayOwn(5, Key::MAX, false),
+                    Due::Own(3, 4, Some(4)),
+                    Due::Own(5, Key::MAX, None),
                 ],
             ),
             (reader!(3, 2, 7, 5, true), &[]),
             (
                 reader!(4, 3, 7, 6, false),
-                &[
-                    Due::At(2, 1),
-                    Due::At(4, 0),
-                    Due::MayOwn(0, Key::MAX, false),
-                ],
+                &[Due::At(2, 1), Due::At(4, 0), Due::Own(0, Key::MAX, None)],
             ),
         ],
         ..NONE
@@ -268,22 +255,21 @@ pub const HISTORIES: &[Answers<'static>] = &[
             (
                 reader!(2, 1, 7, 3, true),
                 &[
-                    Due::Next(0, 9, due!(2, 1)),
-                    Due::Next(3, 9, due!(4, 2)),
-                    Due::Next(5, 5, due!(5, 1)),
-                    Due::Next(3, 3, None),
-                    Due::Next(6, Key::MAX, None),
-                    Due::Next(9, 3, None),
+                    Due::Own(0, 9, Some(4)),
+                    Due::Own(4, 4, Some(4)),
+                    Due::Own(0, 3, None),
+                    Due::Own(5, Key::MAX, None),
+                    Due::Own(9, 3, None),
                 ],
             ),
-            (reader!(2, 1, 9, 3, true), &[Due::Next(3, 9, due!(3, 2))]),
+            (reader!(2, 1, 9, 3, true), &[Due::Own(3, 9, Some(3))]),
             (
                 reader!(3, 2, 10, 5, true),
-                &[Due::Next(6, Key::MAX, due!(9, 3)), Due::Next(3, 4, None)],
+                &[Due::Own(6, Key::MAX, Some(9)), Due::Own(3, 4, None)],
             ),
-            (reader!(1, 0, 1, 0, true), &[Due::Next(0, 9, None)]),
-            (reader!(1, 0, 2, 0, true), &[Due::Next(0, 9, due!(2, 1))]),
-            (reader!(4, 3, 11, 10, false), &[Due::Next(3, 9, due!(3, 2))]),
+            (reader!(1, 0, 1, 0, true), &[Due::Own(0, 9, None)]),
+            (reader!(1, 0, 2, 0, true), &[Due::Own(0, 9, Some(2))]),
+            (reader!(4, 3, 11, 10, false), &[Due::Own(3, 9, None)]),
         ],
         ..NONE
     },
@@ -324,9 +310,9 @@ pub const NUMBERED: &Numbers<'static> = &Numbers {
     numbers: &[Some(1), None, Some(0), None, None],
     keys: &[Some(2), None, Some(1), Some(0)],
     writes: &[
-        write_at!(2, Some(2)),
-        write_at!(1, Some(1)),
-        write_at!(2, Some(3)),
+        write_at!(2, Some(4)),
+        write_at!(1, Some(2)),
+        write_at!(2, Some(5)),
         write_at!(0, None),
         write_at!(2, None),
         write_at!(1, None),
@@ -338,57 +324,66 @@ pub const NUMBERED: &Numbers<'static> = &Numbers {
         reader!(5, 2, 10, 5, true),
         reader!(6, 3, 10, 10, true),
     ],
-    first_positions: &[0, 0, 1],
+    first_positions: &[0, 1, 3],
     asked: &[
-        Asked::Newest(0, 0, 11, true),
-        Asked::Newest(1, 0, 6, true),
-        Asked::Newest(1, 1, 6, false),
-        Asked::Newest(1, 1, 7, true),
-        Asked::Newest(1, 2, 9, false),
-        Asked::Newest(2, 0, 1, false),
-        Asked::Newest(2, 1, 3, true),
-        Asked::Newest(2, 1, 4, false),
-        Asked::Newest(2, 2, 4, true),
-        Asked::Newest(2, 2, 6, true),
-        Asked::Newest(2, 2, 7, false),
-        Asked::Newest(2, 3, 7, true),
+        Asked::At(0, (0, 0, None), (None, None)),
+        Asked::At(1, (1, 0, None), (None, Some(2))),
+        Asked::At(2, (1, 7, Some(0)), (Some(1), None)),
+        Asked::At(3, (2, 0, None), (None, Some(4))),
+        Asked::At(4, (2, 4, Some(1)), (Some(3), Some(5))),
+        Asked::At(5, (2, 7, Some(0)), (Some(4), None)),
+        Asked::Newest(0, 11, true),
+        Asked::Newest(1, 6, true),
+        Asked::Newest(1, 7, false),
+        Asked::Newest(2, 6, false),
+        Asked::Newest(2, 7, true),
+        Asked::Newest(3, 3, true),
+        Asked::Newest(3, 4, false),
+        Asked::Newest(4, 3, false),
+        Asked::Newest(4, 4, true),
+        Asked::Newest(4, 6, true),
+        Asked::Newest(4, 7, false),
+        Asked::Newest(5, 7, true),
         Asked::AsOf(0, 11, 0),
-        Asked::AsOf(1, 6, 0),
-        Asked::AsOf(1, 7, 1),
-        Asked::AsOf(2, 3, 1),
-        Asked::AsOf(2, 4, 2),
-        Asked::AsOf(2, 6, 2),
-        Asked::AsOf(2, 99, 3),
-        Asked::Version(0, 0, made!(0, 0)),
-        Asked::Version(1, 0, made!(0, 0)),
-        Asked::Version(1, 1, made!(2, 7)),
-        Asked::Version(2, 1, made!(0, 0)),
-        Asked::Version(2, 2, made!(9, 4)),
-        Asked::Version(2, 3, made!(2, 7)),
-        Asked::Makers(0, &[]),
-        Asked::Makers(1, &[0]),
-        Asked::Makers(2, &[1, 0]),
+        Asked::AsOf(1, 6, 1),
+        Asked::AsOf(1, 7, 2),
+        Asked::AsOf(2, 3, 3),
+        Asked::AsOf(2, 4, 4),
+        Asked::AsOf(2, 6, 4),
+        Asked::AsOf(2, u32::MAX, 5),
+        Asked::MadeBy(0, &[2, 5]),
+        Asked::MadeBy(1, &[4]),
+        Asked::Visible(0, 3, 3, None),
+        Asked::Visible(0, 3, 4, Some(2)),
+        Asked::Visible(0, 2, 6, None),
+        Asked::Visible(0, 3, 7, Some(1)),
+        Asked::Visible(2, 3, 7, Some(2)),
+        Asked::Visible(0, 1, u32::MAX, None),
     ],
 };
 
-/// Of `w2[350] c2`, five hundred keys of the open 1, and ` w3[480] r3[350:2]`. One key of a committed transaction and one own key
-/// are found: both lie far from the start of the range and from each other.
+/// Of `w2[350] c2`, five hundred keys of the open 1, and ` w3[480] r3[350:2]`: own keys, which lie far from the start of the range.
 pub const OF_MANY: &[(Reader, &[Due])] = &[
     (
         reader!(3, 2, 504, 502, true),
         &[
-            Due::Next(0, 999, due!(350, 2)),
-            Due::Next(351, 999, due!(480, 3)),
-            Due::Next(481, 999, None),
+            Due::At(350, 2),
+            Due::Own(0, 999, Some(480)),
+            Due::Own(481, 999, None),
         ],
     ),
-    (reader!(3, 2, 503, 502, true), &[Due::Next(351, 999, None)]),
+    (reader!(3, 2, 503, 502, true), &[Due::Own(0, 999, None)]),
     (
         reader!(1, 0, 303, 2, true),
-        &[
-            Due::Next(299, 999, due!(299, 1)),
-            Due::Next(300, 999, due!(350, 2)),
-            Due::Next(351, 999, None),
-        ],
+        &[Due::Own(299, 999, Some(299)), Due::Own(300, 999, None)],
     ),
+];
+
+/// And the one key with a version, which lies far from the start too.
+pub const VISIBLE_OF_MANY: &[Asked<'static>] = &[
+    Asked::Visible(0, 500, 1, None),
+    Asked::Visible(0, 500, 2, Some(350)),
+    Asked::Visible(350, 351, 2, Some(350)),
+    Asked::Visible(0, 350, 2, None),
+    Asked::Visible(351, 500, 2, None),
 ];

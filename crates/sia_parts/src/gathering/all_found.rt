@@ -1,15 +1,15 @@
-//! What was found at the keys of all parts together, where the edges are told by looks.
-ghost use Rattle.std.specs.Prelude.{◌≡◌, ℕ, List, Contains, IfOk, OnOk};
+//! What was found at the keys of all parts together.
+ghost use Rattle.std.specs.Prelude.{ℕ, List, Contains, IfOk, OnOk};
 ghost use Rattle.std.specs.List.{AllZip};
 ghost use Rattle.sia_parts.specs.declared.cutting.Part.{Part};
 ghost use Rattle.sia_parts.specs.Gathering.{IsGathering, IsPartFound};
 ghost use Rattle.sia_parts.specs.Parts.{IsCutting, IsInPart};
 ghost use Rattle.sia_parts.specs.Sights.{Adds};
 
+use crate::accesses::{Accesses, accesses_at};
+use crate::by_reader::ByReader;
 use crate::finding::{BadRead, BadWrite, Unexplained};
 use crate::findings::PartFound;
-use crate::looking::writers_of;
-use crate::looks::Looks;
 use sia_events::NoMemory;
 use sia_index::Index;
 use sia_index::ordering::put_in_order;
@@ -21,36 +21,37 @@ pub struct Gathering {
     pub bad_reads: Vec<BadRead>,
     pub bad_writes: Vec<BadWrite>,
     pub unexplained: Vec<Unexplained>,
-    pub looks: Looks,
+    pub accesses: Accesses,
 }
 
 impl Gathering {
-    /// What the parts found, in order of the parts, and who made versions of all keys.
+    /// What the parts found, in order of the parts.
     pub fn of(alloc: Global, ix: &Index, parts: Vec<PartFound>) -> Result<Gathering, NoMemory>
         requires { (points : List ℕ) × (cutting : List Part) × IsCutting points cutting
             × AllZip (λ part found. IsPartFound ix.now (IsInPart part) found) cutting parts.items }
         ensures { IfOk result (IsGathering ix.now) }
     {
         ix.law();
-        ix.committed();
-        let writers = writers_of(alloc, ix, 0, ix.written_keys().len() as u32)?;
-        let mut all = Gathering {
+        let mut all = PartFound {
             bad_reads: Vec::new(alloc),
             bad_writes: Vec::new(alloc),
             unexplained: Vec::new(alloc),
-            looks: Looks {
-                writers,
-                readers: Vec::new(alloc),
-                absences: Vec::new(alloc),
-            },
+            saw: ByReader::new(alloc),
+            missed: ByReader::new(alloc),
         };
         for part in parts {
             put_part(part, &mut all)?;
         }
-        put_in_order(&mut all.bad_reads);
-        put_in_order(&mut all.bad_writes);
-        put_in_order(&mut all.unexplained);
-        Ok(all)
+        put_in_order(&mut all.bad_reads)?;
+        put_in_order(&mut all.bad_writes)?;
+        put_in_order(&mut all.unexplained)?;
+        let accesses = accesses_at(alloc, ix, None, all.saw, all.missed)?;
+        Ok(Gathering {
+            bad_reads: all.bad_reads,
+            bad_writes: all.bad_writes,
+            unexplained: all.unexplained,
+            accesses,
+        })
     }
 }
 
@@ -65,17 +66,17 @@ fn put_list<T: Copy + Drop>(list: Vec<T>, all: &mut Vec<T>) -> Result<(), NoMemo
     Ok(())
 }
 
-fn put_part(part: PartFound, all: &mut Gathering) -> Result<(), NoMemory>
+fn put_part(part: PartFound, all: &mut PartFound) -> Result<(), NoMemory>
     ensures bad_reads { OnOk result (Adds (Contains part.bad_reads.items) all.old.bad_reads.items all.new.bad_reads.items) }
     ensures bad_writes { OnOk result (Adds (Contains part.bad_writes.items) all.old.bad_writes.items all.new.bad_writes.items) }
     ensures unexplained { OnOk result (Adds (Contains part.unexplained.items) all.old.unexplained.items all.new.unexplained.items) }
-    ensures readers { OnOk result (Adds (Contains part.readers.items) all.old.looks.readers.items all.new.looks.readers.items) }
-    ensures absences { OnOk result (Adds (Contains part.absences.items) all.old.looks.absences.items all.new.looks.absences.items) }
-    ensures writers { all.new.looks.writers ≡ all.old.looks.writers }
+    ensures saw { OnOk result (Adds (Contains part.saw) all.old.saw all.new.saw) }
+    ensures missed { OnOk result (Adds (Contains part.missed) all.old.missed all.new.missed) }
 {
     put_list(part.bad_reads, &mut all.bad_reads)?;
     put_list(part.bad_writes, &mut all.bad_writes)?;
     put_list(part.unexplained, &mut all.unexplained)?;
-    put_list(part.readers, &mut all.looks.readers)?;
-    put_list(part.absences, &mut all.looks.absences)
+    all.saw.append(part.saw)?;
+    all.missed.append(part.missed)?;
+    Ok(())
 }

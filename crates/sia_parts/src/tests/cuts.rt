@@ -1,4 +1,4 @@
-//! Cuttings of the keys, reads dealt to parts, and an edge as a number.
+//! Cuttings of the keys, reads dealt to parts, and an edge by numbers.
 use crate::*;
 use sia_events::{Key, read_history};
 use std::test::*;
@@ -25,9 +25,14 @@ fn parts_and_numbers(rt: HostRuntime) -> Result<(), Fail> {
     assert!(rt; cut(rt.alloc(), &points)?.len() == 1024);
     points.push(1024)?;
     assert_eq!(rt; cut(rt.alloc(), &points).err(), Some(CutFault::TooMany));
-    // Of the committed 2 and 5 the first is number 0, and the second is number 1: the edge from 2 to 5, of the second kind, at
-    // the only key.
-    let edges = edges_of_numbers(rt.alloc(), &[2, 5], &[7], &[5 * 1_048_576])?;
+    // Of the committed 2 and 5 the first is number 0, and the second is number 1.
+    let mut edges = Vec::new(rt.alloc());
+    let row = EdgeTo {
+        target: 1,
+        kind: Kind::Wr,
+        key: 0,
+    };
+    put_named(&[row], &[2, 5], &[7], 0, &mut edges)?;
     assert!(rt; edges.as_slice() == [edge!(2, Wr, 5, 7)].as_slice());
     Ok(())
 }

@@ -2,22 +2,9 @@
 use crate::*;
 use sia_events::{Key, TxnId};
 
-macro_rules! look {
-    ($txn:expr, $key:expr, $low:expr, $high:expr, $at:expr) => {
-        Look {
-            txn: $txn,
-            key: $key,
-            low: $low,
-            high: $high,
-            at: $at,
-        }
-    };
-}
-
-macro_rules! absence {
-    ($txn:expr, $from:expr, $to:expr) => {
-        Absence {
-            txn: $txn,
+macro_rules! miss {
+    ($from:expr, $to:expr) => {
+        RangeMiss {
             from: $from,
             to: $to,
         }
@@ -52,10 +39,8 @@ pub struct More<'a> {
     pub places: usize,
     /// The committed transactions, where any are named.
     pub committed: &'a [TxnId],
-    /// Who wrote and saw keys, where anyone is named.
-    pub writers: &'a [Look],
-    pub readers: &'a [Look],
-    pub absences: &'a [Absence],
+    /// What each of them saw, where anything is named: positions of versions, and range misses.
+    pub saw: &'a [(&'a [u32], &'a [RangeMiss])],
     /// Single parts of the keys, and the edges in each. There is no other finding.
     pub parts: &'a [(Part, &'a [Edge])],
 }
@@ -65,9 +50,7 @@ const NO_MORE: More<'static> = More {
     edges: &[],
     places: 0,
     committed: &[],
-    writers: &[],
-    readers: &[],
-    absences: &[],
+    saw: &[],
     parts: &[],
 };
 
@@ -351,9 +334,9 @@ pub const MORE: &[(Worked<'static>, More<'static>)] = &[
             ..NO_MORE
         },
     ),
-    // 1 is number 0, and 2 number 1. 2 saw version 0 and then 1's version of key 3, 1's version of key 5, which its range lists,
-    // and version 0 of keys 4 and 6, which its range passes over: these have the numbers 1 and 3. Key 3, with number 0, lies
-    // before the range, and nobody wrote key 7.
+    // The versions of key 3 have the positions 0 and 1, those of key 4 2 and 3, of key 5 4 to 6, and of key 6 7 and 8. 2 saw version
+    // 0 and then 1's version of key 3, 1's version of key 5, which its range lists, and version 0 of keys 4 and 6, which its range
+    // passes over: these have the numbers 1 and 3. Key 3, with number 0, lies before the range, and nobody wrote key 7.
     (
         Worked {
             text: b"r2[3:0] w1[3] w1[4] w1[5] w1[6] c1 r2[3:1] r2[4..7;5:1] w2[5] c2",
@@ -370,20 +353,11 @@ pub const MORE: &[(Worked<'static>, More<'static>)] = &[
             ..NOTHING
         },
         More {
-            writers: &[
-                look!(0, 0, 6, 6, 0),
-                look!(0, 1, 6, 6, 0),
-                look!(0, 2, 6, 6, 0),
-                look!(1, 2, 10, 10, 0),
-                look!(0, 3, 6, 6, 0),
-            ],
-            readers: &[look!(1, 0, 0, 6, 0), look!(1, 2, 6, 6, 3)],
-            absences: &[absence!(1, 1, 2), absence!(1, 3, 4)],
+            saw: &[(&[], &[]), (&[0, 1, 5], &[miss!(1, 2), miss!(3, 4)])],
             ..NO_MORE
         },
     ),
-    // 4 saw 2's version of key 1 and then 1's, which is the first version of all, and 3's of key 5, which is the third, also where
-    // the keys are cut between.
+    // 4 saw 2's version of key 1 and then 1's, and 3's of key 5, also where the keys are cut between: positions 2, 1 and 4.
     (
         Worked {
             text: b"w1[1] c1 w2[1] c2 w3[5] c3 r4[1:2] r4[1:1] r4[5:3] c4",
@@ -399,12 +373,7 @@ pub const MORE: &[(Worked<'static>, More<'static>)] = &[
             ..NOTHING
         },
         More {
-            writers: &[
-                look!(0, 0, 2, 2, 0),
-                look!(1, 0, 4, 4, 0),
-                look!(2, 1, 6, 6, 0),
-            ],
-            readers: &[look!(3, 0, 2, 4, 1), look!(3, 1, 6, 6, 3)],
+            saw: &[(&[], &[]), (&[], &[]), (&[], &[]), (&[1, 2, 4], &[])],
             ..NO_MORE
         },
     ),

@@ -1,21 +1,22 @@
 //! Findings of worked histories, of audited parts, and the same edges from what was seen.
-ghost use Rattle.std.specs.Prelude.{◌≡◌, IfOk};
+ghost use Rattle.std.specs.Prelude.{◌≡◌, ⊤, IfOk};
 ghost use Rattle.std.specs.List.{AllZip};
+ghost use Rattle.sia_parts.specs.Accesses.{AreAccesses};
 ghost use Rattle.sia_parts.specs.Dealing.{AreReads};
 ghost use Rattle.sia_parts.specs.Findings.{ArePartFindings};
-ghost use Rattle.sia_parts.specs.Gathering.{CanSpread, IsPartFound};
+ghost use Rattle.sia_parts.specs.Gathering.{IsPartFound};
 ghost use Rattle.sia_parts.specs.Parts.{IsInPart};
 
 use super::histories::{HISTORIES, MANY_MISSED, MORE, More, NOTHING_MORE, Worked};
 use crate::*;
-use sia_events::{History, Key, NoMemory, TxnId, read_history};
+use sia_events::{History, Key, NoMemory, read_history};
 use sia_index::Index;
 use sia_index::make::index;
 use std::alloc::Global;
 use std::fmt::Write;
 use std::test::*;
 
-// What is found in each part, in order: with edges, and with looks.
+// What is found in each part, in order: with edges, and with what was seen.
 fn found_in_parts(
     alloc: Global,
     h: &History,
@@ -59,37 +60,44 @@ fn are_findings(found: &Findings, edges: &[Edge], it: &Worked<'_>) -> bool {
         && found.edges.as_slice() == edges
 }
 
-// The readers stand in any order.
-fn are_looks(looks: &Looks, it: &More<'_>) -> bool {
-    for reader in it.readers {
-        if !looks.readers.contains(reader) {
-            return false;
+// What each transaction saw stands in any order, and a position may stand twice.
+fn are_accesses(alloc: Global, found: &Accesses, it: &More<'_>) -> Result<bool, NoMemory> {
+    let mut is_so = it.saw.is_empty() || found.saw.len() == it.saw.len();
+    for (txn, (positions, misses)) in it.saw.iter().enumerate() {
+        if txn >= found.saw.len() || txn >= found.missed.len() {
+            return Ok(false);
         }
+        let mut saw = Vec::from_slice(alloc, found.saw.at(txn))?;
+        saw.sort_unstable();
+        saw.dedup();
+        is_so &= saw.as_slice() == *positions && found.missed.at(txn) == *misses;
     }
-    looks.readers.len() == it.readers.len()
-        && looks.writers.as_slice() == it.writers
-        && looks.absences.as_slice() == it.absences
+    Ok(is_so)
 }
 
 // How many places the chunks of about the size lie between, and whether they have the edges, one after another.
 fn in_chunks(
     alloc: Global,
-    fans: &Fans,
-    ids: &[TxnId],
-    keys: &[Key],
-    size: usize,
+    ix: &Index,
+    accesses: &Accesses,
+    size: u64,
     wanted: &[Edge],
 ) -> Result<(usize, bool), NoMemory>
-    requires { CanSpread fans.now }
+    requires { AreAccesses ix.now (λ _. ⊤) accesses.now }
 {
-    let bounds = ChunkBounds::of(alloc, fans, ids.len(), size)?;
-    let places = bounds.places.as_slice();
-    let mut numbers = Vec::new(alloc);
+    ix.law();
+    let told = Edges::of(alloc, ix, accesses, None)?;
+    let places = told.chunks(alloc, size)?;
+    let mut edges = Vec::new(alloc);
+    let mut rows = Vec::new(alloc);
     for i in 1..places.len() {
-        let some = fans.chunk(alloc, places[i - 1], places[i])?;
-        numbers.extend_from_slice(&some)?;
+        for source in places[i - 1]..places[i] {
+            if (source as usize) < told.index.committed().len() {
+                told.put_from(alloc, source, &mut rows)?;
+                put_named(&rows, ix.committed(), ix.written_keys(), source, &mut edges)?;
+            }
+        }
     }
-    let edges = edges_of_numbers(alloc, ids, keys, &numbers)?;
     Ok((places.len(), edges.as_slice() == wanted))
 }
 
@@ -114,10 +122,9 @@ fn is_found(
     let committed = ix.committed();
     let mut is_so = are_findings(&findings, edges, it)
         && (more.committed.is_empty() || committed == more.committed)
-        && (more.writers.is_empty() || are_looks(&gathering.looks, more));
-    let fans = Fans::of(alloc, ix, gathering.looks)?;
+        && are_accesses(alloc, &gathering.accesses, more)?;
     for size in [1, 7, 48, 1000] {
-        let (places, is_same) = in_chunks(alloc, &fans, committed, ix.written_keys(), size, edges)?;
+        let (places, is_same) = in_chunks(alloc, ix, &gathering.accesses, size, edges)?;
         is_so &= is_same && (size != 48 || places >= more.places);
     }
     Ok(is_so)

@@ -10,7 +10,7 @@ push_front-requires c = record { index = c.requires.index; judgement = c.require
 pub push_danger-requires : goal.push_danger-requires
 push_danger-requires c = record {
   index = c.requires.index;
-  looks = c.requires.looks;
+  accesses = c.requires.accesses;
   judgement = c.requires.judgement;
 }
 

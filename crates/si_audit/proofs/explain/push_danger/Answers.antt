@@ -18,7 +18,7 @@ use Rattle.si_audit.proofs.explain.push_danger.Goals as goal
 
 pub danger_of-requires : goal.danger_of-requires
 danger_of-requires c = record {
-  looks = c.requires.looks;
+  accesses = c.requires.accesses;
   judgement = subst (λ h. IsJudgement h c.args.j.now) (sym c.requires.index) c.requires.judgement;
 }
 

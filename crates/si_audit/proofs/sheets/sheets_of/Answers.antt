@@ -12,8 +12,8 @@ use Rattle.si_audit.proofs.sheets.sheets_of.Goals as goal
 pub explained-requires-clause-index : goal.explained-requires-clause-index
 explained-requires-clause-index g c = c.requires.index ∙ sym c.in_ok-history-in-Explained.ensures
 
-pub explained-requires-clause-looks : goal.explained-requires-clause-looks
-explained-requires-clause-looks g c = c.requires.looks
+pub explained-requires-clause-accesses : goal.explained-requires-clause-accesses
+explained-requires-clause-accesses g c = c.requires.accesses
 
 pub explained-requires-clause-judgement : goal.explained-requires-clause-judgement
 explained-requires-clause-judgement g c = subst (λ h. IsJudgement h c.args.j.now) (sym c.in_ok-history-in-Explained.ensures) c.requires.judgement

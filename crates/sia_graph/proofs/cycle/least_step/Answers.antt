@@ -1,9 +1,16 @@
+use Rattle.std.proofs.Common.{◌≡◌, ℕ, List, get_or, refl, sym, subst, arith}
+use Rattle.sia_events.specs.declared.event.Event.{Event}
+use Rattle.sia_index.proofs.KeyChains.{key_number}
+use Rattle.sia_index.specs.Info.{IsKeyAt}
+use Rattle.sia_parts.proofs.FewNumbers.{few_committed}
+use Rattle.sia_parts.specs.Entries.{EdgeOfKind, IsEdge}
+use Rattle.sia_parts.specs.declared.finding.Kind.{Kind}
 use Rattle.sia_graph.specs.Searched.{CanFind, IsEdgeIn}
+use Rattle.sia_graph.specs.LeastEdges.{IsLeastEdgeBetween}
 use Rattle.sia_graph.specs.Orders.{Leads}
 use Rattle.sia_graph.specs.Cycles.{TakesLeastEdge}
 use Rattle.sia_graph.specs.declared.cycle.EdgesIn.{EdgesIn}
-use Rattle.sia_parts.specs.Entries.{IsEdge}
-use Rattle.std.proofs.Common.{ℕ, ◌<◌, List, length, get_or, ap, sym, subst, ◌∙◌}
+use Rattle.sia_graph.proofs.cycle.least_step.Goals.{After-least_edge-kind}
 use Rattle.sia_graph.proofs.cycle.least_step.Goals as goal
 
 pub listed_step-requires-clause-sorted : goal.listed_step-requires-clause-sorted
@@ -18,28 +25,57 @@ returns-in-Listed-clause-from c = c.listed_step.ensures.from
 pub returns-in-Listed-clause-least : goal.returns-in-Listed-clause-least
 returns-in-Listed-clause-least c = subst (λ (e : EdgesIn). TakesLeastEdge (IsEdgeIn e) c.listed_step.result (get_or c.args.ids.now c.args.at 0)) (sym c.in-Listed.is) c.listed_step.ensures.least
 
-pub seen_step-requires-clause-is : goal.seen_step-requires-clause-is
-seen_step-requires-clause-is c = (subst (CanFind c.args.ids.now) c.in-Seen.is c.requires.can).1
+pub overflow_cast-before : goal.overflow_cast-before
+overflow_cast-before c =
+    let ids = c.args.ids.now in
+    let b = c.requires.within.0 in
+    let can = subst (CanFind ids) c.in-Seen.is c.requires.can in
+    let few = few_committed c.in-Seen.evidence.now.index.now can.1.well_formed c.args.before (get_or ids c.args.before 0) (ids, can.0, b, refl) in
+    omega arith
 
-pub seen_step-requires-clause-own : goal.seen_step-requires-clause-own
-seen_step-requires-clause-own c = (subst (CanFind c.args.ids.now) c.in-Seen.is c.requires.can).2
+pub overflow_cast-at : goal.overflow_cast-at
+overflow_cast-at c =
+    let ids = c.args.ids.now in
+    let b = c.requires.within.1 in
+    let can = subst (CanFind ids) c.in-Seen.is c.requires.can in
+    let few = few_committed c.in-Seen.evidence.now.index.now can.1.well_formed c.args.at (get_or ids c.args.at 0) (ids, can.0, b, refl) in
+    omega arith
 
-pub seen_step-requires-clause-within : goal.seen_step-requires-clause-within
-seen_step-requires-clause-within c =
-    let same = (subst (CanFind c.args.ids.now) c.in-Seen.is c.requires.can).0 in
-    subst (λ (l : List ℕ). (c.args.before < length l) × (c.args.at < length l)) (sym same) c.requires.within
+pub least_edge-kind-requires-clause-is : goal.least_edge-kind-requires-clause-is
+least_edge-kind-requires-clause-is c = (subst (CanFind c.args.ids.now) c.in-Seen.is c.requires.can).1
 
-pub seen_step-requires-clause-leads : goal.seen_step-requires-clause-leads
-seen_step-requires-clause-leads c =
-    let same = (subst (CanFind c.args.ids.now) c.in-Seen.is c.requires.can).0 in
-    subst (λ (l : List ℕ). Leads (IsEdge c.in-Seen.evidence.now.index.now) (get_or l c.args.before 0) (get_or l c.args.at 0)) (sym same)
-    (subst (λ (e : EdgesIn). Leads (IsEdgeIn e) (get_or c.args.ids.now c.args.before 0) (get_or c.args.ids.now c.args.at 0)) c.in-Seen.is c.requires.leads)
+pub least_edge-kind-requires-clause-leads : goal.least_edge-kind-requires-clause-leads
+least_edge-kind-requires-clause-leads c =
+    let ids = c.args.ids.now in
+    let can = subst (CanFind ids) c.in-Seen.is c.requires.can in
+    let leads = subst (λ (e : EdgesIn). Leads (IsEdgeIn e) (get_or ids c.args.before 0) (get_or ids c.args.at 0)) c.in-Seen.is c.requires.leads in
+    (get_or ids c.args.before 0, get_or ids c.args.at 0, (ids, can.0, c.requires.within.0, refl), (ids, can.0, c.requires.within.1, refl), leads)
 
-pub returns-in-Seen-clause-from : goal.returns-in-Seen-clause-from
-returns-in-Seen-clause-from c = c.seen_step.ensures.from ∙ ap (λ (l : List ℕ). get_or l c.args.before 0) (subst (CanFind c.args.ids.now) c.in-Seen.is c.requires.can).0
+-- the least edge, and its key
+least : (c : After-least_edge-kind) → (k : ℕ) × IsKeyAt c.in-Seen.evidence.now.index.now c.least_edge-kind.result.1 k
+    × IsLeastEdgeBetween c.in-Seen.evidence.now.index.now (get_or c.args.ids.now c.args.before 0) (get_or c.args.ids.now c.args.at 0) c.least_edge-kind.result.0 k
+least c =
+    let ids = c.args.ids.now in
+    let can = subst (CanFind ids) c.in-Seen.is c.requires.can in
+    c.least_edge-kind.ensures (get_or ids c.args.before 0) (get_or ids c.args.at 0) (ids, can.0, c.requires.within.0, refl) (ids, can.0, c.requires.within.1, refl)
+
+pub bounds-written_keys-key : goal.bounds-written_keys-key
+bounds-written_keys-key c =
+    let w = least (goal.at.bounds-written_keys-key c).After-least_edge-kind in
+    (key_number c.in-Seen.evidence.now.index.now c.written_keys.result.now c.written_keys.ensures c.least_edge-kind.result.1 w.0 w.1).0
+
+-- what is least by one key is least by an equal key
+same_key : (h : List Event) (t u : ℕ) (kind : Kind) (k key : ℕ) → k ≡ key → IsLeastEdgeBetween h t u kind k → TakesLeastEdge (IsEdge h) (record { txn = t; kind = kind; key = key }) u
+same_key h t u kind k key same least =
+    subst (λ j. TakesLeastEdge (IsEdge h) (record { txn = t; kind = kind; key = j }) u) same
+    (least.0, λ e is from to. least.1 e.kind e.key (subst (λ v. EdgeOfKind h e.kind t v e.key) to (subst (λ v. EdgeOfKind h e.kind v e.dst e.key) from is)))
 
 pub returns-in-Seen-clause-least : goal.returns-in-Seen-clause-least
 returns-in-Seen-clause-least c =
-    let same = (subst (CanFind c.args.ids.now) c.in-Seen.is c.requires.can).0 in
-    subst (λ (e : EdgesIn). TakesLeastEdge (IsEdgeIn e) c.seen_step.result (get_or c.args.ids.now c.args.at 0)) (sym c.in-Seen.is)
-    (subst (λ (l : List ℕ). TakesLeastEdge (IsEdge c.in-Seen.evidence.now.index.now) c.seen_step.result (get_or l c.args.at 0)) same c.seen_step.ensures.least)
+    let h = c.in-Seen.evidence.now.index.now in
+    let ids = c.args.ids.now in
+    let w = least (goal.at.returns-in-Seen-clause-least c).After-least_edge-kind in
+    let key = get_or c.written_keys.result.now c.least_edge-kind.result.1 0 in
+    subst (λ (e : EdgesIn). TakesLeastEdge (IsEdgeIn e) (record { txn = get_or ids c.args.before 0; kind = c.least_edge-kind.result.0; key = key }) (get_or ids c.args.at 0)) (sym c.in-Seen.is)
+    (same_key h (get_or ids c.args.before 0) (get_or ids c.args.at 0) c.least_edge-kind.result.0 w.0 key
+    (sym (key_number h c.written_keys.result.now c.written_keys.ensures c.least_edge-kind.result.1 w.0 w.1).1) w.2)

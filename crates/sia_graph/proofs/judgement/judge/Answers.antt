@@ -12,17 +12,14 @@ pub passes-requires : goal.passes-requires
 passes-requires c = record {
   evidence = record {
     well_formed = rw c.requires.index c.law.ensures;
-    txns_are = c.committed.ensures;
-    keys_are = c.written_keys.ensures;
-    looks_are = rw c.requires.index c.requires.found.looks;
-    placed = c.requires.found.placed;
+    accesses = rw c.requires.index c.requires.found.accesses;
   };
   bad_reads = rw (c.requires.index, c.deref.ensures.value) c.requires.found.bad_reads;
   bad_writes = rw (c.requires.index, c.deref-2.ensures.value) c.requires.found.bad_writes;
 }
 
-pub settle_looks-requires : goal.settle_looks-requires
-settle_looks-requires c = record { evidence = (passes-requires (goal.at.settle_looks-requires c).After-deref-2).evidence }
+pub settle_accesses-requires : goal.settle_accesses-requires
+settle_accesses-requires c = record { evidence = (passes-requires (goal.at.settle_accesses-requires c).After-deref-2).evidence }
 
 pub returns-clause-exact : goal.returns-clause-exact
 returns-clause-exact c =

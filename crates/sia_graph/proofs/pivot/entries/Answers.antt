@@ -28,7 +28,7 @@ pub loop-txn-preserved : goal.loop-txn-preserved
 loop-txn-preserved c =
     let into = c.args.into.now in
     let linked = c.as_slice-txn-items.result.now in
-    let all = ends_listed into c.in_ok-linked.linked.items c.put_in_order.new.list.items c.in_ok-linked.ensures c.put_in_order.ensures.sorted c.put_in_order.ensures.keeps c.put_in_order.ensures.adds_none in
+    let all = ends_listed into c.in_ok-linked.linked.items c.put_in_order.new.list.items c.in_ok-linked.ensures c.in_ok-put_in_order.ensures.sorted c.in_ok-put_in_order.ensures.keeps c.in_ok-put_in_order.ensures.adds_none in
     let are = subst (ListsAscending (λ t. (u : ℕ) × AreLinked into u t)) (sym c.as_slice-txn-items.ensures.value) all in
     let n = c.loop-txn.txn-index in
     let found = c.loop-txn.found.items in
@@ -55,7 +55,7 @@ returns c =
     let h = c.args.ix.now in
     let into = c.args.into.now in
     let linked = c.as_slice-txn-items.result.now in
-    let all = ends_listed into c.in_ok-linked.linked.items c.put_in_order.new.list.items c.in_ok-linked.ensures c.put_in_order.ensures.sorted c.put_in_order.ensures.keeps c.put_in_order.ensures.adds_none in
+    let all = ends_listed into c.in_ok-linked.linked.items c.put_in_order.new.list.items c.in_ok-linked.ensures c.in_ok-put_in_order.ensures.sorted c.in_ok-put_in_order.ensures.keeps c.in_ok-put_in_order.ensures.adds_none in
     let are = subst (ListsAscending (λ t. (u : ℕ) × AreLinked into u t)) (sym c.as_slice-txn-items.ensures.value) all in
     let middle = is_middle h into c.requires.into in
     record {

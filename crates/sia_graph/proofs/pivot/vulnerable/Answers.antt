@@ -2,10 +2,10 @@ use Rattle.std.proofs.Common.{List, [], ap, sym, subst, ◌∙◌, arith}
 use Rattle.std.proofs.lemmas.List.{take_all}
 use Rattle.sia_parts.specs.declared.finding.Edge.{Edge}
 use Rattle.sia_events.specs.Transactions.{Overlap}
-use Rattle.sia_graph.specs.Links.{AreEnds}
-use Rattle.sia_graph.proofs.LinkLists.{ends_none, next_more, next_same}
+use Rattle.sia_graph.specs.Links.{AreEnds, is_rw}
+use Rattle.sia_graph.proofs.LinkLists.{ends_none, next_more, next_same, rw_kind}
 use Rattle.sia_graph.proofs.pivot.vulnerable.Goals as goal
-use Rattle.sia_graph.proofs.pivot.vulnerable.Goals.{then-is_vulnerable+in_ok-push, else-is_vulnerable}
+use Rattle.sia_graph.proofs.pivot.vulnerable.Goals.{then-leads_rw+then-overlap+in_ok-push, else-leads_rw-via-then-leads_rw+else-overlap, else-leads_rw-via-else-leads_rw}
 
 pub loop-e-init : goal.loop-e-init
 loop-e-init c = subst (AreEnds (Overlap c.args.ix.now) []) (sym c.new-links.ensures.items) (ends_none (Overlap c.args.ix.now))
@@ -15,12 +15,19 @@ loop-e-preserved c =
     let h = c.args.ix.now in
     let edges = c.args.edges.now in
     let links = c.loop-e.links.items in
-    let now = c.if-is_vulnerable.links.items in
-    elim c.if-is_vulnerable.branch [
-      | then-is_vulnerable+in_ok-push w ↦
-          next_more (Overlap h) edges c.loop-e.e-index _ c.loop-e-test.true links now c.loop-e.invariant (c.is_vulnerable.ensures.0 w.if-is_vulnerable.true) (ap (λ v. v.items) w.links-is ∙ w.in_ok-push.ensures.items)
-      | else-is_vulnerable w ↦
-          next_same (Overlap h) edges c.loop-e.e-index _ c.loop-e-test.true links now c.loop-e.invariant (λ has. let told = c.is_vulnerable.ensures.1 has in let f = w.if-is_vulnerable.false in cc) (ap (λ v. v.items) w.links-is)
+    let now = c.if-leads_rw.links.items in
+    elim c.if-leads_rw.branch [
+      | then-leads_rw+then-overlap+in_ok-push w ↦
+          next_more (Overlap h) edges c.loop-e.e-index _ c.loop-e-test.true links now c.loop-e.invariant
+          (rw_kind _ (sym c.leads_rw.ensures ∙ w.if-leads_rw.true), w.overlap.ensures.0 w.if-overlap.true)
+          (ap (λ v. v.items) w.links-is ∙ w.in_ok-push.ensures.items)
+      | goal.else-leads_rw w ↦
+          next_same (Overlap h) edges c.loop-e.e-index _ c.loop-e-test.true links now c.loop-e.invariant
+          (λ has. elim w.else-leads_rw.branch [
+            | else-leads_rw-via-then-leads_rw+else-overlap v ↦ let told = v.overlap.ensures.1 has.1 in let f = v.if-overlap.false in cc
+            | else-leads_rw-via-else-leads_rw v ↦ let told = ap is_rw has.0 in let e = c.leads_rw.ensures in let f = v.if-leads_rw.false in cc
+          ])
+          (ap (λ v. v.items) w.links-is)
     ]
 
 pub returns : goal.returns

@@ -1,63 +1,87 @@
--- By the least source of those that commit at the place or after it.
-use Rattle.std.proofs.Common.{◌≡◌, ◌<◌, ℕ, Bool, List, Ok, length, leb, map, refl, ap, subst, sym, ◌∙◌, arith, rules, tests}
-use Rattle.std.proofs.lemmas.Iterator.{YieldsList-from_map, YieldsList-from_slice, items_from_collect}
-use Rattle.std.proofs.lemmas.Iterator.Consumers.{YieldsList-at}
-use Rattle.std.proofs.lemmas.List.{get_or_default, length-map}
+use Rattle.std.proofs.Common.{◌≡◌, ℕ, List, ◌-◌, ◌≤◌, length, refl, ap, sym, subst, ◌∙◌, arith}
+use Rattle.sia_events.specs.declared.event.Event.{Event}
+use Rattle.sia_events.specs.DangerousStructures.{IsFirst}
+use Rattle.sia_events.specs.Transactions.{CommitsAt}
+use Rattle.sia_index.specs.Lifetimes.{AreLifetimes}
+use Rattle.sia_index.specs.Numbers.{IsCommittedAt}
+use Rattle.sia_graph.specs.Dangerous.{IsLeast, MayBeFirst}
 use Rattle.sia_index.specs.declared.info.Lifetime.{Lifetime}
-use Rattle.sia_graph.specs.Previous.{AreLeftRanks}
-use Rattle.sia_graph.specs.Ranks.{IsLeastRank, IsRankOf}
-use Rattle.sia_graph.specs.Sources.{IsSource}
-use Rattle.sia_graph.proofs.EvidenceNumbers.{few_txns}
-use Rattle.sia_graph.proofs.LateRanks.{least_late}
-use Rattle.sia_graph.proofs.Previous.{left_apart}
-use Rattle.sia_graph.proofs.ssi.least_first.Goals.{In_ok-late}
+use Rattle.sia_graph.specs.EarlyVersions.{AreValuesFrom}
+use Rattle.sia_graph.proofs.EarlyFirsts.{values_more, values_none}
+use Rattle.sia_graph.specs.Late.{AreLate, Enters, IsLastOf}
+use Rattle.sia_graph.proofs.FoundFirsts.{first_fits, first_least}
+use Rattle.sia_graph.proofs.Numbered.{few_txns}
+use Rattle.sia_graph.proofs.ssi.least_first.Goals.{After-greatest_entering, After-loop-txn, then-place-lifetimes, else-place-lifetimes}
 use Rattle.sia_graph.proofs.ssi.least_first.Goals as goal
 
--- who commits from the place on
-late_is : (c : In_ok-late) → c.in_ok-late.late.items ≡ map (λ (x : Lifetime). leb c.args.place x.commit) c.args.lifetimes.now
-late_is c =
-    items_from_collect {E = ℕ} (Ok c.in_ok-late.late) c.in_ok-late.ensures.ran
-    (YieldsList-from_map _ (λ (x : Lifetime). leb c.args.place x.commit) (YieldsList-at c.map.ensures.source (YieldsList-from_slice c.args.lifetimes.now c.iter.ensures.rest)) c.map.ensures.closure (λ x r q k. search (rules, tests)))
+pub loop-txn-init : goal.loop-txn-init
+loop-txn-init c = (values_none c.args.place c.lifetimes-lifetimes.result.now c.in_ok-values.values.items c.in_ok-values.ensures.items, omega arith)
 
-pub left_ranks-requires : goal.left_ranks-requires
-left_ranks-requires c =
-    let e = c.args.evidence.now in
-    let few = few_txns e.index.now e.txns.now e.keys.now e.looks.now c.requires.evidence in
-    let all = c.requires.long in
-    let many = ap (length {A = Bool}) (c.deref.ensures.value ∙ late_is (goal.at.left_ranks-requires c).In_ok-late) ∙ length-map c.args.lifetimes.now (λ (x : Lifetime). leb c.args.place x.commit) in
+pub loop-txn-preserved : goal.loop-txn-preserved
+loop-txn-preserved c =
+    let none : Lifetime = record { start = 0; commit = 0 } in (
+      values_more c.args.place c.lifetimes-lifetimes.result.now c.loop-txn.values.items c.push.new.self.items c.loop-txn.txn _ none c.loop-txn-test.true c.loop-txn.invariant.0 c.in_ok-push.ensures.items
+          (λ le. elim c.if-place-lifetimes.branch [ then-place-lifetimes w ↦ w.value-is | else-place-lifetimes w ↦ absurd (let less = w.if-place-lifetimes.false in omega arith) ])
+          (λ less. elim c.if-place-lifetimes.branch [ then-place-lifetimes w ↦ absurd (let le = w.if-place-lifetimes.true in omega arith) | else-place-lifetimes w ↦ w.value-is ]),
+      (let l = c.loop-txn-test.true in omega arith),
+    )
+
+pub overflow_cast-left : goal.overflow_cast-left
+overflow_cast-left c =
+    let txns = c.committed-txns.result.now in
+    let few = few_txns c.args.evidence.now.index.now c.requires.evidence.well_formed txns c.committed-txns.ensures in
+    let long = (c.lifetimes-lifetimes.ensures txns c.committed-txns.ensures).long in
     omega arith
 
-pub ranks_of_sources-requires-clause-long : goal.ranks_of_sources-requires-clause-long
-ranks_of_sources-requires-clause-long c =
-    let told = c.deref.ensures.value ∙ late_is (goal.at.ranks_of_sources-requires-clause-long c).In_ok-late in
-    ap (length {A = ℕ}) c.deref-2.ensures.value ∙ c.in_ok-ranks.ensures.long ∙ ap (length {A = Bool}) told ∙ length-map c.args.lifetimes.now (λ (x : Lifetime). leb c.args.place x.commit) ∙ c.requires.long
+-- each has its value
+values_are : (c : After-loop-txn) → AreValuesFrom c.args.place c.lifetimes-lifetimes.result.now c.loop-txn.values.items (length c.lifetimes-lifetimes.result.now)
+values_are c =
+    let lifetimes = c.lifetimes-lifetimes.result.now in
+    let all : c.loop-txn.txn ≡ length lifetimes = let l = c.loop-txn-test.false in let m = c.loop-txn.invariant.1 in omega arith in
+    subst (λ n. AreValuesFrom c.args.place lifetimes c.loop-txn.values.items n) all c.loop-txn.invariant.0
 
-pub ranks_of_sources-requires-clause-apart : goal.ranks_of_sources-requires-clause-apart
-ranks_of_sources-requires-clause-apart c =
-    left_apart c.deref.result.now c.deref-2.result.now (subst (AreLeftRanks c.deref.result.now) (sym c.deref-2.ensures.value) c.in_ok-ranks.ensures.each)
+pub late_of-requires-clause-values : goal.late_of-requires-clause-values
+late_of-requires-clause-values c =
+    let txns = c.committed-txns.result.now in
+    let long = (values_are (goal.at.late_of-requires-clause-values c).After-loop-txn).long in
+    (txns, c.committed-txns.ensures, ap (length {A = ℕ}) c.deref.ensures.value ∙ long ∙ (c.lifetimes-lifetimes.ensures txns c.committed-txns.ensures).long)
 
-pub index-requires : goal.index-requires
-index-requires c =
-    let late = map (λ (x : Lifetime). leb c.args.place x.commit) c.args.lifetimes.now in
-    let told = c.deref.ensures.value ∙ late_is (goal.at.index-requires c).In_ok-late in
-    let long = c.in_ok-ranks.ensures.long ∙ ap (length {A = Bool}) told ∙ length-map c.args.lifetimes.now (λ (x : Lifetime). leb c.args.place x.commit) in
-    let a = c.in_ok-sources.ensures.0 in
-    let many = ap (length {A = ℕ}) c.deref-2.ensures.value in
-    let b = c.requires.pivot in
-    let ok = c.in_ok-sources.sources.ok in
-    omega arith
+pub overflow_cast-result : goal.overflow_cast-result
+overflow_cast-result c = let few = few_txns c.args.evidence.now.index.now c.requires.evidence.well_formed c.committed-txns.result.now c.committed-txns.ensures in omega arith
+
+-- what enters the pivot tells the first
+module _ (c : After-greatest_entering) (t last : ℕ) (at : IsCommittedAt c.args.evidence.now.index.now c.args.pivot t) (ends : CommitsAt c.args.evidence.now.index.now last c.args.place) (first : IsFirst c.args.evidence.now.index.now t last)
+    (from : AreValuesFrom c.args.place c.lifetimes-lifetimes.result.now c.loop-txn.values.items (length c.lifetimes-lifetimes.result.now)) where
+  abbrev h : List Event
+  h = c.args.evidence.now.index.now
+
+  abbrev txns : List ℕ
+  txns = c.committed-txns.result.now
+
+  lived : AreLifetimes h txns c.lifetimes-lifetimes.result.now
+  lived = c.lifetimes-lifetimes.ensures txns c.committed-txns.ensures
+
+  entering : IsLastOf (Enters h c.loop-txn.values.items t) c.greatest_entering.result
+  entering =
+      let values = c.loop-txn.values.items in
+      c.greatest_entering.ensures values t (subst (AreLate h values) (sym c.deref-2.ensures.value) (subst (λ (l : List ℕ). AreLate h l c.in_ok-late.late.items) c.deref.ensures.value c.in_ok-late.ensures)) at
+
+  fits : c.greatest_entering.result ≤ length txns
+  fits =
+      let l = first_fits h txns c.committed-txns.ensures c.requires.evidence.well_formed c.requires.kept c.args.pivot t at last c.args.place ends first c.lifetimes-lifetimes.result.now lived
+      c.loop-txn.values.items from c.greatest_entering.result entering in
+      let long = lived.long in
+      omega arith
+
+  told : (n : ℕ) → n ≡ length txns - c.greatest_entering.result → (u : ℕ) × IsCommittedAt h n u × IsLeast (MayBeFirst h t last) u
+  told n is =
+      first_least h txns c.committed-txns.ensures c.requires.evidence.well_formed c.requires.kept c.args.pivot t at last c.args.place ends first c.lifetimes-lifetimes.result.now lived
+      c.loop-txn.values.items from c.greatest_entering.result entering n (is ∙ ap (λ m. m - c.greatest_entering.result) (sym lived.long))
+
+pub overflow_sub-result : goal.overflow_sub-result
+overflow_sub-result c =
+    let p = c.requires.pivot in
+    fits (goal.at.overflow_sub-result c).After-greatest_entering p.0 p.1 p.2 p.3 p.4 (values_are (goal.at.overflow_sub-result c).After-loop-txn)
 
 pub returns : goal.returns
-returns c =
-    let looks = c.args.evidence.now.looks.now in
-    let lifetimes = c.args.lifetimes.now in
-    let late = map (λ (x : Lifetime). leb c.args.place x.commit) c.args.lifetimes.now in
-    let told = c.deref.ensures.value ∙ late_is (goal.at.returns c).In_ok-late in
-    let long = c.in_ok-ranks.ensures.long ∙ ap (length {A = Bool}) told ∙ length-map c.args.lifetimes.now (λ (x : Lifetime). leb c.args.place x.commit) in
-    let ranks = c.deref-2.result.now in
-    let pivot = c.args.pivot in
-    let below = subst (λ n. pivot < n) (sym (ap (length {A = ℕ}) c.deref-2.ensures.value ∙ long)) c.requires.pivot in
-    let Least = IsLeastRank (λ r. (i : ℕ) × IsSource looks i pivot × IsRankOf ranks i r) in
-    let least = subst Least (get_or_default c.in_ok-sources.sources.items pivot 0 _ (subst (λ n. pivot < n) (sym c.in_ok-sources.ensures.0) below)) (c.in_ok-sources.ensures.1 pivot below) in
-    let each = subst (λ (l : List Bool). AreLeftRanks l c.in_ok-ranks.ranks.items) told c.in_ok-ranks.ensures.each in
-    least_late lifetimes c.args.place late refl ranks (subst (AreLeftRanks late) (sym c.deref-2.ensures.value) each) looks pivot c.index.result.now (subst Least (sym c.index.ensures) least)
+returns c t last at ends first = told (goal.at.returns c).After-greatest_entering t last at ends first (values_are (goal.at.returns c).After-loop-txn) (length c.committed-txns.result.now - c.greatest_entering.result) refl

@@ -1,9 +1,7 @@
-use Rattle.std.proofs.Common.{◌-◌}
-use Rattle.sia_graph.proofs.Halving.{IsHalving}
+use Rattle.std.proofs.Common.{ℕ, ◌<◌, ◌≤◌}
+use Rattle.sia_index.specs.Numbers.{IsCommittedAt}
+use Rattle.sia_graph.specs.Dangerous.{HasFirst}
 use Rattle.sia_graph.proofs.ssi.least_pivot.Given as goal
 
-abbrev pub invariant-halving : goal.invariant-halving
-invariant-halving l = IsHalving l.evidence.looks.now l.limits l.low l.high
-
-abbrev pub decreases-halving : goal.decreases-halving
-decreases-halving l = l.high - l.low
+abbrev pub invariant-loop-txn : goal.invariant-loop-txn
+invariant-loop-txn l = ((j u : ℕ) → j < l.txn → IsCommittedAt l.evidence.index.now j u → ¬ HasFirst l.evidence.index.now u) × (l.txn ≤ l.txn-end)

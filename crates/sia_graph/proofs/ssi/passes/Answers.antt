@@ -1,10 +1,7 @@
-use Rattle.std.proofs.Common.{refl, subst, sym, ◌∙◌}
-use Rattle.std.proofs.lemmas.Bool.{eqb-true, eq-eqb}
-use Rattle.sia_graph.specs.Early.{IsEarly}
-use Rattle.sia_graph.specs.Ranks.{IsLeastRank}
-use Rattle.sia_graph.proofs.FirstsTold.{passes_told}
+use Rattle.std.proofs.Common.{inl, inr, sym, ◌∙◌}
+use Rattle.std.proofs.lemmas.Bool.{false≢true, not-false, not_from_true}
+use Rattle.sia_graph.proofs.EarlyFirsts.{there_or_not}
 use Rattle.sia_graph.proofs.NoFirsts.{kept, no_bad_reads, no_bad_writes}
-use Rattle.sia_graph.proofs.NoPivotal.{none_pivotal}
 use Rattle.sia_graph.proofs.ssi.passes.Goals as goal
 
 pub returns-then-not-are_none : goal.returns-then-not-are_none
@@ -17,25 +14,17 @@ returns-then-not-are_none c = (
       sym c.if-not-are_none.true ∙ c.are_none.ensures.1 (reads, writes)),
 )
 
-pub returns-then-not-may : goal.returns-then-not-may
-returns-then-not-may c =
-    let e = c.args.evidence.now in
-    let none = c.are_none.ensures.0 c.if-not-are_none.false in
-    let isolated = kept e.index.now c.args.bad_reads.now c.args.bad_writes.now c.requires.bad_reads c.requires.bad_writes none.0 none.1 in
-    ((λ is. (isolated, none_pivotal e.index.now e.txns.now e.keys.now e.looks.now c.requires.evidence (c.in_ok-may.ensures c.if-not-may.true))), (λ passes. refl))
-
-pub limits_in-requires-clause-kept : goal.limits_in-requires-clause-kept
-limits_in-requires-clause-kept c =
+pub least_pivot-requires-clause-kept : goal.least_pivot-requires-clause-kept
+least_pivot-requires-clause-kept c =
     let none = c.are_none.ensures.0 c.if-not-are_none.false in
     kept c.args.evidence.now.index.now c.args.bad_reads.now c.args.bad_writes.now c.requires.bad_reads c.requires.bad_writes none.0 none.1
 
 pub returns : goal.returns
 returns c =
-    let e = c.args.evidence.now in
-    let limits = c.in_ok-limits.limits.items in
+    let h = c.args.evidence.now.index.now in
     let none = c.are_none.ensures.0 c.if-not-are_none.false in
-    let isolated = kept e.index.now c.args.bad_reads.now c.args.bad_writes.now c.requires.bad_reads c.requires.bad_writes none.0 none.1 in
-    let early = c.in_ok-early.early in
-    let least = subst (λ xs. IsLeastRank (IsEarly e.looks.now xs) early) c.deref.ensures.value c.in_ok-early.ensures in
-    let told = passes_told e.index.now e.txns.now e.keys.now e.looks.now c.requires.evidence limits c.in_ok-limits.ensures isolated early least in
-    ((λ is. told.0 (eqb-true early 4294967295 is)), (λ passes. eq-eqb early 4294967295 (told.1 passes)))
+    let isolated = kept h c.args.bad_reads.now c.args.bad_writes.now c.requires.bad_reads c.requires.bad_writes none.0 none.1 in
+    elim (there_or_not _ _ c.in_ok-pivot.pivot c.in_ok-pivot.ensures) [
+      | inl w ↦ ((λ is. absurd (false≢true (sym (not_from_true c.is_none.result is) ∙ sym c.is_none.ensures ∙ w.0))), (λ passes. absurd (passes.1 w.2.0 w.2.2.0.0 w.2.2.0.1)))
+      | inr w ↦ ((λ is. (isolated, w.1)), (λ passes. not-false c.is_none.result (sym c.is_none.ensures ∙ w.0)))
+    ]

@@ -1,9 +1,9 @@
 -- Each row that is tried leaves the place between the two.
-use Rattle.std.proofs.Common.{◌≡◌, ◌+◌, ◌-◌, ◌∷◌, [], Bool, length, ap, sym, ◌∙◌, subst, get_or, arith}
+use Rattle.std.proofs.Common.{◌≡◌, ◌+◌, ◌-◌, ◌<◌, ◌≤◌, ◌∷◌, [], Bool, length, ap, sym, ◌∙◌, subst, get_or, arith}
 use Rattle.std.specs.Fn.{ComputesKey}
 use Rattle.sia_index.proofs.PartedRows.{IsBracket, bracket_all, bracket_one, bracket_up, bracket_down}
 use Rattle.sia_index.proofs.searching.partition_near.Goals as goal
-use Rattle.sia_index.proofs.searching.partition_near.Goals.{then-near-high+then-not-below, else-near-high, then-near-gt0+then-near-high-2+then-below, else-near-gt0, then-below-2, else-below-2}
+use Rattle.sia_index.proofs.searching.partition_near.Goals.{then-near-high+then-not-below, else-near-high, then-near-gt0+then-near-high-2+then-below, else-near-gt0, then-low-guess+then-guess-high, else-low-guess, then-below-2, else-below-2}
 
 pub loop-low-init : goal.loop-low-init
 loop-low-init g c =
@@ -39,7 +39,12 @@ loop-low-preserved g c =
     let rows = c.args.rows.now in
     let low = c.loop-low.low in
     let high = c.loop-low.high in
-    let at = c.next_try-at.result in
+    let at = c.if-low-guess.at in
+    let order = c.loop-low-test.true in
+    let inside : (low ≤ at) × (at < high) = elim c.if-low-guess.branch [
+      | then-low-guess+then-guess-high w ↦ (let from = w.if-low-guess.true in let below = w.if-guess-high.true in let is = w.at-is in (omega arith, omega arith))
+      | else-low-guess w ↦ (let is = w.at-is in (omega arith, omega arith))
+    ] in
     let x = c.index-rows-at.result in
     let Tests = λ (p : g.row.T.Denot → Bool). ComputesKey g.P.Fn p c.args.below in
     let B = IsBracket Tests rows in
@@ -48,10 +53,10 @@ loop-low-preserved g c =
     elim c.if-below-2.branch [
       | then-below-2 w ↦
           subst (λ n. B n c.if-below-2.high) (sym w.low-is) (subst (λ n. B (at + 1) n) (sym w.high-is)
-          (bracket_up Tests rows low high at c.loop-low.invariant c.next_try-at.ensures.from c.next_try-at.ensures.below x c.below-in-loop-low.result told w.if-below-2.true))
+          (bracket_up Tests rows low high at c.loop-low.invariant inside.0 inside.1 x c.below-in-loop-low.result told w.if-below-2.true))
       | else-below-2 w ↦
           subst (λ n. B n c.if-below-2.high) (sym w.low-is) (subst (λ n. B low n) (sym w.high-is)
-          (bracket_down Tests rows low high at c.loop-low.invariant c.next_try-at.ensures.from c.next_try-at.ensures.below x c.below-in-loop-low.result told w.if-below-2.false))
+          (bracket_down Tests rows low high at c.loop-low.invariant inside.0 inside.1 x c.below-in-loop-low.result told w.if-below-2.false))
     ]
 
 pub returns-clause-partitioned : goal.returns-clause-partitioned

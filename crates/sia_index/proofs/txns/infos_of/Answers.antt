@@ -3,7 +3,8 @@ use Rattle.std.proofs.Common.{◌≡◌, ◌+◌, ◌∙◌, [], ◌∷◌, ◌+
 use Rattle.std.specs.Prelude.{slice_index_or}
 use Rattle.sia_index.specs.Info.{IsInfo}
 use Rattle.sia_index.specs.declared.names.Numbered.{Numbered}
-use Rattle.sia_index.proofs.Columns.{IsColumn, column_more}
+use Rattle.sia_index.specs.Rows.{IsColumn}
+use Rattle.sia_index.proofs.Columns.{column_more}
 use Rattle.sia_index.proofs.KnownTxns.{beside_more}
 use Rattle.sia_index.proofs.NumberedNames.{none_numbered, same_some}
 use Rattle.sia_index.proofs.txns.infos_of.Goals as goal

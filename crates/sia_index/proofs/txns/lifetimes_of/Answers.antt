@@ -4,7 +4,8 @@ use Rattle.std.specs.Prelude.{slice_index_or}
 use Rattle.sia_events.specs.Transactions.{IsCommitted}
 use Rattle.sia_index.specs.Lifetimes.{IsLifetime}
 use Rattle.sia_index.specs.declared.names.Numbered.{Numbered}
-use Rattle.sia_index.proofs.Columns.{IsColumn, column_more}
+use Rattle.sia_index.specs.Rows.{IsColumn}
+use Rattle.sia_index.proofs.Columns.{column_more}
 use Rattle.sia_index.proofs.KnownTxns.{beside_more}
 use Rattle.sia_index.proofs.NumberedNames.{none_numbered, same_some}
 use Rattle.sia_index.proofs.txns.lifetimes_of.Goals as goal

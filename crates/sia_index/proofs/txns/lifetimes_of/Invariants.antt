@@ -1,7 +1,7 @@
 -- The names so far are those of the first rows, and beside each stands its lifetime.
 use Rattle.sia_index.specs.Lifetimes.{IsLifetime}
 use Rattle.sia_index.specs.declared.names.Numbered.{Numbered}
-use Rattle.sia_index.proofs.Columns.{IsColumn}
+use Rattle.sia_index.specs.Rows.{IsColumn}
 use Rattle.sia_index.proofs.KnownTxns.{StandBeside}
 use Rattle.sia_index.proofs.txns.lifetimes_of.Given as goal
 

@@ -1,5 +1,5 @@
 -- Each event that may have seen something is listed, and the list is put in order.
-use Rattle.std.proofs.Common.{◌≡◌, inl, inr, ℕ, ◌+◌, ◌<◌, ◌≤◌, List, [], ◌∷◌, ◌++◌, Option, Some, None, length, refl, ap, sym, subst, ◌∙◌, arith}
+use Rattle.std.proofs.Common.{◌≡◌, inl, inr, ℕ, ◌+◌, ◌≤◌, List, Some, None, refl, sym, subst, ◌∙◌, arith}
 use Rattle.std.specs.Prelude.{Contains}
 use Rattle.std.proofs.lemmas.Bool.{cases_lt}
 use Rattle.std.proofs.lemmas.Option.{same_Some}
@@ -7,11 +7,10 @@ use Rattle.std.proofs.lemmas.List.Elements.{Contains-append_left, Contains-push}
 use Rattle.sia_events.specs.declared.event.Event.{Event}
 use Rattle.sia_events.specs.Events.{Saw}
 use Rattle.sia_events.specs.Numbering.{names_of, event_of}
-use Rattle.sia_events.specs.Places.{at_place}
 use Rattle.sia_events.specs.Reads.{SawAt}
 use Rattle.sia_events.proofs.TransactionDecisions.{place_within}
 use Rattle.sia_parts.specs.declared.reads.Read.{Read}
-use Rattle.sia_parts.proofs.NextVersions.{if_not_there}
+use Rattle.sia_parts.proofs.Options.{if_not_there}
 use Rattle.sia_parts.proofs.reads.reads_by_txn.Goals as goal
 use Rattle.sia_parts.proofs.reads.reads_by_txn.Goals.{in-Some+then-is_some+in_ok-push, in-Some+else-is_some, in_default}
 

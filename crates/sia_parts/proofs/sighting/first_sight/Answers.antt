@@ -1,24 +1,41 @@
 -- One event after another, and the first that gives the edge.
-use Rattle.std.proofs.Common.{ℕ, get_or, sym, subst, ◌∙◌}
+use Rattle.std.proofs.Common.{◌≡◌, inr, ℕ, List, get_or, sym, subst, ◌∙◌, arith}
+use Rattle.std.specs.Prelude.{◌↔◌, Contains}
 use Rattle.std.proofs.lemmas.List.{take_all}
 use Rattle.std.proofs.lemmas.List.Elements.{All-more, Contains-get_or}
 use Rattle.sia_events.specs.Reads.{SawAt}
 use Rattle.sia_parts.specs.declared.sighting.Act.{Act}
+use Rattle.sia_index.specs.Between.{IsBetween}
+use Rattle.sia_parts.specs.Grouped.{RiseBy}
 use Rattle.sia_parts.specs.Sightings.{Gives, reader_of}
+use Rattle.sia_parts.proofs.Groups.{group_between}
+use Rattle.sia_parts.proofs.InTwoNumbers.{firsts_rise, group_holds, group_rises}
 use Rattle.sia_parts.proofs.Sighted.{NoneGives, first_found, none_found, sees_other, sight_at}
 use Rattle.sia_parts.proofs.sighting.first_sight.Goals as goal
 use Rattle.sia_parts.proofs.sighting.first_sight.Goals.{in-Some+else-gives, in_default}
+
+of_reader : (acts : List Act) (t : ℕ) → RiseBy (λ (act : Act). act.txn) (λ act. act.place) acts → (group : List Act) → IsBetween (λ (act : Act). act.txn) acts t t group
+    → ((act : Act) → Contains group act ↔ (Contains acts act × (act.txn ≡ t))) × RiseBy (λ (act : Act). act.txn) (λ act. act.place) group
+of_reader acts t rise group between =
+    let own = group_between (λ (act : Act). act.txn) acts group t between in (
+      group_holds (λ (act : Act). act.txn) acts t group own,
+      λ i j d l b. inr (own.4 i d (omega arith) ∙ sym (own.4 j d b), group_rises (λ (act : Act). act.txn) (λ act. act.place) acts t group rise own i j d l b),
+    )
+
+pub between-act-items-requires : goal.between-act-items-requires
+between-act-items-requires c = firsts_rise (λ (act : Act). act.txn) (λ act. act.place) c.args.acts.now c.requires.acts.rise
 
 pub gives-requires-clause-seen : goal.gives-requires-clause-seen
 gives-requires-clause-seen c =
     let e = c.args.e.now in
     let t = reader_of e.kind e.src e.dst in
-    let group = c.acts_by-act-items.result.now in
+    let group = c.between-act-items.result.now in
+    let those = of_reader c.args.acts.now c.reader_of_edge.result c.requires.acts.rise group (rw c.from-reader.ensures at c.between-act-items.ensures) in
     let act : Act = get_or group c.loop-act.act-index (record { txn = 0; place = 0 }) in
     let saw = c.in-Some.ensures in (
       act.place,
       subst (λ h. SawAt h act.place t e.key c.in-Some.version) (sym c.requires.index)
-          (sight_at (Gives e.kind c.args.h.now e.src e.dst e.key) c.args.h.now t e.key c.args.acts.now group c.requires.acts _ c.reader_of_edge.ensures c.acts_by-act-items.ensures.holds
+          (sight_at (Gives e.kind c.args.h.now e.src e.dst e.key) c.args.h.now t e.key c.args.acts.now group c.requires.acts _ c.reader_of_edge.ensures those.0
           act (Contains-get_or group c.loop-act.act-index _ c.loop-act-test.true) saw.0 c.in-Some.version saw.1 saw.2),
     )
 
@@ -28,12 +45,13 @@ returns-then-gives c =
     let t = reader_of e.kind e.src e.dst in
     let h = c.args.h.now in
     let P = Gives e.kind h e.src e.dst e.key in
-    let group = c.acts_by-act-items.result.now in
+    let group = c.between-act-items.result.now in
+    let those = of_reader c.args.acts.now c.reader_of_edge.result c.requires.acts.rise group (rw c.from-reader.ensures at c.between-act-items.ensures) in
     let act : Act = get_or group c.loop-act.act-index (record { txn = 0; place = 0 }) in
     let saw = c.in-Some.ensures in
-    first_found P h t e.key c.args.acts.now group c.requires.acts _ c.reader_of_edge.ensures c.acts_by-act-items.ensures.holds c.acts_by-act-items.ensures.rise
+    first_found P h t e.key c.args.acts.now group c.requires.acts _ c.reader_of_edge.ensures those.0 those.1
     c.loop-act.act-index _ c.in-Some.version c.loop-act-test.true c.loop-act.invariant
-    (sight_at P h t e.key c.args.acts.now group c.requires.acts _ c.reader_of_edge.ensures c.acts_by-act-items.ensures.holds act (Contains-get_or group c.loop-act.act-index _ c.loop-act-test.true) saw.0 c.in-Some.version saw.1 saw.2)
+    (sight_at P h t e.key c.args.acts.now group c.requires.acts _ c.reader_of_edge.ensures those.0 act (Contains-get_or group c.loop-act.act-index _ c.loop-act-test.true) saw.0 c.in-Some.version saw.1 saw.2)
     (subst (λ g. Gives e.kind g e.src e.dst e.key c.in-Some.version) c.requires.index (c.gives.ensures.0 c.if-gives.true))
 
 pub loop-act-preserved : goal.loop-act-preserved
@@ -42,7 +60,8 @@ loop-act-preserved c =
     let t = reader_of e.kind e.src e.dst in
     let h = c.args.h.now in
     let P = Gives e.kind h e.src e.dst e.key in
-    let group = c.acts_by-act-items.result.now in
+    let group = c.between-act-items.result.now in
+    let those = of_reader c.args.acts.now c.reader_of_edge.result c.requires.acts.rise group (rw c.from-reader.ensures at c.between-act-items.ensures) in
     let act : Act = get_or group c.loop-act.act-index (record { txn = 0; place = 0 }) in
     let one : (v : ℕ) → SawAt h act.place t e.key v → ¬ P v = elim c.match-saw.branch [
       | in-Some+else-gives w ↦
@@ -59,6 +78,7 @@ returns c =
     let t = reader_of e.kind e.src e.dst in
     let h = c.args.h.now in
     let P = Gives e.kind h e.src e.dst e.key in
-    let group = c.acts_by-act-items.result.now in
-    none_found P h t e.key c.args.acts.now group c.requires.acts _ c.reader_of_edge.ensures c.acts_by-act-items.ensures.holds
+    let group = c.between-act-items.result.now in
+    let those = of_reader c.args.acts.now c.reader_of_edge.result c.requires.acts.rise group (rw c.from-reader.ensures at c.between-act-items.ensures) in
+    none_found P h t e.key c.args.acts.now group c.requires.acts _ c.reader_of_edge.ensures those.0
     (subst (λ l. NoneGives P h t e.key l) (take_all c.loop-act.act-index group c.loop-act-test.false) c.loop-act.invariant)

@@ -31,5 +31,5 @@ returns-else-version-eq0 c =
     let edge : RwEdge h e.src e.dst e.key = subst (λ (k : Kind). EdgeOfKind h k e.src e.dst e.key) c.in-Rw.is c.requires.edge in
     let other : v ≢ e.src = subst (λ (k : Kind). v ≢ reader_of k e.src e.dst) c.in-Rw.is (subst (λ (r : ℕ). v ≢ r) c.reader_of_edge.ensures c.if-version-reader_of_edge.false) in
     let same = rw_given h c.law.ensures e.src e.dst e.key v written edge other c.if-version-eq0.false in
-    subst (λ (kind : Kind). IsTrue c.commits_before-in-Rw.result ↔ Gives kind h e.src e.dst e.key v) (sym c.in-Rw.is)
-    ((λ yes. same.0 (c.commits_before-in-Rw.ensures.0 yes)), (λ given. c.commits_before-in-Rw.ensures.1 (same.1 given)))
+    subst (λ (kind : Kind). IsTrue c.commits_before-else-version-eq0.result ↔ Gives kind h e.src e.dst e.key v) (sym c.in-Rw.is)
+    ((λ yes. same.0 (c.commits_before-else-version-eq0.ensures.0 yes)), (λ given. c.commits_before-else-version-eq0.ensures.1 (same.1 given)))

@@ -1,45 +1,46 @@
-use Rattle.std.proofs.Common.{◌≡◌, ◌++◌, ◌-◌, ℕ, List, flat_map, map, length, take, drop, ap, sym, ◌∙◌, append_assoc, append-nil, take-append-drop, arith, rules}
-use Rattle.std.proofs.lemmas.Bool.{eqb-true}
-use Rattle.std.proofs.lemmas.List.{length-take, take_rest, map-append}
-use Rattle.std.proofs.lemmas.Grind.{flat_map-append}
-use Rattle.sia_parts.specs.Packing.{unpacked}
-use Rattle.si_audit.specs.Lines.{edge_line}
-use Rattle.si_audit.specs.Sheets.{number_lines}
-use Rattle.si_audit.proofs.Chains.{nothing_left}
+-- The lines and the links of one source more.
+use Rattle.std.proofs.Common.{◌≡◌, ◌<◌, ◌≤◌, ◌+◌, ℕ, [], length, sym, subst, ◌∙◌, arith}
+use Rattle.std.specs.Prelude.{slice_index}
+use Rattle.std.proofs.lemmas.List.{get_or_default}
+use Rattle.sia_parts.proofs.EdgeLists.{has_number}
+use Rattle.si_audit.specs.Sheets.{IsSheet}
+use Rattle.si_audit.proofs.SheetsInTurn.{chunk_within, no_sheet, sheet_more}
 use Rattle.si_audit.proofs.report.edges.sheet_of.Goals as goal
 
--- the lines of the first numbers, and those of the rest
-pub loop-rest-preserved : goal.loop-rest-preserved
-loop-rest-preserved c =
-    let f = unpacked c.args.txns.now c.args.keys.now in
-    let rest = c.loop-rest.rest.now in
-    let n = c.min-count.result in
-    let front = flat_map edge_line (map f (take n rest)) in
-    let both : front ++ flat_map edge_line (map f (take (length rest - n) (drop n rest))) ≡ flat_map edge_line (map f rest) =
-    ap (λ (es : List ℕ). front ++ flat_map edge_line (map f es)) (take_rest rest n)
-    ∙ sym (flat_map-append edge_line (map f (take n rest)) (map f (drop n rest)))
-    ∙ ap (flat_map edge_line) (sym (map-append f (take n rest) (drop n rest)))
-    ∙ ap (λ (es : List ℕ). flat_map edge_line (map f es)) (take-append-drop n rest) in
-    let block = c.put_lines-start.new.block in
-    let start = c.put_lines-start.result in
-    let long : length block ≡ 4608 = search rules in
-    let behind : take (4608 - start) (drop start block) ≡ drop start block = ap (λ (n : ℕ). take (n - start) (drop start block)) (sym long) ∙ take_rest block start in
-    ap (λ bs. bs ++ flat_map edge_line (map f (take (length rest - n) (drop n rest)))) (c.in_ok-extend_from_slice.ensures.items ∙ ap (λ bs. c.loop-rest.sheet.items ++ bs) (behind ∙ c.put_lines-start.ensures.bytes))
-    ∙ append_assoc c.loop-rest.sheet.items front (flat_map edge_line (map f (take (length rest - n) (drop n rest))))
-    ∙ ap (λ bs. c.loop-rest.sheet.items ++ bs) both
-    ∙ c.loop-rest.invariant
+pub loop-source-init : goal.loop-source-init
+loop-source-init c =
+    let h = c.args.all.now.edges.index.now in
+    let bounds = c.args.all.now.bounds.items in
+    let chunk = c.requires.chunk in
+    let from = c.index-source.ensures ∙ get_or_default bounds c.args.number c.index-source.result.now 0 (omega arith) in
+    rw (c.new-lines.ensures.items, c.new-links.ensures.items) (subst (λ n. IsSheet h (slice_index bounds c.args.number) n [] []) (sym from) (no_sheet h (slice_index bounds c.args.number)))
 
-pub loop-rest-init : goal.loop-rest-init
-loop-rest-init c = ap (λ (bs : List ℕ). bs ++ number_lines c.args.txns.now c.args.keys.now c.args.numbers.now) c.in_ok-sheet.ensures.items
+pub put_edges-requires-clause-source : goal.put_edges-requires-clause-source
+put_edges-requires-clause-source c =
+    let all = c.args.all.now in
+    let txns = c.committed-txns.result.now in
+    let within = chunk_within all.edges.index.now (length txns) all.bounds.items (c.requires.all.bounds txns c.committed-txns.ensures) c.args.number c.requires.chunk in
+    let to = c.index-source-end.ensures ∙ get_or_default all.bounds.items (c.args.number + 1) c.index-source-end.result.now 0 c.requires.chunk in
+    has_number all.edges.index.now txns c.committed-txns.ensures c.loop-source.source (let below = c.loop-source-test.true in let most = within.1 in omega arith)
 
-pub put_lines-start-requires : goal.put_lines-start-requires
-put_lines-start-requires c =
-    let len = length-take c.min-count.result c.loop-rest.rest.now in
-    let few = c.min-count.ensures in
-    omega arith
+pub loop-source-preserved : goal.loop-source-preserved
+loop-source-preserved c =
+    let h = c.args.all.now.edges.index.now in
+    let bounds = c.args.all.now.bounds.items in
+    let chunk = c.requires.chunk in
+    let from = c.index-source.ensures ∙ get_or_default bounds c.args.number c.index-source.result.now 0 (omega arith) in
+    let low : slice_index bounds c.args.number ≤ c.loop-source.source = (let most = c.loop-source.auto.source in omega arith) in
+    rw (c.in_ok-push_lines.ensures, c.deref.ensures.value) (sheet_more h (slice_index bounds c.args.number) c.loop-source.source low c.committed-txns.result.now c.written_keys-keys.result.now c.committed-txns.ensures c.written_keys-keys.ensures
+    c.put_edges.new.rows.items c.in_ok-put_edges.ensures.rows c.loop-source.lines.items c.loop-source.links.items c.put_edges.new.links.items c.in_ok-put_edges.ensures.links c.loop-source.invariant)
 
 pub returns : goal.returns
 returns c =
-    let sheet = c.loop-rest.sheet.items in
-    let none = nothing_left c.loop-rest.rest.now (eqb-true (length c.loop-rest.rest.now) 0 (sym c.loop-rest-test.ensures)) in
-    sym (append-nil sheet) ∙ ap (λ (ns : List ℕ). sheet ++ number_lines c.args.txns.now c.args.keys.now ns) (sym none) ∙ c.loop-rest.invariant
+    let h = c.args.all.now.edges.index.now in
+    let bounds = c.args.all.now.bounds.items in
+    let places = c.requires.all.bounds c.committed-txns.result.now c.committed-txns.ensures in
+    let within = chunk_within h (length c.committed-txns.result.now) bounds places c.args.number c.requires.chunk in
+    let chunk = c.requires.chunk in
+    let from = c.index-source.ensures ∙ get_or_default bounds c.args.number c.index-source.result.now 0 (omega arith) in
+    let to = c.index-source-end.ensures ∙ get_or_default bounds (c.args.number + 1) c.index-source-end.result.now 0 chunk in
+    subst (λ n. IsSheet h (slice_index bounds c.args.number) n c.loop-source.lines.items c.loop-source.links.items)
+    (let last = c.loop-source-test.false in let order = within.0 in let most = c.loop-source.auto in let same : c.loop-source.source ≡ slice_index bounds (c.args.number + 1) = omega arith in same) c.loop-source.invariant

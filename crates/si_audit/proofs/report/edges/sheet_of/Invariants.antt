@@ -1,9 +1,7 @@
-use Rattle.std.proofs.Common.{◌≡◌, ◌++◌, length}
-use Rattle.si_audit.specs.Sheets.{number_lines}
+-- What is made of the sources so far.
+use Rattle.std.specs.Prelude.{slice_index}
+use Rattle.si_audit.specs.Sheets.{IsSheet}
 use Rattle.si_audit.proofs.report.edges.sheet_of.Given as goal
 
-abbrev pub invariant-loop-rest : goal.invariant-loop-rest
-invariant-loop-rest l = l.sheet.items ++ number_lines l.txns l.keys l.rest ≡ number_lines l.txns l.keys l.numbers
-
-abbrev pub decreases-loop-rest : goal.decreases-loop-rest
-decreases-loop-rest l = length l.rest
+abbrev pub invariant-loop-source : goal.invariant-loop-source
+invariant-loop-source l = IsSheet l.fn.all.edges.index.now (slice_index l.fn.all.bounds.items l.fn.number) l.source l.lines.items l.links.items

@@ -5,10 +5,7 @@ use Rattle.sia_graph.proofs.tests.histories.dangerous.Goals as goal
 pub dangerous_of-requires-clause-evidence : goal.dangerous_of-requires-clause-evidence
 dangerous_of-requires-clause-evidence c = record {
   well_formed = c.law.ensures;
-  txns_are = c.committed.ensures;
-  keys_are = c.written_keys.ensures;
-  looks_are = c.in_ok-found.ensures.looks;
-  placed = c.in_ok-found.ensures.placed;
+  accesses = c.in_ok-found.ensures.accesses;
 }
 
 pub dangerous_of-requires-clause-kept : goal.dangerous_of-requires-clause-kept

@@ -1,21 +1,25 @@
--- Where the key's versions begin.
-use Rattle.std.proofs.Common.{refl, subst, arith}
-use Rattle.sia_index.proofs.PositionLaws.{first_position}
+-- The table has it.
+use Rattle.std.proofs.Common.{◌≡◌, sym, subst, refl, ◌∙◌, arith}
+use Rattle.std.specs.Prelude.{slice_index}
+use Rattle.std.proofs.lemmas.List.{get_or_default}
 use Rattle.sia_index.specs.Tables.{AreTables}
+use Rattle.sia_index.proofs.KeyChains.{key_number}
+use Rattle.sia_index.specs.Info.{IsKeyAt}
+use Rattle.sia_index.specs.Positions.{IsAtPosition}
+use Rattle.sia_index.specs.declared.info.KeyVersion.{KeyVersion}
+use Rattle.sia_index.proofs.PositionLaws.{at, first_at}
 use Rattle.sia_index.proofs.index.Index.first_position.Goals as goal
 
-pub overflow_cast-result : goal.overflow_cast-result
-overflow_cast-result c =
+pub index-requires : goal.index-requires
+index-requires c =
     let are = subst (λ h. AreTables h c.self.inside.txns c.self.inside.keys c.self.inside.versions c.self.inside.writes) c.self.view_is c.self.invariant in
-    let v = are.versions_are in
-    let s = c.group.ensures _ v.rows (c.requires.0, c.requires.1, c.requires.2, refl) v.rows_are in
-    let le = s.le in
-    let bound = s.bound in
-    let few = v.few in
-    omega arith
+    omega (arith, (key_number c.args.self.now _ are.keys_are.listed_are c.args.i _ (c.requires.0, c.requires.1, c.requires.2, refl)).0, are.versions_are.firsts_are.count, c.self.inside.versions.firsts.ok)
 
 pub returns : goal.returns
-returns c k at =
+returns c =
     let are = subst (λ h. AreTables h c.self.inside.txns c.self.inside.keys c.self.inside.versions c.self.inside.writes) c.self.view_is c.self.invariant in
-    let v = are.versions_are in
-    first_position c.args.self.now v.rows v.rows_are k c.group.result.0 c.group.result.1 (c.group.ensures k v.rows at v.rows_are)
+    let first = first_at c.args.self.now _ _ _ _ are c.args.i _ (c.requires.0, c.requires.1, c.requires.2, refl) in
+    let inside = (key_number c.args.self.now _ are.keys_are.listed_are c.args.i _ (c.requires.0, c.requires.1, c.requires.2, refl)).0 in
+    let firsts = c.self.inside.versions.firsts.items in
+    let own : c.index.result.now ≡ slice_index firsts c.args.i = c.index.ensures ∙ get_or_default firsts c.args.i c.index.result.now 0 (omega (arith, inside, are.versions_are.firsts_are.count)) in
+    subst (λ q. (v : KeyVersion) × IsAtPosition c.args.self.now q v × IsKeyAt c.args.self.now c.args.i v.key × (v.commit ≡ 0)) (sym own) (at c.args.self.now _ _ _ _ are (slice_index firsts c.args.i), first.1, first.2, first.3)

@@ -1,5 +1,5 @@
 -- What is known of a transaction by its number.
 use Rattle.sia_index.proofs.index.Index.txn.Goals as goal
 
-pub returns-in-Some : goal.returns-in-Some
-returns-in-Some c = c.txn_at.ensures c.args.t c.in-Some.ensures
+pub returns : goal.returns
+returns c = c.txn_at.ensures c.args.t c.in_ok-number.ensures

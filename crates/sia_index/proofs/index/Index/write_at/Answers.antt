@@ -1,24 +1,19 @@
--- What the tables have of the write.
-use Rattle.std.proofs.Common.{◌≡◌, ◌-◌, ◌<◌, ◌∙◌, None, Some, length, sym, subst, arith}
-use Rattle.std.specs.Prelude.{slice_index_or}
-use Rattle.std.proofs.lemmas.List.{get_or_default}
-use Rattle.std.proofs.lemmas.List.Elements.{Contains-get_or}
-use Rattle.sia_events.specs.Numbering.{names_of, writes_of, write_at}
-use Rattle.sia_events.specs.Transactions.{CommitsAt}
-use Rattle.sia_index.proofs.Offsets.{none}
-use Rattle.sia_index.proofs.PositionLaws.{row_position, place_of}
+-- The table has both.
+use Rattle.std.proofs.Common.{◌≡◌, ◌-◌, ◌<◌, sym, subst, arith}
+use Rattle.std.specs.Prelude.{MatchOption}
 use Rattle.sia_index.specs.Tables.{AreTables}
+use Rattle.sia_events.specs.Numbering.{names_of, write_at}
+use Rattle.sia_events.specs.Transactions.{IsCommitted}
+use Rattle.sia_index.specs.Positions.{IsAtPosition}
+use Rattle.sia_index.specs.declared.info.KeyVersion.{KeyVersion}
+use Rattle.sia_index.specs.declared.info.WriteAt.{WriteAt}
+use Rattle.sia_index.proofs.PositionLaws.{write_is}
 use Rattle.sia_index.proofs.index.Index.write_at.Goals as goal
 
-pub returns-in-Some-clause-position : goal.returns-in-Some-clause-position
-returns-in-Some-clause-position c =
+pub returns-clause-position : goal.returns-clause-position
+returns-clause-position c =
     let are = subst (λ h. AreTables h c.self.inside.txns c.self.inside.keys c.self.inside.versions c.self.inside.writes) c.self.view_is c.self.invariant in
-    let h = c.args.self.now in
-    let v = are.versions_are in
     let w = c.args.write - 1 in
-    let inside : w < length (writes_of h) = (let above = c.requires.above in let bound = c.requires.bound in omega arith) in
-    let here : slice_index_or c.self.inside.versions.places.items w None ≡ Some c.in-Some.place = sym (get_or_default c.self.inside.versions.places.items w c.index-2.result.now None (omega (arith, v.places_are.count))) ∙ sym c.index-2.ensures ∙ c.in-Some.is in
-    let at = place_of h v.rows c.self.inside.versions.places.items v.places_are w inside c.in-Some.place here in
-    let row = slice_index_or v.rows c.in-Some.place none in
-    let is = (v.rows_are.each row).0 (Contains-get_or v.rows c.in-Some.place none at.0) in
-    ((row.commit, subst (λ t. CommitsAt h t row.commit) (at.1 none).1 is.1), λ p commits. row_position h are.well_formed v.rows v.rows_are c.in-Some.place at.0 (write_at (names_of h) w).0 (write_at (names_of h) w).1 p at.1 commits)
+    subst (λ (x : WriteAt). MatchOption x.position (¬ IsCommitted c.args.self.now (write_at (names_of c.args.self.now) w).1)
+    (λ q. (v : KeyVersion) × IsAtPosition c.args.self.now q v × (v.key ≡ (write_at (names_of c.args.self.now) w).0) × (v.txn ≡ (write_at (names_of c.args.self.now) w).1) × (0 < v.commit))) (sym c.index.ensures)
+    (write_is c.args.self.now _ _ _ _ are w c.index.result.now (omega (arith, c.requires.above, c.requires.bound)))

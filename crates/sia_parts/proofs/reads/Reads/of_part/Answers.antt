@@ -1,6 +1,5 @@
 -- The places of the part are those that stand at its number.
 use Rattle.std.proofs.Common.{◌≡◌, ◌<◌, List, Vec, Global, ℕ, ap, get_or, length, sym, subst, ◌∙◌, arith}
-use Rattle.std.proofs.lemmas.Bool.{ltb-true}
 use Rattle.std.proofs.lemmas.Option.{get_or_from_slice_get, slice_get_within}
 use Rattle.sia_parts.specs.Dealing.{HasReadsOf}
 use Rattle.sia_parts.proofs.reads.Reads.of_part.Goals as goal

@@ -1,5 +1,5 @@
--- The reads are dealt to the parts of the cutting, what was found in each can be put together, and its looks are those at all keys.
-use Rattle.std.proofs.Common.{None, subst, sym}
+-- The reads are dealt to the parts of the cutting, what was found in each can be put together.
+use Rattle.std.proofs.Common.{subst, sym}
 use Rattle.std.specs.List.{AllZip}
 use Rattle.sia_parts.specs.Dealing.{AreReads}
 use Rattle.sia_parts.specs.Gathering.{IsPartFound}
@@ -23,6 +23,3 @@ of-requires-2 c = (
   subst (λ h. AllZip (λ part found. IsPartFound h (IsInPart part) found) c.in_ok-parts.parts.items c.in_ok-audited.seen.items) (sym c.requires)
       (subst (λ parts. AllZip (λ part found. IsPartFound c.args.h.now (IsInPart part) found) parts c.in_ok-audited.seen.items) c.deref-2.ensures.value c.in_ok-audited.ensures.1),
 )
-
-pub of-requires-3 : goal.of-requires-3
-of-requires-3 c = record { looks = (None, c.in_ok-gathering.ensures.looks) }

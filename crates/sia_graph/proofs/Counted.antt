@@ -1,0 +1,49 @@
+-- How many elements of a list pass a test.
+use Rattle.std.proofs.Common.{◌≡◌, ℕ, zero, suc, ◌+◌, ◌<◌, ◌≤◌, Bool, true, false, cond, List, [], ◌∷◌, slice_get, Some, ap, ◌∙◌, refl, arith}
+use Rattle.std.specs.List.{count_by}
+use Rattle.std.proofs.lemmas.List.Sums.{sum_by-cons}
+use Rattle.std.proofs.lemmas.Option.{same_Some}
+
+module _ {A : Type 0} (p : A → Bool) where
+  -- a count by the first element
+  pub count_first : (x : A) (xs : List A) → p x ≡ true → count_by p (x ∷ xs) ≡ 1 + count_by p xs
+  count_first x xs e = sum_by-cons (λ y. cond (p y) 1 0) x xs ∙ ap (λ b. cond b 1 0 + count_by p xs) e
+
+  pub count_later : (x : A) (xs : List A) → p x ≡ false → count_by p (x ∷ xs) ≡ count_by p xs
+  count_later x xs e =
+      let z : 0 + count_by p xs ≡ count_by p xs = omega arith in
+      sum_by-cons (λ y. cond (p y) 1 0) x xs ∙ ap (λ b. cond b 1 0 + count_by p xs) e ∙ z
+
+-- fewer pass a stricter test, and one fewer at least if some element tells the two apart
+module _ {A : Type 0} (p q : A → Bool) (under : (x : A) → q x ≡ true → p x ≡ true) where
+  first_fewer : (m n : ℕ) (x : A) → m ≤ n → cond (q x) 1 0 + m ≤ cond (p x) 1 0 + n
+  first_fewer m n x l = by_tests (q x) (p x) (under x)
+    where
+      by_tests : (b c : Bool) → (b ≡ true → c ≡ true) → cond b 1 0 + m ≤ cond c 1 0 + n
+      by_tests true true u = omega arith
+      by_tests true false u = absurd (let e = u refl in cc)
+      by_tests false true u = omega arith
+      by_tests false false u = omega arith
+
+  pub counts_fewer : (xs : List A) → count_by q xs ≤ count_by p xs
+  counts_fewer [] = omega arith
+  counts_fewer (x ∷ xs) =
+      let a = sum_by-cons (λ y. cond (p y) 1 0) x xs in
+      let b = sum_by-cons (λ y. cond (q y) 1 0) x xs in
+      let l = first_fewer (count_by q xs) (count_by p xs) x (counts_fewer xs) in
+      omega arith
+
+  pub one_fewer : (xs : List A) (i : ℕ) (y : A) → slice_get xs i ≡ Some y → p y ≡ true → q y ≡ false → count_by q xs < count_by p xs
+  one_fewer [] i y at a b = cc
+  one_fewer (x ∷ xs) zero y at a b =
+      let e = same_Some x y at in
+      let c = count_first p x xs (ap p e ∙ a) in
+      let d = count_later q x xs (ap q e ∙ b) in
+      let l = counts_fewer xs in
+      omega arith
+  one_fewer (x ∷ xs) (suc i) y at a b =
+      let e = sum_by-cons (λ y. cond (p y) 1 0) x xs in
+      let f = sum_by-cons (λ y. cond (q y) 1 0) x xs in
+      let less = one_fewer xs i y at a b in
+      let l = first_fewer (suc (count_by q xs)) (count_by p xs) x (omega arith) in
+      omega arith

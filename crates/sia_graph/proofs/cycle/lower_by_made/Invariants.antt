@@ -1,7 +1,0 @@
-use Rattle.std.proofs.Common.{ℕ, List, take}
-use Rattle.sia_graph.specs.Previous.{AreLowered}
-use Rattle.sia_graph.specs.VersionRanks.{AreTwos}
-use Rattle.sia_graph.proofs.cycle.lower_by_made.Given as goal
-
-abbrev pub invariant-loop-i : goal.invariant-loop-i
-invariant-loop-i l = (ranks : List ℕ) → AreTwos l.versions l.versions ranks 1 l.twos → AreLowered l.versions ranks (take l.i l.versions) l.initial.least l.least

@@ -1,0 +1,74 @@
+use Rattle.std.proofs.Common.{◌≡◌, ◌≢◌, ◌+◌, ◌∷◌, ◌++◌, [], ℕ, List, length, get_or, refl, ap, sym, subst, ◌∙◌, arith}
+use Rattle.std.specs.Prelude.{Contains}
+use Rattle.std.proofs.lemmas.List.Elements.{Contains-get_or}
+use Rattle.sia_index.specs.Between.{IsBetween}
+use Rattle.sia_parts.specs.declared.finding.Edge.{Edge}
+use Rattle.sia_parts.specs.declared.finding.Kind.TheVariants.{Ww}
+use Rattle.sia_parts.specs.Groups.{IsGroup}
+use Rattle.sia_parts.specs.Sights.{Adds, FromSome}
+use Rattle.sia_parts.proofs.Adding.{FromFirst, added_to_none, adds_push, from_all, from_more, from_none}
+use Rattle.sia_parts.proofs.Groups.{group_between}
+use Rattle.sia_graph.specs.ListedGraphs.{IsTargetOf}
+use Rattle.sia_graph.proofs.AscendingIds.{one_id}
+use Rattle.sia_graph.proofs.EdgesListed.{AreTargetsAt, all_in, graph_made, group_has, group_targets}
+use Rattle.sia_graph.proofs.RowLists.{AreLists, lists_more}
+use Rattle.sia_graph.proofs.listed_edges.graph_of.Goals.{After-between-edge-items}
+use Rattle.sia_graph.proofs.listed_edges.graph_of.Goals as goal
+
+abbrev none : Edge
+none = record { src = 0; dst = 0; kind = Ww; key = 0 }
+
+-- the edges from the id
+group : (c : After-between-edge-items) → IsGroup (λ (e : Edge). e.src) c.args.edges.now (get_or c.args.ids.now c.loop-id.id-index 0) c.between-edge-items.result.now
+group c =
+    group_between (λ (e : Edge). e.src) c.args.edges.now c.between-edge-items.result.now (get_or c.args.ids.now c.loop-id.id-index 0)
+    (subst (λ n. IsBetween (λ (e : Edge). e.src) c.args.edges.now n n c.between-edge-items.result.now) c.from-source.ensures c.between-edge-items.ensures)
+
+pub position_of-requires-clause-member : goal.position_of-requires-clause-member
+position_of-requires-clause-member c =
+    let edges = c.args.edges.now in
+    let own = c.between-edge-items.result.now in
+    let edge = get_or own c.loop-edge.edge-index none in
+    let there = (group_has (λ (e : Edge). e.src) edges (get_or c.args.ids.now c.loop-id.id-index 0) own (group (goal.at.position_of-requires-clause-member c).After-between-edge-items) edge).0 (Contains-get_or own c.loop-edge.edge-index none c.loop-edge-test.true) in
+    (all_in (λ (e : Edge). Contains c.args.ids.now e.src × Contains c.args.ids.now e.dst × (e.src ≢ e.dst)) edges edge c.requires.joins there.0).1
+
+pub loop-edge-init : goal.loop-edge-init
+loop-edge-init c =
+    let own = c.between-edge-items.result.now in
+    let ids = c.args.ids.now in
+    subst (λ (l : List ℕ). Adds (FromFirst (IsTargetOf ids) own 0) [] l) (sym c.clear.ensures.items) (from_none (IsTargetOf ids) own [])
+
+pub loop-edge-preserved : goal.loop-edge-preserved
+loop-edge-preserved c =
+    let ids = c.args.ids.now in
+    let own = c.between-edge-items.result.now in
+    let i = c.loop-edge.edge-index in
+    let q = c.position_of.result in
+    let is = c.position_of.ensures in
+    let old = c.loop-edge.row.items in
+    let P = IsTargetOf ids (get_or own i none) in
+    from_more (IsTargetOf ids) own i none [] old c.push.new.self.items c.loop-edge-test.true c.loop-edge.invariant
+    (subst (λ l. Adds P old l) (sym c.in_ok-push.ensures.items)
+    (adds_push P old q (is.within, is.is) (λ x p. one_id ids c.requires.ascending q x is.within p.0 (is.is ∙ sym p.1))))
+
+pub loop-id-preserved : goal.loop-id-preserved
+loop-id-preserved c =
+    let ids = c.args.ids.now in
+    let edges = c.args.edges.now in
+    let i = c.loop-id.id-index in
+    let own = c.between-edge-items.result.now in
+    let row = c.loop-edge.row.items in
+    let has = added_to_none (FromSome (IsTargetOf ids) own) row (from_all (IsTargetOf ids) own c.loop-edge.edge-index [] row c.loop-edge-test.false c.loop-edge.invariant) in
+    let targets = group_targets ids edges own i row (group (goal.at.loop-id-preserved c).After-between-edge-items) has in (
+      subst (λ lists. AreLists (AreTargetsAt ids edges) lists (i + 1)) (sym (c.in_ok-put_row.ensures ∙ ap (λ r. c.loop-id.targets ++ (r ∷ [])) c.deref.ensures.value))
+          (lists_more (AreTargetsAt ids edges) c.loop-id.targets i row c.loop-id.invariant.0 targets),
+      subst (λ lists. AreLists (λ q r. r ≡ []) lists (i + 1)) (sym c.in_ok-open.ensures) (lists_more (λ q r. r ≡ []) c.loop-id.sources i [] c.loop-id.invariant.1 refl),
+    )
+
+pub returns-clause-made : goal.returns-clause-made
+returns-clause-made c =
+    let ids = c.args.ids.now in
+    let edges = c.args.edges.now in
+    let end : c.loop-id.id-index ≡ length ids = (let l = c.loop-id-test.false in let m = c.loop-id.auto.id-index-end in omega arith) in
+    graph_made ids c.requires.ascending edges c.requires.joins (record { targets = c.loop-id.targets; sources = c.loop-id.sources })
+    (subst (AreLists (AreTargetsAt ids edges) c.loop-id.targets) end c.loop-id.invariant.0) (subst (AreLists (λ q r. r ≡ []) c.loop-id.sources) end c.loop-id.invariant.1)

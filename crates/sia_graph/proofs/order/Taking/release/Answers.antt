@@ -1,0 +1,136 @@
+use Rattle.std.proofs.Common.{◌≡◌, ◌-◌, ◌<◌, ◌≤◌, ℕ, [], Bool, List, Some, length, get_or, set, slice_get, inl, inr, ap, refl, sym, subst, ◌∙◌, arith}
+use Rattle.std.proofs.lemmas.Bool.{cases_eq}
+use Rattle.std.proofs.lemmas.List.{get_or-set_same, get_or-set_other, get_or_default, length-set}
+use Rattle.std.proofs.lemmas.Option.{same_Some, slice_get-get_or}
+use Rattle.std.proofs.lemmas.Result.{on_ok_weaker}
+use Rattle.sia_graph.specs.UnderWay.{HasReady, IsDone}
+use Rattle.sia_graph.proofs.Released.{others_waited, ready_free, ready_held, sources_within, under_way_free, under_way_held, under_way_waiting}
+use Rattle.sia_graph.proofs.order.Taking.release.Goals as goal
+
+pub returns-then-index-gt1-clause-is : goal.returns-then-index-gt1-clause-is
+returns-then-index-gt1-clause-is c pending less waking is fewer =
+    let k = c.args.self.now in
+    let node = c.args.node in
+    let below = c.requires.node.0 in
+    let v = c.index_mut.result.now - 1 in
+    let old = c.index_mut.ensures.value ∙ get_or_default k.counts.items node c.index_mut.result.now 0 below in
+    let at = c.index.ensures in
+    let long = length-set k.counts.items node v in
+    let same = get_or-set_same k.counts.items node v c.index.result.now below in
+    let more = c.if-index-gt1.true in
+    record {
+      under_way = under_way_held c.args.graph.now c.args.done.now k node below v c.index_mut.result.now old refl pending less waking is fewer (omega arith);
+      ready = ready_held c.args.graph.now c.args.done.now k node below v c.index_mut.result.now old refl pending less waking is fewer;
+      before = is.before;
+      within = let e = is.within in omega arith;
+    }
+
+pub first_left-requires : goal.first_left-requires
+first_left-requires c k d l =
+    let is = c.requires.is.2 in
+    let e = is.under_way.done_long in
+    let a = sources_within c.args.graph.now (length c.args.self.now.counts.items) c.args.node c.requires.graph c.at-sources.result.now c.at-sources.ensures k d l in
+    omega arith
+
+pub index-requires-in-Some : goal.index-requires-in-Some
+index-requires-in-Some c =
+    let w = c.requires.is.2.under_way in
+    let e = w.first_long in
+    let ok = c.args.self.now.first_waiting.ok.0 in
+    let a = sources_within c.args.graph.now (length c.args.self.now.counts.items) c.args.node c.requires.graph c.at-sources.result.now c.at-sources.ensures c.in-Some.place 0 c.in-Some.ensures.1 in
+    omega arith
+
+pub index_mut-requires-in-Some-3 : goal.index_mut-requires-in-Some-3
+index_mut-requires-in-Some-3 c =
+    let w = c.requires.is.2.under_way in
+    let e = w.first_long in
+    let ok = c.args.self.now.first_waiting.ok.0 in
+    let a = sources_within c.args.graph.now (length c.args.self.now.counts.items) c.args.node c.requires.graph c.at-sources.result.now c.at-sources.ensures c.in-Some.place 0 c.in-Some.ensures.1 in
+    omega arith
+
+-- the place of the first source that isn't done
+abbrev IsFirst : List Bool → ℕ → ℕ → List ℕ → Type 0
+IsFirst done p from row = (from ≤ p) × (p < length row) × (¬ IsDone done (get_or row p 0)) × ((i : ℕ) → from ≤ i → i < p → IsDone done (get_or row i 0))
+
+-- what is known of a row and a place from which it was looked at, of an equal row and an equal place
+elsewhere : (P : ℕ → List ℕ → Type 0) (from n : ℕ) (row other : List ℕ) → from ≡ n → row ≡ other → P from row → P n other
+elsewhere P from n row other e f p = subst (λ r. P n r) f (subst (λ k. P k row) e p)
+
+pub returns-in-Some-clause-is : goal.returns-in-Some-clause-is
+returns-in-Some-clause-is c pending less waking is fewer =
+    let k = c.args.self.now in
+    let node = c.args.node in
+    let below = c.requires.node.0 in
+    let v = c.index_mut.result.now - 1 in
+    let old = c.index_mut.ensures.value ∙ get_or_default k.counts.items node c.index_mut.result.now 0 below in
+    let kept = c.index.ensures in
+    let long = length-set k.counts.items node v in
+    let same = get_or-set_same k.counts.items node v c.index.result.now below in
+    let few = c.if-index-gt1.false in
+    let w = is.under_way in
+    let l = w.first_long in
+    let passed = w.passed_long in
+    let f =
+    elsewhere (IsFirst c.args.done.now c.in-Some.place) c.index-2.result.now (get_or k.passed.items node 0) c.at-sources.result.now (get_or c.args.graph.now.sources node [])
+    (c.index-2.ensures ∙ get_or_default k.passed.items node c.index-2.result.now 0 (omega arith)) c.at-sources.ensures c.in-Some.ensures in
+    let row = c.at-sources.result.now in
+    let at = get_or row c.in-Some.place 0 in
+    let is_at : at ≡ get_or (get_or c.args.graph.now.sources node []) c.in-Some.place 0 = ap (λ (r : List ℕ). get_or r c.in-Some.place 0) c.at-sources.ensures in
+    let at_below : at < length k.counts.items = sources_within c.args.graph.now (length k.counts.items) node c.requires.graph row c.at-sources.ensures c.in-Some.place 0 c.in-Some.ensures.1 in
+    record {
+      under_way = under_way_waiting c.args.graph.now c.args.done.now k node below v c.index_mut.result.now old refl pending less waking is fewer (omega arith)
+          c.in-Some.place f.1 f.0 at is_at c.in-Some.ensures.2 f.3 at_below (let m = c.requires.node.1 in omega arith)
+          c.index-in-Some.result.now (c.index-in-Some.ensures ∙ get_or_default k.first_waiting.items at c.index-in-Some.result.now 0 (omega arith));
+      ready = ready_held c.args.graph.now c.args.done.now k node below v c.index_mut.result.now old refl pending less waking is fewer;
+      before = is.before;
+      within = let e = is.within in omega arith;
+    }
+
+pub returns-in-Some-clause-others : goal.returns-in-Some-clause-others
+returns-in-Some-clause-others c t s w d =
+    let k = c.args.self.now in
+    let node = c.args.node in
+    let v = c.index_mut.result.now - 1 in
+    let now = c.requires.is.2.under_way in
+    let l = now.passed_long in
+    let b = c.requires.node.0 in
+    let row = get_or c.args.graph.now.sources node [] in
+    elim (cases_eq t node) [
+      | inl e ↦
+          let f = elsewhere (IsFirst c.args.done.now c.in-Some.place) c.index-2.result.now c.index-2.result.now c.at-sources.result.now row refl c.at-sources.ensures c.in-Some.ensures in
+          let at : slice_get row (get_or (set k.passed.items node c.in-Some.place) node 0) ≡ Some s =
+          subst (λ u. slice_get (get_or c.args.graph.now.sources u []) (get_or (set k.passed.items node c.in-Some.place) u 0) ≡ Some s) e w.2 in
+          let same : get_or row c.in-Some.place 0 ≡ s =
+          same_Some _ _
+          (sym (slice_get-get_or row c.in-Some.place 0 f.1) ∙ ap (slice_get row) (sym (get_or-set_same k.passed.items node c.in-Some.place 0 (omega arith))) ∙ at) in
+          absurd (f.2 (subst (IsDone c.args.done.now) (sym same) d))
+      | inr n ↦ (
+        others_waited c.args.graph.now k.counts.items k.passed.items (set k.counts.items node v) (set k.passed.items node c.in-Some.place) node (length-set k.counts.items node v)
+            (λ u m. get_or-set_other k.counts.items node u v 0 m) (λ u m. get_or-set_other k.passed.items node u c.in-Some.place 0 m) t s n w,
+        n,
+      )
+    ]
+
+pub returns-in-None-clause-is : goal.returns-in-None-clause-is
+returns-in-None-clause-is c =
+    on_ok_weaker c.note_ready.result (λ noted pending less waking is fewer.
+    let k = c.args.self.now in
+    let node = c.args.node in
+    let below = c.requires.node.0 in
+    let v = c.index_mut.result.now - 1 in
+    let old = c.index_mut.ensures.value ∙ get_or_default k.counts.items node c.index_mut.result.now 0 below in
+    let kept = c.index.ensures in
+    let long = length-set k.counts.items node v in
+    let longer = length-set (set k.counts.items node v) node 0 in
+    let same = get_or-set_same k.counts.items node v c.index.result.now below in
+    let few = c.if-index-gt1.false in
+    let low : v ≤ 1 = omega arith in
+    record {
+      under_way = under_way_free c.args.graph.now c.args.done.now k node below v c.index_mut.result.now old refl pending less waking is fewer low
+          (elsewhere (λ from row. (i : ℕ) → from ≤ i → i < length row → IsDone c.args.done.now (get_or row i 0)) c.index-2.result.now (get_or k.passed.items node 0)
+          c.at-sources.result.now (get_or c.args.graph.now.sources node [])
+          (c.index-2.ensures ∙ get_or_default k.passed.items node c.index-2.result.now 0 (let l = is.under_way.passed_long in omega arith)) c.at-sources.ensures c.in-None.ensures);
+      ready = ready_free c.args.graph.now c.args.done.now k node below v c.index_mut.result.now old refl pending less waking is fewer low (HasReady c.note_ready.new.behind) noted;
+      before = λ t b. elim ((noted t).0 b) [ inl had ↦ is.before t had | inr w ↦ (let e = w.0 in let x = w.1 in omega arith) ];
+      within = let e = is.within in omega arith;
+    }) c.note_ready.ensures

@@ -1,0 +1,95 @@
+use Rattle.std.proofs.Common.{◌+◌, inl, inr, ℕ, List, get_or, min, take, sym, subst, arith}
+use Rattle.std.specs.Prelude.{◌↔◌, Contains}
+use Rattle.std.proofs.lemmas.List.{take_all}
+use Rattle.std.proofs.lemmas.List.Elements.{Contains-get_or}
+use Rattle.sia_parts.specs.Accesses.{SawPosition}
+use Rattle.sia_parts.specs.Sights.{FromSome}
+use Rattle.sia_graph.specs.Twos.{IsLeastNumber, IsLeftSource}
+use Rattle.sia_graph.proofs.AccessLists.{saw_inside, saw_is, saw_position}
+use Rattle.sia_graph.proofs.EarlierSources.{OfEither, OfMade, OfSeen, sources_are}
+use Rattle.sia_graph.proofs.LeastNumbers.{first_least, least_join, least_none}
+use Rattle.sia_graph.proofs.PositionTwos.{positions_below}
+use Rattle.sia_graph.proofs.twos.Earlier.least_source.Goals as goal
+
+pub made_by-position-items-requires : goal.made_by-position-items-requires
+made_by-position-items-requires c = c.requires.me
+
+pub loop-position-init : goal.loop-position-init
+loop-position-init c = (omega arith, λ left are. least_none _ (λ q f. (let n = f.1.1 in omega arith)))
+
+pub least_before-requires-clause-position : goal.least_before-requires-clause-position
+least_before-requires-clause-position c =
+    let u = c.requires.me in
+    let made = c.made_by-position-items.result.now in
+    let v = ((c.made_by-position-items.ensures u.0 u.1).each (get_or made c.loop-position.position-index 0)).0 (Contains-get_or made c.loop-position.position-index 0 c.loop-position-test.true) in
+    (v.0, v.1)
+
+pub least_before-requires-clause-is : goal.least_before-requires-clause-is
+least_before-requires-clause-is c = let e = c.requires.earlier in (c.args.evidence.now.accesses.now, e.0, c.requires.is.well_formed, e.1)
+
+pub loop-position-preserved : goal.loop-position-preserved
+loop-position-preserved c =
+    let e = c.args.evidence.now in
+    let made = c.made_by-position-items.result.now in
+    let i = c.loop-position.position-index in
+    let f = c.min-least.ensures in (
+      omega arith,
+      λ left are.
+          subst (IsLeastNumber (FromSome (OfMade e.index.now e.accesses.now left c.args.me) (take (i + 1) made))) (sym f)
+          (first_least (OfMade e.index.now e.accesses.now left c.args.me) made i 0 c.loop-position.least c.least_before.result c.loop-position-test.true c.loop-position.invariant.0 (omega arith)
+          (c.loop-position.invariant.1 left are) (c.least_before.ensures e.accesses.now left are)),
+    )
+
+pub at-position-items-requires : goal.at-position-items-requires
+at-position-items-requires c = let e = c.args.evidence.now in let u = c.requires.me in saw_inside e.index.now e.accesses.now c.requires.is.accesses c.args.me u.0 u.1
+
+pub loop-position-2-init : goal.loop-position-2-init
+loop-position-2-init c left are = (4294967295, omega arith, least_none _ (λ q f. (let n = f.1.1 in omega arith)), (let l = c.loop-position.invariant.0 in omega arith))
+
+pub least_maker-requires : goal.least_maker-requires
+least_maker-requires c =
+    let e = c.args.evidence.now in
+    let h = e.index.now in
+    let a = e.accesses.now in
+    let u = c.requires.me in
+    let row = c.at-position-items.result.now in
+    let q = get_or row c.loop-position-2.position-index 0 in
+    let there = subst (λ (xs : List ℕ). Contains xs q) c.at-position-items.ensures (Contains-get_or row c.loop-position-2.position-index 0 c.loop-position-2-test.true) in
+    let saw = (saw_is h a c.requires.is.accesses c.args.me u.0 u.1 q).0 there in
+    positions_below h _ q c.requires.earlier.1.makers_long (saw_position h a c.requires.is.accesses c.args.me u.0 u.1 q saw)
+
+pub loop-position-2-preserved : goal.loop-position-2-preserved
+loop-position-2-preserved c left are =
+    let e = c.args.evidence.now in
+    let w = c.loop-position-2.invariant left are in
+    let f = c.min-least-in-loop-position-2.ensures in
+    let g = w.3 in
+    let b = w.1 in
+    let new = c.least_maker.result in (
+      min w.0 new,
+      omega arith,
+      first_least (OfSeen e.index.now left c.args.me) c.at-position-items.result.now c.loop-position-2.position-index 0 w.0 new c.loop-position-2-test.true w.1 (omega arith)
+          w.2 (c.least_maker.ensures e.index.now e.accesses.now left c.requires.is.well_formed are),
+      omega arith,
+    )
+
+pub returns : goal.returns
+returns c left are =
+    let e = c.args.evidence.now in
+    let h = e.index.now in
+    let a = e.accesses.now in
+    let me = c.args.me in
+    let u = c.requires.me in
+    let made = c.made_by-position-items.result.now in
+    let saw = c.at-position-items.result.now in
+    let w = c.loop-position-2.invariant left are in
+    let first : IsLeastNumber (FromSome (OfMade h a left me) made) c.loop-position.least =
+    subst (λ (xs : List ℕ). IsLeastNumber (FromSome (OfMade h a left me) xs) c.loop-position.least) (take_all c.loop-position.position-index made c.loop-position-test.false) (c.loop-position.invariant.1 left are) in
+    let second : IsLeastNumber (FromSome (OfSeen h left me) saw) w.0 =
+    subst (λ (xs : List ℕ). IsLeastNumber (FromSome (OfSeen h left me) xs) w.0) (take_all c.loop-position-2.position-index saw c.loop-position-2-test.false) w.2 in
+    let both = least_join (FromSome (OfMade h a left me) made) (FromSome (OfSeen h left me) saw) (OfEither h a left me made saw) c.loop-position.least w.0 c.loop-position.invariant.0 w.1
+    (λ r x. inl x) (λ r x. inr x) (λ r x. x) first second in
+    let versions = are.makers_long in
+    subst (IsLeastNumber (IsLeftSource h left me)) (sym w.3)
+    (sources_are h c.requires.is.well_formed a left versions.0 versions.1 c.requires.is.accesses me u.0 u.1 made saw (c.made_by-position-items.ensures u.0 u.1)
+    (λ q. subst (λ (xs : List ℕ). Contains xs q ↔ SawPosition a me q) (sym c.at-position-items.ensures) (saw_is h a c.requires.is.accesses me u.0 u.1 q)) (min c.loop-position.least w.0) both)

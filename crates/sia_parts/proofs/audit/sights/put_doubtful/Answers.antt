@@ -1,0 +1,53 @@
+-- The sight is bad where another version is due, and gives a look where the version is another's.
+use Rattle.std.proofs.Common.{◌≡◌, ℕ, ap, sym, subst, ◌∙◌}
+use Rattle.sia_events.specs.Numbering.{names_of}
+use Rattle.sia_parts.specs.Seeing.{IsOrigin, origin_in}
+use Rattle.sia_parts.proofs.Gaining.{look_gains, no_look}
+use Rattle.sia_parts.proofs.Viewing.{bad_named, gains_view, looks_not, on_ok, own_not, seen_sight, stands}
+use Rattle.sia_parts.proofs.audit.sights.put_doubtful.Goals as goal
+
+pub names-key-requires : goal.names-key-requires
+names-key-requires c = subst (λ l. IsOrigin (names_of l) c.args.view.now.origin) c.requires.scope.same c.requires.view.origin
+
+pub returns-then-saw-known : goal.returns-then-saw-known
+returns-then-saw-known c =
+    let h = c.args.scope.now.ix.now in
+    let wf = c.requires.scope.well_formed in
+    let known = c.args.known.now in
+    let is_known = c.requires.known in
+    let view = c.args.view.now in
+    let is = c.requires.view in
+    let sight = seen_sight h wf known is_known view is in
+    let names : c.names-key.result ≡ origin_in (names_of h) view.origin = subst (λ l. c.names-key.result ≡ origin_in (names_of l) view.origin) (sym c.requires.scope.same) c.names-key.ensures in
+    let bad = bad_named h wf known is_known view is c.names-key.result names c.due_at-due.result (c.due_at-due.ensures _ is.at.key is.mine) c.args.seen.now.bad_reads.items c.put_bad_read.new.bad.items (c.in_ok-put_bad_read.ensures) in
+    gains_view h wf known is_known view is c.args.seen.now c.put_bad_read.new.bad c.args.seen.now.saw bad (no_look h sight (own_not h wf known is_known view is (sym (ap (λ (q : ℕ × ℕ). q.1) names) ∙ c.if-saw-known.true)) c.args.seen.now.saw)
+
+pub returns-in-Some : goal.returns-in-Some
+returns-in-Some c =
+    let h = c.args.scope.now.ix.now in
+    let wf = c.requires.scope.well_formed in
+    let known = c.args.known.now in
+    let is_known = c.requires.known in
+    let view = c.args.view.now in
+    let is = c.requires.view in
+    let sight = seen_sight h wf known is_known view is in
+    let names : c.names-key.result ≡ origin_in (names_of h) view.origin = subst (λ l. c.names-key.result ≡ origin_in (names_of l) view.origin) (sym c.requires.scope.same) c.names-key.ensures in
+    let bad = bad_named h wf known is_known view is c.names-key.result names c.due_at-due.result (c.due_at-due.ensures _ is.at.key is.mine) c.args.seen.now.bad_reads.items c.put_bad_read.new.bad.items (c.in_ok-put_bad_read.ensures) in
+    let there = stands h wf known is_known view is c.in-Some.position c.in-Some.is in
+    on_ok c.put_position.result _ _
+    (λ adds. gains_view h wf known is_known view is c.args.seen.now c.put_bad_read.new.bad c.put_position.new.saw bad
+    (look_gains h wf sight known.number c.in-Some.position is_known.number (λ same. c.if-saw-known.false (ap (λ (q : ℕ × ℕ). q.1) names ∙ same)) there c.args.seen.now.saw c.put_position.new.saw adds))
+    c.put_position.ensures
+
+pub returns-in-None : goal.returns-in-None
+returns-in-None c =
+    let h = c.args.scope.now.ix.now in
+    let wf = c.requires.scope.well_formed in
+    let known = c.args.known.now in
+    let is_known = c.requires.known in
+    let view = c.args.view.now in
+    let is = c.requires.view in
+    let sight = seen_sight h wf known is_known view is in
+    let names : c.names-key.result ≡ origin_in (names_of h) view.origin = subst (λ l. c.names-key.result ≡ origin_in (names_of l) view.origin) (sym c.requires.scope.same) c.names-key.ensures in
+    let bad = bad_named h wf known is_known view is c.names-key.result names c.due_at-due.result (c.due_at-due.ensures _ is.at.key is.mine) c.args.seen.now.bad_reads.items c.put_bad_read.new.bad.items (c.in_ok-put_bad_read.ensures) in
+    gains_view h wf known is_known view is c.args.seen.now c.put_bad_read.new.bad c.args.seen.now.saw bad (no_look h sight (looks_not h wf known is_known view is c.in-None.is) c.args.seen.now.saw)

@@ -1,0 +1,28 @@
+-- What was seen is due, and its look is added.
+use Rattle.std.proofs.Common.{◌≡◌, false, refl}
+use Rattle.sia_index.specs.declared.info.KeyVersion.{KeyVersion}
+use Rattle.sia_index.specs.Positions.{IsAtPosition, IsNewestAsOf}
+use Rattle.sia_parts.specs.Sights.{IsBadOf}
+use Rattle.sia_parts.proofs.Adding.{adds_nothing}
+use Rattle.sia_parts.proofs.Gaining.{look_gains}
+use Rattle.sia_parts.proofs.Saw.{bad_none}
+use Rattle.sia_parts.proofs.Viewing.{gains_view, on_ok, saw_other, seen_is_due, seen_sight, stands}
+use Rattle.sia_parts.proofs.audit.sights.put_view.Goals as goal
+
+pub returns-then-is_newest : goal.returns-then-is_newest
+returns-then-is_newest c =
+    let h = c.args.scope.now.ix.now in
+    let wf = c.requires.scope.well_formed in
+    let known = c.args.known.now in
+    let is_known = c.requires.known in
+    let view = c.args.view.now in
+    let is = c.requires.view in
+    let no : view.mine ≡ false = cc (c.if-not-view.true) in
+    let at : (w : KeyVersion) → IsAtPosition h c.in-Some.position w → IsNewestAsOf h known.reader.start w = λ w there. (c.is_newest.ensures w there).0 c.if-is_newest.true in
+    let due = seen_is_due h wf known is_known view is c.in-Some.position c.in-Some.is no at in
+    let there = stands h wf known is_known view is c.in-Some.position c.in-Some.is in
+    let sight = seen_sight h wf known is_known view is in
+    on_ok c.put_position.result _ _
+    (λ adds. gains_view h wf known is_known view is c.args.seen.now c.args.seen.now.bad_reads c.put_position.new.saw (adds_nothing (IsBadOf h sight) c.args.seen.now.bad_reads.items (bad_none h sight sight.saw due refl))
+    (look_gains h wf sight known.number c.in-Some.position is_known.number (saw_other h wf known is_known view is no) there c.args.seen.now.saw c.put_position.new.saw adds))
+    c.put_position.ensures

@@ -1,0 +1,299 @@
+//! What a range read saw of the keys of a part: the keys that it listed, and those that it passed over.
+ghost use Rattle.std.specs.Prelude.{◌≡◌, ◌↔◌, ◌+◌, ◌<◌, ◌≤◌, ℕ, All, Contains, OnOk, IsTrue, Some, false, length, slice_index_or};
+ghost use Rattle.sia_events.specs.declared.event.Event.TheVariants as events;
+ghost use Rattle.sia_events.specs.Numbering.{names_of, pair_at, range_at, ranges_of, IsPair};
+ghost use Rattle.sia_events.specs.Places.{at_place};
+ghost use Rattle.sia_events.specs.Reads.{IsDue};
+ghost use Rattle.sia_events.specs.Refusals.{IsWellFormed};
+ghost use Rattle.sia_events.specs.Transactions.{WroteBefore};
+ghost use Rattle.sia_index.specs.Info.{HasKeyAt, IsReader};
+ghost use Rattle.sia_parts.specs.Accesses.{IsMissAt, IsPassedBy};
+ghost use Rattle.sia_parts.specs.Known.{IsKnown};
+ghost use Rattle.sia_parts.specs.Seeing.{AscendByKey, Gains, IsCover, IsGap, IsMiss, HaveUpTo, IsOrigin, IsScope, IsSightWithin, origin_in};
+ghost use Rattle.sia_parts.specs.Sights.{Adds, FromSight, FromSome, Gives, IsBadOf};
+
+use crate::accesses::RangeMiss;
+use crate::audit::scope::{Known, Scope, numbers_within};
+use crate::audit::seen::Seen;
+use crate::audit::sights::{Origin, Sight, View, due_at, put_bad_read, put_view};
+use crate::by_reader::ByReader;
+use crate::finding::BadRead;
+use sia_events::{Key, Log, NoMemory};
+use sia_index::keyed::{ByKey, place_from};
+use sia_index::{Index, Reader};
+
+/// What a range read covers of a part: the keys from `lo` to `hi`, whose numbers among the written ones are those from `first` to
+/// before `end`, and the pairs that it listed of these. Where `own` isn't true, its reader is known not to have written them before.
+#[derive(Clone, Copy)]
+pub(crate) struct Cover<'a> {
+    pub(crate) pairs: &'a [u32],
+    pub(crate) lo: Key,
+    pub(crate) hi: Key,
+    pub(crate) first: u32,
+    pub(crate) end: u32,
+    pub(crate) own: bool,
+}
+
+pub(crate) fn put_range(
+    scope: &Scope,
+    known: &Known,
+    range: u32,
+    seen: &mut Seen,
+) -> Result<(), NoMemory>
+    requires scope { IsScope scope.now }
+    requires known { IsKnown scope.now.ix.now known.now }
+    requires range { range < length (ranges_of scope.now.ix.now) }
+    requires event { at_place scope.now.ix.now known.now.reader.place ≡ Some (events.Range known.now.reader.txn (range_at (names_of scope.now.ix.now) range).0 (range_at (names_of scope.now.ix.now) range).1 (range_at (names_of scope.now.ix.now) range).2) }
+    ensures { OnOk result (Gains scope.now.ix.now (IsSightWithin scope.now.ix.now known.now.reader.place scope.now.first scope.now.end) seen.old seen.new) }
+{
+    let (from, to) = scope.log.range(range);
+    let listed = scope.log.listed(range);
+    let lo = from.max(scope.part.lo);
+    let hi = to.min(scope.part.hi);
+    if lo > hi {
+        return Ok(());
+    }
+    let behind = pairs_from(scope.log, listed, from, lo);
+    let pairs = pairs_up_to(scope.log, behind, hi, to);
+    let (first, end) = numbers_within(scope.ix, lo, hi, guess(scope, pairs, seen.near));
+    seen.near = (first, end);
+    let cover = Cover {
+        pairs,
+        lo,
+        hi,
+        first,
+        end,
+        own: scope.ix.next_own(known.reader, lo, hi).is_some(),
+    };
+    put_covered(scope, known, &cover, seen)
+}
+
+// Adds what was seen of the keys listed, and of those between them.
+fn put_covered(scope: &Scope, known: &Known, cover: &Cover, seen: &mut Seen) -> Result<(), NoMemory>
+    requires scope { IsScope scope.now }
+    requires known { IsKnown scope.now.ix.now known.now }
+    requires cover { IsCover scope.now.ix.now known.now cover.now }
+    ensures { OnOk result (Gains scope.now.ix.now (IsSightWithin scope.now.ix.now known.now.reader.place cover.now.first cover.now.end) seen.old seen.new) }
+{
+    let mut next = cover.first;
+    for pair in cover.pairs {
+        let origin = origin_of_pair(scope.log, *pair);
+        // Version 0 of a key that isn't written is due to everyone.
+        if let Some(at) = origin.stands(scope.ix) {
+            put_gap(scope.ix, known, cover.own, next, at.key, seen)?;
+            next = at.key + 1;
+            let mine = cover.own
+                && scope
+                    .ix
+                    .wrote_before(known.reader, origin.names(scope.log).0);
+            put_view(scope, known, &View { origin, at, mine }, seen)?;
+        }
+    }
+    put_gap(scope.ix, known, cover.own, next, cover.end, seen)
+}
+
+// What made the version that was listed.
+#[inline(always)]
+fn origin_of_pair(log: &Log, pair: u32) -> Origin
+    requires { IsPair (names_of log.now) pair }
+    ensures origin { IsOrigin (names_of log.now) result }
+    ensures same { origin_in (names_of log.now) result ≡ pair_at (names_of log.now) pair }
+{
+    log.law();
+    if pair <= log.write_count() {
+        Origin::Write(pair)
+    } else {
+        Origin::Nobody(log.pair_numbers(pair).0)
+    }
+}
+
+// Guesses of the numbers of the first covered key, and behind the last one: by the listed keys, or those of the range before.
+// Nothing rests on them.
+fn guess(scope: &Scope, pairs: &[u32], near: (u32, u32)) -> (u32, u32)
+    requires scope { IsScope scope.now }
+    requires pairs { All (IsPair (names_of scope.now.ix.now)) pairs.now }
+{
+    match (pairs.first(), pairs.last()) {
+        (Some(first), Some(last)) => (
+            number_of(scope, *first),
+            number_of(scope, *last).saturating_add(1),
+        ),
+        _ => near,
+    }
+}
+
+fn number_of(scope: &Scope, pair: u32) -> u32
+    requires scope { IsScope scope.now }
+    requires pair { IsPair (names_of scope.now.ix.now) pair }
+{
+    match origin_of_pair(scope.log, pair).stands(scope.ix) {
+        Some(at) => at.key,
+        None => scope.first,
+    }
+}
+
+/// Adds what was seen of the keys with numbers from the one to before the other, none of which was listed. Mostly there is none.
+/// Where `own` isn't true, the reader is known not to have written them before.
+#[inline(always)]
+fn put_gap(
+    ix: &Index,
+    known: &Known,
+    own: bool,
+    from: u32,
+    to: u32,
+    seen: &mut Seen,
+) -> Result<(), NoMemory>
+    requires well_formed { IsWellFormed ix.now }
+    requires known { IsKnown ix.now known.now }
+    requires gap { IsGap ix.now known.now own from to }
+    ensures { OnOk result (Gains ix.now (IsSightWithin ix.now known.now.reader.place from to) seen.old seen.new) }
+{
+    if from >= to {
+        return Ok(());
+    }
+    put_unlisted(ix, known, own, from, to, &mut seen.bad_reads)?;
+    put_miss(known.number, RangeMiss { from, to }, &mut seen.missed)
+}
+
+// Adds the bad reads of keys that weren't listed, at which another version than 0 was due.
+fn put_unlisted(
+    ix: &Index,
+    known: &Known,
+    own: bool,
+    from: u32,
+    to: u32,
+    bad: &mut Vec<BadRead>,
+) -> Result<(), NoMemory>
+    requires well_formed { IsWellFormed ix.now }
+    requires known { IsKnown ix.now known.now }
+    requires some { from < to }
+    requires gap { IsGap ix.now known.now own from to }
+    ensures { OnOk result (Adds (FromSight (IsSightWithin ix.now known.now.reader.place from to) (IsBadOf ix.now)) bad.old.items bad.new.items) }
+{
+    let mut next = from;
+    while let Some(number) = next_doubtful(ix, known, own, next, to) {
+        let key = ix.written_keys()[number as usize];
+        let mine = own && ix.wrote_before(known.reader, key);
+        let sight = Sight {
+            place: known.reader.place,
+            txn: known.reader.txn,
+            key,
+            saw: 0,
+        };
+        put_bad_read(sight, due_at(ix, known, number, mine), bad)?;
+        next = number + 1;
+    }
+    Ok(())
+}
+
+// A number of a key, below which version 0 is due to the reader at all keys from the one on.
+fn next_doubtful(ix: &Index, known: &Known, own: bool, from: u32, to: u32) -> Option<u32>
+    requires well_formed { IsWellFormed ix.now }
+    requires known { IsKnown ix.now known.now }
+    requires keys { (i : ℕ) → i < to → HasKeyAt ix.now i }
+    requires gap { IsGap ix.now known.now own from to }
+    ensures { HaveUpTo (λ k. IsDue ix.now known.now.reader.txn known.now.reader.place k 0) ix.now from to result }
+{
+    let visible = ix.next_visible(from, to, known.reader.start);
+    if !own {
+        return visible;
+    }
+    match next_own_number(ix, known.reader, from, visible.unwrap_or(to)) {
+        Some(number) => Some(number),
+        None => visible,
+    }
+}
+
+// A number of a key, below which the reader had written no key from the one on before.
+fn next_own_number(ix: &Index, reader: Reader, from: u32, to: u32) -> Option<u32>
+    requires reader { IsReader ix.now reader.txn reader.place reader }
+    requires keys { (i : ℕ) → i < to → HasKeyAt ix.now i }
+    ensures { HaveUpTo (λ k. ¬ WroteBefore ix.now reader.txn k reader.place) ix.now from to result }
+{
+    if from >= to {
+        return None;
+    }
+    let keys = ix.written_keys();
+    let Some(key) = ix.next_own(reader, keys[from as usize], keys[to as usize - 1]) else {
+        return None;
+    };
+    Some(place_from::<Key, ByKey>(keys, key) as u32)
+}
+
+// Adds the miss, if the reader has a number, and what was put last doesn't hold it.
+fn put_miss(
+    number: Option<u32>,
+    miss: RangeMiss,
+    missed: &mut ByReader<RangeMiss>,
+) -> Result<(), NoMemory>
+    requires { miss.from < miss.to }
+    ensures misses { OnOk result (Gives IsPassedBy (λ at. (number ≡ Some at.0) × IsMissAt miss at.1) missed.old missed.new) }
+    ensures some { OnOk result (All IsMiss missed.old → All IsMiss missed.new) }
+{
+    let Some(reader) = number else {
+        return Ok(());
+    };
+    if is_held(missed, reader, miss) {
+        return Ok(());
+    }
+    missed.put(reader, miss)?;
+    Ok(())
+}
+
+// Whether the last miss is of the reader, and holds this one.
+#[inline(always)]
+fn is_held(missed: &ByReader<RangeMiss>, reader: u32, miss: RangeMiss) -> bool
+    ensures { IsTrue result → (j : ℕ) → IsMissAt miss j → FromSome IsPassedBy missed.now (reader, j) }
+{
+    match missed.last() {
+        Some((last, held)) => last == reader && held.from <= miss.from && miss.to <= held.to,
+        None => false,
+    }
+}
+
+fn pairs_from<'a>(log: &Log, pairs: &'a [u32], least: Key, lo: Key) -> &'a [u32]
+    requires numbers { All (IsPair (names_of log.now)) pairs.now }
+    requires ascend { AscendByKey log.now pairs.now }
+    requires inside { All (λ p. least ≤ (pair_at (names_of log.now) p).0) pairs.now }
+    ensures ascend { AscendByKey log.now result.now }
+    ensures each { (p : ℕ) → Contains result.now p ↔ (Contains pairs.now p × (lo ≤ (pair_at (names_of log.now) p).0)) }
+{
+    if lo <= least {
+        return pairs;
+    }
+    &pairs[place_of(log, pairs, lo)..]
+}
+
+fn pairs_up_to<'a>(log: &Log, pairs: &'a [u32], hi: Key, most: Key) -> &'a [u32]
+    requires numbers { All (IsPair (names_of log.now)) pairs.now }
+    requires ascend { AscendByKey log.now pairs.now }
+    requires inside { All (λ p. (pair_at (names_of log.now) p).0 ≤ most) pairs.now }
+    ensures ascend { AscendByKey log.now result.now }
+    ensures each { (p : ℕ) → Contains result.now p ↔ (Contains pairs.now p × ((pair_at (names_of log.now) p).0 ≤ hi)) }
+{
+    if most <= hi {
+        return pairs;
+    }
+    &pairs[..place_of(log, pairs, hi + 1)]
+}
+
+// How many of the pairs are of keys before this one.
+fn place_of(log: &Log, pairs: &[u32], key: Key) -> usize
+    requires numbers { All (IsPair (names_of log.now)) pairs.now }
+    requires ascend { AscendByKey log.now pairs.now }
+    ensures bound { result ≤ length pairs.now }
+    ensures below { (i d : ℕ) → i < result → (pair_at (names_of log.now) (slice_index_or pairs.now i d)).0 < key }
+    ensures above { (i d : ℕ) → result ≤ i → i < length pairs.now → key ≤ (pair_at (names_of log.now) (slice_index_or pairs.now i d)).0 }
+{
+    let mut low = 0;
+    let mut high = pairs.len();
+    while low < high {
+        let middle = low + (high - low) / 2;
+        if log.pair(pairs[middle]).0 < key {
+            low = middle + 1;
+        } else {
+            high = middle;
+        }
+    }
+    low
+}

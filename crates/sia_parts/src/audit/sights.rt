@@ -1,0 +1,194 @@
+//! What a read saw of one key: whether it is bad, and where the version stands.
+ghost use Rattle.std.specs.Prelude.{◌≡◌, ◌↔◌, ◌+◌, ◌<◌, ℕ, List, Some, IsTrue, OnOk, MatchOption};
+ghost use Rattle.sia_events.specs.declared.event.Event.{Event};
+ghost use Rattle.sia_events.specs.declared.event.Event.TheVariants as events;
+ghost use Rattle.sia_events.specs.Numbering.{names_of};
+ghost use Rattle.sia_events.specs.Places.{at_place};
+ghost use Rattle.sia_events.specs.Reads.{IsDue};
+ghost use Rattle.sia_events.specs.Refusals.{IsWellFormed};
+ghost use Rattle.sia_events.specs.Transactions.{Wrote, WroteBefore};
+ghost use Rattle.sia_index.specs.Info.{HasKeyAt, IsKeyAt};
+ghost use Rattle.sia_parts.specs.Known.{IsKnown};
+ghost use Rattle.sia_parts.specs.Seeing.{Gains, IsOrigin, IsScope, IsSightWithin, IsVersionAt, IsView, origin_in};
+ghost use Rattle.sia_parts.specs.Sights.{Adds, IsSight, IsBadOf};
+
+use crate::audit::scope::{Known, Scope};
+use crate::audit::seen::Seen;
+use crate::by_reader::ByReader;
+use crate::finding::BadRead;
+use sia_events::{Key, Log, NoMemory, TxnId, Version};
+use sia_index::{Index, WriteAt};
+
+/// A version of a key that a transaction saw at a place.
+#[derive(Clone, Copy)]
+pub(crate) struct Sight {
+    pub(crate) place: u32,
+    pub(crate) txn: TxnId,
+    pub(crate) key: Key,
+    pub(crate) saw: Version,
+}
+
+/// What made a version: a write of the log, or nobody, for version 0 of a key of the log.
+#[derive(Clone, Copy)]
+pub(crate) enum Origin {
+    Write(u32),
+    Nobody(u32),
+}
+
+/// A version that a reader saw, and where it stands. `mine` says whether the reader had written the key before.
+#[derive(Clone, Copy)]
+pub(crate) struct View {
+    pub(crate) origin: Origin,
+    pub(crate) at: WriteAt,
+    pub(crate) mine: bool,
+}
+
+impl Origin {
+    pub(crate) fn names(self, log: &Log) -> (Key, Version)
+        requires { IsOrigin (names_of log.now) self }
+        ensures { result ≡ origin_in (names_of log.now) self }
+    {
+        match self {
+            Origin::Write(write) => (log.key(log.write(write).key), log.version(write)),
+            Origin::Nobody(key) => (log.key(key), 0),
+        }
+    }
+
+    #[inline(always)]
+    pub(crate) fn stands(self, ix: &Index) -> Option<WriteAt>
+        requires well_formed { IsWellFormed ix.now }
+        requires origin { IsOrigin (names_of ix.now) self }
+        ensures { MatchOption result ((t : ℕ) → ¬ Wrote ix.now t (origin_in (names_of ix.now) self).0) (IsVersionAt ix.now (origin_in (names_of ix.now) self).0 (origin_in (names_of ix.now) self).1) }
+    {
+        match self {
+            Origin::Write(write) => Some(ix.write_at(write)),
+            Origin::Nobody(key) => {
+                let number = ix.written_number(key)?;
+                Some(WriteAt {
+                    key: number,
+                    position: Some(ix.first_position(number)),
+                })
+            }
+        }
+    }
+}
+
+#[inline(always)]
+pub(crate) fn put_read(
+    scope: &Scope,
+    known: &Known,
+    origin: Origin,
+    mine: bool,
+    seen: &mut Seen,
+) -> Result<(), NoMemory>
+    requires scope { IsScope scope.now }
+    requires known { IsKnown scope.now.ix.now known.now }
+    requires origin { IsOrigin (names_of scope.now.ix.now) origin }
+    requires event { at_place scope.now.ix.now known.now.reader.place ≡ Some (events.Read known.now.reader.txn (origin_in (names_of scope.now.ix.now) origin).0 (origin_in (names_of scope.now.ix.now) origin).1) }
+    requires mine { IsTrue mine ↔ WroteBefore scope.now.ix.now known.now.reader.txn (origin_in (names_of scope.now.ix.now) origin).0 known.now.reader.place }
+    ensures { OnOk result (Gains scope.now.ix.now (IsSightWithin scope.now.ix.now known.now.reader.place scope.now.first scope.now.end) seen.old seen.new) }
+{
+    let Some(at) = origin.stands(scope.ix) else {
+        return Ok(());
+    };
+    if at.key < scope.first || scope.end <= at.key {
+        return Ok(());
+    }
+    let view = View { origin, at, mine };
+    put_view(scope, known, &view, seen)
+}
+
+/// Adds what was seen of a written key. Mostly it was due, which two loads tell.
+#[inline(always)]
+pub(crate) fn put_view(
+    scope: &Scope,
+    known: &Known,
+    view: &View,
+    seen: &mut Seen,
+) -> Result<(), NoMemory>
+    requires scope { IsScope scope.now }
+    requires known { IsKnown scope.now.ix.now known.now }
+    requires view { IsView scope.now.ix.now known.now view.now }
+    ensures { OnOk result (Gains scope.now.ix.now (IsSightWithin scope.now.ix.now known.now.reader.place view.now.at.key (view.now.at.key + 1)) seen.old seen.new) }
+{
+    if !view.mine {
+        if let Some(position) = view.at.position {
+            if scope.ix.is_newest(position, known.reader.start) {
+                return put_position(known.number, position, &mut seen.saw);
+            }
+        }
+    }
+    put_doubtful(scope, known, view, seen)
+}
+
+// The same, where it may not have been due.
+fn put_doubtful(scope: &Scope, known: &Known, view: &View, seen: &mut Seen) -> Result<(), NoMemory>
+    requires scope { IsScope scope.now }
+    requires known { IsKnown scope.now.ix.now known.now }
+    requires view { IsView scope.now.ix.now known.now view.now }
+    ensures { OnOk result (Gains scope.now.ix.now (IsSightWithin scope.now.ix.now known.now.reader.place view.now.at.key (view.now.at.key + 1)) seen.old seen.new) }
+{
+    let (key, saw) = view.origin.names(scope.log);
+    let sight = Sight {
+        place: known.reader.place,
+        txn: known.reader.txn,
+        key,
+        saw,
+    };
+    let due = due_at(scope.ix, known, view.at.key, view.mine);
+    put_bad_read(sight, due, &mut seen.bad_reads)?;
+    if saw == known.reader.txn {
+        return Ok(());
+    }
+    match view.at.position {
+        Some(position) => put_position(known.number, position, &mut seen.saw),
+        None => Ok(()),
+    }
+}
+
+/// The version due to the reader at the key of this number, which is the reader's own where that had written it before.
+pub(crate) fn due_at(ix: &Index, known: &Known, key: u32, mine: bool) -> Version
+    requires well_formed { IsWellFormed ix.now }
+    requires known { IsKnown ix.now known.now }
+    requires key { HasKeyAt ix.now key }
+    ensures { (k : ℕ) → IsKeyAt ix.now key k → (IsTrue mine ↔ WroteBefore ix.now known.now.reader.txn k known.now.reader.place) → IsDue ix.now known.now.reader.txn known.now.reader.place k result }
+{
+    if mine {
+        return known.reader.txn;
+    }
+    let position = ix.position_as_of(key, known.reader.start);
+    match ix.maker_at(position) {
+        Some(maker) => ix.committed()[maker as usize],
+        None => 0,
+    }
+}
+
+pub(crate) fn put_bad_read(
+    sight: Sight,
+    due: Version,
+    bad: &mut Vec<BadRead>,
+) -> Result<(), NoMemory>
+    ensures { (h : List Event) → IsSight h sight → IsDue h sight.txn sight.place sight.key due → OnOk result (Adds (IsBadOf h sight) bad.old.items bad.new.items) }
+{
+    if due != sight.saw {
+        bad.push(BadRead {
+            place: sight.place,
+            txn: sight.txn,
+            key: sight.key,
+            saw: sight.saw,
+            due,
+        })?;
+    }
+    Ok(())
+}
+
+// The reader saw the version at the position, if it has a number.
+#[inline(always)]
+fn put_position(number: Option<u32>, position: u32, saw: &mut ByReader<u32>) -> Result<(), NoMemory>
+    ensures { OnOk result (Adds (λ p. (number ≡ Some p.0) × (p.1 ≡ position)) saw.old saw.new) }
+{
+    if let Some(reader) = number {
+        saw.put(reader, position)?;
+    }
+    Ok(())
+}
