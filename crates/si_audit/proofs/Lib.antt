@@ -34,3 +34,4 @@ pub mod FindingsExist
 pub mod ReportExists
 pub mod ExplainedExists
 pub mod TokenExists
+mod Pieces

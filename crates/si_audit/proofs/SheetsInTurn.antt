@@ -1,7 +1,7 @@
 -- What is made of sources that follow one another is what is made of all of them.
 use Rattle.std.proofs.Common.{◌≡◌, inl, inr, ℕ, suc, ◌+◌, ◌-◌, ◌<◌, ◌≤◌, List, [], ◌∷◌, ◌++◌, length, map, flat_map, refl, ap, sym, subst, ◌∙◌, arith}
 use Rattle.std.specs.Global.{Vec}
-use Rattle.std.specs.Prelude.{Contains, Err, IfOk, Ok, Result, slice_index, slice_index_or, ⊤}
+use Rattle.std.specs.Prelude.{Err, IfOk, Ok, Result, slice_index, slice_index_or, ⊤}
 use Rattle.std.proofs.lemmas.Bool.{cases_lt}
 use Rattle.std.proofs.lemmas.Grind.{flat_map-append}
 use Rattle.std.proofs.lemmas.List.{get_or_default}
@@ -16,7 +16,7 @@ use Rattle.sia_parts.specs.EdgeRows.{AreEdgesFrom, edge_of}
 use Rattle.sia_parts.specs.Sights.{Adds}
 use Rattle.sia_parts.proofs.EdgeLists.{edges_all, edges_joined, edges_none}
 use Rattle.sia_graph.specs.declared.pivot.Link.{Link}
-use Rattle.sia_graph.specs.AllEdges.{AreLinksBetween, IsLinkFrom}
+use Rattle.sia_graph.specs.AllEdges.{IsLinkFrom}
 use Rattle.sia_graph.proofs.Vulnerable.{source_committed}
 use Rattle.si_audit.specs.declared.report.edges.Sheet.{Sheet}
 use Rattle.si_audit.specs.Lines.{edge_line}

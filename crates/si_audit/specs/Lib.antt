@@ -9,6 +9,7 @@ pub mod Report
 pub mod Outcomes
 pub mod Devices
 pub mod Spaced
+pub mod Pieces
 pub mod Sheets
 pub mod Engine
 pub mod Laws

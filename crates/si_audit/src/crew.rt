@@ -5,11 +5,12 @@ ghost use Rattle.sia_parts.specs.Dealing.{AreReads};
 ghost use Rattle.sia_parts.specs.Gathering.{IsPartFound};
 ghost use Rattle.sia_parts.specs.Parts.{IsInPart};
 ghost use Rattle.sia_graph.specs.AllEdges.{AreAllEdges};
+ghost use Rattle.si_audit.specs.Pieces.{AreTextsOf};
 ghost use Rattle.si_audit.specs.Sheets.{IsSheet};
 ghost use Rattle.sia_pool.specs.Answers.{AnswersEach};
 ghost use denote.Param.Send.{IsSync};
 
-use crate::report::edges::{Sheet, sheet_of};
+use crate::report::edges::{Sheet, Texts, sheet_of};
 use sia_events::Log;
 use sia_graph::AllEdges;
 use sia_index::Index;
@@ -51,18 +52,20 @@ impl Job for Auditing<'_> {
 pub(crate) struct Printing<'a> {
     pub(crate) alloc: Global,
     pub(crate) edges: &'a AllEdges<'a>,
+    pub(crate) texts: &'a Texts<'a>,
 }
 
 impl Job for Printing<'_> {
     type Out = Sheet;
 
-    ghost takes = { λ job number. AreAllEdges job.edges.now × (number + 1 < length job.edges.now.bounds.items) };
+    ghost takes = { λ job number. AreAllEdges job.edges.now × AreTextsOf job.edges.now.edges.index.now job.texts.now
+        × (number + 1 < length job.edges.now.bounds.items) };
 
     ghost owes = { λ job number sheet. IsSheet job.edges.now.edges.index.now (slice_index job.edges.now.bounds.items number) (slice_index job.edges.now.bounds.items (number + 1))
         sheet.lines.items sheet.links.items };
 
     fn run(&self, number: u32) -> Result<Sheet, NoMemory> {
-        match sheet_of(self.alloc, self.edges, number as usize) {
+        match sheet_of(self.alloc, self.edges, self.texts, number as usize) {
             Ok(sheet) => Ok(sheet),
             Err(_) => Err(NoMemory),
         }
@@ -89,6 +92,7 @@ pub(crate) trait Crew {
         requires ready { ready self.now }
         requires few { count ≤ 1024 }
         requires edges { AreAllEdges job.now.edges.now }
+        requires texts { AreTextsOf job.now.edges.now.edges.index.now job.now.texts.now }
         requires chunks { (p : ℕ) → p < count → p + 1 < length job.now.edges.now.bounds.items }
         ensures len { IfOk result (λ sheets. length sheets.items ≡ count) }
         ensures owed { IfOk result (λ sheets. AnswersEach (λ number sheet. IsSheet job.now.edges.now.edges.index.now (slice_index job.now.edges.now.bounds.items number) (slice_index job.now.edges.now.bounds.items (number + 1))

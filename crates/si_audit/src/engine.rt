@@ -3,14 +3,16 @@ ghost use Rattle.std.specs.Prelude.{◌≡◌, ◌≢◌, ◌<◌, ◌≤◌, �
 ghost use Rattle.sia_events.specs.Limits.{Limits, standard};
 ghost use Rattle.si_audit.specs.Options.{Choices};
 ghost use Rattle.si_audit.specs.Engine.{EndsFed, IsAt, IsFed, TellsFed, rest_from, IsReceived, IsReportOf, IsOutcomeOf, Told};
-ghost use Rattle.si_audit.specs.Report.{TellsRefusal};
-ghost use Rattle.si_audit.specs.Outcomes.{Meets};
+ghost use Rattle.si_audit.specs.Report.{IsReport, TellsRefusal};
+ghost use Rattle.si_audit.specs.Outcomes.{IsOutcome, Meets};
 ghost use Rattle.si_audit.specs.Sheets.{text_of};
 ghost use Rattle.sia_events.specs.declared.event.Event.{Event};
+ghost use Rattle.sia_events.specs.Locating.{StandsForLocated};
 ghost use Rattle.sia_events.specs.Refusals.{IsRefusal};
-ghost use Rattle.sia_events.specs.Streaming.{Progress};
+ghost use Rattle.sia_events.specs.Streaming.{Progress, StandsForRead};
 ghost use Rattle.sia_events.specs.declared.fault.TextFault.{TextFault};
 ghost use Rattle.si_audit.specs.declared.options.Form.{Form};
+ghost use Rattle.si_audit.specs.Lines.{refusal_line};
 ghost use Rattle.sia_graph.specs.Judgements.{IsJudgement};
 
 use crate::audit::judged;

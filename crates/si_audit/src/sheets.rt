@@ -1,7 +1,8 @@
 //! The report of a history, on one sheet after another. Workers make the lines of its edges side by side, those of a chunk on each
 //! sheet. Of the edges only the links of the vulnerable ones are kept beside their lines.
-ghost use Rattle.std.specs.Prelude.{◌≡◌, List, flat_map, IfOk, ⊤, ◌<◌};
-ghost use Rattle.si_audit.specs.Account.{account_with};
+ghost use Rattle.std.specs.Prelude.{◌≡◌, ◌++◌, List, flat_map, IfOk, OnOk, ⊤, ◌+◌, ◌<◌};
+ghost use Rattle.si_audit.specs.Account.{account_of, account_with};
+ghost use Rattle.si_audit.specs.Report.{CanBePrinted};
 ghost use Rattle.si_audit.specs.Sheets.{text_of, AreLinesAndLinks};
 ghost use Rattle.sia_parts.specs.Accesses.{AreAccesses};
 ghost use Rattle.si_audit.specs.Engine.{IsReportOf};
@@ -11,7 +12,7 @@ ghost use Rattle.si_audit.specs.Lines as lines;
 use crate::crew::{Crew, Printing};
 use crate::explain::explained;
 use crate::options::{Form, Options};
-use crate::report::edges::Sheet;
+use crate::report::edges::{Sheet, Texts, pieces_of_keys, pieces_of_txns};
 use crate::report::findings::{push_back, push_front};
 use sia_events::{History, Log, NoMemory};
 use sia_graph::{Judgement, Link, Pivot, edges_of, listing_law, pivots_of_links};
@@ -76,12 +77,22 @@ pub(crate) fn sheets_of_edges<C: Crew>(
     requires accesses { AreAccesses ix.now (λ _. ⊤) accesses.now }
     ensures { IfOk result (λ (sheets, links). AreLinesAndLinks ix.now (text_of sheets.items) links.items) }
 {
-    ix.committed();
+    let txns = ix.committed();
+    let keys = ix.written_keys();
+    let of_txns = pieces_of_txns(alloc, txns)?;
+    let of_keys = pieces_of_keys(alloc, keys)?;
     let edges = edges_of(alloc, ix, accesses, STRETCH)?;
     let count = edges.bounds.len().saturating_sub(1) as u32;
+    let texts = Texts {
+        txns,
+        keys,
+        of_txns: &of_txns,
+        of_keys: &of_keys,
+    };
     let job = Printing {
         alloc,
         edges: &edges,
+        texts: &texts,
     };
     match crew.print(alloc, count, &job) {
         Ok(sheets) => parted(alloc, sheets),

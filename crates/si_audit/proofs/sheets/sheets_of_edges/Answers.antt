@@ -1,17 +1,25 @@
-use Rattle.std.proofs.Common.{◌≡◌, ◌<◌, ℕ, List, length, sym, subst, ◌∙◌, rules}
+use Rattle.std.proofs.Common.{◌<◌, length, sym, subst, ◌∙◌, rules}
 use Rattle.sia_events.specs.Lists.{ListsAscending}
 use Rattle.sia_events.specs.Transactions.{IsCommitted}
 use Rattle.si_audit.specs.Sheets.{AreLinesAndLinks}
 use Rattle.si_audit.proofs.SheetsInTurn.{all_in_turn, all_made, as_parted}
 use Rattle.si_audit.proofs.sheets.sheets_of_edges.Goals as goal
 
+-- the texts are of the history of which the edges are
+pub print-requires-clause-texts : goal.print-requires-clause-texts
+print-requires-clause-texts g c = rw c.in_ok-edges.ensures.index (record {
+  txns = c.committed-txns.ensures;
+  keys = c.written_keys-keys.ensures;
+  are = record { txns = rw c.deref.ensures.value c.in_ok-of_txns.ensures; keys = rw c.deref-2.ensures.value c.in_ok-of_keys.ensures };
+})
+
 -- the sheets together have all lines and all links
 pub returns-in-Ok : goal.returns-in-Ok
 returns-in-Ok g c =
     let all = c.in_ok-edges.edges in
     let h = all.edges.index.now in
-    let txns = c.committed.result.now in
-    let txns_are = subst (λ g. ListsAscending (IsCommitted g) txns) (sym c.in_ok-edges.ensures.index) c.committed.ensures in
+    let txns = c.committed-txns.result.now in
+    let txns_are = subst (λ g. ListsAscending (IsCommitted g) txns) (sym c.in_ok-edges.ensures.index) c.committed-txns.ensures in
     as_parted _ _ c.parted.result (λ lines links. AreLinesAndLinks c.args.ix.now lines links)
     (rw (← c.in_ok-edges.ensures.index)
     (all_made h txns txns_are _ _

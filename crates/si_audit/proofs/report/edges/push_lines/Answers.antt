@@ -12,7 +12,7 @@ use Rattle.si_audit.proofs.report.edges.push_lines.Goals as goal
 
 pub loop-rest-preserved : goal.loop-rest-preserved
 loop-rest-preserved c =
-    let f = edge_of c.args.txns.now c.args.keys.now c.args.source in
+    let f = edge_of c.args.texts.now.txns.now c.args.texts.now.keys.now c.args.source in
     let rest = c.loop-rest.rest.now in
     let n = c.min-count.result in
     let front = flat_map edge_line (map f (take n rest)) in
@@ -30,8 +30,8 @@ loop-rest-preserved c =
     ∙ ap (λ bs. c.loop-rest.out.items ++ bs) both
     ∙ c.loop-rest.invariant
 
-pub put_lines-start-requires : goal.put_lines-start-requires
-put_lines-start-requires c =
+pub put_lines-start-requires-clause-few : goal.put_lines-start-requires-clause-few
+put_lines-start-requires-clause-few c =
     let len = length-take c.min-count.result c.loop-rest.rest.now in
     let few = c.min-count.ensures in
     omega arith
@@ -40,4 +40,4 @@ pub returns : goal.returns
 returns c =
     let out = c.loop-rest.out.items in
     let none = nothing_left c.loop-rest.rest.now (eqb-true (length c.loop-rest.rest.now) 0 (sym c.loop-rest-test.ensures)) in
-    sym (append-nil out) ∙ ap (λ (rows : List EdgeTo). out ++ row_lines c.args.txns.now c.args.keys.now c.args.source rows) (sym none) ∙ c.loop-rest.invariant
+    sym (append-nil out) ∙ ap (λ (rows : List EdgeTo). out ++ row_lines c.args.texts.now.txns.now c.args.texts.now.keys.now c.args.source rows) (sym none) ∙ c.loop-rest.invariant

@@ -6,7 +6,7 @@ use Rattle.si_audit.proofs.report.edges.put_lines.Goals as goal
 -- behind the end there is nothing, and after the last row none
 pub loop-left-init : goal.loop-left-init
 loop-left-init c = record {
-  lines = drop_all 4608 c.args.block.now (omega arith) ∙ sym (ap (row_lines c.args.txns.now c.args.keys.now c.args.source) (drop_all (length c.args.rows.now) c.args.rows.now (omega arith)));
+  lines = drop_all 4608 c.args.block.now (omega arith) ∙ sym (ap (row_lines c.args.texts.now.txns.now c.args.texts.now.keys.now c.args.source) (drop_all (length c.args.rows.now) c.args.rows.now (omega arith)));
   room = omega arith;
   within = omega arith;
   left = omega arith;

@@ -4,7 +4,7 @@ use Rattle.si_audit.proofs.report.edges.put_lines.Given as goal
 
 abbrev pub invariant-loop-left : goal.invariant-loop-left
 invariant-loop-left l = record {
-  lines : drop l.end l.block ≡ row_lines l.txns l.keys l.source (drop l.left l.rows);
+  lines : drop l.end l.block ≡ row_lines l.texts.txns.now l.texts.keys.now l.source (drop l.left l.rows);
   room : l.left * 72 ≤ l.end;
   within : l.end ≤ 4608;
   left : l.left ≤ length l.rows;

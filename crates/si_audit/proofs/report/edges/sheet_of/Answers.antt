@@ -1,5 +1,5 @@
 -- The lines and the links of one source more.
-use Rattle.std.proofs.Common.{◌≡◌, ◌<◌, ◌≤◌, ◌+◌, ℕ, [], length, sym, subst, ◌∙◌, arith}
+use Rattle.std.proofs.Common.{◌≡◌, ◌≤◌, ◌+◌, [], length, sym, subst, ◌∙◌, arith}
 use Rattle.std.specs.Prelude.{slice_index}
 use Rattle.std.proofs.lemmas.List.{get_or_default}
 use Rattle.sia_parts.proofs.EdgeLists.{has_number}
@@ -30,7 +30,7 @@ loop-source-preserved c =
     let chunk = c.requires.chunk in
     let from = c.index-source.ensures ∙ get_or_default bounds c.args.number c.index-source.result.now 0 (omega arith) in
     let low : slice_index bounds c.args.number ≤ c.loop-source.source = (let most = c.loop-source.auto.source in omega arith) in
-    rw (c.in_ok-push_lines.ensures, c.deref.ensures.value) (sheet_more h (slice_index bounds c.args.number) c.loop-source.source low c.committed-txns.result.now c.written_keys-keys.result.now c.committed-txns.ensures c.written_keys-keys.ensures
+    rw (c.in_ok-push_lines.ensures, c.deref.ensures.value) (sheet_more h (slice_index bounds c.args.number) c.loop-source.source low c.args.texts.now.txns.now c.args.texts.now.keys.now c.requires.texts.txns c.requires.texts.keys
     c.put_edges.new.rows.items c.in_ok-put_edges.ensures.rows c.loop-source.lines.items c.loop-source.links.items c.put_edges.new.links.items c.in_ok-put_edges.ensures.links c.loop-source.invariant)
 
 pub returns : goal.returns
