@@ -126,15 +126,6 @@ module _ (h : List Event) (wf : IsWellFormed h) where
     no_event : saw ≡ 0 → ¬ HasEvent h saw
     no_event least has = let positive : 0 < saw = (actor_is_txn h wf saw has.0 has.1).0 in omega arith
 
-    -- version 0 is no transaction's, so what is said of one doesn't fit
-    pub zero_has_none : saw ≡ 0 → NoneBelow h p t k saw due 2 → NoneBelow h p t k saw due 5
-    zero_has_none least none OwnWriteMissed below fits = none OwnWriteMissed (omega arith) fits
-    zero_has_none least none AbortedRead below fits = no_event least (fits.0, (Abort saw, fits.1, refl))
-    zero_has_none least none UncommittedRead below fits = no_event least fits.0
-    zero_has_none least none FutureRead below fits = no_event least (fits.1, (Commit saw, fits.3, refl))
-    zero_has_none least none Phantom below fits = omega arith
-    zero_has_none least none StaleRead below fits = omega arith
-
     -- a version that was seen of what neither aborted nor is open nor committed later is 0 or visible
     zero_or_visible : NoneBelow h p t k saw due 5 → (saw ≡ 0) ⊎ IsVisible h t k saw
     zero_or_visible none = elim (cases_eq saw 0) [

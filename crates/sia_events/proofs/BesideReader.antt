@@ -1,11 +1,11 @@
 -- A locator beside a reader: it stops at the token that the reader refuses, and else has passed the whole text.
-use Rattle.std.proofs.Common.{◌≡◌, inl, inr, ℕ, ◌<◌, ◌≤◌, Bool, true, false, List, [], ◌∷◌, ◌++◌, map, length, take, Option, Some, None, refl, ap, sym, subst, ◌∙◌, append-nil, arith}
+use Rattle.std.proofs.Common.{◌≡◌, inl, inr, ℕ, ◌+◌, ◌<◌, ◌≤◌, Bool, true, false, List, [], ◌∷◌, ◌++◌, map, length, take, Option, Some, None, refl, ap, sym, subst, ◌∙◌, append-nil, arith}
 use Rattle.std.specs.Prelude.{MatchOption, flat_map}
 use Rattle.std.specs.Option.{option_map, unwrap_or}
 use Rattle.std.proofs.lemmas.Bool.{cases_lt}
 use Rattle.std.proofs.lemmas.List.{length-append}
 use Rattle.std.proofs.lemmas.List.Elements.{recursion_from_All}
-use Rattle.sia_events.specs.Limits.{Limits}
+use Rattle.sia_events.specs.Limits.{Limits, greatest, AreWithin}
 use Rattle.sia_events.specs.declared.fault.Reason.{Reason}
 use Rattle.sia_events.specs.declared.fault.TextFault.TheVariants.{Refused}
 use Rattle.sia_events.specs.Text.{spell, is_separator, tokens}
@@ -19,8 +19,9 @@ use Rattle.sia_events.proofs.Tokens.{tokens-append}
 use Rattle.sia_events.proofs.Cuts.{some_cut, cut_then, tokens_cut}
 use Rattle.sia_events.proofs.FirstFaults.{NoReason, reason_front, front_reason, first_fault_kept}
 use Rattle.sia_events.proofs.OneRefusal.{one_fault}
+use Rattle.sia_events.proofs.WellFormed.{few_fine}
 use Rattle.sia_events.proofs.Locations.{one_cut}
-use Rattle.sia_events.proofs.Following.{few_tokens, take_again}
+use Rattle.sia_events.proofs.Following.{take_again}
 use Rattle.sia_events.proofs.Stopping.{PassesPiece, stops_more}
 
 cut_unbroken : (text closed rest : List ℕ) → IsCutAtLastSeparator text closed rest → HasNoSeparator rest
@@ -29,6 +30,15 @@ cut_unbroken text closed rest cut = recursion_from_All (λ c. is_separator c ≡
 at_most_one : (w : List ℕ) → length (as_token w) ≤ 1
 at_most_one [] = omega arith
 at_most_one (c ∷ cs) = omega arith
+
+-- a text of which no token is refused has few tokens
+few_judged : (limits : Limits) → AreWithin limits greatest → (text closed rest : List ℕ) → IsCutAtLastSeparator text closed rest → NoReason limits (tokens closed) → length (tokens text) ≤ 500000001
+few_judged limits within text closed rest cut none =
+    let most : limits.events ≤ 500000000 = within.events in
+    let few = few_fine limits (tokens closed) none in
+    let split = ap length (tokens_cut text closed rest cut) in
+    let one = at_most_one rest in
+    omega (arith, length-append (tokens closed) (as_token rest))
 
 -- ---- the tokens that a piece closes
 
@@ -61,21 +71,20 @@ module _ (limits : Limits) (text piece closed rest further left : List ℕ) (old
 
 -- ---- one more piece
 
-module _ (text piece : List ℕ) (last : ℕ) (old new : Located) (p : PassesPiece old new piece piece last) (short : length (text ++ piece) ≤ 16777216) where
-  few_stopped : StopsBehind new (text ++ piece) last → last ≤ 16777217
+module _ (text piece : List ℕ) (last : ℕ) (old new : Located) (p : PassesPiece old new piece piece last) (short : length (text ++ piece) ≤ 17179869184) where
+  few_stopped : StopsBehind new (text ++ piece) last → last ≤ length (tokens (text ++ piece)) + 1
   few_stopped s =
       let a = s.ended.2.at in
       let number = a.number_is in
       let is = s.number_is in
-      let few = few_tokens a.front in
-      let whole = ap length a.whole in
-      omega (arith, length-append a.front (s.ended.2.token ++ a.rest))
+      let after = s.ended.2.token ++ a.rest in
+      let whole = ap (λ t. length (tokens t)) a.whole ∙ ap length (tokens-append a.front after a.front_ends) in
+      omega (arith, length-append (tokens a.front) (tokens after))
 
-  fed_none : last ≡ 4294967295 → Follows old text → Follows new (text ++ piece)
-  fed_none is f =
+  fed_none : last ≡ 4294967295 → length (tokens text) ≤ 500000001 → length (tokens (text ++ piece)) ≤ 500000001 → Follows old text → Follows new (text ++ piece)
+  fed_none is few few_after f =
       let number = f.number_is in
-      let few = few_tokens text in
-      elim (p.goes text short f (omega (arith, length-append text piece)) (omega arith)) [
+      elim (p.goes text short f (omega arith) (omega arith)) [
         | inl h ↦ h.0
         | inr s ↦ absurd (let most = few_stopped s in omega arith)
       ]
@@ -129,7 +138,7 @@ module _ (text piece : List ℕ) (last : ℕ) (old new : Located) (p : PassesPie
           → unwrap_or (option_map (λ fault. fault.0) g) 4294967295 ≡ last
           → MatchOption f (Follows old text) (λ fault. StopsBehind old text fault.0)
           → MatchOption g (Follows new (text ++ piece)) (λ fault. StopsBehind new (text ++ piece) fault.0)
-      by_faults closed rest further left cut more None None h m is s = fed_none (sym is) s
+      by_faults closed rest further left cut more None None h m is s = fed_none (sym is) (few_judged limits a.within text closed rest cut h.0) (few_judged limits a.within (text ++ piece) further left more m.0) s
       by_faults closed rest further left cut more None (Some g) h m is s =
           let later = fault_later limits text piece closed rest further left cut more g.0 g.1 h.0 m in
           fed_refused g.0 further left (sym is) more later.0 later.1 later.2 s

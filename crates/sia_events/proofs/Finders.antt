@@ -1,11 +1,10 @@
 -- A finder that finds names goes on finding them where one more is taken in.
-use Rattle.std.proofs.Common.{◌≡◌, ◌≢◌, ◌⊎◌, inl, inr, ℕ, zero, suc, ◌+◌, ◌<◌, ◌≤◌, nat_lt, Bool, true, false, List, [], ◌∷◌, ◌++◌, length, set, map, Option, Some, None, refl, sym, subst, ◌∙◌, ap, arith, slice_get}
-use Rattle.std.specs.Prelude.{◌==◌, ◌-◌}
+use Rattle.std.proofs.Common.{◌≡◌, ◌≢◌, ◌⊎◌, inl, inr, ℕ, zero, suc, ◌+◌, ◌<◌, ◌≤◌, nat_lt, Bool, true, false, List, [], ◌∷◌, ◌++◌, length, set, Option, Some, None, refl, sym, subst, ◌∙◌, arith, slice_get}
+use Rattle.std.specs.Prelude.{◌==◌}
 use Rattle.std.specs.BTreeMap.{is_at, get}
 use Rattle.std.specs.Ordering.{nat_cmp}
 use Rattle.std.proofs.lemmas.Bool.Decides.{nat_tests}
 use Rattle.std.proofs.lemmas.Bool.{eqb-true}
-use Rattle.std.proofs.lemmas.List.{length-map, length-append}
 use Rattle.std.proofs.lemmas.Option.{slice_get_within}
 use Rattle.sia_events.specs.declared.finder.Finder.{Finder}
 use Rattle.sia_events.specs.Finding.{home, AreTaken, IsInSlots, IsInTree, IsOther, Reaches, Finds, FindsBelow}
@@ -178,9 +177,3 @@ of_tree names name number found is other n at = let e : number ≡ n = (let j : 
 
 pub none_in_tree : (names : List ℕ) (name : ℕ) (found : Option ℕ) → None ≡ found → (n : ℕ) → found ≡ Some n → slice_get names n ≢ Some name
 none_in_tree names name found is n at = let j : None ≡ Some n = is ∙ at in absurd cc
-
--- the last of the names
-pub one_less : {R : Type 0} (rows : List R) (named : R → ℕ) (before : List ℕ) (last end count : ℕ) → count ≡ length rows → end ≡ count - 1 → map named rows ≡ before ++ last ∷ [] → end ≡ length before
-one_less rows named before last end count all less is =
-    let more : length rows ≡ length before + 1 = sym (length-map rows named) ∙ ap length is ∙ length-append before (last ∷ []) in
-    omega arith

@@ -6,7 +6,7 @@ use Rattle.std.proofs.lemmas.List.{length-append, length-take, take_more_set}
 use Rattle.std.proofs.lemmas.List.Elements.{recursion_from_All, All-from_recursion, All-push}
 use Rattle.std.proofs.Math.Seq.{take-length, take-append_seam}
 use Rattle.sia_events.specs.declared.locating.Place.{Place}
-use Rattle.sia_events.specs.Text.{is_separator, goes_on, onto_first, tokens}
+use Rattle.sia_events.specs.Text.{is_separator, goes_on, tokens}
 use Rattle.sia_events.specs.Judging.{as_token}
 use Rattle.sia_events.specs.Locations.{IsPlaceAfter}
 use Rattle.sia_events.specs.Locating.{Located, HasToken, HasEnded, Follows}
@@ -62,20 +62,6 @@ tokens_gap text c e =
     ap (λ (t : List ℕ). tokens (t ++ c ∷ [])) cut.whole ∙ ap tokens (append_assoc closed rest (c ∷ []))
     ∙ tokens_more closed rest c cut.closed_ends (recursion_from_All (λ b. is_separator b ≡ false) rest cut.rest_goes_on) e
     ∙ sym (tokens_cut text closed rest cut)
-
--- no text has more tokens than bytes
-pub few_tokens : (text : List ℕ) → length (tokens text) ≤ length text
-few_tokens [] = omega arith
-few_tokens (c ∷ cs) = let few = few_tokens cs in let more = by_tests (is_separator c) (goes_on cs) (tokens cs) in omega arith
-  where
-    onto : (ts : List (List ℕ)) → length (onto_first c ts) ≤ suc (length ts)
-    onto [] = omega arith
-    onto (t ∷ ts) = omega arith
-
-    by_tests : (a b : Bool) (ts : List (List ℕ)) → length (cond a ts (cond b (onto_first c ts) ((c ∷ []) ∷ ts))) ≤ suc (length ts)
-    by_tests true b ts = omega arith
-    by_tests false true ts = onto ts
-    by_tests false false ts = omega arith
 
 length_one : (w : List ℕ) → w ≢ [] → length (as_token w) ≡ 1
 length_one [] some = absurd (some refl)

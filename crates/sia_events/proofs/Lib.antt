@@ -13,6 +13,7 @@ pub mod Endings
 pub mod StartsBelow
 pub mod Due
 pub mod Seen
+mod SameBytes
 pub mod SawDecisions
 pub mod Versions
 pub mod Ranges

@@ -23,7 +23,7 @@ columns_more : (front : List ℕ) (c : ℕ) (b : Bool) → is_line_feed c ≡ b 
 columns_more front c b e = ap (position_or_len is_line_feed) (reverse-append front (c ∷ [])) ∙ ap (λ t. cond (not t) (1 + position_or_len is_line_feed (reverse front)) 0) e
 
 -- behind a line feed the next line begins
-pub place_feed : (front : List ℕ) (line column c next : ℕ) → length front < 16777216 → c ≡ 10 → next ≡ min (line + 1) 4294967295 → IsPlaceAfter front line column → IsPlaceAfter (front ++ c ∷ []) next 1
+pub place_feed : (front : List ℕ) (line column c next : ℕ) → length front < 17179869184 → c ≡ 10 → next ≡ min (line + 1) 18446744073709551615 → IsPlaceAfter front line column → IsPlaceAfter (front ++ c ∷ []) next 1
 place_feed front line column c next few is counts p =
     let e : is_line_feed c ≡ true = ap is_line_feed is in
     let a = lines_more front c true e in
@@ -33,7 +33,7 @@ place_feed front line column c next few is counts p =
     record { line_is = omega arith; column_is = omega arith }
 
 -- any other byte takes one column
-pub place_on : (front : List ℕ) (line column c next : ℕ) → length front < 16777216 → c ≢ 10 → next ≡ min (column + 1) 4294967295 → IsPlaceAfter front line column → IsPlaceAfter (front ++ c ∷ []) line next
+pub place_on : (front : List ℕ) (line column c next : ℕ) → length front < 17179869184 → c ≢ 10 → next ≡ min (column + 1) 18446744073709551615 → IsPlaceAfter front line column → IsPlaceAfter (front ++ c ∷ []) line next
 place_on front line column c next few other counts p =
     let e : is_line_feed c ≡ false = grind (arith, nat_tests) in
     let a = lines_more front c false e in

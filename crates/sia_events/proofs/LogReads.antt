@@ -20,7 +20,7 @@ use Rattle.sia_events.proofs.WellFormed.{few_events}
 use Rattle.sia_events.proofs.Lived.{to_get}
 use Rattle.sia_events.proofs.Drafted.{map_get}
 
-pub few_rows : (t : Tables) → IsWellFormed (events_of t) → length t.events.items ≤ 100000
+pub few_rows : (t : Tables) → IsWellFormed (events_of t) → length t.events.items ≤ 500000000
 few_rows t fine = let l = length-map t.events.items (event_of (names_in t)) in let few = few_events (events_of t) fine in omega arith
 
 pub row_event : (t : Tables) (place : ℕ) (r : Option Row) → AreTables t → place ≢ 0 → r ≡ slice_get t.events.items (place - 1) → option_map (event_of (names_of (events_of t))) r ≡ at_place (events_of t) place

@@ -4,9 +4,7 @@ use Rattle.std.proofs.lemmas.Bool.Decides.{nat_tests}
 use Rattle.sia_events.specs.Limits.{Limits}
 use Rattle.sia_events.specs.declared.event.Event.{Event}
 use Rattle.sia_events.specs.declared.fault.Reason.{Reason}
-use Rattle.sia_events.specs.declared.fault.Refusal.{Refusal}
-use Rattle.sia_events.specs.declared.fault.Refusal.TheVariants as refusals
-use Rattle.sia_events.specs.Parsing.{event_at, Fails}
+use Rattle.sia_events.specs.Parsing.{event_at}
 use Rattle.sia_events.specs.Known.{fault_of}
 use Rattle.sia_events.specs.Judging.{judged, unless}
 
@@ -16,8 +14,3 @@ not_full n most other = grind (arith, nat_tests)
 pub judged_read : (limits : Limits) (events : List Event) (token : List ℕ) (e : Event) (fault : Option Reason) → length events ≢ limits.events → event_at token ≡ Ok e → fault ≡ fault_of events (length events) e → judged limits events token ≡ unless fault e
 unfolding judged
 judged_read limits events token e fault few read is = rw (not_full (length events) limits.events few, read, is) refl
-
-pub judged_unread : (limits : Limits) (refusal : Refusal) (events : List Event) (token : List ℕ) → length events ≢ limits.events → Fails refusal (event_at token) → Fails refusal (judged limits events token)
-unfolding judged
-judged_unread limits refusals.NoMemory events token few fails = tt
-judged_unread limits (refusals.Bad reason) events token few fails = rw (not_full (length events) limits.events few, fails) refl

@@ -1,9 +1,9 @@
 -- What a reader keeps stands for a text: after one more piece, and as it ends.
-use Rattle.std.proofs.Common.{◌≡◌, inl, ℕ, suc, ◌+◌, ◌<◌, ◌≤◌, Bool, true, false, List, [], ◌++◌, map, length, Option, Some, None, refl, ap, sym, subst, ◌∙◌, arith}
+use Rattle.std.proofs.Common.{◌≡◌, inl, ℕ, suc, ◌+◌, ◌≤◌, Bool, true, false, List, [], ◌++◌, map, length, Option, Some, None, refl, ap, sym, subst, ◌∙◌, arith}
 use Rattle.std.specs.Prelude.{min, is_some}
 use Rattle.std.proofs.lemmas.List.{length-append}
 use Rattle.std.proofs.lemmas.List.Elements.{All-nil}
-use Rattle.sia_events.specs.Limits.{Limits, standard, greatest, AreWithin}
+use Rattle.sia_events.specs.Limits.{Limits, greatest, AreWithin}
 use Rattle.sia_events.specs.declared.event.Event.{Event}
 use Rattle.sia_events.specs.declared.fault.Reason.{Reason}
 use Rattle.sia_events.specs.declared.fault.TextFault.TheVariants.{Refused}
@@ -16,12 +16,9 @@ use Rattle.sia_events.proofs.Judged.{JudgedAll-append}
 use Rattle.sia_events.proofs.Clean.{IsClean, clean_none, judged_clean, clean_accepted, read_as}
 use Rattle.sia_events.proofs.FirstFaults.{clean_no_reason, first_fault_kept, stops_first}
 
-pub standard_within : AreWithin standard greatest
-standard_within = record { events = omega arith; bytes = omega arith }
-
--- what holds under limits that are the standard ones
-pub by_standard : (P Q : Limits → Type 0) (limits : Limits) → standard ≡ limits → (P standard → Q standard) → P limits → Q limits
-by_standard P Q limits is f p = subst Q is (f (subst P (sym is) p))
+-- what holds under limits that are a reader's own
+pub by_own : (P Q : Limits → Type 0) (own limits : Limits) → own ≡ limits → (P own → Q own) → P limits → Q limits
+by_own P Q own limits is f p = subst Q is (f (subst P (sym is) p))
 
 pub none_is : (fault : Option (ℕ × Reason)) → is_some fault ≡ false → fault ≡ None
 none_is None e = refl
@@ -91,13 +88,6 @@ module _ (limits : Limits) (text piece : List ℕ) (count more : ℕ) (counts : 
       → StandsForRead limits (record { limits = limits; count = more; fault = fault; events = events; unfinished = unfinished; lost = lost }) (text ++ piece)
   stands_decided None events unfinished lost some stands = absurd cc
   stands_decided (Some f) events unfinished lost some stands = stands_kept events unfinished lost lost f.0 f.1 stands
-
-  -- the text is too long
-  pub stands_long : (fault now : Option (ℕ × Reason)) (events all : List Event) (unfinished kept : List ℕ) (lost after : Bool) → limits.bytes < more → StandsForRead limits (record { limits = limits; count = count; fault = fault; events = events; unfinished = unfinished; lost = lost }) text
-      → StandsForRead limits (record { limits = limits; count = more; fault = now; events = all; unfinished = kept; lost = after }) (text ++ piece)
-  stands_long fault now events all unfinished kept lost after long stands =
-      let c = counted_more text piece limits.bytes count more stands.counted counts in
-      record { limits_are = refl; within = stands.within; counted = c; judged = λ short. absurd (omega arith) }
 
 -- ---- the end
 

@@ -2,12 +2,12 @@
 use Rattle.std.proofs.Common.{◌≡◌, ℕ, ◌+◌, ◌-◌, ◌<◌, ◌≤◌, List, Option, Some, None, refl, arith}
 use Rattle.std.specs.Prelude.{MatchOption}
 use Rattle.sia_events.specs.declared.event.Event.{Event}
-use Rattle.sia_events.specs.declared.event.Event.TheVariants.{Commit, Abort}
+use Rattle.sia_events.specs.declared.event.Event.TheVariants.{Commit}
 use Rattle.sia_events.specs.declared.fault.Reason.TheVariants.{BadStart}
 use Rattle.sia_events.specs.Places.{at_place}
 use Rattle.sia_events.specs.Events.{named_start}
 use Rattle.sia_events.specs.Refusals.{IsWellFormed}
-use Rattle.sia_events.specs.Transactions.{ActsAt, StartsAt, CommitsAt, AbortsAt}
+use Rattle.sia_events.specs.Transactions.{ActsAt, StartsAt, CommitsAt}
 use Rattle.sia_events.proofs.Decisions.{at_most}
 use Rattle.sia_events.proofs.TransactionDecisions.{place_within}
 use Rattle.sia_events.proofs.WellFormed.{event_has_none}
@@ -35,7 +35,3 @@ start_below h wf t s p a b = of_name (named_start a.1) refl a.3
 -- a transaction starts before it commits
 pub start_below_commit : (h : List Event) → IsWellFormed h → (t s c : ℕ) → StartsAt h t s → CommitsAt h t c → s < c
 start_below_commit h wf t s c a b = start_below h wf t s c a (Commit t, b, refl)
-
--- a transaction starts before it aborts
-pub start_below_abort : (h : List Event) → IsWellFormed h → (t s c : ℕ) → StartsAt h t s → AbortsAt h t c → s < c
-start_below_abort h wf t s c a b = start_below h wf t s c a (Abort t, b, refl)

@@ -15,7 +15,7 @@ pub record IsKept (old new : Located) : Type 0 where
 
 -- what passing a byte tells
 pub record PassesByte (l now : Located) (c last : ℕ) : Type 0 where
-  pub follows : (text : List ℕ) → length text < 16777216 → Follows l text → (l.is_open ≡ false → is_separator c ≡ false → l.number < last) → Follows now (text ++ c ∷ [])
+  pub follows : (text : List ℕ) → length text < 17179869184 → Follows l text → (l.is_open ≡ false → is_separator c ≡ false → l.number < last) → Follows now (text ++ c ∷ [])
   pub within : l.number ≤ last → now.number ≤ last
   pub stopped : l.is_open ≡ false → last ≤ l.number → IsKept l now
 
@@ -25,7 +25,7 @@ Reaches l text last = (Follows l text × (l.number ≤ last)) ⊎ StopsBehind l 
 
 -- what passing some bytes of a piece tells
 pub record PassesPiece (old now : Located) (piece passed : List ℕ) (last : ℕ) : Type 0 where
-  pub goes : (text : List ℕ) → length (text ++ piece) ≤ 16777216 → Follows old text → old.number ≤ last → 0 < last → Reaches now (text ++ passed) last
+  pub goes : (text : List ℕ) → length (text ++ piece) ≤ 17179869184 → Follows old text → old.number ≤ last → 0 < last → Reaches now (text ++ passed) last
   pub stays : old.is_open ≡ false → last ≤ old.number → IsKept old now
 
 pub stops_more : (l now : Located) (text more : List ℕ) (last : ℕ) → IsKept l now → l.number ≡ last → HasEnded l text → StopsBehind now (text ++ more) last
@@ -35,7 +35,7 @@ stops_more l now text more last kept is ended = record {
   ended = ended_more l now text more kept.number kept.place kept.token ended;
 }
 
-reaches_more : (l now : Located) (text : List ℕ) (c last : ℕ) → PassesByte l now c last → length text < 16777216 → 0 < last → Reaches l text last → Reaches now (text ++ c ∷ []) last
+reaches_more : (l now : Located) (text : List ℕ) (c last : ℕ) → PassesByte l now c last → length text < 17179869184 → 0 < last → Reaches l text last → Reaches now (text ++ c ∷ []) last
 reaches_more l now text c last p few some (inr s) =
     let is = s.number_is in
     inr (stops_more l now text (c ∷ []) last (p.stopped s.closed (omega arith)) is s.ended)
@@ -63,7 +63,7 @@ passes_more old l now piece i c last below is p b =
     let more : take (i + 1) piece ≡ take i piece ++ c ∷ [] = take_more piece i 0 below ∙ ap (λ x. take i piece ++ x ∷ []) (sym is) in
     record {
       goes = λ text short f most some.
-          let few : length (text ++ take i piece) < 16777216 = omega (arith, length-append text piece, length-append text (take i piece), length-take i piece) in
+          let few : length (text ++ take i piece) < 17179869184 = omega (arith, length-append text piece, length-append text (take i piece), length-take i piece) in
           let next = reaches_more l now (text ++ take i piece) c last b few some (p.goes text short f most some) in
           subst (λ t. Reaches now t last) (append_assoc text (take i piece) (c ∷ []) ∙ ap (λ (t : List ℕ). text ++ t) (sym more)) next;
       stays = λ closed most.

@@ -1,6 +1,7 @@
 -- What an accepted text and a well-formed history keep.
 use Rattle.std.proofs.Common.{◌≡◌, ◌≢◌, inl, inr, ℕ, zero, suc, ◌+◌, ◌-◌, ◌^◌, ◌<◌, ◌≤◌, List, [], ◌∷◌, map, length, slice_get, Option, Some, None, refl, ap, sym, subst, ◌∙◌, arith}
 use Rattle.std.proofs.lemmas.Bool.{cases_lt}
+use Rattle.std.proofs.lemmas.List.{length-map}
 use Rattle.std.proofs.lemmas.Option.{slice_get-map}
 use Rattle.std.specs.Option.{option_map}
 use Rattle.std.specs.Prelude.{slice_index_or}
@@ -139,11 +140,17 @@ at_index [] i below = absurd (omega arith)
 at_index (e ∷ h) zero below = (e, refl)
 at_index (e ∷ h) (suc i) below = at_index h i (omega arith)
 
--- a well-formed history has at most 100,000 events
-pub few_events : (h : List Event) → IsWellFormed h → length h ≤ 100000
-few_events h wf = at_most (length h) 100000 (λ more.
-    let found = at_index h 100000 more in
-    spelled_none h wf 100001 TooManyEvents (spell found.0, place_spelled h 100001 found.0 found.1, refl))
+-- tokens of which none has a reason are no more than the events that are allowed
+pub few_fine : (limits : Limits) (ts : List (List ℕ)) → ((i : ℕ) (r : Reason) → ¬ HasReason limits ts i r) → length ts ≤ limits.events
+few_fine limits ts none = at_most (length ts) limits.events (λ more.
+    let found = at_index ts limits.events more in
+    none (suc limits.events) TooManyEvents (found.0, found.1, omega arith))
+
+-- a well-formed history has at most 500,000,000 events
+pub few_events : (h : List Event) → IsWellFormed h → length h ≤ 500000000
+few_events h wf =
+    let few : length (map spell h) ≤ 500000000 = few_fine greatest (map spell h) (spelled_none h wf) in
+    omega (arith, length-map h spell)
 
 -- whether a transaction wrote a key before a place can be told
 pub before_or_not : (h : List Event) (i v k : ℕ) → Decided (IsBefore h i (Write v k))

@@ -129,5 +129,5 @@ each_fits (suc (suc (suc (suc (suc (suc i)))))) e at = cc
 pub it_is_well_formed : IsWellFormed range_of_old_versions
 it_is_well_formed = accepted_from greatest (canonical range_of_old_versions) range_of_old_versions (canonical_stands range_of_old_versions) (omega arith) short each_fits
   where
-    short : length (canonical range_of_old_versions) ≤ 16777216
-    short = subst (λ (text : List ℕ). length text ≤ 16777216) (sym its_text) (omega arith)
+    short : length (canonical range_of_old_versions) ≤ 17179869184
+    short = subst (λ (text : List ℕ). length text ≤ 17179869184) (sym its_text) (omega arith)

@@ -14,10 +14,6 @@ map_last : {A : Type 0} (f : A → List ℕ) (xs : List A) (y : A) → map f (xs
 map_last f [] y = refl
 map_last f (x ∷ xs) y = ap (λ (ys : List (List ℕ)). f x ∷ ys) (map_last f xs y)
 
--- the first listed key comes after a semicolon, the others after a comma
-pub list_first : (p : ℕ × ℕ) → spell_list (p ∷ []) ≡ 59 ∷ spell_pair p
-list_first p = refl
-
 pub list_push : (q : ℕ × ℕ) (ps : List (ℕ × ℕ)) (p : ℕ × ℕ) → spell_list (q ∷ (ps ++ p ∷ [])) ≡ spell_list (q ∷ ps) ++ (44 ∷ spell_pair p)
 list_push q ps p = ap (λ (xs : List (List ℕ)). 59 ∷ join_with_byte 44 (spell_pair q ∷ xs)) (map_last spell_pair ps p) ∙ ap (λ (bs : List ℕ). 59 ∷ bs) (join_push 44 (spell_pair q) (map spell_pair ps) (spell_pair p))
 

@@ -12,7 +12,7 @@ standard = record { events = 100000; bytes = 16777216 }
 
 -- the greatest limits that can be chosen
 abbrev pub greatest : Limits
-greatest = record { events = 100000; bytes = 16777216 }
+greatest = record { events = 500000000; bytes = 17179869184 }
 
 -- what these limits allow, the others allow too
 pub record AreWithin (limits others : Limits) : Type 0 where

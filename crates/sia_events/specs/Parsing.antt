@@ -123,6 +123,10 @@ pair_at bytes = do
   saw ← number_at rest
   Ok (pair_from key.0 saw.0, saw.1)
 
+-- before other bytes than digits, these bytes are read as a pair
+abbrev pub SpellsPair : List ℕ → ℕ → ℕ → Type 0
+SpellsPair bytes key saw = (more : List ℕ) → digits_len more ≡ 0 → pair_at (bytes ++ more) ≡ Ok (Some (key, saw), more)
+
 -- lists end to end, where there are both
 abbrev pub joined : Option (List (ℕ × ℕ)) → Option (List (ℕ × ℕ)) → Option (List (ℕ × ℕ))
 joined None others = None

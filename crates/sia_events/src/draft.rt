@@ -1,8 +1,8 @@
 //! A log as it is made, event by event.
-ghost use Rattle.std.specs.Prelude.{◌≡◌, ◌≢◌, ◌+◌, ◌-◌, ◌*◌, ◌^◌, ◌≤◌, ◌<◌, ◌++◌, ◌∷◌, [], ℕ, List, Some, None, true, false, length, map, drop, take, not, nat_lt, slice_get, IfOk, IfErr, IfSome, IfNone, MatchOption, OnOk, OnErr};
+ghost use Rattle.std.specs.Prelude.{◌≡◌, ◌≢◌, ◌+◌, ◌^◌, ◌≤◌, ◌<◌, ◌++◌, ◌∷◌, [], ℕ, Some, true, false, length, not, nat_lt, slice_get, IfOk, IfErr, IfSome, IfNone, MatchOption, OnOk};
 ghost use Rattle.std.specs.List.{list_any};
 ghost use Rattle.sia_events.specs.declared.event.Event.TheVariants as an_event;
-ghost use Rattle.sia_events.specs.Drafts.{AreFound, Knows, CanTake, SameButTxns, SameButKeys, SameButWrites, IsNew, new_txn, Acts, HasKey, HasWrite, IsReadRow, IsWriteOr, Lists, ListsOne, StopsListing, StopsAtPair, StopsActing, Takes};
+ghost use Rattle.sia_events.specs.Drafts.{AreFound, Knows, CanTake, SameButTxns, SameButWrites, IsNew, new_txn, Acts, HasKey, HasWrite, IsReadRow, IsWriteOr, Lists, ListsOne, StopsListing, StopsAtPair, StopsActing, Takes};
 ghost use Rattle.sia_events.specs.Known.{ends, goes_up, least_after};
 ghost use Rattle.sia_events.specs.LogTables.{events_of, names_in, txn_names};
 ghost use Rattle.sia_events.specs.Numbering.{IsSeen, same_pair};
@@ -10,14 +10,11 @@ ghost use Rattle.sia_events.specs.OwnWrites.{new_write};
 
 use crate::event::{Key, TxnId, Version};
 use crate::fault::{Reason, Refusal};
-use crate::finder::{Finder, IN_ORDER, SPREAD};
+use crate::finder::{Finder, IN_ORDER, MOST_ROWS, SPREAD};
 use crate::log::MARK;
 use crate::own_writes::OwnWrites;
 use crate::rows::{RangeRow, Row, SeenRow, Tables, TxnEnd, TxnRow, WriteRow};
 use std::alloc::{AllocError, Global};
-
-/// No table has more rows.
-const MOST_ROWS: usize = 536_870_912;
 
 /// The tables of the events so far, with what finds their rows by names.
 #[derive(Drop)]
@@ -36,10 +33,7 @@ fn pair_number(key: u32, write: u32) -> u32
     ensures some { 0 < write → result ≡ write }
     ensures none { write ≡ 0 → result ≡ 2147483648 + key }
 {
-    if write == 0 {
-        return MARK + key;
-    }
-    write
+    if write == 0 { MARK + key } else { write }
 }
 
 fn follows(before: Option<Key>, lo: Key, key: Key) -> bool
@@ -116,7 +110,7 @@ impl Draft {
             start,
             end: TxnEnd::Open,
         })?;
-        self.txns.add(&self.tables.txns)?;
+        self.txns.add_from(&self.tables.txns, number)?;
         Ok(number as u32)
     }
 
@@ -134,10 +128,7 @@ impl Draft {
         requires within { txn < length self.now.tables.txns.items }
         ensures { (name : ℕ) → slice_get (txn_names self.now.tables.txns.items) txn ≡ Some name → list_any (ends name) (events_of self.now.tables) ≡ not result }
     {
-        match self.tables.txns[txn as usize].end {
-            TxnEnd::Open => true,
-            _ => false,
-        }
+        matches!(self.tables.txns[txn as usize].end, TxnEnd::Open)
     }
 
     /// The number of a transaction that acts and hasn't ended. It starts here if it has no event yet.
@@ -164,13 +155,31 @@ impl Draft {
     fn is_key(&self, number: u32, name: Key) -> bool
         ensures { result ≡ true → slice_get self.now.tables.keys.items number ≡ Some name }
     {
-        match self.tables.keys.get(number as usize) {
-            Some(key) => *key == name,
-            None => false,
+        self.tables.keys.get(number as usize).copied() == Some(name)
+    }
+
+    /// The number of the key, if it was read, listed or written.
+    pub(crate) fn find_key(&self, name: Key) -> Option<u32>
+        ensures some { IfSome result (λ n. slice_get self.now.tables.keys.items n ≡ Some name) }
+        ensures none { AreFound self.now → IfNone result (IsNew self.now.tables.keys.items name) }
+    {
+        self.keys.find(&self.tables.keys, name)
+    }
+
+    fn key(&mut self, name: Key) -> Result<u32, AllocError>
+        requires { AreFound self.old }
+        ensures found { OnOk result (AreFound self.new) }
+        ensures has { IfOk result (λ n. HasKey self.old.tables self.new.tables name n) }
+    {
+        match self.find_key(name) {
+            Some(number) => Ok(number),
+            None => self.new_key(name),
         }
     }
 
-    fn key(&mut self, guess: u32, name: Key) -> Result<u32, AllocError>
+    /// The number of the key, which may well be the guess.
+    #[inline(always)]
+    fn key_near(&mut self, guess: u32, name: Key) -> Result<u32, AllocError>
         requires { AreFound self.old }
         ensures found { OnOk result (AreFound self.new) }
         ensures has { IfOk result (λ n. HasKey self.old.tables self.new.tables name n) }
@@ -178,10 +187,7 @@ impl Draft {
         if self.is_key(guess, name) {
             return Ok(guess);
         }
-        match self.keys.find(&self.tables.keys, name) {
-            Some(number) => Ok(number),
-            None => self.new_key(name),
-        }
+        self.key(name)
     }
 
     fn new_key(&mut self, name: Key) -> Result<u32, AllocError>
@@ -199,7 +205,7 @@ impl Draft {
             write: 0,
         })?;
         self.tables.keys.push(name)?;
-        self.keys.add(&self.tables.keys)?;
+        self.keys.add_from(&self.tables.keys, number)?;
         Ok(number as u32)
     }
 
@@ -278,7 +284,7 @@ impl Draft {
         ensures { Takes self.old self.new (an_event.Read txn key saw) result }
     {
         let txn = self.actor(txn)?;
-        let key = self.key(u32::MAX, key)?;
+        let key = self.key(key)?;
         let Some(saw) = self.seen(key, saw) else {
             return Err(Refusal::Bad(Reason::NotWritten));
         };
@@ -358,7 +364,7 @@ impl Draft {
         ensures lists { OnOk result (ListsOne self.old.tables self.new.tables key saw) }
         ensures refused { IfErr result (StopsAtPair self.old self.new key saw) }
     {
-        let number = self.key(near, key)?;
+        let number = self.key_near(near, key)?;
         let Some(write) = self.seen(number, saw) else {
             return Err(Refusal::Bad(Reason::NotWritten));
         };
@@ -375,7 +381,7 @@ impl Draft {
         ensures { Takes self.old self.new (an_event.Write txn key) result }
     {
         let txn = self.actor(txn)?;
-        let key = self.key(u32::MAX, key)?;
+        let key = self.key(key)?;
         let write = self.first_write(txn, key)?;
         self.tables.events.push(Row::Write { txn, key, write })?;
         Ok(())

@@ -1,5 +1,5 @@
 //! Numbers of rows by their names.
-ghost use Rattle.std.specs.Prelude.{◌≡◌, ◌≢◌, ◌^◌, ◌<◌, ◌≤◌, ℕ, List, ◌∷◌, ◌++◌, [], Some, map, length, slice_get, IsTrue, OnOk, IfSome, IfNone, true, false};
+ghost use Rattle.std.specs.Prelude.{◌≡◌, ◌≢◌, ◌^◌, ◌<◌, ◌≤◌, ℕ, List, [], Some, map, length, slice_get, OnOk, IfSome, IfNone, true, false};
 ghost use Rattle.sia_events.specs.Finding.{home, Looks, Finds, FindsBelow, Reaches};
 
 use std::alloc::{AllocError, Global};
@@ -19,7 +19,8 @@ const WAYS: usize = 8;
 /// The least table has room for so many rows, and the greatest for so many. Each has a power of two of homes.
 const LEAST_ROWS: usize = 256;
 
-const MOST_ROWS: usize = 536_870_912;
+/// No table of a log has more rows.
+pub(crate) const MOST_ROWS: usize = 536_870_912;
 
 /// For names that follow one another, as most are: so do their homes. It is 2^32.
 pub(crate) const IN_ORDER: u64 = 4_294_967_296;
@@ -110,14 +111,6 @@ impl Finder {
         None
     }
 
-    /// Takes in the last of the rows.
-    pub(crate) fn add<R: Named>(&mut self, rows: &[R]) -> Result<(), AllocError>
-        requires { length rows.now ≤ 2 ^ 29 }
-        ensures { (before : List ℕ) (last : ℕ) → map R.named rows.now ≡ before ++ last ∷ [] → Finds self.old before → OnOk result (Finds self.new (map R.named rows.now)) }
-    {
-        self.add_from(rows, rows.len().saturating_sub(1))
-    }
-
     /// Takes in the rows from a number on. Where the table is crowded, all are taken in anew, into a greater one.
     pub(crate) fn add_from<R: Named>(&mut self, rows: &[R], first: usize) -> Result<(), AllocError>
         requires { length rows.now ≤ 2 ^ 29 }
@@ -154,10 +147,7 @@ impl Finder {
         ensures yes { result ≡ true → slice_get self.now.slots.items at ≡ Some 0 }
         ensures no { result ≡ false → slice_get self.now.slots.items at ≢ Some 0 }
     {
-        match self.slots.get(at) {
-            Some(slot) => *slot == 0,
-            None => false,
-        }
+        self.slots.get(at).copied() == Some(0)
     }
 
     /// Takes in the row with the name and the number.

@@ -1,30 +1,26 @@
 //! The events of a text so far, and the judgement of its next token.
-ghost use Rattle.std.specs.Prelude.{◌≡◌, ◌+◌, ◌≤◌, ℕ, ◌<◌, ◌^◌, length, List, [], ◌∷◌, ◌++◌, Ok, true, false, drop, All, slice_index, nat_le, OnOk, OnErr, IfOk, IfErr, IfSome, IfNone};
+ghost use Rattle.std.specs.Prelude.{◌≡◌, ◌+◌, ◌≤◌, ℕ, ◌<◌, length, List, [], ◌∷◌, ◌++◌, Ok, true, false, drop, All, slice_index, nat_le, OnOk, IfOk, IfErr, IfSome, IfNone};
 ghost use Rattle.std.specs.List.{AllByRecursion, position_or_len};
 ghost use Rattle.std.specs.Simd.Lanes.{chunk};
 ghost use Rattle.sia_events.specs.declared.event.Event.{Event as AnEvent};
 ghost use Rattle.sia_events.specs.Parsing.{Fails, event_with};
 ghost use Rattle.sia_events.specs.Drafts.{Knows, CanTake, Takes, Stays};
 ghost use Rattle.sia_events.specs.LogTables.{events_of};
-ghost use Rattle.sia_events.specs.Limits.{standard};
 ghost use Rattle.sia_events.specs.Judging.{judged, JudgedAll, Halts, HaltsIn, as_token, IsSplitAfter};
 ghost use Rattle.sia_events.specs.Text.{is_separator, tokens};
 ghost use Rattle.sia_events.specs.Streaming.{IsCutAtLastSeparator};
 
 use crate::draft::Draft;
-use crate::event::{Key, Version};
 use crate::fault::{Reason, Refusal};
-use crate::token::{Token, event_of};
+use crate::limits::{Limits, MAX_EVENTS};
+use crate::token::{Listing, Token, event_of};
 use std::alloc::Global;
 use std::simd::prelude::*;
-
-/// The greatest number of events.
-pub(crate) const MAX_EVENTS: usize = 100_000;
 
 #[derive(Drop)]
 pub(crate) struct Judge {
     pub(crate) draft: Draft,
-    listed: Vec<(Key, Version)>,
+    listing: Listing,
 }
 
 impl Judge {
@@ -34,40 +30,41 @@ impl Judge {
     {
         Judge {
             draft: Draft::new(alloc),
-            listed: Vec::new(alloc),
+            listing: Listing::new(alloc),
         }
     }
 
     /// Takes the event of the next token. After `NoMemory` the tables may lack it, or have it without the events.
     #[tactic(auto, unfolding(crate::specs::Judging::judged))]
-    pub(crate) fn take(&mut self, token: &[u8]) -> Result<(), Refusal>
+    pub(crate) fn take(&mut self, limits: Limits, token: &[u8]) -> Result<(), Refusal>
         requires { Knows self.old.draft }
-        ensures taken { OnOk result ((e : AnEvent) × (judged standard (events_of self.old.draft.tables) token.now ≡ Ok e) × ((events_of self.new.draft.tables) ≡ (events_of self.old.draft.tables) ++ e ∷ [])) }
+        ensures taken { OnOk result ((e : AnEvent) × (judged limits (events_of self.old.draft.tables) token.now ≡ Ok e) × ((events_of self.new.draft.tables) ≡ (events_of self.old.draft.tables) ++ e ∷ [])) }
         ensures knows { OnOk result (Knows self.new.draft) }
-        ensures refused { IfErr result (λ fault. Fails fault (judged standard (events_of self.old.draft.tables) token.now)) }
+        ensures refused { IfErr result (λ fault. Fails fault (judged limits (events_of self.old.draft.tables) token.now)) }
         ensures kept { IfErr result (λ fault. Stays fault (events_of self.old.draft.tables) (events_of self.new.draft.tables)) }
     {
         let count = self.draft.tables.events.len();
-        if count == MAX_EVENTS {
+        let most = limits.events() as usize;
+        if count == most {
             return Err(Refusal::Bad(Reason::TooManyEvents));
         }
         // There are never more.
-        if count > MAX_EVENTS {
+        if count > most {
             return Err(Refusal::NoMemory);
         }
-        let token = event_of(&mut self.listed, token)?;
+        let token = event_of(&mut self.listing, &self.draft, token)?;
         self.admit(token)
     }
 
     /// Takes the event of a token beside which its listed pairs stand, unless it has a reason.
     fn admit(&mut self, token: Token) -> Result<(), Refusal>
         requires { CanTake self.old.draft }
-        ensures { Takes self.old.draft self.new.draft (event_with self.old.listed.items token) result }
+        ensures { Takes self.old.draft self.new.draft (event_with self.old.listing.pairs.items token) result }
     {
         match token {
             Token::Begin { txn, start } => self.draft.begin(txn, start),
             Token::Read { txn, key, saw } => self.draft.read(txn, key, saw),
-            Token::Range { txn, lo, hi } => self.draft.range(txn, lo, hi, &self.listed),
+            Token::Range { txn, lo, hi } => self.draft.range(txn, lo, hi, &self.listing.pairs),
             Token::Write { txn, key } => self.draft.write(txn, key),
             Token::Commit { txn } => self.draft.commit(txn),
             Token::Abort { txn } => self.draft.abort(txn),
@@ -76,28 +73,32 @@ impl Judge {
 
     /// Takes the event of the token, if there is one.
     #[tactic(auto, unfolding(crate::specs::Judging::JudgedAll))]
-    pub(crate) fn take_some(&mut self, token: &[u8]) -> Result<(), Refusal>
+    pub(crate) fn take_some(&mut self, limits: Limits, token: &[u8]) -> Result<(), Refusal>
         requires { Knows self.old.draft }
-        ensures taken { OnOk result (JudgedAll standard (events_of self.old.draft.tables) (as_token token.now) (events_of self.new.draft.tables)) }
+        ensures taken { OnOk result (JudgedAll limits (events_of self.old.draft.tables) (as_token token.now) (events_of self.new.draft.tables)) }
         ensures knows { OnOk result (Knows self.new.draft) }
-        ensures refused { IfErr result (λ fault. Halts standard fault (events_of self.old.draft.tables) (as_token token.now) (events_of self.new.draft.tables)) }
+        ensures refused { IfErr result (λ fault. Halts limits fault (events_of self.old.draft.tables) (as_token token.now) (events_of self.new.draft.tables)) }
     {
         if token.is_empty() {
             return Ok(());
         }
-        self.take(token)
+        self.take(limits, token)
     }
 
     /// Takes the events of all tokens that a separator follows, and answers what comes after the last separator.
-    pub(crate) fn take_closed<'a>(&mut self, text: &'a [u8]) -> Result<&'a [u8], Refusal>
+    pub(crate) fn take_closed<'a>(
+        &mut self,
+        limits: Limits,
+        text: &'a [u8],
+    ) -> Result<&'a [u8], Refusal>
         requires { Knows self.old.draft }
-        ensures taken { IfOk result (λ rest. (closed : List ℕ) × IsCutAtLastSeparator text.now closed rest.now × JudgedAll standard (events_of self.old.draft.tables) (tokens closed) (events_of self.new.draft.tables)) }
+        ensures taken { IfOk result (λ rest. (closed : List ℕ) × IsCutAtLastSeparator text.now closed rest.now × JudgedAll limits (events_of self.old.draft.tables) (tokens closed) (events_of self.new.draft.tables)) }
         ensures knows { OnOk result (Knows self.new.draft) }
-        ensures refused { IfErr result (λ fault. HaltsIn standard fault (events_of self.old.draft.tables) text.now (events_of self.new.draft.tables)) }
+        ensures refused { IfErr result (λ fault. HaltsIn limits fault (events_of self.old.draft.tables) text.now (events_of self.new.draft.tables)) }
     {
         let mut rest = text;
         while let Some((token, after)) = split_token(rest) {
-            self.take_some(token)?;
+            self.take_some(limits, token)?;
             rest = past_separators(after);
         }
         Ok(rest)
@@ -107,31 +108,32 @@ impl Judge {
     /// unfinished what comes after the last separator.
     pub(crate) fn take_piece(
         &mut self,
+        limits: Limits,
         unfinished: &mut Vec<u8>,
         piece: &[u8],
     ) -> Result<(), Refusal>
         requires knows { Knows self.old.draft }
         requires unbroken { All (λ c. is_separator c ≡ false) unfinished.old.items }
-        ensures taken { OnOk result ((closed : List ℕ) × IsCutAtLastSeparator (unfinished.old.items ++ piece.now) closed unfinished.new.items × JudgedAll standard (events_of self.old.draft.tables) (tokens closed) (events_of self.new.draft.tables)) }
+        ensures taken { OnOk result ((closed : List ℕ) × IsCutAtLastSeparator (unfinished.old.items ++ piece.now) closed unfinished.new.items × JudgedAll limits (events_of self.old.draft.tables) (tokens closed) (events_of self.new.draft.tables)) }
         ensures knows { OnOk result (Knows self.new.draft) }
-        ensures refused { IfErr result (λ fault. HaltsIn standard fault (events_of self.old.draft.tables) (unfinished.old.items ++ piece.now) (events_of self.new.draft.tables)) }
+        ensures refused { IfErr result (λ fault. HaltsIn limits fault (events_of self.old.draft.tables) (unfinished.old.items ++ piece.now) (events_of self.new.draft.tables)) }
     {
         let Some((front, after)) = split_token(piece) else {
             unfinished.extend_from_slice(piece)?;
             return Ok(());
         };
         unfinished.extend_from_slice(front)?;
-        self.take_some(unfinished)?;
+        self.take_some(limits, unfinished)?;
         unfinished.clear();
-        let rest = self.take_closed(after)?;
+        let rest = self.take_closed(limits, after)?;
         unfinished.extend_from_slice(rest)?;
         Ok(())
     }
 
     pub(crate) fn next_token(&self) -> u32
-        ensures { length (events_of self.now.draft.tables) ≤ 100000 → result ≡ length (events_of self.now.draft.tables) + 1 }
+        ensures { length (events_of self.now.draft.tables) ≤ 500000000 → result ≡ length (events_of self.now.draft.tables) + 1 }
     {
-        self.draft.tables.events.len().min(MAX_EVENTS) as u32 + 1
+        self.draft.tables.events.len().min(MAX_EVENTS as usize) as u32 + 1
     }
 }
 

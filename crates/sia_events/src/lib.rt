@@ -9,8 +9,10 @@ mod finder;
 mod history;
 mod judge;
 mod laws;
+mod limits;
 mod locating;
 mod log;
+mod mentions;
 mod number;
 mod own_writes;
 mod reader;
@@ -28,6 +30,7 @@ pub use laws::{
     accepted_text_has_a_history, anomaly_law, canonical_law, greater_limits_accept,
     named_starts_only_add, narrow_law, one_history, one_refusal, round_trip, unwritten_law,
 };
+pub use limits::Limits;
 pub use locating::{Locator, Place};
 pub use log::Log;
 pub use reader::{TextReader, read_history};

@@ -1,5 +1,5 @@
 //! Where the tokens of a text stand that comes in pieces.
-ghost use Rattle.std.specs.Prelude.{◌≡◌, ◌+◌, ◌<◌, ◌≤◌, ◌++◌, ◌∷◌, ℕ, List, [], length, take, true, false};
+ghost use Rattle.std.specs.Prelude.{◌≡◌, ◌+◌, ◌<◌, ◌≤◌, ◌++◌, ◌∷◌, ℕ, List, [], length, take, false};
 ghost use Rattle.std.specs.Option.{option_map};
 ghost use Rattle.sia_events.specs.Limits.{Limits};
 ghost use Rattle.sia_events.specs.Locating.{Follows, StandsForLocated, Located};
@@ -13,19 +13,19 @@ ghost use Rattle.sia_events.specs.Text.{is_separator};
 use crate::judge::is_separator;
 use std::marker::Model;
 
-/// How many bytes of a token are kept.
-const KEPT: usize = 60;
+/// How many bytes of a token are kept, and shown.
+pub(crate) const KEPT: usize = 60;
 
 /// A line of a text, and a column on it. Both are counted from 1.
 #[derive(Clone, Copy)]
 pub struct Place {
-    pub line: u32,
-    pub column: u32,
+    pub line: u64,
+    pub column: u64,
 }
 
 impl Place {
     fn behind(self, byte: u8) -> Place
-        ensures { (front : List ℕ) → length front < 16777216 → IsPlaceAfter front self.line self.column → IsPlaceAfter (front ++ byte ∷ []) result.line result.column }
+        ensures { (front : List ℕ) → length front < 17179869184 → IsPlaceAfter front self.line self.column → IsPlaceAfter (front ++ byte ∷ []) result.line result.column }
     {
         if byte == b'\n' {
             Place {
@@ -90,7 +90,7 @@ impl Locator {
 
     /// Passes a byte, unless it begins a token after the last one.
     fn pass(&mut self, byte: u8, last: u32)
-        ensures follows { (text : List ℕ) → length text < 16777216 → Follows self.old text → (self.old.is_open ≡ false → is_separator byte ≡ false → self.old.number < last) → Follows self.new (text ++ byte ∷ []) }
+        ensures follows { (text : List ℕ) → length text < 17179869184 → Follows self.old text → (self.old.is_open ≡ false → is_separator byte ≡ false → self.old.number < last) → Follows self.new (text ++ byte ∷ []) }
         ensures within { self.old.number ≤ last → self.new.number ≤ last }
         ensures stopped { self.old.is_open ≡ false → last ≤ self.old.number → (self.new.is_open ≡ false) × (self.new.number ≡ self.old.number) × (self.new.place ≡ self.old.place) × (self.new.token ≡ self.old.token) }
     {

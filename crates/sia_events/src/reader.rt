@@ -13,23 +13,22 @@ ghost use Rattle.sia_events.specs.Streaming.{StandsForRead, Progress};
 use crate::fault::{NoMemory, Reason, Refusal, TextFault};
 use crate::history::History;
 use crate::judge::Judge;
+use crate::limits::Limits;
 use crate::log::Log;
 use std::alloc::Global;
 use std::marker::Model;
 
-/// The greatest number of bytes of a text.
-const MAX_BYTES: usize = 16_777_216;
-
 /// Reads a text that comes in pieces. It keeps the events so far and the bytes of the token that no separator has ended
-/// yet, and no other part of the text.
+/// yet, and of other parts of the text only how keys were listed last.
 ///
 /// A token's fault is kept, and told by `finish`. The bytes go on being counted, since a text that is too long is refused
 /// for that, whatever else it holds.
 #[derive(Drop)]
 pub struct TextReader {
     alloc: Global,
+    limits: Limits,
     judge: Judge,
-    count: usize,
+    count: u64,
     fault: Option<(u32, Reason)>,
     unfinished: Vec<u8>,
     lost: bool,
@@ -38,19 +37,30 @@ pub struct TextReader {
 impl Model for TextReader {
     ghost Value = { Progress };
 
-    ghost view = { λ r. record { limits = standard; count = r.count; fault = r.fault; events = events_of r.judge.draft.tables; unfinished = r.unfinished.items; lost = r.lost } };
+    ghost view = { λ r. record { limits = r.limits; count = r.count; fault = r.fault; events = events_of r.judge.draft.tables; unfinished = r.unfinished.items; lost = r.lost } };
 
-    ghost invariant = { λ r. r.lost ≡ false → IsNone r.fault → r.count ≤ 16777216 → Knows r.judge.draft × HasText standard r.count (events_of r.judge.draft.tables) r.unfinished.items };
+    ghost invariant = { λ r. r.lost ≡ false → IsNone r.fault → r.count ≤ r.limits.bytes → Knows r.judge.draft × HasText r.limits r.count (events_of r.judge.draft.tables) r.unfinished.items };
 }
 
 impl TextReader {
-    /// A reader that has been fed nothing. It keeps the allocator for its later calls, and takes no memory yet.
+    /// A reader that has been fed nothing, under the standard limits. It keeps the allocator for its later calls, and takes
+    /// no memory yet.
     pub fn new(alloc: Global) -> Self
         ensures stands { StandsForRead standard result [] }
         ensures not_lost { result.lost ≡ false }
     {
+        TextReader::with_limits(alloc, Limits::standard())
+    }
+
+    /// The same for a text within these limits.
+    pub fn with_limits(alloc: Global, limits: Limits) -> Self
+        ensures stands { StandsForRead limits result [] }
+        ensures not_lost { result.lost ≡ false }
+    {
+        limits.law();
         TextReader {
             alloc,
+            limits,
             judge: Judge::new(alloc),
             count: 0,
             fault: None,
@@ -72,14 +82,16 @@ impl TextReader {
         if self.lost {
             return Err(NoMemory);
         }
-        self.count = self.count.saturating_add(piece.len()).min(MAX_BYTES + 1);
+        let limits = self.limits;
+        let most = limits.bytes();
+        self.count = self.count.saturating_add(piece.len() as u64).min(most + 1);
         if self.fault.is_some() {
             return Ok(());
         }
-        if self.count > MAX_BYTES {
+        if self.count > most {
             return Ok(());
         }
-        match self.judge.take_piece(&mut self.unfinished, piece) {
+        match self.judge.take_piece(limits, &mut self.unfinished, piece) {
             Ok(()) => Ok(()),
             Err(Refusal::NoMemory) => {
                 self.lost = true;
@@ -107,10 +119,7 @@ impl TextReader {
     {
         let alloc = self.alloc;
         let log = self.finish_log()?;
-        match History::of(alloc, log) {
-            Ok(history) => Ok(history),
-            Err(NoMemory) => Err(TextFault::NoMemory),
-        }
+        History::of(alloc, log).map_err(|_| TextFault::NoMemory)
     }
 
     /// The log of the history that the text stands for, or why there is none.
@@ -120,13 +129,14 @@ impl TextReader {
     {
         let TextReader {
             alloc: _,
+            limits,
             mut judge,
             count,
             fault,
             unfinished,
             lost,
         } = self;
-        end(&mut judge, count, fault, &unfinished, lost)?;
+        end(&mut judge, limits, count, fault, &unfinished, lost)?;
         Ok(Log {
             tables: judge.draft.tables,
         })
@@ -136,27 +146,29 @@ impl TextReader {
 /// Judges the last token, unless it is settled already why there is no history.
 fn end(
     judge: &mut Judge,
-    count: usize,
+    limits: Limits,
+    count: u64,
     fault: Option<(u32, Reason)>,
     unfinished: &[u8],
     lost: bool,
 ) -> Result<(), TextFault>
-    requires { lost ≡ false → IsNone fault → count ≤ 16777216 → Knows judge.old.draft × HasText standard count (events_of judge.old.draft.tables) unfinished.now }
-    ensures reads { (text : List ℕ) → StandsForRead standard (record { limits = standard; count = count; fault = fault; events = events_of judge.old.draft.tables; unfinished = unfinished.now; lost = lost }) text → EndsAs standard text (events_of judge.new.draft.tables) result }
+    requires { lost ≡ false → IsNone fault → count ≤ limits.bytes → Knows judge.old.draft × HasText limits count (events_of judge.old.draft.tables) unfinished.now }
+    ensures reads { (text : List ℕ) → StandsForRead limits (record { limits = limits; count = count; fault = fault; events = events_of judge.old.draft.tables; unfinished = unfinished.now; lost = lost }) text → EndsAs limits text (events_of judge.new.draft.tables) result }
     ensures well_formed { OnOk result (IsWellFormed (events_of judge.new.draft.tables)) }
     ensures tables { OnOk result (AreTables judge.new.draft.tables) }
     ensures lost { lost ≡ true → result ≡ Err OutOfMemory }
 {
+    limits.law();
     if lost {
         return Err(TextFault::NoMemory);
     }
-    if count > MAX_BYTES {
+    if count > limits.bytes() {
         return Err(TextFault::TextTooLong);
     }
     if let Some((token, reason)) = fault {
         return Err(TextFault::Refused { token, reason });
     }
-    match judge.take_some(unfinished) {
+    match judge.take_some(limits, unfinished) {
         Ok(()) => Ok(()),
         Err(Refusal::NoMemory) => Err(TextFault::NoMemory),
         Err(Refusal::Bad(reason)) => Err(TextFault::Refused {

@@ -3,10 +3,8 @@ ghost use Rattle.std.specs.Prelude.{◌≡◌, ◌<◌, ◌++◌, OnOk};
 ghost use Rattle.sia_events.specs.Locations.{hex_digit, shown_byte, shown};
 
 use crate::fault::NoMemory;
+use crate::locating::KEPT;
 use std::alloc::AllocError;
-
-/// How many bytes of a token are shown.
-const SHOWN: usize = 60;
 
 /// A digit below 16.
 fn hex_digit(n: u8) -> u8
@@ -29,7 +27,7 @@ fn push_byte(out: &mut Vec<u8>, byte: u8) -> Result<(), AllocError>
 pub fn push_shown(out: &mut Vec<u8>, token: &[u8]) -> Result<(), NoMemory>
     ensures { OnOk result (out.new.items ≡ out.old.items ++ shown token.now) }
 {
-    let len = token.len().min(SHOWN);
+    let len = token.len().min(KEPT);
     for byte in &token[..len] {
         push_byte(out, *byte)?;
     }

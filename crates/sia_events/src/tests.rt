@@ -9,7 +9,6 @@ mod telling;
 mod texts;
 
 /// What a text is read as that comes in pieces of so many bytes, or whole where the size is 0. A locator goes beside the pieces.
-/// Where one found no memory, the later ones and the end must say so too.
 fn read<R: Abort + AllocGlobal>(
     rt: &R,
     text: &[u8],
@@ -19,10 +18,21 @@ fn read<R: Abort + AllocGlobal>(
     if size == 0 {
         return read_history(rt.alloc(), text);
     }
-    let mut reader = TextReader::new(rt.alloc());
+    read_pieces(rt, TextReader::new(rt.alloc()), text, size, locator)
+}
+
+/// What a reader reads a text as that comes in pieces of so many bytes, with a locator beside them. Where one found no memory,
+/// the later ones and the end must say so too.
+fn read_pieces<R: Abort>(
+    rt: &R,
+    mut reader: TextReader,
+    text: &[u8],
+    size: usize,
+    locator: &mut Locator,
+) -> Result<History, TextFault> {
     let mut rest = text;
     let mut is_lost = false;
-    for _ in 0..=text.len() / size {
+    for _ in 0..=text.len() / size.max(1) {
         let (piece, after) = rest.split_at(rest.len().min(size));
         let is_fed = reader.feed(piece).is_ok();
         assert!(rt; !is_fed || !is_lost);

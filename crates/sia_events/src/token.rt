@@ -2,9 +2,12 @@
 ghost use Rattle.std.specs.Prelude.{◌≡◌, ◌≤◌, ℕ, List, IfOk, length};
 ghost use Rattle.sia_events.specs.Parsing.{Gives, kept, event_with, after_byte, ended, begin_at, write_at, item_at, pair_at, pairs_at, list_at, list_of, range_at, read_at, commit_at, abort_at, event_at};
 
+use crate::draft::Draft;
 use crate::event::{Key, TxnId, Version};
 use crate::fault::{Reason, Refusal};
+use crate::mentions::Spellings;
 use crate::number::{Number, number, txn_in, version_in};
+use std::alloc::Global;
 
 /// An event whose listed pairs, if there are any, stand beside it.
 #[derive(Clone, Copy)]
@@ -15,6 +18,22 @@ pub(crate) enum Token {
     Write { txn: TxnId, key: Key },
     Commit { txn: TxnId },
     Abort { txn: TxnId },
+}
+
+/// What the last range read listed, and how pairs were spelled.
+#[derive(Drop)]
+pub(crate) struct Listing {
+    pub(crate) pairs: Vec<(Key, Version)>,
+    spellings: Spellings,
+}
+
+impl Listing {
+    pub(crate) fn new(alloc: Global) -> Self {
+        Listing {
+            pairs: Vec::new(alloc),
+            spellings: Spellings::new(alloc),
+        }
+    }
 }
 
 /// What follows one byte.
@@ -87,7 +106,7 @@ fn item(txn: Number, key: Number, text: &[u8]) -> Result<Token, Refusal>
 
 /// A listed key with its version, or None where one of them is out of its range.
 #[tactic(auto, unfolding(crate::specs::Parsing::pair_at))]
-fn pair(text: &[u8]) -> Result<(Option<(Key, Version)>, &[u8]), Refusal>
+pub(crate) fn pair(text: &[u8]) -> Result<(Option<(Key, Version)>, &[u8]), Refusal>
     ensures gives { Gives (λ x. (x.0, x.1.now)) result (pair_at text.now) }
     ensures shorter { IfOk result (λ x. length x.1.now ≤ length text.now) }
 {
@@ -101,7 +120,12 @@ fn pair(text: &[u8]) -> Result<(Option<(Key, Version)>, &[u8]), Refusal>
 }
 
 /// Takes in listed keys with commas between. It answers whether all numbers are in their ranges, and what follows the last.
-fn pairs<'a>(listed: &mut Vec<(Key, Version)>, text: &'a [u8]) -> Result<(bool, &'a [u8]), Refusal>
+fn pairs<'a>(
+    listed: &mut Vec<(Key, Version)>,
+    spellings: &mut Spellings,
+    draft: &Draft,
+    text: &'a [u8],
+) -> Result<(bool, &'a [u8]), Refusal>
     ensures { Gives (λ x. (kept x.0 listed.new.items, x.1.now)) result (pairs_at text.now) }
 {
     listed.clear();
@@ -109,7 +133,7 @@ fn pairs<'a>(listed: &mut Vec<(Key, Version)>, text: &'a [u8]) -> Result<(bool, 
     let mut in_range = true;
     let mut rest = text;
     loop {
-        let (next, after) = pair(rest)?;
+        let (next, after) = spellings.pair(draft, rest)?;
         in_range &= next.is_some();
         listed.push(next.unwrap_or((0, 0)))?;
         match after.strip_prefix(b",") {
@@ -120,13 +144,17 @@ fn pairs<'a>(listed: &mut Vec<(Key, Version)>, text: &'a [u8]) -> Result<(bool, 
 }
 
 #[tactic(auto, unfolding(crate::specs::Parsing::list_at))]
-fn list<'a>(listed: &mut Vec<(Key, Version)>, text: &'a [u8]) -> Result<(bool, &'a [u8]), Refusal>
-    ensures { Gives (λ x. (kept x.0 listed.new.items, x.1.now)) result (list_at text.now) }
+fn list<'a>(
+    listing: &mut Listing,
+    draft: &Draft,
+    text: &'a [u8],
+) -> Result<(bool, &'a [u8]), Refusal>
+    ensures { Gives (λ x. (kept x.0 listing.new.pairs.items, x.1.now)) result (list_at text.now) }
 {
     match text {
-        [b';', rest @ ..] => pairs(listed, rest),
+        [b';', rest @ ..] => pairs(&mut listing.pairs, &mut listing.spellings, draft, rest),
         _ => {
-            listed.clear();
+            listing.pairs.clear();
             Ok((true, text))
         }
     }
@@ -134,15 +162,16 @@ fn list<'a>(listed: &mut Vec<(Key, Version)>, text: &'a [u8]) -> Result<(bool, &
 
 #[tactic(auto, unfolding(crate::specs::Parsing::range_at, crate::specs::Parsing::key_of, crate::specs::Parsing::list_of))]
 fn range(
-    listed: &mut Vec<(Key, Version)>,
+    listing: &mut Listing,
+    draft: &Draft,
     txn: Number,
     lo: Number,
     text: &[u8],
 ) -> Result<Token, Refusal>
-    ensures { Gives (event_with listed.new.items) result (range_at txn lo text.now) }
+    ensures { Gives (event_with listing.new.pairs.items) result (range_at txn lo text.now) }
 {
     let (hi, rest) = number(text)?;
-    let (in_range, rest) = list(listed, rest)?;
+    let (in_range, rest) = list(listing, draft, rest)?;
     end(after(rest, b']')?)?;
     let txn = txn_in(txn)?;
     match (lo, hi) {
@@ -152,22 +181,22 @@ fn range(
 }
 
 #[tactic(auto, unfolding(crate::specs::Parsing::read_at, crate::specs::Parsing::after_byte))]
-fn read(listed: &mut Vec<(Key, Version)>, txn: Number, text: &[u8]) -> Result<Token, Refusal>
-    ensures { Gives (event_with listed.new.items) result (read_at txn text.now) }
+fn read(listing: &mut Listing, draft: &Draft, txn: Number, text: &[u8]) -> Result<Token, Refusal>
+    ensures { Gives (event_with listing.new.pairs.items) result (read_at txn text.now) }
 {
     let (first, rest) = number(after(text, b'[')?)?;
     if let [b':', rest @ ..] = rest {
         return item(txn, first, rest);
     }
     match rest {
-        [b'.', b'.', rest @ ..] => range(listed, txn, first, rest),
+        [b'.', b'.', rest @ ..] => range(listing, draft, txn, first, rest),
         _ => Err(Refusal::Bad(Reason::BadEvent)),
     }
 }
 
 #[tactic(auto, unfolding(crate::specs::Parsing::event_at, crate::specs::Parsing::commit_at, crate::specs::Parsing::abort_at))]
-pub(crate) fn event_of(listed: &mut Vec<(Key, Version)>, token: &[u8]) -> Result<Token, Refusal>
-    ensures { Gives (event_with listed.new.items) result (event_at token.now) }
+pub(crate) fn event_of(listing: &mut Listing, draft: &Draft, token: &[u8]) -> Result<Token, Refusal>
+    ensures { Gives (event_with listing.new.pairs.items) result (event_at token.now) }
 {
     let [letter, rest @ ..] = token else {
         return Err(Refusal::Bad(Reason::BadEvent));
@@ -175,7 +204,7 @@ pub(crate) fn event_of(listed: &mut Vec<(Key, Version)>, token: &[u8]) -> Result
     let (txn, rest) = number(rest)?;
     match *letter {
         b'b' => begin(txn, rest),
-        b'r' => read(listed, txn, rest),
+        b'r' => read(listing, draft, txn, rest),
         b'w' => write(txn, rest),
         b'c' => {
             end(rest)?;

@@ -96,6 +96,43 @@ const LONG: &[(bool, &str, &str, u32, Result<u32, TextFault>)] = &[
     ),
 ];
 
+/// The most events and the most bytes, a text, and how many events are read, or why it is refused.
+const LIMITED: &[(u64, u64, &[u8], Result<u32, TextFault>)] = &[
+    (2, 5, b"c1 c2", Ok(2)),
+    (3, 5, b"c1 c2\n", Err(TextFault::TextTooLong)),
+    (2, 4, b"c1 c2", Err(TextFault::TextTooLong)),
+    (2, 9, b"c1 c2 b3", Err(TOO_MANY)),
+    (2, 9, b"c1 c2 x", Err(TOO_MANY)),
+    (2, 7, b"c1 c2 b3", Err(TextFault::TextTooLong)),
+    (0, 0, b"", Ok(0)),
+    (0, 1, b"\n", Ok(0)),
+    (500_000_000, 17_179_869_184, b"c1 c2", Ok(2)),
+];
+
+const TOO_MANY: TextFault = TextFault::Refused {
+    token: 3,
+    reason: Reason::TooManyEvents,
+};
+
+#[test]
+fn chosen_limits(rt: HostRuntime) {
+    for (events, bytes, text, wanted) in LIMITED {
+        for size in 1..=text.len() + 1 {
+            let Some(limits) = Limits::new(*events, *bytes) else {
+                panic!(rt; "no limits");
+            };
+            let reader = TextReader::with_limits(rt.alloc(), limits);
+            match read_pieces(&rt, reader, text, size, &mut Locator::new()) {
+                Ok(history) => assert!(rt; Ok(history.len()) == *wanted),
+                Err(fault) => assert_eq!(rt; Err(fault), *wanted),
+            }
+        }
+    }
+    assert!(rt; Limits::new(500_000_001, 0).is_none());
+    assert!(rt; Limits::new(0, 17_179_869_185).is_none());
+}
+
+/// Under the standard limits.
 #[test]
 fn long_texts(rt: HostRuntime) -> Result<(), Fail> {
     for (are_many, front, again, times, wanted) in LONG {

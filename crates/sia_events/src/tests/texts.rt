@@ -2,7 +2,7 @@
 use super::*;
 
 /// The line and the column of a refused token, and what is shown of it.
-type Located = (u32, u32, &'static [u8]);
+type Located = (u64, u64, &'static [u8]);
 
 /// A text that is canonical already.
 macro_rules! same {

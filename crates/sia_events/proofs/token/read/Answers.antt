@@ -5,4 +5,4 @@ use Rattle.sia_events.proofs.TokenSteps.{read_colon}
 use Rattle.sia_events.proofs.token.read.Goals as goal
 
 pub returns-in-58 : goal.returns-in-58
-returns-in-58 c = let one = read_colon (event_with c.args.listed.now.items) c.item.result c.args.txn c.in_ok-first.first c.args.text.now c.in_ok-after.field-0.now c.in_ok-first.rest.now c.in_ok-after.ensures.gives c.in_ok-first.ensures.gives c.in-58.len_at_least in search (rules, one, c.item.ensures c.args.listed.now.items)
+returns-in-58 c = let one = read_colon (event_with c.args.listing.now.pairs.items) c.item.result c.args.txn c.in_ok-first.first c.args.text.now c.in_ok-after.field-0.now c.in_ok-first.rest.now c.in_ok-after.ensures.gives c.in_ok-first.ensures.gives c.in-58.len_at_least in search (rules, one, c.item.ensures c.args.listing.now.pairs.items)

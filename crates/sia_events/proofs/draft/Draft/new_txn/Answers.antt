@@ -8,19 +8,20 @@ use Rattle.sia_events.specs.OwnWrites.{no_writes}
 use Rattle.sia_events.specs.Drafts.{new_txn}
 use Rattle.sia_events.proofs.Logs.{txn_grown}
 use Rattle.sia_events.proofs.Drafted.{found_more}
+use Rattle.sia_events.proofs.Finders.{below_last}
 use Rattle.sia_events.proofs.Distinct.{push_there}
 use Rattle.sia_events.proofs.draft.Draft.new_txn.Goals as goal
 
-one_more : (c : goal.In_ok-add) → txn_names c.push.new.self.items ≡ txn_names c.args.self.now.tables.txns.items ++ c.args.name ∷ []
+one_more : (c : goal.In_ok-add_from) → txn_names c.push.new.self.items ≡ txn_names c.args.self.now.tables.txns.items ++ c.args.name ∷ []
 one_more c = ap txn_names c.in_ok-push.ensures.items ∙ map-append (λ (x : TxnRow). x.name) c.args.self.now.tables.txns.items (new_txn c.args.name c.args.start ∷ [])
 
-len : (c : goal.In_ok-add) → c.len-number.result ≡ length (txn_names c.args.self.now.tables.txns.items)
+len : (c : goal.In_ok-add_from) → c.len-number.result ≡ length (txn_names c.args.self.now.tables.txns.items)
 len c = let ok = c.args.self.now.tables.txns.ok in let same = length-map c.args.self.now.tables.txns.items (λ (x : TxnRow). x.name) in omega (arith, c.len-number.ensures)
 
-few : (c : goal.In_ok-add) → length c.args.self.now.tables.txns.items < 536870912
+few : (c : goal.In_ok-add_from) → length c.args.self.now.tables.txns.items < 536870912
 few c = let ok = c.args.self.now.tables.txns.ok in omega (arith, c.len-number.ensures, c.if-number-ge-MOST_ROWS.false)
 
-long : (c : goal.In_ok-add) → length c.push.new.self.items ≤ length c.add_txn.new.self.writers.items
+long : (c : goal.In_ok-add_from) → length c.push.new.self.items ≤ length c.add_txn.new.self.writers.items
 long c =
     let more : length c.push.new.self.items ≡ length c.args.self.now.tables.txns.items + 1 = ap length c.in_ok-push.ensures.items ∙ length-append c.args.self.now.tables.txns.items (new_txn c.args.name c.args.start ∷ []) in
     let rows : length c.add_txn.new.self.writers.items ≡ length c.args.self.now.writes.writers.items + 1 = ap length c.in_ok-add_txn.ensures.longer ∙ length-append c.args.self.now.writes.writers.items (no_writes ∷ []) in
@@ -35,7 +36,7 @@ returns-clause-found c = found_more c.args.self.now _ c.requires.found (txn_grow
   pairs = refl;
   events = refl;
 }) c.in_ok-push.ensures.items (few c) c.requires.new)
-    (subst (λ (xs : List TxnRow). Finds c.add.new.self (txn_names xs)) c.deref.ensures.value (c.in_ok-add.ensures (txn_names c.args.self.now.tables.txns.items) c.args.name (ap txn_names c.deref.ensures.value ∙ one_more c) c.requires.found.txns)) c.requires.found.keys (c.in_ok-add_txn.ensures.kept c.args.self.now.tables.writes.items c.requires.found.writes) (long c) refl
+    (subst (λ (xs : List TxnRow). Finds c.add_from.new.self (txn_names xs)) c.deref.ensures.value (c.in_ok-add_from.ensures (below_last c.args.self.now.txns _ (txn_names c.args.self.now.tables.txns.items) c.args.name c.len-number.result (ap txn_names c.deref.ensures.value ∙ one_more c) (len c) c.requires.found.txns))) c.requires.found.keys (c.in_ok-add_txn.ensures.kept c.args.self.now.tables.writes.items c.requires.found.writes) (long c) refl
 
 pub returns-clause-is : goal.returns-clause-is
 returns-clause-is c = rw (one_more c) (push_there (txn_names c.args.self.now.tables.txns.items) c.args.name _ (len c))

@@ -3,7 +3,6 @@ use Rattle.std.proofs.Common.{◌≡◌, ◌++◌, ◌∷◌, [], ℕ, List, inl
 use Rattle.std.proofs.Common.{false}
 use Rattle.std.proofs.lemmas.List.Elements.{All-from_recursion}
 use Rattle.sia_events.specs.LogTables.{events_of}
-use Rattle.sia_events.specs.Limits.{standard}
 use Rattle.sia_events.specs.Text.{is_separator, tokens}
 use Rattle.sia_events.specs.Judging.{JudgedAll, as_token}
 use Rattle.sia_events.proofs.Tokens.{closes, tokens_more, past_gap}
@@ -14,7 +13,7 @@ use Rattle.sia_events.proofs.judge.Judge.take_closed.Goals as goal
 
 pub loop-token-init : goal.loop-token-init
 loop-token-init c = record {
-  cut = ([], refl, inl refl, JudgedAll-none standard (events_of c.args.self.now.draft.tables));
+  cut = ([], refl, inl refl, JudgedAll-none c.args.limits (events_of c.args.self.now.draft.tables));
   knows = c.requires;
 }
 
@@ -28,9 +27,9 @@ loop-token-preserved c =
     let more = closed ++ (token ++ s.separator ∷ []) in
     let whole : c.args.text.now ≡ more ++ after =
     i.1 ∙ ap (λ (bs : List ℕ). closed ++ bs) (s.whole ∙ sym (append_assoc token (s.separator ∷ []) after)) ∙ sym (append_assoc closed (token ++ s.separator ∷ []) after) in
-    let all : JudgedAll standard (events_of c.args.self.now.draft.tables) (tokens more) (events_of c.take_some.new.self.draft.tables) =
-    subst (λ (ts : List (List ℕ)). JudgedAll standard (events_of c.args.self.now.draft.tables) ts (events_of c.take_some.new.self.draft.tables)) (sym (tokens_more closed token s.separator i.2 s.unbroken s.separates))
-    (JudgedAll-append standard (events_of c.args.self.now.draft.tables) (events_of c.loop-token.self.draft.tables) (events_of c.take_some.new.self.draft.tables) (tokens closed) (as_token token) i.3 c.in_ok-take_some.ensures.taken) in
+    let all : JudgedAll c.args.limits (events_of c.args.self.now.draft.tables) (tokens more) (events_of c.take_some.new.self.draft.tables) =
+    subst (λ (ts : List (List ℕ)). JudgedAll c.args.limits (events_of c.args.self.now.draft.tables) ts (events_of c.take_some.new.self.draft.tables)) (sym (tokens_more closed token s.separator i.2 s.unbroken s.separates))
+    (JudgedAll-append c.args.limits (events_of c.args.self.now.draft.tables) (events_of c.loop-token.self.draft.tables) (events_of c.take_some.new.self.draft.tables) (tokens closed) (as_token token) i.3 c.in_ok-take_some.ensures.taken) in
     let gap = c.past_separators-rest.ensures in
     let past = past_gap more after gap.0 gap.1 gap.3 (closes closed token s.separator s.separates) in
     record {
@@ -38,7 +37,7 @@ loop-token-preserved c =
         past.0,
         whole ∙ past.1 ∙ ap (λ (rest : List ℕ). past.0 ++ rest) (sym gap.2),
         past.2,
-        subst (λ (ts : List (List ℕ)). JudgedAll standard (events_of c.args.self.now.draft.tables) ts (events_of c.take_some.new.self.draft.tables)) (sym past.3) all,
+        subst (λ (ts : List (List ℕ)). JudgedAll c.args.limits (events_of c.args.self.now.draft.tables) ts (events_of c.take_some.new.self.draft.tables)) (sym past.3) all,
       );
       knows = c.in_ok-take_some.ensures.knows;
     }
@@ -53,5 +52,5 @@ returns-in_err-take_some-clause-refused c =
     let p = err_from_is_err_and c.from_residual.result c.from_residual.ensures.1 in
     let i = c.loop-token.invariant.cut in
     let s = c.in-Some.ensures.some in
-    rw (p.1, p.2) (halts_in standard c.in_err-take_some.field-0.0 (events_of c.args.self.now.draft.tables) (events_of c.loop-token.self.draft.tables) (events_of c.take_some.new.self.draft.tables) c.args.text.now i.0 c.in-Some.token.now c.in-Some.after.now s.separator
+    rw (p.1, p.2) (halts_in c.args.limits c.in_err-take_some.field-0.0 (events_of c.args.self.now.draft.tables) (events_of c.loop-token.self.draft.tables) (events_of c.take_some.new.self.draft.tables) c.args.text.now i.0 c.in-Some.token.now c.in-Some.after.now s.separator
     (i.1 ∙ ap (λ (bs : List ℕ). i.0 ++ bs) s.whole) i.2 s.unbroken s.separates i.3 c.in_err-take_some.ensures.refused)

@@ -1,0 +1,160 @@
+//! How listed pairs were spelled last.
+ghost use Rattle.std.specs.Prelude.{◌≡◌, ◌<◌, ◌≤◌, ℕ, Some, Ok, length, take, slice_index, IfOk, IfSome};
+ghost use Rattle.sia_events.specs.Parsing.{Gives, pair_at, SpellsPair};
+
+use crate::draft::Draft;
+use crate::event::{Key, Version};
+use crate::fault::Refusal;
+use crate::token::pair;
+use std::alloc::{AllocError, Global};
+use std::simd::prelude::*;
+
+/// No longer spelling is kept.
+const BLOCK: usize = 16;
+
+/// So many keys have one.
+const MOST_KEYS: u32 = 65_536;
+
+/// Bytes that spell a listed pair.
+#[derive(Clone, Copy)]
+struct Spelling {
+    bytes: [u8; BLOCK],
+    len: u32,
+    key: Key,
+    saw: Version,
+    ghost few: { len ≤ 16 },
+    ghost spells: { SpellsPair (take len bytes) key saw },
+}
+
+/// By the number of a key, how it was listed last; and the number of the key that may well be listed next.
+#[derive(Drop)]
+pub(crate) struct Spellings {
+    rows: Vec<Spelling>,
+    next: u32,
+}
+
+/// The same of fewer bytes than a block's.
+fn short_same_len(text: &[u8], bytes: &[u8; BLOCK]) -> usize
+    requires { length text.now < 16 }
+    ensures { (k : ℕ) → k < result → slice_index text.now k ≡ slice_index bytes.now k }
+{
+    let mut len = 0;
+    while len < text.len() && text[len] == bytes[len] {
+        len += 1;
+    }
+    len
+}
+
+/// How many of the first bytes are the same.
+#[inline(always)]
+fn same_len(text: &[u8], bytes: &[u8; BLOCK]) -> usize
+    ensures { (k : ℕ) → k < result → slice_index text.now k ≡ slice_index bytes.now k }
+{
+    if text.len() < BLOCK {
+        return short_same_len(text, bytes);
+    }
+    let other = u8x16::from_slice(text)
+        .simd_ne(u8x16::from_array(*bytes))
+        .to_bitmask();
+    if other == 0 {
+        return BLOCK;
+    }
+    other.trailing_zeros() as usize
+}
+
+impl Spelling {
+    fn of(spelled: &[u8], key: Key, saw: Version) -> Option<Spelling>
+        requires { SpellsPair spelled.now key saw }
+    {
+        if spelled.len() > BLOCK {
+            return None;
+        }
+        let mut bytes = [0; BLOCK];
+        bytes[..spelled.len()].copy_from_slice(spelled);
+        Some(Spelling {
+            bytes,
+            len: spelled.len() as u32,
+            key,
+            saw,
+        })
+    }
+
+    /// What follows the pair, where the text begins with its spelling and goes on with no digit.
+    #[inline(always)]
+    fn past<'a>(&self, text: &'a [u8]) -> Option<&'a [u8]>
+        ensures pair { IfSome result (λ rest. pair_at text.now ≡ Ok (Some (self.now.key, self.now.saw), rest.now)) }
+        ensures shorter { IfSome result (λ rest. length rest.now ≤ length text.now) }
+    {
+        let len = self.len as usize;
+        if text.len() <= len {
+            return None;
+        }
+        if same_len(text, &self.bytes) < len {
+            return None;
+        }
+        if text[len].is_ascii_digit() {
+            return None;
+        }
+        Some(&text[len..])
+    }
+}
+
+impl Spellings {
+    pub(crate) fn new(alloc: Global) -> Self {
+        Spellings {
+            rows: Vec::new(alloc),
+            next: u32::MAX,
+        }
+    }
+
+    /// A listed pair: at once, where it is spelled as the key's last one.
+    #[inline(always)]
+    pub(crate) fn pair<'a>(
+        &mut self,
+        draft: &Draft,
+        text: &'a [u8],
+    ) -> Result<(Option<(Key, Version)>, &'a [u8]), Refusal>
+        ensures gives { Gives (λ x. (x.0, x.1.now)) result (pair_at text.now) }
+        ensures shorter { IfOk result (λ x. length x.1.now ≤ length text.now) }
+    {
+        if let Some(row) = self.rows.get(self.next as usize) {
+            if let Some(rest) = row.past(text) {
+                self.next = self.next.wrapping_add(1);
+                return Ok((Some((row.key, row.saw)), rest));
+            }
+        }
+        self.new_pair(draft, text)
+    }
+
+    #[inline(never)]
+    fn new_pair<'a>(
+        &mut self,
+        draft: &Draft,
+        text: &'a [u8],
+    ) -> Result<(Option<(Key, Version)>, &'a [u8]), Refusal>
+        ensures gives { Gives (λ x. (x.0, x.1.now)) result (pair_at text.now) }
+        ensures shorter { IfOk result (λ x. length x.1.now ≤ length text.now) }
+    {
+        let (read, rest) = pair(text)?;
+        if let Some((key, saw)) = read {
+            let spelled = &text[..text.len() - rest.len()];
+            if let Some(spelling) = Spelling::of(spelled, key, saw) {
+                self.keep(draft.find_key(key).unwrap_or(MOST_KEYS), spelling)?;
+            }
+        }
+        Ok((read, rest))
+    }
+
+    /// Keeps the spelling of the key with the number.
+    fn keep(&mut self, number: u32, spelling: Spelling) -> Result<(), AllocError> {
+        self.next = number.wrapping_add(1);
+        if number >= MOST_KEYS {
+            return Ok(());
+        }
+        while self.rows.len() <= number as usize {
+            self.rows.push(spelling)?;
+        }
+        self.rows[number as usize] = spelling;
+        Ok(())
+    }
+}
