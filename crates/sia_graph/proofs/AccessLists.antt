@@ -1,10 +1,12 @@
 -- What a committed transaction saw and missed, as the lists of its number.
-use Rattle.std.proofs.Common.{◌≡◌, ◌⊎◌, inl, inr, ℕ, ◌-◌, ◌<◌, ◌≤◌, List, [], Some, length, get_or, sym, subst, arith}
+use Rattle.std.proofs.Common.{◌≡◌, ◌⊎◌, inl, inr, ℕ, zero, suc, ◌-◌, ◌<◌, ◌≤◌, List, [], ◌∷◌, Some, length, get_or, sym, subst, arith}
 use Rattle.std.specs.Prelude.{◌↔◌, ⊤, Contains}
 use Rattle.std.specs.List.{slice_get}
 use Rattle.std.proofs.lemmas.Option.{get_or_from_slice_get, slice_get-get_or}
+use Rattle.std.proofs.lemmas.List.Elements.{Contains-append_left, Contains-append_right}
 use Rattle.sia_events.specs.declared.event.Event.{Event}
 use Rattle.sia_events.specs.Refusals.{IsWellFormed}
+use Rattle.sia_index.specs.Lists.{joined}
 use Rattle.sia_index.specs.Numbers.{IsCommittedAt}
 use Rattle.sia_index.specs.Positions.{HasPosition}
 use Rattle.sia_parts.specs.declared.accesses.Accesses.{Accesses}
@@ -19,6 +21,15 @@ use Rattle.sia_graph.specs.Passed.{IsHeldBy, IsOwnPassed, IsPassed}
 -- a list of lists, by the lists that it has
 list_at : {A : Type 0} (lists : List (List A)) (i : ℕ) → i < length lists → (xs : List A) → slice_get lists i ≡ Some xs → get_or lists i [] ≡ xs
 list_at lists i below xs at = get_or_from_slice_get lists i xs [] at
+
+-- what a list holds is in all of them together
+in_joined : {A : Type 0} (lists : List (List A)) (i : ℕ) (xs : List A) (x : A) → slice_get lists i ≡ Some xs → Contains xs x → Contains (joined lists) x
+in_joined [] i xs x at has = cc
+in_joined (ys ∷ lists) zero xs x at has = let same : ys ≡ xs = cc in Contains-append_left ys (joined lists) x (subst (λ l. Contains l x) (sym same) has)
+in_joined (ys ∷ lists) (suc i) xs x at has = Contains-append_right ys (joined lists) x (in_joined lists i xs x at has)
+
+pub none_missed : (a : Accesses) → length (joined a.missed) ≡ 0 → (i j : ℕ) → ¬ Missed a i j
+none_missed a none i j m = let has = in_joined a.missed i m.1.0 m.0 m.1.1 m.1.2 in let l = has.1 in omega arith
 
 module _ (h : List Event) (a : Accesses) (are : AreAccesses h (λ _. ⊤) a) (i t : ℕ) (at : IsCommittedAt h i t) where
   pub saw_inside : i < length a.saw

@@ -1,15 +1,14 @@
 -- Who passed over keys, by blocks of these: what stands with some block over a key.
 use Rattle.std.proofs.Common.{◌≡◌, ◌≢◌, ◌⊎◌, inl, inr, ℕ, ◌+◌, ◌*◌, ◌/◌, ◌^◌, ◌<◌, ◌≤◌, List, ◌∷◌, [], ◌++◌, length, get_or, set, map, take, min, append_assoc, subst, sym, ap, ◌∙◌, arith}
 use Rattle.std.specs.Prelude.{◌↔◌, Contains}
-use Rattle.std.proofs.Math.Nat.{lt_of_mul-lt-mul_right, mul_assoc, mul-le-mul_right, pow-le-pow_right}
 use Rattle.std.proofs.Math.Seq.{take-append_seam}
 use Rattle.std.proofs.lemmas.Bool.{cases_lt}
 use Rattle.std.proofs.lemmas.List.{map_more}
 use Rattle.std.proofs.lemmas.List.Elements.{Contains-append_left, Contains-append_right, Contains-append_cases, Contains-push, Contains-push_cases}
-use Rattle.sia_graph.specs.KeyBlocks.{IsOver, IsUnderSome}
+use Rattle.sia_graph.specs.KeyBlocks.{IsUnderSome}
 use Rattle.sia_graph.specs.Twos.{AreTwosOf, AreTwosOver, IsLeastNumber, IsTwo, IsWith}
 use Rattle.sia_graph.specs.declared.twos.Two.{Two}
-use Rattle.sia_graph.proofs.KeyBlocks.{doubled}
+use Rattle.sia_graph.proofs.KeyBlocks.{half_over, lower_over, one_block}
 use Rattle.sia_graph.proofs.LeastNumbers.{least_either, least_none, least_same, other_of, two_none}
 use Rattle.sia_graph.proofs.ListedAs.{mapped}
 use Rattle.sia_graph.proofs.PositionTwos.{put_one}
@@ -44,39 +43,43 @@ entries_few entries blocks i few all b r c = elim (Contains-append_cases entries
   | inr added ↦ let from = (mapped (λ (b : ℕ). (b, i)) blocks (b, r)).0 added in let e : i ≡ r = ap (λ (x : ℕ × ℕ). x.1) from.2 in omega arith
 ]
 
--- the keys of one stretch, that r passed over, beside what is there
-pub over_more : (P : ℕ → ℕ → Type 0) (size i from to : ℕ) (nodes new : List Two) (blocks : List ℕ) → i < 4294967295
-    → ((j : ℕ) → j < size → IsUnderSome size blocks j ↔ ((from ≤ j) × (j < to)))
+-- what is entered then
+pub entry_cases : (entries : List (ℕ × ℕ)) (places : List ℕ) (i place r : ℕ) → At (entries ++ map (λ b. (b, i)) places) place r ↔ (At entries place r ⊎ ((r ≡ i) × Contains places place))
+entry_cases entries places i place r =
+    let more : List (ℕ × ℕ) = map (λ (b : ℕ). (b, i)) places in (
+      (λ has. elim (Contains-append_cases entries more (place, r) has) [
+        | inl old ↦ inl old
+        | inr added ↦ let x = (mapped (λ (b : ℕ). (b, i)) places (place, r)).0 added in inr (sym (ap (λ (y : ℕ × ℕ). y.1) x.2), subst (λ b. Contains places b) (ap (λ (y : ℕ × ℕ). y.0) x.2) x.1)
+      ]),
+      (λ w. elim w [
+        | inl old ↦ Contains-append_left entries more (place, r) old
+        | inr x ↦ Contains-append_right entries more (place, r) ((mapped (λ (b : ℕ). (b, i)) places (place, r)).1 (place, x.1, ap (λ (n : ℕ). (place, n)) (sym x.0)))
+      ]),
+    )
+
+-- some keys that number i passed over, beside what is there
+pub over_more : (P : ℕ → ℕ → Type 0) (Held : ℕ → Type 0) (size i : ℕ) (nodes new : List Two) (blocks : List ℕ) → i < 4294967295
+    → ((j : ℕ) → j < size → IsUnderSome size blocks j ↔ Held j)
     → ((b : ℕ) → Contains blocks b → (0 < b) × (b < length new)) → length nodes ≡ length new
     → ((entries : List (ℕ × ℕ)) → ((b r : ℕ) → At entries b r → r < 4294967295) → AreTwosOf (At entries) nodes → AreTwosOf (At (entries ++ map (λ b. (b, i)) blocks)) new)
-    → AreTwosOver size P nodes → AreTwosOver size (λ key r. P key r ⊎ ((r ≡ i) × (from ≤ key) × (key < to))) new
-over_more P size i from to nodes new blocks few over within long put are =
-    let more : List (ℕ × ℕ) = map (λ (b : ℕ). (b, i)) blocks in
+    → AreTwosOver size P nodes → AreTwosOver size (λ key r. P key r ⊎ ((r ≡ i) × Held key)) new
+over_more P Held size i nodes new blocks few over within long put are =
     record {
-      entries = are.entries ++ more;
+      entries = are.entries ++ map (λ (b : ℕ). (b, i)) blocks;
       few = entries_few are.entries blocks i few are.few;
       over = λ key r l. (
-        (λ has. elim (Contains-append_cases are.entries more (has.0, r) has.1) [
+        (λ has. elim ((entry_cases are.entries blocks i has.0 r).0 has.1) [
           | inl old ↦ inl ((are.over key r l).0 (has.0, old, has.2))
-          | inr added ↦
-              let x = (mapped (λ (b : ℕ). (b, i)) blocks (has.0, r)).0 added in
-              let e : x.0 ≡ has.0 = ap (λ (y : ℕ × ℕ). y.0) x.2 in
-              let keys = (over key l).0 (x.0, x.1, subst (λ b. IsOver size b key) (sym e) has.2) in
-              inr (sym (ap (λ (y : ℕ × ℕ). y.1) x.2), keys.0, keys.1)
+          | inr x ↦ inr (x.0, (over key l).0 (has.0, x.1, has.2))
         ]),
         (λ w. elim w [
-          | inl p ↦ let has = (are.over key r l).1 p in (has.0, Contains-append_left are.entries more (has.0, r) has.1, has.2)
-          | inr x ↦
-              let under = (over key l).1 (x.1, x.2) in
-              (under.0, Contains-append_right are.entries more (under.0, r) ((mapped (λ (b : ℕ). (b, i)) blocks (under.0, r)).1 (under.0, under.1, ap (λ (n : ℕ). (under.0, n)) (sym x.0))), under.2)
+          | inl p ↦ let has = (are.over key r l).1 p in (has.0, (entry_cases are.entries blocks i has.0 r).1 (inl has.1), has.2)
+          | inr x ↦ let under = (over key l).1 x.1 in (under.0, (entry_cases are.entries blocks i under.0 r).1 (inr (x.0, under.1)), under.2)
         ]),
       );
-      within = λ (b r : ℕ) (has : Contains (are.entries ++ more) (b, r)). elim (Contains-append_cases are.entries more (b, r) has) [
+      within = λ b r has. elim ((entry_cases are.entries blocks i b r).0 has) [
         | inl old ↦ let w = are.within b r old in (w.0, omega arith)
-        | inr added ↦
-            let x = (mapped (λ (b : ℕ). (b, i)) blocks (b, r)).0 added in
-            let e : x.0 ≡ b = ap (λ (y : ℕ × ℕ). y.0) x.2 in
-            subst (λ n. (0 < n) × (n < length new)) e (within x.0 x.1)
+        | inr x ↦ within b x.1
       ];
       twos = put are.entries are.few are.twos;
     }
@@ -113,28 +116,15 @@ IsRising nodes leaf me block least = (height : ℕ) × (block * 2 ^ height ≤ l
 pub rises_from : (nodes : List Two) (leaf me : ℕ) → IsRising nodes leaf me leaf 4294967295
 rises_from nodes leaf me = (0, omega arith, omega arith, λ entries few are. least_none (IsUnder entries leaf 0 me) (λ q is. let none = is.2 in omega arith))
 
-one_block : (b c m x : ℕ) → b * m ≤ x → x < (b + 1) * m → c * m ≤ x → x < (c + 1) * m → b ≡ c
-one_block b c m x b_low b_high c_low c_high =
-    let up : b < c + 1 = lt_of_mul-lt-mul_right m (let d : b * m < (c + 1) * m = omega arith in d) in
-    let down : c < b + 1 = lt_of_mul-lt-mul_right m (let d : c * m < (b + 1) * m = omega arith in d) in
-    omega arith
-
 pub rises_on : (nodes : List Two) (leaf me block least at : ℕ) (d : Two) → block < length nodes
     → ((get_or nodes block d).least ≡ me → at ≡ (get_or nodes block d).next) → ((get_or nodes block d).least ≢ me → at ≡ (get_or nodes block d).least)
     → IsRising nodes leaf me block least → IsRising nodes leaf me (block / 2) (min least at)
 rises_on nodes leaf me block least at d inside own another rising =
     let e = rising.0 in
-    let m = 2 ^ e in
-    let twice = doubled e in
-    let low = mul-le-mul_right m (let h : block / 2 * 2 ≤ block = omega arith in h) in
-    let high = mul-le-mul_right m (let h : block + 1 ≤ (block / 2 + 1) * 2 = omega arith in h) in
-    let low_is = ap (λ n. block / 2 * n) twice ∙ sym (mul_assoc (block / 2) 2 m) in
-    let high_is = ap (λ n. (block / 2 + 1) * n) twice ∙ sym (mul_assoc (block / 2 + 1) 2 m) in
-    let from = rising.1 in
-    let to = rising.2 in (
+    let half = half_over block e leaf rising.1 rising.2 in (
       e + 1,
-      omega arith,
-      omega arith,
+      half.0,
+      half.1,
       λ entries few are.
           least_either (IsUnder entries leaf e me) (λ r. At entries block r × (r ≢ me)) (IsUnder entries leaf (e + 1) me) least at
           (λ r is. few is.0 r is.5)
@@ -145,7 +135,7 @@ rises_on nodes leaf me block least at d inside own another rising =
             | inr more ↦
                 let l = is.2 in
                 let f : is.1 ≡ e = omega arith in
-                let g : is.0 ≡ block = one_block is.0 block m leaf (subst (λ n. is.0 * 2 ^ n ≤ leaf) f is.3) (subst (λ n. leaf < (is.0 + 1) * 2 ^ n) f is.4) rising.1 rising.2 in
+                let g : is.0 ≡ block = one_block is.0 block (2 ^ e) leaf (subst (λ n. is.0 * 2 ^ n ≤ leaf) f is.3) (subst (λ n. leaf < (is.0 + 1) * 2 ^ n) f is.4) rising.1 rising.2 in
                 inr (subst (λ b. At entries b r) g is.5, is.6)
           ])
           (rising.3 entries few are) (other_of (At entries block) (get_or nodes block d) me at own another (are block d inside)),
@@ -159,15 +149,5 @@ risen nodes size key me least l rising P are =
     (λ r is.
     let has = (are.over key r l).1 is.0 in
     let over = has.2 in
-    (has.0, over.0, lower has.0 over.0 over.1 (are.within has.0 r has.1).0, over.1, over.2, has.1, is.1))
+    (has.0, over.0, lower_over has.0 over.0 rising.0 (size + key) rising.2 over.1 (are.within has.0 r has.1).0, over.1, over.2, has.1, is.1))
     (rising.3 are.entries are.few are.twos)
-  where
-    lower : (b n : ℕ) → b * 2 ^ n ≤ size + key → 0 < b → n < rising.0
-    lower b n low some = elim (cases_lt n rising.0) [
-      | inl less ↦ less
-      | inr more ↦
-          let up : 2 ^ rising.0 ≤ 2 ^ n = pow-le-pow_right (omega arith) more in
-          let once = mul-le-mul_right (2 ^ n) (let h : 1 ≤ b = omega arith in h) in
-          let to = rising.2 in
-          absurd (omega arith)
-    ]

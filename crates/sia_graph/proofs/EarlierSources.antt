@@ -1,7 +1,7 @@
 -- What is at hand of those who made, saw or passed over versions, and the edges to a transaction that this tells.
-use Rattle.std.proofs.Common.{◌≡◌, ◌≢◌, ◌⊎◌, inl, inr, ℕ, ◌-◌, ◌<◌, ◌≤◌, Bool, List, length, get_or, min, refl, ap, sym, subst, ◌∙◌, arith}
+use Rattle.std.proofs.Common.{◌≡◌, ◌≢◌, ◌⊎◌, inl, inr, ℕ, ◌-◌, ◌<◌, ◌≤◌, Bool, List, length, min, refl, ap, sym, subst, ◌∙◌, arith}
 use Rattle.std.specs.Prelude.{◌↔◌, ⊤, Contains}
-use Rattle.std.proofs.lemmas.Bool.{cases_eq, cases_lt}
+use Rattle.std.proofs.lemmas.Bool.{cases_eq}
 use Rattle.sia_events.specs.declared.event.Event.{Event}
 use Rattle.sia_events.specs.Lists.{ListsAscending}
 use Rattle.sia_events.specs.NarrowDependencies.{IsNextVersion}
@@ -10,11 +10,10 @@ use Rattle.sia_events.specs.Transactions.{CommitsAt}
 use Rattle.sia_events.proofs.OneList.{one_list_by}
 use Rattle.sia_events.proofs.WellFormed.{one_commit}
 use Rattle.sia_index.proofs.KeyChains.{key_number}
-use Rattle.sia_index.specs.Info.{AreWrittenKeys, IsKeyAt}
+use Rattle.sia_index.specs.Info.{IsKeyAt}
 use Rattle.sia_index.specs.Numbers.{IsCommittedAt}
 use Rattle.sia_index.specs.Positions.{AreAllVersions, ArePositions, IsAtPosition, IsVersion}
 use Rattle.sia_index.specs.declared.info.KeyVersion.{KeyVersion}
-use Rattle.sia_parts.proofs.FewNumbers.{few_keys}
 use Rattle.sia_parts.specs.Accesses.{AreAccesses, HasMiss, Missed, SawPosition}
 use Rattle.sia_parts.specs.Entries.{EdgeOfKind}
 use Rattle.sia_parts.specs.Sights.{FromSome}
@@ -22,6 +21,7 @@ use Rattle.sia_parts.specs.declared.accesses.Accesses.{Accesses}
 use Rattle.sia_parts.specs.declared.accesses.RangeMiss.{RangeMiss}
 use Rattle.sia_parts.specs.declared.finding.Kind.{Kind}
 use Rattle.sia_parts.specs.declared.finding.Kind.TheVariants.{Ww, Wr, Rw}
+use Rattle.sia_graph.specs.Passed.{IsSizeFor}
 use Rattle.sia_graph.specs.Previous.{IsLeftIn}
 use Rattle.sia_graph.specs.Twos.{HaveOneKey, IsBeforeVersion, IsLeastNumber, IsLeftMaker, IsLeftReader, IsLeftSource, IsTwo, IsUpTo}
 use Rattle.sia_graph.specs.declared.twos.Two.{Two}
@@ -34,19 +34,20 @@ use Rattle.sia_graph.proofs.PositionTwos.{before_below, below_before, none_below
 pub one_count : (h : List Event) (n m : ℕ) → ArePositions h n → ArePositions h m → n ≡ m
 one_count h n m a b = sym a.2 ∙ ap (length {A = KeyVersion}) (one_list_by _ (IsVersion h) a.0 b.0 a.1 b.1) ∙ b.2
 
-pub few_written : (h : List Event) → IsWellFormed h → (keys : List ℕ) → AreWrittenKeys h keys → length keys ≤ 536870912
-few_written h wf keys are = elim (cases_lt 0 (length keys)) [
-  | inl some ↦ let f = few_keys h wf (length keys - 1) (get_or keys (length keys - 1) 0) (keys, are, (omega arith), refl) in omega arith
-  | inr none ↦ omega arith
-]
-
--- each miss is of some written keys
-pub miss_within : (h : List Event) (a : Accesses) → AreAccesses h (λ _. ⊤) a → (keys : List ℕ) → AreWrittenKeys h keys → (i : ℕ) (miss : RangeMiss) → HasMiss a i miss → (miss.from < miss.to) × (miss.to ≤ length keys)
-miss_within h a are keys written i miss has =
+-- each miss is of keys that blocks are over
+pub miss_within : (h : List Event) (a : Accesses) → AreAccesses h (λ _. ⊤) a → (size : ℕ) → IsSizeFor size h a → (i : ℕ) (miss : RangeMiss) → HasMiss a i miss → (miss.from < miss.to) × (miss.to ≤ size)
+miss_within h a are size (inl all) i miss has =
     let some = are.some i miss has in
     let w = are.missed i (miss.to - 1) (miss, has, omega arith, omega arith) in
-    let n = (key_number h keys written (miss.to - 1) w.1 w.3).0 in
+    let n = (key_number h all.0 all.1 (miss.to - 1) w.1 w.3).0 in
+    let e = all.2 in
     (some, omega arith)
+miss_within h a are size (inr none) i miss has = let some = are.some i miss has in absurd (none.1 i miss.from (miss, has, omega arith, some))
+
+-- blocks are over a key, or nobody passed over it
+pub key_within : (h : List Event) (a : Accesses) (size : ℕ) → IsSizeFor size h a → (j k : ℕ) → IsKeyAt h j k → (j < size) ⊎ ((r : ℕ) → ¬ Missed a r j)
+key_within h a size (inl all) j k at = inl (let n = (key_number h all.0 all.1 j k at).0 in let e = all.2 in omega arith)
+key_within h a size (inr none) j k at = inr (λ r. none.1 r j)
 
 -- r saw the version at a position below this one of its key
 abbrev pub SawBelow : List Event → Accesses → List Bool → ℕ → ℕ → Type 0

@@ -54,9 +54,6 @@ module _ (ids : List ℕ) (up : IsStrictlyIncreasing ids) (edges : List Edge) (g
   abbrev By : ℕ → ℕ → Type 0
   By = LeadsByName (name_of 0 ids) (LeadsThrough (2 * 0) Step)
 
-  many : 2 * 0 + length ids ≡ length ids
-  many = omega arith
-
   is_node : (a : ℕ) → a < length ids → Contains (node_list 0 ids) a
   is_node a l = in_range (2 * 0 + length ids) a (omega arith)
 

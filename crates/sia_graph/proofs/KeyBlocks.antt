@@ -1,7 +1,7 @@
 -- Blocks of keys: which are over a key, and what a loop knows that goes up from the leaves.
 use Rattle.std.proofs.Common.{◌≡◌, ◌⊎◌, inl, inr, ℕ, zero, suc, ◌+◌, ◌-◌, ◌*◌, ◌/◌, ◌%◌, ◌^◌, ◌<◌, ◌≤◌, List, refl, ap, sym, ◌∙◌, subst, arith}
 use Rattle.std.specs.Prelude.{◌↔◌, Contains}
-use Rattle.std.proofs.Math.Nat.{mul_assoc, mul_comm, mul-le-mul_left, mul-le-mul_right, pow-succ'}
+use Rattle.std.proofs.Math.Nat.{lt_of_mul-lt-mul_right, mul_assoc, mul_comm, mul-le-mul_left, mul-le-mul_right, pow-le-pow_right, pow-succ'}
 use Rattle.std.proofs.lemmas.Bool.{cases_lt}
 use Rattle.sia_graph.specs.KeyBlocks.{IsOver, IsUnderSome}
 
@@ -12,6 +12,34 @@ doubled e = let s : e + 1 ≡ suc e = omega arith in ap (λ n. 2 ^ n) s ∙ pow-
 pub some_power : (e : ℕ) → 0 < 2 ^ e
 some_power zero = omega arith
 some_power (suc e) = let h = some_power e in let p = pow-succ' 2 e in omega arith
+
+-- one block of each height is over a leaf
+pub one_block : (b c m x : ℕ) → b * m ≤ x → x < (b + 1) * m → c * m ≤ x → x < (c + 1) * m → b ≡ c
+one_block b c m x b_low b_high c_low c_high =
+    let up : b < c + 1 = lt_of_mul-lt-mul_right m (let d : b * m < (c + 1) * m = omega arith in d) in
+    let down : c < b + 1 = lt_of_mul-lt-mul_right m (let d : c * m < (b + 1) * m = omega arith in d) in
+    omega arith
+
+-- it is half the one below it
+pub half_over : (b e x : ℕ) → b * 2 ^ e ≤ x → x < (b + 1) * 2 ^ e → (b / 2 * 2 ^ (e + 1) ≤ x) × (x < (b / 2 + 1) * 2 ^ (e + 1))
+half_over b e x from to =
+    let m = 2 ^ e in
+    let twice = doubled e in
+    let low = mul-le-mul_right m (let h : b / 2 * 2 ≤ b = omega arith in h) in
+    let high = mul-le-mul_right m (let h : b + 1 ≤ (b / 2 + 1) * 2 = omega arith in h) in
+    let low_is = ap (λ n. b / 2 * n) twice ∙ sym (mul_assoc (b / 2) 2 m) in
+    let high_is = ap (λ n. (b / 2 + 1) * n) twice ∙ sym (mul_assoc (b / 2 + 1) 2 m) in
+    (omega arith, omega arith)
+
+-- those over a leaf are lower than a height at which block 0 is over it
+pub lower_over : (b n top x : ℕ) → x < (0 + 1) * 2 ^ top → b * 2 ^ n ≤ x → 0 < b → n < top
+lower_over b n top x to low some = elim (cases_lt n top) [
+  | inl less ↦ less
+  | inr more ↦
+      let up : 2 ^ top ≤ 2 ^ n = pow-le-pow_right (omega arith) more in
+      let once = mul-le-mul_right (2 ^ n) (let h : 1 ≤ b = omega arith in h) in
+      absurd (omega arith)
+]
 
 -- a greater power is at least twice as great
 greater_power : (d e : ℕ) → 2 * 2 ^ e ≤ 2 ^ (e + 1 + d)

@@ -4,17 +4,17 @@ use Rattle.std.specs.Prelude.{◌↔◌}
 use Rattle.std.specs.List.{slice_get}
 use Rattle.std.proofs.lemmas.Bool.{cases_lt}
 use Rattle.std.proofs.lemmas.List.{get_or_append_left, get_or_push, length-append}
-use Rattle.std.proofs.lemmas.Option.{get_or_from_slice_get, slice_get_within, slice_get-get_or}
+use Rattle.std.proofs.lemmas.Option.{get_or_from_slice_get, slice_get_within}
 use Rattle.sia_events.specs.declared.event.Event.{Event}
 use Rattle.sia_events.specs.Lists.{Precedes}
 use Rattle.sia_events.proofs.OneList.{one_list_by}
 use Rattle.sia_index.specs.declared.info.KeyVersion.{KeyVersion}
 use Rattle.sia_index.specs.Info.{IsKeyAt}
-use Rattle.sia_index.specs.Positions.{ArePositions, HasPosition, IsAtPosition, IsVersion}
+use Rattle.sia_index.specs.Positions.{ArePositions, IsAtPosition, IsVersion}
 use Rattle.sia_graph.specs.Late.{AreLastBefore, IsMarkedBefore, IsMarkedOver}
 use Rattle.sia_graph.proofs.Numbered.{commits_at, one_key_number}
 use Rattle.sia_graph.proofs.PositionEdges.{commits_less, one_at, position_of, positions_less}
-use Rattle.sia_graph.proofs.Stands.{position_below}
+use Rattle.sia_graph.proofs.PositionTwos.{positions_below}
 
 module _ (h : List Event) where
   abbrev rank : KeyVersion → List ℕ
@@ -130,14 +130,5 @@ module _ (h : List Event) where
     pub last_all : (q : ℕ) (late : List ℕ) (last : ℕ) → ArePositions h (length seen) → length seen ≡ q → HasLastTo q late last → AreLastBefore h size seen most late
     last_all q late last positions all has = record {
       long = has.long ∙ sym all;
-      each = λ p v at. has.each p v (let l = position_below h (length seen) p positions (v, at) in omega arith) at;
+      each = λ p v at. has.each p v (let l = positions_below h (length seen) p positions (v, at) in omega arith) at;
     }
-
--- each number below so many is a position
-pub has_position : (h : List Event) (count q : ℕ) → ArePositions h count → q < count → HasPosition h q
-has_position h count q positions below =
-    let none : KeyVersion = record { key = 0; commit = 0; txn = 0 } in
-    (get_or positions.0 q none, (positions.0, positions.1, slice_get-get_or positions.0 q none (let e = positions.2 in omega arith)))
-
-pub same_count : (h : List Event) (m n : ℕ) → ArePositions h m → ArePositions h n → m ≡ n
-same_count h m n a b = sym a.2 ∙ ap (length {A = KeyVersion}) (one_list_by _ (IsVersion h) a.0 b.0 a.1 b.1) ∙ b.2

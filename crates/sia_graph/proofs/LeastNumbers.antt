@@ -1,6 +1,5 @@
 -- Least numbers, and the two least.
 use Rattle.std.proofs.Common.{◌≡◌, ◌≢◌, ◌⊎◌, inl, inr, ℕ, ◌+◌, ◌<◌, ◌≤◌, List, get_or, length, min, refl, subst, sym, take, arith}
-use Rattle.std.specs.Prelude.{◌↔◌}
 use Rattle.std.proofs.lemmas.Bool.{cases_lt, cases_eq, cases_order}
 use Rattle.sia_parts.specs.Sights.{FromSome}
 use Rattle.sia_parts.proofs.Adding.{first_more}
@@ -28,11 +27,6 @@ two_same P Q two to back is =
 pub least_bound : (P : ℕ → Type 0) → ((q : ℕ) → P q → q < 4294967295) → (r : ℕ) → IsLeastNumber P r → r ≤ 4294967295
 least_bound P few r (inl has) = let f = few r has.0 in omega arith
 least_bound P few r (inr lacks) = let e = lacks.0 in omega arith
-
--- it is none exactly if nothing has one
-pub is_none : (P : ℕ → Type 0) → ((q : ℕ) → P q → q < 4294967295) → (r : ℕ) → IsLeastNumber P r → (r ≡ 4294967295) ↔ ((q : ℕ) → ¬ P q)
-is_none P few r (inl has) = ((λ none. let f = few r has.0 in absurd (omega arith)), (λ none. absurd (none r has.0)))
-is_none P few r (inr lacks) = ((λ none. lacks.1), (λ none. lacks.0))
 
 pub no_less : (P : ℕ → Type 0) (r q : ℕ) → IsLeastNumber P r → P q → r ≤ q
 no_less P r q (inl has) is = has.1 q is
@@ -89,21 +83,6 @@ pub first_least : {A : Type 0} (T : A → ℕ → Type 0) (xs : List A) (n : ℕ
 first_least T xs n d least new within bound below first here =
     least_join (FromSome T (take n xs)) (T (get_or xs n d)) (FromSome T (take (n + 1) xs)) least new bound below
     (λ r is. (first_more T xs n d within r).0 (inl is)) (λ r is. (first_more T xs n d within r).0 (inr is)) (λ r is. (first_more T xs n d within r).1 is) first here
-
--- one more
-pub least_more : (P Q : ℕ → Type 0) (least new : ℕ) → new ≤ 4294967295 → ((q : ℕ) → P q → Q q) → Q new → ((q : ℕ) → Q q → P q ⊎ (q ≡ new)) → IsLeastNumber P least → IsLeastNumber Q (min least new)
-least_more P Q least new bound to one back is = by_order (cases_lt new least) is
-  where
-    low : (r q : ℕ) → r ≤ least → r ≤ new → Q q → r ≤ q
-    low r q a b has = elim (back q has) [ inl old ↦ let m = no_less P least q is old in omega arith | inr e ↦ omega arith ]
-
-    by_order : (new < least) ⊎ (least ≤ new) → IsLeastNumber P least → IsLeastNumber Q (min least new)
-    by_order (inl less) i = let e : new ≡ min least new = omega arith in subst (IsLeastNumber Q) e (inl (one, λ q has. low new q (omega arith) (omega arith) has))
-    by_order (inr more) (inl has) = let e : least ≡ min least new = omega arith in subst (IsLeastNumber Q) e (inl (to least has.0, λ q at. low least q (omega arith) more at))
-    by_order (inr more) (inr lacks) =
-        let f = lacks.0 in
-        let e : new ≡ min least new = omega arith in
-        subst (IsLeastNumber Q) e (inl (one, λ q at. low new q (omega arith) (omega arith) at))
 
 module _ (P : ℕ → Type 0) (few : (q : ℕ) → P q → q < 4294967295) where
   -- one more number

@@ -13,6 +13,7 @@ pub mod EarlierSources
 pub mod EarlyFirsts
 pub mod EdgesDecided
 pub mod EdgesListed
+pub mod EnteredTwos
 pub mod Entering
 pub mod Extremes
 pub mod Facts
@@ -48,7 +49,6 @@ pub mod OneVerdict
 pub mod OrderPlaces
 pub mod PartedLists
 pub mod PassedKeys
-pub mod PassingTwos
 pub mod Pending
 pub mod Picked
 pub mod PivotLists
@@ -58,7 +58,6 @@ pub mod Positions
 pub mod PrintedCycle
 pub mod Raised
 pub mod Ranges
-pub mod ReaderTwos
 pub mod ReadyNodes
 pub mod ReadyOrders
 pub mod ReadySets

@@ -1,7 +1,6 @@
 -- Marks of the commits of those who stand at positions, and of those who passed over keys.
 use Rattle.std.proofs.Common.{◌≡◌, ◌⊎◌, inl, inr, ℕ, ◌+◌, ◌*◌, ◌/◌, ◌^◌, ◌<◌, ◌≤◌, List, [], length, get_or, replicate, ap, sym, subst, ◌∙◌, arith}
 use Rattle.std.specs.Prelude.{◌↔◌, Contains}
-use Rattle.std.proofs.Math.Nat.{lt_of_mul-lt-mul_right, mul_assoc, mul-le-mul_right, pow-le-pow_right}
 use Rattle.std.proofs.lemmas.Bool.{cases_lt}
 use Rattle.std.proofs.lemmas.List.{get_or-replicate, get_or_past, length-replicate}
 use Rattle.sia_events.specs.declared.event.Event.{Event}
@@ -11,7 +10,7 @@ use Rattle.sia_parts.specs.declared.accesses.Accesses.{Accesses}
 use Rattle.sia_graph.specs.KeyBlocks.{IsUnderSome}
 use Rattle.sia_graph.specs.Late.{ArePassedMarks, AreSeenMarks, IsLookAt, IsMarkedOver, StandsAt}
 use Rattle.sia_graph.specs.Passed.{IsPassed}
-use Rattle.sia_graph.proofs.KeyBlocks.{doubled}
+use Rattle.sia_graph.proofs.KeyBlocks.{half_over, lower_over, one_block}
 
 module _ (h : List Event) (a : Accesses) (values : List ℕ) (n t c : ℕ) (at : IsCommittedAt h n t) (value : get_or values n 0 ≡ c) (old new places : List ℕ) (long : length new ≡ length old)
     (raised : (q x : ℕ) → (x ≤ get_or new q 0) ↔ ((x ≤ get_or old q 0) ⊎ (Contains places q × (x ≤ c)))) where
@@ -76,28 +75,15 @@ rises_from size leaf most = record {
   each = λ x some. ((λ l. absurd (omega arith)), (λ w. let l = w.2 in absurd (omega arith)));
 }
 
-one_block : (b c m x : ℕ) → b * m ≤ x → x < (b + 1) * m → c * m ≤ x → x < (c + 1) * m → b ≡ c
-one_block b c m x b_low b_high c_low c_high =
-    let up : b < c + 1 = lt_of_mul-lt-mul_right m (let d : b * m < (c + 1) * m = omega arith in d) in
-    let down : c < b + 1 = lt_of_mul-lt-mul_right m (let d : c * m < (b + 1) * m = omega arith in d) in
-    omega arith
-
 pub rises_on : (size leaf : ℕ) (most : List ℕ) (block top next : ℕ) → IsRising size leaf most block top → 0 < block → top ≤ next → get_or most block 0 ≤ next → (next ≡ top) ⊎ (next ≡ get_or most block 0)
     → IsRising size leaf most (block / 2) next
 rises_on size leaf most block top next rising positive over here which =
     let e = rising.height in
-    let m = 2 ^ e in
-    let twice = doubled e in
-    let from = rising.low in
-    let to = rising.high in
-    let least = mul-le-mul_right m (let h : block / 2 * 2 ≤ block = omega arith in h) in
-    let greatest = mul-le-mul_right m (let h : block + 1 ≤ (block / 2 + 1) * 2 = omega arith in h) in
-    let low_is = ap (λ n. block / 2 * n) twice ∙ sym (mul_assoc (block / 2) 2 m) in
-    let high_is = ap (λ n. (block / 2 + 1) * n) twice ∙ sym (mul_assoc (block / 2 + 1) 2 m) in
+    let half = half_over block e leaf rising.low rising.high in
     record {
       height = e + 1;
-      low = omega arith;
-      high = omega arith;
+      low = half.0;
+      high = half.1;
       within = let w = rising.within in omega arith;
       each = λ x some. (
         (λ l. elim which [
@@ -108,7 +94,7 @@ rises_on size leaf most block top next rising positive over here which =
           | inl less ↦ let l = (rising.each x some).1 (w.0, w.1, less, w.3, w.4, w.5, w.6) in omega arith
           | inr more ↦
               let f : w.1 ≡ e = let l = w.2 in omega arith in
-              let g : w.0 ≡ block = one_block w.0 block m leaf (subst (λ n. w.0 * 2 ^ n ≤ leaf) f w.3) (subst (λ n. leaf < (w.0 + 1) * 2 ^ n) f w.4) rising.low rising.high in
+              let g : w.0 ≡ block = one_block w.0 block (2 ^ e) leaf (subst (λ n. w.0 * 2 ^ n ≤ leaf) f w.3) (subst (λ n. leaf < (w.0 + 1) * 2 ^ n) f w.4) rising.low rising.high in
               let l = subst (λ b. x ≤ get_or most b 0) g w.6 in
               omega arith
         ]),
@@ -122,18 +108,8 @@ risen size key most top rising x some = (
       (w.0, (w.1, w.3, w.4), w.5, w.6)),
   (λ m.
       let over = m.1 in
-      (rising.each x some).1 (m.0, over.0, lower m.0 over.0 over.1 m.2, over.1, over.2, m.2, m.3)),
+      (rising.each x some).1 (m.0, over.0, lower_over m.0 over.0 rising.height (size + key) rising.high over.1 m.2, over.1, over.2, m.2, m.3)),
 )
-  where
-    lower : (b n : ℕ) → b * 2 ^ n ≤ size + key → 0 < b → n < rising.height
-    lower b n low some = elim (cases_lt n rising.height) [
-      | inl less ↦ less
-      | inr more ↦
-          let up : 2 ^ rising.height ≤ 2 ^ n = pow-le-pow_right (omega arith) more in
-          let once = mul-le-mul_right (2 ^ n) (let h : 1 ≤ b = omega arith in h) in
-          let to = rising.high in
-          absurd (omega arith)
-    ]
 
 -- without blocks there are no marks
 pub none_marked : (size key : ℕ) (most : List ℕ) → length most ≡ 0 → (x : ℕ) → 0 < x → (x ≤ 0) ↔ IsMarkedOver size most key x

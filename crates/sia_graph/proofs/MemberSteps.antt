@@ -47,10 +47,6 @@ module _ (h : List Event) (size b : ℕ) where
         ]),
       )
 
-  pub none_put : b ≡ 0 → b < 2 * size → (n : ℕ) → ¬ IsBlockStep h size b n
-  none_put zero below n (inl half) = let l = half.0 in omega arith
-  none_put zero below n (inr leaf) = let e = leaf.2 in omega arith
-
 module _ (h : List Event) (a : Accesses) (size i t : ℕ) (at : IsCommittedAt h i t) (saw : List ℕ) (saw_are : (q : ℕ) → Contains saw q ↔ SawPosition a i q) where
   -- what number i waits for
   pub sources_put : (made : List ℕ) → ListsAscending (λ q. (v : KeyVersion) × IsAtPosition h q v × (0 < v.commit) × (v.txn ≡ t)) made → (mid new : List ℕ)

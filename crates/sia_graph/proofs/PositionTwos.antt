@@ -1,22 +1,20 @@
 -- The two least of those who made or saw a version up to a position.
-use Rattle.std.proofs.Common.{◌≡◌, ◌≢◌, ◌⊎◌, inl, inr, ℕ, ◌+◌, ◌<◌, ◌≤◌, Bool, List, [], ◌∷◌, ◌++◌, Option, None, Some, length, get_or, set, refl, ap, sym, subst, ◌∙◌, arith}
+use Rattle.std.proofs.Common.{◌≡◌, ◌⊎◌, inl, inr, ℕ, ◌<◌, ◌≤◌, List, Option, Some, length, get_or, set, refl, ap, sym, subst, ◌∙◌, arith}
 use Rattle.std.specs.Prelude.{◌↔◌, MatchOption}
 use Rattle.std.proofs.lemmas.Bool.{cases_eq, cases_lt}
-use Rattle.std.proofs.lemmas.List.{get_or-set_same, get_or-set_other, get_or_append_left, get_or_push, length-set, length_push}
+use Rattle.std.proofs.lemmas.List.{get_or-set_same, get_or-set_other, length-set}
 use Rattle.std.proofs.lemmas.Option.{slice_get-get_or, slice_get_within}
 use Rattle.sia_events.specs.declared.event.Event.{Event}
 use Rattle.sia_events.specs.NarrowDependencies.{CommitsVersion, IsNextVersion}
 use Rattle.sia_events.specs.Refusals.{IsWellFormed}
 use Rattle.sia_events.proofs.OneList.{one_list_by}
 use Rattle.sia_events.proofs.WellFormed.{one_commit}
-use Rattle.sia_index.specs.Numbers.{IsCommittedAt}
 use Rattle.sia_index.specs.Positions.{ArePositions, HasPosition, IsAtPosition, IsVersion}
 use Rattle.sia_index.specs.declared.info.KeyVersion.{KeyVersion}
-use Rattle.sia_parts.specs.declared.accesses.Accesses.{Accesses}
-use Rattle.sia_graph.specs.Twos.{AreTwosOf, HaveOneKey, IsLeftMaker, IsLeftReader, IsTwo, IsUpTo, IsWith}
+use Rattle.sia_graph.specs.Twos.{AreTwosOf, HaveOneKey, IsTwo, IsUpTo, IsWith}
 use Rattle.sia_graph.specs.declared.twos.Two.{Two}
-use Rattle.sia_graph.proofs.LeastNumbers.{two_merged, two_same, two_with}
-use Rattle.sia_graph.proofs.Numbered.{commits_at, one_number}
+use Rattle.sia_graph.proofs.LeastNumbers.{two_same, two_with}
+use Rattle.sia_graph.proofs.Numbered.{commits_at}
 use Rattle.sia_graph.proofs.PositionEdges.{commits_less, one_at, positions_most}
 
 -- of a position the one before it of the same key, if there is one
@@ -44,21 +42,6 @@ put_one P Q twos at n d new below few with few_all to one back are q e l =
           subst (IsTwo (Q q)) (sym (get_or-set_other twos at q new e other))
           (two_same (P q) (Q q) (get_or twos q e) (to q) (λ r u. elim (back q r u) [ inl old ↦ old | inr w ↦ absurd (other w.0) ]) (are q e (omega arith)))
     ]
-
--- one place more
-pub twos_more : (P : ℕ → ℕ → Type 0) (n : ℕ) (twos : List Two) (two : Two) → length twos ≡ n → AreTwosOf P twos → IsTwo (P n) two → (new : List Two) → new ≡ twos ++ two ∷ []
-    → (length new ≡ n + 1) × AreTwosOf P new
-twos_more P n twos two long are is new e =
-    subst (λ l. (length l ≡ n + 1) × AreTwosOf P l) (sym e) (
-      (let l = length_push twos two in omega arith),
-      (λ at d below. let l = length_push twos two in elim (cases_lt at n) [
-        | inl less ↦ subst (IsTwo (P at)) (sym (get_or_append_left twos (two ∷ []) d at (omega arith))) (are at d (omega arith))
-        | inr more ↦
-            let same : n ≡ at = omega arith in
-            let here : get_or (twos ++ two ∷ []) n d ≡ two = get_or_push twos two d n long in
-            subst (λ m. IsTwo (P m) (get_or (twos ++ two ∷ []) m d)) same (subst (IsTwo (P n)) (sym here) is)
-      ]),
-    )
 
 module _ (h : List Event) (wf : IsWellFormed h) where
   same_key : (p q : ℕ) (v w : KeyVersion) → IsAtPosition h p v → IsAtPosition h q w → HaveOneKey h p q → v.key ≡ w.key
@@ -124,70 +107,6 @@ module _ (h : List Event) (wf : IsWellFormed h) where
         | inr x ↦ let y = before_below q b x.0 v at before x.2 x.1 in let l = y.1 in (x.0, omega arith, y.0, x.3)
       ]),
     )
-
--- one transaction made the version
-pub one_maker : (h : List Event) (left : List Bool) (q : ℕ) (v : KeyVersion) → IsAtPosition h q v → (i r : ℕ) → IsCommittedAt h i v.txn → IsLeftMaker h left q r → r ≡ i
-one_maker h left q v at i r number made = one_number h r i v.txn (subst (λ (x : KeyVersion). IsCommittedAt h r x.txn) (one_at h q made.1 v made.2 at) made.3) number
-
-abbrev Nothing : ℕ → Type 0
-Nothing r = ⊥
-
--- what is no number
-pub none_least : (two : Two) → (two.least ≡ 4294967295) × (two.next ≡ 4294967295) → IsTwo Nothing two
-none_least two e = (inr (e.0, λ q n. n), inr (e.1, λ q w. w.0))
-
-module _ (h : List Event) (wf : IsWellFormed h) (left : List Bool) (few : (q r : ℕ) → IsLeftMaker h left q r → r < 4294967295) where
-  abbrev Made : ℕ → ℕ → Type 0
-  Made = IsUpTo h (IsLeftMaker h left)
-
-  few_made : (q r : ℕ) → Made q r → r < 4294967295
-  few_made q r m = few m.0 r m.3
-
-  number_at : (q : ℕ) (v : KeyVersion) → IsAtPosition h q v → (i : ℕ) → IsLeftMaker h left q i → IsCommittedAt h i v.txn
-  number_at q v at i m = subst (λ (x : KeyVersion). IsCommittedAt h i x.txn) (one_at h q m.1 v m.2 at) m.3
-
-  -- who made the version at the position, beside those who made an earlier one
-  pub maker_more : (q : ℕ) (v : KeyVersion) → IsAtPosition h q v → (before : Option ℕ) → IsBefore h q before → (two new : Two)
-      → ((b : ℕ) → before ≡ Some b → IsTwo (Made b) two) → (((b : ℕ) → before ≢ Some b) → (two.least ≡ 4294967295) × (two.next ≡ 4294967295))
-      → ((r : ℕ) × IsLeftMaker h left q r × IsWith two r new) ⊎ (((r : ℕ) → ¬ IsLeftMaker h left q r) × (new ≡ two)) → IsTwo (Made q) new
-  maker_more q v at None is two new some none made =
-      let zero_ : v.commit ≡ 0 = is v at in
-      let first = up_to_first h wf (IsLeftMaker h left) q v at zero_ in
-      let old = none_least two (none (λ b e. cc)) in
-      elim made [
-        | inl m ↦
-            two_with Nothing (λ r n. absurd n) (Made q) m.0 (let f = few q m.0 m.1 in omega arith) (λ r n. absurd n) (λ l. (first m.0).1 m.1)
-            (λ r u. inr (one_maker h left q v at m.0 r (number_at q v at m.0 m.1) ((first r).0 u))) (λ r u. few_made q r u) two old new m.2.0 m.2.1 m.2.2
-        | inr n ↦ subst (IsTwo (Made q)) (sym n.1) (two_same Nothing (Made q) two (λ r x. absurd x) (λ r u. n.0 r ((first r).0 u)) old)
-      ]
-  maker_more q v at (Some b) is two new some none made =
-      let next = up_to_next h wf (IsLeftMaker h left) q v at b (is v at) in
-      let old = some b refl in
-      elim made [
-        | inl m ↦
-            two_with (Made b) (few_made b) (Made q) m.0 (let f = few q m.0 m.1 in omega arith) (λ r u. (next r).1 (inr u)) (λ l. (next m.0).1 (inl m.1))
-            (λ r u. elim ((next r).0 u) [ inl here ↦ inr (one_maker h left q v at m.0 r (number_at q v at m.0 m.1) here) | inr x ↦ inl x ]) (few_made q) two old new m.2.0 m.2.1 m.2.2
-        | inr n ↦
-            subst (IsTwo (Made q)) (sym n.1)
-            (two_same (Made b) (Made q) two (λ r u. (next r).1 (inr u)) (λ r u. elim ((next r).0 u) [ inl here ↦ absurd (n.0 r here) | inr x ↦ x ]) old)
-      ]
-
--- who saw the version at the position, beside those who saw an earlier one
-module _ (h : List Event) (wf : IsWellFormed h) (a : Accesses) (left : List Bool) (few : (q r : ℕ) → IsLeftReader a left q r → r < 4294967295) where
-  abbrev Seen : ℕ → ℕ → Type 0
-  Seen = IsUpTo h (IsLeftReader a left)
-
-  pub reader_more : (q : ℕ) (v : KeyVersion) → IsAtPosition h q v → (before : Option ℕ) → IsBefore h q before → (own two mid new : Two)
-      → ((b : ℕ) → before ≡ Some b → IsTwo (Seen b) two) → (((b : ℕ) → before ≢ Some b) → (two.least ≡ 4294967295) × (two.next ≡ 4294967295))
-      → IsTwo (IsLeftReader a left q) own → IsWith own two.least mid → IsWith mid two.next new → IsTwo (Seen q) new
-  reader_more q v at None is own two mid new some none here one next =
-      let first = up_to_first h wf (IsLeftReader a left) q v at (is v at) in
-      two_merged (IsLeftReader a left q) Nothing (Seen q) (few q) (λ r n. absurd n) (λ r p. (first r).1 p) (λ r n. absurd n) (λ r u. inl ((first r).0 u)) own two mid new one next here
-      (none_least two (none (λ b e. cc)))
-  reader_more q v at (Some b) is own two mid new some none here one next =
-      let up = up_to_next h wf (IsLeftReader a left) q v at b (is v at) in
-      two_merged (IsLeftReader a left q) (Seen b) (Seen q) (few q) (λ r u. few u.0 r u.3) (λ r p. (up r).1 (inl p)) (λ r u. (up r).1 (inr u)) (λ r u. (up r).0 u) own two mid new one next here
-      (some b refl)
 
 -- so many positions are those of one list
 pub positions_below : (h : List Event) (count q : ℕ) → ArePositions h count → HasPosition h q → q < count

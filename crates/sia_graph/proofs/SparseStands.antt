@@ -398,10 +398,6 @@ module _ (h : List Event) (wf : IsWellFormed h) (a : Accesses) (are : AreAccesse
           (λ l. leads_through (λ x y e. step (kind_of x y e)) (same.0 l)),
         )
 
-    -- the nodes are the numbers below a bound
-    abbrev ids : List ℕ
-    ids = node_list size txns
-
     long : length (node_list size txns) ≡ floor + length txns
     long = length-range_with_len 0 (2 * size + length txns)
 

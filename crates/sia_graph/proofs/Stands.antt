@@ -1,17 +1,15 @@
 -- Where transactions stand, look by look.
-use Rattle.std.proofs.Common.{◌≡◌, ◌⊎◌, inl, inr, ℕ, ◌+◌, ◌<◌, ◌≤◌, List, [], ◌∷◌, ◌++◌, length, get_or, take, refl, ap, sym, subst, ◌∙◌, arith}
+use Rattle.std.proofs.Common.{◌≡◌, ◌⊎◌, inl, inr, ℕ, ◌+◌, ◌<◌, ◌≤◌, List, [], ◌∷◌, ◌++◌, length, get_or, take, refl, sym, subst, ◌∙◌, arith}
 use Rattle.std.specs.Prelude.{◌↔◌, ⊤, Contains}
 use Rattle.std.proofs.lemmas.Bool.{cases_order}
 use Rattle.std.proofs.lemmas.List.{take_more, take_all}
 use Rattle.std.proofs.lemmas.List.Elements.{Contains-append_left, Contains-push, Contains-push_cases}
 use Rattle.sia_events.specs.declared.event.Event.{Event}
 use Rattle.sia_events.specs.NarrowDependencies.{IsNextVersion, Looked}
-use Rattle.sia_events.proofs.OneList.{one_list_by}
-use Rattle.std.proofs.lemmas.Option.{slice_get_within}
 use Rattle.sia_index.specs.declared.info.KeyVersion.{KeyVersion}
 use Rattle.sia_index.specs.Info.{IsKeyAt}
 use Rattle.sia_index.specs.Numbers.{IsCommittedAt}
-use Rattle.sia_index.specs.Positions.{ArePositions, HasPosition, IsAtPosition, IsVersion, NoneBehind}
+use Rattle.sia_index.specs.Positions.{HasPosition, IsAtPosition, NoneBehind}
 use Rattle.sia_parts.specs.declared.accesses.Accesses.{Accesses}
 use Rattle.sia_parts.specs.Accesses.{AreAccesses, SawPosition}
 use Rattle.sia_graph.specs.Late.{IsLookAt, StandsAt}
@@ -130,15 +128,6 @@ stands_there h i p e has (inr own) = (own.1, own.3)
 pub look_there : (h : List Event) (a : Accesses) (are : AreAccesses h (λ _. ⊤) a) (i p : ℕ) → IsLookAt h a i p → HasPosition h p
 look_there h a are i p (inl saw) = let w = are.saw i p saw in (w.3.version.0, w.3.version.1)
 look_there h a are i p (inr own) = (own.1, own.3)
-
--- and it is one of so many
-pub position_below : (h : List Event) (count e : ℕ) → ArePositions h count → HasPosition h e → e < count
-position_below h count e positions at =
-    let l = slice_get_within at.1.0 e at.0 at.1.2 in
-    let same = one_list_by _ (IsVersion h) at.1.0 positions.0 at.1.1 positions.1 in
-    let long = ap (length {A = KeyVersion}) same in
-    let n = positions.2 in
-    omega arith
 
 -- a look at a position is one of the transaction
 pub look_at : (h : List Event) (a : Accesses) (are : AreAccesses h (λ _. ⊤) a) (i t p : ℕ) → IsCommittedAt h i t → IsLookAt h a i p → (u : KeyVersion) × IsAtPosition h p u × Looked h t u.key u.commit

@@ -1,5 +1,5 @@
 -- Dangerous structures of a well-formed history, told by rw edges, overlaps and commits.
-use Rattle.std.proofs.Common.{◌≡◌, ◌↔◌, ◌⊎◌, inl, inr, ℕ, cond, ◌+◌, ◌<◌, ◌≤◌, List, [], Option, Some, None, length, get_or, refl, ap, sym, ◌∙◌, subst, arith}
+use Rattle.std.proofs.Common.{◌≡◌, ◌↔◌, ◌⊎◌, inl, inr, ℕ, cond, ◌+◌, ◌<◌, ◌≤◌, List, [], length, get_or, refl, ap, sym, ◌∙◌, subst, arith}
 use Rattle.std.specs.Prelude.{All, Contains, ⊤}
 use Rattle.std.specs.Ordering.{nat_cmp, ord_max, is_lt}
 use Rattle.std.proofs.lemmas.Bool.{cases_lt}
@@ -13,9 +13,7 @@ use Rattle.sia_events.specs.Transactions.{CommitsAt, IsCommitted, Overlap, Commi
 use Rattle.sia_events.specs.Lists.{ListsAscending}
 use Rattle.sia_events.specs.DangerousStructures.{IsVulnerable, IsFirst}
 use Rattle.sia_events.proofs.WellFormed.{one_commit}
-use Rattle.sia_events.proofs.Endings.{one_end, one_committer}
-use Rattle.sia_index.specs.declared.info.Fate.TheVariants.{Aborted}
-use Rattle.sia_index.specs.Info.{EndsAs}
+use Rattle.sia_events.proofs.Endings.{one_committer}
 use Rattle.sia_parts.specs.declared.finding.Edge.{Edge}
 use Rattle.sia_parts.specs.declared.finding.Kind.TheVariants.{Rw}
 use Rattle.sia_parts.specs.Entries.{EdgeOfKind}
@@ -66,10 +64,6 @@ IsLastTo h txns n last = ((i : ℕ) → i < n → (c : ℕ) → CommitsAt h (get
     × ((last ≡ 0) ⊎ ((i : ℕ) × (i < n) × CommitsAt h (get_or txns i 0) last))
 
 module _ (h : List Event) (wf : IsWellFormed h) where
-  pub aborted_end : (t : ℕ) (ended : Option ℕ) → EndsAs h t Aborted ended → ¬ IsCommitted h t
-  aborted_end t None ends c = ends
-  aborted_end t (Some p) ends c = one_end h wf t c.0 p c.1 ends
-
   -- a commit within bounds
   pub within_bounds : (t c own last : ℕ) → CommitsAt h t c → CommitsBy h own last t → (c < own) × (c ≤ last)
   within_bounds t c own last at (d, is, early, late) = let same : d ≡ c = one_commit h wf t d c is at in (omega arith, omega arith)

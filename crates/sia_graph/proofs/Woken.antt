@@ -57,9 +57,6 @@ fewer_wait sources counts passed cs ps s node n l had kept =
     ])
 
 module _ (g : Graph) (done : List Bool) (k : Taking) (pending : ℕ → ℕ) (at : ℕ) (below : at < length k.counts.items) (is : IsTaking g done k pending at) where
-  abbrev way : IsUnderWay g done k.counts.items k.passed.items k.first_waiting.items k.next_waiting.items pending at
-  way = is.under_way
-
   abbrev counts : List ℕ
   counts = k.counts.items
 

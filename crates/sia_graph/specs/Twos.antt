@@ -11,6 +11,7 @@ use Rattle.sia_parts.specs.declared.accesses.Accesses.{Accesses}
 use Rattle.sia_parts.specs.Entries.{IsEdge}
 use Rattle.sia_graph.specs.KeyBlocks.{IsOver}
 use Rattle.sia_graph.specs.Orders.{Leads}
+use Rattle.sia_graph.specs.Passed.{IsSizeFor}
 use Rattle.sia_graph.specs.Previous.{IsLeftIn}
 use Rattle.sia_graph.specs.declared.twos.Earlier.{Earlier}
 use Rattle.sia_graph.specs.declared.twos.Two.{Two}
@@ -49,6 +50,10 @@ IsLeftMaker h left q r = IsLeftIn left r × (v : KeyVersion) × IsAtPosition h q
 abbrev pub IsLeftReader : Accesses → List Bool → ℕ → ℕ → Type 0
 IsLeftReader a left q r = IsLeftIn left r × SawPosition a r q
 
+-- it is left, and passed over key number j
+abbrev pub IsLeftPasser : Accesses → List Bool → ℕ → ℕ → Type 0
+IsLeftPasser a left j r = IsLeftIn left r × Missed a r j
+
 -- at each of some blocks over the keys the two least of what stands there, so that what has P at a key stands with blocks over it
 pub record AreTwosOver (size : ℕ) (P : ℕ → ℕ → Type 0) (nodes : List Two) : Type 0 where
   pub entries : List (ℕ × ℕ)
@@ -63,10 +68,9 @@ pub record AreEarlier (h : List Event) (a : Accesses) (left : List Bool) (e : Ea
   pub readers_long : length e.readers.items ≡ length e.makers.items
   pub makers : AreTwosOf (IsUpTo h (IsLeftMaker h left)) e.makers.items
   pub readers : AreTwosOf (IsUpTo h (IsLeftReader a left)) e.readers.items
-  pub keys : (j k : ℕ) → IsKeyAt h j k → j < e.size
-  pub few : e.size ≤ 1000000000
+  pub size : IsSizeFor e.size h a
   pub passed_long : length e.passed.items ≡ 2 * e.size
-  pub passed : AreTwosOver e.size (λ j r. IsLeftIn left r × Missed a r j) e.passed.items
+  pub passed : AreTwosOver e.size (IsLeftPasser a left) e.passed.items
 
 -- r made a version up to the position, saw one below it, or passed over its key
 abbrev pub IsBeforeVersion : List Event → Accesses → List Bool → ℕ → ℕ → Type 0

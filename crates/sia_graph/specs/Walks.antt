@@ -6,10 +6,6 @@ use Rattle.sia_graph.specs.declared.cycle.Step.{Step}
 use Rattle.sia_graph.specs.Orders.{Leads}
 use Rattle.sia_graph.specs.Cycles.{IsPrevious, GoesRound, StartsAtLeast}
 
--- the count at this position isn't 0
-abbrev pub HasCount : List ℕ → ℕ → Type 0
-HasCount counts i = 0 < slice_index counts i
-
 -- p is left, and has an edge to i
 abbrev pub IsSource : List ℕ → (Edge → Type 0) → (ℕ → Type 0) → ℕ → ℕ → Type 0
 IsSource ids IsEdge IsLeft i p = (p < length ids) × IsLeft p × Leads IsEdge (slice_index ids p) (slice_index ids i)

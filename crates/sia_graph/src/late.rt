@@ -10,10 +10,9 @@ ghost use Rattle.sia_graph.specs.Evidence.{IsEvidence};
 ghost use Rattle.sia_graph.specs.Late.{AreLastBefore, AreLate, Enters, IsLastOf, IsLookAt, IsMarkedOver, StandsAt};
 ghost use Rattle.sia_graph.specs.Passed.{IsOwnPassed};
 
-use crate::evidence::Evidence;
+use crate::evidence::{Evidence, size_for};
 use crate::passed::Passed;
 use crate::sparse::put_all_blocks;
-use crate::verdict::size_for;
 use sia_events::NoMemory;
 use sia_index::Index;
 use std::alloc::Global;

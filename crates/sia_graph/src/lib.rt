@@ -9,7 +9,6 @@ mod late;
 mod laws;
 mod least_edges;
 mod listed_edges;
-mod makers;
 mod order;
 mod passed;
 mod pivot;

@@ -8,8 +8,7 @@ ghost use Rattle.sia_graph.specs.Evidence.{IsEvidence};
 ghost use Rattle.sia_graph.specs.Makers.{IsFirstMaker};
 ghost use Rattle.sia_graph.specs.Passed.{IsHeldBy, IsOwnPassed, IsPassed};
 
-use crate::evidence::Evidence;
-use crate::makers::first_maker;
+use crate::evidence::{Evidence, first_maker};
 use sia_events::NoMemory;
 use sia_index::Index;
 use sia_index::ordering::put_in_order;

@@ -19,7 +19,7 @@ use sia_events::{NoMemory, TxnId};
 use sia_index::keyed::{By, between};
 use sia_index::ordering::put_in_order;
 use sia_index::{Index, Lifetime, overlap};
-use sia_parts::{Edge, EdgeTo, Findings, Kind, lifetime_of};
+use sia_parts::{Edge, EdgeTo, Findings, Kind};
 use std::alloc::{AllocError, Global};
 
 /// The transaction in the middle of a dangerous structure, with all the transactions at its other ends.
@@ -144,7 +144,7 @@ fn last_commit(ix: &Index, txns: &[TxnId]) -> u32
     ix.law();
     let mut last = 0;
     for txn in txns {
-        if let Some(lifetime) = lifetime_of(ix, *txn) {
+        if let Some(lifetime) = ix.lifetime_of(*txn) {
             last = last.max(lifetime.commit);
         }
     }
@@ -156,7 +156,7 @@ fn commits_by(ix: &Index, txn: TxnId, before: u32, latest: u32) -> bool
     ensures { IsTrue result ↔ ((c : ℕ) × CommitsAt ix.now txn c × (c < before) × (c ≤ latest)) }
 {
     ix.law();
-    match lifetime_of(ix, txn) {
+    match ix.lifetime_of(txn) {
         Some(lifetime) => lifetime.commit < before && lifetime.commit <= latest,
         None => false,
     }
@@ -177,7 +177,7 @@ fn firsts(
 {
     ix.law();
     let mut firsts = Vec::new(alloc);
-    let Some(own) = lifetime_of(ix, txn) else {
+    let Some(own) = ix.lifetime_of(txn) else {
         return Ok(firsts);
     };
     let last = last_commit(ix, ins);

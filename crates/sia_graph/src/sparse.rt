@@ -10,8 +10,7 @@ ghost use Rattle.sia_graph.specs.NarrowSteps.{node_of};
 ghost use Rattle.sia_graph.specs.Passed.{IsHeldBy, IsPassed, IsSizeFor};
 ghost use Rattle.sia_graph.specs.SparseGraphs.{AreMemberTargets, AreSourcesOf, IsBlockStep, IsSparse};
 
-use crate::evidence::Evidence;
-use crate::makers::{first_maker, maker_before, next_maker};
+use crate::evidence::{Evidence, first_maker, maker_before, next_maker};
 use crate::order::Graph;
 use crate::passed::Passed;
 use sia_events::NoMemory;
@@ -31,12 +30,7 @@ fn put_where_odd(number: u32, block: u32, blocks: &mut Vec<u32>) -> Result<(), N
 
 /// Adds blocks that are over the keys from a number to before another, and over no others of `size` keys: at most two of each
 /// height.
-pub(crate) fn put_blocks(
-    size: u32,
-    from: u32,
-    to: u32,
-    blocks: &mut Vec<u32>,
-) -> Result<(), NoMemory>
+fn put_blocks(size: u32, from: u32, to: u32, blocks: &mut Vec<u32>) -> Result<(), NoMemory>
     requires within { (from ≤ size) × (to ≤ size) }
     requires few { size ≤ 1000000000 }
     ensures over { OnOk result ((j : ℕ) → j < size → IsUnderSome size blocks.new.items j ↔ (IsUnderSome size blocks.old.items j ⊎ ((from ≤ j) × (j < to)))) }

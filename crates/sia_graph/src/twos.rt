@@ -1,21 +1,19 @@
 //! The two least of the transactions that are left and made a version, saw one or passed over its key.
-ghost use Rattle.std.specs.Prelude.{◌≡◌, ◌≢◌, ◌⊎◌, ◌<◌, ◌≤◌, ◌++◌, ◌*◌, ℕ, Bool, All, IfOk, List, Some, Contains, length, map, slice_index_or};
+ghost use Rattle.std.specs.Prelude.{◌≡◌, ◌≢◌, ◌⊎◌, ◌<◌, ◌≤◌, ◌++◌, ◌*◌, ℕ, Bool, All, IfOk, List, Some, Contains, length, map};
 ghost use Rattle.sia_events.specs.declared.event.Event.{Event};
 ghost use Rattle.sia_events.specs.Lists.{CountsAll};
 ghost use Rattle.sia_events.specs.Refusals.{IsWellFormed};
 ghost use Rattle.sia_events.specs.Transactions.{IsCommitted};
 ghost use Rattle.sia_index.specs.Numbers.{IsCommittedAt};
 ghost use Rattle.sia_index.specs.Positions.{ArePositions, HasPosition};
-ghost use Rattle.sia_parts.specs.Accesses.{HasMiss, Missed};
+ghost use Rattle.sia_parts.specs.Accesses.{Missed};
 ghost use Rattle.sia_parts.specs.declared.accesses.Accesses.{Accesses};
-ghost use Rattle.sia_parts.specs.declared.accesses.RangeMiss.{RangeMiss};
 ghost use Rattle.sia_graph.specs.Evidence.{IsEvidence};
-ghost use Rattle.sia_graph.specs.Previous.{IsLeftIn};
-ghost use Rattle.sia_graph.specs.Twos.{AreEarlier, AreTwosOf, AreTwosOver, IsBeforeVersion, IsLeastNumber, IsLeftMaker, IsLeftReader, IsLeftSource, IsUpTo, IsWith};
+ghost use Rattle.sia_graph.specs.Twos.{AreEarlier, AreTwosOf, AreTwosOver, IsBeforeVersion, IsLeastNumber, IsLeftMaker, IsLeftPasser, IsLeftSource, IsUpTo, IsWith};
 
-use crate::evidence::Evidence;
+use crate::evidence::{Evidence, size_for};
 use crate::order::NONE;
-use crate::sparse::put_blocks;
+use crate::sparse::put_all_blocks;
 use sia_events::NoMemory;
 use sia_index::Index;
 use sia_parts::Accesses;
@@ -61,123 +59,48 @@ fn other(two: Two, me: u32) -> u32
     if two.least == me { two.next } else { two.least }
 }
 
-/// The two at the place, or of no numbers where there is none.
-fn two_at(twos: &[Two], at: Option<u32>) -> Two
-    requires { (q : ℕ) → at ≡ Some q → q < length twos.now }
-    ensures some { (q : ℕ) → at ≡ Some q → (d : Two) → result ≡ slice_index_or twos.now q d }
-    ensures none { ((q : ℕ) → at ≢ Some q) → (result.least ≡ 4294967295) × (result.next ≡ 4294967295) }
+/// Puts the number with those at each of the places.
+fn put_at(places: &[u32], number: u32, twos: &mut [Two])
+    requires within { All (λ place. place < length twos.old) places.now }
+    requires few { number < 4294967295 }
+    ensures { (entries : List (ℕ × ℕ)) → ((place r : ℕ) → Contains entries (place, r) → r < 4294967295)
+        → AreTwosOf (λ place r. Contains entries (place, r)) twos.old
+        → AreTwosOf (λ place r. Contains (entries ++ map (λ p. (p, number)) places.now) (place, r)) twos.new }
 {
-    match at {
-        Some(place) => twos[place as usize],
-        None => NO_TWO,
+    for place in places {
+        let at = *place as usize;
+        twos[at] = with(twos[at], number);
     }
 }
 
-/// The same, and one who made the version at the position, if it is left.
-fn with_maker(index: &Index, left: &[bool], position: u32, two: Two) -> Two
-    requires well_formed { IsWellFormed index.now }
-    requires position { HasPosition index.now position }
-    requires left { (i t : ℕ) → IsCommittedAt index.now i t → i < length left.now }
-    ensures { ((r : ℕ) × IsLeftMaker index.now left.now position r × IsWith two r result)
-        ⊎ (((r : ℕ) → ¬ IsLeftMaker index.now left.now position r) × (result ≡ two)) }
+/// Puts those at each position with those at the later ones of its key.
+fn run_up(index: &Index, twos: &mut [Two])
+    requires { ArePositions index.now (length twos.old) }
+    ensures { (entries : List (ℕ × ℕ)) → ((place r : ℕ) → Contains entries (place, r) → r < 4294967295)
+        → AreTwosOf (λ place r. Contains entries (place, r)) twos.old
+        → AreTwosOf (IsUpTo index.now (λ place r. Contains entries (place, r))) twos.new }
 {
-    match index.maker_at(position) {
-        Some(maker) if left[maker as usize] => with(two, maker),
-        _ => two,
-    }
-}
-
-/// At each position the two least of those who made a version of its key up to there.
-fn makers_up_to(alloc: Global, index: &Index, left: &[bool]) -> Result<Vec<Two>, NoMemory>
-    requires well_formed { IsWellFormed index.now }
-    requires left { (i t : ℕ) → IsCommittedAt index.now i t → i < length left.now }
-    ensures long { IfOk result (λ twos. ArePositions index.now (length twos.items)) }
-    ensures each { IfOk result (λ twos. AreTwosOf (IsUpTo index.now (IsLeftMaker index.now left.now)) twos.items) }
-{
-    let count = index.position_count();
-    let mut twos = Vec::with_capacity(alloc, count as usize)?;
-    for position in 0..count {
-        let earlier = two_at(&twos, index.position_before(position));
-        twos.push(with_maker(index, left, position, earlier))?;
-    }
-    Ok(twos)
-}
-
-/// The same of those who saw one.
-fn readers_up_to(alloc: Global, evidence: &Evidence, left: &[bool]) -> Result<Vec<Two>, NoMemory>
-    requires is { IsEvidence evidence.now }
-    requires left { CountsAll (IsCommitted evidence.now.index.now) (length left.now) }
-    ensures long { IfOk result (λ twos. ArePositions evidence.now.index.now (length twos.items)) }
-    ensures each { IfOk result (λ twos. AreTwosOf (IsUpTo evidence.now.index.now (IsLeftReader evidence.now.accesses.now left.now)) twos.items) }
-{
-    let count = evidence.index.position_count();
-    let mut twos = vec![in alloc; NO_TWO; count as usize]?;
-    for txn in 0..left.len() {
-        if !left[txn] {
-            continue;
-        }
-        for position in evidence.accesses.saw.at(txn) {
-            let at = *position as usize;
-            twos[at] = with(twos[at], txn as u32);
-        }
-    }
-    for position in 0..count {
-        let earlier = two_at(&twos, evidence.index.position_before(position));
+    index.law();
+    for position in 0..index.position_count() {
+        let Some(before) = index.position_before(position) else {
+            continue
+        };
+        let earlier = twos[before as usize];
         let at = position as usize;
         twos[at] = with(with(twos[at], earlier.least), earlier.next);
     }
-    Ok(twos)
 }
 
-/// Puts the number with those at each of the blocks.
-fn put_at(blocks: &[u32], number: u32, nodes: &mut [Two])
-    requires within { All (λ block. block < length nodes.old) blocks.now }
-    requires few { number < 4294967295 }
-    ensures { (entries : List (ℕ × ℕ)) → ((block r : ℕ) → Contains entries (block, r) → r < 4294967295)
-        → AreTwosOf (λ block r. Contains entries (block, r)) nodes.old
-        → AreTwosOf (λ block r. Contains (entries ++ map (λ b. (b, number)) blocks.now) (block, r)) nodes.new }
-{
-    for block in blocks {
-        let at = *block as usize;
-        nodes[at] = with(nodes[at], number);
-    }
-}
-
-/// By blocks of `size` keys the two least of those who passed over some.
-fn passed_over(
-    alloc: Global,
-    accesses: &Accesses,
-    size: u32,
-    left: &[bool],
-) -> Result<Vec<Two>, NoMemory>
-    requires few { size ≤ 1000000000 }
-    requires within { (i : ℕ) (miss : RangeMiss) → HasMiss accesses.now i miss → (miss.from < miss.to) × (miss.to ≤ size) }
-    requires left { (length left.now ≡ length accesses.now.missed) × (length left.now < 4294967295) }
-    ensures long { IfOk result (λ nodes. length nodes.items ≡ 2 * size) }
-    ensures over { IfOk result (λ nodes. AreTwosOver size (λ j r. IsLeftIn left.now r × Missed accesses.now r j) nodes.items) }
-{
-    let mut nodes = vec![in alloc; NO_TWO; 2 * size as usize]?;
-    let mut blocks = Vec::new(alloc);
-    for txn in 0..left.len() {
-        if !left[txn] {
-            continue;
-        }
-        for miss in accesses.missed.at(txn) {
-            blocks.clear();
-            put_blocks(size, miss.from, miss.to, &mut blocks)?;
-            put_at(&blocks, txn as u32, &mut nodes);
-        }
-    }
-    Ok(nodes)
-}
-
-/// Of those who passed over a key the least but `me`.
+/// Of those who passed over a key the least but `me`. Nobody passed over one that blocks aren't over.
 fn least_passing(nodes: &[Two], size: u32, key: u32, me: u32) -> u32
     requires few { size ≤ 1000000000 }
-    requires within { (key < size) × (length nodes.now ≡ 2 * size) }
-    ensures { (a : Accesses) (left : List Bool) → AreTwosOver size (λ j r. IsLeftIn left r × Missed a r j) nodes.now
-        → IsLeastNumber (λ r. (IsLeftIn left r × Missed a r key) × (r ≢ me)) result }
+    requires long { length nodes.now ≡ 2 * size }
+    ensures { (a : Accesses) (left : List Bool) → AreTwosOver size (IsLeftPasser a left) nodes.now
+        → (key < size) ⊎ ((r : ℕ) → ¬ Missed a r key) → IsLeastNumber (λ r. IsLeftPasser a left key r × (r ≢ me)) result }
 {
+    if key >= size {
+        return NONE;
+    }
     let mut least = NONE;
     let mut block = size + key;
     while block > 0 {
@@ -202,10 +125,25 @@ impl Earlier {
         requires left { CountsAll (IsCommitted evidence.now.index.now) (length left.now) }
         ensures { IfOk result (AreEarlier evidence.now.index.now evidence.now.accesses.now left.now) }
     {
-        let size = evidence.index.written_keys().len() as u32;
-        let makers = makers_up_to(alloc, evidence.index, left)?;
-        let readers = readers_up_to(alloc, evidence, left)?;
-        let passed = passed_over(alloc, evidence.accesses, size, left)?;
+        let size = size_for(evidence);
+        let count = evidence.index.position_count() as usize;
+        let mut makers = vec![in alloc; NO_TWO; count]?;
+        let mut readers = vec![in alloc; NO_TWO; count]?;
+        let mut passed = vec![in alloc; NO_TWO; 2 * size as usize]?;
+        let mut blocks = Vec::new(alloc);
+        for txn in 0..left.len() {
+            if !left[txn] {
+                continue;
+            }
+            let number = txn as u32;
+            put_at(evidence.index.made_by(txn), number, &mut makers);
+            put_at(evidence.accesses.saw.at(txn), number, &mut readers);
+            blocks.clear();
+            put_all_blocks(size, evidence.accesses.missed.at(txn), &mut blocks)?;
+            put_at(&blocks, number, &mut passed);
+        }
+        run_up(evidence.index, &mut makers);
+        run_up(evidence.index, &mut readers);
         Ok(Earlier {
             makers,
             readers,

@@ -9,7 +9,6 @@ pub mod Offsets
 pub mod Points
 pub mod NextKeys
 pub mod Finding
-pub mod PartedRows
 pub mod Columns
 pub mod Fates
 pub mod Tallies

@@ -1,5 +1,5 @@
 -- What the tables of versions say of positions.
-use Rattle.std.proofs.Common.{◌≡◌, ◌⊎◌, ◌↔◌, inl, inr, ℕ, zero, suc, ◌+◌, ◌-◌, ◌<◌, ◌≤◌, List, [], length, map, Option, None, Some, refl, sym, subst, ◌∙◌, ap, arith, slice_get}
+use Rattle.std.proofs.Common.{◌≡◌, ◌⊎◌, ◌↔◌, inl, inr, ℕ, zero, suc, ◌+◌, ◌-◌, ◌<◌, ◌≤◌, List, [], ◌∷◌, length, map, Option, None, Some, refl, sym, subst, ◌∙◌, ap, arith, slice_get}
 use Rattle.std.specs.Prelude.{AllPairs, MatchOption, slice_index, slice_index_or, slice_range}
 use Rattle.std.proofs.lemmas.Bool.{cases_lt, cases_eq}
 use Rattle.std.proofs.lemmas.List.{get_or-map, get_or_past, length-map}
@@ -20,11 +20,12 @@ use Rattle.sia_index.specs.declared.info.WriteAt.{WriteAt}
 use Rattle.sia_index.specs.declared.versions.VersionRow.{VersionRow}
 use Rattle.sia_index.specs.declared.versions.Versions.{Versions}
 use Rattle.sia_index.specs.Info.{AreVersions, AreWrittenKeys, IsKeyAt, IsMade}
+use Rattle.sia_index.specs.Lists.{joined}
 use Rattle.sia_index.specs.Numbers.{IsCommittedAt}
 use Rattle.sia_index.specs.Positions.{ArePositions, HasPosition, HasVersionUpTo, IsAtPosition, IsCommitBehind, IsNewestAsOf, IsVersion, NoneBehind}
 use Rattle.sia_index.specs.Rows.{IsKeyStretch, IsWritten}
 use Rattle.sia_index.specs.Tables.{AreTables, AreVersionTables}
-use Rattle.sia_index.specs.declared.keys.Keys.{Keys}
+use Rattle.sia_index.specs.declared.names.Keys.{Keys}
 use Rattle.sia_index.specs.declared.txns.Txns.{Txns}
 use Rattle.sia_index.specs.declared.writes.Writes.{Writes}
 use Rattle.sia_index.specs.VersionRows.{IsMadeRow, IsVersionRow, before_commit, made_row, version_of}
@@ -269,13 +270,16 @@ module _ (h : List Event) (txns : Txns) (ks : Keys) (v : Versions) (ws : Writes)
           (at j, there j below, ap (λ (p : ℕ × ℕ). p.0) both, version_of_write h (row j).write (slice_index keys (row j).key) made.1 made.0 made.2 ∙ ap (λ (p : ℕ × ℕ). p.1) both, commit_above h made.1 (row j).commit made.3)
 
   -- a position is a place in each table
-  pub place_is : (q : ℕ) → HasPosition h q → (q < length v.made.items) × (q < length v.makers.items) × (q < length v.key_numbers.items)
+  pub place_is : (q : ℕ) → HasPosition h q → (q < length v.made.items) × (q < length (joined v.rows))
   place_is q has =
       let below = (at_position q has.0 has.1).0 in
       let a = t.made_are.0 in
-      let b = t.makers_are.0 in
-      let c = t.keys_are.0 in
-      (omega arith, omega arith, omega arith)
+      let b = ap length t.kept in
+      (omega arith, omega arith)
+
+  -- and its row is the one there
+  row_is : (q : ℕ) (rows : List VersionRow) → rows ≡ joined v.rows → slice_index_or rows q no_row ≡ row q
+  row_is q rows same = ap (λ xs. slice_index_or xs q no_row) (same ∙ t.kept)
 
   -- what is read there
   pub made_is : (q : ℕ) (w : KeyVersion) → IsAtPosition h q w → (made : Made) → made ≡ slice_index_or v.made.items q made → made.commit ≡ w.commit
@@ -283,16 +287,16 @@ module _ (h : List Event) (txns : Txns) (ks : Keys) (v : Versions) (ws : Writes)
       let p = at_position q w is in
       ap (λ (m : Made). m.commit) (read ∙ t.made_are.1 q made no_row (let below = p.0 in let long = t.made_are.0 in omega arith)) ∙ ap (λ (x : KeyVersion). x.commit) p.1
 
-  pub key_is : (q : ℕ) (w : KeyVersion) → IsAtPosition h q w → (n : ℕ) → n ≡ slice_index_or v.key_numbers.items q n → IsKeyAt h n w.key
-  key_is q w is n read =
+  pub key_is : (q : ℕ) (w : KeyVersion) → IsAtPosition h q w → (rows : List VersionRow) → rows ≡ joined v.rows → IsKeyAt h (slice_index_or rows q no_row).key w.key
+  key_is q w is rows same =
       let p = at_position q w is in
-      let own : n ≡ (row q).key = read ∙ t.keys_are.1 q n no_row (let below = p.0 in let long = t.keys_are.0 in omega arith) in
+      let own = ap (λ (x : VersionRow). x.key) (row_is q rows same) in
       subst (λ m. IsKeyAt h m w.key) (sym own) (keys, keys_are, (is_row q p.0).0, ap (λ (x : KeyVersion). x.key) p.1)
 
-  pub maker_is : (q : ℕ) (w : KeyVersion) → IsAtPosition h q w → 0 < w.commit → (n : ℕ) → n ≡ slice_index_or v.makers.items q n → IsCommittedAt h n w.txn
-  maker_is q w is some n read =
+  pub maker_is : (q : ℕ) (w : KeyVersion) → IsAtPosition h q w → 0 < w.commit → (rows : List VersionRow) → rows ≡ joined v.rows → IsCommittedAt h (slice_index_or rows q no_row).maker w.txn
+  maker_is q w is some rows same =
       let p = at_position q w is in
-      let own : n ≡ (row q).maker = read ∙ t.makers_are.1 q n no_row (let below = p.0 in let long = t.makers_are.0 in omega arith) in
+      let own = ap (λ (x : VersionRow). x.maker) (row_is q rows same) in
       let commit = ap (λ (x : KeyVersion). x.commit) p.1 in
       let made = row_made q p.0 (omega arith) in
       let txn = version_of_write h (row q).write (slice_index keys (row q).key) made.1 made.0 made.2 in
@@ -444,6 +448,11 @@ module _ (h : List Event) (txns : Txns) (ks : Keys) (v : Versions) (ws : Writes)
     abbrev pub chain : List Made
     chain = slice_range v.made.items (from + 1) to
 
+    pub within_made : (from < to) × (to ≤ length v.made.items)
+    within_made =
+        let size = length-map t.rows (version_of h keys) in
+        (stretch.some, omega (arith, stretch.bound, t.made_are.0))
+
     inside : (j : ℕ) → from ≤ j → j < to → (j < length t.rows) × ((at j).key ≡ k)
     inside j after before_to =
         let size = length-map t.rows (version_of h keys) in
@@ -522,7 +531,7 @@ module _ (h : List Event) (txns : Txns) (ks : Keys) (v : Versions) (ws : Writes)
     }
 
     -- what a search of them finds
-    pub newest_found : (place n : ℕ) → n ≤ length chain → PointWithin (λ (m : Made). m.commit) chain place n → (from + n < length t.rows) × IsNewestAsOf h place (at (from + n)) × ((at (from + n)).key ≡ k)
+    newest_found : (place n : ℕ) → n ≤ length chain → PointWithin (λ (m : Made). m.commit) chain place n → (from + n < length t.rows) × IsNewestAsOf h place (at (from + n)) × ((at (from + n)).key ≡ k)
     newest_found place n most point =
         let long = chain_long in
         let some = stretch.some in
@@ -560,6 +569,12 @@ module _ (h : List Event) (txns : Txns) (ks : Keys) (v : Versions) (ws : Writes)
           ),
           own.1,
         )
+
+    -- the same of any list of the key's versions
+    pub found_at : (listed : List Made) → AreVersions h k listed → (place n : ℕ) → n ≤ length listed → PointWithin (λ (m : Made). m.commit) listed place n → (from + n < length t.rows) × IsNewestAsOf h place (at (from + n)) × ((at (from + n)).key ≡ k)
+    found_at listed are_listed place n most point =
+        let same : listed ≡ chain = one_list_by (λ (m : Made). m.commit ∷ []) (IsMade h k) listed chain are_listed chain_versions in
+        newest_found place n (subst (λ ms. n ≤ length ms) same most) (subst (λ ms. PointWithin (λ (m : Made). m.commit) ms place n) same point)
 
   -- the first commit of a key tells whether a version of it is committed up to a place
   pub visible_is : (i k : ℕ) → IsKeyAt h i k → (place : ℕ) → place < 4294967296 → (n : ℕ) → n ≡ slice_index v.first_commits.items i → (n < place) ↔ HasVersionUpTo h k place

@@ -5,7 +5,7 @@ use Rattle.sia_events.specs.Lists.{CountsAll}
 use Rattle.sia_events.specs.Transactions.{IsCommitted, IsAborted, IsOpen}
 use Rattle.sia_index.specs.declared.info.Fate.{Fate}
 use Rattle.sia_index.specs.declared.info.Fate.TheVariants.{Committed, Aborted, Unfinished}
-use Rattle.sia_index.specs.declared.counts.Counts.{Counts}
+use Rattle.sia_index.specs.declared.info.Counts.{Counts}
 
 -- t ended so
 abbrev pub EndedSo : List Event → Fate → ℕ → Type 0

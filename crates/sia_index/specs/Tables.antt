@@ -8,12 +8,13 @@ use Rattle.sia_events.specs.Refusals.{IsWellFormed}
 use Rattle.sia_events.specs.Transactions.{HasEvent, IsCommitted}
 use Rattle.sia_index.specs.Info.{IsInfo}
 use Rattle.sia_index.specs.Lifetimes.{AreLifetimes}
+use Rattle.sia_index.specs.Lists.{joined}
 use Rattle.sia_index.specs.Minima.{AreMinima}
 use Rattle.sia_index.specs.Rows.{AreWrites, IsColumn, IsWritten}
 use Rattle.sia_index.specs.VersionRows.{AreFirsts, AreRowsByPosition, AreWritesAt, commit_behind, made_row}
 use Rattle.sia_index.specs.declared.versions.VersionRow.{VersionRow}
 use Rattle.sia_index.specs.declared.info.TxnInfo.{TxnInfo}
-use Rattle.sia_index.specs.declared.keys.Keys.{Keys}
+use Rattle.sia_index.specs.declared.names.Keys.{Keys}
 use Rattle.sia_index.specs.declared.txns.Txns.{Txns}
 use Rattle.sia_index.specs.declared.versions.Versions.{Versions}
 use Rattle.sia_index.specs.declared.writes.Writes.{Writes}
@@ -63,8 +64,7 @@ pub record AreVersionTables (h : List Event) (committed keys : List ℕ) (v : Ve
   pub rows : List VersionRow
   pub rows_are : AreRowsByPosition h committed keys rows
   pub made_are : IsColumn (made_row h) rows (length rows) v.made.items
-  pub makers_are : IsColumn (λ row. row.maker) rows (length rows) v.makers.items
-  pub keys_are : IsColumn (λ row. row.key) rows (length rows) v.key_numbers.items
+  pub kept : joined v.rows ≡ rows
   pub firsts_are : AreFirsts rows (length rows) (length keys) v.firsts.items
   pub writes_are : AreWritesAt h keys rows (length rows) v.writes.items
   pub made_by_are : AreMadeBy rows (length committed) v.made_by

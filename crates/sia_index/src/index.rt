@@ -4,9 +4,9 @@ ghost use Rattle.sia_events.specs.declared.event.Event.{Event};
 ghost use Rattle.sia_events.specs.Lists.{ListsAscending};
 ghost use Rattle.sia_events.specs.Numbering.{names_of, txns_of, txn_at};
 ghost use Rattle.sia_events.specs.Refusals.{IsWellFormed};
-ghost use Rattle.sia_events.specs.Transactions.{HasEvent, IsCommitted, Wrote, Overlap, StartsBeforeCommit};
+ghost use Rattle.sia_events.specs.Transactions.{HasEvent, IsCommitted, Wrote, Overlap};
 ghost use Rattle.sia_index.specs.Info.{IsInfo, IsKeyAt, HasKeyAt, AreVersions, AreWrittenKeys, IsFirstWrite};
-ghost use Rattle.sia_index.specs.Lifetimes.{AreLifetimes};
+ghost use Rattle.sia_index.specs.Lifetimes.{AreLifetimes, IsLifetime};
 ghost use Rattle.sia_index.specs.Numbers.{HasTxnAt, IsTxnAt, IsCommittedAt};
 ghost use Rattle.sia_index.specs.Positions.{AreAllVersions};
 ghost use Rattle.sia_index.specs.Rows.{AreWrites, IsKeyStretch, IsStretch};
@@ -14,10 +14,10 @@ ghost use Rattle.sia_index.specs.declared.info.KeyVersion.{KeyVersion};
 ghost use Rattle.sia_index.specs.declared.writes.WriteRow.{WriteRow};
 ghost use Rattle.sia_index.specs.Tables.{AreTables};
 
-use crate::info::{Lifetime, Made, TxnInfo};
+use crate::info::{Lifetime, Made, TxnInfo, overlap};
 use crate::keyed::{ByKey, ByTxn, find, place_from};
-use crate::keys::Keys;
 use crate::lists::end_at;
+use crate::names::Keys;
 use crate::ordering::group_at;
 use crate::txns::Txns;
 use crate::versions::Versions;
@@ -89,13 +89,26 @@ impl Index {
         Some(self.txn_at(number))
     }
 
+    /// When a transaction starts and commits, if it commits.
+    pub fn lifetime_of(&self, t: TxnId) -> Option<Lifetime>
+        ensures { MatchOption result (¬ IsCommitted self.now t) (IsLifetime self.now t) }
+    {
+        self.law();
+        let info = self.txn(t)?;
+        let commit = info.commit()?;
+        Some(Lifetime {
+            start: info.start,
+            commit,
+        })
+    }
+
     /// Whether both committed, and each started before the other committed.
     pub fn overlap(&self, t: TxnId, u: TxnId) -> bool
         ensures { IsTrue result ↔ Overlap self.now t u }
     {
-        let _ = &self.of;
-        match (self.txn(t), self.txn(u)) {
-            (Some(a), Some(b)) => starts_before_commit(a, b) && starts_before_commit(b, a),
+        self.law();
+        match (self.lifetime_of(t), self.lifetime_of(u)) {
+            (Some(first), Some(second)) => overlap(first, second),
             _ => false,
         }
     }
@@ -186,15 +199,5 @@ impl Index {
     {
         let _ = t;
         group_at(&self.writes.starts, i)
-    }
-}
-
-// Whether the second committed, after the first had started.
-fn starts_before_commit(a: TxnInfo, b: TxnInfo) -> bool
-    ensures { (h : List Event) (t u : ℕ) → IsWellFormed h → IsInfo h t a → IsInfo h u b → IsTrue result ↔ StartsBeforeCommit h t u }
-{
-    match b.commit() {
-        Some(commit) => a.start < commit,
-        None => false,
     }
 }

@@ -1,10 +1,9 @@
 //! Rows in the order of a number, and what is found in a list of them by that number.
-ghost use Rattle.std.specs.Prelude.{◌≡◌, ◌≤◌, true, false, length, leb, ltb, ◌≢◌, ◌<◌, All, AllPairs, MatchOption, slice_index_or, ℕ};
+ghost use Rattle.std.specs.Prelude.{◌≡◌, ◌≤◌, true, false, length, leb, ltb, ◌≢◌, ◌<◌, All, AllPairs, IsTrue, MatchOption, slice_index_or, ℕ};
 ghost use Rattle.std.specs.List.Sorted.{IsNonDecreasingBy, IsPartitionPoint};
 ghost use Rattle.sia_index.specs.Between.{IsBetween};
 
 use crate::info::Made;
-use crate::searching::partition_near;
 use sia_events::{Key, TxnId};
 
 /// The number that a list of rows goes by.
@@ -74,22 +73,28 @@ pub fn place_above<T, O: By<T>>(rows: &[T], to: u64) -> usize
     rows.partition_point(|row| O::number(row) <= to)
 }
 
-/// The first place of a row that is at least at `from`, looked for from near a place.
+/// The first place of a row that is at least at `from`. Where it is the one that is near, two looks tell.
 pub fn place_from_near<T, O: By<T>>(rows: &[T], from: u64, near: usize) -> usize
     requires { IsNonDecreasingBy O.by rows.now }
     ensures bound { result ≤ length rows.now }
     ensures point { IsPartitionPoint (λ row. ltb (O.by row) from ≡ true) (λ row. ltb (O.by row) from ≡ false) rows.now result }
 {
-    partition_near(rows, near, |row| O::number(row) < from)
+    if parts_at::<T, O>(rows, from, near) {
+        return near;
+    }
+    place_from::<T, O>(rows, from)
 }
 
-/// The first place of a row that is above `to`, looked for from near a place.
-pub fn place_above_near<T, O: By<T>>(rows: &[T], to: u64, near: usize) -> usize
+// Whether the rows before the place are below `from`, and the others are not.
+fn parts_at<T, O: By<T>>(rows: &[T], from: u64, place: usize) -> bool
     requires { IsNonDecreasingBy O.by rows.now }
-    ensures bound { result ≤ length rows.now }
-    ensures point { IsPartitionPoint (λ row. leb (O.by row) to ≡ true) (λ row. leb (O.by row) to ≡ false) rows.now result }
+    ensures bound { IsTrue result → place ≤ length rows.now }
+    ensures point { IsTrue result → IsPartitionPoint (λ row. ltb (O.by row) from ≡ true) (λ row. ltb (O.by row) from ≡ false) rows.now place }
 {
-    partition_near(rows, near, |row| O::number(row) <= to)
+    if place > rows.len() || place > 0 && from <= O::number(&rows[place - 1]) {
+        return false;
+    }
+    place == rows.len() || from <= O::number(&rows[place])
 }
 
 /// The rows from `lo` to `hi`.

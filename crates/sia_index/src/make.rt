@@ -2,7 +2,7 @@
 ghost use Rattle.std.specs.Prelude.{◌≡◌, IfOk};
 
 use crate::index::Index;
-use crate::keys::keys_of;
+use crate::names::keys_of;
 use crate::txns::txns_of;
 use crate::versions::versions_of;
 use crate::writes::writes_of;

@@ -1,11 +1,9 @@
 //! The least numbers of rows in blocks, and of blocks in a tree. A search for a low number passes all rows below a node at once.
-ghost use Rattle.std.specs.Prelude.{◌<◌, ◌≤◌, ◌+◌, ◌*◌, ◌/◌, ℕ, IfOk, MatchOption, length, slice_range};
+ghost use Rattle.std.specs.Prelude.{◌<◌, ◌≤◌, ◌+◌, ◌*◌, ◌/◌, ℕ, IfOk, MatchOption, length};
 ghost use Rattle.std.specs.List.{AllWithin};
-ghost use Rattle.std.specs.List.Sorted.{IsNonDecreasingBy};
-ghost use Rattle.sia_index.specs.Minima.{AreMinima, Covers, IsNextBelow, IsNextKey, IsPower, PassesBlocks};
+ghost use Rattle.sia_index.specs.Minima.{AreMinima, Covers, IsNextBelow, IsPower, PassesBlocks};
 
-use crate::keyed::{By, place_above, place_from};
-use sia_events::Key;
+use crate::keyed::By;
 use std::alloc::{AllocError, Global};
 
 /// How many rows a block has.
@@ -39,28 +37,6 @@ fn size_for(rows: usize) -> usize
         size *= 2;
     }
     size
-}
-
-/// Of the keys from `lo` to `hi` the least that a row of the stretch has with a number below the limit.
-pub fn next_key<T, K: By<T>, O: By<T>>(
-    rows: &[T],
-    minima: &[u64],
-    stretch: (usize, usize),
-    lo: Key,
-    hi: Key,
-    limit: u64,
-) -> Option<Key>
-    requires forward { stretch.0 ≤ stretch.1 }
-    requires within { stretch.1 ≤ length rows.now }
-    requires keys_rise { IsNonDecreasingBy K.by (slice_range rows.now stretch.0 stretch.1) }
-    requires minima_are { AreMinima O.by rows.now minima.now }
-    ensures { IsNextKey K.by O.by rows.now stretch.0 stretch.1 limit lo hi result }
-{
-    let (from, to) = stretch;
-    let first = from + place_from::<T, K>(&rows[from..to], lo);
-    let last = from + place_above::<T, K>(&rows[from..to], hi);
-    let next = next_below::<T, O>(rows, minima, first, last, limit)?;
-    Some(K::number(&rows[next]))
 }
 
 /// The first place, from `from` to below `to`, of a row whose number is below the limit.

@@ -55,7 +55,7 @@ impl Index {
         requires { HasPosition self.now position }
         ensures { (v : KeyVersion) → IsAtPosition self.now position v → IsKeyAt self.now result v.key }
     {
-        self.versions.key_numbers[position as usize]
+        self.versions.rows.rows()[position as usize].key
     }
 
     /// When the version at the position was committed: 0 for version 0.
@@ -74,7 +74,7 @@ impl Index {
         if self.commit_at(position) == 0 {
             return None;
         }
-        Some(self.versions.makers[position as usize])
+        Some(self.versions.rows.rows()[position as usize].maker)
     }
 
     // When the version behind the position was committed: 0 where that is another key's version 0, or there is none.
@@ -131,8 +131,9 @@ impl Index {
         requires { HasKeyAt self.now i }
         ensures { (v : KeyVersion) × IsAtPosition self.now result v × IsKeyAt self.now i v.key × IsNewestAsOf self.now place v }
     {
-        let (from, to) = self.group(i as usize);
-        let versions = &self.versions.made[from + 1..to];
+        let _ = &self.of;
+        let (from, _) = self.group(i as usize);
+        let versions = self.versions_at(i as usize);
         (from + place_above::<Made, ByPlace>(versions, u64::from(place))) as u32
     }
 

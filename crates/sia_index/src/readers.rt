@@ -9,8 +9,8 @@ ghost use Rattle.sia_index.specs.Rows.{AscendsByCommit, IsLastWithin, PassesNone
 
 use crate::index::Index;
 use crate::info::{Made, Reader};
-use crate::keyed::{ByKey, ByPlace, place_above};
-use crate::minima::next_key;
+use crate::keyed::{ByKey, ByPlace, place_above, place_from};
+use crate::minima::next_below;
 use crate::writes::WriteRow;
 use sia_events::{Key, TxnId, Version};
 
@@ -54,17 +54,10 @@ impl Index {
         requires { HasEvent self.now t }
         ensures { IsDue self.now t place k result }
     {
-        self.due_to(self.reader(t, place), k)
-    }
-
-    /// The version due to the reader at the key.
-    pub fn due_to(&self, reader: Reader, k: Key) -> Version
-        requires { IsReader self.now reader.txn reader.place reader }
-        ensures { IsDue self.now reader.txn reader.place k result }
-    {
         let _ = &self.of;
+        let reader = self.reader(t, place);
         if self.wrote_before(reader, k) {
-            return reader.txn;
+            return t;
         }
         match last_within(self.versions(k), reader.start) {
             Some(made) => made.txn,
@@ -92,18 +85,16 @@ impl Index {
         requires { IsReader self.now reader.txn reader.place reader }
         ensures { PassesNone (λ k. WroteBefore self.now reader.txn k reader.place) lo hi result }
     {
-        if reader.has_written {
-            next_key::<WriteRow, ByKey, ByPlace>(
-                &self.writes.rows,
-                &self.writes.minima,
-                self.stretch_at(reader.txn, reader.number),
-                lo,
-                hi,
-                u64::from(reader.place),
-            )
-        } else {
-            None
+        if !reader.has_written {
+            return None;
         }
+        let rows = &self.writes.rows;
+        let (from, to) = self.stretch_at(reader.txn, reader.number);
+        let first = from + place_from::<WriteRow, ByKey>(&rows[from..to], lo);
+        let last = from + place_above::<WriteRow, ByKey>(&rows[from..to], hi);
+        let place = u64::from(reader.place);
+        let next = next_below::<WriteRow, ByPlace>(rows, &self.writes.minima, first, last, place)?;
+        Some(rows[next].key)
     }
 }
 

@@ -2,7 +2,7 @@
 ghost use Rattle.sia_index.specs.Positions.{HasPosition};
 
 use super::*;
-use crate::searching::partition_near;
+use crate::keyed::{ByKey, place_from_near};
 use sia_events::{Key, TxnId, read_history};
 use std::alloc::Global;
 use std::fmt::Write;
@@ -96,9 +96,7 @@ fn is_due(index: &Index, wanted: &Reader, dues: &[Due]) -> bool {
     let mut is_so = reader == *wanted;
     for due in dues {
         is_so &= match due {
-            Due::At(k, version) => {
-                index.due(t, place, *k) == *version && index.due_to(reader, *k) == *version
-            }
+            Due::At(k, version) => index.due(t, place, *k) == *version,
             Due::Own(lo, hi, own) => index.next_own(reader, *lo, *hi) == *own,
         };
     }
@@ -184,17 +182,16 @@ fn due_among_many(rt: HostRuntime) -> Result<(), Fail> {
     Ok(())
 }
 
-/// Numbers that ascend.
-const NUMBERS: &[u64] = &[1, 3, 5, 5, 8, 13];
-
-/// Limits, and how many of the numbers are below each.
-const BELOW: &[(u64, usize)] = &[(0, 0), (1, 0), (5, 2), (6, 4), (13, 5), (14, 6)];
+/// Limits, and how many of the keys 1, 3, 5, 8 and 13 are below each.
+const BELOW: &[(u64, usize)] = &[(0, 0), (1, 0), (5, 2), (6, 3), (13, 4), (14, 5)];
 
 #[test]
 fn places(rt: HostRuntime) -> Result<(), Fail> {
+    let index = index_of(rt.alloc(), b"w1[3] w1[13] w1[1] w1[8] w1[5]")?;
+    let keys = index.written_keys();
     for near in 0..8 {
         for (limit, count) in BELOW {
-            let found = partition_near(NUMBERS, near, |number| *number < *limit);
+            let found = place_from_near::<Key, ByKey>(keys, *limit, near);
             assert!(rt; found == *count, "below {limit} from {near}");
         }
     }

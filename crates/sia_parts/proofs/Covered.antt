@@ -7,7 +7,7 @@ use Rattle.sia_events.specs.Numbering.{names_of, pair_at}
 use Rattle.sia_events.specs.Reads.{SawAt}
 use Rattle.sia_events.specs.Transactions.{Wrote, WroteBefore}
 use Rattle.sia_index.specs.Info.{IsKeyAt}
-use Rattle.sia_parts.specs.declared.audit.scope.Known.{Known}
+use Rattle.sia_parts.specs.declared.audit.seen.Known.{Known}
 use Rattle.sia_parts.specs.declared.audit.ranges.Cover.{Cover}
 use Rattle.sia_parts.specs.declared.audit.seen.Seen.{Seen}
 use Rattle.sia_parts.specs.Seeing.{Gains, IsCover, IsSightWithin}

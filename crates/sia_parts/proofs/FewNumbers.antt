@@ -1,4 +1,4 @@
--- A well-formed history has at most 100,000 events, so the numbers of its transactions and keys are digits.
+-- A well-formed history has at most 500,000,000 events, so the numbers of its transactions and keys are below 2 ^ 29.
 use Rattle.std.proofs.Common.{◌≡◌, inl, inr, ℕ, zero, suc, ◌<◌, ◌≤◌, List, [], ◌∷◌, Some, length, map, eqb, refl, ap, subst, arith}
 use Rattle.std.specs.Prelude.{AllPairs, Contains, slice_get, slice_index_or}
 use Rattle.std.specs.Cmp.{IsEquivalence}
@@ -48,7 +48,7 @@ few h f xs up each =
 ascends : (P : ℕ → Type 0) (xs : List ℕ) → ListsAscending P xs → AllPairs (λ x y. (x < y)) xs
 ascends P xs are i j d less below = elim (are.ascending i j d less below) [ inl under ↦ under | inr same ↦ absurd same.1 ]
 
-pub few_committed : (h : List Event) → IsWellFormed h → (i t : ℕ) → IsCommittedAt h i t → i < 1048576
+pub few_committed : (h : List Event) → IsWellFormed h → (i t : ℕ) → IsCommittedAt h i t → i < 536870912
 few_committed h wf i t at =
     let le : length at.0 ≤ length h = few h actor at.0 (ascends (IsCommitted h) at.0 at.1) (λ x c. let is = (at.1.each x).0 c in (is.0, Commit x, is.1, refl)) in
     let most = few_events h wf in
@@ -63,12 +63,12 @@ written_key (Write t k) = k
 written_key (Commit t) = 0
 written_key (Abort t) = 0
 
-pub few_written : (h : List Event) → IsWellFormed h → (keys : List ℕ) → AreWrittenKeys h keys → length keys ≤ 100000
+pub few_written : (h : List Event) → IsWellFormed h → (keys : List ℕ) → AreWrittenKeys h keys → length keys ≤ 500000000
 unfolding written_key
 few_written h wf keys are =
     let le : length keys ≤ length h = few h written_key keys (ascends (λ k. (t : ℕ) × Wrote h t k) keys are) (λ x c. let is = (are.each x).0 c in (is.1.0, Write is.0 x, is.1.1, refl)) in
     let most = few_events h wf in
     omega arith
 
-pub few_keys : (h : List Event) → IsWellFormed h → (i k : ℕ) → IsKeyAt h i k → i < 1048576
+pub few_keys : (h : List Event) → IsWellFormed h → (i k : ℕ) → IsKeyAt h i k → i < 536870912
 few_keys h wf i k at = let few = few_written h wf at.0 at.1 in let below = at.2 in omega arith

@@ -17,10 +17,9 @@ use Rattle.sia_index.specs.Info.{IsKeyAt}
 use Rattle.sia_index.specs.Numbers.{IsCommittedAt}
 use Rattle.sia_index.specs.Positions.{IsAtPosition}
 use Rattle.sia_parts.specs.declared.audit.seen.Seen.{Seen}
-use Rattle.sia_parts.specs.declared.audit.sights.Sight.{Sight}
+use Rattle.sia_parts.specs.Sights.{Sight, Adds, FromSome, FromSight, IsBadOf, LooksAt}
 use Rattle.sia_parts.specs.declared.finding.BadRead.{BadRead}
 use Rattle.sia_parts.specs.Seeing.{Gains, IsPlaced, IsPositionOf, IsSeenAt, IsSightWithin}
-use Rattle.sia_parts.specs.Sights.{Adds, FromSome, FromSight, IsBadOf, LooksAt}
 use Rattle.sia_parts.proofs.Adding.{FromFirst, adds_both, adds_nothing, adds_same, first_more}
 use Rattle.sia_parts.proofs.AsOf.{one_as_of}
 use Rattle.sia_parts.proofs.Numbers.{one_key}

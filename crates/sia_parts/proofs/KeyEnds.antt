@@ -1,5 +1,5 @@
--- Where the positions of a key end: where those of the next key begin, or where all end.
-use Rattle.std.proofs.Common.{◌≡◌, inl, inr, ℕ, ◌+◌, ◌<◌, ◌≤◌, List, Option, Some, Bool, true, false, not, length, refl, rules, ap, sym, subst, ◌∙◌, arith}
+-- Where the positions of a key end: behind those of all keys up to it.
+use Rattle.std.proofs.Common.{◌≡◌, inl, inr, ℕ, ◌+◌, ◌<◌, ◌≤◌, List, Option, Some, length, rules, ap, sym, subst, ◌∙◌, arith}
 use Rattle.std.proofs.Math.Dec.{leb}
 use Rattle.std.specs.Prelude.{◌↔◌, IsTrue, slice_index}
 use Rattle.std.proofs.lemmas.Bool.{cases_lt, leb-true}
@@ -8,14 +8,13 @@ use Rattle.sia_events.specs.declared.event.Event.{Event}
 use Rattle.sia_events.specs.Transactions.{Wrote}
 use Rattle.sia_index.specs.declared.info.KeyVersion.{KeyVersion}
 use Rattle.sia_index.specs.Info.{AreWrittenKeys, IsKeyAt}
-use Rattle.sia_index.specs.Positions.{ArePositions, IsAtPosition, IsVersion}
+use Rattle.sia_index.specs.Positions.{HasPosition, IsAtPosition, IsVersion}
 use Rattle.sia_index.proofs.KeyChains.{key_number}
 use Rattle.sia_index.proofs.Ordered.{ascends}
 use Rattle.sia_parts.specs.declared.cutting.Part.{Part}
 use Rattle.sia_parts.specs.EdgeRows.{IsKeyEnd, IsOfKey, StandsBehind}
 use Rattle.sia_parts.specs.Parts.{IsWithin}
-use Rattle.sia_parts.proofs.OneNumber.{one_key}
-use Rattle.sia_parts.proofs.PositionOrder.{ascends_at, has_position, is_version, one_version, position_below, same_number}
+use Rattle.sia_parts.proofs.PositionOrder.{ascends_at, is_version, one_version, same_number}
 
 -- keys with numbers that are the same
 pub one_number : (h : List Event) (q p n m : ℕ) → n ≡ m → IsOfKey h n q → IsOfKey h m p → q ≤ p → StandsBehind h q p
@@ -50,44 +49,20 @@ module _ (h : List Event) (keys : List ℕ) (are : AreWrittenKeys h keys) where
     ])
   ]
 
-  module _ (q n : ℕ) (own : IsOfKey h n q) where
-    -- where the next key begins
-    pub ends_at_next : (e : ℕ) (v : KeyVersion) → IsAtPosition h e v → IsKeyAt h (n + 1) v.key → v.commit ≡ 0 → IsKeyEnd h q e
-    ends_at_next e v at next zero = record {
-      there = λ p low below. has_position h (length at.0) p (at.0, at.1, refl) (let inside = position_below h (length at.0) e v (at.0, at.1, refl) at in omega arith);
-      own = λ j p of low below. (
-          let here = has_position h (length at.0) p (at.0, at.1, refl) (let inside = position_below h (length at.0) e v (at.0, at.1, refl) at in omega arith) in
-          let w = here.0 in
-          let number = number_of w (is_version h p w here.1) in
-          let from = rises_at q p n number.0 own.version w own.at here.1 own.key number.1 low in
-          let to = rises_at p e number.0 (n + 1) w v here.1 at number.1 next (omega arith) in
-          let same : number.0 ≡ n = elim (cases_lt number.0 (n + 1)) [
-            | inl under ↦ omega arith
-            | inr over ↦ (
-                let last : number.0 ≡ n + 1 = omega arith in
-                let key = one_key h (n + 1) w.key v.key (subst (λ m. IsKeyAt h m w.key) last number.1) next in
-                elim (ascends_at h p e w v here.1 at below) [ inl above ↦ absurd (omega arith) | inr later ↦ (let more : w.commit < v.commit = later.1 in absurd (omega arith)) ])
-          ] in
-          record { version = w; at = here.1; key = subst (λ m. IsKeyAt h m w.key) (same ∙ sym (same_number h j n q of own)) number.1 });
-      past = λ j p of other. elim (cases_lt p e) [
-        | inl below ↦ below
-        | inr from ↦ absurd (let number = same_number h j n q of own in let le = rises_at e p (n + 1) n v other.version at other.at next (subst (λ m. IsKeyAt h m other.version.key) number other.key) from in omega arith)
-      ];
-    }
-
-    -- or all end
-    pub ends_at_all : (e : ℕ) → ArePositions h e → length keys ≤ n + 1 → IsKeyEnd h q e
-    ends_at_all e all last = record {
-      there = λ p low below. has_position h e p all below;
-      own = λ j p of low below. (
-          let here = has_position h e p all below in
-          let w = here.0 in
-          let number = number_of w (is_version h p w here.1) in
-          let from = rises_at q p n number.0 own.version w own.at here.1 own.key number.1 low in
-          let same : number.0 ≡ n = (let inside = number.2 in omega arith) in
-          record { version = w; at = here.1; key = subst (λ m. IsKeyAt h m w.key) (same ∙ sym (same_number h j n q of own)) number.1 });
-      past = λ j p of other. position_below h e p other.version all other.at;
-    }
+  -- where the positions of the keys up to number n end
+  pub ends_at : (q n : ℕ) → IsOfKey h n q → (e : ℕ) → ((p : ℕ) → p < e → HasPosition h p) → ((p : ℕ) (v : KeyVersion) (j : ℕ) → IsAtPosition h p v → IsKeyAt h j v.key → (p < e) ↔ (j < n + 1)) → IsKeyEnd h q e
+  ends_at q n own e within parts = record {
+    there = λ p low below. within p below;
+    own = λ j p of low below. (
+        let here = within p below in
+        let w = here.0 in
+        let number = number_of w (is_version h p w here.1) in
+        let from = rises_at q p n number.0 own.version w own.at here.1 own.key number.1 low in
+        let to = (parts p w number.0 here.1 number.1).0 below in
+        let same : number.0 ≡ n = omega arith in
+        record { version = w; at = here.1; key = subst (λ m. IsKeyAt h m w.key) (same ∙ sym (same_number h j n q of own)) number.1 });
+    past = λ j p of other. (parts p other.version n other.at (subst (λ m. IsKeyAt h m other.version.key) (same_number h j n q of own) other.key)).1 (omega arith);
+  }
 
 -- whether a key is within
 pub within_part : (within : Option Part) (part : Part) → within ≡ Some part → (x k : ℕ) → x ≡ k → part.lo ≤ x → IsTrue (leb x part.hi) ↔ IsWithin within k

@@ -1,6 +1,5 @@
 pub mod StartLemmas
 pub mod CutPairs
-pub mod LifetimeTables
 pub mod PushedWords
 pub mod Members
 pub mod InTwoNumbers

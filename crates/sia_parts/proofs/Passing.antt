@@ -14,15 +14,14 @@ use Rattle.sia_index.proofs.Ordered.{ascends}
 use Rattle.sia_index.proofs.Points.{PointBelow, point_below, point_from}
 use Rattle.sia_index.specs.Positions.{HasVersionUpTo}
 use Rattle.sia_parts.proofs.Positions.{none_is_due}
-use Rattle.sia_parts.specs.declared.audit.scope.Known.{Known}
+use Rattle.sia_parts.specs.declared.audit.seen.Known.{Known}
 use Rattle.sia_parts.specs.declared.audit.seen.Seen.{Seen}
-use Rattle.sia_parts.specs.declared.audit.sights.Sight.{Sight}
+use Rattle.sia_parts.specs.Sights.{Sight, Adds, FromSight, Gives, IsBadOf, LooksAt}
 use Rattle.sia_parts.specs.declared.finding.BadRead.{BadRead}
 use Rattle.sia_parts.specs.declared.accesses.RangeMiss.{RangeMiss}
 use Rattle.sia_parts.specs.Accesses.{IsMissAt, IsPassedBy}
 use Rattle.sia_parts.specs.Known.{IsKnown}
 use Rattle.sia_parts.specs.Seeing.{Gains, HaveUpTo, IsGap, IsMiss, IsSightWithin}
-use Rattle.sia_parts.specs.Sights.{Adds, FromSight, Gives, IsBadOf, LooksAt}
 use Rattle.sia_parts.proofs.Adding.{adds_both, adds_nothing, adds_same}
 use Rattle.sia_parts.proofs.AsOf.{one_as_of}
 use Rattle.sia_parts.proofs.Gaining.{is_sight, one_sight}

@@ -7,23 +7,50 @@ use Rattle.std.proofs.lemmas.List.Kept.{AllPairs-from_increasing}
 use Rattle.sia_events.specs.declared.event.Event.{Event}
 use Rattle.sia_events.specs.declared.event.Event.TheVariants.{Range}
 use Rattle.sia_events.specs.Events.{Saw}
-use Rattle.sia_events.specs.Numbering.{names_of, pair_at}
+use Rattle.sia_events.specs.Numbering.{names_of, pair_at, range_at}
 use Rattle.sia_events.specs.Places.{at_place}
 use Rattle.sia_events.specs.Reads.{SawAt}
 use Rattle.sia_events.specs.Refusals.{IsWellFormed}
 use Rattle.sia_events.proofs.Ranges.{list_in_order}
 use Rattle.sia_events.proofs.Starts.{one_event}
 use Rattle.sia_index.specs.Info.{IsKeyAt}
+use Rattle.sia_parts.specs.declared.audit.seen.Scope.{Scope}
 use Rattle.sia_parts.specs.declared.audit.seen.Seen.{Seen}
-use Rattle.sia_parts.specs.declared.audit.sights.Sight.{Sight}
+use Rattle.sia_parts.specs.Sights.{Sight}
 use Rattle.sia_parts.specs.declared.cutting.Part.{Part}
 use Rattle.sia_parts.specs.Parts.{IsInPart}
-use Rattle.sia_parts.specs.Seeing.{AscendByKey, Gains, IsSightWithin}
+use Rattle.sia_parts.specs.Seeing.{AscendByKey, Gains, IsScope, IsSightWithin}
 use Rattle.sia_parts.proofs.Gaining.{gains_same}
 use Rattle.sia_parts.proofs.Numbers.{one_key}
 
 pub all_from : {A : Type 0} (P : A → Type 0) (xs : List A) → ((x : A) → Contains xs x → P x) → All P xs
 all_from P xs each k d below = each (get_or xs k d) (Contains-get_or xs k d below)
+
+-- a range read by its number, and the keys from lo to hi that it shares with the part
+pub record IsRangeIn (scope : Scope) (p t r : ℕ) (listed : List ℕ) (least most lo hi : ℕ) : Type 0 where
+  pub at : at_place scope.ix.now p ≡ Some (Range t (range_at (names_of scope.ix.now) r).0 (range_at (names_of scope.ix.now) r).1 (map (pair_at (names_of scope.ix.now)) listed))
+  pub from : least ≡ (range_at (names_of scope.ix.now) r).0
+  pub to : most ≡ (range_at (names_of scope.ix.now) r).1
+  pub low : lo ≡ max (range_at (names_of scope.ix.now) r).0 scope.part.lo
+  pub high : hi ≡ min (range_at (names_of scope.ix.now) r).1 scope.part.hi
+
+-- by what the log says of it
+pub range_in : (scope : Scope) → IsScope scope → (p t r : ℕ) (listed : List ℕ) → map (pair_at (names_of scope.log.now)) listed ≡ (range_at (names_of scope.log.now) r).2
+    → at_place scope.ix.now p ≡ Some (Range t (range_at (names_of scope.ix.now) r).0 (range_at (names_of scope.ix.now) r).1 (range_at (names_of scope.ix.now) r).2)
+    → (from to lo hi : ℕ) → from ≡ (range_at (names_of scope.log.now) r).0 → to ≡ (range_at (names_of scope.log.now) r).1 → lo ≡ max from scope.part.lo → hi ≡ min to scope.part.hi → IsRangeIn scope p t r listed from to lo hi
+range_in scope is p t r listed pairs event from to lo hi from_is to_is low high =
+    let h = scope.ix.now in
+    let back = sym is.same in
+    let own : map (pair_at (names_of h)) listed ≡ (range_at (names_of h) r).2 = subst (λ g. map (pair_at (names_of g)) listed ≡ (range_at (names_of g) r).2) back pairs in
+    let a : from ≡ (range_at (names_of h) r).0 = subst (λ g. from ≡ (range_at (names_of g) r).0) back from_is in
+    let b : to ≡ (range_at (names_of h) r).1 = subst (λ g. to ≡ (range_at (names_of g) r).1) back to_is in
+    record {
+      at = subst (λ xs. at_place h p ≡ Some (Range t (range_at (names_of h) r).0 (range_at (names_of h) r).1 xs)) (sym own) event;
+      from = a;
+      to = b;
+      low = subst (λ x. lo ≡ max x scope.part.lo) a low;
+      high = subst (λ x. hi ≡ min x scope.part.hi) b high;
+    }
 
 module _ (h : List Event) (wf : IsWellFormed h) (p t a b : ℕ) (listed : List ℕ) (at : at_place h p ≡ Some (Range t a b (map (pair_at (names_of h)) listed))) where
   abbrev f : ℕ → ℕ × ℕ
@@ -80,9 +107,6 @@ module _ (h : List Event) (wf : IsWellFormed h) (p t a b : ℕ) (listed : List �
         let from = inside.0 in
         let to = inside.1 in
         (omega arith, omega arith)
-
-    pub nothing_shared : hi < lo → (s : Sight) → ¬ IsSightWithin h p first end s
-    nothing_shared none s is = let key = sight_key s is in let low = key.0 in let high = key.1 in omega arith
 
     pub cover_gains : (from to : ℕ) → ((j : ℕ) → ((from ≤ j) × (j < to)) ↔ ((k : ℕ) × IsKeyAt h j k × (lo ≤ k) × (k ≤ hi))) → (old new : Seen) → Gains h (IsSightWithin h p from to) old new → Gains h (IsSightWithin h p first end) old new
     cover_gains from to each old new gains = gains_same h (IsSightWithin h p from to) (IsSightWithin h p first end)

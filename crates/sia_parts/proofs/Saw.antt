@@ -8,8 +8,7 @@ use Rattle.sia_events.proofs.Due.{one_due}
 use Rattle.sia_index.specs.declared.info.Reader.{Reader}
 use Rattle.sia_index.specs.Info.{IsReader}
 use Rattle.sia_parts.specs.declared.finding.BadRead.{BadRead}
-use Rattle.sia_parts.specs.declared.audit.sights.Sight.{Sight}
-use Rattle.sia_parts.specs.Sights.{IsBadOf}
+use Rattle.sia_parts.specs.Sights.{Sight, IsBadOf}
 
 -- the bad read of a sight has the version due
 pub bad_alone : (h : List Event) (s : Sight) (due : ℕ) → IsDue h s.txn s.place s.key due → (x : BadRead) → IsBadOf h s x → ◌≡◌ {A = BadRead} (record { place = s.place; txn = s.txn; key = s.key; saw = s.saw; due = due }) x

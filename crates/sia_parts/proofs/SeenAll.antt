@@ -14,14 +14,13 @@ use Rattle.sia_events.proofs.Seen.{saw_written}
 use Rattle.sia_index.specs.Info.{AreWrittenKeys, IsKeyAt}
 use Rattle.sia_index.specs.Numbers.{IsCommittedAt}
 use Rattle.sia_parts.specs.declared.audit.seen.Seen.{Seen}
-use Rattle.sia_parts.specs.declared.audit.sights.Sight.{Sight}
+use Rattle.sia_parts.specs.Sights.{Sight, FromSome, IsSight, bad_sight}
 use Rattle.sia_parts.specs.declared.cutting.Part.{Part}
 use Rattle.sia_parts.specs.declared.finding.BadRead.{BadRead}
 use Rattle.sia_parts.specs.Dealing.{HasReadsOf}
 use Rattle.sia_parts.specs.Accesses.{AreSights, IsLookAt, IsPassedBy}
 use Rattle.sia_parts.specs.Parts.{IsInPart}
 use Rattle.sia_parts.specs.Seeing.{Gains, HasSeenAt, IsMiss, IsPlaced, IsSightWithin}
-use Rattle.sia_parts.specs.Sights.{FromSome, IsSight, bad_sight}
 use Rattle.sia_parts.proofs.Committing.{at_is_committed}
 use Rattle.sia_parts.proofs.Positions.{due_is_written, version_written}
 use Rattle.sia_parts.proofs.Numbers.{one_key}

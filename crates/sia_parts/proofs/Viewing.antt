@@ -14,14 +14,13 @@ use Rattle.sia_events.proofs.Starts.{one_event}
 use Rattle.sia_index.specs.Info.{IsKeyAt}
 use Rattle.sia_index.specs.declared.info.KeyVersion.{KeyVersion}
 use Rattle.sia_index.specs.Positions.{IsAtPosition, IsNewestAsOf}
-use Rattle.sia_parts.specs.declared.audit.scope.Known.{Known}
+use Rattle.sia_parts.specs.declared.audit.seen.Known.{Known}
 use Rattle.sia_parts.specs.declared.audit.seen.Seen.{Seen}
-use Rattle.sia_parts.specs.declared.audit.sights.Sight.{Sight}
+use Rattle.sia_parts.specs.Sights.{Sight, Adds, IsBadOf, IsSight, LooksAt}
 use Rattle.sia_parts.specs.declared.audit.sights.View.{View}
 use Rattle.sia_parts.specs.declared.finding.BadRead.{BadRead}
 use Rattle.sia_parts.specs.Known.{IsKnown}
 use Rattle.sia_parts.specs.Seeing.{Gains, IsPositionOf, IsSightWithin, IsView, origin_in}
-use Rattle.sia_parts.specs.Sights.{Adds, IsBadOf, IsSight, LooksAt}
 use Rattle.sia_parts.proofs.Gaining.{GainsLook, gains_one, gains_same, is_sight, one_sight}
 use Rattle.sia_parts.proofs.Numbers.{at_is_written, one_key_number}
 use Rattle.sia_parts.proofs.Positions.{newest_is_due}

@@ -8,8 +8,7 @@ use Rattle.sia_parts.specs.declared.finding.BadWrite.{BadWrite}
 use Rattle.sia_parts.specs.declared.finding.Unexplained.{Unexplained}
 use Rattle.sia_parts.specs.declared.finding.Edge.{Edge}
 use Rattle.sia_parts.specs.declared.cutting.Part.{Part}
-use Rattle.sia_parts.specs.declared.findings.Findings.{Findings}
-use Rattle.sia_parts.specs.declared.findings.PartFindings.{PartFindings}
+use Rattle.sia_parts.specs.declared.finding.Findings.{Findings}
 use Rattle.sia_parts.specs.Parts.{IsInPart}
 use Rattle.sia_parts.specs.Entries.{IsEdge, bad_read_rank, bad_write_rank, unexplained_rank, edge_rank}
 
@@ -26,7 +25,7 @@ abbrev pub ListsEdges : List Event → (ℕ → Type 0) → List Edge → Type 0
 ListsEdges h Within found = ListsBy edge_rank (λ e. IsEdge h e × Within e.key) found
 
 -- at the keys of one part
-pub record ArePartFindings (h : List Event) (part : Part) (found : PartFindings) : Type 0 where
+pub record ArePartFindings (h : List Event) (part : Part) (found : Findings) : Type 0 where
   pub bad_reads : ListsBadReads h (IsInPart part) found.bad_reads.items
   pub bad_writes : ListsBadWrites h (IsInPart part) found.bad_writes.items
   pub unexplained : ListsUnexplained h (IsInPart part) found.unexplained.items

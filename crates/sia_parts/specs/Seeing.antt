@@ -11,18 +11,17 @@ use Rattle.sia_index.specs.declared.info.KeyVersion.{KeyVersion}
 use Rattle.sia_index.specs.declared.info.WriteAt.{WriteAt}
 use Rattle.sia_index.specs.Info.{IsKeyAt}
 use Rattle.sia_index.specs.Positions.{HasPosition, IsAtPosition}
-use Rattle.sia_parts.specs.declared.audit.scope.Known.{Known}
+use Rattle.sia_parts.specs.declared.audit.seen.Known.{Known}
 use Rattle.sia_parts.specs.declared.audit.ranges.Cover.{Cover}
-use Rattle.sia_parts.specs.declared.audit.scope.Scope.{Scope}
+use Rattle.sia_parts.specs.declared.audit.seen.Scope.{Scope}
 use Rattle.sia_parts.specs.declared.audit.seen.Seen.{Seen}
 use Rattle.sia_parts.specs.declared.audit.sights.Origin.{Origin}
 use Rattle.sia_parts.specs.declared.audit.sights.Origin.TheVariants as origins
-use Rattle.sia_parts.specs.declared.audit.sights.Sight.{Sight}
+use Rattle.sia_parts.specs.Sights.{Sight, Adds, FromSome, FromSight, IsSight, IsBadOf, LooksAt}
 use Rattle.sia_parts.specs.declared.audit.sights.View.{View}
 use Rattle.sia_parts.specs.declared.accesses.RangeMiss.{RangeMiss}
 use Rattle.sia_parts.specs.Accesses.{IsPassedBy}
 use Rattle.sia_parts.specs.Parts.{IsInPart}
-use Rattle.sia_parts.specs.Sights.{Adds, FromSome, FromSight, IsSight, IsBadOf, LooksAt}
 
 -- the log's transaction whose event the row is
 abbrev pub txn_in : Row → ℕ

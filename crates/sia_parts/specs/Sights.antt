@@ -9,7 +9,6 @@ use Rattle.sia_index.specs.Info.{IsKeyAt}
 use Rattle.sia_parts.specs.declared.finding.BadRead.{BadRead}
 use Rattle.sia_parts.specs.declared.finding.BadWrite.{BadWrite}
 use Rattle.sia_parts.specs.declared.finding.Unexplained.{Unexplained}
-use Rattle.sia_parts.specs.declared.audit.sights.Sight.{Sight}
 use Rattle.sia_index.specs.Numbers.{IsCommittedAt}
 
 -- new holds what old held, and what has P, and nothing else
@@ -23,6 +22,13 @@ FromSome {A} P xs y = (x : A) × Contains xs x × P x y
 -- the new list gives what the old one gave, and what has P, and nothing else
 abbrev pub Gives : {A B : Type 0} → (A → B → Type 0) → (B → Type 0) → List A → List A → Type 0
 Gives {A} {B} Q P old new = (y : B) → FromSome Q new y ↔ (FromSome Q old y ⊎ P y)
+
+-- a version of a key that a transaction saw at a place
+pub record Sight : Type 0 where
+  pub place : ℕ
+  pub txn : ℕ
+  pub key : ℕ
+  pub saw : ℕ
 
 -- at its place the transaction saw this version of the key
 abbrev pub IsSight : List Event → Sight → Type 0

@@ -7,7 +7,6 @@ ghost use Rattle.sia_events.specs.Transactions.{StartsAt};
 ghost use Rattle.sia_parts.specs.Wrong.{IsWrong};
 
 use crate::finding::BadRead;
-use crate::lifetimes::commit_of;
 use sia_events::{Anomaly, History, Version};
 use sia_index::{Fate, Index};
 
@@ -20,7 +19,7 @@ fn wrong_with(ix: &Index, saw: Version, start: u32) -> Option<Anomaly>
         Fate::Aborted => Some(Anomaly::AbortedRead),
         Fate::Unfinished => Some(Anomaly::UncommittedRead),
         Fate::Committed => {
-            let end = commit_of(ix, saw)?;
+            let end = ix.lifetime_of(saw)?.commit;
             if start < end {
                 return Some(Anomaly::FutureRead);
             }

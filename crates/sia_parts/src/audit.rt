@@ -1,30 +1,27 @@
 //! The audit of a part of the keys.
 ghost use Rattle.std.specs.Prelude.{◌≡◌, ◌↔◌, IfOk, IsTrue};
-ghost use Rattle.sia_events.specs.Refusals.{IsWellFormed};
 ghost use Rattle.sia_events.specs.Isolation.{IsUnexplained};
 ghost use Rattle.sia_events.specs.Reads.{SawAt};
+ghost use Rattle.sia_events.specs.Transactions.{IsCommitted};
 ghost use Rattle.sia_parts.specs.Dealing.{HasReadsOf};
 ghost use Rattle.sia_parts.specs.Findings.{ArePartFindings, ListsBadReads, ListsUnexplained};
 ghost use Rattle.sia_parts.specs.Gathering.{IsPartFound};
 ghost use Rattle.sia_parts.specs.Parts.{IsInPart};
 
 pub(crate) mod ranges;
-pub(crate) mod scope;
 pub(crate) mod seen;
 pub(crate) mod sights;
 pub(crate) mod writes;
 
 use crate::accesses::accesses_at;
-use crate::audit::scope::Scope;
-use crate::audit::seen::seen_of;
+use crate::audit::seen::{Scope, seen_of};
 use crate::audit::writes::bad_writes_of;
 use crate::cutting::Part;
 use crate::edges::edges_at;
-use crate::finding::{BadRead, Unexplained};
-use crate::findings::{PartFindings, PartFound};
-use crate::lifetimes::is_committed;
+use crate::finding::{BadRead, PartFindings, Unexplained};
+use crate::gathering::PartFound;
 use crate::reads::Reads;
-use sia_events::{History, Key, Log, NoMemory};
+use sia_events::{History, Key, Log, NoMemory, TxnId};
 use sia_index::Index;
 use sia_index::ordering::put_in_order;
 use std::alloc::Global;
@@ -110,8 +107,7 @@ fn unexplained_of(
 }
 
 fn is_unexplained(ix: &Index, read: BadRead) -> bool
-    requires well_formed { IsWellFormed ix.now }
-    requires read { SawAt ix.now read.place read.txn read.key read.saw }
+    requires { SawAt ix.now read.place read.txn read.key read.saw }
     ensures { IsTrue result ↔ IsUnexplained ix.now read.place read.txn read.key read.saw }
 {
     if !is_committed(ix, read.txn) || read.saw == read.txn {
@@ -121,4 +117,10 @@ fn is_unexplained(ix: &Index, read: BadRead) -> bool
         return true;
     }
     read.saw != 0 && !is_committed(ix, read.saw)
+}
+
+fn is_committed(ix: &Index, t: TxnId) -> bool
+    ensures { IsTrue result ↔ IsCommitted ix.now t }
+{
+    ix.lifetime_of(t).is_some()
 }

@@ -2,7 +2,7 @@
 ghost use Rattle.std.specs.Prelude.{◌≡◌, ◌⊎◌, ◌<◌, ◌≤◌, length, Contains, All, IfOk, OnOk, Err};
 ghost use Rattle.std.specs.List.Sorted.{IsStrictlyIncreasing};
 ghost use Rattle.sia_events.specs.Lists.{ListsAscending};
-ghost use Rattle.sia_parts.specs.Parts.{parts_from, IsCutting, HasTooManyCuts};
+ghost use Rattle.sia_parts.specs.Parts.{parts_from, IsCutting, HasTooManyCuts, OnePartLaw};
 ghost use Rattle.sia_parts.specs.declared.cutting.CutFault.TheVariants as faults;
 
 use sia_events::Key;
@@ -79,3 +79,8 @@ fn parts_of(alloc: Global, starts: &[Key]) -> Result<Vec<Part>, AllocError>
     }
     Ok(parts)
 }
+
+/// A law, and nothing else: each key is in exactly one part of a cutting.
+pub fn one_part()
+    ensures { OnePartLaw }
+{}

@@ -1,8 +1,9 @@
 //! Edges, source by source, made from the positions of what transactions wrote and saw.
-ghost use Rattle.std.specs.Prelude.{◌≡◌, ◌↔◌, ◌<◌, ◌+◌, ◌-◌, ◌++◌, [], ℕ, All, Contains, IfOk, IsTrue, OnOk, length, map, slice_index_or};
+ghost use Rattle.std.specs.Prelude.{◌≡◌, ◌↔◌, ◌<◌, ◌+◌, ◌-◌, [], ℕ, All, Contains, IfOk, IsTrue, OnOk, length, slice_index_or};
 ghost use Rattle.sia_index.specs.Numbers.{IsCommittedAt};
 ghost use Rattle.sia_index.specs.Info.{HasKeyAt, IsKeyAt};
-ghost use Rattle.sia_index.specs.Positions.{HasPosition};
+ghost use Rattle.sia_index.specs.Positions.{HasPosition, IsAtPosition};
+ghost use Rattle.sia_index.specs.declared.info.KeyVersion.{KeyVersion as version};
 ghost use Rattle.sia_parts.specs.declared.finding.Kind.TheVariants.{Rw};
 ghost use Rattle.sia_parts.specs.Accesses.{AreAccesses};
 ghost use Rattle.sia_parts.specs.EdgeRows.{AreEdgesFrom, CanTell, IsKeyEnd, IsMadeRow, IsMakerRow, IsMissRow, IsOfKey, IsReaderRow, ReadsMore, StandsBehind, edge_of, missed_by, saw_by};
@@ -260,9 +261,16 @@ pub(crate) fn key_end(ix: &Index, position: u32) -> u32
     ensures { IsKeyEnd ix.now position result }
 {
     ix.law();
-    let next = ix.key_at(position) + 1;
-    if (next as usize) < ix.written_keys().len() {
-        ix.first_position(next)
+    first_or_end(ix, ix.key_at(position) + 1)
+}
+
+/// The position of version 0 of the key of this number, or how many positions there are if there is no such key.
+pub(crate) fn first_or_end(ix: &Index, key: u32) -> u32
+    ensures within { (q : ℕ) → q < result → HasPosition ix.now q }
+    ensures parts { (q : ℕ) (v : version) (j : ℕ) → IsAtPosition ix.now q v → IsKeyAt ix.now j v.key → (q < result) ↔ (j < key) }
+{
+    if (key as usize) < ix.written_keys().len() {
+        ix.first_position(key)
     } else {
         ix.position_count()
     }
@@ -321,23 +329,9 @@ pub fn edges_at(
     let mut rows = Vec::new(alloc);
     for source in 0..txns.len() as u32 {
         edges.put_from(alloc, source, &mut rows)?;
-        put_named(&rows, txns, keys, source, &mut all)?;
+        for row in &rows {
+            all.push(row.named(txns, keys, source))?;
+        }
     }
     Ok(all)
-}
-
-/// Adds the edges of these rows by names, of these transactions and keys.
-pub fn put_named(
-    rows: &[EdgeTo],
-    txns: &[TxnId],
-    keys: &[Key],
-    source: u32,
-    all: &mut Vec<Edge>,
-) -> Result<(), NoMemory>
-    ensures { OnOk result (all.new.items ≡ all.old.items ++ map (edge_of txns.now keys.now source) rows.now) }
-{
-    for row in rows {
-        all.push(row.named(txns, keys, source))?;
-    }
-    Ok(())
 }

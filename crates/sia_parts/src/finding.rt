@@ -1,3 +1,4 @@
+//! What is found wrong in a history, and its edges.
 use sia_events::{Key, TxnId, Version};
 
 /// A read of `key` by `txn` at `place`, which saw another version than the one due.
@@ -47,3 +48,15 @@ pub struct Edge {
     pub kind: Kind,
     pub key: Key,
 }
+
+/// What was found at all keys.
+#[derive(Drop)]
+pub struct Findings {
+    pub bad_reads: Vec<BadRead>,
+    pub bad_writes: Vec<BadWrite>,
+    pub unexplained: Vec<Unexplained>,
+    pub edges: Vec<Edge>,
+}
+
+/// What was found at the keys of one part.
+pub type PartFindings = Findings;

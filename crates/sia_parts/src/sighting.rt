@@ -8,7 +8,6 @@ ghost use Rattle.sia_parts.specs.Sightings.{Gives, IsFirstSight, reader_of};
 ghost use Rattle.sia_parts.specs.declared.sighting.Act.{Act};
 
 use crate::finding::{Edge, Kind};
-use crate::lifetimes::commit_of;
 use sia_events::{History, NoMemory, TxnId, Version};
 use sia_index::Index;
 use sia_index::keyed::{By, ByTxn, between};
@@ -51,8 +50,8 @@ fn commits_before(ix: &Index, first: TxnId, second: TxnId) -> bool
     ensures { IsTrue result ↔ CommitsBefore ix.now first second }
 {
     ix.law();
-    match (commit_of(ix, first), commit_of(ix, second)) {
-        (Some(one), Some(other)) => one < other,
+    match (ix.lifetime_of(first), ix.lifetime_of(second)) {
+        (Some(one), Some(other)) => one.commit < other.commit,
         _ => false,
     }
 }

@@ -4,9 +4,16 @@ ghost use Rattle.sia_events.specs.Text.{numeral};
 ghost use Rattle.sia_events.specs.Transactions.{Wrote};
 ghost use Rattle.sia_parts.specs.Telling.{TellsUnless, TellsVersion, event_words};
 
-use crate::recorded::Recorded;
 use sia_events::{History, Key, NoMemory, TxnId, Version, push_number};
+use sia_index::Index;
 use std::alloc::AllocError;
+
+/// A history and its index.
+#[derive(Clone, Copy)]
+pub struct Recorded<'a> {
+    pub history: &'a History,
+    pub index: &'a Index,
+}
 
 /// Some words, and the event at a place, as far as it is about the key.
 pub fn push_event(

@@ -12,11 +12,9 @@ ghost use Rattle.sia_parts.specs.Known.{IsKnown};
 ghost use Rattle.sia_parts.specs.Seeing.{AscendByKey, Gains, IsCover, IsGap, IsMiss, HaveUpTo, IsOrigin, IsScope, IsSightWithin, origin_in};
 ghost use Rattle.sia_parts.specs.Sights.{Adds, FromSight, FromSome, Gives, IsBadOf};
 
-use crate::accesses::RangeMiss;
-use crate::audit::scope::{Known, Scope, numbers_within};
-use crate::audit::seen::Seen;
-use crate::audit::sights::{Origin, Sight, View, due_at, put_bad_read, put_view};
-use crate::by_reader::ByReader;
+use crate::accesses::{ByReader, RangeMiss};
+use crate::audit::seen::{Known, Scope, Seen, numbers_within};
+use crate::audit::sights::{Origin, View, due_at, put_if_bad, put_view};
 use crate::finding::BadRead;
 use sia_events::{Key, Log, NoMemory};
 use sia_index::keyed::{ByKey, place_from};
@@ -50,12 +48,9 @@ pub(crate) fn put_range(
     let listed = scope.log.listed(range);
     let lo = from.max(scope.part.lo);
     let hi = to.min(scope.part.hi);
-    if lo > hi {
-        return Ok(());
-    }
     let behind = pairs_from(scope.log, listed, from, lo);
     let pairs = pairs_up_to(scope.log, behind, hi, to);
-    let (first, end) = numbers_within(scope.ix, lo, hi, guess(scope, pairs, seen.near));
+    let (first, end) = numbers_within(scope.ix, lo, hi, seen.near);
     seen.near = (first, end);
     let cover = Cover {
         pairs,
@@ -107,31 +102,6 @@ fn origin_of_pair(log: &Log, pair: u32) -> Origin
     }
 }
 
-// Guesses of the numbers of the first covered key, and behind the last one: by the listed keys, or those of the range before.
-// Nothing rests on them.
-fn guess(scope: &Scope, pairs: &[u32], near: (u32, u32)) -> (u32, u32)
-    requires scope { IsScope scope.now }
-    requires pairs { All (IsPair (names_of scope.now.ix.now)) pairs.now }
-{
-    match (pairs.first(), pairs.last()) {
-        (Some(first), Some(last)) => (
-            number_of(scope, *first),
-            number_of(scope, *last).saturating_add(1),
-        ),
-        _ => near,
-    }
-}
-
-fn number_of(scope: &Scope, pair: u32) -> u32
-    requires scope { IsScope scope.now }
-    requires pair { IsPair (names_of scope.now.ix.now) pair }
-{
-    match origin_of_pair(scope.log, pair).stands(scope.ix) {
-        Some(at) => at.key,
-        None => scope.first,
-    }
-}
-
 /// Adds what was seen of the keys with numbers from the one to before the other, none of which was listed. Mostly there is none.
 /// Where `own` isn't true, the reader is known not to have written them before.
 #[inline(always)]
@@ -174,13 +144,14 @@ fn put_unlisted(
     while let Some(number) = next_doubtful(ix, known, own, next, to) {
         let key = ix.written_keys()[number as usize];
         let mine = own && ix.wrote_before(known.reader, key);
-        let sight = Sight {
+        let read = BadRead {
             place: known.reader.place,
             txn: known.reader.txn,
             key,
             saw: 0,
+            due: due_at(ix, known, number, mine),
         };
-        put_bad_read(sight, due_at(ix, known, number, mine), bad)?;
+        put_if_bad(read, bad)?;
         next = number + 1;
     }
     Ok(())

@@ -10,23 +10,13 @@ ghost use Rattle.sia_events.specs.Transactions.{Wrote, WroteBefore};
 ghost use Rattle.sia_index.specs.Info.{HasKeyAt, IsKeyAt};
 ghost use Rattle.sia_parts.specs.Known.{IsKnown};
 ghost use Rattle.sia_parts.specs.Seeing.{Gains, IsOrigin, IsScope, IsSightWithin, IsVersionAt, IsView, origin_in};
-ghost use Rattle.sia_parts.specs.Sights.{Adds, IsSight, IsBadOf};
+ghost use Rattle.sia_parts.specs.Sights.{Adds, IsSight, IsBadOf, bad_sight};
 
-use crate::audit::scope::{Known, Scope};
-use crate::audit::seen::Seen;
-use crate::by_reader::ByReader;
+use crate::accesses::ByReader;
+use crate::audit::seen::{Known, Scope, Seen};
 use crate::finding::BadRead;
 use sia_events::{Key, Log, NoMemory, TxnId, Version};
 use sia_index::{Index, WriteAt};
-
-/// A version of a key that a transaction saw at a place.
-#[derive(Clone, Copy)]
-pub(crate) struct Sight {
-    pub(crate) place: u32,
-    pub(crate) txn: TxnId,
-    pub(crate) key: Key,
-    pub(crate) saw: Version,
-}
 
 /// What made a version: a write of the log, or nobody, for version 0 of a key of the log.
 #[derive(Clone, Copy)]
@@ -129,14 +119,15 @@ fn put_doubtful(scope: &Scope, known: &Known, view: &View, seen: &mut Seen) -> R
     ensures { OnOk result (Gains scope.now.ix.now (IsSightWithin scope.now.ix.now known.now.reader.place view.now.at.key (view.now.at.key + 1)) seen.old seen.new) }
 {
     let (key, saw) = view.origin.names(scope.log);
-    let sight = Sight {
+    let due = due_at(scope.ix, known, view.at.key, view.mine);
+    let read = BadRead {
         place: known.reader.place,
         txn: known.reader.txn,
         key,
         saw,
+        due,
     };
-    let due = due_at(scope.ix, known, view.at.key, view.mine);
-    put_bad_read(sight, due, &mut seen.bad_reads)?;
+    put_if_bad(read, &mut seen.bad_reads)?;
     if saw == known.reader.txn {
         return Ok(());
     }
@@ -163,21 +154,12 @@ pub(crate) fn due_at(ix: &Index, known: &Known, key: u32, mine: bool) -> Version
     }
 }
 
-pub(crate) fn put_bad_read(
-    sight: Sight,
-    due: Version,
-    bad: &mut Vec<BadRead>,
-) -> Result<(), NoMemory>
-    ensures { (h : List Event) → IsSight h sight → IsDue h sight.txn sight.place sight.key due → OnOk result (Adds (IsBadOf h sight) bad.old.items bad.new.items) }
+/// Adds the read, if it saw another version than the one due.
+pub(crate) fn put_if_bad(read: BadRead, bad: &mut Vec<BadRead>) -> Result<(), NoMemory>
+    ensures { (h : List Event) → IsSight h (bad_sight read) → IsDue h read.txn read.place read.key read.due → OnOk result (Adds (IsBadOf h (bad_sight read)) bad.old.items bad.new.items) }
 {
-    if due != sight.saw {
-        bad.push(BadRead {
-            place: sight.place,
-            txn: sight.txn,
-            key: sight.key,
-            saw: sight.saw,
-            due,
-        })?;
+    if read.due != read.saw {
+        bad.push(read)?;
     }
     Ok(())
 }

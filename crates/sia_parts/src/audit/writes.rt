@@ -1,6 +1,5 @@
 //! Pairs of a key's versions: bad writes.
-ghost use Rattle.std.specs.Prelude.{◌↔◌, ◌<◌, ℕ, IfOk, OnOk};
-ghost use Rattle.sia_index.specs.Info.{IsKeyAt};
+ghost use Rattle.std.specs.Prelude.{◌<◌, IfOk, OnOk};
 ghost use Rattle.sia_index.specs.Positions.{HasPosition, IsAtPosition};
 ghost use Rattle.sia_index.specs.declared.info.KeyVersion.{KeyVersion as version};
 ghost use Rattle.sia_parts.specs.Findings.{ListsBadWrites};
@@ -8,7 +7,8 @@ ghost use Rattle.sia_parts.specs.Parts.{IsInPart};
 ghost use Rattle.sia_parts.specs.Seeing.{IsScope};
 ghost use Rattle.sia_parts.specs.Sights.{Adds, IsBadWith};
 
-use crate::audit::scope::Scope;
+use crate::audit::seen::Scope;
+use crate::edges::first_or_end;
 use crate::finding::BadWrite;
 use sia_events::NoMemory;
 use sia_index::Index;
@@ -30,18 +30,6 @@ pub(crate) fn bad_writes_of(alloc: Global, scope: &Scope) -> Result<Vec<BadWrite
     }
     put_in_order(&mut bad)?;
     Ok(bad)
-}
-
-// The position of version 0 of the key of this number, or how many positions there are if there is no such key.
-fn first_or_end(ix: &Index, key: u32) -> u32
-    ensures within { (q : ℕ) → q < result → HasPosition ix.now q }
-    ensures parts { (q : ℕ) (v : version) (j : ℕ) → IsAtPosition ix.now q v → IsKeyAt ix.now j v.key → (q < result) ↔ (j < key) }
-{
-    if (key as usize) < ix.written_keys().len() {
-        ix.first_position(key)
-    } else {
-        ix.position_count()
-    }
 }
 
 // Adds those of which the version at the position is the second.

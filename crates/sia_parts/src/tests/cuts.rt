@@ -26,14 +26,12 @@ fn parts_and_numbers(rt: HostRuntime) -> Result<(), Fail> {
     points.push(1024)?;
     assert_eq!(rt; cut(rt.alloc(), &points).err(), Some(CutFault::TooMany));
     // Of the committed 2 and 5 the first is number 0, and the second is number 1.
-    let mut edges = Vec::new(rt.alloc());
     let row = EdgeTo {
         target: 1,
         kind: Kind::Wr,
         key: 0,
     };
-    put_named(&[row], &[2, 5], &[7], 0, &mut edges)?;
-    assert!(rt; edges.as_slice() == [edge!(2, Wr, 5, 7)].as_slice());
+    assert!(rt; row.named(&[2, 5], &[7], 0) == edge!(2, Wr, 5, 7));
     Ok(())
 }
 

@@ -94,7 +94,9 @@ fn in_chunks(
         for source in places[i - 1]..places[i] {
             if (source as usize) < told.index.committed().len() {
                 told.put_from(alloc, source, &mut rows)?;
-                put_named(&rows, ix.committed(), ix.written_keys(), source, &mut edges)?;
+                for row in &rows {
+                    edges.push(row.named(ix.committed(), ix.written_keys(), source))?;
+                }
             }
         }
     }

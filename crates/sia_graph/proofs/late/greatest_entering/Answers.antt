@@ -1,7 +1,7 @@
 use Rattle.std.proofs.Common.{arith, get_or}
 use Rattle.std.proofs.lemmas.List.Elements.{Contains-get_or}
 use Rattle.sia_graph.proofs.Entering.{entering_all, entering_more, entering_none}
-use Rattle.sia_graph.proofs.Stands.{position_below}
+use Rattle.sia_graph.proofs.PositionTwos.{positions_below}
 use Rattle.sia_graph.proofs.late.greatest_entering.Goals as goal
 
 pub loop-position-init : goal.loop-position-init
@@ -13,7 +13,7 @@ bounds-late-position c =
     let n = c.loop-position.position-index in
     let txn = c.requires.txn in
     let v = ((c.made_by-position-items.ensures txn.0 txn.1).each (get_or made n 0)).0 (Contains-get_or made n 0 c.loop-position-test.true) in
-    position_below c.args.index.now _ (get_or made n 0) c.requires.late.1.long (v.0, v.1)
+    positions_below c.args.index.now _ (get_or made n 0) c.requires.late.1.long (v.0, v.1)
 
 pub loop-position-preserved : goal.loop-position-preserved
 loop-position-preserved c values are =

@@ -1,7 +1,9 @@
 use Rattle.std.specs.Prelude.{◌↔◌}
 use Rattle.sia_graph.specs.Late.{IsMarkedOver}
 use Rattle.std.proofs.Common.{◌<◌, ◌≤◌, ◌∙◌, ◌+◌, ℕ, List, get_or, sym, subst, arith}
-use Rattle.sia_graph.proofs.LastMarks.{HasLastTo, has_position, last_all, last_more, last_none, same_count}
+use Rattle.sia_graph.proofs.EarlierSources.{one_count}
+use Rattle.sia_graph.proofs.LastMarks.{HasLastTo, last_all, last_more, last_none}
+use Rattle.sia_graph.proofs.PositionTwos.{below_positions}
 use Rattle.sia_graph.proofs.Raised.{below_max}
 use Rattle.sia_graph.proofs.late.last_before.Goals.{then-commit_at-eq0, else-commit_at-eq0}
 use Rattle.sia_graph.proofs.late.last_before.Goals as goal
@@ -10,24 +12,24 @@ pub loop-position-init : goal.loop-position-init
 loop-position-init c = (last_none c.args.index.now c.args.size c.args.seen.now c.args.most.now c.in_ok-late.late.items c.in_ok-late.ensures.items, omega arith)
 
 pub commit_at-requires : goal.commit_at-requires
-commit_at-requires c = has_position c.args.index.now c.position_count-position-end.result c.loop-position.position c.position_count-position-end.ensures c.loop-position-test.true
+commit_at-requires c = below_positions c.args.index.now c.position_count-position-end.result c.loop-position.position c.position_count-position-end.ensures c.loop-position-test.true
 
 pub key_at-requires : goal.key_at-requires
-key_at-requires c = has_position c.args.index.now c.position_count-position-end.result c.loop-position.position c.position_count-position-end.ensures c.loop-position-test.true
+key_at-requires c = below_positions c.args.index.now c.position_count-position-end.result c.loop-position.position c.position_count-position-end.ensures c.loop-position-test.true
 
 pub top_of-last-requires-clause-within : goal.top_of-last-requires-clause-within
 top_of-last-requires-clause-within c =
-    let at = has_position c.args.index.now c.position_count-position-end.result c.loop-position.position c.position_count-position-end.ensures c.loop-position-test.true in
+    let at = below_positions c.args.index.now c.position_count-position-end.result c.loop-position.position c.position_count-position-end.ensures c.loop-position-test.true in
     c.requires.keys c.key_at.result at.0.key (c.key_at.ensures at.0 at.1)
 
 pub bounds-seen-position : goal.bounds-seen-position
-bounds-seen-position c = let e = same_count c.args.index.now _ _ c.position_count-position-end.ensures c.requires.seen in let l = c.loop-position-test.true in omega arith
+bounds-seen-position c = let e = one_count c.args.index.now _ _ c.position_count-position-end.ensures c.requires.seen in let l = c.loop-position-test.true in omega arith
 
 pub loop-position-preserved : goal.loop-position-preserved
 loop-position-preserved c =
     let h = c.args.index.now in
     let q = c.loop-position.position in
-    let at = has_position h c.position_count-position-end.result q c.position_count-position-end.ensures c.loop-position-test.true in
+    let at = below_positions h c.position_count-position-end.result q c.position_count-position-end.ensures c.loop-position-test.true in
     let last = c.if-commit_at-eq0.last in
     let is = c.commit_at.ensures at.0 at.1 in (
       subst (λ (l : List ℕ). HasLastTo h c.args.size c.args.seen.now c.args.most.now (q + 1) l c.max-last.result) (sym c.in_ok-push.ensures.items)
@@ -43,5 +45,5 @@ loop-position-preserved c =
 
 pub returns : goal.returns
 returns c =
-    let e = same_count c.args.index.now _ _ c.position_count-position-end.ensures c.requires.seen in
+    let e = one_count c.args.index.now _ _ c.position_count-position-end.ensures c.requires.seen in
     last_all c.args.index.now c.args.size c.args.seen.now c.args.most.now c.loop-position.position c.loop-position.late.items c.loop-position.last c.requires.seen (let most = c.loop-position.invariant.1 in omega arith) c.loop-position.invariant.0

@@ -12,7 +12,8 @@ use Rattle.sia_graph.proofs.Marks.{passed_marked, passed_unmarked, seen_marked, 
 use Rattle.sia_graph.proofs.LateEdges.{lates}
 use Rattle.sia_graph.proofs.MemberSteps.{size_few}
 use Rattle.sia_graph.proofs.Numbered.{few_txns}
-use Rattle.sia_graph.proofs.Stands.{look_there, position_below, stands_there}
+use Rattle.sia_graph.proofs.PositionTwos.{positions_below}
+use Rattle.sia_graph.proofs.Stands.{look_there, stands_there}
 use Rattle.sia_graph.proofs.late.late_of.Goals as goal
 
 pub loop-txn-init : goal.loop-txn-init
@@ -43,7 +44,7 @@ raise_all-requires c k d l =
     let places = c.deref-in-loop-txn.result.now in
     let place = get_or places k d in
     let w = c.in_ok-put_stands.ensures.sound place (subst (λ (xs : List ℕ). Contains xs place) c.deref-in-loop-txn.ensures.value (Contains-get_or places k d l)) in
-    position_below e.index.now (length c.loop-txn.seen) place c.loop-txn.invariant.0.long (stands_there e.index.now c.loop-txn.txn w.0 place (look_there e.index.now e.accesses.now c.requires.evidence.accesses c.loop-txn.txn w.0 w.1) w.2)
+    positions_below e.index.now (length c.loop-txn.seen) place c.loop-txn.invariant.0.long (stands_there e.index.now c.loop-txn.txn w.0 place (look_there e.index.now e.accesses.now c.requires.evidence.accesses c.loop-txn.txn w.0 w.1) w.2)
 
 pub put_all_blocks-requires : goal.put_all_blocks-requires
 put_all_blocks-requires c = let e = c.args.evidence.now in let few = size_few c.size_for-size.result e.index.now e.accesses.now c.requires.evidence.well_formed c.size_for-size.ensures in omega arith

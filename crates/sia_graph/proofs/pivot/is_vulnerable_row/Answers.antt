@@ -3,7 +3,7 @@ use Rattle.std.proofs.Common.{sym, subst, ◌∙◌, get_or}
 use Rattle.sia_index.specs.declared.info.Lifetime.{Lifetime}
 use Rattle.sia_index.specs.Lifetimes.{IsLifetime}
 use Rattle.sia_parts.proofs.Committing.{committed_number}
-use Rattle.sia_parts.proofs.LifetimeTables.{overlap_by}
+use Rattle.sia_index.proofs.Table.{overlap_by}
 use Rattle.sia_graph.proofs.LinkLists.{rw_kind}
 use Rattle.sia_graph.proofs.pivot.is_vulnerable_row.Goals as goal
 

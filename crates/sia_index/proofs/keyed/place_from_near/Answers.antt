@@ -1,8 +1,6 @@
--- What parts the rows.
-use Rattle.std.proofs.Common.{rules}
-use Rattle.std.proofs.Math.Dec.{ltb}
-use Rattle.std.proofs.lemmas.List.Sorted.{IsPartitionPoint-from_clause, IsPartitionedBy-ltb}
+-- The two looks tell, or the search.
+use Rattle.std.proofs.Common.{refl}
 use Rattle.sia_index.proofs.keyed.place_from_near.Goals as goal
 
-pub returns-clause-point : goal.returns-clause-point
-returns-clause-point g c = IsPartitionPoint-from_clause (λ row. ltb (g.O.By.by row) c.args.from) _ _ c.partition_near.ensures.partitioned (IsPartitionedBy-ltb g.O.By.by _ c.args.from c.requires) (λ a r f k. search rules)
+pub returns-then-parts_at : goal.returns-then-parts_at
+returns-then-parts_at g c = record { bound = c.if-parts_at.ensures.bound refl; point = c.if-parts_at.ensures.point refl }

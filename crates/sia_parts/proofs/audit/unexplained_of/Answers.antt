@@ -16,9 +16,7 @@ abbrev none : BadRead
 none = record { place = 0; txn = 0; key = 0; saw = 0; due = 0 }
 
 pub is_unexplained-requires : goal.is_unexplained-requires
-is_unexplained-requires c =
-    let wf = c.law.ensures in
-    record { well_formed = wf; read = bad_saw c.args.ix.now wf c.args.part c.args.bad.now c.requires.bad c.loop-read.read-index none c.loop-read-test.true }
+is_unexplained-requires c = bad_saw c.args.ix.now c.law.ensures c.args.part c.args.bad.now c.requires.bad c.loop-read.read-index none c.loop-read-test.true
 
 pub loop-read-init : goal.loop-read-init
 loop-read-init c = rw c.new-found.ensures.items (from_none (IsUnexplainedOf c.args.ix.now) c.args.bad.now [])

@@ -1,5 +1,6 @@
 -- The edges from one source stand behind those from the sources before it.
 use Rattle.std.proofs.Common.{ℕ, ◌+◌, map, sym, subst, arith}
+use Rattle.std.proofs.lemmas.List.{take_all}
 use Rattle.sia_index.specs.Numbers.{IsCommittedAt}
 use Rattle.sia_parts.specs.EdgeRows.{AreEdgesFrom, edge_of}
 use Rattle.sia_parts.specs.Parts.{IsWithin}
@@ -25,7 +26,7 @@ loop-source-preserved c =
     let i = c.loop-source.source in
     let rows = c.put_from.new.rows.items in
     let from : AreEdgesFrom h W i rows = subst (λ g. AreEdgesFrom g W i rows) c.in_ok-edges.ensures.index (subst (λ w. AreEdgesFrom c.in_ok-edges.edges.index.now (IsWithin w) i rows) c.in_ok-edges.ensures.within c.in_ok-put_from.ensures) in
-    rw (c.in_ok-put_named.ensures, c.deref.ensures.value) (edges_joined h W 0 i (i + 1) (omega arith) (omega arith) c.loop-source.all.items (map (edge_of txns keys i) rows) c.loop-source.invariant (from.edges txns keys c.committed-txns.ensures c.written_keys-keys.ensures))
+    rw (c.loop-row.invariant, take_all c.loop-row.row-index c.deref-row-items.result.now c.loop-row-test.false, c.deref-row-items.ensures.value) (edges_joined h W 0 i (i + 1) (omega arith) (omega arith) c.loop-source.all.items (map (edge_of txns keys i) rows) c.loop-source.invariant (from.edges txns keys c.committed-txns.ensures c.written_keys-keys.ensures))
 
 pub returns : goal.returns
 returns c = edges_all c.args.ix.now (IsWithin c.args.within) c.committed-txns.result.now c.committed-txns.ensures c.loop-source.source (let last = c.loop-source-test.false in let most = c.loop-source.auto in omega arith) c.loop-source.all.items c.loop-source.invariant

@@ -5,12 +5,12 @@ use Rattle.sia_parts.proofs.sighting.commits_before.Goals as goal
 
 pub returns-in-Some-Some : goal.returns-in-Some-Some
 returns-in-Some-Some c =
-    let one = c.in-Some-Some.one in
-    let other = c.in-Some-Some.other in (
-      (λ yes. (one, other, c.in-Some-Some.ensures, c.in-Some-Some.ensures', ltb-true one other yes)),
+    let one = c.in-Some-Some.one.commit in
+    let other = c.in-Some-Some.other.commit in (
+      (λ yes. (one, other, c.in-Some-Some.ensures.1, c.in-Some-Some.ensures'.1, ltb-true one other yes)),
       (λ before.
-          let first : before.0 ≡ one = one_commit c.args.ix.now c.law.ensures c.args.first before.0 one before.2 c.in-Some-Some.ensures in
-          let second : before.1 ≡ other = one_commit c.args.ix.now c.law.ensures c.args.second before.1 other before.3 c.in-Some-Some.ensures' in
+          let first : before.0 ≡ one = one_commit c.args.ix.now c.law.ensures c.args.first before.0 one before.2 c.in-Some-Some.ensures.1 in
+          let second : before.1 ≡ other = one_commit c.args.ix.now c.law.ensures c.args.second before.1 other before.3 c.in-Some-Some.ensures'.1 in
           let less : before.0 < before.1 = before.4 in
           lt-ltb one other (omega arith)),
     )

@@ -3,7 +3,7 @@ use Rattle.std.proofs.Common.{◌≡◌, List, [], ◌∷◌, ◌++◌, ap, subs
 use Rattle.std.specs.List.{AllZip}
 use Rattle.sia_events.specs.declared.event.Event.{Event}
 use Rattle.sia_events.specs.Refusals.{IsWellFormed}
-use Rattle.sia_parts.specs.declared.findings.PartFindings.{PartFindings}
+use Rattle.sia_parts.specs.declared.finding.Findings.{Findings}
 use Rattle.sia_parts.specs.Findings.{AreFindings, ArePartFindings}
 use Rattle.sia_graph.proofs.Uncut.{uncut, whole}
 use Rattle.sia_graph.proofs.tests.histories.findings.Goals as goal
@@ -11,14 +11,14 @@ use Rattle.sia_graph.proofs.tests.histories.findings.Goals as goal
 pub gather-requires : goal.gather-requires
 gather-requires c =
     let h = c.args.h.now in
-    let found : PartFindings = c.in_ok-audit_part.field-0 in
-    let items : c.push.new.self.items ≡ found ∷ [] = c.in_ok-push.ensures.items ∙ ap (λ (l : List PartFindings). l ++ found ∷ []) c.new-parts.ensures.items in
+    let found : Findings = c.in_ok-audit_part.field-0 in
+    let items : c.push.new.self.items ≡ found ∷ [] = c.in_ok-push.ensures.items ∙ ap (λ (l : List Findings). l ++ found ∷ []) c.new-parts.ensures.items in
     (h, [], whole ∷ [], subst IsWellFormed c.requires c.law.ensures, uncut, subst (AllZip (ArePartFindings h) (whole ∷ [])) (sym items) (c.in_ok-audit_part.ensures, tt))
 
 pub returns : goal.returns
 returns c =
     let h = c.args.h.now in
-    let found : PartFindings = c.in_ok-audit_part.field-0 in
-    let items : c.push.new.self.items ≡ found ∷ [] = c.in_ok-push.ensures.items ∙ ap (λ (l : List PartFindings). l ++ found ∷ []) c.new-parts.ensures.items in
+    let found : Findings = c.in_ok-audit_part.field-0 in
+    let items : c.push.new.self.items ≡ found ∷ [] = c.in_ok-push.ensures.items ∙ ap (λ (l : List Findings). l ++ found ∷ []) c.new-parts.ensures.items in
     let are = c.in_ok-found.ensures h [] (whole ∷ []) (subst IsWellFormed c.requires c.law.ensures) uncut (subst (AllZip (ArePartFindings h) (whole ∷ [])) (sym items) (c.in_ok-audit_part.ensures, tt)) in
     subst (λ (g : List Event). AreFindings g c.in_ok-found.found) (sym c.requires) are

@@ -1,10 +1,8 @@
 use Rattle.std.proofs.Common.{◌≤◌, ◌≢◌, length, min, ap, sym, subst, ◌∙◌, arith}
-use Rattle.sia_graph.specs.Twos.{IsBeforeVersion, IsLeastNumber, IsLeftReader, IsTwo, IsUpTo}
+use Rattle.sia_graph.specs.Twos.{AreTwosOver, IsBeforeVersion, IsLeastNumber, IsLeftPasser, IsLeftReader, IsTwo, IsUpTo}
 use Rattle.sia_graph.specs.declared.twos.Two.{Two}
-use Rattle.sia_graph.specs.Twos.{AreTwosOver}
-use Rattle.sia_graph.specs.Previous.{IsLeftIn}
-use Rattle.sia_parts.specs.Accesses.{Missed}
-use Rattle.sia_graph.proofs.EarlierSources.{SawBelow, before_version, none_saw, saw_below}
+use Rattle.sia_graph.proofs.EarlierSources.{SawBelow, before_version, key_within, none_saw, saw_below}
+use Rattle.sia_graph.proofs.MemberSteps.{size_few}
 use Rattle.sia_graph.proofs.PositionTwos.{before_less, positions_below}
 use Rattle.sia_graph.proofs.twos.Earlier.least_before.Goals.{in-Some, in-None}
 use Rattle.sia_graph.proofs.twos.Earlier.least_before.Goals as goal
@@ -12,11 +10,11 @@ use Rattle.sia_graph.proofs.twos.Earlier.least_before.Goals as goal
 pub least_maker-made-requires : goal.least_maker-made-requires
 least_maker-made-requires c = let is = c.requires.is in positions_below c.args.index.now _ c.args.position is.3.makers_long c.requires.position
 
-pub least_passing-passed-requires-clause-within : goal.least_passing-passed-requires-clause-within
-least_passing-passed-requires-clause-within c =
-    let is = c.requires.is.3 in
-    let v = c.requires.position in
-    (is.keys c.key_at.result v.0.key (c.key_at.ensures v.0 v.1), ap (length {A = Two}) c.deref.ensures.value ∙ is.passed_long)
+pub least_passing-passed-requires-clause-few : goal.least_passing-passed-requires-clause-few
+least_passing-passed-requires-clause-few c = let is = c.requires.is in let few = size_few c.args.self.now.size c.args.index.now is.0 is.2 is.3.size in omega arith
+
+pub least_passing-passed-requires-clause-long : goal.least_passing-passed-requires-clause-long
+least_passing-passed-requires-clause-long c = ap (length {A = Two}) c.deref.ensures.value ∙ c.requires.is.3.passed_long
 
 pub index-requires : goal.index-requires
 index-requires c =
@@ -34,7 +32,7 @@ returns c a left are =
     let v = c.requires.position in
     let me = c.args.me in
     let made = c.least_maker-made.ensures h a left wf are in
-    let passed = c.least_passing-passed.ensures a left (subst (AreTwosOver c.args.self.now.size (λ j r. IsLeftIn left r × Missed a r j)) (sym c.deref.ensures.value) are.passed) in
+    let passed = c.least_passing-passed.ensures a left (subst (AreTwosOver c.args.self.now.size (IsLeftPasser a left)) (sym c.deref.ensures.value) are.passed) (key_within h a c.args.self.now.size are.size c.key_at.result v.0.key (c.key_at.ensures v.0 v.1)) in
     let seen : IsLeastNumber (λ r. SawBelow h a left q r × (r ≢ me)) c.match-position_before.seen = elim c.match-position_before.branch [
       | in-Some w ↦
           let b = before_less h q v c.position_before.result c.position_before.ensures w.in-Some.before w.in-Some.is in

@@ -1,9 +1,37 @@
--- What is due to the reader.
-use Rattle.std.proofs.Common.{subst}
-use Rattle.sia_events.specs.Reads.{IsDue}
+-- The transaction's own write, or the last of the key's versions within the start, where there is one.
+use Rattle.std.proofs.Common.{inl, refl, sym, subst}
+use Rattle.sia_events.specs.Refusals.{IsWellFormed}
+use Rattle.sia_events.specs.Transactions.{WroteBefore}
+use Rattle.sia_index.specs.declared.info.Made.{Made}
+use Rattle.sia_index.specs.Info.{IsReader}
+use Rattle.sia_index.proofs.Due.{none_due, last_due}
+use Rattle.sia_index.proofs.Ordered.{ascends}
 use Rattle.sia_index.proofs.index.Index.due.Goals as goal
 
-pub returns : goal.returns
-returns c =
-    let of_place = subst (λ p. IsDue c.args.self.now c.reader.result.txn p c.args.k c.due_to.result) c.reader.ensures.place_is c.due_to.ensures in
-    subst (λ t. IsDue c.args.self.now t c.args.place c.args.k c.due_to.result) c.reader.ensures.txn_is of_place
+pub wrote_before-requires : goal.wrote_before-requires
+wrote_before-requires c =
+    let of_txn = subst (λ t. IsReader c.args.self.now t c.args.place c.reader-reader.result) (sym c.reader-reader.ensures.txn_is) c.reader-reader.ensures in
+    subst (λ p. IsReader c.args.self.now c.reader-reader.result.txn p c.reader-reader.result) (sym c.reader-reader.ensures.place_is) of_txn
+
+pub returns-then-wrote_before : goal.returns-then-wrote_before
+returns-then-wrote_before c =
+    let h = c.args.self.now in
+    let wrote = subst (λ t. WroteBefore h t c.args.k c.reader-reader.result.place) c.reader-reader.ensures.txn_is (c.if-wrote_before.ensures.0 refl) in
+    inl (subst (λ p. WroteBefore h c.args.t c.args.k p) c.reader-reader.ensures.place_is wrote, refl)
+
+pub last_within-requires : goal.last_within-requires
+last_within-requires c = ascends (λ (m : Made). m.commit) _ _ c.versions.ensures
+
+pub returns-in-Some : goal.returns-in-Some
+returns-in-Some c =
+    let wf = subst IsWellFormed c.self.view_is c.self.invariant.well_formed in
+    last_due _ wf c.args.t c.args.place c.args.k c.reader-reader.result.start c.reader-reader.ensures.starts
+    (λ wrote. let own = c.if-wrote_before.ensures.1 (subst (λ t. WroteBefore c.args.self.now t c.args.k c.reader-reader.result.place) (sym c.reader-reader.ensures.txn_is) (subst (λ p. WroteBefore c.args.self.now c.args.t c.args.k p) (sym c.reader-reader.ensures.place_is) wrote)) in cc)
+    _ c.versions.ensures c.in-Some.made c.in-Some.ensures
+
+pub returns-in-None : goal.returns-in-None
+returns-in-None c =
+    let wf = subst IsWellFormed c.self.view_is c.self.invariant.well_formed in
+    none_due _ wf c.args.t c.args.place c.args.k c.reader-reader.result.start c.reader-reader.ensures.starts
+    (λ wrote. let own = c.if-wrote_before.ensures.1 (subst (λ t. WroteBefore c.args.self.now t c.args.k c.reader-reader.result.place) (sym c.reader-reader.ensures.txn_is) (subst (λ p. WroteBefore c.args.self.now c.args.t c.args.k p) (sym c.reader-reader.ensures.place_is) wrote)) in cc)
+    _ c.versions.ensures c.in-None.ensures

@@ -1,15 +1,17 @@
 -- The row of the position has the number of its key.
-use Rattle.std.proofs.Common.{subst, arith}
+use Rattle.std.proofs.Common.{length, ap, subst, arith}
 use Rattle.sia_index.specs.Tables.{AreTables}
 use Rattle.sia_index.proofs.PositionLaws.{key_is, place_is}
 use Rattle.sia_index.proofs.index.Index.key_at.Goals as goal
 
-pub index-requires : goal.index-requires
-index-requires c =
+pub bounds-rows-position : goal.bounds-rows-position
+bounds-rows-position c =
     let are = subst (λ h. AreTables h c.self.inside.txns c.self.inside.keys c.self.inside.versions c.self.inside.writes) c.self.view_is c.self.invariant in
-    omega (arith, (place_is c.args.self.now _ _ _ _ are c.args.position c.requires).2, c.self.inside.versions.key_numbers.ok)
+    let below = (place_is c.args.self.now _ _ _ _ are c.args.position c.requires).1 in
+    let same = ap length c.rows.ensures in
+    omega arith
 
 pub returns : goal.returns
 returns c v at =
     let are = subst (λ h. AreTables h c.self.inside.txns c.self.inside.keys c.self.inside.versions c.self.inside.writes) c.self.view_is c.self.invariant in
-    key_is c.args.self.now _ _ _ _ are c.args.position v at c.index.result.now c.index.ensures
+    key_is c.args.self.now _ _ _ _ are c.args.position v at c.rows.result.now c.rows.ensures

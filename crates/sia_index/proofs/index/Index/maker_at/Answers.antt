@@ -1,16 +1,18 @@
 -- Who made the version, unless it is 0.
-use Rattle.std.proofs.Common.{◌<◌, subst, arith}
+use Rattle.std.proofs.Common.{◌<◌, length, ap, subst, arith}
 use Rattle.sia_index.specs.Tables.{AreTables}
 use Rattle.sia_index.proofs.PositionLaws.{maker_is, place_is}
 use Rattle.sia_index.proofs.index.Index.maker_at.Goals as goal
 
-pub index-requires : goal.index-requires
-index-requires c =
+pub bounds-rows-position : goal.bounds-rows-position
+bounds-rows-position c =
     let are = subst (λ h. AreTables h c.self.inside.txns c.self.inside.keys c.self.inside.versions c.self.inside.writes) c.self.view_is c.self.invariant in
-    omega (arith, (place_is c.args.self.now _ _ _ _ are c.args.position c.requires).1, c.self.inside.versions.makers.ok)
+    let below = (place_is c.args.self.now _ _ _ _ are c.args.position c.requires).1 in
+    let same = ap length c.rows.ensures in
+    omega arith
 
 pub returns : goal.returns
 returns c v at =
     let are = subst (λ h. AreTables h c.self.inside.txns c.self.inside.keys c.self.inside.versions c.self.inside.writes) c.self.view_is c.self.invariant in
     let some : 0 < v.commit = let none = c.if-commit_at-eq0.false in let is = c.commit_at.ensures v at in omega arith in
-    (some, maker_is c.args.self.now _ _ _ _ are c.args.position v at some c.index.result.now c.index.ensures)
+    (some, maker_is c.args.self.now _ _ _ _ are c.args.position v at some c.rows.result.now c.rows.ensures)

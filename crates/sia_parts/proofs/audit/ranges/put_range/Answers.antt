@@ -1,25 +1,16 @@
 -- The pairs that the range listed within the part, and the numbers of its keys there.
-use Rattle.std.proofs.Common.{◌≡◌, ℕ, ◌≤◌, max, min, List, Some, map, sym, subst, ◌∙◌, arith}
+use Rattle.std.proofs.Common.{ℕ, ◌≤◌, ◌≡◌, List, sym, subst, ◌∙◌, arith}
 use Rattle.std.specs.Prelude.{◌↔◌, All, Contains}
 use Rattle.std.proofs.lemmas.List.Elements.{All-contains}
 use Rattle.sia_events.specs.declared.event.Event.{Event}
-use Rattle.sia_events.specs.declared.event.Event.TheVariants.{Range}
-use Rattle.sia_events.specs.Numbering.{names_of, pair_at, range_at, IsPair}
-use Rattle.sia_events.specs.Places.{at_place}
+use Rattle.sia_events.specs.Numbering.{names_of, pair_at, IsPair}
 use Rattle.sia_events.specs.Reads.{SawAt}
 use Rattle.sia_parts.specs.Seeing.{AscendByKey, IsSightWithin}
-use Rattle.sia_parts.proofs.Gaining.{gains_near, gains_none}
+use Rattle.sia_parts.proofs.Gaining.{gains_near}
 use Rattle.sia_parts.proofs.Options.{if_not_there}
-use Rattle.sia_parts.proofs.RangeCovers.{all_from, cover_gains, key_unlisted, listed_ascend, nothing_shared, pair_inside, pair_saw}
+use Rattle.sia_parts.proofs.RangeCovers.{all_from, cover_gains, key_unlisted, listed_ascend, pair_inside, pair_saw, range_in}
 use Rattle.sia_parts.proofs.Viewing.{on_ok}
 use Rattle.sia_parts.proofs.audit.ranges.put_range.Goals as goal
-
--- the event with the pairs by their numbers
-here : (h l : List Event) → h ≡ l → (p t r : ℕ) (listed : List ℕ) → map (pair_at (names_of l)) listed ≡ (range_at (names_of l) r).2 → at_place h p ≡ Some (Range t (range_at (names_of h) r).0 (range_at (names_of h) r).1 (range_at (names_of h) r).2)
-    → at_place h p ≡ Some (Range t (range_at (names_of h) r).0 (range_at (names_of h) r).1 (map (pair_at (names_of h)) listed))
-here h l same p t r listed pairs at =
-    let own : map (pair_at (names_of h)) listed ≡ (range_at (names_of h) r).2 = subst (λ g. map (pair_at (names_of g)) listed ≡ (range_at (names_of g) r).2) (sym same) pairs in
-    subst (λ xs. at_place h p ≡ Some (Range t (range_at (names_of h) r).0 (range_at (names_of h) r).1 xs)) (sym own) at
 
 cut_both : (h l : List Event) → h ≡ l → (listed behind pairs : List ℕ) (lo hi : ℕ) → ((q : ℕ) → Contains behind q ↔ (Contains listed q × (lo ≤ (pair_at (names_of l) q).0))) → ((q : ℕ) → Contains pairs q ↔ (Contains behind q × ((pair_at (names_of l) q).0 ≤ hi)))
     → (q : ℕ) → Contains pairs q ↔ (Contains listed q × (lo ≤ (pair_at (names_of h) q).0) × ((pair_at (names_of h) q).0 ≤ hi))
@@ -28,52 +19,18 @@ cut_both h l same listed behind pairs lo hi first second q = subst (λ g. Contai
   (λ w. (second q).1 ((first q).1 (w.0, w.1), w.2)),
 )
 
-pub returns-then-lo-hi : goal.returns-then-lo-hi
-returns-then-lo-hi c =
-    let h = c.args.scope.now.ix.now in
-    let wf = c.requires.scope.well_formed in
-    let p = c.args.known.now.reader.place in
-    let t = c.args.known.now.reader.txn in
-    let r = c.args.range in
-    let a = (range_at (names_of h) r).0 in
-    let b = (range_at (names_of h) r).1 in
-    let listed = c.listed-listed.result.now in
-    let at : at_place h p ≡ Some (Range t a b (map (pair_at (names_of h)) listed)) = here h c.args.scope.now.log.now c.requires.scope.same p t r listed c.listed-listed.ensures.pairs c.requires.event in
-    let from : c.range-from.result.0 ≡ a = subst (λ l. c.range-from.result.0 ≡ (range_at (names_of l) r).0) (sym c.requires.scope.same) c.range-from.ensures.lo in
-    let to : c.range-from.result.1 ≡ b = subst (λ l. c.range-from.result.1 ≡ (range_at (names_of l) r).1) (sym c.requires.scope.same) c.range-from.ensures.hi in
-    let low : c.max-lo.result ≡ max a c.args.scope.now.part.lo = subst (λ x. c.max-lo.result ≡ max x c.args.scope.now.part.lo) from c.max-lo.ensures in
-    let high : c.min-hi.result ≡ min b c.args.scope.now.part.hi = subst (λ x. c.min-hi.result ≡ min x c.args.scope.now.part.hi) to c.min-hi.ensures in
-    gains_none h (IsSightWithin h p c.args.scope.now.first c.args.scope.now.end) (nothing_shared h wf p t a b listed at c.args.scope.now.part c.max-lo.result c.min-hi.result low high c.args.scope.now.first c.args.scope.now.end c.requires.scope.each c.if-lo-hi.true) c.args.seen.now
-
 pub pairs_from-behind-requires-clause-ascend : goal.pairs_from-behind-requires-clause-ascend
 pairs_from-behind-requires-clause-ascend c =
     let h = c.args.scope.now.ix.now in
-    let wf = c.requires.scope.well_formed in
-    let p = c.args.known.now.reader.place in
-    let t = c.args.known.now.reader.txn in
-    let r = c.args.range in
-    let a = (range_at (names_of h) r).0 in
-    let b = (range_at (names_of h) r).1 in
-    let listed = c.listed-listed.result.now in
-    let at : at_place h p ≡ Some (Range t a b (map (pair_at (names_of h)) listed)) = here h c.args.scope.now.log.now c.requires.scope.same p t r listed c.listed-listed.ensures.pairs c.requires.event in
-    subst (λ l. AscendByKey l listed) c.requires.scope.same (listed_ascend h wf p t a b listed at)
+    let is = range_in c.args.scope.now c.requires.scope c.args.known.now.reader.place c.args.known.now.reader.txn c.args.range c.listed-listed.result.now c.listed-listed.ensures.pairs c.requires.event c.range-from.result.0 c.range-from.result.1 c.max-lo.result c.min-hi.result c.range-from.ensures.lo c.range-from.ensures.hi c.max-lo.ensures c.min-hi.ensures in
+    subst (λ l. AscendByKey l c.listed-listed.result.now) c.requires.scope.same (listed_ascend h c.requires.scope.well_formed _ _ _ _ _ is.at)
 
 pub pairs_from-behind-requires-clause-inside : goal.pairs_from-behind-requires-clause-inside
 pairs_from-behind-requires-clause-inside c =
     let h = c.args.scope.now.ix.now in
-    let wf = c.requires.scope.well_formed in
-    let p = c.args.known.now.reader.place in
-    let t = c.args.known.now.reader.txn in
-    let r = c.args.range in
-    let a = (range_at (names_of h) r).0 in
-    let b = (range_at (names_of h) r).1 in
-    let listed = c.listed-listed.result.now in
-    let at : at_place h p ≡ Some (Range t a b (map (pair_at (names_of h)) listed)) = here h c.args.scope.now.log.now c.requires.scope.same p t r listed c.listed-listed.ensures.pairs c.requires.event in
-    let from : c.range-from.result.0 ≡ a = subst (λ l. c.range-from.result.0 ≡ (range_at (names_of l) r).0) (sym c.requires.scope.same) c.range-from.ensures.lo in
-    let to : c.range-from.result.1 ≡ b = subst (λ l. c.range-from.result.1 ≡ (range_at (names_of l) r).1) (sym c.requires.scope.same) c.range-from.ensures.hi in
-    let low : c.max-lo.result ≡ max a c.args.scope.now.part.lo = subst (λ x. c.max-lo.result ≡ max x c.args.scope.now.part.lo) from c.max-lo.ensures in
-    let high : c.min-hi.result ≡ min b c.args.scope.now.part.hi = subst (λ x. c.min-hi.result ≡ min x c.args.scope.now.part.hi) to c.min-hi.ensures in
-    subst (λ l. All (λ q. c.range-from.result.0 ≤ (pair_at (names_of l) q).0) listed) c.requires.scope.same (all_from (λ q. c.range-from.result.0 ≤ (pair_at (names_of h) q).0) listed (λ q has. let inside = (pair_inside h wf p t a b listed at q has).0 in omega arith))
+    let is = range_in c.args.scope.now c.requires.scope c.args.known.now.reader.place c.args.known.now.reader.txn c.args.range c.listed-listed.result.now c.listed-listed.ensures.pairs c.requires.event c.range-from.result.0 c.range-from.result.1 c.max-lo.result c.min-hi.result c.range-from.ensures.lo c.range-from.ensures.hi c.max-lo.ensures c.min-hi.ensures in
+    subst (λ l. All (λ q. c.range-from.result.0 ≤ (pair_at (names_of l) q).0) c.listed-listed.result.now) c.requires.scope.same
+    (all_from (λ q. c.range-from.result.0 ≤ (pair_at (names_of h) q).0) c.listed-listed.result.now (λ q has. let inside = (pair_inside h c.requires.scope.well_formed _ _ _ _ _ is.at q has).0 in let from = is.from in omega arith))
 
 pub pairs_up_to-pairs-requires-clause-numbers : goal.pairs_up_to-pairs-requires-clause-numbers
 pairs_up_to-pairs-requires-clause-numbers c = all_from (IsPair (names_of c.args.scope.now.log.now)) c.pairs_from-behind.result.now (λ q has. All-contains (IsPair (names_of c.args.scope.now.log.now)) c.listed-listed.result.now q c.listed-listed.ensures.within ((c.pairs_from-behind.ensures.each q).0 has).0)
@@ -81,66 +38,36 @@ pairs_up_to-pairs-requires-clause-numbers c = all_from (IsPair (names_of c.args.
 pub pairs_up_to-pairs-requires-clause-inside : goal.pairs_up_to-pairs-requires-clause-inside
 pairs_up_to-pairs-requires-clause-inside c =
     let h = c.args.scope.now.ix.now in
-    let wf = c.requires.scope.well_formed in
-    let p = c.args.known.now.reader.place in
-    let t = c.args.known.now.reader.txn in
-    let r = c.args.range in
-    let a = (range_at (names_of h) r).0 in
-    let b = (range_at (names_of h) r).1 in
-    let listed = c.listed-listed.result.now in
-    let at : at_place h p ≡ Some (Range t a b (map (pair_at (names_of h)) listed)) = here h c.args.scope.now.log.now c.requires.scope.same p t r listed c.listed-listed.ensures.pairs c.requires.event in
-    let from : c.range-from.result.0 ≡ a = subst (λ l. c.range-from.result.0 ≡ (range_at (names_of l) r).0) (sym c.requires.scope.same) c.range-from.ensures.lo in
-    let to : c.range-from.result.1 ≡ b = subst (λ l. c.range-from.result.1 ≡ (range_at (names_of l) r).1) (sym c.requires.scope.same) c.range-from.ensures.hi in
-    let low : c.max-lo.result ≡ max a c.args.scope.now.part.lo = subst (λ x. c.max-lo.result ≡ max x c.args.scope.now.part.lo) from c.max-lo.ensures in
-    let high : c.min-hi.result ≡ min b c.args.scope.now.part.hi = subst (λ x. c.min-hi.result ≡ min x c.args.scope.now.part.hi) to c.min-hi.ensures in
-    subst (λ l. All (λ q. (pair_at (names_of l) q).0 ≤ c.range-from.result.1) c.pairs_from-behind.result.now) c.requires.scope.same (all_from (λ q. (pair_at (names_of h) q).0 ≤ c.range-from.result.1) c.pairs_from-behind.result.now (λ q has. let inside = (pair_inside h wf p t a b listed at q ((c.pairs_from-behind.ensures.each q).0 has).0).1 in omega arith))
-
-pub guess-requires-clause-pairs : goal.guess-requires-clause-pairs
-guess-requires-clause-pairs c = subst (λ l. All (IsPair (names_of l)) c.pairs_up_to-pairs.result.now) (sym c.requires.scope.same)
-    (all_from (IsPair (names_of c.args.scope.now.log.now)) c.pairs_up_to-pairs.result.now (λ q has. All-contains (IsPair (names_of c.args.scope.now.log.now)) c.listed-listed.result.now q c.listed-listed.ensures.within ((c.pairs_from-behind.ensures.each q).0 ((c.pairs_up_to-pairs.ensures.each q).0 has).0).0))
+    let is = range_in c.args.scope.now c.requires.scope c.args.known.now.reader.place c.args.known.now.reader.txn c.args.range c.listed-listed.result.now c.listed-listed.ensures.pairs c.requires.event c.range-from.result.0 c.range-from.result.1 c.max-lo.result c.min-hi.result c.range-from.ensures.lo c.range-from.ensures.hi c.max-lo.ensures c.min-hi.ensures in
+    subst (λ l. All (λ q. (pair_at (names_of l) q).0 ≤ c.range-from.result.1) c.pairs_from-behind.result.now) c.requires.scope.same
+    (all_from (λ q. (pair_at (names_of h) q).0 ≤ c.range-from.result.1) c.pairs_from-behind.result.now (λ q has. let inside = (pair_inside h c.requires.scope.well_formed _ _ _ _ _ is.at q ((c.pairs_from-behind.ensures.each q).0 has).0).1 in let to = is.to in omega arith))
 
 pub put_covered-requires-clause-cover : goal.put_covered-requires-clause-cover
 put_covered-requires-clause-cover c =
-    let h = c.args.scope.now.ix.now in
     let wf = c.requires.scope.well_formed in
-    let p = c.args.known.now.reader.place in
-    let t = c.args.known.now.reader.txn in
-    let r = c.args.range in
-    let a = (range_at (names_of h) r).0 in
-    let b = (range_at (names_of h) r).1 in
     let listed = c.listed-listed.result.now in
-    let at : at_place h p ≡ Some (Range t a b (map (pair_at (names_of h)) listed)) = here h c.args.scope.now.log.now c.requires.scope.same p t r listed c.listed-listed.ensures.pairs c.requires.event in
-    let from : c.range-from.result.0 ≡ a = subst (λ l. c.range-from.result.0 ≡ (range_at (names_of l) r).0) (sym c.requires.scope.same) c.range-from.ensures.lo in
-    let to : c.range-from.result.1 ≡ b = subst (λ l. c.range-from.result.1 ≡ (range_at (names_of l) r).1) (sym c.requires.scope.same) c.range-from.ensures.hi in
-    let low : c.max-lo.result ≡ max a c.args.scope.now.part.lo = subst (λ x. c.max-lo.result ≡ max x c.args.scope.now.part.lo) from c.max-lo.ensures in
-    let high : c.min-hi.result ≡ min b c.args.scope.now.part.hi = subst (λ x. c.min-hi.result ≡ min x c.args.scope.now.part.hi) to c.min-hi.ensures in
+    let h = c.args.scope.now.ix.now in
+    let is = range_in c.args.scope.now c.requires.scope c.args.known.now.reader.place c.args.known.now.reader.txn c.args.range c.listed-listed.result.now c.listed-listed.ensures.pairs c.requires.event c.range-from.result.0 c.range-from.result.1 c.max-lo.result c.min-hi.result c.range-from.ensures.lo c.range-from.ensures.hi c.max-lo.ensures c.min-hi.ensures in
     let those = cut_both h c.args.scope.now.log.now c.requires.scope.same listed c.pairs_from-behind.result.now c.pairs_up_to-pairs.result.now c.max-lo.result c.min-hi.result c.pairs_from-behind.ensures.each c.pairs_up_to-pairs.ensures.each in
     let pairs = c.pairs_up_to-pairs.result.now in
+    let low = is.low in
+    let high = is.high in
     record {
       each = c.numbers_within-first.ensures;
       numbers = subst (λ l. All (IsPair (names_of l)) pairs) (sym c.requires.scope.same)
           (all_from (IsPair (names_of c.args.scope.now.log.now)) pairs (λ q has. All-contains (IsPair (names_of c.args.scope.now.log.now)) listed q c.listed-listed.ensures.within ((c.pairs_from-behind.ensures.each q).0 ((c.pairs_up_to-pairs.ensures.each q).0 has).0).0));
       ascend = subst (λ l. AscendByKey l pairs) (sym c.requires.scope.same) c.pairs_up_to-pairs.ensures.ascend;
       inside = all_from (λ q. (c.max-lo.result ≤ (pair_at (names_of h) q).0) × ((pair_at (names_of h) q).0 ≤ c.min-hi.result)) pairs (λ q has. let w = (those q).0 has in (w.1, w.2));
-      listed = all_from (λ q. SawAt h p t (pair_at (names_of h) q).0 (pair_at (names_of h) q).1) pairs (λ q has. pair_saw h wf p t a b listed at q ((those q).0 has).0);
-      unlisted = key_unlisted h wf p t a b listed at c.max-lo.result c.min-hi.result (omega arith) (omega arith) pairs those;
+      listed = all_from (λ q. SawAt h c.args.known.now.reader.place c.args.known.now.reader.txn (pair_at (names_of h) q).0 (pair_at (names_of h) q).1) pairs (λ q has. pair_saw h wf _ _ _ _ listed is.at q ((those q).0 has).0);
+      unlisted = key_unlisted h wf _ _ _ _ listed is.at c.max-lo.result c.min-hi.result (omega arith) (omega arith) pairs those;
       own = λ none. if_not_there _ _ c.next_own.result (sym c.is_some.ensures ∙ none) c.next_own.ensures;
     }
 
 pub returns : goal.returns
 returns c =
     let h = c.args.scope.now.ix.now in
-    let wf = c.requires.scope.well_formed in
-    let p = c.args.known.now.reader.place in
-    let t = c.args.known.now.reader.txn in
-    let r = c.args.range in
-    let a = (range_at (names_of h) r).0 in
-    let b = (range_at (names_of h) r).1 in
-    let listed = c.listed-listed.result.now in
-    let at : at_place h p ≡ Some (Range t a b (map (pair_at (names_of h)) listed)) = here h c.args.scope.now.log.now c.requires.scope.same p t r listed c.listed-listed.ensures.pairs c.requires.event in
-    let from : c.range-from.result.0 ≡ a = subst (λ l. c.range-from.result.0 ≡ (range_at (names_of l) r).0) (sym c.requires.scope.same) c.range-from.ensures.lo in
-    let to : c.range-from.result.1 ≡ b = subst (λ l. c.range-from.result.1 ≡ (range_at (names_of l) r).1) (sym c.requires.scope.same) c.range-from.ensures.hi in
-    let low : c.max-lo.result ≡ max a c.args.scope.now.part.lo = subst (λ x. c.max-lo.result ≡ max x c.args.scope.now.part.lo) from c.max-lo.ensures in
-    let high : c.min-hi.result ≡ min b c.args.scope.now.part.hi = subst (λ x. c.min-hi.result ≡ min x c.args.scope.now.part.hi) to c.min-hi.ensures in
-    on_ok c.put_covered.result _ _ (λ gains. cover_gains h wf p t a b listed at c.args.scope.now.part c.max-lo.result c.min-hi.result low high c.args.scope.now.first c.args.scope.now.end c.requires.scope.each c.numbers_within-first.result.0 c.numbers_within-first.result.1 c.numbers_within-first.ensures c.args.seen.now c.put_covered.new.seen (gains_near h (IsSightWithin h p c.numbers_within-first.result.0 c.numbers_within-first.result.1) c.args.seen.now c.put_covered.new.seen (c.numbers_within-first.result.0, c.numbers_within-first.result.1) gains))
+    let is = range_in c.args.scope.now c.requires.scope c.args.known.now.reader.place c.args.known.now.reader.txn c.args.range c.listed-listed.result.now c.listed-listed.ensures.pairs c.requires.event c.range-from.result.0 c.range-from.result.1 c.max-lo.result c.min-hi.result c.range-from.ensures.lo c.range-from.ensures.hi c.max-lo.ensures c.min-hi.ensures in
+    let first = c.numbers_within-first.result in
+    on_ok c.put_covered.result _ _ (λ gains. cover_gains h c.requires.scope.well_formed _ _ _ _ _ is.at c.args.scope.now.part c.max-lo.result c.min-hi.result is.low is.high c.args.scope.now.first c.args.scope.now.end c.requires.scope.each first.0 first.1 c.numbers_within-first.ensures c.args.seen.now c.put_covered.new.seen
+    (gains_near h (IsSightWithin h c.args.known.now.reader.place first.0 first.1) c.args.seen.now c.put_covered.new.seen (first.0, first.1) gains))
     c.put_covered.ensures

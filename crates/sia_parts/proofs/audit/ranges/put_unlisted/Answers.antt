@@ -58,12 +58,12 @@ loop-number-preserved c =
       | else-own w ↦ rw w.mine-is ((λ e. absurd cc), (λ before. absurd (gap.not_own w.if-own.false n key (omega arith) (omega arith) at before)))
     ] in
     let due = c.due_at.ensures key at mine in
-    let adds = c.in_ok-put_bad_read.ensures h (subst (λ k. SawAt h known.reader.place known.reader.txn k 0) (one_key h n saw.0 key saw.1 at) saw.2) due in
-    let one = one_bad h c.requires.well_formed known c.requires.known c.args.own n (n + 1) gap n key (omega arith) (omega arith) at c.loop-number.bad.items c.put_bad_read.new.bad.items (λ here. adds) in
+    let adds = c.in_ok-put_if_bad.ensures h (subst (λ k. SawAt h known.reader.place known.reader.txn k 0) (one_key h n saw.0 key saw.1 at) saw.2) due in
+    let one = one_bad h c.requires.well_formed known c.requires.known c.args.own n (n + 1) gap n key (omega arith) (omega arith) at c.loop-number.bad.items c.put_if_bad.new.bad.items (λ here. adds) in
     record {
       low = omega arith;
       high = omega arith;
-      bad = bad_then h p c.args.from n (n + 1) (omega arith) (omega arith) c.args.bad.now.items c.loop-number.bad.items c.put_bad_read.new.bad.items upto one;
+      bad = bad_then h p c.args.from n (n + 1) (omega arith) (omega arith) c.args.bad.now.items c.loop-number.bad.items c.put_if_bad.new.bad.items upto one;
     }
 
 pub returns : goal.returns

@@ -19,8 +19,8 @@ returns-then-saw-known c =
     let is = c.requires.view in
     let sight = seen_sight h wf known is_known view is in
     let names : c.names-key.result ≡ origin_in (names_of h) view.origin = subst (λ l. c.names-key.result ≡ origin_in (names_of l) view.origin) (sym c.requires.scope.same) c.names-key.ensures in
-    let bad = bad_named h wf known is_known view is c.names-key.result names c.due_at-due.result (c.due_at-due.ensures _ is.at.key is.mine) c.args.seen.now.bad_reads.items c.put_bad_read.new.bad.items (c.in_ok-put_bad_read.ensures) in
-    gains_view h wf known is_known view is c.args.seen.now c.put_bad_read.new.bad c.args.seen.now.saw bad (no_look h sight (own_not h wf known is_known view is (sym (ap (λ (q : ℕ × ℕ). q.1) names) ∙ c.if-saw-known.true)) c.args.seen.now.saw)
+    let bad = bad_named h wf known is_known view is c.names-key.result names c.due_at-due.result (c.due_at-due.ensures _ is.at.key is.mine) c.args.seen.now.bad_reads.items c.put_if_bad.new.bad.items (c.in_ok-put_if_bad.ensures) in
+    gains_view h wf known is_known view is c.args.seen.now c.put_if_bad.new.bad c.args.seen.now.saw bad (no_look h sight (own_not h wf known is_known view is (sym (ap (λ (q : ℕ × ℕ). q.1) names) ∙ c.if-saw-known.true)) c.args.seen.now.saw)
 
 pub returns-in-Some : goal.returns-in-Some
 returns-in-Some c =
@@ -32,10 +32,10 @@ returns-in-Some c =
     let is = c.requires.view in
     let sight = seen_sight h wf known is_known view is in
     let names : c.names-key.result ≡ origin_in (names_of h) view.origin = subst (λ l. c.names-key.result ≡ origin_in (names_of l) view.origin) (sym c.requires.scope.same) c.names-key.ensures in
-    let bad = bad_named h wf known is_known view is c.names-key.result names c.due_at-due.result (c.due_at-due.ensures _ is.at.key is.mine) c.args.seen.now.bad_reads.items c.put_bad_read.new.bad.items (c.in_ok-put_bad_read.ensures) in
+    let bad = bad_named h wf known is_known view is c.names-key.result names c.due_at-due.result (c.due_at-due.ensures _ is.at.key is.mine) c.args.seen.now.bad_reads.items c.put_if_bad.new.bad.items (c.in_ok-put_if_bad.ensures) in
     let there = stands h wf known is_known view is c.in-Some.position c.in-Some.is in
     on_ok c.put_position.result _ _
-    (λ adds. gains_view h wf known is_known view is c.args.seen.now c.put_bad_read.new.bad c.put_position.new.saw bad
+    (λ adds. gains_view h wf known is_known view is c.args.seen.now c.put_if_bad.new.bad c.put_position.new.saw bad
     (look_gains h wf sight known.number c.in-Some.position is_known.number (λ same. c.if-saw-known.false (ap (λ (q : ℕ × ℕ). q.1) names ∙ same)) there c.args.seen.now.saw c.put_position.new.saw adds))
     c.put_position.ensures
 
@@ -49,5 +49,5 @@ returns-in-None c =
     let is = c.requires.view in
     let sight = seen_sight h wf known is_known view is in
     let names : c.names-key.result ≡ origin_in (names_of h) view.origin = subst (λ l. c.names-key.result ≡ origin_in (names_of l) view.origin) (sym c.requires.scope.same) c.names-key.ensures in
-    let bad = bad_named h wf known is_known view is c.names-key.result names c.due_at-due.result (c.due_at-due.ensures _ is.at.key is.mine) c.args.seen.now.bad_reads.items c.put_bad_read.new.bad.items (c.in_ok-put_bad_read.ensures) in
-    gains_view h wf known is_known view is c.args.seen.now c.put_bad_read.new.bad c.args.seen.now.saw bad (no_look h sight (looks_not h wf known is_known view is c.in-None.is) c.args.seen.now.saw)
+    let bad = bad_named h wf known is_known view is c.names-key.result names c.due_at-due.result (c.due_at-due.ensures _ is.at.key is.mine) c.args.seen.now.bad_reads.items c.put_if_bad.new.bad.items (c.in_ok-put_if_bad.ensures) in
+    gains_view h wf known is_known view is c.args.seen.now c.put_if_bad.new.bad c.args.seen.now.saw bad (no_look h sight (looks_not h wf known is_known view is c.in-None.is) c.args.seen.now.saw)

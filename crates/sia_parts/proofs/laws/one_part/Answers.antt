@@ -1,6 +1,0 @@
--- By its lemma.
-use Rattle.sia_parts.proofs.PartLemmas.{one_part_holds}
-use Rattle.sia_parts.proofs.laws.one_part.Goals as goal
-
-pub returns : goal.returns
-returns c = one_part_holds
