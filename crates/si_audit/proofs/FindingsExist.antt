@@ -134,7 +134,7 @@ module _ (h : List Event) (wf : IsWellFormed h) where
   seen_small p t k v (e, at, same, saw) =
       let r = event_in_range h wf p e at in
       let most : p ≤ length h = (place_within h p e at).1 in
-      let few : length h ≤ 100000 = few_events h wf in
+      let few : length h ≤ 500000000 = few_events h wf in
       let small : actor e < 4294967296 = actor_small e r in
       let more = saw_small e k v r saw in
       (omega arith, omega arith, more.0, more.1)

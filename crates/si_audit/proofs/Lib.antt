@@ -34,3 +34,5 @@ pub mod FindingsExist
 pub mod ReportExists
 pub mod ExplainedExists
 pub mod TokenExists
+pub mod ArgumentsFor
+pub mod NumberedOptions

@@ -1,6 +1,6 @@
 -- The matches of the program's words hold numbers: each text that they have passed its argument's parser.
 use Rattle.std.proofs.Common.{◌≡◌, ◌⊎◌, ◌∙◌, ◌<◌, ◌≤◌, ℕ, Bool, true, false, zero, suc, refl, sym, subst, ap, arith, inl, inr, List, [], ◌∷◌, map, length, Option, Some, None, codes}
-use Rattle.std.specs.List.{All, find, list_all, slice_index_or}
+use Rattle.std.specs.List.{All, find, list_all, position_or_len, slice_index_or}
 use Rattle.std.specs.Prelude.{IfSome, IsSomeAnd, option_map, slice_get}
 use Rattle.std.specs.Str.{bytes_eq}
 use Rattle.std.specs.Borrow.{Bor}
@@ -9,6 +9,7 @@ use Rattle.std.proofs.lemmas.Slice.Eq.{bytes_eq-Decides}
 use Rattle.clap.specs.Texts.{items_of}
 use Rattle.clap.specs.Facts.{Entry, EntryPasses, HasIn, IsParsed, PassesArg, args_of, groups_of, parser_of_value, unwrap_or_range}
 use Rattle.clap.specs.Built.{IsAuto, IsParsedFrom, SameRules}
+use Rattle.clap.specs.Words.{first_of}
 use Rattle.clap.specs.Matches.{first_value, found_of, has_subcommand, matched_of, raw_values}
 use Rattle.clap.specs.Values.{Accepts, IsUnsignedIn}
 use Rattle.clap.specs.Walk.{Rule, Text, rows_of, rule_of}
@@ -24,10 +25,26 @@ use Rattle.clap.specs.declared.parser.matches.MatchedArg.{MatchedArg}
 use Rattle.clap.proofs.CallerLemmas.{default_present, entry_by_id, same_rules_by_id}
 use Rattle.clap.proofs.SimpleLemmas.{ready_simple, simple_groups}
 use Rattle.clap.proofs.WalkLemmas.{first_value-rows, raw_values-rows}
-use Rattle.si_audit.specs.Words.{HasNumbers, brief_rule, check_rule, cuts_rule, explain_rule, program, workers_rule}
+use Rattle.sia_events.specs.Limits.{greatest}
+use Rattle.si_audit.specs.Words.{HasNumbers, brief_rule, bytes_rule, check_rule, cuts_rule, events_rule, explain_rule, number_rule, program, workers_rule}
 
 abbrev rules : List Rule
-rules = workers_rule ∷ cuts_rule ∷ brief_rule ∷ explain_rule ∷ check_rule ∷ []
+rules = workers_rule ∷ cuts_rule ∷ brief_rule ∷ explain_rule ∷ check_rule ∷ events_rule ∷ bytes_rule ∷ []
+
+-- which rule has the id
+place_of : Text → ℕ
+place_of id = position_or_len (λ r. bytes_eq r.id id) rules
+
+own_place : (j : ℕ) (r : Rule) → j < 7 → place_of (slice_index_or rules j r).id ≡ j
+unfolding place_of
+own_place zero r lt = refl
+own_place (suc zero) r lt = refl
+own_place (suc (suc zero)) r lt = refl
+own_place (suc (suc (suc zero))) r lt = refl
+own_place (suc (suc (suc (suc zero)))) r lt = refl
+own_place (suc (suc (suc (suc (suc zero))))) r lt = refl
+own_place (suc (suc (suc (suc (suc (suc zero)))))) r lt = refl
+own_place (suc (suc (suc (suc (suc (suc (suc j))))))) r lt = absurd (omega arith)
 
 at_mapped : (xs : List Arg) (j : ℕ) (e : Arg) → slice_index_or (map rule_of xs) j (rule_of e) ≡ rule_of (slice_index_or xs j e)
 at_mapped [] zero e = refl
@@ -35,9 +52,9 @@ at_mapped [] (suc j) e = refl
 at_mapped (x ∷ xs) zero e = refl
 at_mapped (x ∷ xs) (suc j) e = at_mapped xs j e
 
-some_arg : (xs : List Arg) → length xs ≡ 5 → Arg
-some_arg [] five = absurd (omega arith)
-some_arg (x ∷ xs) five = x
+some_arg : (xs : List Arg) → length xs ≡ 7 → Arg
+some_arg [] seven = absurd (omega arith)
+some_arg (x ∷ xs) seven = x
 
 -- the entry of an id
 found_at : (xs : List Entry) (id : Text) (i : ℕ) → i < length xs → ((d : Entry) → bytes_eq (slice_index_or xs i d).0.now id ≡ true)
@@ -66,8 +83,8 @@ module _ (c : Command) (m : ArgMatches) (p : IsParsedFrom c m) (app : app_of c �
   same_rules : map rule_of (args_of c) ≡ rules
   same_rules = ap (λ (a : App). a.top.rules) app
 
-  five : length (args_of c) ≡ 5
-  five = sym (length-map (args_of c) rule_of) ∙ ap length same_rules
+  seven : length (args_of c) ≡ 7
+  seven = sym (length-map (args_of c) rule_of) ∙ ap length same_rules
 
   simple : IsSimple c
   simple = ready_simple c (ap (λ (a : App). is_ready a.top) app) (ap (λ (a : App). list_all is_ready_leaf a.subs) app)
@@ -85,31 +102,19 @@ module _ (c : Command) (m : ArgMatches) (p : IsParsedFrom c m) (app : app_of c �
   id_at j e = ap (λ (r : Rule). r.id) (rule_at j e)
 
   -- no two arguments have one id
-  one_id : (k : ℕ) (d : Arg) → k < 2 → (j : ℕ) (e : Arg) → j < length (args_of c)
+  one_id : (k : ℕ) (d : Arg) → k < 7 → (j : ℕ) (e : Arg) → j < length (args_of c)
       → bytes_eq (slice_index_or (args_of c) j e).id.now (slice_index_or (args_of c) k d).id.now ≡ true → j ≡ k
-  one_id k d lt j e low same = go k j lt (omega (arith, five)) (rw (id_at j e, id_at k d) at same)
-    where
-      go : (k j : ℕ) → k < 2 → j < 5 → bytes_eq (slice_index_or rules j (rule_of e)).id (slice_index_or rules k (rule_of d)).id ≡ true → j ≡ k
-      go zero zero lt low same = refl
-      go zero (suc zero) lt low same = let bad : false ≡ true = same in cc
-      go zero (suc (suc zero)) lt low same = let bad : false ≡ true = same in cc
-      go zero (suc (suc (suc zero))) lt low same = let bad : false ≡ true = same in cc
-      go zero (suc (suc (suc (suc zero)))) lt low same = let bad : false ≡ true = same in cc
-      go (suc zero) zero lt low same = let bad : false ≡ true = same in cc
-      go (suc zero) (suc zero) lt low same = refl
-      go (suc zero) (suc (suc zero)) lt low same = let bad : false ≡ true = same in cc
-      go (suc zero) (suc (suc (suc zero))) lt low same = let bad : false ≡ true = same in cc
-      go (suc zero) (suc (suc (suc (suc zero)))) lt low same = let bad : false ≡ true = same in cc
-      go (suc (suc k)) j lt low same = absurd (omega arith)
-      go k (suc (suc (suc (suc (suc j))))) lt low same = absurd (omega arith)
+  one_id k d lt j e low same =
+      let is = (bytes_eq-Decides (slice_index_or (args_of c) j e).id.now (slice_index_or (args_of c) k d).id.now).0 same in
+      sym (own_place j (rule_of e) (omega (arith, seven))) ∙ (ap place_of (sym (id_at j e) ∙ is ∙ id_at k d) ∙ own_place k (rule_of d) lt)
 
-  module _ (k : ℕ) (d : Arg) (lt : k < 2) (name : Text) (named : (slice_index_or (args_of c) k d).id.now ≡ name) (some : 0 < length name)
+  module _ (k : ℕ) (d : Arg) (lt : k < 7) (name : Text) (named : (slice_index_or (args_of c) k d).id.now ≡ name) (some : 0 < length name)
       (own : IsAuto (slice_index_or (args_of c) k d) → ⊥) where
     -- the argument of the built command that has the name
     rules_of_named : (j : ℕ) (x : Arg) → j < length (args_of p.built) → slice_index_or (args_of p.built) j x ≡ x
         → bytes_eq x.id.now name ≡ true → SameRules (slice_index_or (args_of c) k d) x
     rules_of_named j x high at same =
-        same_rules_by_id c m p k d (omega (arith, five)) (one_id k d lt) own j x high at (rw named same)
+        same_rules_by_id c m p k d (omega (arith, seven)) (one_id k d lt) own j x high at (rw named same)
 
     module _ (e : Entry) (pass : EntryPasses p.built e) (key : bytes_eq e.0.now name ≡ true) where
       key_is : e.0.now ≡ name
@@ -169,48 +174,50 @@ module _ (c : Command) (m : ArgMatches) (p : IsParsedFrom c m) (app : app_of c �
       let bad : bytes_eq name (codes "version") ≡ true = rw (sym is ∙ h) refl in
       cc
 
-  abbrev workers_arg : Arg → Arg
-  workers_arg d = slice_index_or (args_of c) 0 d
-
   abbrev cuts_arg : Arg → Arg
   cuts_arg d = slice_index_or (args_of c) 1 d
 
-  workers_given : (d : Arg) → IsSomeAnd (first_value (found_of m) (codes "workers")) (IsUnsignedIn 1 64)
-  workers_given d = go (matched_of (found_of m) (codes "workers")) refl (found_at (found_of m).entries.items (codes "workers") here.0 here.1 here.2)
-    where
-      rule : rule_of (workers_arg d) ≡ workers_rule
-      rule = rule_at 0 d
+  -- the value of an option that has a number
+  module _ (k : ℕ) (d : Arg) (lt : k < 7) (name : Text) (most : ℕ) (usual : Text) (its : slice_index_or rules k (rule_of d) ≡ number_rule name most usual)
+      (some : 0 < length name) (no_help : bytes_eq name (codes "help") ≡ false) (no_version : bytes_eq name (codes "version") ≡ false) where
+    abbrev arg : Arg
+    arg = slice_index_or (args_of c) k d
 
-      named : (workers_arg d).id.now ≡ codes "workers"
-      named = ap (λ (r : Rule). r.id) rule
+    rule : rule_of arg ≡ number_rule name most usual
+    rule = rule_at k d ∙ its
 
-      own : IsAuto (workers_arg d) → ⊥
-      own = other_name (workers_arg d).id.now (codes "workers") named refl refl
+    named : arg.id.now ≡ name
+    named = ap (λ (r : Rule). r.id) rule
 
-      one_default : length (items_of (workers_arg d).default_vals) ≡ 1
-      one_default = sym (length-map (items_of (workers_arg d).default_vals) (λ s. s.now)) ∙ ap length (ap (λ (r : Rule). r.defaults) rule)
+    own : IsAuto arg → ⊥
+    own = other_name arg.id.now name named no_help no_version
 
-      here : HasIn (found_of m).entries.items (codes "workers")
-      here = subst (HasIn (found_of m).entries.items) named
-          (default_present c m p simple.globals 0 d (omega (arith, five)) ((simple.args 0 d (omega (arith, five))).default_ifs, omega (arith, one_default)))
+    one_default : length (items_of arg.default_vals) ≡ 1
+    one_default = sym (length-map (items_of arg.default_vals) (λ s. s.now)) ∙ ap length (ap (λ (r : Rule). r.defaults) rule)
 
-      step : (x : MatchedArg) → matched_of (found_of m) (codes "workers") ≡ Some x
-          → ((e : Entry) × (e.1 ≡ x) × (bytes_eq e.0.now (codes "workers") ≡ true) × EntryPasses p.built e)
-          → IsSomeAnd (option_map (λ s. s.now) (slice_get x.vals.items 0)) (IsUnsignedIn 1 64)
-      step x is e =
-          subst (λ (y : MatchedArg). IsSomeAnd (option_map (λ s. s.now) (slice_get y.vals.items 0)) (IsUnsignedIn 1 64)) e.1
-          (first_in_bounds 1 64 e.0.1.vals.items
-          (has_value 0 d (omega arith) (codes "workers") named (omega arith) own e.0 e.3 e.2 (ap (λ (r : Rule). r.action) rule) (ap (λ (r : Rule). r.range) rule)
-          (simple.args 0 d (omega (arith, five))).delimiter)
-          (in_bounds 0 d (omega arith) (codes "workers") named (omega arith) own e.0 e.3 e.2 1 64 (ap (λ (r : Rule). r.parser) rule)))
+    here : HasIn (found_of m).entries.items name
+    here = subst (HasIn (found_of m).entries.items) named
+        (default_present c m p simple.globals k d (omega (arith, seven)) ((simple.args k d (omega (arith, seven))).default_ifs, omega (arith, one_default)))
 
-      go : (o : Option MatchedArg) → matched_of (found_of m) (codes "workers") ≡ o
-          → ((x : MatchedArg) × (matched_of (found_of m) (codes "workers") ≡ Some x))
-          → IsSomeAnd (first_value (found_of m) (codes "workers")) (IsUnsignedIn 1 64)
-      go None is found =
-          let bad : None ≡ Some found.0 = sym is ∙ found.1 in
-          cc
-      go (Some x) is found = rw is (step x is (entry_by_id (EntryPasses p.built) (found_of m).entries.items (codes "workers") x parsed.values is))
+    step : (x : MatchedArg) → ((e : Entry) × (e.1 ≡ x) × (bytes_eq e.0.now name ≡ true) × EntryPasses p.built e)
+        → IsSomeAnd (option_map (λ s. s.now) (slice_get x.vals.items 0)) (IsUnsignedIn 1 most)
+    step x e =
+        subst (λ (y : MatchedArg). IsSomeAnd (option_map (λ s. s.now) (slice_get y.vals.items 0)) (IsUnsignedIn 1 most)) e.1
+        (first_in_bounds 1 most e.0.1.vals.items
+        (has_value k d lt name named some own e.0 e.3 e.2 (ap (λ (r : Rule). r.action) rule) (ap (λ (r : Rule). r.range) rule)
+        (simple.args k d (omega (arith, seven))).delimiter)
+        (in_bounds k d lt name named some own e.0 e.3 e.2 1 most (ap (λ (r : Rule). r.parser) rule)))
+
+    value_given : (o : Option MatchedArg) → matched_of (found_of m) name ≡ o → ((x : MatchedArg) × (matched_of (found_of m) name ≡ Some x))
+        → IsSomeAnd (first_value (found_of m) name) (IsUnsignedIn 1 most)
+    value_given None is found =
+        let bad : None ≡ Some found.0 = sym is ∙ found.1 in
+        cc
+    value_given (Some x) is found = rw is (step x (entry_by_id (EntryPasses p.built) (found_of m).entries.items name x parsed.values is))
+
+    number_given : IsSomeAnd (first_of name (rows_of (found_of m))) (IsUnsignedIn 1 most)
+    number_given = subst (λ (o : Option Text). IsSomeAnd o (IsUnsignedIn 1 most)) (first_value-rows (found_of m) name)
+        (value_given (matched_of (found_of m) name) refl (found_at (found_of m).entries.items name here.0 here.1 here.2))
 
   cuts_given : (d : Arg) → IfSome (option_map raw_values (matched_of (found_of m) (codes "cut"))) (All (IsUnsignedIn 0 18446744073709551615))
   cuts_given d = go (matched_of (found_of m) (codes "cut")) refl
@@ -238,8 +245,10 @@ module _ (c : Command) (m : ArgMatches) (p : IsParsedFrom c m) (app : app_of c �
 
   pub numbers_given : HasNumbers (rows_of (found_of m))
   numbers_given =
-      let d = some_arg (args_of c) five in
+      let d = some_arg (args_of c) seven in
       record {
-        workers = subst (λ (o : Option Text). IsSomeAnd o (IsUnsignedIn 1 64)) (first_value-rows (found_of m) (codes "workers")) (workers_given d);
+        workers = number_given 0 d (omega arith) (codes "workers") 64 (codes "4") refl (omega arith) refl refl;
         cuts = subst (λ (o : Option (List Text)). IfSome o (All (IsUnsignedIn 0 18446744073709551615))) (raw_values-rows (found_of m) (codes "cut")) (cuts_given d);
+        events = number_given 5 d (omega arith) (codes "max-events") greatest.events (codes "100000") refl (omega arith) refl refl;
+        bytes = number_given 6 d (omega arith) (codes "max-bytes") greatest.bytes (codes "16777216") refl (omega arith) refl refl;
       }

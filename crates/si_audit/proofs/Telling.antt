@@ -2,7 +2,7 @@
 use Rattle.std.proofs.Common.{◌≡◌, Bor, Option, Some, None, ℕ, ◌+◌, ◌<◌, List, [], ◌∷◌, ◌++◌, length, take, flat_map, get_or, refl, ap, ap₂, sym, subst, ◌∙◌, append_assoc, append-nil}
 use Rattle.std.proofs.lemmas.List.{take_more}
 use Rattle.sia_events.specs.declared.event.Event.{Event}
-use Rattle.sia_parts.specs.declared.recorded.Recorded.{Recorded}
+use Rattle.sia_parts.specs.declared.telling.Recorded.{Recorded}
 use Rattle.si_audit.specs.Explained.{TellsAll, WithReasons, TellsIf}
 
 -- the bytes behind some are told of what has P

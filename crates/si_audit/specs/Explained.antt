@@ -16,7 +16,7 @@ use Rattle.si_audit.specs.Account.{Account}
 use Rattle.si_audit.specs.Lines.{line, edge_word, is_empty, bad_read_line, bad_write_line, unexplained_line, events_line, isolation_line, ssi_line, serializable_line, verdict_line}
 use Rattle.si_audit.specs.Reasons.{TellsBadRead, TellsBadWrite, TellsUnexplained, TellsStep}
 use Rattle.std.specs.Borrow.{Bor}
-use Rattle.sia_parts.specs.declared.recorded.Recorded.{Recorded}
+use Rattle.sia_parts.specs.declared.telling.Recorded.{Recorded}
 
 -- what is told of each of these, one after another
 abbrev pub TellsAll : {A : Type 0} → (A → List ℕ → Type 0) → List A → List ℕ → Type 0

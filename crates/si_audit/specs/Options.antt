@@ -1,5 +1,6 @@
 -- What contracts see of the options.
 use Rattle.std.specs.Prelude.{ℕ, List}
+use Rattle.sia_events.specs.Limits.{Limits}
 use Rattle.sia_parts.specs.declared.cutting.Part.{Part}
 use Rattle.si_audit.specs.declared.options.Form.{Form}
 use Rattle.si_audit.specs.declared.options.Level.{Level}
@@ -9,3 +10,4 @@ pub record Choices : Type 0 where
   pub parts : List Part
   pub form : Form
   pub level : Level
+  pub limits : Limits

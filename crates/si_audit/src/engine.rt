@@ -1,6 +1,6 @@
 //! The engine: a text goes in, a report comes out, and it knows no device.
 ghost use Rattle.std.specs.Prelude.{◌≡◌, ◌≢◌, ◌<◌, ◌≤◌, ◌++◌, ℕ, List, [], drop, take, length, vec_capacity, IfOk, OnOk, IsFalse, IsTrue, ◌↔◌};
-ghost use Rattle.sia_events.specs.Limits.{Limits, standard};
+ghost use Rattle.sia_events.specs.Limits.{Limits};
 ghost use Rattle.si_audit.specs.Options.{Choices};
 ghost use Rattle.si_audit.specs.Engine.{EndsFed, IsAt, IsFed, TellsFed, rest_from, IsReceived, IsReportOf, IsOutcomeOf, Told};
 ghost use Rattle.si_audit.specs.Report.{TellsRefusal};
@@ -49,11 +49,11 @@ pub struct Auditor<'a> {
 impl<'a> Auditor<'a> {
     /// An auditor that has been fed nothing. It keeps the allocator for its later calls, and takes no memory yet.
     pub fn new(alloc: Global, options: &'a Options) -> Auditor<'a>
-        ensures { IsFed standard options.now result [] }
+        ensures { IsFed options.now.limits options.now result [] }
     {
         Auditor {
             options,
-            text: TextReader::new(alloc),
+            text: TextReader::with_limits(alloc, options.limits()),
             locator: Locator::new(),
         }
     }

@@ -1,10 +1,11 @@
-//! The options: how many workers audit which parts of the keys, which lines the report has, and what the history is held
-//! against.
-ghost use Rattle.std.specs.Prelude.{◌≡◌, ◌↔◌, IsTrue, ◌⊎◌, ℕ, ◌<◌, ◌≤◌, List, length, IfOk, OnOk, Err};
+//! The options: how many workers audit which parts of the keys, which lines the report has, what the history is held
+//! against, and how long its text may be.
+ghost use Rattle.std.specs.Prelude.{◌≡◌, ◌↔◌, ◌⊎◌, ℕ, ◌<◌, ◌≤◌, List, length, IfOk, OnOk, Err};
+ghost use Rattle.sia_events.specs.Limits.{standard};
 ghost use Rattle.sia_parts.specs.Parts.{IsCutting, HasTooManyCuts};
 ghost use Rattle.si_audit.specs.Options.{Choices};
 
-use sia_events::Key;
+use sia_events::{Key, Limits};
 use sia_parts::{CutFault, Part, cut};
 use std::alloc::Global;
 use std::marker::Model;
@@ -35,20 +36,21 @@ pub enum Form {
 /// The greatest number of workers.
 const MAX_WORKERS: u8 = 64;
 
-/// How many workers audit which parts, the form of the report, and the level that the status tells of. Neither workers nor
-/// parts change the report or the status.
+/// How many workers audit which parts, the form of the report, the level that the status tells of, and the limits of a
+/// text. Neither workers nor parts change the report or the status.
 #[derive(Drop)]
 pub struct Options {
     workers: u8,
     parts: Vec<Part>,
     form: Form,
     level: Level,
+    limits: Limits,
 }
 
 impl Model for Options {
     ghost Value = { Choices };
 
-    ghost view = { λ o. record { workers = o.workers; parts = o.parts.items; form = o.form; level = o.level } };
+    ghost view = { λ o. record { workers = o.workers; parts = o.parts.items; form = o.form; level = o.level; limits = o.limits } };
 
     ghost invariant = { λ o. record {
       some_workers : 0 < o.workers;
@@ -70,11 +72,12 @@ pub enum OptionsFault {
 }
 
 impl Options {
-    /// So many workers, and the parts between the cuts, for the full report and the level of serializable histories. The number
-    /// of workers is judged before the cuts, and takes no memory.
+    /// So many workers, and the parts between the cuts, for the full report, the level of serializable histories and the
+    /// standard limits. The number of workers is judged before the cuts, and takes no memory.
     pub fn new(alloc: Global, workers: u8, cuts: &[Key]) -> Result<Options, OptionsFault>
         ensures made { IfOk result (λ o. (o.workers ≡ workers) × IsCutting cuts.now o.parts) }
         ensures usual { IfOk result (λ o. (o.form ≡ Form.Full) × (o.level ≡ Level.Serializable)) }
+        ensures limits { IfOk result (λ o. o.limits ≡ standard) }
         ensures few { OnOk result (¬ HasTooManyCuts cuts.now) }
         ensures workers { (result ≡ Err OptionsFault.Workers) ↔ ((workers ≡ 0) ⊎ (64 < workers)) }
         ensures too_many { result ≡ Err OptionsFault.TooManyCuts → HasTooManyCuts cuts.now }
@@ -88,6 +91,7 @@ impl Options {
                 parts,
                 form: Form::Full,
                 level: Level::Serializable,
+                limits: Limits::standard(),
             }),
             Err(CutFault::TooMany) => Err(OptionsFault::TooManyCuts),
             Err(CutFault::NoMemory) => Err(OptionsFault::NoMemory),
@@ -108,6 +112,13 @@ impl Options {
         Options { level, ..self }
     }
 
+    /// The same for texts within these limits.
+    pub fn with_limits(self, limits: Limits) -> Options
+        ensures { result ≡ record self { limits = limits } }
+    {
+        Options { limits, ..self }
+    }
+
     /// The form of the report.
     pub fn form(&self) -> Form
         ensures { result ≡ self.now.form }
@@ -120,6 +131,13 @@ impl Options {
         ensures { result ≡ self.now.level }
     {
         self.level
+    }
+
+    /// How long a text may be.
+    pub fn limits(&self) -> Limits
+        ensures { result ≡ self.now.limits }
+    {
+        self.limits
     }
 
     /// How many workers there are.

@@ -1,7 +1,6 @@
 //! A run is two loops: a text is read to its end, or past the limit, and its report is written out whole.
 ghost use Rattle.std.specs.Prelude.{◌≡◌, ◌≢◌, ◌↔◌, ◌+◌, ◌≤◌, ℕ, List, ◌++◌, IfOk, IfErr, IfSome, OnOk, Err, IsTrue, IsFalse, ◌<◌, vec_capacity, OnErr, IsErr};
 ghost use Rattle.std.specs.Io.KnownBytes.{Appends, Keeps};
-ghost use Rattle.sia_events.specs.Limits.{standard};
 ghost use Rattle.si_audit.specs.Report.{IsReport};
 ghost use Rattle.si_audit.specs.Outcomes.{IsOutcome, status_of};
 ghost use Rattle.si_audit.specs.Engine.{IsFed};
@@ -48,8 +47,8 @@ impl From<NoMemory> for RunFault {
     }
 }
 
-/// Reads a history's text to its end, or past the limit of 16,777,216 bytes, writes its report in the form asked for, and
-/// flushes once.
+/// Reads a history's text to its end, or past the most bytes that the options allow, writes its report in the form asked
+/// for, and flushes once.
 ///
 /// The whole report is made in memory before the first byte is written. Neither device may have failed before. The call
 /// joins its workers and may wait for them.
@@ -65,11 +64,11 @@ pub fn run<T: Threads + Wait + Sync, R: Source, W: Sink>(
     // What is written is the report of the text that the reader gives, in the form of the options, and not a byte more. The
     // outcome is that of the options' level.
     ensures report { IfOk result (λ outcome. IfSome (R.remaining reader.old) (λ text.
-        IsOutcome standard o.now.level text outcome × (bytes : List ℕ) × IsReport standard o.now.form text bytes × Appends (W.taken writer.old) (W.taken writer.new) bytes)) }
+        IsOutcome o.now.limits o.now.level text outcome × (bytes : List ℕ) × IsReport o.now.limits o.now.form text bytes × Appends (W.taken writer.old) (W.taken writer.new) bytes)) }
     ensures flushed { OnOk result (IsTrue (W.is_flushed writer.new)) }
 
     // At most so many reads gave bytes.
-    ensures reads { R.reads reader.new ≤ R.reads reader.old + standard.bytes + 1 }
+    ensures reads { R.reads reader.new ≤ R.reads reader.old + o.now.limits.bytes + 1 }
 
     // Each fault comes exactly where its device failed.
     ensures read { (result ≡ Err RunFault.Read) ↔ IsTrue (R.has_failed reader.new) }
@@ -78,9 +77,9 @@ pub fn run<T: Threads + Wait + Sync, R: Source, W: Sink>(
     // What was written before a fault: nothing, or a front of the report, which is whole where no write was refused.
     ensures nothing { IfErr result (λ e. e ≢ RunFault.Write → Keeps (W.taken writer.old) (W.taken writer.new)) }
     ensures front { result ≡ Err RunFault.Write → IfSome (R.remaining reader.old) (λ text.
-        (bytes : List ℕ) × (rest : List ℕ) × IsReport standard o.now.form text (bytes ++ rest) × Appends (W.taken writer.old) (W.taken writer.new) bytes) }
+        (bytes : List ℕ) × (rest : List ℕ) × IsReport o.now.limits o.now.form text (bytes ++ rest) × Appends (W.taken writer.old) (W.taken writer.new) bytes) }
     ensures whole { result ≡ Err RunFault.Write → IsFalse (W.has_refused writer.new) → IfSome (R.remaining reader.old) (λ text.
-        (bytes : List ℕ) × IsReport standard o.now.form text bytes × Appends (W.taken writer.old) (W.taken writer.new) bytes) }
+        (bytes : List ℕ) × IsReport o.now.limits o.now.form text bytes × Appends (W.taken writer.old) (W.taken writer.new) bytes) }
 {
     let auditor = read_text(alloc, reader, o)?;
     let mut report = auditor.finish(rt, alloc)?;
@@ -105,25 +104,23 @@ pub fn status(r: &Result<Outcome, RunFault>) -> u8
     }
 }
 
-/// The bytes of the longest text that is judged.
-const LONGEST_TEXT: usize = 16_777_216;
-
-/// Feeds an auditor with all that comes, or until the text is past the limit; what follows then is left unread.
+/// Feeds an auditor with all that comes, or until the text is past the most bytes; what follows then is left unread.
 fn read_text<'a, R: Source>(
     alloc: Global,
     source: &mut R,
     o: &'a Options,
 ) -> Result<Auditor<'a>, RunFault>
     requires { IsFalse (R.has_failed source.old) }
-    ensures text { IfOk result (λ auditor. IfSome (R.remaining source.old) (IsFed standard o.now auditor)) }
+    ensures text { IfOk result (λ auditor. IfSome (R.remaining source.old) (IsFed o.now.limits o.now auditor)) }
     ensures failed { (result ≡ Err RunFault.Read) ↔ IsTrue (R.has_failed source.new) }
-    ensures reads { R.reads source.new ≤ R.reads source.old + 16777217 }
+    ensures reads { R.reads source.new ≤ R.reads source.old + o.now.limits.bytes + 1 }
     ensures no_write { result ≡ Err RunFault.Write → ⊥ }
 {
     let mut auditor = Auditor::new(alloc, o);
     let mut piece = [0u8; PIECE];
+    let most = o.limits().bytes();
     let mut count = 0;
-    'reading: while count <= LONGEST_TEXT {
+    'reading: while count <= most {
         let Ok(n) = source.read(&mut piece) else {
             return Err(RunFault::Read);
         };
@@ -131,7 +128,7 @@ fn read_text<'a, R: Source>(
             break;
         }
         auditor.feed(&piece[..n])?;
-        count += n;
+        count += n as u64;
     }
     Ok(auditor)
 }

@@ -1,16 +1,16 @@
 //! The options that the words of the command line choose.
-ghost use Rattle.std.specs.Prelude.{◌≡◌, ◌≢◌, ◌<◌, ◌≤◌, ◌∷◌, [], false, Err, IfErr, IfOk, None, Some, map, string_bytes};
-ghost use Rattle.clap.specs.Words.{IsUnsignedIn, app_of, found_of, kind_of, new_rule, rows_of, rule_of};
+ghost use Rattle.std.specs.Prelude.{◌≡◌, ◌≢◌, ◌<◌, ◌≤◌, ◌∷◌, [], false, Err, IfErr, IfOk, IsSomeAnd, Some, map, string_bytes};
+ghost use Rattle.clap.specs.Words.{IsUnsignedIn, app_of, first_of, found_of, kind_of, new_rule, rows_of, rule_of};
 ghost use Rattle.clap.specs.declared.builder.action.ArgAction.TheVariants.{Set};
 ghost use Rattle.clap.specs.declared.error.kind.ErrorKind.TheVariants.{OutOfMemory};
-ghost use Rattle.si_audit.specs.Words.{HasNumbers, IsOwed, GivesOptions, StandsInTheWay, cuts_among, form_among, level_among, workers_among, AreChosen, ChooseNoLevel, ChooseTooManyCuts, number_in, program};
+ghost use Rattle.si_audit.specs.Words.{HasNumbers, IsOwed, GivesOptions, StandsInTheWay, cuts_among, form_among, level_among, limits_among, number_among, number_rule, workers_among, AreChosen, ChooseNoLevel, ChooseTooManyCuts, number_in, program};
 ghost use Rattle.si_audit.specs.declared.words.LineFault.TheVariants.{NoMemory};
 
 use crate::options::{Form, Level, Options, OptionsFault};
 use clap::builder::ValueParser;
 use clap::error::ErrorKind;
 use clap::{Arg, ArgAction, ArgMatches, Command, Error};
-use sia_events::Key;
+use sia_events::{Key, Limits};
 use std::alloc::{AllocError, Global};
 
 /// The version, and the identity of the kit whose prover has checked it.
@@ -31,6 +31,10 @@ const EXPLAIN_HELP: &str = "The brief report with reasons: the events that show 
 
 const WORKERS_HELP: &str = "How many workers audit the parts, from 1 to 64";
 
+const EVENTS_HELP: &str = "How many events a text may have, up to 500000000";
+
+const BYTES_HELP: &str = "How many bytes a text may have, up to 17179869184 (16 GiB)";
+
 const CHECK_HELP: &str = "What status 0 says was kept: serializable, ssi or si";
 
 const MORE_HELP: &str =
@@ -44,6 +48,9 @@ Levels:
   ssi           the test of serializable snapshot isolation is passed, too
   si            isolation was kept
 
+A text that has more than the most events or bytes is refused. Greater limits
+change no report of a text that smaller ones accept.
+
 Exit status:
   0  the history meets the level
   1  the history falls short of the level
@@ -55,7 +62,14 @@ Examples:
   si_audit <run.history
   printf 'w1[1] r2[1:1] c2 a1' | si_audit
   si_audit --brief --check si <run.history
-  si_audit --workers 8 1000 2000 3000 <run.history >run.report";
+  si_audit --workers 8 1000 2000 3000 <run.history >run.report
+  si_audit --brief --max-events 10000000 --max-bytes 400000000 <run.history";
+
+/// The most events that a text may be allowed.
+const MAX_EVENTS: u64 = 500_000_000;
+
+/// The most bytes that a text may be allowed.
+const MAX_BYTES: u64 = 17_179_869_184;
 
 /// Why the words give no options.
 #[derive(Drop)]
@@ -98,26 +112,38 @@ pub fn options_from(alloc: Global, words: &[String]) -> Result<Options, LineFaul
 fn command<'a>(alloc: Global) -> Result<Command<'a>, AllocError>
     ensures { IfOk result (λ c. app_of c ≡ program) }
 {
-    let workers = option(alloc, "workers", "N", "4", WORKERS_HELP).value_parser(
-        ValueParser::Unsigned(1, 64),
-    );
     let cuts = Arg::new(alloc, "cut")
         .value_name("CUT")
         .action(ArgAction::Append)
         .help(CUTS_HELP)
         .value_parser(ValueParser::Unsigned(0, u64::MAX));
     let arguments = vec![in alloc;
-        workers,
+        number_option(alloc, "workers", 64, "4", WORKERS_HELP),
         cuts,
         named(alloc, "brief", ArgAction::Count, BRIEF_HELP),
         named(alloc, "explain", ArgAction::Count, EXPLAIN_HELP),
         option(alloc, "check", "LEVEL", "serializable", CHECK_HELP),
+        number_option(alloc, "max-events", MAX_EVENTS, "100000", EVENTS_HELP),
+        number_option(alloc, "max-bytes", MAX_BYTES, "16777216", BYTES_HELP),
     ]?;
     Command::new(alloc, "si_audit")
         .version(VERSION)
         .about(ABOUT)
         .after_help(MORE_HELP)
         .args(arguments)
+}
+
+fn number_option<'a>(
+    alloc: Global,
+    name: &'a str,
+    most: u64,
+    usual: &'a str,
+    help: &'a str,
+) -> Arg<'a>
+    ensures rule { rule_of result ≡ number_rule name.now most usual.now }
+    ensures local { result.global ≡ false }
+{
+    option(alloc, name, "N", usual, help).value_parser(ValueParser::Unsigned(1, most))
 }
 
 fn option<'a>(
@@ -173,9 +199,15 @@ fn options_of(alloc: Global, matches: &ArgMatches<'_>) -> Result<Options, LineFa
     };
     let form = form_in(matches);
     let workers = workers_in(matches);
+    let limits = limits_in(matches);
     let cuts = cuts_in(alloc, matches)?;
     match Options::new(alloc, workers, cuts.as_slice()) {
-        Ok(options) => Ok(options.with_form(form).with_level(level)),
+        Ok(options) => Ok(
+            options
+                .with_form(form)
+                .with_level(level)
+                .with_limits(limits),
+        ),
         Err(OptionsFault::TooManyCuts) => Err(LineFault::TooManyCuts),
         Err(OptionsFault::NoMemory) => Err(LineFault::NoMemory),
         Err(OptionsFault::Workers) => unreachable!(),
@@ -187,7 +219,16 @@ fn workers_in(matches: &ArgMatches<'_>) -> u8
     ensures number { result ≡ workers_among (rows_of (found_of matches.now)) }
     ensures bounds { (0 < result) × (result ≤ 64) }
 {
-    number(matches.get_str("workers").unwrap()) as u8
+    number_of(matches, "workers") as u8
+}
+
+fn limits_in(matches: &ArgMatches<'_>) -> Limits
+    requires { HasNumbers (rows_of (found_of matches.now)) }
+    ensures { result ≡ limits_among (rows_of (found_of matches.now)) }
+{
+    let events = number_of(matches, "max-events");
+    let bytes = number_of(matches, "max-bytes");
+    Limits::new(events, bytes).unwrap()
 }
 
 fn form_in(matches: &ArgMatches<'_>) -> Form
@@ -225,6 +266,14 @@ fn cuts_in(alloc: Global, matches: &ArgMatches<'_>) -> Result<Vec<Key>, AllocErr
         cuts.push(number(text))?;
     }
     Ok(cuts)
+}
+
+/// The number that the option of that name has.
+fn number_of(matches: &ArgMatches<'_>, name: &str) -> u64
+    requires { IsSomeAnd (first_of name.now (rows_of (found_of matches.now))) (IsUnsignedIn 1 18446744073709551615) }
+    ensures { result ≡ number_among name.now (rows_of (found_of matches.now)) }
+{
+    number(matches.get_str(name).unwrap())
 }
 
 fn number(text: &str) -> u64

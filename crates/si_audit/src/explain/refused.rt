@@ -21,8 +21,8 @@ pub(crate) fn push_place(
         TextFault::NoMemory | TextFault::TextTooLong => Ok(()),
         TextFault::Refused { .. } => {
             let place = locator.place();
-            push_number(out, b"  line ", u64::from(place.line), b", column ")?;
-            push_number(out, b"", u64::from(place.column), b": ")?;
+            push_number(out, b"  line ", place.line, b", column ")?;
+            push_number(out, b"", place.column, b": ")?;
             push_shown(out, locator.token())?;
             out.extend_from_slice(b"\n")?;
             Ok(())

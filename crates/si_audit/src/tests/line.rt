@@ -153,6 +153,26 @@ const LINES: &[Row] = &[
         Err(("usage", "cannot be used multiple times")),
     ),
     (
+        &["si_audit", "--max-events", "0"],
+        0,
+        Err(("usage", "0 is not in 1..=500000000")),
+    ),
+    (
+        &["si_audit", "--max-events=500000001"],
+        0,
+        Err(("usage", "500000001 is not in 1..=500000000")),
+    ),
+    (
+        &["si_audit", "--max-bytes", "17179869185"],
+        0,
+        Err(("usage", "17179869185 is not in 1..=17179869184")),
+    ),
+    (
+        &["si_audit", "--max-bytes", "16M"],
+        0,
+        Err(("usage", "'16M' for '--max-bytes <N>'")),
+    ),
+    (
         &["si_audit", "--check"],
         0,
         Err(("usage", "a value is required for '--check <LEVEL>'")),
@@ -252,6 +272,37 @@ fn command_lines(rt: HostRuntime) -> Result<(), Fail> {
     for row in LINES {
         let (line, last, _) = row;
         assert!(rt; is_answered(rt.alloc(), row)?, "{line:?} {last:?}");
+    }
+    Ok(())
+}
+
+/// Words, and the most events and bytes that they allow.
+const LIMITS: &[(&[&str], u32, u64)] = &[
+    (&["si_audit"], 100_000, 16_777_216),
+    (&["si_audit", "--max-events", "1"], 1, 16_777_216),
+    (&["si_audit", "--max-bytes=1", "14"], 100_000, 1),
+    (
+        &[
+            "si_audit",
+            "--max-events=500000000",
+            "--max-bytes",
+            "17179869184",
+        ],
+        500_000_000,
+        17_179_869_184,
+    ),
+];
+
+#[test]
+fn limits(rt: HostRuntime) -> Result<(), Fail> {
+    for (line, events, bytes) in LIMITS {
+        let words = words(rt.alloc(), line, 0)?;
+        let given = match options_from(rt.alloc(), words.as_slice()) {
+            Ok(options) => Some((options.limits().events(), options.limits().bytes())),
+            Err(LineFault::NoMemory) => return Err(Fail::from(NoMemory)),
+            Err(_) => None,
+        };
+        assert_eq!(rt; given, Some((*events, *bytes)));
     }
     Ok(())
 }

@@ -6,7 +6,7 @@ use crate::engine::Outcome;
 use crate::options::{Form, Level, Options};
 use crate::run::run;
 use crate::tests::forms::{BRIEF, EXPLAINED};
-use sia_events::{Key, read_history};
+use sia_events::{Key, Limits, NoMemory, read_history};
 use std::alloc::Global;
 use std::sync::Wait;
 use std::test::*;
@@ -646,6 +646,43 @@ fn reports(rt: HostRuntime) -> Result<(), Fail> {
     }
     for row in HISTORIES {
         assert!(rt; is_audited(&rt, rt.alloc(), row)?);
+    }
+    Ok(())
+}
+
+/// A text, the most events and bytes that it may have, and its brief report.
+const LIMITED: &[(&[u8], u64, u64, &[u8])] = &[
+    (
+        b"w1[1] c1 ",
+        2,
+        9,
+        b"events 2 committed 1 aborted 0 open 0\nisolation kept\nssi pass\nserializable yes\norder 1\n",
+    ),
+    (b"w1[1] c1 ", 1, 9, b"refused: token 2: too many events\n"),
+    (b"w1[1] c1 ", 2, 8, b"refused: text too long\n"),
+    // The text is refused for its length, whatever else it holds.
+    (b"w1[1] c1 c1", 1, 10, b"refused: text too long\n"),
+    (
+        b"",
+        1,
+        1,
+        b"events 0 committed 0 aborted 0 open 0\nisolation kept\nssi pass\nserializable yes\norder\n",
+    ),
+];
+
+#[test]
+fn limits(rt: HostRuntime) -> Result<(), Fail> {
+    for (text, events, bytes, report) in LIMITED {
+        let Some(limits) = Limits::new(*events, *bytes) else {
+            return Err(Fail::from(NoMemory));
+        };
+        let options = Options::new(rt.alloc(), 1, &[])?
+            .with_form(Form::Brief)
+            .with_limits(limits);
+        let mut reader = FromStd::new(*text);
+        let mut writer = FromStd::new(Vec::with_capacity(rt.alloc(), 256)?);
+        run(&rt, rt.alloc(), &mut reader, &mut writer, &options)?;
+        assert_eq!(rt; writer.into_inner().as_slice(), *report);
     }
     Ok(())
 }

@@ -1,5 +1,5 @@
 use Rattle.sia_parts.specs.declared.cutting.Part.{Part}
-use Rattle.sia_parts.specs.declared.findings.PartFound.{PartFound}
+use Rattle.sia_parts.specs.declared.gathering.PartFound.{PartFound}
 use Rattle.std.proofs.Common.{subst, sym}
 use Rattle.std.specs.List.{AllZip}
 use Rattle.sia_parts.specs.Gathering.{IsPartFound}

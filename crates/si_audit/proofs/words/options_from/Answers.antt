@@ -7,7 +7,7 @@ use Rattle.clap.specs.declared.builder.command.Command.{Command}
 use Rattle.clap.specs.declared.parser.matches.ArgMatches.{ArgMatches}
 use Rattle.sia_parts.specs.Parts.{IsCutting, HasTooManyCuts}
 use Rattle.si_audit.specs.Options.{Choices}
-use Rattle.si_audit.specs.Words.{IsOwed, GivesOptions, StandsInTheWay, cuts_among, form_among, level_among, workers_among, AreChosen, ChooseNoLevel, ChooseTooManyCuts, program}
+use Rattle.si_audit.specs.Words.{IsOwed, GivesOptions, StandsInTheWay, cuts_among, form_among, level_among, limits_among, workers_among, AreChosen, ChooseNoLevel, ChooseTooManyCuts, program}
 use Rattle.si_audit.specs.declared.words.LineFault.{LineFault}
 use Rattle.si_audit.specs.declared.words.LineFault.TheVariants.{NoMemory, TooManyCuts, UnknownLevel, Help, Usage}
 use Rattle.si_audit.proofs.NumbersGiven.{numbers_given}
@@ -22,6 +22,7 @@ chosen_from rows words o is taken g = record {
   few = subst (λ (r : List Row). ¬ HasTooManyCuts (cuts_among r)) is g.few;
   form = g.form ∙ ap form_among is;
   level = ap level_among (sym is) ∙ g.level;
+  limits = g.limits ∙ ap limits_among is;
 }
 
 owed_from : (rows : List Row) (words : List Text) (fault : LineFault) → rows ≡ matches_of program words → takes program words ≡ true

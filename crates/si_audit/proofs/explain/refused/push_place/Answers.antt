@@ -13,6 +13,6 @@ returns-in_ok-extend_from_slice-in-Refused c limits text reader stands located r
     subst (λ (fault : TextFault). (bytes : List ℕ) × TellsToken text fault bytes × (c.extend_from_slice.new.self.items ≡ c.args.out.now.items ++ bytes)) (sym c.in-Refused.is) (
       place_line c.place-place.result.line c.place-place.result.column at.0,
       (c.place-place.result.line, c.place-place.result.column, at.0, at.1, refl),
-      place_pushed c.args.out.now.items _ _ _ _ _ _ _ _ _ _ _ _ _ _ c.from.ensures c.from-in-Refused.ensures (ap shown c.token.ensures ∙ shown_kept at.0 _ at.2)
+      place_pushed c.args.out.now.items _ _ _ _ _ _ _ _ _ _ _ _ _ _ refl refl (ap shown c.token.ensures ∙ shown_kept at.0 _ at.2)
           c.in_ok-push_number-in-Refused.ensures c.in_ok-push_number-in-Refused-2.ensures c.in_ok-push_shown-in-Refused.ensures c.in_ok-extend_from_slice-in-Refused.ensures.items,
     )

@@ -1,6 +1,6 @@
 use Rattle.std.proofs.Common.{◌≡◌, Option, Bor, subst, sym}
 use Rattle.std.specs.Prelude.{All, IfSome}
-use Rattle.sia_parts.specs.declared.recorded.Recorded.{Recorded}
+use Rattle.sia_parts.specs.declared.telling.Recorded.{Recorded}
 use Rattle.std.proofs.lemmas.List.{take_all}
 use Rattle.si_audit.specs.Explained.{TellsAll, WithReasons, TellsIf}
 use Rattle.si_audit.proofs.Telling.{IsToldBehind, next_item_told, told_if_none, told_if_some, told_none, with_reasons}

@@ -1,7 +1,7 @@
 use Rattle.std.proofs.Common.{◌≡◌, List, Option, Some, None, Bor, get_or, subst}
 use Rattle.std.specs.Prelude.{All, Contains, IfSome}
 use Rattle.std.proofs.lemmas.List.Elements.{All-contains_itself}
-use Rattle.sia_parts.specs.declared.recorded.Recorded.{Recorded}
+use Rattle.sia_parts.specs.declared.telling.Recorded.{Recorded}
 use Rattle.si_audit.proofs.Pushed.{findings_pushed}
 use Rattle.si_audit.proofs.Results.{ok_map}
 use Rattle.si_audit.proofs.report.findings.push_front.Goals as goal
