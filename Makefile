@@ -2,6 +2,7 @@
 #: make help                   lists the targets, as here
 #: make run HISTORY=FILE       audits a history (without HISTORY examples/write_skew.history) and says what its status means
 #: make run EXPLAIN=1          leaves out edges and pivots, and tells below each finding which events make it
+#: make run MAX_EVENTS=N        takes a history of up to N events, and with MAX_BYTES=N of up to N bytes (100000 and 16777216)
 #: make run BRIEF=1 CHECK=si   leaves out edges and pivots, and the status tells of another level: serializable, ssi or si
 #: make                        proves and builds the program, where there is none or a source is newer than it
 #: make build                  proves and builds the program in any case; the kit knows what it has proved already
@@ -16,6 +17,7 @@
 #: make release                proves, builds and keeps the program in release/, for make run, install, bench and databases
 #: make bench                  times the program on generated histories, with one worker and with four, and tells the change from kept figures
 #: make bench KEEP=1           does the same, and keeps its figures in tools/bench_figures.txt
+#: make bench LONG=1           does the same, and times histories of ten million events besides those of up to a million
 #: make databases RUNS=20      records and audits eleven stores (sh tools/install_databases.sh installs what it needs)
 #: make clean                  removes what was built and checked
 
@@ -26,13 +28,16 @@ CHECK ?= serializable
 FULL ?=
 ALL ?=
 KEEP ?=
+LONG ?=
+MAX_BYTES ?=
+MAX_EVENTS ?=
 PREFIX ?= /usr/local
 DESTDIR ?=
 RUNS = 20
 
 # These reach the shell as they were given: make reads no $ in them. PROGRAM, which some of the tools take, is nothing that an
 # environment may name: what the targets run was made from the sources at hand.
-GIVEN = HISTORY BRIEF EXPLAIN CHECK FULL ALL KEEP PREFIX DESTDIR RUNS
+GIVEN = HISTORY BRIEF EXPLAIN CHECK MAX_BYTES MAX_EVENTS FULL ALL KEEP LONG PREFIX DESTDIR RUNS
 $(foreach name,$(GIVEN),$(eval override $(name) := $$(value $(name))))
 export $(GIVEN)
 unexport PROGRAM

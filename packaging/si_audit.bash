@@ -4,7 +4,7 @@ _si_audit() {
     case $before in
         --check) mapfile -t COMPREPLY < <(compgen -W "serializable ssi si" -- "$word") ;;
         --workers) mapfile -t COMPREPLY < <(compgen -W "$(seq 1 64)" -- "$word") ;;
-        *) mapfile -t COMPREPLY < <(compgen -W "--brief --check --explain --help --version --workers" -- "$word") ;;
+        *) mapfile -t COMPREPLY < <(compgen -W "--brief --check --explain --help --max-bytes --max-events --version --workers" -- "$word") ;;
     esac
 }
 # What stands behind < is a file, as in every command.

@@ -1,6 +1,6 @@
 #!/bin/sh
-# Audits one file: sh tools/audit.sh FILE. BRIEF=1 and EXPLAIN=1 ask for the brief report and for the explained one, and CHECK
-# names the level.
+# Audits one file: sh tools/audit.sh FILE. BRIEF=1 and EXPLAIN=1 ask for the brief report and for the explained one, CHECK names the
+# level, and MAX_EVENTS and MAX_BYTES are the limits of the history, where they are given.
 # The status is 0 where there is a report or a refusal line.
 : "${CHECK:=serializable}"
 
@@ -45,11 +45,16 @@ esac
 brief=$(option BRIEF "$BRIEF" --brief) || exit 2
 explain=$(option EXPLAIN "$EXPLAIN" --explain) || exit 2
 program=$(sh tools/program.sh) || exit 2
-"$program" ${brief:+"$brief"} ${explain:+"$explain"} --check "$CHECK" <"$1"
+"$program" ${brief:+"$brief"} ${explain:+"$explain"} --check "$CHECK" \
+    ${MAX_EVENTS:+--max-events "$MAX_EVENTS"} ${MAX_BYTES:+--max-bytes "$MAX_BYTES"} <"$1"
 status=$?
 case $status in
     0) echo "status 0: $kept" >&2 ;;
     1) echo "status 1: $broken" >&2 ;;
+    2)
+        echo "status 2: the program refused its arguments" >&2
+        exit 2
+        ;;
     3) echo "status 3: the text is no history, and was refused" >&2 ;;
     4)
         echo "status 4: a device or the memory failed" >&2

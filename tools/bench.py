@@ -23,11 +23,13 @@ from datetime import date
 from pathlib import Path
 from statistics import median
 
-from measuring import Run, run
+from measuring import Run, limits, run
 
 HERE = Path(__file__).resolve().parent
 FIGURES = HERE / "bench_figures.txt"
 TIMES = 5
+# A history of more needs options.
+MAX_EVENTS = 100_000
 # No run may take longer.
 SECONDS = 60
 FORMS: dict[str, list[str]] = {"full": [], "brief": ["--brief"], "explained": ["--explain"]}
@@ -141,7 +143,8 @@ class Bench:
     def time(self, name: Name) -> str:
         """Takes the figure of a text, form and number of workers, or answers why there is none."""
         runs: list[Run] = []
-        words = [self.program, "--workers", name[3], *FORMS[name[2]]]
+        most = limits(2 * int(name[1]), os.path.getsize(self.text)) if int(name[1]) > MAX_EVENTS else []
+        words = [self.program, "--workers", name[3], *FORMS[name[2]], *most]
         for _ in range(TIMES):
             runs.append(run(words, self.text, self.report, SECONDS))
             if runs[-1].status not in (0, 1):

@@ -7,7 +7,8 @@ Each whole report is worked out by a formula, from the rules of docs/FORMAT.md. 
 worker, and to four with some cuts; those that are refused once more, for the explained report. Those of hard.py are asked for
 the brief report and for the explained one, under a limit of memory too: at SIZE, which is 100,000 where it isn't given, and at
 a fourth of it. The greater one may take at most some eight times as long, and a moment. An explained report may take as much
-memory as a brief one, and its own bytes. Proofs bound neither time nor memory, so that these are small is shown here alone.
+memory as a brief one, and its own bytes. Beyond 100,000 events time and memory may grow with the size. Proofs bound neither, so
+that they are small is shown here alone.
 The last line is 'N passed, M failed'.
 """
 
@@ -24,7 +25,7 @@ from itertools import zip_longest
 
 import hard
 from hard import MAX_KEY, Case, joined
-from measuring import Run, apart, run
+from measuring import Run, apart, limits, run
 
 MAX_BYTES = 16_777_216
 MAX_EVENTS = 100_000
@@ -306,8 +307,10 @@ class Tried:
         """How long one worker was busy with a report in this form of a hard kind of this size."""
         self.make(lambda: in_form(hard.KINDS[name](size), form))
         printed = os.path.getsize(self.wanted) / 1e6 if form == EXPLAIN else 0
-        lines = [[form, *it] for it in LINES]
-        return self.runs(f"{name} {size} {form}", lines, HARD_SECONDS, HARD_MEGABYTES + printed)[0].busy
+        times = max(1, size / MAX_EVENTS)
+        most = limits(2 * size, max(MAX_BYTES, os.path.getsize(self.text))) if times > 1 else []
+        lines = [[form, *most, *it] for it in LINES]
+        return self.runs(f"{name} {size} {form}", lines, times * HARD_SECONDS, times * HARD_MEGABYTES + printed)[0].busy
 
 
 def in_form(case: Case, form: str) -> Case:

@@ -54,6 +54,16 @@ explained() {
     count "$example $*: its report" "$(cmp "examples/$example.explained" out/report 2>&1)"
 }
 
+# refused NAME LINE ARGUMENTS..: the history is refused with this line, and status 3.
+refused() {
+    name=$1
+    line=$2
+    shift 2
+    "$PROGRAM" "$@" <"$history" >out/report 2>out/said
+    told "$name" $? 3 ""
+    count "$name: its line" "$([ "$(cat out/report)" = "$line" ] || echo "it isn't '$line'")"
+}
+
 # usage NAME TEXT ARGUMENTS..: the arguments are refused with status 2, and the first error on standard error is TEXT.
 usage() {
     name=$1
@@ -79,7 +89,7 @@ help() {
     "$PROGRAM" "$@" <"$history" >out/report 2>out/said
     told "$name" $? 0 ""
     why=
-    for text in "Usage: si_audit [OPTIONS] [CUT]..." "--workers <N>" "[default: 4]" --brief --explain "Exit status:" "Examples:"; do
+    for text in "Usage: si_audit [OPTIONS] [CUT]..." "--workers <N>" "[default: 4]" "--max-events <N>" "--max-bytes <N>" --brief --explain "Exit status:" "Examples:"; do
         grep -qF -- "$text" out/report || why="the help has no '$text'"
     done
     count "$name: its text" "$why"
@@ -126,6 +136,18 @@ explained stale_read 1 1 --explain 18446744073709551615 --workers=3
 explained read_only_anomaly 1 --explain --check ssi 2 1
 explained refused 3 --explain --check=si
 explained refused_name 3 --explain --brief --workers 2 7
+events=$(wc -w <"$history")
+bytes=$(wc -c <"$history")
+same "just as many events and bytes as may be" examples/clean.report --max-events "$((events))" --max-bytes="$((bytes))"
+same "the greatest limits" examples/clean.report --max-events=500000000 --max-bytes 17179869184
+refused "an event too many" "refused: token $((events)): too many events" --max-events "$((events - 1))"
+refused "a byte too many" "refused: text too long" --max-bytes "$((bytes - 1))"
+usage "no event" "invalid value '0' for '--max-events <N>': 0 is not in 1..=500000000" --max-events 0
+usage "too many events" "invalid value '500000001' for '--max-events <N>': 500000001 is not in 1..=500000000" --max-events 500000001
+usage "no byte" "invalid value '0' for '--max-bytes <N>': 0 is not in 1..=17179869184" --max-bytes=0
+usage "too many bytes" "invalid value '17179869185' for '--max-bytes <N>': 17179869185 is not in 1..=17179869184" --max-bytes 17179869185
+usage "a limit that is no number" "invalid value '1e6' for '--max-events <N>': invalid digit found in string" --max-events 1e6
+usage "a limit twice" "the argument '--max-bytes <N>' cannot be used multiple times" --max-bytes 4 --max-bytes 4
 usage "65 workers" "invalid value '65' for '--workers <N>': 65 is not in 1..=64" --workers 65
 usage "no worker" "invalid value '0' for '--workers <N>': 0 is not in 1..=64" --workers 0
 usage "workers twice" "the argument '--workers <N>' cannot be used multiple times" --workers 4 --workers 4

@@ -35,7 +35,7 @@ LIMITS = {
     "docs/FORMAT.md": 3_000,
     "docs/PICTURES.md": 950,
     "docs/RECORDING.md": 2_800,
-    "docs/SCALE.md": 500,
+    "docs/SCALE.md": 600,
     "docs/TUTORIAL.md": 600,
     "docs/USAGE.md": 1_100,
     "docs/internals/ARCHITECTURE.md": 1_200,

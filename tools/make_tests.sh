@@ -44,6 +44,12 @@ broken="status 1: the history fails the test of serializable snapshot isolation"
 runs "make run CHECK=ssi" examples/write_skew.report "$broken" run CHECK=ssi
 refused="status 3: the text is no history, and was refused"
 runs "make run of a text that is no history" examples/refused.report "$refused" run HISTORY=examples/refused.history
+echo "refused: token 8: too many events" >"$out/few"
+runs "make run MAX_EVENTS=7" "$out/few" "$refused" run MAX_EVENTS=7
+echo "refused: text too long" >"$out/short"
+runs "make run MAX_BYTES=9" "$out/short" "$refused" run MAX_BYTES=9
+broken="status 1: isolation was broken, or the history isn't serializable; the report says which"
+runs "make run with limits that are enough" examples/write_skew.report "$broken" run MAX_EVENTS=8 MAX_BYTES=500000
 
 # failing NAME SAID ARGUMENTS..: make with these arguments fails, and says SAID first.
 failing() {
@@ -56,6 +62,8 @@ failing() {
 }
 
 failing "make run BRIEF=2" "make run: BRIEF is 1 or 0, and not 2" run BRIEF=2
+said="error: invalid value '0' for '--max-events <N>': 0 is not in 1..=500000000"
+failing "make run MAX_EVENTS=0" "$said" run MAX_EVENTS=0
 failing "make run EXPLAIN=all" "make run: EXPLAIN is 1 or 0, and not all" run EXPLAIN=all
 
 # Names reach the shell as they are, and what can't be printed is shown.

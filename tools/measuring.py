@@ -33,18 +33,24 @@ class Run:
     said: bytes
 
 
-def bound() -> None:
-    """Bounds the address space of this process."""
+def limits(events: int, size: int) -> list[str]:
+    """The options that let the program take so many events and bytes."""
+    return ["--max-events", str(events), "--max-bytes", str(size)]
+
+
+def bound(addresses: int) -> None:
+    """Bounds the address space of this process to so many bytes."""
     _, hard = resource.getrlimit(resource.RLIMIT_AS)
-    least = ADDRESSES if hard == resource.RLIM_INFINITY else min(ADDRESSES, hard)
+    least = addresses if hard == resource.RLIM_INFINITY else min(addresses, hard)
     resource.setrlimit(resource.RLIMIT_AS, (least, hard))
 
 
-def run(words: Sequence[str], text: str, report: str, seconds: float) -> Run:
-    """Runs a program with a file as its input and another as its output. It is killed after so many seconds."""
+def run(words: Sequence[str], text: str, report: str, seconds: float, addresses: int = ADDRESSES) -> Run:
+    """Runs a program with a file as its input and another as its output. It is killed after so many seconds, and gets so many
+    bytes of address space."""
     with open(text, "rb") as given, open(report, "wb") as taken, tempfile.TemporaryFile() as told:
         began = time.perf_counter()
-        started = subprocess.Popen(words, stdin=given, stdout=taken, stderr=told, preexec_fn=bound)
+        started = subprocess.Popen(words, stdin=given, stdout=taken, stderr=told, preexec_fn=lambda: bound(addresses))
         timer = Timer(seconds, started.kill)
         timer.start()
         _, status, used = os.wait4(started.pid, 0)

@@ -99,6 +99,7 @@ test_debian() {
     if command -v bash >/dev/null 2>&1; then
         completes "a level" "ssi" si_audit --check ss
         completes "an option" "--explain" si_audit --ex
+        completes "the limits" "--max-bytes --max-events" si_audit --max
         completes "a command" "from-events" si-history from-e
         completes "an option of a command" "--legend" si-history names --leg
     fi

@@ -32,6 +32,18 @@ case $name in
         what="the program on the longest texts and on hard ones, each within some seconds"
         set -- python3 -B tools/limits.py "$PROGRAM"
         ;;
+    long)
+        what="the program on a million events, beside what was planted in them"
+        set -- python3 -B tools/long_texts.py "$PROGRAM"
+        ;;
+    shortage)
+        what="the program with half the memory that it needs"
+        set -- python3 -B tools/shortage.py "$PROGRAM"
+        ;;
+    planting)
+        what="what is planted in long histories, by the definitions"
+        set -- modules unittest -q long_histories_tests
+        ;;
     logs)
         what="the companion on 2,000 logs that nobody means"
         set -- env PYTHONPATH=tools:companion python3 -B -m fuzz_logs "$PROGRAM"

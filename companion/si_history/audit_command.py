@@ -111,7 +111,8 @@ class _Made:
         self._arguments = arguments
         self._auditor: Auditor = auditor_of(arguments)
         kind = None if arguments.kind is None else LogKind(arguments.kind)
-        log = log_of(read_log(arguments.log), source_name(arguments.log), kind, policy_of(arguments))
+        content = read_log(arguments.log, self._auditor.limits)
+        log = log_of(content, source_name(arguments.log), kind, policy_of(arguments))
         for warning in log.warnings:
             write_error(f"si-history: {log.source}: {warning}")
         with Waiting(f"auditing {visible(log.source)}"):

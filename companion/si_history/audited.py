@@ -16,8 +16,9 @@ from si_history.facts import Facts
 from si_history.files import opened, source_name
 from si_history.history import parse, text_of
 from si_history.legend import Legend
+from si_history.limits import STANDARD, Limits
 from si_history.log_kinds import LogKind, kind_of
-from si_history.log_lines import MAX_LOG_BYTES
+from si_history.log_lines import most_bytes
 from si_history.matching import check_report
 from si_history.naming import Names
 from si_history.policy import STRICT, Policy
@@ -29,6 +30,8 @@ NOTHING = 5
 SEPARATORS = (b" ", b"\t", b"\r", b"\n")
 NO_EVENT = "nothing to audit: it has no event"
 NO_COMMIT = "nothing to audit: no transaction committed"
+OPTIONS = {": too many events": "--max-events", ": text too long": "--max-bytes"}
+"""The options that help where the auditor refuses a history for its length."""
 
 
 @dataclass(slots=True)
@@ -70,12 +73,12 @@ class Audited:
         return self.status in (MEETS, FALLS_SHORT)
 
 
-def read_log(path: str) -> bytes:
+def read_log(path: str, limits: Limits = STANDARD) -> bytes:
     """The bytes of a log; `-` is standard input. Raises BadInput where it can't be read, or is too long."""
     with opened(path) as file:
-        content = file.read(MAX_LOG_BYTES + 1)
-    if len(content) > MAX_LOG_BYTES:
-        raise BadInput(f"log too long: the limit of bytes of a log is {MAX_LOG_BYTES:,}", source=source_name(path))
+        content = file.read(most_bytes(limits) + 1)
+    if len(content) > most_bytes(limits):
+        raise BadInput(f"log too long: the limit of bytes of a log is {most_bytes(limits):,}", source=source_name(path))
     return content
 
 
@@ -91,7 +94,8 @@ def log_of(content: bytes, source: str, kind: LogKind | None = None, policy: Pol
         try:
             with without_collector():
                 conversion = found.convert(io.BytesIO(content), policy)
-                return Log(source, found, text_of(conversion.events).encode(), conversion.legend, conversion.warnings)
+                text = text_of(conversion.events, policy.limits)
+                return Log(source, found, text.encode(), conversion.legend, conversion.warnings)
         except BadInput as fault:
             if fault.line == content.count(b"\n") + 1 and not content.endswith(b"\n"):
                 fault.reason += " (the log ends in the middle of this line)"
@@ -117,7 +121,7 @@ def audited(log: Log, auditor: Auditor, level: str, takes_nothing: bool = False,
         return Audited(log, level, outcome, outcome.exit_status, outcome.words)
     try:
         report = read_report(ReportText(outcome.report, "the auditor's report"), most)
-        facts = Facts(parse(log.history.decode("ascii")))
+        facts = Facts(parse(log.history.decode("ascii"), limits=auditor.limits))
         check_report(report, facts)
     except (BadInput, UnicodeDecodeError) as fault:
         return Audited(log, level, outcome, FAULT, f"the auditor made a report that can't be used: {fault}")
@@ -131,4 +135,6 @@ def audited(log: Log, auditor: Auditor, level: str, takes_nothing: bool = False,
 
 def _refusal(report: bytes) -> str:
     lines = report.decode("utf-8", "replace").splitlines()
-    return refusal_in_words(*lines[:2])
+    words = refusal_in_words(*lines[:2])
+    option = next((option for reason, option in OPTIONS.items() if lines[0].endswith(reason)), None)
+    return words if option is None else f"{words}; {option} lets it be longer"

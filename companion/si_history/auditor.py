@@ -19,6 +19,7 @@ from dataclasses import dataclass
 from typing import IO
 
 from si_history.errors import BadInput, quoted
+from si_history.limits import STANDARD, Limits, add_limit_arguments, limits_of
 from si_history.memory import in_words, memory_limit, size_of
 
 PROGRAM = "si_audit"
@@ -95,14 +96,15 @@ _HINTS = {int(signal.SIGKILL): ", as a system does where memory runs out"}
 
 @dataclass(frozen=True, slots=True)
 class Auditor:
-    """A program that says it is an auditor, and of how many bytes of memory it may make use."""
+    """A program that says it is an auditor, of how many bytes of memory it may make use, and how long its histories may be."""
 
     path: str
     version: str
     memory: int
+    limits: Limits = STANDARD
 
     @classmethod
-    def found(cls, path: str | None = None, memory: int | None = None) -> Auditor:
+    def found(cls, path: str | None = None, memory: int | None = None, limits: Limits = STANDARD) -> Auditor:
         """The program at the path, or else the one beside this command, or else the one on the PATH.
 
         Raises BadInput where there is none, where it is none or too old, and where it can't be started. Without a number of
@@ -110,7 +112,7 @@ class Auditor:
         """
         where = _path_of(path)
         limit = memory_limit() if memory is None else memory
-        return cls(where, _version(where, limit), limit)
+        return cls(where, _version(where, limit), limit, limits)
 
     def run(
         self, history: bytes | IO[bytes], words: Sequence[str] = (), *, into: IO[bytes] | None = None,
@@ -121,7 +123,7 @@ class Auditor:
         The report goes to the file `into` where one is given, and to the outcome else. A run that takes longer than
         `seconds` is stopped. Raises BadInput where the program can't be started.
         """
-        done = _run(self.path, words, self.memory, history, into, seconds)
+        done = _run(self.path, [*self.limits.words, *words], self.memory, history, into, seconds)
         if done is None:
             return Outcome(Ending.TIME, FAULT, b"", f"more than {seconds:g} seconds")
         status, output, said = done
@@ -141,11 +143,12 @@ def add_auditor_arguments(parser: argparse.ArgumentParser) -> None:
         "--memory", metavar="SIZE", type=size_of,
         help="how much memory the auditor may take, as 512M or 8G (default: three quarters of the machine's)",
     )
+    add_limit_arguments(parser)
 
 
 def auditor_of(arguments: argparse.Namespace) -> Auditor:
     """The auditor that the arguments of `add_auditor_arguments` name. Raises BadInput where there is none."""
-    return Auditor.found(arguments.auditor, arguments.memory)
+    return Auditor.found(arguments.auditor, arguments.memory, limits_of(arguments))
 
 
 def _path_of(path: str | None) -> str:

@@ -85,7 +85,7 @@ class _Cluster:
     def _submit(self, job: Job) -> Iterator[Row]:
         """Gives a run to the cluster. Where its log can't be read, or the cluster can't be told, that is its row."""
         try:
-            content = read_log(job.path)
+            content = read_log(job.path, job.policy.limits)
             self._running[self._client.submit(audit_run, replace(job, content=content), pure=False)] = job
         except BadInput as fault:
             yield Row(job.name, BAD_COMMAND_LINE, fault.reason)

@@ -13,6 +13,7 @@ from si_history.errors import BadInput, in_source
 from si_history.files import OUTPUT_DEVICE, STANDARD_INPUT, STANDARD_OUTPUT, check_output, opened, source_name, write_error, write_output
 from si_history.history import Event, text_of
 from si_history.legend import Legend
+from si_history.limits import add_limit_arguments, limits_of
 
 
 @dataclass(slots=True)
@@ -25,13 +26,14 @@ class Conversion:
 
 
 def add_log_arguments(parser: argparse.ArgumentParser) -> None:
-    """Adds the log and the legend to a command's arguments."""
+    """Adds the log, the legend and the limits of the history to a command's arguments."""
     parser.add_argument("log", metavar="LOG", help="the log; - is standard input")
     parser.add_argument(
         "--legend",
         metavar="FILE",
         help="write the log's names of transactions and keys, and the line of each event, to FILE as JSON",
     )
+    add_limit_arguments(parser)
 
 
 @contextmanager
@@ -57,7 +59,7 @@ def run_conversion(arguments: argparse.Namespace, convert: Callable[[BinaryIO], 
             conversion = convert(file)
         if not conversion.events:
             raise BadInput("the log has no event, so there is no history of it")
-        text = text_of(conversion.events)
+        text = text_of(conversion.events, limits_of(arguments))
     for warning in conversion.warnings:
         write_error(f"si-history: {source_name(arguments.log)}: {warning}")
     if arguments.legend is not None:

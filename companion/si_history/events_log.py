@@ -75,7 +75,7 @@ class EventsLog:
 
 def read_events_log(file: BinaryIO, policy: Policy = STRICT) -> EventsLog:
     """Reads a log of events. Raises BadInput at the first line that can't come next."""
-    tally = LogTally()
+    tally = LogTally(limits=policy.limits)
     events: list[LogEvent] = []
     first_lines: dict[str, int] = {}
     ends: dict[str, int] = {}

@@ -11,7 +11,7 @@ from si_history.errors import BadInput
 from si_history.from_transactions import history_of
 from si_history.jepsen import APPEND, REGISTER, JepsenHistory, Times, take
 from si_history.list_append import check_lists
-from si_history.log_lines import MAX_LOG_BYTES
+from si_history.log_lines import LogTally, most_bytes
 from si_history.policy import STRICT, Policy, add_value_arguments, policy_of
 from si_history.transactions_log import TransactionsLog
 
@@ -62,15 +62,16 @@ def run(arguments: argparse.Namespace) -> int:
 
 def convert(file: BinaryIO, policy: Policy = STRICT, workload: str | None = None, times: Times | None = None) -> Conversion:
     """The history of a Jepsen history, with its legend. Raises BadInput where it is none, or can't be told."""
-    content = file.read(MAX_LOG_BYTES + 1)
-    if len(content) > MAX_LOG_BYTES:
-        line = content.count(b"\n", 0, MAX_LOG_BYTES) + 1
-        raise BadInput(f"log too long: the limit of bytes of a log is {MAX_LOG_BYTES:,}", line=line)
+    most = most_bytes(policy.limits)
+    content = file.read(most + 1)
+    if len(content) > most:
+        line = content.count(b"\n", 0, most) + 1
+        raise BadInput(f"log too long: the limit of bytes of a log is {most:,}", line=line)
     try:
         text = content.decode("utf-8")
     except UnicodeDecodeError as fault:
         raise BadInput("not UTF-8", line=content.count(b"\n", 0, fault.start) + 1) from None
-    history = JepsenHistory(workload, times or Times())
+    history = JepsenHistory(workload, times or Times(), LogTally(by_values=True, limits=policy.limits))
     take(forms(text), history)
     sights = check_lists(history) if history.workload == APPEND else []
     return history_of(TransactionsLog(history.transactions, history.tally), policy, sights)

@@ -7,10 +7,9 @@ from collections.abc import Iterable
 from dataclasses import dataclass
 
 from si_history.errors import BadInput
+from si_history.limits import STANDARD, Limits
 from si_history.progress import Progress
 
-MAX_BYTES = 16_777_216
-MAX_EVENTS = 100_000
 EVENTS_BETWEEN_STEPS = 1_000
 MAX_TRANSACTION = 2**32 - 1
 MAX_KEY = 2**64 - 1
@@ -90,17 +89,17 @@ class Abort:
 Event = Begin | Read | RangeRead | Write | Commit | Abort
 
 
-def text_of(events: Iterable[Event]) -> str:
+def text_of(events: Iterable[Event], limits: Limits = STANDARD) -> str:
     """The text of a history, one event a line, so that the line of an event is its place.
 
     Raises BadInput where the text would pass the limit of events or of bytes.
     """
     tokens = [str(event) for event in events]
-    if len(tokens) > MAX_EVENTS:
-        raise BadInput(f"too many events: the history would have {len(tokens):,}, and the limit of events is {MAX_EVENTS:,}")
+    if len(tokens) > limits.events:
+        raise BadInput(f"too many events: the history would have {len(tokens):,}, and the limit of events is {limits.events:,}")
     size = sum(map(len, tokens)) + len(tokens)
-    if size > MAX_BYTES:
-        raise BadInput(f"text too long: the history would have {size:,} bytes, and the limit of bytes is {MAX_BYTES:,}")
+    if size > limits.bytes:
+        raise BadInput(f"text too long: the history would have {size:,} bytes, and the limit of bytes is {limits.bytes:,}")
     return "".join(f"{token}\n" for token in tokens)
 
 
@@ -113,17 +112,17 @@ _WRITE = re.compile(rf"w{_NUMBER}\[{_NUMBER}\]")
 _END = re.compile(f"([ca]){_NUMBER}")
 
 
-def parse(text: str, progress: Progress | None = None) -> list[Event]:
+def parse(text: str, progress: Progress | None = None, limits: Limits = STANDARD) -> list[Event]:
     """The events of a history's text, of which those that are read so far are told to `progress`.
 
     Raises BadInput for what no event can be: a bad form, a number out of range, too many events, a text that is too long.
     Whether the events can stand in this order is for the auditor to say, and isn't looked at.
     """
-    if len(text) > MAX_BYTES:
-        raise BadInput(f"text too long: the limit of bytes is {MAX_BYTES:,}")
+    if len(text) > limits.bytes:
+        raise BadInput(f"text too long: the limit of bytes is {limits.bytes:,}")
     tokens = [token for token in re.split("[ \t\r\n]+", text) if token]
-    if len(tokens) > MAX_EVENTS:
-        raise BadInput(f"too many events: the limit of events is {MAX_EVENTS:,}")
+    if len(tokens) > limits.events:
+        raise BadInput(f"too many events: the limit of events is {limits.events:,}")
     events: list[Event] = []
     for number, token in enumerate(tokens, 1):
         if number % EVENTS_BETWEEN_STEPS == 0 and progress is not None:

@@ -44,7 +44,7 @@ class JepsenHistory:
 
     workload: str | None
     times: Times
-    tally: LogTally = field(default_factory=lambda: LogTally(by_values=True))
+    tally: LogTally
     transactions: list[LogTransaction] = field(default_factory=list)
     lists: list[SeenList] = field(default_factory=list)
 

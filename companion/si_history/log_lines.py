@@ -10,8 +10,8 @@ from typing import BinaryIO, NoReturn
 from si_history.errors import BadInput, quoted
 from si_history.header import BadHeader, Header, header_of, is_header
 from si_history.header import FIELDS as HEADER_FIELDS
-from si_history.history import MAX_BYTES, MAX_EVENTS
 from si_history.keys import Key, NoKey, key_of
+from si_history.limits import STANDARD, Limits
 from si_history.operations import RangeOperation
 from si_history.policy import Policy
 from si_history.progress import Progress
@@ -26,13 +26,18 @@ BLANKS = " \t\r\n"
 LEAST_BYTES_LISTED = 4
 
 
+def most_bytes(limits: Limits) -> int:
+    """How many bytes a log may have whose history has these limits."""
+    return max(MAX_LOG_BYTES, limits.bytes)
+
+
 class Unused(ValueError):
     """JSON, or what Python takes for it, that no log has."""
 
 
 @dataclass
 class LogTally:
-    """What is kept over all lines of a log: its header, the keys, and how large the history grows.
+    """What is kept over all lines of a log: the limits of the history, the header, the keys, and how large the history grows.
 
     `keys` has each key's first line. Keys keep the order in which the log names them first. `by_values` is whether versions
     are named by values. `first_range` is the line of the first range. `misspelt` has the first line of each field that looks
@@ -46,6 +51,7 @@ class LogTally:
     misspelt: dict[str, tuple[int, str]] = field(default_factory=dict)
     events: int = 0
     listed: int = 0
+    limits: Limits = STANDARD
 
     def take_header(self, line: LogLine, policy: Policy) -> None:
         """Takes the header, which the first line may be, beside what the command line says. Raises BadInput."""
@@ -73,14 +79,14 @@ class LogTally:
     def count(self, events: int, line: int) -> None:
         """Counts events of the history. Raises BadInput where they pass the limit."""
         self.events += events
-        if self.events > MAX_EVENTS:
-            raise BadInput(f"too many events: the limit of events of a history is {MAX_EVENTS:,}", line=line)
+        if self.events > self.limits.events:
+            raise BadInput(f"too many events: the limit of events of a history is {self.limits.events:,}, which --max-events changes", line=line)
 
     def count_listed(self, listed: int, line: int) -> None:
         """Counts listed keys. Raises BadInput where no text within the limit of bytes can hold them."""
         self.listed += listed
-        if self.listed * LEAST_BYTES_LISTED > MAX_BYTES:
-            raise BadInput(f"text too long: the limit of bytes of a history is {MAX_BYTES:,}", line=line)
+        if self.listed * LEAST_BYTES_LISTED > self.limits.bytes:
+            raise BadInput(f"text too long: the limit of bytes of a history is {self.limits.bytes:,}, which --max-bytes changes", line=line)
 
 
 @dataclass(slots=True)
@@ -215,7 +221,7 @@ def log_lines(log: BinaryIO, tally: LogTally, what: str, policy: Policy) -> Iter
     """The lines of a log behind its header; `what` is what a line tells of, in the plural, for the person who waits."""
     tally.by_values = bool(policy.by_values)
     decoder = json.JSONDecoder(object_pairs_hook=_object_of, parse_constant=_no_constant)
-    left = MAX_LOG_BYTES
+    most = left = most_bytes(policy.limits)
     number = 0
     with Progress(f"{what} read") as progress:
         while content := log.readline(min(left, MAX_LINE_BYTES) + 1):
@@ -224,7 +230,7 @@ def log_lines(log: BinaryIO, tally: LogTally, what: str, policy: Policy) -> Iter
             if len(content) > MAX_LINE_BYTES:
                 raise BadInput(f"too long: the limit of bytes of a line is {MAX_LINE_BYTES:,}", line=number)
             if left < 0:
-                raise BadInput(f"log too long: the limit of bytes of a log is {MAX_LOG_BYTES:,}", line=number)
+                raise BadInput(f"log too long: the limit of bytes of a log is {most:,}", line=number)
             if number % LINES_BETWEEN_STEPS == 0:
                 progress.step(number)
             line = LogLine(number, _fields_of(content, number, decoder), tally)

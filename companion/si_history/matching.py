@@ -7,7 +7,8 @@ from collections.abc import Iterable
 from si_history.errors import in_source
 from si_history.facts import Facts, mismatch, version_seen
 from si_history.files import read_text, source_name
-from si_history.history import MAX_BYTES, Event, RangeRead, parse
+from si_history.history import Event, RangeRead, parse
+from si_history.limits import GREATEST
 from si_history.naming import Names
 from si_history.progress import Progress
 from si_history.report import BadRead, Placed, Reason, Report, Started, Unexplained, Version
@@ -16,9 +17,9 @@ from si_history.report import BadRead, Placed, Reason, Report, Started, Unexplai
 def read_history(path: str, names: Names) -> Facts:
     """What the history in a file says. Raises BadInput where it is none, or not the one that the names are of."""
     with in_source(source_name(path)), Progress("events of the history") as progress:
-        text = read_text(path, MAX_BYTES)
+        text = read_text(path, GREATEST.bytes)
         names.check_history(text.encode())
-        return Facts(parse(text, progress))
+        return Facts(parse(text, progress, GREATEST))
 
 
 def check_report(report: Report, facts: Facts) -> None:

@@ -18,7 +18,7 @@ from si_history.log_kinds import LogKind
 from si_history.log_of_events import EventsWriter
 from si_history.minimizer import LEVEL, AuditorFailed, Minimal, audited_events, minimal
 from si_history.naming import Names
-from si_history.policy import add_policy_arguments, policy_of
+from si_history.policy import Policy, add_policy_arguments, policy_of
 from si_history.wanted import NAMES, first_found, wanted_of
 from si_history.wording import counted
 
@@ -74,7 +74,7 @@ def run(arguments: argparse.Namespace) -> int:
         check_output(output, [arguments.log, *outputs[at + 1 :]])
     kind = None if arguments.kind is None else LogKind(arguments.kind)
     auditor = auditor_of(arguments)
-    log = log_of(read_log(arguments.log), source_name(arguments.log), kind, policy_of(arguments))
+    log = log_of(read_log(arguments.log, auditor.limits), source_name(arguments.log), kind, policy_of(arguments))
     for warning in log.warnings:
         write_error(f"si-history: {log.source}: {warning}")
     try:
@@ -99,11 +99,11 @@ class _Small:
         if whole.report is None or whole.facts is None:
             raise AuditorFailed(whole)
         found = first_found(whole.report, whole.facts, name)
-        left = minimal(parse(log.history.decode("ascii")), found, whole.facts, auditor)
+        left = minimal(parse(log.history.decode("ascii"), limits=auditor.limits), found, whole.facts, auditor)
         self.log = EventsWriter(log.legend).log(left.events)
-        self.conversion = convert(io.BytesIO(self.log.encode("utf-8")))
+        self.conversion = convert(io.BytesIO(self.log.encode("utf-8")), Policy(limits=auditor.limits))
         self.events = left.events if log.legend is None else self.conversion.events
-        self.history = text_of(self.events)
+        self.history = text_of(self.events, auditor.limits)
         self.legend = self.conversion.legend.to_json(self.history.encode("ascii"))
         self.finding = _finding(left, self.events, None if log.legend is None else self.conversion, auditor)
         self._sizes = [_size(whole), _size(left.run)]

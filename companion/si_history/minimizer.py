@@ -42,7 +42,7 @@ class Minimal:
 
 def audited_events(events: Sequence[Event], legend: Legend | None, auditor: Auditor) -> Audited:
     """What the auditor says of a history."""
-    log = Log("the smaller history", LogKind.HISTORY, text_of(events).encode("ascii"), legend)
+    log = Log("the smaller history", LogKind.HISTORY, text_of(events, auditor.limits).encode("ascii"), legend)
     return audited(log, auditor, LEVEL, takes_nothing=True)
 
 

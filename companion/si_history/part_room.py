@@ -2,10 +2,10 @@
 
 from __future__ import annotations
 
-from si_history.history import MAX_BYTES, MAX_EVENTS
+from si_history.limits import STANDARD
 from si_history.long_history import Transaction
 
-LONGEST_PLACE = len(str(MAX_EVENTS))
+LONGEST_PLACE = len(str(STANDARD.events))
 
 
 class PartRoom:
@@ -41,7 +41,7 @@ class PartRoom:
 
     def is_over(self, most_events: int) -> bool:
         """Whether this is more than a part may have."""
-        return self.events + len(self._others) > most_events or self.size > MAX_BYTES
+        return self.events + len(self._others) > most_events or self.size > STANDARD.bytes
 
     def _count(self, events: int, size: int) -> None:
         self.events += events

@@ -6,6 +6,7 @@ import argparse
 from dataclasses import dataclass
 
 from si_history.header import UNIQUE, WRITERS
+from si_history.limits import STANDARD, Limits, limits_of
 
 REFUSE, AS_OPEN, AS_BAD = "refuse", "as-open", "as-bad"
 
@@ -14,13 +15,14 @@ REFUSE, AS_OPEN, AS_BAD = "refuse", "as-open", "as-bad"
 class Policy:
     """What passes. By default nothing does that a history can't say of the log's own transactions.
 
-    `by_values` is None where the command line doesn't say what versions are named by.
+    `by_values` is None where the command line doesn't say what versions are named by. `limits` are those of the history.
     """
 
     by_values: bool | None = None
     takes_unknown_values: bool = False
     takes_unknown_writers: bool = False
     takes_intermediate: bool = False
+    limits: Limits = STANDARD
 
 
 STRICT = Policy()
@@ -71,4 +73,5 @@ def policy_of(arguments: argparse.Namespace) -> Policy:
         getattr(arguments, "unknown_values", REFUSE) == AS_OPEN,
         getattr(arguments, "unknown_writer", REFUSE) == AS_OPEN,
         getattr(arguments, "intermediate", REFUSE) == AS_BAD,
+        limits_of(arguments),
     )

@@ -12,6 +12,7 @@ from si_history.auditor import BAD_COMMAND_LINE, FALLS_SHORT, FAULT, MEETS, Audi
 from si_history.document import html
 from si_history.errors import BadInput
 from si_history.findings import groups_of
+from si_history.limits import Limits
 from si_history.log_kinds import LogKind
 from si_history.naming import shown
 from si_history.policy import STRICT, Policy
@@ -56,8 +57,8 @@ class Row:
 def audit_run(job: Job) -> Row:
     """Audits one run. Whatever goes wrong with it is told in its row."""
     try:
-        auditor = _auditor(job.auditor, job.memory)
-        content = read_log(job.path) if job.content is None else job.content
+        auditor = _auditor(job.auditor, job.memory, job.policy.limits)
+        content = read_log(job.path, job.policy.limits) if job.content is None else job.content
         log = log_of(content, job.name, job.kind, job.policy)
         return _row(job, audited(log, auditor, job.level, job.takes_nothing, MOST_KEPT))
     except BadInput as fault:
@@ -69,9 +70,9 @@ def audit_run(job: Job) -> Row:
 
 
 @lru_cache(maxsize=1)
-def _auditor(path: str | None, memory: int | None) -> Auditor:
+def _auditor(path: str | None, memory: int | None, limits: Limits) -> Auditor:
     """The auditor, which is asked for its version once a process."""
-    return Auditor.found(path, memory)
+    return Auditor.found(path, memory, limits)
 
 
 def _row(job: Job, run: Audited) -> Row:

@@ -1,4 +1,4 @@
-"""`si-history split`: a history that is longer than the auditor takes, cut into parts that have its findings together."""
+"""`si-history split`: a long history, cut into parts that have its findings together."""
 
 from __future__ import annotations
 
@@ -10,8 +10,8 @@ from si_history.conversion import without_collector
 from si_history.endings import endings_of
 from si_history.errors import BadInput, in_source
 from si_history.files import check_output, source_name, write_output
-from si_history.history import MAX_EVENTS
 from si_history.legend import Legend
+from si_history.limits import STANDARD
 from si_history.new_files import NewFiles, new_files
 from si_history.part_text import PartText
 from si_history.progress import Progress
@@ -51,7 +51,7 @@ def register(commands: argparse._SubParsersAction[argparse.ArgumentParser]) -> N
     """Adds the command."""
     parser = commands.add_parser(
         "split",
-        help="the parts of a history that is too long",
+        help="cut a long history into parts",
         description=DESCRIPTION,
         epilog=EPILOG,
         formatter_class=argparse.RawDescriptionHelpFormatter,
@@ -59,7 +59,7 @@ def register(commands: argparse._SubParsersAction[argparse.ArgumentParser]) -> N
     parser.add_argument("history", metavar="HISTORY", help="the text of a history; - is standard input")
     parser.add_argument(
         "--events", metavar="N", type=_events, default=DEFAULT_EVENTS,
-        help=f"how many events a part may have, up to {MAX_EVENTS:,} (default: {DEFAULT_EVENTS:,})",
+        help=f"how many events a part may have, up to {STANDARD.events:,} (default: {DEFAULT_EVENTS:,})",
     )
     parser.add_argument("-o", "--prefix", metavar="PREFIX", required=True, help="what the names of the files start with")
     parser.set_defaults(run=run, writes_history=False)
@@ -67,8 +67,8 @@ def register(commands: argparse._SubParsersAction[argparse.ArgumentParser]) -> N
 
 def _events(word: str) -> int:
     """The number of events of a part."""
-    if not (word.isascii() and word.isdigit() and len(word) < 10 and 1 <= int(word) <= MAX_EVENTS):
-        raise argparse.ArgumentTypeError(f"it is no number from 1 to {MAX_EVENTS:,}: {word}")
+    if not (word.isascii() and word.isdigit() and len(word) < 10 and 1 <= int(word) <= STANDARD.events):
+        raise argparse.ArgumentTypeError(f"it is no number from 1 to {STANDARD.events:,}: {word}")
     return int(word)
 
 

@@ -11,7 +11,7 @@ from typing import BinaryIO
 
 from si_history.errors import BadInput
 from si_history.files import opened
-from si_history.history import MAX_BYTES
+from si_history.limits import STANDARD
 
 BYTES_OF_PIECE = 1 << 20
 _TOKEN = re.compile("[^ \t\r\n]+")
@@ -38,8 +38,8 @@ def tokens_of(file: BinaryIO) -> Iterator[str]:
         text = left + piece.decode("latin-1")
         found = _TOKEN.findall(text)
         left = found.pop() if found and text[-1] not in _SEPARATORS else ""
-        if len(left) > MAX_BYTES:
-            raise BadInput(f"an event is too long: the limit of bytes of a part is {MAX_BYTES:,}")
+        if len(left) > STANDARD.bytes:
+            raise BadInput(f"an event is too long: the limit of bytes of a part is {STANDARD.bytes:,}")
         yield from found
     if left:
         yield left

@@ -52,7 +52,7 @@ class TransactionsLog:
 
 def read_transactions_log(file: BinaryIO, policy: Policy = STRICT) -> TransactionsLog:
     """Reads a log of transactions. Raises BadInput at the first line that isn't as it has to be."""
-    tally = LogTally()
+    tally = LogTally(limits=policy.limits)
     transactions: list[LogTransaction] = []
     lines: dict[str, int] = {}
     for line in log_lines(file, tally, "transactions", policy):

@@ -5,7 +5,10 @@ from unittest import mock
 
 from si_history.errors import BadInput
 from si_history.from_events import convert
-from tests.support import converted, history_line, log_of
+from si_history.limits import STANDARD, Limits
+from si_history.log_lines import most_bytes
+from si_history.policy import Policy
+from tests.support import Convert, converted, history_line, log_of
 
 Fields = dict[str, object]
 
@@ -14,6 +17,11 @@ def event(txn: object, op: str, **fields: object) -> Fields:
     """One line of a log; `low` stands for "from", which is a word of Python."""
     named = {"from" if name == "low" else name: value for name, value in fields.items()}
     return {"txn": txn, "op": op, **named}
+
+
+def within(limits: Limits) -> Convert:
+    """The conversion of logs whose histories have these limits."""
+    return lambda file: convert(file, Policy(limits=limits))
 
 
 def history(*lines: object) -> str:
@@ -116,10 +124,10 @@ class LegendTest(unittest.TestCase):
 
 
 class RefusalTest(unittest.TestCase):
-    def refused(self, said: str, *lines: object) -> None:
+    def refused(self, said: str, *lines: object, limits: Limits = STANDARD) -> None:
         """The log is refused with exactly these words, which tell the line."""
         with self.assertRaises(BadInput) as caught:
-            converted(convert, list(lines))
+            converted(within(limits), list(lines))
         self.assertEqual(str(caught.exception), said)
 
     def test_lines_that_are_no_objects(self) -> None:
@@ -220,22 +228,25 @@ class RefusalTest(unittest.TestCase):
     def test_the_limit_of_events(self) -> None:
         lines = [event(name, "abort") for name in range(100_001)]
         self.assertEqual(len(converted(convert, lines[:100_000]).events), 100_000)
-        self.refused("line 100001: too many events: the limit of events of a history is 100,000", *lines)
+        self.refused("line 100001: too many events: the limit of events of a history is 100,000, which --max-events changes", *lines)
+        self.assertEqual(len(converted(within(Limits(events=100_001)), lines).events), 100_001)
+        said = "line 3: too many events: the limit of events of a history is 2, which --max-events changes"
+        self.refused(said, *lines, limits=Limits(events=2))
 
     def test_the_limit_of_bytes(self) -> None:
         lines = [event("A", "range", low=0, to=9, found=[[0, None], [1, None]])] * 3
         # Four bytes at least are taken by each of the six listed keys.
-        with mock.patch("si_history.log_lines.MAX_BYTES", 23):
-            self.refused("line 3: text too long: the limit of bytes of a history is 23", *lines)
-        with mock.patch("si_history.log_lines.MAX_BYTES", 24):
-            self.assertEqual(len(converted(convert, lines).events), 3)
+        said = "line 3: text too long: the limit of bytes of a history is 23, which --max-bytes changes"
+        self.refused(said, *lines, limits=Limits(bytes=23))
+        self.assertEqual(len(converted(within(Limits(bytes=24)), lines).events), 3)
 
     def test_the_limit_of_a_log(self) -> None:
         lines = [event("A", "begin"), event("A", "commit")]
         size = len(log_of(lines))
-        with mock.patch("si_history.log_lines.MAX_LOG_BYTES", size - 1):
+        self.assertEqual((most_bytes(STANDARD), most_bytes(Limits(bytes=1 << 30))), (1 << 28, 1 << 30))
+        with mock.patch("si_history.log_lines.most_bytes", return_value=size - 1):
             self.refused(f"line 2: log too long: the limit of bytes of a log is {size - 1}", *lines)
-        with mock.patch("si_history.log_lines.MAX_LOG_BYTES", size):
+        with mock.patch("si_history.log_lines.most_bytes", return_value=size):
             self.assertEqual(len(converted(convert, lines).events), 2)
 
     def test_a_name_in_a_message_is_one_short_line(self) -> None:

@@ -9,6 +9,7 @@ from unittest import mock
 from si_history.errors import BadInput
 from si_history.from_jepsen import convert
 from si_history.jepsen import Times
+from si_history.limits import STANDARD, Limits
 from si_history.policy import STRICT, Policy
 from tests.support import history_line
 
@@ -109,10 +110,10 @@ class HistoryTest(unittest.TestCase):
 
 
 class RefusalTest(unittest.TestCase):
-    def refused(self, said: str, *lines: str) -> None:
+    def refused(self, said: str, *lines: str, limits: Limits = STANDARD) -> None:
         """The history is refused with exactly these words, which tell the line."""
         with self.assertRaises(BadInput) as caught:
-            convert(io.BytesIO("\n".join(lines).encode()))
+            convert(io.BytesIO("\n".join(lines).encode()), Policy(limits=limits))
         self.assertEqual(str(caught.exception), said)
 
     def test_operations(self) -> None:
@@ -182,11 +183,11 @@ class RefusalTest(unittest.TestCase):
 
     def test_the_limits(self) -> None:
         text = "\n".join([ok(0, 1, 2, "[:w 1 1]"), ok(0, 3, 4, "[:w 1 2]")])
-        with mock.patch("si_history.from_jepsen.MAX_LOG_BYTES", len(text) - 1):
+        with mock.patch("si_history.from_jepsen.most_bytes", return_value=len(text) - 1):
             self.refused(f"line 2: log too long: the limit of bytes of a log is {len(text) - 1}", text)
         unknown = "{:process 0 :type :info :f :txn :value [[:w 1 1]] :start-ts 1}"
-        with mock.patch("si_history.log_lines.MAX_EVENTS", 5):
-            self.refused("line 1: too many events: the limit of events of a history is 5", unknown, ok(0, 2, 2, "[:r 1 1]"))
+        said = "line 1: too many events: the limit of events of a history is 5, which --max-events changes"
+        self.refused(said, unknown, ok(0, 2, 2, "[:r 1 1]"), limits=Limits(events=5))
 
     def test_not_utf_8(self) -> None:
         with self.assertRaises(BadInput) as caught:

@@ -215,7 +215,7 @@ class RefusalTest(unittest.TestCase):
         lines = [txn(n, n, n + 1, *[["w", n]] * 4) for n in range(16_666)]
         self.assertEqual(len(converted(convert, [*lines, txn("X", 1, None, *[["w", 1]] * 3)]).events), 100_000)
         self.refused(
-            "line 16667: too many events: the limit of events of a history is 100,000",
+            "line 16667: too many events: the limit of events of a history is 100,000, which --max-events changes",
             *lines, txn("X", 1, None, *[["w", 1]] * 3, aborted=True),
         )
 

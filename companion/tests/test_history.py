@@ -4,6 +4,7 @@ import unittest
 
 from si_history.errors import BadInput
 from si_history.history import Abort, Begin, Commit, RangeRead, Read, Write, parse, text_of
+from si_history.limits import Limits
 
 FORMS = [
     ("b1", Begin(1)),
@@ -59,6 +60,13 @@ class HistoryTest(unittest.TestCase):
         long = RangeRead(1, 0, 2**64 - 1, tuple((2**64 - 1 - below, 4_294_967_295) for below in range(524_288, 0, -1)))
         with self.assertRaisesRegex(BadInput, "limit of bytes is 16,777,216"):
             text_of([long])
+        few = Limits(2, 9)
+        self.assertEqual(text_of(parse("w1[1] c1", limits=few), few), "w1[1]\nc1\n")
+        for text, said in (("b1 c1 c2", "limit of events is 2"), ("w1[10] c1 ", "limit of bytes is 9")):
+            with self.assertRaisesRegex(BadInput, said):
+                parse(text, limits=few)
+            with self.assertRaisesRegex(BadInput, said):
+                text_of(parse(text), few)
 
 
 if __name__ == "__main__":

@@ -20,6 +20,7 @@ from si_history.cli import make_parser
 from si_history.endings import Ending, endings_of
 from si_history.errors import BadInput
 from si_history.legend import Legend
+from si_history.limits import Limits
 from si_history.number_set import NumberSet
 from si_history.part_text import PartText
 from si_history.sorted_keys import MOST_IN_RUN, SortedKeys
@@ -263,7 +264,7 @@ class CutTest(unittest.TestCase):
 
     def test_bytes(self) -> None:
         """No part is longer than a text may be."""
-        with mock.patch("si_history.part_room.MAX_BYTES", 400):
+        with mock.patch("si_history.part_room.STANDARD", Limits(bytes=400)):
             for text, most in runs(RUNS // 4):
                 try:
                     parts = split(text, most)

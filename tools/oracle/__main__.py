@@ -2,12 +2,13 @@
 
     PYTHONPATH=tools python3 -m oracle PROGRAM [--seed N] [KIND=COUNT ...]
 
-COUNT texts of each KIND go through the program: small, crowd, versions, ranges, rings, edges, most_edges. With no KIND
-it is small=1000. A small text is given once, with some number of workers and a few cuts, which must not show; a larger one
-with 1, 2, 3, 7 and 64 workers, each time with 0 to 63 cuts. Of these runs some ask for the brief report, and some check
-another level. Each text is given once more, for the explained report. A line for each kind tells how many texts and runs
-there were, and how many explained reports show what. The first text that tells the program and the definitions apart is kept
-as out/differs.history, with both reports beside it, and the status is then 1. The last line is 'N passed, M failed'.
+COUNT texts of each KIND go through the program: small, crowd, versions, ranges, rings, edges, most_edges. With no KIND it is
+small=1000. A small text is given once, with some number of workers and a few cuts, which must not show; a larger one with 1,
+2, 3, 7 and 64 workers, each time with 0 to 63 cuts. Of these runs some ask for the brief report, and some check another
+level. Some texts are read under limits that they just meet, or miss by one. Each text is given once more, for the explained
+report. A line for each kind tells how many texts and runs there were, and how many explained reports show what. The first
+text that tells the program and the definitions apart is kept as out/differs.history, with both reports beside it, and the
+status is then 1. The last line is 'N passed, M failed'.
 """
 
 import shutil
@@ -20,7 +21,7 @@ from oracle import larger, small, taking, trying
 from oracle.account import Account
 from oracle.events import Event
 from oracle.reading import Refusal, read
-from oracle.runs import Case, Line, command_lines
+from oracle.runs import Case, Line, command_lines, some_limits
 from oracle.tally import Tally
 
 SMALL = "small"
@@ -46,7 +47,7 @@ def difference(program: str, line: Line, case: Case) -> str:
     """Tells where a run differs from what is wanted, or answers an empty text."""
     wanted, status = case.wanted(line)
     try:
-        ran = subprocess.run([program, *line.words], input=case.text, capture_output=True, timeout=SECONDS)
+        ran = subprocess.run([program, *case.limits.words, *line.words], input=case.text, capture_output=True, timeout=SECONDS)
         ended, report = f"status {ran.returncode}, and {ran.stderr!r} on standard error", ran.stdout
         if (ran.stdout, ran.stderr, ran.returncode) == (wanted, b"", status):
             return ""
@@ -55,15 +56,16 @@ def difference(program: str, line: Line, case: Case) -> str:
     ROOM.mkdir(exist_ok=True)
     for name, it in (("history", case.text), ("program", report), ("definitions", wanted)):
         (ROOM / f"differs.{name}").write_bytes(it)
-    return f"{' '.join(line.words)}: {ended}, and by the definitions status {status}; see {ROOM}/differs.*"
+    return f"{' '.join([*case.limits.words, *line.words])}: {ended}, and by the definitions status {status}; see {ROOM}/differs.*"
 
 
 def compare(program: str, kind: str, rng: Random, tally: Tally) -> str:
     """Makes a text and tells where the program and the definitions differ on it, or answers an empty text."""
     text = text_of(kind, rng)
-    events = read(text)
+    limits = some_limits(rng, text)
+    events = read(text, limits)
     try:
-        case = Case(text, events, judged(kind, events))
+        case = Case(text, events, judged(kind, events), limits)
     except taking.Disagreement as why:
         return f"the definitions disagree on {text.decode()}: {why}"
     for line in command_lines(rng, events, kind == SMALL):

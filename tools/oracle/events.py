@@ -4,7 +4,6 @@ import re
 from dataclasses import dataclass, field
 from enum import Enum
 
-MAX_EVENTS = 100_000
 MAX_TXN = 2**32 - 1
 MAX_KEY = 2**64 - 1
 

@@ -4,11 +4,27 @@ import re
 from dataclasses import dataclass, field
 
 from oracle.account import bytes_of
-from oracle.events import MAX_EVENTS, Event, Form, event_of
+from oracle.events import Event, Form, event_of
 
-MAX_BYTES = 16_777_216
 TOKEN = re.compile(rb"[^ \t\r\n]+")
 MOST_SHOWN = 60
+
+
+@dataclass(frozen=True)
+class Limits:
+    """How many events and bytes a text may have."""
+
+    events: int = 100_000
+    bytes: int = 16_777_216
+
+    @property
+    def words(self) -> list[str]:
+        """The options that name them, where they aren't the standard ones."""
+        return [] if self == STANDARD else ["--max-events", str(self.events), "--max-bytes", str(self.bytes)]
+
+
+STANDARD = Limits()
+GREATEST = Limits(500_000_000, 17_179_869_184)
 
 
 @dataclass(frozen=True)
@@ -26,8 +42,10 @@ class Refusal:
 
 @dataclass
 class Reader:
-    """The events so far, and what the rules ask of them: who has an event, who has ended, and who wrote what."""
+    """The events so far, and what the rules ask of them: how many there may be, who has an event, who has ended, and who wrote
+    what."""
 
+    most: int = STANDARD.events
     events: list[Event] = field(default_factory=list)
     known: set[int] = field(default_factory=set)
     ended: set[int] = field(default_factory=set)
@@ -35,7 +53,7 @@ class Reader:
 
     def reason(self, event: Event | None) -> str | None:
         """Why a token of this event can't come next, where it can't."""
-        if len(self.events) == MAX_EVENTS:
+        if len(self.events) == self.most:
             return "too many events"
         if event is None:
             return "bad event"
@@ -72,11 +90,11 @@ def is_good_list(event: Event) -> bool:
     return is_within and all(left < right for left, right in zip(keys, keys[1:]))
 
 
-def read(text: bytes) -> list[Event] | Refusal:
+def read(text: bytes, limits: Limits = STANDARD) -> list[Event] | Refusal:
     """The events of a text, or its refusal."""
-    if len(text) > MAX_BYTES:
+    if len(text) > limits.bytes:
         return Refusal("refused: text too long")
-    reader = Reader()
+    reader = Reader(limits.events)
     for number, found in enumerate(TOKEN.finditer(text), 1):
         event = event_of(found[0])
         reason = reader.reason(event)

@@ -8,7 +8,7 @@ from random import Random
 from oracle import explaining
 from oracle.account import LEVELS, SERIALIZABLE, Account
 from oracle.events import MAX_KEY, Event
-from oracle.reading import Refusal
+from oracle.reading import GREATEST, STANDARD, TOKEN, Limits, Refusal
 
 WORKERS = (1, 2, 3, 7, 64)
 REFUSED = 3
@@ -67,13 +67,23 @@ def explained_line(rng: Random, line: Line) -> Line:
     return Line(rng.choice(WORKERS), line.cuts, rng.choice(EXPLAINED), rng.choice(LEVELS))
 
 
+def some_limits(rng: Random, text: bytes) -> Limits:
+    """Mostly the standard limits; else some that the text just meets, or misses by one, or the greatest."""
+    if rng.random() < 0.7:
+        return STANDARD
+    events, size = (max(1, count + rng.choice((-1, 0, 1))) for count in (len(TOKEN.findall(text)), len(text)))
+    return rng.choice((Limits(events=events), Limits(bytes=size), Limits(events, size), GREATEST))
+
+
 @dataclass(frozen=True)
 class Case:
-    """A text, its events, and what the definitions say of them; or in the place of both the text's refusal."""
+    """A text, its events, and what the definitions say of them; or in the place of both the text's refusal. The text is read
+    under some limits."""
 
     text: bytes
     events: list[Event] | Refusal
     answer: Account | Refusal
+    limits: Limits = STANDARD
 
     @cached_property
     def explained(self) -> bytes:

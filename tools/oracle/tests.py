@@ -14,7 +14,7 @@ import hard
 from oracle import explaining, larger, narrow, small, taking, trying
 from oracle.account import LEVELS, RW, SERIALIZABLE, WR, WW, Account, Edge
 from oracle.events import Event
-from oracle.reading import Refusal, read
+from oracle.reading import GREATEST, Limits, Refusal, read
 from oracle.runs import Case, Form, Line
 from oracle.tables import Tables
 from oracle.tally import REASONS, shapes_of
@@ -208,6 +208,15 @@ class Refusals(unittest.TestCase):
         self.assertEqual(len(events_of(text)), 100_000)
         refusal = refusal_of(f"{text}x".encode())
         self.assertEqual(refusal, Refusal("refused: token 100001: too many events", "line 1, column 800001: x"))
+
+    def test_other_limits(self) -> None:
+        """A limit is met by as much as it says, and missed by one more; the length of the text is judged first."""
+        text = b"w1[1]\nc1 x"
+        self.assertEqual(read(text, Limits(1, 10)), Refusal("refused: token 2: too many events", "line 2, column 1: c1"))
+        self.assertEqual(read(text, Limits(2, 10)), Refusal("refused: token 3: too many events", "line 2, column 4: x"))
+        self.assertEqual(read(text, GREATEST), Refusal("refused: token 3: bad event", "line 2, column 4: x"))
+        self.assertEqual(read(text, Limits(1, 9)), Refusal("refused: text too long"))
+        self.assertEqual(read(b"r1[1:0] " * 100_001, Limits(100_001)), events_of("r1[1:0] " * 100_000) + events_of("r1[1:0]"))
 
 
 class Explained(unittest.TestCase):

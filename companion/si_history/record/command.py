@@ -12,7 +12,8 @@ from functools import partial
 from si_history import from_events
 from si_history.errors import BadInput
 from si_history.files import OUTPUT_DEVICE, STANDARD_OUTPUT, check_output, read_text, write_output
-from si_history.history import MAX_BYTES, text_of
+from si_history.history import text_of
+from si_history.limits import STANDARD
 from si_history.record import mariadb, postgres, signals
 from si_history.record.driver import Settings, run as run_transactions, watched
 from si_history.record.kinds import KINDS
@@ -127,7 +128,7 @@ def run(arguments: argparse.Namespace) -> int:
 
 def _script(path: str) -> Script:
     """The script of a file. Raises BadInput where it is none, or takes more sessions than there can be."""
-    script = read_script(read_text(path, MAX_BYTES))
+    script = read_script(read_text(path, STANDARD.bytes))
     if script.sessions > MOST_SESSIONS:
         raise BadInput(f"the script takes {script.sessions} sessions, and the most are {MOST_SESSIONS}")
     return script

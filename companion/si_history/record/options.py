@@ -5,7 +5,7 @@ from __future__ import annotations
 import argparse
 from collections.abc import Callable, Mapping
 
-from si_history.history import MAX_EVENTS
+from si_history.limits import STANDARD
 from si_history.record.local import Kind
 from si_history.record.workloads import MOST_EVENTS, Rows, Workload
 
@@ -22,9 +22,9 @@ ranges, write one; readers: only read them; general: all of these, and some roll
 def add_common(parser: argparse.ArgumentParser, workload: Workload) -> None:
     """Adds what all databases take."""
     size = parser.add_mutually_exclusive_group()
-    size.add_argument("--transactions", type=number(1, MAX_EVENTS // MOST_EVENTS), metavar="N",
+    size.add_argument("--transactions", type=number(1, STANDARD.events // MOST_EVENTS), metavar="N",
                       help="how many transactions begin (300)")
-    size.add_argument("--events", type=number(1, MAX_EVENTS - MOST_SESSIONS * MOST_EVENTS), metavar="N",
+    size.add_argument("--events", type=number(1, STANDARD.events - MOST_SESSIONS * MOST_EVENTS), metavar="N",
                       help="instead: begin none any more once N events are recorded")
     size.add_argument("--script", metavar="HISTORY",
                       help="instead: play the events of a history, one after another; - is standard input")
