@@ -5,6 +5,7 @@
 The history goes to standard output as it is made, an event a line, and has exactly EVENTS events. There is a key for each ten
 events, and eight transactions run at once, each of one to five operations. KIND is `even`, where three of five operations read a
 key and the others write one, or `ranges`, where a quarter reads a range of fifty keys, a quarter reads a key, and half write one.
+Of `ranges` the first tenth loads the store: each key is written, in their order, a hundred by a transaction.
 
 NAME is one of PLANTS in planting.py, such as stale-read. The files get the lines that a brief and an explained report have to start
 with: all up to the line `ssi`. The same words give the same text.
@@ -26,6 +27,7 @@ HERE = Path(__file__).resolve().parent
 AT_ONCE = 8
 MOST_OPERATIONS = 5
 RANGE = 50
+LOADED_AT_ONCE = 100
 LEAST_EVENTS = 1_000
 """A history with fewer has no room for anomalies, and one has at most a hundredth of its events as many."""
 Act = Callable[[Store, Transaction, Callable[[], float]], object]
@@ -51,6 +53,8 @@ def ranges(store: Store, txn: Transaction, draw: Callable[[], float]) -> None:
 
 
 KINDS: dict[str, Act] = {"even": even, "ranges": ranges}
+LOADED = ("ranges",)
+"""In these each key is written first."""
 
 
 @dataclass(slots=True)
@@ -71,6 +75,7 @@ class Schedule:
         self.found = Found()
         self._act, self._draw = KINDS[kind], rng.random
         self._events = events
+        self._loaded = events // 10 if kind in LOADED else 0
         # The places before which nothing is planted, the greatest first.
         places = sorted((rng.randrange(events // 10, events * 9 // 10) for _ in plants), reverse=True)
         self._plants = [(place, PLANTS[name]) for place, name in zip(places, rng.sample(plants, len(plants)))]
@@ -78,6 +83,7 @@ class Schedule:
     def run(self) -> None:
         """Writes the whole history."""
         store, slots = self.store, dict[int, Slot]()
+        self._load()
         while self._room() >= 2:
             if self._plants and store.place >= self._plants[-1][0]:
                 self._plant()
@@ -91,6 +97,14 @@ class Schedule:
         for slot in slots.values():
             store.end(slot.txn)
         store.flush()
+
+    def _load(self) -> None:
+        """Writes the keys that are loaded, in their order."""
+        for first in range(0, self._loaded, LOADED_AT_ONCE):
+            txn = self.store.start()
+            for key in range(first, min(first + LOADED_AT_ONCE, self._loaded)):
+                self.store.write(txn, key)
+            self.store.end(txn)
 
     def _room(self) -> int:
         """How many events there may still be beside the ends of open transactions."""

@@ -41,6 +41,12 @@ class LengthTest(unittest.TestCase):
                     schedule, text = made(kind, count)
                     self.assertEqual((text.count("\n"), schedule.store.place), (count, count))
 
+    def test_the_store_is_loaded_first(self) -> None:
+        tokens = made("ranges", 2_000)[1].split()
+        written = [token for token in tokens[:202] if token.startswith("w")]
+        self.assertEqual(written, [f"w{1 + key // 100}[{key}]" for key in range(200)])
+        self.assertFalse(made("even", 2_000)[1].startswith("w1[0]"))
+
     def test_the_same_words_give_the_same_text(self) -> None:
         self.assertEqual(made("even", 2_000, 5, ["stale-read"])[1], made("even", 2_000, 5, ["stale-read"])[1])
         self.assertNotEqual(made("even", 2_000, 5)[1], made("even", 2_000, 6)[1])
