@@ -152,42 +152,28 @@ impl Draft {
         }
     }
 
-    fn is_key(&self, number: u32, name: Key) -> bool
-        ensures { result ≡ true → slice_get self.now.tables.keys.items number ≡ Some name }
-    {
-        self.tables.keys.get(number as usize).copied() == Some(name)
-    }
-
-    /// The number of the key, if it was read, listed or written.
-    pub(crate) fn find_key(&self, name: Key) -> Option<u32>
+    /// The number of the key, if it was read, listed or written. It may well be the guess.
+    #[inline(always)]
+    pub(crate) fn find_key(&self, guess: u32, name: Key) -> Option<u32>
         ensures some { IfSome result (λ n. slice_get self.now.tables.keys.items n ≡ Some name) }
         ensures none { AreFound self.now → IfNone result (IsNew self.now.tables.keys.items name) }
     {
+        if self.tables.keys.get(guess as usize).copied() == Some(name) {
+            return Some(guess);
+        }
         self.keys.find(&self.tables.keys, name)
     }
 
-    fn key(&mut self, name: Key) -> Result<u32, AllocError>
+    #[inline(always)]
+    fn key(&mut self, guess: u32, name: Key) -> Result<u32, AllocError>
         requires { AreFound self.old }
         ensures found { OnOk result (AreFound self.new) }
         ensures has { IfOk result (λ n. HasKey self.old.tables self.new.tables name n) }
     {
-        match self.find_key(name) {
+        match self.find_key(guess, name) {
             Some(number) => Ok(number),
             None => self.new_key(name),
         }
-    }
-
-    /// The number of the key, which may well be the guess.
-    #[inline(always)]
-    fn key_near(&mut self, guess: u32, name: Key) -> Result<u32, AllocError>
-        requires { AreFound self.old }
-        ensures found { OnOk result (AreFound self.new) }
-        ensures has { IfOk result (λ n. HasKey self.old.tables self.new.tables name n) }
-    {
-        if self.is_key(guess, name) {
-            return Ok(guess);
-        }
-        self.key(name)
     }
 
     fn new_key(&mut self, name: Key) -> Result<u32, AllocError>
@@ -284,7 +270,7 @@ impl Draft {
         ensures { Takes self.old self.new (an_event.Read txn key saw) result }
     {
         let txn = self.actor(txn)?;
-        let key = self.key(key)?;
+        let key = self.key(NO_KEY, key)?;
         let Some(saw) = self.seen(key, saw) else {
             return Err(Refusal::Bad(Reason::NotWritten));
         };
@@ -310,6 +296,7 @@ impl Draft {
         lo: Key,
         hi: Key,
         listed: &[(Key, Version)],
+        guesses: &[u32],
     ) -> Result<(), Refusal>
         requires { CanTake self.old }
         ensures { Takes self.old self.new (an_event.Range txn lo hi listed.now) result }
@@ -322,7 +309,7 @@ impl Draft {
             return Err(Refusal::Bad(Reason::BadList));
         }
         let from = self.tables.pairs.len();
-        self.list(listed)?;
+        self.list(listed, guesses)?;
         let to = self.tables.pairs.len();
         let range = self.tables.ranges.len();
         if range >= MOST_ROWS {
@@ -343,28 +330,28 @@ impl Draft {
         Ok(())
     }
 
-    /// Takes in the listed pairs. Mostly the keys were numbered in the order in which they are listed.
-    fn list(&mut self, listed: &[(Key, Version)]) -> Result<(), Refusal>
+    /// Takes in the listed pairs, by guesses of the numbers of their keys.
+    fn list(&mut self, listed: &[(Key, Version)], guesses: &[u32]) -> Result<(), Refusal>
         requires { AreFound self.old }
         ensures found { OnOk result (AreFound self.new) }
         ensures lists { OnOk result (Lists self.old.tables self.new.tables listed.now) }
         ensures refused { IfErr result (StopsListing self.old self.new listed.now) }
     {
-        let mut near = u32::MAX;
+        let mut guesses = guesses.iter();
         for (key, saw) in listed {
-            near = self.list_one(near, *key, *saw)?;
+            let guess = guesses.next().copied().unwrap_or(NO_KEY);
+            self.list_one(guess, *key, *saw)?;
         }
         Ok(())
     }
 
-    /// Takes in a listed pair, and answers the number of the key that may well be listed next.
-    fn list_one(&mut self, near: u32, key: Key, saw: Version) -> Result<u32, Refusal>
+    fn list_one(&mut self, guess: u32, key: Key, saw: Version) -> Result<(), Refusal>
         requires { AreFound self.old }
         ensures found { OnOk result (AreFound self.new) }
         ensures lists { OnOk result (ListsOne self.old.tables self.new.tables key saw) }
         ensures refused { IfErr result (StopsAtPair self.old self.new key saw) }
     {
-        let number = self.key_near(near, key)?;
+        let number = self.key(guess, key)?;
         let Some(write) = self.seen(number, saw) else {
             return Err(Refusal::Bad(Reason::NotWritten));
         };
@@ -372,7 +359,7 @@ impl Draft {
             return Err(Refusal::NoMemory);
         }
         self.tables.pairs.push(pair_number(number, write))?;
-        Ok(number.wrapping_add(1))
+        Ok(())
     }
 
     #[tactic(auto, unfolding(crate::specs::Drafts::Takes))]
@@ -381,7 +368,7 @@ impl Draft {
         ensures { Takes self.old self.new (an_event.Write txn key) result }
     {
         let txn = self.actor(txn)?;
-        let key = self.key(key)?;
+        let key = self.key(NO_KEY, key)?;
         let write = self.first_write(txn, key)?;
         self.tables.events.push(Row::Write { txn, key, write })?;
         Ok(())
@@ -447,3 +434,6 @@ impl Draft {
 
 /// No more pairs are listed.
 const MOST_PAIRS: usize = 2_147_483_648;
+
+/// No key has this number.
+pub(crate) const NO_KEY: u32 = u32::MAX;

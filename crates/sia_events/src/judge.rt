@@ -64,7 +64,10 @@ impl Judge {
         match token {
             Token::Begin { txn, start } => self.draft.begin(txn, start),
             Token::Read { txn, key, saw } => self.draft.read(txn, key, saw),
-            Token::Range { txn, lo, hi } => self.draft.range(txn, lo, hi, &self.listing.pairs),
+            Token::Range { txn, lo, hi } => {
+                let guesses = &self.listing.spellings.numbers;
+                self.draft.range(txn, lo, hi, &self.listing.pairs, guesses)
+            }
             Token::Write { txn, key } => self.draft.write(txn, key),
             Token::Commit { txn } => self.draft.commit(txn),
             Token::Abort { txn } => self.draft.abort(txn),

@@ -2,7 +2,7 @@
 ghost use Rattle.std.specs.Prelude.{◌≡◌, ◌<◌, ◌≤◌, ℕ, Some, Ok, length, take, slice_index, IfOk, IfSome};
 ghost use Rattle.sia_events.specs.Parsing.{Gives, pair_at, SpellsPair};
 
-use crate::draft::Draft;
+use crate::draft::{Draft, NO_KEY};
 use crate::event::{Key, Version};
 use crate::fault::Refusal;
 use crate::token::pair;
@@ -11,9 +11,6 @@ use std::simd::prelude::*;
 
 /// No longer spelling is kept.
 const BLOCK: usize = 16;
-
-/// So many keys have one.
-const MOST_KEYS: u32 = 65_536;
 
 /// Bytes that spell a listed pair.
 #[derive(Clone, Copy)]
@@ -26,11 +23,13 @@ struct Spelling {
     ghost spells: { SpellsPair (take len bytes) key saw },
 }
 
-/// By the number of a key, how it was listed last; and the number of the key that may well be listed next.
+/// By the number of a key, how it was listed last, and the number of the key that was listed behind it.
 #[derive(Drop)]
 pub(crate) struct Spellings {
     rows: Vec<Spelling>,
-    next: u32,
+    behind: Vec<u32>,
+    /// The numbers of the keys that are listed so far.
+    pub(crate) numbers: Vec<u32>,
 }
 
 /// The same of fewer bytes than a block's.
@@ -86,13 +85,7 @@ impl Spelling {
         ensures shorter { IfSome result (λ rest. length rest.now ≤ length text.now) }
     {
         let len = self.len as usize;
-        if text.len() <= len {
-            return None;
-        }
-        if same_len(text, &self.bytes) < len {
-            return None;
-        }
-        if text[len].is_ascii_digit() {
+        if text.len() <= len || same_len(text, &self.bytes) < len || text[len].is_ascii_digit() {
             return None;
         }
         Some(&text[len..])
@@ -103,11 +96,12 @@ impl Spellings {
     pub(crate) fn new(alloc: Global) -> Self {
         Spellings {
             rows: Vec::new(alloc),
-            next: u32::MAX,
+            behind: Vec::new(alloc),
+            numbers: Vec::new(alloc),
         }
     }
 
-    /// A listed pair: at once, where it is spelled as the key's last one.
+    /// A listed pair: at once, where the key is the one that is guessed, and is spelled as the last time.
     #[inline(always)]
     pub(crate) fn pair<'a>(
         &mut self,
@@ -117,44 +111,46 @@ impl Spellings {
         ensures gives { Gives (λ x. (x.0, x.1.now)) result (pair_at text.now) }
         ensures shorter { IfOk result (λ x. length x.1.now ≤ length text.now) }
     {
-        if let Some(row) = self.rows.get(self.next as usize) {
+        let last = self.numbers.last().copied().unwrap_or(NO_KEY);
+        let guess = self.behind.get(last as usize).copied().unwrap_or(NO_KEY);
+        if let Some(row) = self.rows.get(guess as usize) {
             if let Some(rest) = row.past(text) {
-                self.next = self.next.wrapping_add(1);
-                return Ok((Some((row.key, row.saw)), rest));
+                let read = Some((row.key, row.saw));
+                self.numbers.push(guess)?;
+                return Ok((read, rest));
             }
         }
-        self.new_pair(draft, text)
-    }
-
-    #[inline(never)]
-    fn new_pair<'a>(
-        &mut self,
-        draft: &Draft,
-        text: &'a [u8],
-    ) -> Result<(Option<(Key, Version)>, &'a [u8]), Refusal>
-        ensures gives { Gives (λ x. (x.0, x.1.now)) result (pair_at text.now) }
-        ensures shorter { IfOk result (λ x. length x.1.now ≤ length text.now) }
-    {
         let (read, rest) = pair(text)?;
+        let mut number = NO_KEY;
         if let Some((key, saw)) = read {
+            number = draft.find_key(guess, key).unwrap_or(NO_KEY);
             let spelled = &text[..text.len() - rest.len()];
-            if let Some(spelling) = Spelling::of(spelled, key, saw) {
-                self.keep(draft.find_key(key).unwrap_or(MOST_KEYS), spelling)?;
-            }
+            self.keep(last, number, Spelling::of(spelled, key, saw))?;
         }
+        self.numbers.push(number)?;
         Ok((read, rest))
     }
 
-    /// Keeps the spelling of the key with the number.
-    fn keep(&mut self, number: u32, spelling: Spelling) -> Result<(), AllocError> {
-        self.next = number.wrapping_add(1);
-        if number >= MOST_KEYS {
+    /// Keeps that the key with the number is listed behind the last one, and how it is spelled.
+    #[inline(never)]
+    fn keep(&mut self, last: u32, number: u32, row: Option<Spelling>) -> Result<(), AllocError> {
+        if number == NO_KEY {
             return Ok(());
         }
-        while self.rows.len() <= number as usize {
-            self.rows.push(spelling)?;
+        for fresh in self.behind.len()..number as usize + 1 {
+            self.behind.push(fresh as u32 + 1)?;
         }
-        self.rows[number as usize] = spelling;
+        if let Some(behind) = self.behind.get_mut(last as usize) {
+            *behind = number;
+        }
+        if let Some(spelling) = row {
+            for _ in self.rows.len()..number as usize + 1 {
+                self.rows.push(spelling)?;
+            }
+            if let Some(row) = self.rows.get_mut(number as usize) {
+                *row = spelling;
+            }
+        }
         Ok(())
     }
 }

@@ -24,7 +24,7 @@ pub(crate) enum Token {
 #[derive(Drop)]
 pub(crate) struct Listing {
     pub(crate) pairs: Vec<(Key, Version)>,
-    spellings: Spellings,
+    pub(crate) spellings: Spellings,
 }
 
 impl Listing {
@@ -105,6 +105,7 @@ fn item(txn: Number, key: Number, text: &[u8]) -> Result<Token, Refusal>
 }
 
 /// A listed key with its version, or None where one of them is out of its range.
+#[inline(never)]
 #[tactic(auto, unfolding(crate::specs::Parsing::pair_at))]
 pub(crate) fn pair(text: &[u8]) -> Result<(Option<(Key, Version)>, &[u8]), Refusal>
     ensures gives { Gives (λ x. (x.0, x.1.now)) result (pair_at text.now) }
@@ -129,6 +130,7 @@ fn pairs<'a>(
     ensures { Gives (λ x. (kept x.0 listed.new.items, x.1.now)) result (pairs_at text.now) }
 {
     listed.clear();
+    spellings.numbers.clear();
     // Once a number was out of its range, the pairs count for nothing.
     let mut in_range = true;
     let mut rest = text;

@@ -12,13 +12,13 @@ use Rattle.sia_events.proofs.draft.Draft.list_one.Goals as goal
 pub returns-in_default-clause-refused : goal.returns-in_default-clause-refused
 returns-in_default-clause-refused c =
     let none = c.in_default.ensures.none c.args.key c.in_ok-number.ensures.has.is in
-    pair_refused c.args.self.now c.key_near.new.self c.seen.new.self c.args.key c.args.saw c.in_ok-number.number c.requires c.in_ok-number.ensures.has c.in_ok-number.ensures.found c.seen.ensures.same none.0 none.1
+    pair_refused c.args.self.now c.key.new.self c.seen.new.self c.args.key c.args.saw c.in_ok-number.number c.requires c.in_ok-number.ensures.has c.in_ok-number.ensures.found c.seen.ensures.same none.0 none.1
 
 pub pair_number-requires-clause-key : goal.pair_number-requires-clause-key
-pair_number-requires-clause-key c = let w = slice_get_within c.key_near.new.self.tables.keys.items c.in_ok-number.number c.args.key c.in_ok-number.ensures.has.is in let few = c.in_ok-number.ensures.found.sound.short.keys in omega arith
+pair_number-requires-clause-key c = let w = slice_get_within c.key.new.self.tables.keys.items c.in_ok-number.number c.args.key c.in_ok-number.ensures.has.is in let few = c.in_ok-number.ensures.found.sound.short.keys in omega arith
 
 pub pair_number-requires-clause-write : goal.pair_number-requires-clause-write
-pair_number-requires-clause-write c = seen_few c.key_near.new.self.tables c.in_ok-number.ensures.found.sound c.args.key c.args.saw c.in-Some.write (c.in-Some.ensures.some c.args.key c.in_ok-number.ensures.has.is)
+pair_number-requires-clause-write c = seen_few c.key.new.self.tables c.in_ok-number.ensures.found.sound c.args.key c.args.saw c.in-Some.write (c.in-Some.ensures.some c.args.key c.in_ok-number.ensures.has.is)
 
 pushed : (c : goal.In_ok-push) → (e : Draft) → (e.txns ≡ c.seen.new.self.txns) → (e.keys ≡ c.seen.new.self.keys) → (e.writes ≡ c.seen.new.self.writes) → (e.last_seen.items ≡ c.seen.new.self.last_seen.items) → (e.tables.txns.items ≡ c.seen.new.self.tables.txns.items) → (e.tables.keys.items ≡ c.seen.new.self.tables.keys.items) → (e.tables.writes.items ≡ c.seen.new.self.tables.writes.items) → (e.tables.ranges.items ≡ c.seen.new.self.tables.ranges.items) → (e.tables.events.items ≡ c.seen.new.self.tables.events.items) → (e.tables.pairs.items ≡ c.push.new.self.items) → AreFound e × ListsOne c.args.self.now.tables e.tables c.args.key c.args.saw
 pushed c e fx fk fw fs txns keys writes ranges events pairs =
