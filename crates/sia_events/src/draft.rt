@@ -296,7 +296,7 @@ impl Draft {
         lo: Key,
         hi: Key,
         listed: &[(Key, Version)],
-        guesses: &[u32],
+        behind: &[u32],
     ) -> Result<(), Refusal>
         requires { CanTake self.old }
         ensures { Takes self.old self.new (an_event.Range txn lo hi listed.now) result }
@@ -309,7 +309,7 @@ impl Draft {
             return Err(Refusal::Bad(Reason::BadList));
         }
         let from = self.tables.pairs.len();
-        self.list(listed, guesses)?;
+        self.list(listed, behind)?;
         let to = self.tables.pairs.len();
         let range = self.tables.ranges.len();
         if range >= MOST_ROWS {
@@ -330,22 +330,23 @@ impl Draft {
         Ok(())
     }
 
-    /// Takes in the listed pairs, by guesses of the numbers of their keys.
-    fn list(&mut self, listed: &[(Key, Version)], guesses: &[u32]) -> Result<(), Refusal>
+    /// Takes in the listed pairs. By the number of a key, `behind` has that of the one that may well be listed next.
+    fn list(&mut self, listed: &[(Key, Version)], behind: &[u32]) -> Result<(), Refusal>
         requires { AreFound self.old }
         ensures found { OnOk result (AreFound self.new) }
         ensures lists { OnOk result (Lists self.old.tables self.new.tables listed.now) }
         ensures refused { IfErr result (StopsListing self.old self.new listed.now) }
     {
-        let mut guesses = guesses.iter();
+        let mut guess = NO_KEY;
         for (key, saw) in listed {
-            let guess = guesses.next().copied().unwrap_or(NO_KEY);
-            self.list_one(guess, *key, *saw)?;
+            let number = self.list_one(guess, *key, *saw)?;
+            guess = behind.get(number as usize).copied().unwrap_or(NO_KEY);
         }
         Ok(())
     }
 
-    fn list_one(&mut self, guess: u32, key: Key, saw: Version) -> Result<(), Refusal>
+    /// Takes in a listed pair, and answers the number of its key.
+    fn list_one(&mut self, guess: u32, key: Key, saw: Version) -> Result<u32, Refusal>
         requires { AreFound self.old }
         ensures found { OnOk result (AreFound self.new) }
         ensures lists { OnOk result (ListsOne self.old.tables self.new.tables key saw) }
@@ -359,7 +360,7 @@ impl Draft {
             return Err(Refusal::NoMemory);
         }
         self.tables.pairs.push(pair_number(number, write))?;
-        Ok(())
+        Ok(number)
     }
 
     #[tactic(auto, unfolding(crate::specs::Drafts::Takes))]

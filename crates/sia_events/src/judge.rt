@@ -65,8 +65,8 @@ impl Judge {
             Token::Begin { txn, start } => self.draft.begin(txn, start),
             Token::Read { txn, key, saw } => self.draft.read(txn, key, saw),
             Token::Range { txn, lo, hi } => {
-                let guesses = &self.listing.spellings.numbers;
-                self.draft.range(txn, lo, hi, &self.listing.pairs, guesses)
+                let behind = &self.listing.spellings.behind;
+                self.draft.range(txn, lo, hi, &self.listing.pairs, behind)
             }
             Token::Write { txn, key } => self.draft.write(txn, key),
             Token::Commit { txn } => self.draft.commit(txn),

@@ -27,9 +27,9 @@ struct Spelling {
 #[derive(Drop)]
 pub(crate) struct Spellings {
     rows: Vec<Spelling>,
-    behind: Vec<u32>,
-    /// The numbers of the keys that are listed so far.
-    pub(crate) numbers: Vec<u32>,
+    pub(crate) behind: Vec<u32>,
+    /// The number of the key that the list had last.
+    pub(crate) last: u32,
 }
 
 /// The same of fewer bytes than a block's.
@@ -97,7 +97,7 @@ impl Spellings {
         Spellings {
             rows: Vec::new(alloc),
             behind: Vec::new(alloc),
-            numbers: Vec::new(alloc),
+            last: NO_KEY,
         }
     }
 
@@ -111,13 +111,12 @@ impl Spellings {
         ensures gives { Gives (λ x. (x.0, x.1.now)) result (pair_at text.now) }
         ensures shorter { IfOk result (λ x. length x.1.now ≤ length text.now) }
     {
-        let last = self.numbers.last().copied().unwrap_or(NO_KEY);
-        let guess = self.behind.get(last as usize).copied().unwrap_or(NO_KEY);
+        let last = self.last as usize;
+        let guess = self.behind.get(last).copied().unwrap_or(NO_KEY);
         if let Some(row) = self.rows.get(guess as usize) {
             if let Some(rest) = row.past(text) {
-                let read = Some((row.key, row.saw));
-                self.numbers.push(guess)?;
-                return Ok((read, rest));
+                self.last = guess;
+                return Ok((Some((row.key, row.saw)), rest));
             }
         }
         let (read, rest) = pair(text)?;
@@ -125,22 +124,22 @@ impl Spellings {
         if let Some((key, saw)) = read {
             number = draft.find_key(guess, key).unwrap_or(NO_KEY);
             let spelled = &text[..text.len() - rest.len()];
-            self.keep(last, number, Spelling::of(spelled, key, saw))?;
+            self.keep(number, Spelling::of(spelled, key, saw))?;
         }
-        self.numbers.push(number)?;
+        self.last = number;
         Ok((read, rest))
     }
 
     /// Keeps that the key with the number is listed behind the last one, and how it is spelled.
     #[inline(never)]
-    fn keep(&mut self, last: u32, number: u32, row: Option<Spelling>) -> Result<(), AllocError> {
+    fn keep(&mut self, number: u32, row: Option<Spelling>) -> Result<(), AllocError> {
         if number == NO_KEY {
             return Ok(());
         }
         for fresh in self.behind.len()..number as usize + 1 {
             self.behind.push(fresh as u32 + 1)?;
         }
-        if let Some(behind) = self.behind.get_mut(last as usize) {
+        if let Some(behind) = self.behind.get_mut(self.last as usize) {
             *behind = number;
         }
         if let Some(spelling) = row {

@@ -2,7 +2,7 @@
 ghost use Rattle.std.specs.Prelude.{◌≡◌, ◌≤◌, ℕ, List, IfOk, length};
 ghost use Rattle.sia_events.specs.Parsing.{Gives, kept, event_with, after_byte, ended, begin_at, write_at, item_at, pair_at, pairs_at, list_at, list_of, range_at, read_at, commit_at, abort_at, event_at};
 
-use crate::draft::Draft;
+use crate::draft::{Draft, NO_KEY};
 use crate::event::{Key, TxnId, Version};
 use crate::fault::{Reason, Refusal};
 use crate::mentions::Spellings;
@@ -130,7 +130,7 @@ fn pairs<'a>(
     ensures { Gives (λ x. (kept x.0 listed.new.items, x.1.now)) result (pairs_at text.now) }
 {
     listed.clear();
-    spellings.numbers.clear();
+    spellings.last = NO_KEY;
     // Once a number was out of its range, the pairs count for nothing.
     let mut in_range = true;
     let mut rest = text;
