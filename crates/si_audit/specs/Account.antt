@@ -5,7 +5,7 @@ use Rattle.sia_parts.specs.declared.finding.BadWrite.{BadWrite}
 use Rattle.sia_parts.specs.declared.finding.Unexplained.{Unexplained}
 use Rattle.sia_parts.specs.declared.finding.Edge.{Edge}
 use Rattle.sia_graph.specs.declared.pivot.Pivot.{Pivot}
-use Rattle.sia_graph.specs.declared.verdict.Verdict.{Verdict}
+use Rattle.sia_graph.specs.declared.judgement.Verdict.{Verdict}
 use Rattle.sia_events.specs.declared.event.Event.{Event}
 use Rattle.sia_events.specs.Lists.{CountsAll}
 use Rattle.sia_events.specs.Transactions.{IsCommitted, IsAborted, IsOpen}

@@ -8,15 +8,15 @@ use Rattle.sia_parts.specs.declared.finding.Edge.{Edge}
 use Rattle.sia_parts.specs.declared.finding.Kind.TheVariants.{Rw}
 use Rattle.sia_graph.specs.declared.ssi.Dangerous.{Dangerous}
 use Rattle.sia_graph.specs.declared.cycle.Step.{Step}
-use Rattle.sia_graph.specs.declared.verdict.Verdict.{Verdict}
-use Rattle.sia_graph.specs.declared.verdict.Verdict.TheVariants.{Order, Cycle}
+use Rattle.sia_graph.specs.declared.judgement.Verdict.{Verdict}
+use Rattle.sia_graph.specs.declared.judgement.Verdict.TheVariants.{Order, Cycle}
 use Rattle.sia_graph.specs.Cycles.{step_edge}
 use Rattle.sia_graph.specs.Dangerous.{IsDangerous}
 use Rattle.si_audit.specs.Account.{Account}
 use Rattle.si_audit.specs.Lines.{line, edge_word, is_empty, bad_read_line, bad_write_line, unexplained_line, events_line, isolation_line, ssi_line, serializable_line, verdict_line}
 use Rattle.si_audit.specs.Reasons.{TellsBadRead, TellsBadWrite, TellsUnexplained, TellsStep}
 use Rattle.std.specs.Borrow.{Bor}
-use Rattle.sia_parts.specs.declared.telling.Recorded.{Recorded}
+use Rattle.sia_parts.specs.declared.reasons.Recorded.{Recorded}
 
 -- what is told of each of these, one after another
 abbrev pub TellsAll : {A : Type 0} → (A → List ℕ → Type 0) → List A → List ℕ → Type 0

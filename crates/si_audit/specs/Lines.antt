@@ -14,8 +14,8 @@ use Rattle.sia_parts.specs.declared.finding.Kind.{Kind}
 use Rattle.sia_parts.specs.declared.finding.Kind.TheVariants.{Ww, Wr, Rw}
 use Rattle.sia_graph.specs.declared.pivot.Pivot.{Pivot}
 use Rattle.sia_graph.specs.declared.cycle.Step.{Step}
-use Rattle.sia_graph.specs.declared.verdict.Verdict.{Verdict}
-use Rattle.sia_graph.specs.declared.verdict.Verdict.TheVariants.{Order, Cycle}
+use Rattle.sia_graph.specs.declared.judgement.Verdict.{Verdict}
+use Rattle.sia_graph.specs.declared.judgement.Verdict.TheVariants.{Order, Cycle}
 use Rattle.si_audit.specs.declared.options.Form.{Form}
 use Rattle.si_audit.specs.declared.options.Form.TheVariants.{Full, Brief, Explained}
 use Rattle.si_audit.specs.Account.{Account}

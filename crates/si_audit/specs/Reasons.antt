@@ -1,8 +1,8 @@
 -- What an explained report says below a finding: the events that make it. Words and their order are this project's own
 -- format (docs/FORMAT.md).
 use Rattle.std.specs.Prelude.{◌≡◌, ℕ, List, [], ◌++◌, codes}
-use Rattle.sia_events.specs.declared.anomaly.Anomaly.{Anomaly}
-use Rattle.sia_events.specs.declared.anomaly.Anomaly.TheVariants.{OwnWriteMissed, AbortedRead, UncommittedRead, FutureRead, Phantom, StaleRead}
+use Rattle.sia_events.specs.declared.event.Anomaly.{Anomaly}
+use Rattle.sia_events.specs.declared.event.Anomaly.TheVariants.{OwnWriteMissed, AbortedRead, UncommittedRead, FutureRead, Phantom, StaleRead}
 use Rattle.sia_events.specs.declared.event.Event.{Event}
 use Rattle.sia_events.specs.Anomalies.{IsNamed}
 use Rattle.sia_events.specs.Isolation.{IsBadRead}

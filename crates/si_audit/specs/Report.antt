@@ -5,8 +5,8 @@ use Rattle.sia_events.specs.declared.event.Event.{Event}
 use Rattle.sia_events.specs.declared.fault.TextFault.{TextFault}
 use Rattle.sia_events.specs.Text.{StandsFor}
 use Rattle.sia_events.specs.Refusals.{IsRefusal, IsAccepted}
-use Rattle.sia_graph.specs.declared.verdict.Verdict.{Verdict}
-use Rattle.sia_graph.specs.declared.verdict.Verdict.TheVariants.{Order, Cycle}
+use Rattle.sia_graph.specs.declared.judgement.Verdict.{Verdict}
+use Rattle.sia_graph.specs.declared.judgement.Verdict.TheVariants.{Order, Cycle}
 use Rattle.si_audit.specs.declared.options.Form.{Form}
 use Rattle.si_audit.specs.Account.{Account, IsAccount}
 use Rattle.si_audit.specs.declared.options.Form.TheVariants.{Full, Brief, Explained}

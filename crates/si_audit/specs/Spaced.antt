@@ -1,8 +1,8 @@
 -- Words of a line after its first word.
 use Rattle.std.specs.Prelude.{ℕ, List, [], ◌∷◌, ◌++◌, codes, flat_map, map}
 use Rattle.sia_events.specs.Text.{numeral}
-use Rattle.si_audit.specs.declared.report.line.Words.{Words}
-use Rattle.si_audit.specs.declared.report.line.Words.TheVariants.{Text, Number, Token, Edge, Numbers, Firsts}
+use Rattle.si_audit.specs.declared.report.Words.{Words}
+use Rattle.si_audit.specs.declared.report.Words.TheVariants.{Text, Number, Token, Edge, Numbers, Firsts}
 use Rattle.si_audit.specs.Lines.{edge_word, first_words}
 
 -- a space before each of these words

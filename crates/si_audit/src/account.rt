@@ -5,8 +5,7 @@ ghost use Rattle.si_audit.specs.Lines as lines;
 ghost use Rattle.si_audit.specs.Report.{CanBePrinted};
 
 use crate::options::Form;
-use crate::report::findings::{push_all, push_back, push_head};
-use crate::report::line::{Words, kind_word, number, push_line};
+use crate::report::{Words, kind_word, number, push_all, push_back, push_head, push_line};
 use sia_events::NoMemory;
 use sia_graph::{Pivot, Verdict};
 use sia_index::Counts;

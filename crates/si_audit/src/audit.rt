@@ -28,7 +28,8 @@ pub(crate) fn judged<C: Crew>(
     requires ready { C.ready crew.now }
     requires index { ix.now ≡ log.now }
     ensures exact { IfOk result (λ (j, accesses). IsJudgement log.now j) }
-    ensures pass { IfOk result (λ (j, accesses). IsTrue j.pass → IsTrue j.serializable × IsOrderVerdict j.verdict) }
+    ensures pass { IfOk result (λ (j, accesses). IsTrue j.pass
+        → IsTrue j.serializable × IsOrderVerdict j.verdict) }
     ensures accesses { IfOk result (λ (j, accesses). AreAccesses ix.now (λ _. ⊤) accesses) }
 {
     log.law();

@@ -9,7 +9,7 @@ ghost use Rattle.si_audit.specs.Sheets.{IsSheet};
 ghost use Rattle.sia_pool.specs.Answers.{AnswersEach};
 ghost use denote.Param.Send.{IsSync};
 
-use crate::report::edges::{Sheet, sheet_of};
+use crate::report::{Sheet, sheet_of};
 use sia_events::Log;
 use sia_graph::AllEdges;
 use sia_index::Index;
@@ -32,9 +32,11 @@ pub(crate) struct Auditing<'a> {
 impl Job for Auditing<'_> {
     type Out = PartFound;
 
-    ghost takes = { λ job number. (job.index.now ≡ job.log.now) × AreReads job.log.now job.parts.now job.reads.now × (number < length job.parts.now) };
+    ghost takes = { λ job number. (job.index.now ≡ job.log.now)
+        × AreReads job.log.now job.parts.now job.reads.now × (number < length job.parts.now) };
 
-    ghost owes = { λ job number found. IfSome (slice_get job.parts.now number) (λ part. IsPartFound job.log.now (IsInPart part) found) };
+    ghost owes = { λ job number found. IfSome (slice_get job.parts.now number)
+        (λ part. IsPartFound job.log.now (IsInPart part) found) };
 
     fn run(&self, number: u32) -> Result<PartFound, NoMemory> {
         let number = number as usize;
@@ -56,9 +58,11 @@ pub(crate) struct Printing<'a> {
 impl Job for Printing<'_> {
     type Out = Sheet;
 
-    ghost takes = { λ job number. AreAllEdges job.edges.now × (number + 1 < length job.edges.now.bounds.items) };
+    ghost takes = { λ job number. AreAllEdges job.edges.now
+        × (number + 1 < length job.edges.now.bounds.items) };
 
-    ghost owes = { λ job number sheet. IsSheet job.edges.now.edges.index.now (slice_index job.edges.now.bounds.items number) (slice_index job.edges.now.bounds.items (number + 1))
+    ghost owes = { λ job number sheet. IsSheet job.edges.now.edges.index.now
+        (slice_index job.edges.now.bounds.items number) (slice_index job.edges.now.bounds.items (number + 1))
         sheet.lines.items sheet.links.items };
 
     fn run(&self, number: u32) -> Result<Sheet, NoMemory> {
@@ -82,7 +86,9 @@ pub(crate) trait Crew {
         requires reads { AreReads job.now.log.now job.now.parts.now job.now.reads.now }
         requires parts { count ≤ length job.now.parts.now }
         ensures len { IfOk result (λ found. length found.items ≡ count) }
-        ensures owed { IfOk result (λ found. AnswersEach (λ number one. IfSome (slice_get job.now.parts.now number) (λ part. IsPartFound job.now.log.now (IsInPart part) one)) count found.items) };
+        ensures owed { IfOk result (λ found. AnswersEach
+            (λ number one. IfSome (slice_get job.now.parts.now number)
+            (λ part. IsPartFound job.now.log.now (IsInPart part) one)) count found.items) };
 
     /// What is made of each of the first chunks of edges.
     fn print(&self, alloc: Global, count: u32, job: &Printing) -> Result<Vec<Sheet>, NoMemory>
@@ -91,7 +97,10 @@ pub(crate) trait Crew {
         requires edges { AreAllEdges job.now.edges.now }
         requires chunks { (p : ℕ) → p < count → p + 1 < length job.now.edges.now.bounds.items }
         ensures len { IfOk result (λ sheets. length sheets.items ≡ count) }
-        ensures owed { IfOk result (λ sheets. AnswersEach (λ number sheet. IsSheet job.now.edges.now.edges.index.now (slice_index job.now.edges.now.bounds.items number) (slice_index job.now.edges.now.bounds.items (number + 1))
+        ensures owed { IfOk result (λ sheets. AnswersEach
+            (λ number sheet. IsSheet job.now.edges.now.edges.index.now
+            (slice_index job.now.edges.now.bounds.items number)
+            (slice_index job.now.edges.now.bounds.items (number + 1))
             sheet.lines.items sheet.links.items) count sheets.items) };
 }
 

@@ -15,9 +15,9 @@ ghost use Rattle.sia_graph.specs.Judgements.{IsJudgement};
 
 use crate::audit::judged;
 use crate::crew::{Alone, Crew, InThreads};
-use crate::explain::refused::push_place;
+use crate::explain::push_place;
 use crate::options::{Form, Level, Options};
-use crate::report::line::push_refusal;
+use crate::report::push_refusal;
 use crate::sheets::{one_sheet, sheets_of};
 use sia_events::{Locator, Log, NoMemory, TextFault, TextReader};
 use sia_graph::Judgement;
@@ -60,7 +60,8 @@ impl<'a> Auditor<'a> {
 
     /// Takes the next piece of the text, cut anywhere. After an `Err` no report comes.
     pub fn feed(&mut self, piece: &[u8]) -> Result<(), NoMemory>
-        ensures { OnOk result ((limits : Limits) (o : Choices) (text : List ℕ) → IsFed limits o self.old text → IsFed limits o self.new (text ++ piece.now)) }
+        ensures { OnOk result ((limits : Limits) (o : Choices) (text : List ℕ) → IsFed limits o self.old text
+            → IsFed limits o self.new (text ++ piece.now)) }
     {
         self.text.feed(piece)?;
         if self.options.form() == Form::Explained {
@@ -143,7 +144,8 @@ impl Report {
     /// no memory.
     pub fn give(&mut self, buffer: &mut Vec<u8>) -> bool
         requires room { length buffer.old.items < vec_capacity buffer.old }
-        ensures gives { (piece : List ℕ) × (self.old.bytes ≡ piece ++ self.new.bytes) × (buffer.new.items ≡ buffer.old.items ++ piece) × (IsTrue result → 0 < length piece) }
+        ensures gives { (piece : List ℕ) × (self.old.bytes ≡ piece ++ self.new.bytes)
+            × (buffer.new.items ≡ buffer.old.items ++ piece) × (IsTrue result → 0 < length piece) }
         ensures end { IsFalse result → (self.new.bytes ≡ []) × (buffer.new.items ≡ buffer.old.items) }
         ensures outcome { self.new.outcome ≡ self.old.outcome }
         ensures room { vec_capacity buffer.old ≤ vec_capacity buffer.new }
@@ -168,7 +170,8 @@ fn next_byte(sheets: &[Vec<u8>], sheet: usize, at: usize) -> (usize, usize)
     requires { IsAt sheets.now sheet at }
     ensures same { rest_from sheets.now result.0 result.1 ≡ rest_from sheets.now sheet at }
     ensures at { IsAt sheets.now result.0 result.1 }
-    ensures some { result.0 ≢ length sheets.now → result.1 < length (text_of (take 1 (drop result.0 sheets.now))) }
+    ensures some { result.0 ≢ length sheets.now
+        → result.1 < length (text_of (take 1 (drop result.0 sheets.now))) }
 {
     let mut sheet = sheet;
     let mut at = at;
@@ -228,7 +231,9 @@ fn report_of_refusal(
     locator: &Locator,
     o: &Options,
 ) -> Result<Report, NoMemory>
-    ensures report { (limits : Limits) (bytes : List ℕ) (reader : Progress) → IsReceived limits (o.now.form ≡ Form.Explained) locator.now reader bytes → IsRefusal limits bytes fault.now
+    ensures report { (limits : Limits) (bytes : List ℕ) (reader : Progress)
+        → IsReceived limits (o.now.form ≡ Form.Explained) locator.now reader bytes
+        → IsRefusal limits bytes fault.now
         → IfOk result (λ r. TellsRefusal o.now.form bytes fault.now r.bytes) }
     ensures outcome { IfOk result (λ r. r.outcome ≡ Outcome.Refused) }
 {

@@ -1,26 +1,35 @@
 //! The explained report: the lines of the brief one, with reasons.
-ghost use Rattle.std.specs.Prelude.{◌≡◌, ◌++◌, ◌∷◌, ⊤, ℕ, List, IfOk, OnOk};
+ghost use Rattle.std.specs.Prelude.{◌≡◌, ◌++◌, ◌∷◌, ⊤, ℕ, List, IfOk, OnOk, ◌≢◌, All, codes};
 ghost use Rattle.sia_events.specs.Transactions.{IsCommitted};
 ghost use Rattle.sia_parts.specs.Entries.{IsEdge};
 ghost use Rattle.sia_parts.specs.Accesses.{AreAccesses};
 ghost use Rattle.sia_graph.specs.Verdicts.{IsVerdict};
 ghost use Rattle.si_audit.specs.Engine.{IsReportOf};
-ghost use Rattle.si_audit.specs.Explained.{TellsDanger, TellsVerdict, WithReasons, edges_round};
+ghost use Rattle.si_audit.specs.Explained.{TellsDanger, TellsVerdict, WithReasons, edges_round, TellsAll};
 ghost use Rattle.sia_graph.specs.Judgements.{IsJudgement};
+ghost use Rattle.sia_events.specs.Limits.{Limits};
+ghost use Rattle.sia_events.specs.Locating.{StandsForLocated};
+ghost use Rattle.sia_events.specs.Refusals.{IsRefusal};
+ghost use Rattle.sia_events.specs.Streaming.{Progress, StandsForRead};
+ghost use Rattle.si_audit.specs.RefusedPlaces.{TellsToken};
+ghost use Rattle.sia_parts.specs.declared.finding.Kind.TheVariants.{Ww};
+ghost use Rattle.sia_parts.specs.Acts.{AreActs};
+ghost use Rattle.si_audit.specs.Reasons.{TellsEvents, TellsSight, TellsStep};
+ghost use Rattle.sia_events.specs.Isolation.{IsBadRead, IsBadWrite, IsUnexplained};
 ghost use Rattle.si_audit.specs.Lines as lines;
+ghost use Rattle.si_audit.specs.Reasons as reasons;
 
-pub(crate) mod findings;
-pub(crate) mod refused;
-pub(crate) mod steps;
-
-use crate::explain::steps::push_steps;
 use crate::options::Form;
-use crate::report::findings::push_front;
-use crate::report::line::{Words, number, push_line, push_verdict, push_whether};
-use sia_events::NoMemory;
+use crate::report::{
+    Finding, Words, number, push_front, push_line, push_verdict, push_whether, push_words,
+};
+use sia_events::{Anomaly, Locator, NoMemory, TextFault, push_number, push_shown};
 use sia_graph::{Judgement, Step, Verdict, danger_of, listing_law};
-use sia_parts::{Accesses, Edge, Kind, Recorded, acts_of};
-use std::alloc::Global;
+use sia_parts::{
+    Accesses, Act, BadRead, BadWrite, Edge, Kind, Recorded, Unexplained, acts_of, anomaly_of,
+    first_sight, push_event, push_start, push_unless, push_version,
+};
+use std::alloc::{AllocError, Global};
 
 /// The dangerous structure with the reasons of its steps, where isolation was kept and the test of serializable snapshot
 /// isolation fails.
@@ -34,7 +43,8 @@ fn push_danger(
     requires index { of.now.index.now ≡ of.now.history.now }
     requires accesses { AreAccesses of.now.index.now (λ _. ⊤) accesses.now }
     requires judgement { IsJudgement of.now.history.now j.now }
-    ensures { OnOk result ((bytes : List ℕ) × TellsDanger of.now.history.now bytes × (out.new.items ≡ out.old.items ++ bytes)) }
+    ensures { OnOk result ((bytes : List ℕ) × TellsDanger of.now.history.now bytes
+        × (out.new.items ≡ out.old.items ++ bytes)) }
 {
     let Some(d) = danger_of(alloc, of.index, accesses, j)? else {
         return Ok(());
@@ -66,7 +76,8 @@ fn push_danger(
 }
 
 fn edges_of(alloc: Global, steps: &[Step]) -> Result<Vec<Edge>, NoMemory>
-    ensures { IfOk result (λ edges. (home : Step) (rest : List Step) → steps.now ≡ home ∷ rest → edges.items ≡ edges_round steps.now home.txn) }
+    ensures { IfOk result (λ edges. (home : Step) (rest : List Step) → steps.now ≡ home ∷ rest
+        → edges.items ≡ edges_round steps.now home.txn) }
 {
     let mut edges = Vec::new(alloc);
     for i in 0..steps.len() {
@@ -91,7 +102,8 @@ fn push_verdict_reasons(
 ) -> Result<(), NoMemory>
     requires index { of.now.index.now ≡ of.now.history.now }
     requires verdict { IsVerdict (IsCommitted of.now.history.now) (IsEdge of.now.history.now) verdict.now }
-    ensures { OnOk result ((bytes : List ℕ) × WithReasons lines.verdict_line (TellsVerdict of.now.history.now) verdict.now bytes × (out.new.items ≡ out.old.items ++ bytes)) }
+    ensures { OnOk result ((bytes : List ℕ) × WithReasons lines.verdict_line
+        (TellsVerdict of.now.history.now) verdict.now bytes × (out.new.items ≡ out.old.items ++ bytes)) }
 {
     push_verdict(out, verdict)?;
     match verdict {
@@ -124,4 +136,206 @@ pub(crate) fn explained(
     push_whether(&mut out, b"serializable", j.serializable, b"yes", b"no")?;
     push_verdict_reasons(alloc, &mut out, of, &j.verdict)?;
     Ok(out)
+}
+
+/// What stands below the line of a refused text.
+pub(crate) fn push_place(
+    out: &mut Vec<u8>,
+    fault: &TextFault,
+    locator: &Locator,
+) -> Result<(), NoMemory>
+    ensures { (limits : Limits) (text : List ℕ) (reader : Progress) → StandsForRead limits reader text
+        → StandsForLocated limits locator.now reader text → IsRefusal limits text fault.now
+        → OnOk result ((bytes : List ℕ) × TellsToken text fault.now bytes
+        × (out.new.items ≡ out.old.items ++ bytes)) }
+{
+    match fault {
+        TextFault::NoMemory | TextFault::TextTooLong => Ok(()),
+        TextFault::Refused { .. } => {
+            let place = locator.place();
+            push_number(out, b"  line ", place.line, b", column ")?;
+            push_number(out, b"", place.column, b": ")?;
+            push_shown(out, locator.token())?;
+            out.extend_from_slice(b"\n")?;
+            Ok(())
+        }
+    }
+}
+
+/// Some words, the first read at which a version was seen that gives the edge, and this version.
+fn push_sight(
+    out: &mut Vec<u8>,
+    before: &[u8],
+    of: &Recorded,
+    acts: &[Act],
+    e: &Edge,
+) -> Result<(), NoMemory>
+    requires index { of.now.index.now ≡ of.now.history.now }
+    requires acts { AreActs of.now.history.now acts.now }
+    requires edge { IsEdge of.now.history.now e.now }
+    requires read { e.now.kind ≢ Ww }
+    ensures { OnOk result ((words : List ℕ) × TellsSight of.now.history.now e.now words
+        × (out.new.items ≡ out.old.items ++ before.now ++ words)) }
+{
+    let Some(sight) = first_sight(of.history, of.index, acts, e) else {
+        return Ok(());
+    };
+    push_event(out, before, of.history, e.key, sight.place)?;
+    let known = if let Kind::Wr = e.kind { e.src } else { 0 };
+    push_unless(out, of, e.key, sight.version, known, (b"; ", b""))
+}
+
+fn push_events(out: &mut Vec<u8>, of: &Recorded, acts: &[Act], e: &Edge) -> Result<(), NoMemory>
+    requires index { of.now.index.now ≡ of.now.history.now }
+    requires acts { AreActs of.now.history.now acts.now }
+    requires edge { IsEdge of.now.history.now e.now }
+    ensures { OnOk result ((words : List ℕ) × TellsEvents e.now.kind of.now.history.now e.now words
+        × (out.new.items ≡ out.old.items ++ words)) }
+{
+    match e.kind {
+        Kind::Ww => {
+            push_version(out, b"", of, e.key, e.src)?;
+            push_version(out, b"; ", of, e.key, e.dst)
+        }
+        Kind::Wr => {
+            push_version(out, b"", of, e.key, e.src)?;
+            push_sight(out, b"; ", of, acts, e)
+        }
+        Kind::Rw => {
+            push_sight(out, b"", of, acts, e)?;
+            push_version(out, b"; ", of, e.key, e.dst)
+        }
+    }
+}
+
+pub(crate) fn push_steps(
+    out: &mut Vec<u8>,
+    of: &Recorded,
+    acts: &[Act],
+    edges: &[Edge],
+) -> Result<(), NoMemory>
+    requires index { of.now.index.now ≡ of.now.history.now }
+    requires acts { AreActs of.now.history.now acts.now }
+    requires edges { All (IsEdge of.now.history.now) edges.now }
+    ensures { OnOk result ((bytes : List ℕ) × TellsAll (TellsStep of.now.history.now) edges.now bytes
+        × (out.new.items ≡ out.old.items ++ bytes)) }
+{
+    for e in edges {
+        let words = [
+            Words::Text(b""),
+            number(e.src),
+            Words::Edge(e.kind, e.key),
+            Words::Token(u64::from(e.dst)),
+            Words::Text(b""),
+        ];
+        push_words(out, &words)?;
+        push_events(out, of, acts, e)?;
+        out.extend_from_slice(b"\n")?;
+    }
+    Ok(())
+}
+
+/// How a line of reasons begins that is of a bad read of this name.
+fn anomaly_words(name: Anomaly) -> &'static [u8]
+    ensures { result.now ≡ codes "  " ++ reasons.anomaly_words name ++ codes ": " }
+{
+    match name {
+        Anomaly::OwnWriteMissed => b"  own write missed: ",
+        Anomaly::AbortedRead => b"  aborted read: ",
+        Anomaly::UncommittedRead => b"  uncommitted read: ",
+        Anomaly::FutureRead => b"  future read: ",
+        Anomaly::Phantom => b"  phantom: ",
+        Anomaly::StaleRead => b"  stale read: ",
+    }
+}
+
+impl Finding for BadRead {
+    ghost line = { lines.bad_read_line };
+
+    ghost is_found = { λ h b. IsBadRead h b.place b.txn b.key b.saw b.due };
+
+    ghost tells = { reasons.TellsBadRead };
+
+    fn push_line(&self, out: &mut Vec<u8>) -> Result<(), AllocError> {
+        let words = [
+            number(self.place),
+            number(self.txn),
+            Words::Number(self.key),
+            Words::Text(b"saw"),
+            number(self.saw),
+            Words::Text(b"due"),
+            number(self.due),
+        ];
+        push_line(out, b"bad-read", &words)
+    }
+
+    fn push_reasons(&self, out: &mut Vec<u8>, of: &Recorded) -> Result<(), NoMemory> {
+        of.history.law();
+        let Some(info) = of.index.txn(self.txn) else {
+            return Ok(());
+        };
+        let name = anomaly_of(of.history, of.index, self, info.start);
+        push_event(out, anomaly_words(name), of.history, self.key, self.place)?;
+        push_start(out, b"; transaction ", self.txn, info.start, b"\n")?;
+        push_unless(out, of, self.key, self.saw, 0, (b"  saw: ", b"\n"))?;
+        push_unless(out, of, self.key, self.due, 0, (b"  due: ", b"\n"))
+    }
+}
+
+impl Finding for BadWrite {
+    ghost line = { lines.bad_write_line };
+
+    ghost is_found = { λ h b. IsBadWrite h b.key b.first b.second };
+
+    ghost tells = { reasons.TellsBadWrite };
+
+    fn push_line(&self, out: &mut Vec<u8>) -> Result<(), AllocError> {
+        let words = [
+            Words::Number(self.key),
+            number(self.first),
+            number(self.second),
+        ];
+        push_line(out, b"bad-write", &words)
+    }
+
+    fn push_reasons(&self, out: &mut Vec<u8>, of: &Recorded) -> Result<(), NoMemory> {
+        of.history.law();
+        let Some(info) = of.index.txn(self.second) else {
+            return Ok(());
+        };
+        let words = b"  both write and overlap: transaction ";
+        push_start(out, words, self.second, info.start, b"; ")?;
+        push_version(out, b"", of, self.key, self.first)?;
+        push_unless(out, of, self.key, self.second, self.first, (b"; ", b"\n"))
+    }
+}
+
+impl Finding for Unexplained {
+    ghost line = { lines.unexplained_line };
+
+    ghost is_found = { λ h u. IsUnexplained h u.place u.txn u.key u.saw };
+
+    ghost tells = { reasons.TellsUnexplained };
+
+    fn push_line(&self, out: &mut Vec<u8>) -> Result<(), AllocError> {
+        let words = [
+            number(self.place),
+            number(self.txn),
+            Words::Number(self.key),
+            number(self.saw),
+        ];
+        push_line(out, b"unexplained", &words)
+    }
+
+    fn push_reasons(&self, out: &mut Vec<u8>, of: &Recorded) -> Result<(), NoMemory> {
+        of.history.law();
+        let bad = BadRead {
+            place: self.place,
+            txn: self.txn,
+            key: self.key,
+            saw: self.saw,
+            due: of.index.due(self.txn, self.place, self.key),
+        };
+        bad.push_reasons(out, of)
+    }
 }

@@ -9,7 +9,8 @@ ghost use Rattle.si_audit.specs.declared.options.Form.{Form};
 
 /// A text has one report of each form at most: whatever bytes are a report of it are the same bytes.
 pub fn one_report()
-    ensures { (limits : Limits) → AreWithin limits greatest → (form : Form) (text : List ℕ) → OneReport limits form text }
+    ensures { (limits : Limits) → AreWithin limits greatest → (form : Form) (text : List ℕ)
+        → OneReport limits form text }
 {}
 
 /// A text that is accepted under some limits has the same report under all greater ones.
@@ -40,5 +41,6 @@ pub fn plain_text_law()
 
 /// Each text has exactly one report of each form: the report is a function of the text.
 pub fn reports_law()
-    ensures { (limits : Limits) → AreWithin limits greatest → (form : Form) (text : List ℕ) → HasOneReport limits form text }
+    ensures { (limits : Limits) → AreWithin limits greatest → (form : Form) (text : List ℕ)
+        → HasOneReport limits form text }
 {}

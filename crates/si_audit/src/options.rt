@@ -50,7 +50,13 @@ pub struct Options {
 impl Model for Options {
     ghost Value = { Choices };
 
-    ghost view = { λ o. record { workers = o.workers; parts = o.parts.items; form = o.form; level = o.level; limits = o.limits } };
+    ghost view = { λ o. record {
+      workers = o.workers;
+      parts = o.parts.items;
+      form = o.form;
+      level = o.level;
+      limits = o.limits;
+    } };
 
     ghost invariant = { λ o. record {
       some_workers : 0 < o.workers;

@@ -1,4 +1,421 @@
-//! The lines of a report, by kind of line.
-pub(crate) mod edges;
-pub(crate) mod findings;
-pub(crate) mod line;
+//! The lines of a report, by kind of line, and the words of a line. Of lines of edges there can be millions, so they are put together
+//! in blocks.
+ghost use Rattle.std.specs.Prelude.{◌≡◌, [], ◌∷◌, ◌++◌, flat_map, map, OnOk, if◌then◌else◌, ◌&&◌, ℕ, List, All, IfSome, ◌+◌, ◌≤◌, length, drop, slice_index, IfOk, ◌<◌};
+ghost use Rattle.sia_events.specs.Text.{numeral};
+ghost use Rattle.si_audit.specs.Spaced.{spaced, words_of};
+ghost use Rattle.sia_graph.specs.Judgements.{IsJudgement};
+ghost use Rattle.si_audit.specs.Explained.{TellsAll, WithReasons, TellsIf};
+ghost use Rattle.si_audit.specs.Reasons.{TellsBadRead, TellsBadWrite, TellsUnexplained};
+ghost use Rattle.sia_events.specs.declared.event.Event.{Event};
+ghost use Rattle.si_audit.specs.Sheets.{row_lines, IsSheet};
+ghost use Rattle.sia_graph.specs.AllEdges.{AreAllEdges};
+ghost use Rattle.si_audit.specs.Lines as lines;
+ghost use Rattle.si_audit.specs.declared.report.Words.TheVariants as some;
+
+use itoa::write_digits;
+use sia_events::{Key, NoMemory, Reason, TextFault, TxnId, push_number};
+use sia_graph::{AllEdges, Judgement, Link, Pivot, Step, Verdict, put_edges};
+use sia_index::Counts;
+use sia_parts::{BadRead, BadWrite, Edge, EdgeTo, Kind, Recorded};
+use std::alloc::{AllocError, Global};
+
+/// Some words of a line.
+#[derive(Clone, Copy)]
+pub(crate) enum Words<'a> {
+    Text(&'a [u8]),
+    Number(u64),
+    /// The number of a token or of a transaction, and a colon.
+    Token(u64),
+    /// The edge of a step of a cycle.
+    Edge(Kind, Key),
+    Numbers(&'a [TxnId]),
+    /// The transactions that commit first, behind the word `first`, if there are any.
+    Firsts(&'a [TxnId]),
+}
+
+pub(crate) fn number(n: u32) -> Words<'static>
+    ensures { words_of result ≡ numeral n ∷ [] }
+{
+    Words::Number(u64::from(n))
+}
+
+pub(crate) fn push_line(out: &mut Vec<u8>, first: &[u8], words: &[Words]) -> Result<(), AllocError>
+    ensures { OnOk result (out.new.items ≡ out.old.items ++ lines.line
+        (first.now ∷ flat_map words_of words.now)) }
+{
+    out.extend_from_slice(first)?;
+    push_words(out, words)?;
+    out.extend_from_slice(b"\n")
+}
+
+pub(crate) fn push_words(out: &mut Vec<u8>, words: &[Words]) -> Result<(), AllocError>
+    ensures { OnOk result (out.new.items ≡ out.old.items ++ spaced (flat_map words_of words.now)) }
+{
+    for some in words {
+        push_some(out, some)?;
+    }
+    Ok(())
+}
+
+fn push_some(out: &mut Vec<u8>, some: &Words) -> Result<(), AllocError>
+    ensures { OnOk result (out.new.items ≡ out.old.items ++ spaced (words_of some.now)) }
+{
+    match some {
+        Words::Text(text) => {
+            out.extend_from_slice(b" ")?;
+            out.extend_from_slice(text)
+        }
+        Words::Number(n) => push_number(out, b" ", *n, b""),
+        Words::Token(n) => push_number(out, b" ", *n, b":"),
+        Words::Edge(kind, key) => {
+            out.extend_from_slice(b" >")?;
+            out.extend_from_slice(kind_word(*kind))?;
+            push_number(out, b":", *key, b">")
+        }
+        Words::Numbers(numbers) => push_numbers(out, numbers),
+        Words::Firsts(firsts) => {
+            if firsts.is_empty() {
+                return Ok(());
+            }
+            out.extend_from_slice(b" first")?;
+            push_numbers(out, firsts)
+        }
+    }
+}
+
+fn push_numbers(out: &mut Vec<u8>, numbers: &[TxnId]) -> Result<(), AllocError>
+    ensures { OnOk result (out.new.items ≡ out.old.items ++ spaced (map numeral numbers.now)) }
+{
+    for n in numbers {
+        push_number(out, b" ", u64::from(*n), b"")?;
+    }
+    Ok(())
+}
+
+pub(crate) fn kind_word(kind: Kind) -> &'static [u8]
+    ensures { result.now ≡ lines.kind_word kind }
+{
+    match kind {
+        Kind::Ww => b"ww",
+        Kind::Wr => b"wr",
+        Kind::Rw => b"rw",
+    }
+}
+
+fn reason_words(reason: Reason) -> &'static [u8]
+    ensures { result.now ≡ lines.reason_words reason }
+{
+    match reason {
+        Reason::TooManyEvents => b"too many events",
+        Reason::BadEvent => b"bad event",
+        Reason::BadNumber => b"number out of range",
+        Reason::AlreadyEnded => b"transaction already ended",
+        Reason::AlreadyBegun => b"transaction already begun",
+        Reason::EmptyRange => b"empty range",
+        Reason::BadList => b"bad list",
+        Reason::NotWritten => b"version not written",
+        Reason::BadStart => b"start too late",
+    }
+}
+
+pub(crate) fn push_refusal(out: &mut Vec<u8>, fault: &TextFault) -> Result<(), AllocError>
+    ensures { OnOk result (out.new.items ≡ out.old.items ++ lines.refusal_line fault.now) }
+{
+    match fault {
+        TextFault::NoMemory => Ok(()),
+        TextFault::TextTooLong => push_line(out, b"refused: text too long", &[]),
+        TextFault::Refused { token, reason } => {
+            let token = Words::Token(u64::from(*token));
+            let reason = Words::Text(reason_words(*reason));
+            push_line(out, b"refused: token", &[token, reason])
+        }
+    }
+}
+
+pub(crate) fn push_whether(
+    out: &mut Vec<u8>,
+    first: &[u8],
+    holds: bool,
+    yes: &[u8],
+    no: &[u8],
+) -> Result<(), AllocError>
+    ensures { OnOk result (out.new.items ≡ out.old.items ++ lines.line
+        (first.now ∷ (if holds then yes.now else no.now) ∷ [])) }
+{
+    push_line(out, first, &[Words::Text(if holds { yes } else { no })])
+}
+
+/// The order, or the cycle.
+pub(crate) fn push_verdict(out: &mut Vec<u8>, verdict: &Verdict) -> Result<(), AllocError>
+    ensures { OnOk result (out.new.items ≡ out.old.items ++ lines.verdict_line verdict.now) }
+{
+    match verdict {
+        Verdict::Order(order) => push_line(out, b"order", &[Words::Numbers(order.as_slice())]),
+        Verdict::Cycle(steps) => {
+            out.extend_from_slice(b"cycle")?;
+            push_steps(out, steps.as_slice())?;
+            out.extend_from_slice(b"\n")
+        }
+    }
+}
+
+/// The transactions of a cycle, each with the edge from it to the next, and the first one, where it comes again.
+fn push_steps(out: &mut Vec<u8>, steps: &[Step]) -> Result<(), AllocError>
+    ensures { OnOk result (out.new.items ≡ out.old.items ++ flat_map
+        (λ s. spaced (lines.step_words s)) steps.now ++ spaced (lines.home_word steps.now)) }
+{
+    for s in steps {
+        push_words(out, &[number(s.txn), Words::Edge(s.kind, s.key)])?;
+    }
+    match steps.first() {
+        None => Ok(()),
+        Some(first) => push_words(out, &[number(first.txn)]),
+    }
+}
+
+/// What is found at a key: it has a line, and in an explained report reasons below.
+pub(crate) trait Finding {
+    ghost line: { Self → List ℕ };
+
+    ghost is_found: { List Event → Self → Type 0 };
+
+    ghost tells: { List Event → Self → List ℕ → Type 0 };
+
+    fn push_line(&self, out: &mut Vec<u8>) -> Result<(), AllocError>
+        ensures { OnOk result (out.new.items ≡ out.old.items ++ line self.now) };
+
+    fn push_reasons(&self, out: &mut Vec<u8>, of: &Recorded) -> Result<(), NoMemory>
+        requires index { of.now.index.now ≡ of.now.history.now }
+        requires found { is_found of.now.history.now self.now }
+        ensures { OnOk result ((bytes : List ℕ) × tells of.now.history.now self.now bytes
+            × (out.new.items ≡ out.old.items ++ bytes)) };
+}
+
+pub(crate) fn push_all<T: Finding>(
+    out: &mut Vec<u8>,
+    of: Option<&Recorded>,
+    found: &[T],
+) -> Result<(), NoMemory>
+    requires index { IfSome of (λ of. of.now.index.now ≡ of.now.history.now) }
+    requires found { IfSome of (λ of. All (T.is_found of.now.history.now) found.now) }
+    ensures { OnOk result ((bytes : List ℕ) × TellsAll
+        (WithReasons T.line (TellsIf of.entry T.tells)) found.now bytes
+        × (out.new.items ≡ out.old.items ++ bytes)) }
+{
+    for x in found {
+        x.push_line(out)?;
+        if let Some(of) = of {
+            x.push_reasons(out, of)?;
+        }
+    }
+    Ok(())
+}
+
+pub(crate) fn push_head(
+    out: &mut Vec<u8>,
+    counts: &Counts,
+    bad_reads: &[BadRead],
+    bad_writes: &[BadWrite],
+) -> Result<(), AllocError>
+    ensures { OnOk result (out.new.items ≡ out.old.items
+        ++ lines.events_line counts.now.events counts.now.committed counts.now.aborted counts.now.unfinished
+        ++ lines.isolation_line (lines.is_empty bad_reads.now && lines.is_empty bad_writes.now)) }
+{
+    let words = [
+        number(counts.events),
+        Words::Text(b"committed"),
+        number(counts.committed),
+        Words::Text(b"aborted"),
+        number(counts.aborted),
+        Words::Text(b"open"),
+        number(counts.unfinished),
+    ];
+    push_line(out, b"events", &words)?;
+    let kept = bad_reads.is_empty() && bad_writes.is_empty();
+    push_whether(out, b"isolation", kept, b"kept", b"broken")
+}
+
+/// The lines before those of the edges, with reasons from what was recorded, where it is given.
+pub(crate) fn push_front(
+    out: &mut Vec<u8>,
+    of: Option<&Recorded>,
+    j: &Judgement,
+) -> Result<(), NoMemory>
+    requires index { IfSome of (λ of. of.now.index.now ≡ of.now.history.now) }
+    requires judgement { IfSome of (λ of. IsJudgement of.now.history.now j.now) }
+    ensures { OnOk result ((reads : List ℕ) × (writes : List ℕ) × (others : List ℕ)
+        × TellsAll (WithReasons lines.bad_read_line
+        (TellsIf of.entry TellsBadRead)) j.now.bad_reads.items reads
+        × TellsAll (WithReasons lines.bad_write_line
+        (TellsIf of.entry TellsBadWrite)) j.now.bad_writes.items writes
+        × TellsAll (WithReasons lines.unexplained_line
+        (TellsIf of.entry TellsUnexplained)) j.now.unexplained.items others
+        × (out.new.items ≡ out.old.items
+        ++ lines.events_line j.now.counts.events j.now.counts.committed j.now.counts.aborted
+        j.now.counts.unfinished
+        ++ lines.isolation_line (lines.is_empty j.now.bad_reads.items
+        && lines.is_empty j.now.bad_writes.items)
+        ++ reads ++ writes ++ others)) }
+{
+    push_head(out, &j.counts, &j.bad_reads, &j.bad_writes)?;
+    push_all(out, of, &j.bad_reads)?;
+    push_all(out, of, &j.bad_writes)?;
+    push_all(out, of, &j.unexplained)
+}
+
+/// The lines behind those of the edges.
+pub(crate) fn push_back(
+    out: &mut Vec<u8>,
+    pivots: &[Pivot],
+    pass: bool,
+    serializable: bool,
+    verdict: &Verdict,
+) -> Result<(), AllocError>
+    ensures { OnOk result (out.new.items ≡ out.old.items
+        ++ flat_map lines.pivot_line pivots.now
+        ++ lines.ssi_line pass
+        ++ lines.serializable_line serializable
+        ++ lines.verdict_line verdict.now) }
+{
+    for p in pivots {
+        let words = [
+            number(p.txn),
+            Words::Text(b"in"),
+            Words::Numbers(p.ins.as_slice()),
+            Words::Text(b"out"),
+            Words::Numbers(p.outs.as_slice()),
+            Words::Firsts(p.firsts.as_slice()),
+        ];
+        push_line(out, b"pivot", &words)?;
+    }
+    push_whether(out, b"ssi", pass, b"pass", b"fail")?;
+    push_whether(out, b"serializable", serializable, b"yes", b"no")?;
+    push_verdict(out, verdict)
+}
+
+/// How many lines are put together before they are appended.
+const LINES: usize = 64;
+
+/// Room for so many lines, each of less than 72 bytes.
+const ROOM: usize = 4608;
+
+/// Puts the bytes right before `end`. Answers where they start. They are copied to a place of their own first: the compiler
+/// then needs no test whether they overlap with the block, and keeps them in registers.
+#[inline]
+fn put<const N: usize>(block: &mut [u8; ROOM], bytes: &[u8; N], end: usize) -> usize
+    requires { (N ≤ end) × (end ≤ 4608) }
+    ensures room { result + N ≡ end }
+    ensures bytes { drop result block.new ≡ bytes.now ++ drop end block.old }
+{
+    let copied = *bytes;
+    let start = end - N;
+    block[start..end].copy_from_slice(&copied);
+    start
+}
+
+fn word(kind: Kind) -> [u8; 4]
+    ensures { result ≡ 32 ∷ (lines.kind_word kind ++ 32 ∷ []) }
+{
+    match kind {
+        Kind::Ww => *b" ww ",
+        Kind::Wr => *b" wr ",
+        Kind::Rw => *b" rw ",
+    }
+}
+
+#[inline]
+fn put_number(block: &mut [u8; ROOM], n: u64, end: usize) -> usize
+    requires { (20 ≤ end) × (end ≤ 4608) }
+    ensures room { (result ≤ end) × (end ≤ result + 20) }
+    ensures bytes { drop result block.new ≡ numeral n ++ drop end block.old }
+{
+    write_digits(n, block, end)
+}
+
+/// Puts the edge's whole line right before `end`. Answers where it starts.
+#[inline]
+fn put_line(block: &mut [u8; ROOM], e: &Edge, end: usize) -> usize
+    requires { (72 ≤ end) × (end ≤ 4608) }
+    ensures room { (result ≤ end) × (end ≤ result + 72) }
+    ensures bytes { drop result block.new ≡ lines.edge_line e.now ++ drop end block.old }
+{
+    let end = put(block, b"\n", end);
+    let end = put_number(block, e.key, end);
+    let end = put(block, b" ", end);
+    let end = put_number(block, u64::from(e.dst), end);
+    let end = put(block, &word(e.kind), end);
+    let end = put_number(block, u64::from(e.src), end);
+    put(block, b"edge ", end)
+}
+
+/// Puts the lines of some edges from a source at the end of the block. Answers where they start.
+#[inline]
+fn put_lines(
+    block: &mut [u8; ROOM],
+    txns: &[TxnId],
+    keys: &[Key],
+    source: u32,
+    rows: &[EdgeTo],
+) -> usize
+    requires { length rows.now ≤ 64 }
+    ensures room { result ≤ 4608 }
+    ensures bytes { drop result block.new ≡ row_lines txns.now keys.now source rows.now }
+{
+    let mut end = ROOM;
+    let mut left = rows.len();
+    while left > 0 {
+        left -= 1;
+        end = put_line(block, &rows[left].named(txns, keys, source), end);
+    }
+    end
+}
+
+/// Adds the lines of the edges from a source, by a block.
+fn push_lines(
+    out: &mut Vec<u8>,
+    block: &mut [u8; ROOM],
+    txns: &[TxnId],
+    keys: &[Key],
+    source: u32,
+    rows: &[EdgeTo],
+) -> Result<(), AllocError>
+    ensures { OnOk result (out.new.items ≡ out.old.items ++ row_lines txns.now keys.now source rows.now) }
+{
+    let mut rest = rows;
+    while !rest.is_empty() {
+        let count = rest.len().min(LINES);
+        let start = put_lines(block, txns, keys, source, &rest[..count]);
+        out.extend_from_slice(&block[start..])?;
+        rest = &rest[count..];
+    }
+    Ok(())
+}
+
+/// What is made of a chunk of the edges.
+#[derive(Drop)]
+pub(crate) struct Sheet {
+    pub(crate) lines: Vec<u8>,
+    /// The vulnerable edges, each as a link at its source.
+    pub(crate) links: Vec<Link>,
+}
+
+/// What is made of a chunk of all edges, by its number.
+pub(crate) fn sheet_of(alloc: Global, all: &AllEdges, number: usize) -> Result<Sheet, NoMemory>
+    requires all { AreAllEdges all.now }
+    requires chunk { number + 1 < length all.now.bounds.items }
+    ensures { IfOk result (λ sheet. IsSheet all.now.edges.index.now (slice_index all.now.bounds.items number)
+        (slice_index all.now.bounds.items (number + 1)) sheet.lines.items sheet.links.items) }
+{
+    let index = all.edges.index;
+    let txns = index.committed();
+    let keys = index.written_keys();
+    let mut block = [0; ROOM];
+    let mut rows = Vec::new(alloc);
+    let mut lines = Vec::new(alloc);
+    let mut links = Vec::new(alloc);
+    for source in all.bounds[number]..all.bounds[number + 1] {
+        put_edges(alloc, all, source, &mut rows, &mut links)?;
+        push_lines(&mut lines, &mut block, txns, keys, source, &rows)?;
+    }
+    Ok(Sheet { lines, links })
+}

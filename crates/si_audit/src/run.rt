@@ -64,7 +64,9 @@ pub fn run<T: Threads + Wait + Sync, R: Source, W: Sink>(
     // What is written is the report of the text that the reader gives, in the form of the options, and not a byte more. The
     // outcome is that of the options' level.
     ensures report { IfOk result (λ outcome. IfSome (R.remaining reader.old) (λ text.
-        IsOutcome o.now.limits o.now.level text outcome × (bytes : List ℕ) × IsReport o.now.limits o.now.form text bytes × Appends (W.taken writer.old) (W.taken writer.new) bytes)) }
+        IsOutcome o.now.limits o.now.level text outcome × (bytes : List ℕ)
+        × IsReport o.now.limits o.now.form text bytes
+        × Appends (W.taken writer.old) (W.taken writer.new) bytes)) }
     ensures flushed { OnOk result (IsTrue (W.is_flushed writer.new)) }
 
     // At most so many reads gave bytes.
@@ -75,11 +77,15 @@ pub fn run<T: Threads + Wait + Sync, R: Source, W: Sink>(
     ensures write { (result ≡ Err RunFault.Write) ↔ IsTrue (W.has_failed writer.new) }
 
     // What was written before a fault: nothing, or a front of the report, which is whole where no write was refused.
-    ensures nothing { IfErr result (λ e. e ≢ RunFault.Write → Keeps (W.taken writer.old) (W.taken writer.new)) }
+    ensures nothing { IfErr result (λ e. e ≢ RunFault.Write
+        → Keeps (W.taken writer.old) (W.taken writer.new)) }
     ensures front { result ≡ Err RunFault.Write → IfSome (R.remaining reader.old) (λ text.
-        (bytes : List ℕ) × (rest : List ℕ) × IsReport o.now.limits o.now.form text (bytes ++ rest) × Appends (W.taken writer.old) (W.taken writer.new) bytes) }
-    ensures whole { result ≡ Err RunFault.Write → IsFalse (W.has_refused writer.new) → IfSome (R.remaining reader.old) (λ text.
-        (bytes : List ℕ) × IsReport o.now.limits o.now.form text bytes × Appends (W.taken writer.old) (W.taken writer.new) bytes) }
+        (bytes : List ℕ) × (rest : List ℕ) × IsReport o.now.limits o.now.form text (bytes ++ rest)
+        × Appends (W.taken writer.old) (W.taken writer.new) bytes) }
+    ensures whole { result ≡ Err RunFault.Write → IsFalse (W.has_refused writer.new)
+        → IfSome (R.remaining reader.old) (λ text.
+        (bytes : List ℕ) × IsReport o.now.limits o.now.form text bytes
+        × Appends (W.taken writer.old) (W.taken writer.new) bytes) }
 {
     let auditor = read_text(alloc, reader, o)?;
     let mut report = auditor.finish(rt, alloc)?;
@@ -111,7 +117,8 @@ fn read_text<'a, R: Source>(
     o: &'a Options,
 ) -> Result<Auditor<'a>, RunFault>
     requires { IsFalse (R.has_failed source.old) }
-    ensures text { IfOk result (λ auditor. IfSome (R.remaining source.old) (IsFed o.now.limits o.now auditor)) }
+    ensures text { IfOk result (λ auditor. IfSome (R.remaining source.old)
+        (IsFed o.now.limits o.now auditor)) }
     ensures failed { (result ≡ Err RunFault.Read) ↔ IsTrue (R.has_failed source.new) }
     ensures reads { R.reads source.new ≤ R.reads source.old + o.now.limits.bytes + 1 }
     ensures no_write { result ≡ Err RunFault.Write → ⊥ }
@@ -136,7 +143,8 @@ fn read_text<'a, R: Source>(
 fn write_bytes<W: Sink>(writer: &mut W, bytes: &[u8]) -> Result<(), Failed>
     requires { IsFalse (W.has_failed writer.old) }
     ensures ok { OnOk result (Appends (W.taken writer.old) (W.taken writer.new) bytes.now) }
-    ensures err { OnErr result ((front : List ℕ) × (rest : List ℕ) × (bytes.now ≡ front ++ rest) × Appends (W.taken writer.old) (W.taken writer.new) front) }
+    ensures err { OnErr result ((front : List ℕ) × (rest : List ℕ) × (bytes.now ≡ front ++ rest)
+        × Appends (W.taken writer.old) (W.taken writer.new) front) }
     ensures failed { IsTrue (W.has_failed writer.new) ↔ IsErr result }
     ensures refused { IsTrue (W.has_refused writer.new) ↔ IsErr result }
 {
@@ -160,8 +168,10 @@ fn write_whole<W: Sink>(
     requires sound { IsFalse (W.has_failed writer.old) }
     requires room { 0 < vec_capacity buffer.old }
     ensures ok { OnOk result (Appends (W.taken writer.old) (W.taken writer.new) report.old.bytes) }
-    ensures front { OnErr result ((front : List ℕ) × (rest : List ℕ) × (report.old.bytes ≡ front ++ rest) × Appends (W.taken writer.old) (W.taken writer.new) front) }
-    ensures whole { IsFalse (W.has_refused writer.new) → Appends (W.taken writer.old) (W.taken writer.new) report.old.bytes }
+    ensures front { OnErr result ((front : List ℕ) × (rest : List ℕ) × (report.old.bytes ≡ front ++ rest)
+        × Appends (W.taken writer.old) (W.taken writer.new) front) }
+    ensures whole { IsFalse (W.has_refused writer.new)
+        → Appends (W.taken writer.old) (W.taken writer.new) report.old.bytes }
     ensures failed { IsTrue (W.has_failed writer.new) ↔ IsErr result }
     ensures flushed { OnOk result (IsTrue (W.is_flushed writer.new)) }
     ensures outcome { report.new.outcome ≡ report.old.outcome }

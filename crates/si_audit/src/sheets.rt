@@ -11,8 +11,7 @@ ghost use Rattle.si_audit.specs.Lines as lines;
 use crate::crew::{Crew, Printing};
 use crate::explain::explained;
 use crate::options::{Form, Options};
-use crate::report::edges::Sheet;
-use crate::report::findings::{push_back, push_front};
+use crate::report::{Sheet, push_back, push_front};
 use sia_events::{History, Log, NoMemory};
 use sia_graph::{Judgement, Link, Pivot, edges_of, listing_law, pivots_of_links};
 use sia_index::Index;
@@ -20,14 +19,16 @@ use sia_parts::{Accesses, Edge, Recorded};
 use std::alloc::Global;
 
 /// The lines of a judgement: those of its edges stand on these sheets, and these pivots are told.
-pub(crate) fn report_of(
+fn report_of(
     alloc: Global,
     j: &Judgement,
     edges: Vec<Vec<u8>>,
     pivots: &[Pivot],
 ) -> Result<Vec<Vec<u8>>, NoMemory>
-    ensures { IfOk result (λ all. (form : Form) (es : List Edge) (ps : List Pivot) → text_of edges.items ≡ flat_map lines.edge_line (lines.told form es)
-        → pivots.now ≡ lines.told form ps → text_of all.items ≡ lines.report_text form (account_with j.now es ps)) }
+    ensures { IfOk result (λ all. (form : Form) (es : List Edge) (ps : List Pivot)
+        → text_of edges.items ≡ flat_map lines.edge_line (lines.told form es)
+        → pivots.now ≡ lines.told form ps → text_of all.items
+        ≡ lines.report_text form (account_with j.now es ps)) }
 {
     let mut front = Vec::new(alloc);
     push_front(&mut front, None, j)?;
@@ -53,7 +54,8 @@ pub(crate) fn one_sheet(alloc: Global, sheet: Vec<u8>) -> Result<Vec<Vec<u8>>, N
 
 /// The lines, and all links together.
 fn parted(alloc: Global, made: Vec<Sheet>) -> Result<(Vec<Vec<u8>>, Vec<Link>), NoMemory>
-    ensures lines { IfOk result (λ (sheets, links). text_of sheets.items ≡ flat_map (λ s. s.lines.items) made.items) }
+    ensures lines { IfOk result (λ (sheets, links). text_of sheets.items
+        ≡ flat_map (λ s. s.lines.items) made.items) }
     ensures links { IfOk result (λ (sheets, links). links.items ≡ flat_map (λ s. s.links.items) made.items) }
 {
     let mut sheets = Vec::new(alloc);
@@ -66,7 +68,7 @@ fn parted(alloc: Global, made: Vec<Sheet>) -> Result<(Vec<Vec<u8>>, Vec<Link>), 
 }
 
 /// The lines of all edges, by a crew, and the links of the vulnerable ones.
-pub(crate) fn sheets_of_edges<C: Crew>(
+fn sheets_of_edges<C: Crew>(
     crew: &C,
     alloc: Global,
     ix: &Index,

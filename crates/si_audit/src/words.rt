@@ -153,7 +153,12 @@ fn option<'a>(
     usual: &'a str,
     help: &'a str,
 ) -> Arg<'a>
-    ensures rule { rule_of result ≡ record (new_rule name.now) { long = Some name.now; action = Some Set; value_names = 1; defaults = usual.now ∷ [] } }
+    ensures rule { rule_of result ≡ record (new_rule name.now) {
+      long = Some name.now;
+      action = Some Set;
+      value_names = 1;
+      defaults = usual.now ∷ [];
+    } }
     ensures local { result.global ≡ false }
 {
     named(alloc, name, ArgAction::Set, help)
@@ -162,7 +167,10 @@ fn option<'a>(
 }
 
 fn named<'a>(alloc: Global, name: &'a str, action: ArgAction, help: &'a str) -> Arg<'a>
-    ensures rule { rule_of result ≡ record (new_rule name.now) { long = Some name.now; action = Some action } }
+    ensures rule { rule_of result ≡ record (new_rule name.now) {
+      long = Some name.now;
+      action = Some action;
+    } }
     ensures local { result.global ≡ false }
 {
     Arg::new(alloc, name).long(name).action(action).help(help)
@@ -270,7 +278,8 @@ fn cuts_in(alloc: Global, matches: &ArgMatches<'_>) -> Result<Vec<Key>, AllocErr
 
 /// The number that the option of that name has.
 fn number_of(matches: &ArgMatches<'_>, name: &str) -> u64
-    requires { IsSomeAnd (first_of name.now (rows_of (found_of matches.now))) (IsUnsignedIn 1 18446744073709551615) }
+    requires { IsSomeAnd (first_of name.now (rows_of (found_of matches.now)))
+        (IsUnsignedIn 1 18446744073709551615) }
     ensures { result ≡ number_among name.now (rows_of (found_of matches.now)) }
 {
     number(matches.get_str(name).unwrap())

@@ -3,8 +3,8 @@
 use Rattle.std.specs.Prelude.{◌≡◌, ◌≢◌, ◌<◌, ℕ, List, Some, Contains}
 use Rattle.sia_events.specs.declared.event.Event.{Event}
 use Rattle.sia_events.specs.declared.event.Event.TheVariants.{Begin, Read, Range, Write, Commit, Abort}
-use Rattle.sia_events.specs.declared.anomaly.Anomaly.{Anomaly}
-use Rattle.sia_events.specs.declared.anomaly.Anomaly.TheVariants.{OwnWriteMissed, AbortedRead, UncommittedRead, FutureRead, Phantom, StaleRead}
+use Rattle.sia_events.specs.declared.event.Anomaly.{Anomaly}
+use Rattle.sia_events.specs.declared.event.Anomaly.TheVariants.{OwnWriteMissed, AbortedRead, UncommittedRead, FutureRead, Phantom, StaleRead}
 use Rattle.sia_events.specs.Places.{at_place}
 use Rattle.sia_events.specs.Transactions.{IsAborted, IsOpen, StartsBeforeCommit, WroteBefore}
 use Rattle.sia_events.specs.Dependencies.{IsVersionBefore}

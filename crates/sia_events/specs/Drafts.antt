@@ -4,15 +4,15 @@ use Rattle.std.specs.Prelude.{Bool, ◌||◌}
 use Rattle.std.specs.List.{list_any, list_all, fold}
 use Rattle.sia_events.specs.declared.event.Event.{Event}
 use Rattle.sia_events.specs.declared.event.Event.TheVariants.{Read}
-use Rattle.sia_events.specs.declared.rows.Row.{Row}
+use Rattle.sia_events.specs.declared.log.Row.{Row}
 use Rattle.sia_events.specs.declared.fault.Refusal.{Refusal}
 use Rattle.sia_events.specs.declared.fault.Refusal.TheVariants as refusals
 use Rattle.sia_events.specs.declared.fault.Reason.TheVariants.{AlreadyEnded, NotWritten}
-use Rattle.sia_events.specs.declared.rows.TxnEnd.TheVariants.{Open}
-use Rattle.sia_events.specs.declared.rows.TxnRow.{TxnRow}
-use Rattle.sia_events.specs.declared.rows.WriteRow.{WriteRow}
-use Rattle.sia_events.specs.declared.rows.SeenRow.{SeenRow}
-use Rattle.sia_events.specs.declared.rows.Tables.{Tables}
+use Rattle.sia_events.specs.declared.log.TxnEnd.TheVariants.{Open}
+use Rattle.sia_events.specs.declared.log.TxnRow.{TxnRow}
+use Rattle.sia_events.specs.declared.log.WriteRow.{WriteRow}
+use Rattle.sia_events.specs.declared.log.SeenRow.{SeenRow}
+use Rattle.sia_events.specs.declared.log.Tables.{Tables}
 use Rattle.sia_events.specs.declared.draft.Draft.{Draft}
 use Rattle.sia_events.specs.Finding.{Finds}
 use Rattle.sia_events.specs.OwnWrites.{Tracks}

@@ -2,11 +2,11 @@
 use Rattle.std.specs.Prelude.{◌≡◌, ℕ, ◌-◌, ◌<◌, ◌≤◌, ◌^◌, List, [], map, length, take, drop, All, Some, slice_get}
 use Rattle.std.specs.List.{slice_index_or}
 use Rattle.sia_events.specs.declared.event.Event.{Event}
-use Rattle.sia_events.specs.declared.rows.TxnRow.{TxnRow}
-use Rattle.sia_events.specs.declared.rows.WriteRow.{WriteRow}
-use Rattle.sia_events.specs.declared.rows.RangeRow.{RangeRow}
-use Rattle.sia_events.specs.declared.rows.Row.{Row}
-use Rattle.sia_events.specs.declared.rows.Tables.{Tables}
+use Rattle.sia_events.specs.declared.log.TxnRow.{TxnRow}
+use Rattle.sia_events.specs.declared.log.WriteRow.{WriteRow}
+use Rattle.sia_events.specs.declared.log.RangeRow.{RangeRow}
+use Rattle.sia_events.specs.declared.log.Row.{Row}
+use Rattle.sia_events.specs.declared.log.Tables.{Tables}
 use Rattle.sia_events.specs.Transactions.{StartsAt}
 use Rattle.sia_events.specs.Numbering.{Names, names_of, pair_at, event_of, IsWithin, IsMarked, IsPair, Ends}
 

@@ -3,10 +3,10 @@ use Rattle.std.specs.Prelude.{◌≡◌, ◌⊎◌, ℕ, zero, suc, ◌+◌, ◌
 use Rattle.std.specs.List.{list_any, fold, flat_map, slice_index_or}
 use Rattle.sia_events.specs.declared.event.Event.{Event}
 use Rattle.sia_events.specs.declared.event.Event.TheVariants.{Begin, Read, Range, Write, Commit, Abort}
-use Rattle.sia_events.specs.declared.rows.Row.{Row}
-use Rattle.sia_events.specs.declared.rows.Row.TheVariants as rows
-use Rattle.sia_events.specs.declared.rows.TxnEnd.{TxnEnd}
-use Rattle.sia_events.specs.declared.rows.TxnEnd.TheVariants as ends
+use Rattle.sia_events.specs.declared.log.Row.{Row}
+use Rattle.sia_events.specs.declared.log.Row.TheVariants as rows
+use Rattle.sia_events.specs.declared.log.TxnEnd.{TxnEnd}
+use Rattle.sia_events.specs.declared.log.TxnEnd.TheVariants as ends
 use Rattle.sia_events.specs.Events.{actor}
 use Rattle.sia_events.specs.Transactions.{IsOpen, CommitsAt, AbortsAt}
 

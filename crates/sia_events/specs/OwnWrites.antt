@@ -1,6 +1,6 @@
 -- How the writes of each transaction are found.
 use Rattle.std.specs.Prelude.{◌≡◌, ◌⊎◌, ℕ, ◌+◌, ◌-◌, ◌*◌, ◌<◌, ◌≤◌, List, map, length, Some, slice_get}
-use Rattle.sia_events.specs.declared.rows.WriteRow.{WriteRow}
+use Rattle.sia_events.specs.declared.log.WriteRow.{WriteRow}
 use Rattle.sia_events.specs.declared.own_writes.Writer.{Writer}
 use Rattle.sia_events.specs.declared.own_writes.OwnWrites.{OwnWrites}
 use Rattle.sia_events.specs.Finding.{FindsBelow}

@@ -11,9 +11,8 @@ ghost use Rattle.sia_events.specs.OwnWrites.{new_write};
 use crate::event::{Key, TxnId, Version};
 use crate::fault::{Reason, Refusal};
 use crate::finder::{Finder, IN_ORDER, MOST_ROWS, SPREAD};
-use crate::log::MARK;
+use crate::log::{MARK, RangeRow, Row, SeenRow, Tables, TxnEnd, TxnRow, WriteRow};
 use crate::own_writes::OwnWrites;
-use crate::rows::{RangeRow, Row, SeenRow, Tables, TxnEnd, TxnRow, WriteRow};
 use std::alloc::{AllocError, Global};
 
 /// The tables of the events so far, with what finds their rows by names.
@@ -97,7 +96,8 @@ impl Draft {
         requires new { IsNew (txn_names self.old.tables.txns.items) name }
         ensures found { OnOk result (AreFound self.new) }
         ensures same { OnOk result (SameButTxns self.old.tables self.new.tables) }
-        ensures rows { OnOk result (self.new.tables.txns.items ≡ self.old.tables.txns.items ++ new_txn name start ∷ []) }
+        ensures rows { OnOk result (self.new.tables.txns.items
+            ≡ self.old.tables.txns.items ++ new_txn name start ∷ []) }
         ensures is { IfOk result (λ n. slice_get (txn_names self.new.tables.txns.items) n ≡ Some name) }
     {
         let number = self.tables.txns.len();
@@ -117,7 +117,8 @@ impl Draft {
     /// The number of the transaction, if it has an event.
     fn find_txn(&self, name: TxnId) -> Option<u32>
         requires { AreFound self.now }
-        ensures { MatchOption result (IsNew (txn_names self.now.tables.txns.items) name) (λ n. slice_get (txn_names self.now.tables.txns.items) n ≡ Some name) }
+        ensures { MatchOption result (IsNew (txn_names self.now.tables.txns.items) name)
+            (λ n. slice_get (txn_names self.now.tables.txns.items) n ≡ Some name) }
     {
         self.txns.find(&self.tables.txns, u64::from(name))
     }
@@ -126,7 +127,8 @@ impl Draft {
     fn is_open(&self, txn: u32) -> bool
         requires knows { Knows self.now }
         requires within { txn < length self.now.tables.txns.items }
-        ensures { (name : ℕ) → slice_get (txn_names self.now.tables.txns.items) txn ≡ Some name → list_any (ends name) (events_of self.now.tables) ≡ not result }
+        ensures { (name : ℕ) → slice_get (txn_names self.now.tables.txns.items) txn ≡ Some name
+            → list_any (ends name) (events_of self.now.tables) ≡ not result }
     {
         matches!(self.tables.txns[txn as usize].end, TxnEnd::Open)
     }
@@ -197,7 +199,9 @@ impl Draft {
 
     fn write_by(&self, txn: u32, key: u32) -> u32
         requires found { AreFound self.now }
-        ensures { (t k : ℕ) → slice_get (txn_names self.now.tables.txns.items) txn ≡ Some t → slice_get self.now.tables.keys.items key ≡ Some k → IsWriteOr (names_in self.now.tables) (k, t) result }
+        ensures { (t k : ℕ) → slice_get (txn_names self.now.tables.txns.items) txn ≡ Some t
+            → slice_get self.now.tables.keys.items key ≡ Some k
+            → IsWriteOr (names_in self.now.tables) (k, t) result }
     {
         match self.writes.find(&self.tables.writes, txn, key) {
             Some(number) => number + 1,
@@ -207,7 +211,8 @@ impl Draft {
 
     fn seen_last(&self, key: u32, saw: Version) -> Option<u32>
         requires { AreFound self.now }
-        ensures { (k : ℕ) → slice_get self.now.tables.keys.items key ≡ Some k → IfSome result (IsSeen (names_in self.now.tables) k saw) }
+        ensures { (k : ℕ) → slice_get self.now.tables.keys.items key ≡ Some k
+            → IfSome result (IsSeen (names_in self.now.tables) k saw) }
     {
         match self.last_seen.get(key as usize) {
             Some(row) if row.version == saw => Some(row.write),
@@ -220,8 +225,11 @@ impl Draft {
         requires { AreFound self.old }
         ensures same { self.new.tables ≡ self.old.tables }
         ensures found { AreFound self.new }
-        ensures some { (k : ℕ) → slice_get self.old.tables.keys.items key ≡ Some k → IfSome result (IsSeen (names_in self.old.tables) k saw) }
-        ensures none { (k : ℕ) → slice_get self.old.tables.keys.items key ≡ Some k → IfNone result ((saw ≢ 0) × (list_any (same_pair (k, saw)) (names_in self.old.tables).writes ≡ false)) }
+        ensures some { (k : ℕ) → slice_get self.old.tables.keys.items key ≡ Some k
+            → IfSome result (IsSeen (names_in self.old.tables) k saw) }
+        ensures none { (k : ℕ) → slice_get self.old.tables.keys.items key ≡ Some k
+            → IfNone result ((saw ≢ 0) × (list_any (same_pair (k, saw)) (names_in self.old.tables).writes
+            ≡ false)) }
     {
         if let Some(write) = self.seen_last(key, saw) {
             return Some(write);
@@ -281,7 +289,9 @@ impl Draft {
 
     fn read_row(&self, txn: u32, key: u32, saw: u32) -> Row
         requires { AreFound self.now }
-        ensures { (t k v : ℕ) → slice_get (txn_names self.now.tables.txns.items) txn ≡ Some t → slice_get self.now.tables.keys.items key ≡ Some k → IsSeen (names_in self.now.tables) k v saw → IsReadRow (names_in self.now.tables) t k v result }
+        ensures { (t k v : ℕ) → slice_get (txn_names self.now.tables.txns.items) txn ≡ Some t
+            → slice_get self.now.tables.keys.items key ≡ Some k → IsSeen (names_in self.now.tables) k v saw
+            → IsReadRow (names_in self.now.tables) t k v result }
     {
         if self.write_by(txn, key) == 0 {
             return Row::Read { txn, key, saw };
@@ -380,7 +390,9 @@ impl Draft {
         requires txn { txn < length self.old.tables.txns.items }
         requires key { key < length self.old.tables.keys.items }
         ensures found { OnOk result (AreFound self.new) }
-        ensures has { (t k : ℕ) → slice_get (txn_names self.old.tables.txns.items) txn ≡ Some t → slice_get self.old.tables.keys.items key ≡ Some k → IfOk result (HasWrite self.old.tables self.new.tables (k, t)) }
+        ensures has { (t k : ℕ) → slice_get (txn_names self.old.tables.txns.items) txn ≡ Some t
+            → slice_get self.old.tables.keys.items key ≡ Some k
+            → IfOk result (HasWrite self.old.tables self.new.tables (k, t)) }
     {
         let write = self.write_by(txn, key);
         if write != 0 {
@@ -396,7 +408,8 @@ impl Draft {
         requires key { key < length self.old.tables.keys.items }
         ensures found { OnOk result (AreFound self.new) }
         ensures same { OnOk result (SameButWrites self.old.tables self.new.tables) }
-        ensures rows { OnOk result (self.new.tables.writes.items ≡ self.old.tables.writes.items ++ new_write txn key ∷ []) }
+        ensures rows { OnOk result (self.new.tables.writes.items
+            ≡ self.old.tables.writes.items ++ new_write txn key ∷ []) }
         ensures is { IfOk result (λ w. w ≡ length self.old.tables.writes.items + 1) }
     {
         let number = self.tables.writes.len();

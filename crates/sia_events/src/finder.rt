@@ -93,8 +93,10 @@ impl Finder {
     /// The number of a row with the name.
     pub(crate) fn find<R: Named>(&self, rows: &[R], name: u64) -> Option<u32>
         ensures some { IfSome result (λ n. slice_get (map R.named rows.now) n ≡ Some name) }
-        ensures none { Finds self.now (map R.named rows.now) → IfNone result ((n : ℕ) → slice_get (map R.named rows.now) n ≢ Some name) }
-        ensures none_below { (end : ℕ) → FindsBelow self.now (map R.named rows.now) end → IfNone result ((n : ℕ) → n < end → slice_get (map R.named rows.now) n ≢ Some name) }
+        ensures none { Finds self.now (map R.named rows.now)
+            → IfNone result ((n : ℕ) → slice_get (map R.named rows.now) n ≢ Some name) }
+        ensures none_below { (end : ℕ) → FindsBelow self.now (map R.named rows.now) end
+            → IfNone result ((n : ℕ) → n < end → slice_get (map R.named rows.now) n ≢ Some name) }
     {
         let home = self.home(name);
         for step in 0..WAYS {
@@ -114,7 +116,8 @@ impl Finder {
     /// Takes in the rows from a number on. Where the table is crowded, all are taken in anew, into a greater one.
     pub(crate) fn add_from<R: Named>(&mut self, rows: &[R], first: usize) -> Result<(), AllocError>
         requires { length rows.now ≤ 2 ^ 29 }
-        ensures { FindsBelow self.old (map R.named rows.now) first → OnOk result (Finds self.new (map R.named rows.now)) }
+        ensures { FindsBelow self.old (map R.named rows.now) first
+            → OnOk result (Finds self.new (map R.named rows.now)) }
     {
         if self.slots.len() / 2 < rows.len() {
             self.restart(rows.len())?;
@@ -135,7 +138,8 @@ impl Finder {
     /// Takes in the rows from a number on.
     fn put_from<R: Named>(&mut self, rows: &[R], first: usize) -> Result<(), AllocError>
         requires { length rows.now ≤ 2 ^ 29 }
-        ensures { FindsBelow self.old (map R.named rows.now) first → OnOk result (Finds self.new (map R.named rows.now)) }
+        ensures { FindsBelow self.old (map R.named rows.now) first
+            → OnOk result (Finds self.new (map R.named rows.now)) }
     {
         for number in first..rows.len() {
             self.put(rows[number].name(), number as u32)?;
@@ -153,8 +157,10 @@ impl Finder {
     /// Takes in the row with the name and the number.
     fn put(&mut self, name: u64, number: u32) -> Result<(), AllocError>
         requires { number < 2 ^ 29 }
-        ensures taken { (names : List ℕ) → slice_get names number ≡ Some name → OnOk result (Reaches self.new names name) }
-        ensures kept { (names : List ℕ) (other : ℕ) → slice_get names number ≡ Some name → Reaches self.old names other → OnOk result (Reaches self.new names other) }
+        ensures taken { (names : List ℕ) → slice_get names number ≡ Some name
+            → OnOk result (Reaches self.new names name) }
+        ensures kept { (names : List ℕ) (other : ℕ) → slice_get names number ≡ Some name
+            → Reaches self.old names other → OnOk result (Reaches self.new names other) }
     {
         let home = self.home(name);
         for step in 0..WAYS {

@@ -7,8 +7,7 @@ ghost use Rattle.sia_events.specs.declared.event.Event.{Event};
 
 use crate::event::{Event, Key, Listed, Version};
 use crate::fault::NoMemory;
-use crate::log::Log;
-use crate::rows::Row;
+use crate::log::{Log, Row};
 use std::alloc::{AllocError, Global};
 use std::marker::Model;
 

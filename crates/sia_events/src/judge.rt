@@ -38,10 +38,14 @@ impl Judge {
     #[tactic(auto, unfolding(crate::specs::Judging::judged))]
     pub(crate) fn take(&mut self, limits: Limits, token: &[u8]) -> Result<(), Refusal>
         requires { Knows self.old.draft }
-        ensures taken { OnOk result ((e : AnEvent) × (judged limits (events_of self.old.draft.tables) token.now ≡ Ok e) × ((events_of self.new.draft.tables) ≡ (events_of self.old.draft.tables) ++ e ∷ [])) }
+        ensures taken { OnOk result ((e : AnEvent)
+            × (judged limits (events_of self.old.draft.tables) token.now ≡ Ok e)
+            × ((events_of self.new.draft.tables) ≡ (events_of self.old.draft.tables) ++ e ∷ [])) }
         ensures knows { OnOk result (Knows self.new.draft) }
-        ensures refused { IfErr result (λ fault. Fails fault (judged limits (events_of self.old.draft.tables) token.now)) }
-        ensures kept { IfErr result (λ fault. Stays fault (events_of self.old.draft.tables) (events_of self.new.draft.tables)) }
+        ensures refused { IfErr result (λ fault. Fails fault
+            (judged limits (events_of self.old.draft.tables) token.now)) }
+        ensures kept { IfErr result (λ fault. Stays fault (events_of self.old.draft.tables)
+            (events_of self.new.draft.tables)) }
     {
         let count = self.draft.tables.events.len();
         let most = limits.events() as usize;
@@ -78,9 +82,11 @@ impl Judge {
     #[tactic(auto, unfolding(crate::specs::Judging::JudgedAll))]
     pub(crate) fn take_some(&mut self, limits: Limits, token: &[u8]) -> Result<(), Refusal>
         requires { Knows self.old.draft }
-        ensures taken { OnOk result (JudgedAll limits (events_of self.old.draft.tables) (as_token token.now) (events_of self.new.draft.tables)) }
+        ensures taken { OnOk result (JudgedAll limits (events_of self.old.draft.tables) (as_token token.now)
+            (events_of self.new.draft.tables)) }
         ensures knows { OnOk result (Knows self.new.draft) }
-        ensures refused { IfErr result (λ fault. Halts limits fault (events_of self.old.draft.tables) (as_token token.now) (events_of self.new.draft.tables)) }
+        ensures refused { IfErr result (λ fault. Halts limits fault (events_of self.old.draft.tables)
+            (as_token token.now) (events_of self.new.draft.tables)) }
     {
         if token.is_empty() {
             return Ok(());
@@ -95,9 +101,12 @@ impl Judge {
         text: &'a [u8],
     ) -> Result<&'a [u8], Refusal>
         requires { Knows self.old.draft }
-        ensures taken { IfOk result (λ rest. (closed : List ℕ) × IsCutAtLastSeparator text.now closed rest.now × JudgedAll limits (events_of self.old.draft.tables) (tokens closed) (events_of self.new.draft.tables)) }
+        ensures taken { IfOk result (λ rest. (closed : List ℕ) × IsCutAtLastSeparator text.now closed rest.now
+            × JudgedAll limits (events_of self.old.draft.tables) (tokens closed)
+            (events_of self.new.draft.tables)) }
         ensures knows { OnOk result (Knows self.new.draft) }
-        ensures refused { IfErr result (λ fault. HaltsIn limits fault (events_of self.old.draft.tables) text.now (events_of self.new.draft.tables)) }
+        ensures refused { IfErr result (λ fault. HaltsIn limits fault
+            (events_of self.old.draft.tables) text.now (events_of self.new.draft.tables)) }
     {
         let mut rest = text;
         while let Some((token, after)) = split_token(rest) {
@@ -117,9 +126,13 @@ impl Judge {
     ) -> Result<(), Refusal>
         requires knows { Knows self.old.draft }
         requires unbroken { All (λ c. is_separator c ≡ false) unfinished.old.items }
-        ensures taken { OnOk result ((closed : List ℕ) × IsCutAtLastSeparator (unfinished.old.items ++ piece.now) closed unfinished.new.items × JudgedAll limits (events_of self.old.draft.tables) (tokens closed) (events_of self.new.draft.tables)) }
+        ensures taken { OnOk result ((closed : List ℕ)
+            × IsCutAtLastSeparator (unfinished.old.items ++ piece.now) closed unfinished.new.items
+            × JudgedAll limits (events_of self.old.draft.tables) (tokens closed)
+            (events_of self.new.draft.tables)) }
         ensures knows { OnOk result (Knows self.new.draft) }
-        ensures refused { IfErr result (λ fault. HaltsIn limits fault (events_of self.old.draft.tables) (unfinished.old.items ++ piece.now) (events_of self.new.draft.tables)) }
+        ensures refused { IfErr result (λ fault. HaltsIn limits fault (events_of self.old.draft.tables)
+            (unfinished.old.items ++ piece.now) (events_of self.new.draft.tables)) }
     {
         let Some((front, after)) = split_token(piece) else {
             unfinished.extend_from_slice(piece)?;
@@ -134,7 +147,8 @@ impl Judge {
     }
 
     pub(crate) fn next_token(&self) -> u32
-        ensures { length (events_of self.now.draft.tables) ≤ 500000000 → result ≡ length (events_of self.now.draft.tables) + 1 }
+        ensures { length (events_of self.now.draft.tables) ≤ 500000000
+            → result ≡ length (events_of self.now.draft.tables) + 1 }
     {
         self.draft.tables.events.len().min(MAX_EVENTS as usize) as u32 + 1
     }
@@ -150,7 +164,8 @@ pub(crate) fn is_separator(byte: u8) -> bool
 
 /// What follows the separators that the bytes begin with.
 fn past_separators(text: &[u8]) -> &[u8]
-    ensures { (n : ℕ) × (n ≤ length text.now) × (result.now ≡ drop n text.now) × ((k : ℕ) → k < n → is_separator (slice_index text.now k) ≡ true) }
+    ensures { (n : ℕ) × (n ≤ length text.now) × (result.now ≡ drop n text.now)
+        × ((k : ℕ) → k < n → is_separator (slice_index text.now k) ≡ true) }
 {
     let mut len = 0;
     while len < text.len() && is_separator(text[len]) {

@@ -1,7 +1,6 @@
 //! Histories of a multiversion store: their events, their text and the definitions over them.
 #![tactic(auto)]
 
-mod anomaly;
 mod draft;
 mod event;
 mod fault;
@@ -16,14 +15,11 @@ mod mentions;
 mod number;
 mod own_writes;
 mod reader;
-mod rows;
 mod shown;
-mod telling;
 mod token;
 mod writer;
 
-pub use anomaly::Anomaly;
-pub use event::{Event, Key, Listed, TxnId, Version};
+pub use event::{Anomaly, Event, Key, Listed, TxnId, Version};
 pub use fault::{NoMemory, Reason, TextFault};
 pub use history::History;
 pub use laws::{
@@ -32,9 +28,8 @@ pub use laws::{
 };
 pub use limits::Limits;
 pub use locating::{Locator, Place};
-pub use log::Log;
+pub use log::{Log, Row, TxnEnd, TxnRow, WriteRow};
 pub use reader::{TextReader, read_history};
-pub use rows::{Row, TxnEnd, TxnRow, WriteRow};
 pub use shown::push_shown;
 pub use writer::{push_number, write_history};
 

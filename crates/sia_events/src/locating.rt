@@ -25,7 +25,8 @@ pub struct Place {
 
 impl Place {
     fn behind(self, byte: u8) -> Place
-        ensures { (front : List ℕ) → length front < 17179869184 → IsPlaceAfter front self.line self.column → IsPlaceAfter (front ++ byte ∷ []) result.line result.column }
+        ensures { (front : List ℕ) → length front < 17179869184 → IsPlaceAfter front self.line self.column
+            → IsPlaceAfter (front ++ byte ∷ []) result.line result.column }
     {
         if byte == b'\n' {
             Place {
@@ -55,7 +56,13 @@ pub struct Locator {
 impl Model for Locator {
     ghost Value = { Located };
 
-    ghost view = { λ l. record { number = l.number; next = l.next; place = l.place; token = take l.len l.token; is_open = l.is_open } };
+    ghost view = { λ l. record {
+      number = l.number;
+      next = l.next;
+      place = l.place;
+      token = take l.len l.token;
+      is_open = l.is_open;
+    } };
 
     ghost invariant = { λ l. l.len ≤ 60 };
 }
@@ -63,7 +70,8 @@ impl Model for Locator {
 impl Locator {
     /// A locator that has been fed nothing.
     pub fn new() -> Self
-        ensures { (limits : Limits) (reader : Progress) → StandsForRead limits reader [] → StandsForLocated limits result reader [] }
+        ensures { (limits : Limits) (reader : Progress) → StandsForRead limits reader []
+            → StandsForLocated limits result reader [] }
     {
         let start = Place { line: 1, column: 1 };
         Locator {
@@ -78,9 +86,11 @@ impl Locator {
 
     /// Passes the next piece of the text, up to the token that the reader, which has read it, has refused.
     pub fn feed(&mut self, piece: &[u8], refused: Option<u32>)
-        ensures { (limits : Limits) (before after : Progress) (text : List ℕ) → StandsForRead limits before text → StandsForRead limits after (text ++ piece.now)
+        ensures { (limits : Limits) (before after : Progress) (text : List ℕ)
+            → StandsForRead limits before text → StandsForRead limits after (text ++ piece.now)
             → option_map (λ fault. fault.0) after.fault ≡ refused
-            → StandsForLocated limits self.old before text → StandsForLocated limits self.new after (text ++ piece.now) }
+            → StandsForLocated limits self.old before text
+            → StandsForLocated limits self.new after (text ++ piece.now) }
     {
         let last = refused.unwrap_or(u32::MAX);
         for byte in piece {
@@ -90,9 +100,13 @@ impl Locator {
 
     /// Passes a byte, unless it begins a token after the last one.
     fn pass(&mut self, byte: u8, last: u32)
-        ensures follows { (text : List ℕ) → length text < 17179869184 → Follows self.old text → (self.old.is_open ≡ false → is_separator byte ≡ false → self.old.number < last) → Follows self.new (text ++ byte ∷ []) }
+        ensures follows { (text : List ℕ) → length text < 17179869184 → Follows self.old text
+            → (self.old.is_open ≡ false → is_separator byte ≡ false → self.old.number < last)
+            → Follows self.new (text ++ byte ∷ []) }
         ensures within { self.old.number ≤ last → self.new.number ≤ last }
-        ensures stopped { self.old.is_open ≡ false → last ≤ self.old.number → (self.new.is_open ≡ false) × (self.new.number ≡ self.old.number) × (self.new.place ≡ self.old.place) × (self.new.token ≡ self.old.token) }
+        ensures stopped { self.old.is_open ≡ false → last ≤ self.old.number
+            → (self.new.is_open ≡ false) × (self.new.number ≡ self.old.number)
+            × (self.new.place ≡ self.old.place) × (self.new.token ≡ self.old.token) }
     {
         let next = self.next.behind(byte);
         if is_separator(byte) {
@@ -115,8 +129,11 @@ impl Locator {
         ensures place { result ≡ self.now.place }
 
         // Beside a reader that refuses a token, this is where that token is.
-        ensures refused { (limits : Limits) (reader : Progress) (text : List ℕ) (number : ℕ) (reason : AReason) → StandsForRead limits reader text → StandsForLocated limits self.now reader text
-            → IsRefusal limits text (Refused number reason) → IsLocated text number result.line result.column self.now.token }
+        ensures refused { (limits : Limits) (reader : Progress) (text : List ℕ) (number : ℕ)
+            (reason : AReason) → StandsForRead limits reader text
+            → StandsForLocated limits self.now reader text
+            → IsRefusal limits text (Refused number reason)
+            → IsLocated text number result.line result.column self.now.token }
     {
         self.place
     }

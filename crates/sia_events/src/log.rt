@@ -1,16 +1,17 @@
 //! A log: a well-formed history as rows of numbers.
-ghost use Rattle.std.specs.Prelude.{◌≡◌, All, Some, ◌<◌, ◌≤◌, ◌-◌, ℕ, length, map, IfSome, MatchOption, slice_get, take, List};
+ghost use Rattle.std.specs.Prelude.{◌≡◌, All, Some, ◌<◌, ◌≤◌, ◌-◌, length, map, IfSome, slice_get, take, List, ◌+◌, ◌*◌};
 ghost use Rattle.std.specs.Option.{option_map};
 ghost use Rattle.sia_events.specs.LogTables.{events_of, AreTables};
-ghost use Rattle.sia_events.specs.Numbering.{names_of, txns_of, keys_of, writes_of, ranges_of, event_of, pair_at, txn_at, key_at, write_at, version_at, range_at, IsPair, IsWithin, IsMarked, Ends};
+ghost use Rattle.sia_events.specs.Numbering.{names_of, txns_of, keys_of, writes_of, ranges_of, event_of, pair_at, txn_at, key_at, version_at, range_at, IsPair, IsWithin, IsMarked, Ends};
 ghost use Rattle.sia_events.specs.Places.{at_place};
 ghost use Rattle.sia_events.specs.Refusals.{IsWellFormed};
 ghost use Rattle.sia_events.specs.Transactions.{StartsAt};
 ghost use Rattle.sia_events.specs.declared.event.Event.{Event};
 
-use crate::event::{Key, Version};
-use crate::rows::{Row, Tables, TxnRow, WriteRow};
+use crate::event::{Key, TxnId, Version};
+use crate::finder::Named;
 use std::marker::Model;
+use std::mem::size_of;
 
 /// What stands at the mark and above it among listed pairs is a key that was seen at version 0.
 pub(crate) const MARK: u32 = 2_147_483_648;
@@ -108,7 +109,8 @@ impl Log {
         requires bound { number ≤ length (writes_of self.now) }
         ensures txn { result.txn < length (txns_of self.now) }
         ensures key { result.key < length (keys_of self.now) }
-        ensures write { slice_get (writes_of self.now) (number - 1) ≡ Some (key_at (names_of self.now) result.key, txn_at (names_of self.now) result.txn) }
+        ensures write { slice_get (writes_of self.now) (number - 1)
+            ≡ Some (key_at (names_of self.now) result.key, txn_at (names_of self.now) result.txn) }
     {
         self.tables.writes[number as usize - 1]
     }
@@ -137,7 +139,8 @@ impl Log {
     /// The pairs that a range listed, each as a number that `pair` and `listed_numbers` understand.
     pub fn listed(&self, number: u32) -> &[u32]
         requires { number < length (ranges_of self.now) }
-        ensures pairs { map (pair_at (names_of self.now)) result.now ≡ (range_at (names_of self.now) number).2 }
+        ensures pairs { map (pair_at (names_of self.now)) result.now
+            ≡ (range_at (names_of self.now) number).2 }
         ensures within { All (IsPair (names_of self.now)) result.now }
     {
         let range = &self.tables.ranges[number as usize];
@@ -158,7 +161,8 @@ impl Log {
         requires { IsPair (names_of self.now) pair }
         ensures key { result.0 < length (keys_of self.now) }
         ensures write { result.1 ≤ length (writes_of self.now) }
-        ensures pair { pair_at (names_of self.now) pair ≡ (key_at (names_of self.now) result.0, version_at (names_of self.now) result.1) }
+        ensures pair { pair_at (names_of self.now) pair
+            ≡ (key_at (names_of self.now) result.0, version_at (names_of self.now) result.1) }
     {
         if pair < MARK {
             (self.write(pair).key, pair)
@@ -167,3 +171,119 @@ impl Log {
         }
     }
 }
+
+/// How a transaction ended, with the place of its end.
+#[derive(Clone, Copy, PartialEq, Eq, Debug)]
+pub enum TxnEnd {
+    Open,
+    Committed(u32),
+    Aborted(u32),
+}
+
+/// What is known of a transaction.
+#[derive(Clone, Copy, PartialEq, Eq, Debug)]
+pub struct TxnRow {
+    pub name: TxnId,
+    /// How many events were recorded before its start: those before its first event, or as many as this one names.
+    pub start: u32,
+    pub end: TxnEnd,
+}
+
+/// The first write of a key by a transaction, by their numbers.
+#[derive(Clone, Copy, PartialEq, Eq, Debug)]
+pub struct WriteRow {
+    pub txn: u32,
+    pub key: u32,
+}
+
+/// A version of a key that was seen, and the write that made it.
+#[derive(Clone, Copy)]
+pub(crate) struct SeenRow {
+    pub(crate) version: Version,
+    pub(crate) write: u32,
+}
+
+/// A range, and where in the list of all listed pairs its own begin and end.
+#[derive(Clone, Copy)]
+pub(crate) struct RangeRow {
+    pub(crate) lo: Key,
+    pub(crate) hi: Key,
+    pub(crate) from: u32,
+    pub(crate) to: u32,
+}
+
+/// An event by numbers: of transactions, keys and ranges from 0, of writes from 1. Write 0 stands for version 0.
+#[derive(Clone, Copy, PartialEq, Eq, Debug)]
+pub enum Row {
+    Begin {
+        txn: u32,
+        start: Option<u32>,
+    },
+    Read {
+        txn: u32,
+        key: u32,
+        /// The write that made the version that was seen.
+        saw: u32,
+    },
+    /// A read of a key that the reader had written before.
+    OwnRead {
+        txn: u32,
+        key: u32,
+        saw: u32,
+    },
+    Range {
+        txn: u32,
+        range: u32,
+        /// How many first writes stand before it.
+        writes: u32,
+    },
+    Write {
+        txn: u32,
+        key: u32,
+        /// The transaction's first write of the key.
+        write: u32,
+    },
+    Commit {
+        txn: u32,
+    },
+    Abort {
+        txn: u32,
+    },
+}
+
+/// All rows of a log. The event that a row stands for is found by the other tables.
+#[derive(Drop)]
+pub(crate) struct Tables {
+    pub(crate) txns: Vec<TxnRow>,
+    pub(crate) keys: Vec<Key>,
+    pub(crate) writes: Vec<WriteRow>,
+    pub(crate) ranges: Vec<RangeRow>,
+    pub(crate) pairs: Vec<u32>,
+    pub(crate) events: Vec<Row>,
+}
+
+impl Named for TxnRow {
+    ghost named = { λ row. row.name };
+
+    fn name(&self) -> u64 {
+        u64::from(self.name)
+    }
+}
+
+impl Named for Key {
+    ghost named = { λ key. key };
+
+    fn name(&self) -> u64 {
+        *self
+    }
+}
+
+impl Named for WriteRow {
+    ghost named = { λ row. row.txn * 4294967296 + row.key };
+
+    fn name(&self) -> u64 {
+        u64::from(self.txn) * 4_294_967_296 + u64::from(self.key)
+    }
+}
+
+const _: () = prove!(size_of::<Row>() == 16);

@@ -5,7 +5,7 @@ ghost use Rattle.sia_events.specs.Parsing.{Gives, pair_at, SpellsPair};
 use crate::draft::{Draft, NO_KEY};
 use crate::event::{Key, Version};
 use crate::fault::Refusal;
-use crate::token::pair;
+use crate::number::{after, number};
 use std::alloc::{AllocError, Global};
 use std::simd::prelude::*;
 
@@ -81,7 +81,8 @@ impl Spelling {
     /// What follows the pair, where the text begins with its spelling and goes on with no digit.
     #[inline(always)]
     fn past<'a>(&self, text: &'a [u8]) -> Option<&'a [u8]>
-        ensures pair { IfSome result (λ rest. pair_at text.now ≡ Ok (Some (self.now.key, self.now.saw), rest.now)) }
+        ensures pair { IfSome result (λ rest. pair_at text.now
+            ≡ Ok (Some (self.now.key, self.now.saw), rest.now)) }
         ensures shorter { IfSome result (λ rest. length rest.now ≤ length text.now) }
     {
         let len = self.len as usize;
@@ -152,4 +153,20 @@ impl Spellings {
         }
         Ok(())
     }
+}
+
+/// A listed key with its version, or None where one of them is out of its range.
+#[inline(never)]
+#[tactic(auto, unfolding(crate::specs::Parsing::pair_at))]
+pub(crate) fn pair(text: &[u8]) -> Result<(Option<(Key, Version)>, &[u8]), Refusal>
+    ensures gives { Gives (λ x. (x.0, x.1.now)) result (pair_at text.now) }
+    ensures shorter { IfOk result (λ x. length x.1.now ≤ length text.now) }
+{
+    let (key, rest) = number(text)?;
+    let (saw, rest) = number(after(rest, b':')?)?;
+    let pair = match (key, saw) {
+        (Some(key), Some(saw)) if saw <= u64::from(u32::MAX) => Some((key, saw as u32)),
+        _ => None,
+    };
+    Ok((pair, rest))
 }

@@ -1,6 +1,6 @@
 //! Numbers of a token, of any size.
 ghost use Rattle.std.specs.Prelude.{◌≡◌, ◌-◌, ◌<◌, ◌≤◌, true, false, length, take, slice_index, IfOk, MatchOption};
-ghost use Rattle.sia_events.specs.Parsing.{Gives, is_digit, digits_len, digits_value, narrow, number_at, version_of, txn_of};
+ghost use Rattle.sia_events.specs.Parsing.{Gives, is_digit, digits_len, digits_value, narrow, number_at, version_of, txn_of, after_byte};
 
 use crate::event::{TxnId, Version};
 use crate::fault::{Reason, Refusal};
@@ -12,7 +12,9 @@ pub(crate) type Number = Option<u64>;
 const SHORT: usize = 19;
 
 fn digit_at(text: &[u8], at: usize) -> Option<u64>
-    ensures { MatchOption result (is_digit (slice_index text.now at) ≡ false) (λ digit. (is_digit (slice_index text.now at) ≡ true) × (digit ≡ slice_index text.now at - 48) × (at < length text.now)) }
+    ensures { MatchOption result (is_digit (slice_index text.now at) ≡ false)
+        (λ digit. (is_digit (slice_index text.now at) ≡ true) × (digit ≡ slice_index text.now at - 48)
+        × (at < length text.now)) }
 {
     let digit = u64::from(*text.get(at)?).wrapping_sub(u64::from(b'0'));
     (digit < 10).then_some(digit)
@@ -76,4 +78,16 @@ pub(crate) fn txn_in(number: Number) -> Result<TxnId, Refusal>
         return Err(Refusal::Bad(Reason::BadNumber));
     }
     Ok(txn)
+}
+
+/// What follows one byte.
+#[tactic(auto, unfolding(crate::specs::Parsing::after_byte))]
+pub(crate) fn after(text: &[u8], byte: u8) -> Result<&[u8], Refusal>
+    ensures gives { Gives (λ x. x.now) result (after_byte byte text.now) }
+    ensures shorter { IfOk result (λ rest. length rest.now ≤ length text.now) }
+{
+    match text {
+        [first, rest @ ..] if *first == byte => Ok(rest),
+        _ => Err(Refusal::Bad(Reason::BadEvent)),
+    }
 }

@@ -1,10 +1,10 @@
 //! The writes of each transaction, found by their keys.
 ghost use Rattle.std.specs.Prelude.{◌≡◌, ◌+◌, ◌*◌, ◌^◌, ◌<◌, ◌≤◌, ◌++◌, ◌∷◌, [], ℕ, List, Some, length, map, slice_get, IfSome, IfNone, OnOk};
-ghost use Rattle.sia_events.specs.declared.rows.WriteRow.{WriteRow as AWriteRow};
+ghost use Rattle.sia_events.specs.declared.log.WriteRow.{WriteRow as AWriteRow};
 ghost use Rattle.sia_events.specs.OwnWrites.{Tracks, IsNoneOf, no_writes, new_write, write_code};
 
 use crate::finder::{Finder, SPREAD};
-use crate::rows::WriteRow;
+use crate::log::WriteRow;
 use std::alloc::{AllocError, Global};
 
 /// So many writes of a transaction are looked through one after another.
@@ -58,7 +58,8 @@ impl OwnWrites {
         requires few { length rows.now ≤ 2 ^ 29 }
         requires place { txn < length self.old.writers.items }
         ensures same { OnOk result (length self.new.writers.items ≡ length self.old.writers.items) }
-        ensures tracks { (before : List AWriteRow) (key : ℕ) → rows.now ≡ before ++ new_write txn key ∷ [] → Tracks self.old before → OnOk result (Tracks self.new rows.now) }
+        ensures tracks { (before : List AWriteRow) (key : ℕ) → rows.now ≡ before ++ new_write txn key ∷ []
+            → Tracks self.old before → OnOk result (Tracks self.new rows.now) }
     {
         let Writer { newest, count } = self.writers[txn as usize];
         let count = count.saturating_add(1);
@@ -84,7 +85,8 @@ impl OwnWrites {
     pub(crate) fn find(&self, rows: &[WriteRow], txn: u32, key: u32) -> Option<u32>
         requires few { length rows.now ≤ 2 ^ 29 }
         requires tracks { Tracks self.now rows.now }
-        ensures some { IfSome result (λ n. slice_get (map write_code rows.now) n ≡ Some (txn * 4294967296 + key)) }
+        ensures some { IfSome result (λ n. slice_get (map write_code rows.now) n
+            ≡ Some (txn * 4294967296 + key)) }
         ensures none { IfNone result (IsNoneOf rows.now txn key) }
     {
         let Writer { newest, count } = self.writer(txn)?;

@@ -37,9 +37,18 @@ pub struct TextReader {
 impl Model for TextReader {
     ghost Value = { Progress };
 
-    ghost view = { λ r. record { limits = r.limits; count = r.count; fault = r.fault; events = events_of r.judge.draft.tables; unfinished = r.unfinished.items; lost = r.lost } };
+    ghost view = { λ r. record {
+      limits = r.limits;
+      count = r.count;
+      fault = r.fault;
+      events = events_of r.judge.draft.tables;
+      unfinished = r.unfinished.items;
+      lost = r.lost;
+    } };
 
-    ghost invariant = { λ r. r.lost ≡ false → IsNone r.fault → r.count ≤ r.limits.bytes → Knows r.judge.draft × HasText r.limits r.count (events_of r.judge.draft.tables) r.unfinished.items };
+    ghost invariant = { λ r. r.lost ≡ false → IsNone r.fault → r.count ≤ r.limits.bytes
+        → Knows r.judge.draft × HasText r.limits r.count
+        (events_of r.judge.draft.tables) r.unfinished.items };
 }
 
 impl TextReader {
@@ -71,13 +80,16 @@ impl TextReader {
 
     /// Takes the next piece of the text, cut anywhere. After an `Err` every later call answers that memory ran out.
     pub fn feed(&mut self, piece: &[u8]) -> Result<(), NoMemory>
-        ensures stands { OnOk result ((limits : Limits) (text : List ℕ) → StandsForRead limits self.old text → StandsForRead limits self.new (text ++ piece.now)) }
+        ensures stands { OnOk result ((limits : Limits) (text : List ℕ) → StandsForRead limits self.old text
+            → StandsForRead limits self.new (text ++ piece.now)) }
         ensures ok { OnOk result (self.new.lost ≡ false) }
         ensures err { OnErr result (self.new.lost ≡ true) }
         ensures lost { self.old.lost ≡ true → IsErr result }
 
         // Once a token was refused, or the text is too long, no memory is wanted.
-        ensures decided { self.old.lost ≡ false → (IsSome self.old.fault ⊎ (self.old.limits.bytes < self.old.count + length piece.now)) → IsOk result }
+        ensures decided { self.old.lost ≡ false
+            → (IsSome self.old.fault ⊎ (self.old.limits.bytes < self.old.count + length piece.now))
+            → IsOk result }
     {
         if self.lost {
             return Err(NoMemory);
@@ -114,7 +126,8 @@ impl TextReader {
 
     /// The history that the text stands for, or why there is none.
     pub fn finish(self) -> Result<History, TextFault>
-        ensures reads { (limits : Limits) (text : List ℕ) → StandsForRead limits self text → ReadsAs limits text result }
+        ensures reads { (limits : Limits) (text : List ℕ) → StandsForRead limits self text
+            → ReadsAs limits text result }
         ensures lost { self.lost ≡ true → result ≡ Err OutOfMemory }
     {
         let alloc = self.alloc;
@@ -124,7 +137,8 @@ impl TextReader {
 
     /// The log of the history that the text stands for, or why there is none.
     pub fn finish_log(self) -> Result<Log, TextFault>
-        ensures reads { (limits : Limits) (text : List ℕ) → StandsForRead limits self text → ReadsAs limits text result }
+        ensures reads { (limits : Limits) (text : List ℕ) → StandsForRead limits self text
+            → ReadsAs limits text result }
         ensures lost { self.lost ≡ true → result ≡ Err OutOfMemory }
     {
         let TextReader {
@@ -152,8 +166,17 @@ fn end(
     unfinished: &[u8],
     lost: bool,
 ) -> Result<(), TextFault>
-    requires { lost ≡ false → IsNone fault → count ≤ limits.bytes → Knows judge.old.draft × HasText limits count (events_of judge.old.draft.tables) unfinished.now }
-    ensures reads { (text : List ℕ) → StandsForRead limits (record { limits = limits; count = count; fault = fault; events = events_of judge.old.draft.tables; unfinished = unfinished.now; lost = lost }) text → EndsAs limits text (events_of judge.new.draft.tables) result }
+    requires { lost ≡ false → IsNone fault → count ≤ limits.bytes
+        → Knows judge.old.draft × HasText limits count (events_of judge.old.draft.tables) unfinished.now }
+    ensures reads { (text : List ℕ) → StandsForRead limits (record {
+      limits = limits;
+      count = count;
+      fault = fault;
+      events = events_of judge.old.draft.tables;
+      unfinished = unfinished.now;
+      lost = lost;
+    }) text
+        → EndsAs limits text (events_of judge.new.draft.tables) result }
     ensures well_formed { OnOk result (IsWellFormed (events_of judge.new.draft.tables)) }
     ensures tables { OnOk result (AreTables judge.new.draft.tables) }
     ensures lost { lost ≡ true → result ≡ Err OutOfMemory }

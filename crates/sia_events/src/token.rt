@@ -1,12 +1,12 @@
 //! One token: the event that it spells.
-ghost use Rattle.std.specs.Prelude.{◌≡◌, ◌≤◌, ℕ, List, IfOk, length};
-ghost use Rattle.sia_events.specs.Parsing.{Gives, kept, event_with, after_byte, ended, begin_at, write_at, item_at, pair_at, pairs_at, list_at, list_of, range_at, read_at, commit_at, abort_at, event_at};
+ghost use Rattle.std.specs.Prelude.{ℕ, List};
+ghost use Rattle.sia_events.specs.Parsing.{Gives, kept, event_with, after_byte, ended, begin_at, write_at, item_at, pairs_at, list_at, list_of, range_at, read_at, commit_at, abort_at, event_at};
 
 use crate::draft::{Draft, NO_KEY};
 use crate::event::{Key, TxnId, Version};
 use crate::fault::{Reason, Refusal};
-use crate::mentions::Spellings;
-use crate::number::{Number, number, txn_in, version_in};
+use crate::mentions::{Spellings, pair};
+use crate::number::{Number, after, number, txn_in, version_in};
 use std::alloc::Global;
 
 /// An event whose listed pairs, if there are any, stand beside it.
@@ -33,18 +33,6 @@ impl Listing {
             pairs: Vec::new(alloc),
             spellings: Spellings::new(alloc),
         }
-    }
-}
-
-/// What follows one byte.
-#[tactic(auto, unfolding(crate::specs::Parsing::after_byte))]
-fn after(text: &[u8], byte: u8) -> Result<&[u8], Refusal>
-    ensures gives { Gives (λ x. x.now) result (after_byte byte text.now) }
-    ensures shorter { IfOk result (λ rest. length rest.now ≤ length text.now) }
-{
-    match text {
-        [first, rest @ ..] if *first == byte => Ok(rest),
-        _ => Err(Refusal::Bad(Reason::BadEvent)),
     }
 }
 
@@ -102,22 +90,6 @@ fn item(txn: Number, key: Number, text: &[u8]) -> Result<Token, Refusal>
     };
     let saw = version_in(saw)?;
     Ok(Token::Read { txn, key, saw })
-}
-
-/// A listed key with its version, or None where one of them is out of its range.
-#[inline(never)]
-#[tactic(auto, unfolding(crate::specs::Parsing::pair_at))]
-pub(crate) fn pair(text: &[u8]) -> Result<(Option<(Key, Version)>, &[u8]), Refusal>
-    ensures gives { Gives (λ x. (x.0, x.1.now)) result (pair_at text.now) }
-    ensures shorter { IfOk result (λ x. length x.1.now ≤ length text.now) }
-{
-    let (key, rest) = number(text)?;
-    let (saw, rest) = number(after(rest, b':')?)?;
-    let pair = match (key, saw) {
-        (Some(key), Some(saw)) if saw <= u64::from(u32::MAX) => Some((key, saw as u32)),
-        _ => None,
-    };
-    Ok((pair, rest))
 }
 
 /// Takes in listed keys with commas between. It answers whether all numbers are in their ranges, and what follows the last.

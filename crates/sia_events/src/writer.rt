@@ -12,7 +12,7 @@ use std::alloc::{AllocError, Global};
 
 /// A piece of the spelling of an event.
 #[derive(Clone, Copy)]
-pub(crate) enum Piece<'a> {
+enum Piece<'a> {
     /// A byte and a number.
     Marked(u8, u64),
     Byte(u8),

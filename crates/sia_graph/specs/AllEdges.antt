@@ -7,7 +7,7 @@ use Rattle.sia_events.specs.Transactions.{IsCommitted}
 use Rattle.sia_index.specs.Numbers.{IsCommittedAt}
 use Rattle.sia_parts.specs.Chunks.{AreChunkBounds}
 use Rattle.sia_parts.specs.EdgeRows.{CanTell}
-use Rattle.sia_graph.specs.declared.edges.AllEdges.{AllEdges}
+use Rattle.sia_graph.specs.declared.pivot.AllEdges.{AllEdges}
 use Rattle.sia_graph.specs.declared.pivot.Link.{Link}
 
 -- they can be told at all keys, and each source stands in one chunk; there are at most 1,024

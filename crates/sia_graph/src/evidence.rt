@@ -1,13 +1,20 @@
-//! What the verdict on a history rests on, and who made the versions that stand next to a position.
-ghost use Rattle.std.specs.Prelude.{◌≡◌, ◌↔◌, ℕ, Some};
+//! What the verdict on a history rests on: its index, and what committed transactions saw and passed over.
+ghost use Rattle.std.specs.Prelude.{◌≡◌, ◌↔◌, ℕ, Some, ◌⊎◌, ◌<◌, ◌≤◌, All, Contains, OnOk};
 ghost use Rattle.sia_index.specs.Positions.{HasPosition};
 ghost use Rattle.sia_index.specs.Info.{HasKeyAt};
 ghost use Rattle.sia_graph.specs.Evidence.{IsEvidence};
 ghost use Rattle.sia_graph.specs.Makers.{IsFirstMaker, IsMakerBefore, IsNextMaker};
-ghost use Rattle.sia_graph.specs.Passed.{IsSizeFor};
+ghost use Rattle.sia_graph.specs.Passed.{IsSizeFor, IsHeldBy, IsOwnPassed, IsPassed};
+ghost use Rattle.std.specs.List.Sorted.{IsNonDecreasing, IsNonDecreasingBy};
+ghost use Rattle.sia_index.specs.Numbers.{IsCommittedAt};
+ghost use Rattle.sia_parts.specs.declared.accesses.RangeMiss.{RangeMiss};
+ghost use Rattle.sia_parts.specs.Sights.{Adds};
 
+use sia_events::NoMemory;
 use sia_index::Index;
-use sia_parts::Accesses;
+use sia_index::ordering::put_in_order;
+use sia_parts::{Accesses, RangeMiss};
+use std::alloc::Global;
 
 /// An index, and what the committed transactions of its history saw.
 #[derive(Clone, Copy)]
@@ -50,4 +57,121 @@ pub(crate) fn first_maker(index: &Index, key: u32) -> Option<u32>
     ensures { (i : ℕ) → (result ≡ Some i) ↔ IsFirstMaker index.now key i }
 {
     next_maker(index, index.first_position(key))
+}
+
+/// The keys that one transaction passed over: those of which it made the first version itself, and stretches of the others.
+#[derive(Drop)]
+pub(crate) struct Passed {
+    pub own: Vec<u32>,
+    pub stretches: Vec<RangeMiss>,
+    /// All range misses, in order.
+    misses: Vec<RangeMiss>,
+    /// The keys of which it made the first version, passed over or not.
+    firsts: Vec<u32>,
+}
+
+/// The first of the keys from one to before another, or the other.
+fn next_of(keys: &[u32], from: u32, to: u32) -> u32
+    requires rise { IsNonDecreasing keys.now }
+    requires order { from ≤ to }
+    ensures within { (from ≤ result) × (result ≤ to) }
+    ensures before { (j : ℕ) → from ≤ j → j < result → ¬ Contains keys.now j }
+    ensures is { result < to → Contains keys.now result }
+{
+    match keys.get(keys.partition_point(|key| *key < from)) {
+        Some(key) => to.min(*key),
+        None => to,
+    }
+}
+
+/// The keys of which the transaction made the first version.
+fn put_firsts(index: &Index, txn: u32, firsts: &mut Vec<u32>) -> Result<(), NoMemory>
+    requires txn { (t : ℕ) × IsCommittedAt index.now txn t }
+    ensures rise { OnOk result (IsNonDecreasing firsts.new.items) }
+    ensures each { OnOk result ((j : ℕ) → Contains firsts.new.items j ↔ IsFirstMaker index.now j txn) }
+{
+    let _positions = index.position_count();
+    firsts.clear();
+    for position in index.made_by(txn as usize) {
+        let key = index.key_at(*position);
+        if first_maker(index, key) == Some(txn) {
+            firsts.push(key)?;
+        }
+    }
+    put_in_order(firsts)?;
+    Ok(())
+}
+
+/// Adds the keys of range misses that are own ones, and the stretches between these. The range misses are in order, and keys that
+/// were reached are passed over once.
+fn cut_all(
+    keys: &[u32],
+    misses: &[RangeMiss],
+    own: &mut Vec<u32>,
+    stretches: &mut Vec<RangeMiss>,
+) -> Result<(), NoMemory>
+    requires rise { IsNonDecreasing keys.now }
+    requires sorted { IsNonDecreasingBy (λ miss. miss.from) misses.now }
+    requires few { All (λ miss. miss.to ≤ 1073741824) misses.now }
+    ensures own { OnOk result (Adds (λ j. IsHeldBy misses.now j
+        × Contains keys.now j) own.old.items own.new.items) }
+    ensures stretches { OnOk result ((j : ℕ)
+        → IsHeldBy stretches.new.items j ↔ (IsHeldBy stretches.old.items j
+        ⊎ (IsHeldBy misses.now j × ¬ Contains keys.now j))) }
+{
+    let mut reached = 0;
+    for miss in misses {
+        let mut from = miss.from.max(reached);
+        while from < miss.to {
+            let next = next_of(keys, from, miss.to);
+            stretches.push(RangeMiss { from, to: next })?;
+            if next < miss.to {
+                own.push(next)?;
+            }
+            from = next + 1;
+        }
+        reached = reached.max(miss.to);
+    }
+    Ok(())
+}
+
+impl Passed {
+    pub(crate) fn none(alloc: Global) -> Passed {
+        Passed {
+            own: Vec::new(alloc),
+            stretches: Vec::new(alloc),
+            misses: Vec::new(alloc),
+            firsts: Vec::new(alloc),
+        }
+    }
+
+    /// Goes over to another transaction.
+    pub(crate) fn fill(&mut self, evidence: &Evidence, txn: u32) -> Result<(), NoMemory>
+        requires evidence { IsEvidence evidence.now }
+        requires txn { (t : ℕ) × IsCommittedAt evidence.now.index.now txn t }
+        ensures own { OnOk result ((j : ℕ) → Contains self.new.own.items j
+            ↔ IsOwnPassed evidence.now.index.now evidence.now.accesses.now txn j) }
+        ensures stretches { OnOk result ((j : ℕ)
+            → IsHeldBy self.new.stretches.items j
+            ↔ IsPassed evidence.now.index.now evidence.now.accesses.now txn j) }
+    {
+        self.own.clear();
+        self.stretches.clear();
+        self.misses.clear();
+        let misses = evidence.accesses.missed.at(txn as usize);
+        if misses.is_empty() {
+            return Ok(());
+        }
+        self.misses.extend_from_slice(misses)?;
+        self.misses
+            .sort_unstable_by_key(|miss| (miss.from, miss.to));
+        put_firsts(evidence.index, txn, &mut self.firsts)?;
+        cut_all(
+            &self.firsts,
+            &self.misses,
+            &mut self.own,
+            &mut self.stretches,
+        )?;
+        Ok(())
+    }
 }

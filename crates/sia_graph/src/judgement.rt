@@ -1,4 +1,5 @@
-//! What follows from what was found in a history.
+//! What follows from what was found in a history: the least order that keeps its dependencies or a cycle of these, and whether it is
+//! serializable.
 ghost use Rattle.std.specs.Prelude.{◌≡◌, ◌↔◌, [], ⊤, IfOk, IsTrue, MatchOption};
 ghost use Rattle.sia_events.specs.DangerousStructures.{NoFirst};
 ghost use Rattle.sia_events.specs.Isolation.{IsolationKept};
@@ -6,12 +7,17 @@ ghost use Rattle.sia_parts.specs.Gathering.{IsGathering};
 ghost use Rattle.sia_parts.specs.Accesses.{AreAccesses};
 ghost use Rattle.sia_graph.specs.Dangerous.{IsDangerous};
 ghost use Rattle.sia_graph.specs.Judgements.{IsJudgement};
-ghost use Rattle.sia_graph.specs.Verdicts.{IsOrderVerdict};
+ghost use Rattle.sia_graph.specs.Verdicts.{IsOrderVerdict, IsVerdict};
+ghost use Rattle.sia_events.specs.Transactions.{IsCommitted};
+ghost use Rattle.sia_parts.specs.Entries.{IsEdge};
+ghost use Rattle.sia_graph.specs.Evidence.{IsEvidence};
 
-use crate::evidence::Evidence;
+use crate::cycle::{Steps, cycle_of_left};
+use crate::evidence::{Evidence, size_for};
 use crate::laws::{replay_law, ssi_law};
+use crate::order::{Taken, Txns, take_nodes};
+use crate::sparse::graph_of;
 use crate::ssi::{Dangerous, dangerous_of, passes};
-use crate::verdict::{Verdict, settle_accesses};
 use sia_events::{Log, NoMemory};
 use sia_index::{Counts, Index, counted};
 use sia_parts::{Accesses, BadRead, BadWrite, Gathering, Unexplained};
@@ -55,7 +61,8 @@ pub fn judge(
     requires index { ix.now ≡ log.now }
     requires found { IsGathering log.now found }
     ensures exact { IfOk result (λ (j, accesses). IsJudgement log.now j) }
-    ensures pass { IfOk result (λ (j, accesses). IsTrue j.pass → IsTrue j.serializable × IsOrderVerdict j.verdict) }
+    ensures pass { IfOk result (λ (j, accesses). IsTrue j.pass
+        → IsTrue j.serializable × IsOrderVerdict j.verdict) }
     ensures accesses { IfOk result (λ (j, accesses). AreAccesses ix.now (λ _. ⊤) accesses) }
 {
     log.law();
@@ -91,7 +98,8 @@ pub fn danger_of(
 ) -> Result<Option<Dangerous>, NoMemory>
     requires accesses { AreAccesses ix.now (λ _. ⊤) accesses.now }
     requires judgement { IsJudgement ix.now j.now }
-    ensures { IfOk result (λ found. MatchOption found (IsolationKept ix.now → NoFirst ix.now) (λ d. IsolationKept ix.now × IsDangerous ix.now d)) }
+    ensures { IfOk result (λ found. MatchOption found (IsolationKept ix.now → NoFirst ix.now)
+        (λ d. IsolationKept ix.now × IsDangerous ix.now d)) }
 {
     ix.law();
     if j.pass || !j.is_kept() {
@@ -102,4 +110,31 @@ pub fn danger_of(
         accesses,
     };
     dangerous_of(alloc, &evidence)
+}
+
+/// How the dependencies are settled.
+#[derive(Drop)]
+pub enum Verdict {
+    /// The least order that keeps every edge.
+    Order(Txns),
+    /// A cycle of edges, where no order keeps every edge.
+    Cycle(Steps),
+}
+
+/// The least order of the committed transactions that keeps every edge of the history, or where none does the cycle that is
+/// printed, as `settle` tells it of a list of edges. No edge is made: a few steps lead wherever the edges lead.
+pub fn settle_accesses(alloc: Global, evidence: &Evidence) -> Result<Verdict, NoMemory>
+    requires evidence { IsEvidence evidence.now }
+    ensures { IfOk result (IsVerdict (IsCommitted evidence.now.index.now) (IsEdge evidence.now.index.now)) }
+{
+    let size = size_for(evidence);
+    let graph = graph_of(alloc, evidence, size)?;
+    let taken = take_nodes(alloc, size, evidence.index.committed(), &graph)?;
+    match taken {
+        Taken::Whole(order) => Ok(Verdict::Order(Txns::new(order))),
+        Taken::Rest(left) => {
+            let steps = cycle_of_left(alloc, evidence, &left)?;
+            Ok(Verdict::Cycle(Steps::new(steps)))
+        }
+    }
 }

@@ -10,9 +10,9 @@ ghost use Rattle.sia_graph.specs.Verdicts.{IsVerdict};
 ghost use Rattle.sia_graph.specs.Walks.{AreLeastSources};
 
 use crate::cycle::{EdgesIn, Steps, cycle_of};
+use crate::judgement::Verdict;
 use crate::order::{Graph, Taken, Txns, take_nodes};
 use crate::sparse::put_row;
-use crate::verdict::Verdict;
 use sia_events::{NoMemory, TxnId};
 use sia_index::keyed::{By, ByTxn, between, place_from};
 use sia_index::lists::Lists;
@@ -67,9 +67,11 @@ fn graph_of(alloc: Global, ids: &[TxnId], edges: &[Edge]) -> Result<Graph, NoMem
 
 /// For each place the least one that is left and leads to it. What has none leads to itself.
 fn least_sources(alloc: Global, graph: &Graph, left: &[bool]) -> Result<Vec<usize>, NoMemory>
-    requires { (ids : List ℕ) × (edges : List Edge) × IsGraphOf ids edges graph.now × (length left.now ≡ length ids) }
+    requires { (ids : List ℕ) × (edges : List Edge) × IsGraphOf ids edges graph.now
+        × (length left.now ≡ length ids) }
     ensures long { IfOk result (λ previous. length previous.items ≡ length left.now) }
-    ensures least { IfOk result (λ previous. (ids : List ℕ) (edges : List Edge) → IsGraphOf ids edges graph.now
+    ensures least { IfOk result (λ previous. (ids : List ℕ) (edges : List Edge)
+        → IsGraphOf ids edges graph.now
         → length left.now ≡ length ids
         → AreLeastSources ids (Contains edges) (IsLeftIn left.now) previous.items) }
 {

@@ -56,7 +56,7 @@ pub(crate) const NONE: u32 = u32::MAX;
 /// Steps that are told at their sources' lists of targets are counted. Those told at a target's list of sources are waited for: a
 /// node that nothing else holds back passes its sources, and waits at the first that isn't done.
 #[derive(Drop)]
-pub(crate) struct Taking {
+struct Taking {
     /// What holds each node back: steps that are counted, and one more until its sources are passed.
     counts: Vec<u32>,
     /// How many of its sources each node passed.
@@ -72,7 +72,8 @@ pub(crate) struct Taking {
 /// Adds the place to those that are ready, where it stands before `end`.
 #[inline(always)]
 fn note_ready(behind: &mut BTreeSet<usize>, place: usize, end: usize) -> Result<(), NoMemory>
-    ensures { OnOk result ((i : ℕ) → HasReady behind.new i ↔ (HasReady behind.old i ⊎ ((place ≡ i) × (place < end)))) }
+    ensures { OnOk result ((i : ℕ) → HasReady behind.new i
+        ↔ (HasReady behind.old i ⊎ ((place ≡ i) × (place < end)))) }
 {
     if place < end {
         behind.insert(place)?;
@@ -102,7 +103,8 @@ fn next_ready(behind: &mut BTreeSet<usize>, counts: &[u32], end: &mut usize) -> 
     requires within { end.old ≤ length counts.now }
     ensures empty { IfNone result ((i : ℕ) → IsReadyAt (HasReady behind.old) end.old counts.now i → ⊥) }
     ensures member { IfSome result (IsReadyAt (HasReady behind.old) end.old counts.now) }
-    ensures least { IfSome result (λ p. (i : ℕ) → IsReadyAt (HasReady behind.old) end.old counts.now i → p ≤ i) }
+    ensures least { IfSome result (λ p. (i : ℕ) → IsReadyAt (HasReady behind.old) end.old counts.now i
+        → p ≤ i) }
     ensures taken { IfSome result (λ p. (i : ℕ) → IsReadyAt (HasReady behind.new) end.new counts.now i
         ↔ (IsReadyAt (HasReady behind.old) end.old counts.now i × (p ≢ i))) }
     ensures behind { IfSome result (λ p. (i : ℕ) → HasReady behind.new i → i < end.new) }
@@ -119,7 +121,8 @@ fn next_ready(behind: &mut BTreeSet<usize>, counts: &[u32], end: &mut usize) -> 
 /// The place of the first of these nodes, from a place on, that isn't done.
 fn first_left(nodes: &[u32], done: &[bool], from: usize) -> Option<usize>
     requires { All (λ s. s < length done.now) nodes.now }
-    ensures { MatchOption result ((i : ℕ) → from ≤ i → i < length nodes.now → IsDone done.now (slice_index nodes.now i))
+    ensures { MatchOption result ((i : ℕ) → from ≤ i → i < length nodes.now
+        → IsDone done.now (slice_index nodes.now i))
         (λ p. (from ≤ p) × (p < length nodes.now) × (¬ IsDone done.now (slice_index nodes.now p))
         × ((i : ℕ) → from ≤ i → i < p → IsDone done.now (slice_index nodes.now i))) }
 {
@@ -206,16 +209,21 @@ impl Taking {
     /// The first of those that wait at a node waits there no more, but is to be released.
     fn wake(&mut self, at: usize) -> Option<usize>
         requires at { at < length self.old.counts.items }
-        requires is { (g : Graph) × (done : List Bool) × (pending : ℕ → ℕ) × IsTaking g done self.old pending at }
+        requires is { (g : Graph) × (done : List Bool) × (pending : ℕ → ℕ)
+            × IsTaking g done self.old pending at }
         ensures long { length self.new.counts.items ≡ length self.old.counts.items }
-        ensures none { IfNone result ((g : Graph) (done : List Bool) (pending : ℕ → ℕ) → IsTaking g done self.old pending at
+        ensures none { IfNone result ((g : Graph) (done : List Bool) (pending : ℕ → ℕ)
+            → IsTaking g done self.old pending at
             → IsTaking g done self.new pending (length self.new.counts.items)) }
         ensures one { IfSome result (λ t. (g : Graph) (done : List Bool) (pending more : ℕ → ℕ)
-            → IsTaking g done self.old pending at → IsOneFewer t more pending → IsTaking g done self.new more at) }
+            → IsTaking g done self.old pending at → IsOneFewer t more pending
+            → IsTaking g done self.new more at) }
         ensures waited { IfSome result (λ t. (g : Graph) (done : List Bool) (pending : ℕ → ℕ)
-            → IsTaking g done self.old pending at → WaitsAt g.sources self.old.counts.items self.old.passed.items t at) }
+            → IsTaking g done self.old pending at
+            → WaitsAt g.sources self.old.counts.items self.old.passed.items t at) }
         ensures others { IfSome result (λ t. (g : Graph) (done : List Bool) (pending : ℕ → ℕ) (u s : ℕ)
-            → IsTaking g done self.old pending at → WaitsAt g.sources self.new.counts.items self.new.passed.items u s
+            → IsTaking g done self.old pending at
+            → WaitsAt g.sources self.new.counts.items self.new.passed.items u s
             → WaitsAt g.sources self.old.counts.items self.old.passed.items u s × (u ≢ t)) }
     {
         let node = self.first_waiting[at];
@@ -233,8 +241,10 @@ impl Taking {
         requires graph { IsGraph (length self.old.counts.items) graph.now }
         requires node { (node < length self.old.counts.items) × (length self.old.counts.items < 4294967295) }
         requires done { IsDone done.now node }
-        requires is { IsTaking graph.now done.now self.old (λ t. times t (slice_index_or graph.now.targets node [])) node }
-        ensures is { OnOk result (IsTaking graph.now done.now self.new none_pending (length self.new.counts.items)) }
+        requires is { IsTaking graph.now done.now self.old
+            (λ t. times t (slice_index_or graph.now.targets node [])) node }
+        ensures is { OnOk result (IsTaking graph.now done.now self.new none_pending
+            (length self.new.counts.items)) }
         ensures long { OnOk result (length self.new.counts.items ≡ length self.old.counts.items) }
     {
         while let Some(waiting) = self.wake(node) {
@@ -253,7 +263,8 @@ fn take_all(alloc: Global, graph: &Graph, nodes: usize) -> Result<(Vec<usize>, V
     requires few { nodes < 4294967295 }
     requires graph { IsGraph nodes graph.now }
     ensures long { IfOk result (λ (order, done). length done.items ≡ nodes) }
-    ensures last { IfOk result (λ (order, done). IsLastFront (Contains (range_with_len 0 nodes)) graph.now done.items order.items) }
+    ensures last { IfOk result (λ (order, done). IsLastFront
+        (Contains (range_with_len 0 nodes)) graph.now done.items order.items) }
 {
     let mut taking = Taking::of(alloc, graph, nodes)?;
     let mut done = vec![in alloc; false; nodes]?;
@@ -286,7 +297,8 @@ fn names_of(
     nodes: &[usize],
 ) -> Result<Vec<TxnId>, NoMemory>
     requires within { All (λ a. a < 2 * size + length txns.now) nodes.now }
-    ensures { IfOk result (λ names. names.items ≡ map (name_of size txns.now) (without_blocks (2 * size) nodes.now)) }
+    ensures { IfOk result (λ names. names.items
+        ≡ map (name_of size txns.now) (without_blocks (2 * size) nodes.now)) }
 {
     let floor = 2 * size as usize;
     let mut names = Vec::with_capacity(alloc, txns.len())?;

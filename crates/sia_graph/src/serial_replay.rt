@@ -149,9 +149,12 @@ fn wrong_unlisted(
 ) -> Option<Key>
     requires forward { lo ≤ hi }
     requires listed { IsStrictlyIncreasing (map (λ p. p.0) listed.now) }
-    ensures { MatchOption result ((k : ℕ) → lo ≤ k → k ≤ hi → ((v : ℕ) → ¬ Contains listed.now (k, v)) → version_in versions.now k ≡ 0)
-        (λ key. (lo ≤ key) × (key ≤ hi) × ((v : ℕ) → ¬ Contains listed.now (key, v)) × (version_in versions.now key ≢ 0)
-        × ((k : ℕ) → k < key → lo ≤ k → ((v : ℕ) → ¬ Contains listed.now (k, v)) → version_in versions.now k ≡ 0)) }
+    ensures { MatchOption result ((k : ℕ) → lo ≤ k → k ≤ hi → ((v : ℕ) → ¬ Contains listed.now (k, v))
+        → version_in versions.now k ≡ 0)
+        (λ key. (lo ≤ key) × (key ≤ hi) × ((v : ℕ) → ¬ Contains listed.now (key, v))
+        × (version_in versions.now key ≢ 0)
+        × ((k : ℕ) → k < key → lo ≤ k → ((v : ℕ) → ¬ Contains listed.now (k, v))
+        → version_in versions.now k ≡ 0)) }
 {
     let mut from = lo;
     'keys: while let Some((key, version)) = next_version(versions, from, hi) {
@@ -176,7 +179,8 @@ fn wrong_in_range(
     requires forward { lo ≤ hi }
     requires listed { IsStrictlyIncreasing (map (λ p. p.0) listed.now) }
     requires within { All (λ p. (lo ≤ p.0) × (p.0 ≤ hi)) listed.now }
-    ensures { (t : ℕ) → MatchOption result ((k : ℕ) → Agrees (version_in versions.now) (Range t lo hi listed.now) k)
+    ensures { (t : ℕ) → MatchOption result ((k : ℕ)
+        → Agrees (version_in versions.now) (Range t lo hi listed.now) k)
         (λ key. ¬ Agrees (version_in versions.now) (Range t lo hi listed.now) key
         × ((k : ℕ) → k < key → Agrees (version_in versions.now) (Range t lo hi listed.now) k)) }
 {
@@ -238,8 +242,10 @@ fn chains(alloc: Global, h: &History) -> Result<(BTreeMap<TxnId, u32>, Vec<u32>)
 
 /// Notes the version that a write event makes.
 fn keep_write(event: &Event, versions: &mut BTreeMap<Key, TxnId>) -> Result<(), NoMemory>
-    ensures versions { OnOk result ((k : ℕ) → version_in versions.new k ≡ after (version_in versions.old) event.now k) }
-    ensures written { OnOk result ((h : List Event) (p : ℕ) → at_place h p ≡ Some event.now → AreWritten h versions.old → AreWritten h versions.new) }
+    ensures versions { OnOk result ((k : ℕ) → version_in versions.new k
+        ≡ after (version_in versions.old) event.now k) }
+    ensures written { OnOk result ((h : List Event) (p : ℕ) → at_place h p ≡ Some event.now
+        → AreWritten h versions.old → AreWritten h versions.new) }
 {
     if let Event::Write { txn, key } = event {
         versions.insert(*key, *txn)?;
@@ -262,7 +268,8 @@ fn replay_txn(
     requires written { AreWritten h.now versions.old }
     ensures written { IfOk result (λ _. AreWritten h.now versions.new) }
     ensures right { IfOk result (λ found. found ≡ None → (others : List (ℕ × Event)) (told : Option Mismatch)
-        → Tells h.now (version_in versions.new) others told → Tells h.now (version_in versions.old) (events_of h.now txn ++ others) told) }
+        → Tells h.now (version_in versions.new) others told
+        → Tells h.now (version_in versions.old) (events_of h.now txn ++ others) told) }
     ensures wrong { IfOk result (λ found. (m : Mismatch) → found ≡ Some m → (others : List (ℕ × Event))
         → Tells h.now (version_in versions.old) (events_of h.now txn ++ others) (Some m)) }
 {

@@ -10,17 +10,16 @@ ghost use Rattle.sia_graph.specs.NarrowSteps.{node_of};
 ghost use Rattle.sia_graph.specs.Passed.{IsHeldBy, IsPassed, IsSizeFor};
 ghost use Rattle.sia_graph.specs.SparseGraphs.{AreMemberTargets, AreSourcesOf, IsBlockStep, IsSparse};
 
-use crate::evidence::{Evidence, first_maker, maker_before, next_maker};
+use crate::evidence::{Evidence, Passed, first_maker, maker_before, next_maker};
 use crate::order::Graph;
-use crate::passed::Passed;
 use sia_events::NoMemory;
-use sia_index::Index;
 use sia_index::lists::Lists;
 use sia_parts::RangeMiss;
 use std::alloc::Global;
 
 fn put_where_odd(number: u32, block: u32, blocks: &mut Vec<u32>) -> Result<(), NoMemory>
-    ensures { OnOk result ((b : ℕ) → Contains blocks.new.items b ↔ (Contains blocks.old.items b ⊎ ((b ≡ block) × (number % 2 ≡ 1)))) }
+    ensures { OnOk result ((b : ℕ) → Contains blocks.new.items b
+        ↔ (Contains blocks.old.items b ⊎ ((b ≡ block) × (number % 2 ≡ 1)))) }
 {
     if number % 2 == 1 {
         blocks.push(block)?;
@@ -33,9 +32,12 @@ fn put_where_odd(number: u32, block: u32, blocks: &mut Vec<u32>) -> Result<(), N
 fn put_blocks(size: u32, from: u32, to: u32, blocks: &mut Vec<u32>) -> Result<(), NoMemory>
     requires within { (from ≤ size) × (to ≤ size) }
     requires few { size ≤ 1000000000 }
-    ensures over { OnOk result ((j : ℕ) → j < size → IsUnderSome size blocks.new.items j ↔ (IsUnderSome size blocks.old.items j ⊎ ((from ≤ j) × (j < to)))) }
+    ensures over { OnOk result ((j : ℕ) → j < size
+        → IsUnderSome size blocks.new.items j
+        ↔ (IsUnderSome size blocks.old.items j ⊎ ((from ≤ j) × (j < to)))) }
     ensures keeps { OnOk result ((b : ℕ) → Contains blocks.old.items b → Contains blocks.new.items b) }
-    ensures within { OnOk result ((b : ℕ) → Contains blocks.new.items b → Contains blocks.old.items b ⊎ ((0 < b) × (b < 2 * size))) }
+    ensures within { OnOk result ((b : ℕ) → Contains blocks.new.items b
+        → Contains blocks.old.items b ⊎ ((0 < b) × (b < 2 * size))) }
 {
     let mut low = size + from;
     let mut high = size + to;
@@ -55,9 +57,12 @@ pub(crate) fn put_all_blocks(
     blocks: &mut Vec<u32>,
 ) -> Result<(), NoMemory>
     requires { size ≤ 1000000000 }
-    ensures over { OnOk result ((j : ℕ) → j < size → IsUnderSome size blocks.new.items j ↔ (IsUnderSome size blocks.old.items j ⊎ IsHeldBy stretches.now j)) }
+    ensures over { OnOk result ((j : ℕ) → j < size
+        → IsUnderSome size blocks.new.items j
+        ↔ (IsUnderSome size blocks.old.items j ⊎ IsHeldBy stretches.now j)) }
     ensures keeps { OnOk result ((b : ℕ) → Contains blocks.old.items b → Contains blocks.new.items b) }
-    ensures within { OnOk result ((b : ℕ) → Contains blocks.new.items b → Contains blocks.old.items b ⊎ ((0 < b) × (b < 2 * size))) }
+    ensures within { OnOk result ((b : ℕ) → Contains blocks.new.items b
+        → Contains blocks.old.items b ⊎ ((0 < b) × (b < 2 * size))) }
 {
     for stretch in stretches {
         put_blocks(size, stretch.from.min(size), stretch.to.min(size), blocks)?;
@@ -79,7 +84,8 @@ fn is_among_last(row: &[u32], node: u32) -> bool
 /// again and again, which are added once.
 fn put_other(size: u32, txn: u32, other: Option<u32>, row: &mut Vec<u32>) -> Result<(), NoMemory>
     requires { (size ≤ 536870912) × ((i : ℕ) → other ≡ Some i → i < 1073741824) }
-    ensures { OnOk result (Adds (λ n. (i : ℕ) × (other ≡ Some i) × (i ≢ txn) × (n ≡ node_of size i)) row.old.items row.new.items) }
+    ensures { OnOk result (Adds (λ n. (i : ℕ) × (other ≡ Some i) × (i ≢ txn)
+        × (n ≡ node_of size i)) row.old.items row.new.items) }
 {
     let Some(other) = other else { return Ok(()) };
     let node = 2 * size + other;
@@ -100,7 +106,8 @@ fn put_block_steps(
     requires size { IsSizeFor size evidence.now.index.now evidence.now.accesses.now }
     requires block { block < 2 * size }
     requires none { targets.old.items ≡ [] }
-    ensures { OnOk result ((n : ℕ) → Contains targets.new.items n ↔ IsBlockStep evidence.now.index.now size block n) }
+    ensures { OnOk result ((n : ℕ) → Contains targets.new.items n
+        ↔ IsBlockStep evidence.now.index.now size block n) }
 {
     if block == 0 {
         return Ok(());
@@ -127,10 +134,13 @@ fn put_member_steps(
     requires evidence { IsEvidence evidence.now }
     requires size { IsSizeFor size evidence.now.index.now evidence.now.accesses.now }
     requires txn { (t : ℕ) × IsCommittedAt evidence.now.index.now txn t }
-    requires passed { (j : ℕ) → IsHeldBy passed.now.stretches.items j ↔ IsPassed evidence.now.index.now evidence.now.accesses.now txn j }
+    requires passed { (j : ℕ) → IsHeldBy passed.now.stretches.items j
+        ↔ IsPassed evidence.now.index.now evidence.now.accesses.now txn j }
     requires none { (sources.old.items ≡ []) × (targets.old.items ≡ []) }
-    ensures sources { OnOk result (AreSourcesOf evidence.now.index.now evidence.now.accesses.now size (node_of size txn) sources.new.items) }
-    ensures targets { OnOk result (AreMemberTargets evidence.now.index.now evidence.now.accesses.now size txn targets.new.items) }
+    ensures sources { OnOk result (AreSourcesOf evidence.now.index.now evidence.now.accesses.now size
+        (node_of size txn) sources.new.items) }
+    ensures targets { OnOk result (AreMemberTargets evidence.now.index.now evidence.now.accesses.now size txn
+        targets.new.items) }
 {
     let index = evidence.index;
     for seen in evidence.accesses.saw.at(txn as usize) {
@@ -158,7 +168,8 @@ pub(crate) fn put_row(lists: &mut Lists<u32>, row: &[u32]) -> Result<(), NoMemor
 pub(crate) fn graph_of(alloc: Global, evidence: &Evidence, size: u32) -> Result<Graph, NoMemory>
     requires evidence { IsEvidence evidence.now }
     requires size { IsSizeFor size evidence.now.index.now evidence.now.accesses.now }
-    ensures { IfOk result (λ g. (txns : List ℕ) → ListsAscending (IsCommitted evidence.now.index.now) txns → IsSparse evidence.now.index.now size txns g) }
+    ensures { IfOk result (λ g. (txns : List ℕ) → ListsAscending (IsCommitted evidence.now.index.now) txns
+        → IsSparse evidence.now.index.now size txns g) }
 {
     let nodes = 2 * size as usize + evidence.index.committed().len();
     let positions = evidence.index.position_count() as usize;

@@ -96,7 +96,8 @@ fn least_passing(nodes: &[Two], size: u32, key: u32, me: u32) -> u32
     requires few { size ≤ 1000000000 }
     requires long { length nodes.now ≡ 2 * size }
     ensures { (a : Accesses) (left : List Bool) → AreTwosOver size (IsLeftPasser a left) nodes.now
-        → (key < size) ⊎ ((r : ℕ) → ¬ Missed a r key) → IsLeastNumber (λ r. IsLeftPasser a left key r × (r ≢ me)) result }
+        → (key < size) ⊎ ((r : ℕ) → ¬ Missed a r key)
+        → IsLeastNumber (λ r. IsLeftPasser a left key r × (r ≢ me)) result }
 {
     if key >= size {
         return NONE;
@@ -156,7 +157,8 @@ impl Earlier {
     fn least_maker(&self, position: u32, me: u32) -> u32
         requires { position < length self.now.makers.items }
         ensures { (h : List Event) (a : Accesses) (left : List Bool) → IsWellFormed h
-            → AreEarlier h a left self.now → IsLeastNumber (λ r. IsUpTo h (IsLeftMaker h left) position r × (r ≢ me)) result }
+            → AreEarlier h a left self.now → IsLeastNumber
+            (λ r. IsUpTo h (IsLeftMaker h left) position r × (r ≢ me)) result }
     {
         other(self.makers[position as usize], me)
     }
@@ -164,7 +166,8 @@ impl Earlier {
     /// Of those who made a version up to the position, saw one below it or passed over its key the least but `me`.
     fn least_before(&self, index: &Index, position: u32, me: u32) -> u32
         requires position { HasPosition index.now position }
-        requires is { (a : Accesses) × (left : List Bool) × IsWellFormed index.now × AreEarlier index.now a left self.now }
+        requires is { (a : Accesses) × (left : List Bool) × IsWellFormed index.now
+            × AreEarlier index.now a left self.now }
         ensures { (a : Accesses) (left : List Bool) → AreEarlier index.now a left self.now
             → IsLeastNumber (λ r. IsBeforeVersion index.now a left position r × (r ≢ me)) result }
     {
@@ -181,8 +184,10 @@ impl Earlier {
     pub(crate) fn least_source(&self, evidence: &Evidence, me: u32) -> u32
         requires is { IsEvidence evidence.now }
         requires me { (t : ℕ) × IsCommittedAt evidence.now.index.now me t }
-        requires earlier { (left : List Bool) × AreEarlier evidence.now.index.now evidence.now.accesses.now left self.now }
-        ensures { (left : List Bool) → AreEarlier evidence.now.index.now evidence.now.accesses.now left self.now
+        requires earlier { (left : List Bool)
+            × AreEarlier evidence.now.index.now evidence.now.accesses.now left self.now }
+        ensures { (left : List Bool)
+            → AreEarlier evidence.now.index.now evidence.now.accesses.now left self.now
             → IsLeastNumber (IsLeftSource evidence.now.index.now left me) result }
     {
         let mut least = NONE;

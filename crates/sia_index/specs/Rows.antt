@@ -6,7 +6,7 @@ use Rattle.sia_events.specs.Transactions.{HasEvent, IsCommitted, WritesAt, Wrote
 use Rattle.sia_index.specs.declared.info.Made.{Made}
 use Rattle.sia_index.specs.declared.info.KeyVersion.{KeyVersion}
 use Rattle.sia_index.specs.declared.names.Numbered.{Numbered}
-use Rattle.sia_index.specs.declared.writes.WriteRow.{WriteRow}
+use Rattle.sia_index.specs.declared.txns.WriteRow.{WriteRow}
 
 -- no number from lo to hi has P, or none below the one that was found
 abbrev pub PassesNone : (ℕ → Type 0) → ℕ → ℕ → Option ℕ → Type 0

@@ -17,7 +17,7 @@ use Rattle.sia_index.specs.declared.info.TxnInfo.{TxnInfo}
 use Rattle.sia_index.specs.declared.names.Keys.{Keys}
 use Rattle.sia_index.specs.declared.txns.Txns.{Txns}
 use Rattle.sia_index.specs.declared.versions.Versions.{Versions}
-use Rattle.sia_index.specs.declared.writes.Writes.{Writes}
+use Rattle.sia_index.specs.declared.txns.Writes.{Writes}
 
 -- the offsets of the groups of the first n numbers among the rows
 pub record AreOffsets {A : Type 0} (by : A → ℕ) (numbers : List ℕ) (rows : List A) (offsets : List ℕ) (n : ℕ) : Type 0 where

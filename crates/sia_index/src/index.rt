@@ -1,28 +1,30 @@
 //! An index of a history, and what it answers.
-ghost use Rattle.std.specs.Prelude.{◌≡◌, ◌<◌, ℕ, MatchOption, ◌↔◌, IsTrue, List, Some, length};
+ghost use Rattle.std.specs.Prelude.{◌≡◌, ◌<◌, ℕ, MatchOption, ◌↔◌, IsTrue, List, Some, length, All};
 ghost use Rattle.sia_events.specs.declared.event.Event.{Event};
 ghost use Rattle.sia_events.specs.Lists.{ListsAscending};
 ghost use Rattle.sia_events.specs.Numbering.{names_of, txns_of, txn_at};
 ghost use Rattle.sia_events.specs.Refusals.{IsWellFormed};
-ghost use Rattle.sia_events.specs.Transactions.{HasEvent, IsCommitted, Wrote, Overlap};
-ghost use Rattle.sia_index.specs.Info.{IsInfo, IsKeyAt, HasKeyAt, AreVersions, AreWrittenKeys, IsFirstWrite};
+ghost use Rattle.sia_events.specs.Transactions.{HasEvent, IsCommitted, Wrote, Overlap, WroteBefore};
+ghost use Rattle.sia_index.specs.Info.{IsInfo, IsKeyAt, HasKeyAt, AreVersions, AreWrittenKeys, IsFirstWrite, IsReader};
 ghost use Rattle.sia_index.specs.Lifetimes.{AreLifetimes, IsLifetime};
 ghost use Rattle.sia_index.specs.Numbers.{HasTxnAt, IsTxnAt, IsCommittedAt};
 ghost use Rattle.sia_index.specs.Positions.{AreAllVersions};
-ghost use Rattle.sia_index.specs.Rows.{AreWrites, IsKeyStretch, IsStretch};
+ghost use Rattle.sia_index.specs.Rows.{AreWrites, IsKeyStretch, IsStretch, AscendsByCommit, IsLastWithin, PassesNone};
 ghost use Rattle.sia_index.specs.declared.info.KeyVersion.{KeyVersion};
-ghost use Rattle.sia_index.specs.declared.writes.WriteRow.{WriteRow};
+ghost use Rattle.sia_index.specs.declared.txns.WriteRow.{WriteRow};
 ghost use Rattle.sia_index.specs.Tables.{AreTables};
+ghost use Rattle.sia_events.specs.Reads.{IsDue};
+ghost use Rattle.sia_index.specs.Counting.{AreCounts};
 
-use crate::info::{Lifetime, Made, TxnInfo, overlap};
-use crate::keyed::{ByKey, ByTxn, find, place_from};
+use crate::info::{Counts, Fate, Lifetime, Made, Reader, TxnInfo, overlap};
+use crate::keyed::{ByKey, ByPlace, ByTxn, find, place_above, place_from};
 use crate::lists::end_at;
+use crate::minima::next_below;
 use crate::names::Keys;
 use crate::ordering::group_at;
-use crate::txns::Txns;
+use crate::txns::{Txns, WriteRow, Writes};
 use crate::versions::Versions;
-use crate::writes::{WriteRow, Writes};
-use sia_events::{Key, Log, TxnId};
+use sia_events::{Key, Log, TxnId, Version};
 use std::marker::Model;
 use std::snapshot::Snapshot;
 
@@ -66,7 +68,7 @@ impl Index {
         &self.txns.ids
     }
 
-    // The number of a transaction among all of them, counted from 0.
+    /// The number of a transaction among all of them, counted from 0.
     pub(crate) fn txn_number(&self, t: TxnId) -> Option<usize>
         ensures { MatchOption result (¬ HasEvent self.now t) (λ i. IsTxnAt self.now i t) }
     {
@@ -122,7 +124,8 @@ impl Index {
 
     /// When each of these starts and commits.
     pub fn lifetimes(&self) -> &[Lifetime]
-        ensures { (txns : List ℕ) → ListsAscending (IsCommitted self.now) txns → AreLifetimes self.now txns result.now }
+        ensures { (txns : List ℕ) → ListsAscending (IsCommitted self.now) txns
+            → AreLifetimes self.now txns result.now }
     {
         &self.txns.lifetimes
     }
@@ -154,10 +157,11 @@ impl Index {
         &self.versions.made[from + 1..to]
     }
 
-    // Where the versions of number `i` of the written keys begin, with version 0, and where they end.
+    /// Where the versions of number `i` of the written keys begin, with version 0, and where they end.
     pub(crate) fn group(&self, i: usize) -> (usize, usize)
         requires { HasKeyAt self.now i }
-        ensures { (k : ℕ) (versions : List KeyVersion) → IsKeyAt self.now i k → AreAllVersions self.now versions → IsKeyStretch versions k result.0 result.1 }
+        ensures { (k : ℕ) (versions : List KeyVersion) → IsKeyAt self.now i k
+            → AreAllVersions self.now versions → IsKeyStretch versions k result.0 result.1 }
     {
         let (firsts, count) = (&self.versions.firsts, self.versions.made.len());
         (firsts[i] as usize, end_at(firsts, i, count))
@@ -178,7 +182,7 @@ impl Index {
         self.first_write_at(t, number, k)
     }
 
-    // The same of transaction number `i`.
+    /// The same of transaction number `i`.
     pub(crate) fn first_write_at(&self, t: TxnId, i: usize, k: Key) -> Option<u32>
         requires { IsTxnAt self.now i t }
         ensures { MatchOption result (¬ Wrote self.now t k) (IsFirstWrite self.now t k) }
@@ -192,12 +196,135 @@ impl Index {
         }
     }
 
-    // Where the rows of transaction number `i` start and end among those of all writes.
+    /// Where the rows of transaction number `i` start and end among those of all writes.
     pub(crate) fn stretch_at(&self, t: TxnId, i: usize) -> (usize, usize)
         requires { IsTxnAt self.now i t }
         ensures { (rows : List WriteRow) → AreWrites self.now rows → IsStretch rows t result.0 result.1 }
     {
         let _ = t;
         group_at(&self.writes.starts, i)
+    }
+}
+
+impl Index {
+    /// What is known of a transaction that reads at the place.
+    pub fn reader(&self, t: TxnId, place: u32) -> Reader
+        requires { HasEvent self.now t }
+        ensures { IsReader self.now t place result }
+    {
+        let _ = &self.of;
+        self.reader_of(t, self.txn_number(t).unwrap_or(0), place)
+    }
+
+    /// The same of the log's transaction: no search is needed.
+    pub fn reader_at(&self, txn: u32, place: u32) -> Reader
+        requires { txn < length (txns_of self.now) }
+        ensures { IsReader self.now (txn_at (names_of self.now) txn) place result }
+    {
+        let number = self.txns.numbers[txn as usize].unwrap_or(0) as usize;
+        self.reader_of(self.txns.ids[number], number, place)
+    }
+
+    /// The same of transaction number `i`.
+    fn reader_of(&self, t: TxnId, number: usize, place: u32) -> Reader
+        requires { IsTxnAt self.now number t }
+        ensures { IsReader self.now t place result }
+    {
+        let _ = &self.of;
+        let (from, to) = self.stretch_at(t, number);
+        Reader {
+            txn: t,
+            number,
+            place,
+            start: self.txn_at(number).start,
+            has_written: from < to,
+        }
+    }
+
+    /// The version due to a read of the key by the transaction at the place.
+    pub fn due(&self, t: TxnId, place: u32, k: Key) -> Version
+        requires { HasEvent self.now t }
+        ensures { IsDue self.now t place k result }
+    {
+        let _ = &self.of;
+        let reader = self.reader(t, place);
+        if self.wrote_before(reader, k) {
+            return t;
+        }
+        match last_within(self.versions(k), reader.start) {
+            Some(made) => made.txn,
+            None => 0,
+        }
+    }
+
+    /// Whether the reader wrote the key before its place.
+    pub fn wrote_before(&self, reader: Reader, k: Key) -> bool
+        requires { IsReader self.now reader.txn reader.place reader }
+        ensures { IsTrue result ↔ WroteBefore self.now reader.txn k reader.place }
+    {
+        if reader.has_written {
+            match self.first_write_at(reader.txn, reader.number, k) {
+                Some(first) => first < reader.place,
+                None => false,
+            }
+        } else {
+            false
+        }
+    }
+
+    /// The least key from `lo` to `hi` that the reader wrote before its place.
+    pub fn next_own(&self, reader: Reader, lo: Key, hi: Key) -> Option<Key>
+        requires { IsReader self.now reader.txn reader.place reader }
+        ensures { PassesNone (λ k. WroteBefore self.now reader.txn k reader.place) lo hi result }
+    {
+        if !reader.has_written {
+            return None;
+        }
+        let rows = &self.writes.rows;
+        let (from, to) = self.stretch_at(reader.txn, reader.number);
+        let first = from + place_from::<WriteRow, ByKey>(&rows[from..to], lo);
+        let last = from + place_above::<WriteRow, ByKey>(&rows[from..to], hi);
+        let place = u64::from(reader.place);
+        let next = next_below::<WriteRow, ByPlace>(rows, &self.writes.minima, first, last, place)?;
+        Some(rows[next].key)
+    }
+}
+
+/// Of versions by commit the last that commits at most at the place.
+fn last_within(versions: &[Made], place: u32) -> Option<Made>
+    requires { AscendsByCommit versions.now }
+    ensures { MatchOption result (All (λ made. place < made.commit) versions.now)
+        (IsLastWithin versions.now place) }
+{
+    let within = place_above::<Made, ByPlace>(versions, u64::from(place));
+    if within == 0 {
+        return None;
+    }
+    Some(versions[within - 1])
+}
+
+/// The counts of the history that the log is of.
+pub fn counted(h: &Log, ix: &Index) -> Counts
+    requires { ix.now ≡ h.now }
+    ensures { AreCounts h.now result }
+{
+    ix.law();
+    let events = h.len();
+    let txns = ix.txns();
+    let mut committed: u32 = 0;
+    let mut aborted: u32 = 0;
+    let mut unfinished: u32 = 0;
+    for (i, _) in txns.iter().enumerate() {
+        match ix.txn_at(i).fate {
+            Fate::Committed => committed += 1,
+            Fate::Aborted => aborted += 1,
+            Fate::Unfinished => unfinished += 1,
+        }
+    }
+    Counts {
+        events,
+        committed,
+        aborted,
+        unfinished,
     }
 }

@@ -59,7 +59,8 @@ impl By<Made> for ByPlace {
 pub fn place_from<T, O: By<T>>(rows: &[T], from: u64) -> usize
     requires { IsNonDecreasingBy O.by rows.now }
     ensures bound { result ≤ length rows.now }
-    ensures point { IsPartitionPoint (λ row. ltb (O.by row) from ≡ true) (λ row. ltb (O.by row) from ≡ false) rows.now result }
+    ensures point { IsPartitionPoint (λ row. ltb (O.by row) from ≡ true)
+        (λ row. ltb (O.by row) from ≡ false) rows.now result }
 {
     rows.partition_point(|row| O::number(row) < from)
 }
@@ -68,7 +69,8 @@ pub fn place_from<T, O: By<T>>(rows: &[T], from: u64) -> usize
 pub fn place_above<T, O: By<T>>(rows: &[T], to: u64) -> usize
     requires { IsNonDecreasingBy O.by rows.now }
     ensures bound { result ≤ length rows.now }
-    ensures point { IsPartitionPoint (λ row. leb (O.by row) to ≡ true) (λ row. leb (O.by row) to ≡ false) rows.now result }
+    ensures point { IsPartitionPoint (λ row. leb (O.by row) to ≡ true)
+        (λ row. leb (O.by row) to ≡ false) rows.now result }
 {
     rows.partition_point(|row| O::number(row) <= to)
 }
@@ -77,7 +79,8 @@ pub fn place_above<T, O: By<T>>(rows: &[T], to: u64) -> usize
 pub fn place_from_near<T, O: By<T>>(rows: &[T], from: u64, near: usize) -> usize
     requires { IsNonDecreasingBy O.by rows.now }
     ensures bound { result ≤ length rows.now }
-    ensures point { IsPartitionPoint (λ row. ltb (O.by row) from ≡ true) (λ row. ltb (O.by row) from ≡ false) rows.now result }
+    ensures point { IsPartitionPoint (λ row. ltb (O.by row) from ≡ true)
+        (λ row. ltb (O.by row) from ≡ false) rows.now result }
 {
     if parts_at::<T, O>(rows, from, near) {
         return near;
@@ -85,11 +88,12 @@ pub fn place_from_near<T, O: By<T>>(rows: &[T], from: u64, near: usize) -> usize
     place_from::<T, O>(rows, from)
 }
 
-// Whether the rows before the place are below `from`, and the others are not.
+/// Whether the rows before the place are below `from`, and the others are not.
 fn parts_at<T, O: By<T>>(rows: &[T], from: u64, place: usize) -> bool
     requires { IsNonDecreasingBy O.by rows.now }
     ensures bound { IsTrue result → place ≤ length rows.now }
-    ensures point { IsTrue result → IsPartitionPoint (λ row. ltb (O.by row) from ≡ true) (λ row. ltb (O.by row) from ≡ false) rows.now place }
+    ensures point { IsTrue result → IsPartitionPoint (λ row. ltb (O.by row) from ≡ true)
+        (λ row. ltb (O.by row) from ≡ false) rows.now place }
 {
     if place > rows.len() || place > 0 && from <= O::number(&rows[place - 1]) {
         return false;
@@ -110,7 +114,8 @@ pub fn between<T, O: By<T>>(rows: &[T], lo: u64, hi: u64) -> &[T]
 /// The place of the row of the number.
 pub(crate) fn find<T, O: By<T>>(rows: &[T], number: u64) -> Option<usize>
     requires { AllPairs (λ x y. O.by x < O.by y) rows.now }
-    ensures { MatchOption result (All (λ row. O.by row ≢ number) rows.now) (λ i. (i < length rows.now) × ((d : T) → O.by (slice_index_or rows.now i d) ≡ number)) }
+    ensures { MatchOption result (All (λ row. O.by row ≢ number) rows.now)
+        (λ i. (i < length rows.now) × ((d : T) → O.by (slice_index_or rows.now i d) ≡ number)) }
 {
     let at = place_from::<T, O>(rows, number);
     if O::number(rows.get(at)?) != number {

@@ -10,15 +10,11 @@ mod minima;
 mod names;
 pub mod ordering;
 mod positions;
-mod readers;
 mod txns;
 mod versions;
-mod writes;
 
-pub use index::Index;
-pub use info::{
-    Counts, Fate, KeyVersion, Lifetime, Made, Reader, TxnInfo, WriteAt, counted, overlap,
-};
+pub use index::{Index, counted};
+pub use info::{Counts, Fate, KeyVersion, Lifetime, Made, Reader, TxnInfo, WriteAt, overlap};
 
 #[cfg(test)]
 mod tests;

@@ -3,9 +3,8 @@ ghost use Rattle.std.specs.Prelude.{◌≡◌, IfOk};
 
 use crate::index::Index;
 use crate::names::keys_of;
-use crate::txns::txns_of;
+use crate::txns::{txns_of, writes_of};
 use crate::versions::versions_of;
-use crate::writes::writes_of;
 use sia_events::{History, Log, NoMemory};
 use std::alloc::Global;
 use std::snapshot::Snapshot;

@@ -26,7 +26,7 @@ pub fn minima_of<T, O: By<T>>(alloc: Global, rows: &[T]) -> Result<Vec<u64>, All
     Ok(minima)
 }
 
-// The least power of 2 that is enough blocks.
+/// The least power of 2 that is enough blocks.
 fn size_for(rows: usize) -> usize
     ensures power { IsPower result }
     ensures enough { rows ≤ result * 16 }
@@ -49,7 +49,8 @@ pub fn next_below<T, O: By<T>>(
 ) -> Option<usize>
     requires within { to ≤ length rows.now }
     requires minima_are { AreMinima O.by rows.now minima.now }
-    ensures { MatchOption result (AllWithin (λ row. limit ≤ O.by row) rows.now from to) (IsNextBelow O.by rows.now from to limit) }
+    ensures { MatchOption result (AllWithin (λ row. limit ≤ O.by row) rows.now from to)
+        (IsNextBelow O.by rows.now from to limit) }
 {
     let mut i = from;
     while i < to {
@@ -62,7 +63,7 @@ pub fn next_below<T, O: By<T>>(
     None
 }
 
-// Of the `width` blocks below a node, from `low` on, the first from `from` on that has a number below the limit, or the one behind them.
+/// Of the `width` blocks below a node, from `low` on, the first from `from` on that has a number below the limit, or the one behind them.
 fn next_block(
     minima: &[u64],
     node: usize,

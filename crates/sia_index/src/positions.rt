@@ -19,7 +19,8 @@ impl Index {
     /// The number of the log's key among the written ones, if it is written.
     pub fn written_number(&self, key: u32) -> Option<u32>
         requires { key < length (keys_of self.now) }
-        ensures { MatchOption result ((t : ℕ) → ¬ Wrote self.now t (key_at (names_of self.now) key)) (λ i. IsKeyAt self.now i (key_at (names_of self.now) key)) }
+        ensures { MatchOption result ((t : ℕ) → ¬ Wrote self.now t (key_at (names_of self.now) key))
+            (λ i. IsKeyAt self.now i (key_at (names_of self.now) key)) }
     {
         self.keys.numbers[key as usize]
     }
@@ -29,8 +30,11 @@ impl Index {
         requires above { 0 < write }
         requires bound { write ≤ length (writes_of self.now) }
         ensures key { IsKeyAt self.now result.key (write_at (names_of self.now) (write - 1)).0 }
-        ensures position { MatchOption result.position (¬ IsCommitted self.now (write_at (names_of self.now) (write - 1)).1)
-            (λ q. (v : KeyVersion) × IsAtPosition self.now q v × (v.key ≡ (write_at (names_of self.now) (write - 1)).0) × (v.txn ≡ (write_at (names_of self.now) (write - 1)).1) × (0 < v.commit)) }
+        ensures position { MatchOption result.position
+            (¬ IsCommitted self.now (write_at (names_of self.now) (write - 1)).1)
+            (λ q. (v : KeyVersion) × IsAtPosition self.now q v
+            × (v.key ≡ (write_at (names_of self.now) (write - 1)).0)
+            × (v.txn ≡ (write_at (names_of self.now) (write - 1)).1) × (0 < v.commit)) }
     {
         self.versions.writes[write as usize - 1]
     }
@@ -45,7 +49,8 @@ impl Index {
     /// The position of version 0 of written key number `i`.
     pub fn first_position(&self, i: u32) -> u32
         requires { HasKeyAt self.now i }
-        ensures { (v : KeyVersion) × IsAtPosition self.now result v × IsKeyAt self.now i v.key × (v.commit ≡ 0) }
+        ensures { (v : KeyVersion) × IsAtPosition self.now result v × IsKeyAt self.now i v.key
+            × (v.commit ≡ 0) }
     {
         self.versions.firsts[i as usize]
     }
@@ -69,7 +74,8 @@ impl Index {
     /// The number, among the committed transactions, of who made the version at the position. Nobody made version 0.
     pub fn maker_at(&self, position: u32) -> Option<u32>
         requires { HasPosition self.now position }
-        ensures { (v : KeyVersion) → IsAtPosition self.now position v → MatchOption result (v.commit ≡ 0) (λ i. (0 < v.commit) × IsCommittedAt self.now i v.txn) }
+        ensures { (v : KeyVersion) → IsAtPosition self.now position v
+            → MatchOption result (v.commit ≡ 0) (λ i. (0 < v.commit) × IsCommittedAt self.now i v.txn) }
     {
         if self.commit_at(position) == 0 {
             return None;
@@ -77,10 +83,11 @@ impl Index {
         Some(self.versions.rows.rows()[position as usize].maker)
     }
 
-    // When the version behind the position was committed: 0 where that is another key's version 0, or there is none.
+    /// When the version behind the position was committed: 0 where that is another key's version 0, or there is none.
     fn commit_behind(&self, position: u32) -> u32
         requires { HasPosition self.now position }
-        ensures { (v : KeyVersion) → IsAtPosition self.now position v → IsCommitBehind self.now position v result }
+        ensures { (v : KeyVersion) → IsAtPosition self.now position v
+            → IsCommitBehind self.now position v result }
     {
         match self.versions.made.get(position as usize + 1) {
             Some(next) => next.commit,
@@ -91,8 +98,10 @@ impl Index {
     /// The position of the next version of the same key, if there is one.
     pub fn next_position(&self, position: u32) -> Option<u32>
         requires { HasPosition self.now position }
-        ensures { (v : KeyVersion) → IsAtPosition self.now position v → MatchOption result (NoneBehind self.now v.key v.commit)
-            (λ q. (w : KeyVersion) × IsAtPosition self.now q w × (w.key ≡ v.key) × (0 < w.commit) × IsNextVersion self.now v.key v.commit w.txn × (position < q)) }
+        ensures { (v : KeyVersion) → IsAtPosition self.now position v
+            → MatchOption result (NoneBehind self.now v.key v.commit)
+            (λ q. (w : KeyVersion) × IsAtPosition self.now q w × (w.key ≡ v.key) × (0 < w.commit)
+            × IsNextVersion self.now v.key v.commit w.txn × (position < q)) }
     {
         let _ = &self.of;
         if self.commit_behind(position) == 0 {
@@ -105,7 +114,8 @@ impl Index {
     pub fn position_before(&self, position: u32) -> Option<u32>
         requires { HasPosition self.now position }
         ensures { (v : KeyVersion) → IsAtPosition self.now position v → MatchOption result (v.commit ≡ 0)
-            (λ q. (w : KeyVersion) × IsAtPosition self.now q w × (w.key ≡ v.key) × (w.commit < v.commit) × IsNextVersion self.now v.key w.commit v.txn × (q < position)) }
+            (λ q. (w : KeyVersion) × IsAtPosition self.now q w × (w.key ≡ v.key) × (w.commit < v.commit)
+            × IsNextVersion self.now v.key w.commit v.txn × (q < position)) }
     {
         let _ = &self.of;
         if self.commit_at(position) == 0 {
@@ -117,7 +127,8 @@ impl Index {
     /// Whether the version at the position is the newest of its key as of the place: two looks, and no search.
     pub fn is_newest(&self, position: u32, place: u32) -> bool
         requires { HasPosition self.now position }
-        ensures { (v : KeyVersion) → IsAtPosition self.now position v → IsTrue result ↔ IsNewestAsOf self.now place v }
+        ensures { (v : KeyVersion) → IsAtPosition self.now position v
+            → IsTrue result ↔ IsNewestAsOf self.now place v }
     {
         let _ = &self.of;
         if self.commit_at(position) > place {
@@ -129,7 +140,8 @@ impl Index {
     /// The position of the newest version of written key number `i` as of the place, by a search.
     pub fn position_as_of(&self, i: u32, place: u32) -> u32
         requires { HasKeyAt self.now i }
-        ensures { (v : KeyVersion) × IsAtPosition self.now result v × IsKeyAt self.now i v.key × IsNewestAsOf self.now place v }
+        ensures { (v : KeyVersion) × IsAtPosition self.now result v × IsKeyAt self.now i v.key
+            × IsNewestAsOf self.now place v }
     {
         let _ = &self.of;
         let (from, _) = self.group(i as usize);
@@ -140,7 +152,9 @@ impl Index {
     /// The positions of the versions that number `t` of the committed transactions made, ascending.
     pub fn made_by(&self, t: usize) -> &[u32]
         requires { (u : ℕ) × IsCommittedAt self.now t u }
-        ensures { (u : ℕ) → IsCommittedAt self.now t u → ListsAscending (λ q. (v : KeyVersion) × IsAtPosition self.now q v × (0 < v.commit) × (v.txn ≡ u)) result.now }
+        ensures { (u : ℕ) → IsCommittedAt self.now t u
+            → ListsAscending (λ q. (v : KeyVersion) × IsAtPosition self.now q v × (0 < v.commit)
+            × (v.txn ≡ u)) result.now }
     {
         self.versions.made_by.at(t)
     }
@@ -148,8 +162,10 @@ impl Index {
     /// Of the written keys from number `from` to before number `to` the least with a version that is committed up to the place. `to` is at most the number of written keys.
     pub fn next_visible(&self, from: u32, to: u32, place: u32) -> Option<u32>
         requires { (i : ℕ) → i < to → HasKeyAt self.now i }
-        ensures { MatchOption result ((i k : ℕ) → from ≤ i → i < to → IsKeyAt self.now i k → ¬ HasVersionUpTo self.now k place)
-            (λ j. (from ≤ j) × (j < to) × ((i k : ℕ) → from ≤ i → i < j → IsKeyAt self.now i k → ¬ HasVersionUpTo self.now k place)
+        ensures { MatchOption result ((i k : ℕ) → from ≤ i → i < to → IsKeyAt self.now i k
+            → ¬ HasVersionUpTo self.now k place)
+            (λ j. (from ≤ j) × (j < to) × ((i k : ℕ) → from ≤ i → i < j → IsKeyAt self.now i k
+            → ¬ HasVersionUpTo self.now k place)
             × ((k : ℕ) → IsKeyAt self.now j k → HasVersionUpTo self.now k place)) }
     {
         let commits = &self.versions.first_commits;

@@ -1,18 +1,21 @@
-//! The table of transactions, by name.
+//! The tables of transactions and of write events.
 ghost use Rattle.std.specs.Prelude.{◌≡◌, ◌↔◌, ℕ, IsTrue, List, Some, All, IfOk, slice_get};
 ghost use Rattle.sia_events.specs.declared.event.Event.{Event};
 ghost use Rattle.sia_events.specs.Numbering.{Ends, txns_of};
 ghost use Rattle.sia_events.specs.Refusals.{IsWellFormed};
-ghost use Rattle.sia_events.specs.Transactions.{StartsAt, IsCommitted};
+ghost use Rattle.sia_events.specs.Transactions.{StartsAt, IsCommitted, HasEvent};
 ghost use Rattle.sia_index.specs.Info.{IsInfo};
 ghost use Rattle.sia_index.specs.Lifetimes.{IsLifetime, AreLifetimes};
-ghost use Rattle.sia_index.specs.Rows.{AreNumbered, AreNamesOf, IsAmong};
-ghost use Rattle.sia_index.specs.Tables.{AreInfos, AreTxns};
+ghost use Rattle.sia_index.specs.Rows.{AreNumbered, AreNamesOf, IsAmong, AreWrites, IsWriteEvent};
+ghost use Rattle.sia_index.specs.Tables.{AreInfos, AreTxns, AreWriteTables};
+ghost use Rattle.sia_events.specs.Lists.{ListsAscending};
 
 use crate::info::{Fate, Lifetime, TxnInfo};
+use crate::keyed::{By, ByKey, ByPlace, ByTxn};
+use crate::minima::minima_of;
 use crate::names::{ByName, Numbered, places_of};
-use crate::ordering::in_order;
-use sia_events::{Log, TxnEnd, TxnId, TxnRow};
+use crate::ordering::{in_order, offsets_of};
+use sia_events::{Key, Log, Row, TxnEnd, TxnId, TxnRow};
 use std::alloc::{AllocError, Global};
 
 /// Every transaction once, ascending, and every committed one, and beside each what is known of it. The tables of numbers
@@ -48,7 +51,7 @@ pub fn txns_of(alloc: Global, log: &Log) -> Result<Txns, AllocError>
     })
 }
 
-// The transactions of the log, or the committed ones, by name. Mostly their numbers are in the order of their names.
+/// The transactions of the log, or the committed ones, by name. Mostly their numbers are in the order of their names.
 fn numbered(alloc: Global, log: &Log, committed: bool) -> Result<Vec<Numbered>, AllocError>
     ensures { IfOk result (λ rows. AreNumbered (IsAmong log.now committed) (txns_of log.now) rows.items) }
 {
@@ -68,9 +71,10 @@ fn numbered(alloc: Global, log: &Log, committed: bool) -> Result<Vec<Numbered>, 
     Ok(sorted)
 }
 
-// Whether the transaction is one of all, or of the committed ones.
+/// Whether the transaction is one of all, or of the committed ones.
 fn is_among(row: TxnRow, committed: bool) -> bool
-    ensures { (h : List Event) (t : ℕ) → IsWellFormed h → StartsAt h t row.start → Ends h t row.end → IsTrue result ↔ IsAmong h committed t }
+    ensures { (h : List Event) (t : ℕ) → IsWellFormed h → StartsAt h t row.start → Ends h t row.end
+        → IsTrue result ↔ IsAmong h committed t }
 {
     match row.end {
         TxnEnd::Committed(_) => true,
@@ -78,7 +82,7 @@ fn is_among(row: TxnRow, committed: bool) -> bool
     }
 }
 
-// The transactions of the rows, and beside each what is known of it.
+/// The transactions of the rows, and beside each what is known of it.
 fn infos_of(
     alloc: Global,
     log: &Log,
@@ -98,7 +102,7 @@ fn infos_of(
     Ok((ids, infos))
 }
 
-// What the row of a transaction tells of it.
+/// What the row of a transaction tells of it.
 fn info_of(row: TxnRow) -> TxnInfo
     ensures { (h : List Event) (t : ℕ) → StartsAt h t row.start → Ends h t row.end → IsInfo h t result }
 {
@@ -136,7 +140,8 @@ fn lifetimes_of(
 }
 
 fn lifetime_of(row: TxnRow) -> Lifetime
-    ensures { (h : List Event) (t : ℕ) → IsWellFormed h → StartsAt h t row.start → Ends h t row.end → IsCommitted h t → IsLifetime h t result }
+    ensures { (h : List Event) (t : ℕ) → IsWellFormed h → StartsAt h t row.start → Ends h t row.end
+        → IsCommitted h t → IsLifetime h t result }
 {
     let commit = match row.end {
         TxnEnd::Committed(place) => place,
@@ -145,5 +150,86 @@ fn lifetime_of(row: TxnRow) -> Lifetime
     Lifetime {
         start: row.start,
         commit,
+    }
+}
+
+/// A write event.
+#[derive(Clone, Copy, PartialEq, Eq, PartialOrd, Ord)]
+pub struct WriteRow {
+    pub txn: TxnId,
+    pub key: Key,
+    pub place: u32,
+}
+
+impl By<WriteRow> for ByKey {
+    ghost by = { λ row. row.key };
+
+    fn number(row: &WriteRow) -> u64 {
+        row.key
+    }
+}
+
+impl By<WriteRow> for ByTxn {
+    ghost by = { λ row. row.txn };
+
+    fn number(row: &WriteRow) -> u64 {
+        u64::from(row.txn)
+    }
+}
+
+impl By<WriteRow> for ByPlace {
+    ghost by = { λ row. row.place };
+
+    fn number(row: &WriteRow) -> u64 {
+        u64::from(row.place)
+    }
+}
+
+/// Every write event, those of one transaction after those of another.
+#[derive(Drop)]
+pub struct Writes {
+    pub rows: Vec<WriteRow>,
+    pub starts: Vec<usize>,
+    pub minima: Vec<u64>,
+}
+
+/// The writes of the log, whose transactions are these.
+pub fn writes_of(alloc: Global, log: &Log, ids: &[TxnId]) -> Result<Writes, AllocError>
+    requires { ListsAscending (HasEvent log.now) ids.now }
+    ensures { IfOk result (λ writes. AreWriteTables log.now ids.now writes) }
+{
+    let rows = rows_of(alloc, log)?;
+    let starts = offsets_of::<TxnId, ByTxn, WriteRow, ByTxn>(alloc, ids, &rows)?;
+    let minima = minima_of::<WriteRow, ByPlace>(alloc, &rows)?;
+    Ok(Writes {
+        rows,
+        starts,
+        minima,
+    })
+}
+
+fn rows_of(alloc: Global, log: &Log) -> Result<Vec<WriteRow>, AllocError>
+    ensures { IfOk result (λ rows. AreWrites log.now rows.items) }
+{
+    let mut rows = Vec::with_capacity(alloc, log.len() as usize)?;
+    for before in 0..log.len() {
+        if let Some(row) = row_at(log, before + 1) {
+            rows.push(row)?;
+        }
+    }
+    let sorted = in_order::<WriteRow, ByTxn>(alloc, rows)?;
+    Ok(sorted)
+}
+
+fn row_at(log: &Log, place: u32) -> Option<WriteRow>
+    ensures { IsWriteEvent log.now place result }
+{
+    match log.row(place) {
+        Some(Row::Write { txn, key, .. }) => Some(WriteRow {
+            txn: log.txn(txn).name,
+            key: log.key(key),
+            place,
+        }),
+        _ => None,
     }
 }

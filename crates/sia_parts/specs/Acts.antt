@@ -3,7 +3,7 @@ use Rattle.std.specs.Prelude.{◌↔◌, List, Contains}
 use Rattle.sia_events.specs.declared.event.Event.{Event}
 use Rattle.sia_events.specs.Transactions.{ActsAt}
 use Rattle.sia_parts.specs.Grouped.{RiseBy}
-use Rattle.sia_parts.specs.declared.sighting.Act.{Act}
+use Rattle.sia_parts.specs.declared.reasons.Act.{Act}
 
 -- each event with its transaction, by transaction and place
 pub record AreActs (h : List Event) (acts : List Act) : Type 0 where

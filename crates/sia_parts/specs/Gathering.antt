@@ -1,8 +1,8 @@
 -- What was found at the keys of a part, and at all keys.
 use Rattle.std.specs.Prelude.{ℕ, List, ⊤}
 use Rattle.sia_events.specs.declared.event.Event.{Event}
-use Rattle.sia_parts.specs.declared.gathering.PartFound.{PartFound}
-use Rattle.sia_parts.specs.declared.gathering.Gathering.{Gathering}
+use Rattle.sia_parts.specs.declared.finding.PartFound.{PartFound}
+use Rattle.sia_parts.specs.declared.finding.Gathering.{Gathering}
 use Rattle.sia_parts.specs.Accesses.{AreAccesses, AreSights}
 use Rattle.sia_parts.specs.Findings.{ListsBadReads, ListsBadWrites, ListsUnexplained}
 

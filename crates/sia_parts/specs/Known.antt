@@ -4,7 +4,7 @@ use Rattle.sia_events.specs.declared.event.Event.{Event}
 use Rattle.sia_events.specs.Numbering.{names_of, txns_of, txn_at}
 use Rattle.sia_index.specs.Info.{IsReader}
 use Rattle.sia_index.specs.Numbers.{IsCommittedAt}
-use Rattle.sia_parts.specs.declared.audit.seen.Known.{Known}
+use Rattle.sia_parts.specs.declared.audit.sights.Known.{Known}
 
 -- what is known of who reads: the log's transaction, what an index knows of it, and its number, if it committed
 pub record IsKnown (h : List Event) (known : Known) : Type 0 where

@@ -1,8 +1,8 @@
 -- What reads saw at the keys of a part, by numbers of the log and by positions.
 use Rattle.std.specs.Prelude.{◌≡◌, ◌≢◌, ◌⊎◌, ◌↔◌, ℕ, ◌-◌, ◌<◌, ◌≤◌, List, Bool, All, AllPairs, false, IsTrue, MatchOption, Option, length}
 use Rattle.sia_events.specs.declared.event.Event.{Event}
-use Rattle.sia_events.specs.declared.rows.Row.{Row}
-use Rattle.sia_events.specs.declared.rows.Row.TheVariants as rows
+use Rattle.sia_events.specs.declared.log.Row.{Row}
+use Rattle.sia_events.specs.declared.log.Row.TheVariants as rows
 use Rattle.sia_events.specs.Numbering.{Names, names_of, key_at, pair_at, write_at, IsPair}
 use Rattle.sia_events.specs.Reads.{SawAt}
 use Rattle.sia_events.specs.Refusals.{IsWellFormed}
@@ -11,10 +11,10 @@ use Rattle.sia_index.specs.declared.info.KeyVersion.{KeyVersion}
 use Rattle.sia_index.specs.declared.info.WriteAt.{WriteAt}
 use Rattle.sia_index.specs.Info.{IsKeyAt}
 use Rattle.sia_index.specs.Positions.{HasPosition, IsAtPosition}
-use Rattle.sia_parts.specs.declared.audit.seen.Known.{Known}
+use Rattle.sia_parts.specs.declared.audit.sights.Known.{Known}
 use Rattle.sia_parts.specs.declared.audit.ranges.Cover.{Cover}
-use Rattle.sia_parts.specs.declared.audit.seen.Scope.{Scope}
-use Rattle.sia_parts.specs.declared.audit.seen.Seen.{Seen}
+use Rattle.sia_parts.specs.declared.audit.sights.Scope.{Scope}
+use Rattle.sia_parts.specs.declared.audit.sights.Seen.{Seen}
 use Rattle.sia_parts.specs.declared.audit.sights.Origin.{Origin}
 use Rattle.sia_parts.specs.declared.audit.sights.Origin.TheVariants as origins
 use Rattle.sia_parts.specs.Sights.{Sight, Adds, FromSome, FromSight, IsSight, IsBadOf, LooksAt}

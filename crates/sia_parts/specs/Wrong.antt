@@ -1,7 +1,7 @@
 -- What is wrong with the transaction of a version that was seen.
 use Rattle.std.specs.Prelude.{◌<◌, ℕ, List}
-use Rattle.sia_events.specs.declared.anomaly.Anomaly.{Anomaly}
-use Rattle.sia_events.specs.declared.anomaly.Anomaly.TheVariants.{OwnWriteMissed, AbortedRead, UncommittedRead, FutureRead, Phantom, StaleRead}
+use Rattle.sia_events.specs.declared.event.Anomaly.{Anomaly}
+use Rattle.sia_events.specs.declared.event.Anomaly.TheVariants.{OwnWriteMissed, AbortedRead, UncommittedRead, FutureRead, Phantom, StaleRead}
 use Rattle.sia_events.specs.declared.event.Event.{Event}
 use Rattle.sia_events.specs.Transactions.{CommitsAt, IsAborted, IsOpen}
 

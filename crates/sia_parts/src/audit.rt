@@ -1,29 +1,34 @@
-//! The audit of a part of the keys.
-ghost use Rattle.std.specs.Prelude.{◌≡◌, ◌↔◌, IfOk, IsTrue};
+//! The audit of a part of the keys: its reads, its writes, and the versions that nothing explains.
+ghost use Rattle.std.specs.Prelude.{◌≡◌, ◌↔◌, IfOk, IsTrue, ◌<◌, OnOk, ◌-◌, Some, length, take};
 ghost use Rattle.sia_events.specs.Isolation.{IsUnexplained};
 ghost use Rattle.sia_events.specs.Reads.{SawAt};
 ghost use Rattle.sia_events.specs.Transactions.{IsCommitted};
 ghost use Rattle.sia_parts.specs.Dealing.{HasReadsOf};
-ghost use Rattle.sia_parts.specs.Findings.{ArePartFindings, ListsBadReads, ListsUnexplained};
+ghost use Rattle.sia_parts.specs.Findings.{ArePartFindings, ListsBadReads, ListsUnexplained, ListsBadWrites};
 ghost use Rattle.sia_parts.specs.Gathering.{IsPartFound};
 ghost use Rattle.sia_parts.specs.Parts.{IsInPart};
+ghost use Rattle.sia_index.specs.Positions.{HasPosition, IsAtPosition};
+ghost use Rattle.sia_index.specs.declared.info.KeyVersion.{KeyVersion as version};
+ghost use Rattle.sia_parts.specs.Seeing.{IsScope, Gains, IsOrigin, IsSightWithin, origin_in, txn_in};
+ghost use Rattle.sia_parts.specs.Sights.{Adds, IsBadWith, FromSome};
+ghost use Rattle.sia_events.specs.Numbering.{Names, names_of, event_of, key_at, txns_of, version_at, IsSeen, IsWithin, IsMarked};
+ghost use Rattle.sia_events.specs.Places.{at_place};
+ghost use Rattle.sia_parts.specs.Accesses.{AreSights};
+ghost use Rattle.sia_parts.specs.Known.{IsKnown, IsLastKnown};
 
 pub(crate) mod ranges;
-pub(crate) mod seen;
 pub(crate) mod sights;
-pub(crate) mod writes;
 
-use crate::accesses::accesses_at;
-use crate::audit::seen::{Scope, seen_of};
-use crate::audit::writes::bad_writes_of;
+use crate::accesses::{ByReader, accesses_at};
+use crate::audit::ranges::put_range;
+use crate::audit::sights::{Known, Origin, Scope, Seen, put_read};
 use crate::cutting::Part;
-use crate::edges::edges_at;
-use crate::finding::{BadRead, PartFindings, Unexplained};
-use crate::gathering::PartFound;
-use crate::reads::Reads;
-use sia_events::{History, Key, Log, NoMemory, TxnId};
-use sia_index::Index;
+use crate::edges::{edges_at, first_or_end};
+use crate::finding::{BadRead, BadWrite, PartFindings, PartFound, Unexplained};
+use crate::reads::{Reads, txn_of};
+use sia_events::{History, Key, Log, NoMemory, Row, TxnId};
 use sia_index::ordering::put_in_order;
+use sia_index::{Index, Reader};
 use std::alloc::Global;
 
 /// The findings at the keys of the part, by an index of the history.
@@ -123,4 +128,156 @@ fn is_committed(ix: &Index, t: TxnId) -> bool
     ensures { IsTrue result ↔ IsCommitted ix.now t }
 {
     ix.lifetime_of(t).is_some()
+}
+
+fn bad_writes_of(alloc: Global, scope: &Scope) -> Result<Vec<BadWrite>, NoMemory>
+    requires { IsScope scope.now }
+    ensures { IfOk result (λ bad. ListsBadWrites scope.now.ix.now (IsInPart scope.now.part) bad.items) }
+{
+    scope.ix.keys_law();
+    let mut bad = Vec::new(alloc);
+    if scope.first < scope.end {
+        let from = scope.ix.first_position(scope.first);
+        let to = first_or_end(scope.ix, scope.end);
+        for second in from..to {
+            put_bad_with(scope.ix, second, &mut bad)?;
+        }
+    }
+    put_in_order(&mut bad)?;
+    Ok(bad)
+}
+
+/// Adds those of which the version at the position is the second.
+fn put_bad_with(ix: &Index, second: u32, bad: &mut Vec<BadWrite>) -> Result<(), NoMemory>
+    requires { HasPosition ix.now second }
+    ensures { (v : version) → IsAtPosition ix.now second v
+        → OnOk result (Adds (IsBadWith ix.now v) bad.old.items bad.new.items) }
+{
+    ix.law();
+    let Some(maker) = ix.maker_at(second) else {
+        return Ok(());
+    };
+    let txns = ix.committed();
+    let start = ix.lifetimes()[maker as usize].start;
+    let mut at = second;
+    while let Some(before) = ix.position_before(at) {
+        let Some(first) = ix.maker_at(before) else {
+            return Ok(());
+        };
+        if ix.commit_at(before) <= start {
+            return Ok(());
+        }
+        bad.push(BadWrite {
+            key: ix.written_keys()[ix.key_at(second) as usize],
+            first: txns[first as usize],
+            second: txns[maker as usize],
+        })?;
+        at = before;
+    }
+    Ok(())
+}
+
+/// What is known of the log's transaction, which reads at the place. Where it read last, nothing is looked up.
+#[inline(always)]
+fn known_after(ix: &Index, last: Option<Known>, txn: u32, place: u32) -> Known
+    requires txn { txn < length (txns_of ix.now) }
+    requires last { IsLastKnown ix.now last }
+    ensures txn { result.txn ≡ txn }
+    ensures place { result.reader.place ≡ place }
+    ensures known { IsKnown ix.now result }
+{
+    if let Some(known) = last {
+        if known.txn == txn {
+            return Known {
+                reader: Reader {
+                    place,
+                    ..known.reader
+                },
+                ..known
+            };
+        }
+    }
+    Known {
+        txn,
+        reader: ix.reader_at(txn, place),
+        number: ix.committed_number(txn),
+    }
+}
+
+/// What the reads at these places, among which are all of the part, saw at its keys.
+fn seen_of(alloc: Global, scope: &Scope, places: &[u32]) -> Result<Seen, NoMemory>
+    requires scope { IsScope scope.now }
+    requires places { HasReadsOf scope.now.ix.now scope.now.part places.now }
+    ensures bad_reads { IfOk result (λ seen. ListsBadReads scope.now.ix.now
+        (IsInPart scope.now.part) seen.bad_reads.items) }
+    ensures sights { IfOk result (λ seen. AreSights scope.now.ix.now
+        (IsInPart scope.now.part) seen.saw seen.missed) }
+{
+    scope.ix.law();
+    scope.ix.keys_law();
+    scope.ix.committed();
+    let mut seen = Seen {
+        bad_reads: Vec::new(alloc),
+        saw: ByReader::new(alloc),
+        missed: ByReader::new(alloc),
+        near: (scope.first, scope.end),
+    };
+    put_reads(scope, places, &mut seen)?;
+    put_in_order(&mut seen.bad_reads)?;
+    Ok(seen)
+}
+
+fn put_reads(scope: &Scope, places: &[u32], seen: &mut Seen) -> Result<(), NoMemory>
+    requires { IsScope scope.now }
+    ensures { OnOk result (Gains scope.now.ix.now
+        (λ s. FromSome (λ place. IsSightWithin scope.now.ix.now place scope.now.first scope.now.end)
+        places.now s) seen.old seen.new) }
+{
+    let mut last: Option<Known> = None;
+    for place in places {
+        let Some(row) = scope.log.row(*place) else {
+            continue;
+        };
+        let known = known_after(scope.ix, last, txn_of(row), *place);
+        last = Some(known);
+        put_row(scope, &known, row, seen)?;
+    }
+    Ok(())
+}
+
+/// Adds what the event saw, if it is a read.
+#[inline(always)]
+fn put_row(scope: &Scope, known: &Known, row: Row, seen: &mut Seen) -> Result<(), NoMemory>
+    requires scope { IsScope scope.now }
+    requires known { IsKnown scope.now.ix.now known.now }
+    requires txn { known.now.txn ≡ txn_in row }
+    requires event { at_place scope.now.ix.now known.now.reader.place
+        ≡ Some (event_of (names_of scope.now.ix.now) row) }
+    requires within { IsWithin (names_of scope.now.ix.now) row }
+    requires marked { IsMarked (names_of scope.now.ix.now)
+        (take (known.now.reader.place - 1) scope.now.ix.now) row }
+    ensures { OnOk result (Gains scope.now.ix.now
+        (IsSightWithin scope.now.ix.now known.now.reader.place scope.now.first scope.now.end) seen.old
+        seen.new) }
+{
+    match row {
+        Row::Read { key, saw, .. } => put_read(scope, known, origin_of(key, saw), false, seen),
+        Row::OwnRead { key, saw, .. } => put_read(scope, known, origin_of(key, saw), true, seen),
+        Row::Range { range, .. } => put_range(scope, known, range, seen),
+        _ => Ok(()),
+    }
+}
+
+/// What made the version of the key that was seen.
+#[inline(always)]
+fn origin_of(key: u32, saw: u32) -> Origin
+    ensures { (names : Names) → key < length names.keys
+        → IsSeen names (key_at names key) (version_at names saw) saw
+        → IsOrigin names result × (origin_in names result ≡ (key_at names key, version_at names saw)) }
+{
+    if saw == 0 {
+        Origin::Nobody(key)
+    } else {
+        Origin::Write(saw)
+    }
 }

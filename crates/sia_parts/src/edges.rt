@@ -1,5 +1,5 @@
-//! Edges, source by source, made from the positions of what transactions wrote and saw.
-ghost use Rattle.std.specs.Prelude.{◌≡◌, ◌↔◌, ◌<◌, ◌+◌, ◌-◌, [], ℕ, All, Contains, IfOk, IsTrue, OnOk, length, slice_index_or};
+//! Edges, source by source, made from the positions of what transactions wrote and saw, and where the sources are cut into chunks.
+ghost use Rattle.std.specs.Prelude.{◌≡◌, ◌↔◌, ◌<◌, ◌+◌, ◌-◌, [], ℕ, All, Contains, IfOk, IsTrue, OnOk, length, slice_index_or, ◌≤◌, ◌∷◌, List, slice_index, AllPairs};
 ghost use Rattle.sia_index.specs.Numbers.{IsCommittedAt};
 ghost use Rattle.sia_index.specs.Info.{HasKeyAt, IsKeyAt};
 ghost use Rattle.sia_index.specs.Positions.{HasPosition, IsAtPosition};
@@ -10,8 +10,9 @@ ghost use Rattle.sia_parts.specs.EdgeRows.{AreEdgesFrom, CanTell, IsKeyEnd, IsMa
 ghost use Rattle.sia_parts.specs.Findings.{ListsEdges};
 ghost use Rattle.sia_parts.specs.Parts.{IsWithin};
 ghost use Rattle.sia_parts.specs.Sights.{Adds, FromSome};
-
-pub(crate) mod chunks;
+ghost use Rattle.sia_events.specs.Lists.{ListsAscending};
+ghost use Rattle.sia_events.specs.Transactions.{IsCommitted};
+ghost use Rattle.sia_parts.specs.Chunks.{AreChunkBounds};
 
 use crate::accesses::Accesses;
 use crate::cutting::Part;
@@ -112,7 +113,8 @@ impl<'a> Edges<'a> {
     ) -> Result<(), NoMemory>
         requires tell { CanTell self.now }
         requires source { (t : ℕ) × IsCommittedAt self.now.index.now source t }
-        ensures { OnOk result (AreEdgesFrom self.now.index.now (IsWithin self.now.within) source rows.new.items) }
+        ensures { OnOk result (AreEdgesFrom self.now.index.now
+            (IsWithin self.now.within) source rows.new.items) }
     {
         self.index.law();
         rows.clear();
@@ -123,7 +125,7 @@ impl<'a> Edges<'a> {
         Ok(())
     }
 
-    // Adds the edges of what the source made: to later versions, and to who saw its own or later ones.
+    /// Adds the edges of what the source made: to later versions, and to who saw its own or later ones.
     fn put_made(&self, source: u32, rows: &mut Vec<EdgeTo>) -> Result<(), NoMemory>
         requires tell { CanTell self.now }
         requires source { (t : ℕ) × IsCommittedAt self.now.index.now source t }
@@ -139,11 +141,12 @@ impl<'a> Edges<'a> {
         Ok(())
     }
 
-    // Adds the edges to the versions behind those that the source saw. Of each key the oldest one has them all.
+    /// Adds the edges to the versions behind those that the source saw. Of each key the oldest one has them all.
     fn put_seen(&self, alloc: Global, source: u32, rows: &mut Vec<EdgeTo>) -> Result<(), NoMemory>
         requires tell { CanTell self.now }
         requires source { (t : ℕ) × IsCommittedAt self.now.index.now source t }
-        ensures { OnOk result (Adds (FromSome (IsMakerRow self.now.index.now source Rw) (saw_by self.now source)) rows.old.items rows.new.items) }
+        ensures { OnOk result (Adds (FromSome (IsMakerRow self.now.index.now source Rw)
+            (saw_by self.now source)) rows.old.items rows.new.items) }
     {
         let mut saw = Vec::from_slice(alloc, self.accesses.saw.at(source as usize))?;
         saw.sort_unstable();
@@ -155,11 +158,12 @@ impl<'a> Edges<'a> {
         Ok(())
     }
 
-    // Adds the edges to all versions of the keys that the source passed over.
+    /// Adds the edges to all versions of the keys that the source passed over.
     fn put_missed(&self, alloc: Global, source: u32, rows: &mut Vec<EdgeTo>) -> Result<(), NoMemory>
         requires tell { CanTell self.now }
         requires source { (t : ℕ) × IsCommittedAt self.now.index.now source t }
-        ensures { OnOk result (Adds (FromSome (λ miss. IsMissRow self.now.index.now source miss.from miss.to) (missed_by self.now source)) rows.old.items rows.new.items) }
+        ensures { OnOk result (Adds (FromSome (λ miss. IsMissRow self.now.index.now source miss.from miss.to)
+            (missed_by self.now source)) rows.old.items rows.new.items) }
     {
         let mut missed = Vec::from_slice(alloc, self.accesses.missed.at(source as usize))?;
         missed.sort_unstable_by_key(|miss| miss.from);
@@ -171,7 +175,7 @@ impl<'a> Edges<'a> {
         Ok(())
     }
 
-    // Those of the keys from one number to before another. Keys of which no version was committed cost nothing.
+    /// Those of the keys from one number to before another. Keys of which no version was committed cost nothing.
     fn put_missed_in(
         &self,
         source: u32,
@@ -180,7 +184,8 @@ impl<'a> Edges<'a> {
         rows: &mut Vec<EdgeTo>,
     ) -> Result<(), NoMemory>
         requires keys { (j : ℕ) → j < to → HasKeyAt self.now.index.now j }
-        ensures { OnOk result (Adds (IsMissRow self.now.index.now source from to) rows.old.items rows.new.items) }
+        ensures { OnOk result (Adds (IsMissRow self.now.index.now source from to) rows.old.items
+            rows.new.items) }
     {
         self.index.law();
         let mut from = from;
@@ -191,7 +196,7 @@ impl<'a> Edges<'a> {
         Ok(())
     }
 
-    // Adds the edges to who made the versions of the key behind the position.
+    /// Adds the edges to who made the versions of the key behind the position.
     fn put_makers(
         &self,
         source: u32,
@@ -200,7 +205,8 @@ impl<'a> Edges<'a> {
         rows: &mut Vec<EdgeTo>,
     ) -> Result<(), NoMemory>
         requires { HasPosition self.now.index.now position }
-        ensures { OnOk result (Adds (IsMakerRow self.now.index.now source kind position) rows.old.items rows.new.items) }
+        ensures { OnOk result (Adds (IsMakerRow self.now.index.now source kind position) rows.old.items
+            rows.new.items) }
     {
         let end = key_end(self.index, position);
         let key = self.index.key_at(position);
@@ -213,7 +219,7 @@ impl<'a> Edges<'a> {
         Ok(())
     }
 
-    // Adds the edges to who saw a version of the key at the position or behind it.
+    /// Adds the edges to who saw a version of the key at the position or behind it.
     fn put_readers(
         &self,
         source: u32,
@@ -240,10 +246,11 @@ impl<'a> Edges<'a> {
         Ok(())
     }
 
-    // Whether the key of the position is one of those at which edges are told.
+    /// Whether the key of the position is one of those at which edges are told.
     fn is_within(&self, position: u32) -> bool
         requires { HasPosition self.now.index.now position }
-        ensures { (j k : ℕ) → IsOfKey self.now.index.now j position → IsKeyAt self.now.index.now j k → IsTrue result ↔ IsWithin self.now.within k }
+        ensures { (j k : ℕ) → IsOfKey self.now.index.now j position → IsKeyAt self.now.index.now j k
+            → IsTrue result ↔ IsWithin self.now.within k }
     {
         match self.within {
             Some(part) => {
@@ -256,7 +263,7 @@ impl<'a> Edges<'a> {
 }
 
 /// Where the positions of the key end that the position is of.
-pub(crate) fn key_end(ix: &Index, position: u32) -> u32
+fn key_end(ix: &Index, position: u32) -> u32
     requires { HasPosition ix.now position }
     ensures { IsKeyEnd ix.now position result }
 {
@@ -267,7 +274,8 @@ pub(crate) fn key_end(ix: &Index, position: u32) -> u32
 /// The position of version 0 of the key of this number, or how many positions there are if there is no such key.
 pub(crate) fn first_or_end(ix: &Index, key: u32) -> u32
     ensures within { (q : ℕ) → q < result → HasPosition ix.now q }
-    ensures parts { (q : ℕ) (v : version) (j : ℕ) → IsAtPosition ix.now q v → IsKeyAt ix.now j v.key → (q < result) ↔ (j < key) }
+    ensures parts { (q : ℕ) (v : version) (j : ℕ) → IsAtPosition ix.now q v → IsKeyAt ix.now j v.key
+        → (q < result) ↔ (j < key) }
 {
     if (key as usize) < ix.written_keys().len() {
         ix.first_position(key)
@@ -276,7 +284,7 @@ pub(crate) fn first_or_end(ix: &Index, key: u32) -> u32
     }
 }
 
-// Adds a reading of the newest version of each key of which the reader saw some.
+/// Adds a reading of the newest version of each key of which the reader saw some.
 fn put_readings(
     alloc: Global,
     ix: &Index,
@@ -286,7 +294,8 @@ fn put_readings(
 ) -> Result<(), NoMemory>
     requires reader { reader < length accesses.now.saw }
     requires saw { All (HasPosition ix.now) (slice_index_or accesses.now.saw reader []) }
-    ensures { OnOk result (ReadsMore ix.now reader (Contains (slice_index_or accesses.now.saw reader [])) readings.old.items readings.new.items) }
+    ensures { OnOk result (ReadsMore ix.now reader
+        (Contains (slice_index_or accesses.now.saw reader [])) readings.old.items readings.new.items) }
 {
     let mut saw = Vec::from_slice(alloc, accesses.saw.at(reader as usize))?;
     saw.sort_unstable();
@@ -302,7 +311,7 @@ fn put_readings(
     Ok(())
 }
 
-// Whether the second position is of the same key as the first, and not before it.
+/// Whether the second position is of the same key as the first, and not before it.
 fn stands_behind(ix: &Index, first: u32, second: u32) -> bool
     requires first { HasPosition ix.now first }
     requires second { HasPosition ix.now second }
@@ -334,4 +343,100 @@ pub fn edges_at(
         }
     }
     Ok(all)
+}
+
+/// How many chunks there are at most: as many parts as workers take from one deque.
+const MOST: usize = 1024;
+
+impl Edges<'_> {
+    /// The numbers of sources at which chunks start, ascending, and behind them how many sources there are. There are at most
+    /// 1,024 chunks: each goes on to the source with which it has about so many edges, or more where there would be too many.
+    pub fn chunks(&self, alloc: Global, size: u64) -> Result<Vec<u32>, NoMemory>
+        requires { CanTell self.now }
+        ensures few { IfOk result (λ places. length places.items ≤ 1025) }
+        ensures are { IfOk result (λ places. (txns : List ℕ)
+            → ListsAscending (IsCommitted self.now.index.now) txns
+            → AreChunkBounds (length txns) places.items) }
+    {
+        self.index.law();
+        let txns = self.index.committed();
+        let count = txns.len() as u32;
+        let mut weights = Vec::with_capacity(alloc, txns.len())?;
+        let mut total = 0u64;
+        for source in 0..count {
+            let weight = self.weight(source);
+            weights.push(weight)?;
+            total = total.saturating_add(weight);
+        }
+        let mut places = Vec::new(alloc);
+        places.push(0)?;
+        if count > 0 {
+            let least = size.max(total / MOST as u64 + 1);
+            put_chunk_bounds(&weights, count, least, &mut places)?;
+            places.push(count)?;
+        }
+        Ok(places)
+    }
+
+    /// About how many edges lead from the source.
+    fn weight(&self, source: u32) -> u64
+        requires tell { CanTell self.now }
+        requires source { (t : ℕ) × IsCommittedAt self.now.index.now source t }
+    {
+        let mut weight = 0u64;
+        let made = self.index.made_by(source as usize);
+        for position in made {
+            weight = weight.saturating_add(self.reach(*position));
+        }
+        let saw = self.accesses.saw.at(source as usize);
+        for position in saw {
+            let behind = key_end(self.index, *position).saturating_sub(*position);
+            weight = weight.saturating_add(u64::from(behind));
+        }
+        let missed = self.accesses.missed.at(source as usize);
+        for miss in missed {
+            weight = weight.saturating_add(u64::from(miss.to.saturating_sub(miss.from)));
+        }
+        weight
+    }
+
+    /// How many versions of its key and readings there are from the position on.
+    fn reach(&self, position: u32) -> u64
+        requires tell { CanTell self.now }
+        requires position { HasPosition self.now.index.now position }
+    {
+        let end = key_end(self.index, position);
+        let mut reach = 0u64;
+        for behind in position..end {
+            let readings = self.readings.at(behind as usize).len() as u64;
+            reach = reach.saturating_add(readings).saturating_add(1);
+        }
+        reach
+    }
+}
+
+/// Adds the places between which the sources have about so many edges each.
+fn put_chunk_bounds(
+    weights: &[u64],
+    sources: u32,
+    size: u64,
+    places: &mut Vec<u32>,
+) -> Result<(), NoMemory>
+    requires some { 0 < sources }
+    requires first { places.old.items ≡ 0 ∷ [] }
+    ensures few { OnOk result (length places.new.items ≤ 1024) }
+    ensures first { OnOk result ((0 < length places.new.items) × (slice_index places.new.items 0 ≡ 0)) }
+    ensures below { OnOk result (All (λ place. place < sources) places.new.items) }
+    ensures ascending { OnOk result (AllPairs (λ a b. a < b) places.new.items) }
+{
+    let mut sum = 0u64;
+    for place in 1..sources {
+        let weight = weights.get(place as usize - 1).copied().unwrap_or(0);
+        sum = sum.saturating_add(weight);
+        if sum >= size && places.len() < MOST {
+            places.push(place)?;
+            sum = 0;
+        }
+    }
+    Ok(())
 }

@@ -1,5 +1,5 @@
 //! Read events dealt to parts of the keys.
-ghost use Rattle.std.specs.Prelude.{◌≡◌, ◌<◌, ◌≤◌, ℕ, List, Some, AllPairs, MatchOption, Contains, IfOk, OnOk, length};
+ghost use Rattle.std.specs.Prelude.{◌≡◌, ◌<◌, ◌≤◌, ℕ, List, Some, AllPairs, MatchOption, Contains, IfOk, OnOk, length, ◌-◌};
 ghost use Rattle.std.specs.List.{slice_get};
 ghost use Rattle.std.specs.List.Sorted.{IsNonDecreasingBy};
 ghost use Rattle.sia_events.specs.declared.event.Event.{Event};
@@ -10,8 +10,8 @@ ghost use Rattle.sia_parts.specs.declared.cutting.Part.{Part as part};
 ghost use Rattle.sia_parts.specs.declared.reads.Read.{Read as read};
 ghost use Rattle.sia_parts.specs.Dealing.{AreReads, Deals, HasReadsOf};
 ghost use Rattle.sia_parts.specs.Parts.{IsCutting};
+ghost use Rattle.sia_parts.specs.Seeing.{txn_in};
 
-use crate::audit::seen::txn_of;
 use crate::cutting::Part;
 use sia_events::{Key, Log, NoMemory, Row};
 use sia_index::keyed::{By, ByKey, ByTxn, place_above};
@@ -67,7 +67,8 @@ impl Reads {
 
     /// Those of part number `i`, counted from 0.
     pub fn of_part(&self, i: usize) -> &[u32]
-        ensures { (h : List Event) (parts : List part) (one : part) → AreReads h parts self.now → slice_get parts i ≡ Some one → HasReadsOf h one result.now }
+        ensures { (h : List Event) (parts : List part) (one : part) → AreReads h parts self.now
+            → slice_get parts i ≡ Some one → HasReadsOf h one result.now }
     {
         match self.dealt.get(i) {
             Some(places) => places.as_slice(),
@@ -77,7 +78,8 @@ impl Reads {
 }
 
 fn reads_by_txn(alloc: Global, log: &Log) -> Result<Vec<Read>, NoMemory>
-    ensures { IfOk result (λ reads. (p t k v : ℕ) → SawAt log.now p t k v → (r : read) × Contains reads.items r × (r.place ≡ p)) }
+    ensures { IfOk result (λ reads. (p t k v : ℕ) → SawAt log.now p t k v
+        → (r : read) × Contains reads.items r × (r.place ≡ p)) }
 {
     let count = log.len();
     let mut reads = Vec::with_capacity(alloc, count as usize)?;
@@ -95,7 +97,7 @@ fn reads_by_txn(alloc: Global, log: &Log) -> Result<Vec<Read>, NoMemory>
     Ok(reads)
 }
 
-// The first and the last key that the event may have seen, if it is a read.
+/// The first and the last key that the event may have seen, if it is a read.
 #[inline(always)]
 fn covered(log: &Log, row: Row) -> Option<(Key, Key)>
     requires { IsWithin (names_of log.now) row }
@@ -133,4 +135,19 @@ fn put_read(
         }
     }
     Ok(())
+}
+
+/// The log's transaction whose event the row is.
+pub(crate) fn txn_of(row: Row) -> u32
+    ensures { result ≡ txn_in row }
+{
+    match row {
+        Row::Begin { txn, .. } => txn,
+        Row::Read { txn, .. } => txn,
+        Row::OwnRead { txn, .. } => txn,
+        Row::Range { txn, .. } => txn,
+        Row::Write { txn, .. } => txn,
+        Row::Commit { txn } => txn,
+        Row::Abort { txn } => txn,
+    }
 }

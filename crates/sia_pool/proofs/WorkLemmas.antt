@@ -1,6 +1,6 @@
 -- What a take says of the part that was taken.
 use Rattle.std.proofs.Common.{◌≡◌, ℕ, suc, ◌<◌, List, ◌∷◌, arith}
-use Rattle.sia_pool.specs.declared.view.View.{View}
+use Rattle.sia_pool.specs.declared.rule.View.{View}
 use Rattle.std.specs.List.{range_with_len}
 use Rattle.sia_pool.specs.Steps.{TookFront}
 use Rattle.sia_pool.proofs.CoreLemmas.{dealt}

@@ -1,7 +1,7 @@
 -- The law of the core, and that of the rule of the deque.
 use Rattle.std.specs.Prelude.{◌≡◌, ℕ, suc, ◌+◌, ◌<◌, ◌↔◌, false, List, [], ◌∷◌, ◌++◌, length}
 use Rattle.crossbeam_deque.specs.Tasks as tasks
-use Rattle.sia_pool.specs.declared.view.View.{View}
+use Rattle.sia_pool.specs.declared.rule.View.{View}
 use Rattle.sia_pool.specs.Core.{Reached, IsDealt}
 use Rattle.sia_pool.specs.View.{owner_view, stealer_view, spent_view, line_size}
 use Rattle.sia_pool.specs.Rule.{shares_by, Holds}

@@ -2,7 +2,7 @@
 use Rattle.std.specs.Prelude.{◌≡◌, ℕ, suc, ◌<◌, List, [], ◌∷◌, ◌++◌, length}
 use mathlib.Core.Option.{some}
 use lib.ListN.{get_elem?}
-use Rattle.sia_pool.specs.declared.view.View.{View}
+use Rattle.sia_pool.specs.declared.rule.View.{View}
 use Rattle.sia_pool.specs.declared.taker.Taken.{Taken}
 use Rattle.sia_pool.specs.declared.taker.Taken.TheVariants.{Part, Nothing, Lost}
 use Rattle.sia_pool.specs.Core.{Reached}

@@ -2,7 +2,7 @@
 use Rattle.atomic_blocks.specs.Lent.{RowsId}
 use Rattle.std.specs.Global.{Global}
 use Rattle.crossbeam_deque.specs.Handles.{view, worker_view, worker_deque, stealer_deque}
-use Rattle.sia_pool.specs.declared.view.View.{View}
+use Rattle.sia_pool.specs.declared.rule.View.{View}
 use Rattle.sia_pool.specs.declared.taker.Side.{Side}
 use Rattle.sia_pool.specs.declared.taker.Side.TheVariants.{Owner, Stealer}
 use Rattle.sia_pool.specs.declared.taker.Taker.{Taker}

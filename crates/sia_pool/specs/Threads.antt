@@ -4,7 +4,7 @@ use Rattle.std.specs.List.{concat}
 use Rattle.std.specs.List.Sorted.{IsNonDecreasingBy}
 use Rattle.atomic_blocks.specs.Lent.{RowsId}
 use Rattle.std.specs.Global.{Global}
-use Rattle.sia_pool.specs.declared.view.View.{View}
+use Rattle.sia_pool.specs.declared.rule.View.{View}
 use Rattle.sia_pool.specs.declared.taker.Taker.{Taker}
 use Rattle.sia_pool.specs.View.{owner_view, stealer_view}
 use Rattle.sia_pool.specs.Taker.{taker_view, taker_deque}

@@ -1,6 +1,6 @@
 -- The views of the takers: of the owner, of a stealer, and one that was taken back.
 use Rattle.std.specs.Prelude.{ℕ, zero, suc, true, false, List, []}
-use Rattle.sia_pool.specs.declared.view.View.{View}
+use Rattle.sia_pool.specs.declared.rule.View.{View}
 
 -- the owner knows its share, how many views it gave out, and the shares of those that it has back, in order
 abbrev pub owner_view : ℕ → ℕ → List ℕ → ℕ → List (List ℕ) → View

@@ -2,7 +2,7 @@
 use Rattle.std.specs.Prelude.{◌≡◌, ℕ, List, ◌++◌}
 use Rattle.atomic_blocks.specs.Lent.{RowsId}
 use Rattle.std.specs.Global.{Global}
-use Rattle.sia_pool.specs.declared.view.View.{View}
+use Rattle.sia_pool.specs.declared.rule.View.{View}
 use Rattle.sia_pool.specs.declared.taker.Taker.{Taker}
 use Rattle.sia_pool.specs.View.{with_share}
 use Rattle.sia_pool.specs.Steps.{NothingLeft}

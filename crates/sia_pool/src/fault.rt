@@ -1,4 +1,4 @@
-// Want of memory.
+//! Want of memory.
 use std::alloc::{AllocError, AllocFailed};
 use std::error::Error;
 use std::fmt;

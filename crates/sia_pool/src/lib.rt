@@ -5,26 +5,20 @@
 #![tactic(auto)]
 
 mod fault;
-mod gate;
 mod job;
-mod laws;
 mod line;
-mod order;
 mod owner;
 mod pool;
 mod rule;
 mod stealer;
 mod taker;
 mod threads;
-mod view;
-mod work;
 
 pub use fault::NoMemory;
-pub use gate::{Gate, OpenGate};
-pub use job::Job;
-pub use laws::{core_law, rule_law};
+pub use job::{Gate, Job, OpenGate};
 pub use line::line_up;
 pub use pool::{Crew, work_off};
+pub use rule::{core_law, rule_law};
 pub use taker::{Taken, Taker};
 
 #[cfg(test)]

@@ -1,4 +1,4 @@
-// The parts are placed, and the views given out.
+//! The parts are placed, and the views given out.
 ghost use Rattle.std.specs.Prelude.{◌≡◌, suc, ◌+◌, ◌<◌, ◌≤◌, [], IfOk};
 ghost use Rattle.crossbeam_deque.specs.Handles.{worker_view, worker_deque, worker_flavor};
 ghost use Rattle.sia_pool.specs.View.{owner_view, stealer_view, line_size};
@@ -24,11 +24,14 @@ fn new_stealer<K: LineSize>(
     requires flavor { worker_flavor end.old ≡ 0 }
     requires size { K.workers ≡ workers }
     requires more { suc (worker_view end.old).given < workers }
-    requires view { let given = (worker_view end.old).given in worker_view end.old ≡ owner_view count (line_size workers given) [] given [] }
+    requires view { let given = (worker_view end.old).given in worker_view end.old
+        ≡ owner_view count (line_size workers given) [] given [] }
     ensures flavor { worker_flavor end.new ≡ 0 }
     ensures deque { worker_deque end.new ≡ worker_deque end.old }
-    ensures view { IfOk result (λ t. worker_view end.new ≡ owner_view count workers [] ((worker_view end.old).given + 1) []) }
-    ensures taker { IfOk result (λ t. (taker_deque t ≡ worker_deque end.old) × (taker_view t ≡ stealer_view ((worker_view end.old).given + 1) count workers [])) }
+    ensures view { IfOk result (λ t. worker_view end.new
+        ≡ owner_view count workers [] ((worker_view end.old).given + 1) []) }
+    ensures taker { IfOk result (λ t. (taker_deque t ≡ worker_deque end.old)
+        × (taker_view t ≡ stealer_view ((worker_view end.old).given + 1) count workers [])) }
 {
     let share = Vec::with_capacity(alloc, count as usize)?;
     let steals_from = end.stealer()?;

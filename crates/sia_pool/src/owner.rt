@@ -1,4 +1,4 @@
-// The taker that owns the deque.
+//! The taker that owns the deque.
 ghost use Rattle.std.specs.Prelude.{◌≡◌, [], ◌∷◌, false, ◌≤◌, vec_capacity};
 ghost use Rattle.crossbeam_deque.specs.Handles.{view, worker_view, worker_deque, stealer_deque, worker_flavor};
 ghost use Rattle.sia_pool.specs.Answers.{lists_of};
@@ -48,7 +48,8 @@ impl Owner {
         requires deque { stealer_deque stealer.end ≡ worker_deque self.old.end }
         requires next { IsNext (worker_view self.old.end) (view stealer.pass) }
         ensures deque { worker_deque self.new.end ≡ worker_deque self.old.end }
-        ensures view { worker_view self.new.end ≡ with_back (worker_view self.old.end) ((view stealer.pass).share ∷ []) }
+        ensures view { worker_view self.new.end
+            ≡ with_back (worker_view self.old.end) ((view stealer.pass).share ∷ []) }
     {
         let Stealer {
             end,

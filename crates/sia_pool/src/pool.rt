@@ -1,18 +1,16 @@
-// The call that runs a job on all parts.
+//! The call that runs a job on all parts, and answers in their order.
 ghost use Rattle.std.specs.Prelude.{◌≡◌, ℕ, ◌<◌, ◌≤◌, [], length, IfOk, All, IsPermutation};
 ghost use Rattle.std.specs.List.{range_with_len, concat};
 ghost use Rattle.std.specs.List.Sorted.{IsStrictlyIncreasing};
 ghost use Rattle.sia_pool.specs.Core.{Reached};
 ghost use Rattle.sia_pool.specs.Answers.{lists_of, AnswersEach};
+ghost use Rattle.sia_pool.specs.Threads.{IsInOrder};
 
 use crate::fault::NoMemory;
-use crate::gate::Gate;
-use crate::job::Job;
+use crate::job::{Gate, Job};
 use crate::line::line_up;
-use crate::order::in_order;
-use crate::threads::run_all;
-use crate::work::{Worked, work};
-use std::alloc::Global;
+use crate::threads::{Worked, run_all, work};
+use std::alloc::{AllocError, Global};
 use std::sync::Wait;
 use std::thread::Threads;
 
@@ -50,7 +48,8 @@ where
     // With nothing left, the shares are a state of the core, so each part stands in them once.
     ensures reached { IfOk result (λ c. Reached count workers [] (lists_of c.shares.items)) }
     ensures workers { IfOk result (λ c. length c.shares.items ≡ workers) }
-    ensures once { IfOk result (λ c. IsPermutation (range_with_len 0 count) (concat (lists_of c.shares.items))) }
+    ensures once { IfOk result (λ c. IsPermutation (range_with_len 0 count)
+        (concat (lists_of c.shares.items))) }
     ensures ascending { IfOk result (λ c. All IsStrictlyIncreasing (lists_of c.shares.items)) }
 {
     let takers = line_up(alloc, count, workers)?;
@@ -65,4 +64,13 @@ where
         outs,
         shares: taker.into_shares(),
     })
+}
+
+/// The answers without their parts, in the order of the parts.
+fn in_order<Out: Drop>(alloc: Global, mut answers: Vec<(u32, Out)>) -> Result<Vec<Out>, AllocError>
+    ensures { IfOk result (λ outs. IsInOrder answers.items outs.items) }
+{
+    // No two answers are to one part, so there is nothing to keep stable.
+    answers.sort_unstable_by_key(|answer| answer.0);
+    answers.into_iter().map(|(_, out)| out).collect(alloc)
 }

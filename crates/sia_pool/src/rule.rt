@@ -1,8 +1,10 @@
-// The rule of the deque, and the kinds of step that keep it. Nothing here runs.
-use crate::view::View;
+//! The rule of the deque, what proofs know of a taker, the kinds of step that keep the rule, and the laws on which the pool rests.
+ghost use Rattle.sia_pool.specs.Laws.{CoreLaw, RuleLaw};
+
 use crossbeam_deque::protocol::{Join, Outcome, Protocol, Split};
 use crossbeam_deque::{Pass, Stealer, Worker};
 use std::alloc::Global;
+use std::collections::LinkedList;
 use std::marker::{Brand, PhantomData};
 
 /// What the deque holds and what was taken are always a state that the core reaches.
@@ -84,3 +86,29 @@ pub type StealerEnd = Stealer<u32, Global, View, PoolRule>;
 
 /// A port of the deque, with the view of the stealer that has it.
 pub type StealerPass = Pass<u32, View>;
+
+/// What the states look like that the core reaches, of which `work_off` and `Taker::next_part` speak.
+pub fn core_law()
+    ensures { CoreLaw }
+{}
+
+/// That each kind of step of the deque keeps its rule, and that a state which meets the rule is one that the core reaches.
+pub fn rule_law()
+    ensures { RuleLaw }
+{}
+
+/// The view of a taker: what its port of the deque records. It is for proofs, and no value of it is made.
+///
+/// `number` is the worker's, and the place of its share in the core. A view that was taken back is `spent`. `count` is how
+/// many parts there are, and `workers` how many takers, which the owner says as it gives the first view out: until then it
+/// is the only one. `given` and `back` are the owner's alone: how many views it gave out, and the shares of those that it
+/// took back, in order.
+pub struct View {
+    pub number: u64,
+    pub spent: bool,
+    pub count: u64,
+    pub workers: u64,
+    pub share: LinkedList<u32>,
+    pub given: u64,
+    pub back: LinkedList<LinkedList<u32>>,
+}

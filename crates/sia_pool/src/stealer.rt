@@ -1,4 +1,4 @@
-// A taker that steals from the deque.
+//! A taker that steals from the deque.
 ghost use Rattle.std.specs.Prelude.{◌≡◌, false, ◌<◌, ◌≤◌, vec_capacity};
 ghost use Rattle.crossbeam_deque.specs.Handles.{view, IsPassOf, stealer_deque, stealer_flavor};
 

@@ -1,9 +1,8 @@
-// One who takes parts: the owner of the deque, which pops, or a stealer.
-ghost use Rattle.std.specs.Prelude.{◌≡◌, suc, [], ◌∷◌, length, replicate};
+//! One who takes parts: the owner of the deque, which pops, or a stealer.
+ghost use Rattle.std.specs.Prelude.{◌≡◌, suc, [], ◌∷◌, length};
 ghost use Rattle.sia_pool.specs.Steps.{Stepped};
 ghost use Rattle.sia_pool.specs.Taker.{taker_view, taker_deque};
 ghost use Rattle.sia_pool.specs.Threads.{with_back, IsNext};
-ghost use Rattle.sia_pool.specs.Line.{IsLine};
 ghost use Rattle.sia_pool.specs.Answers.{lists_of};
 
 use crate::owner::Owner;
@@ -95,7 +94,7 @@ impl Taker {
         later
     }
 
-    // The number of the worker, for the gate.
+    /// The number of the worker, for the gate.
     pub(crate) fn number(&self) -> u32 {
         match &self.side {
             Side::Owner(_) => 0,

@@ -1,15 +1,14 @@
-// The workers, each in a thread, and the views that come back.
-ghost use Rattle.std.specs.Prelude.{ℕ, ◌<◌, [], IfOk};
+//! The workers, each in a thread, and the views that come back.
+ghost use Rattle.std.specs.Prelude.{ℕ, ◌<◌, [], IfOk, OnOk};
 ghost use denote.Param.Send.{IsSync, IsSend};
 ghost use Rattle.sia_pool.specs.Taker.{taker_view, taker_deque};
-ghost use Rattle.sia_pool.specs.Work.{HasWorked};
+ghost use Rattle.sia_pool.specs.Work.{HasWorked, WorkedOff};
 ghost use Rattle.sia_pool.specs.Threads.{IsReady, count_of, AllDone};
+ghost use Rattle.sia_pool.specs.Answers.{Owed};
 
 use crate::fault::NoMemory;
-use crate::gate::Gate;
-use crate::job::Job;
-use crate::taker::Taker;
-use crate::work::{Worked, work};
+use crate::job::{Gate, Job};
+use crate::taker::{Taken, Taker};
 use std::alloc::Global;
 use std::sync::Wait;
 use std::sync::atomic::{AtomicBool, Ordering};
@@ -31,7 +30,8 @@ pub(crate) fn work_in_time<J: Job, G: Gate, R: Wait>(
 where
     J::Out: Drop,
     requires takes { (p : ℕ) → p < (taker_view taker).count → J.takes job.now p }
-    ensures { IfOk result (λ w. HasWorked (J.owes job.now) (taker_deque taker) (taker_view taker) [] w.taker w.answers.items) }
+    ensures { IfOk result (λ w. HasWorked (J.owes job.now) (taker_deque taker) (taker_view taker)
+        [] w.taker w.answers.items) }
 {
     let mut taker = taker;
     let mut answers = Vec::new(alloc);
@@ -64,10 +64,12 @@ pub(crate) fn run_all<
     }
     let there = move || -> Result<Worked<Out>, NoMemory>
         requires { (p : ℕ) → p < (taker_view last).count → J.takes job.now p }
-        ensures { IfOk result (λ w. HasWorked (J.owes job.entry.now) (taker_deque last) (taker_view last) [] w.taker w.answers.items) }
+        ensures { IfOk result (λ w. HasWorked (J.owes job.entry.now) (taker_deque last) (taker_view last)
+            [] w.taker w.answers.items) }
     { work_in_time(rt, alloc, last, ended, job, gate) };
     let here = move || -> Result<Worked<Out>, NoMemory>
-        requires { IsSync R.row × IsSync J.row × IsSync G.row × IsSend Out.row × IsReady takers.items × ((p : ℕ) → p < count_of takers.items → J.takes job.now p) }
+        requires { IsSync R.row × IsSync J.row × IsSync G.row × IsSend Out.row × IsReady takers.items
+            × ((p : ℕ) → p < count_of takers.items → J.takes job.now p) }
         ensures { IfOk result (λ r. AllDone (J.owes job.entry.now) takers.items r.taker r.answers.items) }
     {
         let done = run_all(rt, alloc, takers, job, gate);
@@ -81,4 +83,42 @@ pub(crate) fn run_all<
     done.taker.take_back(taker);
     done.answers.append(&mut answers)?;
     Ok(done)
+}
+
+/// A taker whose worker has ended, and the answers to the parts that it took, each beside its part.
+#[derive(Drop)]
+pub(crate) struct Worked<Out> {
+    pub(crate) taker: Taker,
+    pub(crate) answers: Vec<(u32, Out)>,
+}
+
+/// Takes parts until nothing is left, and adds an answer for each.
+pub(crate) fn work<J: Job, G: Gate, R: Wait>(
+    rt: &R,
+    taker: &mut Taker,
+    answers: &mut Vec<(u32, J::Out)>,
+    job: &J,
+    gate: &G,
+) -> Result<(), NoMemory>
+where
+    J::Out: Drop,
+    requires takes { (p : ℕ) → p < (taker_view taker.old).count → J.takes job.now p }
+    requires owed { Owed (J.owes job.now) answers.old.items }
+    ensures { OnOk result (WorkedOff (J.owes job.now) (taker_deque taker.old)
+        (taker_view taker.old) answers.old.items taker.new answers.new.items) }
+{
+    let number = taker.number();
+    'taking: for _ in rt.forever() {
+        match taker.next_part() {
+            Taken::Part(part) => {
+                gate.pass(number, part, taker);
+                let out = job.run(part)?;
+                answers.push((part, out))?;
+            }
+            Taken::Nothing => return Ok(()),
+            // A race was lost, and something may be left. How often is not bounded, as with any wait for other threads.
+            Taken::Lost => {}
+        }
+    }
+    unreachable!()
 }

@@ -13,8 +13,9 @@ ghost use Rattle.sia_parts.specs.Seeing.{AscendByKey, Gains, IsCover, IsGap, IsM
 ghost use Rattle.sia_parts.specs.Sights.{Adds, FromSight, FromSome, Gives, IsBadOf};
 
 use crate::accesses::{ByReader, RangeMiss};
-use crate::audit::seen::{Known, Scope, Seen, numbers_within};
-use crate::audit::sights::{Origin, View, due_at, put_if_bad, put_view};
+use crate::audit::sights::{
+    Known, Origin, Scope, Seen, View, due_at, numbers_within, put_if_bad, put_view,
+};
 use crate::finding::BadRead;
 use sia_events::{Key, Log, NoMemory};
 use sia_index::keyed::{ByKey, place_from};
@@ -23,7 +24,7 @@ use sia_index::{Index, Reader};
 /// What a range read covers of a part: the keys from `lo` to `hi`, whose numbers among the written ones are those from `first` to
 /// before `end`, and the pairs that it listed of these. Where `own` isn't true, its reader is known not to have written them before.
 #[derive(Clone, Copy)]
-pub(crate) struct Cover<'a> {
+struct Cover<'a> {
     pub(crate) pairs: &'a [u32],
     pub(crate) lo: Key,
     pub(crate) hi: Key,
@@ -41,8 +42,12 @@ pub(crate) fn put_range(
     requires scope { IsScope scope.now }
     requires known { IsKnown scope.now.ix.now known.now }
     requires range { range < length (ranges_of scope.now.ix.now) }
-    requires event { at_place scope.now.ix.now known.now.reader.place ≡ Some (events.Range known.now.reader.txn (range_at (names_of scope.now.ix.now) range).0 (range_at (names_of scope.now.ix.now) range).1 (range_at (names_of scope.now.ix.now) range).2) }
-    ensures { OnOk result (Gains scope.now.ix.now (IsSightWithin scope.now.ix.now known.now.reader.place scope.now.first scope.now.end) seen.old seen.new) }
+    requires event { at_place scope.now.ix.now known.now.reader.place
+        ≡ Some (events.Range known.now.reader.txn (range_at (names_of scope.now.ix.now) range).0
+        (range_at (names_of scope.now.ix.now) range).1 (range_at (names_of scope.now.ix.now) range).2) }
+    ensures { OnOk result (Gains scope.now.ix.now
+        (IsSightWithin scope.now.ix.now known.now.reader.place scope.now.first scope.now.end) seen.old
+        seen.new) }
 {
     let (from, to) = scope.log.range(range);
     let listed = scope.log.listed(range);
@@ -63,12 +68,14 @@ pub(crate) fn put_range(
     put_covered(scope, known, &cover, seen)
 }
 
-// Adds what was seen of the keys listed, and of those between them.
+/// Adds what was seen of the keys listed, and of those between them.
 fn put_covered(scope: &Scope, known: &Known, cover: &Cover, seen: &mut Seen) -> Result<(), NoMemory>
     requires scope { IsScope scope.now }
     requires known { IsKnown scope.now.ix.now known.now }
     requires cover { IsCover scope.now.ix.now known.now cover.now }
-    ensures { OnOk result (Gains scope.now.ix.now (IsSightWithin scope.now.ix.now known.now.reader.place cover.now.first cover.now.end) seen.old seen.new) }
+    ensures { OnOk result (Gains scope.now.ix.now
+        (IsSightWithin scope.now.ix.now known.now.reader.place cover.now.first cover.now.end) seen.old
+        seen.new) }
 {
     let mut next = cover.first;
     for pair in cover.pairs {
@@ -87,7 +94,7 @@ fn put_covered(scope: &Scope, known: &Known, cover: &Cover, seen: &mut Seen) -> 
     put_gap(scope.ix, known, cover.own, next, cover.end, seen)
 }
 
-// What made the version that was listed.
+/// What made the version that was listed.
 #[inline(always)]
 fn origin_of_pair(log: &Log, pair: u32) -> Origin
     requires { IsPair (names_of log.now) pair }
@@ -116,7 +123,8 @@ fn put_gap(
     requires well_formed { IsWellFormed ix.now }
     requires known { IsKnown ix.now known.now }
     requires gap { IsGap ix.now known.now own from to }
-    ensures { OnOk result (Gains ix.now (IsSightWithin ix.now known.now.reader.place from to) seen.old seen.new) }
+    ensures { OnOk result (Gains ix.now
+        (IsSightWithin ix.now known.now.reader.place from to) seen.old seen.new) }
 {
     if from >= to {
         return Ok(());
@@ -125,7 +133,7 @@ fn put_gap(
     put_miss(known.number, RangeMiss { from, to }, &mut seen.missed)
 }
 
-// Adds the bad reads of keys that weren't listed, at which another version than 0 was due.
+/// Adds the bad reads of keys that weren't listed, at which another version than 0 was due.
 fn put_unlisted(
     ix: &Index,
     known: &Known,
@@ -138,7 +146,8 @@ fn put_unlisted(
     requires known { IsKnown ix.now known.now }
     requires some { from < to }
     requires gap { IsGap ix.now known.now own from to }
-    ensures { OnOk result (Adds (FromSight (IsSightWithin ix.now known.now.reader.place from to) (IsBadOf ix.now)) bad.old.items bad.new.items) }
+    ensures { OnOk result (Adds (FromSight (IsSightWithin ix.now known.now.reader.place from to)
+        (IsBadOf ix.now)) bad.old.items bad.new.items) }
 {
     let mut next = from;
     while let Some(number) = next_doubtful(ix, known, own, next, to) {
@@ -157,13 +166,14 @@ fn put_unlisted(
     Ok(())
 }
 
-// A number of a key, below which version 0 is due to the reader at all keys from the one on.
+/// A number of a key, below which version 0 is due to the reader at all keys from the one on.
 fn next_doubtful(ix: &Index, known: &Known, own: bool, from: u32, to: u32) -> Option<u32>
     requires well_formed { IsWellFormed ix.now }
     requires known { IsKnown ix.now known.now }
     requires keys { (i : ℕ) → i < to → HasKeyAt ix.now i }
     requires gap { IsGap ix.now known.now own from to }
-    ensures { HaveUpTo (λ k. IsDue ix.now known.now.reader.txn known.now.reader.place k 0) ix.now from to result }
+    ensures { HaveUpTo (λ k. IsDue ix.now known.now.reader.txn known.now.reader.place k 0) ix.now from to
+        result }
 {
     let visible = ix.next_visible(from, to, known.reader.start);
     if !own {
@@ -175,7 +185,7 @@ fn next_doubtful(ix: &Index, known: &Known, own: bool, from: u32, to: u32) -> Op
     }
 }
 
-// A number of a key, below which the reader had written no key from the one on before.
+/// A number of a key, below which the reader had written no key from the one on before.
 fn next_own_number(ix: &Index, reader: Reader, from: u32, to: u32) -> Option<u32>
     requires reader { IsReader ix.now reader.txn reader.place reader }
     requires keys { (i : ℕ) → i < to → HasKeyAt ix.now i }
@@ -191,14 +201,15 @@ fn next_own_number(ix: &Index, reader: Reader, from: u32, to: u32) -> Option<u32
     Some(place_from::<Key, ByKey>(keys, key) as u32)
 }
 
-// Adds the miss, if the reader has a number, and what was put last doesn't hold it.
+/// Adds the miss, if the reader has a number, and what was put last doesn't hold it.
 fn put_miss(
     number: Option<u32>,
     miss: RangeMiss,
     missed: &mut ByReader<RangeMiss>,
 ) -> Result<(), NoMemory>
     requires { miss.from < miss.to }
-    ensures misses { OnOk result (Gives IsPassedBy (λ at. (number ≡ Some at.0) × IsMissAt miss at.1) missed.old missed.new) }
+    ensures misses { OnOk result (Gives IsPassedBy
+        (λ at. (number ≡ Some at.0) × IsMissAt miss at.1) missed.old missed.new) }
     ensures some { OnOk result (All IsMiss missed.old → All IsMiss missed.new) }
 {
     let Some(reader) = number else {
@@ -211,7 +222,7 @@ fn put_miss(
     Ok(())
 }
 
-// Whether the last miss is of the reader, and holds this one.
+/// Whether the last miss is of the reader, and holds this one.
 #[inline(always)]
 fn is_held(missed: &ByReader<RangeMiss>, reader: u32, miss: RangeMiss) -> bool
     ensures { IsTrue result → (j : ℕ) → IsMissAt miss j → FromSome IsPassedBy missed.now (reader, j) }
@@ -227,7 +238,8 @@ fn pairs_from<'a>(log: &Log, pairs: &'a [u32], least: Key, lo: Key) -> &'a [u32]
     requires ascend { AscendByKey log.now pairs.now }
     requires inside { All (λ p. least ≤ (pair_at (names_of log.now) p).0) pairs.now }
     ensures ascend { AscendByKey log.now result.now }
-    ensures each { (p : ℕ) → Contains result.now p ↔ (Contains pairs.now p × (lo ≤ (pair_at (names_of log.now) p).0)) }
+    ensures each { (p : ℕ) → Contains result.now p
+        ↔ (Contains pairs.now p × (lo ≤ (pair_at (names_of log.now) p).0)) }
 {
     if lo <= least {
         return pairs;
@@ -240,7 +252,8 @@ fn pairs_up_to<'a>(log: &Log, pairs: &'a [u32], hi: Key, most: Key) -> &'a [u32]
     requires ascend { AscendByKey log.now pairs.now }
     requires inside { All (λ p. (pair_at (names_of log.now) p).0 ≤ most) pairs.now }
     ensures ascend { AscendByKey log.now result.now }
-    ensures each { (p : ℕ) → Contains result.now p ↔ (Contains pairs.now p × ((pair_at (names_of log.now) p).0 ≤ hi)) }
+    ensures each { (p : ℕ) → Contains result.now p
+        ↔ (Contains pairs.now p × ((pair_at (names_of log.now) p).0 ≤ hi)) }
 {
     if most <= hi {
         return pairs;
@@ -248,13 +261,15 @@ fn pairs_up_to<'a>(log: &Log, pairs: &'a [u32], hi: Key, most: Key) -> &'a [u32]
     &pairs[..place_of(log, pairs, hi + 1)]
 }
 
-// How many of the pairs are of keys before this one.
+/// How many of the pairs are of keys before this one.
 fn place_of(log: &Log, pairs: &[u32], key: Key) -> usize
     requires numbers { All (IsPair (names_of log.now)) pairs.now }
     requires ascend { AscendByKey log.now pairs.now }
     ensures bound { result ≤ length pairs.now }
-    ensures below { (i d : ℕ) → i < result → (pair_at (names_of log.now) (slice_index_or pairs.now i d)).0 < key }
-    ensures above { (i d : ℕ) → result ≤ i → i < length pairs.now → key ≤ (pair_at (names_of log.now) (slice_index_or pairs.now i d)).0 }
+    ensures below { (i d : ℕ) → i < result → (pair_at (names_of log.now) (slice_index_or pairs.now i d)).0
+        < key }
+    ensures above { (i d : ℕ) → result ≤ i → i < length pairs.now
+        → key ≤ (pair_at (names_of log.now) (slice_index_or pairs.now i d)).0 }
 {
     let mut low = 0;
     let mut high = pairs.len();

@@ -1,7 +1,6 @@
 //! What a read saw of one key: whether it is bad, and where the version stands.
-ghost use Rattle.std.specs.Prelude.{◌≡◌, ◌↔◌, ◌+◌, ◌<◌, ℕ, List, Some, IsTrue, OnOk, MatchOption};
+ghost use Rattle.std.specs.Prelude.{◌≡◌, ◌↔◌, ◌+◌, ◌<◌, ℕ, List, Some, IsTrue, OnOk, MatchOption, ◌-◌, ◌≤◌};
 ghost use Rattle.sia_events.specs.declared.event.Event.{Event};
-ghost use Rattle.sia_events.specs.declared.event.Event.TheVariants as events;
 ghost use Rattle.sia_events.specs.Numbering.{names_of};
 ghost use Rattle.sia_events.specs.Places.{at_place};
 ghost use Rattle.sia_events.specs.Reads.{IsDue};
@@ -11,12 +10,77 @@ ghost use Rattle.sia_index.specs.Info.{HasKeyAt, IsKeyAt};
 ghost use Rattle.sia_parts.specs.Known.{IsKnown};
 ghost use Rattle.sia_parts.specs.Seeing.{Gains, IsOrigin, IsScope, IsSightWithin, IsVersionAt, IsView, origin_in};
 ghost use Rattle.sia_parts.specs.Sights.{Adds, IsSight, IsBadOf, bad_sight};
+ghost use Rattle.sia_events.specs.declared.event.Event.TheVariants as events;
 
-use crate::accesses::ByReader;
-use crate::audit::seen::{Known, Scope, Seen};
+use crate::accesses::{ByReader, RangeMiss};
+use crate::cutting::Part;
 use crate::finding::BadRead;
-use sia_events::{Key, Log, NoMemory, TxnId, Version};
-use sia_index::{Index, WriteAt};
+use sia_events::{Key, Log, NoMemory, Version};
+use sia_index::keyed::{ByKey, place_from_near};
+use sia_index::{Index, Reader, WriteAt};
+
+/// Where reads are looked at: in a log and its index, at the keys of a part. Among the written keys these have the numbers from
+/// `first` to before `end`.
+#[derive(Clone, Copy)]
+pub(crate) struct Scope<'a> {
+    pub(crate) log: &'a Log,
+    pub(crate) ix: &'a Index,
+    pub(crate) part: Part,
+    pub(crate) first: u32,
+    pub(crate) end: u32,
+}
+
+impl Scope<'_> {
+    pub(crate) fn of<'a>(log: &'a Log, ix: &'a Index, part: Part) -> Scope<'a>
+        requires { ix.now ≡ log.now }
+        ensures scope { IsScope result }
+        ensures index { result.ix.now ≡ ix.now }
+        ensures part { result.part ≡ part }
+    {
+        ix.law();
+        let (first, end) = numbers_within(ix, part.lo, part.hi, (0, u32::MAX));
+        Scope {
+            log,
+            ix,
+            part,
+            first,
+            end,
+        }
+    }
+}
+
+/// The number of the first written key from `lo` to `hi`, and that behind the last one. Mostly they are those that are near.
+pub(crate) fn numbers_within(ix: &Index, lo: Key, hi: Key, near: (u32, u32)) -> (u32, u32)
+    requires { IsWellFormed ix.now }
+    ensures { (j : ℕ) → ((result.0 ≤ j) × (j < result.1))
+        ↔ ((k : ℕ) × IsKeyAt ix.now j k × (lo ≤ k) × (k ≤ hi)) }
+{
+    let keys = ix.written_keys();
+    let from = place_from_near::<Key, ByKey>(keys, lo, near.0 as usize);
+    let to = match hi.checked_add(1) {
+        Some(next) => place_from_near::<Key, ByKey>(keys, next, near.1 as usize),
+        None => keys.len(),
+    };
+    (from as u32, to as u32)
+}
+
+/// What is known of a transaction that reads: its number in the log, and that among the committed ones, if it committed.
+#[derive(Clone, Copy)]
+pub(crate) struct Known {
+    pub(crate) txn: u32,
+    pub(crate) reader: Reader,
+    pub(crate) number: Option<u32>,
+}
+
+/// What reads saw at the keys of a part: what is bad of it, and what the committed transactions saw.
+#[derive(Drop)]
+pub(crate) struct Seen {
+    pub(crate) bad_reads: Vec<BadRead>,
+    pub(crate) saw: ByReader<u32>,
+    pub(crate) missed: ByReader<RangeMiss>,
+    /// The numbers of the first key of the last range, and behind the last one. Only the next search goes by them.
+    pub(crate) near: (u32, u32),
+}
 
 /// What made a version: a write of the log, or nobody, for version 0 of a key of the log.
 #[derive(Clone, Copy)]
@@ -48,7 +112,8 @@ impl Origin {
     pub(crate) fn stands(self, ix: &Index) -> Option<WriteAt>
         requires well_formed { IsWellFormed ix.now }
         requires origin { IsOrigin (names_of ix.now) self }
-        ensures { MatchOption result ((t : ℕ) → ¬ Wrote ix.now t (origin_in (names_of ix.now) self).0) (IsVersionAt ix.now (origin_in (names_of ix.now) self).0 (origin_in (names_of ix.now) self).1) }
+        ensures { MatchOption result ((t : ℕ) → ¬ Wrote ix.now t (origin_in (names_of ix.now) self).0)
+            (IsVersionAt ix.now (origin_in (names_of ix.now) self).0 (origin_in (names_of ix.now) self).1) }
     {
         match self {
             Origin::Write(write) => Some(ix.write_at(write)),
@@ -74,9 +139,14 @@ pub(crate) fn put_read(
     requires scope { IsScope scope.now }
     requires known { IsKnown scope.now.ix.now known.now }
     requires origin { IsOrigin (names_of scope.now.ix.now) origin }
-    requires event { at_place scope.now.ix.now known.now.reader.place ≡ Some (events.Read known.now.reader.txn (origin_in (names_of scope.now.ix.now) origin).0 (origin_in (names_of scope.now.ix.now) origin).1) }
-    requires mine { IsTrue mine ↔ WroteBefore scope.now.ix.now known.now.reader.txn (origin_in (names_of scope.now.ix.now) origin).0 known.now.reader.place }
-    ensures { OnOk result (Gains scope.now.ix.now (IsSightWithin scope.now.ix.now known.now.reader.place scope.now.first scope.now.end) seen.old seen.new) }
+    requires event { at_place scope.now.ix.now known.now.reader.place
+        ≡ Some (events.Read known.now.reader.txn (origin_in (names_of scope.now.ix.now) origin).0
+        (origin_in (names_of scope.now.ix.now) origin).1) }
+    requires mine { IsTrue mine ↔ WroteBefore scope.now.ix.now known.now.reader.txn
+        (origin_in (names_of scope.now.ix.now) origin).0 known.now.reader.place }
+    ensures { OnOk result (Gains scope.now.ix.now
+        (IsSightWithin scope.now.ix.now known.now.reader.place scope.now.first scope.now.end) seen.old
+        seen.new) }
 {
     let Some(at) = origin.stands(scope.ix) else {
         return Ok(());
@@ -99,7 +169,9 @@ pub(crate) fn put_view(
     requires scope { IsScope scope.now }
     requires known { IsKnown scope.now.ix.now known.now }
     requires view { IsView scope.now.ix.now known.now view.now }
-    ensures { OnOk result (Gains scope.now.ix.now (IsSightWithin scope.now.ix.now known.now.reader.place view.now.at.key (view.now.at.key + 1)) seen.old seen.new) }
+    ensures { OnOk result (Gains scope.now.ix.now
+        (IsSightWithin scope.now.ix.now known.now.reader.place view.now.at.key
+        (view.now.at.key + 1)) seen.old seen.new) }
 {
     if !view.mine {
         if let Some(position) = view.at.position {
@@ -111,12 +183,14 @@ pub(crate) fn put_view(
     put_doubtful(scope, known, view, seen)
 }
 
-// The same, where it may not have been due.
+/// The same, where it may not have been due.
 fn put_doubtful(scope: &Scope, known: &Known, view: &View, seen: &mut Seen) -> Result<(), NoMemory>
     requires scope { IsScope scope.now }
     requires known { IsKnown scope.now.ix.now known.now }
     requires view { IsView scope.now.ix.now known.now view.now }
-    ensures { OnOk result (Gains scope.now.ix.now (IsSightWithin scope.now.ix.now known.now.reader.place view.now.at.key (view.now.at.key + 1)) seen.old seen.new) }
+    ensures { OnOk result (Gains scope.now.ix.now
+        (IsSightWithin scope.now.ix.now known.now.reader.place view.now.at.key
+        (view.now.at.key + 1)) seen.old seen.new) }
 {
     let (key, saw) = view.origin.names(scope.log);
     let due = due_at(scope.ix, known, view.at.key, view.mine);
@@ -142,7 +216,9 @@ pub(crate) fn due_at(ix: &Index, known: &Known, key: u32, mine: bool) -> Version
     requires well_formed { IsWellFormed ix.now }
     requires known { IsKnown ix.now known.now }
     requires key { HasKeyAt ix.now key }
-    ensures { (k : ℕ) → IsKeyAt ix.now key k → (IsTrue mine ↔ WroteBefore ix.now known.now.reader.txn k known.now.reader.place) → IsDue ix.now known.now.reader.txn known.now.reader.place k result }
+    ensures { (k : ℕ) → IsKeyAt ix.now key k
+        → (IsTrue mine ↔ WroteBefore ix.now known.now.reader.txn k known.now.reader.place)
+        → IsDue ix.now known.now.reader.txn known.now.reader.place k result }
 {
     if mine {
         return known.reader.txn;
@@ -156,7 +232,8 @@ pub(crate) fn due_at(ix: &Index, known: &Known, key: u32, mine: bool) -> Version
 
 /// Adds the read, if it saw another version than the one due.
 pub(crate) fn put_if_bad(read: BadRead, bad: &mut Vec<BadRead>) -> Result<(), NoMemory>
-    ensures { (h : List Event) → IsSight h (bad_sight read) → IsDue h read.txn read.place read.key read.due → OnOk result (Adds (IsBadOf h (bad_sight read)) bad.old.items bad.new.items) }
+    ensures { (h : List Event) → IsSight h (bad_sight read) → IsDue h read.txn read.place read.key read.due
+        → OnOk result (Adds (IsBadOf h (bad_sight read)) bad.old.items bad.new.items) }
 {
     if read.due != read.saw {
         bad.push(read)?;
@@ -164,7 +241,7 @@ pub(crate) fn put_if_bad(read: BadRead, bad: &mut Vec<BadRead>) -> Result<(), No
     Ok(())
 }
 
-// The reader saw the version at the position, if it has a number.
+/// The reader saw the version at the position, if it has a number.
 #[inline(always)]
 fn put_position(number: Option<u32>, position: u32, saw: &mut ByReader<u32>) -> Result<(), NoMemory>
     ensures { OnOk result (Adds (λ p. (number ≡ Some p.0) × (p.1 ≡ position)) saw.old saw.new) }

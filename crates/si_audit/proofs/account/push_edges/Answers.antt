@@ -1,5 +1,5 @@
 use Rattle.si_audit.specs.Lines.{edge_line}
-use Rattle.si_audit.proofs.Chains.{next_line}
+use Rattle.si_audit.proofs.OfReport.Chains.{next_line}
 use Rattle.si_audit.proofs.account.push_edges.Goals as goal
 
 pub loop-e-preserved : goal.loop-e-preserved

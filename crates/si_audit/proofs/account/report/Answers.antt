@@ -2,8 +2,8 @@ use Rattle.std.proofs.Common.{List, ℕ, ◌++◌, ◌∙◌, ap}
 use Rattle.si_audit.specs.Account.{account_of}
 use Rattle.si_audit.specs.Lines.{report_text}
 use Rattle.si_audit.specs.declared.options.Form.TheVariants.{Full}
-use Rattle.si_audit.proofs.Chains.{front_alone, report_of_pieces}
-use Rattle.si_audit.proofs.Pushed.{findings_pushed}
+use Rattle.si_audit.proofs.OfReport.Chains.{front_alone, report_of_pieces}
+use Rattle.si_audit.proofs.Shared.Pushed.{findings_pushed}
 use Rattle.si_audit.proofs.account.report.Goals as goal
 
 -- what stands before the edges, these, and what stands behind them

@@ -1,5 +1,5 @@
 use Rattle.std.proofs.Common.{◌∙◌}
-use Rattle.si_audit.proofs.Clean.{account_is}
+use Rattle.si_audit.proofs.Shared.Clean.{account_is}
 use Rattle.si_audit.proofs.audit.audit.Goals as goal
 
 pub returns-clause-exact : goal.returns-clause-exact

@@ -1,10 +1,10 @@
 use Rattle.sia_parts.specs.declared.cutting.Part.{Part}
-use Rattle.sia_parts.specs.declared.gathering.PartFound.{PartFound}
+use Rattle.sia_parts.specs.declared.finding.PartFound.{PartFound}
 use Rattle.std.proofs.Common.{subst, sym}
 use Rattle.std.specs.List.{AllZip}
 use Rattle.sia_parts.specs.Gathering.{IsPartFound}
 use Rattle.sia_parts.specs.Parts.{IsInPart}
-use Rattle.si_audit.proofs.Owed.{each_owed}
+use Rattle.si_audit.proofs.Shared.Owed.{each_owed}
 use Rattle.si_audit.proofs.audit.judged.Goals as goal
 
 pub of-requires : goal.of-requires

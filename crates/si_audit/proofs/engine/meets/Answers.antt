@@ -4,7 +4,7 @@ use Rattle.std.specs.Prelude.{IsTrue}
 use Rattle.std.proofs.lemmas.Bool.{both_ways}
 use Rattle.si_audit.specs.declared.options.Level.{Level}
 use Rattle.si_audit.specs.Outcomes.{Meets}
-use Rattle.sia_graph.proofs.Judging.{kept_where}
+use Rattle.sia_graph.proofs.OnEvidence.Judging.{kept_where}
 use Rattle.si_audit.proofs.engine.meets.Goals as goal
 
 pub returns-then-is_kept : goal.returns-then-is_kept

@@ -1,7 +1,7 @@
 use Rattle.si_audit.specs.Account.{account_with}
 use Rattle.si_audit.specs.Explained.{IsExplained}
-use Rattle.si_audit.proofs.Clean.{account_is}
-use Rattle.si_audit.proofs.Pushed.{explained_pushed}
+use Rattle.si_audit.proofs.Shared.Clean.{account_is}
+use Rattle.si_audit.proofs.Shared.Pushed.{explained_pushed}
 use Rattle.si_audit.proofs.explain.explained.Goals as goal
 
 pub push_front-requires : goal.push_front-requires

@@ -12,8 +12,8 @@ use Rattle.sia_graph.specs.Judgements.{IsJudgement}
 use Rattle.si_audit.specs.Explained.{TellsAll, dangerous_edges, dangerous_line}
 use Rattle.si_audit.specs.Lines.{line, edge_word}
 use Rattle.si_audit.specs.Reasons.{TellsStep}
-use Rattle.si_audit.proofs.Results.{ok_map}
-use Rattle.si_audit.proofs.Telling.{with_reasons}
+use Rattle.si_audit.proofs.Shared.Results.{ok_map}
+use Rattle.si_audit.proofs.Shared.Telling.{with_reasons}
 use Rattle.si_audit.proofs.explain.push_danger.Goals as goal
 
 pub danger_of-requires : goal.danger_of-requires

@@ -4,9 +4,9 @@ use Rattle.sia_parts.specs.Entries.{IsEdge}
 use Rattle.sia_graph.specs.Verdicts.{IsVerdict}
 use Rattle.si_audit.specs.Explained.{TellsVerdict, edges_round}
 use Rattle.si_audit.specs.Lines.{verdict_line}
-use Rattle.si_audit.proofs.Results.{ok_map}
-use Rattle.si_audit.proofs.Rounds.{AreRound, cycle_edges, tells_cycle}
-use Rattle.si_audit.proofs.Telling.{with_reasons}
+use Rattle.si_audit.proofs.Shared.Results.{ok_map}
+use Rattle.si_audit.proofs.OfReasons.Rounds.{AreRound, cycle_edges, tells_cycle}
+use Rattle.si_audit.proofs.Shared.Telling.{with_reasons}
 use Rattle.si_audit.proofs.explain.push_verdict_reasons.Goals as goal
 
 pub push_steps-requires-clause-edges : goal.push_steps-requires-clause-edges

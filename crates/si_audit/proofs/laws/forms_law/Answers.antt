@@ -1,4 +1,4 @@
-use Rattle.si_audit.proofs.FormsLeft.{forms_hold}
+use Rattle.si_audit.proofs.OfLaws.FormsLeft.{forms_hold}
 use Rattle.si_audit.proofs.laws.forms_law.Goals as goal
 
 pub returns : goal.returns

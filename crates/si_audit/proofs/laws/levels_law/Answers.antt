@@ -1,4 +1,4 @@
-use Rattle.si_audit.proofs.Levels.{clean_holds, levels_hold}
+use Rattle.si_audit.proofs.OfLaws.Levels.{clean_holds, levels_hold}
 use Rattle.si_audit.proofs.laws.levels_law.Goals as goal
 
 pub returns-clause-history : goal.returns-clause-history

@@ -1,4 +1,4 @@
-use Rattle.si_audit.proofs.OutcomesTold.{lines_tell}
+use Rattle.si_audit.proofs.OfLaws.OutcomesTold.{lines_tell}
 use Rattle.si_audit.proofs.laws.lines_law.Goals as goal
 
 pub returns : goal.returns

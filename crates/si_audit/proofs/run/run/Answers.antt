@@ -3,7 +3,7 @@ use Rattle.std.proofs.Common.{ℕ, List, subst, sym, ◌∙◌}
 use Rattle.std.specs.Io.KnownBytes.{Appends}
 use Rattle.si_audit.specs.Outcomes.{IsOutcome}
 use Rattle.si_audit.specs.Report.{IsReport}
-use Rattle.si_audit.proofs.OfSource.{of_source, front_written}
+use Rattle.si_audit.proofs.OfRun.OfSource.{of_source, front_written}
 use Rattle.si_audit.proofs.run.run.Goals as goal
 
 pub returns-in-Ok-write_whole-clause-report : goal.returns-in-Ok-write_whole-clause-report

@@ -2,7 +2,7 @@
 use Rattle.std.proofs.Common.{◌≡◌, List, ℕ, ◌++◌, ap, sym, subst, ◌∙◌, append_assoc, rules}
 use Rattle.std.specs.Io.KnownBytes.{Appends}
 use Rattle.std.proofs.KnownBytes.{Appends-trans}
-use Rattle.si_audit.proofs.OnSheets.{on_err}
+use Rattle.si_audit.proofs.Shared.OnSheets.{on_err}
 use Rattle.si_audit.proofs.run.write_whole.Goals as goal
 
 pub returns-in_err-write_bytes-clause-front : goal.returns-in_err-write_bytes-clause-front

@@ -1,8 +1,8 @@
 use Rattle.std.proofs.Common.{◌++◌, ◌∙◌, ℕ, List, ap, sym}
 use Rattle.std.specs.Global.{Vec}
-use Rattle.si_audit.specs.declared.report.edges.Sheet.{Sheet}
+use Rattle.si_audit.specs.declared.report.Sheet.{Sheet}
 use Rattle.si_audit.specs.Sheets.{text_of}
-use Rattle.si_audit.proofs.Chains.{one_more_mapped}
+use Rattle.si_audit.proofs.OfReport.Chains.{one_more_mapped}
 use Rattle.si_audit.proofs.sheets.parted.Goals as goal
 
 -- the lines and the links of one sheet more

@@ -1,8 +1,8 @@
 use Rattle.std.proofs.Common.{ap, ◌∙◌, [], ◌∷◌, ◌++◌, ◌&&◌, flat_map}
 use Rattle.si_audit.specs.Lines as lines
 use Rattle.si_audit.specs.Sheets.{text_of}
-use Rattle.si_audit.proofs.Chains.{front_alone}
-use Rattle.si_audit.proofs.OnSheets.{between, report_on_sheets}
+use Rattle.si_audit.proofs.OfReport.Chains.{front_alone}
+use Rattle.si_audit.proofs.Shared.OnSheets.{between, report_on_sheets}
 use Rattle.si_audit.proofs.sheets.report_of.Goals as goal
 
 pub returns : goal.returns

@@ -5,8 +5,8 @@ use Rattle.sia_graph.specs.Judgements.{IsJudgement}
 use Rattle.si_audit.specs.Engine.{IsReportOf}
 use Rattle.si_audit.specs.Account.{account_with}
 use Rattle.si_audit.specs.Sheets.{text_of}
-use Rattle.si_audit.proofs.Clean.{account_is}
-use Rattle.si_audit.proofs.Results.{ok_map}
+use Rattle.si_audit.proofs.Shared.Clean.{account_is}
+use Rattle.si_audit.proofs.Shared.Results.{ok_map}
 use Rattle.si_audit.proofs.sheets.sheets_of.Goals as goal
 
 pub explained-requires-clause-index : goal.explained-requires-clause-index

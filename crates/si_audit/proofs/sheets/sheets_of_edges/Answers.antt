@@ -1,8 +1,8 @@
-use Rattle.std.proofs.Common.{◌≡◌, ◌<◌, ℕ, List, length, sym, subst, ◌∙◌, rules}
+use Rattle.std.proofs.Common.{◌<◌, length, sym, subst, ◌∙◌, rules}
 use Rattle.sia_events.specs.Lists.{ListsAscending}
 use Rattle.sia_events.specs.Transactions.{IsCommitted}
 use Rattle.si_audit.specs.Sheets.{AreLinesAndLinks}
-use Rattle.si_audit.proofs.SheetsInTurn.{all_in_turn, all_made, as_parted}
+use Rattle.si_audit.proofs.OfReport.SheetsInTurn.{all_in_turn, all_made, as_parted}
 use Rattle.si_audit.proofs.sheets.sheets_of_edges.Goals as goal
 
 -- the sheets together have all lines and all links

@@ -1,15 +1,14 @@
 -- The texts for the help change nothing that a parse reads.
-use Rattle.std.proofs.Common.{◌≡◌, ◌∙◌, ap, ap₂, codes, false, List, Option, [], ◌∷◌, Some, subst, sym}
+use Rattle.std.proofs.Common.{◌≡◌, ◌∙◌, ap, ap₂, codes, List, [], ◌∷◌, Some, subst, sym}
 use Rattle.std.proofs.lemmas.Result.{IfOk-weaker}
 use Rattle.clap.specs.Words.{App, Rule, AddsArg, AddsInTurn, app_of, new_app, new_rule, rule_of, with_rule}
 use Rattle.clap.specs.Simple.{app_of_fields}
 use Rattle.clap.specs.declared.builder.action.ArgAction.TheVariants.{Append}
 use Rattle.clap.specs.declared.builder.arg.Arg.{Arg}
 use Rattle.clap.specs.declared.builder.command.Command.{Command}
-use Rattle.clap.specs.declared.builder.value_parser.ValueParser.{ValueParser}
 use Rattle.clap.specs.declared.builder.value_parser.ValueParser.TheVariants.{Unsigned}
 use Rattle.si_audit.specs.Words.{brief_rule, bytes_rule, check_rule, cuts_rule, events_rule, explain_rule, program, with_version, workers_rule}
-use Rattle.si_audit.proofs.ArgumentsFor.{IsFor, parsed}
+use Rattle.si_audit.proofs.OptionWords.ArgumentsFor.{IsFor, parsed}
 use Rattle.si_audit.proofs.words.command.Goals as goal
 
 added : (a : App) (r : Rule) (x : Arg) (xs : List Arg) (old new : Command) → app_of old ≡ a → IsFor r x → AddsInTurn AddsArg old (x ∷ xs) new

@@ -1,7 +1,7 @@
-use Rattle.std.proofs.Common.{◌≡◌, ◌≤◌, arith, ap, codes}
+use Rattle.std.proofs.Common.{arith, codes}
 use Rattle.clap.specs.Words.{first_of, found_of, rows_of}
 use Rattle.sia_events.specs.Limits.{greatest}
-use Rattle.si_audit.proofs.NumberedOptions.{bounds, within_any}
+use Rattle.si_audit.proofs.OptionWords.NumberedOptions.{within_any}
 use Rattle.si_audit.proofs.words.limits_in.Goals as goal
 
 pub number_of-events-requires : goal.number_of-events-requires

@@ -1,7 +1,7 @@
 use Rattle.std.proofs.Common.{◌∙◌, ap, Some}
 use Rattle.clap.specs.declared.builder.value_parser.ValueParser.TheVariants.{Unsigned}
 use Rattle.si_audit.specs.Words.{number_rule}
-use Rattle.si_audit.proofs.ArgumentsFor.{IsFor, parsed}
+use Rattle.si_audit.proofs.OptionWords.ArgumentsFor.{IsFor, parsed}
 use Rattle.si_audit.proofs.words.number_option.Goals as goal
 
 its : (c : goal.After-value_parser) → IsFor (number_rule c.args.name.now c.args.most c.args.usual.now) c.value_parser.result

@@ -10,8 +10,8 @@ use Rattle.si_audit.specs.Options.{Choices}
 use Rattle.si_audit.specs.Words.{IsOwed, GivesOptions, StandsInTheWay, cuts_among, form_among, level_among, limits_among, workers_among, AreChosen, ChooseNoLevel, ChooseTooManyCuts, program}
 use Rattle.si_audit.specs.declared.words.LineFault.{LineFault}
 use Rattle.si_audit.specs.declared.words.LineFault.TheVariants.{NoMemory, TooManyCuts, UnknownLevel, Help, Usage}
-use Rattle.si_audit.proofs.NumbersGiven.{numbers_given}
-use Rattle.si_audit.proofs.TakenWords.{program_takes}
+use Rattle.si_audit.proofs.OptionWords.NumbersGiven.{numbers_given}
+use Rattle.si_audit.proofs.OptionWords.TakenWords.{program_takes}
 use Rattle.si_audit.proofs.words.options_from.Goals as goal
 
 chosen_from : (rows : List Row) (words : List Text) (o : Choices) → rows ≡ matches_of program words → takes program words ≡ true → GivesOptions rows o → AreChosen words o

@@ -1,6 +1,6 @@
 use Rattle.std.proofs.Common.{◌≤◌, arith, codes}
 use Rattle.clap.specs.Words.{first_of, found_of, rows_of}
-use Rattle.si_audit.proofs.NumberedOptions.{bounds, within_any}
+use Rattle.si_audit.proofs.OptionWords.NumberedOptions.{bounds, within_any}
 use Rattle.si_audit.proofs.words.workers_in.Goals as goal
 
 pub number_of-requires : goal.number_of-requires

@@ -1,7 +1,7 @@
 -- One event more, which there is.
 use Rattle.std.proofs.Common.{◌<◌, length, arith}
 use Rattle.sia_events.specs.Numbering.{names_of}
-use Rattle.sia_events.proofs.LogReads.{next_event, no_event}
+use Rattle.sia_events.proofs.Shared.LogReads.{next_event, no_event}
 use Rattle.sia_events.proofs.history.listed_out.Goals as goal
 use Rattle.sia_events.proofs.history.listed_out.Goals.{in-Some+in_ok-event_from+in_ok-push, in_default}
 

@@ -1,5 +1,5 @@
 -- The bytes from there on are what is left.
-use Rattle.sia_events.proofs.Judged.{to_end}
+use Rattle.sia_events.proofs.JudgedTexts.Judged.{to_end}
 use Rattle.sia_events.proofs.judge.past_separators.Goals as goal
 
 pub returns : goal.returns

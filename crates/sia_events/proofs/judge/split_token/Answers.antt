@@ -3,8 +3,8 @@ use Rattle.std.proofs.Common.{◌≡◌, ◌<◌, ◌+◌, length, take, drop, s
 use Rattle.std.specs.List.{position_or_len}
 use Rattle.sia_events.specs.Text.{is_separator}
 use Rattle.sia_events.specs.Judging.{IsSplitAfter}
-use Rattle.sia_events.proofs.Tokens.{all_unbroken, splits_after}
-use Rattle.sia_events.proofs.Judged.{to_end}
+use Rattle.sia_events.proofs.JudgedTexts.Tokens.{all_unbroken, splits_after}
+use Rattle.sia_events.proofs.JudgedTexts.Judged.{to_end}
 use Rattle.sia_events.proofs.judge.split_token.Goals as goal
 
 pub returns-then-len-text-clause-none : goal.returns-then-len-text-clause-none

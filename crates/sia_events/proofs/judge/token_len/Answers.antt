@@ -2,7 +2,7 @@
 use Rattle.std.proofs.Common.{sym, arith}
 use Rattle.std.proofs.lemmas.List.Sums.{position_or_len_is}
 use Rattle.sia_events.specs.Text.{is_separator}
-use Rattle.sia_events.proofs.PlainBytes.{unbroken_further}
+use Rattle.sia_events.proofs.JudgedTexts.PlainBytes.{unbroken_further}
 use Rattle.sia_events.proofs.judge.token_len.Goals as goal
 use Rattle.sia_events.proofs.judge.token_len.Goals.{else-loop-len-test, then-loop-len-test+then-plain-lt-BLOCK}
 

@@ -1,6 +1,6 @@
 -- No separator among the bytes passed.
 use Rattle.std.proofs.Common.{length, ◌-◌}
-use Rattle.sia_events.proofs.PlainBytes.{IsUnbroken}
+use Rattle.sia_events.proofs.JudgedTexts.PlainBytes.{IsUnbroken}
 use Rattle.sia_events.proofs.judge.token_len.Given as goal
 
 abbrev pub invariant-loop-len : goal.invariant-loop-len

@@ -1,4 +1,4 @@
-use Rattle.sia_events.proofs.Anomalies.{anomaly_law}
+use Rattle.sia_events.proofs.OfLaws.Anomalies.{anomaly_law}
 use Rattle.sia_events.proofs.laws.anomaly_law.Goals as goal
 
 pub returns : goal.returns

@@ -1,4 +1,4 @@
-use Rattle.sia_events.proofs.Shortest.{canonical_law}
+use Rattle.sia_events.proofs.OfLaws.Shortest.{canonical_law}
 use Rattle.sia_events.proofs.laws.canonical_law.Goals as goal
 
 pub returns : goal.returns

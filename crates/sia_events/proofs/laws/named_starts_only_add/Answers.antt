@@ -1,4 +1,4 @@
-use Rattle.sia_events.proofs.NamedStarts.{named_starts_only_add}
+use Rattle.sia_events.proofs.OfLaws.NamedStarts.{named_starts_only_add}
 use Rattle.sia_events.proofs.laws.named_starts_only_add.Goals as goal
 
 pub returns : goal.returns

@@ -1,4 +1,4 @@
-use Rattle.sia_events.proofs.NarrowEdges.{narrow_edges_suffice}
+use Rattle.sia_events.proofs.OfLaws.NarrowEdges.{narrow_edges_suffice}
 use Rattle.sia_events.proofs.laws.narrow_law.Goals as goal
 
 pub returns : goal.returns

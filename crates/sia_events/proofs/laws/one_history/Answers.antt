@@ -1,4 +1,4 @@
-use Rattle.sia_events.proofs.Histories.{one_history}
+use Rattle.sia_events.proofs.OfLaws.Histories.{one_history}
 use Rattle.sia_events.proofs.laws.one_history.Goals as goal
 
 pub returns : goal.returns

@@ -1,4 +1,4 @@
-use Rattle.sia_events.proofs.Unwritten.{unwritten_has_none}
+use Rattle.sia_events.proofs.OfLaws.Unwritten.{unwritten_has_none}
 use Rattle.sia_events.proofs.laws.unwritten_law.Goals as goal
 
 pub returns : goal.returns

@@ -1,5 +1,5 @@
 -- Sixty bytes are kept.
-use Rattle.sia_events.proofs.Following.{kept_more, kept_full}
+use Rattle.sia_events.proofs.Shared.Following.{kept_more, kept_full}
 use Rattle.sia_events.proofs.locating.keep.Goals as goal
 
 pub returns-then-len-eq-KEPT-clause-kept : goal.returns-then-len-eq-KEPT-clause-kept

@@ -4,7 +4,7 @@ use Rattle.std.specs.Int.{trailing_zeros, w64}
 use Rattle.std.specs.Simd.Lanes.{zip2}
 use Rattle.std.proofs.lemmas.Simd.{leading_from_mask_l, trailing_mask_l, length-zip2}
 use Rattle.std.proofs.lemmas.List.{length-take-le}
-use Rattle.sia_events.proofs.SameBytes.{differ, compared, same_lanes}
+use Rattle.sia_events.proofs.TokensRead.SameBytes.{differ, compared, same_lanes}
 use Rattle.sia_events.proofs.mentions.same_len.Goals as goal
 
 pub returns-then-other-eq0 : goal.returns-then-other-eq0

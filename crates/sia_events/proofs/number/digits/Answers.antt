@@ -1,7 +1,7 @@
 -- The loops stop where the digits end, and keep their number where 64 bits hold it.
 use Rattle.std.proofs.Common.{rules, ◌≡◌, take, sym, arith}
 use Rattle.sia_events.specs.Parsing.{digits_len, digits_value}
-use Rattle.sia_events.proofs.Digits.{digits_end, narrow_small, narrow_great, few_digits}
+use Rattle.sia_events.proofs.TokensRead.Digits.{digits_end, narrow_small, narrow_great, few_digits}
 use Rattle.sia_events.proofs.number.digits.Goals as goal
 
 pub overflow_mul-value : goal.overflow_mul-value

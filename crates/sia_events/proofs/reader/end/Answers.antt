@@ -8,8 +8,8 @@ use Rattle.sia_events.specs.Refusals.{IsRefusal}
 use Rattle.sia_events.specs.Streaming.{StandsForRead}
 use Rattle.sia_events.specs.Judging.{Halts, as_token}
 use Rattle.sia_events.specs.LogTables.{events_of}
-use Rattle.sia_events.proofs.Progresses.{stops_clean, ends_kept, ends_accepted, ends_refused, text_clean, text_history}
-use Rattle.sia_events.proofs.Drafted.{tables_of}
+use Rattle.sia_events.proofs.Reading.Progresses.{stops_clean, ends_kept, ends_accepted, ends_refused, text_clean, text_history}
+use Rattle.sia_events.proofs.Shared.Drafted.{tables_of}
 use Rattle.sia_events.proofs.reader.end.Goals as goal
 
 few_bytes : {count most bytes : ℕ} → count ≤ most → most ≡ bytes → count ≤ bytes

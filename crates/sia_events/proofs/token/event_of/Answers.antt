@@ -2,7 +2,7 @@
 use Rattle.std.proofs.Common.{refl}
 use Rattle.std.proofs.lemmas.Result.{err_from_is_err_and}
 use Rattle.sia_events.specs.Parsing.{ended, txn_of, commit_at, abort_at}
-use Rattle.sia_events.proofs.TokenSteps.{event_by, number_fails, fails_first}
+use Rattle.sia_events.proofs.TokensRead.TokenSteps.{event_by, number_fails, fails_first}
 use Rattle.sia_events.proofs.token.event_of.Goals as goal
 
 pub returns-in_err-txn : goal.returns-in_err-txn

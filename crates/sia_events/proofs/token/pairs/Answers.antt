@@ -2,7 +2,7 @@
 use Rattle.std.proofs.Common.{◌≡◌, ℕ, ◌<◌, ◌≤◌, ◌+◌, List, Some, length, drop, sym, ◌∙◌, subst, arith}
 use Rattle.std.proofs.lemmas.Result.{err_from_is_err_and}
 use Rattle.sia_events.specs.Parsing.{kept, pairs_within, pairs_at}
-use Rattle.sia_events.proofs.Pairs.{with_front, one_pushed, comma_ahead, starts, goes_on, is_done, fails}
+use Rattle.sia_events.proofs.TokensRead.Pairs.{with_front, one_pushed, comma_ahead, starts, goes_on, is_done, fails}
 use Rattle.sia_events.proofs.token.pairs.Goals as goal
 
 pub loop-next-init : goal.loop-next-init

@@ -1,7 +1,7 @@
 -- The pairs so far, with those that are still read, are the whole list's.
 use Rattle.std.proofs.Common.{◌≡◌, ℕ, ◌<◌, length}
 use Rattle.sia_events.specs.Parsing.{kept, pairs_within, pairs_at}
-use Rattle.sia_events.proofs.Pairs.{with_front}
+use Rattle.sia_events.proofs.TokensRead.Pairs.{with_front}
 use Rattle.sia_events.proofs.token.pairs.Given as goal
 
 abbrev pub invariant-loop-next : goal.invariant-loop-next

@@ -1,7 +1,7 @@
 -- A colon follows the first number.
 use Rattle.std.proofs.Common.{rules}
 use Rattle.sia_events.specs.Parsing.{event_with}
-use Rattle.sia_events.proofs.TokenSteps.{read_colon}
+use Rattle.sia_events.proofs.TokensRead.TokenSteps.{read_colon}
 use Rattle.sia_events.proofs.token.read.Goals as goal
 
 pub returns-in-58 : goal.returns-in-58

@@ -2,7 +2,7 @@
 use Rattle.std.proofs.Common.{◌≡◌, ◌≢◌, ◌+◌, ◌<◌, ◌++◌, ◌∷◌, [], ℕ, List, length, take, get_or, sym, ap, ◌∙◌, append_assoc, arith}
 use Rattle.std.proofs.lemmas.List.{take_more, length-take}
 use Rattle.sia_events.specs.Text.{numeral, spell_pair, spell_list}
-use Rattle.sia_events.proofs.Writing.{list_step}
+use Rattle.sia_events.proofs.Writing.Writing.{list_step}
 use Rattle.sia_events.proofs.writer.push_list.Goals as goal
 use Rattle.sia_events.proofs.writer.push_list.Goals.{then-i-eq0, else-i-eq0}
 

@@ -1,8 +1,8 @@
 -- What itoa prints is the numeral.
 use Rattle.std.proofs.Common.{◌++◌, ◌∙◌, List, ℕ, ap, sym}
 use Rattle.std.proofs.lemmas.Result.{on_ok_weaker}
-use Rattle.sia_events.proofs.Decimals.{numeral_decimal}
-use Rattle.sia_events.proofs.Writing.{when_ok}
+use Rattle.sia_events.proofs.Writing.Decimals.{numeral_decimal}
+use Rattle.sia_events.proofs.Writing.Writing.{when_ok}
 use Rattle.sia_events.proofs.writer.push_number.Goals as goal
 
 -- one step after another, from the last back to the first

@@ -3,7 +3,7 @@ use Rattle.std.proofs.Common.{◌++◌, List, flat_map, ap, sym, ◌∙◌}
 use Rattle.std.proofs.lemmas.List.{take_all}
 use Rattle.sia_events.specs.declared.writer.Piece.{Piece}
 use Rattle.sia_events.specs.Spelled.{spelled}
-use Rattle.sia_events.proofs.Flattened.{spelled_more}
+use Rattle.sia_events.proofs.Writing.Flattened.{spelled_more}
 use Rattle.sia_events.proofs.writer.push_pieces.Goals as goal
 use Rattle.sia_events.proofs.writer.push_pieces.Goals.{in-Marked+in_ok-push_marked-in-Marked, in-Byte+in_ok-push-in-Byte, in-Listed+in_ok-push_list-in-Listed}
 

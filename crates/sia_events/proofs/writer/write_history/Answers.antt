@@ -3,7 +3,7 @@ use Rattle.std.proofs.Common.{◌≡◌, ◌+◌, ◌<◌, ◌++◌, ◌∷◌, 
 use Rattle.std.proofs.lemmas.List.{take_more, length-take}
 use Rattle.sia_events.specs.declared.event.Event.{Event}
 use Rattle.sia_events.specs.Text.{spell, canonical}
-use Rattle.sia_events.proofs.Writing.{canonical_first, canonical_later}
+use Rattle.sia_events.proofs.Writing.Writing.{canonical_first, canonical_later}
 use Rattle.sia_events.proofs.writer.write_history.Goals as goal
 use Rattle.sia_events.proofs.writer.write_history.Goals.{then-i-gt0+in_ok-push, else-i-gt0}
 

@@ -6,8 +6,8 @@ use Rattle.std.proofs.lemmas.Result.{IfOk-weaker}
 use Rattle.sia_graph.specs.Previous.{IsLeftIn}
 use Rattle.sia_graph.specs.Searched.{IsEdgeIn, IsMemberIn}
 use Rattle.sia_graph.specs.Walks.{ArePreviousFrom, back}
-use Rattle.sia_graph.proofs.PrintedCycle.{fed_by_stuck, least_home, previous_from, round_home, shifted, leads_all, printed, stays_within}
-use Rattle.sia_graph.proofs.Walks.{back_more, stays}
+use Rattle.sia_graph.proofs.Cycles.PrintedCycle.{fed_by_stuck, least_home, previous_from, round_home, shifted, leads_all, printed, stays_within}
+use Rattle.sia_graph.proofs.Cycles.Walks.{back_more, stays}
 use Rattle.sia_graph.proofs.cycle.cycle_of.Goals.{After-unwrap_or-start}
 use Rattle.sia_graph.proofs.cycle.cycle_of.Goals as goal
 

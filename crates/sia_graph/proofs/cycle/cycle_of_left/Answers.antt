@@ -2,11 +2,11 @@ use Rattle.std.proofs.Common.{◌≡◌, ◌≢◌, ◌∙◌, ℕ, List, [], �
 use Rattle.sia_parts.specs.Entries.{IsEdge}
 use Rattle.sia_graph.specs.Previous.{IsLeftIn}
 use Rattle.sia_graph.specs.Walks.{AreLeastSources, AreLeft}
-use Rattle.sia_events.proofs.OneList.{one_list_by}
+use Rattle.sia_events.proofs.Worked.OneList.{one_list_by}
 use Rattle.sia_events.specs.Transactions.{IsCommitted}
-use Rattle.sia_parts.proofs.StartLemmas.{increasing}
-use Rattle.sia_graph.proofs.LeftSources.{IsPrevious, least_source, previous_is, previous_more}
-use Rattle.sia_graph.proofs.Numbered.{few_txns}
+use Rattle.sia_parts.proofs.CutKeys.StartLemmas.{increasing}
+use Rattle.sia_graph.proofs.Cycles.LeftSources.{IsPrevious, least_source, previous_is, previous_more}
+use Rattle.sia_graph.proofs.Shared.Numbered.{few_txns}
 use Rattle.sia_graph.proofs.cycle.cycle_of_left.Goals.{then-source, else-source}
 use Rattle.sia_graph.proofs.cycle.cycle_of_left.Goals as goal
 

@@ -1,8 +1,8 @@
 use Rattle.std.proofs.Common.{◌≡◌, ℕ, List, get_or, refl, sym, subst, arith}
 use Rattle.sia_events.specs.declared.event.Event.{Event}
-use Rattle.sia_index.proofs.KeyChains.{key_number}
+use Rattle.sia_index.proofs.Shared.KeyChains.{key_number}
 use Rattle.sia_index.specs.Info.{IsKeyAt}
-use Rattle.sia_parts.proofs.FewNumbers.{few_committed}
+use Rattle.sia_parts.proofs.Shared.FewNumbers.{few_committed}
 use Rattle.sia_parts.specs.Entries.{EdgeOfKind, IsEdge}
 use Rattle.sia_parts.specs.declared.finding.Kind.{Kind}
 use Rattle.sia_graph.specs.Searched.{CanFind, IsEdgeIn}

@@ -1,5 +1,5 @@
 use Rattle.std.proofs.Common.{◌≡◌, ◌⊎◌, ◌<◌, ◌≤◌, inl, inr, get_or, ap, sym, ◌∙◌, refl}
-use Rattle.sia_graph.proofs.Walks.{least_more, back_next}
+use Rattle.sia_graph.proofs.Cycles.Walks.{least_more, back_next}
 use Rattle.sia_graph.proofs.cycle.least_within.Goals as goal
 use Rattle.sia_graph.proofs.cycle.least_within.Goals.{then-at-least, else-at-least}
 

@@ -2,7 +2,7 @@ use Rattle.std.proofs.Common.{◌≡◌, false, true, rules}
 use Rattle.std.specs.List.Sorted.{IsPartitionPoint}
 use Rattle.std.proofs.lemmas.List.Sorted.{IsPartitionPoint-from_clause}
 use Rattle.sia_graph.specs.Walks.{is_before}
-use Rattle.sia_graph.proofs.LeastEdges.{least_edge, parted, point_within}
+use Rattle.sia_graph.proofs.Cycles.LeastEdges.{least_edge, parted, point_within}
 use Rattle.sia_graph.proofs.cycle.listed_step.Goals.{After-partition_point-i}
 use Rattle.sia_graph.proofs.cycle.listed_step.Goals as goal
 

@@ -1,5 +1,5 @@
 use Rattle.std.proofs.Common.{ℕ, List, Option, length, refl, sym, subst, ◌∙◌, arith, rules}
-use Rattle.sia_graph.proofs.Walks.{IsNoted, noted_more, round_found, none_noted}
+use Rattle.sia_graph.proofs.Cycles.Walks.{IsNoted, noted_more, round_found, none_noted}
 use Rattle.sia_graph.proofs.cycle.reach_cycle.Goals as goal
 
 pub loop-first-init : goal.loop-first-init

@@ -1,5 +1,5 @@
 use Rattle.std.specs.List.{count_by}
-use Rattle.sia_graph.proofs.Walks.{IsNoted, is_unseen}
+use Rattle.sia_graph.proofs.Cycles.Walks.{IsNoted, is_unseen}
 use Rattle.sia_graph.proofs.cycle.reach_cycle.Given as goal
 
 abbrev pub invariant-loop-first : goal.invariant-loop-first

@@ -3,7 +3,7 @@ use Rattle.sia_graph.specs.declared.cycle.Step.{Step}
 use Rattle.sia_graph.specs.Orders.{Leads}
 use Rattle.sia_graph.specs.Searched.{IsEdgeIn}
 use Rattle.sia_graph.specs.Walks.{GoesRoundFrom}
-use Rattle.sia_graph.proofs.Rounds.{IsPartOfRound, part_more, round_made}
+use Rattle.sia_graph.proofs.Cycles.Rounds.{IsPartOfRound, part_more, round_made}
 use Rattle.sia_graph.proofs.cycle.steps_round.Goals as goal
 
 pub least_step-requires-clause-leads : goal.least_step-requires-clause-leads

@@ -1,6 +1,6 @@
 use Rattle.std.proofs.Common.{◌-◌, length}
 use Rattle.sia_graph.specs.Searched.{IsEdgeIn}
-use Rattle.sia_graph.proofs.Rounds.{IsPartOfRound}
+use Rattle.sia_graph.proofs.Cycles.Rounds.{IsPartOfRound}
 use Rattle.sia_graph.proofs.cycle.steps_round.Given as goal
 
 abbrev pub invariant-walk : goal.invariant-walk

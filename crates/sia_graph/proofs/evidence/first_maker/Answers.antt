@@ -1,4 +1,4 @@
-use Rattle.sia_graph.proofs.MakersTold.{first_told}
+use Rattle.sia_graph.proofs.Shared.MakersTold.{first_told}
 use Rattle.sia_graph.proofs.evidence.first_maker.Goals as goal
 
 pub next_maker-requires : goal.next_maker-requires

@@ -1,6 +1,6 @@
 use Rattle.std.proofs.Common.{sym, ◌∙◌}
 use Rattle.std.proofs.lemmas.Option.{none-some}
-use Rattle.sia_graph.proofs.MakersTold.{before_told, maker_told, none_before}
+use Rattle.sia_graph.proofs.Shared.MakersTold.{before_told, maker_told, none_before}
 use Rattle.sia_graph.proofs.evidence.maker_before.Goals as goal
 
 pub returns-in_err-position_before : goal.returns-in_err-position_before

@@ -1,6 +1,6 @@
 use Rattle.std.proofs.Common.{sym, ◌∙◌}
 use Rattle.std.proofs.lemmas.Option.{none-some}
-use Rattle.sia_graph.proofs.MakersTold.{maker_told, next_told, none_next}
+use Rattle.sia_graph.proofs.Shared.MakersTold.{maker_told, next_told, none_next}
 use Rattle.sia_graph.proofs.evidence.next_maker.Goals as goal
 
 pub returns-in_err-next_position : goal.returns-in_err-next_position

@@ -1,8 +1,8 @@
 use Rattle.std.proofs.Common.{List, ◌≡◌, inr, length, refl, subst, arith}
 use Rattle.std.proofs.lemmas.Bool.Decides.{nat_tests}
 use Rattle.sia_parts.specs.declared.accesses.RangeMiss.{RangeMiss}
-use Rattle.sia_parts.proofs.FewNumbers.{few_written}
-use Rattle.sia_graph.proofs.AccessLists.{none_missed}
+use Rattle.sia_parts.proofs.Shared.FewNumbers.{few_written}
+use Rattle.sia_graph.proofs.Shared.AccessLists.{none_missed}
 use Rattle.sia_graph.proofs.evidence.size_for.Goals as goal
 
 pub overflow_cast-result : goal.overflow_cast-result

@@ -1,5 +1,5 @@
 use Rattle.std.proofs.lemmas.Bool.{both_ways}
-use Rattle.sia_graph.proofs.Judging.{kept_where, where_kept}
+use Rattle.sia_graph.proofs.OnEvidence.Judging.{kept_where, where_kept}
 use Rattle.sia_graph.proofs.judgement.danger_of.Goals as goal
 use Rattle.sia_graph.proofs.judgement.danger_of.Goals.{then-j-via-then-j, then-j-via-else-j+then-not-is_kept}
 

@@ -4,7 +4,7 @@ use Rattle.sia_events.specs.DangerousStructures.{PassesSsi}
 use Rattle.sia_events.specs.Transactions.{IsCommitted}
 use Rattle.sia_parts.specs.Entries.{IsEdge}
 use Rattle.sia_graph.specs.Verdicts.{IsVerdict}
-use Rattle.sia_graph.proofs.Judging.{passed_is_serializable, serializable_where}
+use Rattle.sia_graph.proofs.OnEvidence.Judging.{passed_is_serializable, serializable_where}
 use Rattle.sia_graph.proofs.judgement.judge.Goals.{After-deref-2}
 use Rattle.sia_graph.proofs.judgement.judge.Goals as goal
 

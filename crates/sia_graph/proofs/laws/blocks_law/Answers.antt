@@ -1,6 +1,6 @@
 -- The law of blocks, by its lemma.
 use Rattle.std.specs.Prelude.{Contains}
-use Rattle.sia_graph.proofs.Blocks.{settles_members}
+use Rattle.sia_graph.proofs.OfLaws.Blocks.{settles_members}
 use Rattle.sia_graph.proofs.laws.blocks_law.Goals as goal
 
 pub returns : goal.returns

@@ -6,12 +6,12 @@ use Rattle.sia_parts.specs.declared.finding.Edge.{Edge}
 use Rattle.sia_parts.specs.declared.finding.Kind.TheVariants.{Ww}
 use Rattle.sia_parts.specs.Groups.{IsGroup}
 use Rattle.sia_parts.specs.Sights.{Adds, FromSome}
-use Rattle.sia_parts.proofs.Adding.{FromFirst, added_to_none, adds_push, from_all, from_more, from_none}
-use Rattle.sia_parts.proofs.Groups.{group_between}
+use Rattle.sia_parts.proofs.Shared.Adding.{FromFirst, added_to_none, adds_push, from_all, from_more, from_none}
+use Rattle.sia_parts.proofs.OfReasons.Groups.{group_between}
 use Rattle.sia_graph.specs.ListedGraphs.{IsTargetOf}
-use Rattle.sia_graph.proofs.AscendingIds.{one_id}
-use Rattle.sia_graph.proofs.EdgesListed.{AreTargetsAt, all_in, graph_made, group_has, group_targets}
-use Rattle.sia_graph.proofs.RowLists.{AreLists, lists_more}
+use Rattle.sia_graph.proofs.Shared.AscendingIds.{one_id}
+use Rattle.sia_graph.proofs.Settling.EdgesListed.{AreTargetsAt, all_in, graph_made, group_has, group_targets}
+use Rattle.sia_graph.proofs.Shared.RowLists.{AreLists, lists_more}
 use Rattle.sia_graph.proofs.listed_edges.graph_of.Goals.{After-between-edge-items}
 use Rattle.sia_graph.proofs.listed_edges.graph_of.Goals as goal
 

@@ -1,9 +1,9 @@
 use Rattle.std.proofs.Common.{◌≡◌, []}
 use Rattle.sia_parts.specs.Sights.{Adds}
-use Rattle.sia_parts.proofs.Adding.{FromFirst}
+use Rattle.sia_parts.proofs.Shared.Adding.{FromFirst}
 use Rattle.sia_graph.specs.ListedGraphs.{IsTargetOf}
-use Rattle.sia_graph.proofs.RowLists.{AreLists}
-use Rattle.sia_graph.proofs.EdgesListed.{AreTargetsAt}
+use Rattle.sia_graph.proofs.Shared.RowLists.{AreLists}
+use Rattle.sia_graph.proofs.Settling.EdgesListed.{AreTargetsAt}
 use Rattle.sia_graph.proofs.listed_edges.graph_of.Given as goal
 
 abbrev pub invariant-loop-id : goal.invariant-loop-id

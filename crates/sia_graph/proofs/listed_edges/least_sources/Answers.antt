@@ -8,7 +8,7 @@ use Rattle.std.proofs.lemmas.List.FromFn.{get_or-range_with_len, length-range_wi
 use Rattle.sia_graph.specs.Graphs.{IsGraph}
 use Rattle.sia_graph.specs.declared.order.Graph.{Graph}
 use Rattle.sia_graph.specs.Previous.{IsLeftIn}
-use Rattle.sia_graph.proofs.EdgesListed.{AreLeastFrom, kept_back, least_found, led_back, none_led}
+use Rattle.sia_graph.proofs.Settling.EdgesListed.{AreLeastFrom, kept_back, least_found, led_back, none_led}
 use Rattle.sia_graph.proofs.listed_edges.least_sources.Goals as goal
 
 -- one more of the first ones

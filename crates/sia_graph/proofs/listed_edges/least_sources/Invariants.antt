@@ -1,6 +1,6 @@
 use Rattle.std.proofs.Common.{◌≡◌, ℕ, [], get_or, length, take}
 use Rattle.std.specs.Prelude.{Contains}
-use Rattle.sia_graph.proofs.EdgesListed.{AreLeastFrom}
+use Rattle.sia_graph.proofs.Settling.EdgesListed.{AreLeastFrom}
 use Rattle.sia_graph.proofs.listed_edges.least_sources.Given as goal
 
 abbrev pub invariant-loop-source : goal.invariant-loop-source

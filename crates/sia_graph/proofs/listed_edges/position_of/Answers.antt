@@ -1,6 +1,6 @@
 use Rattle.std.proofs.Common.{◌≡◌, true, false, ltb, subst, arith}
 use Rattle.std.specs.List.Sorted.{IsPartitionPoint}
-use Rattle.sia_graph.proofs.AscendingIds.{found_position, ids_rise, place_below}
+use Rattle.sia_graph.proofs.Shared.AscendingIds.{found_position, ids_rise, place_below}
 use Rattle.sia_graph.proofs.listed_edges.position_of.Goals as goal
 
 pub place_from-requires : goal.place_from-requires

@@ -6,7 +6,7 @@ use Rattle.sia_graph.specs.Previous.{IsLeftIn}
 use Rattle.sia_graph.specs.Walks.{AreLeastSources}
 use Rattle.sia_graph.specs.Graphs.{IsGraph}
 use Rattle.sia_graph.specs.Taken.{AreLeftOver, IsTaken}
-use Rattle.sia_graph.proofs.EdgesListed.{list_taken, sources_rise}
+use Rattle.sia_graph.proofs.Settling.EdgesListed.{list_taken, sources_rise}
 use Rattle.sia_graph.proofs.listed_edges.settle.Goals.{In-Rest}
 use Rattle.sia_graph.proofs.listed_edges.settle.Goals as goal
 

@@ -6,7 +6,7 @@ use Rattle.std.proofs.lemmas.List.Sums.{count_by_more_no, count_by_more_yes}
 use Rattle.sia_graph.specs.Graphs.{IsGraph}
 use Rattle.sia_graph.specs.UnderWay.{times}
 use Rattle.sia_graph.specs.declared.order.Graph.{Graph}
-use Rattle.sia_graph.proofs.Told.{told_more}
+use Rattle.sia_graph.proofs.Orders.Told.{told_more}
 use Rattle.sia_graph.proofs.order.counts_of.Goals as goal
 
 -- a target is a node

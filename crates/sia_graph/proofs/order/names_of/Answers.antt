@@ -1,6 +1,6 @@
 use Rattle.std.proofs.Common.{◌*◌, ℕ, Vec, Global, ap, refl, ◌∙◌}
 use Rattle.sia_graph.specs.NarrowSteps.{name_of}
-use Rattle.sia_graph.proofs.Mapped.{block_more, member_more}
+use Rattle.sia_graph.proofs.Orders.Mapped.{block_more, member_more}
 use Rattle.sia_graph.proofs.order.names_of.Goals as goal
 use Rattle.sia_graph.proofs.order.names_of.Goals.{then-node-floor+in_ok-push, else-node-floor}
 

@@ -1,6 +1,6 @@
 use Rattle.std.proofs.lemmas.Bool.{cases_lt}
 use Rattle.std.proofs.Common.{◌≡◌, inl, inr, ℕ, length, ap, ◌∙◌, arith}
-use Rattle.sia_graph.proofs.ReadySets.{least_ready, none_ready, ready_taken}
+use Rattle.sia_graph.proofs.Orders.ReadySets.{least_ready, none_ready, ready_taken}
 use Rattle.sia_graph.proofs.order.next_ready.Goals.{In_default}
 use Rattle.sia_graph.proofs.order.next_ready.Goals as goal
 

@@ -5,9 +5,9 @@ use Rattle.std.proofs.lemmas.Bool.{cases_lt, le-ltb, lt-ltb}
 use Rattle.std.proofs.lemmas.List.{get_or-replicate, get_or_past, length-replicate}
 use Rattle.sia_graph.specs.Fronts.{left_over}
 use Rattle.sia_graph.specs.UnderWay.{HasReady, IsDone, IsReadyAt, IsTaking, none_pending, times}
-use Rattle.sia_graph.proofs.DoneNodes.{done_ready, done_under_way}
-use Rattle.sia_graph.proofs.Pending.{as_taking, first_fewer, not_yet}
-use Rattle.sia_graph.proofs.TakenFronts.{IsFrontOf, fewer_left, front_taken, last_front, no_front, ready_left, ready_within}
+use Rattle.sia_graph.proofs.Orders.DoneNodes.{done_ready, done_under_way}
+use Rattle.sia_graph.proofs.Orders.Pending.{as_taking, first_fewer, not_yet}
+use Rattle.sia_graph.proofs.Orders.TakenFronts.{IsFrontOf, fewer_left, front_taken, last_front, no_front, ready_left, ready_within}
 use Rattle.sia_graph.proofs.order.take_all.Goals.{In-Some}
 use Rattle.sia_graph.proofs.order.take_all.Goals as goal
 

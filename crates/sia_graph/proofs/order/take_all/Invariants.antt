@@ -2,8 +2,8 @@ use Rattle.std.proofs.Common.{◌≡◌, ℕ, false, get_or, length}
 use Rattle.std.specs.List.{range_with_len}
 use Rattle.sia_graph.specs.Fronts.{left_over}
 use Rattle.sia_graph.specs.UnderWay.{IsTaking, none_pending}
-use Rattle.sia_graph.proofs.Pending.{not_yet}
-use Rattle.sia_graph.proofs.TakenFronts.{IsFrontOf}
+use Rattle.sia_graph.proofs.Orders.Pending.{not_yet}
+use Rattle.sia_graph.proofs.Orders.TakenFronts.{IsFrontOf}
 use Rattle.sia_graph.proofs.order.take_all.Given as goal
 
 abbrev pub invariant-loop-node : goal.invariant-loop-node

@@ -7,7 +7,7 @@ use Rattle.std.proofs.lemmas.Iterator.Consumers.{YieldsList-at}
 use Rattle.std.proofs.lemmas.List.{get_or-drop, get_or-map, length-drop, length-map, take_all}
 use Rattle.sia_graph.specs.Blocks.{without_blocks}
 use Rattle.sia_graph.specs.NarrowSteps.{name_of}
-use Rattle.sia_graph.proofs.StuckNodes.{left_nodes, nodes_below, whole_order}
+use Rattle.sia_graph.proofs.Orders.StuckNodes.{left_nodes, nodes_below, whole_order}
 use Rattle.sia_graph.proofs.order.take_nodes.Goals.{After-all}
 use Rattle.sia_graph.proofs.order.take_nodes.Goals as goal
 

@@ -1,6 +1,6 @@
 use Rattle.std.proofs.Common.{arith}
 use Rattle.std.proofs.lemmas.Bool.{le-leb, leb-true, ltb-true}
-use Rattle.sia_graph.proofs.Vulnerable.{within_bounds}
+use Rattle.sia_graph.proofs.OfPivots.Vulnerable.{within_bounds}
 use Rattle.sia_graph.proofs.pivot.commits_by.Goals as goal
 
 pub returns-then-lifetime-before : goal.returns-then-lifetime-before

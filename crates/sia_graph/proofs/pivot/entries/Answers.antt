@@ -7,10 +7,10 @@ use Rattle.sia_events.specs.Lists.{ListsAscending}
 use Rattle.sia_graph.specs.declared.pivot.Pivot.{Pivot}
 use Rattle.sia_graph.specs.Links.{AreLinked}
 use Rattle.sia_graph.specs.Pivots.{ListsNeighbours}
-use Rattle.sia_graph.proofs.ListedAs.{listed_as}
-use Rattle.sia_graph.proofs.LinkLists.{IsLinked, ends_listed, linked_by}
-use Rattle.sia_graph.proofs.Picked.{ArePicked, none_picked, picked_more, picked_same, all_picked}
-use Rattle.sia_graph.proofs.PivotLists.{is_middle}
+use Rattle.sia_graph.proofs.OfPivots.ListedAs.{listed_as}
+use Rattle.sia_graph.proofs.OfPivots.LinkLists.{IsLinked, ends_listed, linked_by}
+use Rattle.sia_graph.proofs.OfPivots.Picked.{ArePicked, none_picked, picked_more, picked_same, all_picked}
+use Rattle.sia_graph.proofs.OfPivots.PivotLists.{is_middle}
 use Rattle.sia_graph.proofs.pivot.entries.Goals.{then-not-is_empty+in_ok-pivot_at+in_ok-push, else-not-is_empty}
 use Rattle.sia_graph.proofs.pivot.entries.Goals as goal
 

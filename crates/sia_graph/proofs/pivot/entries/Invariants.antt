@@ -2,8 +2,8 @@ use Rattle.std.proofs.Common.{◌∷◌, [], map}
 use Rattle.std.specs.Prelude.{All}
 use Rattle.sia_graph.specs.declared.pivot.Pivot.{Pivot}
 use Rattle.sia_graph.specs.Pivots.{ListsNeighbours}
-use Rattle.sia_graph.proofs.LinkLists.{IsLinked}
-use Rattle.sia_graph.proofs.Picked.{ArePicked}
+use Rattle.sia_graph.proofs.OfPivots.LinkLists.{IsLinked}
+use Rattle.sia_graph.proofs.OfPivots.Picked.{ArePicked}
 use Rattle.sia_graph.proofs.pivot.entries.Given as goal
 
 abbrev pub invariant-loop-txn : goal.invariant-loop-txn

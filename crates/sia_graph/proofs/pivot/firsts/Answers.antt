@@ -1,9 +1,9 @@
 use Rattle.std.proofs.Common.{◌∷◌, [], ap, sym, subst, ◌∙◌}
 use Rattle.sia_events.specs.Lists.{ListsAscending}
 use Rattle.sia_events.specs.DangerousStructures.{IsFirst}
-use Rattle.sia_graph.proofs.ListedAs.{listed_as}
-use Rattle.sia_graph.proofs.Picked.{ArePicked, none_picked, picked_more, picked_same, all_picked}
-use Rattle.sia_graph.proofs.Vulnerable.{CommitsBy, first_by, none_first}
+use Rattle.sia_graph.proofs.OfPivots.ListedAs.{listed_as}
+use Rattle.sia_graph.proofs.OfPivots.Picked.{ArePicked, none_picked, picked_more, picked_same, all_picked}
+use Rattle.sia_graph.proofs.OfPivots.Vulnerable.{CommitsBy, first_by, none_first}
 use Rattle.sia_graph.proofs.pivot.firsts.Goals.{then-commits_by+in_ok-push, else-commits_by}
 use Rattle.sia_graph.proofs.pivot.firsts.Goals as goal
 

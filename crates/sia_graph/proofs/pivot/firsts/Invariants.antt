@@ -1,6 +1,6 @@
 use Rattle.std.proofs.Common.{◌∷◌, []}
-use Rattle.sia_graph.proofs.Picked.{ArePicked}
-use Rattle.sia_graph.proofs.Vulnerable.{CommitsBy}
+use Rattle.sia_graph.proofs.OfPivots.Picked.{ArePicked}
+use Rattle.sia_graph.proofs.OfPivots.Vulnerable.{CommitsBy}
 use Rattle.sia_graph.proofs.pivot.firsts.Given as goal
 
 abbrev pub invariant-loop-out : goal.invariant-loop-out

@@ -2,9 +2,9 @@
 use Rattle.std.proofs.Common.{sym, subst, ◌∙◌, get_or}
 use Rattle.sia_index.specs.declared.info.Lifetime.{Lifetime}
 use Rattle.sia_index.specs.Lifetimes.{IsLifetime}
-use Rattle.sia_parts.proofs.Committing.{committed_number}
-use Rattle.sia_index.proofs.Table.{overlap_by}
-use Rattle.sia_graph.proofs.LinkLists.{rw_kind}
+use Rattle.sia_parts.proofs.Auditing.Committing.{committed_number}
+use Rattle.sia_index.proofs.Answering.Table.{overlap_by}
+use Rattle.sia_graph.proofs.OfPivots.LinkLists.{rw_kind}
 use Rattle.sia_graph.proofs.pivot.is_vulnerable_row.Goals as goal
 
 pub returns-then-leads_rw : goal.returns-then-leads_rw

@@ -1,5 +1,5 @@
 use Rattle.std.proofs.Common.{◌≡◌, ◌⊎◌, ◌+◌, ◌≤◌, sym, subst, ◌∙◌, arith}
-use Rattle.sia_graph.proofs.Vulnerable.{IsLastTo, max_is, last_more, last_same, last_all}
+use Rattle.sia_graph.proofs.OfPivots.Vulnerable.{IsLastTo, max_is, last_more, last_same, last_all}
 use Rattle.sia_graph.proofs.pivot.last_commit.Goals as goal
 use Rattle.sia_graph.proofs.pivot.last_commit.Goals.{in-Some, in_default}
 

@@ -1,4 +1,4 @@
-use Rattle.sia_graph.proofs.Vulnerable.{IsLastTo}
+use Rattle.sia_graph.proofs.OfPivots.Vulnerable.{IsLastTo}
 use Rattle.sia_graph.proofs.pivot.last_commit.Given as goal
 
 abbrev pub invariant-loop-txn : goal.invariant-loop-txn

@@ -1,7 +1,7 @@
 use Rattle.std.proofs.Common.{◌∷◌, [], subst}
 use Rattle.sia_index.specs.Between.{IsBetween}
 use Rattle.sia_graph.specs.declared.pivot.Link.{Link}
-use Rattle.sia_parts.proofs.Groups.{group_between, heads_rise}
+use Rattle.sia_parts.proofs.OfReasons.Groups.{group_between, heads_rise}
 use Rattle.sia_graph.proofs.pivot.links_at.Goals as goal
 
 pub between-requires : goal.between-requires

@@ -1,7 +1,7 @@
 use Rattle.std.proofs.Common.{List, ℕ, sym, ◌∙◌, subst}
 use Rattle.sia_events.specs.Lists.{ListsAscending}
 use Rattle.sia_events.specs.DangerousStructures.{IsVulnerable, IsFirst}
-use Rattle.sia_graph.proofs.LinkLists.{others_listed}
+use Rattle.sia_graph.proofs.OfPivots.LinkLists.{others_listed}
 use Rattle.sia_graph.proofs.pivot.pivot_at.Goals as goal
 
 pub firsts-requires-clause-ins : goal.firsts-requires-clause-ins

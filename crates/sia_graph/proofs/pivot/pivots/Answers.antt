@@ -1,4 +1,4 @@
-use Rattle.sia_graph.proofs.Vulnerable.{all_vulnerable}
+use Rattle.sia_graph.proofs.OfPivots.Vulnerable.{all_vulnerable}
 use Rattle.sia_graph.proofs.pivot.pivots.Goals as goal
 
 pub pivots_of_links-requires : goal.pivots_of_links-requires

@@ -4,8 +4,8 @@ use Rattle.std.proofs.lemmas.Iterator.Consumers.{YieldsList-at}
 use Rattle.sia_events.specs.DangerousStructures.{IsVulnerable}
 use Rattle.sia_graph.specs.Links.{ListsLinks}
 use Rattle.sia_graph.specs.declared.pivot.Link.{Link}
-use Rattle.sia_graph.proofs.LinkLists.{links_in_order, one_link, turned_listed}
-use Rattle.sia_graph.proofs.PivotLists.{into_listed}
+use Rattle.sia_graph.proofs.OfPivots.LinkLists.{links_in_order, one_link, turned_listed}
+use Rattle.sia_graph.proofs.OfPivots.PivotLists.{into_listed}
 use Rattle.sia_graph.proofs.pivot.pivots_of_links.Goals as goal
 
 pub put_in_order-requires-2 : goal.put_in_order-requires-2

@@ -6,10 +6,10 @@ use Rattle.sia_index.specs.Numbers.{IsCommittedAt}
 use Rattle.sia_parts.specs.declared.edges.EdgeTo.{EdgeTo}
 use Rattle.sia_parts.specs.declared.finding.Kind.TheVariants.{Ww}
 use Rattle.sia_parts.specs.Sights.{FromSome}
-use Rattle.sia_parts.proofs.Adding.{adds_nothing, adds_same, from_all, from_more}
-use Rattle.sia_parts.proofs.Committing.{committed_number}
+use Rattle.sia_parts.proofs.Shared.Adding.{adds_nothing, adds_same, from_all, from_more}
+use Rattle.sia_parts.proofs.Auditing.Committing.{committed_number}
 use Rattle.sia_graph.specs.AllEdges.{IsLinkFrom}
-use Rattle.sia_graph.proofs.VulnerableRows.{IsRowLink, link_of_row, links_of_rows}
+use Rattle.sia_graph.proofs.OfPivots.VulnerableRows.{IsRowLink, link_of_row, links_of_rows}
 use Rattle.sia_graph.proofs.pivot.put_vulnerable.Goals as goal
 use Rattle.sia_graph.proofs.pivot.put_vulnerable.Goals.{then-is_vulnerable_row+in_ok-put_link, else-is_vulnerable_row}
 

@@ -3,7 +3,7 @@ use Rattle.std.proofs.lemmas.List.{take_all}
 use Rattle.sia_parts.specs.declared.finding.Edge.{Edge}
 use Rattle.sia_events.specs.Transactions.{Overlap}
 use Rattle.sia_graph.specs.Links.{AreEnds, is_rw}
-use Rattle.sia_graph.proofs.LinkLists.{ends_none, next_more, next_same, rw_kind}
+use Rattle.sia_graph.proofs.OfPivots.LinkLists.{ends_none, next_more, next_same, rw_kind}
 use Rattle.sia_graph.proofs.pivot.vulnerable.Goals as goal
 use Rattle.sia_graph.proofs.pivot.vulnerable.Goals.{then-leads_rw+then-overlap+in_ok-push, else-leads_rw-via-then-leads_rw+else-overlap, else-leads_rw-via-else-leads_rw}
 

@@ -2,7 +2,7 @@ use Rattle.std.proofs.Common.{◌≡◌, ◌+◌, ◌-◌, ℕ, Option, Some, un
 use Rattle.std.specs.BTreeMap.{get, Updates}
 use Rattle.std.specs.Ordering.{nat_cmp}
 use Rattle.sia_graph.specs.Replaying.{AreFirsts, AreNext}
-use Rattle.sia_graph.proofs.MapSteps.{chains_more, there_is_one}
+use Rattle.sia_graph.proofs.ReplayedTxns.MapSteps.{chains_more, there_is_one}
 use Rattle.sia_graph.proofs.serial_replay.chains.Goals as goal
 
 pub loop-before-preserved-in_ok-insert : goal.loop-before-preserved-in_ok-insert

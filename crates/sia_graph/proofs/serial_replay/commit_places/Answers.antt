@@ -1,7 +1,7 @@
 use Rattle.std.proofs.Common.{◌+◌, sym, subst, arith}
 use Rattle.std.specs.BTreeMap.{BTreeMap}
 use Rattle.std.proofs.Common.{ℕ}
-use Rattle.sia_graph.proofs.MapSteps.{AreCommitsTo, commits_more, commits_same, all_commits}
+use Rattle.sia_graph.proofs.ReplayedTxns.MapSteps.{AreCommitsTo, commits_more, commits_same, all_commits}
 use Rattle.sia_graph.proofs.serial_replay.commit_places.Goals as goal
 use Rattle.sia_graph.proofs.serial_replay.commit_places.Goals.{in-Some+in_ok-insert, in_default}
 

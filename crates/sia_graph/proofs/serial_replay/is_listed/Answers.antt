@@ -1,6 +1,6 @@
 use Rattle.std.proofs.Common.{◌≡◌, ℕ, rules}
 use Rattle.std.proofs.lemmas.List.Sorted.{answers_always}
-use Rattle.sia_graph.proofs.RightAt.{is_listed_by}
+use Rattle.sia_graph.proofs.ReplayedTxns.RightAt.{is_listed_by}
 use Rattle.sia_graph.proofs.serial_replay.is_listed.Goals as goal
 
 pub returns : goal.returns

@@ -1,7 +1,7 @@
 -- One transaction more is taken out of the map each time.
 use Rattle.std.proofs.Common.{sym, ◌∙◌, arith}
 use Rattle.std.proofs.lemmas.Bool.{false≢true}
-use Rattle.sia_graph.proofs.MapSteps.{all_taken, none_of, none_taken, not_taken, some_of, taken_more}
+use Rattle.sia_graph.proofs.ReplayedTxns.MapSteps.{all_taken, none_of, none_taken, not_taken, some_of, taken_more}
 use Rattle.sia_graph.proofs.serial_replay.is_order.Goals as goal
 
 pub loop-txn-init : goal.loop-txn-init

@@ -1,5 +1,5 @@
 use Rattle.std.proofs.Common.{sym}
-use Rattle.sia_graph.proofs.RightAt.{follows_iff}
+use Rattle.sia_graph.proofs.ReplayedTxns.RightAt.{follows_iff}
 use Rattle.sia_graph.proofs.serial_replay.may_follow.Goals as goal
 
 pub returns-in-Some-Some : goal.returns-in-Some-Some

@@ -1,6 +1,6 @@
 use Rattle.std.proofs.Common.{◌≡◌, ◌≤◌, ◌<◌, ℕ, subst}
 use Rattle.sia_graph.specs.Replaying.{version_in}
-use Rattle.sia_graph.proofs.RightAt.{range_first}
+use Rattle.sia_graph.proofs.ReplayedTxns.RightAt.{range_first}
 use Rattle.sia_graph.proofs.serial_replay.next_version.Goals as goal
 
 pub returns : goal.returns

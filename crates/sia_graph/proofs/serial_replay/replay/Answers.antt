@@ -1,4 +1,4 @@
-use Rattle.sia_graph.proofs.Replayed.{told_serial}
+use Rattle.sia_graph.proofs.ReplayedTxns.Replayed.{told_serial}
 use Rattle.sia_graph.proofs.serial_replay.replay.Goals as goal
 
 pub returns-clause-replays : goal.returns-clause-replays

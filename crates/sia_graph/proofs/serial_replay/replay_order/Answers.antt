@@ -2,7 +2,7 @@ use Rattle.std.proofs.Common.{◌+◌, ℕ, List, Some, drop, sym, subst}
 use Rattle.sia_events.specs.declared.event.Event.{Event}
 use Rattle.sia_events.specs.Replay.{serial}
 use Rattle.sia_graph.specs.Replaying.{AreNext, Tells, version_in}
-use Rattle.sia_graph.proofs.Replayed.{serial_at}
+use Rattle.sia_graph.proofs.ReplayedTxns.Replayed.{serial_at}
 use Rattle.sia_graph.proofs.serial_replay.replay_order.Goals as goal
 
 pub returns-in-Some : goal.returns-in-Some

@@ -3,7 +3,7 @@ use Rattle.std.proofs.lemmas.Option.{same_Some}
 use Rattle.std.specs.BTreeMap.{BTreeMap}
 use Rattle.sia_graph.specs.declared.serial_replay.Mismatch.{Mismatch}
 use Rattle.sia_graph.specs.Replaying.{version_in}
-use Rattle.sia_graph.proofs.ChainOf.{IsOnChain, next_event, is_next, place_within, fewer_places, on_chain_more, told_wrong, told_all}
+use Rattle.sia_graph.proofs.ReplayedTxns.ChainOf.{IsOnChain, next_event, is_next, place_within, fewer_places, on_chain_more, told_wrong, told_all}
 use Rattle.sia_graph.proofs.serial_replay.replay_txn.Goals as goal
 use Rattle.sia_graph.proofs.serial_replay.replay_txn.Goals.{in-Some+in_default-wrong_key+in_ok-keep_write, in_default}
 

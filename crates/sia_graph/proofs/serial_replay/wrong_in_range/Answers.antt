@@ -1,6 +1,6 @@
 use Rattle.std.proofs.Common.{arith}
 use Rattle.sia_graph.specs.Replaying.{version_in}
-use Rattle.sia_graph.proofs.RightAt.{range_agrees, listed_wrong, unlisted_wrong, none_listed_wrong}
+use Rattle.sia_graph.proofs.ReplayedTxns.RightAt.{range_agrees, listed_wrong, unlisted_wrong, none_listed_wrong}
 use Rattle.sia_graph.proofs.serial_replay.wrong_in_range.Goals as goal
 
 pub returns-in-None : goal.returns-in-None

@@ -6,8 +6,8 @@ use Rattle.sia_events.specs.declared.event.Event.TheVariants.{Range, Write}
 use Rattle.sia_events.specs.Replay.{MayFollow}
 use Rattle.sia_graph.specs.Replaying.{IsRight, IsWrongAt, version_in}
 use Rattle.std.specs.List.Sorted.{IsStrictlyIncreasing}
-use Rattle.sia_events.proofs.Ranges.{bounds_in_order, list_in_order}
-use Rattle.sia_graph.proofs.RightAt.{write_right}
+use Rattle.sia_events.proofs.Writing.Ranges.{bounds_in_order, list_in_order}
+use Rattle.sia_graph.proofs.ReplayedTxns.RightAt.{write_right}
 use Rattle.sia_graph.proofs.serial_replay.wrong_key.Goals as goal
 
 pub wrong_in_range-requires-clause-forward : goal.wrong_in_range-requires-clause-forward

@@ -1,7 +1,7 @@
 use Rattle.std.proofs.Common.{◌≡◌, ℕ, get_or, ap, sym, ◌∙◌, subst, arith}
 use Rattle.std.proofs.lemmas.List.{get_or_default}
 use Rattle.sia_graph.specs.Replaying.{version_in}
-use Rattle.sia_graph.proofs.RightAt.{before_key}
+use Rattle.sia_graph.proofs.ReplayedTxns.RightAt.{before_key}
 use Rattle.sia_graph.proofs.serial_replay.wrong_listed.Goals as goal
 
 pub returns-then-version_of-saw : goal.returns-then-version_of-saw

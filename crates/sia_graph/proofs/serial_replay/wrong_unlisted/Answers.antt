@@ -1,7 +1,7 @@
 use Rattle.std.proofs.Common.{◌≡◌, ◌⊎◌, inl, inr, ℕ, arith}
 use Rattle.std.specs.Prelude.{Contains}
 use Rattle.std.proofs.lemmas.Bool.{cases_lt}
-use Rattle.sia_graph.proofs.RightAt.{passed_key}
+use Rattle.sia_graph.proofs.ReplayedTxns.RightAt.{passed_key}
 use Rattle.sia_graph.proofs.serial_replay.wrong_unlisted.Goals as goal
 use Rattle.sia_graph.proofs.serial_replay.wrong_unlisted.Goals.{else-version-ne0-via-then-version-ne0+else-not-is_listed, else-version-ne0-via-else-version-ne0}
 

@@ -1,12 +1,12 @@
 use Rattle.std.proofs.Common.{◌≡◌, ◌∷◌, [], ◌++◌, ◌*◌, ◌+◌, ◌<◌, ℕ, List, length, get_or, refl, ap, subst, ◌∙◌, arith}
 use Rattle.sia_events.specs.Transactions.{IsCommitted}
-use Rattle.sia_events.proofs.OneList.{one_list_by}
+use Rattle.sia_events.proofs.Worked.OneList.{one_list_by}
 use Rattle.sia_graph.specs.NarrowSteps.{node_of}
 use Rattle.sia_graph.specs.SparseGraphs.{HasNodes}
-use Rattle.sia_graph.proofs.MemberSteps.{size_few}
-use Rattle.sia_graph.proofs.Numbered.{few_txns}
-use Rattle.sia_graph.proofs.RowLists.{block_sources, block_targets, member_targets, nodes_more, nodes_to}
-use Rattle.sia_graph.proofs.SparseStands.{sparse}
+use Rattle.sia_graph.proofs.Shared.MemberSteps.{size_few}
+use Rattle.sia_graph.proofs.Shared.Numbered.{few_txns}
+use Rattle.sia_graph.proofs.Shared.RowLists.{block_sources, block_targets, member_targets, nodes_more, nodes_to}
+use Rattle.sia_graph.proofs.SparseGraphs.SparseStands.{sparse}
 use Rattle.sia_graph.proofs.sparse.graph_of.Goals as goal
 
 pub overflow_mul-block-end : goal.overflow_mul-block-end

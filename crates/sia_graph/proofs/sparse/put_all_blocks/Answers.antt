@@ -1,7 +1,7 @@
 use Rattle.std.proofs.Common.{arith, get_or, inl, inr}
 use Rattle.std.proofs.lemmas.Bool.{cases_lt}
 use Rattle.sia_parts.specs.declared.accesses.RangeMiss.{RangeMiss}
-use Rattle.sia_graph.proofs.StretchBlocks.{blocks_all, blocks_more, blocks_none, held_below}
+use Rattle.sia_graph.proofs.SparseGraphs.StretchBlocks.{blocks_all, blocks_more, blocks_none, held_below}
 use Rattle.sia_graph.proofs.sparse.put_all_blocks.Goals as goal
 
 pub loop-stretch-init : goal.loop-stretch-init

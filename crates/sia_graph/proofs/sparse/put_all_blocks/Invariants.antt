@@ -1,4 +1,4 @@
-use Rattle.sia_graph.proofs.StretchBlocks.{HasBlocksTo}
+use Rattle.sia_graph.proofs.SparseGraphs.StretchBlocks.{HasBlocksTo}
 use Rattle.sia_graph.proofs.sparse.put_all_blocks.Given as goal
 
 abbrev pub invariant-loop-stretch : goal.invariant-loop-stretch

@@ -1,8 +1,8 @@
 use Rattle.std.proofs.Common.{◌≡◌, ◌≢◌, ◌-◌, ℕ, List, Some, subst, arith}
 use Rattle.sia_parts.specs.Sights.{Adds}
 use Rattle.sia_graph.specs.NarrowSteps.{node_of}
-use Rattle.sia_graph.proofs.MemberSteps.{leaf_put, size_few, size_has}
-use Rattle.sia_graph.proofs.StepsPut.{few_first}
+use Rattle.sia_graph.proofs.Shared.MemberSteps.{leaf_put, size_few, size_has}
+use Rattle.sia_graph.proofs.SparseGraphs.StepsPut.{few_first}
 use Rattle.sia_graph.proofs.sparse.put_block_steps.Goals as goal
 
 pub overflow_mul-block : goal.overflow_mul-block

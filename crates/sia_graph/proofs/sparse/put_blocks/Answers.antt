@@ -1,5 +1,5 @@
 use Rattle.std.proofs.Common.{arith}
-use Rattle.sia_graph.proofs.KeyBlocks.{climb_none, climb_more, climbed}
+use Rattle.sia_graph.proofs.SparseGraphs.KeyBlocks.{climb_none, climb_more, climbed}
 use Rattle.sia_graph.proofs.sparse.put_blocks.Goals as goal
 
 pub loop-low-init : goal.loop-low-init

@@ -1,5 +1,5 @@
 use Rattle.std.proofs.Common.{◌-◌}
-use Rattle.sia_graph.proofs.KeyBlocks.{IsClimbing}
+use Rattle.sia_graph.proofs.SparseGraphs.KeyBlocks.{IsClimbing}
 use Rattle.sia_graph.proofs.sparse.put_blocks.Given as goal
 
 abbrev pub invariant-loop-low : goal.invariant-loop-low

@@ -5,15 +5,15 @@ use Rattle.sia_index.specs.Positions.{HasPosition}
 use Rattle.sia_parts.specs.declared.accesses.RangeMiss.{RangeMiss}
 use Rattle.sia_parts.specs.Accesses.{SawPosition}
 use Rattle.sia_parts.specs.Sights.{Adds, FromSome}
-use Rattle.sia_parts.proofs.Adding.{from_all, from_more}
+use Rattle.sia_parts.proofs.Shared.Adding.{from_all, from_more}
 use Rattle.sia_graph.specs.KeyBlocks.{IsUnderSome}
 use Rattle.sia_graph.specs.Makers.{IsMaker, IsMakerBefore, IsNextMaker}
 use Rattle.sia_graph.specs.Passed.{IsHeldBy}
 use Rattle.sia_graph.specs.SparseGraphs.{IsStepTo}
-use Rattle.sia_graph.proofs.AccessLists.{saw_inside, saw_is, saw_position}
-use Rattle.sia_graph.proofs.MakersTold.{maker_told}
-use Rattle.sia_graph.proofs.MemberSteps.{size_few, sources_put, targets_put}
-use Rattle.sia_graph.proofs.StepsPut.{few_before, few_maker, few_next, step_put}
+use Rattle.sia_graph.proofs.Shared.AccessLists.{saw_inside, saw_is, saw_position}
+use Rattle.sia_graph.proofs.Shared.MakersTold.{maker_told}
+use Rattle.sia_graph.proofs.Shared.MemberSteps.{size_few, sources_put, targets_put}
+use Rattle.sia_graph.proofs.SparseGraphs.StepsPut.{few_before, few_maker, few_next, step_put}
 use Rattle.sia_graph.proofs.sparse.put_member_steps.Goals.{After-at-seen-items, After-made_by-made-items}
 use Rattle.sia_graph.proofs.sparse.put_member_steps.Goals as goal
 

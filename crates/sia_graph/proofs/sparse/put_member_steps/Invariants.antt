@@ -1,5 +1,5 @@
 use Rattle.sia_parts.specs.Sights.{Adds}
-use Rattle.sia_parts.proofs.Adding.{FromFirst}
+use Rattle.sia_parts.proofs.Shared.Adding.{FromFirst}
 use Rattle.sia_graph.specs.Makers.{IsMaker, IsMakerBefore, IsNextMaker}
 use Rattle.sia_graph.specs.SparseGraphs.{IsStepTo}
 use Rattle.sia_graph.proofs.sparse.put_member_steps.Given as goal

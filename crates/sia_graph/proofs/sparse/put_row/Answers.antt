@@ -1,7 +1,7 @@
 use Rattle.std.proofs.Common.{ℕ, List, ◌++◌, ◌∷◌, [], ◌<◌, length, take, get_or, ap, sym, subst, ◌∙◌, arith}
 use Rattle.std.proofs.lemmas.List.{take_all, take_more}
 use Rattle.sia_index.specs.Lists.{with_last}
-use Rattle.sia_graph.proofs.RowLists.{last_more, some_list}
+use Rattle.sia_graph.proofs.Shared.RowLists.{last_more, some_list}
 use Rattle.sia_graph.proofs.sparse.put_row.Goals as goal
 
 pub put-requires : goal.put-requires

@@ -10,9 +10,9 @@ use Rattle.sia_index.specs.Positions.{HasVersionUpTo, IsAtPosition}
 use Rattle.sia_parts.specs.declared.accesses.RangeMiss.{RangeMiss}
 use Rattle.sia_parts.specs.Accesses.{HasMiss, SawPosition}
 use Rattle.sia_graph.specs.EarlyVersions.{HasEarly}
-use Rattle.sia_graph.proofs.AccessLists.{missed_is, saw_is, saw_position}
-use Rattle.sia_graph.proofs.EarlyFirsts.{missed_early, none_early, saw_early}
-use Rattle.sia_graph.proofs.PositionEdges.{one_txn_at}
+use Rattle.sia_graph.proofs.Shared.AccessLists.{missed_is, saw_is, saw_position}
+use Rattle.sia_graph.proofs.SsiTest.EarlyFirsts.{missed_early, none_early, saw_early}
+use Rattle.sia_graph.proofs.Shared.PositionEdges.{one_txn_at}
 use Rattle.sia_graph.proofs.ssi.has_early.Goals.{After-at-position-items, After-at-miss-items}
 use Rattle.sia_graph.proofs.ssi.has_early.Goals as goal
 

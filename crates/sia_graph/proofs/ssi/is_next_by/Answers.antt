@@ -1,6 +1,6 @@
 use Rattle.std.proofs.lemmas.Bool.{false≢true, le-leb, leb-true}
 use Rattle.std.proofs.Common.{◌≤◌, subst, sym}
-use Rattle.sia_graph.proofs.EarlyFirsts.{next_follows, none_follows}
+use Rattle.sia_graph.proofs.SsiTest.EarlyFirsts.{next_follows, none_follows}
 use Rattle.sia_graph.proofs.ssi.is_next_by.Goals as goal
 
 pub commit_at-requires : goal.commit_at-requires

@@ -7,10 +7,10 @@ use Rattle.sia_index.specs.Numbers.{IsCommittedAt}
 use Rattle.sia_graph.specs.Dangerous.{IsLeast, MayBeFirst}
 use Rattle.sia_index.specs.declared.info.Lifetime.{Lifetime}
 use Rattle.sia_graph.specs.EarlyVersions.{AreValuesFrom}
-use Rattle.sia_graph.proofs.EarlyFirsts.{values_more, values_none}
+use Rattle.sia_graph.proofs.SsiTest.EarlyFirsts.{values_more, values_none}
 use Rattle.sia_graph.specs.Late.{AreLate, Enters, IsLastOf}
-use Rattle.sia_graph.proofs.FoundFirsts.{first_fits, first_least}
-use Rattle.sia_graph.proofs.Numbered.{few_txns}
+use Rattle.sia_graph.proofs.SsiTest.FoundFirsts.{first_fits, first_least}
+use Rattle.sia_graph.proofs.Shared.Numbered.{few_txns}
 use Rattle.sia_graph.proofs.ssi.least_first.Goals.{After-greatest_entering, After-loop-txn, then-place-lifetimes, else-place-lifetimes}
 use Rattle.sia_graph.proofs.ssi.least_first.Goals as goal
 

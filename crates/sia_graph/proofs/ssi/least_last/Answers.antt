@@ -5,17 +5,17 @@ use Rattle.std.proofs.lemmas.List.{get_or-set_other, get_or-set_same, length-rep
 use Rattle.sia_events.specs.declared.event.Event.{Event}
 use Rattle.sia_events.specs.DangerousStructures.{IsFirst}
 use Rattle.sia_events.specs.Transactions.{CommitsAt}
-use Rattle.sia_events.proofs.WellFormed.{one_commit}
+use Rattle.sia_events.proofs.Writing.WellFormed.{one_commit}
 use Rattle.sia_index.specs.declared.info.Lifetime.{Lifetime}
 use Rattle.sia_index.specs.Numbers.{IsCommittedAt}
 use Rattle.sia_graph.specs.Dangerous.{IsLeast}
 use Rattle.sia_graph.specs.EarlyVersions.{IsLimit}
 use Rattle.sia_graph.specs.Late.{AreLate, Enters}
-use Rattle.sia_graph.proofs.EarlyFirsts.{commit_lived}
-use Rattle.sia_graph.proofs.FoundFirsts.{first_committed, last_least, reached_first}
-use Rattle.sia_graph.proofs.Marks.{none_there}
-use Rattle.sia_graph.proofs.Numbered.{few_txns, number_of, txn_number}
-use Rattle.sia_graph.proofs.PositionEdges.{one_txn_at}
+use Rattle.sia_graph.proofs.SsiTest.EarlyFirsts.{commit_lived}
+use Rattle.sia_graph.proofs.SsiTest.FoundFirsts.{first_committed, last_least, reached_first}
+use Rattle.sia_graph.proofs.SsiTest.Marks.{none_there}
+use Rattle.sia_graph.proofs.Shared.Numbered.{few_txns, number_of, txn_number}
+use Rattle.sia_graph.proofs.Shared.PositionEdges.{one_txn_at}
 use Rattle.sia_graph.proofs.ssi.least_last.Goals.{In_ok-late, else-is_early-via-then-is_early+else-greatest_entering-gt0, else-is_early-via-else-is_early}
 use Rattle.sia_graph.proofs.ssi.least_last.Goals as goal
 

@@ -5,14 +5,14 @@ use Rattle.std.proofs.lemmas.Iterator.Consumers.{YieldsList-at}
 use Rattle.std.proofs.lemmas.List.{length-map}
 use Rattle.sia_events.specs.declared.event.Event.{Event}
 use Rattle.sia_events.specs.Transactions.{CommitsAt}
-use Rattle.sia_events.proofs.Looks.{commits_above}
+use Rattle.sia_events.proofs.OfLaws.Looks.{commits_above}
 use Rattle.sia_index.specs.declared.info.Lifetime.{Lifetime}
 use Rattle.sia_index.specs.Numbers.{IsCommittedAt}
 use Rattle.sia_graph.specs.EarlyVersions.{IsLimit}
 use Rattle.sia_graph.specs.Late.{AreCommits, AreLate, Enters, IsLastOf}
-use Rattle.sia_graph.proofs.EarlyFirsts.{commit_lived, commits_lived, has_first, limit_is}
-use Rattle.sia_graph.proofs.FoundFirsts.{none_first, pivot_least}
-use Rattle.sia_graph.proofs.Numbered.{few_txns}
+use Rattle.sia_graph.proofs.SsiTest.EarlyFirsts.{commit_lived, commits_lived, has_first, limit_is}
+use Rattle.sia_graph.proofs.SsiTest.FoundFirsts.{none_first, pivot_least}
+use Rattle.sia_graph.proofs.Shared.Numbered.{few_txns}
 use Rattle.sia_graph.proofs.ssi.least_pivot.Goals.{In_ok-commits, In_ok-late}
 use Rattle.sia_graph.proofs.ssi.least_pivot.Goals as goal
 

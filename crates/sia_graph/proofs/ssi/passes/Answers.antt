@@ -1,7 +1,7 @@
 use Rattle.std.proofs.Common.{inl, inr, sym, ◌∙◌}
 use Rattle.std.proofs.lemmas.Bool.{false≢true, not-false, not_from_true}
-use Rattle.sia_graph.proofs.EarlyFirsts.{there_or_not}
-use Rattle.sia_graph.proofs.NoFirsts.{kept, no_bad_reads, no_bad_writes}
+use Rattle.sia_graph.proofs.SsiTest.EarlyFirsts.{there_or_not}
+use Rattle.sia_graph.proofs.Shared.NoFirsts.{kept, no_bad_reads, no_bad_writes}
 use Rattle.sia_graph.proofs.ssi.passes.Goals as goal
 
 pub returns-then-not-are_none : goal.returns-then-not-are_none

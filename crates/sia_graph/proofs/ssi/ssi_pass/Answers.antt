@@ -1,6 +1,6 @@
 use Rattle.std.proofs.Common.{◌≡◌, [], false, sym, ◌∙◌, arith, rules}
 use Rattle.std.specs.Prelude.{◌↔◌, All, IsTrue}
-use Rattle.sia_graph.proofs.NoFirsts.{passes_by}
+use Rattle.sia_graph.proofs.Shared.NoFirsts.{passes_by}
 use Rattle.sia_graph.proofs.ssi.ssi_pass.Goals.{After-are_none}
 use Rattle.sia_graph.proofs.ssi.ssi_pass.Goals as goal
 

@@ -4,8 +4,8 @@ use Rattle.std.specs.Ordering.{ordering_index}
 use Rattle.std.specs.declared.cmp.Ordering.TheVariants.{Less, Equal, Greater}
 use Rattle.std.specs.declared.cmp.Ordering.{Ordering}
 use Rattle.sia_parts.specs.Entries.{edge_rank}
-use Rattle.sia_parts.proofs.Listing.{edge_before}
-use Rattle.sia_graph.proofs.InOrder.{pairs_from_next, next_more}
+use Rattle.sia_parts.proofs.Shared.Listing.{edge_before}
+use Rattle.sia_graph.proofs.OfLaws.InOrder.{pairs_from_next, next_more}
 use Rattle.sia_graph.proofs.tests.in_order.Goals as goal
 
 only_less : (o : Ordering) → false ≡ not (ordering_index o == 0) → o ≡ Less

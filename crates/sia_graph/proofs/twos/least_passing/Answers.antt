@@ -1,7 +1,7 @@
 use Rattle.std.proofs.Common.{◌≡◌, ◌+◌, ◌/◌, inl, inr, subst, sym, arith}
 use Rattle.sia_graph.specs.Twos.{IsLeftPasser}
-use Rattle.sia_graph.proofs.BlockTwos.{IsRising, rises_from, rises_on, risen}
-use Rattle.sia_graph.proofs.LeastNumbers.{least_none}
+use Rattle.sia_graph.proofs.TwoLeast.BlockTwos.{IsRising, rises_from, rises_on, risen}
+use Rattle.sia_graph.proofs.Shared.LeastNumbers.{least_none}
 use Rattle.sia_graph.proofs.twos.least_passing.Goals as goal
 
 pub loop-block-init : goal.loop-block-init

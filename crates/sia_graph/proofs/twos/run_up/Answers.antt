@@ -1,7 +1,7 @@
 use Rattle.std.proofs.Common.{◌<◌, length, arith}
-use Rattle.sia_graph.proofs.EarlierSources.{one_count}
-use Rattle.sia_graph.proofs.EnteredTwos.{run_first, run_next}
-use Rattle.sia_graph.proofs.PositionTwos.{below_positions}
+use Rattle.sia_graph.proofs.Shared.EarlierSources.{one_count}
+use Rattle.sia_graph.proofs.TwoLeast.EnteredTwos.{run_first, run_next}
+use Rattle.sia_graph.proofs.Shared.PositionTwos.{below_positions}
 use Rattle.sia_graph.proofs.twos.run_up.Goals as goal
 
 pub loop-position-init : goal.loop-position-init

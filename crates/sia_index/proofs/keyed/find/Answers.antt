@@ -1,7 +1,7 @@
 -- Where the row at the place of the search hasn't the number, none has.
 use Rattle.std.proofs.Common.{◌∙◌, ap}
 use Rattle.std.proofs.lemmas.List.{get_or_default}
-use Rattle.sia_index.proofs.Finding.{not_found}
+use Rattle.sia_index.proofs.Sorting.Finding.{not_found}
 use Rattle.sia_index.proofs.keyed.find.Goals as goal
 
 pub returns-then-number : goal.returns-then-number

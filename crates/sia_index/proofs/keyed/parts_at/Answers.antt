@@ -2,7 +2,7 @@
 use Rattle.std.proofs.Common.{◌-◌, ◌<◌, length, ap, sym, ◌∙◌, arith}
 use Rattle.std.proofs.lemmas.Bool.{leb-false, leb-true}
 use Rattle.std.proofs.lemmas.List.{get_or_default}
-use Rattle.sia_index.proofs.Points.{point_told}
+use Rattle.sia_index.proofs.Sorting.Points.{point_told}
 use Rattle.sia_index.proofs.keyed.parts_at.Goals as goal
 use Rattle.sia_index.proofs.keyed.parts_at.Goals.{then-place-gt0, else-place-gt0}
 

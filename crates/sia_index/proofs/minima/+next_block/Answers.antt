@@ -1,7 +1,7 @@
 -- What is asked of the nodes below, and what they pass.
 use Rattle.std.proofs.Common.{◌+◌, ◌/◌, inl, inr, arith}
 use Rattle.std.proofs.lemmas.Bool.{cases_lt}
-use Rattle.sia_index.proofs.Trees.{covers_left, covers_right, node_within, passes_node}
+use Rattle.sia_index.proofs.VersionRows.Trees.{covers_left, covers_right, node_within, passes_node}
 use Rattle.sia_index.proofs.minima.+next_block.Goals as goal
 
 pub next_block-next-requires : goal.next_block-next-requires

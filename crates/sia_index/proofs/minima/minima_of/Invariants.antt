@@ -1,6 +1,6 @@
 -- The nodes from here on have the least numbers below them.
 use Rattle.sia_index.specs.Minima.{AreLeaves}
-use Rattle.sia_index.proofs.Trees.{TreeFrom}
+use Rattle.sia_index.proofs.VersionRows.Trees.{TreeFrom}
 use Rattle.sia_index.proofs.minima.minima_of.Given as goal
 
 abbrev pub invariant-loop-i : goal.invariant-loop-i

@@ -3,7 +3,7 @@ use Rattle.std.proofs.Common.{◌≡◌, ◌+◌, ◌/◌, inl, inr, arith, ap}
 use Rattle.std.specs.Prelude.{slice_index_or}
 use Rattle.std.proofs.lemmas.Bool.{cases_lt}
 use Rattle.std.proofs.lemmas.List.{get_or_default}
-use Rattle.sia_index.proofs.Trees.{rows_passed}
+use Rattle.sia_index.proofs.VersionRows.Trees.{rows_passed}
 use Rattle.sia_index.proofs.minima.next_below.Goals as goal
 
 pub loop-i-preserved : goal.loop-i-preserved

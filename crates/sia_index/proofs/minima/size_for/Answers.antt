@@ -1,6 +1,6 @@
 -- Twice a power of 2 is one.
 use Rattle.std.proofs.Common.{arith}
-use Rattle.sia_index.proofs.Trees.{twice_power}
+use Rattle.sia_index.proofs.VersionRows.Trees.{twice_power}
 use Rattle.sia_index.proofs.minima.size_for.Goals as goal
 
 pub loop-size-preserved : goal.loop-size-preserved

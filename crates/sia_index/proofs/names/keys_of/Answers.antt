@@ -4,9 +4,9 @@ use Rattle.sia_events.specs.Numbering.{keys_of}
 use Rattle.sia_index.specs.Rows.{IsColumn, IsWritten}
 use Rattle.sia_index.specs.Tables.{ArePlaces}
 use Rattle.sia_index.specs.declared.names.Numbered.{Numbered}
-use Rattle.sia_index.proofs.Columns.{column_more}
-use Rattle.sia_index.proofs.LogNames.{keys_stand_once, written_has_number}
-use Rattle.sia_index.proofs.NumberedNames.{rows_apart, rows_within, numbers_are}
+use Rattle.sia_index.proofs.Shared.Columns.{column_more}
+use Rattle.sia_index.proofs.Shared.LogNames.{keys_stand_once, written_has_number}
+use Rattle.sia_index.proofs.Shared.NumberedNames.{rows_apart, rows_within, numbers_are}
 use Rattle.sia_index.proofs.names.keys_of.Goals as goal
 
 pub loop-row-preserved : goal.loop-row-preserved

@@ -3,8 +3,8 @@ use Rattle.std.proofs.Common.{◌≡◌, ◌∙◌, None, ap, length, refl, arit
 use Rattle.std.specs.Prelude.{replicate, slice_index_or}
 use Rattle.std.proofs.lemmas.List.{length-replicate}
 use Rattle.sia_index.specs.declared.names.Numbered.{Numbered}
-use Rattle.sia_index.proofs.NumberedNames.{none_numbered}
-use Rattle.sia_index.proofs.PlacesOf.{all_none, places_none, places_more, places_all, few_rows}
+use Rattle.sia_index.proofs.Shared.NumberedNames.{none_numbered}
+use Rattle.sia_index.proofs.TxnTables.PlacesOf.{all_none, places_none, places_more, places_all, few_rows}
 use Rattle.sia_index.proofs.names.places_of.Goals as goal
 
 pub overflow_cast-i : goal.overflow_cast-i

@@ -1,6 +1,6 @@
 -- Each number of a row so far has its place.
 use Rattle.sia_index.specs.declared.names.Numbered.{Numbered}
-use Rattle.sia_index.proofs.PlacesOf.{PlacesSoFar}
+use Rattle.sia_index.proofs.TxnTables.PlacesOf.{PlacesSoFar}
 use Rattle.sia_index.proofs.names.places_of.Given as goal
 
 abbrev pub invariant-loop-i : goal.invariant-loop-i

@@ -5,8 +5,8 @@ use Rattle.std.proofs.lemmas.List.{length-replicate, length-set}
 use Rattle.std.proofs.lemmas.Option.{get_or_from_slice_get}
 use Rattle.sia_events.specs.Numbering.{names_of, keys_of, writes_of, key_at, txn_at}
 use Rattle.sia_index.specs.declared.names.Numbered.{Numbered}
-use Rattle.sia_index.proofs.Collected.{holds_nothing}
-use Rattle.sia_index.proofs.NumberedNames.{IsRowOfWrite, key_more, key_again, keys_listed}
+use Rattle.sia_index.proofs.TxnTables.Collected.{holds_nothing}
+use Rattle.sia_index.proofs.Shared.NumberedNames.{IsRowOfWrite, key_more, key_again, keys_listed}
 use Rattle.sia_index.proofs.names.written.Goals as goal
 use Rattle.sia_index.proofs.names.written.Goals.{then-not-stands_at+in_ok-push, else-not-stands_at}
 

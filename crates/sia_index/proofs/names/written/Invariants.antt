@@ -1,8 +1,8 @@
 -- The rows so far are those of the keys of the writes so far.
 use Rattle.std.proofs.Common.{◌≡◌, length}
 use Rattle.sia_events.specs.Numbering.{keys_of}
-use Rattle.sia_index.proofs.Collected.{HoldsBelow}
-use Rattle.sia_index.proofs.NumberedNames.{IsRowOfWrite}
+use Rattle.sia_index.proofs.TxnTables.Collected.{HoldsBelow}
+use Rattle.sia_index.proofs.Shared.NumberedNames.{IsRowOfWrite}
 use Rattle.sia_index.proofs.names.written.Given as goal
 
 abbrev pub invariant-loop-before : goal.invariant-loop-before

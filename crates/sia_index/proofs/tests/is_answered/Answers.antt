@@ -1,6 +1,6 @@
 -- What is asked of is there.
 use Rattle.std.proofs.Common.{refl}
-use Rattle.sia_index.proofs.KeyChains.{has_position}
+use Rattle.sia_index.proofs.Shared.KeyChains.{has_position}
 use Rattle.sia_index.proofs.tests.is_answered.Goals as goal
 
 pub is_newest-requires : goal.is_newest-requires

@@ -1,6 +1,6 @@
 -- The written keys ascend.
 use Rattle.std.proofs.Common.{ℕ}
-use Rattle.sia_index.proofs.Ordered.{ascends, rises}
+use Rattle.sia_index.proofs.Shared.Ordered.{ascends, rises}
 use Rattle.sia_index.proofs.tests.places.Goals as goal
 
 pub place_from_near-found-requires : goal.place_from_near-found-requires

@@ -4,9 +4,9 @@ use Rattle.std.specs.Prelude.{slice_index_or}
 use Rattle.sia_index.specs.Info.{IsInfo}
 use Rattle.sia_index.specs.declared.names.Numbered.{Numbered}
 use Rattle.sia_index.specs.Rows.{IsColumn}
-use Rattle.sia_index.proofs.Columns.{column_more}
-use Rattle.sia_index.proofs.KnownTxns.{beside_more}
-use Rattle.sia_index.proofs.NumberedNames.{none_numbered, same_some}
+use Rattle.sia_index.proofs.Shared.Columns.{column_more}
+use Rattle.sia_index.proofs.TxnTables.KnownTxns.{beside_more}
+use Rattle.sia_index.proofs.Shared.NumberedNames.{none_numbered, same_some}
 use Rattle.sia_index.proofs.txns.infos_of.Goals as goal
 
 pub loop-row-init : goal.loop-row-init

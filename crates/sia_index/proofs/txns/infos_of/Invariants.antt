@@ -2,7 +2,7 @@
 use Rattle.sia_index.specs.Info.{IsInfo}
 use Rattle.sia_index.specs.declared.names.Numbered.{Numbered}
 use Rattle.sia_index.specs.Rows.{IsColumn}
-use Rattle.sia_index.proofs.KnownTxns.{StandBeside}
+use Rattle.sia_index.proofs.TxnTables.KnownTxns.{StandBeside}
 use Rattle.sia_index.proofs.txns.infos_of.Given as goal
 
 abbrev pub invariant-loop-row : goal.invariant-loop-row

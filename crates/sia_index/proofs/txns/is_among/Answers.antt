@@ -1,7 +1,7 @@
 -- A transaction that has no commit is one of all alone.
 use Rattle.std.proofs.Common.{subst}
 use Rattle.sia_events.specs.Numbering.{Ends}
-use Rattle.sia_index.proofs.KnownTxns.{among_committed, among_not, not_committed}
+use Rattle.sia_index.proofs.TxnTables.KnownTxns.{among_committed, among_not, not_committed}
 use Rattle.sia_index.proofs.txns.is_among.Goals as goal
 
 pub returns-in-Committed : goal.returns-in-Committed

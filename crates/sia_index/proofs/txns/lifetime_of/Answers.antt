@@ -1,7 +1,7 @@
 -- A transaction that is open or aborted isn't a committed one.
 use Rattle.std.proofs.Common.{subst}
 use Rattle.sia_events.specs.Numbering.{Ends}
-use Rattle.sia_index.proofs.KnownTxns.{not_committed}
+use Rattle.sia_index.proofs.TxnTables.KnownTxns.{not_committed}
 use Rattle.sia_index.proofs.txns.lifetime_of.Goals as goal
 
 pub returns-in-Committed : goal.returns-in-Committed

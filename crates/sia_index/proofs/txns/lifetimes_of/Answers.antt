@@ -5,9 +5,9 @@ use Rattle.sia_events.specs.Transactions.{IsCommitted}
 use Rattle.sia_index.specs.Lifetimes.{IsLifetime}
 use Rattle.sia_index.specs.declared.names.Numbered.{Numbered}
 use Rattle.sia_index.specs.Rows.{IsColumn}
-use Rattle.sia_index.proofs.Columns.{column_more}
-use Rattle.sia_index.proofs.KnownTxns.{beside_more}
-use Rattle.sia_index.proofs.NumberedNames.{none_numbered, same_some}
+use Rattle.sia_index.proofs.Shared.Columns.{column_more}
+use Rattle.sia_index.proofs.TxnTables.KnownTxns.{beside_more}
+use Rattle.sia_index.proofs.Shared.NumberedNames.{none_numbered, same_some}
 use Rattle.sia_index.proofs.txns.lifetimes_of.Goals as goal
 
 pub loop-row-init : goal.loop-row-init

@@ -2,8 +2,8 @@
 use Rattle.std.proofs.Common.{arith}
 use Rattle.sia_events.specs.Numbering.{txns_of}
 use Rattle.sia_index.specs.Rows.{IsAmong}
-use Rattle.sia_index.proofs.Collected.{holds_nothing}
-use Rattle.sia_index.proofs.NumberedNames.{IsRowOf, numbered_more, numbered_skip, numbered_listed}
+use Rattle.sia_index.proofs.TxnTables.Collected.{holds_nothing}
+use Rattle.sia_index.proofs.Shared.NumberedNames.{IsRowOf, numbered_more, numbered_skip, numbered_listed}
 use Rattle.sia_index.proofs.txns.numbered.Goals as goal
 use Rattle.sia_index.proofs.txns.numbered.Goals.{then-is_among+in_ok-push, else-is_among}
 

@@ -1,8 +1,8 @@
 -- The rows so far are those of the numbers so far.
 use Rattle.sia_events.specs.Numbering.{txns_of}
 use Rattle.sia_index.specs.Rows.{IsAmong}
-use Rattle.sia_index.proofs.Collected.{HoldsBelow}
-use Rattle.sia_index.proofs.NumberedNames.{IsRowOf}
+use Rattle.sia_index.proofs.TxnTables.Collected.{HoldsBelow}
+use Rattle.sia_index.proofs.Shared.NumberedNames.{IsRowOf}
 use Rattle.sia_index.proofs.txns.numbered.Given as goal
 
 abbrev pub invariant-loop-number : goal.invariant-loop-number

@@ -7,9 +7,9 @@ use Rattle.sia_index.specs.Rows.{IsAmong}
 use Rattle.sia_index.specs.Tables.{ArePlaces}
 use Rattle.sia_index.specs.declared.names.Numbered.{Numbered}
 use Rattle.sia_index.specs.declared.info.Fate.TheVariants.{Committed}
-use Rattle.sia_index.proofs.Fates.{ended_has_event}
-use Rattle.sia_index.proofs.LogNames.{txns_stand_once, event_has_number}
-use Rattle.sia_index.proofs.NumberedNames.{rows_apart, rows_have, rows_named, rows_within, numbers_are}
+use Rattle.sia_index.proofs.Shared.Fates.{ended_has_event}
+use Rattle.sia_index.proofs.Shared.LogNames.{txns_stand_once, event_has_number}
+use Rattle.sia_index.proofs.Shared.NumberedNames.{rows_apart, rows_have, rows_named, rows_within, numbers_are}
 use Rattle.sia_index.proofs.txns.txns_of.Goals as goal
 
 pub infos_of-requires : goal.infos_of-requires

@@ -3,8 +3,8 @@ use Rattle.std.proofs.Common.{inl, inr, [], ◌∷◌, refl, sym, subst, ◌∙�
 use Rattle.std.specs.Prelude.{Contains}
 use Rattle.sia_events.specs.Refusals.{IsWellFormed}
 use Rattle.sia_parts.specs.declared.cutting.Part.{Part}
-use Rattle.sia_parts.proofs.KeyLemmas.{seen_key}
-use Rattle.sia_parts.proofs.Members.{contains_first, contains_none, first_or_later}
+use Rattle.sia_parts.proofs.Auditing.KeyLemmas.{seen_key}
+use Rattle.sia_parts.proofs.Auditing.Members.{contains_first, contains_none, first_or_later}
 use Rattle.sia_parts.proofs.audit.audit_part.Goals as goal
 
 abbrev all : Part

@@ -2,7 +2,7 @@
 use Rattle.std.proofs.Common.{◌≡◌, List, sym, subst, ◌∙◌}
 use Rattle.sia_events.specs.declared.event.Event.{Event}
 use Rattle.sia_parts.specs.declared.cutting.Part.{Part}
-use Rattle.sia_parts.specs.declared.gathering.PartFound.{PartFound}
+use Rattle.sia_parts.specs.declared.finding.PartFound.{PartFound}
 use Rattle.sia_parts.specs.Dealing.{HasReadsOf}
 use Rattle.sia_parts.specs.Findings.{ListsBadReads, ListsUnexplained}
 use Rattle.sia_parts.specs.Gathering.{IsPartFound}

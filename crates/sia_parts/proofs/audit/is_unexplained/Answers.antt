@@ -1,6 +1,6 @@
 -- What is known of the reader is known of the transaction at the place of the read.
 use Rattle.std.proofs.Common.{inl, inr, refl}
-use Rattle.sia_parts.proofs.Saw.{not_both, not_zero, other_told, wrote_told}
+use Rattle.sia_parts.proofs.Auditing.Saw.{not_both, not_zero, other_told, wrote_told}
 use Rattle.sia_parts.proofs.audit.is_unexplained.Goals as goal
 
 pub returns-then-wrote_before : goal.returns-then-wrote_before

@@ -6,9 +6,9 @@ use Rattle.sia_parts.specs.declared.finding.Unexplained.{Unexplained}
 use Rattle.sia_parts.specs.Entries.{unexplained_rank}
 use Rattle.sia_parts.specs.Parts.{IsInPart}
 use Rattle.sia_parts.specs.Sights.{FromSome, IsUnexplainedOf}
-use Rattle.sia_parts.proofs.Adding.{adds_push, adds_nothing, added_are, from_none, from_more, from_all}
-use Rattle.sia_parts.proofs.Listing.{put_listed, unexplained_before}
-use Rattle.sia_parts.proofs.PartReads.{unexplained_are, bad_saw}
+use Rattle.sia_parts.proofs.Shared.Adding.{adds_push, adds_nothing, added_are, from_none, from_more, from_all}
+use Rattle.sia_parts.proofs.Shared.Listing.{put_listed, unexplained_before}
+use Rattle.sia_parts.proofs.Auditing.PartReads.{unexplained_are, bad_saw}
 use Rattle.sia_parts.proofs.audit.unexplained_of.Goals as goal
 use Rattle.sia_parts.proofs.audit.unexplained_of.Goals.{then-is_unexplained+in_ok-push, else-is_unexplained}
 

@@ -1,7 +1,7 @@
 -- The unexplained ones of the bad reads so far.
 use Rattle.std.proofs.Common.{[]}
 use Rattle.sia_parts.specs.Sights.{Adds, IsUnexplainedOf}
-use Rattle.sia_parts.proofs.Adding.{FromFirst}
+use Rattle.sia_parts.proofs.Shared.Adding.{FromFirst}
 use Rattle.sia_parts.proofs.audit.unexplained_of.Given as goal
 
 abbrev pub invariant-loop-read : goal.invariant-loop-read

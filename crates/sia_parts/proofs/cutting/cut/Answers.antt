@@ -1,8 +1,8 @@
 -- The cuts are the starts without the first.
 use Rattle.std.proofs.Common.{◌≡◌, ◌<◌, length, ap, ◌∙◌, arith}
 use Rattle.sia_parts.specs.Parts.{parts_from}
-use Rattle.sia_parts.proofs.StartLemmas.{some_starts, too_many_cuts, few_cuts}
-use Rattle.sia_parts.proofs.PartLemmas.{length-parts_from}
+use Rattle.sia_parts.proofs.CutKeys.StartLemmas.{some_starts, too_many_cuts, few_cuts}
+use Rattle.sia_parts.proofs.CutKeys.PartLemmas.{length-parts_from}
 use Rattle.sia_parts.proofs.cutting.cut.Goals as goal
 
 pub returns-then-len-gt-MAX_PARTS-clause-too_many : goal.returns-then-len-gt-MAX_PARTS-clause-too_many

@@ -1,5 +1,5 @@
 -- By its lemma.
-use Rattle.sia_parts.proofs.PartLemmas.{one_part_holds}
+use Rattle.sia_parts.proofs.CutKeys.PartLemmas.{one_part_holds}
 use Rattle.sia_parts.proofs.cutting.one_part.Goals as goal
 
 pub returns : goal.returns

@@ -5,7 +5,7 @@ use Rattle.std.proofs.lemmas.List.Elements.{All-push}
 use Rattle.std.proofs.lemmas.List.Kept.{AllPairs-from_increasing}
 use Rattle.sia_parts.specs.declared.cutting.Part.{Part}
 use Rattle.sia_parts.specs.Parts.{parts_from}
-use Rattle.sia_parts.proofs.PartLemmas.{part_then, part_last}
+use Rattle.sia_parts.proofs.CutKeys.PartLemmas.{part_then, part_last}
 use Rattle.sia_parts.proofs.cutting.parts_of.Goals as goal
 use Rattle.sia_parts.proofs.cutting.parts_of.Goals.{in-Some, in-None}
 

@@ -4,8 +4,8 @@ use Rattle.std.proofs.lemmas.List.{take_all}
 use Rattle.sia_index.specs.Numbers.{IsCommittedAt}
 use Rattle.sia_parts.specs.EdgeRows.{AreEdgesFrom, edge_of}
 use Rattle.sia_parts.specs.Parts.{IsWithin}
-use Rattle.sia_parts.proofs.EdgeLists.{edges_all, edges_joined, edges_none, has_number}
-use Rattle.sia_parts.proofs.Readings.{few_txns}
+use Rattle.sia_parts.proofs.EdgeRows.EdgeLists.{edges_all, edges_joined, edges_none, has_number}
+use Rattle.sia_parts.proofs.EdgeRows.Readings.{few_txns}
 use Rattle.sia_parts.proofs.edges.edges_at.Goals as goal
 
 pub overflow_cast-source-end : goal.overflow_cast-source-end

@@ -2,8 +2,8 @@
 use Rattle.std.proofs.Common.{◌<◌, length, get_or, arith}
 use Rattle.std.proofs.lemmas.Option.{slice_get-get_or}
 use Rattle.sia_index.specs.declared.info.KeyVersion.{KeyVersion}
-use Rattle.sia_index.proofs.KeyChains.{key_number}
-use Rattle.sia_parts.proofs.BadWrites.{before_end, before_first, has_before}
+use Rattle.sia_index.proofs.Shared.KeyChains.{key_number}
+use Rattle.sia_parts.proofs.Shared.BadWrites.{before_end, before_first, has_before}
 use Rattle.sia_parts.proofs.edges.first_or_end.Goals as goal
 
 pub returns-then-key-written_keys-clause-within : goal.returns-then-key-written_keys-clause-within

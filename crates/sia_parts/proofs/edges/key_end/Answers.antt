@@ -1,8 +1,8 @@
 -- The positions of the key end where those of the keys up to it do.
 use Rattle.std.proofs.Common.{arith}
 use Rattle.sia_parts.specs.EdgeRows.{IsOfKey}
-use Rattle.sia_parts.proofs.FewNumbers.{few_keys}
-use Rattle.sia_parts.proofs.KeyEnds.{ends_at}
+use Rattle.sia_parts.proofs.Shared.FewNumbers.{few_keys}
+use Rattle.sia_parts.proofs.EdgeRows.KeyEnds.{ends_at}
 use Rattle.sia_parts.proofs.edges.key_end.Goals as goal
 
 pub overflow_add-key_at : goal.overflow_add-key_at

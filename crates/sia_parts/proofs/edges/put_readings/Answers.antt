@@ -5,7 +5,7 @@ use Rattle.std.proofs.lemmas.List.{get_or_default}
 use Rattle.std.proofs.lemmas.List.Sorted.{All-permutation}
 use Rattle.sia_index.specs.Positions.{HasPosition}
 use Rattle.sia_parts.specs.EdgeRows.{StandsBehind}
-use Rattle.sia_parts.proofs.AccessRows.{reads_all, reads_none, reads_push, reads_same}
+use Rattle.sia_parts.proofs.EdgeRows.AccessRows.{reads_all, reads_none, reads_push, reads_same}
 use Rattle.sia_parts.proofs.edges.put_readings.Goals as goal
 use Rattle.sia_parts.proofs.edges.put_readings.Goals.{then-i-len+in_ok-push, else-i-len+else-not-stands_behind}
 

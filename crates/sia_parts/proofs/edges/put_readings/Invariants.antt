@@ -1,7 +1,7 @@
 -- The readings of the last positions.
 use Rattle.std.specs.Prelude.{◌-◌, length}
 use Rattle.sia_parts.specs.EdgeRows.{ReadsMore}
-use Rattle.sia_parts.proofs.EdgeLoops.{StandsFrom}
+use Rattle.sia_parts.proofs.EdgeRows.EdgeLoops.{StandsFrom}
 use Rattle.sia_parts.proofs.edges.put_readings.Given as goal
 
 abbrev pub invariant-loop-behind : goal.invariant-loop-behind

@@ -1,5 +1,5 @@
 -- Positions with one number of a key.
-use Rattle.sia_parts.proofs.KeyEnds.{one_number}
+use Rattle.sia_parts.proofs.EdgeRows.KeyEnds.{one_number}
 use Rattle.std.proofs.lemmas.Bool.{eqb-true}
 use Rattle.sia_parts.proofs.edges.stands_behind.Goals as goal
 

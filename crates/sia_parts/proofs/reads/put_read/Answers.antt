@@ -1,6 +1,6 @@
 -- One more list holds the place.
 use Rattle.std.proofs.Common.{arith}
-use Rattle.sia_parts.proofs.DealtPlaces.{place_more}
+use Rattle.sia_parts.proofs.ReadLists.DealtPlaces.{place_more}
 use Rattle.sia_parts.proofs.reads.put_read.Goals as goal
 
 pub loop-i-preserved : goal.loop-i-preserved

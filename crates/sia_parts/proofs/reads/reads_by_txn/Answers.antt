@@ -8,9 +8,9 @@ use Rattle.sia_events.specs.declared.event.Event.{Event}
 use Rattle.sia_events.specs.Events.{Saw}
 use Rattle.sia_events.specs.Numbering.{names_of, event_of}
 use Rattle.sia_events.specs.Reads.{SawAt}
-use Rattle.sia_events.proofs.TransactionDecisions.{place_within}
+use Rattle.sia_events.proofs.Shared.TransactionDecisions.{place_within}
 use Rattle.sia_parts.specs.declared.reads.Read.{Read}
-use Rattle.sia_parts.proofs.Options.{if_not_there}
+use Rattle.sia_parts.proofs.Shared.Options.{if_not_there}
 use Rattle.sia_parts.proofs.reads.reads_by_txn.Goals as goal
 use Rattle.sia_parts.proofs.reads.reads_by_txn.Goals.{in-Some+then-is_some+in_ok-push, in-Some+else-is_some, in_default}
 

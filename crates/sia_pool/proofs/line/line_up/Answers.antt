@@ -1,6 +1,6 @@
 use Rattle.std.proofs.Common.{◌≡◌, suc, ◌+◌, [], ◌∷◌, ◌++◌, length, List, ap, sym, ◌∙◌, subst, arith, length-append}
 use Rattle.crossbeam_deque.specs.Handles.{worker_view, worker_deque}
-use Rattle.sia_pool.specs.declared.view.View.{View}
+use Rattle.sia_pool.specs.declared.rule.View.{View}
 use Rattle.sia_pool.specs.declared.taker.Taker.{Taker}
 use Rattle.sia_pool.specs.View.{owner_view, stealer_view, line_size}
 use Rattle.sia_pool.specs.Line.{IsLine}

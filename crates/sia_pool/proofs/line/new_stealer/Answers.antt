@@ -1,6 +1,6 @@
 use Rattle.std.proofs.Common.{◌≡◌, ◌<◌, suc, ap, sym, subst, ◌∙◌}
 use Rattle.crossbeam_deque.specs.Handles.{worker_port, worker_view}
-use Rattle.sia_pool.specs.declared.view.View.{View}
+use Rattle.sia_pool.specs.declared.rule.View.{View}
 use Rattle.sia_pool.specs.View.{line_size}
 use Rattle.sia_pool.proofs.RuleLemmas.{forks}
 use Rattle.sia_pool.proofs.line.new_stealer.Goals as goal

@@ -7,8 +7,8 @@ use Rattle.si_audit.specs.Engine.{IsFed, IsReceived}
 use Rattle.si_audit.specs.Options.{Choices}
 use Rattle.si_audit.specs.Outcomes.{IsOutcome}
 use Rattle.si_audit.specs.Report.{IsReport}
-use Rattle.si_audit.proofs.OfHistory.{refusal_of}
-use Rattle.si_audit.proofs.Results.{ok_map}
+use Rattle.si_audit.proofs.OfEngine.OfHistory.{refusal_of}
+use Rattle.si_audit.proofs.Shared.Results.{ok_map}
 use Rattle.si_audit.proofs.engine.Auditor.finish_by.Goals as goal
 
 -- a fact of the answer for each text that was fed

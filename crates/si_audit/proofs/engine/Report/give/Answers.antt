@@ -3,7 +3,7 @@ use Rattle.std.proofs.Common.{rules, ◌≡◌, ℕ, ◌-◌, ◌<◌, ◌≤◌
 use Rattle.std.specs.Global.{Vec}
 use Rattle.si_audit.specs.Engine.{Told, rest_from}
 use Rattle.si_audit.specs.Sheets.{text_of}
-use Rattle.si_audit.proofs.Giving.{given, on_sheet, piece_of}
+use Rattle.si_audit.proofs.OfEngine.Giving.{given, on_sheet, piece_of}
 use Rattle.si_audit.proofs.engine.Report.give.Goals as goal
 
 pub returns-clause-gives : goal.returns-clause-gives

@@ -1,6 +1,6 @@
 -- The account of a history can be printed.
 use Rattle.si_audit.specs.Account.{account_of}
-use Rattle.si_audit.proofs.Clean.{can_be_printed}
+use Rattle.si_audit.proofs.Shared.Clean.{can_be_printed}
 use Rattle.si_audit.proofs.tests.rows.is_audited.Goals as goal
 
 pub report-requires : goal.report-requires

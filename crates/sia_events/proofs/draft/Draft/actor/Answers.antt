@@ -4,7 +4,7 @@ use Rattle.std.proofs.lemmas.List.{length-map}
 use Rattle.sia_events.specs.Drafts.{new_txn}
 use Rattle.sia_events.specs.LogTables.{names_in}
 use Rattle.sia_events.specs.Numbering.{event_of}
-use Rattle.sia_events.proofs.Drafted.{found_of, tables_of, txn_within, new_going}
+use Rattle.sia_events.proofs.Shared.Drafted.{found_of, tables_of, txn_within, new_going}
 use Rattle.sia_events.proofs.draft.Draft.actor.Goals as goal
 
 pub find_txn-requires : goal.find_txn-requires

@@ -3,7 +3,7 @@ use Rattle.std.proofs.Common.{refl, sym, ◌∙◌, arith}
 use Rattle.std.proofs.lemmas.List.{length-map}
 use Rattle.sia_events.specs.LogTables.{names_in}
 use Rattle.sia_events.specs.Numbering.{event_of}
-use Rattle.sia_events.proofs.Drafted.{begin_now, begin_at, begun_refused, ended_refused, late_refused, found_of, txn_within}
+use Rattle.sia_events.proofs.Shared.Drafted.{begin_now, begin_at, begun_refused, ended_refused, late_refused, found_of, txn_within}
 use Rattle.sia_events.proofs.draft.Draft.begin.Goals as goal
 
 pub find_txn-requires : goal.find_txn-requires

@@ -4,14 +4,14 @@ use Rattle.std.proofs.lemmas.Result.{err_from_is_err_and}
 use Rattle.std.proofs.lemmas.List.{length-map}
 use Rattle.sia_events.specs.declared.event.Event.{Event}
 use Rattle.sia_events.specs.declared.event.Event.TheVariants.{Commit}
-use Rattle.sia_events.specs.declared.rows.Row.TheVariants as rows
-use Rattle.sia_events.specs.declared.rows.TxnEnd.TheVariants.{Committed}
+use Rattle.sia_events.specs.declared.log.Row.TheVariants as rows
+use Rattle.sia_events.specs.declared.log.TxnEnd.TheVariants.{Committed}
 use Rattle.sia_events.specs.Places.{at_place}
 use Rattle.sia_events.specs.LogTables.{events_of, names_in}
 use Rattle.sia_events.specs.Numbering.{event_of}
 use Rattle.sia_events.specs.Known.{own_fault}
-use Rattle.sia_events.proofs.Lived.{at_last, other_false}
-use Rattle.sia_events.proofs.Drafted.{stops, txn_within, ends_now}
+use Rattle.sia_events.proofs.LogRows.Lived.{at_last, other_false}
+use Rattle.sia_events.proofs.Shared.Drafted.{stops, txn_within, ends_now}
 use Rattle.sia_events.proofs.draft.Draft.commit.Goals as goal
 
 pub returns-in_err-txn : goal.returns-in_err-txn

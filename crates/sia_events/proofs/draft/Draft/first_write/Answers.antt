@@ -2,7 +2,7 @@
 use Rattle.std.proofs.Common.{subst}
 use Rattle.sia_events.specs.LogTables.{names_in}
 use Rattle.sia_events.specs.Drafts.{IsWriteOr}
-use Rattle.sia_events.proofs.Drafted.{has_write, new_has_write}
+use Rattle.sia_events.proofs.Shared.Drafted.{has_write, new_has_write}
 use Rattle.sia_events.proofs.draft.Draft.first_write.Goals as goal
 
 pub returns-then-write-ne0-clause-has : goal.returns-then-write-ne0-clause-has

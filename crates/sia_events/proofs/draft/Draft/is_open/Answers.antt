@@ -1,10 +1,10 @@
 -- The row says whether the transaction has ended.
 use Rattle.std.proofs.Common.{◌∙◌}
-use Rattle.sia_events.specs.declared.rows.TxnRow.{TxnRow}
+use Rattle.sia_events.specs.declared.log.TxnRow.{TxnRow}
 use Rattle.sia_events.specs.LogTables.{Lives, events_of}
 use Rattle.std.proofs.lemmas.Option.{get_or_from_slice_get}
-use Rattle.sia_events.proofs.Lived.{to_get}
-use Rattle.sia_events.proofs.Drafted.{map_read, tables_of, row_going, row_ended}
+use Rattle.sia_events.proofs.LogRows.Lived.{to_get}
+use Rattle.sia_events.proofs.Shared.Drafted.{map_read, tables_of, row_going, row_ended}
 use Rattle.sia_events.proofs.draft.Draft.is_open.Goals as goal
 
 pub returns-in-Open : goal.returns-in-Open

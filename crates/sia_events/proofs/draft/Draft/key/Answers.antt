@@ -1,5 +1,5 @@
 -- The key is there.
-use Rattle.sia_events.proofs.Drafted.{has_key}
+use Rattle.sia_events.proofs.Shared.Drafted.{has_key}
 use Rattle.sia_events.proofs.draft.Draft.key.Goals as goal
 
 pub returns-in-Some-clause-has : goal.returns-in-Some-clause-has

@@ -4,7 +4,7 @@ use Rattle.std.proofs.lemmas.Grind.{take_at_read}
 use Rattle.std.proofs.lemmas.List.{take_all}
 use Rattle.std.proofs.lemmas.Result.{err_from_is_err_and}
 use Rattle.sia_events.specs.Drafts.{Lists}
-use Rattle.sia_events.proofs.Drafted.{lists_none, lists_more, lists_refused, one_there}
+use Rattle.sia_events.proofs.Shared.Drafted.{lists_none, lists_more, lists_refused, one_there}
 use Rattle.sia_events.proofs.draft.Draft.list.Goals as goal
 
 pub loop-key-init : goal.loop-key-init

@@ -2,11 +2,11 @@
 use Rattle.std.proofs.Common.{◌≡◌, ◌∙◌, ◌<◌, length, refl, sym, subst, arith}
 use Rattle.std.proofs.lemmas.Option.{slice_get_within}
 use Rattle.sia_events.specs.declared.draft.Draft.{Draft}
-use Rattle.sia_events.specs.declared.rows.Tables.{Tables}
+use Rattle.sia_events.specs.declared.log.Tables.{Tables}
 use Rattle.sia_events.specs.Numbering.{IsSeen}
 use Rattle.sia_events.specs.LogTables.{names_in}
 use Rattle.sia_events.specs.Drafts.{HasKey, AreFound, ListsOne}
-use Rattle.sia_events.proofs.Drafted.{pair_pushed, pair_refused, seen_few}
+use Rattle.sia_events.proofs.Shared.Drafted.{pair_pushed, pair_refused, seen_few}
 use Rattle.sia_events.proofs.draft.Draft.list_one.Goals as goal
 
 pub returns-in_default-clause-refused : goal.returns-in_default-clause-refused

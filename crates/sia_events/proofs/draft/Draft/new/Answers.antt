@@ -1,4 +1,4 @@
-use Rattle.sia_events.proofs.Drafted.{none_known}
+use Rattle.sia_events.proofs.Shared.Drafted.{none_known}
 use Rattle.sia_events.proofs.draft.Draft.new.Goals as goal
 
 pub returns-clause-knows : goal.returns-clause-knows

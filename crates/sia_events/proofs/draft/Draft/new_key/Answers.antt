@@ -2,10 +2,10 @@
 use Rattle.std.proofs.Common.{◌≡◌, ◌++◌, ◌∷◌, [], ℕ, ◌<◌, List, length, map, refl, sym, subst, ◌∙◌, ap, arith}
 use Rattle.std.proofs.lemmas.List.{length-map, map-append}
 use Rattle.sia_events.specs.Finding.{Finds}
-use Rattle.sia_events.proofs.Logs.{key_grown}
-use Rattle.sia_events.proofs.Drafted.{key_found}
-use Rattle.sia_events.proofs.Finders.{below_last}
-use Rattle.sia_events.proofs.Distinct.{push_there, entered_new}
+use Rattle.sia_events.proofs.LogRows.Logs.{key_grown}
+use Rattle.sia_events.proofs.Shared.Drafted.{key_found}
+use Rattle.sia_events.proofs.LogRows.Finders.{below_last}
+use Rattle.sia_events.proofs.LogRows.Distinct.{push_there, entered_new}
 use Rattle.sia_events.proofs.draft.Draft.new_key.Goals as goal
 
 one_more : (c : goal.In_ok-add_from) → map (λ (k : ℕ). k) c.push-2.new.self.items ≡ map (λ (k : ℕ). k) c.args.self.now.tables.keys.items ++ c.args.name ∷ []

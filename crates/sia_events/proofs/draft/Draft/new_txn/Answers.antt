@@ -1,15 +1,15 @@
 -- The tables grow by one transaction.
 use Rattle.std.proofs.Common.{◌≡◌, ◌++◌, ◌∷◌, [], ◌+◌, ◌<◌, ◌≤◌, List, length, refl, subst, ◌∙◌, ap, arith}
 use Rattle.std.proofs.lemmas.List.{map-append, length-map, length-append}
-use Rattle.sia_events.specs.declared.rows.TxnRow.{TxnRow}
+use Rattle.sia_events.specs.declared.log.TxnRow.{TxnRow}
 use Rattle.sia_events.specs.LogTables.{txn_names}
 use Rattle.sia_events.specs.Finding.{Finds}
 use Rattle.sia_events.specs.OwnWrites.{no_writes}
 use Rattle.sia_events.specs.Drafts.{new_txn}
-use Rattle.sia_events.proofs.Logs.{txn_grown}
-use Rattle.sia_events.proofs.Drafted.{found_more}
-use Rattle.sia_events.proofs.Finders.{below_last}
-use Rattle.sia_events.proofs.Distinct.{push_there}
+use Rattle.sia_events.proofs.LogRows.Logs.{txn_grown}
+use Rattle.sia_events.proofs.Shared.Drafted.{found_more}
+use Rattle.sia_events.proofs.LogRows.Finders.{below_last}
+use Rattle.sia_events.proofs.LogRows.Distinct.{push_there}
 use Rattle.sia_events.proofs.draft.Draft.new_txn.Goals as goal
 
 one_more : (c : goal.In_ok-add_from) → txn_names c.push.new.self.items ≡ txn_names c.args.self.now.tables.txns.items ++ c.args.name ∷ []

@@ -2,8 +2,8 @@
 use Rattle.std.proofs.Common.{◌≡◌, ◌∷◌, [], ◌+◌, ◌<◌, length, refl, subst, ◌∙◌, ap, arith}
 use Rattle.std.proofs.lemmas.List.{length-append}
 use Rattle.sia_events.specs.OwnWrites.{Tracks, new_write}
-use Rattle.sia_events.proofs.Logs.{write_grown}
-use Rattle.sia_events.proofs.Drafted.{found_more}
+use Rattle.sia_events.proofs.LogRows.Logs.{write_grown}
+use Rattle.sia_events.proofs.Shared.Drafted.{found_more}
 use Rattle.sia_events.proofs.draft.Draft.new_write.Goals as goal
 
 pub add-requires-clause-few : goal.add-requires-clause-few

@@ -2,7 +2,7 @@
 use Rattle.std.proofs.Common.{refl, sym, arith}
 use Rattle.std.proofs.lemmas.Result.{err_from_is_err_and}
 use Rattle.sia_events.specs.declared.event.Event.TheVariants.{Range}
-use Rattle.sia_events.proofs.Drafted.{stops, empty_refused, bad_refused, list_refused, range_now}
+use Rattle.sia_events.proofs.Shared.Drafted.{stops, empty_refused, bad_refused, list_refused, range_now}
 use Rattle.sia_events.proofs.draft.Draft.range.Goals as goal
 
 pub returns-in_err-txn : goal.returns-in_err-txn

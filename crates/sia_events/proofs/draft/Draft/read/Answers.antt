@@ -3,12 +3,12 @@ use Rattle.std.proofs.Common.{◌≡◌, ◌≢◌, List, false, refl, sym, subs
 use Rattle.std.specs.List.{list_any}
 use Rattle.std.proofs.lemmas.Result.{err_from_is_err_and}
 use Rattle.sia_events.specs.declared.event.Event.TheVariants.{Read}
-use Rattle.sia_events.specs.declared.rows.Tables.{Tables}
-use Rattle.sia_events.specs.declared.rows.TxnRow.{TxnRow}
+use Rattle.sia_events.specs.declared.log.Tables.{Tables}
+use Rattle.sia_events.specs.declared.log.TxnRow.{TxnRow}
 use Rattle.sia_events.specs.Numbering.{IsSeen, same_pair}
 use Rattle.sia_events.specs.LogTables.{names_in, txn_names}
 use Rattle.sia_events.specs.Drafts.{HasKey}
-use Rattle.sia_events.proofs.Drafted.{stops, read_now, read_refused}
+use Rattle.sia_events.proofs.Shared.Drafted.{stops, read_now, read_refused}
 use Rattle.sia_events.proofs.draft.Draft.read.Goals as goal
 
 pub returns-in_err-txn : goal.returns-in_err-txn

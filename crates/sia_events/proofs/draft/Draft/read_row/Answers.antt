@@ -1,5 +1,5 @@
 use Rattle.sia_events.specs.LogTables.{names_in}
-use Rattle.sia_events.proofs.Drafted.{own_read, write_there}
+use Rattle.sia_events.proofs.Shared.Drafted.{own_read, write_there}
 use Rattle.sia_events.proofs.draft.Draft.read_row.Goals as goal
 
 pub returns : goal.returns

@@ -1,7 +1,7 @@
 -- The row gets the version that was seen.
 use Rattle.std.proofs.Common.{refl, arith}
 use Rattle.sia_events.specs.LogTables.{names_in}
-use Rattle.sia_events.proofs.Drafted.{seen_now, or_seen, new_wrote_none}
+use Rattle.sia_events.proofs.Shared.Drafted.{seen_now, or_seen, new_wrote_none}
 use Rattle.sia_events.proofs.draft.Draft.seen.Goals as goal
 
 pub returns-in_err-txn-clause-none : goal.returns-in_err-txn-clause-none

@@ -3,9 +3,9 @@ use Rattle.std.proofs.Common.{List, refl, ap, ◌∙◌, slice_get}
 use Rattle.std.proofs.lemmas.Result.{err_from_is_err_and}
 use Rattle.std.proofs.lemmas.Option.{slice_get_within}
 use Rattle.sia_events.specs.declared.event.Event.TheVariants.{Write}
-use Rattle.sia_events.specs.declared.rows.TxnRow.{TxnRow}
+use Rattle.sia_events.specs.declared.log.TxnRow.{TxnRow}
 use Rattle.sia_events.specs.LogTables.{txn_names}
-use Rattle.sia_events.proofs.Drafted.{stops, write_now, txn_within}
+use Rattle.sia_events.proofs.Shared.Drafted.{stops, write_now, txn_within}
 use Rattle.sia_events.proofs.draft.Draft.write.Goals as goal
 
 pub returns-in_err-txn : goal.returns-in_err-txn

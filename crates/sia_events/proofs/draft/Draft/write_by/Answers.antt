@@ -1,6 +1,6 @@
 -- A write is found by its transaction's and its key's numbers.
 use Rattle.sia_events.specs.LogTables.{names_in}
-use Rattle.sia_events.proofs.Drafted.{code_write, code_none, write_or}
+use Rattle.sia_events.proofs.Shared.Drafted.{code_write, code_none, write_or}
 use Rattle.sia_events.proofs.draft.Draft.write_by.Goals as goal
 
 pub returns-in-Some : goal.returns-in-Some

@@ -1,4 +1,4 @@
-use Rattle.sia_events.proofs.Finders.{below_none}
+use Rattle.sia_events.proofs.LogRows.Finders.{below_none}
 use Rattle.sia_events.proofs.finder.Finder.add_from.Goals as goal
 
 pub returns-then-len-rows : goal.returns-then-len-rows

@@ -2,7 +2,7 @@
 use Rattle.std.proofs.Common.{◌≢◌, ℕ, ◌+◌, ◌<◌, Some, arith, map, slice_get, subst}
 use Rattle.sia_events.specs.Finding.{Looks, FindsBelow}
 use Rattle.sia_events.specs.declared.finder.Look.{Look}
-use Rattle.sia_events.proofs.Finders.{from_below, not_found, free_first, one_more_other, none_in_tree, of_tree}
+use Rattle.sia_events.proofs.LogRows.Finders.{from_below, not_found, free_first, one_more_other, none_in_tree, of_tree}
 use Rattle.sia_events.proofs.finder.Finder.find.Goals as goal
 use Rattle.sia_events.proofs.finder.Finder.find.Goals.{In-Free, After-from_residual, Else-is_named}
 

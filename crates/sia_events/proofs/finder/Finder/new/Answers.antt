@@ -1,4 +1,4 @@
-use Rattle.sia_events.proofs.Finders.{nothing_found}
+use Rattle.sia_events.proofs.LogRows.Finders.{nothing_found}
 use Rattle.sia_events.proofs.finder.Finder.new.Goals as goal
 
 pub returns : goal.returns

@@ -2,7 +2,7 @@
 use Rattle.std.proofs.Common.{◌≡◌, ℕ, ◌+◌, ◌<◌, ◌≤◌, refl, ap, arith, sym, subst, ◌∙◌}
 use Rattle.sia_events.specs.declared.finder.Finder.{Finder}
 use Rattle.sia_events.specs.Finding.{home, AreTaken, Reaches}
-use Rattle.sia_events.proofs.Finders.{filled_keeps, filled_finds, grown_keeps, grown_finds}
+use Rattle.sia_events.proofs.LogRows.Finders.{filled_keeps, filled_finds, grown_keeps, grown_finds}
 use Rattle.sia_events.proofs.finder.Finder.put.Goals as goal
 
 at_home : (f g : Finder) (name h : ℕ) → f ≡ g → h ≡ home g name → h ≡ home f name

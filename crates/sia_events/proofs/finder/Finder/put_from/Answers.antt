@@ -3,7 +3,7 @@ use Rattle.std.proofs.Common.{◌≡◌, ◌∙◌, arith, map, slice_get, Some,
 use Rattle.std.specs.Option.{option_map}
 use Rattle.std.proofs.lemmas.Option.{slice_get-map, slice_get_read}
 use Rattle.std.proofs.lemmas.List.{length-map}
-use Rattle.sia_events.proofs.Finders.{below_more, below_all}
+use Rattle.sia_events.proofs.LogRows.Finders.{below_more, below_all}
 use Rattle.sia_events.proofs.finder.Finder.put_from.Goals as goal
 
 pub loop-number-init : goal.loop-number-init

@@ -1,6 +1,6 @@
 -- The listed keys ascend, so what the search doesn't find isn't listed.
-use Rattle.sia_events.proofs.Ranges.{list_in_order}
-use Rattle.sia_events.proofs.RangeLists.{range_at, left_out}
+use Rattle.sia_events.proofs.Writing.Ranges.{list_in_order}
+use Rattle.sia_events.proofs.Writing.RangeLists.{range_at, left_out}
 use Rattle.sia_events.proofs.history.History.leaves_out.Goals as goal
 
 pub version_in-requires : goal.version_in-requires

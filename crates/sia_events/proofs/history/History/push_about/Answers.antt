@@ -2,9 +2,9 @@
 use Rattle.std.proofs.Common.{◌++◌, List, ℕ, [], ◌∷◌, ap, sym, ◌∙◌}
 use Rattle.sia_events.specs.declared.event.Event.TheVariants.{Range}
 use Rattle.sia_events.specs.Text.{spell}
-use Rattle.sia_events.proofs.Ranges.{list_in_order}
-use Rattle.sia_events.proofs.ListedPairs.{kept_none, kept_one}
-use Rattle.sia_events.proofs.RangeLists.{range_at, told_of_range}
+use Rattle.sia_events.proofs.Writing.Ranges.{list_in_order}
+use Rattle.sia_events.proofs.Writing.ListedPairs.{kept_none, kept_one}
+use Rattle.sia_events.proofs.Writing.RangeLists.{range_at, told_of_range}
 use Rattle.sia_events.proofs.history.History.push_about.Goals as goal
 
 pub version_in-requires : goal.version_in-requires

@@ -1,7 +1,7 @@
 -- A range read saw an unlisted key that it covers at version 0.
 use Rattle.std.proofs.Common.{inr, refl}
-use Rattle.sia_events.proofs.Ranges.{list_in_order}
-use Rattle.sia_events.proofs.RangeLists.{range_at}
+use Rattle.sia_events.proofs.Writing.Ranges.{list_in_order}
+use Rattle.sia_events.proofs.Writing.RangeLists.{range_at}
 use Rattle.sia_events.proofs.history.History.saw.Goals as goal
 
 pub version_in-requires : goal.version_in-requires

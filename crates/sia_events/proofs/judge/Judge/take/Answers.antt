@@ -4,7 +4,7 @@ use Rattle.std.proofs.lemmas.List.{length-map}
 use Rattle.sia_events.specs.Numbering.{event_of}
 use Rattle.sia_events.specs.LogTables.{events_of, names_in}
 use Rattle.sia_events.specs.Parsing.{event_with}
-use Rattle.sia_events.proofs.Taken.{taken, knows_after, refused, stays}
+use Rattle.sia_events.proofs.JudgedTexts.Taken.{taken, knows_after, refused, stays}
 use Rattle.sia_events.proofs.judge.Judge.take.Goals as goal
 
 room : (c : goal.After-admit) → length (events_of c.args.self.now.draft.tables) ≢ c.args.limits.events

@@ -5,10 +5,10 @@ use Rattle.std.proofs.lemmas.List.Elements.{All-from_recursion}
 use Rattle.sia_events.specs.LogTables.{events_of}
 use Rattle.sia_events.specs.Text.{is_separator, tokens}
 use Rattle.sia_events.specs.Judging.{JudgedAll, as_token}
-use Rattle.sia_events.proofs.Tokens.{closes, tokens_more, past_gap}
+use Rattle.sia_events.proofs.JudgedTexts.Tokens.{closes, tokens_more, past_gap}
 use Rattle.std.proofs.lemmas.Result.{err_from_is_err_and}
-use Rattle.sia_events.proofs.Pieces.{halts_in}
-use Rattle.sia_events.proofs.Judged.{JudgedAll-append, JudgedAll-none}
+use Rattle.sia_events.proofs.JudgedTexts.Pieces.{halts_in}
+use Rattle.sia_events.proofs.JudgedTexts.Judged.{JudgedAll-append, JudgedAll-none}
 use Rattle.sia_events.proofs.judge.Judge.take_closed.Goals as goal
 
 pub loop-token-init : goal.loop-token-init

@@ -4,7 +4,7 @@ use Rattle.sia_events.specs.LogTables.{events_of}
 use Rattle.sia_events.specs.Text.{tokens}
 use Rattle.sia_events.specs.Drafts.{Knows}
 use Rattle.sia_events.specs.Judging.{JudgedAll}
-use Rattle.sia_events.proofs.Tokens.{IsClosed}
+use Rattle.sia_events.proofs.JudgedTexts.Tokens.{IsClosed}
 use Rattle.sia_events.proofs.judge.Judge.take_closed.Given as goal
 
 abbrev pub invariant-loop-token : goal.invariant-loop-token

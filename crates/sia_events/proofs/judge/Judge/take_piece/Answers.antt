@@ -1,7 +1,7 @@
 -- The unfinished token is judged first, and then those of the piece.
 use Rattle.std.proofs.lemmas.Result.{err_from_is_err_and}
 use Rattle.sia_events.specs.LogTables.{events_of}
-use Rattle.sia_events.proofs.Pieces.{nothing_taken, taken_after, halts_after, halts_at_first}
+use Rattle.sia_events.proofs.JudgedTexts.Pieces.{nothing_taken, taken_after, halts_after, halts_at_first}
 use Rattle.sia_events.proofs.judge.Judge.take_piece.Goals as goal
 
 pub returns-in_default-clause-taken : goal.returns-in_default-clause-taken

@@ -2,7 +2,7 @@
 use Rattle.std.proofs.Common.{◌≢◌, length, arith}
 use Rattle.std.proofs.lemmas.Bool.Decides.{nat_tests}
 use Rattle.sia_events.specs.LogTables.{events_of}
-use Rattle.sia_events.proofs.Pieces.{halts_first}
+use Rattle.sia_events.proofs.JudgedTexts.Pieces.{halts_first}
 use Rattle.sia_events.proofs.judge.Judge.take_some.Goals as goal
 
 pub returns-clause-refused : goal.returns-clause-refused

@@ -1,7 +1,7 @@
 -- After the piece the locator stands for the text so far.
 use Rattle.std.proofs.Common.{arith, get_or, refl}
-use Rattle.sia_events.proofs.Stopping.{passes_none, passes_more, passes_all}
-use Rattle.sia_events.proofs.BesideReader.{stands_fed}
+use Rattle.sia_events.proofs.TokenPlaces.Stopping.{passes_none, passes_more, passes_all}
+use Rattle.sia_events.proofs.TokenPlaces.BesideReader.{stands_fed}
 use Rattle.sia_events.proofs.locating.Locator.feed.Goals as goal
 
 pub loop-byte-init : goal.loop-byte-init

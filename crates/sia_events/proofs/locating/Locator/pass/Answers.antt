@@ -1,7 +1,7 @@
 -- A separator, a byte that goes on, or the first of a token.
 use Rattle.std.proofs.Common.{◌+◌, take, refl, sym, subst}
 use Rattle.sia_events.specs.Locating.{Located, Follows}
-use Rattle.sia_events.proofs.Following.{passed_gap, passed_on, passed_first}
+use Rattle.sia_events.proofs.Shared.Following.{passed_gap, passed_on, passed_first}
 use Rattle.sia_events.proofs.locating.Locator.pass.Goals as goal
 use Rattle.sia_events.proofs.locating.Locator.pass.Goals.{then-is_separator, else-is_separator+then-self, else-is_separator+else-self+then-self-last}
 

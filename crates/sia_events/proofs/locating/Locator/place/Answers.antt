@@ -3,7 +3,7 @@ use Rattle.std.proofs.Common.{ap, sym, subst}
 use Rattle.sia_events.specs.declared.locating.Place.{Place}
 use Rattle.sia_events.specs.Locations.{IsLocated}
 use Rattle.sia_events.specs.Locating.{Located}
-use Rattle.sia_events.proofs.BesideReader.{refused_located}
+use Rattle.sia_events.proofs.TokenPlaces.BesideReader.{refused_located}
 use Rattle.sia_events.proofs.locating.Locator.place.Goals as goal
 
 pub returns-clause-refused : goal.returns-clause-refused

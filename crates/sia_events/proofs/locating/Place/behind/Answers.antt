@@ -1,5 +1,5 @@
 -- A line feed ends the line, and any other byte takes one column.
-use Rattle.sia_events.proofs.Locations.{place_feed, place_on}
+use Rattle.sia_events.proofs.TokenPlaces.Locations.{place_feed, place_on}
 use Rattle.sia_events.proofs.locating.Place.behind.Goals as goal
 
 pub returns-then-byte-eq10 : goal.returns-then-byte-eq10

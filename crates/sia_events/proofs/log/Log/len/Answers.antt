@@ -1,5 +1,5 @@
 use Rattle.std.proofs.Common.{arith}
-use Rattle.sia_events.proofs.LogReads.{few_rows}
+use Rattle.sia_events.proofs.Shared.LogReads.{few_rows}
 use Rattle.sia_events.proofs.log.Log.len.Goals as goal
 
 pub overflow_cast-result : goal.overflow_cast-result

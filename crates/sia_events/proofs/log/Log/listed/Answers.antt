@@ -2,7 +2,7 @@
 use Rattle.std.proofs.Common.{◌≡◌, ℕ, ◌<◌, ◌-◌, List, length, map, take, drop, subst, sym}
 use Rattle.sia_events.specs.declared.event.Event.{Event}
 use Rattle.sia_events.specs.Numbering.{names_of, ranges_of, range_at, pair_at}
-use Rattle.sia_events.proofs.LogReads.{range_listed, range_room}
+use Rattle.sia_events.proofs.Shared.LogReads.{range_listed, range_room}
 use Rattle.sia_events.proofs.log.Log.listed.Goals as goal
 
 pub returns-clause-pairs : goal.returns-clause-pairs

@@ -1,6 +1,6 @@
 -- A number below the mark is a write's.
 use Rattle.sia_events.specs.Numbering.{names_of}
-use Rattle.sia_events.proofs.LogReads.{pair_low, pair_high, pair_above}
+use Rattle.sia_events.proofs.Shared.LogReads.{pair_low, pair_high, pair_above}
 use Rattle.sia_events.proofs.log.Log.pair_numbers.Goals as goal
 
 pub returns-then-pair-lt-MARK-clause-pair : goal.returns-then-pair-lt-MARK-clause-pair

@@ -5,7 +5,7 @@ use Rattle.std.specs.Option.{option_map}
 use Rattle.sia_events.specs.declared.event.Event.{Event}
 use Rattle.sia_events.specs.Places.{at_place}
 use Rattle.sia_events.specs.Numbering.{names_of, event_of, IsMarked}
-use Rattle.sia_events.proofs.LogReads.{row_event, row_marked}
+use Rattle.sia_events.proofs.Shared.LogReads.{row_event, row_marked}
 use Rattle.sia_events.proofs.log.Log.row.Goals as goal
 
 pub returns-clause-event : goal.returns-clause-event

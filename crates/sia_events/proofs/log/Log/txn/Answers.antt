@@ -2,7 +2,7 @@ use Rattle.std.proofs.Common.{◌<◌, List, length, subst, sym}
 use Rattle.sia_events.specs.declared.event.Event.{Event}
 use Rattle.sia_events.specs.Numbering.{txns_of}
 use Rattle.sia_events.specs.Transactions.{StartsAt}
-use Rattle.sia_events.proofs.LogReads.{row_starts, txn_room}
+use Rattle.sia_events.proofs.Shared.LogReads.{row_starts, txn_room}
 use Rattle.sia_events.proofs.log.Log.txn.Goals as goal
 
 pub returns-clause-starts : goal.returns-clause-starts

@@ -2,7 +2,7 @@
 use Rattle.std.proofs.Common.{◌≡◌, ◌<◌, ◌-◌, length, drop, get_or, false, sym, arith}
 use Rattle.std.proofs.lemmas.List.{take_all, length-drop}
 use Rattle.sia_events.specs.Parsing.{is_digit}
-use Rattle.sia_events.proofs.SameBytes.{spelled_again}
+use Rattle.sia_events.proofs.TokensRead.SameBytes.{spelled_again}
 use Rattle.sia_events.proofs.mentions.Spelling.past.Goals as goal
 
 pub returns-clause-pair : goal.returns-clause-pair

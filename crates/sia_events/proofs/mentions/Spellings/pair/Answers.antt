@@ -1,7 +1,7 @@
 -- What was read is spelled by the bytes before the rest.
 use Rattle.std.proofs.Common.{◌≡◌, ℕ, Ok, subst, Option}
 use Rattle.sia_events.specs.Parsing.{pair_at}
-use Rattle.sia_events.proofs.SameBytes.{spelled_before}
+use Rattle.sia_events.proofs.TokensRead.SameBytes.{spelled_before}
 use Rattle.sia_events.proofs.mentions.Spellings.pair.Goals as goal
 
 pub of-requires : goal.of-requires

@@ -3,11 +3,11 @@ use Rattle.std.proofs.Common.{◌∷◌, [], ◌∙◌, inl, inr, List, map, ref
 use Rattle.std.proofs.lemmas.List.{length-append}
 use Rattle.std.proofs.lemmas.Option.{slice_get-get_or}
 use Rattle.std.specs.Prelude.{Some}
-use Rattle.sia_events.specs.declared.rows.WriteRow.{WriteRow}
+use Rattle.sia_events.specs.declared.log.WriteRow.{WriteRow}
 use Rattle.sia_events.specs.Finding.{Finds, FindsBelow}
 use Rattle.sia_events.specs.OwnWrites.{new_write, write_code}
-use Rattle.sia_events.proofs.Finders.{finds_below}
-use Rattle.sia_events.proofs.OwnWrites.{tracked, table_more}
+use Rattle.sia_events.proofs.LogRows.Finders.{finds_below}
+use Rattle.sia_events.proofs.LogRows.OwnWrites.{tracked, table_more}
 use Rattle.sia_events.proofs.own_writes.OwnWrites.add.Goals as goal
 
 pub returns-in_ok-add_from-clause-tracks : goal.returns-in_ok-add_from-clause-tracks

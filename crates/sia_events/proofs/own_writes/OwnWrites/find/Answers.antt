@@ -1,6 +1,6 @@
 -- The transaction's writes are looked through, or the table.
 use Rattle.std.proofs.Common.{◌+◌, ◌*◌, sym, ap₂, arith}
-use Rattle.sia_events.proofs.OwnWrites.{own_within, own_code, none_in_table, all_below, passed}
+use Rattle.sia_events.proofs.LogRows.OwnWrites.{own_within, own_code, none_in_table, all_below, passed}
 use Rattle.sia_events.proofs.own_writes.OwnWrites.find.Goals as goal
 
 pub returns-then-count-gt-FEW-clause-none : goal.returns-then-count-gt-FEW-clause-none

@@ -1,6 +1,6 @@
 -- No write of the key stands from there on.
 use Rattle.std.proofs.Common.{◌≡◌, ℕ, ◌<◌, Some, slice_get}
-use Rattle.sia_events.specs.declared.rows.WriteRow.{WriteRow}
+use Rattle.sia_events.specs.declared.log.WriteRow.{WriteRow}
 use Rattle.sia_events.specs.OwnWrites.{IsOwn}
 use Rattle.sia_events.proofs.own_writes.OwnWrites.find.Given as goal
 

@@ -1,5 +1,5 @@
 use Rattle.std.proofs.Common.{refl}
-use Rattle.sia_events.proofs.OwnWrites.{none_tracked}
+use Rattle.sia_events.proofs.LogRows.OwnWrites.{none_tracked}
 use Rattle.sia_events.proofs.own_writes.OwnWrites.new.Goals as goal
 
 pub returns : goal.returns

@@ -7,7 +7,7 @@ use Rattle.sia_events.specs.declared.fault.Refusal.{Refusal}
 use Rattle.sia_events.specs.Text.{tokens}
 use Rattle.sia_events.specs.Streaming.{Progress, StandsForRead}
 use Rattle.sia_events.specs.Judging.{HaltsIn}
-use Rattle.sia_events.proofs.Progresses.{by_own, none_is, stops_clean, stands_taken, stands_refused, stands_decided, text_clean, text_more}
+use Rattle.sia_events.proofs.Reading.Progresses.{by_own, none_is, stops_clean, stands_taken, stands_refused, stands_decided, text_clean, text_more}
 use Rattle.sia_events.proofs.reader.TextReader.feed.Goals as goal
 
 pub returns-then-is_some-clause-stands : goal.returns-then-is_some-clause-stands

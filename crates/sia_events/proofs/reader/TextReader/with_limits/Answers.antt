@@ -1,5 +1,5 @@
 -- A new reader has read the empty text.
-use Rattle.sia_events.proofs.Progresses.{text_none}
+use Rattle.sia_events.proofs.Reading.Progresses.{text_none}
 use Rattle.sia_events.proofs.reader.TextReader.with_limits.Goals as goal
 
 pub invariant_of-result : goal.invariant_of-result

@@ -3,8 +3,8 @@ use Rattle.std.specs.Prelude.{Contains}
 use Rattle.std.specs.List.{count_by, range_with_len}
 use Rattle.std.proofs.lemmas.List.{drop_all, get_or_default}
 use Rattle.sia_graph.specs.UnderWay.{IsOneFewer, IsTaking, none_pending, times}
-use Rattle.sia_graph.proofs.Pending.{as_taking, one_more, one_more_is, row_fewer}
-use Rattle.sia_graph.proofs.Woken.{fewer_wait, waits_test}
+use Rattle.sia_graph.proofs.Orders.Pending.{as_taking, one_more, one_more_is, row_fewer}
+use Rattle.sia_graph.proofs.Orders.Woken.{fewer_wait, waits_test}
 use Rattle.sia_graph.proofs.order.Taking.finish.Goals.{In-Some}
 use Rattle.sia_graph.proofs.order.Taking.finish.Goals as goal
 

@@ -1,7 +1,7 @@
 use Rattle.std.proofs.Common.{◌≡◌, [], drop, get_or, length}
 use Rattle.std.specs.List.{count_by, range_with_len}
 use Rattle.sia_graph.specs.UnderWay.{IsTaking, times}
-use Rattle.sia_graph.proofs.Woken.{waits_test}
+use Rattle.sia_graph.proofs.Orders.Woken.{waits_test}
 use Rattle.sia_graph.proofs.order.Taking.finish.Given as goal
 
 abbrev pub invariant-loop-waiting : goal.invariant-loop-waiting

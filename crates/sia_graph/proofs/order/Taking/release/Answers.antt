@@ -4,7 +4,7 @@ use Rattle.std.proofs.lemmas.List.{get_or-set_same, get_or-set_other, get_or_def
 use Rattle.std.proofs.lemmas.Option.{same_Some, slice_get-get_or}
 use Rattle.std.proofs.lemmas.Result.{on_ok_weaker}
 use Rattle.sia_graph.specs.UnderWay.{HasReady, IsDone}
-use Rattle.sia_graph.proofs.Released.{others_waited, ready_free, ready_held, sources_within, under_way_free, under_way_held, under_way_waiting}
+use Rattle.sia_graph.proofs.Orders.Released.{others_waited, ready_free, ready_held, sources_within, under_way_free, under_way_held, under_way_waiting}
 use Rattle.sia_graph.proofs.order.Taking.release.Goals as goal
 
 pub returns-then-index-gt1-clause-is : goal.returns-then-index-gt1-clause-is

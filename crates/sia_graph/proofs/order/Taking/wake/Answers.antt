@@ -1,7 +1,7 @@
 use Rattle.std.proofs.Common.{◌≡◌, ◌∙◌, ◌<◌, ◌+◌, ℕ, length, get_or, arith}
 use Rattle.std.proofs.lemmas.List.{get_or_default, length-set}
 use Rattle.sia_graph.specs.declared.order.Taking.{Taking}
-use Rattle.sia_graph.proofs.Woken.{node_waits, node_within, none_wait, ready_woken, waited_before, woken}
+use Rattle.sia_graph.proofs.Orders.Woken.{node_waits, node_within, none_wait, ready_woken, waited_before, woken}
 use Rattle.sia_graph.proofs.order.Taking.wake.Goals as goal
 
 -- what was read of the list of first ones, for any default

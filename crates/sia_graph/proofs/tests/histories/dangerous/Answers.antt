@@ -1,5 +1,5 @@
 use Rattle.std.proofs.Common.{sym, ◌∙◌}
-use Rattle.sia_graph.proofs.NoFirsts.{kept}
+use Rattle.sia_graph.proofs.Shared.NoFirsts.{kept}
 use Rattle.sia_graph.proofs.tests.histories.dangerous.Goals as goal
 
 pub dangerous_of-requires-clause-evidence : goal.dangerous_of-requires-clause-evidence

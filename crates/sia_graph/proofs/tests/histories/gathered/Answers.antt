@@ -3,10 +3,10 @@ use Rattle.std.proofs.Common.{◌≡◌, List, [], ◌∷◌, ◌++◌, ap, refl
 use Rattle.std.specs.List.{AllZip}
 use Rattle.sia_events.specs.declared.event.Event.{Event}
 use Rattle.sia_parts.specs.declared.cutting.Part.{Part}
-use Rattle.sia_parts.specs.declared.gathering.PartFound.{PartFound}
+use Rattle.sia_parts.specs.declared.finding.PartFound.{PartFound}
 use Rattle.sia_parts.specs.Gathering.{IsPartFound}
 use Rattle.sia_parts.specs.Parts.{IsInPart}
-use Rattle.sia_graph.proofs.Uncut.{uncut, whole}
+use Rattle.sia_graph.proofs.OfLaws.Uncut.{uncut, whole}
 use Rattle.sia_graph.proofs.tests.histories.gathered.Goals as goal
 
 pub of-requires : goal.of-requires

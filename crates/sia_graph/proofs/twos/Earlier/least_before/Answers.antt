@@ -1,9 +1,9 @@
 use Rattle.std.proofs.Common.{◌≤◌, ◌≢◌, length, min, ap, sym, subst, ◌∙◌, arith}
 use Rattle.sia_graph.specs.Twos.{AreTwosOver, IsBeforeVersion, IsLeastNumber, IsLeftPasser, IsLeftReader, IsTwo, IsUpTo}
 use Rattle.sia_graph.specs.declared.twos.Two.{Two}
-use Rattle.sia_graph.proofs.EarlierSources.{SawBelow, before_version, key_within, none_saw, saw_below}
-use Rattle.sia_graph.proofs.MemberSteps.{size_few}
-use Rattle.sia_graph.proofs.PositionTwos.{before_less, positions_below}
+use Rattle.sia_graph.proofs.Shared.EarlierSources.{SawBelow, before_version, key_within, none_saw, saw_below}
+use Rattle.sia_graph.proofs.Shared.MemberSteps.{size_few}
+use Rattle.sia_graph.proofs.Shared.PositionTwos.{before_less, positions_below}
 use Rattle.sia_graph.proofs.twos.Earlier.least_before.Goals.{in-Some, in-None}
 use Rattle.sia_graph.proofs.twos.Earlier.least_before.Goals as goal
 

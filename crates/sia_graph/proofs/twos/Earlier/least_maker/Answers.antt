@@ -1,5 +1,5 @@
 use Rattle.std.proofs.Common.{sym, subst}
-use Rattle.sia_graph.proofs.LeastNumbers.{other_of}
+use Rattle.sia_graph.proofs.Shared.LeastNumbers.{other_of}
 use Rattle.sia_graph.specs.Twos.{IsLeftMaker, IsTwo, IsUpTo}
 use Rattle.sia_graph.proofs.twos.Earlier.least_maker.Goals as goal
 

@@ -5,10 +5,10 @@ use Rattle.std.proofs.lemmas.List.Elements.{Contains-get_or}
 use Rattle.sia_parts.specs.Accesses.{SawPosition}
 use Rattle.sia_parts.specs.Sights.{FromSome}
 use Rattle.sia_graph.specs.Twos.{IsLeastNumber, IsLeftSource}
-use Rattle.sia_graph.proofs.AccessLists.{saw_inside, saw_is, saw_position}
-use Rattle.sia_graph.proofs.EarlierSources.{OfEither, OfMade, OfSeen, sources_are}
-use Rattle.sia_graph.proofs.LeastNumbers.{first_least, least_join, least_none}
-use Rattle.sia_graph.proofs.PositionTwos.{positions_below}
+use Rattle.sia_graph.proofs.Shared.AccessLists.{saw_inside, saw_is, saw_position}
+use Rattle.sia_graph.proofs.Shared.EarlierSources.{OfEither, OfMade, OfSeen, sources_are}
+use Rattle.sia_graph.proofs.Shared.LeastNumbers.{first_least, least_join, least_none}
+use Rattle.sia_graph.proofs.Shared.PositionTwos.{positions_below}
 use Rattle.sia_graph.proofs.twos.Earlier.least_source.Goals as goal
 
 pub made_by-position-items-requires : goal.made_by-position-items-requires

@@ -1,7 +1,7 @@
 use Rattle.std.proofs.Common.{◌≡◌, ◌≤◌, ℕ, Bool, List, min, take}
 use Rattle.sia_parts.specs.Sights.{FromSome}
 use Rattle.sia_graph.specs.Twos.{AreEarlier, IsLeastNumber}
-use Rattle.sia_graph.proofs.EarlierSources.{OfMade, OfSeen}
+use Rattle.sia_graph.proofs.Shared.EarlierSources.{OfMade, OfSeen}
 use Rattle.sia_graph.proofs.twos.Earlier.least_source.Given as goal
 
 abbrev pub invariant-loop-position : goal.invariant-loop-position

@@ -1,7 +1,7 @@
 -- The row of the position has its commit.
 use Rattle.std.proofs.Common.{subst, arith}
 use Rattle.sia_index.specs.Tables.{AreTables}
-use Rattle.sia_index.proofs.PositionLaws.{made_is, place_is}
+use Rattle.sia_index.proofs.Answering.PositionLaws.{made_is, place_is}
 use Rattle.sia_index.proofs.index.Index.commit_at.Goals as goal
 
 pub index-requires : goal.index-requires

@@ -5,7 +5,7 @@ use Rattle.std.proofs.lemmas.Bool.{ltb-false, ltb-true}
 use Rattle.std.proofs.lemmas.List.{get_or_default}
 use Rattle.sia_index.specs.Tables.{AreTables}
 use Rattle.sia_index.specs.declared.info.Made.{Made}
-use Rattle.sia_index.proofs.PositionLaws.{commit_behind_is, no_made}
+use Rattle.sia_index.proofs.Answering.PositionLaws.{commit_behind_is, no_made}
 use Rattle.sia_index.proofs.index.Index.commit_behind.Goals as goal
 
 pub returns-in-Some : goal.returns-in-Some

@@ -1,7 +1,7 @@
 -- The number that the table has, and no other.
 use Rattle.std.proofs.Common.{None, ◌∙◌, arith, subst}
 use Rattle.std.proofs.lemmas.List.{get_or_default}
-use Rattle.sia_index.proofs.NumberedNames.{number_exactly}
+use Rattle.sia_index.proofs.Shared.NumberedNames.{number_exactly}
 use Rattle.sia_index.specs.Tables.{AreTables}
 use Rattle.sia_index.proofs.index.Index.committed_number.Goals as goal
 

@@ -4,8 +4,8 @@ use Rattle.sia_events.specs.Refusals.{IsWellFormed}
 use Rattle.sia_events.specs.Transactions.{WroteBefore}
 use Rattle.sia_index.specs.declared.info.Made.{Made}
 use Rattle.sia_index.specs.Info.{IsReader}
-use Rattle.sia_index.proofs.Due.{none_due, last_due}
-use Rattle.sia_index.proofs.Ordered.{ascends}
+use Rattle.sia_index.proofs.Answering.Due.{none_due, last_due}
+use Rattle.sia_index.proofs.Shared.Ordered.{ascends}
 use Rattle.sia_index.proofs.index.Index.due.Goals as goal
 
 pub wrote_before-requires : goal.wrote_before-requires

@@ -3,11 +3,11 @@ use Rattle.std.proofs.Common.{◌≡◌, sym, subst, refl, ◌∙◌, arith}
 use Rattle.std.specs.Prelude.{slice_index}
 use Rattle.std.proofs.lemmas.List.{get_or_default}
 use Rattle.sia_index.specs.Tables.{AreTables}
-use Rattle.sia_index.proofs.KeyChains.{key_number}
+use Rattle.sia_index.proofs.Shared.KeyChains.{key_number}
 use Rattle.sia_index.specs.Info.{IsKeyAt}
 use Rattle.sia_index.specs.Positions.{IsAtPosition}
 use Rattle.sia_index.specs.declared.info.KeyVersion.{KeyVersion}
-use Rattle.sia_index.proofs.PositionLaws.{at, first_at}
+use Rattle.sia_index.proofs.Answering.PositionLaws.{at, first_at}
 use Rattle.sia_index.proofs.index.Index.first_position.Goals as goal
 
 pub index-requires : goal.index-requires

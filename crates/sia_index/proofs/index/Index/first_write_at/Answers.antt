@@ -2,10 +2,10 @@
 use Rattle.std.proofs.Common.{◌≡◌, ◌<◌, ◌+◌, length, ap, sym, subst, ◌∙◌, arith}
 use Rattle.std.specs.Prelude.{slice_index_or}
 use Rattle.std.proofs.lemmas.List.{get_or_default}
-use Rattle.sia_index.specs.declared.writes.WriteRow.{WriteRow}
+use Rattle.sia_index.specs.declared.txns.WriteRow.{WriteRow}
 use Rattle.sia_index.specs.Rows.{AreWrites}
-use Rattle.sia_index.proofs.NextKeys.{point_from_in}
-use Rattle.sia_index.proofs.Stretches.{first_at, none_at, first_written, none_written, part_rises}
+use Rattle.sia_index.proofs.Answering.NextKeys.{point_from_in}
+use Rattle.sia_index.proofs.Answering.Stretches.{first_at, none_at, first_written, none_written, part_rises}
 use Rattle.sia_index.proofs.index.Index.first_write_at.Goals as goal
 use Rattle.sia_index.proofs.index.Index.first_write_at.Goals.{else-at-to-via-then-at-to+else-index-k, else-at-to-via-else-at-to}
 

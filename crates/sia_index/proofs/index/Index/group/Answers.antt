@@ -3,11 +3,11 @@ use Rattle.std.proofs.Common.{◌≡◌, ◌+◌, ◌<◌, ◌≤◌, length, ma
 use Rattle.std.specs.Prelude.{slice_index}
 use Rattle.std.proofs.lemmas.List.{get_or_default}
 use Rattle.sia_index.specs.Tables.{AreTables}
-use Rattle.sia_events.proofs.OneList.{one_list_by}
+use Rattle.sia_events.proofs.Worked.OneList.{one_list_by}
 use Rattle.sia_index.specs.Rows.{IsKeyStretch}
 use Rattle.sia_index.specs.VersionRows.{version_of}
-use Rattle.sia_index.proofs.KeyChains.{key_number}
-use Rattle.sia_index.proofs.PositionLaws.{key_stretch}
+use Rattle.sia_index.proofs.Shared.KeyChains.{key_number}
+use Rattle.sia_index.proofs.Answering.PositionLaws.{key_stretch}
 use Rattle.sia_index.proofs.index.Index.group.Goals as goal
 
 pub index-requires : goal.index-requires

@@ -2,7 +2,7 @@
 use Rattle.std.proofs.Common.{subst, arith}
 use Rattle.std.proofs.lemmas.Bool.{le-leb, leb-true}
 use Rattle.sia_index.specs.Tables.{AreTables}
-use Rattle.sia_index.proofs.PositionLaws.{newest_is}
+use Rattle.sia_index.proofs.Answering.PositionLaws.{newest_is}
 use Rattle.sia_index.proofs.index.Index.is_newest.Goals as goal
 
 pub returns-then-commit_at-place : goal.returns-then-commit_at-place

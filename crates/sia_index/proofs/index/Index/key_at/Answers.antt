@@ -1,7 +1,7 @@
 -- The row of the position has the number of its key.
 use Rattle.std.proofs.Common.{length, ap, subst, arith}
 use Rattle.sia_index.specs.Tables.{AreTables}
-use Rattle.sia_index.proofs.PositionLaws.{key_is, place_is}
+use Rattle.sia_index.proofs.Answering.PositionLaws.{key_is, place_is}
 use Rattle.sia_index.proofs.index.Index.key_at.Goals as goal
 
 pub bounds-rows-position : goal.bounds-rows-position

@@ -1,6 +1,6 @@
 -- The table has them in the order of the transactions.
 use Rattle.std.proofs.Common.{subst}
-use Rattle.sia_events.proofs.OneList.{one_list_by}
+use Rattle.sia_events.proofs.Worked.OneList.{one_list_by}
 use Rattle.sia_index.specs.Lifetimes.{AreLifetimes}
 use Rattle.sia_index.specs.Tables.{AreTables}
 use Rattle.sia_index.proofs.index.Index.lifetimes.Goals as goal

@@ -1,7 +1,7 @@
 -- The table has them.
 use Rattle.std.proofs.Common.{subst}
 use Rattle.sia_index.specs.Tables.{AreTables}
-use Rattle.sia_index.proofs.PositionLaws.{made_by_is}
+use Rattle.sia_index.proofs.Answering.PositionLaws.{made_by_is}
 use Rattle.sia_index.proofs.index.Index.made_by.Goals as goal
 
 pub at-requires : goal.at-requires

@@ -1,7 +1,7 @@
 -- Who made the version, unless it is 0.
 use Rattle.std.proofs.Common.{◌<◌, length, ap, subst, arith}
 use Rattle.sia_index.specs.Tables.{AreTables}
-use Rattle.sia_index.proofs.PositionLaws.{maker_is, place_is}
+use Rattle.sia_index.proofs.Answering.PositionLaws.{maker_is, place_is}
 use Rattle.sia_index.proofs.index.Index.maker_at.Goals as goal
 
 pub bounds-rows-position : goal.bounds-rows-position

@@ -1,9 +1,9 @@
 -- The first row before the place between the points of the two keys; and what wrote nothing wrote nothing before.
 use Rattle.std.proofs.Common.{None, Some, ap, rules, subst, sym}
-use Rattle.sia_index.specs.declared.writes.WriteRow.{WriteRow}
+use Rattle.sia_index.specs.declared.txns.WriteRow.{WriteRow}
 use Rattle.sia_index.specs.Rows.{AreWrites}
-use Rattle.sia_index.proofs.NextKeys.{none_next, own_next, point_above_in, point_from_in, some_next}
-use Rattle.sia_index.proofs.Stretches.{part_rises}
+use Rattle.sia_index.proofs.Answering.NextKeys.{none_next, own_next, point_above_in, point_from_in, some_next}
+use Rattle.sia_index.proofs.Answering.Stretches.{part_rises}
 use Rattle.sia_index.proofs.index.Index.next_own.Goals as goal
 
 pub place_from-requires : goal.place_from-requires

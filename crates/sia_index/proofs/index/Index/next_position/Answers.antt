@@ -2,7 +2,7 @@
 use Rattle.std.proofs.Common.{subst, arith}
 use Rattle.sia_index.specs.Tables.{AreTables}
 use Rattle.sia_index.specs.Positions.{IsCommitBehind}
-use Rattle.sia_index.proofs.PositionLaws.{next_fits, next_is}
+use Rattle.sia_index.proofs.Answering.PositionLaws.{next_fits, next_is}
 use Rattle.sia_index.proofs.index.Index.next_position.Goals as goal
 
 pub returns-then-commit_behind-eq0 : goal.returns-then-commit_behind-eq0

@@ -5,8 +5,8 @@ use Rattle.std.proofs.lemmas.Bool.{cases_lt}
 use Rattle.std.specs.List.{AllWithin}
 use Rattle.sia_index.specs.Tables.{AreTables}
 use Rattle.sia_index.specs.Minima.{AreMinima, IsNextBelow}
-use Rattle.sia_index.proofs.KeyChains.{key_number}
-use Rattle.sia_index.proofs.PositionLaws.{visible_is}
+use Rattle.sia_index.proofs.Shared.KeyChains.{key_number}
+use Rattle.sia_index.proofs.Answering.PositionLaws.{visible_is}
 use Rattle.sia_index.proofs.index.Index.next_visible.Goals as goal
 
 pub next_below-requires-clause-within : goal.next_below-requires-clause-within

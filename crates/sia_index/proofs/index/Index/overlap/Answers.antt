@@ -1,5 +1,5 @@
 -- The starts and the commits tell it.
-use Rattle.sia_index.proofs.Table.{overlap_by}
+use Rattle.sia_index.proofs.Answering.Table.{overlap_by}
 use Rattle.sia_index.proofs.index.Index.overlap.Goals as goal
 
 pub returns-in-Some-Some : goal.returns-in-Some-Some

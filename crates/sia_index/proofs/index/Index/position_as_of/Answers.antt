@@ -4,8 +4,8 @@ use Rattle.std.specs.Prelude.{slice_index}
 use Rattle.sia_index.specs.Info.{IsKeyAt}
 use Rattle.sia_index.specs.Tables.{AreTables}
 use Rattle.sia_index.specs.declared.info.Made.{Made}
-use Rattle.sia_index.proofs.Ordered.{ascends, rises}
-use Rattle.sia_index.proofs.PositionLaws.{at, found_at, there}
+use Rattle.sia_index.proofs.Shared.Ordered.{ascends, rises}
+use Rattle.sia_index.proofs.Answering.PositionLaws.{at, found_at, there}
 use Rattle.sia_index.proofs.index.Index.position_as_of.Goals as goal
 
 pub place_above-requires : goal.place_above-requires

@@ -1,7 +1,7 @@
 -- The version before it is the one before in the list.
 use Rattle.std.proofs.Common.{sym, subst, ◌∙◌, arith}
 use Rattle.sia_index.specs.Tables.{AreTables}
-use Rattle.sia_index.proofs.PositionLaws.{before_at}
+use Rattle.sia_index.proofs.Answering.PositionLaws.{before_at}
 use Rattle.sia_index.proofs.index.Index.position_before.Goals as goal
 
 pub overflow_sub-result : goal.overflow_sub-result

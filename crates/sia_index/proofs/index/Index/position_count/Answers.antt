@@ -2,7 +2,7 @@
 use Rattle.std.proofs.Common.{subst, arith}
 use Rattle.sia_index.specs.Tables.{AreTables}
 use Rattle.sia_index.specs.Positions.{ArePositions}
-use Rattle.sia_index.proofs.PositionLaws.{positions_count}
+use Rattle.sia_index.proofs.Answering.PositionLaws.{positions_count}
 use Rattle.sia_index.proofs.index.Index.position_count.Goals as goal
 
 pub overflow_cast-result : goal.overflow_cast-result

@@ -1,5 +1,5 @@
 -- A transaction that has an event has a number.
-use Rattle.sia_index.proofs.NumberedNames.{has_number}
+use Rattle.sia_index.proofs.Shared.NumberedNames.{has_number}
 use Rattle.sia_index.proofs.index.Index.reader.Goals as goal
 
 pub reader_of-requires : goal.reader_of-requires

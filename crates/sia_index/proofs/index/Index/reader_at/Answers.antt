@@ -3,7 +3,7 @@ use Rattle.std.proofs.Common.{◌∙◌, sym, subst, arith}
 use Rattle.std.proofs.lemmas.List.{get_or_default}
 use Rattle.sia_index.specs.Info.{IsReader}
 use Rattle.sia_index.specs.Tables.{AreTables}
-use Rattle.sia_index.proofs.NumberedNames.{txn_numbered}
+use Rattle.sia_index.proofs.Shared.NumberedNames.{txn_numbered}
 use Rattle.sia_index.proofs.index.Index.reader_at.Goals as goal
 
 pub index-requires : goal.index-requires

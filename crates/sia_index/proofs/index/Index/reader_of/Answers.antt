@@ -2,7 +2,7 @@
 use Rattle.std.proofs.Common.{◌<◌, refl, subst, arith}
 use Rattle.std.proofs.lemmas.Bool.Decides.{nat_tests}
 use Rattle.sia_index.specs.Rows.{AreWrites}
-use Rattle.sia_index.proofs.Stretches.{some_written, written_within}
+use Rattle.sia_index.proofs.Answering.Stretches.{some_written, written_within}
 use Rattle.sia_index.proofs.index.Index.reader_of.Goals as goal
 
 pub returns : goal.returns

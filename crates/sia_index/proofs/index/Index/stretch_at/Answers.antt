@@ -3,10 +3,10 @@ use Rattle.std.proofs.Common.{◌+◌, subst, ap, ◌∙◌, arith}
 use Rattle.std.specs.Prelude.{slice_index}
 use Rattle.sia_events.specs.Lists.{ListsAscending}
 use Rattle.sia_events.specs.Transactions.{HasEvent}
-use Rattle.sia_events.proofs.OneList.{one_list_by}
+use Rattle.sia_events.proofs.Worked.OneList.{one_list_by}
 use Rattle.sia_index.specs.Rows.{AreWrites, IsStretch}
-use Rattle.sia_index.proofs.NumberedNames.{its_number}
-use Rattle.sia_index.proofs.Stretches.{stretch_at}
+use Rattle.sia_index.proofs.Shared.NumberedNames.{its_number}
+use Rattle.sia_index.proofs.Answering.Stretches.{stretch_at}
 use Rattle.sia_index.proofs.index.Index.stretch_at.Goals as goal
 
 pub group_at-requires : goal.group_at-requires

@@ -2,7 +2,7 @@
 use Rattle.std.proofs.Common.{refl, sym, subst, arith}
 use Rattle.std.specs.Prelude.{slice_index_or}
 use Rattle.sia_index.specs.Info.{IsInfo}
-use Rattle.sia_index.proofs.NumberedNames.{its_number}
+use Rattle.sia_index.proofs.Shared.NumberedNames.{its_number}
 use Rattle.sia_index.specs.Tables.{AreTables}
 use Rattle.sia_index.proofs.index.Index.txn_at.Goals as goal
 

@@ -1,7 +1,7 @@
 -- What was found among the transactions.
 use Rattle.std.proofs.Common.{ℕ, subst}
-use Rattle.sia_index.proofs.Ordered.{ascends}
-use Rattle.sia_index.proofs.NumberedNames.{found_number}
+use Rattle.sia_index.proofs.Shared.Ordered.{ascends}
+use Rattle.sia_index.proofs.Shared.NumberedNames.{found_number}
 use Rattle.sia_index.specs.Tables.{AreTables}
 use Rattle.sia_index.proofs.index.Index.txn_number.Goals as goal
 

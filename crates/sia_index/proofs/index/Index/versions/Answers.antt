@@ -1,7 +1,7 @@
 -- What was found among the written keys.
 use Rattle.std.proofs.Common.{ℕ, subst}
-use Rattle.sia_index.proofs.Ordered.{ascends}
-use Rattle.sia_index.proofs.KeyChains.{no_versions}
+use Rattle.sia_index.proofs.Shared.Ordered.{ascends}
+use Rattle.sia_index.proofs.Shared.KeyChains.{no_versions}
 use Rattle.sia_index.specs.Tables.{AreTables}
 use Rattle.sia_index.proofs.index.Index.versions.Goals as goal
 

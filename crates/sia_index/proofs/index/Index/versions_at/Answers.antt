@@ -1,7 +1,7 @@
 -- What stands behind version 0 of the key.
 use Rattle.std.proofs.Common.{length, ap, subst, refl, arith}
 use Rattle.sia_index.specs.Tables.{AreTables}
-use Rattle.sia_index.proofs.PositionLaws.{chain_versions, within_made}
+use Rattle.sia_index.proofs.Answering.PositionLaws.{chain_versions, within_made}
 use Rattle.sia_index.proofs.index.Index.versions_at.Goals as goal
 
 pub overflow_add-result : goal.overflow_add-result

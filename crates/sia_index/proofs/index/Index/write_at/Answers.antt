@@ -7,7 +7,7 @@ use Rattle.sia_events.specs.Transactions.{IsCommitted}
 use Rattle.sia_index.specs.Positions.{IsAtPosition}
 use Rattle.sia_index.specs.declared.info.KeyVersion.{KeyVersion}
 use Rattle.sia_index.specs.declared.info.WriteAt.{WriteAt}
-use Rattle.sia_index.proofs.PositionLaws.{write_is}
+use Rattle.sia_index.proofs.Answering.PositionLaws.{write_is}
 use Rattle.sia_index.proofs.index.Index.write_at.Goals as goal
 
 pub returns-clause-position : goal.returns-clause-position

@@ -1,5 +1,5 @@
 -- No version as of the start, and no own write, is below it.
-use Rattle.sia_parts.proofs.Passing.{no_own_due, own_due, visible_due}
+use Rattle.sia_parts.proofs.Auditing.Passing.{no_own_due, own_due, visible_due}
 use Rattle.sia_parts.proofs.audit.ranges.next_doubtful.Goals as goal
 
 pub returns-then-not-own : goal.returns-then-not-own

@@ -1,8 +1,8 @@
 -- The number of the first key that isn't below the one found.
 use Rattle.std.proofs.Common.{ℕ, ◌-◌, arith}
 use Rattle.sia_events.specs.Transactions.{WroteBefore}
-use Rattle.sia_index.proofs.Ordered.{ascends, rises}
-use Rattle.sia_parts.proofs.Passing.{key_there, passes_none, passes_some}
+use Rattle.sia_index.proofs.Shared.Ordered.{ascends, rises}
+use Rattle.sia_parts.proofs.Auditing.Passing.{key_there, passes_none, passes_some}
 use Rattle.sia_parts.proofs.audit.ranges.next_own_number.Goals as goal
 
 pub bounds-keys-from : goal.bounds-keys-from

@@ -1,7 +1,7 @@
 -- Up to the number of the last write it is a write's.
 use Rattle.std.proofs.Common.{◌<◌, ◌≤◌, length, subst}
 use Rattle.sia_events.specs.Numbering.{writes_of}
-use Rattle.sia_parts.proofs.FewWrites.{key_pair, write_above, write_pair}
+use Rattle.sia_parts.proofs.Auditing.FewWrites.{key_pair, write_above, write_pair}
 use Rattle.sia_parts.proofs.audit.ranges.origin_of_pair.Goals as goal
 
 pub returns-then-pair-write_count-clause-origin : goal.returns-then-pair-write_count-clause-origin

@@ -2,7 +2,7 @@
 use Rattle.std.proofs.Common.{ℕ, ◌<◌, ◌≤◌, arith}
 use Rattle.std.proofs.lemmas.List.Elements.{All-contains}
 use Rattle.sia_events.specs.Numbering.{names_of, pair_at}
-use Rattle.sia_parts.proofs.CutPairs.{from_pairs, those_from}
+use Rattle.sia_parts.proofs.Auditing.CutPairs.{from_pairs, those_from}
 use Rattle.sia_parts.proofs.audit.ranges.pairs_from.Goals as goal
 
 pub returns-then-lo-least-clause-each : goal.returns-then-lo-least-clause-each

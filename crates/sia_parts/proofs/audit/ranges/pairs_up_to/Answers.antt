@@ -2,7 +2,7 @@
 use Rattle.std.proofs.Common.{ℕ, ◌+◌, ◌<◌, ◌≤◌, arith}
 use Rattle.std.proofs.lemmas.List.Elements.{All-contains}
 use Rattle.sia_events.specs.Numbering.{names_of, pair_at}
-use Rattle.sia_parts.proofs.CutPairs.{below_pairs, those_below}
+use Rattle.sia_parts.proofs.Auditing.CutPairs.{below_pairs, those_below}
 use Rattle.sia_parts.proofs.audit.ranges.pairs_up_to.Goals as goal
 
 pub returns-then-most-hi-clause-each : goal.returns-then-most-hi-clause-each

@@ -6,10 +6,10 @@ use Rattle.sia_events.specs.Reads.{SawAt}
 use Rattle.sia_events.specs.Transactions.{Wrote, WroteBefore}
 use Rattle.sia_index.specs.Info.{IsKeyAt}
 use Rattle.sia_parts.specs.Seeing.{IsOrigin, IsSightWithin, origin_in}
-use Rattle.sia_parts.proofs.Covered.{covered_all, covered_more, covered_none, covered_unwritten, inside_cover, next_number, not_behind, not_between, not_own_within}
-use Rattle.sia_parts.proofs.FewNumbers.{few_keys}
-use Rattle.sia_parts.proofs.Gaining.{gains_none, gains_then}
-use Rattle.sia_parts.proofs.Viewing.{on_ok}
+use Rattle.sia_parts.proofs.Auditing.Covered.{covered_all, covered_more, covered_none, covered_unwritten, inside_cover, next_number, not_behind, not_between, not_own_within}
+use Rattle.sia_parts.proofs.Shared.FewNumbers.{few_keys}
+use Rattle.sia_parts.proofs.Auditing.Gaining.{gains_none, gains_then}
+use Rattle.sia_parts.proofs.Auditing.Viewing.{on_ok}
 use Rattle.sia_parts.proofs.audit.ranges.put_covered.Goals as goal
 use Rattle.sia_parts.proofs.audit.ranges.put_covered.Goals.{then-cover, else-cover, in-Some+in_ok-put_gap+in_ok-put_view, in_default}
 

@@ -1,5 +1,5 @@
 -- The keys below `next` have given what was seen of them: those of the pairs so far are below it, and those of the others are not.
-use Rattle.sia_parts.proofs.Covered.{HasCovered}
+use Rattle.sia_parts.proofs.Auditing.Covered.{HasCovered}
 use Rattle.sia_parts.specs.Seeing.{Gains, IsSightWithin}
 use Rattle.sia_parts.proofs.audit.ranges.put_covered.Given as goal
 

@@ -1,6 +1,6 @@
 -- Of keys passed over come bad reads and a range miss.
-use Rattle.sia_parts.proofs.Passing.{gap_gains}
-use Rattle.sia_parts.proofs.Viewing.{on_both}
+use Rattle.sia_parts.proofs.Auditing.Passing.{gap_gains}
+use Rattle.sia_parts.proofs.Auditing.Viewing.{on_both}
 use Rattle.sia_parts.proofs.audit.ranges.put_gap.Goals as goal
 
 pub returns : goal.returns

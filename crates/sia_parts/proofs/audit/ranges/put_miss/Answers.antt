@@ -5,8 +5,8 @@ use Rattle.sia_parts.specs.declared.accesses.RangeMiss.{RangeMiss}
 use Rattle.sia_parts.specs.Accesses.{IsMissAt, IsPassedBy}
 use Rattle.sia_parts.specs.Seeing.{IsMiss}
 use Rattle.sia_parts.specs.Sights.{FromSome}
-use Rattle.sia_parts.proofs.Adding.{gives_held}
-use Rattle.sia_parts.proofs.Gaining.{all_adds}
+use Rattle.sia_parts.proofs.Shared.Adding.{gives_held}
+use Rattle.sia_parts.proofs.Auditing.Gaining.{all_adds}
 use Rattle.sia_parts.proofs.audit.ranges.put_miss.Goals as goal
 
 pub returns : goal.returns

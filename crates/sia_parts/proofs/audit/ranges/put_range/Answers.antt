@@ -6,10 +6,10 @@ use Rattle.sia_events.specs.declared.event.Event.{Event}
 use Rattle.sia_events.specs.Numbering.{names_of, pair_at, IsPair}
 use Rattle.sia_events.specs.Reads.{SawAt}
 use Rattle.sia_parts.specs.Seeing.{AscendByKey, IsSightWithin}
-use Rattle.sia_parts.proofs.Gaining.{gains_near}
-use Rattle.sia_parts.proofs.Options.{if_not_there}
-use Rattle.sia_parts.proofs.RangeCovers.{all_from, cover_gains, key_unlisted, listed_ascend, pair_inside, pair_saw, range_in}
-use Rattle.sia_parts.proofs.Viewing.{on_ok}
+use Rattle.sia_parts.proofs.Auditing.Gaining.{gains_near}
+use Rattle.sia_parts.proofs.Shared.Options.{if_not_there}
+use Rattle.sia_parts.proofs.Auditing.RangeCovers.{all_from, cover_gains, key_unlisted, listed_ascend, pair_inside, pair_saw, range_in}
+use Rattle.sia_parts.proofs.Auditing.Viewing.{on_ok}
 use Rattle.sia_parts.proofs.audit.ranges.put_range.Goals as goal
 
 cut_both : (h l : List Event) → h ≡ l → (listed behind pairs : List ℕ) (lo hi : ℕ) → ((q : ℕ) → Contains behind q ↔ (Contains listed q × (lo ≤ (pair_at (names_of l) q).0))) → ((q : ℕ) → Contains pairs q ↔ (Contains behind q × ((pair_at (names_of l) q).0 ≤ hi)))

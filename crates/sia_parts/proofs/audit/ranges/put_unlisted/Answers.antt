@@ -4,9 +4,9 @@ use Rattle.std.specs.Prelude.{◌↔◌, IsTrue, slice_index}
 use Rattle.sia_events.specs.Reads.{SawAt}
 use Rattle.sia_events.specs.Transactions.{WroteBefore}
 use Rattle.sia_index.specs.Info.{IsKeyAt}
-use Rattle.sia_index.proofs.KeyChains.{key_number}
-use Rattle.sia_parts.proofs.Numbers.{one_key}
-use Rattle.sia_parts.proofs.Passing.{bad_then, none_bad, one_bad, part_of_gap}
+use Rattle.sia_index.proofs.Shared.KeyChains.{key_number}
+use Rattle.sia_parts.proofs.Shared.OneNumber.{one_key}
+use Rattle.sia_parts.proofs.Auditing.Passing.{bad_then, none_bad, one_bad, part_of_gap}
 use Rattle.sia_parts.proofs.audit.ranges.put_unlisted.Goals as goal
 use Rattle.sia_parts.proofs.audit.ranges.put_unlisted.Goals.{then-own, else-own}
 

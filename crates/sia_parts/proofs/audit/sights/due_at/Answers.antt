@@ -4,9 +4,9 @@ use Rattle.std.specs.Prelude.{MatchOption}
 use Rattle.sia_events.specs.Reads.{IsDue}
 use Rattle.sia_events.specs.Transactions.{WroteBefore}
 use Rattle.sia_index.specs.Numbers.{IsCommittedAt}
-use Rattle.sia_parts.proofs.Committing.{committed_number}
-use Rattle.sia_parts.proofs.Numbers.{one_key}
-use Rattle.sia_parts.proofs.Positions.{at_zero, newest_is_due}
+use Rattle.sia_parts.proofs.Auditing.Committing.{committed_number}
+use Rattle.sia_parts.proofs.Shared.OneNumber.{one_key}
+use Rattle.sia_parts.proofs.Auditing.Positions.{at_zero, newest_is_due}
 use Rattle.sia_parts.proofs.audit.sights.due_at.Goals as goal
 
 pub bounds-committed-maker : goal.bounds-committed-maker

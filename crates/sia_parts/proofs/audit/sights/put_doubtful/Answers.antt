@@ -2,8 +2,8 @@
 use Rattle.std.proofs.Common.{◌≡◌, ℕ, ap, sym, subst, ◌∙◌}
 use Rattle.sia_events.specs.Numbering.{names_of}
 use Rattle.sia_parts.specs.Seeing.{IsOrigin, origin_in}
-use Rattle.sia_parts.proofs.Gaining.{look_gains, no_look}
-use Rattle.sia_parts.proofs.Viewing.{bad_named, gains_view, looks_not, on_ok, own_not, seen_sight, stands}
+use Rattle.sia_parts.proofs.Auditing.Gaining.{look_gains, no_look}
+use Rattle.sia_parts.proofs.Auditing.Viewing.{bad_named, gains_view, looks_not, on_ok, own_not, seen_sight, stands}
 use Rattle.sia_parts.proofs.audit.sights.put_doubtful.Goals as goal
 
 pub names-key-requires : goal.names-key-requires

@@ -1,8 +1,8 @@
 -- The bad read, where another version is due.
 use Rattle.std.proofs.Common.{refl, sym}
 use Rattle.sia_parts.specs.Sights.{IsBadOf, bad_sight}
-use Rattle.sia_parts.proofs.Adding.{adds_push, adds_nothing}
-use Rattle.sia_parts.proofs.Saw.{bad_alone, bad_none}
+use Rattle.sia_parts.proofs.Shared.Adding.{adds_push, adds_nothing}
+use Rattle.sia_parts.proofs.Auditing.Saw.{bad_alone, bad_none}
 use Rattle.sia_parts.proofs.audit.sights.put_if_bad.Goals as goal
 
 pub returns-in_ok-push : goal.returns-in_ok-push

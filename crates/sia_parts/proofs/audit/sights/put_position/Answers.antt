@@ -1,7 +1,7 @@
 -- The row is that of the reader's number.
 use Rattle.std.proofs.Common.{◌≡◌, ℕ, Some, ap, sym, ◌∙◌}
 use Rattle.std.proofs.lemmas.Option.{same_Some}
-use Rattle.sia_parts.proofs.Adding.{adds_same}
+use Rattle.sia_parts.proofs.Shared.Adding.{adds_same}
 use Rattle.sia_parts.proofs.audit.sights.put_position.Goals as goal
 
 pub returns-in_ok-put : goal.returns-in_ok-put

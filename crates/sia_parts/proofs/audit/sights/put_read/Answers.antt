@@ -2,8 +2,8 @@
 use Rattle.std.proofs.Common.{◌≤◌, ◌<◌, refl, arith}
 use Rattle.sia_events.specs.declared.event.Event.TheVariants.{Read}
 use Rattle.sia_parts.specs.Seeing.{IsSightWithin}
-use Rattle.sia_parts.proofs.Gaining.{gains_none}
-use Rattle.sia_parts.proofs.Viewing.{on_ok, read_gains, read_number, read_unwritten}
+use Rattle.sia_parts.proofs.Auditing.Gaining.{gains_none}
+use Rattle.sia_parts.proofs.Auditing.Viewing.{on_ok, read_gains, read_number, read_unwritten}
 use Rattle.sia_parts.proofs.audit.sights.put_read.Goals as goal
 use Rattle.sia_parts.proofs.audit.sights.put_read.Goals.{then-at-scope-via-then-at-scope, then-at-scope-via-else-at-scope+then-scope-at}
 

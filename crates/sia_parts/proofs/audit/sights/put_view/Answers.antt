@@ -3,10 +3,10 @@ use Rattle.std.proofs.Common.{◌≡◌, false, refl}
 use Rattle.sia_index.specs.declared.info.KeyVersion.{KeyVersion}
 use Rattle.sia_index.specs.Positions.{IsAtPosition, IsNewestAsOf}
 use Rattle.sia_parts.specs.Sights.{IsBadOf}
-use Rattle.sia_parts.proofs.Adding.{adds_nothing}
-use Rattle.sia_parts.proofs.Gaining.{look_gains}
-use Rattle.sia_parts.proofs.Saw.{bad_none}
-use Rattle.sia_parts.proofs.Viewing.{gains_view, on_ok, saw_other, seen_is_due, seen_sight, stands}
+use Rattle.sia_parts.proofs.Shared.Adding.{adds_nothing}
+use Rattle.sia_parts.proofs.Auditing.Gaining.{look_gains}
+use Rattle.sia_parts.proofs.Auditing.Saw.{bad_none}
+use Rattle.sia_parts.proofs.Auditing.Viewing.{gains_view, on_ok, saw_other, seen_is_due, seen_sight, stands}
 use Rattle.sia_parts.proofs.audit.sights.put_view.Goals as goal
 
 pub returns-then-is_newest : goal.returns-then-is_newest

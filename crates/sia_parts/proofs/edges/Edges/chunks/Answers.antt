@@ -1,10 +1,10 @@
 -- The end of the sources is put behind all places, of which there are few.
 use Rattle.std.proofs.Common.{ℕ, List, length, subst, arith}
-use Rattle.sia_events.proofs.OneList.{one_list_by}
+use Rattle.sia_events.proofs.Worked.OneList.{one_list_by}
 use Rattle.sia_parts.specs.Chunks.{AreChunkBounds}
-use Rattle.sia_parts.proofs.ChunkBoundLemmas.{chunk_bounds_end, chunk_bounds_none}
-use Rattle.sia_parts.proofs.EdgeLists.{has_number}
-use Rattle.sia_parts.proofs.Readings.{few_txns}
+use Rattle.sia_parts.proofs.EdgeRows.ChunkBoundLemmas.{chunk_bounds_end, chunk_bounds_none}
+use Rattle.sia_parts.proofs.EdgeRows.EdgeLists.{has_number}
+use Rattle.sia_parts.proofs.EdgeRows.Readings.{few_txns}
 use Rattle.sia_parts.proofs.edges.Edges.chunks.Goals as goal
 use Rattle.sia_parts.proofs.edges.Edges.chunks.Goals.{then-count-gt0+in_ok-put_chunk_bounds+in_ok-push-3, else-count-gt0}
 

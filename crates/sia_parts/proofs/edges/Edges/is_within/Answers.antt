@@ -3,10 +3,10 @@ use Rattle.std.proofs.Common.{◌≡◌, ℕ, List, subst}
 use Rattle.std.specs.Prelude.{slice_index}
 use Rattle.sia_events.specs.declared.event.Event.{Event}
 use Rattle.sia_index.specs.Info.{AreWrittenKeys, IsKeyAt}
-use Rattle.sia_index.proofs.KeyChains.{key_number}
+use Rattle.sia_index.proofs.Shared.KeyChains.{key_number}
 use Rattle.sia_parts.specs.EdgeRows.{IsOfKey}
-use Rattle.sia_parts.proofs.KeyEnds.{outside_part, within_part}
-use Rattle.sia_parts.proofs.PositionOrder.{same_number}
+use Rattle.sia_parts.proofs.EdgeRows.KeyEnds.{outside_part, within_part}
+use Rattle.sia_parts.proofs.EdgeRows.PositionOrder.{same_number}
 use Rattle.sia_parts.proofs.edges.Edges.is_within.Goals as goal
 
 key_is : (h : List Event) (keys : List ℕ) → AreWrittenKeys h keys → (q n j k : ℕ) → IsOfKey h n q → IsOfKey h j q → IsKeyAt h j k → slice_index keys n ≡ k

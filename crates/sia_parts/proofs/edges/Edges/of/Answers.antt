@@ -1,8 +1,8 @@
 -- The readings are dealt to their positions.
 use Rattle.std.proofs.Common.{arith}
 use Rattle.sia_parts.specs.Parts.{IsWithin}
-use Rattle.sia_parts.proofs.AccessRows.{saw_positions}
-use Rattle.sia_parts.proofs.Readings.{all_below, few_txns, readings_dealt, readings_more, readings_none}
+use Rattle.sia_parts.proofs.EdgeRows.AccessRows.{saw_positions}
+use Rattle.sia_parts.proofs.EdgeRows.Readings.{all_below, few_txns, readings_dealt, readings_more, readings_none}
 use Rattle.sia_parts.proofs.edges.Edges.of.Goals as goal
 
 pub overflow_cast-reader-end : goal.overflow_cast-reader-end

@@ -1,5 +1,5 @@
 -- The readings of the first readers.
-use Rattle.sia_parts.proofs.Readings.{AreReadingsTo}
+use Rattle.sia_parts.proofs.EdgeRows.Readings.{AreReadingsTo}
 use Rattle.sia_parts.proofs.edges.Edges.of.Given as goal
 
 abbrev pub invariant-loop-reader : goal.invariant-loop-reader

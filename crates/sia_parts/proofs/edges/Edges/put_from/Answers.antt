@@ -5,8 +5,8 @@ use Rattle.sia_parts.specs.declared.accesses.RangeMiss.{RangeMiss}
 use Rattle.sia_parts.specs.declared.finding.Kind.TheVariants.{Rw}
 use Rattle.sia_parts.specs.EdgeRows.{IsMadeRow, IsMakerRow, IsMissRow, missed_by, saw_by}
 use Rattle.sia_parts.specs.Sights.{FromSome}
-use Rattle.sia_parts.proofs.Adding.{added_to_none, adds_both}
-use Rattle.sia_parts.proofs.EdgeNames.{IsRow, rows_are}
+use Rattle.sia_parts.proofs.Shared.Adding.{added_to_none, adds_both}
+use Rattle.sia_parts.proofs.EdgeRows.EdgeNames.{IsRow, rows_are}
 use Rattle.sia_parts.proofs.edges.Edges.put_from.Goals as goal
 
 pub returns : goal.returns

@@ -13,10 +13,10 @@ use Rattle.sia_parts.specs.declared.edges.Edges.{Edges}
 use Rattle.sia_parts.specs.declared.finding.Kind.TheVariants.{Ww}
 use Rattle.sia_parts.specs.EdgeRows.{IsMadeRow, IsMakerRow, IsOfKey, IsReaderRow}
 use Rattle.sia_parts.specs.Sights.{FromSome}
-use Rattle.sia_parts.proofs.Adding.{adds_both, adds_nothing, adds_same, from_all, from_more}
-use Rattle.sia_parts.proofs.EdgeLoops.{MadeHere}
-use Rattle.sia_parts.proofs.OneNumber.{one_committed}
-use Rattle.sia_parts.proofs.PositionOrder.{one_version}
+use Rattle.sia_parts.proofs.Shared.Adding.{adds_both, adds_nothing, adds_same, from_all, from_more}
+use Rattle.sia_parts.proofs.EdgeRows.EdgeLoops.{MadeHere}
+use Rattle.sia_parts.proofs.Shared.OneNumber.{one_committed}
+use Rattle.sia_parts.proofs.EdgeRows.PositionOrder.{one_version}
 use Rattle.sia_parts.proofs.edges.Edges.put_made.Goals as goal
 use Rattle.sia_parts.proofs.edges.Edges.put_made.Goals.{then-is_within+in_ok-put_makers+in_ok-put_readers, else-is_within}
 

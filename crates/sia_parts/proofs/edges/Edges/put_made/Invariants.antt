@@ -1,7 +1,7 @@
 -- The rows of the versions so far.
 use Rattle.sia_parts.specs.Sights.{Adds}
-use Rattle.sia_parts.proofs.Adding.{FromFirst}
-use Rattle.sia_parts.proofs.EdgeLoops.{MadeHere}
+use Rattle.sia_parts.proofs.Shared.Adding.{FromFirst}
+use Rattle.sia_parts.proofs.EdgeRows.EdgeLoops.{MadeHere}
 use Rattle.sia_parts.proofs.edges.Edges.put_made.Given as goal
 
 abbrev pub invariant-loop-position : goal.invariant-loop-position

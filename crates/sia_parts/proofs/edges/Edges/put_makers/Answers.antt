@@ -1,7 +1,7 @@
 -- The maker of the next version, if it isn't the source.
 use Rattle.std.proofs.Common.{◌≡◌, ◌∙◌, sym, subst, arith}
 use Rattle.sia_parts.specs.EdgeRows.{IsMadeAt, IsOfKey}
-use Rattle.sia_parts.proofs.EdgeLoops.{maker_at, makers_all, makers_push, makers_skip}
+use Rattle.sia_parts.proofs.EdgeRows.EdgeLoops.{maker_at, makers_all, makers_push, makers_skip}
 use Rattle.sia_parts.proofs.edges.Edges.put_makers.Goals as goal
 use Rattle.sia_parts.proofs.edges.Edges.put_makers.Goals.{then-target-source+in_ok-push, else-target-source}
 

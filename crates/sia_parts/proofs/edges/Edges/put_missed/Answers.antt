@@ -7,8 +7,8 @@ use Rattle.std.proofs.lemmas.List.Sorted.{Contains-permutation, IsNonDecreasingB
 use Rattle.sia_parts.specs.declared.accesses.RangeMiss.{RangeMiss}
 use Rattle.sia_parts.specs.EdgeRows.{IsMissRow}
 use Rattle.sia_parts.specs.Parts.{IsWithin}
-use Rattle.sia_parts.proofs.AccessRows.{from_sorted, miss_keys, misses_next, missed_within, reaches_more}
-use Rattle.sia_parts.proofs.Adding.{from_all}
+use Rattle.sia_parts.proofs.EdgeRows.AccessRows.{from_sorted, miss_keys, misses_next, missed_within, reaches_more}
+use Rattle.sia_parts.proofs.Shared.Adding.{from_all}
 use Rattle.sia_parts.proofs.edges.Edges.put_missed.Goals as goal
 
 abbrev none : RangeMiss

@@ -2,8 +2,8 @@
 use Rattle.sia_parts.specs.EdgeRows.{IsMissRow}
 use Rattle.sia_parts.specs.Sights.{Adds}
 use Rattle.sia_parts.specs.declared.accesses.RangeMiss.{RangeMiss}
-use Rattle.sia_parts.proofs.Adding.{FromFirst}
-use Rattle.sia_parts.proofs.EdgeLoops.{ReachesTo}
+use Rattle.sia_parts.proofs.Shared.Adding.{FromFirst}
+use Rattle.sia_parts.proofs.EdgeRows.EdgeLoops.{ReachesTo}
 use Rattle.sia_parts.proofs.edges.Edges.put_missed.Given as goal
 
 abbrev pub invariant-loop-miss : goal.invariant-loop-miss

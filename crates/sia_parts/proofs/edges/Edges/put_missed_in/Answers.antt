@@ -1,6 +1,6 @@
 -- The next key of which a version was committed, or no other.
 use Rattle.std.proofs.Common.{inr, arith}
-use Rattle.sia_parts.proofs.EdgeLoops.{misses_all, misses_more}
+use Rattle.sia_parts.proofs.EdgeRows.EdgeLoops.{misses_all, misses_more}
 use Rattle.sia_parts.proofs.edges.Edges.put_missed_in.Goals as goal
 
 pub loop-key-preserved : goal.loop-key-preserved

@@ -2,9 +2,9 @@
 use Rattle.std.proofs.Common.{get_or, refl, sym}
 use Rattle.sia_parts.specs.declared.edges.Reading.{Reading}
 use Rattle.sia_parts.specs.EdgeRows.{IsOfKey, IsReadingRow}
-use Rattle.sia_parts.proofs.Adding.{adds_push, adds_nothing, from_more, from_all}
-use Rattle.sia_parts.proofs.EdgeLoops.{readers_all, readers_more}
-use Rattle.sia_parts.proofs.PositionOrder.{position_below}
+use Rattle.sia_parts.proofs.Shared.Adding.{adds_push, adds_nothing, from_more, from_all}
+use Rattle.sia_parts.proofs.EdgeRows.EdgeLoops.{readers_all, readers_more}
+use Rattle.sia_parts.proofs.EdgeRows.PositionOrder.{position_below}
 use Rattle.sia_parts.proofs.edges.Edges.put_readers.Goals as goal
 use Rattle.sia_parts.proofs.edges.Edges.put_readers.Goals.{then-reading-source+in_ok-push, else-reading-source}
 

@@ -1,8 +1,8 @@
 -- The rows to the readers of the versions so far.
 use Rattle.sia_parts.specs.EdgeRows.{IsReadingRow}
 use Rattle.sia_parts.specs.Sights.{Adds}
-use Rattle.sia_parts.proofs.Adding.{FromFirst}
-use Rattle.sia_parts.proofs.EdgeLoops.{ReadersBelow}
+use Rattle.sia_parts.proofs.Shared.Adding.{FromFirst}
+use Rattle.sia_parts.proofs.EdgeRows.EdgeLoops.{ReadersBelow}
 use Rattle.sia_parts.proofs.edges.Edges.put_readers.Given as goal
 
 abbrev pub invariant-loop-seen : goal.invariant-loop-seen

@@ -7,9 +7,9 @@ use Rattle.sia_index.specs.Positions.{HasPosition}
 use Rattle.sia_parts.specs.declared.finding.Kind.TheVariants.{Rw}
 use Rattle.sia_parts.specs.EdgeRows.{IsMakerRow, StandsBehind}
 use Rattle.sia_parts.specs.Parts.{IsWithin}
-use Rattle.sia_parts.proofs.AccessRows.{from_same, from_sorted, saw_positions, saw_within}
-use Rattle.sia_parts.proofs.Adding.{from_all, from_more}
-use Rattle.sia_parts.proofs.EdgeLoops.{makers_behind}
+use Rattle.sia_parts.proofs.EdgeRows.AccessRows.{from_same, from_sorted, saw_positions, saw_within}
+use Rattle.sia_parts.proofs.Shared.Adding.{from_all, from_more}
+use Rattle.sia_parts.proofs.EdgeRows.EdgeLoops.{makers_behind}
 use Rattle.sia_parts.proofs.edges.Edges.put_seen.Goals as goal
 use Rattle.sia_parts.proofs.edges.Edges.put_seen.Goals.{then-i-eq0+in_ok-put_makers, else-i-eq0+else-not-stands_behind}
 

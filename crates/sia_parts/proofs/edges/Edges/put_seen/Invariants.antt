@@ -2,7 +2,7 @@
 use Rattle.sia_parts.specs.declared.finding.Kind.TheVariants.{Rw}
 use Rattle.sia_parts.specs.EdgeRows.{IsMakerRow}
 use Rattle.sia_parts.specs.Sights.{Adds}
-use Rattle.sia_parts.proofs.Adding.{FromFirst}
+use Rattle.sia_parts.proofs.Shared.Adding.{FromFirst}
 use Rattle.sia_parts.proofs.edges.Edges.put_seen.Given as goal
 
 abbrev pub invariant-loop-i : goal.invariant-loop-i

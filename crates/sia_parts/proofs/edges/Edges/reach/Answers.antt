@@ -1,5 +1,5 @@
 -- Each place has a position.
-use Rattle.sia_parts.proofs.PositionOrder.{position_below}
+use Rattle.sia_parts.proofs.EdgeRows.PositionOrder.{position_below}
 use Rattle.sia_parts.proofs.edges.Edges.reach.Goals as goal
 
 pub at-requires : goal.at-requires

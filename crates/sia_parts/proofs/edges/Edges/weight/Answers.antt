@@ -3,7 +3,7 @@ use Rattle.std.proofs.lemmas.List.Elements.{Contains-get_or}
 use Rattle.std.specs.Prelude.{All, slice_index}
 use Rattle.sia_index.specs.Positions.{HasPosition}
 use Rattle.sia_parts.specs.Parts.{IsWithin}
-use Rattle.sia_parts.proofs.AccessRows.{saw_positions, saw_within}
+use Rattle.sia_parts.proofs.EdgeRows.AccessRows.{saw_positions, saw_within}
 use Rattle.sia_parts.proofs.edges.Edges.weight.Goals as goal
 
 pub reach-requires-clause-position : goal.reach-requires-clause-position

@@ -2,8 +2,8 @@
 use Rattle.std.proofs.Common.{ap, sym, ◌∙◌, arith}
 use Rattle.std.proofs.lemmas.List.{get_or_default}
 use Rattle.sia_parts.specs.declared.reads.Read.{Read}
-use Rattle.sia_parts.proofs.DealtReads.{all_dealt, one_more}
-use Rattle.sia_parts.proofs.PartOrder.{firsts_rise, parts_apart}
+use Rattle.sia_parts.proofs.ReadLists.DealtReads.{all_dealt, one_more}
+use Rattle.sia_parts.proofs.ReadLists.PartOrder.{firsts_rise, parts_apart}
 use Rattle.sia_parts.proofs.reads.Reads.of.Goals as goal
 
 pub put_read-requires-clause-first : goal.put_read-requires-clause-first

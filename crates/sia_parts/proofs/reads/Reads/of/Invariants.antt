@@ -1,6 +1,6 @@
 -- The reads so far are dealt.
 use Rattle.std.proofs.Common.{◌≡◌, length}
-use Rattle.sia_parts.proofs.DealtReads.{HasDealt}
+use Rattle.sia_parts.proofs.ReadLists.DealtReads.{HasDealt}
 use Rattle.sia_parts.proofs.reads.Reads.of.Given as goal
 
 abbrev pub invariant-loop-i : goal.invariant-loop-i

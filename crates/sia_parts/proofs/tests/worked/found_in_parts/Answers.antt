@@ -8,7 +8,7 @@ use Rattle.sia_parts.specs.Dealing.{HasReadsOf}
 use Rattle.sia_parts.specs.Findings.{ArePartFindings}
 use Rattle.sia_parts.specs.Gathering.{IsPartFound}
 use Rattle.sia_parts.specs.Parts.{IsInPart}
-use Rattle.sia_parts.proofs.FindingLemmas.{AllZip-one_more}
+use Rattle.sia_parts.proofs.Gathered.FindingLemmas.{AllZip-one_more}
 use Rattle.sia_parts.proofs.tests.worked.found_in_parts.Goals as goal
 
 abbrev none : Part

@@ -1,5 +1,5 @@
 use Rattle.std.proofs.Common.{ap}
-use Rattle.sia_pool.specs.declared.view.View.{View}
+use Rattle.sia_pool.specs.declared.rule.View.{View}
 use Rattle.sia_pool.proofs.RuleLemmas.{merges}
 use Rattle.sia_pool.proofs.owner.Owner.take_back.Goals as goal
 

@@ -5,16 +5,16 @@ use Rattle.sia_events.specs.declared.event.Event.{Event}
 use Rattle.sia_events.specs.Numbering.{names_of}
 use Rattle.sia_events.specs.Refusals.{IsWellFormed}
 use Rattle.sia_events.specs.Transactions.{IsCommitted, Wrote}
-use Rattle.sia_events.proofs.Versions.{writer_not_zero}
+use Rattle.sia_events.proofs.OfLaws.Versions.{writer_not_zero}
 use Rattle.sia_index.specs.declared.info.KeyVersion.{KeyVersion}
 use Rattle.sia_index.specs.declared.info.WriteAt.{WriteAt}
 use Rattle.sia_index.specs.Positions.{IsAtPosition}
 use Rattle.sia_parts.specs.declared.audit.sights.Origin.{Origin}
 use Rattle.sia_parts.specs.declared.audit.sights.Origin.TheVariants as origins
 use Rattle.sia_parts.specs.Seeing.{IsOrigin, IsPositionOf, IsVersionAt, origin_in}
-use Rattle.sia_parts.proofs.Numbers.{one_key}
-use Rattle.sia_parts.proofs.Positions.{at_zero}
-use Rattle.sia_parts.proofs.LogWrites.{write_wrote}
+use Rattle.sia_parts.proofs.Shared.OneNumber.{one_key}
+use Rattle.sia_parts.proofs.Auditing.Positions.{at_zero}
+use Rattle.sia_parts.proofs.Auditing.LogWrites.{write_wrote}
 use Rattle.sia_parts.proofs.audit.sights.Origin.stands.Goals as goal
 
 of_write : (h : List Event) → IsWellFormed h → (k v : ℕ) → Wrote h v k → (o : Option ℕ) → MatchOption o (¬ IsCommitted h v) (λ q. (w : KeyVersion) × IsAtPosition h q w × (w.key ≡ k) × (w.txn ≡ v) × (0 < w.commit))

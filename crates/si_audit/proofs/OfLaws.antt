@@ -1,0 +1,17 @@
+pub mod CycleExists
+pub mod ExplainedExists
+pub mod ExplainedLeft
+pub mod FindingsExist
+pub mod FormsLeft
+pub mod Levels
+pub mod LinesTold
+pub mod OneExplanation
+pub mod OneReport
+pub mod OutcomesTold
+pub mod PlainTexts
+pub mod ReasonLines
+pub mod ReportExists
+pub mod ReportLines
+pub mod TextLines
+pub mod TokenExists
+pub mod VerdictExists

@@ -1,0 +1,226 @@
+-- The account of a well-formed history has an explained report.
+use Rattle.std.proofs.Common.{◌≡◌, ◌≢◌, ◌⊎◌, inl, inr, ◌+◌, ℕ, Some, List, [], ◌∷◌, ◌++◌, codes, refl, sym, subst, arith}
+use Rattle.std.specs.Prelude.{Contains}
+use Rattle.std.proofs.lemmas.Bool.{cases_eq}
+use Rattle.sia_events.specs.declared.event.Event.{Event}
+use Rattle.sia_events.specs.declared.event.Event.TheVariants.{Write}
+use Rattle.sia_events.specs.DangerousStructures.{IsFirst, IsVulnerable}
+use Rattle.sia_events.specs.Dependencies.{IsVersionBefore, RwEdge, WwEdge, IsCommittedWriter}
+use Rattle.sia_events.specs.Isolation.{IsBadRead, IsBadWrite, IsUnexplained, IsolationKept}
+use Rattle.sia_events.specs.Places.{at_place}
+use Rattle.sia_events.specs.Reads.{IsDue, SawAt}
+use Rattle.sia_events.specs.Refusals.{IsWellFormed}
+use Rattle.sia_events.specs.Text.{numeral}
+use Rattle.sia_events.specs.Transactions.{CommitsBefore, IsCommitted, WritesAt, Wrote}
+use Rattle.sia_events.proofs.OfLaws.Anomalies.{anomaly_law}
+use Rattle.sia_events.proofs.Shared.Decisions.{Decided, both, first_below}
+use Rattle.sia_events.proofs.OfLaws.SawDecisions.{saw_at_or_not}
+use Rattle.sia_events.proofs.Shared.TransactionDecisions.{aborted_or_not, at_or_not, committed_or_not, has_start, wrote_or_not}
+use Rattle.sia_events.proofs.Writing.WellFormed.{seen_was_written}
+use Rattle.sia_parts.specs.declared.finding.BadRead.{BadRead}
+use Rattle.sia_parts.specs.declared.finding.BadWrite.{BadWrite}
+use Rattle.sia_parts.specs.declared.finding.Unexplained.{Unexplained}
+use Rattle.sia_parts.specs.declared.finding.Edge.{Edge}
+use Rattle.sia_parts.specs.declared.finding.Kind.{Kind}
+use Rattle.sia_parts.specs.declared.finding.Kind.TheVariants.{Ww, Wr, Rw}
+use Rattle.sia_parts.specs.Entries.{EdgeOfKind, IsEdge}
+use Rattle.sia_parts.specs.Sightings.{Gives, reader_of}
+use Rattle.sia_parts.specs.Telling.{TellsUnless, TellsVersion, event_words}
+use Rattle.sia_parts.proofs.Auditing.Members.{contains_first, contains_later}
+use Rattle.sia_graph.specs.declared.ssi.Dangerous.{Dangerous}
+use Rattle.sia_graph.specs.declared.cycle.Step.{Step}
+use Rattle.sia_graph.specs.declared.judgement.Verdict.{Verdict}
+use Rattle.sia_graph.specs.declared.judgement.Verdict.TheVariants.{Order, Cycle}
+use Rattle.sia_graph.specs.Cycles.{GoesRound, step_edge}
+use Rattle.sia_graph.specs.Dangerous.{HasFirst, IsLeast, MayBeFirst}
+use Rattle.sia_graph.specs.Verdicts.{IsVerdict}
+use Rattle.sia_graph.proofs.Shared.Deciding.{either_decided, not_decided, three_decided}
+use Rattle.sia_graph.proofs.Shared.EdgesDecided.{edge_decided}
+use Rattle.sia_graph.proofs.Shared.Facts.{commits_before_decided}
+use Rattle.sia_graph.proofs.Shared.NoStuckSet.{vulnerable_decided}
+use Rattle.sia_graph.proofs.OfPivots.Vulnerable.{source_committed, target_committed}
+use Rattle.si_audit.specs.Account.{Account, IsAccount}
+use Rattle.si_audit.specs.Explained.{IsExplained, TellsAll, TellsDanger, TellsVerdict, WithReasons, dangerous_edges, dangerous_line, edges_round}
+use Rattle.si_audit.specs.Lines.{bad_read_line, bad_write_line, edge_word, unexplained_line, verdict_line}
+use Rattle.si_audit.specs.Reasons.{TellsBadRead, TellsBadWrite, TellsEvents, TellsSight, TellsStep, TellsUnexplained, reason, untold_of}
+use Rattle.si_audit.proofs.OfLaws.FindingsExist.{seen_small, top, top_is}
+use Rattle.si_audit.proofs.OfLaws.VerdictExists.{some_committed}
+
+abbrev pub Told : (List ℕ → Type 0) → Type 0
+Told Tells = (bytes : List ℕ) × Tells bytes
+
+all_told : {A : Type 0} (Tells : A → List ℕ → Type 0) (xs : List A) → ((x : A) → Contains xs x → Told (Tells x)) → Told (TellsAll Tells xs)
+all_told Tells [] each = ([], refl)
+all_told Tells (x ∷ xs) each =
+    let one = each x (contains_first x xs) in
+    let rest = all_told Tells xs (λ y c. each y (contains_later x y xs c)) in
+    (one.0 ++ rest.0, (one.0, rest.0, one.1, rest.1, refl))
+
+line_told : {A : Type 0} (line_of : A → List ℕ) (Tells : A → List ℕ → Type 0) (x : A) → Told (Tells x) → Told (WithReasons line_of Tells x)
+line_told line_of Tells x told = (line_of x ++ told.0, (told.0, told.1, refl))
+
+least_of : (P : ℕ → Type 0) → ((n : ℕ) → Decided (P n)) → (n : ℕ) → P n → (x : ℕ) × IsLeast P x
+least_of P decide n p = elim (first_below P decide (n + 1)) [ inl w ↦ (w.0, (w.2, w.3)) | inr none ↦ absurd (none n (omega arith) p) ]
+
+module _ (h : List Event) (wf : IsWellFormed h) where
+  version_told : (k v : ℕ) → Wrote h v k → Told (TellsVersion h k v)
+  version_told k v wrote =
+      let (w, first) = least_of (λ p. at_place h p ≡ Some (Write v k)) (λ p. at_or_not h p (Write v k)) wrote.0 wrote.1 in
+      elim (committed_or_not h v) [
+        | inl c ↦ (event_words h k w ++ codes ", " ++ event_words h k c.0, (w, first, inr (c.0, inl c.1, refl)))
+        | inr still ↦ elim (aborted_or_not h v) [
+          | inl a ↦ (event_words h k w ++ codes ", " ++ event_words h k a.0, (w, first, inr (a.0, inr a.1, refl)))
+          | inr never ↦ (event_words h k w, (w, first, inl (((wrote.0, (Write v k, wrote.1, refl)), still, never), refl)))
+        ]
+      ]
+
+  unless_told : (known : ℕ) (before behind : List ℕ) (k v : ℕ) → (v ≢ known → Wrote h v k) → Told (TellsUnless known h before k v behind)
+  unless_told known before behind k v wrote = elim (cases_eq v known) [
+    | inl same ↦ ([], inl (same, refl))
+    | inr other ↦ let told = version_told k v (wrote other) in (before ++ told.0 ++ behind, inr (other, told.0, told.1, refl))
+  ]
+
+  saw_wrote : (p t k v : ℕ) → SawAt h p t k v → v ≢ 0 → Wrote h v k
+  saw_wrote p t k v (e, at, same, saw) some = let w = seen_was_written h wf p k v e at saw some in (w.0, w.2)
+
+  due_wrote : (t p k v : ℕ) → IsDue h t p k v → v ≢ 0 → Wrote h v k
+  due_wrote t p k v (inl own) some = (own.0.0, subst (λ (u : ℕ). WritesAt h u k own.0.0) (sym own.1) own.0.2)
+  due_wrote t p k v (inr (out, inl newest)) some = newest.0.0
+  due_wrote t p k v (inr (out, inr none)) some = absurd (some none.1)
+
+  bad_read_told : (b : BadRead) → IsBadRead h b.place b.txn b.key b.saw b.due → Told (TellsBadRead h b)
+  bad_read_told b bad =
+      let name = (anomaly_law h wf).named b.place b.txn b.key b.saw b.due bad in
+      let start = has_start h b.txn (b.place, (bad.0.0, bad.0.1, bad.0.2)) in
+      let saw = unless_told 0 (codes "  saw: ") (codes "\n") b.key b.saw (saw_wrote b.place b.txn b.key b.saw bad.0) in
+      let due = unless_told 0 (codes "  due: ") (codes "\n") b.key b.due (due_wrote b.txn b.place b.key b.due bad.1) in
+      (_, (name.0, start.0, saw.0, due.0, name.1, start.1, saw.1, due.1, refl))
+
+  unexplained_told : (b : Unexplained) → IsUnexplained h b.place b.txn b.key b.saw → Told (TellsUnexplained h b)
+  unexplained_told b odd =
+      let due = (anomaly_law h wf).unexplained b.place b.txn b.key b.saw odd in
+      let told = bad_read_told (record { place = b.place; txn = b.txn; key = b.key; saw = b.saw; due = due.0 }) due.1 in
+      (told.0, (due.0, due.1, told.1))
+
+  bad_write_told : (b : BadWrite) → IsBadWrite h b.key b.first b.second → Told (TellsBadWrite h b)
+  bad_write_told b bad =
+      let first = version_told b.key b.first bad.0 in
+      let second = version_told b.key b.second bad.1 in
+      (_, (bad.2.0, first.0, second.0, bad.2.2, first.1, second.1, refl))
+
+  before_or_not : (k v w : ℕ) → Decided (IsVersionBefore h k v w)
+  before_or_not k v w =
+      either_decided ((v ≡ 0) × IsCommittedWriter h k w) (WwEdge h v w k) (both (v ≡ 0) (IsCommittedWriter h k w) (cases_eq v 0) (both (Wrote h w k) (IsCommitted h w) (wrote_or_not h w k) (committed_or_not h w)))
+      (edge_decided h wf Ww v w k)
+
+  gives_or_not : (kind : Kind) (t u k v : ℕ) → Decided (Gives kind h t u k v)
+  gives_or_not Ww t u k v = inr (λ x. x)
+  gives_or_not Wr t u k v =
+      three_decided (IsCommitted h v) (v ≢ u) ((t ≡ v) ⊎ IsVersionBefore h k t v) (committed_or_not h v) (not_decided (v ≡ u) (cases_eq v u)) (either_decided (t ≡ v) (IsVersionBefore h k t v) (cases_eq t v) (before_or_not k t v))
+  gives_or_not Rw t u k v =
+      three_decided ((v ≡ 0) ⊎ IsCommitted h v) (v ≢ t) (IsVersionBefore h k v u) (either_decided (v ≡ 0) (IsCommitted h v) (cases_eq v 0) (committed_or_not h v)) (not_decided (v ≡ t) (cases_eq v t)) (before_or_not k v u)
+
+  gives_wrote : (kind : Kind) (t u k p v : ℕ) → SawAt h p (reader_of kind t u) k v → Gives kind h t u k v → v ≢ untold_of kind t → Wrote h v k
+  gives_wrote Ww t u k p v saw gives other = absurd gives
+  gives_wrote Wr t u k p v saw gives other = elim (gives.2) [ inl same ↦ absurd (other (sym same)) | inr before ↦ elim before [ inl z ↦ z.1.0 | inr b ↦ b.1 ] ]
+  gives_wrote Rw t u k p v saw gives other = saw_wrote p t k v saw other
+
+  -- the first sight of what gives an edge
+  module _ (e : Edge) where
+    abbrev IsSight : ℕ → ℕ → Type 0
+    IsSight q w = SawAt h q (reader_of e.kind e.src e.dst) e.key w × Gives e.kind h e.src e.dst e.key w
+
+    sight_or_not : (q : ℕ) → Decided ((w : ℕ) × (IsSight q w))
+    sight_or_not q =
+        elim (first_below (IsSight q) (λ w. both (SawAt h q (reader_of e.kind e.src e.dst) e.key w) (Gives e.kind h e.src e.dst e.key w) (saw_at_or_not h q (reader_of e.kind e.src e.dst) e.key w) (gives_or_not e.kind e.src e.dst e.key w)) top) [
+          | inl x ↦ inl (x.0, x.2)
+          | inr none ↦ inr (λ x. none x.0 (let small = (seen_small h wf q (reader_of e.kind e.src e.dst) e.key x.0 x.1.0).3 in let is = top_is in omega arith) x.1)
+        ]
+
+    sight_told : (p v : ℕ) → SawAt h p (reader_of e.kind e.src e.dst) e.key v → Gives e.kind h e.src e.dst e.key v → Told (TellsSight h e)
+    sight_told p v saw gives =
+        let (q, (found, least)) = least_of (λ q. (w : ℕ) × (IsSight q w)) sight_or_not p (v, (saw, gives)) in
+        let version = unless_told (untold_of e.kind e.src) (codes "; ") [] e.key found.0 (gives_wrote e.kind e.src e.dst e.key q found.0 found.1.0 found.1.1) in
+        (event_words h e.key q ++ version.0, (q, found.0, version.0, (found.1.0, found.1.1, λ r w also good. least r (w, (also, good))), version.1, refl))
+
+  edge_events_told : (kind : Kind) (t u k : ℕ) → EdgeOfKind h kind t u k → Told (TellsEvents kind h (record { src = t; kind = kind; dst = u; key = k }))
+  edge_events_told Ww t u k x =
+      let one = version_told k t x.0 in
+      let other = version_told k u x.1 in
+      (one.0 ++ codes "; " ++ other.0, (one.0, other.0, one.1, other.1, refl))
+  edge_events_told Wr t u k x =
+      let one = version_told k t x.1.0 in
+      let other = sight_told (record { src = t; kind = Wr; dst = u; key = k }) x.3 x.4 x.5 (x.6, x.7, x.8) in
+      (one.0 ++ codes "; " ++ other.0, (one.0, other.0, one.1, other.1, refl))
+  edge_events_told Rw t u k x =
+      let one = sight_told (record { src = t; kind = Rw; dst = u; key = k }) x.3 x.4 x.5 (x.6, x.7, x.8) in
+      let other = version_told k u x.2.0 in
+      (one.0 ++ codes "; " ++ other.0, (one.0, other.0, one.1, other.1, refl))
+
+  step_told : (e : Edge) → IsEdge h e → Told (TellsStep h e)
+  step_told e is =
+      let words = edge_events_told e.kind e.src e.dst e.key is in
+      (reason (numeral e.src ++ codes " " ++ edge_word e.kind e.key ++ codes " " ++ numeral e.dst ++ codes ": " ++ words.0), (words.0, words.1, refl))
+
+  round_told : (set : List ℕ) (steps : List Step) (home : ℕ) → GoesRound (IsEdge h) set steps home → Told (TellsAll (TellsStep h) (edges_round steps home))
+  round_told set [] home round = ([], refl)
+  round_told set (s ∷ []) home round = let one = step_told (step_edge s home) round.1.0 in (one.0 ++ [], (one.0, [], one.1, refl, refl))
+  round_told set (s ∷ next ∷ steps) home round =
+      let one = step_told (step_edge s next.txn) round.1.0 in
+      let rest = round_told set (next ∷ steps) home round.2 in
+      (one.0 ++ rest.0, (one.0, rest.0, one.1, rest.1, refl))
+
+  verdict_told : (v : Verdict) → IsVerdict (IsCommitted h) (IsEdge h) v → Told (TellsVerdict h v)
+  verdict_told (Order order) is = ([], refl)
+  verdict_told (Cycle []) is = ([], refl)
+  verdict_told (Cycle (s ∷ steps)) is = round_told is.1.0 (s ∷ steps) s.txn is.1.8
+
+  from_or_not : (t u : ℕ) → Decided ((s : ℕ) × (IsVulnerable h s t × ((u ≡ s) ⊎ CommitsBefore h u s)))
+  from_or_not t u =
+      some_committed h (λ s. IsVulnerable h s t × ((u ≡ s) ⊎ CommitsBefore h u s)) (may_be_or_not t u) (λ s x. source_committed h s t x.0)
+    where
+      may_be_or_not : (t u s : ℕ) → Decided (IsVulnerable h s t × ((u ≡ s) ⊎ CommitsBefore h u s))
+      may_be_or_not t u s = both (IsVulnerable h s t) ((u ≡ s) ⊎ CommitsBefore h u s) (vulnerable_decided h wf s t) (either_decided (u ≡ s) (CommitsBefore h u s) (cases_eq u s) (commits_before_decided h wf u s))
+
+  first_or_not : (t u : ℕ) → Decided (IsFirst h t u)
+  first_or_not t u = elim (three_decided (IsVulnerable h t u) (CommitsBefore h u t) ((s : ℕ) × (IsVulnerable h s t × ((u ≡ s) ⊎ CommitsBefore h u s))) (vulnerable_decided h wf t u) (commits_before_decided h wf u t) (from_or_not t u)) [
+    | inl x ↦ inl (x.0, x.1, x.2.0, x.2.1.0, x.2.1.1)
+    | inr none ↦ inr (λ f. none (f.0, f.1, (f.2, (f.3, f.4))))
+  ]
+
+  has_first_or_not : (t : ℕ) → Decided (HasFirst h t)
+  has_first_or_not t = some_committed h (IsFirst h t) (first_or_not t) (λ u f. target_committed h t u f.0)
+
+  structure_told : (d : Dangerous) → RwEdge h d.first d.pivot d.first_key → RwEdge h d.pivot d.last d.last_key → Told (WithReasons dangerous_line (λ d. TellsAll (TellsStep h) (dangerous_edges d)) d)
+  structure_told d a b =
+      let one = step_told (record { src = d.first; kind = Rw; dst = d.pivot; key = d.first_key }) a in
+      let two = step_told (record { src = d.pivot; kind = Rw; dst = d.last; key = d.last_key }) b in
+      line_told dangerous_line (λ d. TellsAll (TellsStep h) (dangerous_edges d)) d (one.0 ++ (two.0 ++ []), (one.0, two.0 ++ [], one.1, (two.0, [], two.1, refl, refl), refl))
+
+  dangerous_told : IsolationKept h → (t : ℕ) → HasFirst h t → Told (TellsDanger h)
+  dangerous_told kept t has =
+      let (pivot, p) = least_of (HasFirst h) has_first_or_not t has in
+      let (last, l) = least_of (IsFirst h pivot) (first_or_not pivot) p.0.0 p.0.1 in
+      let f = l.0 in
+      let (first, x) = least_of (MayBeFirst h pivot last) (λ s. both (IsVulnerable h s pivot) ((last ≡ s) ⊎ CommitsBefore h last s) (vulnerable_decided h wf s pivot) (either_decided (last ≡ s) (CommitsBefore h last s) (cases_eq last s) (commits_before_decided h wf last s))) f.2 (f.3, f.4) in
+      let (first_key, a) = least_of (RwEdge h first pivot) (edge_decided h wf Rw first pivot) x.0.0.1 x.0.0.2 in
+      let (last_key, b) = least_of (RwEdge h pivot last) (edge_decided h wf Rw pivot last) f.0.1 f.0.2 in
+      let d : Dangerous = record { first = first; first_key = first_key; pivot = pivot; last_key = last_key; last = last } in
+      let told = structure_told d a.0 b.0 in
+      (told.0, inr (kept, d, record { pivot = p; last = l; first = x; first_key = a; last_key = b }, told.1))
+
+  danger_told : Decided (IsolationKept h) → Told (TellsDanger h)
+  danger_told (inr broken) = ([], inl ((λ kept. absurd (broken kept)), refl))
+  danger_told (inl kept) = elim (some_committed h (HasFirst h) has_first_or_not (λ t x. source_committed h t x.0 x.1.0)) [
+    | inl w ↦ dangerous_told kept w.0 w.1
+    | inr none ↦ ([], inl ((λ k t u f. none (t, (u, f))), refl))
+  ]
+
+  pub explained_exists : (a : Account) → IsAccount h a → Decided (IsolationKept h) → Told (IsExplained h a)
+  explained_exists a is kept =
+      let reads = all_told (WithReasons bad_read_line (TellsBadRead h)) a.bad_reads (λ b c. line_told bad_read_line (TellsBadRead h) b (bad_read_told b ((is.bad_reads.each b).0 c).0)) in
+      let writes = all_told (WithReasons bad_write_line (TellsBadWrite h)) a.bad_writes (λ b c. line_told bad_write_line (TellsBadWrite h) b (bad_write_told b ((is.bad_writes.each b).0 c).0)) in
+      let odd = all_told (WithReasons unexplained_line (TellsUnexplained h)) a.unexplained (λ b c. line_told unexplained_line (TellsUnexplained h) b (unexplained_told b ((is.unexplained.each b).0 c).0)) in
+      let danger = danger_told kept in
+      let verdict = line_told verdict_line (TellsVerdict h) a.verdict (verdict_told a.verdict is.verdict) in
+      (_, (reads.0, writes.0, odd.0, danger.0, verdict.0, reads.1, writes.1, odd.1, danger.1, verdict.1, refl))

@@ -1,0 +1,121 @@
+-- What is left of an explained report without its reasons.
+use Rattle.std.proofs.Common.{◌≡◌, ◌==◌, ◌&&◌, ◌+◌, ◌/◌, ◌%◌, inl, inr, ℕ, Bool, true, false, not, cond, List, [], ◌∷◌, ◌++◌, flat_map, take, nat_le, nat_lt, codes, refl, ap, sym, subst, ◌∙◌, append-nil, arith}
+use Rattle.std.proofs.lemmas.Bool.{and_from, and_parts, not_from_false}
+use Rattle.std.proofs.lemmas.Bool.Decides.{nat_tests}
+use Rattle.sia_events.specs.declared.event.Event.{Event}
+use Rattle.sia_events.specs.declared.fault.TextFault.{TextFault}
+use Rattle.sia_events.specs.declared.fault.TextFault.TheVariants.{NoMemory, TextTooLong, Refused}
+use Rattle.sia_events.specs.Locations.{hex_digit, is_plain_shown, shown, shown_byte}
+use Rattle.sia_events.specs.Text.{numeral}
+use Rattle.sia_parts.specs.declared.finding.Kind.TheVariants.{Rw}
+use Rattle.sia_graph.specs.declared.ssi.Dangerous.{Dangerous}
+use Rattle.sia_graph.specs.declared.judgement.Verdict.{Verdict}
+use Rattle.sia_graph.specs.declared.judgement.Verdict.TheVariants.{Order, Cycle}
+use Rattle.si_audit.specs.Account.{Account}
+use Rattle.si_audit.specs.declared.options.Form.TheVariants.{Brief}
+use Rattle.si_audit.specs.Explained.{IsExplained, TellsAll, TellsDanger, TellsVerdict, WithReasons, dangerous_edges, dangerous_line, edges_round}
+use Rattle.si_audit.specs.Lines.{bad_read_line, bad_write_line, edge_word, events_line, is_empty, isolation_line, report_text, serializable_line, ssi_line, unexplained_line, verdict_line}
+use Rattle.si_audit.specs.Reasons.{TellsBadRead, TellsBadWrite, TellsStep, TellsUnexplained}
+use Rattle.si_audit.specs.RefusedPlaces.{TellsToken, place_line}
+use Rattle.si_audit.proofs.OfLaws.ReasonLines.{bad_read_goes, bad_write_goes, step_goes, unexplained_goes}
+use Rattle.si_audit.proofs.OfLaws.ReportLines.{IsUnbroken, bad_read_is, bad_write_is, edge_unbroken, events_is, glued, isolation_is, numeral_unbroken, serializable_is, ssi_is, stays, unexplained_is, verdict_is, words_line}
+use Rattle.si_audit.proofs.OfLaws.TextLines.{IsLine, Leaves, leaves_both, leaves_line, leaves_nothing, unbroken_both}
+
+-- what is told of all, where it is known what is left of what is told of each
+module _ (keep : List ℕ → Bool) where
+  all_left : {A : Type 0} (Tells : A → List ℕ → Type 0) (left : A → List ℕ) → ((x : A) (bytes : List ℕ) → Tells x bytes → Leaves keep bytes (left x)) → (xs : List A) (bytes : List ℕ) → TellsAll Tells xs bytes → Leaves keep bytes (flat_map left xs)
+  all_left Tells left each [] bytes is = subst (λ (b : List ℕ). Leaves keep b []) (sym is) (leaves_nothing keep)
+  all_left Tells left each (x ∷ xs) bytes (one, rest, told, more, is) =
+      subst (λ (b : List ℕ). Leaves keep b (left x ++ flat_map left xs)) (sym is) (leaves_both keep (each x one told) (all_left Tells left each xs rest more))
+
+  all_go : {A : Type 0} (Tells : A → List ℕ → Type 0) → ((x : A) (bytes : List ℕ) → Tells x bytes → Leaves keep bytes []) → (xs : List A) (bytes : List ℕ) → TellsAll Tells xs bytes → Leaves keep bytes []
+  all_go Tells each [] bytes is = subst (λ (b : List ℕ). Leaves keep b []) (sym is) (leaves_nothing keep)
+  all_go Tells each (x ∷ xs) bytes (one, rest, told, more, is) = subst (λ (b : List ℕ). Leaves keep b []) (sym is) (leaves_both keep (each x one told) (all_go Tells each xs rest more))
+
+  -- a line, and reasons that go
+  with_left : {A : Type 0} (line_of : A → List ℕ) (Tells : A → List ℕ → Type 0) (x : A) (stay : Bool) → IsLine (line_of x) → keep (line_of x) ≡ stay → ((bytes : List ℕ) → Tells x bytes → Leaves keep bytes [])
+      → (bytes : List ℕ) → WithReasons line_of Tells x bytes → Leaves keep bytes (cond stay (line_of x) [])
+  with_left line_of Tells x stay line is_kept goes bytes (reasons, told, is) =
+      let both : Leaves keep (line_of x ++ reasons) (cond stay (line_of x) [] ++ []) = leaves_both keep (leaves_line keep (line_of x) stay line is_kept) (goes reasons told) in
+      subst (λ (b : List ℕ). Leaves keep b (cond stay (line_of x) [])) (sym is) (subst (Leaves keep (line_of x ++ reasons)) (append-nil (cond stay (line_of x) [])) both)
+
+abbrev pub told_in_explained : List (List ℕ)
+told_in_explained = codes "dangerous " ∷ codes "  " ∷ []
+
+abbrev keep : List ℕ → Bool
+keep = stays told_in_explained
+
+spaces_go : (w : List ℕ) → keep (codes "  " ++ w) ≡ false
+spaces_go w = refl
+
+verdict_stays : (v : Verdict) → keep (verdict_line v) ≡ true
+verdict_stays (Order []) = refl
+verdict_stays (Order (t ∷ order)) = refl
+verdict_stays (Cycle []) = refl
+verdict_stays (Cycle (s ∷ steps)) = refl
+
+dangerous_is : (d : Dangerous) → IsLine (dangerous_line d)
+dangerous_is d =
+    words_line (codes "dangerous" ∷ numeral d.first ∷ edge_word Rw d.first_key ∷ numeral d.pivot ∷ edge_word Rw d.last_key ∷ numeral d.last ∷ [])
+    (refl, (numeral_unbroken d.first, (edge_unbroken Rw d.first_key, (numeral_unbroken d.pivot, (edge_unbroken Rw d.last_key, (numeral_unbroken d.last, tt))))))
+
+-- the lists that a brief report doesn't have, and nothing where the danger stood
+same_lines : (x s z v : List ℕ) → (((x ++ s) ++ []) ++ z) ++ v ≡ ((((x ++ []) ++ []) ++ s) ++ z) ++ v
+same_lines x s z v = ap (λ (y : List ℕ). (y ++ z) ++ v) (append-nil (x ++ s)) ∙ ap (λ (y : List ℕ). ((y ++ s) ++ z) ++ v) (sym (append-nil (x ++ []) ∙ append-nil x))
+
+module _ (h : List Event) where
+  verdict_goes : (v : Verdict) (bytes : List ℕ) → TellsVerdict h v bytes → Leaves keep bytes []
+  verdict_goes (Order order) bytes is = subst (λ (b : List ℕ). Leaves keep b []) (sym is) (leaves_nothing keep)
+  verdict_goes (Cycle []) bytes is = subst (λ (b : List ℕ). Leaves keep b []) (sym is) (leaves_nothing keep)
+  verdict_goes (Cycle (s ∷ steps)) bytes told = all_go keep (TellsStep h) (step_goes h keep spaces_go) (edges_round (s ∷ steps) s.txn) bytes told
+
+  danger_goes : (bytes : List ℕ) → TellsDanger h bytes → Leaves keep bytes []
+  danger_goes bytes (inl x) = subst (λ (b : List ℕ). Leaves keep b []) (sym x.1) (leaves_nothing keep)
+  danger_goes bytes (inr x) =
+      with_left keep dangerous_line (λ d. TellsAll (TellsStep h) (dangerous_edges d)) x.1 false (dangerous_is x.1) refl
+      (λ b told. all_go keep (TellsStep h) (step_goes h keep spaces_go) (dangerous_edges x.1) b told) bytes x.3
+
+  pub explained_leaves : (a : Account) (bytes : List ℕ) → IsExplained h a bytes → Leaves keep bytes (report_text Brief a)
+  explained_leaves a bytes (reads, writes, unexplained, danger, verdict, told_reads, told_writes, told_unexplained, told_danger, told_verdict, is) =
+      let head = leaves_both keep (leaves_line keep _ true (events_is a.events a.committed a.aborted a.unfinished) refl) (leaves_line keep _ true (isolation_is (is_empty a.bad_reads && is_empty a.bad_writes)) refl) in
+      let some = all_left keep (WithReasons bad_read_line (TellsBadRead h)) bad_read_line (λ x. with_left keep bad_read_line (TellsBadRead h) x true (bad_read_is x) refl (bad_read_goes h keep spaces_go x)) a.bad_reads reads told_reads in
+      let more = all_left keep (WithReasons bad_write_line (TellsBadWrite h)) bad_write_line (λ x. with_left keep bad_write_line (TellsBadWrite h) x true (bad_write_is x) refl (bad_write_goes h keep spaces_go x)) a.bad_writes writes told_writes in
+      let rest = all_left keep (WithReasons unexplained_line (TellsUnexplained h)) unexplained_line (λ x. with_left keep unexplained_line (TellsUnexplained h) x true (unexplained_is x) refl (unexplained_goes h keep spaces_go x)) a.unexplained unexplained told_unexplained in
+      let found = leaves_both keep (leaves_both keep (leaves_both keep head some) more) rest in
+      let tested = leaves_both keep (leaves_both keep found (leaves_line keep _ true (ssi_is a.pass) refl)) (danger_goes danger told_danger) in
+      let settled = with_left keep verdict_line (TellsVerdict h) a.verdict true (verdict_is a.verdict) (verdict_stays a.verdict) (verdict_goes a.verdict) verdict told_verdict in
+      let all = leaves_both keep (leaves_both keep tested (leaves_line keep _ true (serializable_is a.serializable) refl)) settled in
+      subst (λ (b : List ℕ). Leaves keep b (report_text Brief a)) (sym is)
+      (subst (Leaves keep _) (same_lines (events_line a.events a.committed a.aborted a.unfinished ++ isolation_line (is_empty a.bad_reads && is_empty a.bad_writes) ++ flat_map bad_read_line a.bad_reads ++ flat_map bad_write_line a.bad_writes ++ flat_map unexplained_line a.unexplained) (ssi_line a.pass) (serializable_line a.serializable) (verdict_line a.verdict)) all)
+
+-- a digit of a byte that is shown by its number
+hex_unbroken : (n : ℕ) → not (hex_digit n == 10) ≡ true
+hex_unbroken n = by_test (nat_lt n 10)
+  where
+    by_test : (b : Bool) → not (cond b (48 + n) (87 + n) == 10) ≡ true
+    by_test true = not_from_false (48 + n == 10) (let other : (48 + n == 10) ≡ false = grind (arith, nat_tests) in other)
+    by_test false = not_from_false (87 + n == 10) (let other : (87 + n == 10) ≡ false = grind (arith, nat_tests) in other)
+
+byte_unbroken : (c : ℕ) → IsUnbroken (shown_byte c)
+byte_unbroken c = by_test (is_plain_shown c) refl
+  where
+    by_test : (b : Bool) → is_plain_shown c ≡ b → IsUnbroken (cond b (c ∷ []) (92 ∷ 120 ∷ hex_digit (c / 16) ∷ hex_digit (c % 16) ∷ []))
+    by_test true e =
+        let plain : nat_le 33 c ≡ true = (and_parts (nat_le 33 c) (nat_le c 126) (and_parts (nat_le 33 c && nat_le c 126) (not (c == 92)) e).0).0 in
+        let other : (c == 10) ≡ false = grind (arith, nat_tests) in
+        and_from _ _ (not_from_false (c == 10) other) refl
+    by_test false e = and_from _ _ (hex_unbroken (c / 16)) (and_from _ _ (hex_unbroken (c % 16)) refl)
+
+shown_unbroken : (bs : List ℕ) → IsUnbroken (flat_map shown_byte bs)
+shown_unbroken [] = refl
+shown_unbroken (c ∷ bs) = unbroken_both (shown_byte c) (flat_map shown_byte bs) (byte_unbroken c) (shown_unbroken bs)
+
+pub place_goes : (text : List ℕ) (fault : TextFault) (bytes : List ℕ) → TellsToken text fault bytes → Leaves keep bytes []
+place_goes text NoMemory bytes is = subst (λ (b : List ℕ). Leaves keep b []) (sym is) (leaves_nothing keep)
+place_goes text TextTooLong bytes is = subst (λ (b : List ℕ). Leaves keep b []) (sym is) (leaves_nothing keep)
+place_goes text (Refused n why) bytes (row, column, token, at, is) =
+    subst (λ (b : List ℕ). Leaves keep b []) (sym is) (leaves_line keep (place_line row column token) false (
+      codes "  line " ++ numeral row ++ codes ", column " ++ numeral column ++ codes ": " ++ shown token,
+      glued (codes "  line ") (numeral row ∷ codes ", column " ∷ numeral column ∷ codes ": " ∷ shown token ∷ []) refl (numeral_unbroken row, (refl, (numeral_unbroken column, (refl, (shown_unbroken (take 60 token), tt))))),
+      refl,
+    ) refl)

@@ -1,0 +1,61 @@
+-- Lists that are written one after another.
+use Rattle.std.specs.Prelude.{◌&&◌}
+use Rattle.sia_parts.specs.declared.finding.BadRead.{BadRead}
+use Rattle.sia_parts.specs.declared.finding.BadWrite.{BadWrite}
+use Rattle.sia_parts.specs.declared.finding.Unexplained.{Unexplained}
+use Rattle.sia_parts.specs.declared.finding.Edge.{Edge}
+use Rattle.sia_graph.specs.declared.pivot.Pivot.{Pivot}
+use Rattle.si_audit.specs.Lines.{is_empty, isolation_line, bad_read_line, bad_write_line, unexplained_line, edge_line, pivot_line}
+use Rattle.std.proofs.Common.{◌≡◌, ℕ, ◌+◌, ◌<◌, List, [], ◌∷◌, ◌++◌, length, take, flat_map, get_or, ap, sym, ◌∙◌, append_assoc, append-nil, refl, arith}
+use Rattle.std.proofs.lemmas.Grind.{flat_map-append}
+use Rattle.std.proofs.lemmas.List.{take_more, flat_map_more}
+use Rattle.si_audit.specs.Explained.{TellsAll, WithReasons}
+use Rattle.si_audit.proofs.Shared.Telling.{lines_alone}
+
+-- one more after what was written
+pub then : (o m n y : List ℕ) → n ≡ m ++ y → m ≡ o → n ≡ o ++ y
+then o m n y step before = step ∙ ap (λ (xs : List ℕ). xs ++ y) before
+
+pub four_written : (o a b c d : List ℕ) → (((o ++ a) ++ b) ++ c) ++ d ≡ o ++ ((a ++ b ++ c) ++ d)
+four_written o a b c d = simp append_assoc
+
+pub report_written : (o a b c d e f g s z v : List ℕ) → o ++ a ++ b ++ c ++ d ++ e ++ f ++ g ++ s ++ z ++ v ≡ o ++ (a ++ b ++ c ++ d ++ e ++ f ++ g ++ s ++ z ++ v)
+report_written o a b c d e f g s z v = simp append_assoc
+
+-- what stands before the edges, where no reasons are wanted
+pub front_alone : (o a b n r w u : List ℕ) (reads : List BadRead) (writes : List BadWrite) (odd : List Unexplained)
+    → TellsAll (WithReasons bad_read_line (λ x below. below ≡ [])) reads r → TellsAll (WithReasons bad_write_line (λ x below. below ≡ [])) writes w
+    → TellsAll (WithReasons unexplained_line (λ x below. below ≡ [])) odd u → n ≡ o ++ a ++ b ++ r ++ w ++ u
+    → n ≡ o ++ a ++ b ++ flat_map bad_read_line reads ++ flat_map bad_write_line writes ++ flat_map unexplained_line odd
+front_alone o a b n r w u reads writes odd some others rest all =
+    let first = lines_alone bad_read_line reads r some in
+    let second = lines_alone bad_write_line writes w others in
+    let third = lines_alone unexplained_line odd u rest in
+    all ∙ (λ i. o ++ a ++ b ++ first i ++ second i ++ third i)
+
+-- what stands before the edges, these, and what stands behind them
+pub report_of_pieces : (o m n r a s z v : List ℕ) (reads : List BadRead) (writes : List BadWrite) (odd : List Unexplained) (edges : List Edge) (pivots : List Pivot)
+    → m ≡ o ++ a ++ isolation_line (is_empty reads && is_empty writes) ++ flat_map bad_read_line reads ++ flat_map bad_write_line writes ++ flat_map unexplained_line odd
+    → n ≡ m ++ flat_map edge_line edges
+    → r ≡ n ++ flat_map pivot_line pivots ++ s ++ z ++ v
+    → r ≡ o ++ (a ++ isolation_line (is_empty reads && is_empty writes) ++ flat_map bad_read_line reads ++ flat_map bad_write_line writes ++ flat_map unexplained_line odd
+    ++ flat_map edge_line edges ++ flat_map pivot_line pivots ++ s ++ z ++ v)
+report_of_pieces o m n r a s z v reads writes odd edges pivots front middle back =
+    back ∙ ap (λ (xs : List ℕ). xs ++ flat_map pivot_line pivots ++ s ++ z ++ v) (middle ∙ ap (λ (xs : List ℕ). xs ++ flat_map edge_line edges) front)
+    ∙ report_written o a (isolation_line (is_empty reads && is_empty writes)) (flat_map bad_read_line reads) (flat_map bad_write_line writes) (flat_map unexplained_line odd) (flat_map edge_line edges) (flat_map pivot_line pivots) s z v
+
+-- the line of the next thing in a list
+pub next_line : {X : Type 0} (f : X → List ℕ) (o m n : List ℕ) (xs : List X) (i : ℕ) (d : X) → i < length xs → n ≡ m ++ f (get_or xs i d) → m ≡ o ++ flat_map f (take i xs) → n ≡ o ++ flat_map f (take (i + 1) xs)
+next_line f o m n xs i d inside step before =
+    then (o ++ flat_map f (take i xs)) m n (f (get_or xs i d)) step before
+    ∙ flat_map_more f o (take i xs) (get_or xs i d)
+    ∙ ap (λ ys. o ++ flat_map f ys) (sym (take_more xs i d inside))
+
+-- what one more thing brings
+pub one_more_mapped : {X Y : Type 0} (f : X → List Y) (xs : List X) (x : X) → flat_map f (xs ++ x ∷ []) ≡ flat_map f xs ++ f x
+one_more_mapped {X} {Y} f xs x = flat_map-append f xs (x ∷ []) ∙ ap (λ (ys : List Y). flat_map f xs ++ ys) (append-nil (f x))
+
+-- what has no length is nothing
+pub nothing_left : {A : Type 0} (xs : List A) → length xs ≡ 0 → xs ≡ []
+nothing_left {A} [] none = refl
+nothing_left {A} (x ∷ xs) none = absurd (omega arith)

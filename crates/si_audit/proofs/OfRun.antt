@@ -1,0 +1,2 @@
+pub mod OfSource
+pub mod ReadSoFar

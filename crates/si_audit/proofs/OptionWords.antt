@@ -1,0 +1,4 @@
+pub mod ArgumentsFor
+pub mod NumberedOptions
+pub mod NumbersGiven
+pub mod TakenWords

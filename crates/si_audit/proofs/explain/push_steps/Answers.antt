@@ -1,0 +1,32 @@
+-- Words that are pushed one after another.
+use Rattle.std.proofs.Common.{ℕ, List, [], ◌∷◌, ◌++◌, ◌∙◌, get_or, refl}
+use Rattle.std.specs.Prelude.{codes}
+use Rattle.sia_events.specs.Text.{numeral}
+use Rattle.sia_parts.specs.declared.finding.Edge.{Edge}
+use Rattle.sia_parts.specs.declared.finding.Kind.TheVariants.{Ww}
+use Rattle.si_audit.specs.Lines.{edge_word}
+use Rattle.si_audit.specs.Reasons.{TellsStep, reason}
+use Rattle.si_audit.specs.Spaced.{spaced}
+use Rattle.si_audit.proofs.Shared.Pushed.{step_words_behind}
+use Rattle.si_audit.proofs.Shared.Telling.{next_told}
+use Rattle.si_audit.proofs.explain.push_steps.Goals as goal
+
+pub push_events-requires : goal.push_events-requires
+push_events-requires c = record {
+  index = c.requires.index;
+  acts = c.requires.acts;
+  edge = c.requires.edges c.loop-e.e-index _ c.loop-e-test.true;
+}
+
+pub loop-e-preserved : goal.loop-e-preserved
+loop-e-preserved c =
+    let e : Edge = get_or c.args.edges.now c.loop-e.e-index (record { src = 0; dst = 0; kind = Ww; key = 0 }) in
+    let told = c.in_ok-push_events.ensures in
+    let words : List (List ℕ) → ℕ → List ℕ =
+    λ src dst. c.loop-e.out.items ++ spaced ([] ∷ (src ++ edge_word e.kind e.key ∷ (numeral dst ++ codes ":") ∷ [] ∷ [])) in
+    next_told (TellsStep c.args.of.now.history.now) c.args.edges.now c.loop-e.e-index _ _ _ _ c.loop-e-test.true c.loop-e.invariant (
+      reason (numeral e.src ++ codes " " ++ edge_word e.kind e.key ++ codes " " ++ numeral e.dst ++ codes ": " ++ told.0),
+      (told.0, told.1, refl),
+      step_words_behind c.loop-e.out.items (codes "  ") (numeral e.src) (codes " ") (edge_word e.kind e.key) (numeral e.dst) (codes ":") told.0 (codes "\n") _ _ _
+          (c.in_ok-push_words.ensures ∙ (λ i. words (c.number.ensures i) (c.from.ensures i))) told.2 c.in_ok-extend_from_slice.ensures.items,
+    )

@@ -1,0 +1,49 @@
+use Rattle.std.proofs.Common.{◌≡◌, List, Option, Some, None, Bor, get_or, subst}
+use Rattle.std.specs.Prelude.{All, Contains, IfSome}
+use Rattle.std.proofs.lemmas.List.Elements.{All-contains_itself}
+use Rattle.sia_parts.specs.declared.reasons.Recorded.{Recorded}
+use Rattle.si_audit.proofs.Shared.Pushed.{findings_pushed}
+use Rattle.si_audit.proofs.Shared.Results.{ok_map}
+use Rattle.si_audit.proofs.report.push_front.Goals as goal
+
+-- what holds of all that is listed, where reasons are wanted
+all_found : {A : Type 0} (of : Option (Bor Recorded)) (P : Bor Recorded → Type 0) (Q : Bor Recorded → A → Type 0) (items xs : List A)
+    → xs ≡ items → ((of : Bor Recorded) → P of → (x : A) → Contains items x → Q of x) → IfSome of P → IfSome of (λ of. All (Q of) xs)
+all_found None P Q items xs same each none = none
+all_found (Some of) P Q items xs same each some =
+    λ k d below. each of some (get_or xs k d) (subst (λ l. Contains l (get_or xs k d)) same (All-contains_itself xs k d below))
+
+pub push_all-requires-clause-index : goal.push_all-requires-clause-index
+push_all-requires-clause-index c = c.requires.index
+
+pub push_all-requires-clause-found : goal.push_all-requires-clause-found
+push_all-requires-clause-found c = all_found c.args.of _ _ _ _ c.deref-3.ensures.value (λ of is x listed. ((is.bad_reads.each x).0 listed).0) c.requires.judgement
+
+pub push_all-requires-2-clause-index : goal.push_all-requires-2-clause-index
+push_all-requires-2-clause-index c = c.requires.index
+
+pub push_all-requires-2-clause-found : goal.push_all-requires-2-clause-found
+push_all-requires-2-clause-found c = all_found c.args.of _ _ _ _ c.deref-4.ensures.value (λ of is x listed. ((is.bad_writes.each x).0 listed).0) c.requires.judgement
+
+pub push_all-requires-3-clause-index : goal.push_all-requires-3-clause-index
+push_all-requires-3-clause-index c = c.requires.index
+
+pub push_all-requires-3-clause-found : goal.push_all-requires-3-clause-found
+push_all-requires-3-clause-found c = all_found c.args.of _ _ _ _ c.deref-5.ensures.value (λ of is x listed. ((is.unexplained.each x).0 listed).0) c.requires.judgement
+
+pub returns : goal.returns
+returns c =
+    let head = rw (c.deref.ensures.value, c.deref-2.ensures.value) at c.in_ok-push_head.ensures in
+    let reads = rw c.deref-3.ensures.value at c.in_ok-push_all.ensures in
+    let writes = rw c.deref-4.ensures.value at c.in_ok-push_all-2.ensures in
+    ok_map _ _ c.push_all-3.result
+    (λ x others. (
+      reads.0,
+      writes.0,
+      others.0,
+      reads.1,
+      writes.1,
+      others.1,
+      findings_pushed c.args.out.now.items _ _ _ _ _ _ _ _ _ head reads.2 writes.2 others.2,
+    ))
+    (rw c.deref-5.ensures.value at c.push_all-3.ensures)

@@ -1,0 +1,5 @@
+pub mod Distinct
+pub mod Finders
+pub mod Lived
+pub mod Logs
+pub mod OwnWrites

@@ -1,0 +1,17 @@
+pub mod Anomalies
+pub mod Closures
+pub mod Due
+pub mod Endings
+pub mod Histories
+pub mod Looks
+pub mod NamedStarts
+pub mod NarrowEdges
+pub mod OneRefusal
+pub mod RoundTrips
+pub mod SawDecisions
+pub mod Seen
+pub mod Shortest
+pub mod StartsBelow
+pub mod Unspelling
+pub mod Unwritten
+pub mod Versions

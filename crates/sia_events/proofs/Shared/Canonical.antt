@@ -1,0 +1,125 @@
+-- The tokens of the canonical text are the spellings.
+use Rattle.std.proofs.Common.{◌≡◌, ℕ, ◌≤◌, Option, Some, None, true, false, cond, List, [], ◌∷◌, ◌++◌, map, refl, ap, sym, subst, ◌∙◌, arith}
+use Rattle.std.specs.List.{join_with_byte, AllByRecursion}
+use Rattle.std.proofs.lemmas.Bool.Decides.{nat_tests}
+use Rattle.sia_events.specs.declared.event.Event.{Event}
+use Rattle.sia_events.specs.declared.event.Event.TheVariants.{Begin, Read, Range, Write, Commit, Abort}
+use Rattle.sia_events.specs.Text.{numeral, spell, is_separator, goes_on, onto_first, with_byte, tokens, canonical}
+use Rattle.sia_events.proofs.Shared.Numerals.{IsDigit, AreDigits, numeral-digits}
+use Rattle.sia_events.proofs.Shared.Spelling.{pairs_text, list_text, start_text, event_text, regrouped, spell_injective}
+
+-- no byte is a separator
+abbrev pub HasNoSeparator : List ℕ → Type 0
+HasNoSeparator bs = AllByRecursion (λ c. is_separator c ≡ false) bs
+
+pub HasNoSeparator-append : (xs ys : List ℕ) → HasNoSeparator xs → HasNoSeparator ys → HasNoSeparator (xs ++ ys)
+HasNoSeparator-append [] ys p q = q
+HasNoSeparator-append (x ∷ xs) ys p q = (p.0, HasNoSeparator-append xs ys p.1 q)
+
+digit_unbroken : (c : ℕ) → IsDigit c → is_separator c ≡ false
+digit_unbroken c d = let low : 48 ≤ c = d.0 in grind (arith, nat_tests)
+
+digits_unbroken : (bs : List ℕ) → AreDigits bs → HasNoSeparator bs
+digits_unbroken [] d = tt
+digits_unbroken (c ∷ bs) d = (digit_unbroken c d.0, digits_unbroken bs d.1)
+
+-- a numeral, and bytes after it
+numeral_unbroken : (n : ℕ) (ys : List ℕ) → HasNoSeparator ys → HasNoSeparator (numeral n ++ ys)
+numeral_unbroken n ys p = HasNoSeparator-append (numeral n) ys (digits_unbroken (numeral n) (numeral-digits n)) p
+
+pairs_unbroken : (p : ℕ × ℕ) (ps : List (ℕ × ℕ)) (after : List ℕ) → HasNoSeparator after → HasNoSeparator (pairs_text p ps after)
+pairs_unbroken p [] after a = numeral_unbroken p.0 (58 ∷ (numeral p.1 ++ after)) (refl, numeral_unbroken p.1 after a)
+pairs_unbroken p (q ∷ ps) after a = numeral_unbroken p.0 (58 ∷ (numeral p.1 ++ (44 ∷ pairs_text q ps after))) (refl, numeral_unbroken p.1 (44 ∷ pairs_text q ps after) (refl, pairs_unbroken q ps after a))
+
+list_unbroken : (ps : List (ℕ × ℕ)) → HasNoSeparator (list_text ps)
+list_unbroken [] = (refl, tt)
+list_unbroken (p ∷ ps) = (refl, pairs_unbroken p ps (93 ∷ []) (refl, tt))
+
+start_unbroken : (start : Option ℕ) → HasNoSeparator (start_text start)
+start_unbroken None = tt
+start_unbroken (Some n) = (refl, numeral_unbroken n [] tt)
+
+event_unbroken : (e : Event) → HasNoSeparator (event_text e)
+event_unbroken (Begin t start) = (refl, numeral_unbroken t (start_text start) (start_unbroken start))
+event_unbroken (Read t k v) = (refl, numeral_unbroken t (91 ∷ (numeral k ++ (58 ∷ (numeral v ++ (93 ∷ []))))) (refl, numeral_unbroken k (58 ∷ (numeral v ++ (93 ∷ []))) (refl, numeral_unbroken v (93 ∷ []) (refl, tt))))
+event_unbroken (Range t lo hi listed) = (refl, numeral_unbroken t (91 ∷ (numeral lo ++ (46 ∷ 46 ∷ (numeral hi ++ list_text listed)))) (refl, numeral_unbroken lo (46 ∷ 46 ∷ (numeral hi ++ list_text listed)) (refl, (refl, numeral_unbroken hi (list_text listed) (list_unbroken listed)))))
+event_unbroken (Write t k) = (refl, numeral_unbroken t (91 ∷ (numeral k ++ (93 ∷ []))) (refl, numeral_unbroken k (93 ∷ []) (refl, tt)))
+event_unbroken (Commit t) = (refl, numeral_unbroken t [] tt)
+event_unbroken (Abort t) = (refl, numeral_unbroken t [] tt)
+
+-- a token: it isn't empty
+abbrev pub IsToken : List ℕ → Type 0
+IsToken [] = ⊥
+IsToken (c ∷ cs) = HasNoSeparator (c ∷ cs)
+
+token_of_text : (e : Event) → IsToken (event_text e)
+token_of_text (Begin t start) = event_unbroken (Begin t start)
+token_of_text (Read t k v) = event_unbroken (Read t k v)
+token_of_text (Range t lo hi listed) = event_unbroken (Range t lo hi listed)
+token_of_text (Write t k) = event_unbroken (Write t k)
+token_of_text (Commit t) = event_unbroken (Commit t)
+token_of_text (Abort t) = event_unbroken (Abort t)
+
+pub spell_token : (e : Event) → IsToken (spell e)
+spell_token e = subst IsToken (sym (regrouped e)) (token_of_text e)
+
+-- a byte at the end of a token, and before more of one
+pub ends_token : (c : ℕ) (after : List ℕ) (ts : List (List ℕ)) → is_separator c ≡ false → goes_on after ≡ false → with_byte c after ts ≡ (c ∷ []) ∷ ts
+ends_token c after ts p q = ap (λ b. cond b ts (cond (goes_on after) (onto_first c ts) ((c ∷ []) ∷ ts))) p ∙ ap (λ b. cond b (onto_first c ts) ((c ∷ []) ∷ ts)) q
+
+pub goes_on_token : (c : ℕ) (after : List ℕ) (ts : List (List ℕ)) → is_separator c ≡ false → goes_on after ≡ true → with_byte c after ts ≡ onto_first c ts
+goes_on_token c after ts p q = ap (λ b. cond b ts (cond (goes_on after) (onto_first c ts) ((c ∷ []) ∷ ts))) p ∙ ap (λ b. cond b (onto_first c ts) ((c ∷ []) ∷ ts)) q
+
+pub goes_on_unbroken : (d : ℕ) (ds : List ℕ) → is_separator d ≡ false → goes_on (d ∷ ds) ≡ true
+goes_on_unbroken d ds p = ap (λ b. cond b false true) p
+
+-- a token and what follows it: nothing, or a space and more
+first_token : (w rest : List ℕ) → IsToken w → tokens (w ++ (32 ∷ rest)) ≡ w ∷ tokens rest
+first_token [] rest t = absurd t
+first_token (c ∷ []) rest t = ends_token c (32 ∷ rest) (tokens rest) t.0 refl
+first_token (c ∷ d ∷ w) rest t =
+    goes_on_token c (d ∷ (w ++ (32 ∷ rest))) (tokens (d ∷ (w ++ (32 ∷ rest)))) t.0 (goes_on_unbroken d (w ++ (32 ∷ rest)) t.1.0)
+    ∙ ap (onto_first c) (first_token (d ∷ w) rest t.1)
+
+only_token : (w : List ℕ) → IsToken w → tokens w ≡ w ∷ []
+only_token [] t = absurd t
+only_token (c ∷ []) t = ends_token c [] [] t.0 refl
+only_token (c ∷ d ∷ w) t =
+    goes_on_token c (d ∷ w) (tokens (d ∷ w)) t.0 (goes_on_unbroken d w t.1.0)
+    ∙ ap (onto_first c) (only_token (d ∷ w) t.1)
+
+tokens_joined : (ws : List (List ℕ)) → AllByRecursion IsToken ws → tokens (join_with_byte 32 ws) ≡ ws
+tokens_joined [] a = refl
+tokens_joined (w ∷ []) a = only_token w a.0
+tokens_joined (w ∷ v ∷ ws) a = first_token w (join_with_byte 32 (v ∷ ws)) a.0 ∙ ap (λ ts. w ∷ ts) (tokens_joined (v ∷ ws) a.1)
+
+spellings_tokens : (h : List Event) → AllByRecursion IsToken (map spell h)
+spellings_tokens [] = tt
+spellings_tokens (e ∷ h) = (spell_token e, spellings_tokens h)
+
+-- the canonical text stands for its history
+pub canonical_stands : (h : List Event) → tokens (canonical h) ≡ map spell h
+canonical_stands h = tokens_joined (map spell h) (spellings_tokens h)
+
+pub spellings_injective : (g h : List Event) → ◌≡◌ {A = List (List ℕ)} (map spell g) (map spell h) → g ≡ h
+spellings_injective [] [] p = refl
+spellings_injective [] (f ∷ h) p = cc
+spellings_injective (e ∷ g) [] p = cc
+spellings_injective (e ∷ g) (f ∷ h) p =
+    let first : spell e ≡ spell f = ap first_of p in
+    let rest : ◌≡◌ {A = List (List ℕ)} (map spell g) (map spell h) = ap rest_of p in
+    let a = spell_injective e f first in
+    let b = spellings_injective g h rest in
+    λ i. a i ∷ b i
+  where
+    first_of : List (List ℕ) → List ℕ
+    first_of [] = []
+    first_of (x ∷ xs) = x
+
+    rest_of : List (List ℕ) → List (List ℕ)
+    rest_of [] = []
+    rest_of (x ∷ xs) = xs
+
+-- no two histories have one canonical text
+pub one_text : (g h : List Event) → canonical g ≡ canonical h → g ≡ h
+one_text g h p = spellings_injective g h (sym (canonical_stands g) ∙ ap tokens p ∙ canonical_stands h)

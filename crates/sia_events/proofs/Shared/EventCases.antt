@@ -1,0 +1,209 @@
+-- What becomes of a token: it has no form, or it spells an event, whose numbers are in their ranges or not.
+use Rattle.std.proofs.Common.{◌≡◌, ◌≢◌, ◌⊎◌, inl, inr, ℕ, ◌<◌, ◌^◌, Bool, true, false, List, [], ◌∷◌, ◌++◌, Some, None, Result, Ok, Err, refl, ap, sym, ◌∙◌, arith, nat_lt}
+use Rattle.std.specs.Prelude.{◌==◌}
+use Rattle.std.specs.List.{AllByRecursion}
+use Rattle.std.proofs.lemmas.Bool.{eqb-true, cases_lt}
+use Rattle.std.proofs.lemmas.Bool.Decides.{nat_tests}
+use Rattle.std.proofs.lemmas.List.Elements.{All-from_recursion, recursion_from_All}
+use Rattle.sia_events.specs.Text.{numeral, spell}
+use Rattle.sia_events.specs.declared.event.Event.{Event}
+use Rattle.sia_events.specs.declared.event.Event.TheVariants.{Begin, Read, Range, Write, Commit, Abort}
+use Rattle.sia_events.specs.declared.fault.Reason.{Reason}
+use Rattle.sia_events.specs.declared.fault.Reason.TheVariants.{BadEvent, BadNumber}
+use Rattle.sia_events.specs.Refusals.{IsTxn, IsKey, IsVersion, IsStart, IsInRange}
+use Rattle.sia_events.specs.Parsing.{narrow, key_of, version_of, txn_of, list_of, event_at}
+use Rattle.sia_events.proofs.Shared.Spelling.{event_text, regrouped}
+use Rattle.sia_events.proofs.TokensRead.Digits.{narrow_small, narrow_great}
+use Rattle.sia_events.proofs.Shared.NumberLaws.{BeginsWith, number_cases}
+use Rattle.sia_events.proofs.Shared.EventLaws.{Lacks, narrow_pair, narrow_list, begin_sound, read_sound, write_sound, commit_sound, abort_sound}
+use Rattle.sia_events.proofs.Shared.EventAgain.{in_ranges, event_again}
+
+-- ---- a token that is read has the text of an event
+
+abbrev HasText : List ℕ → Type 0
+HasText w = Lacks (event_at w) ⊎ ((e : Event) × (w ≡ event_text e))
+
+event_found : (w : List ℕ) → HasText w
+unfolding event_at
+event_found [] = inl refl
+event_found (letter ∷ bytes) = elim (number_cases bytes) [
+  | inl e ↦ inl (rw e refl)
+  | inr n ↦ by_begin n.0 n.1 n.2 (letter == 98) refl
+]
+  where
+    spelled : (l : ℕ) (n : ℕ) (rest more : List ℕ) → BeginsWith bytes n rest → (letter == l) ≡ true → rest ≡ more → letter ∷ bytes ≡ l ∷ (numeral n ++ more)
+    spelled l n rest more h p e = let same : letter ≡ l = eqb-true letter l p in (λ i. same i ∷ (h.whole ∙ ap (λ (xs : List ℕ). numeral n ++ xs) e) i)
+
+    by_abort : (n : ℕ) (rest : List ℕ) → BeginsWith bytes n rest → (letter == 98) ≡ false → (letter == 114) ≡ false → (letter == 119) ≡ false → (letter == 99) ≡ false → (b : Bool) → (letter == 97) ≡ b → HasText (letter ∷ bytes)
+    by_abort n rest h p q r s true e = elim (abort_sound (narrow n) rest) [
+      | inl bad ↦ inl (rw (h.read, p, q, r, s, e) bad)
+      | inr end ↦ inr (Abort n, spelled 97 n rest [] h e end)
+    ]
+    by_abort n rest h p q r s false e = inl (rw (h.read, p, q, r, s, e) refl)
+
+    by_commit : (n : ℕ) (rest : List ℕ) → BeginsWith bytes n rest → (letter == 98) ≡ false → (letter == 114) ≡ false → (letter == 119) ≡ false → (b : Bool) → (letter == 99) ≡ b → HasText (letter ∷ bytes)
+    by_commit n rest h p q r true e = elim (commit_sound (narrow n) rest) [
+      | inl bad ↦ inl (rw (h.read, p, q, r, e) bad)
+      | inr end ↦ inr (Commit n, spelled 99 n rest [] h e end)
+    ]
+    by_commit n rest h p q r false e = by_abort n rest h p q r e (letter == 97) refl
+
+    by_write : (n : ℕ) (rest : List ℕ) → BeginsWith bytes n rest → (letter == 98) ≡ false → (letter == 114) ≡ false → (b : Bool) → (letter == 119) ≡ b → HasText (letter ∷ bytes)
+    by_write n rest h p q true e = elim (write_sound (narrow n) rest) [
+      | inl bad ↦ inl (rw (h.read, p, q, e) bad)
+      | inr w ↦ inr (Write n w.0, spelled 119 n rest _ h e w.1)
+    ]
+    by_write n rest h p q false e = by_commit n rest h p q e (letter == 99) refl
+
+    by_read : (n : ℕ) (rest : List ℕ) → BeginsWith bytes n rest → (letter == 98) ≡ false → (b : Bool) → (letter == 114) ≡ b → HasText (letter ∷ bytes)
+    by_read n rest h p true e = elim (read_sound (narrow n) rest) [
+      | inl bad ↦ inl (rw (h.read, p, e) bad)
+      | inr (inl i) ↦ inr (Read n i.0 i.1, spelled 114 n rest _ h e i.2)
+      | inr (inr i) ↦ inr (Range n i.0 i.1 i.2, spelled 114 n rest _ h e i.3)
+    ]
+    by_read n rest h p false e = by_write n rest h p e (letter == 119) refl
+
+    by_begin : (n : ℕ) (rest : List ℕ) → BeginsWith bytes n rest → (b : Bool) → (letter == 98) ≡ b → HasText (letter ∷ bytes)
+    by_begin n rest h true e = elim (begin_sound (narrow n) rest) [
+      | inl bad ↦ inl (rw (h.read, e) bad)
+      | inr s ↦ inr (Begin n s.0, spelled 98 n rest _ h e s.1)
+    ]
+    by_begin n rest h false e = by_read n rest h e (letter == 114) refl
+
+-- ---- numbers in their ranges, or not
+
+key_cases : (k : ℕ) → ((key_of (narrow k) ≡ Ok k) × IsKey k) ⊎ ((key_of (narrow k) ≡ Err BadNumber) × ¬ IsKey k)
+unfolding key_of
+key_cases k = elim (cases_lt k (2 ^ 64)) [
+  | inl less ↦ inl (rw (narrow_small k less) refl, less)
+  | inr more ↦ inr (rw (narrow_great k more) refl, λ less. omega arith)
+]
+
+version_cases : (v : ℕ) → ((version_of (narrow v) ≡ Ok v) × IsVersion v) ⊎ ((version_of (narrow v) ≡ Err BadNumber) × ¬ IsVersion v)
+unfolding version_of
+version_cases v = elim (cases_lt v (2 ^ 64)) [
+  | inl less ↦ elim (cases_lt v (2 ^ 32)) [
+    | inl small ↦ let e : nat_lt v (2 ^ 32) ≡ true = grind (arith, nat_tests) in inl (rw (narrow_small v less, e) refl, small)
+    | inr great ↦ let e : nat_lt v (2 ^ 32) ≡ false = grind (arith, nat_tests) in inr (rw (narrow_small v less, e) refl, λ small. omega arith)
+  ]
+  | inr more ↦ inr (rw (narrow_great v more) refl, λ less. omega arith)
+]
+
+txn_cases : (t : ℕ) → ((txn_of (narrow t) ≡ Ok t) × IsTxn t) ⊎ ((txn_of (narrow t) ≡ Err BadNumber) × ¬ IsTxn t)
+unfolding txn_of
+txn_cases t = elim (version_cases t) [
+  | inl v ↦ elim (cases_lt 0 t) [
+    | inl some ↦ let e : (t == 0) ≡ false = grind (arith, nat_tests) in inl (rw (v.0, e) refl, (some, v.1))
+    | inr none ↦ let e : (t == 0) ≡ true = grind (arith, nat_tests) in inr (rw (v.0, e) refl, λ is. (let positive : 0 < t = is.0 in omega arith))
+  ]
+  | inr v ↦ inr (rw v.0 refl, λ is. v.1 is.1)
+]
+
+abbrev ArePairs : List (ℕ × ℕ) → Type 0
+ArePairs ps = AllByRecursion (λ p. IsKey p.0 × IsVersion p.1) ps
+
+pair_cases : (p : ℕ × ℕ) → ((narrow_pair p ≡ Some p) × IsKey p.0 × IsVersion p.1) ⊎ ((narrow_pair p ≡ None) × ¬ (IsKey p.0 × IsVersion p.1))
+pair_cases p = elim (cases_lt p.0 (2 ^ 64)) [
+  | inl key ↦ elim (cases_lt p.1 (2 ^ 64)) [
+    | inl less ↦ elim (cases_lt p.1 (2 ^ 32)) [
+      | inl small ↦ let e : nat_lt p.1 (2 ^ 32) ≡ true = grind (arith, nat_tests) in inl (rw (narrow_small p.0 key, narrow_small p.1 less, e) refl, key, small)
+      | inr great ↦ let e : nat_lt p.1 (2 ^ 32) ≡ false = grind (arith, nat_tests) in inr (rw (narrow_small p.0 key, narrow_small p.1 less, e) refl, λ is. (let small : p.1 < 2 ^ 32 = is.1 in omega arith))
+    ]
+    | inr more ↦ inr (rw (narrow_small p.0 key, narrow_great p.1 more) refl, λ is. (let small : p.1 < 2 ^ 32 = is.1 in omega arith))
+  ]
+  | inr more ↦ inr (rw (narrow_great p.0 more) refl, λ is. (let small : p.0 < 2 ^ 64 = is.0 in omega arith))
+]
+
+list_cases : (ps : List (ℕ × ℕ)) → ((narrow_list ps ≡ Some ps) × ArePairs ps) ⊎ ((narrow_list ps ≡ None) × ¬ ArePairs ps)
+list_cases [] = inl (refl, tt)
+list_cases (p ∷ ps) = elim (pair_cases p) [
+  | inl a ↦ elim (list_cases ps) [
+    | inl b ↦ inl (rw (a.0, b.0) refl, ((a.1, a.2), b.1))
+    | inr b ↦ inr (rw (a.0, b.0) refl, λ is. b.1 is.1)
+  ]
+  | inr a ↦ inr (rw a.0 refl, λ is. a.1 is.0)
+]
+
+-- the event's numbers are in their ranges and it is kept, or they aren't and it isn't
+abbrev HasRanges : Event → Type 0
+HasRanges e = ((in_ranges e ≡ Ok e) × IsInRange e) ⊎ ((in_ranges e ≡ Err BadNumber) × ¬ IsInRange e)
+
+start_cases : (n : ℕ) → ((version_of (narrow n) ≡ Ok n) × IsStart (Some n)) ⊎ ((version_of (narrow n) ≡ Err BadNumber) × ¬ IsStart (Some n))
+start_cases n = version_cases n
+
+pub ranges_cases : (e : Event) → HasRanges e
+unfolding list_of
+ranges_cases (Begin t None) = elim (txn_cases t) [
+  | inl a ↦ inl (rw a.0 refl, (a.1, tt))
+  | inr a ↦ inr (rw a.0 refl, λ is. a.1 is.0)
+]
+ranges_cases (Begin t (Some n)) = elim (txn_cases t) [
+  | inl a ↦ elim (start_cases n) [
+    | inl b ↦ inl (rw (a.0, b.0) refl, (a.1, b.1))
+    | inr b ↦ inr (rw (a.0, b.0) refl, λ is. b.1 is.1)
+  ]
+  | inr a ↦ inr (rw a.0 refl, λ is. a.1 is.0)
+]
+ranges_cases (Read t k v) = elim (txn_cases t) [
+  | inl a ↦ elim (key_cases k) [
+    | inl b ↦ elim (version_cases v) [
+      | inl d ↦ inl (rw (a.0, b.0, d.0) refl, (a.1, b.1, d.1))
+      | inr d ↦ inr (rw (a.0, b.0, d.0) refl, λ is. d.1 is.2)
+    ]
+    | inr b ↦ inr (rw (a.0, b.0) refl, λ is. b.1 is.1)
+  ]
+  | inr a ↦ inr (rw a.0 refl, λ is. a.1 is.0)
+]
+ranges_cases (Range t lo hi listed) = elim (txn_cases t) [
+  | inl a ↦ elim (key_cases lo) [
+    | inl b ↦ elim (key_cases hi) [
+      | inl d ↦ elim (list_cases listed) [
+        | inl l ↦ inl (rw (a.0, b.0, d.0, l.0) refl, (a.1, b.1, d.1, All-from_recursion (λ p. IsKey p.0 × IsVersion p.1) listed l.1))
+        | inr l ↦ inr (rw (a.0, b.0, d.0, l.0) refl, λ is. l.1 (recursion_from_All (λ p. IsKey p.0 × IsVersion p.1) listed is.3))
+      ]
+      | inr d ↦ inr (rw (a.0, b.0, d.0) refl, λ is. d.1 is.2)
+    ]
+    | inr b ↦ inr (rw (a.0, b.0) refl, λ is. b.1 is.1)
+  ]
+  | inr a ↦ inr (rw a.0 refl, λ is. a.1 is.0)
+]
+ranges_cases (Write t k) = elim (txn_cases t) [
+  | inl a ↦ elim (key_cases k) [
+    | inl b ↦ inl (rw (a.0, b.0) refl, (a.1, b.1))
+    | inr b ↦ inr (rw (a.0, b.0) refl, λ is. b.1 is.1)
+  ]
+  | inr a ↦ inr (rw a.0 refl, λ is. a.1 is.0)
+]
+ranges_cases (Commit t) = elim (txn_cases t) [
+  | inl a ↦ inl (rw a.0 refl, a.1)
+  | inr a ↦ inr (rw a.0 refl, a.1)
+]
+ranges_cases (Abort t) = elim (txn_cases t) [
+  | inl a ↦ inl (rw a.0 refl, a.1)
+  | inr a ↦ inr (rw a.0 refl, a.1)
+]
+
+-- ---- what becomes of a token
+
+-- no event spells it; or an event does, which is read, or has a number out of range
+abbrev pub TokenCases : List ℕ → Type 0
+TokenCases w = ((event_at w ≡ Err BadEvent) × ((e : Event) → w ≢ spell e))
+    ⊎ ((e : Event) × (w ≡ spell e) × (event_at w ≡ Ok e) × IsInRange e)
+    ⊎ ((e : Event) × (w ≡ spell e) × (event_at w ≡ Err BadNumber) × ¬ IsInRange e)
+
+pub token_cases : (w : List ℕ) → TokenCases w
+token_cases w = elim (event_found w) [
+  | inl bad ↦ inl (
+    bad,
+    λ e is. elim (ranges_cases e) [
+      | inl r ↦ let two : ◌≡◌ {A = Result Event Reason} (Err BadEvent) (Ok e) = sym bad ∙ ap event_at is ∙ event_again e ∙ r.0 in cc
+      | inr r ↦ let two : ◌≡◌ {A = Result Event Reason} (Err BadEvent) (Err BadNumber) = sym bad ∙ ap event_at is ∙ event_again e ∙ r.0 in cc
+    ],
+  )
+  | inr f ↦
+      let is : w ≡ spell f.0 = f.1 ∙ sym (regrouped f.0) in
+      elim (ranges_cases f.0) [
+        | inl r ↦ inr (inl (f.0, is, ap event_at is ∙ event_again f.0 ∙ r.0, r.1))
+        | inr r ↦ inr (inr (f.0, is, ap event_at is ∙ event_again f.0 ∙ r.0, r.1))
+      ]
+]

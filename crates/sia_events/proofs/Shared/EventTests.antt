@@ -1,0 +1,170 @@
+-- What a test of each event says of a list of events and its transactions. At a list that is written out it computes.
+use Rattle.std.proofs.Common.{◌≡◌, ℕ, zero, suc, ◌+◌, ◌<◌, ◌≤◌, Bool, true, false, List, [], ◌∷◌, slice_get, take, drop, Some, None, refl, ap, sym, subst, ◌∙◌, arith}
+use Rattle.std.specs.Prelude.{MatchOption, not, ◌&&◌, ◌==◌}
+use Rattle.std.specs.List.{list_any}
+use Rattle.std.proofs.lemmas.Bool.{or_parts, both_ways, eqb-true, eq-eqb, and_from}
+use Rattle.sia_events.specs.declared.event.Event.{Event}
+use Rattle.sia_events.specs.declared.event.Event.TheVariants.{Begin, Read, Range, Write, Commit, Abort}
+use Rattle.sia_events.specs.Places.{at_place}
+use Rattle.sia_events.specs.Events.{actor, named_start, Saw}
+use Rattle.sia_events.specs.Transactions.{IsFirstEvent, StartsAt, CommitsAt, IsCommitted, Wrote, WroteBefore}
+use Rattle.sia_events.specs.Reads.{SawAt}
+use Rattle.sia_events.proofs.Writing.WellFormed.{IsBefore}
+
+-- the event is one of t
+abbrev pub acts : ℕ → Event → Bool
+acts t e = actor e == t
+
+-- t commits
+abbrev pub commits : ℕ → Event → Bool
+commits t (Commit u) = u == t
+commits t e = false
+
+-- t aborts
+abbrev pub aborts : ℕ → Event → Bool
+aborts t (Abort u) = u == t
+aborts t e = false
+
+-- t writes k
+abbrev pub writes : ℕ → ℕ → Event → Bool
+writes t k (Write u j) = (u == t) && (j == k)
+writes t k e = false
+
+-- another transaction than t writes k
+abbrev pub others_write : ℕ → ℕ → Event → Bool
+others_write t k (Write u j) = (j == k) && not (u == t)
+others_write t k e = false
+
+-- t writes another key than k
+abbrev pub writes_others : ℕ → ℕ → Event → Bool
+writes_others t k (Write u j) = (u == t) && not (j == k)
+writes_others t k e = false
+
+-- another transaction than t reads k, or someone reads a range
+abbrev pub others_read : ℕ → ℕ → Event → Bool
+others_read t k (Read u j v) = (j == k) && not (u == t)
+others_read t k (Range u lo hi listed) = true
+others_read t k e = false
+
+-- t reads another key than k, or someone reads a range
+abbrev pub reads_others : ℕ → ℕ → Event → Bool
+reads_others t k (Read u j v) = (u == t) && not (j == k)
+reads_others t k (Range u lo hi listed) = true
+reads_others t k e = false
+
+module _ (test : Event → Bool) where
+  -- what passes has an index from n on, where none of the first n does, and one below n, where none of the later ones does
+  from_index : (h : List Event) (n i : ℕ) (e : Event) → list_any test (take n h) ≡ false → slice_get h i ≡ Some e → test e ≡ true → n ≤ i
+  from_index [] n i e none at pass = cc
+  from_index (f ∷ h) zero i e none at pass = omega arith
+  from_index (f ∷ h) (suc n) zero e none at pass =
+      let same : f ≡ e = cc in
+      absurd (both_ways (test e) (ap test (sym same) ∙ (or_parts (test f) (list_any test (take n h)) none).0) pass)
+  from_index (f ∷ h) (suc n) (suc i) e none at pass =
+      let more : n ≤ i = from_index h n i e (or_parts (test f) (list_any test (take n h)) none).1 at pass in
+      omega arith
+
+  below_index : (h : List Event) (n i : ℕ) (e : Event) → list_any test (drop n h) ≡ false → slice_get h i ≡ Some e → test e ≡ true → i < n
+  below_index [] n i e none at pass = cc
+  below_index (f ∷ h) zero zero e none at pass =
+      let same : f ≡ e = cc in
+      absurd (both_ways (test e) (ap test (sym same) ∙ (or_parts (test f) (list_any test h) none).0) pass)
+  below_index (f ∷ h) zero (suc i) e none at pass = absurd (let less : i < 0 = below_index h zero i e (or_parts (test f) (list_any test h) none).1 at pass in omega arith)
+  below_index (f ∷ h) (suc n) zero e none at pass = omega arith
+  below_index (f ∷ h) (suc n) (suc i) e none at pass = let less : i < n = below_index h n i e none at pass in omega arith
+
+  -- what passes stands after the first n events, where none of these does
+  pub after_place : (h : List Event) (n p : ℕ) (e : Event) → list_any test (take n h) ≡ false → at_place h p ≡ Some e → test e ≡ true → n < p
+  after_place h n zero e none at pass = cc
+  after_place h n (suc i) e none at pass = let more : n ≤ i = from_index h n i e none at pass in omega arith
+
+  -- what passes stands at one of the first n places, where none of the later events does
+  pub up_to_place : (h : List Event) (n p : ℕ) (e : Event) → list_any test (drop n h) ≡ false → at_place h p ≡ Some e → test e ≡ true → p ≤ n
+  up_to_place h n zero e none at pass = cc
+  up_to_place h n (suc i) e none at pass = let less : i < n = below_index h n i e none at pass in omega arith
+
+  -- no event passes
+  pub nowhere : (h : List Event) (p : ℕ) (e : Event) → list_any test h ≡ false → at_place h p ≡ Some e → ¬ (test e ≡ true)
+  nowhere h zero e none at pass = cc
+  nowhere h (suc i) e none at pass = let less : i < 0 = below_index h 0 i e none at pass in omega arith
+
+-- a number is equal to itself by the test too
+same : (t : ℕ) → (t == t) ≡ true
+same t = eq-eqb t t refl
+
+-- the other part of a test that fails
+other_part : (a b : Bool) → a ≡ true → ¬ ((a && not b) ≡ true) → b ≡ true
+other_part a true p n = refl
+other_part a false p n = absurd (n (and_from a true p refl))
+
+-- a first event, where the events before it are of others
+pub first_at : (h : List Event) (t n : ℕ) (e : Event) → at_place h (suc n) ≡ Some e → actor e ≡ t → list_any (acts t) (take n h) ≡ false → IsFirstEvent h t (suc n) e
+first_at h t n e at is none = (at, is, λ q a. after_place (acts t) h n q a.0 none a.1 (eq-eqb (actor a.0) t a.2))
+
+-- a start right before a first event that names none
+pub starts_before : (h : List Event) (t n : ℕ) (e : Event) → at_place h (suc n) ≡ Some e → actor e ≡ t → list_any (acts t) (take n h) ≡ false → named_start e ≡ None → StartsAt h t n
+starts_before h t n e at is none plain = (suc n, e, first_at h t n e at is none, subst (λ o. MatchOption o (n + 1 ≡ suc n) (λ m. n ≡ m)) (sym plain) (omega arith))
+
+-- a start that a first event names
+pub starts_named : (h : List Event) (t n s : ℕ) (e : Event) → at_place h (suc n) ≡ Some e → actor e ≡ t → list_any (acts t) (take n h) ≡ false → named_start e ≡ Some s → StartsAt h t s
+starts_named h t n s e at is none names = (suc n, e, first_at h t n e at is none, subst (λ o. MatchOption o (s + 1 ≡ suc n) (λ m. s ≡ m)) (sym names) refl)
+
+-- a commit stands after the first n places, and up to place n, where no other place has it
+pub commits_after : (h : List Event) (t n c : ℕ) → list_any (commits t) (take n h) ≡ false → CommitsAt h t c → n < c
+commits_after h t n c none at = after_place (commits t) h n c (Commit t) none at (same t)
+
+pub commits_up_to : (h : List Event) (t n c : ℕ) → list_any (commits t) (drop n h) ≡ false → CommitsAt h t c → c ≤ n
+commits_up_to h t n c none at = up_to_place (commits t) h n c (Commit t) none at (same t)
+
+-- what passes doesn't stand before a place, where no event before it passes
+pub not_before : (test : Event → Bool) (h : List Event) (n : ℕ) (e : Event) → list_any test (take n h) ≡ false → test e ≡ true → ¬ IsBefore h (suc n) e
+not_before test h n e none pass b =
+    let after : n < b.0 = after_place test h n b.0 e none b.2 pass in
+    let below : b.0 < suc n = b.1 in
+    omega arith
+
+pub not_committed : (h : List Event) (t : ℕ) → list_any (commits t) h ≡ false → ¬ IsCommitted h t
+not_committed h t none c = nowhere (commits t) h c.0 (Commit t) none c.1 (same t)
+
+pub not_wrote : (h : List Event) (t k : ℕ) → list_any (writes t k) h ≡ false → ¬ Wrote h t k
+not_wrote h t k none w = nowhere (writes t k) h w.0 (Write t k) none w.1 (and_from (t == t) (k == k) (same t) (same k))
+
+pub not_wrote_before : (h : List Event) (t k n : ℕ) → list_any (writes t k) (take n h) ≡ false → ¬ WroteBefore h t k (suc n)
+not_wrote_before h t k n none w =
+    let after : n < w.0 = after_place (writes t k) h n w.0 (Write t k) none w.2 (and_from (t == t) (k == k) (same t) (same k)) in
+    let before : w.0 < suc n = w.1 in
+    omega arith
+
+-- t alone wrote k
+pub one_writer : (h : List Event) (t k : ℕ) → list_any (others_write t k) h ≡ false → (u : ℕ) → Wrote h u k → u ≡ t
+one_writer h t k none u w = eqb-true u t (other_part (k == k) (u == t) (same k) (nowhere (others_write t k) h w.0 (Write u k) none w.1))
+
+-- t wrote k alone
+pub one_key_written : (h : List Event) (t k : ℕ) → list_any (writes_others t k) h ≡ false → (j : ℕ) → Wrote h t j → j ≡ k
+one_key_written h t k none j w = eqb-true j k (other_part (t == t) (j == k) (same t) (nowhere (writes_others t k) h w.0 (Write t j) none w.1))
+
+-- t alone read k
+pub one_reader : (h : List Event) (t k : ℕ) → list_any (others_read t k) h ≡ false → (p u v : ℕ) → SawAt h p u k v → u ≡ t
+one_reader h t k none p u v saw = of_event saw.0 saw.1 saw.2 saw.3
+  where
+    of_event : (e : Event) → at_place h p ≡ Some e → actor e ≡ u → Saw e k v → u ≡ t
+    of_event (Read w j x) at is s =
+        sym is ∙ eqb-true w t (other_part (j == k) (w == t) (eq-eqb j k (sym s.0)) (nowhere (others_read t k) h p (Read w j x) none at))
+    of_event (Range w lo hi listed) at is s = absurd (nowhere (others_read t k) h p (Range w lo hi listed) none at refl)
+    of_event (Begin w start) at is s = absurd s
+    of_event (Write w j) at is s = absurd s
+    of_event (Commit w) at is s = absurd s
+    of_event (Abort w) at is s = absurd s
+
+-- t read k alone
+pub one_key_read : (h : List Event) (t k : ℕ) → list_any (reads_others t k) h ≡ false → (p j v : ℕ) → SawAt h p t j v → j ≡ k
+one_key_read h t k none p j v saw = of_event saw.0 saw.1 saw.2 saw.3
+  where
+    of_event : (e : Event) → at_place h p ≡ Some e → actor e ≡ t → Saw e j v → j ≡ k
+    of_event (Read w i x) at is s =
+        s.0 ∙ eqb-true i k (other_part (w == t) (i == k) (eq-eqb w t is) (nowhere (reads_others t k) h p (Read w i x) none at))
+    of_event (Range w lo hi listed) at is s = absurd (nowhere (reads_others t k) h p (Range w lo hi listed) none at refl)
+    of_event (Begin w start) at is s = absurd s
+    of_event (Write w i) at is s = absurd s
+    of_event (Commit w) at is s = absurd s
+    of_event (Abort w) at is s = absurd s

@@ -1,0 +1,187 @@
+-- What a locator keeps after one more byte.
+use Rattle.std.proofs.Common.{◌≡◌, ◌≢◌, ◌⊎◌, inl, inr, ℕ, zero, suc, ◌+◌, ◌≤◌, Bool, true, false, cond, List, [], ◌∷◌, ◌++◌, length, take, set, refl, ap, sym, subst, ◌∙◌, append_assoc, append-nil, arith}
+use Rattle.std.specs.Prelude.{min}
+use Rattle.std.proofs.lemmas.Bool.{cases_lt}
+use Rattle.std.proofs.lemmas.List.{length-append, length-take, take_more_set}
+use Rattle.std.proofs.lemmas.List.Elements.{recursion_from_All, All-from_recursion, All-push}
+use Rattle.std.proofs.Math.Seq.{take-length, take-append_seam}
+use Rattle.sia_events.specs.declared.locating.Place.{Place}
+use Rattle.sia_events.specs.Text.{is_separator, goes_on, tokens}
+use Rattle.sia_events.specs.Judging.{as_token}
+use Rattle.sia_events.specs.Locations.{IsPlaceAfter}
+use Rattle.sia_events.specs.Locating.{Located, HasToken, HasEnded, Follows}
+use Rattle.sia_events.proofs.Shared.Canonical.{HasNoSeparator}
+use Rattle.sia_events.proofs.JudgedTexts.Tokens.{tokens-append, tokens_more, tokens_rest, tokens_unbroken}
+use Rattle.sia_events.proofs.Shared.Cuts.{some_cut, tokens_cut}
+
+-- ---- the first bytes of a token
+
+-- a list that is no longer is all of its front
+pub take_all : (n : ℕ) (xs : List ℕ) → length xs ≤ n → take n xs ≡ xs
+take_all zero [] few = refl
+take_all zero (x ∷ xs) few = absurd (omega arith)
+take_all (suc n) [] few = refl
+take_all (suc n) (x ∷ xs) few = ap (λ (ys : List ℕ). x ∷ ys) (take_all n xs (omega arith))
+
+take_front : (n : ℕ) (xs ys : List ℕ) → take n (take n xs ++ ys) ≡ take n (xs ++ ys)
+take_front zero xs ys = refl
+take_front (suc n) [] ys = refl
+take_front (suc n) (x ∷ xs) ys = ap (λ (zs : List ℕ). x ∷ zs) (take_front n xs ys)
+
+pub take_again : (n : ℕ) (xs : List ℕ) → take n (take n xs) ≡ take n xs
+take_again n xs = ap (take n) (sym (append-nil (take n xs))) ∙ take_front n xs [] ∙ ap (take n) (append-nil xs)
+
+-- taking no more than there are
+pub take_least : (n : ℕ) (xs : List ℕ) → take (min (length xs) n) xs ≡ take n xs
+take_least n xs = elim (cases_lt (length xs) n) [
+  | inl less ↦ (let least : min (length xs) n ≡ length xs = omega arith in ap (λ k. take k xs) least ∙ take-length xs ∙ sym (take_all n xs (omega arith)))
+  | inr more ↦ (let least : min (length xs) n ≡ n = omega arith in ap (λ k. take k xs) least)
+]
+
+-- of sixty places n are taken: one more byte is kept while there is room
+module _ (xs : List ℕ) (n c : ℕ) (places : length xs ≡ 60) where
+  pub kept_more : n ≤ 60 → n ≢ 60 → take (n + 1) (set xs n c) ≡ take 60 (take n xs ++ c ∷ [])
+  kept_more most room =
+      let len = length-take n xs in
+      take_more_set xs n c (omega arith) ∙ sym (take_all 60 (take n xs ++ c ∷ []) (omega (arith, length-append (take n xs) (c ∷ []))))
+
+  pub kept_full : n ≡ 60 → take n xs ≡ take 60 (take n xs ++ c ∷ [])
+  kept_full none =
+      let len : length (take n xs) ≡ 60 = omega (arith, length-take n xs) in
+      sym (take-append_seam (take n xs) (c ∷ [])) ∙ ap (λ m. take m (take n xs ++ c ∷ [])) len
+
+-- ---- the tokens of a text and one more byte
+
+-- a separator adds none
+tokens_gap : (text : List ℕ) (c : ℕ) → is_separator c ≡ true → tokens (text ++ c ∷ []) ≡ tokens text
+tokens_gap text c e =
+    let h = some_cut text in
+    let closed = h.0 in
+    let rest = h.1 in
+    let cut = h.2 in
+    ap (λ (t : List ℕ). tokens (t ++ c ∷ [])) cut.whole ∙ ap tokens (append_assoc closed rest (c ∷ []))
+    ∙ tokens_more closed rest c cut.closed_ends (recursion_from_All (λ b. is_separator b ≡ false) rest cut.rest_goes_on) e
+    ∙ sym (tokens_cut text closed rest cut)
+
+length_one : (w : List ℕ) → w ≢ [] → length (as_token w) ≡ 1
+length_one [] some = absurd (some refl)
+length_one (c ∷ cs) some = refl
+
+-- ---- more text behind a token
+
+has_more : (l now : Located) (text rest more : List ℕ) → now.number ≡ l.number → now.place ≡ l.place → now.token ≡ l.token → goes_on (rest ++ more) ≡ false → HasToken l text rest → HasToken now (text ++ more) (rest ++ more)
+has_more l now text rest more number place token begins h =
+    let a = h.at in
+    record {
+      token = h.token;
+      at = record {
+        front = a.front;
+        rest = rest ++ more;
+        whole = ap (λ (t : List ℕ). t ++ more) a.whole ∙ append_assoc a.front (h.token ++ a.rest) more
+            ∙ ap (λ (t : List ℕ). a.front ++ t) (append_assoc h.token a.rest more ∙ ap (λ (r : List ℕ). h.token ++ (r ++ more)) h.left);
+        some = a.some;
+        unbroken = a.unbroken;
+        front_ends = a.front_ends;
+        rest_begins = begins;
+        number_is = a.number_is ∙ sym number;
+        begins = subst (λ (p : Place). IsPlaceAfter a.front p.line p.column) (sym place) a.begins;
+      };
+      kept = token ∙ h.kept;
+      left = refl;
+    }
+
+-- a token that has ended stays where it is
+pub ended_more : (l now : Located) (text more : List ℕ) → now.number ≡ l.number → now.place ≡ l.place → now.token ≡ l.token → HasEnded l text → HasEnded now (text ++ more)
+ended_more l now text more number place token h =
+    (h.0, h.1 ++ more, has_more l now text (h.0 ∷ h.1) more number place token (ap goes_on (sym h.2.left) ∙ h.2.at.rest_begins) h.2)
+
+-- ---- one more byte
+
+module _ (l : Located) (text : List ℕ) (c : ℕ) (next : Place) (f : Follows l text) (behind : IsPlaceAfter (text ++ c ∷ []) next.line next.column) where
+  -- a separator
+  pub passed_gap : is_separator c ≡ true → Follows (record { number = l.number; next = next; place = l.place; token = l.token; is_open = false }) (text ++ c ∷ [])
+  passed_gap e = record {
+    number_is = f.number_is ∙ ap length (sym (tokens_gap text c e));
+    next_is = behind;
+    unfinished = λ wrong. absurd cc;
+    between = λ closed. inr (text, c, refl, e);
+    ended = λ closed. by_open l.is_open refl;
+  }
+    where
+      by_open : (b : Bool) → l.is_open ≡ b → (l.number ≡ 0) ⊎ HasEnded (record { number = l.number; next = next; place = l.place; token = l.token; is_open = false }) (text ++ c ∷ [])
+      by_open true p = inr (c, [], has_more l (record { number = l.number; next = next; place = l.place; token = l.token; is_open = false }) text [] (c ∷ []) refl refl refl (ap (λ b. cond b false true) e) (f.unfinished p))
+      by_open false p = elim (f.ended p) [
+        | inl none ↦ inl none
+        | inr h ↦ inr (ended_more l (record { number = l.number; next = next; place = l.place; token = l.token; is_open = false }) text (c ∷ []) refl refl refl h)
+      ]
+
+  -- one more byte of the token
+  whole_on : (h : HasToken l text []) → text ++ c ∷ [] ≡ h.at.front ++ (h.token ++ c ∷ [])
+  whole_on h =
+      ap (λ (t : List ℕ). t ++ c ∷ []) (h.at.whole ∙ ap (λ (r : List ℕ). h.at.front ++ (h.token ++ r)) h.left ∙ ap (λ (t : List ℕ). h.at.front ++ t) (append-nil h.token))
+      ∙ append_assoc h.at.front h.token (c ∷ [])
+
+  token_on : (kept : List ℕ) (h : HasToken l text []) → is_separator c ≡ false → kept ≡ take 60 (l.token ++ c ∷ [])
+      → HasToken (record { number = l.number; next = next; place = l.place; token = kept; is_open = l.is_open }) (text ++ c ∷ []) []
+  token_on kept h e keeps = record {
+    token = h.token ++ c ∷ [];
+    at = record {
+      front = h.at.front;
+      rest = [];
+      whole = whole_on h ∙ ap (λ (t : List ℕ). h.at.front ++ t) (sym (append-nil (h.token ++ c ∷ [])));
+      some = λ none. (let len = ap length none in omega (arith, length-append h.token (c ∷ [])));
+      unbroken = All-push (λ b. is_separator b ≡ false) h.token c h.at.unbroken e;
+      front_ends = h.at.front_ends;
+      rest_begins = refl;
+      number_is = h.at.number_is;
+      begins = h.at.begins;
+    };
+    kept = keeps ∙ ap (λ (t : List ℕ). take 60 (t ++ c ∷ [])) h.kept ∙ take_front 60 h.token (c ∷ []);
+    left = refl;
+  }
+
+  number_on : (h : HasToken l text []) → is_separator c ≡ false → l.number ≡ length (tokens (text ++ c ∷ []))
+  number_on h e =
+      let w = h.token ++ c ∷ [] in
+      let unbroken : HasNoSeparator w = recursion_from_All (λ b. is_separator b ≡ false) w (All-push (λ b. is_separator b ≡ false) h.token c h.at.unbroken e) in
+      let split = ap length (ap tokens (whole_on h) ∙ tokens_rest h.at.front w h.at.front_ends unbroken) in
+      let one : length (as_token w) ≡ 1 = length_one w (λ none. (let len = ap length none in omega (arith, length-append h.token (c ∷ [])))) in
+      let number = h.at.number_is in
+      omega (arith, length-append (tokens h.at.front) (as_token w))
+
+  pub passed_on : (kept : List ℕ) → l.is_open ≡ true → is_separator c ≡ false → kept ≡ take 60 (l.token ++ c ∷ []) → Follows (record { number = l.number; next = next; place = l.place; token = kept; is_open = l.is_open }) (text ++ c ∷ [])
+  passed_on kept inside e keeps = record {
+    number_is = number_on (f.unfinished inside) e;
+    next_is = behind;
+    unfinished = λ same. token_on kept (f.unfinished inside) e keeps;
+    between = λ closed. absurd (let wrong : true ≡ false = sym inside ∙ closed in cc);
+    ended = λ closed. absurd (let wrong : true ≡ false = sym inside ∙ closed in cc);
+  }
+
+  -- the first byte of a token
+  pub passed_first : (number : ℕ) (kept : List ℕ) → l.is_open ≡ false → is_separator c ≡ false → number ≡ l.number + 1 → kept ≡ c ∷ [] → Follows (record { number = number; next = next; place = l.next; token = kept; is_open = true }) (text ++ c ∷ [])
+  passed_first number kept closed e counts keeps =
+      let was = f.number_is in
+      let split = ap length (tokens-append text (c ∷ []) (f.between closed) ∙ ap (λ (ts : List (List ℕ)). tokens text ++ ts) (tokens_unbroken (c ∷ []) (e, tt))) in
+      record {
+        number_is = omega (arith, length-append (tokens text) ((c ∷ []) ∷ []));
+        next_is = behind;
+        unfinished = λ same. record {
+          token = c ∷ [];
+          at = record {
+            front = text;
+            rest = [];
+            whole = refl;
+            some = λ none. cc;
+            unbroken = All-from_recursion (λ b. is_separator b ≡ false) (c ∷ []) (e, tt);
+            front_ends = f.between closed;
+            rest_begins = refl;
+            number_is = omega arith;
+            begins = f.next_is;
+          };
+          kept = keeps;
+          left = refl;
+        };
+        between = λ wrong. absurd cc;
+        ended = λ wrong. absurd cc;
+      }

@@ -1,0 +1,81 @@
+-- What a log's tables answer.
+use Rattle.std.proofs.Common.{◌≡◌, ◌≢◌, ℕ, zero, suc, ◌+◌, ◌-◌, ◌<◌, ◌≤◌, List, [], ◌∷◌, ◌++◌, inl, inr, length, map, take, drop, get_or, Option, Some, None, refl, sym, subst, ◌∙◌, ap, ap₂, arith, slice_get, nat_lt, false, true}
+use Rattle.std.specs.Prelude.{IfSome}
+use Rattle.std.specs.Option.{option_map}
+use Rattle.std.proofs.lemmas.Bool.Decides.{nat_tests}
+use Rattle.std.proofs.lemmas.List.{length-map}
+use Rattle.std.proofs.lemmas.Grind.{take_at_read}
+use Rattle.std.proofs.lemmas.Option.{slice_get-map, slice_get-get_or, get_or_from_slice_get}
+use Rattle.sia_events.specs.declared.event.Event.{Event}
+use Rattle.sia_events.specs.declared.log.Row.{Row}
+use Rattle.sia_events.specs.declared.log.TxnRow.{TxnRow}
+use Rattle.sia_events.specs.declared.log.RangeRow.{RangeRow}
+use Rattle.sia_events.specs.declared.log.Tables.{Tables}
+use Rattle.sia_events.specs.Places.{at_place}
+use Rattle.sia_events.specs.Refusals.{IsWellFormed}
+use Rattle.sia_events.specs.Transactions.{StartsAt}
+use Rattle.sia_events.specs.Numbering.{Names, names_of, txns_of, ranges_of, IsPair, mark, key_at, version_at, write_at, range_at, pair_at, event_of, IsMarked}
+use Rattle.sia_events.specs.LogTables.{names_in, names_but_ranges, range_of, events_of, AreTables, Lives}
+use Rattle.sia_events.proofs.Writing.WellFormed.{few_events}
+use Rattle.sia_events.proofs.LogRows.Lived.{to_get}
+use Rattle.sia_events.proofs.Shared.Drafted.{map_get}
+
+pub few_rows : (t : Tables) → IsWellFormed (events_of t) → length t.events.items ≤ 500000000
+few_rows t fine = let l = length-map t.events.items (event_of (names_in t)) in let few = few_events (events_of t) fine in omega arith
+
+pub row_event : (t : Tables) (place : ℕ) (r : Option Row) → AreTables t → place ≢ 0 → r ≡ slice_get t.events.items (place - 1) → option_map (event_of (names_of (events_of t))) r ≡ at_place (events_of t) place
+row_event t place r tables above is =
+    let e : suc (place - 1) ≡ place = omega arith in
+    ap₂ (λ (ns : Names) (o : Option Row). option_map (event_of ns) o) (sym tables.names) is ∙ sym (slice_get-map (event_of (names_in t)) t.events.items (place - 1)) ∙ ap (at_place (events_of t)) e
+
+pub row_marked : (t : Tables) (place : ℕ) (r : Option Row) → AreTables t → r ≡ slice_get t.events.items (place - 1) → IfSome r (IsMarked (names_of (events_of t)) (take (place - 1) (events_of t)))
+row_marked t place None tables is = tt
+row_marked t place (Some r) tables is = subst (λ (ns : Names). IsMarked ns (take (place - 1) (events_of t)) r) tables.names (tables.marked (place - 1) r (sym is))
+
+pub row_starts : (t : Tables) (n : ℕ) (x : TxnRow) → AreTables t → n < length t.txns.items → x ≡ get_or t.txns.items n x → StartsAt (events_of t) x.name x.start
+row_starts t n x tables less is = (to_get (Lives (events_of t)) t.txns.items n x tables.lives (slice_get-get_or t.txns.items n x less ∙ ap Some (sym is))).0
+
+pub range_listed : (t : Tables) (n : ℕ) (r : RangeRow) → AreTables t → n < length t.ranges.items → r ≡ get_or t.ranges.items n r → map (pair_at (names_of (events_of t))) (take (r.to - r.from) (drop r.from t.pairs.items)) ≡ (range_at (names_of (events_of t)) n).2
+unfolding pair_at
+range_listed t n r tables less is =
+    let there : slice_get t.ranges.items n ≡ Some r = slice_get-get_or t.ranges.items n r less ∙ ap Some (sym is) in
+    let named = get_or_from_slice_get (names_in t).ranges n (range_of (names_but_ranges t.txns.items t.keys.items t.writes.items) t.pairs.items r) (0, 0, []) (map_get (range_of (names_but_ranges t.txns.items t.keys.items t.writes.items) t.pairs.items) t.ranges.items n r there) in
+    ap (λ (ns : Names). map (pair_at ns) (take (r.to - r.from) (drop r.from t.pairs.items))) (sym tables.names) ∙ ap (λ (x : ℕ × ℕ × List (ℕ × ℕ)). x.2) (sym named) ∙ ap (λ (ns : Names). (range_at ns n).2) tables.names
+
+pub pair_low : (names : Names) (p k t : ℕ) → p < mark → 0 < p → slice_get names.writes (p - 1) ≡ Some (k, t) → pair_at names p ≡ (k, version_at names p)
+unfolding pair_at
+pair_low names zero k t low above at = absurd (omega arith)
+pair_low names (suc p) k t low above at =
+    let below : nat_lt (suc p) mark ≡ true = grind (arith, nat_tests) in
+    let e : suc p - 1 ≡ p = omega arith in
+    let is = get_or_from_slice_get names.writes (suc p - 1) (k, t) (0, 0) at in
+    let version : version_at names (suc p) ≡ t = ap (λ i. (write_at names i).1) (sym e) ∙ ap (λ (q : ℕ × ℕ). q.1) is in
+    rw (below) (is ∙ ap (λ v. (k, v)) (sym version))
+
+pub pair_high : (names : Names) (p : ℕ) → mark ≤ p → pair_at names p ≡ (key_at names (p - mark), version_at names 0)
+unfolding pair_at
+pair_high names p high = let above : nat_lt p mark ≡ false = grind (arith, nat_tests) in rw (above) refl
+
+pub txn_room : (t : Tables) (n : ℕ) → AreTables t → n < length (txns_of (events_of t)) → n < length t.txns.items
+txn_room t n tables less = let e : length (txns_of (events_of t)) ≡ length t.txns.items = ap (λ (ns : Names). length ns.txns) (sym tables.names) ∙ length-map t.txns.items (λ (x : TxnRow). x.name) in omega arith
+
+pub range_room : (t : Tables) (n : ℕ) → AreTables t → n < length (ranges_of (events_of t)) → n < length t.ranges.items
+range_room t n tables less = let e : length (ranges_of (events_of t)) ≡ length t.ranges.items = ap (λ (ns : Names). length ns.ranges) (sym tables.names) ∙ length-map t.ranges.items (range_of (names_but_ranges t.txns.items t.keys.items t.writes.items) t.pairs.items) in omega arith
+
+pub pair_above : (names : Names) (p : ℕ) → IsPair names p → p < mark → 0 < p
+pair_above names p (inl low) less = low.0
+pair_above names p (inr high) less = absurd (let a = high.0 in omega arith)
+
+pub next_event : (h : List Event) (i : ℕ) (names : Names) (row : Row) (events now : List Event) (e : Event) → i < length h → Some (event_of names row) ≡ at_place h (i + 1) → e ≡ event_of names row → events ≡ take i h → now ≡ events ++ e ∷ [] → now ≡ take (i + 1) h
+next_event h i names row events now e less at is before pushed =
+    let place : suc i ≡ i + 1 = omega arith in
+    let there : slice_get h i ≡ Some (event_of names row) = ap (at_place h) place ∙ sym at in
+    let here : get_or h i e ≡ e = get_or_from_slice_get h i (event_of names row) e there ∙ sym is in
+    pushed ∙ ap₂ (λ xs x. xs ++ x ∷ []) before (sym here) ∙ sym (take_at_read h i e less).1
+
+pub no_event : (h : List Event) (i : ℕ) → i < length h → None ≡ at_place h (i + 1) → ⊥
+no_event h i less at = let place : suc i ≡ i + 1 = omega arith in nothing h i less (ap (at_place h) place ∙ sym at) where
+  nothing : (h : List Event) (i : ℕ) → i < length h → slice_get h i ≡ None → ⊥
+  nothing [] i less none = omega arith
+  nothing (e ∷ es) zero less none = let x : Some e ≡ None = none in absurd cc
+  nothing (e ∷ es) (suc i) less none = nothing es i (omega arith) none

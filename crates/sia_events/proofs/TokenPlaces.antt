@@ -1,0 +1,3 @@
+pub mod BesideReader
+pub mod Locations
+pub mod Stopping

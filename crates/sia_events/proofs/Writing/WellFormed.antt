@@ -1,0 +1,192 @@
+-- What an accepted text and a well-formed history keep.
+use Rattle.std.proofs.Common.{◌≡◌, ◌≢◌, inl, inr, ℕ, zero, suc, ◌+◌, ◌-◌, ◌^◌, ◌<◌, ◌≤◌, List, [], ◌∷◌, map, length, slice_get, Option, Some, None, refl, ap, sym, subst, ◌∙◌, arith}
+use Rattle.std.proofs.lemmas.Bool.{cases_lt}
+use Rattle.std.proofs.lemmas.List.{length-map}
+use Rattle.std.proofs.lemmas.Option.{slice_get-map}
+use Rattle.std.specs.Option.{option_map}
+use Rattle.std.specs.Prelude.{slice_index_or}
+use Rattle.sia_events.specs.Limits.{Limits, greatest}
+use Rattle.sia_events.specs.declared.event.Event.{Event}
+use Rattle.sia_events.specs.declared.event.Event.TheVariants.{Begin, Read, Range, Write, Commit, Abort}
+use Rattle.sia_events.specs.declared.fault.Reason.{Reason}
+use Rattle.sia_events.specs.declared.fault.Reason.TheVariants.{TooManyEvents, BadEvent, BadNumber, AlreadyEnded, AlreadyBegun, EmptyRange, BadList, NotWritten, BadStart}
+use Rattle.sia_events.specs.declared.fault.TextFault.TheVariants.{TextTooLong, Refused}
+use Rattle.sia_events.specs.Places.{at_place}
+use Rattle.sia_events.specs.Events.{actor, Saw}
+use Rattle.sia_events.specs.Text.{spell, tokens, canonical}
+use Rattle.sia_events.specs.Refusals.{IsTxn, IsStart, IsInRange, reason_number, HasReason, HasReasonIn, TokenHas, EventHas, IsEarlier, IsFirstFaultIn, IsAccepted, IsAcceptedIn, AnyForm, IsWellFormed}
+use Rattle.sia_events.proofs.Shared.Spelling.{spell_injective}
+use Rattle.sia_events.proofs.Shared.Canonical.{canonical_stands}
+use Rattle.sia_events.proofs.Shared.Decisions.{Decided, at_most}
+use Rattle.sia_events.proofs.Shared.TransactionDecisions.{wrote_before_or_not}
+
+numbers_below : (r : Reason) → reason_number r < 11
+numbers_below TooManyEvents = omega arith
+numbers_below BadEvent = omega arith
+numbers_below BadNumber = omega arith
+numbers_below AlreadyEnded = omega arith
+numbers_below AlreadyBegun = omega arith
+numbers_below EmptyRange = omega arith
+numbers_below BadList = omega arith
+numbers_below NotWritten = omega arith
+numbers_below BadStart = omega arith
+
+-- where no first fault is, nothing has a reason
+module _ (limits : Limits) (Form : Event → Type 0) (ts : List (List ℕ)) (none : (i : ℕ) (r : Reason) → ¬ IsFirstFaultIn limits Form ts i r) where
+  -- nothing before number n has one: so it has none with a number below m
+  none_at : (n m : ℕ) → ((j : ℕ) (s : Reason) → j < n → ¬ HasReasonIn limits Form ts j s) → (r : Reason) → reason_number r < m → ¬ HasReasonIn limits Form ts n r
+  none_at n zero before r below has = absurd (omega arith)
+  none_at n (suc m) before r below has =
+      let lower : (s : Reason) → reason_number s < reason_number r → ¬ HasReasonIn limits Form ts n s = λ s less. none_at n m before s (omega arith) in
+      none n r (record {
+        has = has;
+        first = λ j s h. at_most n j (λ less. before j s less h);
+        least = λ s h. at_most (reason_number r) (reason_number s) (λ less. lower s less h);
+      })
+
+  none_below : (n : ℕ) (j : ℕ) (s : Reason) → j < n → ¬ HasReasonIn limits Form ts j s
+  none_below zero j s below has = absurd (omega arith)
+  none_below (suc n) j s below has = elim (cases_lt j n) [
+    | inl less ↦ none_below n j s less has
+    | inr at_least ↦ let same : j ≡ n = omega arith in
+        none_at n 11 (none_below n) s (numbers_below s) (subst (λ i. HasReasonIn limits Form ts i s) same has)
+  ]
+
+  none_has : (i : ℕ) (r : Reason) → ¬ HasReasonIn limits Form ts i r
+  none_has i r = none_below (i + 1) i r (omega arith)
+
+pub accepted_short : (limits : Limits) (Form : Event → Type 0) (text : List ℕ) → IsAcceptedIn limits Form text → length text ≤ limits.bytes
+accepted_short limits Form text a = at_most (length text) limits.bytes (a TextTooLong)
+
+-- no token of an accepted text has a reason
+pub accepted_none_in : (limits : Limits) (Form : Event → Type 0) (text : List ℕ) → IsAcceptedIn limits Form text → (i : ℕ) (r : Reason) → ¬ HasReasonIn limits Form (tokens text) i r
+accepted_none_in limits Form text a = none_has limits Form (tokens text) (λ i r f. a (Refused i r) (accepted_short limits Form text a, f))
+
+pub accepted_none : (limits : Limits) (text : List ℕ) → IsAccepted limits text → (i : ℕ) (r : Reason) → ¬ HasReason limits (tokens text) i r
+accepted_none limits text a = accepted_none_in limits AnyForm text a
+
+-- f stands before place i
+abbrev pub IsBefore : List Event → ℕ → Event → Type 0
+IsBefore h i f = (j : ℕ) × (j < i) × (at_place h j ≡ Some f)
+
+pub at_place-map : (h : List Event) (j : ℕ) → at_place (map spell h) j ≡ option_map spell (at_place h j)
+at_place-map h zero = refl
+at_place-map h (suc j) = slice_get-map spell h j
+
+spelled : (o : Option Event) (f : Event) → option_map spell o ≡ Some (spell f) → o ≡ Some f
+spelled None f e = cc
+spelled (Some g) f e = ap Some (spell_injective g f (let p : spell g ≡ spell f = cc in p))
+
+pub earlier_before : (h : List Event) (i : ℕ) (f : Event) → IsEarlier (map spell h) i f → IsBefore h i f
+earlier_before h i f e = (e.0, e.1, spelled (at_place h e.0) f (sym (at_place-map h e.0) ∙ e.2))
+
+pub before_earlier : (h : List Event) (i : ℕ) (f : Event) → IsBefore h i f → IsEarlier (map spell h) i f
+before_earlier h i f b = (b.0, b.1, at_place-map h b.0 ∙ ap (option_map spell) b.2)
+
+-- the reasons of an event go by what is before it
+pub moved : (n : ℕ) (Earlier Before : Event → Type 0) → ((f : Event) → Before f → Earlier f) → ((f : Event) → Earlier f → Before f) → (e : Event) (r : Reason) → EventHas n Before e r → EventHas n Earlier e r
+moved n Earlier Before to from e TooManyEvents h = absurd h
+moved n Earlier Before to from e BadEvent h = absurd h
+moved n Earlier Before to from e BadNumber h = h
+moved n Earlier Before to from e AlreadyEnded (inl c) = inl (to (Commit (actor e)) c)
+moved n Earlier Before to from e AlreadyEnded (inr a) = inr (to (Abort (actor e)) a)
+moved n Earlier Before to from e AlreadyBegun h = (h.0, h.1, to h.1 h.2, h.3)
+moved n Earlier Before to from e EmptyRange h = h
+moved n Earlier Before to from e BadList h = h
+moved n Earlier Before to from e NotWritten h = (h.0, h.1, h.2, h.3, λ w. h.4 (from (Write h.1 h.0) w))
+moved n Earlier Before to from e BadStart h = h
+
+pub token_has : (limits : Limits) (ts : List (List ℕ)) (i : ℕ) (e : Event) (r : Reason) → EventHas (i - 1) (IsEarlier ts i) e r → TokenHas limits AnyForm ts i (spell e) r
+token_has limits ts i e TooManyEvents h = absurd h
+token_has limits ts i e BadEvent h = absurd h
+token_has limits ts i e BadNumber h = (e, tt, refl, h)
+token_has limits ts i e AlreadyEnded h = (e, tt, refl, h)
+token_has limits ts i e AlreadyBegun h = (e, tt, refl, h)
+token_has limits ts i e EmptyRange h = (e, tt, refl, h)
+token_has limits ts i e BadList h = (e, tt, refl, h)
+token_has limits ts i e NotWritten h = (e, tt, refl, h)
+token_has limits ts i e BadStart h = (e, tt, refl, h)
+
+-- no token of a well-formed history's text has a reason
+spelled_none : (h : List Event) → IsWellFormed h → (i : ℕ) (r : Reason) → ¬ HasReason greatest (map spell h) i r
+spelled_none h wf i r = subst (λ ts. ¬ HasReason greatest ts i r) (canonical_stands h) (accepted_none greatest (canonical h) wf i r)
+
+pub place_spelled : (h : List Event) (i : ℕ) (e : Event) → at_place h i ≡ Some e → at_place (map spell h) i ≡ Some (spell e)
+place_spelled h i e at = at_place-map h i ∙ ap (option_map spell) at
+
+-- no event of a well-formed history has a reason, by the events before it
+pub event_has_none : (h : List Event) → IsWellFormed h → (i : ℕ) (e : Event) → at_place h i ≡ Some e → (r : Reason) → ¬ EventHas (i - 1) (IsBefore h i) e r
+event_has_none h wf i e at r has =
+    spelled_none h wf i r (
+      spell e,
+      place_spelled h i e at,
+      token_has greatest (map spell h) i e r
+          (moved (i - 1) (IsEarlier (map spell h) i) (IsBefore h i) (before_earlier h i) (earlier_before h i) e r has),
+    )
+
+-- an event follows no end of its transaction
+pub nothing_after_end : (h : List Event) → IsWellFormed h → (i j : ℕ) (e : Event) → at_place h i ≡ Some e → at_place h j ≡ Some (Commit (actor e)) → i ≤ j
+nothing_after_end h wf i j e at c = at_most i j (λ less. event_has_none h wf i e at AlreadyEnded (inl (j, less, c)))
+
+-- a transaction commits once
+pub one_commit : (h : List Event) → IsWellFormed h → (t i j : ℕ) → at_place h i ≡ Some (Commit t) → at_place h j ≡ Some (Commit t) → i ≡ j
+one_commit h wf t i j a b =
+    let p : i ≤ j = nothing_after_end h wf i j (Commit t) a b in
+    let q : j ≤ i = nothing_after_end h wf j i (Commit t) b a in
+    omega arith
+
+pub at_index : {A : Type 0} (h : List A) (i : ℕ) → i < length h → (e : A) × (slice_get h i ≡ Some e)
+at_index [] i below = absurd (omega arith)
+at_index (e ∷ h) zero below = (e, refl)
+at_index (e ∷ h) (suc i) below = at_index h i (omega arith)
+
+-- tokens of which none has a reason are no more than the events that are allowed
+pub few_fine : (limits : Limits) (ts : List (List ℕ)) → ((i : ℕ) (r : Reason) → ¬ HasReason limits ts i r) → length ts ≤ limits.events
+few_fine limits ts none = at_most (length ts) limits.events (λ more.
+    let found = at_index ts limits.events more in
+    none (suc limits.events) TooManyEvents (found.0, found.1, omega arith))
+
+-- a well-formed history has at most 500,000,000 events
+pub few_events : (h : List Event) → IsWellFormed h → length h ≤ 500000000
+few_events h wf =
+    let few : length (map spell h) ≤ 500000000 = few_fine greatest (map spell h) (spelled_none h wf) in
+    omega (arith, length-map h spell)
+
+-- whether a transaction wrote a key before a place can be told
+pub before_or_not : (h : List Event) (i v k : ℕ) → Decided (IsBefore h i (Write v k))
+before_or_not h i v k = wrote_before_or_not h v k i
+
+-- a version that was seen and isn't 0 was written before
+pub seen_was_written : (h : List Event) → IsWellFormed h → (i k v : ℕ) (e : Event) → at_place h i ≡ Some e → Saw e k v → v ≢ 0 → IsBefore h i (Write v k)
+seen_was_written h wf i k v e at saw v0 = elim (before_or_not h i v k) [
+  | inl b ↦ b
+  | inr n ↦ absurd (event_has_none h wf i e at NotWritten (k, v, saw, v0, n))
+]
+
+-- what isn't refuted of two numbers holds
+pub below_or : (m n : ℕ) → ¬ ¬ (m < n) → m < n
+below_or m n h = elim (cases_lt m n) [ inl less ↦ less | inr more ↦ absurd (h (λ less. omega arith)) ]
+
+txn_range : (t : ℕ) → ¬ ¬ IsTxn t → IsTxn t
+txn_range t n = (below_or 0 t (λ m. n (λ r. m r.0)), below_or t (2 ^ 32) (λ m. n (λ r. m r.1)))
+
+start_range : (start : Option ℕ) → ¬ ¬ IsStart start → IsStart start
+start_range None n = tt
+start_range (Some m) n = below_or m (2 ^ 32) n
+
+-- the numbers of a well-formed history's events are in their ranges
+in_range : (e : Event) → ¬ ¬ IsInRange e → IsInRange e
+in_range (Begin t start) n = (txn_range t (λ m. n (λ r. m r.0)), start_range start (λ m. n (λ r. m r.1)))
+in_range (Read t k v) n = (txn_range t (λ m. n (λ r. m r.0)), below_or k (2 ^ 64) (λ m. n (λ r. m r.1)), below_or v (2 ^ 32) (λ m. n (λ r. m r.2)))
+in_range (Range t lo hi listed) n = (
+  txn_range t (λ m. n (λ r. m r.0)),
+  below_or lo (2 ^ 64) (λ m. n (λ r. m r.1)),
+  below_or hi (2 ^ 64) (λ m. n (λ r. m r.2)),
+  λ k d below. (below_or (slice_index_or listed k d).0 (2 ^ 64) (λ m. n (λ r. m (r.3 k d below).0)), below_or (slice_index_or listed k d).1 (2 ^ 32) (λ m. n (λ r. m (r.3 k d below).1))),
+)
+in_range (Write t k) n = (txn_range t (λ m. n (λ r. m r.0)), below_or k (2 ^ 64) (λ m. n (λ r. m r.1)))
+in_range (Commit t) n = txn_range t n
+in_range (Abort t) n = txn_range t n
+
+pub event_in_range : (h : List Event) → IsWellFormed h → (i : ℕ) (e : Event) → at_place h i ≡ Some e → IsInRange e
+event_in_range h wf i e at = in_range e (event_has_none h wf i e at BadNumber)

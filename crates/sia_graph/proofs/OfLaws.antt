@@ -1,0 +1,11 @@
+pub mod Blocks
+pub mod Extremes
+pub mod FiniteHistories
+pub mod FiniteLists
+pub mod Found
+pub mod InOrder
+pub mod OneVerdict
+pub mod ReplayLaw
+pub mod Serial
+pub mod SsiLaw
+pub mod Uncut

@@ -1,0 +1,5 @@
+pub mod FirstKeys
+pub mod JoinedMisses
+pub mod Judging
+pub mod PassedKeys
+pub mod TakenMembers

@@ -1,0 +1,12 @@
+pub mod Chains
+pub mod DoneNodes
+pub mod Mapped
+pub mod Pending
+pub mod ReadyNodes
+pub mod ReadySets
+pub mod Released
+pub mod StuckNodes
+pub mod TakenFronts
+pub mod Told
+pub mod UnderWay
+pub mod Woken

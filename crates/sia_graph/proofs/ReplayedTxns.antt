@@ -1,0 +1,4 @@
+pub mod ChainOf
+pub mod MapSteps
+pub mod Replayed
+pub mod RightAt

@@ -1,0 +1,4 @@
+pub mod KeyBlocks
+pub mod SparseStands
+pub mod StepsPut
+pub mod StretchBlocks

@@ -1,0 +1,8 @@
+pub mod EarlyFirsts
+pub mod Entering
+pub mod FoundFirsts
+pub mod LastMarks
+pub mod LateEdges
+pub mod Marks
+pub mod Raised
+pub mod Stands

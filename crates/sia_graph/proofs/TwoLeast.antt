@@ -1,0 +1,2 @@
+pub mod BlockTwos
+pub mod EnteredTwos

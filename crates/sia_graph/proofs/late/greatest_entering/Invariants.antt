@@ -1,7 +1,0 @@
-use Rattle.std.proofs.Common.{ℕ, List}
-use Rattle.sia_graph.specs.Late.{AreLate, IsLastOf}
-use Rattle.sia_graph.proofs.Entering.{EntersByFirst}
-use Rattle.sia_graph.proofs.late.greatest_entering.Given as goal
-
-abbrev pub invariant-loop-position : goal.invariant-loop-position
-invariant-loop-position l = (values : List ℕ) → AreLate l.index values l.late → IsLastOf (EntersByFirst l.index values l.position-items l.position-index) l.greatest

@@ -1,0 +1,125 @@
+use Rattle.std.proofs.Common.{◌≡◌, ◌⊎◌, ◌*◌, ◌<◌, ◌≤◌, inl, inr, ℕ, List, [], length, get_or, refl, sym, subst, ◌∙◌, arith}
+use Rattle.std.specs.Prelude.{◌↔◌, Contains}
+use Rattle.std.proofs.lemmas.List.Elements.{Contains-get_or}
+use Rattle.std.proofs.lemmas.Result.{IfOk-weaker}
+use Rattle.sia_index.proofs.Shared.KeyChains.{key_number}
+use Rattle.sia_index.specs.Numbers.{IsCommittedAt}
+use Rattle.sia_parts.specs.declared.accesses.RangeMiss.{RangeMiss}
+use Rattle.sia_graph.specs.KeyBlocks.{IsUnderSome}
+use Rattle.sia_graph.specs.Late.{ArePassedMarks, AreSeenMarks}
+use Rattle.sia_graph.specs.Passed.{IsHeldBy, IsOwnPassed}
+use Rattle.sia_graph.proofs.SsiTest.Marks.{passed_marked, passed_unmarked, seen_marked, seen_unmarked}
+use Rattle.sia_graph.proofs.SsiTest.LateEdges.{lates}
+use Rattle.sia_graph.proofs.Shared.MemberSteps.{size_few}
+use Rattle.sia_graph.proofs.Shared.Numbered.{few_txns}
+use Rattle.sia_graph.proofs.Shared.PositionTwos.{positions_below}
+use Rattle.sia_graph.proofs.SsiTest.Stands.{look_there, stands_there}
+use Rattle.sia_graph.proofs.ssi.late_of.Goals as goal
+
+pub loop-txn-init : goal.loop-txn-init
+loop-txn-init c =
+    let e = c.args.evidence.now in
+    let size = c.size_for-size.result in
+    ((seen_unmarked e.index.now e.accesses.now c.args.values.now c.position_count.result c.as_mut_slice-seen.result.now c.position_count.ensures (c.as_mut_slice-seen.ensures.value ∙ c.in_ok-seen_marks.ensures.items_if_clones_equal (λ y e. e))), passed_unmarked e.index.now e.accesses.now c.args.values.now size (2 * size) c.as_mut_slice-most.result.now refl (c.as_mut_slice-most.ensures.value ∙ c.in_ok-block_marks.ensures.items_if_clones_equal (λ y e. e)), omega arith)
+
+pub fill-requires-clause-txn : goal.fill-requires-clause-txn
+fill-requires-clause-txn c =
+    let txns = c.requires.values in
+    let l = c.loop-txn-test.true in
+    (get_or txns.0 c.loop-txn.txn 0, (txns.0, txns.1, (let e = txns.2 in omega arith), refl))
+
+pub put_stands-requires-clause-txn : goal.put_stands-requires-clause-txn
+put_stands-requires-clause-txn c =
+    let txns = c.requires.values in
+    let l = c.loop-txn-test.true in
+    (get_or txns.0 c.loop-txn.txn 0, (txns.0, txns.1, (let e = txns.2 in omega arith), refl))
+
+pub put_stands-requires-clause-own : goal.put_stands-requires-clause-own
+put_stands-requires-clause-own c =
+    subst (λ (l : List ℕ). (j : ℕ) → Contains l j ↔ IsOwnPassed c.args.evidence.now.index.now c.args.evidence.now.accesses.now c.loop-txn.txn j) (sym c.deref.ensures.value) c.in_ok-fill.ensures.own
+
+pub raise_all-requires : goal.raise_all-requires
+raise_all-requires c k d l =
+    let e = c.args.evidence.now in
+    let places = c.deref-in-loop-txn.result.now in
+    let place = get_or places k d in
+    let w = c.in_ok-put_stands.ensures.sound place (subst (λ (xs : List ℕ). Contains xs place) c.deref-in-loop-txn.ensures.value (Contains-get_or places k d l)) in
+    positions_below e.index.now (length c.loop-txn.seen) place c.loop-txn.invariant.0.long (stands_there e.index.now c.loop-txn.txn w.0 place (look_there e.index.now e.accesses.now c.requires.evidence.accesses c.loop-txn.txn w.0 w.1) w.2)
+
+pub put_all_blocks-requires : goal.put_all_blocks-requires
+put_all_blocks-requires c = let e = c.args.evidence.now in let few = size_few c.size_for-size.result e.index.now e.accesses.now c.requires.evidence.well_formed c.size_for-size.ensures in omega arith
+
+pub raise_all-requires-in-loop-txn : goal.raise_all-requires-in-loop-txn
+raise_all-requires-in-loop-txn c k d l =
+    let blocks = c.deref-in-loop-txn-3.result.now in
+    let b = get_or blocks k d in
+    let long = c.loop-txn.invariant.1.long in
+    elim (c.in_ok-put_all_blocks.ensures.within b (subst (λ (xs : List ℕ). Contains xs b) c.deref-in-loop-txn-3.ensures.value (Contains-get_or blocks k d l))) [
+      | inl none ↦ let l = (subst (λ (xs : List ℕ). Contains xs b) c.clear-in-loop-txn.ensures.items none).1 in absurd (omega arith)
+      | inr w ↦ let l = w.1 in omega arith
+    ]
+
+pub last_before-requires-clause-few : goal.last_before-requires-clause-few
+last_before-requires-clause-few c = let e = c.args.evidence.now in size_few c.size_for-size.result e.index.now e.accesses.now c.requires.evidence.well_formed c.size_for-size.ensures
+
+pub last_before-requires-clause-keys : goal.last_before-requires-clause-keys
+last_before-requires-clause-keys c j k at = elim c.size_for-size.ensures [
+  | inl all ↦ let l = (key_number c.args.evidence.now.index.now all.0 all.1 j k at).0 in let e = all.2 in inr (omega arith)
+  | inr none ↦ inl none.0
+]
+
+pub returns : goal.returns
+returns c =
+    let e = c.args.evidence.now in
+    let size = c.size_for-size.result in
+    let txns = c.requires.values in
+    let marks = c.loop-txn.invariant in
+    let last : c.loop-txn.txn ≡ length txns.0 = let e = txns.2 in let most = marks.2 in omega arith in
+    IfOk-weaker c.last_before.result _ _
+    (λ late told. lates e.index.now c.requires.evidence.well_formed c.requires.kept e.accesses.now c.requires.evidence.accesses txns.0 txns.1 size
+    (λ j k at. elim c.size_for-size.ensures [
+      | inl all ↦ let l = (key_number e.index.now all.0 all.1 j k at).0 in let e = all.2 in inr (omega arith)
+      | inr none ↦ inl none.0
+    ])
+    (λ i j none m. elim c.size_for-size.ensures [
+      | inl all ↦ let w = c.requires.evidence.accesses.missed i j m in let l = (key_number e.index.now all.0 all.1 j w.1 w.3).0 in let e = all.2 in absurd (omega arith)
+      | inr never ↦ never.1 i j m
+    ])
+    c.args.values.now c.loop-txn.seen c.loop-txn.most late.items
+    (subst (λ n. AreSeenMarks e.index.now e.accesses.now c.args.values.now n c.loop-txn.seen) last marks.0) (subst (λ n. ArePassedMarks e.index.now e.accesses.now c.args.values.now size n c.loop-txn.most) last marks.1)
+    told)
+    c.last_before.ensures
+
+pub overflow_cast-txn : goal.overflow_cast-txn
+overflow_cast-txn c = let txns = c.requires.values in let few = few_txns c.args.evidence.now.index.now c.requires.evidence.well_formed txns.0 txns.1 in let e = txns.2 in omega arith
+
+pub overflow_cast-txn-in-loop-txn : goal.overflow_cast-txn-in-loop-txn
+overflow_cast-txn-in-loop-txn c = let txns = c.requires.values in let few = few_txns c.args.evidence.now.index.now c.requires.evidence.well_formed txns.0 txns.1 in let e = txns.2 in let l = c.loop-txn-test.true in omega arith
+
+pub loop-txn-preserved : goal.loop-txn-preserved
+loop-txn-preserved c =
+    let e = c.args.evidence.now in
+    let h = e.index.now in
+    let a = e.accesses.now in
+    let n = c.loop-txn.txn in
+    let values = c.args.values.now in
+    let value = get_or values n 0 in
+    let size = c.size_for-size.result in
+    let txns = c.requires.values in
+    let t = get_or txns.0 n 0 in
+    let at : IsCommittedAt h n t = let l = c.loop-txn-test.true in (txns.0, txns.1, (let e = txns.2 in omega arith), refl) in
+    let stands = c.in_ok-put_stands.ensures in
+    let blocks = c.put_all_blocks.new.blocks.items in
+    let put = c.in_ok-put_all_blocks.ensures in (
+      seen_marked h a values n t value at refl c.loop-txn.seen c.raise_all.new.table c.put_stands.new.places.items c.raise_all.ensures.long
+          (subst (λ (l : List ℕ). (q x : ℕ) → (x ≤ get_or c.raise_all.new.table q 0) ↔ ((x ≤ get_or c.loop-txn.seen q 0) ⊎ (Contains l q × (x ≤ value)))) c.deref-in-loop-txn.ensures.value c.raise_all.ensures.raised)
+          c.loop-txn.invariant.0 stands.sound stands.has,
+      passed_marked h a values n t value at refl c.loop-txn.most c.raise_all-in-loop-txn.new.table blocks c.raise_all-in-loop-txn.ensures.long
+          (subst (λ (l : List ℕ). (q x : ℕ) → (x ≤ get_or c.raise_all-in-loop-txn.new.table q 0) ↔ ((x ≤ get_or c.loop-txn.most q 0) ⊎ (Contains l q × (x ≤ value)))) c.deref-in-loop-txn-3.ensures.value c.raise_all-in-loop-txn.ensures.raised)
+          size c.loop-txn.invariant.1 (IsHeldBy c.fill.new.self.stretches.items)
+          (subst (λ (l : List RangeMiss). (j : ℕ) → j < size → IsUnderSome size blocks j ↔ (IsUnderSome size [] j ⊎ IsHeldBy l j)) c.deref-in-loop-txn-2.ensures.value
+          (subst (λ (l : List ℕ). (j : ℕ) → j < size → IsUnderSome size blocks j ↔ (IsUnderSome size l j ⊎ IsHeldBy c.deref-in-loop-txn-2.result.now j)) c.clear-in-loop-txn.ensures.items put.over))
+          (subst (λ (l : List ℕ). (b : ℕ) → Contains blocks b → Contains l b ⊎ ((0 < b) × (b < 2 * size))) c.clear-in-loop-txn.ensures.items put.within)
+          c.in_ok-fill.ensures.stretches,
+      (let l = c.loop-txn-test.true in omega arith),
+    )

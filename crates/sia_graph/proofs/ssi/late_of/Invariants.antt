@@ -1,0 +1,6 @@
+use Rattle.std.proofs.Common.{◌≤◌}
+use Rattle.sia_graph.specs.Late.{ArePassedMarks, AreSeenMarks}
+use Rattle.sia_graph.proofs.ssi.late_of.Given as goal
+
+abbrev pub invariant-loop-txn : goal.invariant-loop-txn
+invariant-loop-txn l = AreSeenMarks l.evidence.index.now l.evidence.accesses.now l.values l.txn l.seen × ArePassedMarks l.evidence.index.now l.evidence.accesses.now l.values l.size l.txn l.most × (l.txn ≤ l.txn-end)

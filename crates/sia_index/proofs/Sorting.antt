@@ -1,0 +1,6 @@
+pub mod Dealt
+pub mod DealtRows
+pub mod Finding
+pub mod Offsets
+pub mod Points
+pub mod SideBySide

@@ -1,0 +1,260 @@
+-- The tables of versions, as loops over their rows fill them.
+use Rattle.std.proofs.Common.{◌≡◌, ◌≢◌, inl, inr, ℕ, ◌+◌, ◌-◌, ◌<◌, ◌≤◌, List, [], ◌∷◌, ◌++◌, length, set, get_or, Some, None, refl, sym, subst, ◌∙◌, ap, arith, slice_get}
+use Rattle.std.specs.Prelude.{All, AllPairs, Contains, slice_index, slice_index_or}
+use Rattle.std.proofs.lemmas.Bool.{cases_lt, cases_eq}
+use Rattle.std.proofs.lemmas.List.{get_or_default, get_or_append_left, get_or_push, get_or-set_same, get_or-set_other, length-set, length_push}
+use Rattle.std.proofs.lemmas.List.Elements.{All-push, Contains-append_left, Contains-get_or, Contains-push, Contains-push_cases}
+use Rattle.std.proofs.lemmas.Option.{get_or_from_slice_get, slice_get-get_or}
+use Rattle.sia_events.specs.declared.event.Event.{Event}
+use Rattle.sia_events.specs.Lists.{Precedes}
+use Rattle.sia_events.specs.Numbering.{names_of, writes_of, write_at}
+use Rattle.sia_events.specs.Transactions.{CommitsAt}
+use Rattle.sia_index.specs.declared.info.WriteAt.{WriteAt}
+use Rattle.sia_index.specs.declared.versions.MadeRow.{MadeRow}
+use Rattle.sia_index.specs.declared.versions.VersionRow.{VersionRow}
+use Rattle.sia_index.specs.VersionRows.{AreFirsts, AreMadeRows, AreRowsBelow, AreWritesAt, AreZeroRows, IsMadeRow, IsVersionRow}
+use Rattle.sia_index.proofs.Shared.NumberedNames.{same_some}
+
+abbrev pub no_row : VersionRow
+no_row = record { key = 0; commit = 0; maker = 0; write = 0 }
+
+abbrev pub no_write : WriteAt
+no_write = record { key = 0; position = None }
+
+-- one more at the end of a list in which each is before each later one
+pub pairs_push : {A : Type 0} (R : A → A → Type 0) (xs : List A) (y : A) → AllPairs R xs → All (λ x. R x y) xs → AllPairs R (xs ++ y ∷ [])
+pairs_push {A} R xs y pairs all i j d less below =
+    let long = length_push xs y in
+    let first = get_or_append_left xs (y ∷ []) d i (omega arith) in
+    elim (cases_lt j (length xs)) [
+      | inl before ↦
+          let second = get_or_append_left xs (y ∷ []) d j before in
+          subst (λ (a : A). R a (get_or (xs ++ y ∷ []) j d)) (sym first) (subst (λ (b : A). R (get_or xs i d) b) (sym second) (pairs i j d less before))
+      | inr last ↦
+          let second = get_or_push xs y d j (omega arith) in
+          subst (λ (a : A). R a (get_or (xs ++ y ∷ []) j d)) (sym first) (subst (λ (b : A). R (get_or xs i d) b) (sym second) (all i d (omega arith)))
+    ]
+
+-- one key more
+pub zero_more : (n : ℕ) (rows : List VersionRow) (row : VersionRow) → AreZeroRows n rows → row.key ≡ n → row.commit ≡ 0 → row.write ≡ 0 → AreZeroRows (n + 1) (rows ++ row ∷ [])
+zero_more n rows row are key commit write = (
+  length_push rows row ∙ ap (λ m. m + 1) are.0,
+  λ i d below. elim (cases_lt i n) [
+    | inl less ↦ subst (λ (r : VersionRow). (r.key ≡ i) × (r.commit ≡ 0) × (r.write ≡ 0)) (sym (get_or_append_left rows (row ∷ []) d i (let long = are.0 in omega arith))) (are.1 i d less)
+    | inr more ↦
+        let at : i ≡ n = omega arith in
+        subst (λ (r : VersionRow). (r.key ≡ i) × (r.commit ≡ 0) × (r.write ≡ 0)) (sym (get_or_push rows row d i (let long = are.0 in omega arith))) (key ∙ sym at, commit, write)
+  ],
+)
+
+module _ (h : List Event) (committed keys : List ℕ) where
+  -- before the first write they are those of version 0
+  pub rows_none : (rows : List VersionRow) → AreZeroRows (length keys) rows → AreRowsBelow h committed keys 0 rows
+  rows_none rows are =
+      let long = are.0 in
+      record {
+        ascending = λ i j d less below.
+            let x = are.1 i d (omega arith) in
+            let y = are.1 j d (omega arith) in
+            let a = x.2 in
+            let b = y.2 in
+            let k = x.0 in
+            let m = y.0 in
+            inr (a ∙ sym b, inl (omega arith));
+        right = λ i d below.
+            let x = are.1 i d (omega arith) in
+            let key = x.0 in
+            let write = x.2 in
+            ((omega arith, inl (x.2, x.1)), omega arith);
+        zeros = λ i below. (
+          slice_index_or rows i no_row,
+          Contains-get_or rows i no_row (omega arith),
+          (are.1 i no_row below).0,
+          (are.1 i no_row below).2,
+        );
+        made = λ w k t c less. absurd (omega arith);
+      }
+
+  module _ (n : ℕ) (rows : List VersionRow) (are : AreRowsBelow h committed keys n rows) where
+    -- a write of a transaction that didn't commit
+    pub rows_skip : (k t : ℕ) → slice_get (writes_of h) n ≡ Some (k, t) → ((c : ℕ) → ¬ CommitsAt h t c) → AreRowsBelow h committed keys (n + 1) rows
+    rows_skip k t at none = record {
+      ascending = are.ascending;
+      right = λ i d below. ((are.right i d below).0, (let most = (are.right i d below).1 in omega arith));
+      zeros = are.zeros;
+      made = λ w l u c less there commits. elim (cases_lt w n) [
+        | inl before ↦ are.made w l u c before there commits
+        | inr last ↦
+            let same : w ≡ n = omega arith in
+            let pair = same_some (l, u) (k, t) (sym there ∙ ap (slice_get (writes_of h)) same ∙ at) in
+            absurd (none c (subst (λ v. CommitsAt h v c) (ap (λ (p : ℕ × ℕ). p.1) pair) commits))
+      ];
+    }
+
+    -- and one of a transaction that did
+    pub rows_more : (row : VersionRow) → row.key < length keys → row.write ≡ n + 1 → IsMadeRow h committed keys row → AreRowsBelow h committed keys (n + 1) (rows ++ row ∷ [])
+    rows_more row key write made = record {
+      ascending = pairs_push (λ (x : VersionRow) y. Precedes (x.write ∷ x.key ∷ []) (y.write ∷ y.key ∷ [])) rows row are.ascending (λ i d below. let most = (are.right i d below).1 in inl (omega arith));
+      right = All-push (λ r. IsVersionRow h committed keys r × (r.write ≤ n + 1)) rows row (λ i d below. ((are.right i d below).0, (let most = (are.right i d below).1 in omega arith))) ((key, inr made), omega arith);
+      zeros = λ i below. let old = are.zeros i below in (old.0, Contains-append_left rows (row ∷ []) old.0 old.1, old.2, old.3);
+      made = λ w l u c less there commits. elim (cases_lt w n) [
+        | inl before ↦ let old = are.made w l u c before there commits in (old.0, Contains-append_left rows (row ∷ []) old.0 old.1, old.2)
+        | inr last ↦ (row, Contains-push rows row, omega arith)
+      ];
+    }
+
+-- the position of version 0 of one key more, or none
+module _ (rows : List VersionRow) (n keys : ℕ) (firsts : List ℕ) (are : AreFirsts rows n keys firsts) (some : n < length rows) where
+  pub firsts_skip : (r : VersionRow) → 0 < (slice_index_or rows n r).write → AreFirsts rows (n + 1) keys firsts
+  firsts_skip r made = record {
+    count = are.count;
+    each = λ j d less none. elim (cases_lt j n) [
+      | inl before ↦ are.each j d before none
+      | inr last ↦
+          let same : j ≡ n = omega arith in
+          let a = ap (λ m. (slice_index_or rows m d).write) same in
+          let b = ap (λ (x : VersionRow). x.write) (get_or_default rows n d r some) in
+          absurd (omega arith)
+    ];
+  }
+
+  pub firsts_more : AllPairs (λ (x : VersionRow) y. x.write ≡ 0 → y.write ≡ 0 → x.key ≢ y.key) rows → (r : VersionRow) → (slice_index_or rows n r).write ≡ 0 → (slice_index_or rows n r).key < keys → AreFirsts rows (n + 1) keys (set firsts (slice_index_or rows n r).key n)
+  firsts_more apart r zero_here within = record {
+    count = length-set firsts key n ∙ are.count;
+    each = λ j d less none. elim (cases_lt j n) [
+      | inl before ↦
+          let a = ap (λ (x : VersionRow). x.key) (get_or_default rows n d r some) in
+          let b = ap (λ (x : VersionRow). x.write) (get_or_default rows n d r some) in
+          let other = apart j n d before some none (b ∙ zero_here) in
+          get_or-set_other firsts key (slice_index_or rows j d).key n 0 (λ e. other (e ∙ sym a)) ∙ are.each j d before none
+      | inr last ↦
+          let same : j ≡ n = omega arith in
+          let a : (slice_index_or rows j d).key ≡ key = ap (λ m. (slice_index_or rows m d).key) same ∙ ap (λ (x : VersionRow). x.key) (get_or_default rows n d r some) in
+          ap (slice_index (set firsts key n)) a ∙ get_or-set_same firsts key n 0 (let long = are.count in omega arith) ∙ sym same
+    ];
+  }
+    where
+      key : ℕ
+      key = (slice_index_or rows n r).key
+
+-- the keys of the first n writes, none of which has a position
+abbrev pub WritesSoFar : List Event → List ℕ → ℕ → List WriteAt → Type 0
+WritesSoFar h keys n writes = (length writes ≡ n)
+    × ((w : ℕ) (d : WriteAt) → w < n → ((slice_index_or writes w d).key < length keys) × (slice_index keys (slice_index_or writes w d).key ≡ (write_at (names_of h) w).0) × ((slice_index_or writes w d).position ≡ None))
+
+pub writes_more : (h : List Event) (keys : List ℕ) (n : ℕ) (writes : List WriteAt) → WritesSoFar h keys n writes → (write : WriteAt) → write.key < length keys → slice_index keys write.key ≡ (write_at (names_of h) n).0 → write.position ≡ None → WritesSoFar h keys (n + 1) (writes ++ write ∷ [])
+writes_more h keys n writes so write within key position = (
+  length_push writes write ∙ ap (λ m. m + 1) so.0,
+  λ w d below. elim (cases_lt w n) [
+    | inl less ↦ subst (λ (x : WriteAt). (x.key < length keys) × (slice_index keys x.key ≡ (write_at (names_of h) w).0) × (x.position ≡ None)) (sym (get_or_append_left writes (write ∷ []) d w (let long = so.0 in omega arith))) (so.1 w d less)
+    | inr more ↦
+        let at : n ≡ w = omega arith in
+        subst (λ (x : WriteAt). (x.key < length keys) × (slice_index keys x.key ≡ (write_at (names_of h) w).0) × (x.position ≡ None)) (sym (get_or_push writes write d w (let long = so.0 in omega arith))) (within, key ∙ ap (λ m. (write_at (names_of h) m).0) at, position)
+  ],
+)
+
+pub writes_unplaced : (h : List Event) (keys : List ℕ) (writes : List WriteAt) (rows : List VersionRow) → WritesSoFar h keys (length (writes_of h)) writes → AreWritesAt h keys rows 0 writes
+writes_unplaced h keys writes rows so = record {
+  count = so.0;
+  keys_are = λ w d below. let is = so.1 w d below in (is.0, is.1);
+  placed = λ j d e less. absurd (omega arith);
+  only = λ w j d e below at. let none = (so.1 w e below).2 in absurd (let no : None ≡ Some j = sym none ∙ at in cc);
+}
+
+module _ (h : List Event) (keys : List ℕ) (rows : List VersionRow) (n : ℕ) (writes : List WriteAt) (are : AreWritesAt h keys rows n writes) (some : n < length rows) (r : VersionRow) where
+  pub place_skip : (slice_index_or rows n r).write ≡ 0 → AreWritesAt h keys rows (n + 1) writes
+  place_skip none = record {
+    count = are.count;
+    keys_are = are.keys_are;
+    placed = λ j d e less made. elim (cases_lt j n) [
+      | inl before ↦ are.placed j d e before made
+      | inr last ↦
+          let same : j ≡ n = omega arith in
+          let a = ap (λ m. (slice_index_or rows m d).write) same in
+          let b = ap (λ (x : VersionRow). x.write) (get_or_default rows n d r some) in
+          absurd (omega arith)
+    ];
+    only = λ w j d e below at. let old = are.only w j d e below at in ((let less = old.0 in omega arith), old.1);
+  }
+
+  -- the version of the next row is placed
+  pub place_more : AllPairs (λ (x : VersionRow) y. 0 < x.write → x.write ≢ y.write) rows → (w : ℕ) → (slice_index_or rows n r).write ≡ w + 1 → w < length writes → (old : WriteAt) → old ≡ slice_index_or writes w old → AreWritesAt h keys rows (n + 1) (set writes w (record { key = old.key; position = Some n }))
+  place_more apart w write within old read = record {
+    count = length-set writes w more ∙ are.count;
+    keys_are = λ v d below. elim (cases_eq v w) [
+      | inl same ↦
+          let is = are.keys_are v old below in
+          let own : slice_index_or (set writes w more) v d ≡ more = ap (λ u. slice_index_or (set writes w more) u d) same ∙ get_or-set_same writes w more d within in
+          let key : (slice_index_or writes v old).key ≡ (slice_index_or (set writes w more) v d).key = ap (λ u. (slice_index_or writes u old).key) same ∙ sym (ap (λ (x : WriteAt). x.key) read) ∙ sym (ap (λ (x : WriteAt). x.key) own) in
+          subst (λ k. (k < length keys) × (slice_index keys k ≡ (write_at (names_of h) v).0)) key is
+      | inr other ↦ subst (λ (x : WriteAt). (x.key < length keys) × (slice_index keys x.key ≡ (write_at (names_of h) v).0)) (sym (get_or-set_other writes w v more d other)) (are.keys_are v d below)
+    ];
+    placed = λ j d e less made. elim (cases_lt j n) [
+      | inl before ↦
+          let b = ap (λ (x : VersionRow). x.write) (get_or_default rows n d r some) in
+          let differs : (slice_index_or rows j d).write ≢ (slice_index_or rows n d).write = apart j n d before some made in
+          ap (λ (x : WriteAt). x.position) (get_or-set_other writes w ((slice_index_or rows j d).write - 1) more e (λ same. differs (omega arith))) ∙ are.placed j d e before made
+      | inr last ↦
+          let same : j ≡ n = omega arith in
+          let a = ap (λ m. (slice_index_or rows m d).write) same in
+          let b = ap (λ (x : VersionRow). x.write) (get_or_default rows n d r some) in
+          let at : (slice_index_or rows j d).write - 1 ≡ w = omega arith in
+          ap (λ u. (slice_index_or (set writes w more) u e).position) at ∙ ap (λ (x : WriteAt). x.position) (get_or-set_same writes w more e within) ∙ ap Some (sym same)
+    ];
+    only = λ v j d e below at. elim (cases_eq v w) [
+      | inl same ↦
+          let own : slice_index_or (set writes w more) v e ≡ more = ap (λ u. slice_index_or (set writes w more) u e) same ∙ get_or-set_same writes w more e within in
+          let place : n ≡ j = same_some n j (sym (ap (λ (x : WriteAt). x.position) own) ∙ at) in
+          let b = ap (λ (x : VersionRow). x.write) (get_or_default rows n d r some) in
+          let c = ap (λ m. (slice_index_or rows m d).write) place in
+          (omega arith, omega arith)
+      | inr other ↦
+          let old_at = are.only v j d e below (ap (λ (x : WriteAt). x.position) (sym (get_or-set_other writes w v more e other)) ∙ at) in
+          ((let less = old_at.0 in omega arith), old_at.1)
+    ];
+  }
+    where
+      more : WriteAt
+      more = record { key = old.key; position = Some n }
+
+-- the maker of the next row, if its version has one
+module _ (rows : List VersionRow) (n : ℕ) (made : List MadeRow) (are : AreMadeRows rows n made) (some : n < length rows) (r : VersionRow) where
+  at_n : (row : VersionRow) → slice_get rows n ≡ Some row → slice_index_or rows n r ≡ row
+  at_n row at = get_or_from_slice_get rows n row r at
+
+  pub made_skip : (slice_index_or rows n r).write ≡ 0 → AreMadeRows rows (n + 1) made
+  made_skip none = record {
+    ascending = are.ascending;
+    each = λ m. (
+      (λ c. let old = (are.each m).0 c in ((let less = old.0 in omega arith), old.1, old.2, old.3, old.4)),
+      (λ (less, row, at, written, maker). elim (cases_lt m.position n) [
+        | inl before ↦ (are.each m).1 (before, row, at, written, maker)
+        | inr last ↦
+            let same : m.position ≡ n = omega arith in
+            let e = ap (λ (x : VersionRow). x.write) (at_n row (ap (slice_get rows) (sym same) ∙ at)) in
+            absurd (omega arith)
+      ]),
+    );
+  }
+
+  pub made_more : 0 < (slice_index_or rows n r).write → AreMadeRows rows (n + 1) (made ++ record { maker = (slice_index_or rows n r).maker; position = n } ∷ [])
+  made_more written_here = record {
+    ascending = pairs_push (λ (x : MadeRow) y. x.position < y.position) made next are.ascending (λ i d below. ((are.each (slice_index_or made i d)).0 (Contains-get_or made i d below)).0);
+    each = λ m. (
+      (λ c. elim (Contains-push_cases made next m c) [
+        | inl before ↦ let old = (are.each m).0 before in ((let less = old.0 in omega arith), old.1, old.2, old.3, old.4)
+        | inr same ↦ subst (λ (x : MadeRow). (x.position < n + 1) × (row : VersionRow) × (slice_get rows x.position ≡ Some row) × (0 < row.write) × (row.maker ≡ x.maker)) same
+            (omega arith, slice_index_or rows n r, slice_get-get_or rows n r some, written_here, refl)
+      ]),
+      (λ (less, row, at, written, maker). elim (cases_lt m.position n) [
+        | inl before ↦ Contains-append_left made (next ∷ []) m ((are.each m).1 (before, row, at, written, maker))
+        | inr last ↦
+            let same : n ≡ m.position = omega arith in
+            let own : (slice_index_or rows n r).maker ≡ m.maker = ap (λ (x : VersionRow). x.maker) (at_n row (ap (slice_get rows) same ∙ at)) ∙ maker in
+            subst (Contains (made ++ next ∷ [])) (λ i. record { maker = own i; position = same i }) (Contains-push made next)
+      ]),
+    );
+  }
+    where
+      next : MadeRow
+      next = record { maker = (slice_index_or rows n r).maker; position = n }

@@ -1,5 +1,0 @@
-use Rattle.sia_index.proofs.Tallies.{AreTallies}
-use Rattle.sia_index.proofs.info.counted.Given as goal
-
-abbrev pub invariant-loop-i : goal.invariant-loop-i
-invariant-loop-i l = AreTallies l.ix l.txns l.i l.committed l.aborted l.unfinished

@@ -1,0 +1,17 @@
+pub mod AsOf
+pub mod Committing
+pub mod Covered
+pub mod CutPairs
+pub mod FewWrites
+pub mod Gaining
+pub mod KeyLemmas
+pub mod KeyNumbers
+pub mod LogWrites
+pub mod Members
+pub mod PartReads
+pub mod Passing
+pub mod Positions
+pub mod RangeCovers
+pub mod Saw
+pub mod SeenAll
+pub mod Viewing

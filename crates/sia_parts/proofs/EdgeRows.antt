@@ -1,0 +1,10 @@
+pub mod AccessRows
+pub mod ChunkBoundLemmas
+pub mod EdgeLists
+pub mod EdgeLoops
+pub mod EdgeNames
+pub mod KeyEnds
+pub mod PositionEdges
+pub mod PositionOrder
+pub mod Readings
+pub mod Sources

@@ -1,0 +1,6 @@
+pub mod Groups
+pub mod InTwoNumbers
+pub mod Named
+pub mod PushedWords
+pub mod Sighted
+pub mod TakenEvents

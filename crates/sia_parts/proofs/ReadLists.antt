@@ -1,0 +1,3 @@
+pub mod DealtPlaces
+pub mod DealtReads
+pub mod PartOrder

@@ -1,0 +1,247 @@
+//! What a line of reasons tells: events, the name of a bad read, and where an edge was first seen.
+ghost use Rattle.std.specs.Prelude.{◌≡◌, ◌≢◌, ◌++◌, ℕ, List, OnOk, codes, MatchOption, ◌↔◌, IfOk, IsTrue};
+ghost use Rattle.sia_events.specs.Text.{numeral};
+ghost use Rattle.sia_events.specs.Transactions.{Wrote, StartsAt, CommitsBefore};
+ghost use Rattle.sia_parts.specs.Telling.{TellsUnless, TellsVersion, event_words};
+ghost use Rattle.sia_events.specs.declared.event.Anomaly.{Anomaly as AnAnomaly};
+ghost use Rattle.sia_events.specs.Anomalies.{IsNamed};
+ghost use Rattle.sia_events.specs.Isolation.{IsBadRead};
+ghost use Rattle.sia_parts.specs.Wrong.{IsWrong};
+ghost use Rattle.sia_events.specs.Reads.{SawAt};
+ghost use Rattle.sia_parts.specs.Entries.{IsEdge};
+ghost use Rattle.sia_parts.specs.Acts.{AreActs};
+ghost use Rattle.sia_parts.specs.Sightings.{Gives, IsFirstSight, reader_of};
+ghost use Rattle.sia_parts.specs.declared.reasons.Act.{Act};
+
+use crate::finding::{BadRead, Edge, Kind};
+use sia_events::{Anomaly, History, Key, NoMemory, TxnId, Version, push_number};
+use sia_index::keyed::{By, ByTxn, between};
+use sia_index::{Fate, Index};
+use std::alloc::{AllocError, Global};
+
+/// A history and its index.
+#[derive(Clone, Copy)]
+pub struct Recorded<'a> {
+    pub history: &'a History,
+    pub index: &'a Index,
+}
+
+/// Some words, and the event at a place, as far as it is about the key.
+pub fn push_event(
+    out: &mut Vec<u8>,
+    before: &[u8],
+    h: &History,
+    key: Key,
+    place: u32,
+) -> Result<(), NoMemory>
+    ensures { OnOk result (out.new.items ≡ out.old.items ++ before.now ++ event_words h.now key place) }
+{
+    out.extend_from_slice(before)?;
+    push_number(out, b"event ", u64::from(place), b" ")?;
+    h.push_about(out, place, key)
+}
+
+/// Some words, a transaction, when it started, and some more words.
+pub fn push_start(
+    out: &mut Vec<u8>,
+    before: &[u8],
+    txn: TxnId,
+    start: u32,
+    behind: &[u8],
+) -> Result<(), AllocError>
+    ensures { OnOk result (out.new.items ≡ out.old.items ++ before.now ++ numeral txn
+        ++ codes " starts after event " ++ numeral start ++ behind.now) }
+{
+    push_number(out, before, u64::from(txn), b" starts after event ")?;
+    push_number(out, b"", u64::from(start), behind)
+}
+
+/// Some words, where the transaction first wrote the key, and where it ended if it did.
+pub fn push_version(
+    out: &mut Vec<u8>,
+    before: &[u8],
+    of: &Recorded,
+    key: Key,
+    version: Version,
+) -> Result<(), NoMemory>
+    requires index { of.now.index.now ≡ of.now.history.now }
+    requires wrote { Wrote of.now.history.now version key }
+    ensures { OnOk result ((words : List ℕ) × TellsVersion of.now.history.now key version words
+        × (out.new.items ≡ out.old.items ++ before.now ++ words)) }
+{
+    let (Some(write), Some(info)) = (of.index.first_write(version, key), of.index.txn(version))
+    else {
+        return Ok(());
+    };
+    push_event(out, before, of.history, key, write)?;
+    match info.ended {
+        Some(end) => push_event(out, b", ", of.history, key, end),
+        None => Ok(()),
+    }
+}
+
+/// The version between these words, unless it is the one that is known.
+pub fn push_unless(
+    out: &mut Vec<u8>,
+    of: &Recorded,
+    key: Key,
+    version: Version,
+    known: Version,
+    around: (&[u8], &[u8]),
+) -> Result<(), NoMemory>
+    requires index { of.now.index.now ≡ of.now.history.now }
+    requires wrote { version ≢ known → Wrote of.now.history.now version key }
+    ensures { OnOk result ((bytes : List ℕ)
+        × TellsUnless known of.now.history.now around.entry.0.now key version around.entry.1.now bytes
+        × (out.new.items ≡ out.old.items ++ bytes)) }
+{
+    if version == known {
+        return Ok(());
+    }
+    push_version(out, around.0, of, key, version)?;
+    out.extend_from_slice(around.1)?;
+    Ok(())
+}
+
+fn wrong_with(ix: &Index, saw: Version, start: u32) -> Option<Anomaly>
+    ensures { MatchOption result ((name : AnAnomaly) → ¬ IsWrong ix.now saw start name)
+        (IsWrong ix.now saw start) }
+{
+    ix.law();
+    let writer = ix.txn(saw)?;
+    match writer.fate {
+        Fate::Aborted => Some(Anomaly::AbortedRead),
+        Fate::Unfinished => Some(Anomaly::UncommittedRead),
+        Fate::Committed => {
+            let end = ix.lifetime_of(saw)?.commit;
+            if start < end {
+                return Some(Anomaly::FutureRead);
+            }
+            None
+        }
+    }
+}
+
+/// The name of a bad read, whose transaction starts so.
+pub fn anomaly_of(h: &History, ix: &Index, b: &BadRead, start: u32) -> Anomaly
+    requires index { ix.now ≡ h.now }
+    requires bad { IsBadRead h.now b.now.place b.now.txn b.now.key b.now.saw b.now.due }
+    requires starts { StartsAt h.now b.now.txn start }
+    ensures { IsNamed h.now b.now.place b.now.txn b.now.key b.now.saw b.now.due result }
+{
+    h.law();
+    if b.due == b.txn {
+        return Anomaly::OwnWriteMissed;
+    }
+    if let Some(wrong) = wrong_with(ix, b.saw, start) {
+        return wrong;
+    }
+    if b.due == 0 {
+        return Anomaly::StaleRead;
+    }
+    if h.leaves_out(b.place, b.key) {
+        return Anomaly::Phantom;
+    }
+    Anomaly::StaleRead
+}
+
+/// A transaction, and the place of an event of it.
+#[derive(Clone, Copy)]
+pub struct Act {
+    pub txn: TxnId,
+    pub place: u32,
+}
+
+impl By<Act> for ByTxn {
+    ghost by = { λ act. act.txn };
+
+    fn number(act: &Act) -> u64 {
+        u64::from(act.txn)
+    }
+}
+
+/// All events, by transaction and place.
+pub fn acts_of(alloc: Global, h: &History) -> Result<Vec<Act>, NoMemory>
+    ensures { IfOk result (λ acts. AreActs h.now acts.items) }
+{
+    let count = h.len();
+    let mut acts = Vec::with_capacity(alloc, count as usize)?;
+    for before in 0..count {
+        if let Some(event) = h.event(before + 1) {
+            acts.push(Act {
+                txn: event.txn(),
+                place: before + 1,
+            })?;
+        }
+    }
+    acts.sort_unstable_by_key(|act| (act.txn, act.place));
+    Ok(acts)
+}
+
+fn commits_before(ix: &Index, first: TxnId, second: TxnId) -> bool
+    ensures { IsTrue result ↔ CommitsBefore ix.now first second }
+{
+    ix.law();
+    match (ix.lifetime_of(first), ix.lifetime_of(second)) {
+        (Some(one), Some(other)) => one.commit < other.commit,
+        _ => false,
+    }
+}
+
+fn reader_of_edge(e: &Edge) -> TxnId
+    ensures { result ≡ reader_of e.now.kind e.now.src e.now.dst }
+{
+    match e.kind {
+        Kind::Wr => e.dst,
+        Kind::Ww | Kind::Rw => e.src,
+    }
+}
+
+fn gives(ix: &Index, e: &Edge, version: Version) -> bool
+    requires edge { IsEdge ix.now e.now }
+    requires seen { (p : ℕ) × SawAt ix.now p (reader_of e.now.kind e.now.src e.now.dst) e.now.key version }
+    ensures { IsTrue result ↔ Gives e.now.kind ix.now e.now.src e.now.dst e.now.key version }
+{
+    ix.law();
+    if version == reader_of_edge(e) {
+        return false;
+    }
+    match e.kind {
+        Kind::Ww => false,
+        Kind::Wr => version == e.src || commits_before(ix, e.src, version),
+        Kind::Rw => version == 0 || commits_before(ix, version, e.dst),
+    }
+}
+
+/// A version of a key that was seen at a place.
+#[derive(Clone, Copy)]
+pub struct FirstSight {
+    pub place: u32,
+    pub version: Version,
+}
+
+/// The first sight that gives the edge, if it comes of a read.
+pub fn first_sight(h: &History, ix: &Index, acts: &[Act], e: &Edge) -> Option<FirstSight>
+    requires index { ix.now ≡ h.now }
+    requires acts { AreActs h.now acts.now }
+    requires edge { IsEdge h.now e.now }
+    ensures { MatchOption result ((p v : ℕ) → SawAt h.now p
+        (reader_of e.now.kind e.now.src e.now.dst) e.now.key v
+        → ¬ Gives e.now.kind h.now e.now.src e.now.dst e.now.key v)
+        (λ sight. IsFirstSight (Gives e.now.kind h.now e.now.src e.now.dst e.now.key) h.now
+        (reader_of e.now.kind e.now.src e.now.dst) e.now.key sight.place sight.version) }
+{
+    h.law();
+    let reader = u64::from(reader_of_edge(e));
+    for act in between::<Act, ByTxn>(acts, reader, reader) {
+        if let Some(version) = h.saw(act.place, e.key) {
+            if gives(ix, e, version) {
+                return Some(FirstSight {
+                    place: act.place,
+                    version,
+                });
+            }
+        }
+    }
+    None
+}
