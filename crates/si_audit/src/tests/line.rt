@@ -293,15 +293,22 @@ const LIMITS: &[(&[&str], u32, u64)] = &[
     ),
 ];
 
+/// The most events and bytes that the words allow, where they give options.
+fn limits_of(alloc: Global, words: &[String]) -> Result<Option<(u32, u64)>, Fail> {
+    match options_from(alloc, words) {
+        Ok(options) => Ok(Some((options.limits().events(), options.limits().bytes()))),
+        Err(fault) => match &fault {
+            LineFault::NoMemory => Err(Fail::from(NoMemory)),
+            _ => Ok(None),
+        },
+    }
+}
+
 #[test]
 fn limits(rt: HostRuntime) -> Result<(), Fail> {
     for (line, events, bytes) in LIMITS {
         let words = words(rt.alloc(), line, 0)?;
-        let given = match options_from(rt.alloc(), words.as_slice()) {
-            Ok(options) => Some((options.limits().events(), options.limits().bytes())),
-            Err(LineFault::NoMemory) => return Err(Fail::from(NoMemory)),
-            Err(_) => None,
-        };
+        let given = limits_of(rt.alloc(), words.as_slice())?;
         assert_eq!(rt; given, Some((*events, *bytes)));
     }
     Ok(())
