@@ -12,7 +12,7 @@ use crate::crew::{Crew, Printing};
 use crate::explain::explained;
 use crate::options::{Form, Options};
 use crate::report::{Sheet, push_back, push_front};
-use sia_events::{History, Log, NoMemory};
+use sia_events::{Log, NoMemory};
 use sia_graph::{Judgement, Link, Pivot, edges_of, listing_law, pivots_of_links};
 use sia_index::Index;
 use sia_parts::{Accesses, Edge, Recorded};
@@ -119,9 +119,8 @@ pub(crate) fn sheets_of<C: Crew>(
         }
         Form::Brief => report_of(alloc, j, Vec::new(alloc), &[]),
         Form::Explained => {
-            let history = History::of(alloc, log)?;
             let of = Recorded {
-                history: &history,
+                history: &log,
                 index,
             };
             let sheet = explained(alloc, &of, j, accesses)?;

@@ -1,5 +1,5 @@
 -- Transactions, keys and first writes, numbered as they first appear, and events by these numbers.
-use Rattle.std.specs.Prelude.{◌≡◌, ◌⊎◌, ℕ, zero, suc, ◌+◌, ◌-◌, ◌<◌, ◌≤◌, ◌==◌, ◌&&◌, Bool, true, false, if◌then◌else◌, nat_lt, List, [], ◌∷◌, ◌++◌, map, length, Some, slice_get, ⊤}
+use Rattle.std.specs.Prelude.{◌≡◌, ◌⊎◌, AllPairs, ℕ, zero, suc, ◌+◌, ◌-◌, ◌<◌, ◌≤◌, ◌==◌, ◌&&◌, Bool, true, false, if◌then◌else◌, nat_lt, List, [], ◌∷◌, ◌++◌, map, length, Some, slice_get, ⊤}
 use Rattle.std.specs.List.{list_any, fold, flat_map, slice_index_or}
 use Rattle.sia_events.specs.declared.event.Event.{Event}
 use Rattle.sia_events.specs.declared.event.Event.TheVariants.{Begin, Read, Range, Write, Commit, Abort}
@@ -120,6 +120,10 @@ IsWriteOf names w k t = (0 < w) × (slice_get names.writes (w - 1) ≡ Some (k, 
 abbrev pub IsSeen : Names → ℕ → ℕ → ℕ → Type 0
 IsSeen names k v zero = v ≡ 0
 IsSeen names k v (suc w) = slice_get names.writes w ≡ Some (k, v)
+
+-- listed pairs by number, each of a greater key than those before it
+abbrev pub AscendByKey : List Event → List ℕ → Type 0
+AscendByKey h pairs = AllPairs (λ p q. (pair_at (names_of h) p).0 < (pair_at (names_of h) q).0) pairs
 
 -- a number of a listed pair has something that it stands for
 abbrev pub IsPair : Names → ℕ → Type 0

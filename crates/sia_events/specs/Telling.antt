@@ -14,6 +14,15 @@ about k (Write t key) = Write t key
 about k (Commit t) = Commit t
 about k (Abort t) = Abort t
 
+-- the event, but these are the pairs that a range read listed
+abbrev pub listing : List (ℕ × ℕ) → Event → Event
+listing pairs (Begin t start) = Begin t start
+listing pairs (Read t key saw) = Read t key saw
+listing pairs (Range t lo hi listed) = Range t lo hi pairs
+listing pairs (Write t key) = Write t key
+listing pairs (Commit t) = Commit t
+listing pairs (Abort t) = Abort t
+
 -- its spelling, or nothing where there is no event
 abbrev pub spell_about : ℕ → Option Event → List ℕ
 spell_about k None = []

@@ -1,8 +1,9 @@
-ghost use Rattle.std.specs.Prelude.{◌≡◌, All, IfOk, map, length, List};
+ghost use Rattle.std.specs.Prelude.{◌≡◌, IfOk, length, List};
 ghost use Rattle.std.specs.Option.{option_copied};
-ghost use Rattle.sia_events.specs.Numbering.{names_of, event_of, pair_at, IsWithin, IsPair};
+ghost use Rattle.sia_events.specs.Numbering.{names_of, event_of, IsWithin};
 ghost use Rattle.sia_events.specs.Places.{at_place};
 ghost use Rattle.sia_events.specs.Refusals.{IsWellFormed};
+ghost use Rattle.sia_events.specs.Telling.{listing};
 ghost use Rattle.sia_events.specs.declared.event.Event.{Event};
 
 use crate::event::{Event, Key, Listed, Version};
@@ -76,17 +77,19 @@ fn listed_out(alloc: Global, log: &Log) -> Result<Vec<Event>, AllocError>
     let mut events = Vec::with_capacity(alloc, log.len() as usize)?;
     for before in 0..log.len() {
         if let Some(row) = log.row(before + 1) {
-            events.push(event_from(alloc, log, row)?)?;
+            let listed = pairs_of(alloc, log, row)?;
+            events.push(event_from(log, row, Listed::new(listed)))?;
         }
     }
     Ok(events)
 }
 
-fn event_from(alloc: Global, log: &Log, row: Row) -> Result<Event, AllocError>
+/// The event that a row stands for, with these listed pairs if it is a range read.
+pub(crate) fn event_from(log: &Log, row: Row, listed: Listed) -> Event
     requires { IsWithin (names_of log.now) row }
-    ensures { IfOk result (λ event. event ≡ event_of (names_of log.now) row) }
+    ensures { result ≡ listing listed (event_of (names_of log.now) row) }
 {
-    Ok(match row {
+    match row {
         Row::Begin { txn, start } => Event::Begin {
             txn: log.txn(txn).name,
             start,
@@ -102,7 +105,7 @@ fn event_from(alloc: Global, log: &Log, row: Row) -> Result<Event, AllocError>
                 txn: log.txn(txn).name,
                 lo,
                 hi,
-                listed: Listed::new(pairs_of(alloc, log, log.listed(range))?),
+                listed,
             }
         }
         Row::Write { txn, key, .. } => Event::Write {
@@ -115,13 +118,19 @@ fn event_from(alloc: Global, log: &Log, row: Row) -> Result<Event, AllocError>
         Row::Abort { txn } => Event::Abort {
             txn: log.txn(txn).name,
         },
-    })
+    }
 }
 
-fn pairs_of(alloc: Global, log: &Log, listed: &[u32]) -> Result<Vec<(Key, Version)>, AllocError>
-    requires { All (IsPair (names_of log.now)) listed.now }
-    ensures { IfOk result (λ pairs. pairs.items ≡ map (pair_at (names_of log.now)) listed.now) }
+/// The pairs that the event listed, if it is a range read.
+fn pairs_of(alloc: Global, log: &Log, row: Row) -> Result<Vec<(Key, Version)>, AllocError>
+    requires { IsWithin (names_of log.now) row }
+    ensures { IfOk result (λ pairs. listing pairs.items (event_of (names_of log.now) row)
+        ≡ event_of (names_of log.now) row) }
 {
+    let Row::Range { range, .. } = row else {
+        return Ok(Vec::new(alloc));
+    };
+    let listed = log.listed(range);
     let mut pairs = Vec::with_capacity(alloc, listed.len())?;
     for pair in listed {
         pairs.push(log.pair(*pair))?;

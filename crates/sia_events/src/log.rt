@@ -2,7 +2,7 @@
 ghost use Rattle.std.specs.Prelude.{◌≡◌, All, Some, ◌<◌, ◌≤◌, ◌-◌, length, map, IfSome, slice_get, take, List, ◌+◌, ◌*◌};
 ghost use Rattle.std.specs.Option.{option_map};
 ghost use Rattle.sia_events.specs.LogTables.{events_of, AreTables};
-ghost use Rattle.sia_events.specs.Numbering.{names_of, txns_of, keys_of, writes_of, ranges_of, event_of, pair_at, txn_at, key_at, version_at, range_at, IsPair, IsWithin, IsMarked, Ends};
+ghost use Rattle.sia_events.specs.Numbering.{names_of, txns_of, keys_of, writes_of, ranges_of, event_of, pair_at, txn_at, key_at, version_at, range_at, AscendByKey, IsPair, IsWithin, IsMarked, Ends};
 ghost use Rattle.sia_events.specs.Places.{at_place};
 ghost use Rattle.sia_events.specs.Refusals.{IsWellFormed};
 ghost use Rattle.sia_events.specs.Transactions.{StartsAt};
@@ -142,6 +142,7 @@ impl Log {
         ensures pairs { map (pair_at (names_of self.now)) result.now
             ≡ (range_at (names_of self.now) number).2 }
         ensures within { All (IsPair (names_of self.now)) result.now }
+        ensures ascend { AscendByKey self.now result.now }
     {
         let range = &self.tables.ranges[number as usize];
         &self.tables.pairs[range.from as usize..range.to as usize]

@@ -63,7 +63,7 @@ fn push_pieces(out: &mut Vec<u8>, pieces: &[Piece]) -> Result<(), AllocError>
     Ok(())
 }
 
-pub(crate) fn push_range(
+fn push_range(
     out: &mut Vec<u8>,
     txn: u64,
     lo: Key,

@@ -1,9 +1,9 @@
 -- What reads saw at the keys of a part, by numbers of the log and by positions.
-use Rattle.std.specs.Prelude.{◌≡◌, ◌≢◌, ◌⊎◌, ◌↔◌, ℕ, ◌-◌, ◌<◌, ◌≤◌, List, Bool, All, AllPairs, false, IsTrue, MatchOption, Option, length}
+use Rattle.std.specs.Prelude.{◌≡◌, ◌≢◌, ◌⊎◌, ◌↔◌, ℕ, ◌-◌, ◌<◌, ◌≤◌, List, Bool, All, false, IsTrue, MatchOption, Option, length}
 use Rattle.sia_events.specs.declared.event.Event.{Event}
 use Rattle.sia_events.specs.declared.log.Row.{Row}
 use Rattle.sia_events.specs.declared.log.Row.TheVariants as rows
-use Rattle.sia_events.specs.Numbering.{Names, names_of, key_at, pair_at, write_at, IsPair}
+use Rattle.sia_events.specs.Numbering.{Names, names_of, key_at, pair_at, write_at, AscendByKey, IsPair}
 use Rattle.sia_events.specs.Reads.{SawAt}
 use Rattle.sia_events.specs.Refusals.{IsWellFormed}
 use Rattle.sia_events.specs.Transactions.{IsCommitted, WroteBefore}
@@ -91,10 +91,6 @@ pub record IsView (h : List Event) (known : Known) (view : View) : Type 0 where
   pub saw : SawAt h known.reader.place known.reader.txn (origin_in (names_of h) view.origin).0 (origin_in (names_of h) view.origin).1
   pub at : IsVersionAt h (origin_in (names_of h) view.origin).0 (origin_in (names_of h) view.origin).1 view.at
   pub mine : IsTrue view.mine ↔ WroteBefore h known.reader.txn (origin_in (names_of h) view.origin).0 known.reader.place
-
--- listed pairs by number, each of a greater key than those before it
-abbrev pub AscendByKey : List Event → List ℕ → Type 0
-AscendByKey h pairs = AllPairs (λ p q. (pair_at (names_of h) p).0 < (pair_at (names_of h) q).0) pairs
 
 -- the keys from lo to hi, of which the reader saw the listed ones at their versions, and the others at version 0
 pub record IsCover (h : List Event) (known : Known) (cover : Cover) : Type 0 where

@@ -14,15 +14,16 @@ ghost use Rattle.sia_parts.specs.Sightings.{Gives, IsFirstSight, reader_of};
 ghost use Rattle.sia_parts.specs.declared.reasons.Act.{Act};
 
 use crate::finding::{BadRead, Edge, Kind};
-use sia_events::{Anomaly, History, Key, NoMemory, TxnId, Version, push_number};
+use crate::reads::txn_of;
+use sia_events::{Anomaly, Key, Log, NoMemory, TxnId, Version, push_number};
 use sia_index::keyed::{By, ByTxn, between};
 use sia_index::{Fate, Index};
 use std::alloc::{AllocError, Global};
 
-/// A history and its index.
+/// The log of a history and its index.
 #[derive(Clone, Copy)]
 pub struct Recorded<'a> {
-    pub history: &'a History,
+    pub history: &'a Log,
     pub index: &'a Index,
 }
 
@@ -30,7 +31,7 @@ pub struct Recorded<'a> {
 pub fn push_event(
     out: &mut Vec<u8>,
     before: &[u8],
-    h: &History,
+    h: &Log,
     key: Key,
     place: u32,
 ) -> Result<(), NoMemory>
@@ -123,7 +124,7 @@ fn wrong_with(ix: &Index, saw: Version, start: u32) -> Option<Anomaly>
 }
 
 /// The name of a bad read, whose transaction starts so.
-pub fn anomaly_of(h: &History, ix: &Index, b: &BadRead, start: u32) -> Anomaly
+pub fn anomaly_of(h: &Log, ix: &Index, b: &BadRead, start: u32) -> Anomaly
     requires index { ix.now ≡ h.now }
     requires bad { IsBadRead h.now b.now.place b.now.txn b.now.key b.now.saw b.now.due }
     requires starts { StartsAt h.now b.now.txn start }
@@ -161,15 +162,15 @@ impl By<Act> for ByTxn {
 }
 
 /// All events, by transaction and place.
-pub fn acts_of(alloc: Global, h: &History) -> Result<Vec<Act>, NoMemory>
+pub fn acts_of(alloc: Global, h: &Log) -> Result<Vec<Act>, NoMemory>
     ensures { IfOk result (λ acts. AreActs h.now acts.items) }
 {
     let count = h.len();
     let mut acts = Vec::with_capacity(alloc, count as usize)?;
     for before in 0..count {
-        if let Some(event) = h.event(before + 1) {
+        if let Some(row) = h.row(before + 1) {
             acts.push(Act {
-                txn: event.txn(),
+                txn: h.txn(txn_of(row)).name,
                 place: before + 1,
             })?;
         }
@@ -221,7 +222,7 @@ pub struct FirstSight {
 }
 
 /// The first sight that gives the edge, if it comes of a read.
-pub fn first_sight(h: &History, ix: &Index, acts: &[Act], e: &Edge) -> Option<FirstSight>
+pub fn first_sight(h: &Log, ix: &Index, acts: &[Act], e: &Edge) -> Option<FirstSight>
     requires index { ix.now ≡ h.now }
     requires acts { AreActs h.now acts.now }
     requires edge { IsEdge h.now e.now }

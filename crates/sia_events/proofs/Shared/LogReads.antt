@@ -1,12 +1,15 @@
 -- What a log's tables answer.
-use Rattle.std.proofs.Common.{◌≡◌, ◌≢◌, ℕ, zero, suc, ◌+◌, ◌-◌, ◌<◌, ◌≤◌, List, [], ◌∷◌, ◌++◌, inl, inr, length, map, take, drop, get_or, Option, Some, None, refl, sym, subst, ◌∙◌, ap, ap₂, arith, slice_get, nat_lt, false, true}
+use Rattle.std.proofs.Common.{◌≡◌, ◌≢◌, ℕ, zero, suc, ◌+◌, ◌-◌, ◌<◌, ◌≤◌, List, [], ◌∷◌, ◌++◌, inl, inr, length, map, take, drop, get_or, Option, Some, None, refl, sym, subst, ◌∙◌, ap, ap₂, arith, slice_get, nat_lt, false, true, flat_map}
 use Rattle.std.specs.Prelude.{IfSome}
 use Rattle.std.specs.Option.{option_map}
+use Rattle.std.specs.List.Sorted.{IsStrictlyIncreasing}
 use Rattle.std.proofs.lemmas.Bool.Decides.{nat_tests}
-use Rattle.std.proofs.lemmas.List.{length-map}
+use Rattle.std.proofs.lemmas.List.{length-map, get_or-map}
+use Rattle.std.proofs.lemmas.List.Kept.{AllPairs-from_increasing}
 use Rattle.std.proofs.lemmas.Grind.{take_at_read}
 use Rattle.std.proofs.lemmas.Option.{slice_get-map, slice_get-get_or, get_or_from_slice_get}
 use Rattle.sia_events.specs.declared.event.Event.{Event}
+use Rattle.sia_events.specs.declared.event.Event.TheVariants.{Begin, Read, Range, Write, Commit, Abort}
 use Rattle.sia_events.specs.declared.log.Row.{Row}
 use Rattle.sia_events.specs.declared.log.TxnRow.{TxnRow}
 use Rattle.sia_events.specs.declared.log.RangeRow.{RangeRow}
@@ -14,9 +17,10 @@ use Rattle.sia_events.specs.declared.log.Tables.{Tables}
 use Rattle.sia_events.specs.Places.{at_place}
 use Rattle.sia_events.specs.Refusals.{IsWellFormed}
 use Rattle.sia_events.specs.Transactions.{StartsAt}
-use Rattle.sia_events.specs.Numbering.{Names, names_of, txns_of, ranges_of, IsPair, mark, key_at, version_at, write_at, range_at, pair_at, event_of, IsMarked}
+use Rattle.sia_events.specs.Numbering.{Names, names_of, txns_of, ranges_of, IsPair, mark, key_at, version_at, write_at, range_at, pair_at, ranges_in, event_of, IsMarked, AscendByKey}
 use Rattle.sia_events.specs.LogTables.{names_in, names_but_ranges, range_of, events_of, AreTables, Lives}
 use Rattle.sia_events.proofs.Writing.WellFormed.{few_events}
+use Rattle.sia_events.proofs.Writing.Ranges.{list_in_order}
 use Rattle.sia_events.proofs.LogRows.Lived.{to_get}
 use Rattle.sia_events.proofs.Shared.Drafted.{map_get}
 
@@ -79,3 +83,30 @@ no_event h i less at = let place : suc i ≡ i + 1 = omega arith in nothing h i 
   nothing [] i less none = omega arith
   nothing (e ∷ es) zero less none = let x : Some e ≡ None = none in absurd cc
   nothing (e ∷ es) (suc i) less none = nothing es i (omega arith) none
+
+-- a range by its number is one of the events
+ranged_in : (es : List Event) (r : ℕ) (d : ℕ × ℕ × List (ℕ × ℕ)) → r < length (flat_map ranges_in es) → (i : ℕ) × (t : ℕ) × (slice_get es i ≡ Some (Range t (get_or (flat_map ranges_in es) r d).0 (get_or (flat_map ranges_in es) r d).1 (get_or (flat_map ranges_in es) r d).2))
+ranged_in [] r d below = absurd (omega arith)
+ranged_in (Range t lo hi listed ∷ es) zero d below = (0, t, refl)
+ranged_in (Range t lo hi listed ∷ es) (suc r) d below = let w = ranged_in es r d (omega arith) in (suc w.0, w.1, w.2)
+ranged_in (Begin t start ∷ es) r d below = let w = ranged_in es r d below in (suc w.0, w.1, w.2)
+ranged_in (Read t k v ∷ es) r d below = let w = ranged_in es r d below in (suc w.0, w.1, w.2)
+ranged_in (Write t k ∷ es) r d below = let w = ranged_in es r d below in (suc w.0, w.1, w.2)
+ranged_in (Commit t ∷ es) r d below = let w = ranged_in es r d below in (suc w.0, w.1, w.2)
+ranged_in (Abort t ∷ es) r d below = let w = ranged_in es r d below in (suc w.0, w.1, w.2)
+
+-- its listed keys ascend
+pub range_ascends : (h : List Event) → IsWellFormed h → (r : ℕ) → r < length (ranges_of h) → IsStrictlyIncreasing (map (λ p. p.0) (range_at (names_of h) r).2)
+unfolding ranges_of
+range_ascends h wf r below = let w = ranged_in h r (0, 0, []) below in (list_in_order h wf (suc w.0) w.1 _ _ _ w.2).1
+
+pub pairs_ascend : (h : List Event) → IsWellFormed h → (r : ℕ) → r < length (ranges_of h) → (pairs : List ℕ) → map (pair_at (names_of h)) pairs ≡ (range_at (names_of h) r).2 → AscendByKey h pairs
+pairs_ascend h wf r room pairs is i j d less below =
+    let f = pair_at (names_of h) in
+    let up = subst (λ l. IsStrictlyIncreasing (map (λ (p : ℕ × ℕ). p.0) l)) (sym is) (range_ascends h wf r room) in
+    let long = length-map pairs f in
+    let more = length-map (map f pairs) (λ (q : ℕ × ℕ). q.0) in
+    let keys = AllPairs-from_increasing (map (λ (q : ℕ × ℕ). q.0) (map f pairs)) up i j 0 less (omega arith) in
+    let one = get_or-map (λ (q : ℕ × ℕ). q.0) (map f pairs) i (0, 0) 0 (omega arith) ∙ ap (λ (q : ℕ × ℕ). q.0) (get_or-map f pairs i d (0, 0) (omega arith)) in
+    let other = get_or-map (λ (q : ℕ × ℕ). q.0) (map f pairs) j (0, 0) 0 (omega arith) ∙ ap (λ (q : ℕ × ℕ). q.0) (get_or-map f pairs j d (0, 0) below) in
+    omega arith

@@ -1,6 +1,6 @@
 -- The pair of a key in a list of pairs whose keys ascend: what a search finds, and what is left of the list.
-use Rattle.std.proofs.Common.{◌≡◌, ◌≢◌, inl, inr, ℕ, zero, suc, ◌+◌, ◌<◌, true, false, Bool, List, [], ◌∷◌, map, length, get_or, Err, refl, ap, sym, ◌∙◌, arith}
-use Rattle.std.specs.Prelude.{Contains, filter, ◌==◌}
+use Rattle.std.proofs.Common.{◌≡◌, ◌≢◌, inl, inr, ℕ, zero, suc, ◌+◌, ◌<◌, ◌≤◌, true, false, Bool, List, [], ◌∷◌, map, length, get_or, Err, refl, ap, sym, ◌∙◌, arith}
+use Rattle.std.specs.Prelude.{AllPairs, Contains, filter, ◌==◌}
 use Rattle.std.specs.List.{HoldsAt}
 use Rattle.std.specs.Ordering.{nat_cmp, is_lt}
 use Rattle.std.specs.declared.cmp.Ordering.TheVariants.{Less, Equal, Greater}
@@ -76,3 +76,31 @@ module _ (listed : List (ℕ × ℕ)) (up : IsStrictlyIncreasing (map (λ pair. 
             | inr more ↦ omega (arith, later c.0 j (k, v) e more below, key)
           ]
         ])
+
+-- pairs by number, and the place before which their keys are below k, and from which they aren't
+module _ (f : ℕ → ℕ × ℕ) (pairs : List ℕ) (listed : List (ℕ × ℕ)) (is : map f pairs ≡ listed) (k at : ℕ) (under : (i d : ℕ) → i < at → (f (get_or pairs i d)).0 < k) where
+  -- the number of what is listed
+  numbered : (v : ℕ) (c : Contains listed (k, v)) → (c.0 < length pairs) × (f (get_or pairs c.0 0) ≡ (k, v))
+  numbered v c =
+      let long : length listed ≡ length pairs = ap length (sym is) ∙ length-map pairs f in
+      let below : c.0 < length pairs = let b = c.1 in omega arith in
+      (below, sym (get_or-map f pairs c.0 0 (k, v) below) ∙ ap (λ l. get_or l c.0 (k, v)) is ∙ c.2)
+
+  pub none_behind : length pairs ≤ at → (v : ℕ) → ¬ Contains listed (k, v)
+  none_behind all v c =
+      let w = numbered v c in
+      let less = under c.0 0 (let b = w.0 in omega arith) in
+      let same = ap (λ (q : ℕ × ℕ). q.0) w.1 in
+      omega arith
+
+  pub none_there : AllPairs (λ p q. (f p).0 < (f q).0) pairs → at < length pairs → (q : ℕ × ℕ) → q ≡ f (get_or pairs at 0) → k ≤ (f (get_or pairs at 0)).0 → q.0 ≢ k → (v : ℕ) → ¬ Contains listed (k, v)
+  none_there ascend room q is_there above other v c =
+      let w = numbered v c in
+      let same = ap (λ (q : ℕ × ℕ). q.0) w.1 in
+      elim (cases_order c.0 at) [
+        | inl is_at ↦ other (ap (λ (q : ℕ × ℕ). q.0) is_there ∙ ap (λ i. (f (get_or pairs i 0)).0) (sym is_at) ∙ same)
+        | inr apart ↦ elim apart [
+          | inl before ↦ let less = under c.0 0 before in omega arith
+          | inr after ↦ let more = ascend at c.0 0 after w.0 in omega arith
+        ]
+      ]

@@ -1,30 +1,32 @@
--- What the list of a range read says of one key.
-use Rattle.std.proofs.Common.{◌≡◌, ℕ, Bool, true, false, not, List, Option, Some, None, refl, ap, sym, subst, ◌∙◌}
+-- What is told of a range read about one key.
+use Rattle.std.proofs.Common.{◌≡◌, ℕ, List, Bool, true, false, not, Option, Some, None, refl, ap, sym, subst}
 use Rattle.std.specs.Prelude.{◌↔◌, IsTrue, Contains, MatchOption, filter, ◌==◌}
 use Rattle.std.specs.Option.{is_some}
 use Rattle.sia_events.specs.declared.event.Event.{Event}
-use Rattle.sia_events.specs.declared.event.Event.TheVariants.{Range}
+use Rattle.sia_events.specs.declared.log.Row.{Row}
+use Rattle.sia_events.specs.declared.log.Row.TheVariants as rows
+use Rattle.sia_events.specs.Numbering.{Names, names_of, event_of, range_at}
 use Rattle.sia_events.specs.Places.{at_place}
-use Rattle.sia_events.specs.Text.{spell}
 use Rattle.sia_events.specs.Anomalies.{LeavesOut}
-use Rattle.sia_events.specs.Telling.{told_about}
+use Rattle.sia_events.specs.Telling.{about, listing}
 use Rattle.sia_events.proofs.Shared.Starts.{one_event}
 
--- the range read at a place, of which these are the listed pairs, by what is known of the event there
-pub range_at : (h : List Event) (p t lo hi : ℕ) (listed pairs : List (ℕ × ℕ)) (e : Event) → Some e ≡ at_place h p → e ≡ Range t lo hi listed → pairs ≡ listed → at_place h p ≡ Some (Range t lo hi pairs)
-range_at h p t lo hi listed pairs e here is same = sym here ∙ ap Some is ∙ ap (λ (l : List (ℕ × ℕ)). Some (Range t lo hi l)) (sym same)
+-- it leaves out a key of which no version was found
+pub left_out : (h : List Event) (p d r w : ℕ) → Some (event_of (names_of h) (rows.Range d r w)) ≡ at_place h p → (k : ℕ) (found : Option ℕ) (none : Bool) → MatchOption found ((v : ℕ) → ¬ Contains (range_at (names_of h) r).2 (k, v)) (λ v. Contains (range_at (names_of h) r).2 (k, v)) → is_some found ≡ not none → IsTrue none ↔ ((e : Event) × (at_place h p ≡ Some e) × LeavesOut e k)
+left_out h p d r w at k None true lacks tells = (λ is. (event_of (names_of h) (rows.Range d r w), sym at, lacks), λ out. refl)
+left_out h p d r w at k None false lacks tells = cc
+left_out h p d r w at k (Some v) true has tells = cc
+left_out h p d r w at k (Some v) false has tells = (
+  λ is. cc,
+  λ out. absurd (subst (λ e. LeavesOut e k) (one_event h p p out.0 (event_of (names_of h) (rows.Range d r w)) refl out.1 (sym at)) out.2 v has),
+)
 
-module _ (h : List Event) (p t lo hi : ℕ) (listed : List (ℕ × ℕ)) (at : at_place h p ≡ Some (Range t lo hi listed)) (k : ℕ) where
-  -- it leaves out a key of which no version was found
-  pub left_out : (found : Option ℕ) (none : Bool) → MatchOption found ((v : ℕ) → ¬ Contains listed (k, v)) (λ v. Contains listed (k, v)) → is_some found ≡ not none → IsTrue none ↔ ((e : Event) × (at_place h p ≡ Some e) × LeavesOut e k)
-  left_out None true lacks tells = (λ is. (Range t lo hi listed, at, lacks), λ out. refl)
-  left_out None false lacks tells = cc
-  left_out (Some v) true has tells = cc
-  left_out (Some v) false has tells = (
-    λ is. cc,
-    λ out. absurd (subst (λ e. LeavesOut e k) (one_event h p p out.0 (Range t lo hi listed) refl out.1 at) out.2 v has),
-  )
-
-  -- what is told of it about the key, where this is left of its list
-  pub told_of_range : (pairs : List (ℕ × ℕ)) → filter (λ pair. pair.0 == k) listed ≡ pairs → told_about h p k ≡ spell (Range t lo hi pairs)
-  told_of_range pairs left = rw (at, left) refl
+-- the event of a row with what is left of its listed pairs, if it is a range read
+pub told_of_row : (names : Names) (k : ℕ) (pairs : List (ℕ × ℕ)) (row : Row) → ((d r w : ℕ) → row ≡ rows.Range d r w → filter (λ pair. pair.0 == k) (range_at names r).2 ≡ pairs) → listing pairs (event_of names row) ≡ about k (event_of names row)
+told_of_row names k pairs (rows.Range d r w) left = ap (λ l. listing l (event_of names (rows.Range d r w))) (sym (left d r w refl))
+told_of_row names k pairs (rows.Begin d start) left = refl
+told_of_row names k pairs (rows.Read d key w) left = refl
+told_of_row names k pairs (rows.OwnRead d key w) left = refl
+told_of_row names k pairs (rows.Write d key w) left = refl
+told_of_row names k pairs (rows.Commit d) left = refl
+told_of_row names k pairs (rows.Abort d) left = refl

@@ -93,10 +93,10 @@ fn events_about_a_key(rt: HostRuntime) -> Result<(), Fail> {
         }
         let history = reader.finish()?;
         out.truncate(6);
-        history.push_about(&mut out, place, key)?;
+        history.log().push_about(&mut out, place, key)?;
         let told = (
-            history.saw(place, key),
-            history.leaves_out(place, key),
+            history.log().saw(place, key),
+            history.log().leaves_out(place, key),
             parts(history.event(place)),
         );
         assert!(rt; out.as_slice() == *shown && told == *wanted && history.len() == text.1);

@@ -3,7 +3,6 @@ use Rattle.std.proofs.Common.{◌≡◌, ◌≢◌, inl, inr, ℕ, ◌<◌, ◌�
 use Rattle.std.specs.Prelude.{◌↔◌, All, Contains}
 use Rattle.std.proofs.lemmas.List.{get_or-map, length-map}
 use Rattle.std.proofs.lemmas.List.Elements.{All-contains, Contains-get_or}
-use Rattle.std.proofs.lemmas.List.Kept.{AllPairs-from_increasing}
 use Rattle.sia_events.specs.declared.event.Event.{Event}
 use Rattle.sia_events.specs.declared.event.Event.TheVariants.{Range}
 use Rattle.sia_events.specs.Events.{Saw}
@@ -19,7 +18,7 @@ use Rattle.sia_parts.specs.declared.audit.sights.Seen.{Seen}
 use Rattle.sia_parts.specs.Sights.{Sight}
 use Rattle.sia_parts.specs.declared.cutting.Part.{Part}
 use Rattle.sia_parts.specs.Parts.{IsInPart}
-use Rattle.sia_parts.specs.Seeing.{AscendByKey, Gains, IsScope, IsSightWithin}
+use Rattle.sia_parts.specs.Seeing.{Gains, IsScope, IsSightWithin}
 use Rattle.sia_parts.proofs.Auditing.Gaining.{gains_same}
 use Rattle.sia_parts.proofs.Shared.OneNumber.{one_key}
 
@@ -55,16 +54,6 @@ range_in scope is p t r listed pairs event from to lo hi from_is to_is low high 
 module _ (h : List Event) (wf : IsWellFormed h) (p t a b : ℕ) (listed : List ℕ) (at : at_place h p ≡ Some (Range t a b (map (pair_at (names_of h)) listed))) where
   abbrev f : ℕ → ℕ × ℕ
   f = pair_at (names_of h)
-
-  pub listed_ascend : AscendByKey h listed
-  listed_ascend i j d less below =
-      let up = (list_in_order h wf p t a b (map f listed) at).1 in
-      let long = length-map listed f in
-      let more = length-map (map f listed) (λ (q : ℕ × ℕ). q.0) in
-      let keys = AllPairs-from_increasing (map (λ (q : ℕ × ℕ). q.0) (map f listed)) up i j 0 less (omega arith) in
-      let one = get_or-map (λ (q : ℕ × ℕ). q.0) (map f listed) i (0, 0) 0 (omega arith) ∙ ap (λ (q : ℕ × ℕ). q.0) (get_or-map f listed i d (0, 0) (omega arith)) in
-      let other = get_or-map (λ (q : ℕ × ℕ). q.0) (map f listed) j (0, 0) 0 (omega arith) ∙ ap (λ (q : ℕ × ℕ). q.0) (get_or-map f listed j d (0, 0) below) in
-      omega arith
 
   -- a pair of the list
   there : (q : ℕ) → Contains listed q → Contains (map f listed) (f q)

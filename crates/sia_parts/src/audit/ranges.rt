@@ -1,7 +1,7 @@
 //! What a range read saw of the keys of a part: the keys that it listed, and those that it passed over.
 ghost use Rattle.std.specs.Prelude.{◌≡◌, ◌↔◌, ◌+◌, ◌<◌, ◌≤◌, ℕ, All, Contains, OnOk, IsTrue, Some, false, length, slice_index_or};
 ghost use Rattle.sia_events.specs.declared.event.Event.TheVariants as events;
-ghost use Rattle.sia_events.specs.Numbering.{names_of, pair_at, range_at, ranges_of, IsPair};
+ghost use Rattle.sia_events.specs.Numbering.{names_of, pair_at, range_at, ranges_of, AscendByKey, IsPair};
 ghost use Rattle.sia_events.specs.Places.{at_place};
 ghost use Rattle.sia_events.specs.Reads.{IsDue};
 ghost use Rattle.sia_events.specs.Refusals.{IsWellFormed};
@@ -9,7 +9,7 @@ ghost use Rattle.sia_events.specs.Transactions.{WroteBefore};
 ghost use Rattle.sia_index.specs.Info.{HasKeyAt, IsReader};
 ghost use Rattle.sia_parts.specs.Accesses.{IsMissAt, IsPassedBy};
 ghost use Rattle.sia_parts.specs.Known.{IsKnown};
-ghost use Rattle.sia_parts.specs.Seeing.{AscendByKey, Gains, IsCover, IsGap, IsMiss, HaveUpTo, IsOrigin, IsScope, IsSightWithin, origin_in};
+ghost use Rattle.sia_parts.specs.Seeing.{Gains, IsCover, IsGap, IsMiss, HaveUpTo, IsOrigin, IsScope, IsSightWithin, origin_in};
 ghost use Rattle.sia_parts.specs.Sights.{Adds, FromSight, FromSome, Gives, IsBadOf};
 
 use crate::accesses::{ByReader, RangeMiss};
@@ -244,7 +244,7 @@ fn pairs_from<'a>(log: &Log, pairs: &'a [u32], least: Key, lo: Key) -> &'a [u32]
     if lo <= least {
         return pairs;
     }
-    &pairs[place_of(log, pairs, lo)..]
+    &pairs[log.place_of(pairs, lo)..]
 }
 
 fn pairs_up_to<'a>(log: &Log, pairs: &'a [u32], hi: Key, most: Key) -> &'a [u32]
@@ -258,28 +258,5 @@ fn pairs_up_to<'a>(log: &Log, pairs: &'a [u32], hi: Key, most: Key) -> &'a [u32]
     if most <= hi {
         return pairs;
     }
-    &pairs[..place_of(log, pairs, hi + 1)]
-}
-
-/// How many of the pairs are of keys before this one.
-fn place_of(log: &Log, pairs: &[u32], key: Key) -> usize
-    requires numbers { All (IsPair (names_of log.now)) pairs.now }
-    requires ascend { AscendByKey log.now pairs.now }
-    ensures bound { result ≤ length pairs.now }
-    ensures below { (i d : ℕ) → i < result → (pair_at (names_of log.now) (slice_index_or pairs.now i d)).0
-        < key }
-    ensures above { (i d : ℕ) → result ≤ i → i < length pairs.now
-        → key ≤ (pair_at (names_of log.now) (slice_index_or pairs.now i d)).0 }
-{
-    let mut low = 0;
-    let mut high = pairs.len();
-    while low < high {
-        let middle = low + (high - low) / 2;
-        if log.pair(pairs[middle]).0 < key {
-            low = middle + 1;
-        } else {
-            high = middle;
-        }
-    }
-    low
+    &pairs[..log.place_of(pairs, hi + 1)]
 }

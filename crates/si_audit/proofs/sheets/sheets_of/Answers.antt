@@ -1,7 +1,6 @@
 use Rattle.std.proofs.Common.{ℕ, List, ◌∙◌, ap, refl, subst, sym}
 use Rattle.si_audit.specs.declared.options.Form.{Form}
 use Rattle.si_audit.specs.declared.options.Form.TheVariants.{Full, Brief, Explained}
-use Rattle.sia_graph.specs.Judgements.{IsJudgement}
 use Rattle.si_audit.specs.Engine.{IsReportOf}
 use Rattle.si_audit.specs.Account.{account_with}
 use Rattle.si_audit.specs.Sheets.{text_of}
@@ -9,14 +8,8 @@ use Rattle.si_audit.proofs.Shared.Clean.{account_is}
 use Rattle.si_audit.proofs.Shared.Results.{ok_map}
 use Rattle.si_audit.proofs.sheets.sheets_of.Goals as goal
 
-pub explained-requires-clause-index : goal.explained-requires-clause-index
-explained-requires-clause-index g c = c.requires.index ∙ sym c.in_ok-history-in-Explained.ensures
-
 pub explained-requires-clause-accesses : goal.explained-requires-clause-accesses
 explained-requires-clause-accesses g c = c.requires.accesses
-
-pub explained-requires-clause-judgement : goal.explained-requires-clause-judgement
-explained-requires-clause-judgement g c = subst (λ h. IsJudgement h c.args.j.now) (sym c.in_ok-history-in-Explained.ensures) c.requires.judgement
 
 pub pivots_of_links-requires : goal.pivots_of_links-requires
 pivots_of_links-requires g c = c.in_ok-sheets-in-Full.ensures.1
@@ -55,5 +48,5 @@ pub returns-in_ok-sheet-in-Explained : goal.returns-in_ok-sheet-in-Explained
 returns-in_ok-sheet-in-Explained g c =
     let report = λ (form : Form) (bytes : List ℕ). IsReportOf form c.args.log bytes in
     ok_map _ _ c.one_sheet.result
-    (λ sheets is. subst (λ (form : Form). report form (text_of sheets.items)) (sym (sym c.form.ensures ∙ c.in-Explained.is)) (subst (report Explained) (sym is) (subst (λ h. IsReportOf Explained h c.in_ok-sheet-in-Explained.sheet.items) c.in_ok-history-in-Explained.ensures c.in_ok-sheet-in-Explained.ensures)))
+    (λ sheets is. subst (λ (form : Form). report form (text_of sheets.items)) (sym (sym c.form.ensures ∙ c.in-Explained.is)) (subst (report Explained) (sym is) c.in_ok-sheet-in-Explained.ensures))
     c.one_sheet.ensures

@@ -3,12 +3,12 @@ use Rattle.std.proofs.Common.{ℕ, ◌≤◌, ◌≡◌, List, sym, subst, ◌�
 use Rattle.std.specs.Prelude.{◌↔◌, All, Contains}
 use Rattle.std.proofs.lemmas.List.Elements.{All-contains}
 use Rattle.sia_events.specs.declared.event.Event.{Event}
-use Rattle.sia_events.specs.Numbering.{names_of, pair_at, IsPair}
+use Rattle.sia_events.specs.Numbering.{names_of, pair_at, AscendByKey, IsPair}
 use Rattle.sia_events.specs.Reads.{SawAt}
-use Rattle.sia_parts.specs.Seeing.{AscendByKey, IsSightWithin}
+use Rattle.sia_parts.specs.Seeing.{IsSightWithin}
 use Rattle.sia_parts.proofs.Auditing.Gaining.{gains_near}
 use Rattle.sia_parts.proofs.Shared.Options.{if_not_there}
-use Rattle.sia_parts.proofs.Auditing.RangeCovers.{all_from, cover_gains, key_unlisted, listed_ascend, pair_inside, pair_saw, range_in}
+use Rattle.sia_parts.proofs.Auditing.RangeCovers.{all_from, cover_gains, key_unlisted, pair_inside, pair_saw, range_in}
 use Rattle.sia_parts.proofs.Auditing.Viewing.{on_ok}
 use Rattle.sia_parts.proofs.audit.ranges.put_range.Goals as goal
 
@@ -18,12 +18,6 @@ cut_both h l same listed behind pairs lo hi first second q = subst (λ g. Contai
   (λ c. let b = (second q).0 c in let a = (first q).0 b.0 in (a.0, a.1, b.1)),
   (λ w. (second q).1 ((first q).1 (w.0, w.1), w.2)),
 )
-
-pub pairs_from-behind-requires-clause-ascend : goal.pairs_from-behind-requires-clause-ascend
-pairs_from-behind-requires-clause-ascend c =
-    let h = c.args.scope.now.ix.now in
-    let is = range_in c.args.scope.now c.requires.scope c.args.known.now.reader.place c.args.known.now.reader.txn c.args.range c.listed-listed.result.now c.listed-listed.ensures.pairs c.requires.event c.range-from.result.0 c.range-from.result.1 c.max-lo.result c.min-hi.result c.range-from.ensures.lo c.range-from.ensures.hi c.max-lo.ensures c.min-hi.ensures in
-    subst (λ l. AscendByKey l c.listed-listed.result.now) c.requires.scope.same (listed_ascend h c.requires.scope.well_formed _ _ _ _ _ is.at)
 
 pub pairs_from-behind-requires-clause-inside : goal.pairs_from-behind-requires-clause-inside
 pairs_from-behind-requires-clause-inside c =

@@ -3,11 +3,11 @@ use Rattle.std.proofs.Common.{ℕ, ◌+◌, ◌-◌, ◌/◌, ◌<◌, ◌≤◌
 use Rattle.std.proofs.lemmas.Bool.{cases_eq}
 use Rattle.std.proofs.lemmas.List.{get_or_default}
 use Rattle.sia_events.specs.Numbering.{names_of, pair_at}
-use Rattle.sia_parts.proofs.audit.ranges.place_of.Goals as goal
+use Rattle.sia_events.proofs.log.Log.place_of.Goals as goal
 
 pub loop-low-preserved-then-pair-key : goal.loop-low-preserved-then-pair-key
 loop-low-preserved-then-pair-key c =
-    let names = names_of c.args.log.now in
+    let names = names_of c.args.self.now in
     let pairs = c.args.pairs.now in
     let so = c.loop-low.invariant in
     let turn = c.loop-low-test.true in
@@ -26,7 +26,7 @@ loop-low-preserved-then-pair-key c =
 
 pub loop-low-preserved : goal.loop-low-preserved
 loop-low-preserved c =
-    let names = names_of c.args.log.now in
+    let names = names_of c.args.self.now in
     let pairs = c.args.pairs.now in
     let so = c.loop-low.invariant in
     let turn = c.loop-low-test.true in
