@@ -192,7 +192,7 @@ fn plain_at(text: &[u8], start: usize) -> usize
 }
 
 /// How many bytes come before the first separator, or at all. Where a block has it, the second loop ends at once.
-fn token_len(text: &[u8]) -> usize
+pub(crate) fn token_len(text: &[u8]) -> usize
     ensures len { result ≡ position_or_len is_separator text.now }
     ensures within { result ≤ length text.now }
 {

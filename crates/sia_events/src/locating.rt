@@ -10,7 +10,7 @@ ghost use Rattle.sia_events.specs.declared.fault.TextFault.TheVariants.{Refused}
 ghost use Rattle.sia_events.specs.Streaming.{Progress, StandsForRead};
 ghost use Rattle.sia_events.specs.Text.{is_separator};
 
-use crate::judge::is_separator;
+use crate::judge::{is_separator, token_len};
 use std::marker::Model;
 
 /// How many bytes of a token are kept, and shown.
@@ -93,9 +93,28 @@ impl Locator {
             → StandsForLocated limits self.new after (text ++ piece.now) }
     {
         let last = refused.unwrap_or(u32::MAX);
-        for byte in piece {
-            self.pass(*byte, last);
+        let mut at = 0;
+        while at < piece.len() {
+            self.pass(piece[at], last);
+            at += 1 + self.pass_rest(&piece[at + 1..]);
         }
+    }
+
+    /// Passes the bytes that go on the token, if one has begun, and answers how many they are.
+    fn pass_rest(&mut self, piece: &[u8]) -> usize
+        ensures within { result ≤ length piece.now }
+        ensures number { self.new.number ≡ self.old.number }
+        ensures closed { self.old.is_open ≡ false → (self.new ≡ self.old) × (result ≡ 0) }
+        ensures follows { (text : List ℕ) → length text + result ≤ 17179869184 → Follows self.old text
+            → Follows self.new (text ++ take result piece.now) }
+    {
+        if !self.is_open {
+            return 0;
+        }
+        let len = token_len(piece);
+        self.len = keep(&mut self.token, self.len, &piece[..len]);
+        self.next.column = self.next.column.saturating_add(len as u64);
+        len
     }
 
     /// Passes a byte, unless it begins a token after the last one.
@@ -112,11 +131,11 @@ impl Locator {
         if is_separator(byte) {
             self.is_open = false;
         } else if self.is_open {
-            self.len = keep(&mut self.token, self.len, byte);
+            self.len = keep(&mut self.token, self.len, &[byte]);
         } else if self.number < last {
             self.number += 1;
             self.place = self.next;
-            self.len = keep(&mut self.token, 0, byte);
+            self.len = keep(&mut self.token, 0, &[byte]);
             self.is_open = true;
         } else {
             return;
@@ -146,15 +165,13 @@ impl Locator {
     }
 }
 
-/// Keeps one more byte of a token behind so many, if there is room, and answers how many there are then.
-fn keep(token: &mut [u8; KEPT], len: usize, byte: u8) -> usize
+/// Keeps more bytes of a token behind so many, as far as there is room, and answers how many there are then.
+fn keep(token: &mut [u8; KEPT], len: usize, bytes: &[u8]) -> usize
     requires { len ≤ 60 }
     ensures within { result ≤ 60 }
-    ensures kept { take result token.new ≡ take 60 (take len token.old ++ byte ∷ []) }
+    ensures kept { take result token.new ≡ take 60 (take len token.old ++ bytes.now) }
 {
-    if len == KEPT {
-        return len;
-    }
-    token[len] = byte;
-    len + 1
+    let end = len + bytes.len().min(KEPT - len);
+    token[len..end].copy_from_slice(&bytes[..end - len]);
+    end
 }

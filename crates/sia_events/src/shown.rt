@@ -71,7 +71,11 @@ impl Log {
     {
         match self.row(place) {
             Some(Row::Read { key: own, saw, .. } | Row::OwnRead { key: own, saw, .. }) => {
-                if self.key(own) == key { Some(self.version(saw)) } else { None }
+                if self.key(own) == key {
+                    Some(self.version(saw))
+                } else {
+                    None
+                }
             }
             Some(Row::Range { range, .. }) => {
                 let (lo, hi) = self.range(range);

@@ -1,16 +1,17 @@
 -- What a locator keeps after one more byte.
-use Rattle.std.proofs.Common.{◌≡◌, ◌≢◌, ◌⊎◌, inl, inr, ℕ, zero, suc, ◌+◌, ◌≤◌, Bool, true, false, cond, List, [], ◌∷◌, ◌++◌, length, take, set, refl, ap, sym, subst, ◌∙◌, append_assoc, append-nil, arith}
+use Rattle.std.proofs.Common.{◌≡◌, ◌≢◌, ◌⊎◌, inl, inr, ℕ, zero, suc, ◌+◌, ◌≤◌, Bool, true, false, cond, List, [], ◌∷◌, ◌++◌, length, take, refl, ap, sym, subst, ◌∙◌, append_assoc, append-nil, arith}
 use Rattle.std.specs.Prelude.{min}
 use Rattle.std.proofs.lemmas.Bool.{cases_lt}
-use Rattle.std.proofs.lemmas.List.{length-append, length-take, take_more_set}
+use Rattle.std.proofs.lemmas.List.{length-append, length-take}
 use Rattle.std.proofs.lemmas.List.Elements.{recursion_from_All, All-from_recursion, All-push}
-use Rattle.std.proofs.Math.Seq.{take-length, take-append_seam}
+use Rattle.std.proofs.Math.Seq.{take-length}
 use Rattle.sia_events.specs.declared.locating.Place.{Place}
 use Rattle.sia_events.specs.Text.{is_separator, goes_on, tokens}
 use Rattle.sia_events.specs.Judging.{as_token}
 use Rattle.sia_events.specs.Locations.{IsPlaceAfter}
 use Rattle.sia_events.specs.Locating.{Located, HasToken, HasEnded, Follows}
 use Rattle.sia_events.proofs.Shared.Canonical.{HasNoSeparator}
+use Rattle.sia_events.proofs.TokenPlaces.Locations.{column_on}
 use Rattle.sia_events.proofs.JudgedTexts.Tokens.{tokens-append, tokens_more, tokens_rest, tokens_unbroken}
 use Rattle.sia_events.proofs.Shared.Cuts.{some_cut, tokens_cut}
 
@@ -37,18 +38,6 @@ take_least n xs = elim (cases_lt (length xs) n) [
   | inl less ↦ (let least : min (length xs) n ≡ length xs = omega arith in ap (λ k. take k xs) least ∙ take-length xs ∙ sym (take_all n xs (omega arith)))
   | inr more ↦ (let least : min (length xs) n ≡ n = omega arith in ap (λ k. take k xs) least)
 ]
-
--- of sixty places n are taken: one more byte is kept while there is room
-module _ (xs : List ℕ) (n c : ℕ) (places : length xs ≡ 60) where
-  pub kept_more : n ≤ 60 → n ≢ 60 → take (n + 1) (set xs n c) ≡ take 60 (take n xs ++ c ∷ [])
-  kept_more most room =
-      let len = length-take n xs in
-      take_more_set xs n c (omega arith) ∙ sym (take_all 60 (take n xs ++ c ∷ []) (omega (arith, length-append (take n xs) (c ∷ []))))
-
-  pub kept_full : n ≡ 60 → take n xs ≡ take 60 (take n xs ++ c ∷ [])
-  kept_full none =
-      let len : length (take n xs) ≡ 60 = omega (arith, length-take n xs) in
-      sym (take-append_seam (take n xs) (c ∷ [])) ∙ ap (λ m. take m (take n xs ++ c ∷ [])) len
 
 -- ---- the tokens of a text and one more byte
 
@@ -185,3 +174,20 @@ module _ (l : Located) (text : List ℕ) (c : ℕ) (next : Place) (f : Follows l
         between = λ wrong. absurd cc;
         ended = λ wrong. absurd cc;
       }
+
+-- ---- more bytes of a token
+
+pub passed_rest : (run text kept : List ℕ) (l : Located) (column : ℕ) → length l.token ≤ 60 → kept ≡ take 60 (l.token ++ run) → l.is_open ≡ true → HasNoSeparator run → length text + length run ≤ 17179869184 → Follows l text → column ≡ l.next.column + length run → Follows (record { number = l.number; next = record { line = l.next.line; column = column }; place = l.place; token = kept; is_open = l.is_open }) (text ++ run)
+passed_rest [] text kept l column short keeps inside goes_on few f counts =
+    let same : l.next.column ≡ column = omega arith in
+    let all : l.token ≡ kept = sym (keeps ∙ ap (take 60) (append-nil l.token) ∙ take_all 60 l.token short) in
+    subst (λ t. Follows (record { number = l.number; next = record { line = l.next.line; column = column }; place = l.place; token = t; is_open = l.is_open }) (text ++ [])) all
+    (subst (λ n. Follows (record { number = l.number; next = record { line = l.next.line; column = n }; place = l.place; token = l.token; is_open = l.is_open }) (text ++ [])) same (subst (Follows l) (sym (append-nil text)) f))
+passed_rest (c ∷ cs) text kept l column short keeps inside goes_on few f counts =
+    let next : Place = record { line = l.next.line; column = l.next.column + 1 } in
+    let token : List ℕ = take 60 (l.token ++ c ∷ []) in
+    let one : Located = record { number = l.number; next = next; place = l.place; token = token; is_open = l.is_open } in
+    let behind : IsPlaceAfter (text ++ c ∷ []) l.next.line (l.next.column + 1) = column_on text l.next.line l.next.column c goes_on.0 f.next_is in
+    let more : kept ≡ take 60 (token ++ cs) = keeps ∙ ap (take 60) (sym (append_assoc l.token (c ∷ []) cs)) ∙ sym (take_front 60 (l.token ++ c ∷ []) cs) in
+    subst (Follows (record { number = l.number; next = record { line = l.next.line; column = column }; place = l.place; token = kept; is_open = l.is_open })) (append_assoc text (c ∷ []) cs)
+    (passed_rest cs (text ++ c ∷ []) kept one column (omega (arith, length-take 60 (l.token ++ c ∷ []))) more inside goes_on.1 (omega (arith, few, length-append text (c ∷ []))) (passed_on l text c next f behind token inside goes_on.0 refl) (omega (arith, counts)))

@@ -1,5 +1,5 @@
 -- The place behind each byte of a text, and that a token with a number has one.
-use Rattle.std.proofs.Common.{◌≡◌, ◌≢◌, ◌⊎◌, inl, inr, ℕ, ◌+◌, ◌<◌, Bool, true, false, cond, not, List, [], ◌∷◌, ◌++◌, length, reverse, refl, ap, sym, subst, ◌∙◌, arith}
+use Rattle.std.proofs.Common.{◌≡◌, ◌≢◌, ◌⊎◌, inl, inr, ℕ, ◌+◌, ◌<◌, ◌≤◌, Bool, true, false, cond, not, List, [], ◌∷◌, ◌++◌, length, reverse, refl, ap, sym, subst, ◌∙◌, arith}
 use Rattle.std.specs.Prelude.{count_by, min}
 use Rattle.std.specs.List.{position_or_len}
 use Rattle.std.proofs.lemmas.Bool.Decides.{nat_tests}
@@ -33,16 +33,33 @@ place_feed front line column c next few is counts p =
     record { line_is = omega arith; column_is = omega arith }
 
 -- any other byte takes one column
-pub place_on : (front : List ℕ) (line column c next : ℕ) → length front < 17179869184 → c ≢ 10 → next ≡ min (column + 1) 18446744073709551615 → IsPlaceAfter front line column → IsPlaceAfter (front ++ c ∷ []) line next
-place_on front line column c next few other counts p =
-    let e : is_line_feed c ≡ false = grind (arith, nat_tests) in
+byte_on : (front : List ℕ) (line column c : ℕ) → is_line_feed c ≡ false → IsPlaceAfter front line column → IsPlaceAfter (front ++ c ∷ []) line (column + 1)
+byte_on front line column c e p =
     let a = lines_more front c false e in
     let b = columns_more front c false e in
     let line_was = p.line_is in
     let column_was = p.column_is in
+    record { line_is = omega arith; column_is = omega arith }
+
+-- columns are no more than bytes
+pub few_columns : (front : List ℕ) (line column : ℕ) → IsPlaceAfter front line column → column ≤ length front + 1
+few_columns front line column p =
+    let column_was = p.column_is in
     let most = prefix_len-le-length (λ x. not (is_line_feed x)) (reverse front) in
     let same = length-reverse front in
-    record { line_is = omega arith; column_is = omega arith }
+    omega arith
+
+pub place_on : (front : List ℕ) (line column c next : ℕ) → length front < 17179869184 → c ≢ 10 → next ≡ min (column + 1) 18446744073709551615 → IsPlaceAfter front line column → IsPlaceAfter (front ++ c ∷ []) line next
+place_on front line column c next few other counts p =
+    let most = few_columns front line column p in
+    let next_is : column + 1 ≡ next = omega arith in
+    subst (IsPlaceAfter (front ++ c ∷ []) line) next_is (byte_on front line column c (grind (arith, nat_tests)) p)
+
+no_feed : (c : ℕ) → is_separator c ≡ false → is_line_feed c ≡ false
+no_feed c e = grind (arith, nat_tests)
+
+pub column_on : (front : List ℕ) (line column c : ℕ) → is_separator c ≡ false → IsPlaceAfter front line column → IsPlaceAfter (front ++ c ∷ []) line (column + 1)
+column_on front line column c e p = byte_on front line column c (no_feed c e) p
 
 -- ---- one place for a number
 

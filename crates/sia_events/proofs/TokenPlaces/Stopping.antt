@@ -1,7 +1,8 @@
 -- A locator passes the bytes of a piece up to the refused token, and then keeps it.
-use Rattle.std.proofs.Common.{◌≡◌, ◌⊎◌, inl, inr, ℕ, ◌+◌, ◌<◌, ◌≤◌, Bool, true, false, List, [], ◌∷◌, ◌++◌, length, take, get_or, refl, ap, sym, subst, ◌∙◌, append_assoc, append-nil, arith}
+use Rattle.std.proofs.Common.{◌≡◌, ◌⊎◌, inl, inr, ℕ, ◌+◌, ◌<◌, ◌≤◌, Bool, true, false, List, [], ◌∷◌, ◌++◌, length, take, drop, get_or, refl, ap, sym, subst, ◌∙◌, append_assoc, append-nil, arith}
 use Rattle.std.proofs.lemmas.Bool.{cases_lt}
-use Rattle.std.proofs.lemmas.List.{length-append, length-take, take_more}
+use Rattle.std.proofs.lemmas.List.{length-append, length-take, take_more, take-append-drop}
+use Rattle.std.proofs.Math.Seq.{take-append-add}
 use Rattle.sia_events.specs.Text.{is_separator}
 use Rattle.sia_events.specs.Locating.{Located, HasEnded, Follows, StopsBehind}
 use Rattle.sia_events.proofs.Shared.Following.{ended_more, take_all}
@@ -72,6 +73,37 @@ passes_more old l now piece i c last below is p b =
           let next = b.stopped kept.closed (omega arith) in
           record { closed = next.closed; number = next.number ∙ kept.number; place = next.place ∙ kept.place; token = next.token ∙ kept.token };
     }
+
+-- what passing the rest of a token tells
+pub record PassesRest (l now : Located) (run : List ℕ) : Type 0 where
+  pub number : now.number ≡ l.number
+  pub closed : l.is_open ≡ false → (now ≡ l) × (length run ≡ 0)
+  pub follows : (text : List ℕ) → length text + length run ≤ 17179869184 → Follows l text → Follows now (text ++ run)
+
+none_left : (run : List ℕ) → length run ≡ 0 → run ≡ []
+none_left [] is = refl
+none_left (c ∷ cs) is = absurd (omega arith)
+
+pub passes_rest : (old l now : Located) (piece : List ℕ) (i n last : ℕ) → i + n ≤ length piece → PassesPiece old l piece (take i piece) last → PassesRest l now (take n (drop i piece)) → PassesPiece old now piece (take (i + n) piece) last
+passes_rest old l now piece i n last within p r = record {
+  goes = λ text short f most some. subst (λ t. Reaches now t last) (append_assoc text (take i piece) run ∙ ap (λ (t : List ℕ). text ++ t) (sym more)) (elim (p.goes text short f most some) [
+    | inl (follows, few) ↦
+        inl (r.follows (text ++ take i piece) (let len = ap length more in omega (arith, short, length-append text piece, length-append text (take i piece), length-append (take i piece) run, length-take (i + n) piece)) follows, (let same = r.number in omega arith))
+    | inr stops ↦
+        let same = r.closed stops.closed in
+        inr (subst (λ (t : List ℕ). StopsBehind now t last) (sym (ap (λ (xs : List ℕ). (text ++ take i piece) ++ xs) (none_left run same.1) ∙ append-nil (text ++ take i piece))) (subst (λ (x : Located). StopsBehind x (text ++ take i piece) last) (sym same.0) stops))
+  ]);
+  stays = λ closed most. let kept = p.stays closed most in subst (IsKept old) (sym (r.closed kept.closed).0) kept;
+}
+  where
+    run : List ℕ
+    run = take n (drop i piece)
+
+    more : take (i + n) piece ≡ take i piece ++ run
+    more =
+        let under : i ≤ length piece = omega arith in
+        let front : length (take i piece) ≡ i = omega (arith, length-take i piece) in
+        ap (λ k. take (k + n) piece) (sym front) ∙ ap (take (length (take i piece) + n)) (sym (take-append-drop i piece)) ∙ take-append-add (take i piece) (drop i piece) n
 
 pub passes_all : (old now : Located) (piece : List ℕ) (i last : ℕ) → length piece ≤ i → PassesPiece old now piece (take i piece) last → PassesPiece old now piece piece last
 passes_all old now piece i last whole p = subst (λ t. PassesPiece old now piece t last) (take_all i piece whole) p

@@ -18,19 +18,19 @@ returns c =
     let k = c.args.key in
     let pairs = c.match-row-2.pairs.items in
     let left : (d r w : ℕ) → c.in-Some.row ≡ rows.Range d r w → filter (λ pair. pair.0 == k) (range_at names r).2 ≡ pairs = λ d r w is.
-        let room : r < length (ranges_of h) = (subst (IsWithin names) is c.in-Some.ensures.within).1 in
-        let up = range_ascends h c.law.ensures r room in
-        elim c.match-row-2.branch [
-          | in-Range+in-Some-listed_version+in_ok-push b ↦
-              let same : b.in-Range.range ≡ r = cc in
-              kept_one (range_at names r).2 up k b.in-Some-listed_version.saw (subst (λ n. Contains (range_at names n).2 (k, b.in-Some-listed_version.saw)) same b.in-Some-listed_version.ensures)
-              ∙ sym (rw (b.pairs-is, b.in_ok-push.ensures.items, c.new-pairs.ensures.items) refl)
-          | in-Range+in_default-listed_version b ↦
-              let same : b.in-Range.range ≡ r = cc in
-              kept_none (range_at names r).2 up k (subst (λ n. (v : ℕ) → ¬ Contains (range_at names n).2 (k, v)) same b.in_default-listed_version.ensures)
-              ∙ sym (rw (b.pairs-is, c.new-pairs.ensures.items) refl)
-          | in_default-row b ↦ absurd (b.in_default-row.not-Range d r w is)
-        ] in
+    let room : r < length (ranges_of h) = (subst (IsWithin names) is c.in-Some.ensures.within).1 in
+    let up = range_ascends h c.law.ensures r room in
+    elim c.match-row-2.branch [
+      | in-Range+in-Some-listed_version+in_ok-push b ↦
+          let same : b.in-Range.range ≡ r = cc in
+          kept_one (range_at names r).2 up k b.in-Some-listed_version.saw (subst (λ n. Contains (range_at names n).2 (k, b.in-Some-listed_version.saw)) same b.in-Some-listed_version.ensures)
+          ∙ sym (rw (b.pairs-is, b.in_ok-push.ensures.items, c.new-pairs.ensures.items) refl)
+      | in-Range+in_default-listed_version b ↦
+          let same : b.in-Range.range ≡ r = cc in
+          kept_none (range_at names r).2 up k (subst (λ n. (v : ℕ) → ¬ Contains (range_at names n).2 (k, v)) same b.in_default-listed_version.ensures)
+          ∙ sym (rw (b.pairs-is, c.new-pairs.ensures.items) refl)
+      | in_default-row b ↦ absurd (b.in_default-row.not-Range d r w is)
+    ] in
     let same_row : c.match-row-2.row ≡ c.in-Some.row = elim c.match-row-2.branch [
       | in-Range+in-Some-listed_version+in_ok-push b ↦ b.row-is ∙ sym b.in-Range.is
       | in-Range+in_default-listed_version b ↦ b.row-is ∙ sym b.in-Range.is
