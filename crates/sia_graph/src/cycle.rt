@@ -13,7 +13,6 @@ ghost use Rattle.sia_graph.specs.Taken.{AreLeftOver};
 ghost use Rattle.sia_graph.specs.Walks.{AreLeastSources, AreLeft, GoesRoundFrom, LeadsBack, StaysWithin, back};
 ghost use Rattle.sia_graph.specs.declared.cycle.Step.{Step};
 ghost use Rattle.sia_events.specs.Dependencies.{RwEdge};
-ghost use Rattle.sia_events.specs.Refusals.{IsWellFormed};
 ghost use Rattle.sia_index.specs.Info.{IsKeyAt};
 ghost use Rattle.sia_index.specs.Numbers.{IsCommittedAt};
 ghost use Rattle.sia_index.specs.Positions.{HasPosition};
@@ -248,11 +247,11 @@ fn start_of(index: &Index, key: u32) -> u32
 
 /// From where to before where a version is to stand to make an edge of this kind with the one at the position.
 fn span_met(index: &Index, kind: Kind, position: u32) -> (u32, u32)
-    requires well_formed { IsWellFormed index.now }
-    requires position { HasPosition index.now position }
+    requires { HasPosition index.now position }
     ensures { (q i : ℕ) → IsKeyOf index.now q i → ((result.0 ≤ q) × (q < result.1))
         ↔ (HaveOneKey index.now q position × Meets kind q position) }
 {
+    index.law();
     let key = index.key_at(position);
     let (start, end) = (start_of(index, key), start_of(index, key + 1));
     match kind {
@@ -275,7 +274,6 @@ fn least_made(index: &Index, made: &[u32], from: u32, to: u32) -> u32
 
 /// The number of the least key of which a version is made that makes an edge of this kind with one of the others.
 fn least_met(kind: Kind, index: &Index, made: &[u32], others: &[u32]) -> u32
-    requires well_formed { IsWellFormed index.now }
     requires made { AreMade index.now made.now }
     requires others { (p : ℕ) → Contains others.now p → HasPosition index.now p }
     ensures { IsLeastNumber (FromSome (IsMet index.now kind made.now) others.now) result }

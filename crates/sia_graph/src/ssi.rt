@@ -3,7 +3,6 @@ ghost use Rattle.std.specs.Prelude.{◌≡◌, ◌↔◌, ◌<◌, [], ℕ, ⊤,
 ghost use Rattle.sia_events.specs.declared.event.Event.{Event};
 ghost use Rattle.sia_events.specs.DangerousStructures.{IsFirst, NoFirst, PassesSsi};
 ghost use Rattle.sia_events.specs.Isolation.{IsolationKept};
-ghost use Rattle.sia_events.specs.Refusals.{IsWellFormed};
 ghost use Rattle.sia_events.specs.Transactions.{CommitsAt, IsCommitted};
 ghost use Rattle.sia_index.specs.declared.info.KeyVersion.{KeyVersion};
 ghost use Rattle.sia_index.specs.Numbers.{IsCommittedAt};
@@ -29,11 +28,11 @@ use std::alloc::Global;
 
 /// Whether the next version of the same key is committed up to the place.
 fn is_next_by(index: &Index, position: u32, place: u32) -> bool
-    requires well_formed { IsWellFormed index.now }
-    requires position { HasPosition index.now position }
+    requires { HasPosition index.now position }
     ensures { (v : KeyVersion) → IsAtPosition index.now position v
         → IsTrue result ↔ IsFollowedBy index.now v place }
 {
+    index.law();
     match index.next_position(position) {
         Some(next) => index.commit_at(next) <= place,
         None => false,
@@ -275,7 +274,6 @@ fn put_stands(
 
 /// The greatest mark that is with a block over the key.
 fn top_of(size: u32, most: &[u32], key: u32) -> u32
-    requires few { size ≤ 536870912 }
     requires long { length most.now ≡ 2 * size }
     requires within { (size ≡ 0) ⊎ (key < size) }
     ensures { (x : ℕ) → 0 < x → (x ≤ result) ↔ IsMarkedOver size most.now key x }
@@ -284,9 +282,9 @@ fn top_of(size: u32, most: &[u32], key: u32) -> u32
         return 0;
     }
     let mut top = 0u32;
-    let mut block = size + key;
+    let mut block = size as usize + key as usize;
     while block > 0 {
-        top = top.max(most[block as usize]);
+        top = top.max(most[block]);
         block /= 2;
     }
     top
@@ -300,7 +298,6 @@ fn last_before(
     seen: &[u32],
     most: &[u32],
 ) -> Result<Vec<u32>, NoMemory>
-    requires few { size ≤ 536870912 }
     requires seen { ArePositions index.now (length seen.now) }
     requires most { length most.now ≡ 2 * size }
     requires keys { (j k : ℕ) → IsKeyAt index.now j k → (size ≡ 0) ⊎ (j < size) }

@@ -93,8 +93,7 @@ fn run_up(index: &Index, twos: &mut [Two])
 
 /// Of those who passed over a key the least but `me`. Nobody passed over one that blocks aren't over.
 fn least_passing(nodes: &[Two], size: u32, key: u32, me: u32) -> u32
-    requires few { size ≤ 1000000000 }
-    requires long { length nodes.now ≡ 2 * size }
+    requires { length nodes.now ≡ 2 * size }
     ensures { (a : Accesses) (left : List Bool) → AreTwosOver size (IsLeftPasser a left) nodes.now
         → (key < size) ⊎ ((r : ℕ) → ¬ Missed a r key)
         → IsLeastNumber (λ r. IsLeftPasser a left key r × (r ≢ me)) result }
@@ -103,9 +102,9 @@ fn least_passing(nodes: &[Two], size: u32, key: u32, me: u32) -> u32
         return NONE;
     }
     let mut least = NONE;
-    let mut block = size + key;
+    let mut block = size as usize + key as usize;
     while block > 0 {
-        least = least.min(other(nodes[block as usize], me));
+        least = least.min(other(nodes[block], me));
         block /= 2;
     }
     least

@@ -10,9 +10,6 @@ use Rattle.sia_graph.proofs.Shared.Numbered.{few_txns}
 use Rattle.sia_graph.proofs.cycle.cycle_of_left.Goals.{then-source, else-source}
 use Rattle.sia_graph.proofs.cycle.cycle_of_left.Goals as goal
 
-pub of-requires-clause-is : goal.of-requires-clause-is
-of-requires-clause-is c = c.requires.is
-
 pub of-requires-clause-left : goal.of-requires-clause-left
 of-requires-clause-left c = let w = c.requires.left in (w.0, w.1, sym w.2.long)
 
@@ -24,16 +21,10 @@ overflow_cast-txn c =
     let l = c.loop-txn-test.true in
     omega arith
 
-pub least_source-source-requires-clause-is : goal.least_source-source-requires-clause-is
-least_source-source-requires-clause-is c = c.requires.is
-
 pub least_source-source-requires-clause-me : goal.least_source-source-requires-clause-me
 least_source-source-requires-clause-me c =
     let w = c.requires.left in
     (get_or w.0 c.loop-txn.txn 0, (w.0, w.1, (let l = c.loop-txn-test.true in let long = w.2.long in omega arith), refl))
-
-pub least_source-source-requires-clause-earlier : goal.least_source-source-requires-clause-earlier
-least_source-source-requires-clause-earlier c = (c.args.left.now, c.in_ok-earlier.ensures)
 
 pub loop-txn-preserved : goal.loop-txn-preserved
 loop-txn-preserved c =
@@ -54,9 +45,6 @@ loop-txn-preserved c =
     previous_more (IsPrevious h left) c.loop-txn.previous.items c.push.new.self.items i place c.in_ok-push.ensures.items c.loop-txn.invariant.0 c.loop-txn.invariant.1
     (previous_is h w.0 w.1 left i (let l = c.loop-txn-test.true in let long = w.2.long in omega arith) c.requires.is.well_formed source place none some (c.least_source-source.ensures left c.in_ok-earlier.ensures))
 
-pub cycle_of-requires-clause-can : goal.cycle_of-requires-clause-can
-cycle_of-requires-clause-can c = (c.committed.ensures, c.requires.is)
-
 pub cycle_of-requires-clause-ascending : goal.cycle_of-requires-clause-ascending
 cycle_of-requires-clause-ascending c = increasing c.committed.result.now c.committed.ensures.ascending
 
@@ -66,9 +54,6 @@ cycle_of-requires-clause-long c =
     let same = ap (length {A = ℕ}) (one_list_by (λ x. x ∷ []) (IsCommitted c.args.evidence.now.index.now) w.0 c.committed.result.now w.1 c.committed.ensures) in
     let all : length c.loop-txn.previous.items ≡ length c.args.left.now = (let e = c.loop-txn.invariant.0 in let l = c.loop-txn-test.false in let m = c.loop-txn.auto.txn-end in omega arith) in
     (w.2.long ∙ same, ap (length {A = ℕ}) c.deref.ensures.value ∙ all ∙ w.2.long ∙ same)
-
-pub cycle_of-requires-clause-some : goal.cycle_of-requires-clause-some
-cycle_of-requires-clause-some c = c.requires.left.2.some
 
 pub cycle_of-requires-clause-stuck : goal.cycle_of-requires-clause-stuck
 cycle_of-requires-clause-stuck c =

@@ -21,9 +21,6 @@ made_by-made-requires c = let l = c.requires.leads in (l.0, l.2)
 pub made_by-requires : goal.made_by-requires
 made_by-requires c = let l = c.requires.leads in (l.1, l.3)
 
-pub least_met-ww-requires-clause-well_formed : goal.least_met-ww-requires-clause-well_formed
-least_met-ww-requires-clause-well_formed c = c.requires.is.well_formed
-
 pub least_met-ww-requires-clause-made : goal.least_met-ww-requires-clause-made
 least_met-ww-requires-clause-made c = let l = c.requires.leads in (l.0, c.made_by-made.ensures l.0 l.2)
 
@@ -72,9 +69,6 @@ returns-then-ww-lt-NONE c t u source target =
 pub at-requires : goal.at-requires
 at-requires c = let e = c.args.evidence.now in let l = c.requires.leads in saw_inside e.index.now e.accesses.now c.requires.is.accesses c.args.u l.1 l.3
 
-pub least_met-wr-requires-clause-well_formed : goal.least_met-wr-requires-clause-well_formed
-least_met-wr-requires-clause-well_formed c = c.requires.is.well_formed
-
 pub least_met-wr-requires-clause-made : goal.least_met-wr-requires-clause-made
 least_met-wr-requires-clause-made c = let l = c.requires.leads in (l.0, c.made_by-made.ensures l.0 l.2)
 
@@ -114,9 +108,6 @@ returns-then-wr-lt-NONE c t u source target =
     below no_ww Ww j less edge = no_ww j edge
     below no_ww Wr j less edge = omega arith
     below no_ww Rw j less edge = omega arith
-
-pub least_rw-requires-clause-is : goal.least_rw-requires-clause-is
-least_rw-requires-clause-is c = c.requires.is
 
 pub least_rw-requires-clause-leads : goal.least_rw-requires-clause-leads
 least_rw-requires-clause-leads c =

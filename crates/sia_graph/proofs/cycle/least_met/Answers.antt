@@ -11,8 +11,8 @@ use Rattle.sia_graph.proofs.cycle.least_met.Goals as goal
 pub loop-other-init : goal.loop-other-init
 loop-other-init c = (omega arith, least_none _ (λ q f. (let n = f.1.1 in omega arith)))
 
-pub span_met-from-requires-clause-position : goal.span_met-from-requires-clause-position
-span_met-from-requires-clause-position c = let others = c.args.others.now in c.requires.others (get_or others c.loop-other.other-index 0) (Contains-get_or others c.loop-other.other-index 0 c.loop-other-test.true)
+pub span_met-from-requires : goal.span_met-from-requires
+span_met-from-requires c = let others = c.args.others.now in c.requires.others (get_or others c.loop-other.other-index 0) (Contains-get_or others c.loop-other.other-index 0 c.loop-other-test.true)
 
 pub loop-other-preserved : goal.loop-other-preserved
 loop-other-preserved c =

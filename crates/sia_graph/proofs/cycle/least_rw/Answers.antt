@@ -20,9 +20,6 @@ made_by-made-requires c = let l = c.requires.leads in (l.1, l.3)
 pub at-requires : goal.at-requires
 at-requires c = let e = c.args.evidence.now in let l = c.requires.leads in saw_inside e.index.now e.accesses.now c.requires.is.accesses c.args.t l.0 l.2
 
-pub least_met-seen-requires-clause-well_formed : goal.least_met-seen-requires-clause-well_formed
-least_met-seen-requires-clause-well_formed c = c.requires.is.well_formed
-
 pub least_met-seen-requires-clause-made : goal.least_met-seen-requires-clause-made
 least_met-seen-requires-clause-made c = let l = c.requires.leads in (l.1, c.made_by-made.ensures l.1 l.3)
 

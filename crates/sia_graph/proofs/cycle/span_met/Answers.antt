@@ -12,12 +12,12 @@ use Rattle.sia_graph.proofs.cycle.span_met.Goals as goal
 
 pub overflow_add-key : goal.overflow_add-key
 overflow_add-key c =
-    let v = c.requires.position in
-    let few = few_keys c.args.index.now c.requires.well_formed c.key_at-key.result v.0.key (c.key_at-key.ensures v.0 v.1) in
+    let v = c.requires in
+    let few = few_keys c.args.index.now c.law.ensures c.key_at-key.result v.0.key (c.key_at-key.ensures v.0 v.1) in
     omega arith
 
 its_key : (c : After-start_of-end) → IsKeyOf c.args.index.now c.args.position c.key_at-key.result
-its_key c = let v = c.requires.position in (v.0, v.1, c.key_at-key.ensures v.0 v.1)
+its_key c = let v = c.requires in (v.0, v.1, c.key_at-key.ensures v.0 v.1)
 
 -- the position stands below the end
 below : (c : After-start_of-end) → c.args.position < c.start_of-end.result

@@ -5,8 +5,5 @@ pub returns-then-key-written_keys : goal.returns-then-key-written_keys
 returns-then-key-written_keys c q i of =
     from_none c.args.index.now c.written_keys.result.now c.written_keys.ensures c.position_count.result c.args.key q i c.position_count.ensures c.if-key-written_keys.true of
 
-pub first_position-requires : goal.first_position-requires
-first_position-requires c = (c.written_keys.result.now, c.written_keys.ensures, c.if-key-written_keys.false)
-
 pub returns : goal.returns
 returns c q i of = from_first c.args.index.now c.first_position.result c.args.key q i c.first_position.ensures of

@@ -24,6 +24,3 @@ returns c = λ stuck leads.
     subst (λ (l : List Step). GoesRoundFrom stuck (IsEdgeIn c.args.edges.now) (get_or c.args.ids.now c.args.home 0) l) (sym (c.reverse.ensures.items ∙ ap reverse c.in_ok-push.ensures.items))
     (round_made c.args.ids.now c.requires.ascending (IsEdgeIn c.args.edges.now) previous c.requires.long c.requires.within c.args.home c.requires.home c.args.period c.requires.round.1 c.requires.least
     c.walk.steps.items c.walk.at c.walk.invariant c.least_step.result c.least_step.ensures.from c.least_step.ensures.least c.if-before-home.true stuck leads)
-
-pub least_step-requires-clause-can : goal.least_step-requires-clause-can
-least_step-requires-clause-can c = c.requires.can

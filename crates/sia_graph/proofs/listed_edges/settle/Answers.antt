@@ -37,9 +37,6 @@ least_sources-requires c =
     let left = left_of (goal.at.least_sources-requires c).In-Rest in
     (c.args.ids.now, c.args.edges.now, c.in_ok-graph.ensures.made, ap (length {A = Bool}) c.deref.ensures.value ∙ left.long)
 
-pub cycle_of-requires-clause-can : goal.cycle_of-requires-clause-can
-cycle_of-requires-clause-can c = c.requires.sorted
-
 pub cycle_of-requires-clause-long : goal.cycle_of-requires-clause-long
 cycle_of-requires-clause-long c =
     let left = left_of (goal.at.cycle_of-requires-clause-long c).In-Rest in

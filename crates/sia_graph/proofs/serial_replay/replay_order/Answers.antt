@@ -18,12 +18,6 @@ returns-in-Some c =
 pub replay_txn-requires-clause-next : goal.replay_txn-requires-clause-next
 replay_txn-requires-clause-next c = subst (AreNext c.args.h.now 0) (sym c.as_slice-places.ensures.value) c.in_ok-firsts.ensures.next
 
-pub replay_txn-requires-clause-commits : goal.replay_txn-requires-clause-commits
-replay_txn-requires-clause-commits c = c.in_ok-commits.ensures
-
-pub replay_txn-requires-clause-written : goal.replay_txn-requires-clause-written
-replay_txn-requires-clause-written c = c.loop-txn.invariant.0
-
 pub loop-txn-preserved : goal.loop-txn-preserved
 loop-txn-preserved c =
     let h = c.args.h.now in

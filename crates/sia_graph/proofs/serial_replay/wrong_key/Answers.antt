@@ -55,8 +55,5 @@ returns-in-Write c =
     subst (λ (e : Event). MatchOption r ((k : ℕ) → IsRight h found e k) (λ k. IsWrongAt h found e k (found k))) (sym c.in-Write.is)
     (write_told h found txn key c.may_follow.result r c.then_some-in-Write.ensures (subst (λ v. IsTrue c.may_follow.result ↔ MayFollow h key v txn) c.version_of-found.ensures c.may_follow.ensures))
 
-pub may_follow-requires-clause-commits : goal.may_follow-requires-clause-commits
-may_follow-requires-clause-commits c = c.requires.commits
-
 pub may_follow-requires-clause-writes : goal.may_follow-requires-clause-writes
 may_follow-requires-clause-writes c = (c.requires.event.0, c.requires.event.1 ∙ ap Some c.in-Write.is)

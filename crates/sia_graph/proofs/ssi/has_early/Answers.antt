@@ -23,13 +23,13 @@ seen c p has =
     let txn = c.requires.txn in
     (saw_is e.index.now e.accesses.now c.requires.evidence.accesses c.args.txn txn.0 txn.2 p).0 (subst (λ (l : List ℕ). Contains l p) c.at-position-items.ensures has)
 
-pub is_next_by-requires-clause-position : goal.is_next_by-requires-clause-position
-is_next_by-requires-clause-position c =
+pub is_next_by-requires : goal.is_next_by-requires
+is_next_by-requires c =
     let e = c.args.evidence.now in
     let txn = c.requires.txn in
     let saw = c.at-position-items.result.now in
     let n = c.loop-position.position-index in
-    saw_position e.index.now e.accesses.now c.requires.evidence.accesses c.args.txn txn.0 txn.2 (get_or saw n 0) (seen (goal.at.is_next_by-requires-clause-position c).After-at-position-items (get_or saw n 0) (Contains-get_or saw n 0 c.loop-position-test.true))
+    saw_position e.index.now e.accesses.now c.requires.evidence.accesses c.args.txn txn.0 txn.2 (get_or saw n 0) (seen (goal.at.is_next_by-requires c).After-at-position-items (get_or saw n 0) (Contains-get_or saw n 0 c.loop-position-test.true))
 
 pub returns-then-is_next_by : goal.returns-then-is_next_by
 returns-then-is_next_by c t at =

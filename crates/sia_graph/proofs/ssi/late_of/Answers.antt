@@ -59,9 +59,6 @@ raise_all-requires-in-loop-txn c k d l =
       | inr w ↦ let l = w.1 in omega arith
     ]
 
-pub last_before-requires-clause-few : goal.last_before-requires-clause-few
-last_before-requires-clause-few c = let e = c.args.evidence.now in size_few c.size_for-size.result e.index.now e.accesses.now c.requires.evidence.well_formed c.size_for-size.ensures
-
 pub last_before-requires-clause-keys : goal.last_before-requires-clause-keys
 last_before-requires-clause-keys c j k at = elim c.size_for-size.ensures [
   | inl all ↦ let l = (key_number c.args.evidence.now.index.now all.0 all.1 j k at).0 in let e = all.2 in inr (omega arith)

@@ -12,7 +12,7 @@ loop-block-preserved c =
     let nodes = c.args.nodes.now in
     let block = c.loop-block.block in
     let l = c.loop-block.invariant.1 in
-    let long = c.requires.long in (
+    let long = c.requires in (
       subst (IsRising nodes (c.args.size + c.args.key) c.args.me (block / 2)) (sym c.min-least.ensures)
           (rises_on nodes (c.args.size + c.args.key) c.args.me block c.loop-block.least c.other.result _ (omega arith)
           c.other.ensures.own c.other.ensures.another c.loop-block.invariant.0),

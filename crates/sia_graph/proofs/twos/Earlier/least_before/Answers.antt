@@ -2,7 +2,6 @@ use Rattle.std.proofs.Common.{◌≤◌, ◌≢◌, length, min, ap, sym, subst,
 use Rattle.sia_graph.specs.Twos.{AreTwosOver, IsBeforeVersion, IsLeastNumber, IsLeftPasser, IsLeftReader, IsTwo, IsUpTo}
 use Rattle.sia_graph.specs.declared.twos.Two.{Two}
 use Rattle.sia_graph.proofs.Shared.EarlierSources.{SawBelow, before_version, key_within, none_saw, saw_below}
-use Rattle.sia_graph.proofs.Shared.MemberSteps.{size_few}
 use Rattle.sia_graph.proofs.Shared.PositionTwos.{before_less, positions_below}
 use Rattle.sia_graph.proofs.twos.Earlier.least_before.Goals.{in-Some, in-None}
 use Rattle.sia_graph.proofs.twos.Earlier.least_before.Goals as goal
@@ -10,11 +9,8 @@ use Rattle.sia_graph.proofs.twos.Earlier.least_before.Goals as goal
 pub least_maker-made-requires : goal.least_maker-made-requires
 least_maker-made-requires c = let is = c.requires.is in positions_below c.args.index.now _ c.args.position is.3.makers_long c.requires.position
 
-pub least_passing-passed-requires-clause-few : goal.least_passing-passed-requires-clause-few
-least_passing-passed-requires-clause-few c = let is = c.requires.is in let few = size_few c.args.self.now.size c.args.index.now is.0 is.2 is.3.size in omega arith
-
-pub least_passing-passed-requires-clause-long : goal.least_passing-passed-requires-clause-long
-least_passing-passed-requires-clause-long c = ap (length {A = Two}) c.deref.ensures.value ∙ c.requires.is.3.passed_long
+pub least_passing-passed-requires : goal.least_passing-passed-requires
+least_passing-passed-requires c = ap (length {A = Two}) c.deref.ensures.value ∙ c.requires.is.3.passed_long
 
 pub index-requires : goal.index-requires
 index-requires c =

@@ -11,9 +11,6 @@ use Rattle.sia_graph.proofs.Shared.LeastNumbers.{first_least, least_join, least_
 use Rattle.sia_graph.proofs.Shared.PositionTwos.{positions_below}
 use Rattle.sia_graph.proofs.twos.Earlier.least_source.Goals as goal
 
-pub made_by-position-items-requires : goal.made_by-position-items-requires
-made_by-position-items-requires c = c.requires.me
-
 pub loop-position-init : goal.loop-position-init
 loop-position-init c = (omega arith, λ left are. least_none _ (λ q f. (let n = f.1.1 in omega arith)))
 
