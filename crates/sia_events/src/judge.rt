@@ -116,8 +116,7 @@ impl Judge {
         Ok(rest)
     }
 
-    /// Takes the events of all tokens of the unfinished bytes and the piece that a separator follows, and leaves as
-    /// unfinished what comes after the last separator.
+    /// Takes the events of all tokens that a separator follows, and leaves as unfinished what comes after the last one.
     pub(crate) fn take_piece(
         &mut self,
         limits: Limits,

@@ -82,10 +82,7 @@ impl Log {
                 if key < lo || hi < key {
                     return None;
                 }
-                match self.listed_version(range, key) {
-                    Some(saw) => Some(saw),
-                    None => Some(0),
-                }
+                Some(self.listed_version(range, key).unwrap_or(0))
             }
             _ => None,
         }

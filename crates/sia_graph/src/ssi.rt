@@ -130,8 +130,7 @@ pub fn ssi_pass(f: &Findings, p: &[Pivot]) -> bool
     are_none(&f.bad_reads, &f.bad_writes)
 }
 
-/// A dangerous structure whose last transaction commits first: an rw edge leads from the first transaction to the pivot, and one
-/// from that to the last.
+/// A dangerous structure whose last transaction commits first: an rw edge leads from the first to the pivot, and one on to the last.
 #[derive(Clone, Copy)]
 pub struct Dangerous {
     pub first: TxnId,

@@ -109,8 +109,7 @@ fn origin_of_pair(log: &Log, pair: u32) -> Origin
     }
 }
 
-/// Adds what was seen of the keys with numbers from the one to before the other, none of which was listed. Mostly there is none.
-/// Where `own` isn't true, the reader is known not to have written them before.
+/// Adds what was seen of keys from one number to before another, none of which was listed. Without `own` the reader wrote none before.
 #[inline(always)]
 fn put_gap(
     ix: &Index,
