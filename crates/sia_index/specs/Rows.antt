@@ -1,8 +1,8 @@
 -- The rows of an index's tables: what each says of a history, and the order that they stand in.
-use Rattle.std.specs.Prelude.{◌≡◌, ◌<◌, ◌≤◌, ℕ, Bool, true, Option, Some, MatchOption, List, [], ◌∷◌, All, AllPairs, Contains, length, slice_get, slice_index_or}
+use Rattle.std.specs.Prelude.{◌≡◌, ◌<◌, ◌≤◌, ℕ, Option, Some, MatchOption, List, [], ◌∷◌, All, AllPairs, Contains, length, slice_get, slice_index_or}
 use Rattle.sia_events.specs.declared.event.Event.{Event}
 use Rattle.sia_events.specs.Lists.{ListsBy, Precedes}
-use Rattle.sia_events.specs.Transactions.{HasEvent, IsCommitted, WritesAt, Wrote}
+use Rattle.sia_events.specs.Transactions.{WritesAt, Wrote}
 use Rattle.sia_index.specs.declared.info.Made.{Made}
 use Rattle.sia_index.specs.declared.info.KeyVersion.{KeyVersion}
 use Rattle.sia_index.specs.declared.names.Numbered.{Numbered}
@@ -27,10 +27,6 @@ AreNumbered K names rows = ListsBy (λ row. row.name ∷ row.number ∷ []) (λ 
 -- the names of the rows, each at the place of its row
 abbrev pub AreNamesOf : List Numbered → List ℕ → Type 0
 AreNamesOf rows names = (length names ≡ length rows) × ((i : ℕ) (d : ℕ) (e : Numbered) → i < length names → slice_index_or names i d ≡ (slice_index_or rows i e).name)
-
--- t is one of all transactions, or of the committed ones
-abbrev pub IsAmong : List Event → Bool → ℕ → Type 0
-IsAmong h committed t = HasEvent h t × (committed ≡ true → IsCommitted h t)
 
 -- some write event names k
 abbrev pub IsWritten : List Event → ℕ → Type 0

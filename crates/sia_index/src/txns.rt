@@ -1,12 +1,11 @@
 //! The tables of transactions and of write events.
-ghost use Rattle.std.specs.Prelude.{◌≡◌, ◌↔◌, ℕ, IsTrue, List, Some, All, IfOk, slice_get};
+ghost use Rattle.std.specs.Prelude.{◌≡◌, ℕ, List, Some, All, IfOk, slice_get};
 ghost use Rattle.sia_events.specs.declared.event.Event.{Event};
 ghost use Rattle.sia_events.specs.Numbering.{Ends, txns_of};
-ghost use Rattle.sia_events.specs.Refusals.{IsWellFormed};
 ghost use Rattle.sia_events.specs.Transactions.{StartsAt, IsCommitted, HasEvent};
 ghost use Rattle.sia_index.specs.Info.{IsInfo};
-ghost use Rattle.sia_index.specs.Lifetimes.{IsLifetime, AreLifetimes};
-ghost use Rattle.sia_index.specs.Rows.{AreNumbered, AreNamesOf, IsAmong, AreWrites, IsWriteEvent};
+ghost use Rattle.sia_index.specs.Lifetimes.{AreLifetimes};
+ghost use Rattle.sia_index.specs.Rows.{AreNumbered, AreNamesOf, AreWrites, IsWriteEvent};
 ghost use Rattle.sia_index.specs.Tables.{AreInfos, AreTxns, AreWriteTables};
 ghost use Rattle.sia_events.specs.Lists.{ListsAscending};
 
@@ -35,11 +34,10 @@ pub fn txns_of(alloc: Global, log: &Log) -> Result<Txns, AllocError>
     ensures { IfOk result (λ txns. AreTxns log.now txns) }
 {
     log.law();
-    let rows = numbered(alloc, log, false)?;
+    let rows = numbered(alloc, log)?;
     let (ids, infos) = infos_of(alloc, log, &rows)?;
     let numbers = places_of(alloc, log.txn_count(), &rows)?;
-    let ended = numbered(alloc, log, true)?;
-    let (committed, lifetimes) = lifetimes_of(alloc, log, &ended)?;
+    let (ended, committed, lifetimes) = committed_of(alloc, log, &rows)?;
     let committed_numbers = places_of(alloc, log.txn_count(), &ended)?;
     Ok(Txns {
         ids,
@@ -51,35 +49,20 @@ pub fn txns_of(alloc: Global, log: &Log) -> Result<Txns, AllocError>
     })
 }
 
-/// The transactions of the log, or the committed ones, by name. Mostly their numbers are in the order of their names.
-fn numbered(alloc: Global, log: &Log, committed: bool) -> Result<Vec<Numbered>, AllocError>
-    ensures { IfOk result (λ rows. AreNumbered (IsAmong log.now committed) (txns_of log.now) rows.items) }
+/// The transactions of the log, by name. Mostly their numbers are in the order of their names.
+fn numbered(alloc: Global, log: &Log) -> Result<Vec<Numbered>, AllocError>
+    ensures { IfOk result (λ rows. AreNumbered (HasEvent log.now) (txns_of log.now) rows.items) }
 {
-    log.law();
     let count = log.txn_count();
     let mut rows = Vec::with_capacity(alloc, count as usize)?;
     for number in 0..count {
-        let txn = log.txn(number);
-        if is_among(txn, committed) {
-            rows.push(Numbered {
-                name: u64::from(txn.name),
-                number,
-            })?;
-        }
+        rows.push(Numbered {
+            name: u64::from(log.txn(number).name),
+            number,
+        })?;
     }
     let sorted = in_order::<Numbered, ByName>(alloc, rows)?;
     Ok(sorted)
-}
-
-/// Whether the transaction is one of all, or of the committed ones.
-fn is_among(row: TxnRow, committed: bool) -> bool
-    ensures { (h : List Event) (t : ℕ) → IsWellFormed h → StartsAt h t row.start → Ends h t row.end
-        → IsTrue result ↔ IsAmong h committed t }
-{
-    match row.end {
-        TxnEnd::Committed(_) => true,
-        TxnEnd::Open | TxnEnd::Aborted(_) => !committed,
-    }
 }
 
 /// The transactions of the rows, and beside each what is known of it.
@@ -118,39 +101,35 @@ fn info_of(row: TxnRow) -> TxnInfo
     }
 }
 
-fn lifetimes_of(
+/// Of all transactions the committed ones, and beside each when it starts and commits.
+fn committed_of(
     alloc: Global,
     log: &Log,
     rows: &[Numbered],
-) -> Result<(Vec<TxnId>, Vec<Lifetime>), AllocError>
-    requires named { All (λ row. slice_get (txns_of log.now) row.number ≡ Some row.name) rows.now }
-    requires committed { All (λ row. IsCommitted log.now row.name) rows.now }
-    ensures names { IfOk result (λ r. AreNamesOf rows.now r.0.items) }
-    ensures lifetimes { IfOk result (λ r. AreLifetimes log.now r.0.items r.1.items) }
+) -> Result<(Vec<Numbered>, Vec<TxnId>, Vec<Lifetime>), AllocError>
+    requires { AreNumbered (HasEvent log.now) (txns_of log.now) rows.now }
+    ensures rows { IfOk result (λ (ended, names, lifetimes).
+        AreNumbered (IsCommitted log.now) (txns_of log.now) ended.items) }
+    ensures names { IfOk result (λ (ended, names, lifetimes). AreNamesOf ended.items names.items) }
+    ensures lifetimes { IfOk result (λ (ended, names, lifetimes). AreLifetimes log.now names.items
+        lifetimes.items) }
 {
     log.law();
-    let mut committed = Vec::with_capacity(alloc, rows.len())?;
+    let mut ended = Vec::with_capacity(alloc, rows.len())?;
+    let mut names = Vec::with_capacity(alloc, rows.len())?;
     let mut lifetimes = Vec::with_capacity(alloc, rows.len())?;
     for row in rows {
         let txn = log.txn(row.number);
-        committed.push(txn.name)?;
-        lifetimes.push(lifetime_of(txn))?;
+        if let TxnEnd::Committed(commit) = txn.end {
+            ended.push(*row)?;
+            names.push(txn.name)?;
+            lifetimes.push(Lifetime {
+                start: txn.start,
+                commit,
+            })?;
+        }
     }
-    Ok((committed, lifetimes))
-}
-
-fn lifetime_of(row: TxnRow) -> Lifetime
-    ensures { (h : List Event) (t : ℕ) → IsWellFormed h → StartsAt h t row.start → Ends h t row.end
-        → IsCommitted h t → IsLifetime h t result }
-{
-    let commit = match row.end {
-        TxnEnd::Committed(place) => place,
-        TxnEnd::Open | TxnEnd::Aborted(_) => 0,
-    };
-    Lifetime {
-        start: row.start,
-        commit,
-    }
+    Ok((ended, names, lifetimes))
 }
 
 /// A write event.

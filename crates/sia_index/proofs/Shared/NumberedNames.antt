@@ -113,9 +113,9 @@ module _ (K : ℕ → Type 0) (names : List ℕ) (rows : List Numbered) (are : A
         | inr rest ↦ elim rest.1 [ inl before ↦ omega arith | inr never ↦ never.1 ]
       ]
 
-  module _ (once : StandOnce names) (Has : ℕ → Type 0) (same : (t : ℕ) → K t ↔ Has t) (known : (t : ℕ) → Has t → (i : ℕ) × (slice_get names i ≡ Some t)) (listed : List ℕ) (named : AreNamesOf rows listed) (numbers : List (Option ℕ)) (places : ArePlaces (λ (row : Numbered). row.number) rows (length names) numbers) where
-    row_of : (t i : ℕ) → slice_get names i ≡ Some t → Has t → Contains rows (record { name = t; number = i })
-    row_of t i at has = (are.each (record { name = t; number = i })).1 (at, (same t).1 has)
+  module _ (once : StandOnce names) (known : (t : ℕ) → K t → (i : ℕ) × (slice_get names i ≡ Some t)) (listed : List ℕ) (named : AreNamesOf rows listed) (numbers : List (Option ℕ)) (places : ArePlaces (λ (row : Numbered). row.number) rows (length names) numbers) where
+    row_of : (t i : ℕ) → slice_get names i ≡ Some t → K t → Contains rows (record { name = t; number = i })
+    row_of t i at has = (are.each (record { name = t; number = i })).1 (at, has)
 
     rise : (i j : ℕ) → i < j → j < length rows → (slice_index_or rows i none_numbered).name < (slice_index_or rows j none_numbered).name
     rise i j less below = elim (are.ascending i j none_numbered less below) [
@@ -128,7 +128,7 @@ module _ (K : ℕ → Type 0) (names : List ℕ) (rows : List Numbered) (are : A
     name_of : (i d : ℕ) → i < length rows → slice_index_or listed i d ≡ (slice_index_or rows i none_numbered).name
     name_of i d below = named.1 i d none_numbered (omega (arith, named.0))
 
-    found : (q : ℕ) (place : Option ℕ) → q < length names → slice_index_or numbers q None ≡ place → MatchOption place (¬ Has (slice_index names q)) (λ i. (i < length listed) × (slice_index listed i ≡ slice_index names q))
+    found : (q : ℕ) (place : Option ℕ) → q < length names → slice_index_or numbers q None ≡ place → MatchOption place (¬ K (slice_index names q)) (λ i. (i < length listed) × (slice_index listed i ≡ slice_index names q))
     found q None inside is = λ has.
         let row : Numbered = record { name = slice_index names q; number = q } in
         let c = row_of (slice_index names q) q (slice_get-get_or names q 0 inside) has in
@@ -141,7 +141,7 @@ module _ (K : ℕ → Type 0) (names : List ℕ) (rows : List Numbered) (are : A
         let name : slice_get names q ≡ Some (slice_index_or rows i none_numbered).name = subst (λ m. slice_get names m ≡ Some (slice_index_or rows i none_numbered).name) (at.1 none_numbered) (row_at i none_numbered below) in
         (omega (arith, named.0), name_of i 0 below ∙ sym (get_or_from_slice_get names q (slice_index_or rows i none_numbered).name 0 name))
 
-    pub numbers_are : AreNumbers Has names listed numbers
+    pub numbers_are : AreNumbers K names listed numbers
     numbers_are = record {
       listed_are = record {
         ascending = λ i j d less below.
@@ -153,8 +153,7 @@ module _ (K : ℕ → Type 0) (names : List ℕ) (rows : List Numbered) (are : A
         each = λ t. (
           (λ c.
               let below : c.0 < length rows = let b = c.1 in omega (arith, named.0) in
-              let row = slice_index_or rows c.0 none_numbered in
-              subst Has (sym (name_of c.0 t below) ∙ c.2) ((same row.name).0 (rows_have c.0 none_numbered below))),
+              subst K (sym (name_of c.0 t below) ∙ c.2) (rows_have c.0 none_numbered below)),
           (λ has.
               let number = known t has in
               let c = row_of t number.0 number.1 has in

@@ -25,4 +25,4 @@ returns c =
     let places : ArePlaces (λ (row : Numbered). row.number) rows (length (keys_of h)) c.in_ok-numbers.numbers.items = rw (c.deref.ensures.value, c.key_count.ensures) at c.in_ok-numbers.ensures in
     let end : c.loop-row.row-index ≡ length c.deref-row-items.result.now = (let last = c.loop-row-test.false in let most = c.loop-row.auto in omega arith) in
     let names = rw c.deref-row-items.ensures.value at (subst (λ n. IsColumn (λ (row : Numbered). row.name) c.deref-row-items.result.now n c.loop-row.keys.items) end c.loop-row.invariant) in
-    numbers_are (IsWritten h) (keys_of h) rows c.in_ok-rows.ensures (keys_stand_once h) (IsWritten h) (λ k. ((λ x. x), (λ x. x))) (written_has_number h) _ names _ places
+    numbers_are (IsWritten h) (keys_of h) rows c.in_ok-rows.ensures (keys_stand_once h) (written_has_number h) _ names _ places

@@ -1,9 +1,9 @@
--- The rows so far are those of the numbers so far.
+-- The rows so far are those of the first numbers.
 use Rattle.sia_events.specs.Numbering.{txns_of}
-use Rattle.sia_index.specs.Rows.{IsAmong}
+use Rattle.sia_events.specs.Transactions.{HasEvent}
 use Rattle.sia_index.proofs.TxnTables.Collected.{HoldsBelow}
 use Rattle.sia_index.proofs.Shared.NumberedNames.{IsRowOf}
 use Rattle.sia_index.proofs.txns.numbered.Given as goal
 
 abbrev pub invariant-loop-number : goal.invariant-loop-number
-invariant-loop-number l = HoldsBelow (IsRowOf (IsAmong l.log l.committed) (txns_of l.log)) l.number l.rows.items
+invariant-loop-number l = HoldsBelow (IsRowOf (HasEvent l.log) (txns_of l.log)) l.number l.rows.items

@@ -1,43 +1,32 @@
 -- The tables are those of the rows.
-use Rattle.std.proofs.Common.{◌↔◌, ℕ, List, true, false, length, refl}
-use Rattle.sia_events.specs.declared.event.Event.{Event}
+use Rattle.std.proofs.Common.{length}
 use Rattle.sia_events.specs.Numbering.{txns_of}
 use Rattle.sia_events.specs.Transactions.{HasEvent, IsCommitted}
-use Rattle.sia_index.specs.Rows.{IsAmong}
 use Rattle.sia_index.specs.Tables.{ArePlaces}
 use Rattle.sia_index.specs.declared.names.Numbered.{Numbered}
 use Rattle.sia_index.specs.declared.info.Fate.TheVariants.{Committed}
 use Rattle.sia_index.proofs.Shared.Fates.{ended_has_event}
 use Rattle.sia_index.proofs.Shared.LogNames.{txns_stand_once, event_has_number}
-use Rattle.sia_index.proofs.Shared.NumberedNames.{rows_apart, rows_have, rows_named, rows_within, numbers_are}
+use Rattle.sia_index.proofs.Shared.NumberedNames.{rows_apart, rows_named, rows_within, numbers_are}
 use Rattle.sia_index.proofs.txns.txns_of.Goals as goal
 
 pub infos_of-requires : goal.infos_of-requires
-infos_of-requires c = rw c.deref.ensures.value (rows_named (IsAmong c.args.log.now false) _ _ c.in_ok-rows.ensures)
+infos_of-requires c = rw c.deref.ensures.value (rows_named (HasEvent c.args.log.now) _ _ c.in_ok-rows.ensures)
 
 pub places_of-requires-clause-apart : goal.places_of-requires-clause-apart
-places_of-requires-clause-apart c = rw c.deref-2.ensures.value (rows_apart (IsAmong c.args.log.now false) _ _ c.in_ok-rows.ensures)
+places_of-requires-clause-apart c = rw c.deref-2.ensures.value (rows_apart (HasEvent c.args.log.now) _ _ c.in_ok-rows.ensures)
 
 pub places_of-requires-clause-within : goal.places_of-requires-clause-within
-places_of-requires-clause-within c = rw (c.deref-2.ensures.value, c.txn_count.ensures) (rows_within (IsAmong c.args.log.now false) _ _ c.in_ok-rows.ensures)
+places_of-requires-clause-within c = rw (c.deref-2.ensures.value, c.txn_count.ensures) (rows_within (HasEvent c.args.log.now) _ _ c.in_ok-rows.ensures)
 
-pub lifetimes_of-requires-clause-named : goal.lifetimes_of-requires-clause-named
-lifetimes_of-requires-clause-named c = rw c.deref-3.ensures.value (rows_named (IsAmong c.args.log.now true) _ _ c.in_ok-ended.ensures)
-
-pub lifetimes_of-requires-clause-committed : goal.lifetimes_of-requires-clause-committed
-lifetimes_of-requires-clause-committed c = rw c.deref-3.ensures.value (λ i d below. (rows_have (IsAmong c.args.log.now true) _ _ c.in_ok-ended.ensures i d below).1 refl)
+pub committed_of-requires : goal.committed_of-requires
+committed_of-requires c = rw c.deref-3.ensures.value c.in_ok-rows.ensures
 
 pub places_of-requires-2-clause-apart : goal.places_of-requires-2-clause-apart
-places_of-requires-2-clause-apart c = rw c.deref-4.ensures.value (rows_apart (IsAmong c.args.log.now true) _ _ c.in_ok-ended.ensures)
+places_of-requires-2-clause-apart c = rw c.deref-4.ensures.value (rows_apart (IsCommitted c.args.log.now) _ _ c.in_ok-ended.ensures.rows)
 
 pub places_of-requires-2-clause-within : goal.places_of-requires-2-clause-within
-places_of-requires-2-clause-within c = rw (c.deref-4.ensures.value, c.txn_count-2.ensures) (rows_within (IsAmong c.args.log.now true) _ _ c.in_ok-ended.ensures)
-
-all_among : (h : List Event) (t : ℕ) → IsAmong h false t ↔ HasEvent h t
-all_among h t = ((λ among. among.0), (λ has. (has, λ never. absurd cc)))
-
-committed_among : (h : List Event) (t : ℕ) → IsAmong h true t ↔ IsCommitted h t
-committed_among h t = ((λ among. among.1 refl), (λ done. (ended_has_event h t Committed done, λ is. done)))
+places_of-requires-2-clause-within c = rw (c.deref-4.ensures.value, c.txn_count-2.ensures) (rows_within (IsCommitted c.args.log.now) _ _ c.in_ok-ended.ensures.rows)
 
 pub returns : goal.returns
 returns c =
@@ -45,8 +34,8 @@ returns c =
     let numbers : ArePlaces (λ (row : Numbered). row.number) c.in_ok-rows.rows.items (length (txns_of h)) c.in_ok-numbers.numbers.items = rw (c.deref-2.ensures.value, c.txn_count.ensures) at c.in_ok-numbers.ensures in
     let committed : ArePlaces (λ (row : Numbered). row.number) c.in_ok-ended.ended.items (length (txns_of h)) c.in_ok-committed_numbers.committed_numbers.items = rw (c.deref-4.ensures.value, c.txn_count-2.ensures) at c.in_ok-committed_numbers.ensures in
     record {
-      all = numbers_are (IsAmong h false) (txns_of h) c.in_ok-rows.rows.items c.in_ok-rows.ensures (txns_stand_once h) (HasEvent h) (all_among h) (event_has_number h) _ (rw c.deref.ensures.value at c.in_ok-ids.ensures.names) _ numbers;
+      all = numbers_are (HasEvent h) (txns_of h) c.in_ok-rows.rows.items c.in_ok-rows.ensures (txns_stand_once h) (event_has_number h) _ (rw c.deref.ensures.value at c.in_ok-ids.ensures.names) _ numbers;
       infos = c.in_ok-ids.ensures.infos;
-      committed = numbers_are (IsAmong h true) (txns_of h) c.in_ok-ended.ended.items c.in_ok-ended.ensures (txns_stand_once h) (IsCommitted h) (committed_among h) (λ t done. event_has_number h t (ended_has_event h t Committed done)) _ (rw c.deref-3.ensures.value at c.in_ok-committed.ensures.names) _ committed;
-      lifetimes = c.in_ok-committed.ensures.lifetimes;
+      committed = numbers_are (IsCommitted h) (txns_of h) c.in_ok-ended.ended.items c.in_ok-ended.ensures.rows (txns_stand_once h) (λ t done. event_has_number h t (ended_has_event h t Committed done)) _ c.in_ok-ended.ensures.names _ committed;
+      lifetimes = c.in_ok-ended.ensures.lifetimes;
     }
