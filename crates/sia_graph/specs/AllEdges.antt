@@ -7,15 +7,15 @@ use Rattle.sia_events.specs.Transactions.{IsCommitted}
 use Rattle.sia_index.specs.Numbers.{IsCommittedAt}
 use Rattle.sia_parts.specs.Chunks.{AreChunkBounds}
 use Rattle.sia_parts.specs.EdgeRows.{CanTell}
-use Rattle.sia_graph.specs.declared.pivot.AllEdges.{AllEdges}
+use Rattle.sia_parts.specs.declared.edges.Edges.{Edges}
 use Rattle.sia_graph.specs.declared.pivot.Link.{Link}
 
 -- they can be told at all keys, and each source stands in one chunk; there are at most 1,024
-pub record AreAllEdges (all : AllEdges) : Type 0 where
-  pub tell : CanTell all.edges
-  pub within : all.edges.within ≡ None
-  pub bounds : (txns : List ℕ) → ListsAscending (IsCommitted all.edges.index.now) txns → AreChunkBounds (length txns) all.bounds.items
-  pub few : length all.bounds.items ≤ 1025
+pub record AreAllEdges (edges : Edges) (bounds : List ℕ) : Type 0 where
+  pub tell : CanTell edges
+  pub within : edges.within ≡ None
+  pub are : (txns : List ℕ) → ListsAscending (IsCommitted edges.index.now) txns → AreChunkBounds (length txns) bounds
+  pub few : length bounds ≤ 1025
 
 -- the link is that of a vulnerable edge from number i
 abbrev pub IsLinkFrom : List Event → ℕ → Link → Type 0

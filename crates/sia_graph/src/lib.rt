@@ -21,7 +21,7 @@ pub use laws::{
 };
 pub use listed_edges::settle;
 pub use order::Txns;
-pub use pivot::{AllEdges, Link, Pivot, edges_of, listed, pivots, pivots_of_links, put_edges};
+pub use pivot::{Link, Pivot, pivots, pivots_of_links, put_vulnerable};
 pub use serial_replay::{Mismatch, ReplayFault, replay};
 pub use ssi::{Dangerous, dangerous_of, passes, ssi_pass};
 

@@ -1,26 +1,25 @@
-//! The pivots among the transactions, and all edges of a history with its pivots.
-ghost use Rattle.std.specs.Prelude.{◌≡◌, ◌↔◌, ◌⊎◌, ◌<◌, ◌≤◌, ℕ, ⊤, All, AllPairs, Contains, IfOk, IsTrue, List, OnOk, map, None};
+//! The pivots among the transactions.
+ghost use Rattle.std.specs.Prelude.{◌≡◌, ◌↔◌, ◌⊎◌, ◌<◌, ◌≤◌, ℕ, ⊤, All, AllPairs, Contains, IfOk, IsTrue, List, OnOk, map};
 ghost use Rattle.sia_events.specs.DangerousStructures.{IsFirst, IsVulnerable};
 ghost use Rattle.sia_events.specs.Lists.{ListsAscending, Precedes};
 ghost use Rattle.sia_events.specs.Transactions.{CommitsAt, IsCommitted, Overlap};
 ghost use Rattle.sia_parts.specs.declared.finding.Kind.TheVariants.{Rw};
-ghost use Rattle.sia_parts.specs.Findings.{AreFindings, ListsEdges};
+ghost use Rattle.sia_parts.specs.Findings.{AreFindings};
 ghost use Rattle.sia_parts.specs.EdgeRows.{AreEdgesFrom};
 ghost use Rattle.sia_parts.specs.Sights.{Adds};
 ghost use Rattle.sia_index.specs.Lifetimes.{AreLifetimes};
 ghost use Rattle.sia_index.specs.Numbers.{IsCommittedAt};
-ghost use Rattle.sia_graph.specs.AllEdges.{IsLinkFrom, AreAllEdges};
+ghost use Rattle.sia_graph.specs.AllEdges.{IsLinkFrom};
 ghost use Rattle.sia_graph.specs.declared.pivot.Link.{Link};
 ghost use Rattle.sia_graph.specs.Links.{AreEnds, AreLinksAt, AreVulnerable, ListsLinks, is_rw, link_rank};
 ghost use Rattle.sia_graph.specs.Pivots.{ArePivots, ListsNeighbours};
-ghost use Rattle.sia_parts.specs.Accesses.{AreAccesses};
 
 use crate::order::Txns;
 use sia_events::{NoMemory, TxnId};
 use sia_index::keyed::{By, between};
 use sia_index::ordering::put_in_order;
 use sia_index::{Index, Lifetime, overlap};
-use sia_parts::{Accesses, Edge, EdgeTo, Edges, Findings, Kind, edges_at};
+use sia_parts::{Edge, EdgeTo, Findings, Kind};
 use std::alloc::{AllocError, Global};
 
 /// The transaction in the middle of a dangerous structure, with all the transactions at its other ends.
@@ -89,8 +88,8 @@ fn others(alloc: Global, links: &[Link]) -> Result<Vec<TxnId>, AllocError>
     links.iter().map(|link| link.other).collect(alloc)
 }
 
-/// Adds the links of the vulnerable edges among those from a source.
-fn put_vulnerable(
+/// Adds the links of the vulnerable edges among all those from a source, each at the source.
+pub fn put_vulnerable(
     ix: &Index,
     source: u32,
     rows: &[EdgeTo],
@@ -262,63 +261,4 @@ pub fn pivots_of_links(
     put_in_order(&mut into)?;
     let found = entries(alloc, ix, &into, out)?;
     Ok(found)
-}
-
-/// All edges of a history, and where their sources are cut into chunks: the numbers of those at which chunks start, and behind
-/// them how many there are.
-#[derive(Drop)]
-pub struct AllEdges<'a> {
-    pub edges: Edges<'a>,
-    pub bounds: Vec<u32>,
-}
-
-/// The edges of what was seen in a history, in chunks that mostly have about so many.
-pub fn edges_of<'a>(
-    alloc: Global,
-    ix: &'a Index,
-    accesses: &'a Accesses,
-    size: u64,
-) -> Result<AllEdges<'a>, NoMemory>
-    requires { AreAccesses ix.now (λ _. ⊤) accesses.now }
-    ensures index { IfOk result (λ all. all.edges.index.now ≡ ix.now) }
-    ensures are { IfOk result AreAllEdges }
-{
-    let edges = Edges::of(alloc, ix, accesses, None)?;
-    let bounds = edges.chunks(alloc, size)?;
-    Ok(AllEdges { edges, bounds })
-}
-
-/// Puts the edges from the source into the rows, in order, in place of what these held, and adds the links of the vulnerable ones,
-/// each at its source.
-pub fn put_edges(
-    alloc: Global,
-    all: &AllEdges,
-    source: u32,
-    rows: &mut Vec<EdgeTo>,
-    links: &mut Vec<Link>,
-) -> Result<(), NoMemory>
-    requires all { AreAllEdges all.now }
-    requires source { (t : ℕ) × IsCommittedAt all.now.edges.index.now source t }
-    ensures rows { OnOk result (AreEdgesFrom all.now.edges.index.now (λ _. ⊤) source rows.new.items) }
-    ensures links { OnOk result (Adds
-        (IsLinkFrom all.now.edges.index.now source) links.old.items links.new.items) }
-{
-    all.edges.put_from(alloc, source, rows)?;
-    put_vulnerable(all.edges.index, source, rows, links)
-}
-
-/// All edges of a history and all pivots, in order.
-pub fn listed(
-    alloc: Global,
-    ix: &Index,
-    accesses: &Accesses,
-) -> Result<(Vec<Edge>, Vec<Pivot>), NoMemory>
-    requires accesses { AreAccesses ix.now (λ _. ⊤) accesses.now }
-    ensures edges { IfOk result (λ (edges, pivots). ListsEdges ix.now (λ _. ⊤) edges.items) }
-    ensures pivots { IfOk result (λ (edges, pivots). ArePivots ix.now pivots.items) }
-{
-    let edges = edges_at(alloc, ix, accesses, None)?;
-    let links = vulnerable(alloc, &edges, ix)?;
-    let pivots = pivots_of_links(alloc, ix, links)?;
-    Ok((edges, pivots))
 }

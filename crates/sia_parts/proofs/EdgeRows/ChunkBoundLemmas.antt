@@ -79,10 +79,10 @@ module _ (place : ℕ) (places : List ℕ) where
   }
 
 -- where there is no source
-pub chunk_bounds_none : (sources : ℕ) → sources ≤ 0 → AreChunkBounds sources (0 ∷ [])
-chunk_bounds_none sources none = record {
-  some = omega arith;
-  first = refl;
-  last = omega arith;
-  ascending = λ i j d less under. absurd (omega arith);
+pub chunk_bounds_none : (sources place : ℕ) (places : List ℕ) → sources ≤ 0 → place ≤ 1 → ChunkBoundsBelow place places → AreChunkBounds sources places
+chunk_bounds_none sources place places none first so = record {
+  some = so.first.0;
+  first = so.first.1;
+  last = let last = so.below (length places - 1) 0 (let some = so.first.0 in omega arith) in omega arith;
+  ascending = so.ascending;
 }

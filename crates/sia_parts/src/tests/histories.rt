@@ -35,7 +35,7 @@ const NOTHING: Worked<'static> = Worked {
 pub struct More<'a> {
     /// Behind the edges, more that lead from one to each target up to before another, and what their keys rise by.
     pub edges: &'a [(Edge, TxnId, Key)],
-    /// How many places chunks of about 48 edges lie between at least.
+    /// How many places chunks of 7 sources lie between, where they are counted.
     pub places: usize,
     /// The committed transactions, where any are named.
     pub committed: &'a [TxnId],
@@ -461,7 +461,7 @@ pub const MORE: &[(Worked<'static>, More<'static>)] = &[
                 (edge!(32, Rw, 1, 7), 21, 0),
                 (edge!(33, Rw, 1, 7), 21, 0),
             ],
-            places: 3,
+            places: 5,
             ..NO_MORE
         },
     ),

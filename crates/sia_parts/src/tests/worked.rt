@@ -75,12 +75,12 @@ fn are_accesses(alloc: Global, found: &Accesses, it: &More<'_>) -> Result<bool, 
     Ok(is_so)
 }
 
-// How many places the chunks of about the size lie between, and whether they have the edges, one after another.
+// How many places the chunks of so many sources lie between, and whether they have the edges, one after another.
 fn in_chunks(
     alloc: Global,
     ix: &Index,
     accesses: &Accesses,
-    size: u64,
+    size: u32,
     wanted: &[Edge],
 ) -> Result<(usize, bool), NoMemory>
     requires { AreAccesses ix.now (λ _. ⊤) accesses.now }
@@ -125,9 +125,9 @@ fn is_found(
     let mut is_so = are_findings(&findings, edges, it)
         && (more.committed.is_empty() || committed == more.committed)
         && are_accesses(alloc, &gathering.accesses, more)?;
-    for size in [1, 7, 48, 1000] {
+    for size in [1, 7, 1000] {
         let (places, is_same) = in_chunks(alloc, ix, &gathering.accesses, size, edges)?;
-        is_so &= is_same && (size != 48 || places >= more.places);
+        is_so &= is_same && (size != 7 || more.places == 0 || places == more.places);
     }
     Ok(is_so)
 }
