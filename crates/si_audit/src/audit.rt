@@ -9,10 +9,10 @@ use crate::account::Audit;
 use crate::crew::{Auditing, Crew, InThreads};
 use crate::options::Options;
 use sia_events::{History, Log, NoMemory};
-use sia_graph::{Judgement, judge, listed};
+use sia_graph::{Judgement, judge, pivots};
 use sia_index::Index;
 use sia_index::make::index_log;
-use sia_parts::{Accesses, Findings, Gathering, Reads};
+use sia_parts::{Accesses, Findings, Gathering, Reads, edges_at};
 use std::alloc::Global;
 use std::sync::Wait;
 use std::thread::Threads;
@@ -67,18 +67,19 @@ pub fn audit<R: Threads + Wait + Sync>(
     let workers = o.workers();
     let crew = InThreads { rt, workers };
     let (j, accesses) = judged(&crew, alloc, log, &ix, o)?;
-    let (edges, pivots) = listed(alloc, &ix, &accesses)?;
+    let findings = Findings {
+        bad_reads: j.bad_reads,
+        bad_writes: j.bad_writes,
+        unexplained: j.unexplained,
+        edges: edges_at(alloc, &ix, &accesses, None)?,
+    };
+    let pivots = pivots(alloc, &findings, &ix)?;
     Ok(Audit {
         events: j.counts.events,
         committed: j.counts.committed,
         aborted: j.counts.aborted,
         unfinished: j.counts.unfinished,
-        findings: Findings {
-            bad_reads: j.bad_reads,
-            bad_writes: j.bad_writes,
-            unexplained: j.unexplained,
-            edges,
-        },
+        findings,
         pivots,
         pass: j.pass,
         serializable: j.serializable,

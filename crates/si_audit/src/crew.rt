@@ -11,9 +11,8 @@ ghost use denote.Param.Send.{IsSync};
 
 use crate::report::{Sheet, sheet_of};
 use sia_events::Log;
-use sia_graph::AllEdges;
 use sia_index::Index;
-use sia_parts::{Part, PartFound, Reads, find_in_part};
+use sia_parts::{Edges, Part, PartFound, Reads, find_in_part};
 use sia_pool::{Job, NoMemory, OpenGate, work_off};
 use std::alloc::Global;
 use std::sync::Wait;
@@ -52,21 +51,21 @@ impl Job for Auditing<'_> {
 #[derive(Drop)]
 pub(crate) struct Printing<'a> {
     pub(crate) alloc: Global,
-    pub(crate) edges: &'a AllEdges<'a>,
+    pub(crate) edges: &'a Edges<'a>,
+    pub(crate) bounds: &'a [u32],
 }
 
 impl Job for Printing<'_> {
     type Out = Sheet;
 
-    ghost takes = { λ job number. AreAllEdges job.edges.now
-        × (number + 1 < length job.edges.now.bounds.items) };
+    ghost takes = { λ job number. AreAllEdges job.edges.now job.bounds.now
+        × (number + 1 < length job.bounds.now) };
 
-    ghost owes = { λ job number sheet. IsSheet job.edges.now.edges.index.now
-        (slice_index job.edges.now.bounds.items number) (slice_index job.edges.now.bounds.items (number + 1))
-        sheet.lines.items sheet.links.items };
+    ghost owes = { λ job number sheet. IsSheet job.edges.now.index.now (slice_index job.bounds.now number)
+        (slice_index job.bounds.now (number + 1)) sheet.lines.items sheet.links.items };
 
     fn run(&self, number: u32) -> Result<Sheet, NoMemory> {
-        match sheet_of(self.alloc, self.edges, number as usize) {
+        match sheet_of(self.alloc, self.edges, self.bounds, number as usize) {
             Ok(sheet) => Ok(sheet),
             Err(_) => Err(NoMemory),
         }
@@ -94,13 +93,12 @@ pub(crate) trait Crew {
     fn print(&self, alloc: Global, count: u32, job: &Printing) -> Result<Vec<Sheet>, NoMemory>
         requires ready { ready self.now }
         requires few { count ≤ 1024 }
-        requires edges { AreAllEdges job.now.edges.now }
-        requires chunks { (p : ℕ) → p < count → p + 1 < length job.now.edges.now.bounds.items }
+        requires edges { AreAllEdges job.now.edges.now job.now.bounds.now }
+        requires chunks { (p : ℕ) → p < count → p + 1 < length job.now.bounds.now }
         ensures len { IfOk result (λ sheets. length sheets.items ≡ count) }
         ensures owed { IfOk result (λ sheets. AnswersEach
-            (λ number sheet. IsSheet job.now.edges.now.edges.index.now
-            (slice_index job.now.edges.now.bounds.items number)
-            (slice_index job.now.edges.now.bounds.items (number + 1))
+            (λ number sheet. IsSheet job.now.edges.now.index.now (slice_index job.now.bounds.now number)
+            (slice_index job.now.bounds.now (number + 1))
             sheet.lines.items sheet.links.items) count sheets.items) };
 }
 

@@ -14,9 +14,9 @@ ghost use Rattle.si_audit.specs.declared.report.Words.TheVariants as some;
 
 use itoa::write_digits;
 use sia_events::{Key, NoMemory, Reason, TextFault, TxnId, push_number};
-use sia_graph::{AllEdges, Judgement, Link, Pivot, Step, Verdict, put_edges};
+use sia_graph::{Judgement, Link, Pivot, Step, Verdict, put_vulnerable};
 use sia_index::Counts;
-use sia_parts::{BadRead, BadWrite, Edge, EdgeTo, Kind, Recorded};
+use sia_parts::{BadRead, BadWrite, Edge, EdgeTo, Edges, Kind, Recorded};
 use std::alloc::{AllocError, Global};
 
 /// Some words of a line.
@@ -400,21 +400,27 @@ pub(crate) struct Sheet {
 }
 
 /// What is made of a chunk of all edges, by its number.
-pub(crate) fn sheet_of(alloc: Global, all: &AllEdges, number: usize) -> Result<Sheet, NoMemory>
-    requires all { AreAllEdges all.now }
-    requires chunk { number + 1 < length all.now.bounds.items }
-    ensures { IfOk result (λ sheet. IsSheet all.now.edges.index.now (slice_index all.now.bounds.items number)
-        (slice_index all.now.bounds.items (number + 1)) sheet.lines.items sheet.links.items) }
+pub(crate) fn sheet_of(
+    alloc: Global,
+    edges: &Edges,
+    bounds: &[u32],
+    number: usize,
+) -> Result<Sheet, NoMemory>
+    requires all { AreAllEdges edges.now bounds.now }
+    requires chunk { number + 1 < length bounds.now }
+    ensures { IfOk result (λ sheet. IsSheet edges.now.index.now (slice_index bounds.now number)
+        (slice_index bounds.now (number + 1)) sheet.lines.items sheet.links.items) }
 {
-    let index = all.edges.index;
+    let index = edges.index;
     let txns = index.committed();
     let keys = index.written_keys();
     let mut block = [0; ROOM];
     let mut rows = Vec::new(alloc);
     let mut lines = Vec::new(alloc);
     let mut links = Vec::new(alloc);
-    for source in all.bounds[number]..all.bounds[number + 1] {
-        put_edges(alloc, all, source, &mut rows, &mut links)?;
+    for source in bounds[number]..bounds[number + 1] {
+        edges.put_from(alloc, source, &mut rows)?;
+        put_vulnerable(index, source, &rows, &mut links)?;
         push_lines(&mut lines, &mut block, txns, keys, source, &rows)?;
     }
     Ok(Sheet { lines, links })

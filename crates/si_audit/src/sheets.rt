@@ -13,9 +13,9 @@ use crate::explain::explained;
 use crate::options::{Form, Options};
 use crate::report::{Sheet, push_back, push_front};
 use sia_events::{Log, NoMemory};
-use sia_graph::{Judgement, Link, Pivot, edges_of, listing_law, pivots_of_links};
+use sia_graph::{Judgement, Link, Pivot, listing_law, pivots_of_links};
 use sia_index::Index;
-use sia_parts::{Accesses, Edge, Recorded};
+use sia_parts::{Accesses, Edge, Edges, Recorded};
 use std::alloc::Global;
 
 /// The lines of a judgement: those of its edges stand on these sheets, and these pivots are told.
@@ -40,9 +40,8 @@ fn report_of(
     Ok(sheets)
 }
 
-/// How many edges a chunk mostly has: so few that no worker waits long for the last one, and that the memory of a chunk, and
-/// that of its lines, is one that an allocator gives each worker apart from the others, and gives again.
-const STRETCH: u64 = 6_000;
+/// How many sources a chunk of the edges mostly has: so few that no worker waits long for the last one.
+const SOURCES: u32 = 32;
 
 /// The sheet alone.
 pub(crate) fn one_sheet(alloc: Global, sheet: Vec<u8>) -> Result<Vec<Vec<u8>>, NoMemory>
@@ -79,11 +78,13 @@ fn sheets_of_edges<C: Crew>(
     ensures { IfOk result (λ (sheets, links). AreLinesAndLinks ix.now (text_of sheets.items) links.items) }
 {
     ix.committed();
-    let edges = edges_of(alloc, ix, accesses, STRETCH)?;
-    let count = edges.bounds.len().saturating_sub(1) as u32;
+    let edges = Edges::of(alloc, ix, accesses, None)?;
+    let bounds = edges.chunks(alloc, SOURCES)?;
+    let count = bounds.len().saturating_sub(1) as u32;
     let job = Printing {
         alloc,
         edges: &edges,
+        bounds: &bounds,
     };
     match crew.print(alloc, count, &job) {
         Ok(sheets) => parted(alloc, sheets),

@@ -1,5 +1,5 @@
 -- Each row of a committed transaction is added, with its name and its lifetime.
-use Rattle.std.proofs.Common.{◌≡◌, ◌+◌, ◌∙◌, [], ◌∷◌, ◌++◌, Some, length, refl, sym, subst, ap, arith, slice_get}
+use Rattle.std.proofs.Common.{◌≡◌, ◌∙◌, [], ◌∷◌, ◌++◌, Some, length, refl, sym, subst, arith, slice_get}
 use Rattle.std.specs.Prelude.{slice_index_or}
 use Rattle.std.proofs.lemmas.List.{length_push}
 use Rattle.std.proofs.lemmas.Option.{slice_get-get_or}
@@ -8,7 +8,6 @@ use Rattle.sia_events.specs.Transactions.{HasEvent, IsCommitted}
 use Rattle.sia_index.specs.Lifetimes.{IsLifetime}
 use Rattle.sia_index.specs.declared.info.Lifetime.{Lifetime}
 use Rattle.sia_index.specs.Rows.{AreNamesOf}
-use Rattle.sia_index.specs.declared.names.Numbered.{Numbered}
 use Rattle.sia_index.specs.declared.info.Fate.TheVariants.{Committed}
 use Rattle.sia_index.proofs.Shared.Fates.{ended_has_event}
 use Rattle.sia_index.proofs.Shared.NumberedNames.{none_numbered, rows_named, rows_within, same_some}
