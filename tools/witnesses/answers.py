@@ -88,11 +88,14 @@ def of_texts(room: Path, given: Sequence[Text]) -> list[Answer]:
 
 
 def of_tests(room: Path, crate: str, given: Sequence[Test]) -> list[Answer]:
-    """What comes of tests of the crate in the room, all with the same options."""
+    """What comes of tests in the room, all of this crate, or of another one that they name, and with the same options."""
+    crate = given[0].crate or crate
+    if not (room / "crates" / crate).is_dir():
+        raise Fault(f"there is no crate {crate}")
     _, out, said = rt_try(room / "crates" / crate, ["--test", *given[0].options])
     answers = []
     for it in given:
-        found = re.search(rf"(?m)^test {re.escape(it.name)} \.\.\. (\S+)\n((?:    .*\n)*)", out + said)
+        found = re.search(rf"(?m)^test {re.escape(it.path)} \.\.\. (\S+)\n((?:    .*\n)*)", out + said)
         if not found:
             raise refusal(said)
         answers.append(lines_of(f"test {found[1]}", WHERE.sub("", found[2])))

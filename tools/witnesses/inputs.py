@@ -14,6 +14,8 @@ FOLDER = ROOT / "witnesses"
 REPEATED = re.compile(r"\{(\d+)(?:\*([^}]*))?\}")
 COUNTED = re.compile(r"\{(\d+)\.\.(\d+)\}")
 NAME = re.compile(r"[a-z][a-z0-9_]*")
+# The module of a crate that has its tests.
+TESTS = "tests"
 
 
 def spelled_out(text: str) -> str:
@@ -36,10 +38,21 @@ class Text:
 
 @dataclass(frozen=True)
 class Test:
-    """One of the tests of the crate, and options of `rt try`."""
+    """One of the tests of the crate, or of another one, whose name stands before it; and options of `rt try`."""
 
     name: str
     options: tuple[str, ...] = ()
+
+    @property
+    def crate(self) -> str:
+        """The crate that the name begins with, or an empty text for the edit's own."""
+        first, _, _ = self.name.partition("::")
+        return "" if first == TESTS else first
+
+    @property
+    def path(self) -> str:
+        """The name that the test has in its crate."""
+        return self.name.removeprefix(f"{self.crate}::")
 
     def told(self) -> str:
         return "\n".join((self.name, *self.options))

@@ -19,8 +19,10 @@ AS_IT_IS = Lock()
 
 def alike(given: Input) -> tuple[object, ...]:
     """What is the same of inputs that one copy of the repository serves."""
-    if isinstance(given, Text | Test):
-        return type(given), given.options
+    if isinstance(given, Text):
+        return Text, given.options
+    if isinstance(given, Test):
+        return Test, given.crate, given.options
     return type(given), given
 
 

@@ -23,7 +23,7 @@ from witnesses.edits import Edit, copy_into, edits
 from witnesses.fault import Fault
 from witnesses.inputs import Call, Input, Nothing, Test, Text, hash_of, spelled_out
 from witnesses.ledger import Entry
-from witnesses.making import entry_of, of_code
+from witnesses.making import entry_of, groups, of_code
 
 # A kit that answers a text by its bytes in capitals, where the code isn't edited, and by its bytes where it is. A text of
 # two words it faults on. Its tests fail where the code is edited.
@@ -32,6 +32,7 @@ grep -q edited ../*/src/lib.rt && word=edited || word=real
 case "$*" in
     *--test*)
         echo "test tests::one ... ok"
+        echo "test tests::of_$(basename "$PWD") ... ok"
         [ $word = real ] && echo "test tests::two ... ok" && exit
         printf 'test tests::two ... FAILED\n    panicked at=/a/b.rt:1:2: left 1\n    run=fault\n'
         ;;
@@ -111,6 +112,16 @@ class Answers(Kit):
         self.assertIn("left 1", "\n".join(two))
         self.assertNotIn("b.rt", "\n".join(two))
 
+    def test_tests_of_another_crate(self) -> None:
+        """The crate whose tests are run is the one that is named, and else the edit's own."""
+        room = self.room()
+        self.assertEqual(of_tests(room, "low", [Test("tests::of_low")]), [["test ok"]])
+        self.assertEqual(of_tests(room, "low", [Test("si_audit::tests::of_si_audit")]), [["test ok"]])
+        with self.assertRaisesRegex(Fault, "rt try ran nothing"):
+            of_tests(room, "low", [Test("si_audit::tests::of_low")])
+        with self.assertRaisesRegex(Fault, "there is no crate high"):
+            of_tests(room, "low", [Test("high::tests::one")])
+
     def test_unknown_test(self) -> None:
         with self.assertRaisesRegex(Fault, "rt try ran nothing"):
             of_tests(self.room(), "low", [Test("tests::three")])
@@ -147,6 +158,14 @@ class Making(Kit):
     def test_test(self) -> None:
         entry = self.entry(Test("tests::one"), Test("tests::two"))
         self.assertEqual((entry.real, entry.edited[0]), (["test ok"], "test FAILED"))
+
+    def test_tests_of_two_crates(self) -> None:
+        """Tests of one crate are run together, and those of another one apart."""
+        given = (Test("tests::one"), Test("tests::two"), Test("si_audit::tests::one"), Test("si_audit::tests::two"))
+        self.assertEqual(list(groups(list(given))), [given[:2], given[2:]])
+        entry = self.entry(given[0], *given[2:])
+        self.assertEqual((entry.real, entry.edited[0]), (["test ok"], "test FAILED"))
+        self.assertEqual(entry.witness, hash_of(given[3]))
 
     def test_code_is_tried_once(self) -> None:
         """Two edits that ask at once what the code answers share one try."""
@@ -287,12 +306,15 @@ class Inputs(unittest.TestCase):
     def test_forms(self) -> None:
         found = self.read(
             "# A comment.\n\none\n  args: --brief {1..3}\n  text: a1\n  try: --fail-io 1\n  text: a2\n\n"
-            "two\n  call:\n    use low::f;\n\n    fn main() {}\n\nthree\n  test: tests::a\n\nfour\n  nothing: it costs more\n"
+            "two\n  call:\n    use low::f;\n\n    fn main() {}\n\nthree\n  test: tests::a\n  test: high::tests::a\n\n"
+            "four\n  nothing: it costs more\n"
         )
         words = ("--brief", "1", "2", "3")
         self.assertEqual(found["one"], [Text("a1", words), Text("a2", words, ("--fail-io", "1"))])
         self.assertEqual(found["two"], [Call("use low::f;\n\nfn main() {}\n")])
-        self.assertEqual(found["three"], [Test("tests::a")])
+        self.assertEqual(found["three"], [Test("tests::a"), Test("high::tests::a")])
+        tests = [it for it in found["three"] if isinstance(it, Test)]
+        self.assertEqual([(it.crate, it.path) for it in tests], [("", "tests::a"), ("high", "tests::a")])
         self.assertEqual(found["four"], [Nothing("it costs more")])
 
     def test_spelled_out(self) -> None:
