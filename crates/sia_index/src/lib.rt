@@ -15,6 +15,3 @@ mod versions;
 
 pub use index::{Index, counted};
 pub use info::{Counts, Fate, KeyVersion, Lifetime, Made, Reader, TxnInfo, WriteAt, overlap};
-
-#[cfg(test)]
-mod tests;

@@ -1,4 +1,4 @@
-//! Cuts and findings worked out by hand.
+//! Cuts and findings worked out by hand, and what an index answers.
 macro_rules! bad_read {
     ($place:expr, $txn:expr, $key:expr, $saw:expr, $due:expr) => {
         BadRead {
@@ -51,4 +51,5 @@ macro_rules! part {
 
 mod cuts;
 mod histories;
+mod index;
 mod worked;

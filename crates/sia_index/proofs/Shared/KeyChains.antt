@@ -1,12 +1,9 @@
 -- The written keys and their versions, as the tables of an index hold them.
 use Rattle.std.proofs.Common.{◌≡◌, ◌≢◌, ℕ, ◌<◌, List, [], length, refl, subst, arith}
-use Rattle.std.specs.Prelude.{All, slice_index, slice_index_or}
-use Rattle.std.proofs.lemmas.Option.{slice_get-get_or}
+use Rattle.std.specs.Prelude.{All, slice_index}
 use Rattle.std.proofs.lemmas.List.Elements.{All-contains}
 use Rattle.sia_events.specs.declared.event.Event.{Event}
 use Rattle.sia_events.proofs.Worked.OneList.{one_list_by}
-use Rattle.sia_index.specs.Positions.{ArePositions, HasPosition}
-use Rattle.sia_index.specs.declared.info.KeyVersion.{KeyVersion}
 use Rattle.sia_index.specs.Info.{AreVersions, AreWrittenKeys, IsKeyAt}
 
 -- key number i is so in every list of the written keys
@@ -24,9 +21,3 @@ no_versions h keys are k none = record {
     (λ is. absurd (All-contains (λ x. x ≢ k) keys k none ((are.each k).1 (made.txn, is.0)) refl)),
   );
 }
-
--- each place below how many positions there are is one
-pub has_position : (h : List Event) (count q : ℕ) → ArePositions h count → q < count → HasPosition h q
-has_position h count q (versions, listed, long) below =
-    let none : KeyVersion = record { key = 0; commit = 0; txn = 0 } in
-    (slice_index_or versions q none, (versions, listed, slice_get-get_or versions q none (omega arith)))

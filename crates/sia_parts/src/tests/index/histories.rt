@@ -1,6 +1,6 @@
 //! Small histories, and what an index is to answer of them, worked out by hand.
-use crate::*;
 use sia_events::{Key, TxnId, Version};
+use sia_index::{Fate, Made, Reader, TxnInfo, WriteAt};
 
 /// What is known of a transaction that ended.
 macro_rules! ended {

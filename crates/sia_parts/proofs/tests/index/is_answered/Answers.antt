@@ -1,7 +1,7 @@
 -- What is asked of is there.
 use Rattle.std.proofs.Common.{refl}
-use Rattle.sia_index.proofs.Shared.KeyChains.{has_position}
-use Rattle.sia_index.proofs.tests.is_answered.Goals as goal
+use Rattle.sia_parts.proofs.EdgeRows.PositionOrder.{has_position}
+use Rattle.sia_parts.proofs.tests.index.is_answered.Goals as goal
 
 pub is_newest-requires : goal.is_newest-requires
 is_newest-requires c = has_position _ _ _ c.position_count.ensures c.if-position-position_count.true

@@ -1,9 +1,9 @@
 //! What an index answers of worked histories.
 ghost use Rattle.sia_index.specs.Positions.{HasPosition};
 
-use super::*;
-use crate::keyed::{ByKey, place_from_near};
 use sia_events::{Key, TxnId, read_history};
+use sia_index::keyed::{ByKey, place_from_near};
+use sia_index::{Index, Made, Reader, TxnInfo, make};
 use std::alloc::Global;
 use std::fmt::Write;
 use std::test::*;
@@ -19,12 +19,20 @@ fn index_of(alloc: Global, text: &[u8]) -> Result<Index, Fail> {
     Ok(index)
 }
 
+// Whether the transaction has an event, and this number among all that have one.
+fn has_number(index: &Index, t: TxnId, i: usize) -> bool {
+    if index.txn(t).is_none() {
+        return false;
+    }
+    index.reader(t, 0).number == i
+}
+
 fn has_txns(index: &Index, txns: &[(TxnId, TxnInfo)]) -> bool {
     let mut is_so = index.txns().len() == txns.len();
     for (i, (t, info)) in txns.iter().enumerate() {
         is_so &= index.txns().get(i) == Some(t)
             && index.txn(*t) == Some(*info)
-            && index.txn_number(*t) == Some(i)
+            && has_number(index, *t, i)
             && i < index.txns().len()
             && index.txn_at(i) == *info;
     }
@@ -45,7 +53,7 @@ fn has_keys(index: &Index, keys: &[(Key, &[Made])]) -> bool {
 fn is_answered(index: &Index, asked: &Asked<'_>) -> bool {
     let keys = index.written_keys();
     match asked {
-        Asked::NoTxn(t) => index.txn(*t).is_none() && index.txn_number(*t).is_none(),
+        Asked::NoTxn(t) => index.txn(*t).is_none() && !index.txns().contains(t),
         Asked::NoKey(k) => !keys.contains(k) && index.versions(*k).is_empty(),
         Asked::Overlap(t, u, is_told) => index.overlap(*t, *u) == *is_told,
         Asked::FirstWrite(t, k, place) => index.first_write(*t, *k) == *place,
