@@ -3,6 +3,7 @@ pub mod OfLaws
 pub mod OfReasons
 pub mod OfReport
 pub mod OfRun
+pub mod OfTests
 pub mod OptionWords
 pub mod Shared
 pub mod Worked

@@ -8,4 +8,3 @@ pub mod OneVerdict
 pub mod ReplayLaw
 pub mod Serial
 pub mod SsiLaw
-pub mod Uncut

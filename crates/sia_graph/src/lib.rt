@@ -24,6 +24,3 @@ pub use order::Txns;
 pub use pivot::{Link, Pivot, pivots, pivots_of_links, put_vulnerable};
 pub use serial_replay::{Mismatch, ReplayFault, replay};
 pub use ssi::{Dangerous, dangerous_of, passes, ssi_pass};
-
-#[cfg(test)]
-mod tests;

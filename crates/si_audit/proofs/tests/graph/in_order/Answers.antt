@@ -5,8 +5,8 @@ use Rattle.std.specs.declared.cmp.Ordering.TheVariants.{Less, Equal, Greater}
 use Rattle.std.specs.declared.cmp.Ordering.{Ordering}
 use Rattle.sia_parts.specs.Entries.{edge_rank}
 use Rattle.sia_parts.proofs.Shared.Listing.{edge_before}
-use Rattle.sia_graph.proofs.OfLaws.InOrder.{pairs_from_next, next_more}
-use Rattle.sia_graph.proofs.tests.in_order.Goals as goal
+use Rattle.si_audit.proofs.OfTests.InOrder.{pairs_from_next, next_more}
+use Rattle.si_audit.proofs.tests.graph.in_order.Goals as goal
 
 only_less : (o : Ordering) → false ≡ not (ordering_index o == 0) → o ≡ Less
 only_less Less e = refl

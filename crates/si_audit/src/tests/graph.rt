@@ -4,10 +4,8 @@ ghost use Rattle.std.specs.List.Sorted.{IsStrictlyIncreasing};
 ghost use Rattle.sia_events.specs.Lists.{Precedes};
 ghost use Rattle.sia_parts.specs.Entries.{edge_rank};
 
-use crate::cycle::Step;
-use crate::judgement::Verdict;
-use crate::listed_edges::settle;
 use sia_events::{Key, NoMemory, TxnId};
+use sia_graph::{Step, Verdict, settle};
 use sia_parts::{Edge, Kind};
 use std::alloc::{AllocError, Global};
 use std::cmp::Ordering;

@@ -6,8 +6,8 @@ use Rattle.sia_parts.specs.declared.cutting.Part.{Part}
 use Rattle.sia_parts.specs.declared.finding.PartFound.{PartFound}
 use Rattle.sia_parts.specs.Gathering.{IsPartFound}
 use Rattle.sia_parts.specs.Parts.{IsInPart}
-use Rattle.sia_graph.proofs.OfLaws.Uncut.{uncut, whole}
-use Rattle.sia_graph.proofs.tests.histories.gathered.Goals as goal
+use Rattle.si_audit.proofs.OfTests.Uncut.{uncut, whole}
+use Rattle.si_audit.proofs.tests.graph.histories.gathered.Goals as goal
 
 pub of-requires : goal.of-requires
 of-requires c = ([], uncut)

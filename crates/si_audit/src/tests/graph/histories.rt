@@ -1,13 +1,11 @@
 //! Pivots, the test of serializable snapshot isolation, and the dangerous structure that is told, of histories worked out by
 //! hand.
-ghost use Rattle.std.specs.Prelude.{◌≡◌, IfOk};
+ghost use Rattle.std.specs.Prelude.{◌≡◌, [], IfOk, IsTrue};
 ghost use Rattle.sia_parts.specs.Findings.{AreFindings};
 ghost use Rattle.sia_parts.specs.Gathering.{IsGathering};
 
-use crate::evidence::Evidence;
-use crate::pivot::{Pivot, pivots};
-use crate::ssi::{are_none, dangerous_of, ssi_pass};
 use sia_events::{History, Key, Log, NoMemory, TxnId, read_history};
+use sia_graph::{Evidence, Pivot, dangerous_of, pivots, ssi_pass};
 use sia_index::{Index, make};
 use sia_parts::{Findings, Gathering, Part, Reads, audit_part, find_in_part, gather};
 use std::alloc::Global;
@@ -58,13 +56,20 @@ fn gathered(alloc: Global, log: &Log, ix: &Index) -> Result<Gathering, NoMemory>
     Gathering::of(alloc, ix, parts)
 }
 
+/// Whether no read and no write is bad.
+fn are_none(found: &Gathering) -> bool
+    ensures { IsTrue result → (found.now.bad_reads.items ≡ []) × (found.now.bad_writes.items ≡ []) }
+{
+    found.bad_reads.is_empty() && found.bad_writes.is_empty()
+}
+
 /// The dangerous structure that is told of a history. None either where isolation is broken.
 fn dangerous(alloc: Global, log: &Log, ix: &Index) -> Result<Option<Structure>, NoMemory>
     requires { ix.now ≡ log.now }
 {
     ix.law();
     let found = gathered(alloc, log, ix)?;
-    if !are_none(&found.bad_reads, &found.bad_writes) {
+    if !are_none(&found) {
         return Ok(None);
     }
     let evidence = Evidence {

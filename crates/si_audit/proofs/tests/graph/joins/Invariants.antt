@@ -1,7 +1,7 @@
 use Rattle.std.proofs.Common.{◌≢◌, ℕ, ◌<◌, get_or}
 use Rattle.std.specs.Prelude.{Contains}
 use Rattle.sia_parts.specs.declared.finding.Edge.{Edge}
-use Rattle.sia_graph.proofs.tests.joins.Given as goal
+use Rattle.si_audit.proofs.tests.graph.joins.Given as goal
 
 abbrev pub invariant-loop-e : goal.invariant-loop-e
 invariant-loop-e l = (k : ℕ) (d : Edge) → k < l.e-index

@@ -1,8 +1,8 @@
 use Rattle.std.proofs.Common.{◌≢◌, refl, arith}
 use Rattle.std.specs.Prelude.{Contains}
 use Rattle.sia_parts.specs.declared.finding.Edge.{Edge}
-use Rattle.sia_graph.proofs.OfLaws.InOrder.{all_more}
-use Rattle.sia_graph.proofs.tests.joins.Goals as goal
+use Rattle.si_audit.proofs.OfTests.InOrder.{all_more}
+use Rattle.si_audit.proofs.tests.graph.joins.Goals as goal
 
 pub loop-e-preserved : goal.loop-e-preserved
 loop-e-preserved c =

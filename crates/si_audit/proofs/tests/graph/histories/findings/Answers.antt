@@ -5,8 +5,8 @@ use Rattle.sia_events.specs.declared.event.Event.{Event}
 use Rattle.sia_events.specs.Refusals.{IsWellFormed}
 use Rattle.sia_parts.specs.declared.finding.Findings.{Findings}
 use Rattle.sia_parts.specs.Findings.{AreFindings, ArePartFindings}
-use Rattle.sia_graph.proofs.OfLaws.Uncut.{uncut, whole}
-use Rattle.sia_graph.proofs.tests.histories.findings.Goals as goal
+use Rattle.si_audit.proofs.OfTests.Uncut.{uncut, whole}
+use Rattle.si_audit.proofs.tests.graph.histories.findings.Goals as goal
 
 pub gather-requires : goal.gather-requires
 gather-requires c =

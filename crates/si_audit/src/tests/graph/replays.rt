@@ -1,7 +1,7 @@
 //! Replays worked out by hand.
-use crate::serial_replay::{Mismatch, ReplayFault, replay};
-use crate::tests::ids_to;
+use super::ids_to;
 use sia_events::{History, TxnId, read_history};
+use sia_graph::{Mismatch, ReplayFault, replay};
 use std::alloc::Global;
 use std::test::Fail;
 
