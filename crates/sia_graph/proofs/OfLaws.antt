@@ -1,3 +1,4 @@
+pub mod AllowedCycles
 pub mod Blocks
 pub mod Extremes
 pub mod FiniteHistories

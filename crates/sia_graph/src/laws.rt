@@ -4,6 +4,7 @@ ghost use Rattle.sia_events.specs.declared.event.Event.{Event};
 ghost use Rattle.sia_events.specs.Laws.{PivotLaw, ReplayLaw, SsiLaw};
 ghost use Rattle.sia_events.specs.Refusals.{IsWellFormed};
 ghost use Rattle.sia_parts.specs.declared.finding.Edge.{Edge};
+ghost use Rattle.sia_graph.specs.Allowed.{CycleLaw};
 ghost use Rattle.sia_graph.specs.Blocks.{BlocksLaw};
 ghost use Rattle.sia_graph.specs.Closures.{ClosureLaw};
 ghost use Rattle.sia_graph.specs.Extremes.{FirstsLaw};
@@ -23,6 +24,11 @@ pub fn ssi_law()
 /// What keeps isolation with no pivot has a serial order.
 pub fn pivot_law()
     ensures { (h : List Event) → IsWellFormed h → PivotLaw h }
+{}
+
+/// Of what keeps isolation, every cycle has two rw edges between overlapping transactions that follow one another.
+pub fn cycle_law()
+    ensures { (h : List Event) → IsWellFormed h → CycleLaw h }
 {}
 
 /// Pairs that lead the ways that the edges lead settle what these settle.

@@ -1,6 +1,7 @@
 //! Pivots, the least order or a cycle, and the replay of a history by an order.
 #![tactic(auto)]
 
+mod allowed;
 mod cycle;
 mod evidence;
 mod judgement;
@@ -13,11 +14,13 @@ mod sparse;
 mod ssi;
 mod twos;
 
+pub use allowed::is_allowed;
 pub use cycle::{Step, Steps};
 pub use evidence::Evidence;
 pub use judgement::{Judgement, Verdict, danger_of, judge, settle_accesses};
 pub use laws::{
-    blocks_law, closure_law, firsts_law, listing_law, pivot_law, replay_law, ssi_law, stand_in_law,
+    blocks_law, closure_law, cycle_law, firsts_law, listing_law, pivot_law, replay_law, ssi_law,
+    stand_in_law,
 };
 pub use listed_edges::settle;
 pub use order::Txns;

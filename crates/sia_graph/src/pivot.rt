@@ -52,7 +52,7 @@ impl By<Link> for ByEnd {
     }
 }
 
-fn leads_rw(kind: Kind) -> bool
+pub(crate) fn leads_rw(kind: Kind) -> bool
     ensures { result ≡ is_rw kind }
 {
     matches!(kind, Kind::Rw)

@@ -20,10 +20,9 @@ use Rattle.sia_graph.proofs.Shared.Due.{saw_due}
 use Rattle.sia_graph.proofs.Shared.EdgesDecided.{rw_decided}
 use Rattle.sia_graph.proofs.Shared.ReadyOrders.{In, IsFed}
 use Rattle.sia_graph.proofs.Shared.OrderPlaces.{order_exists}
-use Rattle.sia_graph.proofs.OfPivots.Vulnerable.{target_committed, source_committed}
 
 module _ (h : List Event) (wf : IsWellFormed h) where
-  starts_lt : (t u s c : ℕ) → StartsAt h t s → CommitsAt h u c → StartsBeforeCommit h t u → s < c
+  pub starts_lt : (t u s c : ℕ) → StartsAt h t s → CommitsAt h u c → StartsBeforeCommit h t u → s < c
   starts_lt t u s c starts commits before =
       let a : before.0 ≡ s = one_start h t before.0 s before.2 starts in
       let b : before.1 ≡ c = one_commit h wf u before.1 c before.3 commits in
@@ -42,17 +41,22 @@ module _ (h : List Event) (wf : IsWellFormed h) where
     | inr more ↦ inr (λ before. let l = starts_lt t u a.start b.commit a.starts b.commits before in omega arith)
   ]
 
-  pub vulnerable_decided : (t u : ℕ) → Decided (IsVulnerable h t u)
-  vulnerable_decided t u = by_ends (committed_or_not h t) (committed_or_not h u)
-    where
-      by_ends : Decided (IsCommitted h t) → Decided (IsCommitted h u) → Decided (IsVulnerable h t u)
-      by_ends (inr fails) d = inr (λ v. fails (source_committed h t u v))
-      by_ends (inl c) (inr fails) = inr (λ v. fails (target_committed h t u v))
-      by_ends (inl c) (inl d) =
+  pub overlap_decided : (t u : ℕ) → Decided (Overlap h t u)
+  overlap_decided t u = elim (committed_or_not h t) [
+    | inr fails ↦ inr (λ o. fails (o.1.1, o.1.3))
+    | inl c ↦ elim (committed_or_not h u) [
+      | inr fails ↦ inr (λ o. fails (o.0.1, o.0.3))
+      | inl d ↦
           let a = lifetime_of h wf t c in
           let b = lifetime_of h wf u d in
-          decided_alike (Overlap h t u × ((k : ℕ) × RwEdge h t u k)) (IsVulnerable h t u) (λ w. (w.0, w.1.0, w.1.1)) (λ v. (v.0, (v.1, v.2)))
-          (both (Overlap h t u) ((k : ℕ) × RwEdge h t u k) (both (StartsBeforeCommit h t u) (StartsBeforeCommit h u t) (starts_before_decided t u a b) (starts_before_decided u t b a)) (rw_decided h wf t u))
+          both (StartsBeforeCommit h t u) (StartsBeforeCommit h u t) (starts_before_decided t u a b) (starts_before_decided u t b a)
+    ]
+  ]
+
+  pub vulnerable_decided : (t u : ℕ) → Decided (IsVulnerable h t u)
+  vulnerable_decided t u =
+      decided_alike (Overlap h t u × ((k : ℕ) × RwEdge h t u k)) (IsVulnerable h t u) (λ w. (w.0, w.1.0, w.1.1)) (λ v. (v.0, (v.1, v.2)))
+      (both (Overlap h t u) ((k : ℕ) × RwEdge h t u k) (overlap_decided t u) (rw_decided h wf t u))
 
   -- u sees t's commit, or t has an rw edge to u and they overlap
   abbrev Follows : ℕ → ℕ → Type 0
@@ -73,7 +77,7 @@ module _ (h : List Event) (wf : IsWellFormed h) where
           ]
 
   -- of committed transactions, the one that commits first
-  earliest : (x : ℕ) (xs : List ℕ) → ((t : ℕ) → In t (x ∷ xs) → IsCommitted h t)
+  pub earliest : (x : ℕ) (xs : List ℕ) → ((t : ℕ) → In t (x ∷ xs) → IsCommitted h t)
       → (m : ℕ) × (c : ℕ) × In m (x ∷ xs) × CommitsAt h m c × ((t d : ℕ) → In t (x ∷ xs) → CommitsAt h t d → c ≤ d)
   earliest x [] all =
       let c = all x (inl refl) in (
@@ -151,7 +155,7 @@ module _ (h : List Event) (wf : IsWellFormed h) where
         let m = sees.4 in
         (sees.0, before.0, sees.2, before.2, omega arith)
 
-    ww_sees : (t u k : ℕ) → WwEdge h t u k → Sees h u t
+    pub ww_sees : (t u k : ℕ) → WwEdge h t u k → Sees h u t
     ww_sees t u k e =
         let before = e.2 in
         let c = before.0 in
@@ -162,7 +166,7 @@ module _ (h : List Event) (wf : IsWellFormed h) where
         ]
 
     -- a version that was seen and isn't the reader's own is the newest visible one, or 0
-    wr_sees : (t u k : ℕ) → WrEdge h t u k → Sees h u t
+    pub wr_sees : (t u k : ℕ) → WrEdge h t u k → Sees h u t
     wr_sees t u k e = by_due (saw_due h wf kept e.3 u k e.4 e.5)
       where
         sees_written : Sees h u e.4 → Sees h u t
@@ -196,7 +200,7 @@ module _ (h : List Event) (wf : IsWellFormed h) where
               ]
         ]
 
-    rw_sees_or_vulnerable : (t u k : ℕ) → RwEdge h t u k → Sees h u t ⊎ IsVulnerable h t u
+    pub rw_sees_or_vulnerable : (t u k : ℕ) → RwEdge h t u k → Sees h u t ⊎ IsVulnerable h t u
     rw_sees_or_vulnerable t u k e =
         let a = lifetime_of h wf t e.1 in
         let b = lifetime_of h wf u e.2.1 in
