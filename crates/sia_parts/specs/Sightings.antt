@@ -19,6 +19,12 @@ reader_of Ww t u = t
 reader_of Wr t u = u
 reader_of Rw t u = t
 
+-- and whose version the seen one is held against
+abbrev pub writer_of : Kind → ℕ → ℕ → ℕ
+writer_of Ww t u = t
+writer_of Wr t u = t
+writer_of Rw t u = u
+
 -- t saw a version of k that has P first at place p, and it was v
 abbrev pub IsFirstSight : (ℕ → Type 0) → List Event → ℕ → ℕ → ℕ → ℕ → Type 0
 IsFirstSight P h t k p v = SawAt h p t k v × P v × ((q w : ℕ) → SawAt h q t k w → P w → p ≤ q)

@@ -19,8 +19,8 @@ pub use finding::{
 };
 pub use reads::Reads;
 pub use reasons::{
-    Act, FirstSight, Recorded, acts_of, anomaly_of, first_sight, push_event, push_start,
-    push_unless, push_version,
+    Act, FirstSight, Recorded, acts_of, anomaly_of, first_sight, loss_of, push_event, push_start,
+    push_unless, push_version, reader_of_edge,
 };
 
 #[cfg(test)]

@@ -1,30 +1,33 @@
-//! What a line of reasons tells: events, the name of a bad read, and where an edge was first seen.
-ghost use Rattle.std.specs.Prelude.{◌≡◌, ◌≢◌, ◌++◌, ℕ, List, OnOk, codes, MatchOption, ◌↔◌, IfOk, IsTrue};
+//! What a line of reasons tells: events, the names of bad reads and bad writes, and where an edge was first seen.
+ghost use Rattle.std.specs.Prelude.{◌≡◌, ◌≢◌, ◌++◌, ℕ, List, OnOk, codes, All, Contains, MatchOption, ◌↔◌, IfOk, IsTrue};
+ghost use Rattle.std.specs.List.Sorted.{IsNonDecreasingBy};
 ghost use Rattle.sia_events.specs.Text.{numeral};
 ghost use Rattle.sia_events.specs.Transactions.{Wrote, StartsAt, CommitsBefore};
 ghost use Rattle.sia_parts.specs.Telling.{TellsUnless, TellsVersion, event_words};
 ghost use Rattle.sia_events.specs.declared.event.Anomaly.{Anomaly as AnAnomaly};
 ghost use Rattle.sia_events.specs.Anomalies.{IsNamed};
-ghost use Rattle.sia_events.specs.Isolation.{IsBadRead};
+ghost use Rattle.sia_events.specs.Isolation.{IsBadRead, IsBadWrite};
+ghost use Rattle.sia_events.specs.Dependencies.{IsCommittedWriter};
 ghost use Rattle.sia_parts.specs.Wrong.{IsWrong};
 ghost use Rattle.sia_events.specs.Reads.{SawAt};
-ghost use Rattle.sia_parts.specs.Entries.{IsEdge};
-ghost use Rattle.sia_parts.specs.Acts.{AreActs};
-ghost use Rattle.sia_parts.specs.Sightings.{Gives, IsFirstSight, reader_of};
+ghost use Rattle.sia_parts.specs.Acts.{HasActs};
+ghost use Rattle.sia_parts.specs.LostUpdates.{IsLostUpdate, LosesFirstAt};
+ghost use Rattle.sia_parts.specs.Sightings.{Gives, IsFirstSight, reader_of, writer_of};
 ghost use Rattle.sia_parts.specs.declared.reasons.Act.{Act};
 
-use crate::finding::{BadRead, Edge, Kind};
+use crate::finding::{BadRead, BadWrite, Edge, Kind};
 use crate::reads::txn_of;
 use sia_events::{Anomaly, Key, Log, NoMemory, TxnId, Version, push_number};
 use sia_index::keyed::{By, ByTxn, between};
 use sia_index::{Fate, Index};
 use std::alloc::{AllocError, Global};
 
-/// The log of a history and its index.
+/// The log of a history, its index, and those events that reads are looked for among.
 #[derive(Clone, Copy)]
 pub struct Recorded<'a> {
     pub history: &'a Log,
     pub index: &'a Index,
+    pub acts: &'a [Act],
 }
 
 /// Some words, and the event at a place, as far as it is about the key.
@@ -161,22 +164,36 @@ impl By<Act> for ByTxn {
     }
 }
 
-/// All events, by transaction and place.
-pub fn acts_of(alloc: Global, h: &Log) -> Result<Vec<Act>, NoMemory>
-    ensures { IfOk result (λ acts. AreActs h.now acts.items) }
+/// The events of these transactions, by transaction and place.
+pub fn acts_of(alloc: Global, h: &Log, mut txns: Vec<TxnId>) -> Result<Vec<Act>, NoMemory>
+    ensures { IfOk result (λ acts. All (λ t. HasActs h.now t acts.items) txns.items) }
 {
-    let count = h.len();
-    let mut acts = Vec::with_capacity(alloc, count as usize)?;
-    for before in 0..count {
+    let mut acts = Vec::new(alloc);
+    if txns.is_empty() {
+        return Ok(acts);
+    }
+    txns.sort_unstable_by_key(|txn| *txn);
+    for before in 0..h.len() {
         if let Some(row) = h.row(before + 1) {
-            acts.push(Act {
-                txn: h.txn(txn_of(row)).name,
-                place: before + 1,
-            })?;
+            let txn = h.txn(txn_of(row)).name;
+            if is_among(&txns, txn) {
+                acts.push(Act {
+                    txn,
+                    place: before + 1,
+                })?;
+            }
         }
     }
     acts.sort_unstable_by_key(|act| (act.txn, act.place));
     Ok(acts)
+}
+
+fn is_among(txns: &[TxnId], txn: TxnId) -> bool
+    requires { IsNonDecreasingBy (λ t. t) txns.now }
+    ensures { IsTrue result ↔ Contains txns.now txn }
+{
+    let n = u64::from(txn);
+    !between::<TxnId, ByTxn>(txns, n, n).is_empty()
 }
 
 fn commits_before(ix: &Index, first: TxnId, second: TxnId) -> bool
@@ -189,7 +206,8 @@ fn commits_before(ix: &Index, first: TxnId, second: TxnId) -> bool
     }
 }
 
-fn reader_of_edge(e: &Edge) -> TxnId
+/// Which of both ends of an edge reads.
+pub fn reader_of_edge(e: &Edge) -> TxnId
     ensures { result ≡ reader_of e.now.kind e.now.src e.now.dst }
 {
     match e.kind {
@@ -199,7 +217,7 @@ fn reader_of_edge(e: &Edge) -> TxnId
 }
 
 fn gives(ix: &Index, e: &Edge, version: Version) -> bool
-    requires edge { IsEdge ix.now e.now }
+    requires writer { IsCommittedWriter ix.now e.now.key (writer_of e.now.kind e.now.src e.now.dst) }
     requires seen { (p : ℕ) × SawAt ix.now p (reader_of e.now.kind e.now.src e.now.dst) e.now.key version }
     ensures { IsTrue result ↔ Gives e.now.kind ix.now e.now.src e.now.dst e.now.key version }
 {
@@ -224,8 +242,8 @@ pub struct FirstSight {
 /// The first sight that gives the edge, if it comes of a read.
 pub fn first_sight(h: &Log, ix: &Index, acts: &[Act], e: &Edge) -> Option<FirstSight>
     requires index { ix.now ≡ h.now }
-    requires acts { AreActs h.now acts.now }
-    requires edge { IsEdge h.now e.now }
+    requires acts { HasActs h.now (reader_of e.now.kind e.now.src e.now.dst) acts.now }
+    requires writer { IsCommittedWriter h.now e.now.key (writer_of e.now.kind e.now.src e.now.dst) }
     ensures { MatchOption result ((p v : ℕ) → SawAt h.now p
         (reader_of e.now.kind e.now.src e.now.dst) e.now.key v
         → ¬ Gives e.now.kind h.now e.now.src e.now.dst e.now.key v)
@@ -243,6 +261,30 @@ pub fn first_sight(h: &Log, ix: &Index, acts: &[Act], e: &Edge) -> Option<FirstS
                 });
             }
         }
+    }
+    None
+}
+
+/// Where the later committer of a bad write first saw a version before the other one's, if it did so before it wrote the key:
+/// the bad write is a lost update then.
+pub fn loss_of(of: &Recorded, b: &BadWrite) -> Option<u32>
+    requires index { of.now.index.now ≡ of.now.history.now }
+    requires acts { HasActs of.now.history.now b.now.second of.now.acts.now }
+    requires bad { IsBadWrite of.now.history.now b.now.key b.now.first b.now.second }
+    ensures { MatchOption result (¬ IsLostUpdate of.now.history.now b.now.key b.now.first b.now.second)
+        (LosesFirstAt of.now.history.now b.now.key b.now.first b.now.second) }
+{
+    of.history.law();
+    let missed = Edge {
+        src: b.second,
+        dst: b.first,
+        kind: Kind::Rw,
+        key: b.key,
+    };
+    let sight = first_sight(of.history, of.index, of.acts, &missed)?;
+    let write = of.index.first_write(b.second, b.key)?;
+    if sight.place < write {
+        return Some(sight.place);
     }
     None
 }

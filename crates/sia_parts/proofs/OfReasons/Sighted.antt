@@ -7,7 +7,7 @@ use Rattle.std.proofs.lemmas.List.Elements.{All-contains, Contains-get_or}
 use Rattle.sia_events.specs.declared.event.Event.{Event}
 use Rattle.sia_events.specs.Events.{actor, Saw}
 use Rattle.sia_events.specs.Places.{at_place}
-use Rattle.sia_events.specs.Dependencies.{RwEdge, WrEdge}
+use Rattle.sia_events.specs.Dependencies.{IsCommittedWriter}
 use Rattle.sia_events.specs.Reads.{SawAt}
 use Rattle.sia_events.specs.Refusals.{IsWellFormed}
 use Rattle.sia_events.specs.Transactions.{CommitsBefore, Wrote}
@@ -20,14 +20,14 @@ use Rattle.sia_parts.specs.declared.finding.Kind.TheVariants.{Ww, Wr, Rw}
 use Rattle.sia_parts.specs.Entries.{EdgeOfKind, IsEdge}
 use Rattle.sia_parts.specs.Grouped.{RiseBy, StandsBy}
 use Rattle.sia_parts.specs.declared.reasons.Act.{Act}
-use Rattle.sia_parts.specs.Acts.{AreActs}
-use Rattle.sia_parts.specs.Sightings.{Gives, IsFirstSight, reader_of}
+use Rattle.sia_parts.specs.Acts.{HasActs}
+use Rattle.sia_parts.specs.Sightings.{Gives, IsFirstSight, reader_of, writer_of}
 
 -- none of these events is a sight of a version that has P
 abbrev pub NoneGives : (ℕ → Type 0) → List Event → ℕ → ℕ → List Act → Type 0
 NoneGives P h t k acts = All (λ (act : Act). (v : ℕ) → SawAt h act.place t k v → ¬ P v) acts
 
-same_event : (e f : Event) → Some e ≡ Some f → e ≡ f
+pub same_event : (e f : Event) → Some e ≡ Some f → e ≡ f
 same_event e f same = cc
 
 -- an event that sees a version without P is no sight of one with P
@@ -36,16 +36,16 @@ sees_other h wf P p k v e at saw not t w other fits =
     let same : other.0 ≡ e = same_event other.0 e (sym other.1 ∙ at) in
     not (subst P (one_version h wf p k w v e at (subst (λ f. Saw f k w) same other.3) saw) fits)
 
-module _ (P : ℕ → Type 0) (h : List Event) (t k : ℕ) (acts group : List Act) (all : AreActs h acts)
+module _ (P : ℕ → Type 0) (h : List Event) (t k : ℕ) (acts group : List Act) (all : HasActs h t acts)
     (s : ℕ) (is : s ≡ t) (holds : (act : Act) → Contains group act ↔ (Contains acts act × (act.txn ≡ s))) where
   sight_in_group : (p v : ℕ) → SawAt h p t k v → Contains group (record { txn = t; place = p })
-  sight_in_group p v saw = (holds (record { txn = t; place = p })).1 ((all.each (record { txn = t; place = p })).1 (saw.0, saw.1, saw.2), sym is)
+  sight_in_group p v saw = (holds (record { txn = t; place = p })).1 ((all.each (record { txn = t; place = p }) refl).1 (saw.0, saw.1, saw.2), sym is)
 
   -- what one of its events saw, it saw
   pub sight_at : (act : Act) → Contains group act → (e : Event) (v : ℕ) → at_place h act.place ≡ Some e → Saw e k v → SawAt h act.place t k v
   sight_at act has e v at saw =
       let mine = (holds act).0 has in
-      let a = (all.each act).0 mine.0 in
+      let a = (all.each act (mine.1 ∙ is)).0 mine.0 in
       let same : a.0 ≡ e = same_event a.0 e (sym a.1 ∙ at) in
       (e, at, subst (λ f. actor f ≡ t) same (a.2 ∙ mine.1 ∙ is), saw)
 
@@ -83,18 +83,26 @@ seen_by_kind Rw h t u k edge other = (edge.3, edge.4, edge.5, (edge.6, edge.7, e
 pub edge_is_seen : (h : List Event) (e : Edge) → IsEdge h e → e.kind ≢ Ww → ¬ ((p v : ℕ) → SawAt h p (reader_of e.kind e.src e.dst) e.key v → ¬ Gives e.kind h e.src e.dst e.key v)
 edge_is_seen h e edge other none = let s = seen_by_kind e.kind h e.src e.dst e.key edge other in none s.0 s.1 s.2 s.3
 
+writer_by_kind : (kind : Kind) (h : List Event) (t u k : ℕ) → EdgeOfKind h kind t u k → IsCommittedWriter h k (writer_of kind t u)
+writer_by_kind Ww h t u k edge = (edge.0, (edge.2.0, edge.2.2))
+writer_by_kind Wr h t u k edge = edge.1
+writer_by_kind Rw h t u k edge = edge.2
+
+pub edge_writer : (h : List Event) (e : Edge) → IsEdge h e → IsCommittedWriter h e.key (writer_of e.kind e.src e.dst)
+edge_writer h e edge = writer_by_kind e.kind h e.src e.dst e.key edge
+
 module _ (h : List Event) (wf : IsWellFormed h) (t u k v : ℕ) (written : v ≢ 0 → Wrote h v k) where
   -- a version of a writer that isn't the edge's own source gives the wr edge where it is a later one
-  pub wr_given : WrEdge h t u k → v ≢ u → v ≢ t → CommitsBefore h t v ↔ Gives Wr h t u k v
-  wr_given edge other later = (
+  pub wr_given : IsCommittedWriter h k t → v ≢ u → v ≢ t → CommitsBefore h t v ↔ Gives Wr h t u k v
+  wr_given writer other later = (
     (λ before.
         let some : 0 < v = (actor_is_txn h wf v before.1 (Commit v, before.3, refl)).0 in
-        ((before.1, before.3), other, inr (inr (edge.1.0, written (λ e. omega arith), before)))),
+        ((before.1, before.3), other, inr (inr (writer.0, written (λ e. omega arith), before)))),
     (λ given. elim given.2 [
       | inl same ↦ absurd (later (sym same))
       | inr after ↦ elim after [
         | inl none ↦
-            let wrote = edge.1.0 in
+            let wrote = writer.0 in
             let some : 0 < t = (actor_is_txn h wf t wrote.0 (Write t k, wrote.1, refl)).0 in
             let e = none.0 in
             absurd (omega arith)
@@ -104,8 +112,8 @@ module _ (h : List Event) (wf : IsWellFormed h) (t u k v : ℕ) (written : v ≢
   )
 
   -- and one that was written gives the rw edge where it is an earlier one
-  pub rw_given : RwEdge h t u k → v ≢ t → v ≢ 0 → CommitsBefore h v u ↔ Gives Rw h t u k v
-  rw_given edge other some = (
-    (λ before. (inr (before.0, before.2), other, inr (written some, edge.2.0, before))),
+  pub rw_given : IsCommittedWriter h k u → v ≢ t → v ≢ 0 → CommitsBefore h v u ↔ Gives Rw h t u k v
+  rw_given writer other some = (
+    (λ before. (inr (before.0, before.2), other, inr (written some, writer.0, before))),
     (λ given. elim given.2 [ inl none ↦ absurd (some none.0) | inr then ↦ then.2 ]),
   )

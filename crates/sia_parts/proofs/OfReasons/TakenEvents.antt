@@ -15,51 +15,58 @@ use Rattle.sia_events.proofs.Shared.TransactionDecisions.{place_within}
 use Rattle.sia_parts.specs.declared.reasons.Act.{Act}
 use Rattle.sia_parts.specs.Seeing.{txn_in}
 
--- the events up to place n, and nothing else
-abbrev pub TakenTo : List Event → ℕ → List Act → Type 0
-TakenTo h n acts = (act : Act) → Contains acts act ↔ (ActsAt h act.txn act.place × (act.place ≤ n))
+-- of these transactions the events up to place n, and nothing but events
+abbrev pub TakenTo : List ℕ → List Event → ℕ → List Act → Type 0
+TakenTo txns h n acts = (act : Act) → (Contains acts act → ActsAt h act.txn act.place) × (Contains txns act.txn → ActsAt h act.txn act.place → act.place ≤ n → Contains acts act)
 
--- the next one is taken
-pub next_taken : (h : List Event) (n : ℕ) (acts more : List Act) (e : Event) (t : ℕ) → TakenTo h n acts → Some e ≡ at_place h (n + 1) → t ≡ actor e
-    → more ≡ acts ++ record { txn = t; place = n + 1 } ∷ [] → TakenTo h (n + 1) more
-next_taken h n acts more e t taken at by is act = (
-  (λ has. elim (Contains-push_cases acts (record { txn = t; place = n + 1 }) act (subst (λ (xs : List Act). Contains xs act) is has)) [
-    | inl old ↦ let a = (taken act).0 old in let b = a.1 in (a.0, omega arith)
-    | inr new ↦ subst (λ (a : Act). ActsAt h a.txn a.place × (a.place ≤ n + 1)) new ((e, sym at, sym by), omega arith)
-  ]),
-  (λ acts_here. subst (λ (xs : List Act). Contains xs act) (sym is) (elim (cases_lt n act.place) [
-    | inl last ↦
-        let b = acts_here.1 in
-        let place : n + 1 ≡ act.place = omega arith in
-        let a = acts_here.0 in
-        let both : Some e ≡ Some a.0 = at ∙ subst (λ p. at_place h p ≡ Some a.0) (sym place) a.1 in
-        let same : e ≡ a.0 = cc in
-        subst (λ u. Contains (acts ++ record { txn = t; place = n + 1 } ∷ []) (record { txn = u; place = act.place })) (by ∙ subst (λ f. actor f ≡ act.txn) (sym same) a.2)
-        (subst (λ p. Contains (acts ++ record { txn = t; place = n + 1 } ∷ []) (record { txn = t; place = p })) place (Contains-push acts (record { txn = t; place = n + 1 })))
-    | inr early ↦ Contains-append_left acts (record { txn = t; place = n + 1 } ∷ []) act ((taken act).1 (acts_here.0, omega arith))
-  ])),
-)
+module _ (txns : List ℕ) (h : List Event) (n : ℕ) (acts : List Act) (taken : TakenTo txns h n acts) where
+  -- the next one is taken
+  pub next_taken : (more : List Act) (e : Event) (t : ℕ) → Some e ≡ at_place h (n + 1) → t ≡ actor e → more ≡ acts ++ record { txn = t; place = n + 1 } ∷ [] → TakenTo txns h (n + 1) more
+  next_taken more e t at by is act = (
+    (λ has. elim (Contains-push_cases acts (record { txn = t; place = n + 1 }) act (subst (λ (xs : List Act). Contains xs act) is has)) [
+      | inl old ↦ (taken act).0 old
+      | inr new ↦ subst (λ (a : Act). ActsAt h a.txn a.place) new (e, sym at, sym by)
+    ]),
+    (λ among a up. subst (λ (xs : List Act). Contains xs act) (sym is) (elim (cases_lt n act.place) [
+      | inl last ↦
+          let place : n + 1 ≡ act.place = omega arith in
+          let both : Some e ≡ Some a.0 = at ∙ subst (λ p. at_place h p ≡ Some a.0) (sym place) a.1 in
+          let same : e ≡ a.0 = cc in
+          subst (λ u. Contains (acts ++ record { txn = t; place = n + 1 } ∷ []) (record { txn = u; place = act.place })) (by ∙ subst (λ f. actor f ≡ act.txn) (sym same) a.2)
+          (subst (λ p. Contains (acts ++ record { txn = t; place = n + 1 } ∷ []) (record { txn = t; place = p })) place (Contains-push acts (record { txn = t; place = n + 1 })))
+      | inr early ↦ Contains-append_left acts (record { txn = t; place = n + 1 } ∷ []) act ((taken act).1 among a (omega arith))
+    ])),
+  )
 
--- there is none at the next place
-pub none_taken : (h : List Event) (n : ℕ) (acts : List Act) → TakenTo h n acts → None ≡ at_place h (n + 1) → TakenTo h (n + 1) acts
-none_taken h n acts taken at act = (
-  (λ has. let a = (taken act).0 has in let b = a.1 in (a.0, omega arith)),
-  (λ acts_here. elim (cases_lt n act.place) [
-    | inl last ↦
-        let b = acts_here.1 in
-        let place : n + 1 ≡ act.place = omega arith in
-        let a = acts_here.0 in
-        absurd (let both : None ≡ Some a.0 = at ∙ subst (λ p. at_place h p ≡ Some a.0) (sym place) a.1 in cc)
-    | inr early ↦ (taken act).1 (acts_here.0, omega arith)
-  ]),
-)
+  -- it is of another transaction
+  pub next_left : (e : Event) (t : ℕ) → Some e ≡ at_place h (n + 1) → t ≡ actor e → ¬ Contains txns t → TakenTo txns h (n + 1) acts
+  next_left e t at by other act = (
+    (taken act).0,
+    (λ among a up. elim (cases_lt n act.place) [
+      | inl last ↦
+          let place : n + 1 ≡ act.place = omega arith in
+          let both : Some e ≡ Some a.0 = at ∙ subst (λ p. at_place h p ≡ Some a.0) (sym place) a.1 in
+          let same : e ≡ a.0 = cc in
+          absurd (other (subst (Contains txns) (sym (by ∙ subst (λ f. actor f ≡ act.txn) (sym same) a.2)) among))
+      | inr early ↦ (taken act).1 among a (omega arith)
+    ]),
+  )
 
--- all are taken
-pub all_taken : (h : List Event) (n : ℕ) (acts : List Act) → TakenTo h n acts → length h ≤ n → (act : Act) → Contains acts act ↔ ActsAt h act.txn act.place
-all_taken h n acts taken all act = (
-  (λ has. ((taken act).0 has).0),
-  (λ a. (taken act).1 (a, (let within = (place_within h act.place a.0 a.1).1 in omega arith))),
-)
+  -- there is none at the next place
+  pub none_taken : None ≡ at_place h (n + 1) → TakenTo txns h (n + 1) acts
+  none_taken at act = (
+    (taken act).0,
+    (λ among a up. elim (cases_lt n act.place) [
+      | inl last ↦
+          let place : n + 1 ≡ act.place = omega arith in
+          absurd (let both : None ≡ Some a.0 = at ∙ subst (λ p. at_place h p ≡ Some a.0) (sym place) a.1 in cc)
+      | inr early ↦ (taken act).1 among a (omega arith)
+    ]),
+  )
+
+  -- all are taken
+  pub all_taken : length h ≤ n → (act : Act) → Contains txns act.txn → Contains acts act ↔ ActsAt h act.txn act.place
+  all_taken all act among = ((taken act).0, (λ a. (taken act).1 among a (let within = (place_within h act.place a.0 a.1).1 in omega arith)))
 
 -- who acts in the event that a row stands for
 acts_in : (names : Names) (row : Row) → actor (event_of names row) ≡ txn_at names (txn_in row)
