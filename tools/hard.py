@@ -74,14 +74,18 @@ def version(txn: int, key: int, place: int) -> str:
     return f"event {place} w{txn}[{key}], event {place + 1} c{txn}"
 
 
-def both_write(txn: int, start: int, first: str, second: str) -> list[str]:
-    """What stands below a bad write: when the later transaction starts, and both versions."""
-    return [f"  both write and overlap: transaction {txn} starts after event {start}; {first}; {second}"]
+def lost_update(txn: int, start: int, read: str, first: str, second: str) -> list[str]:
+    """What stands below a bad write: when the later transaction starts, its read, and both versions."""
+    return [f"  lost update: transaction {txn} starts after event {start}; {read}; {first}; {second}"]
+
+
+ALLOWED = "  allowed under snapshot isolation: two rw steps between overlapping transactions follow one another"
+FORBIDDEN = "  forbidden under snapshot isolation: no two rw steps between overlapping transactions follow one another"
 
 
 def two_steps(first: str, second: str) -> list[str]:
-    """What stands below a cycle of 1 and 2, where 2 wrote the key after 1, and at place 2 read what was there before 1."""
-    return [f"  1 >ww:{KEY}> 2: {first}; {second}", f"  2 >rw:{KEY}> 1: event 2 r2[{KEY}:0]; {first}"]
+    """What stands below a cycle of 1 and 2, which isolation forbids, where 2 wrote the key after 1, and at place 2 read what was there before 1."""
+    return [f"  1 >ww:{KEY}> 2: {first}; {second}", f"  2 >rw:{KEY}> 1: event 2 r2[{KEY}:0]; {first}", FORBIDDEN]
 
 
 def counter(size: int) -> Case:
@@ -100,7 +104,9 @@ def lost_updates(size: int) -> Case:
     # Transaction 1 starts at 0, and each next one when three more events were recorded, but for the first read.
     versions = [version(it, KEY, 3 * it - (it == count)) for it in range(1, count + 1)]
     found = {
-        f"bad-write {KEY} {it} {it + 1}": both_write(it + 1, 3 * it - 2, versions[it - 1], versions[it])
+        f"bad-write {KEY} {it} {it + 1}": lost_update(
+            it + 1, 3 * it - 2, f"event {3 * it - 1} r{it + 1}[{KEY}:{it - 1}]", versions[it - 1], versions[it]
+        )
         for it in range(1, count)
     }
     return brief(tokens, (count, 0, 0), f"cycle 1 >ww:{KEY}> 2 >rw:{KEY}> 1", found, two_steps(versions[0], versions[1]))
@@ -113,7 +119,9 @@ def all_at_once(size: int) -> Case:
     tokens = [f"r{it}[{KEY}:0]" for it in ids] + flat([f"w{it}[{KEY}]", f"c{it}"] for it in ids)
     versions = [version(it, KEY, count + 2 * it - 1) for it in ids]
     found = {
-        f"bad-write {KEY} {it} {other}": both_write(other, other - 1, versions[it - 1], versions[other - 1])
+        f"bad-write {KEY} {it} {other}": lost_update(
+            other, other - 1, f"event {other} r{other}[{KEY}:0]", versions[it - 1], versions[other - 1]
+        )
         for it in ids
         for other in range(it + 1, count + 1)
     }
@@ -221,7 +229,7 @@ def phantoms(size: int) -> Case:
         for it, other in ((1, 2), (2, 1))
     ]
     dangerous = ["dangerous 1 >rw:2> 2 >rw:1> 1", *steps]
-    return brief(tokens, (len(ids), 0, 0), "cycle 1 >rw:2> 2 >rw:1> 1", steps=steps, dangerous=dangerous)
+    return brief(tokens, (len(ids), 0, 0), "cycle 1 >rw:2> 2 >rw:1> 1", steps=[*steps, ALLOWED], dangerous=dangerous)
 
 
 def one_transaction(size: int) -> Case:
@@ -248,7 +256,7 @@ def ring(size: int) -> Case:
     versions = [f"event {count + it} w{it}[{it % count + 1}], event {2 * count + it} c{it}" for it in ids]
     steps = [f"  {it} >rw:{it}> {other}: event {it} r{it}[{it}:0]; {versions[other - 1]}" for it, other in pairs]
     dangerous = ["dangerous 3 >rw:3> 2 >rw:2> 1", *steps[-2:]]
-    return brief([*tokens, *(f"c{it}" for it in ids)], (count, 0, 0), f"cycle 1{cycle}", steps=steps, dangerous=dangerous)
+    return brief([*tokens, *(f"c{it}" for it in ids)], (count, 0, 0), f"cycle 1{cycle}", steps=[*steps, ALLOWED], dangerous=dangerous)
 
 
 KINDS: dict[str, Callable[[int], Case]] = {

@@ -45,10 +45,10 @@ class Found:
             self.findings.append(((2, reader.place, key), f"unexplained {reader.place} {txn} {key} {saw.writer}", reasons))
             self.has_no_order = True
 
-    def writes(self, key: int, first: Version, second: Version, start: int) -> None:
-        """A bad write: the writer of the second version starts after this many events, and before the first was committed."""
+    def writes(self, key: int, first: Version, second: Version, reader: Reader) -> None:
+        """A lost update: the writer of the second version starts before the first was committed, and read one before that."""
         order = key, first.writer, second.writer
-        reason = f"  both write and overlap: transaction {second.writer} starts after event {start}"
+        reason = f"  lost update: transaction {second.writer} starts after event {reader.txn.start}; event {reader.place} {reader.token}"
         reason += f"; {first.told(key)}; {second.told(key)}"
         self.findings.append(((1, *order), f"bad-write {' '.join(map(str, order))}", [reason]))
         self.breaks_isolation = self.has_no_order = self.fails_ssi = True
@@ -147,14 +147,14 @@ def own_write_missed(store: Store, key: int, found: Found) -> None:
 def lost_update(store: Store, key: int, found: Found) -> None:
     """Two transactions read a key and write it, and both commit."""
     one = store.start()
-    store.read(one, key)
+    reader = read_version(store, one, key, store.versions.newest(key))
     other = store.start()
     store.read(other, key)
     store.write(other, key)
     store.commit(other)
     store.write(one, key)
     store.commit(one)
-    found.writes(key, store.versions.earlier(key), store.versions.newest(key), one.start)
+    found.writes(key, store.versions.earlier(key), store.versions.newest(key), reader)
 
 
 def write_skew(store: Store, key: int, found: Found) -> None:

@@ -19,13 +19,24 @@ _EVENT = re.compile("event ([0-9]+) ([a-z][^ ]*)")
 # The parts that a line may have: a read, a version, or a start.
 _LETTERS = {Placed: "R", Version: "V", Started: "S"}
 _SHAPES = {
-    Role.SAW: "V", Role.DUE: "V", Role.BOTH_WRITE: "SVV", EdgeKind.WW: "VV", EdgeKind.WR: "VRV?", EdgeKind.RW: "RV?V",
+    Role.SAW: "V", Role.DUE: "V", Role.LOST_UPDATE: "SRVV", Role.WRITE_CONFLICT: "SVV", Role.BOTH_WRITE: "SVV",
+    EdgeKind.WW: "VV", EdgeKind.WR: "VRV?", EdgeKind.RW: "RV?V",
 } | {name: "RS" for name in ReadName}
+
+_CLASSES = {
+    f"{answer} under snapshot isolation: {number} rw steps between overlapping transactions follow one another"
+    for answer, number in (("allowed", "two"), ("forbidden", "no two"))
+}
 
 
 NUMBERED = re.compile(r"\btransaction ([0-9]+)\b|\bevent ([0-9]+)\b(?: ([a-z][0-9]+(?:\[[^] ]*\]|@[0-9]+)?)(?![^ ,;:]))?")
 """A transaction or an event that a line names, an event with its token or without."""
 _REMARK = re.compile("(?!.*  )[a-z](?:[ -~]*?[!-~])??: [!-~](?:[ -~]*[!-~])?")
+
+
+def is_class(line: str) -> bool:
+    """Whether a line says if snapshot isolation allows a cycle. That is told from the history, so the line is not kept."""
+    return line in _CLASSES
 
 
 def is_remark(line: str) -> bool:
@@ -95,7 +106,7 @@ def fits_below(finding: Explained, reason: Reason) -> bool:
         case Cycle() | Structure():
             return count < len(finding.steps) and reason.head == finding.steps[count]
         case BadWrite():
-            return count == 0 and reason.head is Role.BOTH_WRITE
+            return count == 0 and reason.head in (Role.LOST_UPDATE, Role.WRITE_CONFLICT, Role.BOTH_WRITE)
         case Snapshot():
             return False
         case BadRead() | Unexplained():

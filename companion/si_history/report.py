@@ -46,11 +46,14 @@ class ReadName(enum.Enum):
 
 
 class Role(enum.Enum):
-    """What a line of reasons is about that begins with neither a name nor a step."""
+    """What a line of reasons is about that begins with neither a name of a bad read nor a step."""
 
     SAW = "saw"
     DUE = "due"
+    LOST_UPDATE = "lost update"
+    WRITE_CONFLICT = "write conflict"
     BOTH_WRITE = "both write and overlap"
+    """What earlier auditors call both of them."""
 
 
 @dataclass(frozen=True, slots=True)

@@ -11,6 +11,9 @@ from oracle.events import Event, Form
 from oracle.trying import History
 
 NAMES = ("own write missed", "aborted read", "uncommitted read", "future read", "phantom", "stale read")
+WRITE_NAMES = (LOST_UPDATE, WRITE_CONFLICT) = ("lost update", "write conflict")
+ALLOWED = "allowed under snapshot isolation: two rw steps between overlapping transactions follow one another"
+FORBIDDEN = "forbidden under snapshot isolation: no two rw steps between overlapping transactions follow one another"
 (OWN_WRITE_MISSED, ABORTED_READ, UNCOMMITTED_READ, FUTURE_READ, PHANTOM, STALE_READ) = NAMES
 
 
@@ -62,7 +65,7 @@ class Explanation(History):
         if account.is_kept and not account.passes:
             yield from self.structure_lines()
         yield account.serializable_line
-        yield from with_reasons(last_line(account), map(self.step, account.cycle))
+        yield from with_reasons(last_line(account), self.cycle_reasons())
 
     def told(self, place: int, key: int) -> str:
         """The event at a place, as far as it is about the key."""
@@ -100,10 +103,31 @@ class Explanation(History):
         if read.due != 0:
             yield f"due: {self.version(read.due, read.key)}"
 
+    def losses(self, write: BadWrite) -> Iterator[int]:
+        """Where the second writer saw a version before the first one's, and had not yet written the key."""
+        for place, event in self.at.items():
+            if event.txn == write.second and event.form is Form.WRITE and event.key == write.key:
+                return
+            saw = event.sees(write.key) if event.txn == write.second else None
+            if saw == 0 or (saw in self.committed and self.is_earlier(saw, write.first)):
+                yield place
+
+    def write_name(self, write: BadWrite) -> str:
+        return LOST_UPDATE if any(self.losses(write)) else WRITE_CONFLICT
+
     def write_reason(self, write: BadWrite) -> str:
         """What stands below a bad write."""
+        lost = (self.told(place, write.key) for place in list(self.losses(write))[:1])
         versions = (self.version(it, write.key) for it in (write.first, write.second))
-        return "; ".join([f"both write and overlap: {self.start_told(write.second)}", *versions])
+        return "; ".join([f"{self.write_name(write)}: {self.start_told(write.second)}", *lost, *versions])
+
+    def cycle_reasons(self) -> Iterator[str]:
+        """What stands below the last line: the steps of a cycle, and whether snapshot isolation allows it."""
+        cycle = self.account.cycle
+        yield from map(self.step, cycle)
+        if cycle:
+            are_rw = [it.kind == RW and self.overlap(it.source, it.target) for it in cycle]
+            yield ALLOWED if any(map(all, zip(are_rw, [*are_rw[1:], are_rw[0]]))) else FORBIDDEN
 
     def step(self, edge: Edge) -> str:
         """What explains a step from one transaction to another."""

@@ -6,7 +6,7 @@ from collections.abc import Iterator
 from dataclasses import dataclass, field
 
 from oracle.account import KINDS, Account
-from oracle.explaining import NAMES
+from oracle.explaining import NAMES, WRITE_NAMES
 from oracle.reading import MOST_SHOWN, Refusal
 from oracle.runs import Case, Form, Line
 from oracle.tables import Tables
@@ -24,7 +24,9 @@ REASONS = (
     "step wr by a later version",
     "step rw from a version that was written",
     "dangerous",
-    "both write and overlap",
+    *WRITE_NAMES,
+    "allowed under snapshot isolation",
+    "forbidden under snapshot isolation",
     *RANGES,
     *REFUSALS,
 )

@@ -317,7 +317,13 @@ class Explained(unittest.TestCase):
         self.assert_below(
             "r2[1:0] w1[1] w1[1] w2[1] c1 c2",
             "bad-write 1 1 2",
-            "both write and overlap: transaction 2 starts after event 0; event 2 w1[1], event 5 c1; event 4 w2[1], event 6 c2",
+            "lost update: transaction 2 starts after event 0; event 1 r2[1:0]; event 2 w1[1], event 5 c1; event 4 w2[1], event 6 c2",
+        )
+        # 2 sees key 1 only when it has written it.
+        self.assert_below(
+            "w2[1] r2[1:0] w1[1] c1 c2",
+            "bad-write 1 1 2",
+            "write conflict: transaction 2 starts after event 0; event 3 w1[1], event 4 c1; event 1 w2[1], event 5 c2",
         )
 
     def test_steps(self) -> None:
@@ -326,12 +332,14 @@ class Explained(unittest.TestCase):
             "cycle 1 >ww:1> 2 >rw:1> 1",
             "1 >ww:1> 2: event 3 w1[1], event 5 c1; event 4 w2[1], event 6 c2",
             "2 >rw:1> 1: event 2 r2[1:0]; event 3 w1[1], event 5 c1",
+            explaining.FORBIDDEN,
         )
         self.assert_below(
             "r3[2:0] w1[1] w1[2] c1 w2[1] c2 r3[1:2] c3",
             "cycle 1 >wr:1> 3 >rw:2> 1",
             "1 >wr:1> 3: event 2 w1[1], event 4 c1; event 7 r3[1:2]; event 5 w2[1], event 6 c2",
             "3 >rw:2> 1: event 1 r3[2:0]; event 3 w1[2], event 4 c1",
+            explaining.FORBIDDEN,
         )
 
     def test_the_first_sight_that_makes_the_edge(self) -> None:
@@ -340,6 +348,7 @@ class Explained(unittest.TestCase):
             "cycle 2 >wr:1> 3 >rw:1> 2",
             "2 >wr:1> 3: event 3 w2[1], event 4 c2; event 5 r3[1:2]",
             "3 >rw:1> 2: event 6 r3[1:1]; event 1 w1[1], event 2 c1; event 3 w2[1], event 4 c2",
+            explaining.FORBIDDEN,
         )
         # 2 sees of key 1 the version of 4, which aborts, then its own, and then that of 1; of key 2 that of 5, which stays open.
         self.assert_below(
@@ -347,6 +356,7 @@ class Explained(unittest.TestCase):
             "cycle 1 >ww:1> 2 >rw:2> 1",
             "1 >ww:1> 2: event 9 w1[1], event 12 c1; event 7 w2[1], event 13 c2",
             "2 >rw:2> 1: event 6 r2[2:0]; event 10 w1[2], event 12 c1",
+            explaining.FORBIDDEN,
         )
 
     def test_dangerous(self) -> None:

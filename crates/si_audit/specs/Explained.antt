@@ -14,7 +14,7 @@ use Rattle.sia_graph.specs.Cycles.{step_edge}
 use Rattle.sia_graph.specs.Dangerous.{IsDangerous}
 use Rattle.si_audit.specs.Account.{Account}
 use Rattle.si_audit.specs.Lines.{line, edge_word, is_empty, bad_read_line, bad_write_line, unexplained_line, events_line, isolation_line, ssi_line, serializable_line, verdict_line}
-use Rattle.si_audit.specs.Reasons.{TellsBadRead, TellsBadWrite, TellsUnexplained, TellsStep}
+use Rattle.si_audit.specs.Reasons.{TellsBadRead, TellsBadWrite, TellsClass, TellsUnexplained, TellsStep}
 use Rattle.std.specs.Borrow.{Bor}
 use Rattle.sia_parts.specs.declared.reasons.Recorded.{Recorded}
 
@@ -33,11 +33,14 @@ edges_round [] home = []
 edges_round (s ∷ []) home = step_edge s home ∷ []
 edges_round (s ∷ next ∷ steps) home = step_edge s next.txn ∷ edges_round (next ∷ steps) home
 
--- below the order nothing, and below the cycle each of its steps
+abbrev pub TellsCycle : List Event → List Edge → List ℕ → Type 0
+TellsCycle h edges bytes = (steps : List ℕ) × (class : List ℕ) × TellsAll (TellsStep h) edges steps × TellsClass h edges class × (bytes ≡ steps ++ class)
+
+-- below the order nothing, and below the cycle each of its steps and its class
 abbrev pub TellsVerdict : List Event → Verdict → List ℕ → Type 0
 TellsVerdict h (Order order) bytes = bytes ≡ []
 TellsVerdict h (Cycle []) bytes = bytes ≡ []
-TellsVerdict h (Cycle (s ∷ steps)) bytes = TellsAll (TellsStep h) (edges_round (s ∷ steps) s.txn) bytes
+TellsVerdict h (Cycle (s ∷ steps)) bytes = TellsCycle h (edges_round (s ∷ steps) s.txn) bytes
 
 abbrev pub dangerous_line : Dangerous → List ℕ
 dangerous_line d = line (codes "dangerous" ∷ numeral d.first ∷ edge_word Rw d.first_key ∷ numeral d.pivot ∷ edge_word Rw d.last_key ∷ numeral d.last ∷ [])

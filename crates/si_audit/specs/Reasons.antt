@@ -1,6 +1,6 @@
 -- What an explained report says below a finding: the events that make it. Words and their order are this project's own
 -- format (docs/FORMAT.md).
-use Rattle.std.specs.Prelude.{◌≡◌, ℕ, List, [], ◌++◌, codes}
+use Rattle.std.specs.Prelude.{◌≡◌, ◌⊎◌, ℕ, List, [], ◌++◌, codes}
 use Rattle.sia_events.specs.declared.event.Anomaly.{Anomaly}
 use Rattle.sia_events.specs.declared.event.Anomaly.TheVariants.{OwnWriteMissed, AbortedRead, UncommittedRead, FutureRead, Phantom, StaleRead}
 use Rattle.sia_events.specs.declared.event.Event.{Event}
@@ -14,8 +14,10 @@ use Rattle.sia_parts.specs.declared.finding.Unexplained.{Unexplained}
 use Rattle.sia_parts.specs.declared.finding.Edge.{Edge}
 use Rattle.sia_parts.specs.declared.finding.Kind.{Kind}
 use Rattle.sia_parts.specs.declared.finding.Kind.TheVariants.{Ww, Wr, Rw}
+use Rattle.sia_parts.specs.LostUpdates.{IsLostUpdate, LosesFirstAt}
 use Rattle.sia_parts.specs.Sightings.{Gives, IsFirstSight, reader_of}
 use Rattle.sia_parts.specs.Telling.{TellsUnless, TellsVersion, event_words, start_words}
+use Rattle.sia_graph.specs.Allowed.{IsAllowed}
 use Rattle.si_audit.specs.Lines.{edge_word}
 
 -- a line of reasons
@@ -42,11 +44,16 @@ abbrev pub TellsUnexplained : List Event → Unexplained → List ℕ → Type 0
 TellsUnexplained h b bytes = (due : ℕ) × IsBadRead h b.place b.txn b.key b.saw due
     × TellsBadRead h (record { place = b.place; txn = b.txn; key = b.key; saw = b.saw; due = due }) bytes
 
--- below a bad write: when the second writer started, and both versions
+-- the name of a bad write with words on when the second writer started, and of a lost update the first read that makes it one
+abbrev pub TellsConflict : List Event → BadWrite → List ℕ → List ℕ → Type 0
+TellsConflict h b start words = ((p : ℕ) × LosesFirstAt h b.key b.first b.second p × (words ≡ codes "lost update: " ++ start ++ codes "; " ++ event_words h b.key p))
+    ⊎ ((¬ IsLostUpdate h b.key b.first b.second) × (words ≡ codes "write conflict: " ++ start))
+
+-- below a bad write: its name, and both versions
 abbrev pub TellsBadWrite : List Event → BadWrite → List ℕ → Type 0
-TellsBadWrite h b bytes = (s : ℕ) × (first : List ℕ) × (second : List ℕ)
-    × StartsAt h b.second s × TellsVersion h b.key b.first first × TellsVersion h b.key b.second second
-    × (bytes ≡ reason (codes "both write and overlap: " ++ start_words b.second s ++ codes "; " ++ first ++ codes "; " ++ second))
+TellsBadWrite h b bytes = (s : ℕ) × (name : List ℕ) × (first : List ℕ) × (second : List ℕ)
+    × StartsAt h b.second s × TellsConflict h b (start_words b.second s) name × TellsVersion h b.key b.first first × TellsVersion h b.key b.second second
+    × (bytes ≡ reason (name ++ codes "; " ++ first ++ codes "; " ++ second))
 
 -- the version that wants no word: where u saw t's own it is told already, and version 0 has no writer
 abbrev pub untold_of : Kind → ℕ → ℕ
@@ -72,3 +79,14 @@ TellsEvents Rw h e words = (one : List ℕ) × (other : List ℕ) × TellsSight 
 abbrev pub TellsStep : List Event → Edge → List ℕ → Type 0
 TellsStep h e bytes = (words : List ℕ) × TellsEvents e.kind h e words
     × (bytes ≡ reason (numeral e.src ++ codes " " ++ edge_word e.kind e.key ++ codes " " ++ numeral e.dst ++ codes ": " ++ words))
+
+abbrev pub allowed_words : List ℕ
+allowed_words = codes "allowed under snapshot isolation: two rw steps between overlapping transactions follow one another"
+
+abbrev pub forbidden_words : List ℕ
+forbidden_words = codes "forbidden under snapshot isolation: no two rw steps between overlapping transactions follow one another"
+
+-- below the steps of a cycle: whether snapshot isolation allows it
+abbrev pub TellsClass : List Event → List Edge → List ℕ → Type 0
+TellsClass h edges bytes = (IsAllowed h edges × (bytes ≡ reason allowed_words))
+    ⊎ ((¬ IsAllowed h edges) × (bytes ≡ reason forbidden_words))

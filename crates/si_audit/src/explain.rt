@@ -13,8 +13,10 @@ ghost use Rattle.sia_events.specs.Refusals.{IsRefusal};
 ghost use Rattle.sia_events.specs.Streaming.{Progress, StandsForRead};
 ghost use Rattle.si_audit.specs.RefusedPlaces.{TellsToken};
 ghost use Rattle.sia_parts.specs.declared.finding.Kind.TheVariants.{Ww};
-ghost use Rattle.sia_parts.specs.Acts.{AreActs};
-ghost use Rattle.si_audit.specs.Reasons.{TellsEvents, TellsSight, TellsStep};
+ghost use Rattle.sia_parts.specs.Acts.{HasActs};
+ghost use Rattle.sia_parts.specs.Sightings.{reader_of};
+ghost use Rattle.sia_parts.specs.Telling.{start_words};
+ghost use Rattle.si_audit.specs.Reasons.{TellsClass, TellsEvents, TellsSight, TellsStep};
 ghost use Rattle.sia_events.specs.Isolation.{IsBadRead, IsBadWrite, IsUnexplained};
 ghost use Rattle.si_audit.specs.Lines as lines;
 ghost use Rattle.si_audit.specs.Reasons as reasons;
@@ -23,11 +25,12 @@ use crate::options::Form;
 use crate::report::{
     Finding, Words, number, push_front, push_line, push_verdict, push_whether, push_words,
 };
-use sia_events::{Anomaly, Locator, NoMemory, TextFault, push_number, push_shown};
-use sia_graph::{Judgement, Step, Verdict, danger_of, listing_law};
+use sia_events::{Anomaly, Locator, Log, NoMemory, TextFault, push_number, push_shown};
+use sia_graph::{Judgement, Step, Verdict, danger_of, is_allowed, listing_law};
+use sia_index::Index;
 use sia_parts::{
     Accesses, Act, BadRead, BadWrite, Edge, Kind, Recorded, Unexplained, acts_of, anomaly_of,
-    first_sight, push_event, push_start, push_unless, push_version,
+    first_sight, loss_of, push_event, push_start, push_unless, push_version, reader_of_edge,
 };
 use std::alloc::{AllocError, Global};
 
@@ -71,8 +74,7 @@ fn push_danger(
             key: d.last_key,
         },
     ];
-    let acts = acts_of(alloc, of.history)?;
-    push_steps(out, of, &acts, &edges)
+    push_steps(alloc, out, of, &edges)
 }
 
 fn edges_of(alloc: Global, steps: &[Step]) -> Result<Vec<Edge>, NoMemory>
@@ -93,7 +95,7 @@ fn edges_of(alloc: Global, steps: &[Step]) -> Result<Vec<Edge>, NoMemory>
     Ok(edges)
 }
 
-/// The order, or the cycle with the reasons of its steps.
+/// The order, or the cycle with the reasons of its steps and its class.
 fn push_verdict_reasons(
     alloc: Global,
     out: &mut Vec<u8>,
@@ -110,31 +112,39 @@ fn push_verdict_reasons(
         Verdict::Order(_) => Ok(()),
         Verdict::Cycle(steps) => {
             let edges = edges_of(alloc, steps.as_slice())?;
-            let acts = acts_of(alloc, of.history)?;
-            push_steps(out, of, &acts, &edges)
+            push_steps(alloc, out, of, &edges)?;
+            Ok(push_class(out, of.index, &edges)?)
         }
     }
 }
 
 pub(crate) fn explained(
     alloc: Global,
-    of: &Recorded,
+    history: &Log,
+    index: &Index,
     j: &Judgement,
     accesses: &Accesses,
 ) -> Result<Vec<u8>, NoMemory>
-    requires index { of.now.index.now ≡ of.now.history.now }
-    requires accesses { AreAccesses of.now.index.now (λ _. ⊤) accesses.now }
-    requires judgement { IsJudgement of.now.history.now j.now }
-    ensures { IfOk result (λ sheet. IsReportOf Form.Explained of.now.history.now sheet.items) }
+    requires index { index.now ≡ history.now }
+    requires accesses { AreAccesses index.now (λ _. ⊤) accesses.now }
+    requires judgement { IsJudgement history.now j.now }
+    ensures { IfOk result (λ sheet. IsReportOf Form.Explained history.now sheet.items) }
 {
-    of.history.law();
+    history.law();
     listing_law();
+    let later = j.bad_writes.iter().map(|b| b.second).collect(alloc)?;
+    let acts = acts_of(alloc, history, later)?;
+    let of = Recorded {
+        history,
+        index,
+        acts: &acts,
+    };
     let mut out = Vec::new(alloc);
-    push_front(&mut out, Some(of), j)?;
+    push_front(&mut out, Some(&of), j)?;
     push_whether(&mut out, b"ssi", j.pass, b"pass", b"fail")?;
-    push_danger(alloc, &mut out, of, j, accesses)?;
+    push_danger(alloc, &mut out, &of, j, accesses)?;
     push_whether(&mut out, b"serializable", j.serializable, b"yes", b"no")?;
-    push_verdict_reasons(alloc, &mut out, of, &j.verdict)?;
+    push_verdict_reasons(alloc, &mut out, &of, &j.verdict)?;
     Ok(out)
 }
 
@@ -171,7 +181,7 @@ fn push_sight(
     e: &Edge,
 ) -> Result<(), NoMemory>
     requires index { of.now.index.now ≡ of.now.history.now }
-    requires acts { AreActs of.now.history.now acts.now }
+    requires acts { HasActs of.now.history.now (reader_of e.now.kind e.now.src e.now.dst) acts.now }
     requires edge { IsEdge of.now.history.now e.now }
     requires read { e.now.kind ≢ Ww }
     ensures { OnOk result ((words : List ℕ) × TellsSight of.now.history.now e.now words
@@ -187,7 +197,7 @@ fn push_sight(
 
 fn push_events(out: &mut Vec<u8>, of: &Recorded, acts: &[Act], e: &Edge) -> Result<(), NoMemory>
     requires index { of.now.index.now ≡ of.now.history.now }
-    requires acts { AreActs of.now.history.now acts.now }
+    requires acts { HasActs of.now.history.now (reader_of e.now.kind e.now.src e.now.dst) acts.now }
     requires edge { IsEdge of.now.history.now e.now }
     ensures { OnOk result ((words : List ℕ) × TellsEvents e.now.kind of.now.history.now e.now words
         × (out.new.items ≡ out.old.items ++ words)) }
@@ -208,18 +218,19 @@ fn push_events(out: &mut Vec<u8>, of: &Recorded, acts: &[Act], e: &Edge) -> Resu
     }
 }
 
-pub(crate) fn push_steps(
+fn push_steps(
+    alloc: Global,
     out: &mut Vec<u8>,
     of: &Recorded,
-    acts: &[Act],
     edges: &[Edge],
 ) -> Result<(), NoMemory>
     requires index { of.now.index.now ≡ of.now.history.now }
-    requires acts { AreActs of.now.history.now acts.now }
     requires edges { All (IsEdge of.now.history.now) edges.now }
     ensures { OnOk result ((bytes : List ℕ) × TellsAll (TellsStep of.now.history.now) edges.now bytes
         × (out.new.items ≡ out.old.items ++ bytes)) }
 {
+    let readers = edges.iter().map(|e| reader_of_edge(e)).collect(alloc)?;
+    let acts = acts_of(alloc, of.history, readers)?;
     for e in edges {
         let words = [
             Words::Text(b""),
@@ -229,10 +240,26 @@ pub(crate) fn push_steps(
             Words::Text(b""),
         ];
         push_words(out, &words)?;
-        push_events(out, of, acts, e)?;
+        push_events(out, of, &acts, e)?;
         out.extend_from_slice(b"\n")?;
     }
     Ok(())
+}
+
+/// Whether snapshot isolation allows a cycle of these edges.
+fn push_class(out: &mut Vec<u8>, ix: &Index, edges: &[Edge]) -> Result<(), AllocError>
+    ensures { OnOk result ((bytes : List ℕ) × TellsClass ix.now edges.now bytes
+        × (out.new.items ≡ out.old.items ++ bytes)) }
+{
+    if is_allowed(ix, edges) {
+        out.extend_from_slice(
+            b"  allowed under snapshot isolation: two rw steps between overlapping transactions follow one another\n",
+        )
+    } else {
+        out.extend_from_slice(
+            b"  forbidden under snapshot isolation: no two rw steps between overlapping transactions follow one another\n",
+        )
+    }
 }
 
 /// How a line of reasons begins that is of a bad read of this name.
@@ -252,7 +279,7 @@ fn anomaly_words(name: Anomaly) -> &'static [u8]
 impl Finding for BadRead {
     ghost line = { lines.bad_read_line };
 
-    ghost is_found = { λ h b. IsBadRead h b.place b.txn b.key b.saw b.due };
+    ghost is_found = { λ of b. IsBadRead of.history.now b.place b.txn b.key b.saw b.due };
 
     ghost tells = { reasons.TellsBadRead };
 
@@ -282,10 +309,28 @@ impl Finding for BadRead {
     }
 }
 
+/// The name of a bad write and the start of its later committer, and of a lost update the read that makes it one.
+fn push_name(out: &mut Vec<u8>, of: &Recorded, b: &BadWrite, start: u32) -> Result<(), NoMemory>
+    requires index { of.now.index.now ≡ of.now.history.now }
+    requires acts { HasActs of.now.history.now b.now.second of.now.acts.now }
+    requires bad { IsBadWrite of.now.history.now b.now.key b.now.first b.now.second }
+    ensures { OnOk result ((words : List ℕ) × reasons.TellsConflict of.now.history.now b.now
+        (start_words b.now.second start) words × (out.new.items ≡ out.old.items ++ codes "  " ++ words)) }
+{
+    match loss_of(of, b) {
+        Some(place) => {
+            push_start(out, b"  lost update: transaction ", b.second, start, b"; ")?;
+            push_event(out, b"", of.history, b.key, place)
+        }
+        None => Ok(push_start(out, b"  write conflict: transaction ", b.second, start, b"")?),
+    }
+}
+
 impl Finding for BadWrite {
     ghost line = { lines.bad_write_line };
 
-    ghost is_found = { λ h b. IsBadWrite h b.key b.first b.second };
+    ghost is_found = { λ of b. IsBadWrite of.history.now b.key b.first b.second
+        × HasActs of.history.now b.second of.acts.now };
 
     ghost tells = { reasons.TellsBadWrite };
 
@@ -303,9 +348,8 @@ impl Finding for BadWrite {
         let Some(info) = of.index.txn(self.second) else {
             return Ok(());
         };
-        let words = b"  both write and overlap: transaction ";
-        push_start(out, words, self.second, info.start, b"; ")?;
-        push_version(out, b"", of, self.key, self.first)?;
+        push_name(out, of, self, info.start)?;
+        push_version(out, b"; ", of, self.key, self.first)?;
         push_unless(out, of, self.key, self.second, self.first, (b"; ", b"\n"))
     }
 }
@@ -313,7 +357,7 @@ impl Finding for BadWrite {
 impl Finding for Unexplained {
     ghost line = { lines.unexplained_line };
 
-    ghost is_found = { λ h u. IsUnexplained h u.place u.txn u.key u.saw };
+    ghost is_found = { λ of u. IsUnexplained of.history.now u.place u.txn u.key u.saw };
 
     ghost tells = { reasons.TellsUnexplained };
 

@@ -3,6 +3,8 @@
 ghost use Rattle.std.specs.Prelude.{◌≡◌, [], ◌∷◌, ◌++◌, flat_map, map, OnOk, if◌then◌else◌, ◌&&◌, ℕ, List, All, IfSome, ◌+◌, ◌≤◌, length, drop, slice_index, IfOk, ◌<◌};
 ghost use Rattle.sia_events.specs.Text.{numeral};
 ghost use Rattle.si_audit.specs.Spaced.{spaced, words_of};
+ghost use Rattle.sia_parts.specs.Acts.{HasActs};
+ghost use Rattle.sia_parts.specs.declared.reasons.Recorded.{Recorded};
 ghost use Rattle.sia_graph.specs.Judgements.{IsJudgement};
 ghost use Rattle.si_audit.specs.Explained.{TellsAll, WithReasons, TellsIf};
 ghost use Rattle.si_audit.specs.Reasons.{TellsBadRead, TellsBadWrite, TellsUnexplained};
@@ -177,7 +179,7 @@ fn push_steps(out: &mut Vec<u8>, steps: &[Step]) -> Result<(), AllocError>
 pub(crate) trait Finding {
     ghost line: { Self → List ℕ };
 
-    ghost is_found: { List Event → Self → Type 0 };
+    ghost is_found: { Recorded → Self → Type 0 };
 
     ghost tells: { List Event → Self → List ℕ → Type 0 };
 
@@ -186,7 +188,7 @@ pub(crate) trait Finding {
 
     fn push_reasons(&self, out: &mut Vec<u8>, of: &Recorded) -> Result<(), NoMemory>
         requires index { of.now.index.now ≡ of.now.history.now }
-        requires found { is_found of.now.history.now self.now }
+        requires found { is_found of.now self.now }
         ensures { OnOk result ((bytes : List ℕ) × tells of.now.history.now self.now bytes
             × (out.new.items ≡ out.old.items ++ bytes)) };
 }
@@ -197,7 +199,7 @@ pub(crate) fn push_all<T: Finding>(
     found: &[T],
 ) -> Result<(), NoMemory>
     requires index { IfSome of (λ of. of.now.index.now ≡ of.now.history.now) }
-    requires found { IfSome of (λ of. All (T.is_found of.now.history.now) found.now) }
+    requires found { IfSome of (λ of. All (T.is_found of.now) found.now) }
     ensures { OnOk result ((bytes : List ℕ) × TellsAll
         (WithReasons T.line (TellsIf of.entry T.tells)) found.now bytes
         × (out.new.items ≡ out.old.items ++ bytes)) }
@@ -243,6 +245,8 @@ pub(crate) fn push_front(
 ) -> Result<(), NoMemory>
     requires index { IfSome of (λ of. of.now.index.now ≡ of.now.history.now) }
     requires judgement { IfSome of (λ of. IsJudgement of.now.history.now j.now) }
+    requires acts { IfSome of (λ of. All (λ b. HasActs of.now.history.now b.second of.now.acts.now)
+        j.now.bad_writes.items) }
     ensures { OnOk result ((reads : List ℕ) × (writes : List ℕ) × (others : List ℕ)
         × TellsAll (WithReasons lines.bad_read_line
         (TellsIf of.entry TellsBadRead)) j.now.bad_reads.items reads

@@ -15,7 +15,7 @@ use crate::report::{Sheet, push_back, push_front};
 use sia_events::{Log, NoMemory};
 use sia_graph::{Judgement, Link, Pivot, listing_law, pivots_of_links};
 use sia_index::Index;
-use sia_parts::{Accesses, Edge, Edges, Recorded};
+use sia_parts::{Accesses, Edge, Edges};
 use std::alloc::Global;
 
 /// The lines of a judgement: those of its edges stand on these sheets, and these pivots are told.
@@ -120,11 +120,7 @@ pub(crate) fn sheets_of<C: Crew>(
         }
         Form::Brief => report_of(alloc, j, Vec::new(alloc), &[]),
         Form::Explained => {
-            let of = Recorded {
-                history: &log,
-                index,
-            };
-            let sheet = explained(alloc, &of, j, accesses)?;
+            let sheet = explained(alloc, &log, index, j, accesses)?;
             one_sheet(alloc, sheet)
         }
     }

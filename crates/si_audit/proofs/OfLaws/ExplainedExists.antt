@@ -1,7 +1,8 @@
 -- The account of a well-formed history has an explained report.
-use Rattle.std.proofs.Common.{◌≡◌, ◌≢◌, ◌⊎◌, inl, inr, ◌+◌, ℕ, Some, List, [], ◌∷◌, ◌++◌, codes, refl, sym, subst, arith}
+use Rattle.std.proofs.Common.{◌≡◌, ◌≢◌, ◌⊎◌, inl, inr, ◌+◌, ◌<◌, ℕ, length, Some, List, [], ◌∷◌, ◌++◌, codes, refl, sym, subst, arith}
 use Rattle.std.specs.Prelude.{Contains}
-use Rattle.std.proofs.lemmas.Bool.{cases_eq}
+use Rattle.std.proofs.lemmas.Bool.{cases_eq, cases_lt}
+use Rattle.std.proofs.lemmas.Option.{slice_get_within}
 use Rattle.sia_events.specs.declared.event.Event.{Event}
 use Rattle.sia_events.specs.declared.event.Event.TheVariants.{Write}
 use Rattle.sia_events.specs.DangerousStructures.{IsFirst, IsVulnerable}
@@ -11,11 +12,11 @@ use Rattle.sia_events.specs.Places.{at_place}
 use Rattle.sia_events.specs.Reads.{IsDue, SawAt}
 use Rattle.sia_events.specs.Refusals.{IsWellFormed}
 use Rattle.sia_events.specs.Text.{numeral}
-use Rattle.sia_events.specs.Transactions.{CommitsBefore, IsCommitted, WritesAt, Wrote}
+use Rattle.sia_events.specs.Transactions.{CommitsBefore, IsCommitted, Overlap, WritesAt, Wrote, WroteBefore}
 use Rattle.sia_events.proofs.OfLaws.Anomalies.{anomaly_law}
-use Rattle.sia_events.proofs.Shared.Decisions.{Decided, both, first_below}
+use Rattle.sia_events.proofs.Shared.Decisions.{Decided, both, decided_alike, first_below}
 use Rattle.sia_events.proofs.OfLaws.SawDecisions.{saw_at_or_not}
-use Rattle.sia_events.proofs.Shared.TransactionDecisions.{aborted_or_not, at_or_not, committed_or_not, has_start, wrote_or_not}
+use Rattle.sia_events.proofs.Shared.TransactionDecisions.{aborted_or_not, at_or_not, committed_or_not, has_start, wrote_before_or_not, wrote_or_not}
 use Rattle.sia_events.proofs.Writing.WellFormed.{seen_was_written}
 use Rattle.sia_parts.specs.declared.finding.BadRead.{BadRead}
 use Rattle.sia_parts.specs.declared.finding.BadWrite.{BadWrite}
@@ -24,25 +25,28 @@ use Rattle.sia_parts.specs.declared.finding.Edge.{Edge}
 use Rattle.sia_parts.specs.declared.finding.Kind.{Kind}
 use Rattle.sia_parts.specs.declared.finding.Kind.TheVariants.{Ww, Wr, Rw}
 use Rattle.sia_parts.specs.Entries.{EdgeOfKind, IsEdge}
+use Rattle.sia_parts.specs.LostUpdates.{IsLostUpdate, LosesAt}
 use Rattle.sia_parts.specs.Sightings.{Gives, reader_of}
-use Rattle.sia_parts.specs.Telling.{TellsUnless, TellsVersion, event_words}
+use Rattle.sia_parts.specs.Telling.{TellsUnless, TellsVersion, event_words, start_words}
 use Rattle.sia_parts.proofs.Auditing.Members.{contains_first, contains_later}
 use Rattle.sia_graph.specs.declared.ssi.Dangerous.{Dangerous}
 use Rattle.sia_graph.specs.declared.cycle.Step.{Step}
 use Rattle.sia_graph.specs.declared.judgement.Verdict.{Verdict}
 use Rattle.sia_graph.specs.declared.judgement.Verdict.TheVariants.{Order, Cycle}
+use Rattle.sia_graph.specs.Allowed.{IsAllowedAt, IsRwOverlap}
 use Rattle.sia_graph.specs.Cycles.{GoesRound, step_edge}
 use Rattle.sia_graph.specs.Dangerous.{HasFirst, IsLeast, MayBeFirst}
 use Rattle.sia_graph.specs.Verdicts.{IsVerdict}
+use Rattle.sia_graph.proofs.OfLaws.AllowedCycles.{both_at, edge_at, place_after}
 use Rattle.sia_graph.proofs.Shared.Deciding.{either_decided, not_decided, three_decided}
 use Rattle.sia_graph.proofs.Shared.EdgesDecided.{edge_decided}
 use Rattle.sia_graph.proofs.Shared.Facts.{commits_before_decided}
-use Rattle.sia_graph.proofs.Shared.NoStuckSet.{vulnerable_decided}
+use Rattle.sia_graph.proofs.Shared.NoStuckSet.{overlap_decided, vulnerable_decided}
 use Rattle.sia_graph.proofs.OfPivots.Vulnerable.{source_committed, target_committed}
 use Rattle.si_audit.specs.Account.{Account, IsAccount}
 use Rattle.si_audit.specs.Explained.{IsExplained, TellsAll, TellsDanger, TellsVerdict, WithReasons, dangerous_edges, dangerous_line, edges_round}
 use Rattle.si_audit.specs.Lines.{bad_read_line, bad_write_line, edge_word, unexplained_line, verdict_line}
-use Rattle.si_audit.specs.Reasons.{TellsBadRead, TellsBadWrite, TellsEvents, TellsSight, TellsStep, TellsUnexplained, reason, untold_of}
+use Rattle.si_audit.specs.Reasons.{TellsBadRead, TellsBadWrite, TellsClass, TellsConflict, TellsEvents, TellsSight, TellsStep, TellsUnexplained, reason, untold_of}
 use Rattle.si_audit.proofs.OfLaws.FindingsExist.{seen_small, top, top_is}
 use Rattle.si_audit.proofs.OfLaws.VerdictExists.{some_committed}
 
@@ -102,16 +106,39 @@ module _ (h : List Event) (wf : IsWellFormed h) where
       let told = bad_read_told (record { place = b.place; txn = b.txn; key = b.key; saw = b.saw; due = due.0 }) due.1 in
       (told.0, (due.0, due.1, told.1))
 
-  bad_write_told : (b : BadWrite) → IsBadWrite h b.key b.first b.second → Told (TellsBadWrite h b)
-  bad_write_told b bad =
-      let first = version_told b.key b.first bad.0 in
-      let second = version_told b.key b.second bad.1 in
-      (_, (bad.2.0, first.0, second.0, bad.2.2, first.1, second.1, refl))
-
   before_or_not : (k v w : ℕ) → Decided (IsVersionBefore h k v w)
   before_or_not k v w =
       either_decided ((v ≡ 0) × IsCommittedWriter h k w) (WwEdge h v w k) (both (v ≡ 0) (IsCommittedWriter h k w) (cases_eq v 0) (both (Wrote h w k) (IsCommitted h w) (wrote_or_not h w k) (committed_or_not h w)))
       (edge_decided h wf Ww v w k)
+
+  loses_or_not : (k first second p : ℕ) → Decided (LosesAt h k first second p)
+  loses_or_not k first second p =
+      elim (first_below (λ v. SawAt h p second k v × (¬ WroteBefore h second k p) × IsVersionBefore h k v first)
+      (λ v. three_decided (SawAt h p second k v) (¬ WroteBefore h second k p) (IsVersionBefore h k v first) (saw_at_or_not h p second k v) (not_decided (WroteBefore h second k p) (wrote_before_or_not h second k p)) (before_or_not k v first)) top) [
+        | inl x ↦ inl (x.0, x.2.0, x.2.1, x.2.2)
+        | inr none ↦ inr (λ x. none x.0 (let small = (seen_small h wf p second k x.0 x.1).3 in let is = top_is in omega arith) (x.1, x.2, x.3))
+      ]
+
+  lost_or_not : (k first second : ℕ) → Decided (IsLostUpdate h k first second)
+  lost_or_not k first second = elim (first_below (LosesAt h k first second) (loses_or_not k first second) top) [
+    | inl x ↦ inl (x.0, x.2)
+    | inr none ↦ inr (λ x. none x.0 (let small = (seen_small h wf x.0 second k x.1.0 x.1.1).0 in let is = top_is in omega arith) x.1)
+  ]
+
+  conflict_told : (b : BadWrite) (start : List ℕ) → Told (TellsConflict h b start)
+  conflict_told b start = elim (lost_or_not b.key b.first b.second) [
+    | inl lost ↦
+        let least = least_of (LosesAt h b.key b.first b.second) (loses_or_not b.key b.first b.second) lost.0 lost.1 in
+        (codes "lost update: " ++ start ++ codes "; " ++ event_words h b.key least.0, inl (least.0, (least.1.0, least.1.1), refl))
+    | inr not ↦ (codes "write conflict: " ++ start, inr (not, refl))
+  ]
+
+  bad_write_told : (b : BadWrite) → IsBadWrite h b.key b.first b.second → Told (TellsBadWrite h b)
+  bad_write_told b bad =
+      let name = conflict_told b (start_words b.second bad.2.0) in
+      let first = version_told b.key b.first bad.0 in
+      let second = version_told b.key b.second bad.1 in
+      (_, (bad.2.0, name.0, first.0, second.0, bad.2.2, name.1, first.1, second.1, refl))
 
   gives_or_not : (kind : Kind) (t u k v : ℕ) → Decided (Gives kind h t u k v)
   gives_or_not Ww t u k v = inr (λ x. x)
@@ -170,10 +197,38 @@ module _ (h : List Event) (wf : IsWellFormed h) where
       let rest = round_told set (next ∷ steps) home round.2 in
       (one.0 ++ rest.0, (one.0, rest.0, one.1, rest.1, refl))
 
+  overlap_or_not : (e : Edge) → Decided (IsRwOverlap h e)
+  overlap_or_not e = both (e.kind ≡ Rw) (Overlap h e.src e.dst) (is_rw e.kind) (overlap_decided h wf e.src e.dst)
+    where
+      is_rw : (kind : Kind) → Decided (kind ≡ Rw)
+      is_rw Ww = inr (λ e. cc)
+      is_rw Wr = inr (λ e. cc)
+      is_rw Rw = inl refl
+
+  class_told : (edges : List Edge) → Told (TellsClass h edges)
+  class_told edges = elim (first_below (IsAllowedAt h edges) allowed_or_not (length edges)) [
+    | inl x ↦ (_, inl ((x.0, x.2), refl))
+    | inr none ↦ (_, inr ((λ x. none x.0 (slice_get_within edges x.0 x.1.0 x.1.2.1) x.1), refl))
+  ]
+    where
+      allowed_or_not : (i : ℕ) → Decided (IsAllowedAt h edges i)
+      allowed_or_not i = elim (cases_lt i (length edges)) [
+        | inl inside ↦
+            let next = place_after edges i inside in
+            let at = both_at h edges i next.0 inside next.1 next.2 in
+            decided_alike (IsRwOverlap h (edge_at edges i) × IsRwOverlap h (edge_at edges next.0)) (IsAllowedAt h edges i) at.1 at.0
+            (both (IsRwOverlap h (edge_at edges i)) (IsRwOverlap h (edge_at edges next.0)) (overlap_or_not (edge_at edges i)) (overlap_or_not (edge_at edges next.0)))
+        | inr past ↦ inr (λ x. let inside : i < length edges = slice_get_within edges i x.0 x.2.1 in omega arith)
+      ]
+
   verdict_told : (v : Verdict) → IsVerdict (IsCommitted h) (IsEdge h) v → Told (TellsVerdict h v)
   verdict_told (Order order) is = ([], refl)
   verdict_told (Cycle []) is = ([], refl)
-  verdict_told (Cycle (s ∷ steps)) is = round_told is.1.0 (s ∷ steps) s.txn is.1.8
+  verdict_told (Cycle (s ∷ steps)) is =
+      let edges = edges_round (s ∷ steps) s.txn in
+      let told = round_told is.1.0 (s ∷ steps) s.txn is.1.8 in
+      let class = class_told edges in
+      (told.0 ++ class.0, (told.0, class.0, told.1, class.1, refl))
 
   from_or_not : (t u : ℕ) → Decided ((s : ℕ) × (IsVulnerable h s t × ((u ≡ s) ⊎ CommitsBefore h u s)))
   from_or_not t u =

@@ -17,7 +17,7 @@ use Rattle.si_audit.specs.Explained.{IsExplained, TellsAll, TellsDanger, TellsVe
 use Rattle.si_audit.specs.Lines.{bad_read_line, bad_write_line, edge_word, events_line, is_empty, isolation_line, report_text, serializable_line, ssi_line, unexplained_line, verdict_line}
 use Rattle.si_audit.specs.Reasons.{TellsBadRead, TellsBadWrite, TellsStep, TellsUnexplained}
 use Rattle.si_audit.specs.RefusedPlaces.{TellsToken, place_line}
-use Rattle.si_audit.proofs.OfLaws.ReasonLines.{bad_read_goes, bad_write_goes, step_goes, unexplained_goes}
+use Rattle.si_audit.proofs.OfLaws.ReasonLines.{bad_read_goes, bad_write_goes, class_goes, step_goes, unexplained_goes}
 use Rattle.si_audit.proofs.OfLaws.ReportLines.{IsUnbroken, bad_read_is, bad_write_is, edge_unbroken, events_is, glued, isolation_is, numeral_unbroken, serializable_is, ssi_is, stays, unexplained_is, verdict_is, words_line}
 use Rattle.si_audit.proofs.OfLaws.TextLines.{IsLine, Leaves, leaves_both, leaves_line, leaves_nothing, unbroken_both}
 
@@ -67,7 +67,9 @@ module _ (h : List Event) where
   verdict_goes : (v : Verdict) (bytes : List ℕ) → TellsVerdict h v bytes → Leaves keep bytes []
   verdict_goes (Order order) bytes is = subst (λ (b : List ℕ). Leaves keep b []) (sym is) (leaves_nothing keep)
   verdict_goes (Cycle []) bytes is = subst (λ (b : List ℕ). Leaves keep b []) (sym is) (leaves_nothing keep)
-  verdict_goes (Cycle (s ∷ steps)) bytes told = all_go keep (TellsStep h) (step_goes h keep spaces_go) (edges_round (s ∷ steps) s.txn) bytes told
+  verdict_goes (Cycle (s ∷ steps)) bytes told =
+      let edges = edges_round (s ∷ steps) s.txn in
+      subst (λ (b : List ℕ). Leaves keep b []) (sym told.4) (leaves_both keep (all_go keep (TellsStep h) (step_goes h keep spaces_go) edges told.0 told.2) (class_goes h keep spaces_go edges told.1 told.3))
 
   danger_goes : (bytes : List ℕ) → TellsDanger h bytes → Leaves keep bytes []
   danger_goes bytes (inl x) = subst (λ (b : List ℕ). Leaves keep b []) (sym x.1) (leaves_nothing keep)

@@ -28,7 +28,7 @@ use Rattle.sia_graph.specs.Dangerous.{IsDangerous, IsLeast, MayBeFirst}
 use Rattle.si_audit.specs.Account.{Account}
 use Rattle.si_audit.specs.Explained.{IsExplained, TellsAll, TellsDanger, TellsVerdict, WithReasons, dangerous_edges, dangerous_line, edges_round}
 use Rattle.si_audit.specs.Lines.{bad_read_line, bad_write_line, edge_word, events_line, is_empty, isolation_line, serializable_line, ssi_line, unexplained_line, verdict_line}
-use Rattle.si_audit.specs.Reasons.{TellsBadRead, TellsBadWrite, TellsEvents, TellsSight, TellsStep, TellsUnexplained, anomaly_words, reason, untold_of}
+use Rattle.si_audit.specs.Reasons.{TellsBadRead, TellsBadWrite, TellsClass, TellsConflict, TellsEvents, TellsSight, TellsStep, TellsUnexplained, anomaly_words, reason, untold_of}
 
 -- two answers of one relation to one question are one
 abbrev pub IsOne : (List ℕ → Type 0) → Type 0
@@ -87,12 +87,21 @@ module _ (h : List Event) (wf : IsWellFormed h) where
       one_bad_read (record { place = r.place; txn = r.txn; key = r.key; saw = r.saw; due = y.0 }) a b
       (subst (λ (u : ℕ). TellsBadRead h (record { place = r.place; txn = r.txn; key = r.key; saw = r.saw; due = u }) a) due x.2) y.2
 
+  one_conflict : (r : BadWrite) (start : List ℕ) → IsOne (TellsConflict h r start)
+  one_conflict r start a b (inl x) (inl y) =
+      let place : x.0 ≡ y.0 = (let up : x.0 ≤ y.0 = x.1.1 y.0 y.1.0 in let down : y.0 ≤ x.0 = y.1.1 x.0 x.1.0 in omega arith) in
+      x.2 ∙ ap (λ p. codes "lost update: " ++ start ++ codes "; " ++ event_words h r.key p) place ∙ sym y.2
+  one_conflict r start a b (inl x) (inr y) = absurd (y.0 (x.0, x.1.0))
+  one_conflict r start a b (inr x) (inl y) = absurd (x.0 (y.0, y.1.0))
+  one_conflict r start a b (inr x) (inr y) = x.1 ∙ sym y.1
+
   pub one_bad_write : (r : BadWrite) → IsOne (TellsBadWrite h r)
   one_bad_write r a b x y =
-      let start = one_start h r.second x.0 y.0 x.3 y.3 in
-      let first = one_version_told r.key r.first x.1 y.1 x.4 y.4 in
-      let second = one_version_told r.key r.second x.2 y.2 x.5 y.5 in
-      x.6 ∙ (λ i. reason (codes "both write and overlap: " ++ start_words r.second (start i) ++ codes "; " ++ first i ++ codes "; " ++ second i)) ∙ sym y.6
+      let start = one_start h r.second x.0 y.0 x.4 y.4 in
+      let name = one_conflict r (start_words r.second y.0) x.1 y.1 (subst (λ (s : ℕ). TellsConflict h r (start_words r.second s) x.1) start x.5) y.5 in
+      let first = one_version_told r.key r.first x.2 y.2 x.6 y.6 in
+      let second = one_version_told r.key r.second x.3 y.3 x.7 y.7 in
+      x.8 ∙ (λ i. reason (name i ++ codes "; " ++ first i ++ codes "; " ++ second i)) ∙ sym y.8
 
   one_sight : (e : Edge) → IsOne (TellsSight h e)
   one_sight e a b x y =
@@ -110,10 +119,18 @@ module _ (h : List Event) (wf : IsWellFormed h) where
   one_step : (e : Edge) → IsOne (TellsStep h e)
   one_step e a b x y = x.2 ∙ (λ i. reason (numeral e.src ++ codes " " ++ edge_word e.kind e.key ++ codes " " ++ numeral e.dst ++ codes ": " ++ one_events e.kind e x.0 y.0 x.1 y.1 i)) ∙ sym y.2
 
+  one_class : (edges : List Edge) → IsOne (TellsClass h edges)
+  one_class edges a b (inl x) (inl y) = x.1 ∙ sym y.1
+  one_class edges a b (inl x) (inr y) = absurd (y.0 x.0)
+  one_class edges a b (inr x) (inl y) = absurd (x.0 y.0)
+  one_class edges a b (inr x) (inr y) = x.1 ∙ sym y.1
+
   pub one_verdict_told : (v : Verdict) → IsOne (TellsVerdict h v)
   one_verdict_told (Order order) a b x y = x ∙ sym y
   one_verdict_told (Cycle []) a b x y = x ∙ sym y
-  one_verdict_told (Cycle (s ∷ steps)) a b x y = one_all (TellsStep h) one_step (edges_round (s ∷ steps) s.txn) a b x y
+  one_verdict_told (Cycle (s ∷ steps)) a b x y =
+      let edges = edges_round (s ∷ steps) s.txn in
+      x.4 ∙ (λ i. one_all (TellsStep h) one_step edges x.0 y.0 x.2 y.2 i ++ one_class edges x.1 y.1 x.3 y.3 i) ∙ sym y.4
 
   one_least : (P : ℕ → Type 0) (m n : ℕ) → IsLeast P m → IsLeast P n → m ≡ n
   one_least P m n x y = let up : m ≤ n = x.1 n y.0 in let down : n ≤ m = y.1 m x.0 in omega arith

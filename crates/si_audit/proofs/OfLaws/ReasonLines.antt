@@ -16,7 +16,7 @@ use Rattle.sia_parts.specs.declared.finding.Kind.{Kind}
 use Rattle.sia_parts.specs.declared.finding.Kind.TheVariants.{Ww, Wr, Rw}
 use Rattle.sia_parts.specs.Telling.{TellsUnless, TellsVersion, event_words, start_words}
 use Rattle.si_audit.specs.Lines.{edge_word}
-use Rattle.si_audit.specs.Reasons.{TellsBadRead, TellsBadWrite, TellsEvents, TellsSight, TellsStep, TellsUnexplained, anomaly_words, reason, untold_of}
+use Rattle.si_audit.specs.Reasons.{TellsBadRead, TellsBadWrite, TellsClass, TellsConflict, TellsEvents, TellsSight, TellsStep, TellsUnexplained, allowed_words, anomaly_words, forbidden_words, reason, untold_of}
 use Rattle.si_audit.proofs.OfLaws.ReportLines.{IsUnbroken, edge_unbroken, glued, numeral_unbroken}
 use Rattle.si_audit.proofs.OfLaws.TextLines.{Leaves, leaves_both, leaves_line, leaves_nothing, unbroken_both}
 
@@ -60,6 +60,10 @@ module _ (h : List Event) where
       by_case (inl x) = subst IsUnbroken (sym x.1) refl
       by_case (inr x) = subst IsUnbroken (sym x.3) (glued (codes "; ") (x.1 ∷ [] ∷ []) refl (version_unbroken e.key v x.1 x.2, (refl, tt)))
 
+  conflict_unbroken : (b : BadWrite) (start words : List ℕ) → IsUnbroken start → TellsConflict h b start words → IsUnbroken words
+  conflict_unbroken b start words p (inl x) = subst IsUnbroken (sym x.2) (glued (codes "lost update: ") (start ∷ codes "; " ∷ event_words h b.key x.0 ∷ []) refl (p, (refl, (words_unbroken b.key x.0, tt))))
+  conflict_unbroken b start words p (inr x) = subst IsUnbroken (sym x.1) (unbroken_both (codes "write conflict: ") start refl p)
+
   two_unbroken : (one other words : List ℕ) → IsUnbroken one → IsUnbroken other → words ≡ one ++ codes "; " ++ other → IsUnbroken words
   two_unbroken one other words p q is = subst IsUnbroken (sym is) (glued one (codes "; " ∷ other ∷ []) p (refl, (q, tt)))
 
@@ -91,10 +95,14 @@ module _ (h : List Event) where
     unexplained_goes b bytes (due, is, told) = bad_read_goes (record { place = b.place; txn = b.txn; key = b.key; saw = b.saw; due = due }) bytes told
 
     pub bad_write_goes : (b : BadWrite) (bytes : List ℕ) → TellsBadWrite h b bytes → Leaves keep bytes []
-    bad_write_goes b bytes (s, first, second, starts, one, other, is) =
-        subst (λ (x : List ℕ). Leaves keep x []) (sym is) (reason_goes (codes "both write and overlap: " ++ start_words b.second s ++ codes "; " ++ first ++ codes "; " ++ second)
-        (glued (codes "both write and overlap: ") (start_words b.second s ∷ codes "; " ∷ first ∷ codes "; " ∷ second ∷ []) refl
-        (start_unbroken b.second s, (refl, (version_unbroken b.key b.first first one, (refl, (version_unbroken b.key b.second second other, tt)))))))
+    bad_write_goes b bytes (s, name, first, second, starts, named, one, other, is) =
+        subst (λ (x : List ℕ). Leaves keep x []) (sym is) (reason_goes (name ++ codes "; " ++ first ++ codes "; " ++ second)
+        (glued name (codes "; " ∷ first ∷ codes "; " ∷ second ∷ []) (conflict_unbroken b (start_words b.second s) name (start_unbroken b.second s) named)
+        (refl, (version_unbroken b.key b.first first one, (refl, (version_unbroken b.key b.second second other, tt))))))
+
+    pub class_goes : (edges : List Edge) (bytes : List ℕ) → TellsClass h edges bytes → Leaves keep bytes []
+    class_goes edges bytes (inl x) = subst (λ (b : List ℕ). Leaves keep b []) (sym x.1) (reason_goes allowed_words refl)
+    class_goes edges bytes (inr x) = subst (λ (b : List ℕ). Leaves keep b []) (sym x.1) (reason_goes forbidden_words refl)
 
     pub step_goes : (e : Edge) (bytes : List ℕ) → TellsStep h e bytes → Leaves keep bytes []
     step_goes e bytes (words, told, is) =

@@ -8,8 +8,8 @@ use Rattle.sia_parts.specs.declared.finding.Edge.{Edge}
 use Rattle.sia_graph.specs.declared.cycle.Step.{Step}
 use Rattle.sia_graph.specs.declared.judgement.Verdict.TheVariants.{Cycle}
 use Rattle.sia_graph.specs.Cycles.{GoesRound, IsPrintedCycle, step_edge}
-use Rattle.si_audit.specs.Explained.{TellsAll, TellsVerdict, edges_round}
-use Rattle.si_audit.specs.Reasons.{TellsStep}
+use Rattle.si_audit.specs.Explained.{TellsAll, TellsCycle, TellsVerdict, edges_round}
+use Rattle.si_audit.specs.Reasons.{TellsClass, TellsStep}
 
 -- each step of a cycle takes an edge
 pub all_are_edges : (IsEdge : Edge → Type 0) (stuck : List ℕ) (steps : List Step) (home : ℕ) → GoesRound IsEdge stuck steps home → All IsEdge (edges_round steps home)
@@ -67,7 +67,7 @@ pub cycle_edges : (IsMember : ℕ → Type 0) (IsEdge : Edge → Type 0) (steps 
 cycle_edges IsMember IsEdge [] edges is so = absurd is
 cycle_edges IsMember IsEdge (s ∷ steps) edges is so = subst (All IsEdge) (sym (so s steps refl)) (all_are_edges IsEdge is.0 (s ∷ steps) s.txn is.8)
 
-pub tells_cycle : (h : List Event) (IsMember : ℕ → Type 0) (IsEdge : Edge → Type 0) (steps : List Step) (edges : List Edge) (bytes : List ℕ) → IsPrintedCycle IsMember IsEdge steps → AreRound steps edges
-    → TellsAll (TellsStep h) edges bytes → TellsVerdict h (Cycle steps) bytes
-tells_cycle h IsMember IsEdge [] edges bytes is so told = absurd is
-tells_cycle h IsMember IsEdge (s ∷ steps) edges bytes is so told = subst (λ es. TellsAll (TellsStep h) es bytes) (so s steps refl) told
+pub tells_cycle : (h : List Event) (IsMember : ℕ → Type 0) (IsEdge : Edge → Type 0) (steps : List Step) (edges : List Edge) (bytes class : List ℕ) → IsPrintedCycle IsMember IsEdge steps → AreRound steps edges
+    → TellsAll (TellsStep h) edges bytes → TellsClass h edges class → TellsVerdict h (Cycle steps) (bytes ++ class)
+tells_cycle h IsMember IsEdge [] edges bytes class is so told of = absurd is
+tells_cycle h IsMember IsEdge (s ∷ steps) edges bytes class is so told of = subst (λ es. TellsCycle h es (bytes ++ class)) (so s steps refl) (bytes, class, told, of, refl)

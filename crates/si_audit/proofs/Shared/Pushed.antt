@@ -14,9 +14,16 @@ place_pushed o first second third all a b c kept token l x row y column same_row
     ∙ chained o a (numeral x) b (numeral y) c kept l
     ∙ (λ i. o ++ (a ++ numeral (same_row i) ++ b ++ numeral (same_column i) ++ c ++ same_token i ++ l))
 
--- a start, and two things with the same word before each
-pub two_things : (o p a t x m y s c d q : List ℕ) → (((((((o ++ (p ++ a ++ t)) ++ x) ++ m) ++ y) ++ s) ++ [] ++ c) ++ (s ++ d ++ q)) ≡ o ++ (p ++ (a ++ (t ++ x ++ m ++ y) ++ s ++ c ++ s ++ d) ++ q)
-two_things o p a t x m y s c d q = simp (append_assoc, append-nil)
+-- a name and a start, and what stands behind them
+pub start_pushed : (o p a t x m y s e : List ℕ) → ((((((o ++ (p ++ a ++ t)) ++ x) ++ m) ++ y) ++ s) ++ [] ++ e) ≡ (o ++ p) ++ (a ++ (t ++ x ++ m ++ y) ++ s ++ e)
+start_pushed o p a t x m y s e = simp (append_assoc, append-nil)
+
+pub start_alone : (o p a t x m y : List ℕ) → (((((o ++ (p ++ a ++ t)) ++ x) ++ m) ++ y) ++ []) ≡ (o ++ p) ++ (a ++ (t ++ x ++ m ++ y))
+start_alone o p a t x m y = simp (append_assoc, append-nil)
+
+-- a name, and two things with the same word before each
+pub two_things : (o p n s c d q : List ℕ) → (((((o ++ p) ++ n) ++ s) ++ c) ++ (s ++ d ++ q)) ≡ o ++ (p ++ (n ++ s ++ c ++ s ++ d) ++ q)
+two_things o p n s c d q = simp append_assoc
 
 -- a name, an event, and a start behind it
 pub named_event : (o p a b e s t x m y q : List ℕ) → ((((((o ++ (p ++ a ++ b)) ++ e) ++ (s ++ t)) ++ x) ++ m) ++ y) ++ q ≡ o ++ (p ++ (a ++ b ++ e ++ s ++ (t ++ x ++ m ++ y)) ++ q)

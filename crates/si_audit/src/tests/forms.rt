@@ -92,8 +92,31 @@ pub(crate) const EXPLAINED: &[Row] = &[
         b"w1[1] w2[1] c1 c2",
         &[2],
         Form::Explained,
-        b"events 4 committed 2 aborted 0 open 0\nisolation broken\nbad-write 1 1 2\n  both write and overlap: transaction 2 starts after event 1; event 1 w1[1], event 3 c1; event 2 w2[1], event 4 c2\nssi fail\nserializable yes\norder 1 2\n",
+        b"events 4 committed 2 aborted 0 open 0\nisolation broken\nbad-write 1 1 2\n  write conflict: transaction 2 starts after event 1; event 1 w1[1], event 3 c1; event 2 w2[1], event 4 c2\nssi fail\nserializable yes\norder 1 2\n",
         BROKEN,
+    ),
+    // one who read the key before it wrote it and missed the first version, by a range, and one who read it only then
+    (
+        b"r3[1:0] r2[0..9] w1[1] w2[1] r2[1:0] w3[2] w3[1] c1 c2 c3",
+        &[2],
+        Form::Explained,
+        b"events 10 committed 3 aborted 0 open 0\nisolation broken\nbad-read 5 2 1 saw 0 due 2\n  own write missed: event 5 r2[1:0]; transaction 2 starts after event 1\n  due: event 4 w2[1], event 9 c2\nbad-write 1 1 2\n  lost update: transaction 2 starts after event 1; event 2 r2[0..9]; event 3 w1[1], event 8 c1; event 4 w2[1], event 9 c2\nbad-write 1 1 3\n  lost update: transaction 3 starts after event 0; event 1 r3[1:0]; event 3 w1[1], event 8 c1; event 7 w3[1], event 10 c3\nbad-write 1 2 3\n  lost update: transaction 3 starts after event 0; event 1 r3[1:0]; event 4 w2[1], event 9 c2; event 7 w3[1], event 10 c3\nunexplained 5 2 1 0\n  own write missed: event 5 r2[1:0]; transaction 2 starts after event 1\n  due: event 4 w2[1], event 9 c2\nssi fail\nserializable no\ncycle 1 >ww:1> 2 >rw:1> 1\n  1 >ww:1> 2: event 3 w1[1], event 8 c1; event 4 w2[1], event 9 c2\n  2 >rw:1> 1: event 2 r2[0..9]; event 3 w1[1], event 8 c1\n  forbidden under snapshot isolation: no two rw steps between overlapping transactions follow one another\n",
+        BROKEN,
+    ),
+    (
+        b"w2[1] r2[1:0] w1[1] c1 c2",
+        &[2],
+        Form::Explained,
+        b"events 5 committed 2 aborted 0 open 0\nisolation broken\nbad-read 2 2 1 saw 0 due 2\n  own write missed: event 2 r2[1:0]; transaction 2 starts after event 0\n  due: event 1 w2[1], event 5 c2\nbad-write 1 1 2\n  write conflict: transaction 2 starts after event 0; event 3 w1[1], event 4 c1; event 1 w2[1], event 5 c2\nunexplained 2 2 1 0\n  own write missed: event 2 r2[1:0]; transaction 2 starts after event 0\n  due: event 1 w2[1], event 5 c2\nssi fail\nserializable no\ncycle 1 >ww:1> 2 >rw:1> 1\n  1 >ww:1> 2: event 3 w1[1], event 4 c1; event 1 w2[1], event 5 c2\n  2 >rw:1> 1: event 2 r2[1:0]; event 3 w1[1], event 4 c1\n  forbidden under snapshot isolation: no two rw steps between overlapping transactions follow one another\n",
+        BROKEN,
+    ),
+    // a cycle that isolation allows, of which the last step and the first follow one another
+    (
+        b"r1[1:0] r2[2:0] w2[1] w1[2] c1 c2",
+        &[2],
+        Form::Explained,
+        b"events 6 committed 2 aborted 0 open 0\nisolation kept\nssi fail\ndangerous 1 >rw:1> 2 >rw:2> 1\n  1 >rw:1> 2: event 1 r1[1:0]; event 3 w2[1], event 6 c2\n  2 >rw:2> 1: event 2 r2[2:0]; event 4 w1[2], event 5 c1\nserializable no\ncycle 1 >rw:1> 2 >rw:2> 1\n  1 >rw:1> 2: event 1 r1[1:0]; event 3 w2[1], event 6 c2\n  2 >rw:2> 1: event 2 r2[2:0]; event 4 w1[2], event 5 c1\n  allowed under snapshot isolation: two rw steps between overlapping transactions follow one another\n",
+        NO_ORDER,
     ),
     // the six names of bad reads
     (
@@ -121,21 +144,21 @@ pub(crate) const EXPLAINED: &[Row] = &[
         b"r1[1:0] w2[1] w2[2] c2 r1[2:2] c1",
         &[2],
         Form::Explained,
-        b"events 6 committed 2 aborted 0 open 0\nisolation broken\nbad-read 5 1 2 saw 2 due 0\n  future read: event 5 r1[2:2]; transaction 1 starts after event 0\n  saw: event 3 w2[2], event 4 c2\nssi fail\nserializable no\ncycle 1 >rw:1> 2 >wr:2> 1\n  1 >rw:1> 2: event 1 r1[1:0]; event 2 w2[1], event 4 c2\n  2 >wr:2> 1: event 3 w2[2], event 4 c2; event 5 r1[2:2]\n",
+        b"events 6 committed 2 aborted 0 open 0\nisolation broken\nbad-read 5 1 2 saw 2 due 0\n  future read: event 5 r1[2:2]; transaction 1 starts after event 0\n  saw: event 3 w2[2], event 4 c2\nssi fail\nserializable no\ncycle 1 >rw:1> 2 >wr:2> 1\n  1 >rw:1> 2: event 1 r1[1:0]; event 2 w2[1], event 4 c2\n  2 >wr:2> 1: event 3 w2[2], event 4 c2; event 5 r1[2:2]\n  forbidden under snapshot isolation: no two rw steps between overlapping transactions follow one another\n",
         BROKEN,
     ),
     (
         b"w1[12] w1[15] c1 r2[10..20;12:1] c2",
         &[2],
         Form::Explained,
-        b"events 5 committed 2 aborted 0 open 0\nisolation broken\nbad-read 4 2 15 saw 0 due 1\n  phantom: event 4 r2[10..20]; transaction 2 starts after event 3\n  due: event 2 w1[15], event 3 c1\nssi fail\nserializable no\ncycle 1 >wr:12> 2 >rw:15> 1\n  1 >wr:12> 2: event 1 w1[12], event 3 c1; event 4 r2[10..20;12:1]\n  2 >rw:15> 1: event 4 r2[10..20]; event 2 w1[15], event 3 c1\n",
+        b"events 5 committed 2 aborted 0 open 0\nisolation broken\nbad-read 4 2 15 saw 0 due 1\n  phantom: event 4 r2[10..20]; transaction 2 starts after event 3\n  due: event 2 w1[15], event 3 c1\nssi fail\nserializable no\ncycle 1 >wr:12> 2 >rw:15> 1\n  1 >wr:12> 2: event 1 w1[12], event 3 c1; event 4 r2[10..20;12:1]\n  2 >rw:15> 1: event 4 r2[10..20]; event 2 w1[15], event 3 c1\n  forbidden under snapshot isolation: no two rw steps between overlapping transactions follow one another\n",
         BROKEN,
     ),
     (
         b"w1[5] w1[7] c1 r2[0..9;5:0,7:1] c2",
         &[2],
         Form::Explained,
-        b"events 5 committed 2 aborted 0 open 0\nisolation broken\nbad-read 4 2 5 saw 0 due 1\n  stale read: event 4 r2[0..9;5:0]; transaction 2 starts after event 3\n  due: event 1 w1[5], event 3 c1\nssi fail\nserializable no\ncycle 1 >wr:7> 2 >rw:5> 1\n  1 >wr:7> 2: event 2 w1[7], event 3 c1; event 4 r2[0..9;7:1]\n  2 >rw:5> 1: event 4 r2[0..9;5:0]; event 1 w1[5], event 3 c1\n",
+        b"events 5 committed 2 aborted 0 open 0\nisolation broken\nbad-read 4 2 5 saw 0 due 1\n  stale read: event 4 r2[0..9;5:0]; transaction 2 starts after event 3\n  due: event 1 w1[5], event 3 c1\nssi fail\nserializable no\ncycle 1 >wr:7> 2 >rw:5> 1\n  1 >wr:7> 2: event 2 w1[7], event 3 c1; event 4 r2[0..9;7:1]\n  2 >rw:5> 1: event 4 r2[0..9;5:0]; event 1 w1[5], event 3 c1\n  forbidden under snapshot isolation: no two rw steps between overlapping transactions follow one another\n",
         BROKEN,
     ),
     // the newest version that the reader saw is a later one than the writer's
@@ -143,7 +166,7 @@ pub(crate) const EXPLAINED: &[Row] = &[
         b"r3[2:0] w1[1] w1[2] c1 w2[1] c2 r3[1:2] c3",
         &[2],
         Form::Explained,
-        b"events 8 committed 3 aborted 0 open 0\nisolation broken\nbad-read 7 3 1 saw 2 due 0\n  future read: event 7 r3[1:2]; transaction 3 starts after event 0\n  saw: event 5 w2[1], event 6 c2\nssi fail\nserializable no\ncycle 1 >wr:1> 3 >rw:2> 1\n  1 >wr:1> 3: event 2 w1[1], event 4 c1; event 7 r3[1:2]; event 5 w2[1], event 6 c2\n  3 >rw:2> 1: event 1 r3[2:0]; event 3 w1[2], event 4 c1\n",
+        b"events 8 committed 3 aborted 0 open 0\nisolation broken\nbad-read 7 3 1 saw 2 due 0\n  future read: event 7 r3[1:2]; transaction 3 starts after event 0\n  saw: event 5 w2[1], event 6 c2\nssi fail\nserializable no\ncycle 1 >wr:1> 3 >rw:2> 1\n  1 >wr:1> 3: event 2 w1[1], event 4 c1; event 7 r3[1:2]; event 5 w2[1], event 6 c2\n  3 >rw:2> 1: event 1 r3[2:0]; event 3 w1[2], event 4 c1\n  forbidden under snapshot isolation: no two rw steps between overlapping transactions follow one another\n",
         BROKEN,
     ),
     (

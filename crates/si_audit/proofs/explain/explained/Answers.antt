@@ -1,3 +1,9 @@
+use Rattle.std.proofs.Common.{ℕ, Ok, rules}
+use Rattle.std.proofs.lemmas.Iterator.{YieldsList-from_map, YieldsList-from_slice, items_from_collect}
+use Rattle.std.proofs.lemmas.Iterator.Consumers.{YieldsList-at}
+use Rattle.sia_parts.specs.declared.finding.BadWrite.{BadWrite}
+use Rattle.sia_parts.specs.Acts.{HasActs}
+use Rattle.si_audit.proofs.OfReasons.Readers.{all_of_map}
 use Rattle.si_audit.specs.Account.{account_with}
 use Rattle.si_audit.specs.Explained.{IsExplained}
 use Rattle.si_audit.proofs.Shared.Clean.{account_is}
@@ -5,7 +11,13 @@ use Rattle.si_audit.proofs.Shared.Pushed.{explained_pushed}
 use Rattle.si_audit.proofs.explain.explained.Goals as goal
 
 pub push_front-requires : goal.push_front-requires
-push_front-requires c = record { index = c.requires.index; judgement = c.requires.judgement }
+push_front-requires c =
+    let h = c.args.history.now in
+    let writes = c.deref.result.now in
+    let later = items_from_collect {E = ℕ} (Ok c.in_ok-later.later) c.in_ok-later.ensures.ran
+    (YieldsList-from_map _ (λ (b : BadWrite). b.second) (YieldsList-at c.map.ensures.source (YieldsList-from_slice writes c.iter.ensures.rest)) c.map.ensures.closure (λ x r q k. search rules)) in
+    let acts = all_of_map (λ t. HasActs h t c.in_ok-acts.acts.items) (λ (b : BadWrite). b.second) writes _ later c.in_ok-acts.ensures in
+    record { index = c.requires.index; judgement = c.requires.judgement; acts = rw (c.deref-2.ensures.value, ← c.deref.ensures.value) acts }
 
 pub push_danger-requires : goal.push_danger-requires
 push_danger-requires c = record {
@@ -19,7 +31,7 @@ push_verdict_reasons-requires c = record { index = c.requires.index; verdict = c
 
 pub returns : goal.returns
 returns c =
-    let h = c.args.of.now.history.now in
+    let h = c.args.history.now in
     let j = c.args.j.now in
     let told = c.in_ok-push_front.ensures in
     let danger = c.in_ok-push_danger.ensures in

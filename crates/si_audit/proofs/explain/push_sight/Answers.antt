@@ -6,7 +6,7 @@ use Rattle.sia_parts.specs.declared.finding.Kind.{Kind}
 use Rattle.sia_parts.specs.declared.finding.Kind.TheVariants.{Ww, Wr, Rw}
 use Rattle.sia_parts.specs.Telling.{TellsUnless, event_words}
 use Rattle.sia_parts.proofs.OfReasons.PushedWords.{behind}
-use Rattle.sia_parts.proofs.OfReasons.Sighted.{edge_is_seen}
+use Rattle.sia_parts.proofs.OfReasons.Sighted.{edge_is_seen, edge_writer}
 use Rattle.si_audit.specs.Reasons.{untold_of}
 use Rattle.si_audit.proofs.explain.push_sight.Goals as goal
 use Rattle.si_audit.proofs.explain.push_sight.Goals.{in-Wr, in_default-kind}
@@ -16,6 +16,9 @@ untold : (kind : Kind) (t : ℕ) → kind ≢ Wr → 0 ≡ untold_of kind t
 untold Ww t other = refl
 untold Wr t other = absurd (other refl)
 untold Rw t other = refl
+
+pub first_sight-requires-clause-writer : goal.first_sight-requires-clause-writer
+first_sight-requires-clause-writer c = edge_writer c.args.of.now.history.now c.args.e.now c.requires.edge
 
 pub returns-in_default : goal.returns-in_default
 returns-in_default c = absurd (edge_is_seen c.args.of.now.history.now c.args.e.now c.requires.edge c.requires.read c.in_default.ensures)

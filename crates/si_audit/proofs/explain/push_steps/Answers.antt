@@ -1,4 +1,10 @@
 -- Words that are pushed one after another.
+use Rattle.std.proofs.Common.{Ok, rules}
+use Rattle.std.proofs.lemmas.Iterator.{YieldsList-from_map, YieldsList-from_slice, items_from_collect}
+use Rattle.std.proofs.lemmas.Iterator.Consumers.{YieldsList-at}
+use Rattle.sia_parts.specs.Acts.{HasActs}
+use Rattle.sia_parts.specs.Sightings.{reader_of}
+use Rattle.si_audit.proofs.OfReasons.Readers.{all_of_map}
 use Rattle.std.proofs.Common.{ℕ, List, [], ◌∷◌, ◌++◌, ◌∙◌, get_or, refl}
 use Rattle.std.specs.Prelude.{codes}
 use Rattle.sia_events.specs.Text.{numeral}
@@ -12,11 +18,19 @@ use Rattle.si_audit.proofs.Shared.Telling.{next_told}
 use Rattle.si_audit.proofs.explain.push_steps.Goals as goal
 
 pub push_events-requires : goal.push_events-requires
-push_events-requires c = record {
-  index = c.requires.index;
-  acts = c.requires.acts;
-  edge = c.requires.edges c.loop-e.e-index _ c.loop-e-test.true;
-}
+push_events-requires c =
+    let h = c.args.of.now.history.now in
+    let edges = c.args.edges.now in
+    let readers = items_from_collect {E = ℕ} (Ok c.in_ok-readers.readers) c.in_ok-readers.ensures.ran
+    (YieldsList-from_map _ (λ (e : Edge). reader_of e.kind e.src e.dst) (YieldsList-at c.map.ensures.source (YieldsList-from_slice edges c.iter.ensures.rest)) c.map.ensures.closure (λ x r q k. search rules)) in
+    let e : Edge = get_or edges c.loop-e.e-index (record { src = 0; dst = 0; kind = Ww; key = 0 }) in
+    let acts : HasActs h (reader_of e.kind e.src e.dst) c.in_ok-acts.acts.items =
+    all_of_map (λ t. HasActs h t c.in_ok-acts.acts.items) (λ (e : Edge). reader_of e.kind e.src e.dst) edges _ readers c.in_ok-acts.ensures c.loop-e.e-index (record { src = 0; dst = 0; kind = Ww; key = 0 }) c.loop-e-test.true in
+    record {
+      index = c.requires.index;
+      acts = rw (c.deref.ensures.value) acts;
+      edge = c.requires.edges c.loop-e.e-index _ c.loop-e-test.true;
+    }
 
 pub loop-e-preserved : goal.loop-e-preserved
 loop-e-preserved c =

@@ -16,8 +16,8 @@ push_reasons-requires-clause-index g c =
 
 pub push_reasons-requires-clause-found : goal.push_reasons-requires-clause-found
 push_reasons-requires-clause-found g c =
-    subst (g.T.Finding.is_found c.in-Some.of.now.history.now) (sym c.x-item.is)
-    (subst (λ (o : Option (Bor Recorded)). IfSome o (λ of. All (g.T.Finding.is_found of.now.history.now) c.args.found.now)) c.in-Some.is c.requires.found c.loop-x.x-index c.x-item.result c.loop-x-test.true)
+    subst (g.T.Finding.is_found c.in-Some.of.now) (sym c.x-item.is)
+    (subst (λ (o : Option (Bor Recorded)). IfSome o (λ of. All (g.T.Finding.is_found of.now) c.args.found.now)) c.in-Some.is c.requires.found c.loop-x.x-index c.x-item.result c.loop-x-test.true)
 
 pub loop-x-preserved : goal.loop-x-preserved
 loop-x-preserved g c =

@@ -1,7 +1,11 @@
 use Rattle.std.proofs.Common.{◌≡◌, List, Option, Some, None, Bor, get_or, subst}
 use Rattle.std.specs.Prelude.{All, Contains, IfSome}
-use Rattle.std.proofs.lemmas.List.Elements.{All-contains_itself}
+use Rattle.std.proofs.lemmas.List.Elements.{All-contains, All-contains_itself}
+use Rattle.sia_events.specs.Isolation.{IsBadWrite}
+use Rattle.sia_parts.specs.Acts.{HasActs}
+use Rattle.sia_parts.specs.declared.finding.BadWrite.{BadWrite}
 use Rattle.sia_parts.specs.declared.reasons.Recorded.{Recorded}
+use Rattle.sia_graph.specs.Judgements.{IsJudgement}
 use Rattle.si_audit.proofs.Shared.Pushed.{findings_pushed}
 use Rattle.si_audit.proofs.Shared.Results.{ok_map}
 use Rattle.si_audit.proofs.report.push_front.Goals as goal
@@ -13,6 +17,10 @@ all_found None P Q items xs same each none = none
 all_found (Some of) P Q items xs same each some =
     λ k d below. each of some (get_or xs k d) (subst (λ l. Contains l (get_or xs k d)) same (All-contains_itself xs k d below))
 
+both_if : (of : Option (Bor Recorded)) (P Q : Bor Recorded → Type 0) → IfSome of P → IfSome of Q → IfSome of (λ of. P of × Q of)
+both_if None P Q p q = p
+both_if (Some of) P Q p q = (p, q)
+
 pub push_all-requires-clause-index : goal.push_all-requires-clause-index
 push_all-requires-clause-index c = c.requires.index
 
@@ -23,7 +31,13 @@ pub push_all-requires-2-clause-index : goal.push_all-requires-2-clause-index
 push_all-requires-2-clause-index c = c.requires.index
 
 pub push_all-requires-2-clause-found : goal.push_all-requires-2-clause-found
-push_all-requires-2-clause-found c = all_found c.args.of _ _ _ _ c.deref-4.ensures.value (λ of is x listed. ((is.bad_writes.each x).0 listed).0) c.requires.judgement
+push_all-requires-2-clause-found c =
+    let writes = c.args.j.now.bad_writes.items in
+    let P : Bor Recorded → Type 0 = λ of. IsJudgement of.now.history.now c.args.j.now × All (λ (b : BadWrite). HasActs of.now.history.now b.second of.now.acts.now) writes in
+    let Q : Bor Recorded → BadWrite → Type 0 = λ of b. IsBadWrite of.now.history.now b.key b.first b.second × HasActs of.now.history.now b.second of.now.acts.now in
+    let each : (of : Bor Recorded) → P of → (b : BadWrite) → Contains writes b → Q of b = λ of is b listed.
+    (((is.0.bad_writes.each b).0 listed).0, All-contains (λ (b : BadWrite). HasActs of.now.history.now b.second of.now.acts.now) writes b is.1 listed) in
+    all_found c.args.of P Q writes _ c.deref-4.ensures.value each (both_if c.args.of _ _ c.requires.judgement c.requires.acts)
 
 pub push_all-requires-3-clause-index : goal.push_all-requires-3-clause-index
 push_all-requires-3-clause-index c = c.requires.index

@@ -1,21 +1,19 @@
 use Rattle.std.proofs.Common.{◌≡◌, ◌++◌, codes, inl, inr, refl, subst, sym, arith}
 use Rattle.std.proofs.lemmas.Result.{on_ok_weaker}
 use Rattle.sia_events.specs.declared.event.Event.TheVariants.{Write}
-use Rattle.sia_events.specs.Text.{numeral}
 use Rattle.sia_events.specs.Transactions.{CommitsAt, HasEvent, StartsAt}
 use Rattle.sia_events.proofs.Writing.WellFormed.{one_commit}
-use Rattle.sia_parts.specs.Telling.{start_words}
 use Rattle.si_audit.specs.Reasons.{reason}
 use Rattle.si_audit.proofs.Shared.Pushed.{two_things}
 use Rattle.si_audit.proofs.explain.BadWriteFinding.push_reasons.Goals as goal
 
 pub push_unless-requires-clause-wrote : goal.push_unless-requires-clause-wrote
-push_unless-requires-clause-wrote c other = c.requires.found.1
+push_unless-requires-clause-wrote c other = c.requires.found.0.1
 
 pub returns-in_default : goal.returns-in_default
 returns-in_default c =
     let b = c.args.self.now in
-    let wrote = c.requires.found.1 in
+    let wrote = c.requires.found.0.1 in
     absurd (c.in_default.ensures (subst (λ h. HasEvent h b.second) (sym c.requires.index) (wrote.0, (Write b.second b.key, wrote.1, refl))))
 
 pub returns : goal.returns
@@ -23,22 +21,23 @@ returns c =
     let b = c.args.self.now in
     let h = c.args.of.now.history.now in
     let s = c.in-Some.info.start in
+    let name = c.in_ok-push_name.ensures in
     let first = c.in_ok-push_version.ensures in
     let known = c.in-Some.ensures in
-    let before = c.requires.found.3 in
+    let before = c.requires.found.0.3 in
     on_ok_weaker c.push_unless.result (λ told. elim told.1 [
       | inl same ↦ absurd (
           let one : before.0 ≡ before.1 = one_commit h c.law.ensures b.first before.0 before.1 before.2 (subst (λ t. CommitsAt h t before.1) same.0 before.3) in
           let less = before.4 in
           omega arith)
       | inr second ↦ (
-        reason (codes "both write and overlap: " ++ start_words b.second s ++ codes "; " ++ first.0 ++ codes "; " ++ second.1),
-        (s, first.0, second.1, subst (λ h. StartsAt h b.second s) c.requires.index known.0, first.1, second.2, refl),
+        reason (name.0 ++ codes "; " ++ first.0 ++ codes "; " ++ second.1),
+        (s, name.0, first.0, second.1, subst (λ h. StartsAt h b.second s) c.requires.index known.0, name.1, first.1, second.2, refl),
         rw (
           told.2,
           second.3,
           first.2,
-          c.in_ok-push_start.ensures,
-        ) (two_things c.args.out.now.items (codes "  ") (codes "both write and overlap: ") (codes "transaction ") (numeral b.second) (codes " starts after event ") (numeral s) (codes "; ") first.0 second.1 (codes "\n")),
+          name.2,
+        ) (two_things c.args.out.now.items (codes "  ") name.0 (codes "; ") first.0 second.1 (codes "\n")),
       )
     ]) c.push_unless.ensures
