@@ -40,8 +40,8 @@ fn report_of(
     Ok(sheets)
 }
 
-/// How many sources a chunk of the edges mostly has: so few that no worker waits long for the last one.
-const SOURCES: u32 = 32;
+/// How many sources a chunk of the edges has, where that makes no more than 1,024 chunks. Few sources may have most edges.
+const SOURCES: u32 = 1;
 
 /// The sheet alone.
 pub(crate) fn one_sheet(alloc: Global, sheet: Vec<u8>) -> Result<Vec<Vec<u8>>, NoMemory>
