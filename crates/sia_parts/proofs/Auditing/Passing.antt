@@ -1,5 +1,6 @@
 -- Keys that a range read passed over, by their numbers.
 use Rattle.std.proofs.Common.{◌≡◌, ◌⊎◌, inl, inr, ℕ, ◌+◌, ◌-◌, ◌<◌, ◌≤◌, List, Option, Some, None, unwrap_or, Vec, Global, length, refl, ap, subst, ◌∙◌, arith}
+use Rattle.std.specs.Option.{option_or}
 use Rattle.std.specs.Prelude.{All, Bool, MatchOption, slice_index}
 use Rattle.std.proofs.lemmas.Bool.{cases_eq, cases_lt}
 use Rattle.std.proofs.lemmas.List.{get_or_default}
@@ -165,13 +166,17 @@ module _ (h : List Event) (wf : IsWellFormed h) (known : Known) (is_known : IsKn
   visible_due a b None other none = λ i k first last at. due_none k (other i k first last at) (none i k first last at)
   visible_due a b (Some j) other is = (is.0, is.1, λ i k first less at. due_none k (other i k first (let below = is.1 in omega arith) at) (is.2 i k first less at))
 
-  pub own_due : (a b : ℕ) (visible : Option ℕ) (end n : ℕ) → end ≡ unwrap_or visible b → IsVisibleFrom a b visible → (a ≤ n) × (n < end) × ((i k : ℕ) → a ≤ i → i < n → IsKeyAt h i k → OwnNone k) → HaveUpTo DueNone h a b (Some n)
+  own_due : (a b : ℕ) (visible : Option ℕ) (end n : ℕ) → end ≡ unwrap_or visible b → IsVisibleFrom a b visible → (a ≤ n) × (n < end) × ((i k : ℕ) → a ≤ i → i < n → IsKeyAt h i k → OwnNone k) → HaveUpTo DueNone h a b (Some n)
   own_due a b None end n same none own = (own.0, (let less = own.1 in omega arith), λ i k first less at. due_none k (own.2 i k first less at) (none i k first (let below = own.1 in omega arith) at))
   own_due a b (Some j) end n same is own = (own.0, (let less = own.1 in let below = is.1 in omega arith), λ i k first less at. due_none k (own.2 i k first less at) (is.2 i k first (let below = own.1 in omega arith) at))
 
-  pub no_own_due : (a b : ℕ) (visible : Option ℕ) (end : ℕ) → end ≡ unwrap_or visible b → IsVisibleFrom a b visible → ((i k : ℕ) → a ≤ i → i < end → IsKeyAt h i k → OwnNone k) → HaveUpTo DueNone h a b visible
+  no_own_due : (a b : ℕ) (visible : Option ℕ) (end : ℕ) → end ≡ unwrap_or visible b → IsVisibleFrom a b visible → ((i k : ℕ) → a ≤ i → i < end → IsKeyAt h i k → OwnNone k) → HaveUpTo DueNone h a b visible
   no_own_due a b None end same none other = λ i k first last at. due_none k (other i k first (omega arith) at) (none i k first last at)
   no_own_due a b (Some j) end same is other = (is.0, is.1, λ i k first less at. due_none k (other i k first (omega arith) at) (is.2 i k first less at))
+
+  pub or_due : (a b : ℕ) (visible own : Option ℕ) (end : ℕ) → end ≡ unwrap_or visible b → IsVisibleFrom a b visible → HaveUpTo OwnNone h a end own → HaveUpTo DueNone h a b (option_or own visible)
+  or_due a b visible None end same is none = no_own_due a b visible end same is none
+  or_due a b visible (Some n) end same is own = own_due a b visible end n same is own
 
   -- the bad reads of one key
   pub one_bad : (i k : ℕ) → from ≤ i → i < to → IsKeyAt h i k → (old new : List BadRead) → (SawAt h known.reader.place known.reader.txn k 0 → Adds (IsBadOf h (unlisted k)) old new) → Adds (FromSight (IsSightWithin h known.reader.place i (i + 1)) (IsBadOf h)) old new

@@ -178,10 +178,7 @@ fn next_doubtful(ix: &Index, known: &Known, own: bool, from: u32, to: u32) -> Op
     if !own {
         return visible;
     }
-    match next_own_number(ix, known.reader, from, visible.unwrap_or(to)) {
-        Some(number) => Some(number),
-        None => visible,
-    }
+    next_own_number(ix, known.reader, from, visible.unwrap_or(to)).or(visible)
 }
 
 /// A number of a key, below which the reader had written no key from the one on before.
@@ -194,9 +191,7 @@ fn next_own_number(ix: &Index, reader: Reader, from: u32, to: u32) -> Option<u32
         return None;
     }
     let keys = ix.written_keys();
-    let Some(key) = ix.next_own(reader, keys[from as usize], keys[to as usize - 1]) else {
-        return None;
-    };
+    let key = ix.next_own(reader, keys[from as usize], keys[to as usize - 1])?;
     Some(place_from::<Key, ByKey>(keys, key) as u32)
 }
 
