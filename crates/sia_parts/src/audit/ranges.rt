@@ -206,14 +206,10 @@ fn put_miss(
         (λ at. (number ≡ Some at.0) × IsMissAt miss at.1) missed.old missed.new) }
     ensures some { OnOk result (All IsMiss missed.old → All IsMiss missed.new) }
 {
-    let Some(reader) = number else {
-        return Ok(());
-    };
-    if is_held(missed, reader, miss) {
-        return Ok(());
+    match number {
+        Some(reader) if !is_held(missed, reader, miss) => Ok(missed.put(reader, miss)?),
+        _ => Ok(()),
     }
-    missed.put(reader, miss)?;
-    Ok(())
 }
 
 /// Whether the last miss is of the reader, and holds this one.

@@ -9,27 +9,27 @@ use Rattle.sia_parts.proofs.Shared.Adding.{gives_held}
 use Rattle.sia_parts.proofs.Auditing.Gaining.{all_adds}
 use Rattle.sia_parts.proofs.audit.ranges.put_miss.Goals as goal
 
-pub returns : goal.returns
-returns c =
+pub returns-in_ok-put-in-Some : goal.returns-in_ok-put-in-Some
+returns-in_ok-put-in-Some c =
     let reader = c.in-Some.reader in
     let row : ℕ × RangeMiss = (reader, c.args.miss) in
     record {
       misses = λ at. (
-        (λ f. elim ((c.in_ok-put.ensures f.0).0 f.1) [
+        (λ f. elim ((c.in_ok-put-in-Some.ensures f.0).0 f.1) [
           | inl before ↦ inl (f.0, before, f.2)
           | inr same ↦
               let own = subst (λ (p : ℕ × RangeMiss). IsPassedBy p at) same f.2 in
               inr (c.in-Some.is ∙ ap Some own.0, own.1)
         ]),
         (λ e. elim e [
-          | inl f ↦ (f.0, (c.in_ok-put.ensures f.0).1 (inl f.1), f.2)
-          | inr is ↦ (row, (c.in_ok-put.ensures row).1 (inr refl), (same_Some reader at.0 (sym c.in-Some.is ∙ is.0), is.1))
+          | inl f ↦ (f.0, (c.in_ok-put-in-Some.ensures f.0).1 (inl f.1), f.2)
+          | inr is ↦ (row, (c.in_ok-put-in-Some.ensures row).1 (inr refl), (same_Some reader at.0 (sym c.in-Some.is ∙ is.0), is.1))
         ]),
       );
-      some = all_adds IsMiss (λ p. p ≡ row) c.args.missed.now c.put.new.self c.in_ok-put.ensures (λ p same. subst IsMiss (sym same) c.requires);
+      some = all_adds IsMiss (λ p. p ≡ row) c.args.missed.now c.put.new.self c.in_ok-put-in-Some.ensures (λ p same. subst IsMiss (sym same) c.requires);
     }
 
-pub returns-then-is_held-clause-misses : goal.returns-then-is_held-clause-misses
-returns-then-is_held-clause-misses c = gives_held IsPassedBy (λ at. (c.args.number ≡ Some at.0) × IsMissAt c.args.miss at.1) c.args.missed.now (λ at is.
+pub returns-in_default-clause-misses : goal.returns-in_default-clause-misses
+returns-in_default-clause-misses c = gives_held IsPassedBy (λ at. (c.args.number ≡ Some at.0) × IsMissAt c.args.miss at.1) c.args.missed.now (λ at is.
     let same : c.in-Some.reader ≡ at.0 = same_Some c.in-Some.reader at.0 (sym c.in-Some.is ∙ is.0) in
-    subst (λ i. FromSome IsPassedBy c.args.missed.now (i, at.1)) same (c.if-is_held.ensures refl at.1 is.1))
+    subst (λ i. FromSome IsPassedBy c.args.missed.now (i, at.1)) same (c.is_held.ensures (cc c.if-not-is_held.false) at.1 is.1))
