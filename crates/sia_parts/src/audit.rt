@@ -50,12 +50,11 @@ pub fn audit_part(
     let reads = Reads::of(alloc, log, &[all])?;
     let found = find_in_part(alloc, log, ix, part, reads.of_part(0))?;
     let accesses = accesses_at(alloc, ix, Some(part), found.saw, found.missed)?;
-    let edges = edges_at(alloc, ix, &accesses, Some(part))?;
     Ok(PartFindings {
         bad_reads: found.bad_reads,
         bad_writes: found.bad_writes,
         unexplained: found.unexplained,
-        edges,
+        edges: edges_at(alloc, ix, &accesses, Some(part))?,
     })
 }
 
@@ -75,12 +74,10 @@ pub fn find_in_part(
     ix.law();
     let scope = Scope::of(log, ix, part);
     let seen = seen_of(alloc, &scope, places)?;
-    let bad_writes = bad_writes_of(alloc, &scope)?;
-    let unexplained = unexplained_of(alloc, ix, part, &seen.bad_reads)?;
     Ok(PartFound {
+        bad_writes: bad_writes_of(alloc, &scope)?,
+        unexplained: unexplained_of(alloc, ix, part, &seen.bad_reads)?,
         bad_reads: seen.bad_reads,
-        bad_writes,
-        unexplained,
         saw: seen.saw,
         missed: seen.missed,
     })

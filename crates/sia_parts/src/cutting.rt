@@ -49,8 +49,7 @@ pub fn cut(alloc: Global, points: &[Key]) -> Result<Vec<Part>, CutFault>
     if starts.len() > MAX_PARTS {
         return Err(CutFault::TooMany);
     }
-    let parts = parts_of(alloc, &starts)?;
-    Ok(parts)
+    Ok(parts_of(alloc, &starts)?)
 }
 
 fn starts_of(alloc: Global, points: &[Key]) -> Result<Vec<Key>, AllocError>

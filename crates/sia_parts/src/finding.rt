@@ -143,12 +143,11 @@ impl Gathering {
         put_in_order(&mut all.bad_reads)?;
         put_in_order(&mut all.bad_writes)?;
         put_in_order(&mut all.unexplained)?;
-        let accesses = accesses_at(alloc, ix, None, all.saw, all.missed)?;
         Ok(Gathering {
             bad_reads: all.bad_reads,
             bad_writes: all.bad_writes,
             unexplained: all.unexplained,
-            accesses,
+            accesses: accesses_at(alloc, ix, None, all.saw, all.missed)?,
         })
     }
 }
@@ -167,6 +166,5 @@ fn put_part(part: PartFound, all: &mut PartFound) -> Result<(), NoMemory>
     all.bad_writes.extend_from_slice(&part.bad_writes)?;
     all.unexplained.extend_from_slice(&part.unexplained)?;
     all.saw.append(part.saw)?;
-    all.missed.append(part.missed)?;
-    Ok(())
+    Ok(all.missed.append(part.missed)?)
 }

@@ -93,8 +93,7 @@ fn reads_by_txn(alloc: Global, log: &Log) -> Result<Vec<Read>, NoMemory>
             }
         }
     }
-    let reads = in_order::<Read, ByTxn>(alloc, reads)?;
-    Ok(reads)
+    Ok(in_order::<Read, ByTxn>(alloc, reads)?)
 }
 
 /// The first and the last key that the event may have seen, if it is a read.

@@ -154,8 +154,7 @@ pub(crate) fn put_read(
     if at.key < scope.first || scope.end <= at.key {
         return Ok(());
     }
-    let view = View { origin, at, mine };
-    put_view(scope, known, &view, seen)
+    put_view(scope, known, &View { origin, at, mine }, seen)
 }
 
 /// Adds what was seen of a written key. Mostly it was due, which two loads tell.

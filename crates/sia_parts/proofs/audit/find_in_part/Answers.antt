@@ -21,7 +21,7 @@ unexplained_of-requires c = record { bad = rw c.deref.ensures.value (both (λ h 
 
 pub returns : goal.returns
 returns c =
-    let found : PartFound = record { bad_reads = c.in_ok-seen.seen.bad_reads; bad_writes = c.in_ok-bad_writes.bad_writes; unexplained = c.in_ok-unexplained.unexplained; saw = c.in_ok-seen.seen.saw; missed = c.in_ok-seen.seen.missed } in
+    let found : PartFound = record { bad_reads = c.in_ok-seen.seen.bad_reads; bad_writes = c.in_ok-bad_writes_of.field-0; unexplained = c.in_ok-unexplained_of.field-0; saw = c.in_ok-seen.seen.saw; missed = c.in_ok-seen.seen.missed } in
     subst (λ h. IsPartFound h (IsInPart c.args.part) found) c.requires.index
     (both (λ h p. IsPartFound h (IsInPart p) found) _ _ _ _ c.of-scope.ensures.index c.of-scope.ensures.part
-    (record { bad_reads = c.in_ok-seen.ensures.bad_reads; bad_writes = c.in_ok-bad_writes.ensures; unexplained = both (λ h p. ListsUnexplained h (IsInPart p) c.in_ok-unexplained.unexplained.items) _ _ _ _ (sym c.of-scope.ensures.index) (sym c.of-scope.ensures.part) c.in_ok-unexplained.ensures; sights = c.in_ok-seen.ensures.sights }))
+    (record { bad_reads = c.in_ok-seen.ensures.bad_reads; bad_writes = c.in_ok-bad_writes_of.ensures; unexplained = both (λ h p. ListsUnexplained h (IsInPart p) c.in_ok-unexplained_of.field-0.items) _ _ _ _ (sym c.of-scope.ensures.index) (sym c.of-scope.ensures.part) c.in_ok-unexplained_of.ensures; sights = c.in_ok-seen.ensures.sights }))

@@ -11,7 +11,7 @@ returns-then-len-gt-MAX_PARTS-clause-too_many c e = too_many_cuts _ c.in_ok-star
 pub returns-clause-parts : goal.returns-clause-parts
 returns-clause-parts c =
     let is : c.deref.result.now ≡ c.in_ok-starts.starts.items = cc in
-    (c.in_ok-starts.starts.items, c.in_ok-starts.ensures, c.in_ok-parts.ensures.parts ∙ ap parts_from is)
+    (c.in_ok-starts.starts.items, c.in_ok-starts.ensures, c.in_ok-parts_of.ensures.parts ∙ ap parts_from is)
 
 pub returns-clause-few : goal.returns-clause-few
 returns-clause-few c = few_cuts _ c.in_ok-starts.starts.items c.in_ok-starts.ensures (omega arith)
@@ -19,10 +19,10 @@ returns-clause-few c = few_cuts _ c.in_ok-starts.starts.items c.in_ok-starts.ens
 pub returns-clause-some : goal.returns-clause-some
 returns-clause-some c =
     let some : 0 < length c.in_ok-starts.starts.items = some_starts _ c.in_ok-starts.starts.items c.in_ok-starts.ensures in
-    let same = ap length (c.in_ok-parts.ensures.parts) in
+    let same = ap length (c.in_ok-parts_of.ensures.parts) in
     omega (arith, length-parts_from)
 
 pub returns-clause-bound : goal.returns-clause-bound
 returns-clause-bound c =
-    let same = ap length (c.in_ok-parts.ensures.parts) in
+    let same = ap length (c.in_ok-parts_of.ensures.parts) in
     omega (arith, length-parts_from)

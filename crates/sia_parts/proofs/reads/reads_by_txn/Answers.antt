@@ -48,4 +48,4 @@ returns c p t k v saw =
     let end = c.loop-before-test.false in
     let long = c.len-count.ensures.len in
     let r = c.loop-before.invariant p t k v (omega arith) saw in
-    (r.0, c.in_ok-reads-2.ensures.keeps r.0 r.1, r.2)
+    (r.0, c.in_ok-in_order.ensures.keeps r.0 r.1, r.2)

@@ -67,5 +67,5 @@ returns c =
       bad_reads = bad_reads_all h points cutting wf cuts R parts each (λ part. part.bad_reads.items) (λ part found a. a.bad_reads) _ _ puts.bad_reads (record { sorted = c.in_ok-put_in_order.ensures.sorted; keeps = c.in_ok-put_in_order.ensures.keeps; adds_none = c.in_ok-put_in_order.ensures.adds_none });
       bad_writes = bad_writes_all h points cutting wf cuts R parts each (λ part. part.bad_writes.items) (λ part found a. a.bad_writes) _ _ puts.bad_writes (record { sorted = c.in_ok-put_in_order-2.ensures.sorted; keeps = c.in_ok-put_in_order-2.ensures.keeps; adds_none = c.in_ok-put_in_order-2.ensures.adds_none });
       unexplained = unexplained_all h points cutting wf cuts R parts each (λ part. part.unexplained.items) (λ part found a. a.unexplained) _ _ puts.unexplained (record { sorted = c.in_ok-put_in_order-3.ensures.sorted; keeps = c.in_ok-put_in_order-3.ensures.keeps; adds_none = c.in_ok-put_in_order-3.ensures.adds_none });
-      accesses = c.in_ok-accesses.ensures;
+      accesses = c.in_ok-accesses_at.ensures;
     }
