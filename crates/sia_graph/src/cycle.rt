@@ -122,14 +122,12 @@ fn reach_cycle(alloc: Global, previous: &[usize], start: usize) -> Result<(usize
     let mut at = start;
     let mut steps = 0usize;
     loop {
-        match seen[at] {
-            Some(first) => return Ok((at, steps - first)),
-            None => {
-                seen[at] = Some(steps);
-                steps += 1;
-                at = previous[at];
-            }
+        if let Some(first) = seen[at] {
+            return Ok((at, steps - first));
         }
+        seen[at] = Some(steps);
+        steps += 1;
+        at = previous[at];
     }
 }
 
@@ -144,9 +142,7 @@ fn least_within(previous: &[usize], start: usize, count: usize) -> usize
     let mut at = start;
     for _step in 0..count {
         at = previous[at];
-        if at < least {
-            least = at;
-        }
+        least = least.min(at);
     }
     least
 }

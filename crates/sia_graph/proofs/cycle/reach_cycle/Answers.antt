@@ -21,4 +21,4 @@ returns-in-Some-clause-round c =
 
 pub loop-first-preserved : goal.loop-first-preserved
 loop-first-preserved c =
-    noted_more c.args.previous.now c.args.start c.loop-first.seen.items c.loop-first.steps c.loop-first.at c.loop-first.invariant _ c.requires.within (sym c.index.ensures ∙ c.in-None.is)
+    noted_more c.args.previous.now c.args.start c.loop-first.seen.items c.loop-first.steps c.loop-first.at c.loop-first.invariant _ c.requires.within (sym c.index.ensures ∙ c.in_default.is)
