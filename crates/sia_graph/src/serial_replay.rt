@@ -122,13 +122,6 @@ fn wrong_listed(versions: &BTreeMap<Key, TxnId>, listed: &[(Key, Version)]) -> O
     None
 }
 
-fn is_listed(listed: &[(Key, Version)], key: Key) -> bool
-    requires { IsStrictlyIncreasing (map (λ p. p.0) listed.now) }
-    ensures { IsTrue result ↔ ((v : ℕ) × Contains listed.now (key, v)) }
-{
-    listed.binary_search_by_key(&key, |pair| pair.0).is_ok()
-}
-
 /// The least key of the range that the replay has, with its version.
 fn next_version(versions: &BTreeMap<Key, TxnId>, from: Key, hi: Key) -> Option<(Key, Version)>
     requires { from ≤ hi }
@@ -158,7 +151,7 @@ fn wrong_unlisted(
 {
     let mut from = lo;
     'keys: while let Some((key, version)) = next_version(versions, from, hi) {
-        if version != 0 && !is_listed(listed, key) {
+        if version != 0 && listed.binary_search_by_key(&key, |pair| pair.0).is_err() {
             return Some(key);
         }
         if key == hi {

@@ -1,15 +1,32 @@
-use Rattle.std.proofs.Common.{◌≡◌, ◌⊎◌, inl, inr, ℕ, arith}
+use Rattle.std.proofs.Common.{◌≡◌, ◌⊎◌, inl, inr, ℕ, ◌∙◌, arith, rules}
+use Rattle.std.proofs.lemmas.List.Sorted.{answers_always}
 use Rattle.std.specs.Prelude.{Contains}
-use Rattle.std.proofs.lemmas.Bool.{cases_lt}
-use Rattle.sia_graph.proofs.ReplayedTxns.RightAt.{passed_key}
+use Rattle.std.specs.Result.{is_ok}
+use Rattle.std.proofs.lemmas.Bool.{cases_lt, not_from_false, not_from_true}
+use Rattle.sia_events.proofs.Shared.Faults.{true_false}
+use Rattle.sia_graph.proofs.ReplayedTxns.RightAt.{is_listed_by, passed_key}
 use Rattle.sia_graph.proofs.serial_replay.wrong_unlisted.Goals as goal
-use Rattle.sia_graph.proofs.serial_replay.wrong_unlisted.Goals.{else-version-ne0-via-then-version-ne0+else-not-is_listed, else-version-ne0-via-else-version-ne0}
+use Rattle.sia_graph.proofs.serial_replay.wrong_unlisted.Goals.{else-version-ne0-via-then-version-ne0+else-is_err, else-version-ne0-via-else-version-ne0}
+
+pub returns-then-is_err : goal.returns-then-is_err
+returns-then-is_err c =
+    let e = c.in-Some.ensures in
+    let told = c.binary_search_by_key.ensures in
+    let listed = is_listed_by c.args.listed.now c.requires.listed c.in-Some.key c.binary_search_by_key.result told.bound (told.position (λ (p : ℕ × ℕ). p.0) (answers_always _ (λ a r. r ≡ a.0.now.0) _ (λ f a r g k. search rules))) in (
+      (let a = c.keys.invariant.0 in let b = e.0 in omega arith),
+      e.1,
+      λ v has. true_false (is_ok c.binary_search_by_key.result) (listed.1 (v, has)) (c.is_err.ensures.negation ∙ not_from_true c.is_err.result c.if-is_err.true),
+      λ zero. c.if-version-ne0.true (e.2 ∙ zero),
+      λ k less low unlisted. elim (cases_lt k c.keys.from) [ inl before ↦ c.keys.invariant.2 k before low unlisted | inr from ↦ e.3 k from less ],
+    )
 
 pub keys-preserved : goal.keys-preserved
 keys-preserved c =
     let e = c.in-Some.ensures in
     let right : (c.in-Some.version ≡ 0) ⊎ ((v : ℕ) × Contains c.args.listed.now (c.in-Some.key, v)) = elim c.else-version-ne0.branch [
-      | else-version-ne0-via-then-version-ne0+else-not-is_listed w ↦ inr (w.is_listed.ensures.0 w.if-not-is_listed.false)
+      | else-version-ne0-via-then-version-ne0+else-is_err w ↦
+          let told = w.binary_search_by_key.ensures in
+          inr ((is_listed_by c.args.listed.now c.requires.listed c.in-Some.key w.binary_search_by_key.result told.bound (told.position (λ (p : ℕ × ℕ). p.0) (answers_always _ (λ a r. r ≡ a.0.now.0) _ (λ f a r g k. search rules)))).0 (w.is_err.ensures.negation ∙ not_from_false w.is_err.result w.if-is_err.false))
       | else-version-ne0-via-else-version-ne0 w ↦ inl w.if-version-ne0.false
     ] in (
       (let a = c.keys.invariant.0 in let b = e.0 in omega arith),
@@ -21,7 +38,9 @@ pub returns-then-key-hi : goal.returns-then-key-hi
 returns-then-key-hi c = λ k low high unlisted.
     let e = c.in-Some.ensures in
     let right : (c.in-Some.version ≡ 0) ⊎ ((v : ℕ) × Contains c.args.listed.now (c.in-Some.key, v)) = elim c.else-version-ne0.branch [
-      | else-version-ne0-via-then-version-ne0+else-not-is_listed w ↦ inr (w.is_listed.ensures.0 w.if-not-is_listed.false)
+      | else-version-ne0-via-then-version-ne0+else-is_err w ↦
+          let told = w.binary_search_by_key.ensures in
+          inr ((is_listed_by c.args.listed.now c.requires.listed c.in-Some.key w.binary_search_by_key.result told.bound (told.position (λ (p : ℕ × ℕ). p.0) (answers_always _ (λ a r. r ≡ a.0.now.0) _ (λ f a r g k. search rules)))).0 (w.is_err.ensures.negation ∙ not_from_false w.is_err.result w.if-is_err.false))
       | else-version-ne0-via-else-version-ne0 w ↦ inl w.if-version-ne0.false
     ] in
     passed_key c.args.versions.now c.args.listed.now c.args.lo c.keys.from c.in-Some.key c.in-Some.version c.keys.invariant.2 e.3 e.2 right
