@@ -181,12 +181,8 @@ fn least_first(alloc: Global, evidence: &Evidence, pivot: u32, place: u32) -> Re
     // The lesser the number, the greater its value.
     for txn in 0..lifetimes.len() {
         let left = (lifetimes.len() - txn) as u32;
-        let value = if place <= lifetimes[txn].commit {
-            left
-        } else {
-            0
-        };
-        values.push(value)?;
+        let commit = lifetimes[txn].commit;
+        values.push(if place <= commit { left } else { 0 })?;
     }
     let late = late_of(alloc, evidence, &values)?;
     Ok(txns.len() as u32 - greatest_entering(evidence.index, &late, pivot))

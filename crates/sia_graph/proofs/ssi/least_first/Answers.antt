@@ -11,7 +11,7 @@ use Rattle.sia_graph.proofs.SsiTest.EarlyFirsts.{values_more, values_none}
 use Rattle.sia_graph.specs.Late.{AreLate, Enters, IsLastOf}
 use Rattle.sia_graph.proofs.SsiTest.FoundFirsts.{first_fits, first_least}
 use Rattle.sia_graph.proofs.Shared.Numbered.{few_txns}
-use Rattle.sia_graph.proofs.ssi.least_first.Goals.{After-greatest_entering, After-loop-txn, then-place-lifetimes, else-place-lifetimes}
+use Rattle.sia_graph.proofs.ssi.least_first.Goals.{After-greatest_entering, After-loop-txn, then-place-commit, else-place-commit}
 use Rattle.sia_graph.proofs.ssi.least_first.Goals as goal
 
 pub loop-txn-init : goal.loop-txn-init
@@ -21,8 +21,8 @@ pub loop-txn-preserved : goal.loop-txn-preserved
 loop-txn-preserved c =
     let none : Lifetime = record { start = 0; commit = 0 } in (
       values_more c.args.place c.lifetimes-lifetimes.result.now c.loop-txn.values.items c.push.new.self.items c.loop-txn.txn _ none c.loop-txn-test.true c.loop-txn.invariant.0 c.in_ok-push.ensures.items
-          (λ le. elim c.if-place-lifetimes.branch [ then-place-lifetimes w ↦ w.value-is | else-place-lifetimes w ↦ absurd (let less = w.if-place-lifetimes.false in omega arith) ])
-          (λ less. elim c.if-place-lifetimes.branch [ then-place-lifetimes w ↦ absurd (let le = w.if-place-lifetimes.true in omega arith) | else-place-lifetimes w ↦ w.value-is ]),
+          (λ le. elim c.if-place-commit.branch [ then-place-commit w ↦ w.push-is | else-place-commit w ↦ absurd (let less = w.if-place-commit.false in omega arith) ])
+          (λ less. elim c.if-place-commit.branch [ then-place-commit w ↦ absurd (let le = w.if-place-commit.true in omega arith) | else-place-commit w ↦ w.push-is ]),
       (let l = c.loop-txn-test.true in omega arith),
     )
 
