@@ -98,8 +98,7 @@ fn put_firsts(index: &Index, txn: u32, firsts: &mut Vec<u32>) -> Result<(), NoMe
             firsts.push(key)?;
         }
     }
-    put_in_order(firsts)?;
-    Ok(())
+    Ok(put_in_order(firsts)?)
 }
 
 /// Adds the keys of range misses that are own ones, and the stretches between these. The range misses are in order, and keys that

@@ -72,12 +72,11 @@ pub fn judge(
     };
     let pass = passes(alloc, &evidence, &found.bad_reads, &found.bad_writes)?;
     let verdict = settle_accesses(alloc, &evidence)?;
-    let counts = counted(log, ix);
     let serializable = is_serializable(&verdict, &found.unexplained);
     replay_law();
     ssi_law();
     let judgement = Judgement {
-        counts,
+        counts: counted(log, ix),
         bad_reads: found.bad_reads,
         bad_writes: found.bad_writes,
         unexplained: found.unexplained,
@@ -129,8 +128,7 @@ pub fn settle_accesses(alloc: Global, evidence: &Evidence) -> Result<Verdict, No
 {
     let size = size_for(evidence);
     let graph = graph_of(alloc, evidence, size)?;
-    let taken = take_nodes(alloc, size, evidence.index.committed(), &graph)?;
-    match taken {
+    match take_nodes(alloc, size, evidence.index.committed(), &graph)? {
         Taken::Whole(order) => Ok(Verdict::Order(Txns::new(order))),
         Taken::Rest(left) => {
             let steps = cycle_of_left(alloc, evidence, &left)?;

@@ -94,8 +94,7 @@ pub fn settle(alloc: Global, ids: &[TxnId], edges: &[Edge]) -> Result<Verdict, N
     ensures { IfOk result (IsVerdict (Contains ids.now) (Contains edges.now)) }
 {
     let graph = graph_of(alloc, ids, edges)?;
-    let taken = take_nodes(alloc, 0, ids, &graph)?;
-    match taken {
+    match take_nodes(alloc, 0, ids, &graph)? {
         Taken::Whole(order) => Ok(Verdict::Order(Txns::new(order))),
         Taken::Rest(left) => {
             let previous = least_sources(alloc, &graph, &left)?;

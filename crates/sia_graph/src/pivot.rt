@@ -238,8 +238,7 @@ pub fn pivots(alloc: Global, f: &Findings, ix: &Index) -> Result<Vec<Pivot>, NoM
     requires { AreFindings ix.now f.now }
     ensures { IfOk result (λ found. ArePivots ix.now found.items) }
 {
-    let links = vulnerable(alloc, &f.edges, ix)?;
-    pivots_of_links(alloc, ix, links)
+    pivots_of_links(alloc, ix, vulnerable(alloc, &f.edges, ix)?)
 }
 
 /// The same, of the links of all vulnerable edges: each at least once, in any order, and no other.
@@ -259,6 +258,5 @@ pub fn pivots_of_links(
     };
     let mut into = out.iter().map(turn).collect(alloc)?;
     put_in_order(&mut into)?;
-    let found = entries(alloc, ix, &into, out)?;
-    Ok(found)
+    Ok(entries(alloc, ix, &into, out)?)
 }

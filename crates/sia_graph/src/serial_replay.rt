@@ -270,11 +270,10 @@ fn replay_txn(
     while at != 0 {
         if let Some(event) = h.event(at) {
             if let Some(key) = wrong_key(h, event, versions, commits) {
-                let found = version_of(versions, key);
                 return Ok(Some(Mismatch {
                     place: at,
                     key,
-                    found,
+                    found: version_of(versions, key),
                 }));
             }
             keep_write(event, versions)?;
@@ -311,6 +310,5 @@ pub fn replay(alloc: Global, h: &History, order: &[TxnId]) -> Result<Option<Mism
     if !is_order(alloc, h, order)? {
         return Err(ReplayFault::NotAnOrder);
     }
-    let found = replay_order(alloc, h, order)?;
-    Ok(found)
+    Ok(replay_order(alloc, h, order)?)
 }

@@ -109,8 +109,7 @@ pub fn passes(
     if !are_none(bad_reads, bad_writes) {
         return Ok(false);
     }
-    let pivot = least_pivot(alloc, evidence)?;
-    Ok(pivot.is_none())
+    Ok(least_pivot(alloc, evidence)?.is_none())
 }
 
 /// Whether there is no bad read, no bad write, and no dangerous structure whose last transaction commits first. The pivots
@@ -196,8 +195,7 @@ pub fn dangerous_of(alloc: Global, evidence: &Evidence) -> Result<Option<Dangero
     ensures { IfOk result (λ found. MatchOption found (NoFirst evidence.now.index.now)
         (IsDangerous evidence.now.index.now)) }
 {
-    let found = least_pivot(alloc, evidence)?;
-    let Some((pivot, limit)) = found else {
+    let Some((pivot, limit)) = least_pivot(alloc, evidence)? else {
         return Ok(None)
     };
     let last = least_last(alloc, evidence, pivot, limit)?;

@@ -29,7 +29,7 @@ returns-clause-exact c =
     let verdict = c.in_ok-verdict.verdict in
     let verdict_is = subst (λ i. IsVerdict (IsCommitted i) (IsEdge i) verdict) c.requires.index c.in_ok-verdict.ensures in
     record {
-      counts = c.counted-counts.ensures;
+      counts = c.counted.ensures;
       bad_reads = is.bad_reads;
       bad_writes = is.bad_writes;
       unexplained = is.unexplained;

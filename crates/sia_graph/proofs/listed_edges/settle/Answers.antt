@@ -24,13 +24,13 @@ returns-in-Whole c =
     let ids = c.args.ids.now in
     let edges = c.args.edges.now in
     subst (IsLeastOrder (Contains ids) (Contains edges)) (sym c.new.ensures)
-    (subst (IsTaken (Contains ids) (Contains edges) ids) c.in-Whole.is (list_taken ids c.requires.ids edges c.in_ok-graph.graph c.in_ok-graph.ensures.made c.requires.joins c.in_ok-taken.taken c.in_ok-taken.ensures))
+    (subst (IsTaken (Contains ids) (Contains edges) ids) c.in-Whole.is (list_taken ids c.requires.ids edges c.in_ok-graph.graph c.in_ok-graph.ensures.made c.requires.joins c.in_ok-order.field-0 c.in_ok-order.ensures))
 
 -- those that are left
 left_of : (c : In-Rest) → AreLeftOver (Contains c.args.ids.now) (Contains c.args.edges.now) c.args.ids.now c.in-Rest.left.items
 left_of c =
     subst (IsTaken (Contains c.args.ids.now) (Contains c.args.edges.now) c.args.ids.now) c.in-Rest.is
-    (list_taken c.args.ids.now c.requires.ids c.args.edges.now c.in_ok-graph.graph c.in_ok-graph.ensures.made c.requires.joins c.in_ok-taken.taken c.in_ok-taken.ensures)
+    (list_taken c.args.ids.now c.requires.ids c.args.edges.now c.in_ok-graph.graph c.in_ok-graph.ensures.made c.requires.joins c.in_ok-order.field-0 c.in_ok-order.ensures)
 
 pub least_sources-requires : goal.least_sources-requires
 least_sources-requires c =

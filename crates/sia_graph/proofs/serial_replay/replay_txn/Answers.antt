@@ -15,7 +15,7 @@ returns-in-Some-wrong_key-clause-wrong c = λ m is others.
     let on = c.loop-at.invariant in
     let same = same_Some _ m is in
     told_wrong h c.args.txn start c.loop-at.versions at on c.in-Some.event.now (is_next h c.args.txn start c.loop-at.versions at on c.loop-at-test.true c.in-Some.event.now (sym c.in-Some.ensures))
-    c.in-Some-wrong_key.key c.version_of-found.result (c.in-Some-wrong_key.ensures.0, c.in-Some-wrong_key.ensures.1, c.version_of-found.ensures) m
+    c.in-Some-wrong_key.key c.version_of.result (c.in-Some-wrong_key.ensures.0, c.in-Some-wrong_key.ensures.1, c.version_of.ensures) m
     (ap (λ (x : Mismatch). x.place) (sym same)) (ap (λ (x : Mismatch). x.key) (sym same)) (ap (λ (x : Mismatch). x.found) (sym same)) others
 
 pub bounds-next-at : goal.bounds-next-at

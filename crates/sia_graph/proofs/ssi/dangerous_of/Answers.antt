@@ -21,18 +21,18 @@ chosen h found pivot limit is told = subst (λ (o : Option (ℕ × ℕ)). MatchO
 
 pub least_last-requires-clause-pivot : goal.least_last-requires-clause-pivot
 least_last-requires-clause-pivot c =
-    let w = chosen c.args.evidence.now.index.now c.in_ok-found.found c.in-Some.pivot c.in-Some.limit c.in-Some.is c.in_ok-found.ensures in
+    let w = chosen c.args.evidence.now.index.now c.in_ok-pivot.field-0 c.in-Some.pivot c.in-Some.limit c.in-Some.is c.in_ok-pivot.ensures in
     (w.0, w.1, w.2.0, w.3)
 
 pub bounds-lifetimes-last : goal.bounds-lifetimes-last
 bounds-lifetimes-last c =
-    let pivot = chosen c.args.evidence.now.index.now c.in_ok-found.found c.in-Some.pivot c.in-Some.limit c.in-Some.is c.in_ok-found.ensures in
+    let pivot = chosen c.args.evidence.now.index.now c.in_ok-pivot.field-0 c.in-Some.pivot c.in-Some.limit c.in-Some.is c.in_ok-pivot.ensures in
     let last = c.in_ok-last.ensures pivot.0 pivot.1 in
     (commit_lived c.args.evidence.now.index.now c.lifetimes-2.result.now c.lifetimes-2.ensures c.in_ok-last.last last.0 last.1).0
 
 pub least_first-requires-clause-pivot : goal.least_first-requires-clause-pivot
 least_first-requires-clause-pivot c =
-    let pivot = chosen c.args.evidence.now.index.now c.in_ok-found.found c.in-Some.pivot c.in-Some.limit c.in-Some.is c.in_ok-found.ensures in
+    let pivot = chosen c.args.evidence.now.index.now c.in_ok-pivot.field-0 c.in-Some.pivot c.in-Some.limit c.in-Some.is c.in_ok-pivot.ensures in
     let last = c.in_ok-last.ensures pivot.0 pivot.1 in
     let ends = (commit_lived c.args.evidence.now.index.now c.lifetimes-2.result.now c.lifetimes-2.ensures c.in_ok-last.last last.0 last.1).1 (record { start = 0; commit = 0 }) in
     (pivot.0, last.0, pivot.1, ends, last.2.0)
@@ -47,41 +47,41 @@ first_of c pivot =
 
 pub least_rw-into-requires-clause-leads : goal.least_rw-into-requires-clause-leads
 least_rw-into-requires-clause-leads c =
-    let pivot = chosen c.args.evidence.now.index.now c.in_ok-found.found c.in-Some.pivot c.in-Some.limit c.in-Some.is c.in_ok-found.ensures in
+    let pivot = chosen c.args.evidence.now.index.now c.in_ok-pivot.field-0 c.in-Some.pivot c.in-Some.limit c.in-Some.is c.in_ok-pivot.ensures in
     let first = first_of (goal.at.least_rw-into-requires-clause-leads c).In_ok-first pivot in
     let may = first.2.0 in
     (first.0, pivot.0, first.1, pivot.1, (may.0.1, may.0.2))
 
 pub least_rw-out-requires-clause-leads : goal.least_rw-out-requires-clause-leads
 least_rw-out-requires-clause-leads c =
-    let pivot = chosen c.args.evidence.now.index.now c.in_ok-found.found c.in-Some.pivot c.in-Some.limit c.in-Some.is c.in_ok-found.ensures in
+    let pivot = chosen c.args.evidence.now.index.now c.in_ok-pivot.field-0 c.in-Some.pivot c.in-Some.limit c.in-Some.is c.in_ok-pivot.ensures in
     let last = c.in_ok-last.ensures pivot.0 pivot.1 in
     let is = last.2.0 in
     (pivot.0, last.0, pivot.1, last.1, (is.0.1, is.0.2))
 
 pub bounds-txns-first : goal.bounds-txns-first
 bounds-txns-first c =
-    let pivot = chosen c.args.evidence.now.index.now c.in_ok-found.found c.in-Some.pivot c.in-Some.limit c.in-Some.is c.in_ok-found.ensures in
+    let pivot = chosen c.args.evidence.now.index.now c.in_ok-pivot.field-0 c.in-Some.pivot c.in-Some.limit c.in-Some.is c.in_ok-pivot.ensures in
     let first = first_of (goal.at.bounds-txns-first c).In_ok-first pivot in
     (txn_number c.args.evidence.now.index.now c.committed-txns.result.now c.committed-txns.ensures c.in_ok-first.first first.0 first.1).0
 
 pub bounds-keys-into : goal.bounds-keys-into
 bounds-keys-into c =
-    let pivot = chosen c.args.evidence.now.index.now c.in_ok-found.found c.in-Some.pivot c.in-Some.limit c.in-Some.is c.in_ok-found.ensures in
+    let pivot = chosen c.args.evidence.now.index.now c.in_ok-pivot.field-0 c.in-Some.pivot c.in-Some.limit c.in-Some.is c.in_ok-pivot.ensures in
     let first = first_of (goal.at.bounds-keys-into c).In_ok-first pivot in
     let key = c.least_rw-into.ensures first.0 pivot.0 first.1 pivot.1 in
     (key_number c.args.evidence.now.index.now c.written_keys-keys.result.now c.written_keys-keys.ensures c.least_rw-into.result key.0 key.1).0
 
 pub bounds-keys-out : goal.bounds-keys-out
 bounds-keys-out c =
-    let pivot = chosen c.args.evidence.now.index.now c.in_ok-found.found c.in-Some.pivot c.in-Some.limit c.in-Some.is c.in_ok-found.ensures in
+    let pivot = chosen c.args.evidence.now.index.now c.in_ok-pivot.field-0 c.in-Some.pivot c.in-Some.limit c.in-Some.is c.in_ok-pivot.ensures in
     let last = c.in_ok-last.ensures pivot.0 pivot.1 in
     let key = c.least_rw-out.ensures pivot.0 last.0 pivot.1 last.1 in
     (key_number c.args.evidence.now.index.now c.written_keys-keys.result.now c.written_keys-keys.ensures c.least_rw-out.result key.0 key.1).0
 
 pub bounds-txns-last : goal.bounds-txns-last
 bounds-txns-last c =
-    let pivot = chosen c.args.evidence.now.index.now c.in_ok-found.found c.in-Some.pivot c.in-Some.limit c.in-Some.is c.in_ok-found.ensures in
+    let pivot = chosen c.args.evidence.now.index.now c.in_ok-pivot.field-0 c.in-Some.pivot c.in-Some.limit c.in-Some.is c.in_ok-pivot.ensures in
     let last = c.in_ok-last.ensures pivot.0 pivot.1 in
     (txn_number c.args.evidence.now.index.now c.committed-txns.result.now c.committed-txns.ensures c.in_ok-last.last last.0 last.1).0
 
@@ -91,7 +91,7 @@ returns c =
     let txns = c.committed-txns.result.now in
     let number = λ (i t : ℕ) (at : IsCommittedAt h i t). (txn_number h txns c.committed-txns.ensures i t at).1 in
     let keys = c.written_keys-keys.result.now in
-    let pivot = chosen c.args.evidence.now.index.now c.in_ok-found.found c.in-Some.pivot c.in-Some.limit c.in-Some.is c.in_ok-found.ensures in
+    let pivot = chosen c.args.evidence.now.index.now c.in_ok-pivot.field-0 c.in-Some.pivot c.in-Some.limit c.in-Some.is c.in_ok-pivot.ensures in
     let last = c.in_ok-last.ensures pivot.0 pivot.1 in
     let first = first_of (goal.at.returns c).In_ok-first pivot in
     let into = c.least_rw-into.ensures first.0 pivot.0 first.1 pivot.1 in

@@ -24,7 +24,7 @@ returns c =
     let h = c.args.evidence.now.index.now in
     let none = c.are_none.ensures.0 c.if-not-are_none.false in
     let isolated = kept h c.args.bad_reads.now c.args.bad_writes.now c.requires.bad_reads c.requires.bad_writes none.0 none.1 in
-    elim (there_or_not _ _ c.in_ok-pivot.pivot c.in_ok-pivot.ensures) [
+    elim (there_or_not _ _ c.in_ok-least_pivot.field-0 c.in_ok-least_pivot.ensures) [
       | inl w ↦ ((λ is. absurd (false≢true (sym (not_from_true c.is_none.result is) ∙ sym c.is_none.ensures ∙ w.0))), (λ passes. absurd (passes.1 w.2.0 w.2.2.0.0 w.2.2.0.1)))
       | inr w ↦ ((λ is. (isolated, w.1)), (λ passes. not-false c.is_none.result (sym c.is_none.ensures ∙ w.0)))
     ]
