@@ -43,13 +43,10 @@ pub(crate) fn judged<C: Crew>(
         reads: &reads,
     };
     let count = parts.len() as u32;
-    match crew.find(alloc, count, &job) {
-        Ok(parts) => {
-            let found = Gathering::of(alloc, ix, parts)?;
-            judge(alloc, log, ix, found)
-        }
-        Err(_) => Err(NoMemory),
-    }
+    let Ok(parts) = crew.find(alloc, count, &job) else {
+        return Err(NoMemory);
+    };
+    judge(alloc, log, ix, Gathering::of(alloc, ix, parts)?)
 }
 
 /// Audits a history by workers, and waits for them. What it answers depends on the history alone.

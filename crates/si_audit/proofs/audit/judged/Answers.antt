@@ -10,8 +10,8 @@ use Rattle.si_audit.proofs.audit.judged.Goals as goal
 pub of-requires : goal.of-requires
 of-requires g c = c.parts-parts.ensures.cutting
 
-pub of-requires-in-Ok : goal.of-requires-in-Ok
-of-requires-in-Ok g c =
+pub of-requires-2 : goal.of-requires-2
+of-requires-2 g c =
     let parts = c.parts-parts.result.now in
     let owed = each_owed (λ (part : Part) (found : PartFound). IsPartFound c.args.log.now (IsInPart part) found) parts c.in-Ok.parts.items c.in-Ok.ensures.len c.in-Ok.ensures.owed in
     let cutting = c.parts-parts.ensures.cutting in
