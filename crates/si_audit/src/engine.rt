@@ -76,16 +76,11 @@ impl<'a> Auditor<'a> {
         ensures report { IfOk result (TellsFed self.entry) }
         ensures outcome { IfOk result (EndsFed self.entry) }
     {
-        let Auditor {
-            options,
-            text,
-            locator,
-        } = self;
-        match text.finish_log() {
-            Ok(log) => report_of_log(crew, alloc, log, options),
+        match self.text.finish_log() {
+            Ok(log) => report_of_log(crew, alloc, log, self.options),
             Err(fault) => match &fault {
                 TextFault::NoMemory => Err(NoMemory),
-                _ => report_of_refusal(alloc, &fault, &locator, options),
+                _ => report_of_refusal(alloc, &fault, &self.locator, self.options),
             },
         }
     }
