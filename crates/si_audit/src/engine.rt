@@ -145,9 +145,7 @@ impl Report {
         ensures outcome { self.new.outcome ≡ self.old.outcome }
         ensures room { vec_capacity buffer.old ≤ vec_capacity buffer.new }
     {
-        let (sheet, at) = next_byte(self.sheets.as_slice(), self.sheet, self.at);
-        self.sheet = sheet;
-        self.at = at;
+        (self.sheet, self.at) = next_byte(self.sheets.as_slice(), self.sheet, self.at);
         if self.sheet == self.sheets.len() {
             return false;
         }
@@ -161,15 +159,13 @@ impl Report {
     }
 }
 
-fn next_byte(sheets: &[Vec<u8>], sheet: usize, at: usize) -> (usize, usize)
+fn next_byte(sheets: &[Vec<u8>], mut sheet: usize, mut at: usize) -> (usize, usize)
     requires { IsAt sheets.now sheet at }
     ensures same { rest_from sheets.now result.0 result.1 ≡ rest_from sheets.now sheet at }
     ensures at { IsAt sheets.now result.0 result.1 }
     ensures some { result.0 ≢ length sheets.now
         → result.1 < length (text_of (take 1 (drop result.0 sheets.now))) }
 {
-    let mut sheet = sheet;
-    let mut at = at;
     'passing: while sheet < sheets.len() && at == sheets[sheet].len() {
         sheet += 1;
         at = 0;

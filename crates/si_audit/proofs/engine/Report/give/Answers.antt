@@ -9,8 +9,8 @@ use Rattle.si_audit.proofs.engine.Report.give.Goals as goal
 pub returns-clause-gives : goal.returns-clause-gives
 returns-clause-gives c =
     let sheets = c.self.inside.sheets.items in
-    let i = c.next_byte-sheet.result.0 in
-    let at = c.next_byte-sheet.result.1 in
+    let i = c.next_byte.result.0 in
+    let at = c.next_byte.result.1 in
     let n = c.min-n.result in
     let d = c.index.result.now in
     let lent = c.as_slice.ensures.value in
@@ -18,8 +18,8 @@ returns-clause-gives c =
     let here : get_or sheets i d ≡ d = search rules in
     let items = (get_or sheets i d).items in
     let read : c.deref.result.now ≡ items = c.deref.ensures.value ∙ sym (ap (λ (v : Vec ℕ). v.items) here) in
-    let same : rest_from sheets c.self.inside.sheet c.self.inside.at ≡ rest_from sheets i at = sym (subst (λ (xs : List (Vec ℕ)). rest_from xs i at ≡ rest_from xs c.self.inside.sheet c.self.inside.at) lent c.next_byte-sheet.ensures.same) in
-    let left : at < length items = subst (λ (xs : List ℕ). at < length xs) (on_sheet sheets i at d inside) (subst (λ (xs : List (Vec ℕ)). at < length (text_of (take 1 (drop i xs)))) lent (c.next_byte-sheet.ensures.some (λ e. let l = ap length lent in omega arith))) in
+    let same : rest_from sheets c.self.inside.sheet c.self.inside.at ≡ rest_from sheets i at = sym (subst (λ (xs : List (Vec ℕ)). rest_from xs i at ≡ rest_from xs c.self.inside.sheet c.self.inside.at) lent c.next_byte.ensures.same) in
+    let left : at < length items = subst (λ (xs : List ℕ). at < length xs) (on_sheet sheets i at d inside) (subst (λ (xs : List (Vec ℕ)). at < length (text_of (take 1 (drop i xs)))) lent (c.next_byte.ensures.some (λ e. let l = ap length lent in omega arith))) in
     let long = ap length read in
     let rest = length-take (length c.deref.result.now - at) (drop at c.deref.result.now) in
     let behind = length-drop at c.deref.result.now in
