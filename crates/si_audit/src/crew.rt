@@ -167,8 +167,7 @@ where
     ensures len { IfOk result (λ outs. length outs.items ≡ count) }
     ensures owed { IfOk result (λ outs. AnswersEach (J.owes job.now) count outs.items) }
 {
-    let crew = work_off(rt, alloc, count, crew_of(workers, count), job, &OpenGate)?;
-    Ok(crew.outs)
+    Ok(work_off(rt, alloc, count, crew_of(workers, count), job, &OpenGate)?.outs)
 }
 
 /// As many workers as are asked for, and no more than there are parts.

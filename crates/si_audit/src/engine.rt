@@ -207,10 +207,9 @@ fn report_of_log<C: Crew>(
     let ix = index_log(alloc, &log)?;
     let (judgement, accesses) = judged(crew, alloc, &log, &ix, o)?;
     let outcome = outcome_of(&judgement, o.level());
-    let sheets = sheets_of(crew, alloc, log, &ix, &judgement, &accesses, o)?;
     Ok(Report {
         outcome,
-        sheets,
+        sheets: sheets_of(crew, alloc, log, &ix, &judgement, &accesses, o)?,
         sheet: 0,
         at: 0,
     })

@@ -166,8 +166,7 @@ pub(crate) fn push_place(
             push_number(out, b"  line ", place.line, b", column ")?;
             push_number(out, b"", place.column, b": ")?;
             push_shown(out, locator.token())?;
-            out.extend_from_slice(b"\n")?;
-            Ok(())
+            Ok(out.extend_from_slice(b"\n")?)
         }
     }
 }

@@ -87,8 +87,7 @@ fn tell<R: Alloc<A = Global> + Print + Eprint>(rt: &R, fault: LineFault) -> u8 {
 
 /// The program's words, its name first.
 fn words_given<R: Env + Alloc<A = Global>>(rt: &R) -> std::io::Result<Vec<String>> {
-    let words = std::env::args(rt)?.collect(rt.alloc())?;
-    Ok(words)
+    Ok(std::env::args(rt)?.collect(rt.alloc())?)
 }
 
 /// The options that the program's words give, or the status where they give none, which is told.

@@ -205,16 +205,14 @@ fn options_of(alloc: Global, matches: &ArgMatches<'_>) -> Result<Options, LineFa
     let Some(level) = level_in(matches) else {
         return Err(LineFault::UnknownLevel);
     };
-    let form = form_in(matches);
     let workers = workers_in(matches);
-    let limits = limits_in(matches);
     let cuts = cuts_in(alloc, matches)?;
     match Options::new(alloc, workers, cuts.as_slice()) {
         Ok(options) => Ok(
             options
-                .with_form(form)
+                .with_form(form_in(matches))
                 .with_level(level)
-                .with_limits(limits),
+                .with_limits(limits_in(matches)),
         ),
         Err(OptionsFault::TooManyCuts) => Err(LineFault::TooManyCuts),
         Err(OptionsFault::NoMemory) => Err(LineFault::NoMemory),
