@@ -40,9 +40,6 @@ fn report_of(
     Ok(sheets)
 }
 
-/// How many sources a chunk of the edges has, where that makes no more than 1,024 chunks. Few sources may have most edges.
-const SOURCES: u32 = 1;
-
 /// The sheet alone.
 pub(crate) fn one_sheet(alloc: Global, sheet: Vec<u8>) -> Result<Vec<Vec<u8>>, NoMemory>
     ensures { IfOk result (λ sheets. text_of sheets.items ≡ sheet.items) }
@@ -79,7 +76,7 @@ fn sheets_of_edges<C: Crew>(
 {
     ix.committed();
     let edges = Edges::of(alloc, ix, accesses, None)?;
-    let bounds = edges.chunks(alloc, SOURCES)?;
+    let bounds = edges.chunks(alloc)?;
     let count = bounds.len().saturating_sub(1) as u32;
     let job = Printing {
         alloc,

@@ -349,9 +349,9 @@ pub fn edges_at(
 const MOST: usize = 1024;
 
 impl Edges<'_> {
-    /// The numbers of sources at which chunks start, ascending, and behind them how many sources there are. Each chunk has so
-    /// many sources, or more where there would be more than 1,024 chunks.
-    pub fn chunks(&self, alloc: Global, size: u32) -> Result<Vec<u32>, NoMemory>
+    /// The numbers of sources at which chunks start, ascending, and behind them how many sources there are. A chunk ends where its
+    /// sources made and saw a thousandth of what all did, so that one which has most of the edges is alone.
+    pub fn chunks(&self, alloc: Global) -> Result<Vec<u32>, NoMemory>
         requires { CanTell self.now }
         ensures few { IfOk result (λ places. length places.items ≤ 1025) }
         ensures are { IfOk result (λ places. (txns : List ℕ)
@@ -360,17 +360,30 @@ impl Edges<'_> {
     {
         self.index.law();
         let count = self.index.committed().len() as u32;
-        let size = size.max(count / MOST as u32 + 1);
+        let all = self.index.position_count() as usize + self.accesses.saw.rows().len();
+        let size = all / MOST + 1;
+        let mut sum = 0usize;
         let mut places = Vec::new(alloc);
         places.push(0)?;
         for place in 1..count {
-            if place % size == 0 && places.len() < MOST {
+            sum = sum.saturating_add(self.acts_by(place - 1));
+            if sum >= size && places.len() < MOST {
                 places.push(place)?;
+                sum = 0;
             }
         }
         if count > 0 {
             places.push(count)?;
         }
         Ok(places)
+    }
+
+    /// How many versions a source made and saw.
+    fn acts_by(&self, source: u32) -> usize
+        requires tell { CanTell self.now }
+        requires source { (t : ℕ) × IsCommittedAt self.now.index.now source t }
+    {
+        let made = self.index.made_by(source as usize);
+        made.len() + self.accesses.saw.at(source as usize).len()
     }
 }

@@ -35,7 +35,7 @@ const NOTHING: Worked<'static> = Worked {
 pub struct More<'a> {
     /// Behind the edges, more that lead from one to each target up to before another, and what their keys rise by.
     pub edges: &'a [(Edge, TxnId, Key)],
-    /// How many places chunks of 7 sources lie between, where they are counted.
+    /// How many places the chunks lie between, where they are counted.
     pub places: usize,
     /// The committed transactions, where any are named.
     pub committed: &'a [TxnId],
@@ -461,7 +461,7 @@ pub const MORE: &[(Worked<'static>, More<'static>)] = &[
                 (edge!(32, Rw, 1, 7), 21, 0),
                 (edge!(33, Rw, 1, 7), 21, 0),
             ],
-            places: 5,
+            places: 25,
             ..NO_MORE
         },
     ),

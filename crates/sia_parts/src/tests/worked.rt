@@ -75,19 +75,18 @@ fn are_accesses(alloc: Global, found: &Accesses, it: &More<'_>) -> Result<bool, 
     Ok(is_so)
 }
 
-// How many places the chunks of so many sources lie between, and whether they have the edges, one after another.
+// How many places the chunks lie between, and whether they have the edges, one after another.
 fn in_chunks(
     alloc: Global,
     ix: &Index,
     accesses: &Accesses,
-    size: u32,
     wanted: &[Edge],
 ) -> Result<(usize, bool), NoMemory>
     requires { AreAccesses ix.now (λ _. ⊤) accesses.now }
 {
     ix.law();
     let told = Edges::of(alloc, ix, accesses, None)?;
-    let places = told.chunks(alloc, size)?;
+    let places = told.chunks(alloc)?;
     let mut edges = Vec::new(alloc);
     let mut rows = Vec::new(alloc);
     for i in 1..places.len() {
@@ -122,14 +121,12 @@ fn is_found(
     let findings = gather(alloc, audited)?;
     let gathering = Gathering::of(alloc, ix, seen)?;
     let committed = ix.committed();
-    let mut is_so = are_findings(&findings, edges, it)
+    let (places, is_same) = in_chunks(alloc, ix, &gathering.accesses, edges)?;
+    Ok(are_findings(&findings, edges, it)
         && (more.committed.is_empty() || committed == more.committed)
-        && are_accesses(alloc, &gathering.accesses, more)?;
-    for size in [1, 7, 1000] {
-        let (places, is_same) = in_chunks(alloc, ix, &gathering.accesses, size, edges)?;
-        is_so &= is_same && (size != 7 || more.places == 0 || places == more.places);
-    }
-    Ok(is_so)
+        && are_accesses(alloc, &gathering.accesses, more)?
+        && is_same
+        && (more.places == 0 || places == more.places))
 }
 
 // The same, cut in each of the ways, and in the single parts.
