@@ -98,7 +98,7 @@ fn reads_by_txn(alloc: Global, log: &Log) -> Result<Vec<Read>, NoMemory>
 
 /// The first and the last key that the event may have seen, if it is a read.
 #[inline(always)]
-fn covered(log: &Log, row: Row) -> Option<(Key, Key)>
+pub(crate) fn covered(log: &Log, row: Row) -> Option<(Key, Key)>
     requires { IsWithin (names_of log.now) row }
     ensures { MatchOption result ((k v : ℕ) → ¬ Saw (event_of (names_of log.now) row) k v)
         (λ ends. (k v : ℕ) → Saw (event_of (names_of log.now) row) k v → (ends.0 ≤ k) × (k ≤ ends.1)) }

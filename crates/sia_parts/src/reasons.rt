@@ -10,15 +10,15 @@ ghost use Rattle.sia_events.specs.Isolation.{IsBadRead, IsBadWrite};
 ghost use Rattle.sia_events.specs.Dependencies.{IsCommittedWriter};
 ghost use Rattle.sia_parts.specs.Wrong.{IsWrong};
 ghost use Rattle.sia_events.specs.Reads.{SawAt};
-ghost use Rattle.sia_parts.specs.Acts.{HasActs};
+ghost use Rattle.sia_parts.specs.Acts.{HasActs, IsActAt};
 ghost use Rattle.sia_parts.specs.LostUpdates.{IsLostUpdate, LosesFirstAt};
 ghost use Rattle.sia_parts.specs.Sightings.{Gives, IsFirstSight, reader_of, writer_of};
 ghost use Rattle.sia_parts.specs.declared.reasons.Act.{Act};
 
 use crate::finding::{BadRead, BadWrite, Edge, Kind};
-use crate::reads::txn_of;
+use crate::reads::{covered, txn_of};
 use sia_events::{Anomaly, Key, Log, NoMemory, TxnId, Version, push_number};
-use sia_index::keyed::{By, ByTxn, between};
+use sia_index::keyed::{By, ByKey, ByTxn, between};
 use sia_index::{Fate, Index};
 use std::alloc::{AllocError, Global};
 
@@ -149,10 +149,11 @@ pub fn anomaly_of(h: &Log, ix: &Index, b: &BadRead, start: u32) -> Anomaly
     Anomaly::StaleRead
 }
 
-/// A transaction, and the place of an event of it.
+/// A read: the transaction, the key, or for a range of several the greatest one, and the place of its event.
 #[derive(Clone, Copy)]
 pub struct Act {
     pub txn: TxnId,
+    pub key: Key,
     pub place: u32,
 }
 
@@ -164,7 +165,15 @@ impl By<Act> for ByTxn {
     }
 }
 
-/// The events of these transactions, by transaction and place.
+impl By<Act> for ByKey {
+    ghost by = { λ act. act.key };
+
+    fn number(act: &Act) -> u64 {
+        act.key
+    }
+}
+
+/// The reads of these transactions, by transaction and key.
 pub fn acts_of(alloc: Global, h: &Log, mut txns: Vec<TxnId>) -> Result<Vec<Act>, NoMemory>
     ensures { IfOk result (λ acts. All (λ t. HasActs h.now t acts.items) txns.items) }
 {
@@ -174,18 +183,24 @@ pub fn acts_of(alloc: Global, h: &Log, mut txns: Vec<TxnId>) -> Result<Vec<Act>,
     }
     txns.sort_unstable_by_key(|txn| *txn);
     for before in 0..h.len() {
-        if let Some(row) = h.row(before + 1) {
-            let txn = h.txn(txn_of(row)).name;
-            if is_among(&txns, txn) {
-                acts.push(Act {
-                    txn,
-                    place: before + 1,
-                })?;
+        if let Some(act) = act_at(h, before + 1) {
+            if is_among(&txns, act.txn) {
+                acts.push(act)?;
             }
         }
     }
-    acts.sort_unstable_by_key(|act| (act.txn, act.place));
+    acts.sort_unstable_by_key(|act| (act.txn, act.key));
     Ok(acts)
+}
+
+fn act_at(h: &Log, place: u32) -> Option<Act>
+    ensures { MatchOption result ((t k v : ℕ) → ¬ SawAt h.now place t k v) (IsActAt h.now place) }
+{
+    let row = h.row(place)?;
+    let (lo, hi) = covered(h, row)?;
+    let txn = h.txn(txn_of(row)).name;
+    let key = if lo == hi { lo } else { Key::MAX };
+    Some(Act { txn, key, place })
 }
 
 fn is_among(txns: &[TxnId], txn: TxnId) -> bool
@@ -252,17 +267,21 @@ pub fn first_sight(h: &Log, ix: &Index, acts: &[Act], e: &Edge) -> Option<FirstS
 {
     h.law();
     let reader = u64::from(reader_of_edge(e));
-    for act in between::<Act, ByTxn>(acts, reader, reader) {
-        if let Some(version) = h.saw(act.place, e.key) {
-            if gives(ix, e, version) {
-                return Some(FirstSight {
-                    place: act.place,
-                    version,
-                });
+    let own = between::<Act, ByTxn>(acts, reader, reader);
+    let mut first = None;
+    for key in [e.key, Key::MAX] {
+        for act in between::<Act, ByKey>(own, key, key) {
+            let place = act.place;
+            if first.is_none_or(|sight: FirstSight| place < sight.place) {
+                if let Some(version) = h.saw(place, e.key) {
+                    if gives(ix, e, version) {
+                        first = Some(FirstSight { place, version });
+                    }
+                }
             }
         }
     }
-    None
+    first
 }
 
 /// Where the later committer of a bad write first saw a version before the other one's, if it did so before it wrote the key:

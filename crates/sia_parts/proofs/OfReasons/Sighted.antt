@@ -1,9 +1,7 @@
 -- Sights among the events of a transaction, by place.
-use Rattle.std.proofs.Common.{◌≡◌, ◌≢◌, inl, inr, ℕ, ◌<◌, ◌≤◌, List, length, take, get_or, Some, refl, sym, subst, ◌∙◌, arith}
-use Rattle.std.specs.Prelude.{◌↔◌, All, Contains}
-use Rattle.std.proofs.lemmas.Bool.{cases_lt}
-use Rattle.std.proofs.lemmas.List.{get_or-take, get_or_default, length-take}
-use Rattle.std.proofs.lemmas.List.Elements.{All-contains, Contains-get_or}
+use Rattle.std.proofs.Common.{◌≡◌, ◌≢◌, ◌⊎◌, inl, inr, ℕ, ◌<◌, ◌≤◌, List, Bool, true, false, nat_lt, Option, Some, None, refl, sym, subst, ◌∙◌, arith}
+use Rattle.std.specs.Prelude.{◌↔◌, ⊤, Contains, IsTrue, MatchOption}
+use Rattle.std.proofs.lemmas.Bool.Decides.{nat_tests}
 use Rattle.sia_events.specs.declared.event.Event.{Event}
 use Rattle.sia_events.specs.Events.{actor, Saw}
 use Rattle.sia_events.specs.Places.{at_place}
@@ -18,14 +16,14 @@ use Rattle.sia_parts.specs.declared.finding.Edge.{Edge}
 use Rattle.sia_parts.specs.declared.finding.Kind.{Kind}
 use Rattle.sia_parts.specs.declared.finding.Kind.TheVariants.{Ww, Wr, Rw}
 use Rattle.sia_parts.specs.Entries.{EdgeOfKind, IsEdge}
-use Rattle.sia_parts.specs.Grouped.{RiseBy, StandsBy}
+use Rattle.sia_index.specs.Between.{IsBetween}
+use Rattle.sia_events.proofs.Shared.Faults.{true_false}
+use Rattle.sia_parts.specs.declared.reasons.FirstSight.{FirstSight}
+use Rattle.sia_parts.proofs.OfReasons.Groups.{group_between}
+use Rattle.sia_parts.proofs.OfReasons.InTwoNumbers.{group_holds}
 use Rattle.sia_parts.specs.declared.reasons.Act.{Act}
 use Rattle.sia_parts.specs.Acts.{HasActs}
 use Rattle.sia_parts.specs.Sightings.{Gives, IsFirstSight, reader_of, writer_of}
-
--- none of these events is a sight of a version that has P
-abbrev pub NoneGives : (ℕ → Type 0) → List Event → ℕ → ℕ → List Act → Type 0
-NoneGives P h t k acts = All (λ (act : Act). (v : ℕ) → SawAt h act.place t k v → ¬ P v) acts
 
 pub same_event : (e f : Event) → Some e ≡ Some f → e ≡ f
 same_event e f same = cc
@@ -36,43 +34,73 @@ sees_other h wf P p k v e at saw not t w other fits =
     let same : other.0 ≡ e = same_event other.0 e (sym other.1 ∙ at) in
     not (subst P (one_version h wf p k w v e at (subst (λ f. Saw f k w) same other.3) saw) fits)
 
-module _ (P : ℕ → Type 0) (h : List Event) (t k : ℕ) (acts group : List Act) (all : HasActs h t acts)
-    (s : ℕ) (is : s ≡ t) (holds : (act : Act) → Contains group act ↔ (Contains acts act × (act.txn ≡ s))) where
-  sight_in_group : (p v : ℕ) → SawAt h p t k v → Contains group (record { txn = t; place = p })
-  sight_in_group p v saw = (holds (record { txn = t; place = p })).1 ((all.each (record { txn = t; place = p }) refl).1 (saw.0, saw.1, saw.2), sym is)
+-- of t's sights of k at these places the first one that has P, if there is any
+abbrev pub IsFirstAt : (ℕ → Type 0) → List Event → ℕ → ℕ → (ℕ → Type 0) → Option FirstSight → Type 0
+IsFirstAt P h t k At found = MatchOption found ((p v : ℕ) → At p → SawAt h p t k v → ¬ P v)
+    (λ s. SawAt h s.place t k s.version × P s.version × ((p v : ℕ) → At p → SawAt h p t k v → P v → s.place ≤ p))
 
-  -- what one of its events saw, it saw
-  pub sight_at : (act : Act) → Contains group act → (e : Event) (v : ℕ) → at_place h act.place ≡ Some e → Saw e k v → SawAt h act.place t k v
-  sight_at act has e v at saw =
-      let mine = (holds act).0 has in
-      let a = (all.each act (mine.1 ∙ is)).0 mine.0 in
+module _ (P : ℕ → Type 0) (h : List Event) (t k : ℕ) (A B : ℕ → Type 0) where
+  -- of no more places
+  pub first_of_fewer : ((p : ℕ) → B p → A p) → (found : Option FirstSight) → IsFirstAt P h t k A found → IsFirstAt P h t k B found
+  first_of_fewer all None so = λ p v b saw. so p v (all p b) saw
+  first_of_fewer all (Some s) so = (so.0, so.1, λ p v b saw fits. so.2 p v (all p b) saw fits)
+
+  module _ (q : ℕ) (split : (p : ℕ) → B p → A p ⊎ (p ≡ q)) where
+    -- of one place more, where none has P
+    pub first_left : (found : Option FirstSight) → IsFirstAt P h t k A found → ((v : ℕ) → SawAt h q t k v → ¬ P v) → IsFirstAt P h t k B found
+    first_left None so none = λ p v b saw. elim (split p b) [ inl old ↦ so p v old saw | inr at ↦ none v (subst (λ r. SawAt h r t k v) at saw) ]
+    first_left (Some s) so none = (
+      so.0,
+      so.1,
+      λ p v b saw fits. elim (split p b) [ inl old ↦ so.2 p v old saw fits | inr at ↦ absurd (none v (subst (λ r. SawAt h r t k v) at saw) fits) ],
+    )
+
+    -- that doesn't stand before the first
+    pub first_kept : (found : Option FirstSight) → IsFirstAt P h t k A found → MatchOption found ⊥ (λ s. s.place ≤ q) → IsFirstAt P h t k B found
+    first_kept None so late = absurd late
+    first_kept (Some s) so late = (so.0, so.1, λ p v b saw fits. elim (split p b) [ inl old ↦ so.2 p v old saw fits | inr at ↦ omega arith ])
+
+    -- that has one, and stands before it
+    pub first_taken : (found : Option FirstSight) → IsFirstAt P h t k A found → MatchOption found ⊤ (λ s. q < s.place) → (v : ℕ) → SawAt h q t k v → P v
+        → IsFirstAt P h t k B (Some (record { place = q; version = v }))
+    first_taken None so early v saw fits = (saw, fits, λ p w b other gives. elim (split p b) [ inl old ↦ absurd (so p w old other gives) | inr at ↦ omega arith ])
+    first_taken (Some s) so early v saw fits = (saw, fits, λ p w b other gives. elim (split p b) [ inl old ↦ let least = so.2 p w old other gives in omega arith | inr at ↦ omega arith ])
+
+-- at all places that there are
+pub first_of_all : (P : ℕ → Type 0) (h : List Event) (t k : ℕ) (A : ℕ → Type 0) → ((p v : ℕ) → SawAt h p t k v → A p) → (found : Option FirstSight) → IsFirstAt P h t k A found
+    → MatchOption found ((p v : ℕ) → SawAt h p t k v → ¬ P v) (λ s. IsFirstSight P h t k s.place s.version)
+first_of_all P h t k A all None so = λ p v saw. so p v (all p v saw) saw
+first_of_all P h t k A all (Some s) so = (so.0, so.1, λ p v saw fits. so.2 p v (all p v saw) saw fits)
+
+-- a test whether there is none before
+module _ (Q : FirstSight → Type 0) (q : ℕ) (r : Bool) (told : (s : FirstSight) → Q s → r ≡ nat_lt q s.place) where
+  pub is_early : (found : Option FirstSight) → MatchOption found (IsTrue r) Q → r ≡ true → MatchOption found ⊤ (λ s. q < s.place)
+  is_early None so early = tt
+  is_early (Some s) so early = let is = told s so in grind (arith, nat_tests)
+
+  pub is_late : (found : Option FirstSight) → MatchOption found (IsTrue r) Q → r ≡ false → MatchOption found ⊥ (λ s. s.place ≤ q)
+  is_late None so late = true_false r so late
+  is_late (Some s) so late = let is = told s so in grind (arith, nat_tests)
+
+module _ (h : List Event) (t : ℕ) (acts : List Act) (all : HasActs h t acts) where
+  -- those of t under a key, one after another
+  abbrev pub AreUnder : ℕ → List Act → Type 0
+  AreUnder key group = (act : Act) → Contains group act ↔ (Contains acts act × (act.txn ≡ t) × (act.key ≡ key))
+
+  pub those_under : (s key : ℕ) (own group : List Act) → s ≡ t → IsBetween (λ (act : Act). act.txn) acts s s own → IsBetween (λ (act : Act). act.key) own key key group → AreUnder key group
+  those_under s key own group is mine under act =
+      let one = group_holds (λ (a : Act). a.txn) acts s own (group_between (λ (a : Act). a.txn) acts own s mine) act in
+      let two = group_holds (λ (a : Act). a.key) own key group (group_between (λ (a : Act). a.key) own group key under) act in (
+        (λ has. let both = two.0 has in let of = one.0 both.0 in (of.0, of.1 ∙ is, both.1)),
+        (λ has. two.1 (one.1 (has.0, has.1 ∙ sym is), has.2)),
+      )
+
+  -- what one of them saw, t saw
+  pub sight_at : (act : Act) → Contains acts act → act.txn ≡ t → (k v : ℕ) (e : Event) → at_place h act.place ≡ Some e → Saw e k v → SawAt h act.place t k v
+  sight_at act has is k v e at saw =
+      let a = all.own act is has in
       let same : a.0 ≡ e = same_event a.0 e (sym a.1 ∙ at) in
-      (e, at, subst (λ f. actor f ≡ t) same (a.2 ∙ mine.1 ∙ is), saw)
-
-  -- none of its sights has P
-  pub none_found : NoneGives P h t k group → (p v : ℕ) → SawAt h p t k v → ¬ P v
-  none_found none p v saw = All-contains (λ (act : Act). (w : ℕ) → SawAt h act.place t k w → ¬ P w) group (record { txn = t; place = p }) none (sight_in_group p v saw) v saw
-
-  -- the first found is the first of all
-  pub first_found : RiseBy (λ act. act.txn) (λ act. act.place) group → (i : ℕ) (d : Act) (v : ℕ) → i < length group → NoneGives P h t k (take i group)
-      → SawAt h (get_or group i d).place t k v → P v → IsFirstSight P h t k (get_or group i d).place v
-  first_found rise i d v inside none saw gives = (saw, gives, first)
-    where
-      first : (q w : ℕ) → SawAt h q t k w → P w → (get_or group i d).place ≤ q
-      first q w other fits =
-          let x : Act = record { txn = t; place = q } in
-          let has = sight_in_group q w other in
-          elim (cases_lt has.0 i) [
-            | inl less ↦
-                let long : has.0 < length (take i group) = omega (arith, length-take i group) in
-                let same = get_or-take i group has.0 x less ∙ has.2 in
-                absurd (none has.0 x long w (subst (λ (a : Act). SawAt h a.place t k w) (sym same) other) fits)
-            | inr more ↦
-                let at = subst (λ (a : Act). StandsBy (λ (b : Act). b.txn) (λ b. b.place) (get_or group i x) a) has.2 (rise i has.0 x more has.1) in
-                let stands = subst (λ (a : Act). StandsBy (λ (b : Act). b.txn) (λ b. b.place) a x) (get_or_default group i x d inside) at in
-                let mine = ((holds (get_or group i d)).0 (Contains-get_or group i d inside)).1 ∙ is in
-                elim stands [ inl less ↦ absurd (omega arith) | inr same ↦ same.1 ]
-          ]
+      (e, at, subst (λ f. actor f ≡ t) same (a.2 ∙ is), saw)
 
 seen_by_kind : (kind : Kind) (h : List Event) (t u k : ℕ) → EdgeOfKind h kind t u k → kind ≢ Ww → (p : ℕ) × (v : ℕ) × SawAt h p (reader_of kind t u) k v × Gives kind h t u k v
 seen_by_kind Ww h t u k edge other = absurd (other refl)

@@ -10,63 +10,78 @@ use Rattle.sia_events.specs.declared.log.Row.TheVariants as rows
 use Rattle.sia_events.specs.Events.{actor}
 use Rattle.sia_events.specs.Numbering.{Names, event_of, txn_at, IsWithin}
 use Rattle.sia_events.specs.Places.{at_place}
+use Rattle.sia_events.specs.Reads.{SawAt}
 use Rattle.sia_events.specs.Transactions.{ActsAt}
 use Rattle.sia_events.proofs.Shared.TransactionDecisions.{place_within}
 use Rattle.sia_parts.specs.declared.reasons.Act.{Act}
+use Rattle.sia_parts.specs.Acts.{IsActAt, IsUnder}
 use Rattle.sia_parts.specs.Seeing.{txn_in}
 
--- of these transactions the events up to place n, and nothing but events
+-- of these transactions the reads up to place n, and nothing but events
 abbrev pub TakenTo : List ℕ → List Event → ℕ → List Act → Type 0
-TakenTo txns h n acts = (act : Act) → (Contains acts act → ActsAt h act.txn act.place) × (Contains txns act.txn → ActsAt h act.txn act.place → act.place ≤ n → Contains acts act)
+TakenTo txns h n acts = ((act : Act) → Contains acts act → ActsAt h act.txn act.place)
+    × ((p t k v : ℕ) → p ≤ n → Contains txns t → SawAt h p t k v → (key : ℕ) × IsUnder k key × Contains acts (record { txn = t; key = key; place = p }))
+
+one_actor : (h : List Event) (p t u : ℕ) → ActsAt h t p → ActsAt h u p → t ≡ u
+one_actor h p t u one two =
+    let both : Some one.0 ≡ Some two.0 = sym one.1 ∙ two.1 in
+    let same : one.0 ≡ two.0 = cc in
+    sym one.2 ∙ subst (λ f. actor f ≡ u) (sym same) two.2
 
 module _ (txns : List ℕ) (h : List Event) (n : ℕ) (acts : List Act) (taken : TakenTo txns h n acts) where
-  -- the next one is taken
-  pub next_taken : (more : List Act) (e : Event) (t : ℕ) → Some e ≡ at_place h (n + 1) → t ≡ actor e → more ≡ acts ++ record { txn = t; place = n + 1 } ∷ [] → TakenTo txns h (n + 1) more
-  next_taken more e t at by is act = (
-    (λ has. elim (Contains-push_cases acts (record { txn = t; place = n + 1 }) act (subst (λ (xs : List Act). Contains xs act) is has)) [
-      | inl old ↦ (taken act).0 old
-      | inr new ↦ subst (λ (a : Act). ActsAt h a.txn a.place) new (e, sym at, sym by)
+  -- the read at the next place is taken
+  pub next_taken : (more : List Act) (next : Act) → IsActAt h (n + 1) next → more ≡ acts ++ next ∷ [] → TakenTo txns h (n + 1) more
+  next_taken more next at is = (
+    (λ act has. elim (Contains-push_cases acts next act (subst (λ (xs : List Act). Contains xs act) is has)) [
+      | inl old ↦ taken.0 act old
+      | inr new ↦ subst (λ (a : Act). ActsAt h a.txn a.place) new (subst (λ p. ActsAt h next.txn p) (sym at.place) at.acts)
     ]),
-    (λ among a up. subst (λ (xs : List Act). Contains xs act) (sym is) (elim (cases_lt n act.place) [
+    (λ p t k v up among saw. elim (cases_lt n p) [
       | inl last ↦
-          let place : n + 1 ≡ act.place = omega arith in
-          let both : Some e ≡ Some a.0 = at ∙ subst (λ p. at_place h p ≡ Some a.0) (sym place) a.1 in
-          let same : e ≡ a.0 = cc in
-          subst (λ u. Contains (acts ++ record { txn = t; place = n + 1 } ∷ []) (record { txn = u; place = act.place })) (by ∙ subst (λ f. actor f ≡ act.txn) (sym same) a.2)
-          (subst (λ p. Contains (acts ++ record { txn = t; place = n + 1 } ∷ []) (record { txn = t; place = p })) place (Contains-push acts (record { txn = t; place = n + 1 })))
-      | inr early ↦ Contains-append_left acts (record { txn = t; place = n + 1 } ∷ []) act ((taken act).1 among a (omega arith))
-    ])),
+          let place : n + 1 ≡ p = omega arith in
+          let here = subst (λ q. SawAt h q t k v) (sym place) saw in
+          let who = one_actor h (n + 1) next.txn t at.acts (here.0, here.1, here.2) in (
+            next.key,
+            at.under t k v here,
+            subst (λ (xs : List Act). Contains xs (record { txn = t; key = next.key; place = p })) (sym is)
+                (subst (λ q. Contains (acts ++ next ∷ []) (record { txn = t; key = next.key; place = q })) (at.place ∙ place)
+                (subst (λ u. Contains (acts ++ next ∷ []) (record { txn = u; key = next.key; place = next.place })) who (Contains-push acts next))),
+          )
+      | inr early ↦
+          let old = taken.1 p t k v (omega arith) among saw in (
+            old.0,
+            old.1,
+            subst (λ (xs : List Act). Contains xs (record { txn = t; key = old.0; place = p })) (sym is) (Contains-append_left acts (next ∷ []) _ old.2),
+          )
+    ]),
   )
 
   -- it is of another transaction
-  pub next_left : (e : Event) (t : ℕ) → Some e ≡ at_place h (n + 1) → t ≡ actor e → ¬ Contains txns t → TakenTo txns h (n + 1) acts
-  next_left e t at by other act = (
-    (taken act).0,
-    (λ among a up. elim (cases_lt n act.place) [
+  pub next_left : (next : Act) → IsActAt h (n + 1) next → ¬ Contains txns next.txn → TakenTo txns h (n + 1) acts
+  next_left next at other = (
+    taken.0,
+    (λ p t k v up among saw. elim (cases_lt n p) [
       | inl last ↦
-          let place : n + 1 ≡ act.place = omega arith in
-          let both : Some e ≡ Some a.0 = at ∙ subst (λ p. at_place h p ≡ Some a.0) (sym place) a.1 in
-          let same : e ≡ a.0 = cc in
-          absurd (other (subst (Contains txns) (sym (by ∙ subst (λ f. actor f ≡ act.txn) (sym same) a.2)) among))
-      | inr early ↦ (taken act).1 among a (omega arith)
+          let place : n + 1 ≡ p = omega arith in
+          let here = subst (λ q. SawAt h q t k v) (sym place) saw in
+          absurd (other (subst (Contains txns) (sym (one_actor h (n + 1) next.txn t at.acts (here.0, here.1, here.2))) among))
+      | inr early ↦ taken.1 p t k v (omega arith) among saw
     ]),
   )
 
   -- there is none at the next place
-  pub none_taken : None ≡ at_place h (n + 1) → TakenTo txns h (n + 1) acts
-  none_taken at act = (
-    (taken act).0,
-    (λ among a up. elim (cases_lt n act.place) [
-      | inl last ↦
-          let place : n + 1 ≡ act.place = omega arith in
-          absurd (let both : None ≡ Some a.0 = at ∙ subst (λ p. at_place h p ≡ Some a.0) (sym place) a.1 in cc)
-      | inr early ↦ (taken act).1 among a (omega arith)
+  pub none_taken : ((t k v : ℕ) → ¬ SawAt h (n + 1) t k v) → TakenTo txns h (n + 1) acts
+  none_taken none = (
+    taken.0,
+    (λ p t k v up among saw. elim (cases_lt n p) [
+      | inl last ↦ absurd (let place : n + 1 ≡ p = omega arith in none t k v (subst (λ q. SawAt h q t k v) (sym place) saw))
+      | inr early ↦ taken.1 p t k v (omega arith) among saw
     ]),
   )
 
   -- all are taken
-  pub all_taken : length h ≤ n → (act : Act) → Contains txns act.txn → Contains acts act ↔ ActsAt h act.txn act.place
-  all_taken all act among = ((taken act).0, (λ a. (taken act).1 among a (let within = (place_within h act.place a.0 a.1).1 in omega arith)))
+  pub all_taken : length h ≤ n → (p t k v : ℕ) → Contains txns t → SawAt h p t k v → (key : ℕ) × IsUnder k key × Contains acts (record { txn = t; key = key; place = p })
+  all_taken all p t k v among saw = taken.1 p t k v (let within = (place_within h p saw.0 saw.1).1 in omega arith) among saw
 
 -- who acts in the event that a row stands for
 acts_in : (names : Names) (row : Row) → actor (event_of names row) ≡ txn_at names (txn_in row)

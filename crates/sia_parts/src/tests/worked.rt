@@ -121,12 +121,11 @@ fn is_found(
     let findings = gather(alloc, audited)?;
     let gathering = Gathering::of(alloc, ix, seen)?;
     let committed = ix.committed();
-    let (places, is_same) = in_chunks(alloc, ix, &gathering.accesses, edges)?;
-    Ok(are_findings(&findings, edges, it)
+    let is_so = are_findings(&findings, edges, it)
         && (more.committed.is_empty() || committed == more.committed)
-        && are_accesses(alloc, &gathering.accesses, more)?
-        && is_same
-        && (more.places == 0 || places == more.places))
+        && are_accesses(alloc, &gathering.accesses, more)?;
+    let (places, is_same) = in_chunks(alloc, ix, &gathering.accesses, edges)?;
+    Ok(is_so && is_same && (more.places == 0 || places == more.places))
 }
 
 // The same, cut in each of the ways, and in the single parts.
