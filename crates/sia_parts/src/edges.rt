@@ -349,8 +349,8 @@ pub fn edges_at(
 const MOST: usize = 1024;
 
 impl Edges<'_> {
-    /// The numbers of sources at which chunks start, ascending, and behind them how many sources there are. A chunk ends where its
-    /// sources made and saw a thousandth of what all did, so that one which has most of the edges is alone.
+    /// The numbers of sources at which chunks start, ascending, and behind them how many sources there are. A chunk ends behind the
+    /// source with which its sources made and saw a thousandth of what all did, since few sources may have most edges.
     pub fn chunks(&self, alloc: Global) -> Result<Vec<u32>, NoMemory>
         requires { CanTell self.now }
         ensures few { IfOk result (λ places. length places.items ≤ 1025) }
@@ -360,8 +360,8 @@ impl Edges<'_> {
     {
         self.index.law();
         let count = self.index.committed().len() as u32;
-        let all = self.index.position_count() as usize + self.accesses.saw.rows().len();
-        let size = all / MOST + 1;
+        let seen = self.accesses.saw.rows().len() + self.accesses.missed.rows().len();
+        let size = (self.index.position_count() as usize).saturating_add(seen) / MOST + 1;
         let mut sum = 0usize;
         let mut places = Vec::new(alloc);
         places.push(0)?;
@@ -378,12 +378,13 @@ impl Edges<'_> {
         Ok(places)
     }
 
-    /// How many versions a source made and saw.
+    /// How many versions a source made and saw, and how many range misses it has.
     fn acts_by(&self, source: u32) -> usize
         requires tell { CanTell self.now }
         requires source { (t : ℕ) × IsCommittedAt self.now.index.now source t }
     {
-        let made = self.index.made_by(source as usize);
-        made.len() + self.accesses.saw.at(source as usize).len()
+        let source = source as usize;
+        let seen = self.accesses.saw.at(source).len() + self.accesses.missed.at(source).len();
+        seen.saturating_add(self.index.made_by(source).len())
     }
 }
