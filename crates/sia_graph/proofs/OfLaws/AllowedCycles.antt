@@ -1,7 +1,6 @@
 -- Where isolation is kept, every cycle of edges has two rw edges between overlapping transactions that follow one another: the
 -- two that lead to the first of its transactions to commit.
 use Rattle.std.proofs.Common.{◌≡◌, ◌⊎◌, ◌↔◌, inl, inr, ℕ, zero, suc, ◌+◌, ◌-◌, ◌<◌, ◌≤◌, List, [], ◌∷◌, length, map, slice_get, Some, refl, sym, subst, arith, get_or, ap, ◌∙◌}
-use Rattle.std.specs.Prelude.{All}
 use Rattle.std.proofs.lemmas.Bool.{cases_lt}
 use Rattle.std.proofs.lemmas.Option.{get_or_from_slice_get, same_Some, slice_get-get_or, slice_get_within}
 use Rattle.sia_events.specs.declared.event.Event.{Event}
@@ -14,7 +13,7 @@ use Rattle.sia_parts.specs.declared.finding.Kind.{Kind}
 use Rattle.sia_parts.specs.declared.finding.Kind.TheVariants.{Ww, Wr, Rw}
 use Rattle.sia_parts.specs.Entries.{EdgeOfKind, IsEdge}
 use Rattle.sia_graph.specs.Allowed.{IsAllowed, IsAllowedAt, IsFollowedAt, IsRwOverlap, LeadRound}
-use Rattle.sia_graph.proofs.Shared.Facts.{Lifetime, lifetime_of, sees_le}
+use Rattle.sia_graph.proofs.Shared.Facts.{lifetime_of, sees_le}
 use Rattle.sia_graph.proofs.Shared.NoStuckSet.{earliest, rw_sees_or_vulnerable, starts_lt, wr_sees, ww_sees}
 use Rattle.sia_graph.proofs.Shared.ReadyOrders.{In}
 

@@ -1,21 +1,15 @@
 -- Events are taken one after another, each with its transaction.
-use Rattle.std.proofs.Common.{◌≡◌, inl, inr, ℕ, ◌+◌, ◌<◌, ◌≤◌, List, [], ◌∷◌, ◌++◌, length, Some, None, slice_get, refl, ap, sym, subst, ◌∙◌, arith}
-use Rattle.std.specs.Prelude.{◌↔◌, Contains}
+use Rattle.std.proofs.Common.{◌≡◌, inl, inr, ℕ, ◌+◌, ◌≤◌, List, [], ◌∷◌, ◌++◌, length, Some, sym, subst, ◌∙◌, arith}
+use Rattle.std.specs.Prelude.{Contains}
 use Rattle.std.proofs.lemmas.Bool.{cases_lt}
 use Rattle.std.proofs.lemmas.List.Elements.{Contains-append_left, Contains-push, Contains-push_cases}
-use Rattle.std.proofs.lemmas.Option.{get_or_from_slice_get}
 use Rattle.sia_events.specs.declared.event.Event.{Event}
-use Rattle.sia_events.specs.declared.log.Row.{Row}
-use Rattle.sia_events.specs.declared.log.Row.TheVariants as rows
 use Rattle.sia_events.specs.Events.{actor}
-use Rattle.sia_events.specs.Numbering.{Names, event_of, txn_at, IsWithin}
-use Rattle.sia_events.specs.Places.{at_place}
 use Rattle.sia_events.specs.Reads.{SawAt}
 use Rattle.sia_events.specs.Transactions.{ActsAt}
 use Rattle.sia_events.proofs.Shared.TransactionDecisions.{place_within}
 use Rattle.sia_parts.specs.declared.reasons.Act.{Act}
 use Rattle.sia_parts.specs.Acts.{IsActAt, IsUnder}
-use Rattle.sia_parts.specs.Seeing.{txn_in}
 
 -- of these transactions the reads up to place n, and nothing but events
 abbrev pub TakenTo : List ℕ → List Event → ℕ → List Act → Type 0
@@ -82,25 +76,3 @@ module _ (txns : List ℕ) (h : List Event) (n : ℕ) (acts : List Act) (taken :
   -- all are taken
   pub all_taken : length h ≤ n → (p t k v : ℕ) → Contains txns t → SawAt h p t k v → (key : ℕ) × IsUnder k key × Contains acts (record { txn = t; key = key; place = p })
   all_taken all p t k v among saw = taken.1 p t k v (let within = (place_within h p saw.0 saw.1).1 in omega arith) among saw
-
--- who acts in the event that a row stands for
-acts_in : (names : Names) (row : Row) → actor (event_of names row) ≡ txn_at names (txn_in row)
-acts_in names (rows.Begin d start) = refl
-acts_in names (rows.Read d k w) = refl
-acts_in names (rows.OwnRead d k w) = refl
-acts_in names (rows.Range d r w) = refl
-acts_in names (rows.Write d k w) = refl
-acts_in names (rows.Commit d) = refl
-acts_in names (rows.Abort d) = refl
-
-pub named_actor : (names : Names) (row : Row) (d t : ℕ) → d ≡ txn_in row → slice_get names.txns d ≡ Some t → t ≡ actor (event_of names row)
-named_actor names row d t is there = sym (get_or_from_slice_get names.txns d t 0 there) ∙ ap (txn_at names) is ∙ sym (acts_in names row)
-
-pub txn_within : (names : Names) (row : Row) → IsWithin names row → txn_in row < length names.txns
-txn_within names (rows.Begin d start) within = within
-txn_within names (rows.Read d k w) within = within.0
-txn_within names (rows.OwnRead d k w) within = within.0
-txn_within names (rows.Range d r w) within = within.0
-txn_within names (rows.Write d k w) within = within.0
-txn_within names (rows.Commit d) within = within
-txn_within names (rows.Abort d) within = within

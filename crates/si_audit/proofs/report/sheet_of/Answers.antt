@@ -1,7 +1,6 @@
 -- The lines and the links of one source more.
-use Rattle.std.proofs.Common.{◌≡◌, ◌≤◌, ◌+◌, ℕ, [], length, sym, subst, ◌∙◌, arith}
+use Rattle.std.proofs.Common.{◌≡◌, ◌≤◌, ◌+◌, ℕ, length, subst, arith}
 use Rattle.std.specs.Prelude.{⊤, slice_index}
-use Rattle.std.proofs.lemmas.List.{get_or_default}
 use Rattle.sia_index.specs.Numbers.{IsCommittedAt}
 use Rattle.sia_parts.specs.EdgeRows.{AreEdgesFrom}
 use Rattle.sia_parts.specs.Parts.{IsWithin}

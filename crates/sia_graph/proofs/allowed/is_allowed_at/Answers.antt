@@ -1,7 +1,7 @@
 use Rattle.std.proofs.Common.{◌≡◌, ◌⊎◌, inl, inr, ◌+◌, ◌<◌, length, arith}
 use Rattle.std.specs.Prelude.{◌↔◌, IsTrue}
 use Rattle.sia_events.proofs.Shared.Faults.{true_false}
-use Rattle.sia_graph.specs.Allowed.{IsAllowedAt, IsRwOverlap}
+use Rattle.sia_graph.specs.Allowed.{IsRwOverlap}
 use Rattle.sia_graph.proofs.OfLaws.AllowedCycles.{at_it, both_at, edge_at}
 use Rattle.sia_graph.proofs.allowed.is_allowed_at.Goals as goal
 use Rattle.sia_graph.proofs.allowed.is_allowed_at.Goals.{then-i-edges, else-i-edges}

@@ -1,5 +1,5 @@
 -- One event more, and what the sort leaves.
-use Rattle.std.proofs.Common.{◌≡◌, ◌<◌, ℕ, get_or, length, rules, subst, sym, arith}
+use Rattle.std.proofs.Common.{◌≡◌, ℕ, get_or, rules, subst, sym, arith}
 use Rattle.std.specs.Prelude.{Contains}
 use Rattle.std.proofs.lemmas.List.Elements.{Contains-get_or}
 use Rattle.std.proofs.lemmas.List.Sorted.{Contains-permutation, IsNonDecreasingBy-from_sort_by_key, IsPermutation-sym, answers_always}
