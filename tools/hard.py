@@ -128,6 +128,21 @@ def all_at_once(size: int) -> Case:
     return brief(tokens, (count, 0, 0), f"cycle 1 >ww:{KEY}> 2 >rw:{KEY}> 1", found, two_steps(versions[0], versions[1]))
 
 
+def same_keys(size: int) -> Case:
+    """Two transactions read and write the same keys, and so lose an update at each."""
+    count = size // 4
+    tokens = flat([f"r1[{key}:0]", f"w1[{key}]", f"r2[{key}:0]", f"w2[{key}]"] for key in range(1, count + 1))
+    ends = [f"event {len(tokens) + it} c{it}" for it in (1, 2)]
+    found: Below = {}
+    for key in range(1, count + 1):
+        first = f"event {4 * key - 2} w1[{key}], {ends[0]}"
+        second = f"event {4 * key} w2[{key}], {ends[1]}"
+        found[f"bad-write {key} 1 2"] = lost_update(2, 2, f"event {4 * key - 1} r2[{key}:0]", first, second)
+    first = f"event 2 w1[1], {ends[0]}"
+    steps = [f"  1 >ww:1> 2: {first}; event 4 w2[1], {ends[1]}", f"  2 >rw:1> 1: event 3 r2[1:0]; {first}", FORBIDDEN]
+    return brief([*tokens, "c1", "c2"], (2, 0, 0), "cycle 1 >ww:1> 2 >rw:1> 1", found, steps)
+
+
 def readers_ahead(size: int) -> Case:
     """Readers that begin at once, each of which then sees a version that was committed later. Transaction 2i reads what
     2i - 1 wrote."""
@@ -265,6 +280,7 @@ KINDS: dict[str, Callable[[int], Case]] = {
         counter,
         lost_updates,
         all_at_once,
+        same_keys,
         readers_ahead,
         held_snapshots,
         writers,
