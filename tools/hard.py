@@ -130,7 +130,7 @@ def all_at_once(size: int) -> Case:
 
 def same_keys(size: int) -> Case:
     """Two transactions read and write the same keys, and so lose an update at each."""
-    count = size // 4
+    count = (size - 2) // 4
     tokens = flat([f"r1[{key}:0]", f"w1[{key}]", f"r2[{key}:0]", f"w2[{key}]"] for key in range(1, count + 1))
     ends = [f"event {len(tokens) + it} c{it}" for it in (1, 2)]
     found: Below = {}
