@@ -1,23 +1,27 @@
 -- The reads of a history by their transactions.
-use Rattle.std.specs.Prelude.{◌≡◌, ◌⊎◌, ℕ, List, Contains}
+use Rattle.std.specs.Prelude.{◌≡◌, ◌↔◌, ◌==◌, ℕ, List, Some, Contains, if◌then◌else◌}
 use Rattle.sia_events.specs.declared.event.Event.{Event}
-use Rattle.sia_events.specs.Reads.{SawAt}
-use Rattle.sia_events.specs.Transactions.{ActsAt}
+use Rattle.sia_events.specs.declared.event.Event.TheVariants.{Begin, Read, Range, Write, Commit, Abort}
+use Rattle.sia_events.specs.Events.{actor}
+use Rattle.sia_events.specs.Places.{at_place}
 use Rattle.sia_parts.specs.Grouped.{RiseBy}
 use Rattle.sia_parts.specs.declared.reasons.Act.{Act}
 
--- what a read of key k is found under: the key, or the greatest one, which stands for any
-abbrev pub IsUnder : ℕ → ℕ → Type 0
-IsUnder k key = (key ≡ k) ⊎ (key ≡ 18446744073709551615)
+-- a read stands under its key, and a range read of several keys under the greatest key that there is; what reads nothing
+-- stands nowhere
+abbrev pub IsUnder : Event → ℕ → Type 0
+IsUnder (Begin t start) key = ⊥
+IsUnder (Read t k v) key = key ≡ k
+IsUnder (Range t lo hi listed) key = key ≡ (if lo == hi then lo else 18446744073709551615)
+IsUnder (Write t k) key = ⊥
+IsUnder (Commit t) key = ⊥
+IsUnder (Abort t) key = ⊥
 
--- the read at place p
-pub record IsActAt (h : List Event) (p : ℕ) (act : Act) : Type 0 where
-  pub place : act.place ≡ p
-  pub acts : ActsAt h act.txn p
-  pub under : (t k v : ℕ) → SawAt h p t k v → IsUnder k act.key
+-- a read of its transaction, with its place
+abbrev pub IsAct : List Event → Act → Type 0
+IsAct h act = (e : Event) × (at_place h act.place ≡ Some e) × (actor e ≡ act.txn) × IsUnder e act.key
 
--- what transaction t read is found among these, which stand by transaction and key
+-- of transaction t these are the reads, and all of these stand by transaction and key
 pub record HasActs (h : List Event) (t : ℕ) (acts : List Act) : Type 0 where
   pub rise : RiseBy (λ act. act.txn) (λ act. act.key) acts
-  pub own : (act : Act) → act.txn ≡ t → Contains acts act → ActsAt h act.txn act.place
-  pub each : (p k v : ℕ) → SawAt h p t k v → (key : ℕ) × IsUnder k key × Contains acts (record { txn = t; key = key; place = p })
+  pub each : (act : Act) → act.txn ≡ t → Contains acts act ↔ IsAct h act

@@ -11,11 +11,12 @@ ghost use Rattle.sia_parts.specs.declared.reads.Read.{Read as read};
 ghost use Rattle.sia_parts.specs.Dealing.{AreReads, Deals, HasReadsOf};
 ghost use Rattle.sia_parts.specs.Parts.{IsCutting};
 ghost use Rattle.sia_parts.specs.Seeing.{txn_in};
+ghost use Rattle.sia_index.specs.Lists.{joined};
 
 use crate::cutting::Part;
 use sia_events::{Key, Log, NoMemory, Row};
 use sia_index::keyed::{By, ByKey, ByTxn, place_above};
-use sia_index::ordering::in_order;
+use sia_index::lists::Lists;
 use std::alloc::Global;
 
 /// For each of some parts the places of the read events that concern it, transaction by transaction in the order of the log's
@@ -26,7 +27,7 @@ pub struct Reads {
 }
 
 /// A read event: the log's transaction, and its place.
-#[derive(Clone, Copy, PartialEq, Eq, PartialOrd, Ord)]
+#[derive(Clone, Copy)]
 struct Read {
     txn: u32,
     place: u32,
@@ -59,8 +60,8 @@ impl Reads {
         for _ in 0..parts.len() {
             dealt.push(Vec::new(alloc))?;
         }
-        for i in 0..reads.len() {
-            put_read(log, parts, reads[i].place, &mut dealt)?;
+        for read in reads.rows() {
+            put_read(log, parts, read.place, &mut dealt)?;
         }
         Ok(Reads { dealt })
     }
@@ -77,9 +78,9 @@ impl Reads {
     }
 }
 
-fn reads_by_txn(alloc: Global, log: &Log) -> Result<Vec<Read>, NoMemory>
+fn reads_by_txn(alloc: Global, log: &Log) -> Result<Lists<Read>, NoMemory>
     ensures { IfOk result (λ reads. (p t k v : ℕ) → SawAt log.now p t k v
-        → (r : read) × Contains reads.items r × (r.place ≡ p)) }
+        → (r : read) × Contains (joined reads) r × (r.place ≡ p)) }
 {
     let count = log.len();
     let mut reads = Vec::with_capacity(alloc, count as usize)?;
@@ -93,12 +94,12 @@ fn reads_by_txn(alloc: Global, log: &Log) -> Result<Vec<Read>, NoMemory>
             }
         }
     }
-    Ok(in_order::<Read, ByTxn>(alloc, reads)?)
+    Ok(Lists::deal::<ByTxn>(alloc, log.txn_count() as usize, &reads)?)
 }
 
 /// The first and the last key that the event may have seen, if it is a read.
 #[inline(always)]
-pub(crate) fn covered(log: &Log, row: Row) -> Option<(Key, Key)>
+fn covered(log: &Log, row: Row) -> Option<(Key, Key)>
     requires { IsWithin (names_of log.now) row }
     ensures { MatchOption result ((k v : ℕ) → ¬ Saw (event_of (names_of log.now) row) k v)
         (λ ends. (k v : ℕ) → Saw (event_of (names_of log.now) row) k v → (ends.0 ≤ k) × (k ≤ ends.1)) }

@@ -1,5 +1,5 @@
 //! What a line of reasons tells: events, the names of bad reads and bad writes, and where an edge was first seen.
-ghost use Rattle.std.specs.Prelude.{◌≡◌, ◌≢◌, ◌++◌, ℕ, List, OnOk, codes, All, Contains, MatchOption, ◌↔◌, IfOk, IsTrue};
+ghost use Rattle.std.specs.Prelude.{◌≡◌, ◌≢◌, ◌++◌, ℕ, List, OnOk, codes, All, Contains, MatchOption, ◌↔◌, ◌==◌, IfOk, IsTrue, if◌then◌else◌};
 ghost use Rattle.std.specs.List.Sorted.{IsNonDecreasingBy};
 ghost use Rattle.sia_events.specs.Text.{numeral};
 ghost use Rattle.sia_events.specs.Transactions.{Wrote, StartsAt, CommitsBefore};
@@ -10,14 +10,13 @@ ghost use Rattle.sia_events.specs.Isolation.{IsBadRead, IsBadWrite};
 ghost use Rattle.sia_events.specs.Dependencies.{IsCommittedWriter};
 ghost use Rattle.sia_parts.specs.Wrong.{IsWrong};
 ghost use Rattle.sia_events.specs.Reads.{SawAt};
-ghost use Rattle.sia_parts.specs.Acts.{HasActs, IsActAt};
+ghost use Rattle.sia_parts.specs.Acts.{HasActs, IsAct};
 ghost use Rattle.sia_parts.specs.LostUpdates.{IsLostUpdate, LosesFirstAt};
 ghost use Rattle.sia_parts.specs.Sightings.{Gives, IsFirstSight, reader_of, writer_of};
-ghost use Rattle.sia_parts.specs.declared.reasons.Act.{Act};
+ghost use Rattle.sia_parts.specs.declared.reasons.Act.{Act as AnAct};
 
 use crate::finding::{BadRead, BadWrite, Edge, Kind};
-use crate::reads::{covered, txn_of};
-use sia_events::{Anomaly, Key, Log, NoMemory, TxnId, Version, push_number};
+use sia_events::{Anomaly, Key, Log, NoMemory, Row, TxnId, Version, push_number};
 use sia_index::keyed::{By, ByKey, ByTxn, between};
 use sia_index::{Fate, Index};
 use std::alloc::{AllocError, Global};
@@ -175,7 +174,8 @@ impl By<Act> for ByKey {
 
 /// The reads of these transactions, by transaction and key.
 pub fn acts_of(alloc: Global, h: &Log, mut txns: Vec<TxnId>) -> Result<Vec<Act>, NoMemory>
-    ensures { IfOk result (λ acts. All (λ t. HasActs h.now t acts.items) txns.items) }
+    ensures has { IfOk result (λ acts. All (λ t. HasActs h.now t acts.items) txns.items) }
+    ensures only { IfOk result (λ acts. All (λ act. Contains txns.items act.txn) acts.items) }
 {
     let mut acts = Vec::new(alloc);
     if txns.is_empty() {
@@ -194,13 +194,23 @@ pub fn acts_of(alloc: Global, h: &Log, mut txns: Vec<TxnId>) -> Result<Vec<Act>,
 }
 
 fn act_at(h: &Log, place: u32) -> Option<Act>
-    ensures { MatchOption result ((t k v : ℕ) → ¬ SawAt h.now place t k v) (IsActAt h.now place) }
+    ensures { MatchOption result ((act : AnAct) → act.place ≡ place → ¬ IsAct h.now act)
+        (λ act. (act.place ≡ place) × IsAct h.now act) }
 {
-    let row = h.row(place)?;
-    let (lo, hi) = covered(h, row)?;
-    let txn = h.txn(txn_of(row)).name;
-    let key = if lo == hi { lo } else { Key::MAX };
+    let (txn, key) = match h.row(place)? {
+        Row::Read { txn, key, .. } | Row::OwnRead { txn, key, .. } => (txn, h.key(key)),
+        Row::Range { txn, range, .. } => (txn, key_for(h.range(range))),
+        _ => return None,
+    };
+    let txn = h.txn(txn).name;
     Some(Act { txn, key, place })
+}
+
+/// Under which key the read of a range stands.
+fn key_for(ends: (Key, Key)) -> Key
+    ensures { result ≡ (if ends.0 == ends.1 then ends.0 else 18446744073709551615) }
+{
+    if ends.0 == ends.1 { ends.0 } else { Key::MAX }
 }
 
 fn is_among(txns: &[TxnId], txn: TxnId) -> bool

@@ -1,6 +1,7 @@
 -- Sights among the events of a transaction, by place.
-use Rattle.std.proofs.Common.{◌≡◌, ◌≢◌, ◌⊎◌, inl, inr, ℕ, ◌<◌, ◌≤◌, List, Bool, true, false, nat_lt, Option, Some, None, refl, sym, subst, ◌∙◌, arith}
+use Rattle.std.proofs.Common.{◌≡◌, ◌≢◌, ◌⊎◌, inl, inr, ℕ, ◌<◌, ◌≤◌, List, Bool, true, false, nat_lt, cond, Option, Some, None, refl, sym, subst, ap, ◌∙◌, arith}
 use Rattle.std.specs.Prelude.{◌↔◌, ⊤, Contains, IsTrue, MatchOption}
+use Rattle.std.proofs.lemmas.Bool.{cases_eq, eq-eqb, ne_eqb}
 use Rattle.std.proofs.lemmas.Bool.Decides.{nat_tests}
 use Rattle.sia_events.specs.declared.event.Event.{Event}
 use Rattle.sia_events.specs.Events.{actor, Saw}
@@ -9,7 +10,7 @@ use Rattle.sia_events.specs.Dependencies.{IsCommittedWriter}
 use Rattle.sia_events.specs.Reads.{SawAt}
 use Rattle.sia_events.specs.Refusals.{IsWellFormed}
 use Rattle.sia_events.specs.Transactions.{CommitsBefore, Wrote}
-use Rattle.sia_events.specs.declared.event.Event.TheVariants.{Commit, Write}
+use Rattle.sia_events.specs.declared.event.Event.TheVariants.{Begin, Read, Range, Write, Commit, Abort}
 use Rattle.sia_events.proofs.OfLaws.Seen.{actor_is_txn}
 use Rattle.sia_events.proofs.Writing.Ranges.{one_version}
 use Rattle.sia_parts.specs.declared.finding.Edge.{Edge}
@@ -22,7 +23,7 @@ use Rattle.sia_parts.specs.declared.reasons.FirstSight.{FirstSight}
 use Rattle.sia_parts.proofs.OfReasons.Groups.{group_between}
 use Rattle.sia_parts.proofs.OfReasons.InTwoNumbers.{group_holds}
 use Rattle.sia_parts.specs.declared.reasons.Act.{Act}
-use Rattle.sia_parts.specs.Acts.{HasActs}
+use Rattle.sia_parts.specs.Acts.{HasActs, IsUnder}
 use Rattle.sia_parts.specs.Sightings.{Gives, IsFirstSight, reader_of, writer_of}
 
 pub same_event : (e f : Event) → Some e ≡ Some f → e ≡ f
@@ -82,6 +83,18 @@ module _ (Q : FirstSight → Type 0) (q : ℕ) (r : Bool) (told : (s : FirstSigh
   is_late None so late = true_false r so late
   is_late (Some s) so late = let is = told s so in grind (arith, nat_tests)
 
+-- where an event stands that saw the key
+under_some : (e : Event) (k v : ℕ) → Saw e k v → (key : ℕ) × ((key ≡ k) ⊎ (key ≡ 18446744073709551615)) × IsUnder e key
+under_some (Begin t start) k v saw = absurd saw
+under_some (Read t key v) k w saw = (k, inl refl, saw.0)
+under_some (Range t lo hi listed) k v saw = elim (cases_eq lo hi) [
+  | inl same ↦ (lo, inl (let up = saw.0 in let down = saw.1 in omega arith), sym (ap (λ b. cond b lo 18446744073709551615) (eq-eqb lo hi same)))
+  | inr other ↦ (18446744073709551615, inr refl, sym (ap (λ b. cond b lo 18446744073709551615) (ne_eqb lo hi other)))
+]
+under_some (Write t key) k v saw = absurd saw
+under_some (Commit t) k v saw = absurd saw
+under_some (Abort t) k v saw = absurd saw
+
 module _ (h : List Event) (t : ℕ) (acts : List Act) (all : HasActs h t acts) where
   -- those of t under a key, one after another
   abbrev pub AreUnder : ℕ → List Act → Type 0
@@ -98,9 +111,15 @@ module _ (h : List Event) (t : ℕ) (acts : List Act) (all : HasActs h t acts) w
   -- what one of them saw, t saw
   pub sight_at : (act : Act) → Contains acts act → act.txn ≡ t → (k v : ℕ) (e : Event) → at_place h act.place ≡ Some e → Saw e k v → SawAt h act.place t k v
   sight_at act has is k v e at saw =
-      let a = all.own act is has in
+      let a = (all.each act is).0 has in
       let same : a.0 ≡ e = same_event a.0 e (sym a.1 ∙ at) in
       (e, at, subst (λ f. actor f ≡ t) same (a.2 ∙ is), saw)
+
+  -- what t saw of k stands under k or under the greatest key
+  pub found_under : (p k v : ℕ) → SawAt h p t k v → (key : ℕ) × ((key ≡ k) ⊎ (key ≡ 18446744073709551615)) × Contains acts (record { txn = t; key = key; place = p })
+  found_under p k v saw =
+      let under = under_some saw.0 k v saw.3 in
+      (under.0, under.1, (all.each (record { txn = t; key = under.0; place = p }) refl).1 (saw.0, saw.1, saw.2, under.2))
 
 seen_by_kind : (kind : Kind) (h : List Event) (t u k : ℕ) → EdgeOfKind h kind t u k → kind ≢ Ww → (p : ℕ) × (v : ℕ) × SawAt h p (reader_of kind t u) k v × Gives kind h t u k v
 seen_by_kind Ww h t u k edge other = absurd (other refl)

@@ -55,7 +55,7 @@ pub(crate) fn put_range(
     let hi = to.min(scope.part.hi);
     let behind = pairs_from(scope.log, listed, from, lo);
     let pairs = pairs_up_to(scope.log, behind, hi, to);
-    let (first, end) = numbers_within(scope.ix, lo, hi, seen.near);
+    let (first, end) = numbers_within(scope.ix, lo, hi, near_of(scope, pairs, seen.near));
     seen.near = (first, end);
     let cover = Cover {
         pairs,
@@ -66,6 +66,22 @@ pub(crate) fn put_range(
         own: scope.ix.next_own(known.reader, lo, hi).is_some(),
     };
     put_covered(scope, known, &cover, seen)
+}
+
+/// Where the numbers of a range mostly begin and end: at the keys that it lists first and last, or where others did.
+fn near_of(scope: &Scope, pairs: &[u32], others: (u32, u32)) -> (u32, u32)
+    requires scope { IsScope scope.now }
+    requires pairs { All (IsPair (names_of scope.now.log.now)) pairs.now }
+{
+    let (Some(first), Some(last)) = (pairs.first(), pairs.last()) else {
+        return others;
+    };
+    let first = origin_of_pair(scope.log, *first).stands(scope.ix);
+    let last = origin_of_pair(scope.log, *last).stands(scope.ix);
+    match (first, last) {
+        (Some(first), Some(last)) => (first.key, last.key.saturating_add(1)),
+        _ => others,
+    }
 }
 
 /// Adds what was seen of the keys listed, and of those between them.

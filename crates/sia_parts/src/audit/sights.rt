@@ -78,7 +78,7 @@ pub(crate) struct Seen {
     pub(crate) bad_reads: Vec<BadRead>,
     pub(crate) saw: ByReader<u32>,
     pub(crate) missed: ByReader<RangeMiss>,
-    /// The numbers of the first key of the last range, and behind the last one. Only the next search goes by them.
+    /// The numbers of the first key of the last range, and behind the last one. Only searches go by them.
     pub(crate) near: (u32, u32),
 }
 

@@ -16,7 +16,7 @@ push_front-requires c =
     let writes = c.deref.result.now in
     let later = items_from_collect {E = ℕ} (Ok c.in_ok-later.later) c.in_ok-later.ensures.ran
     (YieldsList-from_map _ (λ (b : BadWrite). b.second) (YieldsList-at c.map.ensures.source (YieldsList-from_slice writes c.iter.ensures.rest)) c.map.ensures.closure (λ x r q k. search rules)) in
-    let acts = all_of_map (λ t. HasActs h t c.in_ok-acts.acts.items) (λ (b : BadWrite). b.second) writes _ later c.in_ok-acts.ensures in
+    let acts = all_of_map (λ t. HasActs h t c.in_ok-acts.acts.items) (λ (b : BadWrite). b.second) writes _ later c.in_ok-acts.ensures.has in
     record { index = c.requires.index; judgement = c.requires.judgement; acts = rw (c.deref-2.ensures.value, ← c.deref.ensures.value) acts }
 
 pub push_danger-requires : goal.push_danger-requires

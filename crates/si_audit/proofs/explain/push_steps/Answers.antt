@@ -25,7 +25,7 @@ push_events-requires c =
     (YieldsList-from_map _ (λ (e : Edge). reader_of e.kind e.src e.dst) (YieldsList-at c.map.ensures.source (YieldsList-from_slice edges c.iter.ensures.rest)) c.map.ensures.closure (λ x r q k. search rules)) in
     let e : Edge = get_or edges c.loop-e.e-index (record { src = 0; dst = 0; kind = Ww; key = 0 }) in
     let acts : HasActs h (reader_of e.kind e.src e.dst) c.in_ok-acts.acts.items =
-    all_of_map (λ t. HasActs h t c.in_ok-acts.acts.items) (λ (e : Edge). reader_of e.kind e.src e.dst) edges _ readers c.in_ok-acts.ensures c.loop-e.e-index (record { src = 0; dst = 0; kind = Ww; key = 0 }) c.loop-e-test.true in
+    all_of_map (λ t. HasActs h t c.in_ok-acts.acts.items) (λ (e : Edge). reader_of e.kind e.src e.dst) edges _ readers c.in_ok-acts.ensures.has c.loop-e.e-index (record { src = 0; dst = 0; kind = Ww; key = 0 }) c.loop-e-test.true in
     record {
       index = c.requires.index;
       acts = rw (c.deref.ensures.value) acts;

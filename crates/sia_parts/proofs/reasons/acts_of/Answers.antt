@@ -18,28 +18,39 @@ loop-before-preserved c =
     let wanted = c.sort_unstable_by_key.new.self.items in
     let taken = c.loop-before.invariant in
     elim c.match-act_at.branch [
-      | in-Some+then-is_among+in_ok-push w ↦ rw (w.acts-is) (next_taken wanted c.args.h.now c.loop-before.before c.loop-before.acts.items taken _ w.in-Some.act w.in-Some.ensures w.in_ok-push.ensures.items)
+      | in-Some+then-is_among+in_ok-push w ↦ rw (w.acts-is) (next_taken wanted c.args.h.now c.loop-before.before c.loop-before.acts.items taken _ w.in-Some.act w.in-Some.ensures (subst (λ xs. Contains xs w.in-Some.act.txn) w.deref.ensures.value (w.is_among.ensures.0 w.if-is_among.true)) w.in_ok-push.ensures.items)
       | in-Some+else-is_among w ↦ rw (w.acts-is) (next_left wanted c.args.h.now c.loop-before.before c.loop-before.acts.items taken w.in-Some.act w.in-Some.ensures
           (λ among. let yes = subst (λ xs. Contains xs w.in-Some.act.txn) (sym w.deref.ensures.value) among in true_false _ (w.is_among.ensures.1 yes) w.if-is_among.false))
-      | in_default w ↦ rw (w.acts-is) (none_taken wanted c.args.h.now c.loop-before.before c.loop-before.acts.items taken w.in_default.ensures)
+      | in_default w ↦ rw (w.acts-is) (none_taken wanted c.args.h.now c.loop-before.before c.loop-before.acts.items taken (λ act among here. w.in_default.ensures act here))
     ]
 
-pub returns : goal.returns
-returns c =
+pub returns-clause-has : goal.returns-clause-has
+returns-clause-has c =
     let xs = c.loop-before.acts.items in
     let ys = c.sort_unstable_by_key-2.new.self.items in
     let moved = c.sort_unstable_by_key-2.ensures.permutation in
     let wanted = c.sort_unstable_by_key.new.self.items in
-    let count = c.len-before-end.ensures.len in
     let last = c.loop-before-test.false in
+    let count = c.len-before-end.ensures.len in
     λ k d below.
     let t = get_or c.args.txns.items k d in
     let among = Contains-permutation c.args.txns.items wanted t c.sort_unstable_by_key.ensures.permutation (Contains-get_or c.args.txns.items k d below) in
+    let all = all_taken wanted c.args.h.now c.loop-before.before xs c.loop-before.invariant (omega arith) in
     record {
       rise = rise_from_sort (λ (act : Act). act.txn) (λ act. act.key) _
           (c.sort_unstable_by_key-2.ensures.sorted (λ act. (act.txn, act.key)) (answers_always _ (λ a r. r ≡ (a.0.now.txn, a.0.now.key)) _ (λ f a r g k. search rules)));
-      own = λ act is has. c.loop-before.invariant.0 act (Contains-permutation ys xs act (IsPermutation-sym xs ys moved) has);
-      each = λ p k v saw.
-          let has = all_taken wanted c.args.h.now c.loop-before.before xs c.loop-before.invariant (omega arith) p t k v among saw in
-          (has.0, has.1, Contains-permutation xs ys _ moved has.2);
+      each = λ act is. (
+        (λ has. ((all act).0 (Contains-permutation ys xs act (IsPermutation-sym xs ys moved) has)).1),
+        (λ one. Contains-permutation xs ys act moved ((all act).1 (subst (Contains wanted) (sym is) among, one))),
+      );
     }
+
+pub returns-clause-only : goal.returns-clause-only
+returns-clause-only c =
+    let xs = c.loop-before.acts.items in
+    let ys = c.sort_unstable_by_key-2.new.self.items in
+    let wanted = c.sort_unstable_by_key.new.self.items in
+    λ i d below.
+    let act : Act = get_or ys i d in
+    let has = Contains-permutation ys xs act (IsPermutation-sym xs ys c.sort_unstable_by_key-2.ensures.permutation) (Contains-get_or ys i d below) in
+    Contains-permutation wanted c.args.txns.items act.txn (IsPermutation-sym c.args.txns.items wanted c.sort_unstable_by_key.ensures.permutation) ((c.loop-before.invariant act).0 has).0

@@ -9,7 +9,7 @@ use Rattle.sia_parts.specs.declared.reasons.Act.{Act}
 use Rattle.sia_parts.specs.Sightings.{Gives, reader_of}
 use Rattle.sia_parts.proofs.OfReasons.Groups.{group_between}
 use Rattle.sia_parts.proofs.OfReasons.InTwoNumbers.{firsts_rise, group_rises}
-use Rattle.sia_parts.proofs.OfReasons.Sighted.{first_kept, first_left, first_of_all, first_of_fewer, first_taken, is_early, is_late, sees_other, sight_at, those_under}
+use Rattle.sia_parts.proofs.OfReasons.Sighted.{first_kept, first_left, first_of_all, first_of_fewer, first_taken, found_under, is_early, is_late, sees_other, sight_at, those_under}
 use Rattle.sia_parts.proofs.reasons.first_sight.Invariants.{OrAmong, UnderFirst}
 use Rattle.sia_parts.proofs.reasons.first_sight.Goals as goal
 use Rattle.sia_parts.proofs.reasons.first_sight.Goals.{then-is_none_or+in-Some+then-gives, then-is_none_or+in-Some+else-gives, then-is_none_or+in_default, else-is_none_or}
@@ -119,7 +119,7 @@ returns c =
     let keys = e.key ∷ 18446744073709551615 ∷ [] in
     first_of_all (Gives e.kind h e.src e.dst e.key) h t e.key (UnderFirst acts t keys c.loop-key.key-index)
     (λ p v saw.
-    let under = c.requires.acts.each p e.key v saw in
+    let under = found_under h t acts c.requires.acts p e.key v saw in
     elim under.1 [
       | inl own ↦ (0, (let all = c.loop-key-test.false in omega arith), subst (λ k. Contains acts (record { txn = t; key = k; place = p })) own under.2)
       | inr any ↦ (1, (let all = c.loop-key-test.false in omega arith), subst (λ k. Contains acts (record { txn = t; key = k; place = p })) any under.2)

@@ -36,6 +36,10 @@ pairs_up_to-pairs-requires-clause-inside c =
     subst (λ l. All (λ q. (pair_at (names_of l) q).0 ≤ c.range-from.result.1) c.pairs_from-behind.result.now) c.requires.scope.same
     (all_from (λ q. (pair_at (names_of h) q).0 ≤ c.range-from.result.1) c.pairs_from-behind.result.now (λ q has. let inside = (pair_inside h c.requires.scope.well_formed _ _ _ _ _ is.at q ((c.pairs_from-behind.ensures.each q).0 has).0).1 in let to = is.to in omega arith))
 
+pub near_of-requires-clause-pairs : goal.near_of-requires-clause-pairs
+near_of-requires-clause-pairs c = all_from (IsPair (names_of c.args.scope.now.log.now)) c.pairs_up_to-pairs.result.now
+    (λ q has. All-contains (IsPair (names_of c.args.scope.now.log.now)) c.listed-listed.result.now q c.listed-listed.ensures.within ((c.pairs_from-behind.ensures.each q).0 ((c.pairs_up_to-pairs.ensures.each q).0 has).0).0)
+
 pub put_covered-requires-clause-cover : goal.put_covered-requires-clause-cover
 put_covered-requires-clause-cover c =
     let wf = c.requires.scope.well_formed in
