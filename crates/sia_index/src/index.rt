@@ -9,7 +9,7 @@ ghost use Rattle.sia_index.specs.Info.{IsInfo, IsKeyAt, HasKeyAt, AreVersions, A
 ghost use Rattle.sia_index.specs.Lifetimes.{AreLifetimes, IsLifetime};
 ghost use Rattle.sia_index.specs.Numbers.{HasTxnAt, IsTxnAt, IsCommittedAt};
 ghost use Rattle.sia_index.specs.Positions.{AreAllVersions};
-ghost use Rattle.sia_index.specs.Rows.{AreWrites, IsKeyStretch, IsStretch, AscendsByCommit, IsLastWithin, PassesNone};
+ghost use Rattle.sia_index.specs.Rows.{AreWrites, IsKeyStretch, IsStretch, PassesNone};
 ghost use Rattle.sia_index.specs.declared.info.KeyVersion.{KeyVersion};
 ghost use Rattle.sia_index.specs.declared.txns.WriteRow.{WriteRow};
 ghost use Rattle.sia_index.specs.Tables.{AreTables};
@@ -251,10 +251,12 @@ impl Index {
         if self.wrote_before(reader, k) {
             return t;
         }
-        match last_within(self.versions(k), reader.start) {
-            Some(made) => made.txn,
-            None => 0,
+        let versions = self.versions(k);
+        let within = place_above::<Made, ByPlace>(versions, u64::from(reader.start));
+        if within == 0 {
+            return 0;
         }
+        versions[within - 1].txn
     }
 
     /// Whether the reader wrote the key before its place.
@@ -262,14 +264,11 @@ impl Index {
         requires { IsReader self.now reader.txn reader.place reader }
         ensures { IsTrue result ↔ WroteBefore self.now reader.txn k reader.place }
     {
-        if reader.has_written {
-            match self.first_write_at(reader.txn, reader.number, k) {
-                Some(first) => first < reader.place,
-                None => false,
-            }
-        } else {
-            false
+        if !reader.has_written {
+            return false;
         }
+        let first = self.first_write_at(reader.txn, reader.number, k);
+        first.is_some_and(|first| first < reader.place)
     }
 
     /// The least key from `lo` to `hi` that the reader wrote before its place.
@@ -288,19 +287,6 @@ impl Index {
         let next = next_below::<WriteRow, ByPlace>(rows, &self.writes.minima, first, last, place)?;
         Some(rows[next].key)
     }
-}
-
-/// Of versions by commit the last that commits at most at the place.
-fn last_within(versions: &[Made], place: u32) -> Option<Made>
-    requires { AscendsByCommit versions.now }
-    ensures { MatchOption result (All (λ made. place < made.commit) versions.now)
-        (IsLastWithin versions.now place) }
-{
-    let within = place_above::<Made, ByPlace>(versions, u64::from(place));
-    if within == 0 {
-        return None;
-    }
-    Some(versions[within - 1])
 }
 
 /// The counts of the history that the log is of.

@@ -82,23 +82,11 @@ pub fn place_from_near<T, O: By<T>>(rows: &[T], from: u64, near: usize) -> usize
     ensures point { IsPartitionPoint (λ row. ltb (O.by row) from ≡ true)
         (λ row. ltb (O.by row) from ≡ false) rows.now result }
 {
-    if parts_at::<T, O>(rows, from, near) {
+    let is_behind = near <= rows.len() && (near == 0 || O::number(&rows[near - 1]) < from);
+    if is_behind && (near == rows.len() || from <= O::number(&rows[near])) {
         return near;
     }
     place_from::<T, O>(rows, from)
-}
-
-/// Whether the rows before the place are below `from`, and the others are not.
-fn parts_at<T, O: By<T>>(rows: &[T], from: u64, place: usize) -> bool
-    requires { IsNonDecreasingBy O.by rows.now }
-    ensures bound { IsTrue result → place ≤ length rows.now }
-    ensures point { IsTrue result → IsPartitionPoint (λ row. ltb (O.by row) from ≡ true)
-        (λ row. ltb (O.by row) from ≡ false) rows.now place }
-{
-    if place > rows.len() || place > 0 && from <= O::number(&rows[place - 1]) {
-        return false;
-    }
-    place == rows.len() || from <= O::number(&rows[place])
 }
 
 /// The rows from `lo` to `hi`.

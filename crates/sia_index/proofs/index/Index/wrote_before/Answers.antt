@@ -1,8 +1,9 @@
 -- What wrote nothing wrote nothing before.
+use Rattle.std.proofs.Common.{rules}
 use Rattle.sia_index.proofs.index.Index.wrote_before.Goals as goal
 
-pub returns-else-reader : goal.returns-else-reader
-returns-else-reader c = (
+pub returns-then-not-reader : goal.returns-then-not-reader
+returns-then-not-reader c = (
   (λ yes. cc),
-  (λ before. absurd (c.requires.wrote_none c.if-reader.false c.args.k (before.0, before.2))),
+  (λ before. absurd (c.requires.wrote_none (search rules) c.args.k (before.0, before.2))),
 )
