@@ -1,6 +1,6 @@
 //! Whether snapshot isolation allows a cycle.
-ghost use Rattle.std.specs.Prelude.{◌↔◌, ◌<◌, IsTrue, length};
-ghost use Rattle.sia_graph.specs.Allowed.{IsAllowed, IsAllowedAt, IsRwOverlap};
+ghost use Rattle.std.specs.Prelude.{◌↔◌, IsTrue};
+ghost use Rattle.sia_graph.specs.Allowed.{IsAllowed, IsRwOverlap};
 
 use crate::pivot::leads_rw;
 use sia_index::Index;
@@ -12,20 +12,13 @@ fn is_rw_overlap(ix: &Index, e: &Edge) -> bool
     leads_rw(e.kind) && ix.overlap(e.src, e.dst)
 }
 
-fn is_allowed_at(ix: &Index, edges: &[Edge], i: usize) -> bool
-    requires inside { i < length edges.now }
-    ensures { IsTrue result ↔ IsAllowedAt ix.now edges.now i }
-{
-    let next = if i + 1 < edges.len() { i + 1 } else { 0 };
-    is_rw_overlap(ix, &edges[i]) && is_rw_overlap(ix, &edges[next])
-}
-
 /// Whether of these edges, which lead round a cycle, two rw edges between overlapping transactions follow one another.
 pub fn is_allowed(ix: &Index, edges: &[Edge]) -> bool
     ensures { IsTrue result ↔ IsAllowed ix.now edges.now }
 {
     for i in 0..edges.len() {
-        if is_allowed_at(ix, edges, i) {
+        let next = if i + 1 < edges.len() { i + 1 } else { 0 };
+        if is_rw_overlap(ix, &edges[i]) && is_rw_overlap(ix, &edges[next]) {
             return true;
         }
     }

@@ -44,13 +44,6 @@ impl Judgement {
     }
 }
 
-/// Whether the verdict is an order and no read is unexplained.
-fn is_serializable(verdict: &Verdict, unexplained: &[Unexplained]) -> bool
-    ensures { IsTrue result ↔ (IsOrderVerdict verdict.now × (unexplained.now ≡ [])) }
-{
-    matches!(verdict, Verdict::Order(_)) && unexplained.is_empty()
-}
-
 /// Judges a history by what was found at all its keys. Beside the judgement stands what its edges are told by.
 pub fn judge(
     alloc: Global,
@@ -72,7 +65,7 @@ pub fn judge(
     };
     let pass = passes(alloc, &evidence, &found.bad_reads, &found.bad_writes)?;
     let verdict = settle_accesses(alloc, &evidence)?;
-    let serializable = is_serializable(&verdict, &found.unexplained);
+    let serializable = matches!(verdict, Verdict::Order(_)) && found.unexplained.is_empty();
     replay_law();
     ssi_law();
     let judgement = Judgement {

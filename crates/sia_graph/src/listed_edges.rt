@@ -1,5 +1,5 @@
 //! The least order of transactions that keeps a list of edges, or where none does a cycle of these.
-ghost use Rattle.std.specs.Prelude.{◌≡◌, ◌≢◌, ◌<◌, ℕ, All, AllPairs, Contains, IfOk, List, OnOk, length, slice_index};
+ghost use Rattle.std.specs.Prelude.{◌≡◌, ◌≢◌, ◌<◌, ℕ, All, AllPairs, Contains, IfOk, List, OnOk, length};
 ghost use Rattle.std.specs.List.Sorted.{IsNonDecreasingBy, IsStrictlyIncreasing};
 ghost use Rattle.sia_events.specs.Lists.{Precedes};
 ghost use Rattle.sia_parts.specs.declared.finding.Edge.{Edge};
@@ -30,15 +30,6 @@ impl By<Edge> for BySource {
     }
 }
 
-fn position_of(ids: &[TxnId], txn: TxnId) -> u32
-    requires ascending { IsStrictlyIncreasing ids.now }
-    requires member { Contains ids.now txn }
-    ensures within { result < length ids.now }
-    ensures is { slice_index ids.now result ≡ txn }
-{
-    place_from::<TxnId, ByTxn>(ids, u64::from(txn)) as u32
-}
-
 /// The ids as nodes, by their places, and the edges as steps. There is no memory for as many as 32 bits number.
 fn graph_of(alloc: Global, ids: &[TxnId], edges: &[Edge]) -> Result<Graph, NoMemory>
     requires ascending { IsStrictlyIncreasing ids.now }
@@ -57,7 +48,7 @@ fn graph_of(alloc: Global, ids: &[TxnId], edges: &[Edge]) -> Result<Graph, NoMem
         let source = u64::from(*id);
         row.clear();
         for edge in between::<Edge, BySource>(edges, source, source) {
-            row.push(position_of(ids, edge.dst))?;
+            row.push(place_from::<TxnId, ByTxn>(ids, u64::from(edge.dst)) as u32)?;
         }
         put_row(&mut targets, &row)?;
         sources.open()?;

@@ -1,5 +1,5 @@
 //! The least order that keeps every step, by Kahn's algorithm: always the least node that is ready is taken.
-ghost use Rattle.std.specs.Prelude.{◌≡◌, ◌≢◌, ◌↔◌, ◌⊎◌, ◌<◌, ◌≤◌, ◌+◌, ◌*◌, [], ℕ, Bool, All, Contains, IfNone, IfOk, IfSome, MatchOption, OnOk, length, map, slice_index, slice_index_or, List};
+ghost use Rattle.std.specs.Prelude.{◌≡◌, ◌≢◌, ◌↔◌, ◌<◌, ◌≤◌, ◌+◌, ◌*◌, [], ℕ, Bool, All, Contains, IfNone, IfOk, IfSome, MatchOption, OnOk, length, map, slice_index, slice_index_or, List};
 ghost use Rattle.std.specs.List.{range_with_len};
 ghost use Rattle.sia_graph.specs.Blocks.{without_blocks};
 ghost use Rattle.sia_graph.specs.Graphs.{IsGraph};
@@ -69,32 +69,6 @@ struct Taking {
     end: usize,
 }
 
-/// Adds the place to those that are ready, where it stands before `end`.
-#[inline(always)]
-fn note_ready(behind: &mut BTreeSet<usize>, place: usize, end: usize) -> Result<(), NoMemory>
-    ensures { OnOk result ((i : ℕ) → HasReady behind.new i
-        ↔ (HasReady behind.old i ⊎ ((place ≡ i) × (place < end)))) }
-{
-    if place < end {
-        behind.insert(place)?;
-    }
-    Ok(())
-}
-
-/// The first place from `end` on in whose count nothing is left.
-fn first_free(counts: &[u32], end: usize) -> Option<usize>
-    ensures { MatchOption result ((i : ℕ) → end ≤ i → i < length counts.now → 0 < slice_index counts.now i)
-        (λ p. (end ≤ p) × (p < length counts.now) × (slice_index counts.now p ≡ 0)
-        × ((i : ℕ) → end ≤ i → i < p → 0 < slice_index counts.now i)) }
-{
-    for i in end..counts.len() {
-        if counts[i] == 0 {
-            return Some(i);
-        }
-    }
-    None
-}
-
 /// Takes the least ready place: the least of those behind `end`, or the first from there on, which is then passed.
 ///
 /// Each place is looked at once from `end` on, so only those that become ready behind it cost a search.
@@ -113,7 +87,7 @@ fn next_ready(behind: &mut BTreeSet<usize>, counts: &[u32], end: &mut usize) -> 
     if let Some(place) = behind.pop_first() {
         return Some(place);
     }
-    let place = first_free(counts, *end)?;
+    let place = *end + counts[*end..].iter().position(|count| *count == 0)?;
     *end = place + 1;
     Some(place)
 }
@@ -201,7 +175,10 @@ impl Taking {
             }
             None => {
                 self.counts[node] = 0;
-                note_ready(&mut self.behind, node, self.end)
+                if node < self.end {
+                    self.behind.insert(node)?;
+                }
+                Ok(())
             }
         }
     }

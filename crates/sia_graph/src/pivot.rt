@@ -1,24 +1,21 @@
 //! The pivots among the transactions.
-ghost use Rattle.std.specs.Prelude.{◌≡◌, ◌↔◌, ◌⊎◌, ◌<◌, ◌≤◌, ℕ, ⊤, All, AllPairs, Contains, IfOk, IsTrue, List, OnOk, map};
+ghost use Rattle.std.specs.Prelude.{◌≡◌, ◌↔◌, ◌⊎◌, ◌<◌, ◌≤◌, ℕ, ⊤, All, AllPairs, Contains, IfOk, IsTrue, OnOk, map};
 ghost use Rattle.sia_events.specs.DangerousStructures.{IsFirst, IsVulnerable};
 ghost use Rattle.sia_events.specs.Lists.{ListsAscending, Precedes};
-ghost use Rattle.sia_events.specs.Transactions.{CommitsAt, IsCommitted, Overlap};
-ghost use Rattle.sia_parts.specs.declared.finding.Kind.TheVariants.{Rw};
+ghost use Rattle.sia_events.specs.Transactions.{CommitsAt, Overlap};
 ghost use Rattle.sia_parts.specs.Findings.{AreFindings};
 ghost use Rattle.sia_parts.specs.EdgeRows.{AreEdgesFrom};
 ghost use Rattle.sia_parts.specs.Sights.{Adds};
-ghost use Rattle.sia_index.specs.Lifetimes.{AreLifetimes};
 ghost use Rattle.sia_index.specs.Numbers.{IsCommittedAt};
 ghost use Rattle.sia_graph.specs.AllEdges.{IsLinkFrom};
-ghost use Rattle.sia_graph.specs.declared.pivot.Link.{Link};
 ghost use Rattle.sia_graph.specs.Links.{AreEnds, AreLinksAt, AreVulnerable, ListsLinks, is_rw, link_rank};
-ghost use Rattle.sia_graph.specs.Pivots.{ArePivots, ListsNeighbours};
+ghost use Rattle.sia_graph.specs.Pivots.{ArePivots};
 
 use crate::order::Txns;
 use sia_events::{NoMemory, TxnId};
 use sia_index::keyed::{By, between};
 use sia_index::ordering::put_in_order;
-use sia_index::{Index, Lifetime, overlap};
+use sia_index::{Index, overlap};
 use sia_parts::{Edge, EdgeTo, Findings, Kind};
 use std::alloc::{AllocError, Global};
 
@@ -99,11 +96,13 @@ pub fn put_vulnerable(
     requires rows { AreEdgesFrom ix.now (λ _. ⊤) source rows.now }
     ensures { OnOk result (Adds (IsLinkFrom ix.now source) links.old.items links.new.items) }
 {
+    ix.law();
     ix.keys_law();
     let txns = ix.committed();
     let lifetimes = ix.lifetimes();
+    let own = lifetimes[source as usize];
     for row in rows {
-        if is_vulnerable_row(ix, lifetimes, source, *row) {
+        if leads_rw(row.kind) && overlap(own, lifetimes[row.target as usize]) {
             let link = Link {
                 at: txns[source as usize],
                 other: txns[row.target as usize],
@@ -112,20 +111,6 @@ pub fn put_vulnerable(
         }
     }
     Ok(())
-}
-
-/// Whether the row from the source is of the kind rw, and its ends overlap.
-#[inline(always)]
-fn is_vulnerable_row(ix: &Index, lifetimes: &[Lifetime], source: u32, row: EdgeTo) -> bool
-    requires lifetimes { (txns : List ℕ) → ListsAscending (IsCommitted ix.now) txns
-        → AreLifetimes ix.now txns lifetimes.now }
-    requires source { (t : ℕ) × IsCommittedAt ix.now source t }
-    requires target { (u : ℕ) × IsCommittedAt ix.now row.target u }
-    ensures { (t u : ℕ) → IsCommittedAt ix.now source t → IsCommittedAt ix.now row.target u
-        → IsTrue result ↔ ((row.kind ≡ Rw) × Overlap ix.now t u) }
-{
-    ix.law();
-    leads_rw(row.kind) && overlap(lifetimes[source as usize], lifetimes[row.target as usize])
 }
 
 /// Adds the link, unless it is the last one already.
@@ -191,31 +176,6 @@ fn firsts(
     Ok(firsts)
 }
 
-fn pivot_at(
-    alloc: Global,
-    ix: &Index,
-    txn: TxnId,
-    into: &[Link],
-    out: &[Link],
-) -> Result<Pivot, AllocError>
-    requires into { (links : List Link) × ListsLinks (λ t u. IsVulnerable ix.now u t) links
-        × AreLinksAt links txn into.now }
-    requires out { (links : List Link) × ListsLinks (IsVulnerable ix.now) links
-        × AreLinksAt links txn out.now }
-    ensures txn { IfOk result (λ p. p.txn ≡ txn) }
-    ensures neighbours { IfOk result (ListsNeighbours ix.now) }
-{
-    let ins = others(alloc, into)?;
-    let outs = others(alloc, out)?;
-    let firsts = firsts(alloc, ix, txn, &ins, &outs)?;
-    Ok(Pivot {
-        txn,
-        ins: Txns::new(ins),
-        outs: Txns::new(outs),
-        firsts: Txns::new(firsts),
-    })
-}
-
 fn entries(alloc: Global, ix: &Index, into: &[Link], out: &[Link]) -> Result<Vec<Pivot>, AllocError>
     requires into { ListsLinks (λ t u. IsVulnerable ix.now u t) into.now }
     requires out { ListsLinks (IsVulnerable ix.now) out.now }
@@ -225,9 +185,17 @@ fn entries(alloc: Global, ix: &Index, into: &[Link], out: &[Link]) -> Result<Vec
     put_in_order(&mut linked)?;
     let mut found = Vec::new(alloc);
     for txn in linked.as_slice() {
-        let ins = links_at(into, *txn);
-        if !ins.is_empty() {
-            found.push(pivot_at(alloc, ix, *txn, ins, links_at(out, *txn))?)?;
+        let own = links_at(into, *txn);
+        if !own.is_empty() {
+            let ins = others(alloc, own)?;
+            let outs = others(alloc, links_at(out, *txn))?;
+            let firsts = firsts(alloc, ix, *txn, &ins, &outs)?;
+            found.push(Pivot {
+                txn: *txn,
+                ins: Txns::new(ins),
+                outs: Txns::new(outs),
+                firsts: Txns::new(firsts),
+            })?;
         }
     }
     Ok(found)

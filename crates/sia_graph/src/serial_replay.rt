@@ -5,9 +5,9 @@ ghost use Rattle.sia_events.specs.declared.event.Event.{Event};
 ghost use Rattle.sia_events.specs.declared.event.Event.TheVariants.{Range};
 ghost use Rattle.sia_events.specs.Places.{at_place};
 ghost use Rattle.sia_events.specs.Replay.{IsFirstMismatch, IsOrder, MayFollow, Replays, events_of, serial};
-ghost use Rattle.sia_events.specs.Transactions.{CommitsAt, Wrote};
+ghost use Rattle.sia_events.specs.Transactions.{Wrote};
 ghost use Rattle.sia_graph.specs.declared.serial_replay.Mismatch.{Mismatch};
-ghost use Rattle.sia_graph.specs.Replaying.{Agrees, AreCommits, AreFirsts, AreNext, AreWritten, IsRight, IsWrongAt, Tells, after, first_at, version_in};
+ghost use Rattle.sia_graph.specs.Replaying.{Agrees, AreCommits, AreFirsts, AreNext, AreWritten, IsRight, IsWrongAt, Tells, first_at, version_in};
 ghost use Rattle.sia_graph.specs.declared.serial_replay.ReplayFault.TheVariants as faults;
 
 use sia_events::{Event, History, Key, NoMemory, TxnId, Version};
@@ -42,15 +42,6 @@ impl From<NoMemory> for ReplayFault {
     }
 }
 
-fn committer(h: &History, place: u32) -> Option<TxnId>
-    ensures { MatchOption result ((t : ℕ) → ¬ CommitsAt h.now t place) (λ t. CommitsAt h.now t place) }
-{
-    match h.event(place)? {
-        Event::Commit { txn } => Some(*txn),
-        _ => None,
-    }
-}
-
 /// Where each committed transaction commits.
 fn commit_places(alloc: Global, h: &History) -> Result<BTreeMap<TxnId, u32>, NoMemory>
     ensures { IfOk result (λ commits. AreCommits h.now commits) }
@@ -58,8 +49,10 @@ fn commit_places(alloc: Global, h: &History) -> Result<BTreeMap<TxnId, u32>, NoM
     let mut commits = BTreeMap::new(alloc);
     for before in 0..h.len() {
         let place = before + 1;
-        if let Some(txn) = committer(h, place) {
-            commits.insert(txn, place)?;
+        if let Some(event) = h.event(place) {
+            if let Event::Commit { txn } = event {
+                commits.insert(*txn, place)?;
+            }
         }
     }
     Ok(commits)
@@ -122,17 +115,6 @@ fn wrong_listed(versions: &BTreeMap<Key, TxnId>, listed: &[(Key, Version)]) -> O
     None
 }
 
-/// The least key of the range that the replay has, with its version.
-fn next_version(versions: &BTreeMap<Key, TxnId>, from: Key, hi: Key) -> Option<(Key, Version)>
-    requires { from ≤ hi }
-    ensures { MatchOption result ((k : ℕ) → from ≤ k → k ≤ hi → version_in versions.now k ≡ 0)
-        (λ r. (from ≤ r.0) × (r.0 ≤ hi) × (r.1 ≡ version_in versions.now r.0)
-        × ((k : ℕ) → from ≤ k → k < r.0 → version_in versions.now k ≡ 0)) }
-{
-    let (key, version) = versions.range(from..=hi).next()?;
-    Some((*key, *version))
-}
-
 /// The least key of the range that isn't listed and that the replay has at another version than 0.
 fn wrong_unlisted(
     versions: &BTreeMap<Key, TxnId>,
@@ -150,14 +132,14 @@ fn wrong_unlisted(
         → version_in versions.now k ≡ 0)) }
 {
     let mut from = lo;
-    'keys: while let Some((key, version)) = next_version(versions, from, hi) {
-        if version != 0 && listed.binary_search_by_key(&key, |pair| pair.0).is_err() {
-            return Some(key);
+    'keys: while let Some((key, version)) = versions.range(from..=hi).next() {
+        if *version != 0 && listed.binary_search_by_key(key, |pair| pair.0).is_err() {
+            return Some(*key);
         }
-        if key == hi {
+        if *key == hi {
             break;
         }
-        from = key + 1;
+        from = *key + 1;
     }
     None
 }
@@ -233,19 +215,6 @@ fn chains(alloc: Global, h: &History) -> Result<(BTreeMap<TxnId, u32>, Vec<u32>)
     Ok((firsts, next))
 }
 
-/// Notes the version that a write event makes.
-fn keep_write(event: &Event, versions: &mut BTreeMap<Key, TxnId>) -> Result<(), NoMemory>
-    ensures versions { OnOk result ((k : ℕ) → version_in versions.new k
-        ≡ after (version_in versions.old) event.now k) }
-    ensures written { OnOk result ((h : List Event) (p : ℕ) → at_place h p ≡ Some event.now
-        → AreWritten h versions.old → AreWritten h versions.new) }
-{
-    if let Event::Write { txn, key } = event {
-        versions.insert(*key, *txn)?;
-    }
-    Ok(())
-}
-
 /// Replays the events of one transaction, whose first event stands at `first`, up to the first that isn't right.
 fn replay_txn(
     h: &History,
@@ -276,7 +245,9 @@ fn replay_txn(
                     found: version_of(versions, key),
                 }));
             }
-            keep_write(event, versions)?;
+            if let Event::Write { txn, key } = event {
+                versions.insert(*key, *txn)?;
+            }
         }
         at = next[at as usize];
     }

@@ -1,5 +1,5 @@
 //! Few steps with the closure of all edges: between committed transactions, and through blocks of keys.
-ghost use Rattle.std.specs.Prelude.{◌≡◌, ◌↔◌, ◌⊎◌, ◌*◌, ◌%◌, ◌+◌, ◌++◌, ◌∷◌, ◌<◌, ◌≤◌, ◌≢◌, [], ℕ, Contains, IfOk, IsTrue, List, OnOk, Some};
+ghost use Rattle.std.specs.Prelude.{◌≡◌, ◌↔◌, ◌⊎◌, ◌*◌, ◌%◌, ◌+◌, ◌++◌, ◌∷◌, ◌<◌, ◌≤◌, ◌≢◌, [], ℕ, Contains, IfOk, List, OnOk, Some};
 ghost use Rattle.sia_events.specs.Lists.{ListsAscending};
 ghost use Rattle.sia_events.specs.Transactions.{IsCommitted};
 ghost use Rattle.sia_index.specs.Numbers.{IsCommittedAt};
@@ -70,16 +70,6 @@ pub(crate) fn put_all_blocks(
     Ok(())
 }
 
-/// Whether the node is one of the last two.
-fn is_among_last(row: &[u32], node: u32) -> bool
-    ensures { IsTrue result → Contains row.now node }
-{
-    match row {
-        [.., first, last] => *first == node || *last == node,
-        _ => false,
-    }
-}
-
 /// Adds the node of another transaction, if there is one. What a transaction saw of keys side by side mostly gives the same two
 /// again and again, which are added once.
 fn put_other(size: u32, txn: u32, other: Option<u32>, row: &mut Vec<u32>) -> Result<(), NoMemory>
@@ -89,10 +79,11 @@ fn put_other(size: u32, txn: u32, other: Option<u32>, row: &mut Vec<u32>) -> Res
 {
     let Some(other) = other else { return Ok(()) };
     let node = 2 * size + other;
-    if other != txn && !is_among_last(row, node) {
-        row.push(node)?;
+    match row.as_slice() {
+        [.., first, last] if *first == node || *last == node => Ok(()),
+        _ if other == txn => Ok(()),
+        _ => Ok(row.push(node)?),
     }
-    Ok(())
 }
 
 /// Adds the halves of the block, or who made the first version of the key whose leaf it is.

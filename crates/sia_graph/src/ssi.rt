@@ -121,12 +121,8 @@ pub fn ssi_pass(f: &Findings, p: &[Pivot]) -> bool
     ensures passes { (h : List Event) → AreFindings h f.now → ArePivots h p.now
         → IsTrue result ↔ PassesSsi h }
 {
-    for pivot in p {
-        if !pivot.firsts.as_slice().is_empty() {
-            return false;
-        }
-    }
-    are_none(&f.bad_reads, &f.bad_writes)
+    p.iter().all(|pivot| pivot.firsts.as_slice().is_empty())
+        && are_none(&f.bad_reads, &f.bad_writes)
 }
 
 /// A dangerous structure whose last transaction commits first: an rw edge leads from the first to the pivot, and one on to the last.

@@ -1,6 +1,5 @@
 //! The two least of the transactions that are left and made a version, saw one or passed over its key.
 ghost use Rattle.std.specs.Prelude.{◌≡◌, ◌≢◌, ◌⊎◌, ◌<◌, ◌≤◌, ◌++◌, ◌*◌, ℕ, Bool, All, IfOk, List, Some, Contains, length, map};
-ghost use Rattle.sia_events.specs.declared.event.Event.{Event};
 ghost use Rattle.sia_events.specs.Lists.{CountsAll};
 ghost use Rattle.sia_events.specs.Refusals.{IsWellFormed};
 ghost use Rattle.sia_events.specs.Transactions.{IsCommitted};
@@ -9,7 +8,7 @@ ghost use Rattle.sia_index.specs.Positions.{ArePositions, HasPosition};
 ghost use Rattle.sia_parts.specs.Accesses.{Missed};
 ghost use Rattle.sia_parts.specs.declared.accesses.Accesses.{Accesses};
 ghost use Rattle.sia_graph.specs.Evidence.{IsEvidence};
-ghost use Rattle.sia_graph.specs.Twos.{AreEarlier, AreTwosOf, AreTwosOver, IsBeforeVersion, IsLeastNumber, IsLeftMaker, IsLeftPasser, IsLeftSource, IsUpTo, IsWith};
+ghost use Rattle.sia_graph.specs.Twos.{AreEarlier, AreTwosOf, AreTwosOver, IsBeforeVersion, IsLeastNumber, IsLeftPasser, IsLeftSource, IsUpTo, IsWith};
 
 use crate::evidence::{Evidence, size_for};
 use crate::order::NONE;
@@ -152,16 +151,6 @@ impl Earlier {
         })
     }
 
-    /// Of those who made a version up to the position the least but `me`.
-    fn least_maker(&self, position: u32, me: u32) -> u32
-        requires { position < length self.now.makers.items }
-        ensures { (h : List Event) (a : Accesses) (left : List Bool) → IsWellFormed h
-            → AreEarlier h a left self.now → IsLeastNumber
-            (λ r. IsUpTo h (IsLeftMaker h left) position r × (r ≢ me)) result }
-    {
-        other(self.makers[position as usize], me)
-    }
-
     /// Of those who made a version up to the position, saw one below it or passed over its key the least but `me`.
     fn least_before(&self, index: &Index, position: u32, me: u32) -> u32
         requires position { HasPosition index.now position }
@@ -170,7 +159,7 @@ impl Earlier {
         ensures { (a : Accesses) (left : List Bool) → AreEarlier index.now a left self.now
             → IsLeastNumber (λ r. IsBeforeVersion index.now a left position r × (r ≢ me)) result }
     {
-        let made = self.least_maker(position, me);
+        let made = other(self.makers[position as usize], me);
         let passed = least_passing(&self.passed, self.size, index.key_at(position), me);
         let seen = match index.position_before(position) {
             Some(before) => other(self.readers[before as usize], me),
@@ -194,7 +183,7 @@ impl Earlier {
             least = least.min(self.least_before(evidence.index, *position, me));
         }
         for position in evidence.accesses.saw.at(me as usize) {
-            least = least.min(self.least_maker(*position, me));
+            least = least.min(other(self.makers[*position as usize], me));
         }
         least
     }

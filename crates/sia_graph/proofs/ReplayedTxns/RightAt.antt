@@ -1,5 +1,5 @@
 -- Whether an event of a replay is right at a key.
-use Rattle.std.proofs.Common.{◌≡◌, ◌≢◌, ◌⊎◌, inl, inr, ℕ, ◌+◌, ◌<◌, ◌≤◌, true, false, List, ◌∷◌, length, get_or, map, Option, Some, None, Result, Ok, Err, ltb, unwrap_or, ap, sym, ◌∙◌, refl, subst, arith}
+use Rattle.std.proofs.Common.{◌≡◌, ◌≢◌, ◌⊎◌, inl, inr, ℕ, ◌+◌, ◌<◌, ◌≤◌, true, false, List, [], ◌∷◌, length, get_or, map, Option, Some, None, Result, Ok, Err, ltb, unwrap_or, ap, sym, ◌∙◌, refl, subst, arith}
 use Rattle.std.specs.Prelude.{All, Contains, IsTrue, ◌↔◌, MatchOption}
 use Rattle.std.specs.List.Sorted.{IsStrictlyIncreasing, IsBinarySearchResult, IsSearchInRange}
 use Rattle.std.proofs.lemmas.Bool.{cases_lt, cases_eq, cases_order, ne_eqb, ltb-true, lt-ltb, le-ltb, eq-eqb}
@@ -92,6 +92,10 @@ range_first m a b r range k v t is =
         let some : IsSome (get nat_cmp m q) = ap is_some e in
         let n = no_greater k q (w.2 q (no_lesser a q l, no_lesser q b (omega arith)) some) in
         absurd (omega arith)
+
+-- and where a range has none
+pub range_none : (m : BTreeMap ℕ ℕ) (a b : ℕ) (r : List (ℕ × ℕ)) → IsRangeOf nat_cmp (Included a) (Included b) m r → r ≡ [] → (q : ℕ) → a ≤ q → q ≤ b → version_in m q ≡ 0
+range_none m a b r range none q low high = ap (λ o. unwrap_or o 0) (range.5 none q (no_lesser a q low, no_lesser q b high))
 
 -- the keys up to one that is right are right
 pub passed_key : (versions : BTreeMap ℕ ℕ) (listed : List (ℕ × ℕ)) (lo from key version : ℕ) → ((k : ℕ) → k < from → lo ≤ k → ((v : ℕ) → ¬ Contains listed (k, v)) → version_in versions k ≡ 0)

@@ -1,12 +1,28 @@
-use Rattle.std.proofs.Common.{◌↔◌, subst, sym}
+use Rattle.std.proofs.Common.{◌≡◌, ◌↔◌, ◌∙◌, [], ◌==◌, ℕ, Bool, List, length, ap, refl, sym, subst, arith}
 use Rattle.std.specs.Prelude.{IsTrue}
+use Rattle.std.proofs.lemmas.Bool.{eq-eqb, eqb-true}
+use Rattle.std.proofs.lemmas.List.{nil_from_length}
+use Rattle.sia_events.proofs.Shared.Faults.{true_false}
+use Rattle.sia_parts.specs.declared.finding.Unexplained.{Unexplained}
+use Rattle.sia_graph.specs.declared.judgement.Verdict.{Verdict}
+use Rattle.sia_graph.specs.declared.judgement.Verdict.TheVariants.{Cycle, Order}
 use Rattle.sia_events.specs.DangerousStructures.{PassesSsi}
 use Rattle.sia_events.specs.Transactions.{IsCommitted}
 use Rattle.sia_parts.specs.Entries.{IsEdge}
-use Rattle.sia_graph.specs.Verdicts.{IsVerdict}
+use Rattle.sia_graph.specs.Verdicts.{IsOrderVerdict, IsVerdict}
 use Rattle.sia_graph.proofs.OnEvidence.Judging.{passed_is_serializable, serializable_where}
-use Rattle.sia_graph.proofs.judgement.judge.Goals.{After-deref-2}
+use Rattle.sia_graph.proofs.judgement.judge.Goals.{After-deref-2, in-Order, in_default, then-matches, else-matches}
 use Rattle.sia_graph.proofs.judgement.judge.Goals as goal
+
+none_if_empty : (xs : List Unexplained) (n : ℕ) (empty : Bool) → length xs ≡ n → empty ≡ (n == 0) → IsTrue empty ↔ (xs ≡ [])
+none_if_empty xs n empty long is = (
+  (λ yes. nil_from_length xs (let e = eqb-true n 0 (sym is ∙ yes) in omega arith)),
+  (λ nil. let e = ap (length {A = Unexplained}) nil in is ∙ eq-eqb n 0 (omega arith)),
+)
+
+no_order : (verdict : Verdict) → IsOrderVerdict verdict → ((order : List ℕ) → verdict ≡ Order order → ⊥) → ⊥
+no_order (Order order) is none = none order refl
+no_order (Cycle steps) is none = is
 
 pub passes-requires : goal.passes-requires
 passes-requires c = record {
@@ -28,13 +44,25 @@ returns-clause-exact c =
     let is = c.requires.found in
     let verdict = c.in_ok-verdict.verdict in
     let verdict_is = subst (λ i. IsVerdict (IsCommitted i) (IsEdge i) verdict) c.requires.index c.in_ok-verdict.ensures in
+    let serial : IsTrue c.if-matches.serializable ↔ (IsOrderVerdict verdict × (c.args.found.unexplained.items ≡ [])) = elim c.match-matches.branch [
+      | in-Order v ↦ elim c.if-matches.branch [
+        | then-matches w ↦
+            let none = none_if_empty c.args.found.unexplained.items _ w.is_empty-serializable.result (let ok = c.args.found.unexplained.ok.0 in omega arith) w.is_empty-serializable.ensures in
+            ((λ yes. (subst IsOrderVerdict (sym v.in-Order.is) tt, none.0 (sym w.serializable-is ∙ yes))), (λ are. w.serializable-is ∙ none.1 are.1))
+        | else-matches w ↦ absurd (true_false _ v.matches-is w.if-matches.false)
+      ]
+      | in_default v ↦ elim c.if-matches.branch [
+        | then-matches w ↦ absurd (true_false _ w.if-matches.true v.matches-is)
+        | else-matches w ↦ ((λ yes. absurd (true_false _ yes (w.serializable-is ∙ v.matches-is))), (λ are. absurd (no_order verdict are.0 v.in_default.not-Order)))
+      ]
+    ] in
     record {
       counts = c.counted.ensures;
       bad_reads = is.bad_reads;
       bad_writes = is.bad_writes;
       unexplained = is.unexplained;
       pass = subst (λ i. IsTrue c.in_ok-pass.pass ↔ PassesSsi i) c.requires.index c.in_ok-pass.ensures;
-      serializable = serializable_where h wf verdict verdict_is c.args.found.unexplained.items is.unexplained (c.replay_law.ensures h wf) c.is_serializable-serializable.result (rw (sym c.deref-3.ensures.value) c.is_serializable-serializable.ensures);
+      serializable = serializable_where h wf verdict verdict_is c.args.found.unexplained.items is.unexplained (c.replay_law.ensures h wf) c.if-matches.serializable serial;
       verdict = verdict_is;
     }
 
@@ -44,6 +72,18 @@ returns-clause-pass c =
     let wf = c.law.ensures in
     let verdict = c.in_ok-verdict.verdict in
     let verdict_is = subst (λ i. IsVerdict (IsCommitted i) (IsEdge i) verdict) c.requires.index c.in_ok-verdict.ensures in
+    let serial : IsTrue c.if-matches.serializable ↔ (IsOrderVerdict verdict × (c.args.found.unexplained.items ≡ [])) = elim c.match-matches.branch [
+      | in-Order v ↦ elim c.if-matches.branch [
+        | then-matches w ↦
+            let none = none_if_empty c.args.found.unexplained.items _ w.is_empty-serializable.result (let ok = c.args.found.unexplained.ok.0 in omega arith) w.is_empty-serializable.ensures in
+            ((λ yes. (subst IsOrderVerdict (sym v.in-Order.is) tt, none.0 (sym w.serializable-is ∙ yes))), (λ are. w.serializable-is ∙ none.1 are.1))
+        | else-matches w ↦ absurd (true_false _ v.matches-is w.if-matches.false)
+      ]
+      | in_default v ↦ elim c.if-matches.branch [
+        | then-matches w ↦ absurd (true_false _ w.if-matches.true v.matches-is)
+        | else-matches w ↦ ((λ yes. absurd (true_false _ yes (w.serializable-is ∙ v.matches-is))), (λ are. absurd (no_order verdict are.0 v.in_default.not-Order)))
+      ]
+    ] in
     let pass_is = subst (λ i. IsTrue c.in_ok-pass.pass ↔ PassesSsi i) c.requires.index c.in_ok-pass.ensures in
     passed_is_serializable h wf verdict verdict_is c.args.found.unexplained.items c.requires.found.unexplained (c.ssi_law.ensures h wf)
-    c.is_serializable-serializable.result c.in_ok-pass.pass (rw (sym c.deref-3.ensures.value) c.is_serializable-serializable.ensures) pass_is
+    c.if-matches.serializable c.in_ok-pass.pass serial pass_is

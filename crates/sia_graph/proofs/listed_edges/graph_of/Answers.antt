@@ -1,4 +1,4 @@
-use Rattle.std.proofs.Common.{◌≡◌, ◌≢◌, ◌+◌, ◌∷◌, ◌++◌, [], ℕ, List, length, get_or, refl, ap, sym, subst, ◌∙◌, arith}
+use Rattle.std.proofs.Common.{◌≡◌, ◌≢◌, ◌+◌, ◌∷◌, ◌++◌, ◌<◌, [], ℕ, List, true, false, ltb, length, get_or, refl, ap, sym, subst, ◌∙◌, arith}
 use Rattle.std.specs.Prelude.{Contains}
 use Rattle.std.proofs.lemmas.List.Elements.{Contains-get_or}
 use Rattle.sia_index.specs.Between.{IsBetween}
@@ -9,7 +9,8 @@ use Rattle.sia_parts.specs.Sights.{Adds, FromSome}
 use Rattle.sia_parts.proofs.Shared.Adding.{FromFirst, added_to_none, adds_push, from_all, from_more, from_none}
 use Rattle.sia_parts.proofs.OfReasons.Groups.{group_between}
 use Rattle.sia_graph.specs.ListedGraphs.{IsTargetOf}
-use Rattle.sia_graph.proofs.Shared.AscendingIds.{one_id}
+use Rattle.std.specs.List.Sorted.{IsPartitionPoint, IsStrictlyIncreasing}
+use Rattle.sia_graph.proofs.Shared.AscendingIds.{found_position, ids_rise, one_id}
 use Rattle.sia_graph.proofs.Settling.EdgesListed.{AreTargetsAt, all_in, graph_made, group_has, group_targets}
 use Rattle.sia_graph.proofs.Shared.RowLists.{AreLists, lists_more}
 use Rattle.sia_graph.proofs.listed_edges.graph_of.Goals.{After-between-edge-items}
@@ -24,12 +25,20 @@ group c =
     group_between (λ (e : Edge). e.src) c.args.edges.now c.between-edge-items.result.now (get_or c.args.ids.now c.loop-id.id-index 0)
     (subst (λ n. IsBetween (λ (e : Edge). e.src) c.args.edges.now n n c.between-edge-items.result.now) c.from-source.ensures c.between-edge-items.ensures)
 
-pub position_of-requires-clause-member : goal.position_of-requires-clause-member
-position_of-requires-clause-member c =
+pub place_from-requires : goal.place_from-requires
+place_from-requires c = ids_rise c.args.ids.now c.requires.ascending
+
+-- the place of a member that a search finds
+found : (ids : List ℕ) (up : IsStrictlyIncreasing ids) (n m at : ℕ) → n ≡ m → IsPartitionPoint (λ x. ltb x n ≡ true) (λ x. ltb x n ≡ false) ids at → Contains ids m → (at < length ids) × (get_or ids at 0 ≡ m)
+found ids up n m at is point member = found_position ids up m at (subst (λ n. IsPartitionPoint (λ x. ltb x n ≡ true) (λ x. ltb x n ≡ false) ids at) is point) member
+
+-- where an edge leads is a member
+member : (c : After-between-edge-items) (n : ℕ) → n < length c.between-edge-items.result.now → Contains c.args.ids.now (get_or c.between-edge-items.result.now n none).dst
+member c n below =
     let edges = c.args.edges.now in
     let own = c.between-edge-items.result.now in
-    let edge = get_or own c.loop-edge.edge-index none in
-    let there = (group_has (λ (e : Edge). e.src) edges (get_or c.args.ids.now c.loop-id.id-index 0) own (group (goal.at.position_of-requires-clause-member c).After-between-edge-items) edge).0 (Contains-get_or own c.loop-edge.edge-index none c.loop-edge-test.true) in
+    let edge = get_or own n none in
+    let there = (group_has (λ (e : Edge). e.src) edges (get_or c.args.ids.now c.loop-id.id-index 0) own (group c) edge).0 (Contains-get_or own n none below) in
     (all_in (λ (e : Edge). Contains c.args.ids.now e.src × Contains c.args.ids.now e.dst × (e.src ≢ e.dst)) edges edge c.requires.joins there.0).1
 
 pub loop-edge-init : goal.loop-edge-init
@@ -43,13 +52,13 @@ loop-edge-preserved c =
     let ids = c.args.ids.now in
     let own = c.between-edge-items.result.now in
     let i = c.loop-edge.edge-index in
-    let q = c.position_of.result in
-    let is = c.position_of.ensures in
+    let q = c.place_from.result in
+    let at = found ids c.requires.ascending c.from.result (get_or own i none).dst q c.from.ensures c.place_from.ensures.point (member (goal.at.loop-edge-preserved c).After-between-edge-items i c.loop-edge-test.true) in
     let old = c.loop-edge.row.items in
     let P = IsTargetOf ids (get_or own i none) in
     from_more (IsTargetOf ids) own i none [] old c.push.new.self.items c.loop-edge-test.true c.loop-edge.invariant
     (subst (λ l. Adds P old l) (sym c.in_ok-push.ensures.items)
-    (adds_push P old q (is.within, is.is) (λ x p. one_id ids c.requires.ascending q x is.within p.0 (is.is ∙ sym p.1))))
+    (adds_push P old q (at.0, at.1) (λ x p. one_id ids c.requires.ascending q x at.0 p.0 (at.1 ∙ sym p.1))))
 
 pub loop-id-preserved : goal.loop-id-preserved
 loop-id-preserved c =

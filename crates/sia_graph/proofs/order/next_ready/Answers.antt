@@ -1,33 +1,14 @@
+use Rattle.std.specs.Prelude.{MatchOption}
+use Rattle.std.specs.List.{AllWithin, HoldsAt}
 use Rattle.std.proofs.lemmas.Bool.{cases_lt}
-use Rattle.std.proofs.Common.{◌≡◌, inl, inr, ℕ, length, ap, ◌∙◌, arith}
-use Rattle.sia_graph.proofs.Orders.ReadySets.{least_ready, none_ready, ready_taken}
-use Rattle.sia_graph.proofs.order.next_ready.Goals.{In_default}
+use Rattle.std.proofs.lemmas.Iterator.{IsFirst-from_position, YieldsList-from_slice}
+use Rattle.std.proofs.lemmas.List.{get_or-drop, length-drop, take_all}
+use Rattle.std.proofs.Common.{◌≡◌, ◌≢◌, ◌+◌, ◌-◌, ◌<◌, ◌≤◌, inl, inr, ℕ, List, Option, None, Some, drop, take, get_or, length, ap, sym, subst, ◌∙◌, arith, rules, tests}
+use Rattle.std.specs.Option.{IfNone}
+use Rattle.sia_graph.specs.UnderWay.{HasReady, IsReadyAt}
+use Rattle.sia_graph.proofs.Orders.ReadySets.{none_ready}
+use Rattle.sia_graph.proofs.order.next_ready.Goals.{In_default, In_ok-place}
 use Rattle.sia_graph.proofs.order.next_ready.Goals as goal
-
-pub returns-in-Some-clause-member : goal.returns-in-Some-clause-member
-returns-in-Some-clause-member c = inl c.in-Some.ensures.member
-
-pub returns-in-Some-clause-least : goal.returns-in-Some-clause-least
-returns-in-Some-clause-least c i r = elim r [
-  | inl b ↦ least_ready c.args.behind.now c.in-Some.place c.in-Some.ensures.least i b
-  | inr w ↦ let l = c.requires.behind c.in-Some.place c.in-Some.ensures.member in let m = w.0 in omega arith
-]
-
-pub returns-in-Some-clause-taken : goal.returns-in-Some-clause-taken
-returns-in-Some-clause-taken c i =
-    let rest = ready_taken c.args.behind.now c.pop_first.new.self c.in-Some.place c.in-Some.ensures.updates i in (
-      λ r. elim r [
-        | inl b ↦ let w = rest.0 b in (inl w.0, w.1)
-        | inr w ↦ (inr w, λ e. let l = c.requires.behind c.in-Some.place c.in-Some.ensures.member in let m = w.0 in absurd (omega arith))
-      ],
-      λ r. elim r.0 [ inl b ↦ inl (rest.1 (b, r.1)) | inr w ↦ inr w ],
-    )
-
-pub returns-in-Some-clause-behind : goal.returns-in-Some-clause-behind
-returns-in-Some-clause-behind c i b = c.requires.behind i ((ready_taken c.args.behind.now c.pop_first.new.self c.in-Some.place c.in-Some.ensures.updates i).0 b).0
-
-pub returns-in-Some-clause-within : goal.returns-in-Some-clause-within
-returns-in-Some-clause-within c = c.requires.within
 
 -- nothing was there, and nothing is
 empty : (c : In_default) → length c.args.behind.now.keys ≡ 0
@@ -36,35 +17,77 @@ empty c = let some = c.in_default.ensures.variant.1 in elim (cases_lt 0 (length 
 left : (c : In_default) → length c.pop_first.new.self.keys ≡ 0
 left c = ap (length {A = ℕ}) c.in_default.ensures.unchanged ∙ empty c
 
-pub returns-clause-member : goal.returns-clause-member
-returns-clause-member c = let free = c.in_ok-place.ensures in inr (free.0, free.1, free.2)
+-- the first place in the rest of a list at which nothing is left, and in the list
+abbrev IsFirstOf : List ℕ → Option ℕ → Type 0
+IsFirstOf rest r = MatchOption r (AllWithin (λ n. n ≢ 0) rest 0 (length rest)) (λ p. (p < length rest) × HoldsAt (λ n. n ≡ 0) rest p × AllWithin (λ n. n ≢ 0) rest 0 p)
+
+abbrev IsFirstFree : List ℕ → ℕ → Option ℕ → Type 0
+IsFirstFree counts end r = MatchOption r ((i : ℕ) → end ≤ i → i < length counts → 0 < get_or counts i 0)
+    (λ p. (end + p < length counts) × (get_or counts (end + p) 0 ≡ 0) × ((i : ℕ) → end ≤ i → i < end + p → 0 < get_or counts i 0))
+
+from_end : (counts : List ℕ) (end i : ℕ) → end ≤ i → get_or (drop end counts) (i - end) 0 ≡ get_or counts i 0
+from_end counts end i from = let e : end + (i - end) ≡ i = omega arith in get_or-drop end counts (i - end) 0 ∙ ap (λ n. get_or counts n 0) e
+
+first_free : (counts : List ℕ) (end : ℕ) (r : Option ℕ) → IsFirstOf (drop end counts) r → IsFirstFree counts end r
+first_free counts end None none = λ i from below.
+    let long = length-drop end counts in
+    let some = none (i - end) 0 (omega arith) (omega arith) in
+    let same = from_end counts end i from in
+    elim (cases_lt 0 (get_or counts i 0)) [ inl more ↦ more | inr no_more ↦ absurd (some (omega arith)) ]
+first_free counts end (Some p) found =
+    let long = length-drop end counts in (
+      (let l = found.0 in omega arith),
+      sym (get_or-drop end counts p 0) ∙ found.1 0,
+      λ i from below.
+          let some = found.2 (i - end) 0 (omega arith) (omega arith) in
+          let same = from_end counts end i from in
+          elim (cases_lt 0 (get_or counts i 0)) [ inl more ↦ more | inr no_more ↦ absurd (some (omega arith)) ],
+    )
+
+rest_is : (counts : List ℕ) (end : ℕ) (xs : List ℕ) → xs ≡ take (length counts - end) (drop end counts) → xs ≡ drop end counts
+rest_is counts end xs is = let l = length-drop end counts in is ∙ take_all (length counts - end) (drop end counts) (omega arith)
+
+pub returns-in_err-place-clause-empty : goal.returns-in_err-place-clause-empty
+returns-in_err-place-clause-empty c =
+    let free =
+    first_free c.args.counts.now c.args.end.now None
+    (IsFirst-from_position _ _ None (λ n. n ≡ 0) (λ n. n ≢ 0) c.in_err-place.ensures.ran (YieldsList-from_slice _ (rest_is c.args.counts.now c.args.end.now _ c.iter.ensures.rest))
+    (λ x q k. search (rules, tests)) (λ x q k. search (rules, tests))) in
+    let none : (i : ℕ) → IsReadyAt (HasReady c.args.behind.now) c.args.end.now c.args.counts.now i → ⊥ = λ i r. elim r [
+      | inl b ↦ none_ready c.args.behind.now (empty (goal.at.returns-in_err-place-clause-empty c).In_default) i b
+      | inr w ↦ let some = free i w.0 w.1 in let no = w.2 in (omega arith)
+    ] in
+    subst (λ r. IfNone r ((i : ℕ) → IsReadyAt (HasReady c.args.behind.now) c.args.end.now c.args.counts.now i → ⊥)) (sym c.from_residual.ensures) none
+
+-- the place that was found
+found : (c : In_ok-place) → IsFirstFree c.args.counts.now c.args.end.now (Some c.in_ok-place.field-0)
+found c =
+    first_free c.args.counts.now c.args.end.now (Some c.in_ok-place.field-0)
+    (IsFirst-from_position _ _ (Some c.in_ok-place.field-0) (λ n. n ≡ 0) (λ n. n ≢ 0) c.in_ok-place.ensures.ran (YieldsList-from_slice _ (rest_is c.args.counts.now c.args.end.now _ c.iter.ensures.rest))
+    (λ x q k. search (rules, tests)) (λ x q k. search (rules, tests)))
 
 pub returns-clause-least : goal.returns-clause-least
 returns-clause-least c i r = elim r [
   | inl b ↦ absurd (none_ready c.args.behind.now (empty (goal.at.returns-clause-least c).In_default) i b)
-  | inr w ↦ elim (cases_lt i c.in_ok-place.place) [ inl less ↦ let some = c.in_ok-place.ensures.3 i w.0 less in let none = w.2 in absurd (omega arith) | inr more ↦ more ]
+  | inr w ↦
+      let free = found (goal.at.returns-clause-least c).In_ok-place in
+      elim (cases_lt i (c.args.end.now + c.in_ok-place.field-0)) [ inl less ↦ let some = free.2 i w.0 less in let none = w.2 in absurd (omega arith) | inr more ↦ more ]
 ]
 
 pub returns-clause-taken : goal.returns-clause-taken
 returns-clause-taken c i =
-    let p = c.in_ok-place.place in
-    let free = c.in_ok-place.ensures in
+    let p = c.args.end.now + c.in_ok-place.field-0 in
+    let free = found (goal.at.returns-clause-taken c).In_ok-place in
     let before = (goal.at.returns-clause-taken c).In_default in (
       λ r. elim r [
         | inl b ↦ absurd (none_ready c.pop_first.new.self (left before) i b)
-        | inr w ↦ let l = free.0 in let m = w.0 in (inr (omega arith, w.1, w.2), λ e. absurd (omega arith))
+        | inr w ↦ let m = w.0 in (inr (omega arith, w.1, w.2), λ e. absurd (omega arith))
       ],
       λ r. elim r.0 [
         | inl b ↦ absurd (none_ready c.args.behind.now (empty before) i b)
         | inr w ↦ elim (cases_lt i p) [
-          | inl less ↦ let some = free.3 i w.0 less in let none = w.2 in absurd (omega arith)
+          | inl less ↦ let some = free.2 i w.0 less in let none = w.2 in absurd (omega arith)
           | inr more ↦ elim (cases_lt p i) [ inl above ↦ inr (omega arith, w.1, w.2) | inr no_more ↦ absurd (r.1 (omega arith)) ]
         ]
       ],
     )
-
-pub returns-clause-behind : goal.returns-clause-behind
-returns-clause-behind c i b = absurd (none_ready c.pop_first.new.self (left (goal.at.returns-clause-behind c).In_default) i b)
-
-pub returns-clause-within : goal.returns-clause-within
-returns-clause-within c = let l = c.in_ok-place.ensures.1 in omega arith

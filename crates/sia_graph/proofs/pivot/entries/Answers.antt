@@ -2,16 +2,16 @@ use Rattle.std.proofs.Common.{◌≡◌, ℕ, List, ◌∷◌, [], ◌++◌, not
 use Rattle.std.specs.Prelude.{All}
 use Rattle.std.proofs.lemmas.List.{map-append}
 use Rattle.std.proofs.lemmas.List.Elements.{All-push}
-use Rattle.sia_events.specs.DangerousStructures.{IsPivot}
+use Rattle.sia_events.specs.DangerousStructures.{IsFirst, IsPivot, IsVulnerable}
 use Rattle.sia_events.specs.Lists.{ListsAscending}
 use Rattle.sia_graph.specs.declared.pivot.Pivot.{Pivot}
 use Rattle.sia_graph.specs.Links.{AreLinked}
 use Rattle.sia_graph.specs.Pivots.{ListsNeighbours}
 use Rattle.sia_graph.proofs.OfPivots.ListedAs.{listed_as}
-use Rattle.sia_graph.proofs.OfPivots.LinkLists.{IsLinked, ends_listed, linked_by}
+use Rattle.sia_graph.proofs.OfPivots.LinkLists.{IsLinked, ends_listed, linked_by, others_listed}
 use Rattle.sia_graph.proofs.OfPivots.Picked.{ArePicked, none_picked, picked_more, picked_same, all_picked}
 use Rattle.sia_graph.proofs.OfPivots.PivotLists.{is_middle}
-use Rattle.sia_graph.proofs.pivot.entries.Goals.{then-not-is_empty+in_ok-pivot_at+in_ok-push, else-not-is_empty}
+use Rattle.sia_graph.proofs.pivot.entries.Goals.{then-not-is_empty+in_ok-ins+in_ok-outs+in_ok-firsts+in_ok-push, else-not-is_empty}
 use Rattle.sia_graph.proofs.pivot.entries.Goals as goal
 
 abbrev txn_of : Pivot → ℕ
@@ -24,6 +24,20 @@ loop-txn-init c =
     subst (λ (l : List Pivot). ArePicked (λ t. t ∷ []) (IsLinked into) linked 0 (map txn_of l) × All (ListsNeighbours c.args.ix.now) l) (sym c.new-found.ensures.items)
     (none_picked (λ t. t ∷ []) (IsLinked into) linked, λ k d l. absurd (omega arith))
 
+pub firsts-requires-clause-ins : goal.firsts-requires-clause-ins
+firsts-requires-clause-ins c =
+    let h = c.args.ix.now in
+    let txn = get_or c.as_slice-txn-items.result.now c.loop-txn.txn-index 0 in
+    subst (λ (ts : List ℕ). ListsAscending (λ t. IsVulnerable h t txn) ts) (sym (c.deref.ensures.value ∙ c.in_ok-ins.ensures))
+    (others_listed (λ t u. IsVulnerable h u t) c.args.into.now c.requires.into txn c.links_at-own.result.now c.links_at-own.ensures)
+
+pub firsts-requires-clause-outs : goal.firsts-requires-clause-outs
+firsts-requires-clause-outs c =
+    let h = c.args.ix.now in
+    let txn = get_or c.as_slice-txn-items.result.now c.loop-txn.txn-index 0 in
+    subst (λ (ts : List ℕ). ListsAscending (IsVulnerable h txn) ts) (sym (c.deref-then-not-is_empty.ensures.value ∙ c.in_ok-outs.ensures))
+    (others_listed (IsVulnerable h) c.args.out.now c.requires.out txn c.links_at.result.now c.links_at.ensures)
+
 pub loop-txn-preserved : goal.loop-txn-preserved
 loop-txn-preserved c =
     let into = c.args.into.now in
@@ -33,14 +47,23 @@ loop-txn-preserved c =
     let n = c.loop-txn.txn-index in
     let found = c.loop-txn.found.items in
     let now = c.if-not-is_empty.found.items in
-    let has = linked_by into (get_or linked n 0) c.links_at-ins.result.now c.links_at-ins.ensures c.is_empty.result c.is_empty.ensures in
+    let has = linked_by into (get_or linked n 0) c.links_at-own.result.now c.links_at-own.ensures c.is_empty.result c.is_empty.ensures in
     elim c.if-not-is_empty.branch [
-      | then-not-is_empty+in_ok-pivot_at+in_ok-push w ↦
-          let entry : Pivot = w.in_ok-pivot_at.field-0 in
+      | then-not-is_empty+in_ok-ins+in_ok-outs+in_ok-firsts+in_ok-push w ↦
+          let h = c.args.ix.now in
+          let txn = get_or linked n 0 in
+          let entry : Pivot = record { txn = txn; ins = w.new.result; outs = w.new-then-not-is_empty.result; firsts = w.new-then-not-is_empty-2.result } in
+          let neighbours : ListsNeighbours h entry = record {
+            ins = subst (λ (ts : List ℕ). ListsAscending (λ t. IsVulnerable h t txn) ts) (sym (w.new.ensures ∙ w.in_ok-ins.ensures))
+                (others_listed (λ t u. IsVulnerable h u t) into c.requires.into txn c.links_at-own.result.now c.links_at-own.ensures);
+            outs = subst (λ (ts : List ℕ). ListsAscending (IsVulnerable h txn) ts) (sym (w.new-then-not-is_empty.ensures ∙ w.in_ok-outs.ensures))
+                (others_listed (IsVulnerable h) c.args.out.now c.requires.out txn w.links_at.result.now w.links_at.ensures);
+            firsts = subst (λ (ts : List ℕ). ListsAscending (IsFirst h txn) ts) (sym w.new-then-not-is_empty-2.ensures) w.in_ok-firsts.ensures;
+          } in
           let is : now ≡ found ++ entry ∷ [] = ap (λ v. v.items) w.found-is ∙ w.in_ok-push.ensures.items in
-          let names = ap (map txn_of) is ∙ map-append txn_of found (entry ∷ []) ∙ ap (λ t. map txn_of found ++ t ∷ []) w.in_ok-pivot_at.ensures.txn in (
+          let names = ap (map txn_of) is ∙ map-append txn_of found (entry ∷ []) in (
             picked_more (λ t. t ∷ []) (IsLinked into) linked are.ascending n 0 c.loop-txn-test.true (map txn_of found) (map txn_of now) c.loop-txn.invariant.0 (has.0 (ap not w.if-not-is_empty.true)) names,
-            subst (λ (l : List Pivot). All (ListsNeighbours c.args.ix.now) l) (sym is) (All-push (ListsNeighbours c.args.ix.now) found entry c.loop-txn.invariant.1 w.in_ok-pivot_at.ensures.neighbours),
+            subst (λ (l : List Pivot). All (ListsNeighbours c.args.ix.now) l) (sym is) (All-push (ListsNeighbours c.args.ix.now) found entry c.loop-txn.invariant.1 neighbours),
           )
       | else-not-is_empty w ↦
           let is : now ≡ found = ap (λ v. v.items) w.found-is in (

@@ -1,11 +1,20 @@
-use Rattle.std.proofs.Common.{◌<◌, ℕ, get_or, ap, sym, ◌∙◌, subst, arith}
+use Rattle.std.proofs.Common.{◌≡◌, ◌<◌, inl, inr, ℕ, false, cond, List, Some, unwrap_or, refl, get_or, ap, sym, ◌∙◌, subst, arith}
 use Rattle.std.proofs.lemmas.Option.{same_Some}
-use Rattle.std.specs.BTreeMap.{BTreeMap}
+use Rattle.std.specs.BTreeMap.{BTreeMap, Updates}
+use Rattle.std.specs.Ordering.{nat_cmp}
+use Rattle.std.proofs.lemmas.Bool.{cases_eq, eq-eqb, ne_eqb}
+use Rattle.sia_events.specs.declared.event.Event.{Event}
+use Rattle.sia_events.specs.declared.event.Event.TheVariants.{Abort, Begin, Commit, Range, Read, Write}
+use Rattle.sia_events.specs.Events.{actor}
+use Rattle.sia_events.specs.Places.{at_place}
+use Rattle.sia_events.specs.Replay.{is_write_of}
+use Rattle.sia_events.specs.Transactions.{Wrote}
+use Rattle.sia_graph.proofs.ReplayedTxns.MapSteps.{get_other, get_same}
 use Rattle.sia_graph.specs.declared.serial_replay.Mismatch.{Mismatch}
-use Rattle.sia_graph.specs.Replaying.{version_in}
+use Rattle.sia_graph.specs.Replaying.{AreWritten, after, version_in}
 use Rattle.sia_graph.proofs.ReplayedTxns.ChainOf.{IsOnChain, next_event, is_next, place_within, fewer_places, on_chain_more, told_wrong, told_all}
 use Rattle.sia_graph.proofs.serial_replay.replay_txn.Goals as goal
-use Rattle.sia_graph.proofs.serial_replay.replay_txn.Goals.{in-Some+in_default-wrong_key+in_ok-keep_write, in_default}
+use Rattle.sia_graph.proofs.serial_replay.replay_txn.Goals.{in-Some+in_default-wrong_key+in-Write+in_ok-insert, in-Some+in_default-wrong_key+in_default-event, in_default}
 
 pub returns-in-Some-wrong_key-clause-wrong : goal.returns-in-Some-wrong_key-clause-wrong
 returns-in-Some-wrong_key-clause-wrong c = λ m is others.
@@ -27,6 +36,28 @@ bounds-next-at c =
 pub loop-at-smaller : goal.loop-at-smaller
 loop-at-smaller c = fewer_places c.args.h.now c.args.txn (version_in c.args.versions.now) c.loop-at.versions c.loop-at.at c.loop-at.invariant c.loop-at-test.true c.args.next.now c.requires.next
 
+-- a write puts its transaction at its key, where it was written
+kept : (old new : BTreeMap ℕ ℕ) (t key : ℕ) → Updates nat_cmp old new key (Some t) → (k : ℕ) → version_in new k ≡ after (version_in old) (Write t key) k
+kept old new t key u k = elim (cases_eq key k) [
+  | inl e ↦ ap (λ o. unwrap_or o 0) (get_same old new key (Some t) u k e) ∙ sym (ap (λ b. cond b t (version_in old k)) (eq-eqb k key (sym e)))
+  | inr n ↦ ap (λ o. unwrap_or o 0) (get_other old new key (Some t) u k n) ∙ sym (ap (λ b. cond b t (version_in old k)) (ne_eqb k key (λ e. n (sym e))))
+]
+
+-- another event changes nothing
+no_write : (e : Event) → ((t key : ℕ) → e ≡ Write t key → ⊥) → (k : ℕ) → is_write_of k e ≡ false
+no_write (Write t key) none k = absurd (none t key refl)
+no_write (Begin t start) none k = refl
+no_write (Read t key saw) none k = refl
+no_write (Range t lo hi listed) none k = refl
+no_write (Commit t) none k = refl
+no_write (Abort t) none k = refl
+
+written : (h : List Event) (old new : BTreeMap ℕ ℕ) (t key p : ℕ) → Updates nat_cmp old new key (Some t) → at_place h p ≡ Some (Write t key) → AreWritten h old → AreWritten h new
+written h old new t key p u there before k v has = elim (cases_eq key k) [
+  | inl e ↦ let same = same_Some t v (sym (get_same old new key (Some t) u k e) ∙ has) in subst (λ q. Wrote h v q) e (subst (λ s. Wrote h s key) same (p, there))
+  | inr n ↦ before k v (sym (get_other old new key (Some t) u k n) ∙ has)
+]
+
 pub loop-at-preserved : goal.loop-at-preserved
 loop-at-preserved c =
     let h = c.args.h.now in
@@ -37,14 +68,26 @@ loop-at-preserved c =
     let w = next_event h t start c.loop-at.versions at on c.loop-at-test.true in
     let next = get_or c.args.next.now at 0 in
     elim c.match-event.branch [
-      | in-Some+in_default-wrong_key+in_ok-keep_write v ↦
+      | in-Some+in_default-wrong_key+in-Write+in_ok-insert v ↦
+          let e = v.in-Some.event.now in
+          let there = sym v.in-Some.ensures in
+          let n = is_next h t start c.loop-at.versions at on c.loop-at-test.true e there in
+          let some : 0 < at = let l = n.2 in omega arith in
+          let u = v.in_ok-insert.ensures.updates in
+          subst (λ (m : BTreeMap ℕ ℕ). IsOnChain h t start m next) (sym v.versions-is)
+          (on_chain_more h t start c.loop-at.versions at on e n v.in_default-wrong_key.ensures v.insert.new.self
+          (written h c.loop-at.versions v.insert.new.self v.in-Write.txn v.in-Write.key at u (there ∙ ap Some v.in-Write.is) on.written)
+          (subst (λ (e : Event). (k : ℕ) → version_in v.insert.new.self k ≡ after (version_in c.loop-at.versions) e k) (sym v.in-Write.is) (kept c.loop-at.versions v.insert.new.self v.in-Write.txn v.in-Write.key u))
+          next (c.requires.next.1 at e some there))
+      | in-Some+in_default-wrong_key+in_default-event v ↦
           let e = v.in-Some.event.now in
           let there = sym v.in-Some.ensures in
           let n = is_next h t start c.loop-at.versions at on c.loop-at-test.true e there in
           let some : 0 < at = let l = n.2 in omega arith in
           subst (λ (m : BTreeMap ℕ ℕ). IsOnChain h t start m next) (sym v.versions-is)
-          (on_chain_more h t start c.loop-at.versions at on e n v.in_default-wrong_key.ensures v.keep_write.new.versions
-          (v.in_ok-keep_write.ensures.written h at there on.written) v.in_ok-keep_write.ensures.versions next (c.requires.next.1 at e some there))
+          (on_chain_more h t start c.loop-at.versions at on e n v.in_default-wrong_key.ensures c.loop-at.versions on.written
+          (λ k. sym (ap (λ b. cond b (actor e) (version_in c.loop-at.versions k)) (no_write e v.in_default-event.not-Write k)))
+          next (c.requires.next.1 at e some there))
       | in_default v ↦ absurd (let k = v.in_default.ensures in let f = w.1.0 in let g = k ∙ f in cc)
     ]
 

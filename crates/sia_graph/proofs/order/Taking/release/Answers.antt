@@ -1,8 +1,8 @@
-use Rattle.std.proofs.Common.{◌≡◌, ◌-◌, ◌<◌, ◌≤◌, ℕ, [], Bool, List, Some, length, get_or, set, slice_get, inl, inr, ap, refl, sym, subst, ◌∙◌, arith}
+use Rattle.std.proofs.Common.{◌≡◌, ◌-◌, ◌<◌, ◌≤◌, ℕ, [], Bool, rules, tests, List, Some, length, get_or, set, slice_get, inl, inr, ◌⊎◌, ap, refl, sym, subst, ◌∙◌, arith}
 use Rattle.std.proofs.lemmas.Bool.{cases_eq}
 use Rattle.std.proofs.lemmas.List.{get_or-set_same, get_or-set_other, get_or_default, length-set}
 use Rattle.std.proofs.lemmas.Option.{same_Some, slice_get-get_or}
-use Rattle.std.proofs.lemmas.Result.{on_ok_weaker}
+use Rattle.std.specs.Prelude.{◌↔◌}
 use Rattle.sia_graph.specs.UnderWay.{HasReady, IsDone}
 use Rattle.sia_graph.proofs.Orders.Released.{others_waited, ready_free, ready_held, sources_within, under_way_free, under_way_held, under_way_waiting}
 use Rattle.sia_graph.proofs.order.Taking.release.Goals as goal
@@ -111,9 +111,8 @@ returns-in-Some-clause-others c t s w d =
       )
     ]
 
-pub returns-in-None-clause-is : goal.returns-in-None-clause-is
-returns-in-None-clause-is c =
-    on_ok_weaker c.note_ready.result (λ noted pending less waking is fewer.
+pub returns-in_ok-insert-in-None-clause-is : goal.returns-in_ok-insert-in-None-clause-is
+returns-in_ok-insert-in-None-clause-is c pending less waking is fewer =
     let k = c.args.self.now in
     let node = c.args.node in
     let below = c.requires.node.0 in
@@ -125,12 +124,38 @@ returns-in-None-clause-is c =
     let same = get_or-set_same k.counts.items node v c.index.result.now below in
     let few = c.if-index-gt1.false in
     let low : v ≤ 1 = omega arith in
+    let noted : (i : ℕ) → HasReady c.insert.new.self i ↔ (HasReady k.behind i ⊎ ((node ≡ i) × (node < k.end))) = search (rules, tests) in
     record {
       under_way = under_way_free c.args.graph.now c.args.done.now k node below v c.index_mut.result.now old refl pending less waking is fewer low
           (elsewhere (λ from row. (i : ℕ) → from ≤ i → i < length row → IsDone c.args.done.now (get_or row i 0)) c.index-2.result.now (get_or k.passed.items node 0)
           c.at-sources.result.now (get_or c.args.graph.now.sources node [])
           (c.index-2.ensures ∙ get_or_default k.passed.items node c.index-2.result.now 0 (let l = is.under_way.passed_long in omega arith)) c.at-sources.ensures c.in-None.ensures);
-      ready = ready_free c.args.graph.now c.args.done.now k node below v c.index_mut.result.now old refl pending less waking is fewer low (HasReady c.note_ready.new.behind) noted;
+      ready = ready_free c.args.graph.now c.args.done.now k node below v c.index_mut.result.now old refl pending less waking is fewer low (HasReady c.insert.new.self) noted;
       before = λ t b. elim ((noted t).0 b) [ inl had ↦ is.before t had | inr w ↦ (let e = w.0 in let x = w.1 in omega arith) ];
       within = let e = is.within in omega arith;
-    }) c.note_ready.ensures
+    }
+
+pub returns-else-node-self-clause-is : goal.returns-else-node-self-clause-is
+returns-else-node-self-clause-is c pending less waking is fewer =
+    let k = c.args.self.now in
+    let node = c.args.node in
+    let below = c.requires.node.0 in
+    let v = c.index_mut.result.now - 1 in
+    let old = c.index_mut.ensures.value ∙ get_or_default k.counts.items node c.index_mut.result.now 0 below in
+    let kept = c.index.ensures in
+    let long = length-set k.counts.items node v in
+    let longer = length-set (set k.counts.items node v) node 0 in
+    let same = get_or-set_same k.counts.items node v c.index.result.now below in
+    let few = c.if-index-gt1.false in
+    let low : v ≤ 1 = omega arith in
+    let past = c.if-node-self.false in
+    let noted : (i : ℕ) → HasReady k.behind i ↔ (HasReady k.behind i ⊎ ((node ≡ i) × (node < k.end))) = λ i. ((λ b. inl b), (λ b. elim b [ inl had ↦ had | inr w ↦ absurd (let x = w.1 in omega arith) ])) in
+    record {
+      under_way = under_way_free c.args.graph.now c.args.done.now k node below v c.index_mut.result.now old refl pending less waking is fewer low
+          (elsewhere (λ from row. (i : ℕ) → from ≤ i → i < length row → IsDone c.args.done.now (get_or row i 0)) c.index-2.result.now (get_or k.passed.items node 0)
+          c.at-sources.result.now (get_or c.args.graph.now.sources node [])
+          (c.index-2.ensures ∙ get_or_default k.passed.items node c.index-2.result.now 0 (let l = is.under_way.passed_long in omega arith)) c.at-sources.ensures c.in-None.ensures);
+      ready = ready_free c.args.graph.now c.args.done.now k node below v c.index_mut.result.now old refl pending less waking is fewer low (HasReady k.behind) noted;
+      before = is.before;
+      within = let e = is.within in omega arith;
+    }

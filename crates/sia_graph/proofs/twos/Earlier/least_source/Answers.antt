@@ -4,10 +4,10 @@ use Rattle.std.proofs.lemmas.List.{take_all}
 use Rattle.std.proofs.lemmas.List.Elements.{Contains-get_or}
 use Rattle.sia_parts.specs.Accesses.{SawPosition}
 use Rattle.sia_parts.specs.Sights.{FromSome}
-use Rattle.sia_graph.specs.Twos.{IsLeastNumber, IsLeftSource}
+use Rattle.sia_graph.specs.Twos.{IsLeastNumber, IsLeftMaker, IsLeftSource, IsTwo, IsUpTo}
 use Rattle.sia_graph.proofs.Shared.AccessLists.{saw_inside, saw_is, saw_position}
 use Rattle.sia_graph.proofs.Shared.EarlierSources.{OfEither, OfMade, OfSeen, sources_are}
-use Rattle.sia_graph.proofs.Shared.LeastNumbers.{first_least, least_join, least_none}
+use Rattle.sia_graph.proofs.Shared.LeastNumbers.{first_least, least_join, least_none, other_of}
 use Rattle.sia_graph.proofs.Shared.PositionTwos.{positions_below}
 use Rattle.sia_graph.proofs.twos.Earlier.least_source.Goals as goal
 
@@ -43,8 +43,8 @@ at-position-items-requires c = let e = c.args.evidence.now in let u = c.requires
 pub loop-position-2-init : goal.loop-position-2-init
 loop-position-2-init c left are = (4294967295, omega arith, least_none _ (λ q f. (let n = f.1.1 in omega arith)), (let l = c.loop-position.invariant.0 in omega arith))
 
-pub least_maker-requires : goal.least_maker-requires
-least_maker-requires c =
+pub index-requires : goal.index-requires
+index-requires c =
     let e = c.args.evidence.now in
     let h = e.index.now in
     let a = e.accesses.now in
@@ -53,20 +53,31 @@ least_maker-requires c =
     let q = get_or row c.loop-position-2.position-index 0 in
     let there = subst (λ (xs : List ℕ). Contains xs q) c.at-position-items.ensures (Contains-get_or row c.loop-position-2.position-index 0 c.loop-position-2-test.true) in
     let saw = (saw_is h a c.requires.is.accesses c.args.me u.0 u.1 q).0 there in
-    positions_below h _ q c.requires.earlier.1.makers_long (saw_position h a c.requires.is.accesses c.args.me u.0 u.1 q saw)
+    let l = positions_below h _ q c.requires.earlier.1.makers_long (saw_position h a c.requires.is.accesses c.args.me u.0 u.1 q saw) in
+    let ok = c.args.self.now.makers.ok.0 in
+    omega arith
 
 pub loop-position-2-preserved : goal.loop-position-2-preserved
 loop-position-2-preserved c left are =
     let e = c.args.evidence.now in
+    let u = c.requires.me in
+    let at = get_or c.at-position-items.result.now c.loop-position-2.position-index 0 in
+    let there = subst (λ (xs : List ℕ). Contains xs at) c.at-position-items.ensures (Contains-get_or c.at-position-items.result.now c.loop-position-2.position-index 0 c.loop-position-2-test.true) in
+    let saw = (saw_is e.index.now e.accesses.now c.requires.is.accesses c.args.me u.0 u.1 at).0 there in
+    let below = positions_below e.index.now _ at are.makers_long (saw_position e.index.now e.accesses.now c.requires.is.accesses c.args.me u.0 u.1 at saw) in
     let w = c.loop-position-2.invariant left are in
     let f = c.min-least-in-loop-position-2.ensures in
     let g = w.3 in
     let b = w.1 in
-    let new = c.least_maker.result in (
+    let new = c.other.result in
+    let q = get_or c.at-position-items.result.now c.loop-position-2.position-index 0 in
+    let made =
+    other_of (IsUpTo e.index.now (IsLeftMaker e.index.now left) q) c.index.result.now c.args.me new c.other.ensures.own c.other.ensures.another
+    (subst (IsTwo (IsUpTo e.index.now (IsLeftMaker e.index.now left) q)) (sym c.index.ensures) (are.makers q c.index.result.now below)) in (
       min w.0 new,
       omega arith,
       first_least (OfSeen e.index.now left c.args.me) c.at-position-items.result.now c.loop-position-2.position-index 0 w.0 new c.loop-position-2-test.true w.1 (omega arith)
-          w.2 (c.least_maker.ensures e.index.now e.accesses.now left c.requires.is.well_formed are),
+          w.2 made,
       omega arith,
     )
 
