@@ -19,7 +19,7 @@ ghost use Rattle.sia_index.specs.Positions.{HasPosition};
 ghost use Rattle.sia_parts.specs.Sights.{FromSome};
 ghost use Rattle.sia_graph.specs.Dangerous.{IsLeast};
 ghost use Rattle.sia_graph.specs.Extremes.{HasRwEdge};
-ghost use Rattle.sia_graph.specs.LeastEdges.{AreMade, IsKeyOf, IsLeastEdgeBetween, IsMadeWithin, IsMet, IsMissMet, Meets};
+ghost use Rattle.sia_graph.specs.LeastEdges.{AreMade, IsKeyOf, IsLeastEdgeBetween, IsMadeWithin, IsMet, Meets};
 ghost use Rattle.sia_graph.specs.Twos.{HaveOneKey, IsLeastNumber};
 
 use crate::evidence::Evidence;
@@ -28,7 +28,7 @@ use crate::twos::Earlier;
 use sia_events::{Key, NoMemory, TxnId};
 use sia_index::Index;
 use sia_index::keyed::{ByPlace, place_from};
-use sia_parts::{Edge, Kind, RangeMiss};
+use sia_parts::{Edge, Kind};
 use std::alloc::Global;
 use std::marker::Model;
 
@@ -282,19 +282,6 @@ fn least_met(kind: Kind, index: &Index, made: &[u32], others: &[u32]) -> u32
     least
 }
 
-/// The number of the least key of which a version is made that one of these range misses holds.
-fn least_missed(index: &Index, made: &[u32], misses: &[RangeMiss]) -> u32
-    requires { AreMade index.now made.now }
-    ensures { IsLeastNumber (FromSome (IsMissMet index.now made.now) misses.now) result }
-{
-    let mut least = NONE;
-    for miss in misses {
-        let (from, to) = (start_of(index, miss.from), start_of(index, miss.to));
-        least = least.min(least_made(index, made, from, to));
-    }
-    least
-}
-
 /// The number of the least key at which an rw edge leads from one transaction to another, by their numbers.
 pub(crate) fn least_rw(evidence: &Evidence, t: u32, u: u32) -> u32
     requires is { IsEvidence evidence.now }
@@ -308,8 +295,12 @@ pub(crate) fn least_rw(evidence: &Evidence, t: u32, u: u32) -> u32
     index.keys_law();
     let _count = index.position_count();
     let made = index.made_by(u as usize);
-    let seen = least_met(Kind::Rw, index, made, evidence.accesses.saw.at(t as usize));
-    seen.min(least_missed(index, made, evidence.accesses.missed.at(t as usize)))
+    let mut least = least_met(Kind::Rw, index, made, evidence.accesses.saw.at(t as usize));
+    for miss in evidence.accesses.missed.at(t as usize) {
+        let (from, to) = (start_of(index, miss.from), start_of(index, miss.to));
+        least = least.min(least_made(index, made, from, to));
+    }
+    least
 }
 
 /// The kind of the least edge from one transaction to another, by their numbers, and the number of its key.

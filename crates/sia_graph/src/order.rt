@@ -1,12 +1,10 @@
 //! The least order that keeps every step, by Kahn's algorithm: always the least node that is ready is taken.
-ghost use Rattle.std.specs.Prelude.{◌≡◌, ◌≢◌, ◌↔◌, ◌<◌, ◌≤◌, ◌+◌, ◌*◌, [], ℕ, Bool, All, Contains, IfNone, IfOk, IfSome, MatchOption, OnOk, length, map, slice_index, slice_index_or, List};
+ghost use Rattle.std.specs.Prelude.{◌≡◌, ◌≢◌, ◌↔◌, ◌<◌, ◌≤◌, ◌+◌, ◌*◌, [], ℕ, Bool, All, Contains, IfNone, IfOk, IfSome, MatchOption, OnOk, length, slice_index, slice_index_or, List};
 ghost use Rattle.std.specs.List.{range_with_len};
-ghost use Rattle.sia_graph.specs.Blocks.{without_blocks};
 ghost use Rattle.sia_graph.specs.Graphs.{IsGraph};
-ghost use Rattle.sia_graph.specs.NarrowSteps.{name_of};
 ghost use Rattle.sia_graph.specs.Taken.{AreTakenNodes};
 ghost use Rattle.sia_graph.specs.declared.order.Graph.{Graph};
-ghost use Rattle.sia_graph.specs.UnderWay.{HasReady, IsDone, IsLastFront, IsOneFewer, IsReadyAt, IsTaking, WaitsAt, none_pending, times, told};
+ghost use Rattle.sia_graph.specs.UnderWay.{HasReady, IsDone, IsLastFront, IsOneFewer, IsReadyAt, IsTaking, WaitsAt, none_pending, times};
 
 use sia_events::{NoMemory, TxnId};
 use sia_index::lists::Lists;
@@ -108,22 +106,6 @@ fn first_left(nodes: &[u32], done: &[bool], from: usize) -> Option<usize>
     None
 }
 
-/// For each node how many steps to it are told at their sources, and two.
-fn counts_of(alloc: Global, graph: &Graph, nodes: usize) -> Result<Vec<u32>, NoMemory>
-    requires { IsGraph nodes graph.now }
-    ensures { IfOk result (λ counts. (length counts.items ≡ nodes)
-        × ((t : ℕ) → t < nodes → slice_index counts.items t ≡ told graph.now.targets [] t + 2)) }
-{
-    let mut counts = vec![in alloc; 2u32; nodes]?;
-    for node in 0..nodes {
-        for target in graph.targets.at(node) {
-            let target = *target as usize;
-            counts[target] = counts[target].checked_add(1).ok_or(NoMemory)?;
-        }
-    }
-    Ok(counts)
-}
-
 impl Taking {
     /// Nothing is taken, and each node is to be released once.
     fn of(alloc: Global, graph: &Graph, nodes: usize) -> Result<Taking, NoMemory>
@@ -132,7 +114,14 @@ impl Taking {
         ensures is { IfOk result (λ taking. (done : List Bool) → length done ≡ nodes
             → ((s : ℕ) → ¬ IsDone done s) → IsTaking graph.now done taking (λ t. 1) nodes) }
     {
-        let counts = counts_of(alloc, graph, nodes)?;
+        // For each node how many steps to it are told at their sources, and two.
+        let mut counts = vec![in alloc; 2u32; nodes]?;
+        for node in 0..nodes {
+            for target in graph.targets.at(node) {
+                let target = *target as usize;
+                counts[target] = counts[target].checked_add(1).ok_or(NoMemory)?;
+            }
+        }
         let passed = vec![in alloc; 0usize; nodes]?;
         let first_waiting = vec![in alloc; NONE; nodes]?;
         let next_waiting = vec![in alloc; NONE; nodes]?;
@@ -266,27 +255,6 @@ pub(crate) enum Taken {
     Rest(Vec<bool>),
 }
 
-/// The transactions of the nodes that are no blocks, in the same order.
-fn names_of(
-    alloc: Global,
-    size: u32,
-    txns: &[TxnId],
-    nodes: &[usize],
-) -> Result<Vec<TxnId>, NoMemory>
-    requires within { All (λ a. a < 2 * size + length txns.now) nodes.now }
-    ensures { IfOk result (λ names. names.items
-        ≡ map (name_of size txns.now) (without_blocks (2 * size) nodes.now)) }
-{
-    let floor = 2 * size as usize;
-    let mut names = Vec::with_capacity(alloc, txns.len())?;
-    for node in nodes {
-        if *node >= floor {
-            names.push(txns[*node - floor])?;
-        }
-    }
-    Ok(names)
-}
-
 /// The least order of the transactions that keeps every step of a graph of blocks over `size` keys and transactions, or those that
 /// are left where none does.
 pub(crate) fn take_nodes(
@@ -302,7 +270,13 @@ pub(crate) fn take_nodes(
     let floor = 2 * size as usize;
     let (order, done) = take_all(alloc, graph, floor + txns.len())?;
     if done.iter().all(|is_done| *is_done) {
-        return Ok(Taken::Whole(names_of(alloc, size, txns, &order)?));
+        let mut names = Vec::with_capacity(alloc, txns.len())?;
+        for node in order.as_slice() {
+            if *node >= floor {
+                names.push(txns[*node - floor])?;
+            }
+        }
+        return Ok(Taken::Whole(names));
     }
     let members = &done[floor..];
     Ok(Taken::Rest(members.iter().map(|is_done| !*is_done).collect(alloc)?))

@@ -4,7 +4,7 @@ ghost use Rattle.std.specs.List.Sorted.{IsStrictlyIncreasing};
 ghost use Rattle.sia_events.specs.declared.event.Event.{Event};
 ghost use Rattle.sia_events.specs.declared.event.Event.TheVariants.{Range};
 ghost use Rattle.sia_events.specs.Places.{at_place};
-ghost use Rattle.sia_events.specs.Replay.{IsFirstMismatch, IsOrder, MayFollow, Replays, events_of, serial};
+ghost use Rattle.sia_events.specs.Replay.{IsFirstMismatch, IsOrder, MayFollow, Replays, events_of};
 ghost use Rattle.sia_events.specs.Transactions.{Wrote};
 ghost use Rattle.sia_graph.specs.declared.serial_replay.Mismatch.{Mismatch};
 ghost use Rattle.sia_graph.specs.Replaying.{Agrees, AreCommits, AreFirsts, AreNext, AreWritten, IsRight, IsWrongAt, Tells, first_at, version_in};
@@ -254,10 +254,16 @@ fn replay_txn(
     Ok(None)
 }
 
-/// Replays the transactions of an order, up to the first event that isn't right.
-fn replay_order(alloc: Global, h: &History, order: &[TxnId]) -> Result<Option<Mismatch>, NoMemory>
-    ensures { IfOk result (Tells h.now (λ _. 0) (serial h.now order.now)) }
+/// Nothing where the order replays the history, else the first mismatch.
+pub fn replay(alloc: Global, h: &History, order: &[TxnId]) -> Result<Option<Mismatch>, ReplayFault>
+    ensures order { OnOk result (IsOrder h.now order.now) }
+    ensures not_an_order { result ≡ Err faults.NotAnOrder → ¬ IsOrder h.now order.now }
+    ensures replays { IfOk result (λ found. MatchOption found (Replays h.now order.now)
+        (λ m. IsFirstMismatch h.now order.now m.place m.key m.found)) }
 {
+    if !is_order(alloc, h, order)? {
+        return Err(ReplayFault::NotAnOrder);
+    }
     let commits = commit_places(alloc, h)?;
     let (firsts, next) = chains(alloc, h)?;
     let places = next.as_slice();
@@ -269,17 +275,4 @@ fn replay_order(alloc: Global, h: &History, order: &[TxnId]) -> Result<Option<Mi
         }
     }
     Ok(None)
-}
-
-/// Nothing where the order replays the history, else the first mismatch.
-pub fn replay(alloc: Global, h: &History, order: &[TxnId]) -> Result<Option<Mismatch>, ReplayFault>
-    ensures order { OnOk result (IsOrder h.now order.now) }
-    ensures not_an_order { result ≡ Err faults.NotAnOrder → ¬ IsOrder h.now order.now }
-    ensures replays { IfOk result (λ found. MatchOption found (Replays h.now order.now)
-        (λ m. IsFirstMismatch h.now order.now m.place m.key m.found)) }
-{
-    if !is_order(alloc, h, order)? {
-        return Err(ReplayFault::NotAnOrder);
-    }
-    Ok(replay_order(alloc, h, order)?)
 }

@@ -6,15 +6,14 @@ ghost use Rattle.sia_events.specs.Isolation.{IsolationKept};
 ghost use Rattle.sia_events.specs.Transactions.{CommitsAt, IsCommitted};
 ghost use Rattle.sia_index.specs.declared.info.KeyVersion.{KeyVersion};
 ghost use Rattle.sia_index.specs.Numbers.{IsCommittedAt};
-ghost use Rattle.sia_index.specs.Positions.{HasPosition, IsAtPosition, ArePositions};
+ghost use Rattle.sia_index.specs.Positions.{HasPosition, IsAtPosition};
 ghost use Rattle.sia_parts.specs.Findings.{AreFindings, ListsBadReads, ListsBadWrites};
 ghost use Rattle.sia_graph.specs.Dangerous.{HasFirst, IsDangerous, IsLeast, MayBeFirst};
 ghost use Rattle.sia_graph.specs.EarlyVersions.{HasEarly, IsFollowedBy, IsLimit};
 ghost use Rattle.sia_graph.specs.Evidence.{IsEvidence};
 ghost use Rattle.sia_graph.specs.Pivots.{ArePivots};
 ghost use Rattle.sia_events.specs.Lists.{ListsAscending};
-ghost use Rattle.sia_index.specs.Info.{IsKeyAt};
-ghost use Rattle.sia_graph.specs.Late.{AreLastBefore, AreLate, Enters, IsLastOf, IsLookAt, IsMarkedOver, StandsAt};
+ghost use Rattle.sia_graph.specs.Late.{AreLate, Enters, IsLastOf, IsLookAt, IsMarkedOver, StandsAt};
 ghost use Rattle.sia_graph.specs.Passed.{IsOwnPassed};
 
 use crate::cycle::least_rw;
@@ -279,31 +278,6 @@ fn top_of(size: u32, most: &[u32], key: u32) -> u32
     top
 }
 
-/// For each position the last mark before it at its key, or with a block over the key.
-fn last_before(
-    alloc: Global,
-    index: &Index,
-    size: u32,
-    seen: &[u32],
-    most: &[u32],
-) -> Result<Vec<u32>, NoMemory>
-    requires seen { ArePositions index.now (length seen.now) }
-    requires most { length most.now ≡ 2 * size }
-    requires keys { (j k : ℕ) → IsKeyAt index.now j k → (size ≡ 0) ⊎ (j < size) }
-    ensures { IfOk result (λ late. AreLastBefore index.now size seen.now most.now late.items) }
-{
-    let mut late = Vec::with_capacity(alloc, seen.len())?;
-    let mut last = 0;
-    for position in 0..index.position_count() {
-        if index.commit_at(position) == 0 {
-            last = top_of(size, most, index.key_at(position));
-        }
-        late.push(last)?;
-        last = last.max(seen[position as usize]);
-    }
-    Ok(late)
-}
-
 /// For each position but those of version 0 the greatest value of those with an rw edge to who made the version, at its key.
 fn late_of(alloc: Global, evidence: &Evidence, values: &[u32]) -> Result<Vec<u32>, NoMemory>
     requires evidence { IsEvidence evidence.now }
@@ -328,7 +302,17 @@ fn late_of(alloc: Global, evidence: &Evidence, values: &[u32]) -> Result<Vec<u32
         put_all_blocks(size, &passed.stretches, &mut places)?;
         raise_all(most, &places, values[txn]);
     }
-    last_before(alloc, evidence.index, size, seen, most)
+    let index = evidence.index;
+    let mut late = Vec::with_capacity(alloc, seen.len())?;
+    let mut last = 0;
+    for position in 0..index.position_count() {
+        if index.commit_at(position) == 0 {
+            last = top_of(size, most, index.key_at(position));
+        }
+        late.push(last)?;
+        last = last.max(seen[position as usize]);
+    }
+    Ok(late)
 }
 
 /// The greatest value of those with an rw edge to the transaction, or 0.

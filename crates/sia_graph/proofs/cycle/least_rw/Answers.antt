@@ -1,5 +1,6 @@
-use Rattle.std.proofs.Common.{◌⊎◌, inl, inr, ℕ, List, sym, subst, arith}
+use Rattle.std.proofs.Common.{◌⊎◌, inl, inr, ℕ, List, get_or, min, sym, subst, arith}
 use Rattle.std.specs.Prelude.{◌↔◌, Contains}
+use Rattle.std.proofs.lemmas.List.{take_all}
 use Rattle.sia_events.specs.Dependencies.{RwEdge}
 use Rattle.sia_parts.specs.Accesses.{HasMiss, SawPosition}
 use Rattle.sia_parts.specs.Sights.{FromSome}
@@ -9,7 +10,8 @@ use Rattle.sia_graph.specs.Extremes.{HasRwEdge}
 use Rattle.sia_graph.specs.LeastEdges.{IsMet, IsMissMet}
 use Rattle.sia_graph.specs.Twos.{IsLeastNumber}
 use Rattle.sia_graph.proofs.Shared.AccessLists.{missed_inside, missed_is, saw_inside, saw_is, saw_position}
-use Rattle.sia_graph.proofs.Shared.LeastNumbers.{least_join}
+use Rattle.sia_graph.proofs.Shared.LeastNumbers.{first_least, least_join, least_none}
+use Rattle.sia_graph.proofs.Cycles.KeyStretches.{as_missed}
 use Rattle.sia_graph.proofs.Cycles.MetEdges.{least_key, rw_met}
 use Rattle.sia_graph.proofs.Shared.PositionEdges.{one_txn_at}
 use Rattle.sia_graph.proofs.cycle.least_rw.Goals as goal
@@ -20,21 +22,43 @@ made_by-made-requires c = let l = c.requires.leads in (l.1, l.3)
 pub at-requires : goal.at-requires
 at-requires c = let e = c.args.evidence.now in let l = c.requires.leads in saw_inside e.index.now e.accesses.now c.requires.is.accesses c.args.t l.0 l.2
 
-pub least_met-seen-requires-clause-made : goal.least_met-seen-requires-clause-made
-least_met-seen-requires-clause-made c = let l = c.requires.leads in (l.1, c.made_by-made.ensures l.1 l.3)
+pub least_met-least-requires-clause-made : goal.least_met-least-requires-clause-made
+least_met-least-requires-clause-made c = let l = c.requires.leads in (l.1, c.made_by-made.ensures l.1 l.3)
 
-pub least_met-seen-requires-clause-others : goal.least_met-seen-requires-clause-others
-least_met-seen-requires-clause-others c p there =
+pub least_met-least-requires-clause-others : goal.least_met-least-requires-clause-others
+least_met-least-requires-clause-others c p there =
     let e = c.args.evidence.now in
     let l = c.requires.leads in
     let a = c.requires.is.accesses in
     saw_position e.index.now e.accesses.now a c.args.t l.0 l.2 p ((saw_is e.index.now e.accesses.now a c.args.t l.0 l.2 p).0 (subst (λ (xs : List ℕ). Contains xs p) c.at.ensures there))
 
-pub at-requires-2 : goal.at-requires-2
-at-requires-2 c = let e = c.args.evidence.now in let l = c.requires.leads in missed_inside e.index.now e.accesses.now c.requires.is.accesses c.args.t l.0 l.2
+pub at-miss-items-requires : goal.at-miss-items-requires
+at-miss-items-requires c = let e = c.args.evidence.now in let l = c.requires.leads in missed_inside e.index.now e.accesses.now c.requires.is.accesses c.args.t l.0 l.2
 
-pub least_missed-requires : goal.least_missed-requires
-least_missed-requires c = let l = c.requires.leads in (l.1, c.made_by-made.ensures l.1 l.3)
+pub least_made-requires : goal.least_made-requires
+least_made-requires c = let l = c.requires.leads in (l.1, c.made_by-made.ensures l.1 l.3)
+
+pub loop-miss-init : goal.loop-miss-init
+loop-miss-init c = (4294967295, omega arith, least_none _ (λ q f. (let n = f.1.1 in omega arith)), omega arith)
+
+pub loop-miss-preserved : goal.loop-miss-preserved
+loop-miss-preserved c =
+    let h = c.args.evidence.now.index.now in
+    let made = c.made_by-made.result.now in
+    let misses = c.at-miss-items.result.now in
+    let i = c.loop-miss.miss-index in
+    let d : RangeMiss = record { from = 0; to = 0 } in
+    let w = c.loop-miss.invariant in
+    let f = c.min-least.ensures in
+    let g = w.3 in
+    let b = w.1 in
+    let new = c.least_made.result in (
+      min w.0 new,
+      omega arith,
+      first_least (IsMissMet h made) misses i d w.0 new c.loop-miss-test.true w.1 (omega arith) w.2
+          (as_missed h made (get_or misses i d) c.start_of-from.result c.start_of-to.result new c.start_of-from.ensures c.start_of-to.ensures c.least_made.ensures),
+      omega arith,
+    )
 
 pub returns : goal.returns
 returns c t u source target =
@@ -46,13 +70,15 @@ returns c t u source target =
     let edge = subst (λ x. HasRwEdge h x u) (one_txn_at h c.args.t l.0 t l.2 source) (subst (λ x. HasRwEdge h l.0 x) (one_txn_at h c.args.u l.1 u l.3 target) l.4) in
     let made = c.made_by-made.result.now in
     let saw = c.at.result.now in
-    let missed = c.at-2.result.now in
+    let missed = c.at-miss-items.result.now in
     let keys = c.keys_law.ensures in
     let positions = c.position_count-count.ensures in
     let numbers = rw_met h c.requires.is.well_formed positions.0 positions.1 keys.0 keys.1 t u a are edge.1.0 made saw missed c.args.t source (c.made_by-made.ensures u target)
     (λ q. subst (λ (xs : List ℕ). Contains xs q ↔ SawPosition a c.args.t q) (sym c.at.ensures) (saw_is h a are c.args.t t source q))
-    (λ miss. subst (λ (xs : List RangeMiss). Contains xs miss ↔ HasMiss a c.args.t miss) (sym c.at-2.ensures) (missed_is h a are c.args.t t source miss)) in
-    let least = least_join (FromSome (IsMet h Rw made) saw) (FromSome (IsMissMet h made) missed) (λ j. FromSome (IsMet h Rw made) saw j ⊎ FromSome (IsMissMet h made) missed j) c.least_met-seen.result c.least_missed.result (omega arith) (omega arith)
-    (λ j x. inl x) (λ j x. inr x) (λ j x. x) c.least_met-seen.ensures c.least_missed.ensures in
-    least_key h (λ j. FromSome (IsMet h Rw made) saw j ⊎ FromSome (IsMissMet h made) missed j) (RwEdge h t u) numbers c.min.result
-    (subst (IsLeastNumber (λ j. FromSome (IsMet h Rw made) saw j ⊎ FromSome (IsMissMet h made) missed j)) (sym c.min.ensures) least) (λ e. edge)
+    (λ miss. subst (λ (xs : List RangeMiss). Contains xs miss ↔ HasMiss a c.args.t miss) (sym c.at-miss-items.ensures) (missed_is h a are c.args.t t source miss)) in
+    let w = c.loop-miss.invariant in
+    let second = subst (λ (xs : List RangeMiss). IsLeastNumber (FromSome (IsMissMet h made) xs) w.0) (take_all c.loop-miss.miss-index missed c.loop-miss-test.false) w.2 in
+    let least = least_join (FromSome (IsMet h Rw made) saw) (FromSome (IsMissMet h made) missed) (λ j. FromSome (IsMet h Rw made) saw j ⊎ FromSome (IsMissMet h made) missed j) c.least_met-least.result w.0 (omega arith) w.1
+    (λ j x. inl x) (λ j x. inr x) (λ j x. x) c.least_met-least.ensures second in
+    least_key h (λ j. FromSome (IsMet h Rw made) saw j ⊎ FromSome (IsMissMet h made) missed j) (RwEdge h t u) numbers c.loop-miss.least
+    (subst (IsLeastNumber (λ j. FromSome (IsMet h Rw made) saw j ⊎ FromSome (IsMissMet h made) missed j)) (sym w.3) least) (λ e. edge)

@@ -1,19 +1,22 @@
-use Rattle.std.proofs.Common.{◌≡◌, ◌⊎◌, ◌*◌, ◌<◌, ◌≤◌, inl, inr, ℕ, List, [], length, get_or, refl, sym, subst, ◌∙◌, arith}
+use Rattle.std.proofs.Common.{◌≡◌, ◌⊎◌, ◌*◌, ◌<◌, ◌≤◌, inl, inr, ℕ, List, [], length, get_or, refl, sym, subst, ◌∙◌, arith, ◌+◌}
 use Rattle.std.specs.Prelude.{◌↔◌, Contains}
 use Rattle.std.proofs.lemmas.List.Elements.{Contains-get_or}
-use Rattle.std.proofs.lemmas.Result.{IfOk-weaker}
 use Rattle.sia_index.proofs.Shared.KeyChains.{key_number}
 use Rattle.sia_index.specs.Numbers.{IsCommittedAt}
 use Rattle.sia_parts.specs.declared.accesses.RangeMiss.{RangeMiss}
 use Rattle.sia_graph.specs.KeyBlocks.{IsUnderSome}
-use Rattle.sia_graph.specs.Late.{ArePassedMarks, AreSeenMarks}
+use Rattle.sia_graph.specs.Late.{ArePassedMarks, AreSeenMarks, IsMarkedOver}
 use Rattle.sia_graph.specs.Passed.{IsHeldBy, IsOwnPassed}
 use Rattle.sia_graph.proofs.SsiTest.Marks.{passed_marked, passed_unmarked, seen_marked, seen_unmarked}
 use Rattle.sia_graph.proofs.SsiTest.LateEdges.{lates}
 use Rattle.sia_graph.proofs.Shared.MemberSteps.{size_few}
 use Rattle.sia_graph.proofs.Shared.Numbered.{few_txns}
-use Rattle.sia_graph.proofs.Shared.PositionTwos.{positions_below}
+use Rattle.sia_graph.proofs.Shared.PositionTwos.{positions_below, below_positions}
 use Rattle.sia_graph.proofs.SsiTest.Stands.{look_there, stands_there}
+use Rattle.sia_graph.proofs.Shared.EarlierSources.{one_count}
+use Rattle.sia_graph.proofs.SsiTest.LastMarks.{HasLastTo, last_all, last_more, last_none}
+use Rattle.sia_graph.proofs.SsiTest.Raised.{below_max}
+use Rattle.sia_graph.proofs.ssi.late_of.Goals.{then-commit_at-eq0, else-commit_at-eq0}
 use Rattle.sia_graph.proofs.ssi.late_of.Goals as goal
 
 pub loop-txn-init : goal.loop-txn-init
@@ -59,12 +62,6 @@ raise_all-requires-in-loop-txn c k d l =
       | inr w ↦ let l = w.1 in omega arith
     ]
 
-pub last_before-requires-clause-keys : goal.last_before-requires-clause-keys
-last_before-requires-clause-keys c j k at = elim c.size_for-size.ensures [
-  | inl all ↦ let l = (key_number c.args.evidence.now.index.now all.0 all.1 j k at).0 in let e = all.2 in inr (omega arith)
-  | inr none ↦ inl none.0
-]
-
 pub returns : goal.returns
 returns c =
     let e = c.args.evidence.now in
@@ -72,8 +69,8 @@ returns c =
     let txns = c.requires.values in
     let marks = c.loop-txn.invariant in
     let last : c.loop-txn.txn ≡ length txns.0 = let e = txns.2 in let most = marks.2 in omega arith in
-    IfOk-weaker c.last_before.result _ _
-    (λ late told. lates e.index.now c.requires.evidence.well_formed c.requires.kept e.accesses.now c.requires.evidence.accesses txns.0 txns.1 size
+    let long = one_count e.index.now _ _ c.position_count-position-end.ensures marks.0.long in
+    lates e.index.now c.requires.evidence.well_formed c.requires.kept e.accesses.now c.requires.evidence.accesses txns.0 txns.1 size
     (λ j k at. elim c.size_for-size.ensures [
       | inl all ↦ let l = (key_number e.index.now all.0 all.1 j k at).0 in let e = all.2 in inr (omega arith)
       | inr none ↦ inl none.0
@@ -82,10 +79,9 @@ returns c =
       | inl all ↦ let w = c.requires.evidence.accesses.missed i j m in let l = (key_number e.index.now all.0 all.1 j w.1 w.3).0 in let e = all.2 in absurd (omega arith)
       | inr never ↦ never.1 i j m
     ])
-    c.args.values.now c.loop-txn.seen c.loop-txn.most late.items
+    c.args.values.now c.loop-txn.seen c.loop-txn.most c.loop-position.late.items
     (subst (λ n. AreSeenMarks e.index.now e.accesses.now c.args.values.now n c.loop-txn.seen) last marks.0) (subst (λ n. ArePassedMarks e.index.now e.accesses.now c.args.values.now size n c.loop-txn.most) last marks.1)
-    told)
-    c.last_before.ensures
+    (last_all e.index.now size c.loop-txn.seen c.loop-txn.most c.loop-position.position c.loop-position.late.items c.loop-position.last marks.0.long (let most = c.loop-position.invariant.1 in omega arith) c.loop-position.invariant.0)
 
 pub overflow_cast-txn : goal.overflow_cast-txn
 overflow_cast-txn c = let txns = c.requires.values in let few = few_txns c.args.evidence.now.index.now c.requires.evidence.well_formed txns.0 txns.1 in let e = txns.2 in omega arith
@@ -119,4 +115,42 @@ loop-txn-preserved c =
           (subst (λ (l : List ℕ). (b : ℕ) → Contains blocks b → Contains l b ⊎ ((0 < b) × (b < 2 * size))) c.clear-in-loop-txn.ensures.items put.within)
           c.in_ok-fill.ensures.stretches,
       (let l = c.loop-txn-test.true in omega arith),
+    )
+
+pub loop-position-init : goal.loop-position-init
+loop-position-init c = (last_none c.args.evidence.now.index.now c.size_for-size.result c.loop-txn.seen c.loop-txn.most c.in_ok-late.late.items c.in_ok-late.ensures.items, omega arith)
+
+pub commit_at-requires : goal.commit_at-requires
+commit_at-requires c = below_positions c.args.evidence.now.index.now c.position_count-position-end.result c.loop-position.position c.position_count-position-end.ensures c.loop-position-test.true
+
+pub key_at-requires : goal.key_at-requires
+key_at-requires c = below_positions c.args.evidence.now.index.now c.position_count-position-end.result c.loop-position.position c.position_count-position-end.ensures c.loop-position-test.true
+
+pub top_of-last-requires-clause-within : goal.top_of-last-requires-clause-within
+top_of-last-requires-clause-within c =
+    let at = below_positions c.args.evidence.now.index.now c.position_count-position-end.result c.loop-position.position c.position_count-position-end.ensures c.loop-position-test.true in
+    elim c.size_for-size.ensures [
+      | inl all ↦ let l = (key_number c.args.evidence.now.index.now all.0 all.1 c.key_at.result at.0.key (c.key_at.ensures at.0 at.1)).0 in let e = all.2 in inr (omega arith)
+      | inr none ↦ inl none.0
+    ]
+
+pub bounds-seen-position : goal.bounds-seen-position
+bounds-seen-position c = let e = one_count c.args.evidence.now.index.now _ _ c.position_count-position-end.ensures c.loop-txn.invariant.0.long in let l = c.loop-position-test.true in omega arith
+
+pub loop-position-preserved : goal.loop-position-preserved
+loop-position-preserved c =
+    let h = c.args.evidence.now.index.now in
+    let q = c.loop-position.position in
+    let at = below_positions h c.position_count-position-end.result q c.position_count-position-end.ensures c.loop-position-test.true in
+    let last = c.if-commit_at-eq0.last in
+    let is = c.commit_at.ensures at.0 at.1 in (
+      subst (λ (l : List ℕ). HasLastTo h c.size_for-size.result c.loop-txn.seen c.loop-txn.most (q + 1) l c.max-last.result) (sym c.in_ok-push.ensures.items)
+          (last_more h c.size_for-size.result c.loop-txn.seen c.loop-txn.most q c.loop-position.late.items c.loop-position.last last c.max-last.result at.0 at.1 c.loop-position.invariant.0
+          (λ some. elim c.if-commit_at-eq0.branch [ then-commit_at-eq0 w ↦ absurd (let zero = w.if-commit_at-eq0.true in omega arith) | else-commit_at-eq0 w ↦ w.last-is ])
+          (λ none. elim c.if-commit_at-eq0.branch [
+            | then-commit_at-eq0 w ↦ (w.key_at.result, w.key_at.ensures at.0 at.1, subst (λ n. (x : ℕ) → 0 < x → (x ≤ n) ↔ IsMarkedOver c.size_for-size.result c.loop-txn.most w.key_at.result x) (sym w.last-is) w.top_of-last.ensures)
+            | else-commit_at-eq0 w ↦ absurd (w.if-commit_at-eq0.false (is ∙ none))
+          ])
+          (below_max last (get_or c.loop-txn.seen q 0) c.max-last.result c.max-last.ensures)),
+      (let l = c.loop-position-test.true in omega arith),
     )

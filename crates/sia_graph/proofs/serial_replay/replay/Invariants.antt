@@ -2,7 +2,7 @@ use Rattle.std.proofs.Common.{drop, Option}
 use Rattle.sia_events.specs.Replay.{serial}
 use Rattle.sia_graph.specs.declared.serial_replay.Mismatch.{Mismatch}
 use Rattle.sia_graph.specs.Replaying.{AreWritten, Tells, version_in}
-use Rattle.sia_graph.proofs.serial_replay.replay_order.Given as goal
+use Rattle.sia_graph.proofs.serial_replay.replay.Given as goal
 
 abbrev pub invariant-loop-txn : goal.invariant-loop-txn
 invariant-loop-txn l = AreWritten l.h l.versions

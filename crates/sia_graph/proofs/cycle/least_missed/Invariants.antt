@@ -1,8 +1,0 @@
-use Rattle.std.proofs.Common.{◌≤◌, take}
-use Rattle.sia_parts.specs.Sights.{FromSome}
-use Rattle.sia_graph.specs.LeastEdges.{IsMissMet}
-use Rattle.sia_graph.specs.Twos.{IsLeastNumber}
-use Rattle.sia_graph.proofs.cycle.least_missed.Given as goal
-
-abbrev pub invariant-loop-miss : goal.invariant-loop-miss
-invariant-loop-miss l = (l.least ≤ 4294967295) × IsLeastNumber (FromSome (IsMissMet l.index l.made) (take l.miss-index l.misses)) l.least
