@@ -1,9 +1,9 @@
 //! The cycle that is printed where no order keeps every edge, and the least edge from one transaction to another.
-ghost use Rattle.std.specs.Prelude.{◌≡◌, ◌<◌, ◌≤◌, ℕ, AllPairs, IfOk, List, Contains, length, slice_index, ◌↔◌};
+ghost use Rattle.std.specs.Prelude.{◌≡◌, ◌<◌, ◌≤◌, ℕ, IfOk, List, Contains, length, slice_index, ◌↔◌};
 ghost use Rattle.std.specs.List.Sorted.{IsStrictlyIncreasing};
-ghost use Rattle.sia_events.specs.Lists.{ListsAscending, Precedes};
+ghost use Rattle.sia_events.specs.Lists.{ListsAscending};
 ghost use Rattle.sia_events.specs.Transactions.{IsCommitted};
-ghost use Rattle.sia_parts.specs.Entries.{IsEdge, edge_rank};
+ghost use Rattle.sia_parts.specs.Entries.{IsEdge};
 ghost use Rattle.sia_graph.specs.Cycles.{IsPrintedCycle, IsStuckSet, TakesLeastEdge};
 ghost use Rattle.sia_graph.specs.Evidence.{IsEvidence};
 ghost use Rattle.sia_graph.specs.Orders.{Leads};
@@ -66,22 +66,6 @@ impl Steps {
     }
 }
 
-/// The step by the least edge from one transaction to another.
-fn listed_step(edges: &[Edge], src: TxnId, dst: TxnId) -> Step
-    requires sorted { AllPairs (λ d e. Precedes (edge_rank d) (edge_rank e)) edges.now }
-    requires leads { Leads (Contains edges.now) src dst }
-    ensures from { result.txn ≡ src }
-    ensures least { TakesLeastEdge (Contains edges.now) result dst }
-{
-    let i = edges.partition_point(|e| e.src < src || e.src == src && e.dst < dst);
-    let e = &edges[i];
-    Step {
-        txn: src,
-        kind: e.kind,
-        key: e.key,
-    }
-}
-
 /// Where the least edge from one transaction to another is found.
 #[derive(Clone, Copy)]
 pub(crate) enum EdgesIn<'a> {
@@ -91,6 +75,7 @@ pub(crate) enum EdgesIn<'a> {
     Seen(&'a Evidence<'a>),
 }
 
+/// The step by the least edge from one transaction to another, by their places.
 fn least_step(edges: &EdgesIn, ids: &[TxnId], before: usize, at: usize) -> Step
     requires can { CanFind ids.now edges.now }
     requires within { (before < length ids.now) × (at < length ids.now) }
@@ -99,7 +84,16 @@ fn least_step(edges: &EdgesIn, ids: &[TxnId], before: usize, at: usize) -> Step
     ensures least { TakesLeastEdge (IsEdgeIn edges.now) result (slice_index ids.now at) }
 {
     match edges {
-        EdgesIn::Listed(list) => listed_step(list, ids[before], ids[at]),
+        EdgesIn::Listed(list) => {
+            let (src, dst) = (ids[before], ids[at]);
+            let i = list.partition_point(|e| e.src < src || e.src == src && e.dst < dst);
+            let e = &list[i];
+            Step {
+                txn: src,
+                kind: e.kind,
+                key: e.key,
+            }
+        }
         EdgesIn::Seen(evidence) => {
             let (kind, key) = least_edge(evidence, before as u32, at as u32);
             Step {

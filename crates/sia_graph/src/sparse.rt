@@ -8,7 +8,7 @@ ghost use Rattle.sia_graph.specs.Evidence.{IsEvidence};
 ghost use Rattle.sia_graph.specs.KeyBlocks.{IsUnderSome};
 ghost use Rattle.sia_graph.specs.NarrowSteps.{node_of};
 ghost use Rattle.sia_graph.specs.Passed.{IsHeldBy, IsPassed, IsSizeFor};
-ghost use Rattle.sia_graph.specs.SparseGraphs.{AreMemberTargets, AreSourcesOf, IsBlockStep, IsSparse};
+ghost use Rattle.sia_graph.specs.SparseGraphs.{AreMemberTargets, AreSourcesOf, IsSparse};
 
 use crate::evidence::{Evidence, Passed, first_maker, maker_before, next_maker};
 use crate::order::Graph;
@@ -86,33 +86,6 @@ fn put_other(size: u32, txn: u32, other: Option<u32>, row: &mut Vec<u32>) -> Res
     }
 }
 
-/// Adds the halves of the block, or who made the first version of the key whose leaf it is.
-fn put_block_steps(
-    evidence: &Evidence,
-    size: u32,
-    block: u32,
-    targets: &mut Vec<u32>,
-) -> Result<(), NoMemory>
-    requires evidence { IsEvidence evidence.now }
-    requires size { IsSizeFor size evidence.now.index.now evidence.now.accesses.now }
-    requires block { block < 2 * size }
-    requires none { targets.old.items ≡ [] }
-    ensures { OnOk result ((n : ℕ) → Contains targets.new.items n
-        ↔ IsBlockStep evidence.now.index.now size block n) }
-{
-    if block == 0 {
-        return Ok(());
-    }
-    if block < size {
-        targets.push(2 * block)?;
-        targets.push(2 * block + 1)?;
-        return Ok(());
-    }
-    let first = first_maker(evidence.index, block - size);
-    put_other(size, u32::MAX, first, targets)?;
-    Ok(())
-}
-
 /// Adds the steps of a transaction: what it waits for to `sources`, and what it is before to `targets`.
 fn put_member_steps(
     evidence: &Evidence,
@@ -173,7 +146,14 @@ pub(crate) fn graph_of(alloc: Global, evidence: &Evidence, size: u32) -> Result<
     let mut targets = Vec::new(alloc);
     for block in 0..2 * size {
         targets.clear();
-        put_block_steps(evidence, size, block, &mut targets)?;
+        // A block leads to its halves, and a leaf to who made the first version of its key.
+        if block >= size {
+            let first = first_maker(evidence.index, block - size);
+            put_other(size, u32::MAX, first, &mut targets)?;
+        } else if block > 0 {
+            targets.push(2 * block)?;
+            targets.push(2 * block + 1)?;
+        }
         put_row(&mut graph.targets, &targets)?;
         put_row(&mut graph.sources, &[])?;
     }

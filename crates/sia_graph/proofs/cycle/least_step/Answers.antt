@@ -1,29 +1,44 @@
-use Rattle.std.proofs.Common.{◌≡◌, ℕ, List, get_or, refl, sym, subst, arith}
+use Rattle.std.proofs.Common.{◌≡◌, ℕ, List, false, true, get_or, refl, sym, subst, arith, rules}
 use Rattle.sia_events.specs.declared.event.Event.{Event}
 use Rattle.sia_index.proofs.Shared.KeyChains.{key_number}
 use Rattle.sia_index.specs.Info.{IsKeyAt}
 use Rattle.sia_parts.proofs.Shared.FewNumbers.{few_committed}
 use Rattle.sia_parts.specs.Entries.{EdgeOfKind, IsEdge}
 use Rattle.sia_parts.specs.declared.finding.Kind.{Kind}
+use Rattle.sia_parts.specs.declared.finding.Kind.TheVariants.{Ww}
 use Rattle.sia_graph.specs.Searched.{CanFind, IsEdgeIn}
 use Rattle.sia_graph.specs.LeastEdges.{IsLeastEdgeBetween}
 use Rattle.sia_graph.specs.Orders.{Leads}
 use Rattle.sia_graph.specs.Cycles.{TakesLeastEdge}
 use Rattle.sia_graph.specs.declared.cycle.EdgesIn.{EdgesIn}
-use Rattle.sia_graph.proofs.cycle.least_step.Goals.{After-least_edge-kind}
+use Rattle.std.specs.List.Sorted.{IsPartitionPoint}
+use Rattle.std.proofs.lemmas.List.Sorted.{IsPartitionPoint-from_clause}
+use Rattle.sia_graph.specs.Walks.{is_before}
+use Rattle.sia_graph.proofs.Cycles.LeastEdges.{least_edge, parted, point_within}
+use Rattle.sia_graph.proofs.cycle.least_step.Goals.{After-least_edge-kind, After-partition_point-i}
 use Rattle.sia_graph.proofs.cycle.least_step.Goals as goal
 
-pub listed_step-requires-clause-sorted : goal.listed_step-requires-clause-sorted
-listed_step-requires-clause-sorted c = subst (CanFind c.args.ids.now) c.in-Listed.is c.requires.can
+-- where the edges from the one to the other stand in the list
+point : (c : After-partition_point-i) → IsPartitionPoint (λ e. is_before (get_or c.args.ids.now c.args.before 0) (get_or c.args.ids.now c.args.at 0) e ≡ true) (λ e. is_before (get_or c.args.ids.now c.args.before 0) (get_or c.args.ids.now c.args.at 0) e ≡ false) c.in-Listed.list.now c.partition_point-i.result
+point c =
+    let edges = c.in-Listed.list.now in
+    let sorted = subst (CanFind c.args.ids.now) c.in-Listed.is c.requires.can in
+    IsPartitionPoint-from_clause (is_before (get_or c.args.ids.now c.args.before 0) (get_or c.args.ids.now c.args.at 0)) edges _ c.partition_point-i.ensures.partitioned (parted edges sorted (get_or c.args.ids.now c.args.before 0) (get_or c.args.ids.now c.args.at 0)) (λ a r q k. search rules)
 
-pub listed_step-requires-clause-leads : goal.listed_step-requires-clause-leads
-listed_step-requires-clause-leads c = subst (λ (e : EdgesIn). Leads (IsEdgeIn e) (get_or c.args.ids.now c.args.before 0) (get_or c.args.ids.now c.args.at 0)) c.in-Listed.is c.requires.leads
-
-pub returns-in-Listed-clause-from : goal.returns-in-Listed-clause-from
-returns-in-Listed-clause-from c = c.listed_step.ensures.from
+pub bounds-list-i : goal.bounds-list-i
+bounds-list-i c =
+    let ids = c.args.ids.now in
+    let leads = subst (λ (e : EdgesIn). Leads (IsEdgeIn e) (get_or ids c.args.before 0) (get_or ids c.args.at 0)) c.in-Listed.is c.requires.leads in
+    point_within c.in-Listed.list.now (subst (CanFind ids) c.in-Listed.is c.requires.can) (get_or ids c.args.before 0) (get_or ids c.args.at 0) _ (point (goal.at.bounds-list-i c).After-partition_point-i) leads
 
 pub returns-in-Listed-clause-least : goal.returns-in-Listed-clause-least
-returns-in-Listed-clause-least c = subst (λ (e : EdgesIn). TakesLeastEdge (IsEdgeIn e) c.listed_step.result (get_or c.args.ids.now c.args.at 0)) (sym c.in-Listed.is) c.listed_step.ensures.least
+returns-in-Listed-clause-least c =
+    let ids = c.args.ids.now in
+    let list = c.in-Listed.list.now in
+    let x = get_or list c.partition_point-i.result (record { src = 0; dst = 0; kind = Ww; key = 0 }) in
+    let leads = subst (λ (e : EdgesIn). Leads (IsEdgeIn e) (get_or ids c.args.before 0) (get_or ids c.args.at 0)) c.in-Listed.is c.requires.leads in
+    subst (λ (e : EdgesIn). TakesLeastEdge (IsEdgeIn e) (record { txn = get_or ids c.args.before 0; kind = x.kind; key = x.key }) (get_or ids c.args.at 0)) (sym c.in-Listed.is)
+    (least_edge list (subst (CanFind ids) c.in-Listed.is c.requires.can) (get_or ids c.args.before 0) (get_or ids c.args.at 0) _ (point (goal.at.returns-in-Listed-clause-least c).After-partition_point-i) leads (record { src = 0; dst = 0; kind = Ww; key = 0 }))
 
 pub overflow_cast-before : goal.overflow_cast-before
 overflow_cast-before c =

@@ -1,13 +1,49 @@
-use Rattle.std.proofs.Common.{◌≡◌, ◌∷◌, [], ◌++◌, ◌*◌, ◌+◌, ◌<◌, ℕ, List, length, get_or, refl, ap, subst, ◌∙◌, arith}
+use Rattle.std.proofs.Common.{◌≡◌, ◌≢◌, ◌∷◌, [], ◌++◌, ◌*◌, ◌+◌, ◌-◌, ◌<◌, ◌≤◌, inl, inr, ℕ, Vec, Global, List, Some, length, get_or, refl, ap, sym, subst, ◌∙◌, arith}
+use Rattle.std.specs.Prelude.{◌↔◌, Contains}
+use Rattle.std.proofs.lemmas.List.Elements.{Contains-push_cases}
+use Rattle.sia_events.specs.declared.event.Event.{Event}
+use Rattle.sia_parts.specs.Sights.{Adds}
 use Rattle.sia_events.specs.Transactions.{IsCommitted}
 use Rattle.sia_events.proofs.Worked.OneList.{one_list_by}
 use Rattle.sia_graph.specs.NarrowSteps.{node_of}
-use Rattle.sia_graph.specs.SparseGraphs.{HasNodes}
-use Rattle.sia_graph.proofs.Shared.MemberSteps.{size_few}
+use Rattle.sia_graph.specs.SparseGraphs.{HasNodes, IsBlockStep}
+use Rattle.sia_graph.proofs.Shared.MemberSteps.{leaf_put, size_few}
 use Rattle.sia_graph.proofs.Shared.Numbered.{few_txns}
 use Rattle.sia_graph.proofs.Shared.RowLists.{block_sources, block_targets, member_targets, nodes_more, nodes_to}
+use Rattle.sia_graph.proofs.SparseGraphs.StepsPut.{few_first}
 use Rattle.sia_graph.proofs.SparseGraphs.SparseStands.{sparse}
+use Rattle.sia_graph.proofs.sparse.graph_of.Goals.{then-block-size+in_ok-put_other, else-block-size+then-block-gt0+in_ok-push+in_ok-push-2, else-block-size+else-block-gt0}
 use Rattle.sia_graph.proofs.sparse.graph_of.Goals as goal
+
+-- a block leads to its halves, and the block 0 nowhere
+halves : (h : List Event) (size b : ℕ) → 0 < b → b < size → (n : ℕ) → Contains ((2 * b) ∷ (2 * b + 1) ∷ []) n ↔ IsBlockStep h size b n
+halves h size b some below n = (
+  (λ c. inl (
+    some,
+    below,
+    elim (Contains-push_cases ((2 * b) ∷ []) (2 * b + 1) n c) [
+      | inl d ↦ elim (Contains-push_cases [] (2 * b) n d) [ inl none ↦ absurd (let l = none.1 in omega arith) | inr e ↦ inl (sym e) ]
+      | inr e ↦ inr (sym e)
+    ],
+  )),
+  (λ is. elim is [
+    | inl w ↦ elim w.2 [ inl e ↦ (0, omega arith, sym e) | inr e ↦ (1, omega arith, sym e) ]
+    | inr w ↦ let e = w.2 in absurd (omega arith)
+  ]),
+)
+
+nowhere : (h : List Event) (size b : ℕ) → b ≤ 0 → b < size → (n : ℕ) → Contains [] n ↔ IsBlockStep h size b n
+nowhere h size b none below n = (
+  (λ c. absurd (let l = c.1 in omega arith)),
+  (λ is. elim is [ inl w ↦ let some = w.0 in absurd (omega arith) | inr w ↦ let e = w.2 in absurd (omega arith) ]),
+)
+
+pub put_other-requires : goal.put_other-requires
+put_other-requires c =
+    let e = c.args.evidence.now in (
+      size_few c.args.size e.index.now e.accesses.now c.requires.evidence.well_formed c.requires.size,
+      λ i is. few_first e.index.now c.requires.evidence.well_formed (c.loop-block.block - c.args.size) i ((c.first_maker-first.ensures i).0 is),
+    )
 
 pub overflow_mul-block-end : goal.overflow_mul-block-end
 overflow_mul-block-end c = let e = c.args.evidence.now in let few = size_few c.args.size e.index.now e.accesses.now c.requires.evidence.well_formed c.requires.size in omega arith
@@ -19,13 +55,28 @@ loop-block-preserved c =
     let a = e.accesses.now in
     let size = c.args.size in
     let b = c.loop-block.block in
-    let row = c.put_block_steps.new.targets.items in
+    let row = c.if-block-size.targets.items in
     let old = c.loop-block.graph in
-    let below : b < 2 * size = c.loop-block-test.true in (
+    let below : b < 2 * size = c.loop-block-test.true in
+    let are = λ (v : Vec ℕ Global). (n : ℕ) → Contains v.items n ↔ IsBlockStep h size b n in
+    let steps : are c.if-block-size.targets = elim c.if-block-size.branch [
+      | then-block-size+in_ok-put_other w ↦
+          let from = w.if-block-size.true in
+          let first = w.first_maker-first in
+          subst are (sym w.targets-is)
+          (leaf_put h size b c.requires.evidence.well_formed (b - size) (omega arith) (omega arith) first.result first.ensures w.put_other.new.row.items
+          (subst (λ (l : List ℕ). Adds (λ n. (i : ℕ) × (first.result ≡ Some i) × (i ≢ 4294967295) × (n ≡ node_of size i)) l w.put_other.new.row.items) c.clear.ensures.items w.in_ok-put_other.ensures))
+      | else-block-size+then-block-gt0+in_ok-push+in_ok-push-2 w ↦
+          let items : w.push-then-block-gt0.new.self.items ≡ (2 * b) ∷ (2 * b + 1) ∷ [] =
+          w.in_ok-push-2.ensures.items ∙ ap (λ (l : List ℕ). l ++ (2 * b + 1) ∷ []) (w.in_ok-push.ensures.items ∙ ap (λ (l : List ℕ). l ++ (2 * b) ∷ []) c.clear.ensures.items) in
+          subst are (sym w.targets-is) (subst (λ (l : List ℕ). (n : ℕ) → Contains l n ↔ IsBlockStep h size b n) (sym items) (halves h size b w.if-block-gt0.true w.if-block-size.false))
+      | else-block-size+else-block-gt0 w ↦
+          subst are (sym w.targets-is) (subst (λ (l : List ℕ). (n : ℕ) → Contains l n ↔ IsBlockStep h size b n) (sym c.clear.ensures.items) (nowhere h size b w.if-block-gt0.false w.if-block-size.false))
+    ] in (
       nodes_more h a size b old _ row [] c.loop-block.invariant.0
           (c.in_ok-put_row.ensures ∙ ap (λ (l : List ℕ). old.targets ++ (l ∷ [])) c.deref.ensures.value)
           c.in_ok-put_row-2.ensures
-          (block_targets h a size b row below c.in_ok-put_block_steps.ensures)
+          (block_targets h a size b row below steps)
           (block_sources h a size b below),
       omega arith,
     )
