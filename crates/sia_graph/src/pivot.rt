@@ -8,7 +8,7 @@ ghost use Rattle.sia_parts.specs.EdgeRows.{AreEdgesFrom};
 ghost use Rattle.sia_parts.specs.Sights.{Adds};
 ghost use Rattle.sia_index.specs.Numbers.{IsCommittedAt};
 ghost use Rattle.sia_graph.specs.AllEdges.{IsLinkFrom};
-ghost use Rattle.sia_graph.specs.Links.{AreEnds, AreLinksAt, AreVulnerable, ListsLinks, is_rw, link_rank};
+ghost use Rattle.sia_graph.specs.Links.{AreEnds, AreLinksAt, AreVulnerable, is_rw, link_rank};
 ghost use Rattle.sia_graph.specs.Pivots.{ArePivots};
 
 use crate::order::Txns;
@@ -176,31 +176,6 @@ fn firsts(
     Ok(firsts)
 }
 
-fn entries(alloc: Global, ix: &Index, into: &[Link], out: &[Link]) -> Result<Vec<Pivot>, AllocError>
-    requires into { ListsLinks (λ t u. IsVulnerable ix.now u t) into.now }
-    requires out { ListsLinks (IsVulnerable ix.now) out.now }
-    ensures { IfOk result (λ found. ArePivots ix.now found.items) }
-{
-    let mut linked = others(alloc, into)?;
-    put_in_order(&mut linked)?;
-    let mut found = Vec::new(alloc);
-    for txn in linked.as_slice() {
-        let own = links_at(into, *txn);
-        if !own.is_empty() {
-            let ins = others(alloc, own)?;
-            let outs = others(alloc, links_at(out, *txn))?;
-            let firsts = firsts(alloc, ix, *txn, &ins, &outs)?;
-            found.push(Pivot {
-                txn: *txn,
-                ins: Txns::new(ins),
-                outs: Txns::new(outs),
-                firsts: Txns::new(firsts),
-            })?;
-        }
-    }
-    Ok(found)
-}
-
 /// Every pivot, ascending, with its neighbours. The findings are those of the index's history, at all keys.
 pub fn pivots(alloc: Global, f: &Findings, ix: &Index) -> Result<Vec<Pivot>, NoMemory>
     requires { AreFindings ix.now f.now }
@@ -224,7 +199,25 @@ pub fn pivots_of_links(
         at: link.other,
         other: link.at,
     };
-    let mut into = out.iter().map(turn).collect(alloc)?;
-    put_in_order(&mut into)?;
-    Ok(entries(alloc, ix, &into, out)?)
+    let mut turned = out.iter().map(turn).collect(alloc)?;
+    put_in_order(&mut turned)?;
+    let into = turned.as_slice();
+    let mut linked = others(alloc, into)?;
+    put_in_order(&mut linked)?;
+    let mut found = Vec::new(alloc);
+    for txn in linked.as_slice() {
+        let own = links_at(into, *txn);
+        if !own.is_empty() {
+            let ins = others(alloc, own)?;
+            let outs = others(alloc, links_at(out, *txn))?;
+            let firsts = firsts(alloc, ix, *txn, &ins, &outs)?;
+            found.push(Pivot {
+                txn: *txn,
+                ins: Txns::new(ins),
+                outs: Txns::new(outs),
+                firsts: Txns::new(firsts),
+            })?;
+        }
+    }
+    Ok(found)
 }
