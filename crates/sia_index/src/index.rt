@@ -21,7 +21,6 @@ use crate::keyed::{ByKey, ByPlace, ByTxn, find, place_above, place_from};
 use crate::lists::end_at;
 use crate::minima::next_below;
 use crate::names::Keys;
-use crate::ordering::group_at;
 use crate::txns::{Txns, WriteRow, Writes};
 use crate::versions::Versions;
 use sia_events::{Key, Log, TxnId, Version};
@@ -202,7 +201,7 @@ impl Index {
         ensures { (rows : List WriteRow) → AreWrites self.now rows → IsStretch rows t result.0 result.1 }
     {
         let _ = t;
-        group_at(&self.writes.starts, i)
+        (self.writes.starts[i], self.writes.starts[i + 1])
     }
 }
 
