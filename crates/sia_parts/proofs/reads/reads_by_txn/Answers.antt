@@ -54,9 +54,9 @@ loop-before-preserved c =
       )
       | in-Some+else-is_some w ↦ rw w.reads-is (
         step h n reads reads c.loop-before.invariant.0 (λ r has. has) (λ t k v saw.
-        let none = if_not_there _ _ w.covered.result (sym w.is_some.ensures ∙ w.if-is_some.false) w.covered.ensures in
-        let event : saw.0 ≡ event_of (names_of h) w.in-Some.row = same_Some _ _ (sym saw.1 ∙ sym w.in-Some.ensures.event) in
-        absurd (none k v (subst (λ e. Saw e k v) event saw.3))),
+            let none = if_not_there _ _ w.covered.result (sym w.is_some.ensures ∙ w.if-is_some.false) w.covered.ensures in
+            let event : saw.0 ≡ event_of (names_of h) w.in-Some.row = same_Some _ _ (sym saw.1 ∙ sym w.in-Some.ensures.event) in
+            absurd (none k v (subst (λ e. Saw e k v) event saw.3))),
         c.loop-before.invariant.1,
       )
       | in_default w ↦ rw w.reads-is (
