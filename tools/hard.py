@@ -49,13 +49,14 @@ def brief(
 ) -> Case:
     """A case with its brief report: the counts are of committed, aborted and open transactions, isolation is broken where
     something was found, the last line says whether there is a serial order, and the test of serializable snapshot isolation
-    fails where something was found or is dangerous. The explained report has besides what stands below each line that was
-    found, the steps below the last line, and the lines of a dangerous structure."""
+    fails where something was found or is dangerous. The explained report has besides how many were found, which are of one
+    name, what stands below each, the steps below the last line, and the lines of a dangerous structure."""
     committed, aborted, still_open = counts
+    names = [below[0].partition(":")[0].strip() for below in (found or {}).values()]
     is_ordered = last.startswith("order")
     lines: Below = {
         f"events {len(tokens)} committed {committed} aborted {aborted} open {still_open}": [],
-        f"isolation {'broken' if found else 'kept'}": [],
+        f"isolation {'broken' if found else 'kept'}": [f"  {len(names)} {names[0]}"] if names else [],
         **(found or {}),
         f"ssi {'fail' if found or dangerous else 'pass'}": dangerous or [],
         f"serializable {'yes' if is_ordered else 'no'}": [],

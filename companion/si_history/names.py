@@ -11,7 +11,7 @@ from si_history.matching import check_report, read_history
 from si_history.named_reasons import told, told_remark
 from si_history.naming import Names
 from si_history.progress import REPORT_LINES, Progress
-from si_history.reasons import is_class, is_remark, reason_of
+from si_history.reasons import is_class, is_counts, is_remark, reason_of
 from si_history.report_text import INDENT, ReportText, edge_of, read_report
 from si_history.report_words import Malformed
 
@@ -100,8 +100,8 @@ def _deciding(line: str) -> list[int]:
 
 
 def _told(line: str, names: Names) -> str:
-    """A line that explains another one. One of a cycle's class names nothing."""
-    if is_class(line):
+    """A line that explains another one. One of counts or of a cycle's class names nothing."""
+    if is_counts(line) or is_class(line):
         return line
     return told_remark(line, names) if is_remark(line) else told(reason_of(line), names)
 

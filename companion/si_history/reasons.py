@@ -27,6 +27,8 @@ _CLASSES = {
     f"{answer} under snapshot isolation: {number} rw steps between overlapping transactions follow one another"
     for answer, number in (("allowed", "two"), ("forbidden", "no two"))
 }
+_COUNT = f"[1-9][0-9]* (?:{'|'.join([*(name.value for name in ReadName), Role.LOST_UPDATE.value, Role.WRITE_CONFLICT.value])})"
+_COUNTS = re.compile(f"{_COUNT}(?:, {_COUNT})*")
 
 
 NUMBERED = re.compile(r"\btransaction ([0-9]+)\b|\bevent ([0-9]+)\b(?: ([a-z][0-9]+(?:\[[^] ]*\]|@[0-9]+)?)(?![^ ,;:]))?")
@@ -37,6 +39,11 @@ _REMARK = re.compile("(?!.*  )[a-z](?:[ -~]*?[!-~])??: [!-~](?:[ -~]*[!-~])?")
 def is_class(line: str) -> bool:
     """Whether a line says if snapshot isolation allows a cycle. That is told from the history, so the line is not kept."""
     return line in _CLASSES
+
+
+def is_counts(line: str) -> bool:
+    """Whether a line says how many findings of each name there are, which the findings show."""
+    return _COUNTS.fullmatch(line) is not None
 
 
 def is_remark(line: str) -> bool:

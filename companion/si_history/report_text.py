@@ -18,7 +18,7 @@ from si_history.errors import BadInput
 from si_history.files import opened, source_name
 from si_history.left_out import LeftOut
 from si_history.progress import Progress
-from si_history.reasons import fits_below, is_class, is_remark, reason_of
+from si_history.reasons import fits_below, is_class, is_counts, is_remark, reason_of
 from si_history.report import (
     BadRead, BadWrite, Counts, Cycle, Edge, EdgeKind, Explained, Order, Pivot, Report, Snapshot, Structure,
     Unexplained, Verdict,
@@ -224,6 +224,8 @@ class _Reader:
 
     def _explain(self, line: str) -> None:
         """Takes a line that explains the one before it."""
+        if self._stage == _STAGES["isolation"] and is_counts(line) and not self._verdicts[-1].holds:
+            return
         if isinstance(self._last, Cycle) and len(self._last.reasons) == len(self._last.steps) and is_class(line):
             return
         if self._last is not None and is_remark(line):

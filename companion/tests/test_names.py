@@ -13,7 +13,7 @@ from si_history.legend import Legend
 from si_history.names import named_line
 from si_history.named_reasons import told
 from si_history.naming import Names, shown
-from si_history.reasons import is_class, reason_of
+from si_history.reasons import is_class, is_counts, reason_of
 from tests.pages import LOST_UPDATE_HISTORY
 from tests.support import REPOSITORY, run_command
 from tests.test_report import LOST_UPDATE
@@ -132,7 +132,7 @@ class LineTest(unittest.TestCase):
         legend = Legend({n: f"T{n}" for n in numbers}, {n: f"K{n}" for n in range(100)}, list(numbers))
         for path in paths:
             for line in path.read_text().splitlines():
-                if not line.startswith("  ") or is_class(line[2:]):
+                if not line.startswith("  ") or is_counts(line[2:]) or is_class(line[2:]):
                     continue
                 with self.subTest(path=path.name, line=line):
                     reason = reason_of(line[2:])

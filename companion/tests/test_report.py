@@ -6,7 +6,7 @@ import unittest
 
 from si_history.errors import BadInput
 from si_history.history import Commit, RangeRead, Write
-from si_history.reasons import is_class
+from si_history.reasons import is_class, is_counts
 from si_history.report import (
     BadRead, BadWrite, Counts, Cycle, Edge, EdgeKind, Order, Pivot, Placed, ReadName, Reason, Role, Started, Unexplained, Verdict,
     Version,
@@ -143,7 +143,7 @@ class ReadTest(unittest.TestCase):
                 below = [line[2:] for line in text.splitlines() if line.startswith("  ")]
                 self.assertEqual(
                     sum(len(each.reasons) for each in explained),
-                    sum(not is_class(line) for line in below),
+                    sum(not is_counts(line) and not is_class(line) for line in below),
                 )
                 for each in explained:
                     each.reasons.clear()
@@ -254,11 +254,12 @@ class RefusedTest(unittest.TestCase):
                 read_report(lines(*EXPLAINED[: at + 1], line, *EXPLAINED[at + 1 :]))
         self.check(lines(*EXPLAINED[:-1]), "r: line 15: this is no report: of the steps above some are explained and some are not")
 
-    def test_names_of_bad_writes_and_a_class(self) -> None:
+    def test_names_of_bad_writes_counts_and_a_class(self) -> None:
         """What earlier auditors didn't write, and not at other lines."""
+        counts = "  1 future read, 2 lost update, 13 write conflict"
         forbidden = "  forbidden under snapshot isolation: no two rw steps between overlapping transactions follow one another"
         later = [line.replace("both write and overlap", "write conflict") for line in EXPLAINED]
-        report = read_report(lines(*later, forbidden))
+        report = read_report(lines(*later[:2], counts, *later[2:], forbidden))
         self.assertIs(report.bad_writes[0].reasons[0].head, Role.WRITE_CONFLICT)
         report.bad_writes[0].reasons.clear()
         plain = read_report(lines(*EXPLAINED[:7], *EXPLAINED[8:]))
@@ -267,9 +268,13 @@ class RefusedTest(unittest.TestCase):
         lost = EXPLAINED[7].replace("both write and overlap", "lost update").replace("event 1", f"{read}event 1", 1)
         report = read_report(lines(*EXPLAINED[:7], lost, *EXPLAINED[8:]))
         self.assertEqual(report.bad_writes[0].reasons[0].parts[1], Placed(5, RangeRead(2, 0, 9, ((2, 0),))))
-        for at, line in ((0, forbidden), (1, "  1 bad write"), (7, lost.replace(read, "")), (1, forbidden)):
+        for at, line in (
+            (0, counts), (0, forbidden), (1, "  0 phantom"), (1, "  1 bad write"), (1, forbidden), (2, counts), (7, lost.replace(read, "")),
+        ):
             with self.subTest(at=at, line=line), self.assertRaises(BadInput):
                 read_report(lines(*EXPLAINED[: at + 1], line, *EXPLAINED[at + 1 :]))
+        with self.assertRaises(BadInput):
+            read_report(lines(*PLAIN[:2], counts, *PLAIN[2:]))
 
     def test_what_is_not_known_is_kept(self) -> None:
         """Lines that a later auditor may write below a finding: they stand beside the reasons, and disturb none of them."""

@@ -55,6 +55,7 @@ class Explanation(History):
         account = self.account
         bad_reads = {(it.place, it.key): it for it in account.bad_reads}
         yield from account.head()
+        yield from self.count_lines()
         for read in account.bad_reads:
             yield from with_reasons(read.line, self.read_reasons(read))
         for write in account.bad_writes:
@@ -66,6 +67,12 @@ class Explanation(History):
             yield from self.structure_lines()
         yield account.serializable_line
         yield from with_reasons(last_line(account), self.cycle_reasons())
+
+    def count_lines(self) -> Iterator[str]:
+        """How many findings have each name."""
+        names = [self.name(it) for it in self.account.bad_reads] + [self.write_name(it) for it in self.account.bad_writes]
+        if names:
+            yield "  " + ", ".join(f"{names.count(it)} {it}" for it in (*NAMES, *WRITE_NAMES) if it in names)
 
     def told(self, place: int, key: int) -> str:
         """The event at a place, as far as it is about the key."""

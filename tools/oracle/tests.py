@@ -326,6 +326,14 @@ class Explained(unittest.TestCase):
             "write conflict: transaction 2 starts after event 0; event 3 w1[1], event 4 c1; event 1 w2[1], event 5 c2",
         )
 
+    def test_counts(self) -> None:
+        self.assert_below(
+            "r2[1:0] r1[1:0] w1[1] w2[1] w3[1] c1 c2 c3 r4[1:0] c4",
+            "isolation broken",
+            "1 stale read, 1 lost update, 2 write conflict",
+        )
+        self.assert_below("r1[1:0] r2[2:0] w1[2] w2[1] c1 c2", "isolation kept")
+
     def test_steps(self) -> None:
         self.assert_below(
             "r1[1:0] r2[1:0] w1[1] w2[1] c1 c2",

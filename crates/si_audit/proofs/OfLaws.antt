@@ -1,3 +1,4 @@
+pub mod CountsTold
 pub mod CycleExists
 pub mod ExplainedExists
 pub mod ExplainedLeft

@@ -15,6 +15,7 @@ use Rattle.sia_graph.specs.Dangerous.{IsDangerous}
 use Rattle.si_audit.specs.Account.{Account}
 use Rattle.si_audit.specs.Lines.{line, edge_word, is_empty, bad_read_line, bad_write_line, unexplained_line, events_line, isolation_line, ssi_line, serializable_line, verdict_line}
 use Rattle.si_audit.specs.Reasons.{TellsBadRead, TellsBadWrite, TellsClass, TellsUnexplained, TellsStep}
+use Rattle.si_audit.specs.Counts.{TellsCounts}
 use Rattle.std.specs.Borrow.{Bor}
 use Rattle.sia_parts.specs.declared.reasons.Recorded.{Recorded}
 
@@ -56,7 +57,8 @@ TellsDanger h bytes = ((IsolationKept h → NoFirst h) × (bytes ≡ [])) ⊎ (I
 
 -- the lines of the brief report of this account, with reasons
 abbrev pub IsExplained : List Event → Account → List ℕ → Type 0
-IsExplained h a bytes = (reads : List ℕ) × (writes : List ℕ) × (unexplained : List ℕ) × (danger : List ℕ) × (verdict : List ℕ)
+IsExplained h a bytes = (counts : List ℕ) × (reads : List ℕ) × (writes : List ℕ) × (unexplained : List ℕ) × (danger : List ℕ) × (verdict : List ℕ)
+    × TellsCounts h a.bad_reads a.bad_writes counts
     × TellsAll (WithReasons bad_read_line (TellsBadRead h)) a.bad_reads reads
     × TellsAll (WithReasons bad_write_line (TellsBadWrite h)) a.bad_writes writes
     × TellsAll (WithReasons unexplained_line (TellsUnexplained h)) a.unexplained unexplained
@@ -64,7 +66,7 @@ IsExplained h a bytes = (reads : List ℕ) × (writes : List ℕ) × (unexplaine
     × WithReasons verdict_line (TellsVerdict h) a.verdict verdict
     × (bytes ≡ events_line a.events a.committed a.aborted a.unfinished
     ++ isolation_line (is_empty a.bad_reads && is_empty a.bad_writes)
-    ++ reads ++ writes ++ unexplained
+    ++ counts ++ reads ++ writes ++ unexplained
     ++ ssi_line a.pass ++ danger
     ++ serializable_line a.serializable
     ++ verdict)

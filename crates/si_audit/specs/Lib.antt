@@ -3,6 +3,7 @@ pub mod Words
 pub mod Account
 pub mod Lines
 pub mod Reasons
+pub mod Counts
 pub mod Explained
 pub mod RefusedPlaces
 pub mod Report

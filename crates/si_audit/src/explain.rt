@@ -18,6 +18,7 @@ ghost use Rattle.sia_parts.specs.Sightings.{reader_of};
 ghost use Rattle.sia_parts.specs.Telling.{start_words};
 ghost use Rattle.si_audit.specs.Reasons.{TellsClass, TellsEvents, TellsSight, TellsStep};
 ghost use Rattle.sia_events.specs.Isolation.{IsBadRead, IsBadWrite, IsUnexplained};
+ghost use Rattle.si_audit.specs.Counts.{TellsCounts};
 ghost use Rattle.si_audit.specs.Lines as lines;
 ghost use Rattle.si_audit.specs.Reasons as reasons;
 
@@ -261,18 +262,52 @@ fn push_class(out: &mut Vec<u8>, ix: &Index, edges: &[Edge]) -> Result<(), Alloc
     }
 }
 
-/// How a line of reasons begins that is of a bad read of this name.
+/// The names of bad reads, and behind them those of bad writes.
+const NAMES: [&[u8]; 8] = [
+    b"own write missed",
+    b"aborted read",
+    b"uncommitted read",
+    b"future read",
+    b"phantom",
+    b"stale read",
+    b"lost update",
+    b"write conflict",
+];
+
 fn anomaly_words(name: Anomaly) -> &'static [u8]
-    ensures { result.now ≡ codes "  " ++ reasons.anomaly_words name ++ codes ": " }
+    ensures { result.now ≡ reasons.anomaly_words name }
 {
-    match name {
-        Anomaly::OwnWriteMissed => b"  own write missed: ",
-        Anomaly::AbortedRead => b"  aborted read: ",
-        Anomaly::UncommittedRead => b"  uncommitted read: ",
-        Anomaly::FutureRead => b"  future read: ",
-        Anomaly::Phantom => b"  phantom: ",
-        Anomaly::StaleRead => b"  stale read: ",
+    NAMES[name as usize]
+}
+
+/// How many findings of each name there are.
+pub(crate) fn push_counts(out: &mut Vec<u8>, of: &Recorded, j: &Judgement) -> Result<(), AllocError>
+    requires index { of.now.index.now ≡ of.now.history.now }
+    requires judgement { IsJudgement of.now.history.now j.now }
+    requires acts { All (λ b. HasActs of.now.history.now b.second of.now.acts.now) j.now.bad_writes.items }
+    ensures { OnOk result ((bytes : List ℕ) × TellsCounts of.now.history.now j.now.bad_reads.items
+        j.now.bad_writes.items bytes × (out.new.items ≡ out.old.items ++ bytes)) }
+{
+    of.history.law();
+    let mut counts = [0; 8];
+    for b in &j.bad_reads {
+        if let Some(info) = of.index.txn(b.txn) {
+            let name = anomaly_of(of.history, of.index, b, info.start);
+            counts[name as usize] += 1;
+        }
     }
+    for b in &j.bad_writes {
+        counts[if loss_of(of, b).is_some() { 6 } else { 7 }] += 1;
+    }
+    let (mut before, mut end): (&[u8], &[u8]) = (b"  ", b"");
+    for name in 0..8 {
+        if counts[name] > 0 {
+            push_number(out, before, counts[name], b" ")?;
+            out.extend_from_slice(NAMES[name])?;
+            (before, end) = (b", ", b"\n");
+        }
+    }
+    out.extend_from_slice(end)
 }
 
 impl Finding for BadRead {
@@ -301,7 +336,9 @@ impl Finding for BadRead {
             return Ok(());
         };
         let name = anomaly_of(of.history, of.index, self, info.start);
-        push_event(out, anomaly_words(name), of.history, self.key, self.place)?;
+        out.extend_from_slice(b"  ")?;
+        out.extend_from_slice(anomaly_words(name))?;
+        push_event(out, b": ", of.history, self.key, self.place)?;
         push_start(out, b"; transaction ", self.txn, info.start, b"\n")?;
         push_unless(out, of, self.key, self.saw, 0, (b"  saw: ", b"\n"))?;
         push_unless(out, of, self.key, self.due, 0, (b"  due: ", b"\n"))

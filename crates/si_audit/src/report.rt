@@ -6,6 +6,7 @@ ghost use Rattle.si_audit.specs.Spaced.{spaced, words_of};
 ghost use Rattle.sia_parts.specs.Acts.{HasActs};
 ghost use Rattle.sia_parts.specs.declared.reasons.Recorded.{Recorded};
 ghost use Rattle.sia_graph.specs.Judgements.{IsJudgement};
+ghost use Rattle.si_audit.specs.Counts.{TellsCounts};
 ghost use Rattle.si_audit.specs.Explained.{TellsAll, WithReasons, TellsIf};
 ghost use Rattle.si_audit.specs.Reasons.{TellsBadRead, TellsBadWrite, TellsUnexplained};
 ghost use Rattle.sia_events.specs.declared.event.Event.{Event};
@@ -14,6 +15,7 @@ ghost use Rattle.sia_graph.specs.AllEdges.{AreAllEdges};
 ghost use Rattle.si_audit.specs.Lines as lines;
 ghost use Rattle.si_audit.specs.declared.report.Words.TheVariants as some;
 
+use crate::explain::push_counts;
 use itoa::write_digits;
 use sia_events::{Key, NoMemory, Reason, TextFault, TxnId, push_number};
 use sia_graph::{Judgement, Link, Pivot, Step, Verdict, put_vulnerable};
@@ -247,7 +249,8 @@ pub(crate) fn push_front(
     requires judgement { IfSome of (λ of. IsJudgement of.now.history.now j.now) }
     requires acts { IfSome of (λ of. All (λ b. HasActs of.now.history.now b.second of.now.acts.now)
         j.now.bad_writes.items) }
-    ensures { OnOk result ((reads : List ℕ) × (writes : List ℕ) × (others : List ℕ)
+    ensures { OnOk result ((counts : List ℕ) × (reads : List ℕ) × (writes : List ℕ) × (others : List ℕ)
+        × TellsIf of.entry (λ h. TellsCounts h j.now.bad_reads.items) j.now.bad_writes.items counts
         × TellsAll (WithReasons lines.bad_read_line
         (TellsIf of.entry TellsBadRead)) j.now.bad_reads.items reads
         × TellsAll (WithReasons lines.bad_write_line
@@ -259,9 +262,12 @@ pub(crate) fn push_front(
         j.now.counts.unfinished
         ++ lines.isolation_line (lines.is_empty j.now.bad_reads.items
         && lines.is_empty j.now.bad_writes.items)
-        ++ reads ++ writes ++ others)) }
+        ++ counts ++ reads ++ writes ++ others)) }
 {
     push_head(out, &j.counts, &j.bad_reads, &j.bad_writes)?;
+    if let Some(of) = of {
+        push_counts(out, of, j)?;
+    }
     push_all(out, of, &j.bad_reads)?;
     push_all(out, of, &j.bad_writes)?;
     push_all(out, of, &j.unexplained)

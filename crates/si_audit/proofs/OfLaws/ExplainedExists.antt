@@ -47,6 +47,7 @@ use Rattle.si_audit.specs.Account.{Account, IsAccount}
 use Rattle.si_audit.specs.Explained.{IsExplained, TellsAll, TellsDanger, TellsVerdict, WithReasons, dangerous_edges, dangerous_line, edges_round}
 use Rattle.si_audit.specs.Lines.{bad_read_line, bad_write_line, edge_word, unexplained_line, verdict_line}
 use Rattle.si_audit.specs.Reasons.{TellsBadRead, TellsBadWrite, TellsClass, TellsConflict, TellsEvents, TellsSight, TellsStep, TellsUnexplained, reason, untold_of}
+use Rattle.si_audit.proofs.OfLaws.CountsTold.{counts_told}
 use Rattle.si_audit.proofs.OfLaws.FindingsExist.{seen_small, top, top_is}
 use Rattle.si_audit.proofs.OfLaws.VerdictExists.{some_committed}
 
@@ -278,4 +279,5 @@ module _ (h : List Event) (wf : IsWellFormed h) where
       let odd = all_told (WithReasons unexplained_line (TellsUnexplained h)) a.unexplained (λ b c. line_told unexplained_line (TellsUnexplained h) b (unexplained_told b ((is.unexplained.each b).0 c).0)) in
       let danger = danger_told kept in
       let verdict = line_told verdict_line (TellsVerdict h) a.verdict (verdict_told a.verdict is.verdict) in
-      (_, (reads.0, writes.0, odd.0, danger.0, verdict.0, reads.1, writes.1, odd.1, danger.1, verdict.1, refl))
+      let counts = counts_told h wf a.bad_reads a.bad_writes (λ b c. ((is.bad_reads.each b).0 c).0) (λ b. lost_or_not b.key b.first b.second) in
+      (_, (counts.0, reads.0, writes.0, odd.0, danger.0, verdict.0, counts.1, reads.1, writes.1, odd.1, danger.1, verdict.1, refl))

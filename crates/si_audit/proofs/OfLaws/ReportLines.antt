@@ -48,7 +48,7 @@ numerals_unbroken : (ns : List ℕ) → AreUnbroken (map numeral ns)
 numerals_unbroken [] = tt
 numerals_unbroken (n ∷ ns) = (numeral_unbroken n, numerals_unbroken ns)
 
-all_both : (vs ws : List (List ℕ)) → AreUnbroken vs → AreUnbroken ws → AreUnbroken (vs ++ ws)
+pub all_both : (vs ws : List (List ℕ)) → AreUnbroken vs → AreUnbroken ws → AreUnbroken (vs ++ ws)
 all_both [] ws p q = q
 all_both (v ∷ vs) ws p q = (p.0, all_both vs ws p.1 q)
 

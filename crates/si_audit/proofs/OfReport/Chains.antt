@@ -33,6 +33,10 @@ front_alone o a b n r w u reads writes odd some others rest all =
     let third = lines_alone unexplained_line odd u rest in
     all ∙ (λ i. o ++ a ++ b ++ first i ++ second i ++ third i)
 
+-- no counts
+pub without_counts : (x n c r w u : List ℕ) → c ≡ [] → n ≡ x ++ c ++ r ++ w ++ u → n ≡ x ++ r ++ w ++ u
+without_counts x n c r w u none all = all ∙ (λ i. x ++ none i ++ r ++ w ++ u) ∙ ap (λ (y : List ℕ). y ++ r ++ w ++ u) (append-nil x)
+
 -- what stands before the edges, these, and what stands behind them
 pub report_of_pieces : (o m n r a s z v : List ℕ) (reads : List BadRead) (writes : List BadWrite) (odd : List Unexplained) (edges : List Edge) (pivots : List Pivot)
     → m ≡ o ++ a ++ isolation_line (is_empty reads && is_empty writes) ++ flat_map bad_read_line reads ++ flat_map bad_write_line writes ++ flat_map unexplained_line odd

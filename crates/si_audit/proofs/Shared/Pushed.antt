@@ -26,7 +26,7 @@ pub two_things : (o p n s c d q : List ℕ) → (((((o ++ p) ++ n) ++ s) ++ c) +
 two_things o p n s c d q = simp append_assoc
 
 -- a name, an event, and a start behind it
-pub named_event : (o p a b e s t x m y q : List ℕ) → ((((((o ++ (p ++ a ++ b)) ++ e) ++ (s ++ t)) ++ x) ++ m) ++ y) ++ q ≡ o ++ (p ++ (a ++ b ++ e ++ s ++ (t ++ x ++ m ++ y)) ++ q)
+pub named_event : (o p a b e s t x m y q : List ℕ) → ((((((((o ++ p) ++ a) ++ b) ++ e) ++ (s ++ t)) ++ x) ++ m) ++ y) ++ q ≡ o ++ (p ++ (a ++ b ++ e ++ s ++ (t ++ x ++ m ++ y)) ++ q)
 named_event o p a b e s t x m y q = simp append_assoc
 
 -- the words of a step, with a space between two of them
@@ -42,7 +42,7 @@ findings_pushed o a b k l m n r w u first second third fourth =
     fourth ∙ ap (λ (x : List ℕ). x ++ u) (third ∙ ap (λ (x : List ℕ). x ++ w) (second ∙ ap (λ (x : List ℕ). x ++ r) first)) ∙ simp append_assoc
 
 -- all lines of an explained report
-pub explained_pushed : (o a b r w u s d z v k l m n p : List ℕ) → o ≡ [] → k ≡ o ++ a ++ b ++ r ++ w ++ u → l ≡ k ++ s → m ≡ l ++ d → n ≡ m ++ z → p ≡ n ++ v
-    → p ≡ a ++ b ++ r ++ w ++ u ++ s ++ d ++ z ++ v
-explained_pushed o a b r w u s d z v k l m n p none first second third fourth fifth =
-    fifth ∙ ap (λ (x : List ℕ). x ++ v) (fourth ∙ ap (λ (x : List ℕ). x ++ z) (third ∙ ap (λ (x : List ℕ). x ++ d) (second ∙ ap (λ (x : List ℕ). x ++ s) (first ∙ ap (λ (x : List ℕ). x ++ a ++ b ++ r ++ w ++ u) none))))
+pub explained_pushed : (o a b c r w u s d z v k l m n p : List ℕ) → o ≡ [] → k ≡ o ++ a ++ b ++ c ++ r ++ w ++ u → l ≡ k ++ s → m ≡ l ++ d → n ≡ m ++ z → p ≡ n ++ v
+    → p ≡ a ++ b ++ c ++ r ++ w ++ u ++ s ++ d ++ z ++ v
+explained_pushed o a b c r w u s d z v k l m n p none first second third fourth fifth =
+    fifth ∙ ap (λ (x : List ℕ). x ++ v) (fourth ∙ ap (λ (x : List ℕ). x ++ z) (third ∙ ap (λ (x : List ℕ). x ++ d) (second ∙ ap (λ (x : List ℕ). x ++ s) (first ∙ ap (λ (x : List ℕ). x ++ a ++ b ++ c ++ r ++ w ++ u) none))))

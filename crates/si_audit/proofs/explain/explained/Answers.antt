@@ -44,13 +44,15 @@ returns c =
       told.0,
       told.1,
       told.2,
+      told.3,
       danger.0,
       verdict.0,
-      told.3,
       told.4,
       told.5,
+      told.6,
+      told.7,
       danger.1,
       verdict.1,
-      explained_pushed c.new-out.result.items _ _ _ _ _ _ _ _ _ _ _ _ _ _ c.new-out.ensures.items told.6 c.in_ok-push_whether.ensures danger.2 c.in_ok-push_whether-2.ensures verdict.2,
+      explained_pushed c.new-out.result.items _ _ _ _ _ _ _ _ _ _ _ _ _ _ _ c.new-out.ensures.items told.8 c.in_ok-push_whether.ensures danger.2 c.in_ok-push_whether-2.ensures verdict.2,
     ) in
     (a, account_is h j c.requires.judgement edges.0 edges.1 pivots.0 pivots.1, all)

@@ -1,4 +1,4 @@
-use Rattle.std.proofs.Common.{◌≡◌, List, Option, Some, None, Bor, get_or, subst}
+use Rattle.std.proofs.Common.{◌≡◌, ◌&&◌, ◌++◌, ◌∙◌, ℕ, List, Option, Some, None, Bor, ap, get_or, subst}
 use Rattle.std.specs.Prelude.{All, Contains, IfSome}
 use Rattle.std.proofs.lemmas.List.Elements.{All-contains, All-contains_itself}
 use Rattle.sia_events.specs.Isolation.{IsBadWrite}
@@ -6,9 +6,14 @@ use Rattle.sia_parts.specs.Acts.{HasActs}
 use Rattle.sia_parts.specs.declared.finding.BadWrite.{BadWrite}
 use Rattle.sia_parts.specs.declared.reasons.Recorded.{Recorded}
 use Rattle.sia_graph.specs.Judgements.{IsJudgement}
+use Rattle.si_audit.specs.Counts.{TellsCounts}
+use Rattle.si_audit.specs.Explained.{TellsIf}
+use Rattle.si_audit.specs.Lines as lines
 use Rattle.si_audit.proofs.Shared.Pushed.{findings_pushed}
 use Rattle.si_audit.proofs.Shared.Results.{ok_map}
+use Rattle.si_audit.proofs.Shared.Telling.{IsToldBehind, told_if_none, told_if_some}
 use Rattle.si_audit.proofs.report.push_front.Goals as goal
+use Rattle.si_audit.proofs.report.push_front.Goals.{in-Some+in_ok-push_counts, in_default}
 
 -- what holds of all that is listed, where reasons are wanted
 all_found : {A : Type 0} (of : Option (Bor Recorded)) (P : Bor Recorded → Type 0) (Q : Bor Recorded → A → Type 0) (items xs : List A)
@@ -20,6 +25,16 @@ all_found (Some of) P Q items xs same each some =
 both_if : (of : Option (Bor Recorded)) (P Q : Bor Recorded → Type 0) → IfSome of P → IfSome of Q → IfSome of (λ of. P of × Q of)
 both_if None P Q p q = p
 both_if (Some of) P Q p q = (p, q)
+
+pub push_counts-requires-clause-index : goal.push_counts-requires-clause-index
+push_counts-requires-clause-index c = subst (λ (o : Option (Bor Recorded)). IfSome o (λ of. of.now.index.now ≡ of.now.history.now)) c.in-Some.is c.requires.index
+
+pub push_counts-requires-clause-judgement : goal.push_counts-requires-clause-judgement
+push_counts-requires-clause-judgement c = subst (λ (o : Option (Bor Recorded)). IfSome o (λ of. IsJudgement of.now.history.now c.args.j.now)) c.in-Some.is c.requires.judgement
+
+pub push_counts-requires-clause-acts : goal.push_counts-requires-clause-acts
+push_counts-requires-clause-acts c =
+    subst (λ (o : Option (Bor Recorded)). IfSome o (λ of. All (λ (b : BadWrite). HasActs of.now.history.now b.second of.now.acts.now) c.args.j.now.bad_writes.items)) c.in-Some.is c.requires.acts
 
 pub push_all-requires-clause-index : goal.push_all-requires-clause-index
 push_all-requires-clause-index c = c.requires.index
@@ -47,17 +62,27 @@ push_all-requires-3-clause-found c = all_found c.args.of _ _ _ _ c.deref-5.ensur
 
 pub returns : goal.returns
 returns c =
+    let n = c.args.j.now.counts in
+    let bad_reads = c.args.j.now.bad_reads.items in
+    let bad_writes = c.args.j.now.bad_writes.items in
     let head = rw (c.deref.ensures.value, c.deref-2.ensures.value) at c.in_ok-push_head.ensures in
+    let counts : IsToldBehind (TellsIf c.args.of (λ h. TellsCounts h bad_reads) bad_writes) c.push_head.new.out.items c.match-of.out.items = elim c.match-of.branch [
+      | in-Some+in_ok-push_counts w ↦ rw (w.out-is) (told_if_some c.args.of _ (λ h. TellsCounts h bad_reads) bad_writes _ _ w.in-Some.is w.in_ok-push_counts.ensures)
+      | in_default w ↦ rw (w.out-is) (told_if_none c.args.of (λ h. TellsCounts h bad_reads) bad_writes _ w.in_default.is)
+    ] in
     let reads = rw c.deref-3.ensures.value at c.in_ok-push_all.ensures in
     let writes = rw c.deref-4.ensures.value at c.in_ok-push_all-2.ensures in
     ok_map _ _ c.push_all-3.result
     (λ x others. (
+      counts.0,
       reads.0,
       writes.0,
       others.0,
+      counts.1,
       reads.1,
       writes.1,
       others.1,
-      findings_pushed c.args.out.now.items _ _ _ _ _ _ _ _ _ head reads.2 writes.2 others.2,
+      findings_pushed (c.args.out.now.items ++ lines.events_line n.events n.committed n.aborted n.unfinished) (lines.isolation_line (lines.is_empty bad_reads && lines.is_empty bad_writes)) counts.0 _ _ _ _ _ _ _
+          (counts.2 ∙ ap (λ (x : List ℕ). x ++ counts.0) head) reads.2 writes.2 others.2,
     ))
     (rw c.deref-5.ensures.value at c.push_all-3.ensures)

@@ -34,7 +34,9 @@ returns c =
     rw (
       c.in_ok-push_start.ensures,
       c.in_ok-push_event.ensures,
+      c.in_ok-extend_from_slice-2.ensures.items,
       c.anomaly_words.ensures,
+      c.in_ok-extend_from_slice.ensures.items,
     ) (named_event c.args.out.now.items (codes "  ") (anomaly_words name) (codes ": ") (event_words h b.key b.place) (codes "; ") (codes "transaction ") (numeral b.txn) (codes " starts after event ") (numeral s) (codes "\n")) in
     on_ok_weaker c.push_unless-2.result (λ due. (
       reason (anomaly_words name ++ codes ": " ++ event_words h b.key b.place ++ codes "; " ++ start_words b.txn s) ++ saw.0 ++ due.0,
