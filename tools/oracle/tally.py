@@ -14,9 +14,11 @@ from oracle.tables import Tables
 STEP = re.compile(r"[0-9]+ >(ww|wr|rw):[0-9]+> [0-9]+: (.*)")
 RANGE = re.compile(r"r[0-9]+\[[0-9]+\.\.[0-9]+(;[^\]]*)?\]")
 WHERE = re.compile(r"line ([0-9]+), column [0-9]+: (.*)")
+COUNTS = re.compile(r"[0-9]+ [a-z ]+(, [0-9]+ [a-z ]+)*")
 ESCAPED = re.compile(r"\\x[0-9a-f]{2}")
 
 RANGES = ("range with the pair", "range without it")
+COUNTED = ("findings of one name counted", "findings of several names counted")
 REFUSALS = ("refusal in line 1", "refusal in a later line", "token cut", "token with strange bytes")
 REASONS = (
     *NAMES,
@@ -28,6 +30,7 @@ REASONS = (
     "allowed under snapshot isolation",
     "forbidden under snapshot isolation",
     *RANGES,
+    *COUNTED,
     *REFUSALS,
 )
 
@@ -48,6 +51,8 @@ def shapes_of_reason(line: str) -> Iterator[str]:
         shown = ESCAPED.sub("?", found[2])
         yield from [REFUSALS[2]] * (len(shown) == MOST_SHOWN) + [REFUSALS[3]] * (shown != found[2])
         return
+    if found := COUNTS.fullmatch(line):
+        yield COUNTED[found[1] is not None]
     if found := STEP.fullmatch(line):
         yield f"step {found[1]}"
         versions = len(re.findall(r" w[0-9]+\[", found[2]))
