@@ -13,12 +13,17 @@ from long_store import Store, Transaction, Version
 MOST_EVENTS = 6
 """How many events an anomaly takes at most."""
 
+NAMES = ("own write missed", "aborted read", "uncommitted read", "future read", "phantom", "stale read", "lost update")
+"""The names of bad reads and bad writes, in the order of the line that counts them."""
+
 
 @dataclass(slots=True)
 class Found:
     """The findings, each by its order in the report, its line, and the reasons below it."""
 
     findings: list[tuple[tuple[int, ...], str, list[str]]] = field(default_factory=list)
+    names: list[str] = field(default_factory=list)
+    """The names of the bad reads and the bad writes."""
     breaks_isolation: bool = False
     has_no_order: bool = False
     """Whether a read is unexplained, or there is a cycle."""
@@ -28,6 +33,8 @@ class Found:
         """The lines of the report up to its line `ssi`."""
         yield from store.counts()
         yield f"isolation {'broken' if self.breaks_isolation else 'kept'}"
+        if explained and self.breaks_isolation:
+            yield f"  {', '.join(f'{count} {name}' for name in NAMES if (count := self.names.count(name)))}"
         for _, line, reasons in sorted(self.findings):
             yield line
             yield from reasons if explained else ()
@@ -35,6 +42,7 @@ class Found:
     def read(self, name: str, key: int, reader: Reader, saw: Version, due: Version, saw_end: str = "c") -> None:
         """A bad read under its name. It is unexplained where the reader wrote the key, or the version was never committed."""
         txn, reasons = reader.txn.number, []
+        self.names.append(name)
         reasons.append(f"  {name}: event {reader.place} {reader.token}; transaction {txn} starts after event {reader.txn.start}")
         reasons += [f"  saw: {saw.told(key, saw_end)}"] * (saw.writer != 0)
         reasons += [f"  due: {due.told(key)}"] * (due.writer != 0)
@@ -48,6 +56,7 @@ class Found:
     def writes(self, key: int, first: Version, second: Version, reader: Reader) -> None:
         """A lost update: the writer of the second version starts before the first was committed, and read one before that."""
         order = key, first.writer, second.writer
+        self.names.append("lost update")
         reason = f"  lost update: transaction {second.writer} starts after event {reader.txn.start}; event {reader.place} {reader.token}"
         reason += f"; {first.told(key)}; {second.told(key)}"
         self.findings.append(((1, *order), f"bad-write {' '.join(map(str, order))}", [reason]))

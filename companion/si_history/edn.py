@@ -45,14 +45,15 @@ class Tagged:
 _IN_WORD = r'[^ \t\r\n\f,;"()\[\]{}\\^`~@]'
 # What a history has most of is read at once: runs of plain words, and vectors of them.
 _PLAIN = rf"(?:0|-?[1-9][0-9]*+|nil|:[a-z-]++)(?!{_IN_WORD})"
-_RUN = rf"{_PLAIN}(?:[\ ,\n]++{_PLAIN})*+"
+# Before Python 3.11.5 a repeated group that ends with `*+` may match more than it should.
+_RUN = rf"{_PLAIN}(?>(?:[\ ,\n]++{_PLAIN})*)"
 _TOKEN = re.compile(
     rf"""(?:[ \t\r\n\f,]++|;[^\n]*+)*+(?:
     ({_RUN})
     |\[((?:{_RUN})?)\]
     |([(\[{{])
     |([)\]}}])
-    |"((?:[^"\\]++|\\.)*+)"
+    |"((?>(?:[^"\\]++|\\.)*))"
     |([+-]?(?:0|[1-9][0-9]*+)(?!{_IN_WORD})|:{_IN_WORD}++)
     |\#(_|\{{|\#-?[A-Za-z]++|:?[A-Za-z]{_IN_WORD}*+)
     |\\([a-z]++(?:[0-9a-fA-F]{{4}})?|[^ \t\r\n\f])

@@ -17,11 +17,11 @@ REFUSED = 3
 class Form(Enum):
     """The forms of the report, by the words that ask for them. Where both words stand the report is explained."""
 
-    FULL = ()
-    BRIEF = ("--brief",)
-    EXPLAINED = ("--explain",)
-    BRIEF_EXPLAINED = ("--brief", "--explain")
-    EXPLAINED_BRIEF = ("--explain", "--brief")
+    FULL = ""
+    BRIEF = "--brief"
+    EXPLAINED = "--explain"
+    BRIEF_EXPLAINED = "--brief --explain"
+    EXPLAINED_BRIEF = "--explain --brief"
 
     @property
     def is_explained(self) -> bool:
@@ -44,7 +44,7 @@ class Line:
     @property
     def words(self) -> list[str]:
         level = ["--check", self.level] if self.level != SERIALIZABLE else []
-        return ["--workers", str(self.workers), *self.form.value, *level, *map(str, self.cuts)]
+        return ["--workers", str(self.workers), *self.form.value.split(), *level, *map(str, self.cuts)]
 
 
 def command_lines(rng: Random, events: list[Event] | Refusal, is_small: bool) -> list[Line]:
