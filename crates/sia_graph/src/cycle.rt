@@ -105,26 +105,6 @@ fn least_step(edges: &EdgesIn, ids: &[TxnId], before: usize, at: usize) -> Step
     }
 }
 
-/// A position on the cycle that going back from `start` reaches, and a number of steps from it to itself.
-fn reach_cycle(alloc: Global, previous: &[usize], start: usize) -> Result<(usize, usize), NoMemory>
-    requires within { StaysWithin previous.now }
-    requires start { start < length previous.now }
-    ensures reached { IfOk result (λ r. (n : ℕ) × (back previous.now n start ≡ r.0)) }
-    ensures round { IfOk result (λ r. (0 < r.1) × (back previous.now r.1 r.0 ≡ r.0)) }
-{
-    let mut seen = vec![in alloc; None; previous.len()]?;
-    let mut at = start;
-    let mut steps = 0usize;
-    loop {
-        if let Some(first) = seen[at] {
-            return Ok((at, steps - first));
-        }
-        seen[at] = Some(steps);
-        steps += 1;
-        at = previous[at];
-    }
-}
-
 /// The least position that some number of steps back reach, up to `count`.
 fn least_within(previous: &[usize], start: usize, count: usize) -> usize
     requires within { StaysWithin previous.now }
@@ -141,21 +121,20 @@ fn least_within(previous: &[usize], start: usize, count: usize) -> usize
     least
 }
 
-/// The steps of the cycle on which `home` is the least, from `home` on. Going back from it leads to it after `period` steps.
+/// The steps of the cycle on which `home` is the least, from `home` on.
 fn steps_round(
     alloc: Global,
     edges: &EdgesIn,
     ids: &[TxnId],
     previous: &[usize],
     home: usize,
-    period: usize,
 ) -> Result<Vec<Step>, NoMemory>
     requires can { CanFind ids.now edges.now }
     requires ascending { IsStrictlyIncreasing ids.now }
     requires long { length previous.now ≡ length ids.now }
     requires within { StaysWithin previous.now }
     requires home { home < length previous.now }
-    requires round { (0 < period) × (back previous.now period home ≡ home) }
+    requires round { (period : ℕ) × (0 < period) × (period ≤ length previous.now) × (back previous.now period home ≡ home) }
     requires least { (n : ℕ) → home ≤ back previous.now n home }
     requires leads { (n : ℕ)
         → Leads (IsEdgeIn edges.now) (slice_index ids.now
@@ -165,7 +144,7 @@ fn steps_round(
         → LeadsBack stuck ids.now (IsEdgeIn edges.now) previous.now home
         → GoesRoundFrom stuck (IsEdgeIn edges.now) (slice_index ids.now home) steps.items) }
 {
-    let mut steps = Vec::with_capacity(alloc, period)?;
+    let mut steps = Vec::new(alloc);
     let mut at = home;
     'walk: loop {
         let before = previous[at];
@@ -197,10 +176,13 @@ pub(crate) fn cycle_of(
     ensures { IfOk result (λ steps. IsPrintedCycle (IsMemberIn ids.now edges.now)
         (IsEdgeIn edges.now) steps.items) }
 {
-    let start = left.iter().position(|is_left| *is_left).unwrap_or(0);
-    let (place, period) = reach_cycle(alloc, previous, start)?;
-    let home = least_within(previous, place, period);
-    steps_round(alloc, edges, ids, previous, home, period)
+    let mut place = left.iter().position(|is_left| *is_left).unwrap_or(0);
+    // As many steps back as there are positions end on the cycle.
+    for _ in 0..previous.len() {
+        place = previous[place];
+    }
+    let home = least_within(previous, place, previous.len());
+    steps_round(alloc, edges, ids, previous, home)
 }
 
 /// The cycle that is printed of those that are left, by the numbers of the committed transactions.

@@ -101,39 +101,6 @@ fn put_firsts(index: &Index, txn: u32, firsts: &mut Vec<u32>) -> Result<(), NoMe
     Ok(put_in_order(firsts)?)
 }
 
-/// Adds the keys of range misses that are own ones, and the stretches between these. The range misses are in order, and keys that
-/// were reached are passed over once.
-fn cut_all(
-    keys: &[u32],
-    misses: &[RangeMiss],
-    own: &mut Vec<u32>,
-    stretches: &mut Vec<RangeMiss>,
-) -> Result<(), NoMemory>
-    requires rise { IsNonDecreasing keys.now }
-    requires sorted { IsNonDecreasingBy (λ miss. miss.from) misses.now }
-    requires few { All (λ miss. miss.to ≤ 1073741824) misses.now }
-    ensures own { OnOk result (Adds (λ j. IsHeldBy misses.now j
-        × Contains keys.now j) own.old.items own.new.items) }
-    ensures stretches { OnOk result ((j : ℕ)
-        → IsHeldBy stretches.new.items j ↔ (IsHeldBy stretches.old.items j
-        ⊎ (IsHeldBy misses.now j × ¬ Contains keys.now j))) }
-{
-    let mut reached = 0;
-    for miss in misses {
-        let mut from = miss.from.max(reached);
-        while from < miss.to {
-            let next = next_of(keys, from, miss.to);
-            stretches.push(RangeMiss { from, to: next })?;
-            if next < miss.to {
-                own.push(next)?;
-            }
-            from = next + 1;
-        }
-        reached = reached.max(miss.to);
-    }
-    Ok(())
-}
-
 impl Passed {
     pub(crate) fn none(alloc: Global) -> Passed {
         Passed {
@@ -165,12 +132,19 @@ impl Passed {
         self.misses
             .sort_unstable_by_key(|miss| (miss.from, miss.to));
         put_firsts(evidence.index, txn, &mut self.firsts)?;
-        cut_all(
-            &self.firsts,
-            &self.misses,
-            &mut self.own,
-            &mut self.stretches,
-        )?;
+        let mut reached = 0;
+        for miss in &self.misses {
+            let mut from = miss.from.max(reached);
+            while from < miss.to {
+                let next = next_of(&self.firsts, from, miss.to);
+                self.stretches.push(RangeMiss { from, to: next })?;
+                if next < miss.to {
+                    self.own.push(next)?;
+                }
+                from = next + 1;
+            }
+            reached = reached.max(miss.to);
+        }
         Ok(())
     }
 }

@@ -93,13 +93,13 @@ module _ (ids : List ℕ) (IsEdge : Edge → Type 0) (IsLeft : ℕ → Type 0) (
 
 -- the least position on a round is the least from itself on, and one comes back to it
 module _ (previous : List ℕ) (place period home : ℕ) (some : 0 < period) (round : back previous period place ≡ place)
-    (reached : (m : ℕ) × (m ≤ period) × (back previous m place ≡ home)) (low : (n : ℕ) → n ≤ period → home ≤ back previous n place) where
+    (reached : (m : ℕ) × (back previous m place ≡ home)) (low : (n : ℕ) → n ≤ period → home ≤ back previous n place) where
   pub round_home : back previous period home ≡ home
-  round_home = ap (back previous period) (sym reached.2) ∙ round_again previous reached.0 period place round ∙ reached.2
+  round_home = ap (back previous period) (sym reached.1) ∙ round_again previous reached.0 period place round ∙ reached.1
 
   pub least_home : (n : ℕ) → home ≤ back previous n home
   least_home n =
       let w = within_round previous period place some round (reached.0 + n) in
       let a = low w.0 w.1 in
-      let b = w.2 ∙ back_more previous reached.0 n place ∙ ap (back previous n) reached.2 in
+      let b = w.2 ∙ back_more previous reached.0 n place ∙ ap (back previous n) reached.1 in
       omega arith

@@ -1,10 +1,10 @@
 -- The steps of a cycle, made from the last to the first by going back from the least transaction on it.
-use Rattle.std.proofs.Common.{◌≡◌, ◌≢◌, inl, inr, ℕ, ◌+◌, ◌<◌, ◌≤◌, List, [], ◌∷◌, ◌++◌, length, get_or, reverse, ap, sym, ◌∙◌, subst, arith}
+use Rattle.std.proofs.Common.{◌≡◌, ◌≢◌, inl, inr, ℕ, ◌+◌, ◌<◌, ◌≤◌, List, [], ◌∷◌, ◌++◌, length, get_or, reverse, ap, refl, sym, ◌∙◌, subst, arith}
 use Rattle.std.specs.Prelude.{All}
 use Rattle.std.specs.List.Sorted.{IsStrictlyIncreasing}
 use Rattle.std.proofs.lemmas.Bool.{cases_lt}
 use Rattle.std.proofs.lemmas.List.{reverse-append, length_push}
-use Rattle.std.proofs.lemmas.List.Elements.{All-push}
+use Rattle.std.proofs.lemmas.List.Elements.{All-nil, All-push}
 use Rattle.std.proofs.lemmas.List.Sorted.{All-permutation, IsPermutation-reverse}
 use Rattle.sia_parts.specs.declared.finding.Edge.{Edge}
 use Rattle.sia_graph.specs.declared.cycle.Step.{Step}
@@ -25,6 +25,11 @@ pub record IsPartOfRound (ids : List ℕ) (IsEdge : Edge → Type 0) (previous :
   pub above : All (λ s. get_or ids home 0 < s.txn) made
   pub round : (stuck : List ℕ) → LeadsBack stuck ids IsEdge previous home
       → GoesRound IsEdge stuck (reverse made) (get_or ids home 0) × (start_of (reverse made) (get_or ids home 0) ≡ get_or ids at 0)
+
+-- no step yet
+pub part_none : (ids : List ℕ) (IsEdge : Edge → Type 0) (previous : List ℕ) (home period : ℕ) → home < length previous → 0 < period → IsPartOfRound ids IsEdge previous home period [] home
+part_none ids IsEdge previous home period inside some =
+    record { inside = inside; few = some; reached = refl; above = All-nil (λ s. get_or ids home 0 < s.txn); round = λ stuck leads. (tt, refl) }
 
 -- one more step in front
 step_first : (E : Edge → Type 0) (stuck : List ℕ) (s : Step) (steps : List Step) (home : ℕ) → IsPrevious E stuck s.txn (start_of steps home) → TakesLeastEdge E s (start_of steps home)

@@ -1,5 +1,5 @@
 -- Going back along the least sources.
-use Rattle.std.proofs.Common.{◌≡◌, ◌⊎◌, inl, inr, ℕ, zero, suc, ◌+◌, ◌-◌, ◌<◌, ◌≤◌, Bool, true, false, cond, List, length, get_or, set, replicate, slice_get, Option, Some, None, ap, sym, ◌∙◌, refl, arith}
+use Rattle.std.proofs.Common.{◌≡◌, ◌⊎◌, inl, inr, ℕ, zero, suc, ◌+◌, ◌-◌, ◌<◌, ◌≤◌, Bool, true, false, cond, List, length, get_or, set, replicate, slice_get, Option, Some, None, ap, sym, subst, ◌∙◌, refl, arith}
 use Rattle.std.specs.List.{count_by}
 use Rattle.std.proofs.lemmas.Bool.{cases_eq, cases_lt}
 use Rattle.std.proofs.lemmas.List.{get_or-set_same, get_or-set_other, length-set, length-replicate}
@@ -136,3 +136,34 @@ least_more previous start step at least next is after reached low now chosen = (
     by_choice : ((next < least) × (now ≡ next)) ⊎ ((least ≤ next) × (now ≡ least)) → (n : ℕ) × (n ≤ step + 1) × (back previous n start ≡ now)
     by_choice (inl w) = (step + 1, omega arith, next_is ∙ sym w.1)
     by_choice (inr w) = (reached.0, (let l = reached.1 in omega arith), reached.2 ∙ sym w.1)
+
+-- as many steps back as there are positions end where some further ones lead back to
+pub ends_round : (previous : List ℕ) (start : ℕ) → StaysWithin previous → start < length previous
+    → (period : ℕ) × (0 < period) × (period ≤ length previous) × (back previous period (back previous (length previous) start) ≡ back previous (length previous) start)
+ends_round previous start within l = from (length previous) _ 0 start (none_noted previous start (length previous) l refl) (omega arith)
+  where
+    look : (o : Option ℕ) → (o ≡ None) ⊎ ((first : ℕ) × (o ≡ Some first))
+    look None = inl refl
+    look (Some first) = inr (first, refl)
+
+    found : (seen : List (Option ℕ)) (steps at : ℕ) → IsNoted previous start seen steps at → (first : ℕ) → get_or seen at None ≡ Some first
+        → (period : ℕ) × (0 < period) × (period ≤ length previous) × (back previous period (back previous (length previous) start) ≡ back previous (length previous) start)
+    found seen steps at n first is =
+        let w = round_found previous start seen steps at n None first is in
+        let r = n.rest in
+        let l = w.0 in
+        let e : steps + (length previous - steps) ≡ length previous = omega arith in
+        let there : back previous (length previous - steps) at ≡ back previous (length previous) start =
+        ap (back previous (length previous - steps)) (sym n.reached) ∙ sym (back_more previous steps (length previous - steps) start) ∙ ap (λ k. back previous k start) e in
+        (steps - first, omega arith, omega arith, subst (λ i. back previous (steps - first) i ≡ i) there (round_again previous (length previous - steps) (steps - first) at w.1))
+
+    from : (fuel : ℕ) (seen : List (Option ℕ)) (steps at : ℕ) → IsNoted previous start seen steps at → length previous ≤ steps + fuel
+        → (period : ℕ) × (0 < period) × (period ≤ length previous) × (back previous period (back previous (length previous) start) ≡ back previous (length previous) start)
+    from zero seen steps at n few = elim (look (get_or seen at None)) [
+      | inl none ↦ absurd (let u = unseen_fewer previous start seen steps at n None (Some steps) refl none in let r = n.rest in omega arith)
+      | inr some ↦ found seen steps at n some.0 some.1
+    ]
+    from (suc fuel) seen steps at n few = elim (look (get_or seen at None)) [
+      | inl none ↦ from fuel (set seen at (Some steps)) (steps + 1) (get_or previous at 0) (noted_more previous start seen steps at n None within none) (omega arith)
+      | inr some ↦ found seen steps at n some.0 some.1
+    ]

@@ -1,14 +1,14 @@
 use Rattle.std.specs.Prelude.{MatchOption, unwrap_or}
 use Rattle.std.specs.List.{AllWithin, HoldsAt}
 use Rattle.std.proofs.lemmas.Iterator.{IsFirst-from_position, YieldsList-from_slice}
-use Rattle.std.proofs.Common.{◌≡◌, ℕ, Bool, true, false, List, Option, None, Some, rules, sym, ◌+◌, ◌<◌, length, ap, subst, ◌∙◌, arith}
+use Rattle.std.proofs.Common.{◌≡◌, ℕ, Bool, true, false, List, Option, None, Some, rules, sym, ◌+◌, ◌<◌, ◌≤◌, length, ap, get_or, refl, subst, ◌∙◌, arith}
 use Rattle.std.proofs.lemmas.Result.{IfOk-weaker}
 use Rattle.sia_graph.specs.Previous.{IsLeftIn}
 use Rattle.sia_graph.specs.Searched.{IsEdgeIn, IsMemberIn}
-use Rattle.sia_graph.specs.Walks.{ArePreviousFrom, back}
+use Rattle.sia_graph.specs.Walks.{ArePreviousFrom, StaysWithin, back}
 use Rattle.sia_graph.proofs.Cycles.PrintedCycle.{fed_by_stuck, least_home, previous_from, round_home, shifted, leads_all, printed, stays_within}
-use Rattle.sia_graph.proofs.Cycles.Walks.{back_more, stays}
-use Rattle.sia_graph.proofs.cycle.cycle_of.Goals.{After-unwrap_or-start}
+use Rattle.sia_graph.proofs.Cycles.Walks.{back_more, back_next, ends_round, stays}
+use Rattle.sia_graph.proofs.cycle.cycle_of.Goals.{After-loop, After-unwrap_or-place}
 use Rattle.sia_graph.proofs.cycle.cycle_of.Goals as goal
 
 -- the first that is left
@@ -20,47 +20,67 @@ is_first left None none some start is = absurd (let no = none some.0 false (omeg
 is_first left (Some s) found some start is =
     subst (λ n. (n < length left) × IsLeftIn left n × ((i : ℕ) → i < n → ¬ IsLeftIn left i)) (sym is) (found.0, found.1 false, λ i l here. (let no = found.2 i false (omega arith) l in cc))
 
-start_is : (c : After-unwrap_or-start) → (c.unwrap_or-start.result < length c.args.left.now) × IsLeftIn c.args.left.now c.unwrap_or-start.result × ((i : ℕ) → i < c.unwrap_or-start.result → ¬ IsLeftIn c.args.left.now i)
+start_is : (c : After-unwrap_or-place) → (c.unwrap_or-place.result < length c.args.left.now) × IsLeftIn c.args.left.now c.unwrap_or-place.result × ((i : ℕ) → i < c.unwrap_or-place.result → ¬ IsLeftIn c.args.left.now i)
 start_is c =
     is_first c.args.left.now c.position.result
     (IsFirst-from_position _ _ c.position.result (λ b. b ≡ true) (λ b. b ≡ false) c.position.ensures.ran (YieldsList-from_slice _ c.iter.ensures.rest) (λ x q k. search rules) (λ x q k. search rules))
-    c.requires.some c.unwrap_or-start.result c.unwrap_or-start.ensures
+    c.requires.some c.unwrap_or-place.result c.unwrap_or-place.ensures
 
-pub reach_cycle-requires-clause-within : goal.reach_cycle-requires-clause-within
-reach_cycle-requires-clause-within c = (stays_within c.args.ids.now (IsEdgeIn c.args.edges.now) (IsLeftIn c.args.left.now) c.args.previous.now c.requires.long.1 c.requires.least)
+within : (c : After-unwrap_or-place) → StaysWithin c.args.previous.now
+within c = stays_within c.args.ids.now (IsEdgeIn c.args.edges.now) (IsLeftIn c.args.left.now) c.args.previous.now c.requires.long.1 c.requires.least
+
+started : (c : After-unwrap_or-place) → c.unwrap_or-place.result < length c.args.previous.now
+started c = let a = (start_is c).0 in let b = c.requires.long in omega arith
+
+-- as many steps back as there are positions lead to the place, and one goes round from there
+reached : (c : After-loop) → back c.args.previous.now (length c.args.previous.now) c.unwrap_or-place.result ≡ c.loop.place
+reached c =
+    let all : c.loop.counter ≡ length c.args.previous.now = let a = c.loop-test.false in let b = c.loop.auto.counter-end in omega arith in
+    sym (c.loop.invariant.1 ∙ ap (λ n. back c.args.previous.now n c.unwrap_or-place.result) all)
+
+round : (c : After-loop) → (period : ℕ) × (0 < period) × (period ≤ length c.args.previous.now) × (back c.args.previous.now period c.loop.place ≡ c.loop.place)
+round c =
+    subst (λ place. (period : ℕ) × (0 < period) × (period ≤ length c.args.previous.now) × (back c.args.previous.now period place ≡ place)) (reached c)
+    (ends_round c.args.previous.now c.unwrap_or-place.result (within (goal.at.least_within-home-requires-clause-within c).After-unwrap_or-place) (started (goal.at.least_within-home-requires-clause-within c).After-unwrap_or-place))
+
+pub loop-init : goal.loop-init
+loop-init c = (started c, refl)
+
+pub loop-preserved : goal.loop-preserved
+loop-preserved c = (
+  within (goal.at.loop-preserved c).After-unwrap_or-place c.loop.place c.loop.invariant.0,
+  ap (λ i. get_or c.args.previous.now i 0) c.loop.invariant.1 ∙ sym (back_next c.args.previous.now c.loop.counter c.unwrap_or-place.result),
+)
 
 pub least_within-home-requires-clause-within : goal.least_within-home-requires-clause-within
-least_within-home-requires-clause-within c = (stays_within c.args.ids.now (IsEdgeIn c.args.edges.now) (IsLeftIn c.args.left.now) c.args.previous.now c.requires.long.1 c.requires.least)
-
-pub least_within-home-requires-clause-start : goal.least_within-home-requires-clause-start
-least_within-home-requires-clause-start c =
-    let w = c.in_ok-place.ensures.reached in
-    let start : c.unwrap_or-start.result < length c.args.previous.now = let a = (start_is (goal.at.least_within-home-requires-clause-start c).After-unwrap_or-start).0 in let b = c.requires.long in omega arith in
-    subst (λ i. i < length c.args.previous.now) w.1 (stays c.args.previous.now (stays_within c.args.ids.now (IsEdgeIn c.args.edges.now) (IsLeftIn c.args.left.now) c.args.previous.now c.requires.long.1 c.requires.least) w.0 c.unwrap_or-start.result start)
+least_within-home-requires-clause-within c = within (goal.at.least_within-home-requires-clause-within c).After-unwrap_or-place
 
 pub steps_round-requires-clause-within : goal.steps_round-requires-clause-within
-steps_round-requires-clause-within c = (stays_within c.args.ids.now (IsEdgeIn c.args.edges.now) (IsLeftIn c.args.left.now) c.args.previous.now c.requires.long.1 c.requires.least)
+steps_round-requires-clause-within c = within (goal.at.steps_round-requires-clause-within c).After-unwrap_or-place
 
 pub steps_round-requires-clause-home : goal.steps_round-requires-clause-home
 steps_round-requires-clause-home c =
     let previous = c.args.previous.now in
-    let within = (stays_within c.args.ids.now (IsEdgeIn c.args.edges.now) (IsLeftIn c.args.left.now) c.args.previous.now c.requires.long.1 c.requires.least) in
-    let w = c.in_ok-place.ensures.reached in
     let v = c.least_within-home.ensures.reached in
-    let start : c.unwrap_or-start.result < length c.args.previous.now = let a = (start_is (goal.at.steps_round-requires-clause-home c).After-unwrap_or-start).0 in let b = c.requires.long in omega arith in
-    subst (λ i. i < length previous) v.2 (stays previous within v.0 c.in_ok-place.place (subst (λ i. i < length previous) w.1 (stays previous within w.0 c.unwrap_or-start.result start)))
+    subst (λ i. i < length previous) v.2 (stays previous (within (goal.at.steps_round-requires-clause-home c).After-unwrap_or-place) v.0 c.loop.place c.loop.invariant.0)
 
 pub steps_round-requires-clause-round : goal.steps_round-requires-clause-round
 steps_round-requires-clause-round c =
-    let w = c.in_ok-place.ensures.round in
+    let w = round (goal.at.steps_round-requires-clause-round c).After-loop in
     let v = c.least_within-home.ensures in
-    (w.0, round_home c.args.previous.now c.in_ok-place.place c.in_ok-place.period c.least_within-home.result w.0 w.1 v.reached v.least)
+    (w.0, w.1, w.2, round_home c.args.previous.now c.loop.place w.0 c.least_within-home.result w.1 w.3 (v.reached.0, v.reached.2) (λ n l. v.least n (let few = w.2 in omega arith)))
 
 pub steps_round-requires-clause-least : goal.steps_round-requires-clause-least
 steps_round-requires-clause-least c =
-    let w = c.in_ok-place.ensures.round in
+    let w = round (goal.at.steps_round-requires-clause-least c).After-loop in
     let v = c.least_within-home.ensures in
-    least_home c.args.previous.now c.in_ok-place.place c.in_ok-place.period c.least_within-home.result w.0 w.1 v.reached v.least
+    least_home c.args.previous.now c.loop.place w.0 c.least_within-home.result w.1 w.3 (v.reached.0, v.reached.2) (λ n l. v.least n (let few = w.2 in omega arith))
+
+-- as many steps back from the start lead home
+homed : (c : After-loop) (home n : ℕ) → back c.args.previous.now n c.loop.place ≡ home → back c.args.previous.now (length c.args.previous.now + n) c.unwrap_or-place.result ≡ home
+homed c home n is =
+    let previous = c.args.previous.now in
+    back_more previous (length previous) n c.unwrap_or-place.result ∙ ap (back previous n) (reached c) ∙ is
 
 pub steps_round-requires-clause-leads : goal.steps_round-requires-clause-leads
 steps_round-requires-clause-leads c =
@@ -68,14 +88,14 @@ steps_round-requires-clause-leads c =
     let E = IsEdgeIn c.args.edges.now in
     let L = IsLeftIn c.args.left.now in
     let previous = c.args.previous.now in
-    let start = c.unwrap_or-start.result in
+    let start = c.unwrap_or-place.result in
     let r = c.requires.stuck in
-    let within : start < length ids = let a = (start_is (goal.at.steps_round-requires-clause-leads c).After-unwrap_or-start).0 in let b = c.requires.long.0 in omega arith in
-    let are = previous_from ids E L previous start c.requires.least within (start_is (goal.at.steps_round-requires-clause-leads c).After-unwrap_or-start).1 (fed_by_stuck ids (IsMemberIn ids c.args.edges.now) E L r.0 r.2 r.1) in
-    let w = c.in_ok-place.ensures.reached in
+    let first = start_is (goal.at.steps_round-requires-clause-leads c).After-unwrap_or-place in
+    let inside : start < length ids = let a = first.0 in let b = c.requires.long.0 in omega arith in
+    let are = previous_from ids E L previous start c.requires.least inside first.1 (fed_by_stuck ids (IsMemberIn ids c.args.edges.now) E L r.0 r.2 r.1) in
     let v = c.least_within-home.ensures.reached in
-    let reached = back_more previous w.0 v.0 start ∙ ap (back previous v.0) w.1 ∙ v.2 in
-    leads_all ids E L previous c.least_within-home.result (subst (ArePreviousFrom ids E L previous) reached (shifted ids E L previous (w.0 + v.0) start are))
+    let home = homed (goal.at.steps_round-requires-clause-leads c).After-loop c.least_within-home.result v.0 v.2 in
+    leads_all ids E L previous c.least_within-home.result (subst (ArePreviousFrom ids E L previous) home (shifted ids E L previous (length previous + v.0) start are))
 
 pub returns : goal.returns
 returns c =
@@ -84,14 +104,14 @@ returns c =
     let M = IsMemberIn ids c.args.edges.now in
     let L = IsLeftIn c.args.left.now in
     let previous = c.args.previous.now in
-    let start = c.unwrap_or-start.result in
+    let start = c.unwrap_or-place.result in
     let r = c.requires.stuck in
-    let within : start < length ids = let a = (start_is (goal.at.returns c).After-unwrap_or-start).0 in let b = c.requires.long.0 in omega arith in
-    let are = previous_from ids E L previous start c.requires.least within (start_is (goal.at.returns c).After-unwrap_or-start).1 (fed_by_stuck ids M E L r.0 r.2 r.1) in
-    let w = c.in_ok-place.ensures.reached in
+    let first = start_is (goal.at.returns c).After-unwrap_or-place in
+    let inside : start < length ids = let a = first.0 in let b = c.requires.long.0 in omega arith in
+    let are = previous_from ids E L previous start c.requires.least inside first.1 (fed_by_stuck ids M E L r.0 r.2 r.1) in
     let v = c.least_within-home.ensures.reached in
-    let reached = back_more previous w.0 v.0 start ∙ ap (back previous v.0) w.1 ∙ v.2 in
+    let home = homed (goal.at.returns c).After-loop c.least_within-home.result v.0 v.2 in
     IfOk-weaker c.steps_round.result _ _
-    (λ steps made. printed ids E L previous c.requires.ascending r.0 r.2 M start (w.0 + v.0) c.least_within-home.result steps.items
-    are within (start_is (goal.at.returns c).After-unwrap_or-start).1 (start_is (goal.at.returns c).After-unwrap_or-start).2 reached (made r.0) r.1)
+    (λ steps made. printed ids E L previous c.requires.ascending r.0 r.2 M start (length previous + v.0) c.least_within-home.result steps.items
+    are inside first.1 first.2 home (made r.0) r.1)
     c.steps_round.ensures
