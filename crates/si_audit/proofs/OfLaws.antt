@@ -13,6 +13,8 @@ pub mod PlainTexts
 pub mod ReasonLines
 pub mod ReportExists
 pub mod ReportLines
+pub mod SnapshotsFit
+pub mod SnapshotsLeft
 pub mod TextLines
 pub mod TokenExists
 pub mod VerdictExists

@@ -3,11 +3,14 @@ use Rattle.std.specs.Prelude.{◌≡◌, ◌⊎◌, ℕ, List, [], ◌∷◌, �
 use Rattle.sia_events.specs.declared.event.Event.{Event}
 use Rattle.sia_events.specs.DangerousStructures.{NoFirst}
 use Rattle.sia_events.specs.Isolation.{IsolationKept}
+use Rattle.sia_events.specs.Lists.{ListsAscending}
 use Rattle.sia_events.specs.Text.{numeral}
+use Rattle.sia_events.specs.Transactions.{HasEvent}
 use Rattle.sia_parts.specs.declared.finding.Edge.{Edge}
 use Rattle.sia_parts.specs.declared.finding.Kind.TheVariants.{Rw}
 use Rattle.sia_graph.specs.declared.ssi.Dangerous.{Dangerous}
 use Rattle.sia_graph.specs.declared.cycle.Step.{Step}
+use Rattle.sia_graph.specs.declared.judgement.Judgement.{Judgement}
 use Rattle.sia_graph.specs.declared.judgement.Verdict.{Verdict}
 use Rattle.sia_graph.specs.declared.judgement.Verdict.TheVariants.{Order, Cycle}
 use Rattle.sia_graph.specs.Cycles.{step_edge}
@@ -16,6 +19,7 @@ use Rattle.si_audit.specs.Account.{Account}
 use Rattle.si_audit.specs.Lines.{line, edge_word, is_empty, bad_read_line, bad_write_line, unexplained_line, events_line, isolation_line, ssi_line, serializable_line, verdict_line}
 use Rattle.si_audit.specs.Reasons.{TellsBadRead, TellsBadWrite, TellsClass, TellsUnexplained, TellsStep}
 use Rattle.si_audit.specs.Counts.{TellsCounts}
+use Rattle.si_audit.specs.SnapshotLines.{TellsSnapshot}
 use Rattle.std.specs.Borrow.{Bor}
 use Rattle.sia_parts.specs.declared.reasons.Recorded.{Recorded}
 
@@ -55,18 +59,23 @@ dangerous_edges d = record { src = d.first; kind = Rw; dst = d.pivot; key = d.fi
 abbrev pub TellsDanger : List Event → List ℕ → Type 0
 TellsDanger h bytes = ((IsolationKept h → NoFirst h) × (bytes ≡ [])) ⊎ (IsolationKept h × (d : Dangerous) × IsDangerous h d × WithReasons dangerous_line (λ d. TellsAll (TellsStep h) (dangerous_edges d)) d bytes)
 
+-- of each transaction in order what there is to tell of its snapshots
+abbrev pub TellsSnapshots : List Event → List ℕ → Type 0
+TellsSnapshots h bytes = (txns : List ℕ) × ListsAscending (HasEvent h) txns × TellsAll (TellsSnapshot h) txns bytes
+
 -- the lines of the brief report of this account, with reasons
 abbrev pub IsExplained : List Event → Account → List ℕ → Type 0
-IsExplained h a bytes = (counts : List ℕ) × (reads : List ℕ) × (writes : List ℕ) × (unexplained : List ℕ) × (danger : List ℕ) × (verdict : List ℕ)
+IsExplained h a bytes = (counts : List ℕ) × (reads : List ℕ) × (writes : List ℕ) × (unexplained : List ℕ) × (snapshots : List ℕ) × (danger : List ℕ) × (verdict : List ℕ)
     × TellsCounts h a.bad_reads a.bad_writes counts
     × TellsAll (WithReasons bad_read_line (TellsBadRead h)) a.bad_reads reads
     × TellsAll (WithReasons bad_write_line (TellsBadWrite h)) a.bad_writes writes
     × TellsAll (WithReasons unexplained_line (TellsUnexplained h)) a.unexplained unexplained
+    × TellsSnapshots h snapshots
     × TellsDanger h danger
     × WithReasons verdict_line (TellsVerdict h) a.verdict verdict
     × (bytes ≡ events_line a.events a.committed a.aborted a.unfinished
     ++ isolation_line (is_empty a.bad_reads && is_empty a.bad_writes)
-    ++ counts ++ reads ++ writes ++ unexplained
+    ++ counts ++ reads ++ writes ++ unexplained ++ snapshots
     ++ ssi_line a.pass ++ danger
     ++ serializable_line a.serializable
     ++ verdict)
@@ -75,3 +84,15 @@ IsExplained h a bytes = (counts : List ℕ) × (reads : List ℕ) × (writes : L
 abbrev pub TellsIf : {A : Type 0} → Option (Bor Recorded) → (List Event → A → List ℕ → Type 0) → A → List ℕ → Type 0
 TellsIf None Tells = λ x bytes. bytes ≡ []
 TellsIf (Some of) Tells = Tells of.now.history.now
+
+-- behind these bytes stand the lines of a judgement before those of the edges, with reasons from what was recorded, where it is given
+abbrev pub PutsFront : Option (Bor Recorded) → Judgement → List ℕ → List ℕ → Type 0
+PutsFront of j before all = (counts : List ℕ) × (reads : List ℕ) × (writes : List ℕ) × (others : List ℕ)
+    × TellsIf of (λ h. TellsCounts h j.bad_reads.items) j.bad_writes.items counts
+    × TellsAll (WithReasons bad_read_line (TellsIf of TellsBadRead)) j.bad_reads.items reads
+    × TellsAll (WithReasons bad_write_line (TellsIf of TellsBadWrite)) j.bad_writes.items writes
+    × TellsAll (WithReasons unexplained_line (TellsIf of TellsUnexplained)) j.unexplained.items others
+    × (all ≡ before
+    ++ events_line j.counts.events j.counts.committed j.counts.aborted j.counts.unfinished
+    ++ isolation_line (is_empty j.bad_reads.items && is_empty j.bad_writes.items)
+    ++ counts ++ reads ++ writes ++ others)

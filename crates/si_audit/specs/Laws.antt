@@ -1,5 +1,5 @@
 -- The laws of reports and outcomes, as statements.
-use Rattle.std.specs.Prelude.{◌≡◌, ◌==◌, ◌⊎◌, ◌↔◌, ℕ, Bool, not, eqb, if◌then◌else◌, IsTrue, List, [], ◌∷◌, ◌++◌, filter, Contains, codes}
+use Rattle.std.specs.Prelude.{◌≡◌, ◌==◌, ◌⊎◌, ◌↔◌, ◌≤◌, ℕ, Bool, not, eqb, if◌then◌else◌, IsTrue, List, [], ◌∷◌, ◌++◌, filter, Contains, codes}
 use Rattle.std.specs.List.{concat, list_any, starts_with}
 use Rattle.sia_events.specs.Limits.{Limits}
 use Rattle.sia_events.specs.declared.event.Event.{Event}
@@ -7,25 +7,38 @@ use Rattle.sia_events.specs.declared.fault.TextFault.{TextFault}
 use Rattle.sia_events.specs.Laws.{IsPlain, NamesStart, StartsPlainly}
 use Rattle.sia_events.specs.Refusals.{IsAccepted, IsAcceptedIn, IsRefusalIn}
 use Rattle.sia_events.specs.Text.{StandsFor}
-use Rattle.sia_events.specs.Transactions.{StartsAt}
+use Rattle.sia_events.specs.Isolation.{IsolationKept}
+use Rattle.sia_events.specs.Transactions.{HasEvent, StartsAt}
+use Rattle.si_audit.specs.SnapshotLines.{TellsNone}
+use Rattle.si_audit.specs.Snapshots.{Fits, FitsStart, IsSnapshot}
 use Rattle.si_audit.specs.Account.{Account, IsAccount}
 use Rattle.si_audit.specs.declared.options.Form.{Form}
 use Rattle.si_audit.specs.declared.options.Form.TheVariants.{Full, Brief, Explained}
 use Rattle.si_audit.specs.declared.options.Level.{Level}
-use Rattle.si_audit.specs.declared.options.Level.TheVariants.{Serializable, Ssi, Si}
+use Rattle.si_audit.specs.declared.options.Level.TheVariants.{Serializable, Ssi, Si, Gsi}
 use Rattle.si_audit.specs.declared.engine.Outcome.TheVariants.{Clean, Faulty, Refused}
 use Rattle.si_audit.specs.Outcomes.{IsOutcome, Meets}
 use Rattle.si_audit.specs.Report.{IsReport, TellsAccount, TellsRefusal}
 
--- a history that meets the level ssi meets the other two, and one that meets serializable meets si
+-- a history that meets the level ssi meets serializable and si, one that meets serializable meets si, and one that meets si meets gsi
 pub record LevelsLaw (h : List Event) : Type 0 where
   pub ssi : Meets Ssi h → Meets Serializable h × Meets Si h
   pub serializable : Meets Serializable h → Meets Si h
+  pub si : Meets Si h → Meets Gsi h
 
 -- the same of how a run over a text ends
 pub record CleanLaw (limits : Limits) (text : List ℕ) : Type 0 where
   pub ssi : IsOutcome limits Ssi text Clean → IsOutcome limits Serializable text Clean × IsOutcome limits Si text Clean
   pub serializable : IsOutcome limits Serializable text Clean → IsOutcome limits Si text Clean
+  pub si : IsOutcome limits Si text Clean → IsOutcome limits Gsi text Clean
+
+-- isolation is kept exactly if the recorded start of each transaction fits it; such a start is a snapshot, taken before the transaction
+-- reads or writes; the snapshots that fit a transaction are an interval; and where none does there is something to tell why
+pub record SnapshotsLaw (h : List Event) : Type 0 where
+  pub kept : IsolationKept h ↔ ((t : ℕ) → HasEvent h t → FitsStart h t)
+  pub start : (t s : ℕ) → StartsAt h t s → Fits h t s → IsSnapshot h t s
+  pub interval : (t from n to : ℕ) → IsSnapshot h t from → IsSnapshot h t to → from ≤ n → n ≤ to → IsSnapshot h t n
+  pub none : (t : ℕ) → HasEvent h t → ((n : ℕ) → ¬ IsSnapshot h t n) → (why : List ℕ) × TellsNone h t why
 
 -- a byte at the front of the first line
 abbrev pub onto_line : ℕ → List (List ℕ) → List (List ℕ)
@@ -49,11 +62,11 @@ begins words l = list_any (λ w. starts_with eqb l w) words
 abbrev pub without : List (List ℕ) → List ℕ → List ℕ
 without words bytes = concat (filter (λ l. not (begins words l)) (lines_of bytes))
 
--- the brief report of a text is the full one without its lines `edge` and `pivot`, and the explained one without the line
--- `dangerous` and the lines of reasons, which begin with two spaces
+-- the brief report of a text is the full one without its lines `edge` and `pivot`, and the explained one without the lines
+-- `dangerous` and `snapshot` and those of reasons, which begin with two spaces
 pub record FormsLaw (limits : Limits) (text : List ℕ) : Type 0 where
   pub full : (full brief : List ℕ) → IsReport limits Full text full → IsReport limits Brief text brief → brief ≡ without (codes "edge " ∷ codes "pivot " ∷ []) full
-  pub explained : (explained brief : List ℕ) → IsReport limits Explained text explained → IsReport limits Brief text brief → brief ≡ without (codes "dangerous " ∷ codes "  " ∷ []) explained
+  pub explained : (explained brief : List ℕ) → IsReport limits Explained text explained → IsReport limits Brief text brief → brief ≡ without (codes "dangerous " ∷ codes "snapshot " ∷ codes "  " ∷ []) explained
 
 -- the bytes have this line
 abbrev pub HasLine : List ℕ → List ℕ → Type 0

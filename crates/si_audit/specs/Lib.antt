@@ -4,6 +4,9 @@ pub mod Account
 pub mod Lines
 pub mod Reasons
 pub mod Counts
+pub mod Snapshots
+pub mod SnapshotLines
+pub mod Bounds
 pub mod Explained
 pub mod RefusedPlaces
 pub mod Report

@@ -1,5 +1,5 @@
 //! What the audit of a history found, and its report.
-ghost use Rattle.std.specs.Prelude.{◌≡◌, ◌++◌, flat_map, IfOk, OnOk};
+ghost use Rattle.std.specs.Prelude.{◌≡◌, IfOk};
 ghost use Rattle.si_audit.specs.Account.{account_of};
 ghost use Rattle.si_audit.specs.Lines as lines;
 ghost use Rattle.si_audit.specs.Report.{CanBePrinted};
@@ -9,8 +9,8 @@ use crate::report::{Words, kind_word, number, push_all, push_back, push_head, pu
 use sia_events::NoMemory;
 use sia_graph::{Pivot, Verdict};
 use sia_index::Counts;
-use sia_parts::{Edge, Findings};
-use std::alloc::{AllocError, Global};
+use sia_parts::Findings;
+use std::alloc::Global;
 
 /// All that the audit of a history found.
 #[derive(Drop)]
@@ -31,21 +31,6 @@ pub struct Audit {
     pub verdict: Verdict,
 }
 
-fn push_edges(out: &mut Vec<u8>, edges: &[Edge]) -> Result<(), AllocError>
-    ensures { OnOk result (out.new.items ≡ out.old.items ++ flat_map lines.edge_line edges.now) }
-{
-    for e in edges {
-        let words = [
-            number(e.src),
-            Words::Text(kind_word(e.kind)),
-            number(e.dst),
-            Words::Number(e.key),
-        ];
-        push_line(out, b"edge", &words)?;
-    }
-    Ok(())
-}
-
 /// The lines of the full report.
 pub fn report(alloc: Global, a: &Audit) -> Result<Vec<u8>, NoMemory>
     requires { CanBePrinted (account_of a.now) }
@@ -63,7 +48,15 @@ pub fn report(alloc: Global, a: &Audit) -> Result<Vec<u8>, NoMemory>
     push_all(&mut out, None, &found.bad_reads)?;
     push_all(&mut out, None, &found.bad_writes)?;
     push_all(&mut out, None, &found.unexplained)?;
-    push_edges(&mut out, &found.edges)?;
+    for e in &found.edges {
+        let words = [
+            number(e.src),
+            Words::Text(kind_word(e.kind)),
+            number(e.dst),
+            Words::Number(e.key),
+        ];
+        push_line(&mut out, b"edge", &words)?;
+    }
     push_back(&mut out, &a.pivots, a.pass, a.serializable, &a.verdict)?;
     Ok(out)
 }

@@ -1,11 +1,8 @@
 //! The jobs of an audit, and who works them off: the calling thread alone, or threads.
 ghost use Rattle.std.specs.Prelude.{◌≡◌, ◌<◌, ⊤, length, IfOk, IfSome, ◌+◌, slice_index, ℕ, ◌≤◌, max, min};
-ghost use Rattle.std.specs.List.{slice_get};
 ghost use Rattle.sia_parts.specs.Dealing.{AreReads};
-ghost use Rattle.sia_parts.specs.Gathering.{IsPartFound};
-ghost use Rattle.sia_parts.specs.Parts.{IsInPart};
 ghost use Rattle.sia_graph.specs.AllEdges.{AreAllEdges};
-ghost use Rattle.si_audit.specs.Sheets.{IsSheet};
+ghost use Rattle.si_audit.specs.Sheets.{IsFoundAt, IsSheetAt};
 ghost use Rattle.sia_pool.specs.Answers.{AnswersEach};
 ghost use denote.Param.Send.{IsSync};
 
@@ -34,16 +31,13 @@ impl Job for Auditing<'_> {
     ghost takes = { λ job number. (job.index.now ≡ job.log.now)
         × AreReads job.log.now job.parts.now job.reads.now × (number < length job.parts.now) };
 
-    ghost owes = { λ job number found. IfSome (slice_get job.parts.now number)
-        (λ part. IsPartFound job.log.now (IsInPart part) found) };
+    ghost owes = { λ job. IsFoundAt job.log.now job.parts.now };
 
     fn run(&self, number: u32) -> Result<PartFound, NoMemory> {
         let number = number as usize;
         let places = self.reads.of_part(number);
-        match find_in_part(self.alloc, self.log, self.index, self.parts[number], places) {
-            Ok(found) => Ok(found),
-            Err(_) => Err(NoMemory),
-        }
+        let part = self.parts[number];
+        find_in_part(self.alloc, self.log, self.index, part, places).map_err(|_| NoMemory)
     }
 }
 
@@ -61,14 +55,10 @@ impl Job for Printing<'_> {
     ghost takes = { λ job number. AreAllEdges job.edges.now job.bounds.now
         × (number + 1 < length job.bounds.now) };
 
-    ghost owes = { λ job number sheet. IsSheet job.edges.now.index.now (slice_index job.bounds.now number)
-        (slice_index job.bounds.now (number + 1)) sheet.lines.items sheet.links.items };
+    ghost owes = { λ job. IsSheetAt job.edges.now.index.now job.bounds.now };
 
     fn run(&self, number: u32) -> Result<Sheet, NoMemory> {
-        match sheet_of(self.alloc, self.edges, self.bounds, number as usize) {
-            Ok(sheet) => Ok(sheet),
-            Err(_) => Err(NoMemory),
-        }
+        sheet_of(self.alloc, self.edges, self.bounds, number as usize).map_err(|_| NoMemory)
     }
 }
 
@@ -86,8 +76,7 @@ pub(crate) trait Crew {
         requires parts { count ≤ length job.now.parts.now }
         ensures len { IfOk result (λ found. length found.items ≡ count) }
         ensures owed { IfOk result (λ found. AnswersEach
-            (λ number one. IfSome (slice_get job.now.parts.now number)
-            (λ part. IsPartFound job.now.log.now (IsInPart part) one)) count found.items) };
+            (IsFoundAt job.now.log.now job.now.parts.now) count found.items) };
 
     /// What is made of each of the first chunks of edges.
     fn print(&self, alloc: Global, count: u32, job: &Printing) -> Result<Vec<Sheet>, NoMemory>
@@ -97,9 +86,7 @@ pub(crate) trait Crew {
         requires chunks { (p : ℕ) → p < count → p + 1 < length job.now.bounds.now }
         ensures len { IfOk result (λ sheets. length sheets.items ≡ count) }
         ensures owed { IfOk result (λ sheets. AnswersEach
-            (λ number sheet. IsSheet job.now.edges.now.index.now (slice_index job.now.bounds.now number)
-            (slice_index job.now.bounds.now (number + 1))
-            sheet.lines.items sheet.links.items) count sheets.items) };
+            (IsSheetAt job.now.edges.now.index.now job.now.bounds.now) count sheets.items) };
 }
 
 /// The calling thread, which waits for nobody.
@@ -130,11 +117,13 @@ impl<R: Threads + Wait + Sync> Crew for InThreads<'_, R> {
     ghost ready = { λ _. IsSync R.row };
 
     fn find(&self, alloc: Global, count: u32, job: &Auditing) -> Result<Vec<PartFound>, NoMemory> {
-        in_threads(self.rt, alloc, count, self.workers, job)
+        let workers = crew_of(self.workers, count);
+        Ok(work_off(self.rt, alloc, count, workers, job, &OpenGate)?.outs)
     }
 
     fn print(&self, alloc: Global, count: u32, job: &Printing) -> Result<Vec<Sheet>, NoMemory> {
-        in_threads(self.rt, alloc, count, self.workers, job)
+        let workers = crew_of(self.workers, count);
+        Ok(work_off(self.rt, alloc, count, workers, job, &OpenGate)?.outs)
     }
 }
 
@@ -150,24 +139,6 @@ where
         outs.push(job.run(part)?)?;
     }
     Ok(outs)
-}
-
-fn in_threads<R: Threads + Wait + Sync, J: Job + Sync>(
-    rt: &R,
-    alloc: Global,
-    count: u32,
-    workers: u8,
-    job: &J,
-) -> Result<Vec<J::Out>, NoMemory>
-where
-    J::Out: Send + Drop,
-    requires workers { (0 < workers) × (workers ≤ 64) }
-    requires few { count ≤ 1024 }
-    requires takes { (p : ℕ) → p < count → J.takes job.now p }
-    ensures len { IfOk result (λ outs. length outs.items ≡ count) }
-    ensures owed { IfOk result (λ outs. AnswersEach (J.owes job.now) count outs.items) }
-{
-    Ok(work_off(rt, alloc, count, crew_of(workers, count), job, &OpenGate)?.outs)
 }
 
 /// As many workers as are asked for, and no more than there are parts.

@@ -19,8 +19,10 @@ use crate::explain::push_place;
 use crate::options::{Form, Level, Options};
 use crate::report::push_refusal;
 use crate::sheets::{one_sheet, sheets_of};
+use crate::snapshots::is_generalized;
 use sia_events::{Locator, Log, NoMemory, TextFault, TextReader};
 use sia_graph::Judgement;
+use sia_index::Index;
 use sia_index::make::index_log;
 use std::alloc::Global;
 use std::marker::Model;
@@ -173,21 +175,31 @@ fn next_byte(sheets: &[Vec<u8>], mut sheet: usize, mut at: usize) -> (usize, usi
     (sheet, at)
 }
 
-fn meets(j: &Judgement, level: Level) -> bool
-    ensures { (h : List Event) → IsJudgement h j.now → IsTrue result ↔ Meets level h }
+/// Whether the history of which this is the judgement meets the level.
+fn meets(
+    alloc: Global,
+    log: &Log,
+    ix: &Index,
+    j: &Judgement,
+    level: Level,
+) -> Result<bool, NoMemory>
+    requires index { ix.now ≡ log.now }
+    requires judgement { IsJudgement log.now j.now }
+    ensures { IfOk result (λ meets. IsTrue meets ↔ Meets level log.now) }
 {
     match level {
-        Level::Serializable => j.is_kept() && j.serializable,
-        Level::Ssi => j.pass,
-        Level::Si => j.is_kept(),
+        Level::Serializable => Ok(j.is_kept() && j.serializable),
+        Level::Ssi => Ok(j.pass),
+        Level::Si => Ok(j.is_kept()),
+        Level::Gsi => is_generalized(alloc, log, ix, j),
     }
 }
 
-/// How the run of the history ends of which this is the judgement.
-fn outcome_of(j: &Judgement, level: Level) -> Outcome
-    ensures { (h : List Event) → IsJudgement h j.now → IsOutcomeOf level h result }
+/// How the run of a history ends that meets the level, or doesn't.
+fn outcome_where(meets: bool) -> Outcome
+    ensures { (level : Level) (h : List Event) → IsTrue meets ↔ Meets level h → IsOutcomeOf level h result }
 {
-    if meets(j, level) {
+    if meets {
         Outcome::Clean
     } else {
         Outcome::Faulty
@@ -206,7 +218,7 @@ fn report_of_log<C: Crew>(
 {
     let ix = index_log(alloc, &log)?;
     let (judgement, accesses) = judged(crew, alloc, &log, &ix, o)?;
-    let outcome = outcome_of(&judgement, o.level());
+    let outcome = outcome_where(meets(alloc, &log, &ix, &judgement, o.level())?);
     Ok(Report {
         outcome,
         sheets: sheets_of(crew, alloc, log, &ix, &judgement, &accesses, o)?,

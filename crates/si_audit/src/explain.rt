@@ -26,6 +26,8 @@ use crate::options::Form;
 use crate::report::{
     Finding, Words, number, push_front, push_line, push_verdict, push_whether, push_words,
 };
+use crate::snapshot_lines::push_snapshots;
+use crate::snapshots::bounds_of;
 use sia_events::{Anomaly, Locator, Log, NoMemory, TextFault, push_number, push_shown};
 use sia_graph::{Judgement, Step, Verdict, danger_of, is_allowed, listing_law};
 use sia_index::Index;
@@ -122,12 +124,12 @@ fn push_verdict_reasons(
 pub(crate) fn explained(
     alloc: Global,
     history: &Log,
-    index: &Index,
+    ix: &Index,
     j: &Judgement,
     accesses: &Accesses,
 ) -> Result<Vec<u8>, NoMemory>
-    requires index { index.now ≡ history.now }
-    requires accesses { AreAccesses index.now (λ _. ⊤) accesses.now }
+    requires index { ix.now ≡ history.now }
+    requires accesses { AreAccesses ix.now (λ _. ⊤) accesses.now }
     requires judgement { IsJudgement history.now j.now }
     ensures { IfOk result (λ sheet. IsReportOf Form.Explained history.now sheet.items) }
 {
@@ -137,11 +139,12 @@ pub(crate) fn explained(
     let acts = acts_of(alloc, history, later)?;
     let of = Recorded {
         history,
-        index,
+        index: ix,
         acts: &acts,
     };
     let mut out = Vec::new(alloc);
     push_front(&mut out, Some(&of), j)?;
+    push_snapshots(&mut out, history, ix, &bounds_of(alloc, history, ix, j)?)?;
     push_whether(&mut out, b"ssi", j.pass, b"pass", b"fail")?;
     push_danger(alloc, &mut out, &of, j, accesses)?;
     push_whether(&mut out, b"serializable", j.serializable, b"yes", b"no")?;

@@ -3,7 +3,7 @@ ghost use Rattle.std.specs.Prelude.{List, ℕ};
 ghost use Rattle.sia_events.specs.Limits.{Limits, greatest, AreWithin};
 ghost use Rattle.sia_events.specs.declared.event.Event.{Event};
 ghost use Rattle.sia_events.specs.Refusals.{IsWellFormed};
-ghost use Rattle.si_audit.specs.Laws.{CleanLaw, FormsLaw, HasOneReport, LevelsLaw, LinesLaw, PlainTextLaw};
+ghost use Rattle.si_audit.specs.Laws.{CleanLaw, FormsLaw, HasOneReport, LevelsLaw, LinesLaw, PlainTextLaw, SnapshotsLaw};
 ghost use Rattle.si_audit.specs.Report.{HasSameReport, OneReport};
 ghost use Rattle.si_audit.specs.declared.options.Form.{Form};
 
@@ -18,10 +18,15 @@ pub fn same_report()
     ensures { (form : Form) (text : List ℕ) → HasSameReport form text }
 {}
 
-/// What meets the level `ssi` meets `serializable` and `si`, and what meets `serializable` meets `si`.
+/// What meets the level `ssi` meets `serializable`, what meets `serializable` meets `si`, and what meets `si` meets `gsi`.
 pub fn levels_law()
     ensures history { (h : List Event) → IsWellFormed h → LevelsLaw h }
     ensures text { (limits : Limits) → AreWithin limits greatest → (text : List ℕ) → CleanLaw limits text }
+{}
+
+/// Which snapshots fit a transaction, and what that has to do with isolation.
+pub fn snapshots_law()
+    ensures { (h : List Event) → IsWellFormed h → SnapshotsLaw h }
 {}
 
 /// The brief report is what is left of the full one, and of the explained one, without some of their lines.

@@ -13,6 +13,8 @@ mod options;
 mod report;
 mod run;
 mod sheets;
+mod snapshot_lines;
+mod snapshots;
 #[cfg(test)]
 mod tests;
 mod words;
@@ -38,7 +40,7 @@ const NOT_DONE: u8 = 4;
 
 /// What is told where the words name a level that is none, in the words of the other faults.
 const NO_LEVEL: &str = "error: invalid value for '--check <LEVEL>'
-  [possible values: serializable, ssi, si]
+  [possible values: serializable, ssi, si, gsi]
 
 For more information, try '--help'.
 ";
@@ -93,10 +95,7 @@ fn words_given<R: Env + Alloc<A = Global>>(rt: &R) -> std::io::Result<Vec<String
 /// The options that the program's words give, or the status where they give none, which is told.
 fn options_given<R: Env + Alloc<A = Global> + Print + Eprint>(rt: &R) -> Result<Options, u8> {
     match words_given(rt) {
-        Ok(words) => match options_from(rt.alloc(), words.as_slice()) {
-            Ok(options) => Ok(options),
-            Err(fault) => Err(tell(rt, fault)),
-        },
+        Ok(words) => options_from(rt.alloc(), words.as_slice()).map_err(|fault| tell(rt, fault)),
         Err(error) if error.kind() == ErrorKind::InvalidData => {
             Err(say(rt, "an argument is not UTF-8", LINE_REFUSED))
         }

@@ -1,5 +1,4 @@
-//! The options: how many workers audit which parts of the keys, which lines the report has, what the history is held
-//! against, and how long its text may be.
+//! The options: who audits which keys, which lines the report has, what the history is held against, and how long its text may be.
 ghost use Rattle.std.specs.Prelude.{◌≡◌, ◌↔◌, ◌⊎◌, ℕ, ◌<◌, ◌≤◌, List, length, IfOk, OnOk, Err};
 ghost use Rattle.sia_events.specs.Limits.{standard};
 ghost use Rattle.sia_parts.specs.Parts.{IsCutting, HasTooManyCuts};
@@ -10,7 +9,7 @@ use sia_parts::{CutFault, Part, cut};
 use std::alloc::Global;
 use std::marker::Model;
 
-/// What a history must have kept for the status 0. What passes `Ssi` passes `Serializable`, and what passes that passes `Si`.
+/// What a history must have kept for the status 0. What passes `Ssi` passes `Serializable`, that `Si`, and that `Gsi`.
 #[derive(Clone, Copy, PartialEq, Eq)]
 pub enum Level {
     /// Snapshot isolation, and some serial order replays the history.
@@ -20,6 +19,8 @@ pub enum Level {
     Ssi,
     /// Snapshot isolation.
     Si,
+    /// Generalized snapshot isolation (Elnikety, Zwaenepoel and Pedone 2005): each transaction has a snapshot that fits it.
+    Gsi,
 }
 
 /// Which lines a report has.

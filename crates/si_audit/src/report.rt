@@ -1,16 +1,13 @@
-//! The lines of a report, by kind of line, and the words of a line. Of lines of edges there can be millions, so they are put together
-//! in blocks.
+//! The lines of a report, and the words of a line. Lines of edges, of which there can be millions, are put together in blocks.
 ghost use Rattle.std.specs.Prelude.{◌≡◌, [], ◌∷◌, ◌++◌, flat_map, map, OnOk, if◌then◌else◌, ◌&&◌, ℕ, List, All, IfSome, ◌+◌, ◌≤◌, length, drop, slice_index, IfOk, ◌<◌};
 ghost use Rattle.sia_events.specs.Text.{numeral};
 ghost use Rattle.si_audit.specs.Spaced.{spaced, words_of};
 ghost use Rattle.sia_parts.specs.Acts.{HasActs};
 ghost use Rattle.sia_parts.specs.declared.reasons.Recorded.{Recorded};
 ghost use Rattle.sia_graph.specs.Judgements.{IsJudgement};
-ghost use Rattle.si_audit.specs.Counts.{TellsCounts};
-ghost use Rattle.si_audit.specs.Explained.{TellsAll, WithReasons, TellsIf};
-ghost use Rattle.si_audit.specs.Reasons.{TellsBadRead, TellsBadWrite, TellsUnexplained};
+ghost use Rattle.si_audit.specs.Explained.{TellsAll, WithReasons, TellsIf, PutsFront};
 ghost use Rattle.sia_events.specs.declared.event.Event.{Event};
-ghost use Rattle.si_audit.specs.Sheets.{row_lines, IsSheet};
+ghost use Rattle.si_audit.specs.Sheets.{row_lines, IsSheetAt};
 ghost use Rattle.sia_graph.specs.AllEdges.{AreAllEdges};
 ghost use Rattle.si_audit.specs.Lines as lines;
 ghost use Rattle.si_audit.specs.declared.report.Words.TheVariants as some;
@@ -18,7 +15,7 @@ ghost use Rattle.si_audit.specs.declared.report.Words.TheVariants as some;
 use crate::explain::push_counts;
 use itoa::write_digits;
 use sia_events::{Key, NoMemory, Reason, TextFault, TxnId, push_number};
-use sia_graph::{Judgement, Link, Pivot, Step, Verdict, put_vulnerable};
+use sia_graph::{Judgement, Link, Pivot, Verdict, put_vulnerable};
 use sia_index::Counts;
 use sia_parts::{BadRead, BadWrite, Edge, EdgeTo, Edges, Kind, Recorded};
 use std::alloc::{AllocError, Global};
@@ -77,10 +74,8 @@ fn push_some(out: &mut Vec<u8>, some: &Words) -> Result<(), AllocError>
             push_number(out, b":", *key, b">")
         }
         Words::Numbers(numbers) => push_numbers(out, numbers),
+        Words::Firsts([]) => Ok(()),
         Words::Firsts(firsts) => {
-            if firsts.is_empty() {
-                return Ok(());
-            }
             out.extend_from_slice(b" first")?;
             push_numbers(out, firsts)
         }
@@ -149,31 +144,23 @@ pub(crate) fn push_whether(
     push_line(out, first, &[Words::Text(if holds { yes } else { no })])
 }
 
-/// The order, or the cycle.
+/// The order; or the transactions of a cycle, each with the edge from it to the next, and the first one, where it comes again.
 pub(crate) fn push_verdict(out: &mut Vec<u8>, verdict: &Verdict) -> Result<(), AllocError>
     ensures { OnOk result (out.new.items ≡ out.old.items ++ lines.verdict_line verdict.now) }
 {
     match verdict {
         Verdict::Order(order) => push_line(out, b"order", &[Words::Numbers(order.as_slice())]),
         Verdict::Cycle(steps) => {
+            let steps = steps.as_slice();
             out.extend_from_slice(b"cycle")?;
-            push_steps(out, steps.as_slice())?;
+            for s in steps {
+                push_words(out, &[number(s.txn), Words::Edge(s.kind, s.key)])?;
+            }
+            if let Some(first) = steps.first() {
+                push_words(out, &[number(first.txn)])?;
+            }
             out.extend_from_slice(b"\n")
         }
-    }
-}
-
-/// The transactions of a cycle, each with the edge from it to the next, and the first one, where it comes again.
-fn push_steps(out: &mut Vec<u8>, steps: &[Step]) -> Result<(), AllocError>
-    ensures { OnOk result (out.new.items ≡ out.old.items ++ flat_map
-        (λ s. spaced (lines.step_words s)) steps.now ++ spaced (lines.home_word steps.now)) }
-{
-    for s in steps {
-        push_words(out, &[number(s.txn), Words::Edge(s.kind, s.key)])?;
-    }
-    match steps.first() {
-        None => Ok(()),
-        Some(first) => push_words(out, &[number(first.txn)]),
     }
 }
 
@@ -249,20 +236,7 @@ pub(crate) fn push_front(
     requires judgement { IfSome of (λ of. IsJudgement of.now.history.now j.now) }
     requires acts { IfSome of (λ of. All (λ b. HasActs of.now.history.now b.second of.now.acts.now)
         j.now.bad_writes.items) }
-    ensures { OnOk result ((counts : List ℕ) × (reads : List ℕ) × (writes : List ℕ) × (others : List ℕ)
-        × TellsIf of.entry (λ h. TellsCounts h j.now.bad_reads.items) j.now.bad_writes.items counts
-        × TellsAll (WithReasons lines.bad_read_line
-        (TellsIf of.entry TellsBadRead)) j.now.bad_reads.items reads
-        × TellsAll (WithReasons lines.bad_write_line
-        (TellsIf of.entry TellsBadWrite)) j.now.bad_writes.items writes
-        × TellsAll (WithReasons lines.unexplained_line
-        (TellsIf of.entry TellsUnexplained)) j.now.unexplained.items others
-        × (out.new.items ≡ out.old.items
-        ++ lines.events_line j.now.counts.events j.now.counts.committed j.now.counts.aborted
-        j.now.counts.unfinished
-        ++ lines.isolation_line (lines.is_empty j.now.bad_reads.items
-        && lines.is_empty j.now.bad_writes.items)
-        ++ counts ++ reads ++ writes ++ others)) }
+    ensures { OnOk result (PutsFront of.entry j.now out.old.items out.new.items) }
 {
     push_head(out, &j.counts, &j.bad_reads, &j.bad_writes)?;
     if let Some(of) = of {
@@ -282,10 +256,8 @@ pub(crate) fn push_back(
     verdict: &Verdict,
 ) -> Result<(), AllocError>
     ensures { OnOk result (out.new.items ≡ out.old.items
-        ++ flat_map lines.pivot_line pivots.now
-        ++ lines.ssi_line pass
-        ++ lines.serializable_line serializable
-        ++ lines.verdict_line verdict.now) }
+        ++ flat_map lines.pivot_line pivots.now ++ lines.ssi_line pass
+        ++ lines.serializable_line serializable ++ lines.verdict_line verdict.now) }
 {
     for p in pivots {
         let words = [
@@ -358,28 +330,6 @@ fn put_line(block: &mut [u8; ROOM], e: &Edge, end: usize) -> usize
     put(block, b"edge ", end)
 }
 
-/// Puts the lines of some edges from a source at the end of the block. Answers where they start.
-#[inline]
-fn put_lines(
-    block: &mut [u8; ROOM],
-    txns: &[TxnId],
-    keys: &[Key],
-    source: u32,
-    rows: &[EdgeTo],
-) -> usize
-    requires { length rows.now ≤ 64 }
-    ensures room { result ≤ 4608 }
-    ensures bytes { drop result block.new ≡ row_lines txns.now keys.now source rows.now }
-{
-    let mut end = ROOM;
-    let mut left = rows.len();
-    while left > 0 {
-        left -= 1;
-        end = put_line(block, &rows[left].named(txns, keys, source), end);
-    }
-    end
-}
-
 /// Adds the lines of the edges from a source, by a block.
 fn push_lines(
     out: &mut Vec<u8>,
@@ -391,12 +341,12 @@ fn push_lines(
 ) -> Result<(), AllocError>
     ensures { OnOk result (out.new.items ≡ out.old.items ++ row_lines txns.now keys.now source rows.now) }
 {
-    let mut rest = rows;
-    while !rest.is_empty() {
-        let count = rest.len().min(LINES);
-        let start = put_lines(block, txns, keys, source, &rest[..count]);
-        out.extend_from_slice(&block[start..])?;
-        rest = &rest[count..];
+    for some in rows.chunks(LINES) {
+        let mut end = ROOM;
+        for i in (0..some.len()).rev() {
+            end = put_line(block, &some[i].named(txns, keys, source), end);
+        }
+        out.extend_from_slice(&block[end..])?;
     }
     Ok(())
 }
@@ -418,8 +368,7 @@ pub(crate) fn sheet_of(
 ) -> Result<Sheet, NoMemory>
     requires all { AreAllEdges edges.now bounds.now }
     requires chunk { number + 1 < length bounds.now }
-    ensures { IfOk result (λ sheet. IsSheet edges.now.index.now (slice_index bounds.now number)
-        (slice_index bounds.now (number + 1)) sheet.lines.items sheet.links.items) }
+    ensures { IfOk result (IsSheetAt edges.now.index.now bounds.now number) }
 {
     let index = edges.index;
     let txns = index.committed();

@@ -11,33 +11,23 @@ use crate::engine::{Auditor, Outcome, Report};
 use crate::options::Options;
 use sia_events::NoMemory;
 use std::alloc::Global;
-use std::error::Error;
-use std::fmt;
 use std::sync::Wait;
 use std::thread::Threads;
+use thiserror::Error;
 
 /// How many bytes a piece of the text or of the report mostly has.
 const PIECE: usize = 65_536;
 
 /// Why a run ended before its report was written.
-#[derive(Clone, Copy, Debug, PartialEq, Eq)]
+#[derive(Clone, Copy, Debug, PartialEq, Eq, Error)]
 pub enum RunFault {
+    #[error("read failed")]
     Read,
+    #[error("write failed")]
     Write,
+    #[error("no memory")]
     NoMemory,
 }
-
-impl fmt::Display for RunFault {
-    fn fmt<W: fmt::Write>(&self, f: &mut fmt::Formatter<W>) -> fmt::Result {
-        f.write_str(match self {
-            RunFault::Read => "read failed",
-            RunFault::Write => "write failed",
-            RunFault::NoMemory => "no memory",
-        })
-    }
-}
-
-impl Error for RunFault {}
 
 impl From<NoMemory> for RunFault {
     ghost from_gives = { λ _ e. e ≡ no_memory };

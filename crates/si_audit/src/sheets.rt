@@ -44,8 +44,7 @@ fn report_of(
 pub(crate) fn one_sheet(alloc: Global, sheet: Vec<u8>) -> Result<Vec<Vec<u8>>, NoMemory>
     ensures { IfOk result (λ sheets. text_of sheets.items ≡ sheet.items) }
 {
-    let sheets = vec![in alloc; sheet]?;
-    Ok(sheets)
+    Ok(vec![in alloc; sheet]?)
 }
 
 /// The lines, and all links together.

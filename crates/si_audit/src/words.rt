@@ -35,7 +35,7 @@ const EVENTS_HELP: &str = "How many events a text may have, up to 500000000";
 
 const BYTES_HELP: &str = "How many bytes a text may have, up to 17179869184 (16 GiB)";
 
-const CHECK_HELP: &str = "What status 0 says was kept: serializable, ssi or si";
+const CHECK_HELP: &str = "What status 0 says was kept: serializable, ssi, si or gsi";
 
 const MORE_HELP: &str =
     "The keys are cut into parts, which the workers audit side by side. Without a
@@ -47,6 +47,7 @@ Levels:
   serializable  isolation was kept, and some serial order replays the history
   ssi           the test of serializable snapshot isolation is passed, too
   si            isolation was kept
+  gsi           some snapshot fits each transaction, be it older than its start
 
 A text that has more than the most events or bytes is refused. Greater limits
 change no report of a text that smaller ones accept.
@@ -205,36 +206,21 @@ fn options_of(alloc: Global, matches: &ArgMatches<'_>) -> Result<Options, LineFa
     let Some(level) = level_in(matches) else {
         return Err(LineFault::UnknownLevel);
     };
-    let workers = workers_in(matches);
+    let workers = number_of(matches, "workers") as u8;
+    let events = number_of(matches, "max-events");
+    let bytes = number_of(matches, "max-bytes");
     let cuts = cuts_in(alloc, matches)?;
     match Options::new(alloc, workers, cuts.as_slice()) {
         Ok(options) => Ok(
             options
                 .with_form(form_in(matches))
                 .with_level(level)
-                .with_limits(limits_in(matches)),
+                .with_limits(Limits::new(events, bytes).unwrap()),
         ),
         Err(OptionsFault::TooManyCuts) => Err(LineFault::TooManyCuts),
         Err(OptionsFault::NoMemory) => Err(LineFault::NoMemory),
         Err(OptionsFault::Workers) => unreachable!(),
     }
-}
-
-fn workers_in(matches: &ArgMatches<'_>) -> u8
-    requires { HasNumbers (rows_of (found_of matches.now)) }
-    ensures number { result ≡ workers_among (rows_of (found_of matches.now)) }
-    ensures bounds { (0 < result) × (result ≤ 64) }
-{
-    number_of(matches, "workers") as u8
-}
-
-fn limits_in(matches: &ArgMatches<'_>) -> Limits
-    requires { HasNumbers (rows_of (found_of matches.now)) }
-    ensures { result ≡ limits_among (rows_of (found_of matches.now)) }
-{
-    let events = number_of(matches, "max-events");
-    let bytes = number_of(matches, "max-bytes");
-    Limits::new(events, bytes).unwrap()
 }
 
 fn form_in(matches: &ArgMatches<'_>) -> Form
@@ -256,6 +242,7 @@ fn level_in(matches: &ArgMatches<'_>) -> Option<Level>
         "serializable" => Some(Level::Serializable),
         "ssi" => Some(Level::Ssi),
         "si" => Some(Level::Si),
+        "gsi" => Some(Level::Gsi),
         _ => None,
     }
 }

@@ -1,6 +1,5 @@
 -- The account of a well-formed history has an explained report.
 use Rattle.std.proofs.Common.{◌≡◌, ◌≢◌, ◌⊎◌, inl, inr, ◌+◌, ◌<◌, ℕ, length, Some, List, [], ◌∷◌, ◌++◌, codes, refl, sym, subst, arith}
-use Rattle.std.specs.Prelude.{Contains}
 use Rattle.std.proofs.lemmas.Bool.{cases_eq, cases_lt}
 use Rattle.std.proofs.lemmas.Option.{slice_get_within}
 use Rattle.sia_events.specs.declared.event.Event.{Event}
@@ -28,7 +27,6 @@ use Rattle.sia_parts.specs.Entries.{EdgeOfKind, IsEdge}
 use Rattle.sia_parts.specs.LostUpdates.{IsLostUpdate, LosesAt}
 use Rattle.sia_parts.specs.Sightings.{Gives, reader_of}
 use Rattle.sia_parts.specs.Telling.{TellsUnless, TellsVersion, event_words, start_words}
-use Rattle.sia_parts.proofs.Auditing.Members.{contains_first, contains_later}
 use Rattle.sia_graph.specs.declared.ssi.Dangerous.{Dangerous}
 use Rattle.sia_graph.specs.declared.cycle.Step.{Step}
 use Rattle.sia_graph.specs.declared.judgement.Verdict.{Verdict}
@@ -50,16 +48,8 @@ use Rattle.si_audit.specs.Reasons.{TellsBadRead, TellsBadWrite, TellsClass, Tell
 use Rattle.si_audit.proofs.OfLaws.CountsTold.{counts_told}
 use Rattle.si_audit.proofs.OfLaws.FindingsExist.{seen_small, top, top_is}
 use Rattle.si_audit.proofs.OfLaws.VerdictExists.{some_committed}
-
-abbrev pub Told : (List ℕ → Type 0) → Type 0
-Told Tells = (bytes : List ℕ) × Tells bytes
-
-all_told : {A : Type 0} (Tells : A → List ℕ → Type 0) (xs : List A) → ((x : A) → Contains xs x → Told (Tells x)) → Told (TellsAll Tells xs)
-all_told Tells [] each = ([], refl)
-all_told Tells (x ∷ xs) each =
-    let one = each x (contains_first x xs) in
-    let rest = all_told Tells xs (λ y c. each y (contains_later x y xs c)) in
-    (one.0 ++ rest.0, (one.0, rest.0, one.1, rest.1, refl))
+use Rattle.si_audit.proofs.Shared.SnapshotsExist.{snapshots_exist}
+use Rattle.si_audit.proofs.Shared.Told.{Told, all_told}
 
 line_told : {A : Type 0} (line_of : A → List ℕ) (Tells : A → List ℕ → Type 0) (x : A) → Told (Tells x) → Told (WithReasons line_of Tells x)
 line_told line_of Tells x told = (line_of x ++ told.0, (told.0, told.1, refl))
@@ -277,7 +267,8 @@ module _ (h : List Event) (wf : IsWellFormed h) where
       let reads = all_told (WithReasons bad_read_line (TellsBadRead h)) a.bad_reads (λ b c. line_told bad_read_line (TellsBadRead h) b (bad_read_told b ((is.bad_reads.each b).0 c).0)) in
       let writes = all_told (WithReasons bad_write_line (TellsBadWrite h)) a.bad_writes (λ b c. line_told bad_write_line (TellsBadWrite h) b (bad_write_told b ((is.bad_writes.each b).0 c).0)) in
       let odd = all_told (WithReasons unexplained_line (TellsUnexplained h)) a.unexplained (λ b c. line_told unexplained_line (TellsUnexplained h) b (unexplained_told b ((is.unexplained.each b).0 c).0)) in
+      let snapshots = snapshots_exist h wf in
       let danger = danger_told kept in
       let verdict = line_told verdict_line (TellsVerdict h) a.verdict (verdict_told a.verdict is.verdict) in
       let counts = counts_told h wf a.bad_reads a.bad_writes (λ b c. ((is.bad_reads.each b).0 c).0) (λ b. lost_or_not b.key b.first b.second) in
-      (_, (counts.0, reads.0, writes.0, odd.0, danger.0, verdict.0, counts.1, reads.1, writes.1, odd.1, danger.1, verdict.1, refl))
+      (_, (counts.0, reads.0, writes.0, odd.0, snapshots.0, danger.0, verdict.0, counts.1, reads.1, writes.1, odd.1, snapshots.1, danger.1, verdict.1, refl))

@@ -17,9 +17,11 @@ use Rattle.si_audit.specs.Explained.{IsExplained, TellsAll, TellsDanger, TellsVe
 use Rattle.si_audit.specs.Lines.{bad_read_line, bad_write_line, edge_word, events_line, is_empty, isolation_line, report_text, serializable_line, ssi_line, unexplained_line, verdict_line}
 use Rattle.si_audit.specs.Reasons.{TellsBadRead, TellsBadWrite, TellsStep, TellsUnexplained}
 use Rattle.si_audit.specs.RefusedPlaces.{TellsToken, place_line}
+use Rattle.si_audit.specs.SnapshotLines.{TellsSnapshot}
 use Rattle.si_audit.proofs.OfLaws.CountsTold.{counts_go}
 use Rattle.si_audit.proofs.OfLaws.ReasonLines.{bad_read_goes, bad_write_goes, class_goes, step_goes, unexplained_goes}
 use Rattle.si_audit.proofs.OfLaws.ReportLines.{IsUnbroken, bad_read_is, bad_write_is, edge_unbroken, events_is, glued, isolation_is, numeral_unbroken, serializable_is, ssi_is, stays, unexplained_is, verdict_is, words_line}
+use Rattle.si_audit.proofs.OfLaws.SnapshotsLeft.{snapshot_goes}
 use Rattle.si_audit.proofs.OfLaws.TextLines.{IsLine, Leaves, leaves_both, leaves_line, leaves_nothing, unbroken_both}
 
 -- what is told of all, where it is known what is left of what is told of each
@@ -41,7 +43,7 @@ module _ (keep : List ℕ → Bool) where
       subst (λ (b : List ℕ). Leaves keep b (cond stay (line_of x) [])) (sym is) (subst (Leaves keep (line_of x ++ reasons)) (append-nil (cond stay (line_of x) [])) both)
 
 abbrev pub told_in_explained : List (List ℕ)
-told_in_explained = codes "dangerous " ∷ codes "  " ∷ []
+told_in_explained = codes "dangerous " ∷ codes "snapshot " ∷ codes "  " ∷ []
 
 abbrev keep : List ℕ → Bool
 keep = stays told_in_explained
@@ -60,9 +62,9 @@ dangerous_is d =
     words_line (codes "dangerous" ∷ numeral d.first ∷ edge_word Rw d.first_key ∷ numeral d.pivot ∷ edge_word Rw d.last_key ∷ numeral d.last ∷ [])
     (refl, (numeral_unbroken d.first, (edge_unbroken Rw d.first_key, (numeral_unbroken d.pivot, (edge_unbroken Rw d.last_key, (numeral_unbroken d.last, tt))))))
 
--- the lists that a brief report doesn't have, and nothing where the danger stood
-same_lines : (x s z v : List ℕ) → (((x ++ s) ++ []) ++ z) ++ v ≡ ((((x ++ []) ++ []) ++ s) ++ z) ++ v
-same_lines x s z v = ap (λ (y : List ℕ). (y ++ z) ++ v) (append-nil (x ++ s)) ∙ ap (λ (y : List ℕ). ((y ++ s) ++ z) ++ v) (sym (append-nil (x ++ []) ∙ append-nil x))
+-- the lists that a brief report doesn't have, and nothing where snapshots and the danger stood
+same_lines : (x s z v : List ℕ) → ((((x ++ []) ++ s) ++ []) ++ z) ++ v ≡ ((((x ++ []) ++ []) ++ s) ++ z) ++ v
+same_lines x s z v = ap (λ (y : List ℕ). (y ++ z) ++ v) (append-nil ((x ++ []) ++ s)) ∙ ap (λ (y : List ℕ). ((y ++ s) ++ z) ++ v) (sym (append-nil (x ++ [])))
 
 module _ (h : List Event) where
   verdict_goes : (v : Verdict) (bytes : List ℕ) → TellsVerdict h v bytes → Leaves keep bytes []
@@ -79,14 +81,15 @@ module _ (h : List Event) where
       (λ b told. all_go keep (TellsStep h) (step_goes h keep spaces_go) (dangerous_edges x.1) b told) bytes x.3
 
   pub explained_leaves : (a : Account) (bytes : List ℕ) → IsExplained h a bytes → Leaves keep bytes (report_text Brief a)
-  explained_leaves a bytes (counts, reads, writes, unexplained, danger, verdict, told_counts, told_reads, told_writes, told_unexplained, told_danger, told_verdict, is) =
+  explained_leaves a bytes (counts, reads, writes, unexplained, snapshots, danger, verdict, told_counts, told_reads, told_writes, told_unexplained, told_snapshots, told_danger, told_verdict, is) =
       let head = leaves_both keep (leaves_line keep _ true (events_is a.events a.committed a.aborted a.unfinished) refl) (leaves_line keep _ true (isolation_is (is_empty a.bad_reads && is_empty a.bad_writes)) refl) in
       let front = events_line a.events a.committed a.aborted a.unfinished ++ isolation_line (is_empty a.bad_reads && is_empty a.bad_writes) in
       let counted : Leaves keep (front ++ counts) front = subst (Leaves keep (front ++ counts)) (append-nil front) (leaves_both keep head (counts_go h keep spaces_go a.bad_reads a.bad_writes counts told_counts)) in
       let some = all_left keep (WithReasons bad_read_line (TellsBadRead h)) bad_read_line (λ x. with_left keep bad_read_line (TellsBadRead h) x true (bad_read_is x) refl (bad_read_goes h keep spaces_go x)) a.bad_reads reads told_reads in
       let more = all_left keep (WithReasons bad_write_line (TellsBadWrite h)) bad_write_line (λ x. with_left keep bad_write_line (TellsBadWrite h) x true (bad_write_is x) refl (bad_write_goes h keep spaces_go x)) a.bad_writes writes told_writes in
       let rest = all_left keep (WithReasons unexplained_line (TellsUnexplained h)) unexplained_line (λ x. with_left keep unexplained_line (TellsUnexplained h) x true (unexplained_is x) refl (unexplained_goes h keep spaces_go x)) a.unexplained unexplained told_unexplained in
-      let found = leaves_both keep (leaves_both keep (leaves_both keep counted some) more) rest in
+      let told = all_go keep (TellsSnapshot h) (snapshot_goes h keep spaces_go (λ w. refl)) told_snapshots.0 snapshots told_snapshots.2 in
+      let found = leaves_both keep (leaves_both keep (leaves_both keep (leaves_both keep counted some) more) rest) told in
       let tested = leaves_both keep (leaves_both keep found (leaves_line keep _ true (ssi_is a.pass) refl)) (danger_goes danger told_danger) in
       let settled = with_left keep verdict_line (TellsVerdict h) a.verdict true (verdict_is a.verdict) (verdict_stays a.verdict) (verdict_goes a.verdict) verdict told_verdict in
       let all = leaves_both keep (leaves_both keep tested (leaves_line keep _ true (serializable_is a.serializable) refl)) settled in

@@ -127,7 +127,7 @@ saw_small (Commit t) k v r saw = absurd saw
 saw_small (Abort t) k v r saw = absurd saw
 
 module _ (h : List Event) (wf : IsWellFormed h) where
-  wrote_small : (t k p : ℕ) → at_place h p ≡ Some (Write t k) → (t < 4294967296) × (k < 18446744073709551616)
+  pub wrote_small : (t k p : ℕ) → at_place h p ≡ Some (Write t k) → (t < 4294967296) × (k < 18446744073709551616)
   wrote_small t k p at = let r = event_in_range h wf p (Write t k) at in let a = r.0.1 in let b : k < 2 ^ 64 = r.1 in (omega arith, omega arith)
 
   pub seen_small : (p t k v : ℕ) → SawAt h p t k v → (p < 18446744073709551616) × (t < 4294967296) × (k < 18446744073709551616) × (v < 18446744073709551616)
@@ -188,14 +188,18 @@ module _ (h : List Event) (wf : IsWellFormed h) where
             ]) made.0 made.1,
       )
 
+  -- whether it missed its own write, or saw a version whose transaction hasn't committed
+  pub undue_or_not : (p t k v : ℕ) → Decided ((WroteBefore h t k p × (v ≢ t)) ⊎ ((v ≢ 0) × (v ≢ t) × ¬ IsCommitted h v))
+  undue_or_not p t k v =
+      either_decided (WroteBefore h t k p × (v ≢ t)) ((v ≢ 0) × (v ≢ t) × ¬ IsCommitted h v)
+      (both (WroteBefore h t k p) (v ≢ t) (wrote_before_or_not h t k p) (not_decided (v ≡ t) (cases_eq v t)))
+      (three_decided (v ≢ 0) (v ≢ t) (¬ IsCommitted h v) (not_decided (v ≡ 0) (cases_eq v 0)) (not_decided (v ≡ t) (cases_eq v t)) (not_decided (IsCommitted h v) (committed_or_not h v)))
+
   unexplained_or_not : (b : Unexplained) → Decided (IsUnexplained h b.place b.txn b.key b.saw × ⊤)
   unexplained_or_not b =
       both (IsUnexplained h b.place b.txn b.key b.saw) ⊤
       (three_decided (IsCommitted h b.txn) (SawAt h b.place b.txn b.key b.saw) ((WroteBefore h b.txn b.key b.place × (b.saw ≢ b.txn)) ⊎ ((b.saw ≢ 0) × (b.saw ≢ b.txn) × ¬ IsCommitted h b.saw))
-      (committed_or_not h b.txn) (saw_at_or_not h b.place b.txn b.key b.saw)
-      (either_decided (WroteBefore h b.txn b.key b.place × (b.saw ≢ b.txn)) ((b.saw ≢ 0) × (b.saw ≢ b.txn) × ¬ IsCommitted h b.saw)
-      (both (WroteBefore h b.txn b.key b.place) (b.saw ≢ b.txn) (wrote_before_or_not h b.txn b.key b.place) (not_decided (b.saw ≡ b.txn) (cases_eq b.saw b.txn)))
-      (three_decided (b.saw ≢ 0) (b.saw ≢ b.txn) (¬ IsCommitted h b.saw) (not_decided (b.saw ≡ 0) (cases_eq b.saw 0)) (not_decided (b.saw ≡ b.txn) (cases_eq b.saw b.txn)) (not_decided (IsCommitted h b.saw) (committed_or_not h b.saw)))))
+      (committed_or_not h b.txn) (saw_at_or_not h b.place b.txn b.key b.saw) (undue_or_not b.place b.txn b.key b.saw))
       (inl tt)
 
   abbrev IsOdd : Unexplained → Type 0

@@ -30,15 +30,8 @@ use Rattle.si_audit.specs.Explained.{IsExplained, TellsAll, TellsDanger, TellsVe
 use Rattle.si_audit.specs.Lines.{bad_read_line, bad_write_line, edge_word, events_line, is_empty, isolation_line, serializable_line, ssi_line, unexplained_line, verdict_line}
 use Rattle.si_audit.specs.Reasons.{TellsBadRead, TellsBadWrite, TellsClass, TellsConflict, TellsEvents, TellsSight, TellsStep, TellsUnexplained, anomaly_words, reason, untold_of}
 use Rattle.si_audit.proofs.OfLaws.CountsTold.{one_counts}
-
--- two answers of one relation to one question are one
-abbrev pub IsOne : (List ℕ → Type 0) → Type 0
-IsOne Tells = (a b : List ℕ) → Tells a → Tells b → a ≡ b
-
--- if what is told of each is one, so is what is told of all
-one_all : {A : Type 0} (Tells : A → List ℕ → Type 0) → ((x : A) → IsOne (Tells x)) → (xs : List A) → IsOne (TellsAll Tells xs)
-one_all Tells one [] a b x y = x ∙ sym y
-one_all Tells one (z ∷ zs) a b x y = x.4 ∙ (λ i. one z x.0 y.0 x.2 y.2 i ++ one_all Tells one zs x.1 y.1 x.3 y.3 i) ∙ sym y.4
+use Rattle.si_audit.proofs.Shared.OneSnapshots.{one_snapshots}
+use Rattle.si_audit.proofs.Shared.Told.{IsOne, one_all}
 
 one_with_reasons : {A : Type 0} (line_of : A → List ℕ) (Tells : A → List ℕ → Type 0) → ((x : A) → IsOne (Tells x)) → (x : A) → IsOne (WithReasons line_of Tells x)
 one_with_reasons line_of Tells one x a b p q = p.2 ∙ ap (λ (reasons : List ℕ). line_of x ++ reasons) (one x p.0 q.0 p.1 q.1) ∙ sym q.2
@@ -155,15 +148,16 @@ module _ (h : List Event) (wf : IsWellFormed h) where
 
 pub one_explained : (h : List Event) → IsWellFormed h → (a : Account) → IsOne (IsExplained h a)
 one_explained h wf a bytes others x y =
-    let counts = one_counts h a.bad_reads a.bad_writes x.0 y.0 x.6 y.6 in
-    let reads = one_all (WithReasons bad_read_line (TellsBadRead h)) (one_with_reasons bad_read_line (TellsBadRead h) (one_bad_read h wf)) a.bad_reads x.1 y.1 x.7 y.7 in
-    let writes = one_all (WithReasons bad_write_line (TellsBadWrite h)) (one_with_reasons bad_write_line (TellsBadWrite h) (one_bad_write h wf)) a.bad_writes x.2 y.2 x.8 y.8 in
-    let unexplained = one_all (WithReasons unexplained_line (TellsUnexplained h)) (one_with_reasons unexplained_line (TellsUnexplained h) (one_unexplained h wf)) a.unexplained x.3 y.3 x.9 y.9 in
-    let danger = one_danger h wf x.4 y.4 x.10 y.10 in
-    let verdict = one_with_reasons verdict_line (TellsVerdict h) (one_verdict_told h wf) a.verdict x.5 y.5 x.11 y.11 in
-    x.12 ∙ (λ i. events_line a.events a.committed a.aborted a.unfinished
+    let counts = one_counts h a.bad_reads a.bad_writes x.0 y.0 x.7 y.7 in
+    let reads = one_all (WithReasons bad_read_line (TellsBadRead h)) (one_with_reasons bad_read_line (TellsBadRead h) (one_bad_read h wf)) a.bad_reads x.1 y.1 x.8 y.8 in
+    let writes = one_all (WithReasons bad_write_line (TellsBadWrite h)) (one_with_reasons bad_write_line (TellsBadWrite h) (one_bad_write h wf)) a.bad_writes x.2 y.2 x.9 y.9 in
+    let unexplained = one_all (WithReasons unexplained_line (TellsUnexplained h)) (one_with_reasons unexplained_line (TellsUnexplained h) (one_unexplained h wf)) a.unexplained x.3 y.3 x.10 y.10 in
+    let snapshots = one_snapshots h wf x.4 y.4 x.11 y.11 in
+    let danger = one_danger h wf x.5 y.5 x.12 y.12 in
+    let verdict = one_with_reasons verdict_line (TellsVerdict h) (one_verdict_told h wf) a.verdict x.6 y.6 x.13 y.13 in
+    x.14 ∙ (λ i. events_line a.events a.committed a.aborted a.unfinished
     ++ isolation_line (is_empty a.bad_reads && is_empty a.bad_writes)
-    ++ counts i ++ reads i ++ writes i ++ unexplained i
+    ++ counts i ++ reads i ++ writes i ++ unexplained i ++ snapshots i
     ++ ssi_line a.pass ++ danger i
     ++ serializable_line a.serializable
-    ++ verdict i) ∙ sym y.12
+    ++ verdict i) ∙ sym y.14

@@ -27,7 +27,8 @@ use Rattle.si_audit.specs.declared.options.Form.TheVariants.{Full, Brief, Explai
 use Rattle.si_audit.specs.Lines.{refusal_line}
 use Rattle.si_audit.specs.RefusedPlaces.{TellsToken, place_line}
 use Rattle.si_audit.specs.Report.{OneReport, HasSameReport, TellsAccount, TellsRefusal}
-use Rattle.si_audit.proofs.OfLaws.OneExplanation.{IsOne, one_explained}
+use Rattle.si_audit.proofs.OfLaws.OneExplanation.{one_explained}
+use Rattle.si_audit.proofs.Shared.Told.{IsOne}
 
 -- a pivot's transaction tells its neighbours
 one_entry : (h : List Event) (p q : Pivot) → p.txn ≡ q.txn → ListsNeighbours h p → ListsNeighbours h q → p ≡ q

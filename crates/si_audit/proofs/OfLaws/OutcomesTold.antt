@@ -116,7 +116,7 @@ refused_line_first limits Explained text bytes fault refusal is = ap (begins (co
 events_line_first : (form : Form) (h : List Event) (a : Account) (bytes : List ℕ) → TellsAccount form h a bytes → begins (codes "refused: " ∷ []) bytes ≡ false
 events_line_first Full h a bytes is = ap (begins (codes "refused: " ∷ [])) is
 events_line_first Brief h a bytes is = ap (begins (codes "refused: " ∷ [])) is
-events_line_first Explained h a bytes is = ap (begins (codes "refused: " ∷ [])) is.12
+events_line_first Explained h a bytes is = ap (begins (codes "refused: " ∷ [])) is.14
 
 pub lines_tell : (limits : Limits) (form : Form) (text : List ℕ) → LinesLaw limits form text
 lines_tell limits form text bytes (inl p) = told_refused limits text p.0 p.1 bytes (told_of_refusal text bytes form limits p.0 p.1 p.2) (refused_line_first limits form text bytes p.0 p.1 p.2)

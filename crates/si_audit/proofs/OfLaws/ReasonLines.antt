@@ -24,7 +24,7 @@ no_separator : (w : List ℕ) → HasNoSeparator w → IsUnbroken w
 no_separator [] p = refl
 no_separator (c ∷ w) p = and_from _ _ (not_from_false _ (or_parts _ _ p.0).1) (no_separator w p.1)
 
-token_unbroken : (w : List ℕ) → IsToken w → IsUnbroken w
+pub token_unbroken : (w : List ℕ) → IsToken w → IsUnbroken w
 token_unbroken [] p = absurd p
 token_unbroken (c ∷ w) p = no_separator (c ∷ w) p
 
@@ -44,7 +44,7 @@ start_unbroken : (t s : ℕ) → IsUnbroken (start_words t s)
 start_unbroken t s = glued (codes "transaction ") (numeral t ∷ codes " starts after event " ∷ numeral s ∷ []) refl (numeral_unbroken t, (refl, (numeral_unbroken s, tt)))
 
 module _ (h : List Event) where
-  words_unbroken : (k p : ℕ) → IsUnbroken (event_words h k p)
+  pub words_unbroken : (k p : ℕ) → IsUnbroken (event_words h k p)
   words_unbroken k p = glued (codes "event ") (numeral p ∷ codes " " ∷ told_about h p k ∷ []) refl (numeral_unbroken p, (refl, (event_unbroken k (at_place h p), tt)))
 
   version_unbroken : (k v : ℕ) (words : List ℕ) → TellsVersion h k v words → IsUnbroken words

@@ -42,7 +42,8 @@ findings_pushed o a b k l m n r w u first second third fourth =
     fourth ∙ ap (λ (x : List ℕ). x ++ u) (third ∙ ap (λ (x : List ℕ). x ++ w) (second ∙ ap (λ (x : List ℕ). x ++ r) first)) ∙ simp append_assoc
 
 -- all lines of an explained report
-pub explained_pushed : (o a b c r w u s d z v k l m n p : List ℕ) → o ≡ [] → k ≡ o ++ a ++ b ++ c ++ r ++ w ++ u → l ≡ k ++ s → m ≡ l ++ d → n ≡ m ++ z → p ≡ n ++ v
-    → p ≡ a ++ b ++ c ++ r ++ w ++ u ++ s ++ d ++ z ++ v
-explained_pushed o a b c r w u s d z v k l m n p none first second third fourth fifth =
-    fifth ∙ ap (λ (x : List ℕ). x ++ v) (fourth ∙ ap (λ (x : List ℕ). x ++ z) (third ∙ ap (λ (x : List ℕ). x ++ d) (second ∙ ap (λ (x : List ℕ). x ++ s) (first ∙ ap (λ (x : List ℕ). x ++ a ++ b ++ c ++ r ++ w ++ u) none))))
+pub explained_pushed : (o a b c r w u t s d z v j k l m n p : List ℕ) → o ≡ [] → j ≡ o ++ a ++ b ++ c ++ r ++ w ++ u → k ≡ j ++ t → l ≡ k ++ s → m ≡ l ++ d → n ≡ m ++ z → p ≡ n ++ v
+    → p ≡ a ++ b ++ c ++ r ++ w ++ u ++ t ++ s ++ d ++ z ++ v
+explained_pushed o a b c r w u t s d z v j k l m n p none front first second third fourth fifth =
+    fifth ∙ ap (λ (x : List ℕ). x ++ v) (fourth ∙ ap (λ (x : List ℕ). x ++ z) (third ∙ ap (λ (x : List ℕ). x ++ d) (second ∙ ap (λ (x : List ℕ). x ++ s)
+    (first ∙ ap (λ (x : List ℕ). x ++ t) (front ∙ ap (λ (x : List ℕ). x ++ a ++ b ++ c ++ r ++ w ++ u) none)))))

@@ -61,6 +61,11 @@ const LINES: &[Row] = &[
         Ok((4, WHOLE, Form::Brief, Level::Ssi)),
     ),
     (
+        &["si_audit", "--check", "gsi"],
+        0,
+        Ok((4, WHOLE, Form::Full, Level::Gsi)),
+    ),
+    (
         &["si_audit", "--check", "serializable"],
         0,
         Ok((4, WHOLE, Form::Full, Level::Serializable)),

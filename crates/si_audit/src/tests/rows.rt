@@ -5,7 +5,7 @@ use crate::devices::FromStd;
 use crate::engine::Outcome;
 use crate::options::{Form, Level, Options};
 use crate::run::run;
-use crate::tests::forms::{BRIEF, EXPLAINED};
+use crate::tests::forms::{BRIEF, EXPLAINED, SNAPSHOTS};
 use sia_events::{Key, Limits, NoMemory, read_history};
 use std::alloc::Global;
 use std::sync::Wait;
@@ -23,6 +23,7 @@ pub(crate) const KEPT: Outcomes = &[
     (Level::Serializable, Outcome::Clean),
     (Level::Ssi, Outcome::Clean),
     (Level::Si, Outcome::Clean),
+    (Level::Gsi, Outcome::Clean),
 ];
 
 /// Isolation was kept, with a serial order, and the last transaction of a pivot commits first.
@@ -30,6 +31,7 @@ pub(crate) const NOT_SSI: Outcomes = &[
     (Level::Serializable, Outcome::Clean),
     (Level::Ssi, Outcome::Faulty),
     (Level::Si, Outcome::Clean),
+    (Level::Gsi, Outcome::Clean),
 ];
 
 /// Isolation was kept, and no serial order replays the history.
@@ -37,13 +39,23 @@ pub(crate) const NO_ORDER: Outcomes = &[
     (Level::Serializable, Outcome::Faulty),
     (Level::Ssi, Outcome::Faulty),
     (Level::Si, Outcome::Clean),
+    (Level::Gsi, Outcome::Clean),
 ];
 
-/// Isolation was broken.
+/// Isolation was broken, and some snapshot fits each transaction.
+pub(crate) const GENERALIZED: Outcomes = &[
+    (Level::Serializable, Outcome::Faulty),
+    (Level::Ssi, Outcome::Faulty),
+    (Level::Si, Outcome::Faulty),
+    (Level::Gsi, Outcome::Clean),
+];
+
+/// Isolation was broken, and no snapshot fits some transaction.
 pub(crate) const BROKEN: Outcomes = &[
     (Level::Serializable, Outcome::Faulty),
     (Level::Ssi, Outcome::Faulty),
     (Level::Si, Outcome::Faulty),
+    (Level::Gsi, Outcome::Faulty),
 ];
 
 /// The text is no history.
@@ -51,6 +63,7 @@ pub(crate) const UNREAD: Outcomes = &[
     (Level::Serializable, Outcome::Refused),
     (Level::Ssi, Outcome::Refused),
     (Level::Si, Outcome::Refused),
+    (Level::Gsi, Outcome::Refused),
 ];
 
 const HISTORIES: &[Row] = &[
@@ -244,7 +257,7 @@ const HISTORIES: &[Row] = &[
         &[],
         Form::Full,
         b"events 8 committed 4 aborted 0 open 0\nisolation broken\nbad-read 7 4 1 saw 2 due 3\nedge 1 ww 2 1\nedge 1 ww 3 1\nedge 1 wr 4 1\nedge 2 ww 3 1\nedge 2 wr 4 1\nedge 4 rw 3 1\nssi fail\nserializable yes\norder 1 2 4 3\n",
-        BROKEN,
+        GENERALIZED,
     ),
     // a transaction behind a cycle
     (
@@ -276,7 +289,7 @@ const HISTORIES: &[Row] = &[
         &[],
         Form::Full,
         b"events 7 committed 3 aborted 0 open 0\nisolation broken\nbad-read 3 2 1 saw 0 due 3\nedge 1 rw 2 2\nedge 2 rw 3 1\nssi fail\nserializable yes\norder 1 2 3\n",
-        BROKEN,
+        GENERALIZED,
     ),
     // own write missed by a range
     (
@@ -292,7 +305,7 @@ const HISTORIES: &[Row] = &[
         &[],
         Form::Full,
         b"events 5 committed 2 aborted 0 open 0\nisolation broken\nbad-read 4 2 1 saw 0 due 1\nedge 2 rw 1 1\nssi fail\nserializable yes\norder 2 1\n",
-        BROKEN,
+        GENERALIZED,
     ),
     // a named start between a write and its commit
     (
@@ -300,7 +313,7 @@ const HISTORIES: &[Row] = &[
         &[],
         Form::Full,
         b"events 5 committed 2 aborted 0 open 0\nisolation broken\nbad-write 1 1 2\nedge 1 ww 2 1\nssi fail\nserializable yes\norder 1 2\n",
-        BROKEN,
+        GENERALIZED,
     ),
 ];
 
@@ -635,7 +648,7 @@ fn is_audited<T: Threads + Wait + Sync>(rt: &T, alloc: Global, row: &Row) -> Res
 
 #[test]
 fn reports(rt: HostRuntime) -> Result<(), Fail> {
-    for rows in [HISTORIES, REFUSED, BRIEF, EXPLAINED] {
+    for rows in [HISTORIES, REFUSED, BRIEF, EXPLAINED, SNAPSHOTS] {
         for row in rows {
             for (level, outcome) in row.4 {
                 for workers in [1, 2, 3, 64] {

@@ -4,7 +4,7 @@ use Rattle.std.specs.Prelude.{unwrap_or, []}
 use Rattle.clap.specs.Words.{Text, first_of, first_value, found_of, rows_of}
 use Rattle.clap.specs.declared.parser.matches.Found.{Found}
 use Rattle.clap.proofs.WalkLemmas.{first_value-rows}
-use Rattle.si_audit.specs.declared.options.Level.TheVariants.{Serializable, Si, Ssi}
+use Rattle.si_audit.specs.declared.options.Level.TheVariants.{Gsi, Serializable, Si, Ssi}
 use Rattle.si_audit.specs.Words.{level_named}
 use Rattle.si_audit.proofs.words.level_in.Goals as goal
 
@@ -27,6 +27,12 @@ pub returns-in-si : goal.returns-in-si
 returns-in-si c =
     let is = text_is (found_of c.args.matches.now) (Some c.in_ok-get_str.field-0.now) c.in_ok-get_str.ensures in
     let named : Some Si ≡ level_named c.in_ok-get_str.field-0.now = search rules in
+    named ∙ ap (λ (o : Option Text). level_named (unwrap_or o [])) is
+
+pub returns-in-gsi : goal.returns-in-gsi
+returns-in-gsi c =
+    let is = text_is (found_of c.args.matches.now) (Some c.in_ok-get_str.field-0.now) c.in_ok-get_str.ensures in
+    let named : Some Gsi ≡ level_named c.in_ok-get_str.field-0.now = search rules in
     named ∙ ap (λ (o : Option Text). level_named (unwrap_or o [])) is
 
 pub returns-in_default : goal.returns-in_default

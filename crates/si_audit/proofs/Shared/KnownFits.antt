@@ -1,0 +1,39 @@
+-- The row of each transaction, and that its recorded start fits it where the row says so.
+use Rattle.std.proofs.Common.{◌≡◌, inl, inr, ℕ, ◌<◌, ◌≤◌, List, false, length, get_or, refl, sym, subst, ◌∙◌}
+use Rattle.std.specs.Prelude.{slice_index}
+use Rattle.std.proofs.lemmas.Bool.{false≢true}
+use Rattle.std.proofs.lemmas.List.Elements.{Contains-get_or}
+use Rattle.std.proofs.lemmas.Option.{get_or_from_slice_get, slice_get_within}
+use Rattle.sia_events.specs.declared.event.Event.{Event}
+use Rattle.sia_events.specs.Lists.{ListsAscending}
+use Rattle.sia_events.specs.declared.event.Event.TheVariants.{Write}
+use Rattle.sia_events.specs.Refusals.{IsWellFormed}
+use Rattle.sia_events.specs.Transactions.{HasEvent}
+use Rattle.sia_events.proofs.Shared.TransactionDecisions.{place_within}
+use Rattle.si_audit.specs.Bounds.{EachTxn, IsKnownOf}
+use Rattle.si_audit.specs.Snapshots.{AccessesAt, FitsStart, IsSnapshot}
+use Rattle.si_audit.specs.declared.snapshots.Bounds.{Bounds}
+use Rattle.si_audit.proofs.Shared.SnapshotStarts.{fits_start, start_before}
+
+-- a read or write is an event of the history
+pub access_within : (h : List Event) (t p : ℕ) → AccessesAt h t p → (0 < p) × (p ≤ length h)
+access_within h t p access = elim access.1 [ inl wrote ↦ place_within h p (Write t access.0) wrote | inr saw ↦ place_within h p saw.1.0 saw.1.1 ]
+
+-- each transaction's row is there
+pub row_known : (h : List Event) (all : List Bounds) → EachTxn (IsKnownOf h) h all → (txns : List ℕ) → ListsAscending (HasEvent h) txns → (i : ℕ) → i < length txns → (d : Bounds) → (i < length all) × HasEvent h (slice_index txns i) × IsKnownOf h (slice_index txns i) (get_or all i d)
+row_known h all each txns are i below d =
+    let t = slice_index txns i in
+    let row = each i t (txns, are, below, refl) in
+    (slice_get_within all i row.0 row.1, (are.each t).0 (Contains-get_or txns i 0 below), subst (IsKnownOf h t) (sym (get_or_from_slice_get all i row.0 d row.1)) row.2)
+
+module _ (h : List Event) (wf : IsWellFormed h) (t : ℕ) (b : Bounds) (known : IsKnownOf h t b) where
+  -- its recorded start fits
+  pub start_fits : HasEvent h t → b.misfit ≡ false → (n : ℕ) × IsSnapshot h t n
+  start_fits has unset =
+      let fits : ¬ ¬ FitsStart h t = λ none. false≢true (sym unset ∙ known.marked.misfit.1 none) in
+      let iff = fits_start h wf t has in
+      let start : FitsStart h t = iff.1 (
+        (λ p k saw due bad. fits (λ f. (iff.0 f).0 p k saw due bad)),
+        (λ k first bad. fits (λ f. (iff.0 f).1 k first bad)),
+      ) in
+      (start.0, ((λ p access. start_before h wf t start.0 p start.1 access), start.2))

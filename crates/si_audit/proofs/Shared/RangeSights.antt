@@ -1,0 +1,108 @@
+-- A range read covers the written keys from one number to before another, and what it listed of them.
+use Rattle.std.proofs.Common.{◌≡◌, ◌⊎◌, inl, inr, ℕ, zero, suc, ◌-◌, ◌<◌, ◌≤◌, List, Some, None, true, false, length, map, refl, ap, sym, subst, ◌∙◌, arith}
+use Rattle.std.specs.Prelude.{◌↔◌, All}
+use Rattle.std.proofs.lemmas.Bool.{cases_lt, false≢true}
+use Rattle.sia_events.specs.declared.event.Event.{Event}
+use Rattle.sia_events.specs.declared.event.Event.TheVariants.{Range}
+use Rattle.sia_events.specs.Numbering.{Names, names_of, key_at, pair_at, version_at, write_at, writes_of, AscendByKey, IsPair}
+use Rattle.sia_events.specs.Places.{at_place}
+use Rattle.sia_events.specs.Reads.{SawAt}
+use Rattle.sia_events.specs.Refusals.{IsWellFormed}
+use Rattle.sia_events.specs.Transactions.{Wrote}
+use Rattle.sia_events.proofs.OfLaws.SawDecisions.{listed_or_not}
+use Rattle.sia_events.proofs.Writing.Ranges.{bounds_in_order}
+use Rattle.sia_index.specs.Info.{AreWrittenKeys, IsKeyAt}
+use Rattle.sia_index.proofs.Sorting.Points.{PointBelow, PointWithin, point_above, point_below, point_within}
+use Rattle.sia_parts.specs.Seeing.{IsCover}
+use Rattle.sia_parts.proofs.Auditing.Covered.{HasCovered}
+use Rattle.sia_parts.proofs.Auditing.FewWrites.{key_pair, write_above, write_pair}
+use Rattle.sia_parts.proofs.Auditing.KeyNumbers.{IsEnd, numbers_each}
+use Rattle.sia_parts.proofs.Auditing.Passing.{has_number}
+use Rattle.sia_parts.proofs.Auditing.RangeCovers.{all_from, key_unlisted, pair_inside, pair_saw, sight_inside}
+
+-- what t's range read at place p covers and listed, as the lemmas of a part's keys say it
+abbrev pub Covers : List Event → ℕ → ℕ → List ℕ → ℕ → ℕ → ℕ → ℕ → Type 0
+Covers h t p listed lo hi first end = IsCover h (record { txn = 0; reader = record { txn = t; number = 0; place = p; start = 0; has_written = false }; number = None })
+    (record { pairs = record { ref_ptr = (0, 0); now = listed }; lo = lo; hi = hi; first = first; end = end; own = true })
+
+-- how far it has been gone through
+abbrev pub CoveredTo : List Event → List ℕ → ℕ → ℕ → ℕ → ℕ → ℕ → ℕ → Type 0
+CoveredTo h listed lo hi first end n next = HasCovered h (record { pairs = record { ref_ptr = (0, 0); now = listed }; lo = lo; hi = hi; first = first; end = end; own = true }) n next
+
+-- the written keys that t's range read at place p covers have numbers from first to before end, and so have those that it sees
+pub record IsRangeSeen (h : List Event) (t p : ℕ) (listed : List ℕ) (lo hi first end : ℕ) : Type 0 where
+  pub covers : Covers h t p listed lo hi first end
+  pub inside : (k v u : ℕ) → SawAt h p t k v → Wrote h u k → (i : ℕ) × IsKeyAt h i k × (first ≤ i) × (i < end)
+  pub forward : first ≤ end
+
+module _ (h : List Event) (wf : IsWellFormed h) (keys : List ℕ) (are : AreWrittenKeys h keys) (p t lo hi : ℕ) (listed : List ℕ) (r : ℕ × ℕ × List (ℕ × ℕ)) (lo_is : lo ≡ r.0) (hi_is : hi ≡ r.1) (pairs : map (pair_at (names_of h)) listed ≡ r.2) (event : at_place h p ≡ Some (Range t r.0 r.1 r.2)) where
+  at : at_place h p ≡ Some (Range t lo hi (map (pair_at (names_of h)) listed))
+  at = event ∙ (λ i. Some (Range t (sym lo_is i) (sym hi_is i) (sym pairs i)))
+
+  pub range_seen : (first end : ℕ) → first ≤ length keys → PointBelow (λ (k : ℕ). k) keys lo first → end ≤ length keys → PointWithin (λ (k : ℕ). k) keys hi end → All (IsPair (names_of h)) listed → AscendByKey h listed → IsRangeSeen h t p listed lo hi first end
+  range_seen first end below low bound point numbers ascend = record {
+    covers = record {
+      each = each;
+      numbers = numbers;
+      ascend = ascend;
+      inside = all_from (λ q. (lo ≤ (pair_at (names_of h) q).0) × ((pair_at (names_of h) q).0 ≤ hi)) listed (pair_inside h wf p t lo hi listed at);
+      listed = all_from (λ q. SawAt h p t (pair_at (names_of h) q).0 (pair_at (names_of h) q).1) listed (pair_saw h wf p t lo hi listed at);
+      unlisted = key_unlisted h wf p t lo hi listed at lo hi (omega arith) (omega arith) listed (λ q. ((λ c. (let w = pair_inside h wf p t lo hi listed at q c in (c, w.0, w.1))), (λ w. w.0)));
+      own = λ none. absurd (false≢true (sym none));
+    };
+    inside = λ k v u saw wrote.
+        let i = has_number h keys are k u wrote in
+        let covered = sight_inside h wf p t lo hi listed at (record { place = p; txn = t; key = k; saw = v }) refl saw in
+        let w = (each i.0).1 (k, i.1, covered.0, covered.1) in
+        (i.0, i.1, w.0, w.1);
+    forward = elim (cases_lt end first) [
+      | inl less ↦
+          let up = bounds_in_order h wf p t lo hi (map (pair_at (names_of h)) listed) at in
+          let under = point_below (λ (k : ℕ). k) keys lo first low end 0 (omega arith) less in
+          let over = high.behind end (omega arith) (omega arith) in
+          absurd (omega arith)
+      | inr le ↦ le
+    ];
+  }
+    where
+      high : IsEnd keys hi end
+      high = record {
+        bound = bound;
+        within = λ k less. point_within (λ (k : ℕ). k) keys hi end point k 0 (omega arith) less;
+        behind = λ k after inside. point_above (λ (k : ℕ). k) keys hi end point k 0 after inside;
+      }
+
+      each : (j : ℕ) → ((first ≤ j) × (j < end)) ↔ ((k : ℕ) × IsKeyAt h j k × (lo ≤ k) × (k ≤ hi))
+      each = numbers_each h keys are lo hi first end low high
+
+-- it reads some key
+pub range_reads : (h : List Event) → IsWellFormed h → (p t lo hi : ℕ) (listed : List (ℕ × ℕ)) → at_place h p ≡ Some (Range t lo hi listed) → (v : ℕ) × SawAt h p t lo v
+range_reads h wf p t lo hi listed at =
+    let up = bounds_in_order h wf p t lo hi listed at in
+    elim (listed_or_not listed lo) [
+      | inl here ↦ (here.0, (Range t lo hi listed, at, refl, (omega arith, up, inl here.1)))
+      | inr none ↦ (0, (Range t lo hi listed, at, refl, (omega arith, up, inr (none, refl))))
+    ]
+
+-- the write of a listed pair is of its key, and made its version
+pub pair_write : (h : List Event) → IsWellFormed h → (p : ℕ) → IsPair (names_of h) p → (k w : ℕ) → pair_at (names_of h) p ≡ (key_at (names_of h) k, version_at (names_of h) w) → (write : ℕ) → ((p ≤ length (writes_of h)) × (write ≡ p)) ⊎ ((length (writes_of h) < p) × (write ≡ 0))
+    → (write ≤ length (writes_of h)) × (0 < write → (write_at (names_of h) (write - 1)).0 ≡ key_at (names_of h) k) × (version_at (names_of h) write ≡ (pair_at (names_of h) p).1)
+pair_write h wf p pair k w is write told = elim told [
+  | inl low ↦
+      let at = write_pair h wf p pair low.0 in
+      let back = sym low.1 in (
+        (let most = low.0 in let same = low.1 in omega arith),
+        (λ some. subst (λ x. (write_at (names_of h) (x - 1)).0 ≡ key_at (names_of h) k) back (ap (λ (q : ℕ × ℕ). q.0) at ∙ ap (λ (q : ℕ × ℕ). q.0) is)),
+        subst (λ x. version_at (names_of h) x ≡ (pair_at (names_of h) p).1) back (version_made (names_of h) p (write_above h wf p pair low.0) ∙ ap (λ (q : ℕ × ℕ). q.1) at),
+      )
+  | inr high ↦
+      let zero = high.1 in (
+        (omega arith),
+        (λ some. absurd (omega arith)),
+        subst (λ x. version_at (names_of h) x ≡ (pair_at (names_of h) p).1) (sym zero) (ap (λ (q : ℕ × ℕ). q.1) (key_pair h wf p pair high.0 k w is)),
+      )
+]
+  where
+    version_made : (names : Names) (n : ℕ) → 0 < n → version_at names n ≡ (write_at names (n - 1)).1
+    version_made names zero some = absurd (omega arith)
+    version_made names (suc n) some = let same : n ≡ suc n - 1 = omega arith in ap (λ m. (write_at names m).1) same

@@ -1,0 +1,122 @@
+-- A snapshot fits a transaction exactly if it is within bounds that the reads and writes of the transaction give.
+use Rattle.std.proofs.Common.{◌≡◌, ◌≢◌, ◌⊎◌, inl, inr, ℕ, ◌<◌, ◌≤◌, List, refl, subst, arith}
+use Rattle.std.specs.Prelude.{◌↔◌}
+use Rattle.std.proofs.lemmas.Bool.{cases_eq, cases_lt}
+use Rattle.sia_events.specs.declared.event.Event.{Event}
+use Rattle.sia_events.specs.declared.event.Event.TheVariants.{Commit}
+use Rattle.sia_events.specs.NarrowDependencies.{CommitsVersion, IsAsOf}
+use Rattle.sia_events.specs.Reads.{SawAt}
+use Rattle.sia_events.specs.Refusals.{IsWellFormed}
+use Rattle.sia_events.specs.Transactions.{CommitsAt, WroteBefore}
+use Rattle.sia_events.proofs.OfLaws.Looks.{commits_above}
+use Rattle.sia_events.proofs.OfLaws.Seen.{actor_is_txn, saw_written}
+use Rattle.sia_events.proofs.OfLaws.Versions.{writer_not_zero}
+use Rattle.sia_events.proofs.Shared.Decisions.{at_most}
+use Rattle.sia_events.proofs.Shared.TransactionDecisions.{committed_or_not, wrote_before_or_not}
+use Rattle.sia_events.proofs.Writing.WellFormed.{one_commit}
+use Rattle.si_audit.specs.Snapshots.{Bars, Fits, IsAsked, IsDueFrom, IsInNone, IsNewestIn, ReadAsks}
+
+-- each read is of some snapshot, each commit that is asked for is in this one, and none that is barred
+pub record IsBounded (h : List Event) (t n : ℕ) : Type 0 where
+  pub none : (p k : ℕ) → ¬ IsInNone h t p k
+  pub low : (c : ℕ) → IsAsked h t c → c ≤ n
+  pub high : (c p k : ℕ) → Bars h t c p k → n < c
+
+module _ (h : List Event) (wf : IsWellFormed h) (t n : ℕ) where
+  -- nothing commits as 0
+  zero_never : (c : ℕ) → ¬ CommitsAt h 0 c
+  zero_never c at = let above : 0 < 0 = (actor_is_txn h wf 0 c (Commit 0, at, refl)).0 in omega arith
+
+  module _ (fits : Fits h t n) where
+    fit_none : (p k : ℕ) → ¬ IsInNone h t p k
+    fit_none p k odd = of_due (fits.reads p k odd.0 odd.1) odd.2
+      where
+        of_due : IsDueFrom h n t p k odd.0 → ¬ ((WroteBefore h t k p × (odd.0 ≢ t)) ⊎ ((odd.0 ≢ 0) × (odd.0 ≢ t) × ¬ ((c : ℕ) × CommitsAt h odd.0 c)))
+        of_due (inl own) (inl missed) = missed.1 own.1
+        of_due (inl own) (inr unknown) = unknown.1 own.1
+        of_due (inr other) (inl missed) = other.0 missed.0
+        of_due (inr (out, inl newest)) (inr unknown) = unknown.2 (newest.0, newest.1.1)
+        of_due (inr (out, inr none)) (inr unknown) = unknown.0 none.1
+
+    fit_read : (c p k : ℕ) → ReadAsks h t c p k → c ≤ n
+    fit_read c p k asks = of_due (fits.reads p k asks.0 asks.1)
+      where
+        of_due : IsDueFrom h n t p k asks.0 → c ≤ n
+        of_due (inl own) = absurd (asks.2 own.1)
+        of_due (inr (out, inl newest)) =
+            let same : c ≡ newest.0 = one_commit h wf asks.0 c newest.0 asks.3 newest.1.1 in
+            let within : newest.0 ≤ n = newest.2 in
+            omega arith
+        of_due (inr (out, inr none)) = absurd (zero_never c (subst (λ v. CommitsAt h v c) none.1 asks.3))
+
+    fit_low : (c : ℕ) → IsAsked h t c → c ≤ n
+    fit_low c asked = elim asked.2 [
+      | inl read ↦ fit_read c asked.0 asked.1 read
+      | inr write ↦ fits.writes asked.1 write.1 c write.2 ((asked.0, write.0), write.4) write.3 write.5
+    ]
+
+    fit_high : (c p k : ℕ) → Bars h t c p k → n < c
+    fit_high c p k bars = of_due (fits.reads p k bars.0 bars.3)
+      where
+        below : bars.1 < c
+        below = bars.7
+
+        as_of : (d : ℕ) → CommitsVersion h k bars.0 d → IsAsOf h bars.0 bars.1 → bars.1 ≡ d
+        as_of d version (inl first) = absurd (writer_not_zero h wf bars.0 k version.0 first.0)
+        as_of d version (inr at) = one_commit h wf bars.0 bars.1 d at version.1
+
+        of_due : IsDueFrom h n t p k bars.0 → n < c
+        of_due (inl own) = absurd (bars.4 own.1)
+        of_due (inr (out, inl newest)) = elim (cases_lt n c) [
+          | inl less ↦ less
+          | inr most ↦
+              let same : bars.1 ≡ newest.0 = as_of newest.0 newest.1 bars.5 in
+              let last : c ≤ newest.0 = newest.3 bars.2 c bars.6 most in
+              absurd (omega (arith, below))
+        ]
+        of_due (inr (out, inr none)) = none.0 bars.2 c bars.6
+
+    bounded : IsBounded h t n
+    bounded = record { none = fit_none; low = fit_low; high = fit_high }
+
+  module _ (within : IsBounded h t n) where
+    read_fits : (p k v : ℕ) → SawAt h p t k v → IsDueFrom h n t p k v
+    read_fits p k v saw = elim (wrote_before_or_not h t k p) [
+      | inl wrote ↦ elim (cases_eq v t) [
+        | inl own ↦ inl (wrote, own)
+        | inr other ↦ absurd (within.none p k (v, saw, inl (wrote, other)))
+      ]
+      | inr out ↦ inr (out, of_version (not_own out))
+    ]
+      where
+        not_own : ¬ WroteBefore h t k p → v ≢ t
+        not_own out own =
+            let above : 0 < t = (actor_is_txn h wf t p (saw.0, saw.1, saw.2)).0 in
+            out (subst (λ u. WroteBefore h u k p) own (saw_written h wf p t k v saw (λ e. omega arith)))
+
+        of_version : v ≢ t → IsNewestIn h n k v ⊎ (((u c : ℕ) → CommitsVersion h k u c → n < c) × (v ≡ 0))
+        of_version other = elim (cases_eq v 0) [
+          | inl first ↦ inr ((λ u c version. within.high c p k (v, 0, u, saw, other, inl (first, refl), version, commits_above h u c version.1)), first)
+          | inr later ↦ elim (committed_or_not h v) [
+            | inr none ↦ absurd (within.none p k (v, saw, inr (later, other, none)))
+            | inl done ↦
+                let wrote = saw_written h wf p t k v saw later in
+                inl (
+                  done.0,
+                  ((wrote.0, wrote.2), done.1),
+                  within.low done.0 (p, k, inl (v, saw, other, done.1)),
+                  λ w d version most. at_most d done.0 (λ less.
+                      let after : n < d = within.high d p k (v, done.0, w, saw, other, inr done.1, version, less) in
+                      omega arith),
+                )
+          ]
+        ]
+
+    is_fit : Fits h t n
+    is_fit = record {
+      reads = read_fits;
+      writes = λ k u c d own version less. within.low c (own.0.0, k, inr (own.0.1, u, d, version, own.1, less));
+    }
+
+  pub fits_bounds : Fits h t n ↔ IsBounded h t n
+  fits_bounds = (bounded, is_fit)

@@ -1,0 +1,142 @@
+-- Each event adds what it tells to the row of its transaction, and then the writes add theirs.
+use Rattle.std.proofs.Common.{◌≡◌, inl, inr, ◌+◌, ◌<◌, ◌≤◌, List, Some, Vec, Global, false, true, get_or, length, ap, sym, subst, ◌∙◌, arith}
+use Rattle.std.specs.Prelude.{slice_get}
+use Rattle.std.proofs.lemmas.Bool.{cases_eq, cases_lt}
+use Rattle.std.proofs.lemmas.Option.{slice_get_within}
+use Rattle.sia_events.specs.Events.{actor}
+use Rattle.sia_events.specs.Numbering.{event_of, names_of, txn_at}
+use Rattle.sia_index.specs.Numbers.{IsTxnAt}
+use Rattle.si_audit.specs.Bounds.{EachTxn, IsBound, IsKnownOf, IsKnownTo, IsLow}
+use Rattle.si_audit.specs.Snapshots.{ReadAsks}
+use Rattle.si_audit.specs.declared.snapshots.Bounds.{Bounds}
+use Rattle.si_audit.proofs.Shared.EachKnown.{AreKnownFrom, each_set, has_event_at, number_at, number_below, one_number, same_row}
+use Rattle.si_audit.proofs.Shared.KnownRows.{access_actor, known_fit, known_of, known_of_fit, known_on, none_accesses}
+use Rattle.si_audit.proofs.snapshots.bounds_of.Goals as goal
+use Rattle.si_audit.proofs.snapshots.bounds_of.Goals.{in-Some+then-index, in-Some+else-index, in_default, then-index-2, else-index-2}
+
+pub loop-before-init : goal.loop-before-init
+loop-before-init c = subst (λ g. EachTxn (λ t. IsKnownTo g t 1) g c.in_ok-all.all.items) c.requires.index c.in_ok-all.ensures
+
+pub index-requires : goal.index-requires
+index-requires c =
+    let row = c.loop-before.invariant c.reader_at-reader.result.number _ (subst (λ g. IsTxnAt g c.reader_at-reader.result.number (txn_at (names_of g) c.txn_of.result)) c.requires.index c.reader_at-reader.ensures.numbered) in
+    let below = slice_get_within c.loop-before.all.items c.reader_at-reader.result.number row.0 row.1 in
+    omega (arith, c.loop-before.all.ok.0)
+
+pub index_mut-requires : goal.index_mut-requires
+index_mut-requires c =
+    let row = c.loop-before.invariant c.reader_at-reader.result.number _ (subst (λ g. IsTxnAt g c.reader_at-reader.result.number (txn_at (names_of g) c.txn_of.result)) c.requires.index c.reader_at-reader.ensures.numbered) in
+    let below = slice_get_within c.loop-before.all.items c.reader_at-reader.result.number row.0 row.1 in
+    omega (arith, c.loop-before.all.ok.0)
+
+pub loop-before-preserved : goal.loop-before-preserved
+loop-before-preserved c =
+    let h = c.args.log.now in
+    let wf = c.law.ensures in
+    let p = c.loop-before.before + 1 in
+    let all = c.loop-before.all.items in
+    let same = c.requires.index in
+    elim c.match-row.branch [
+      | in-Some+then-index w ↦
+          let n = w.reader_at-reader.result.number in
+          let u = w.reader_at-reader.result.txn in
+          let is = w.reader_at-reader.ensures in
+          let here : IsTxnAt h n u = subst (λ g. IsTxnAt g n u) same (subst (IsTxnAt c.args.ix.now n) (sym is.txn_is) is.numbered) in
+          let named : u ≡ txn_at (names_of h) w.txn_of.result = subst (λ g. u ≡ txn_at (names_of g) w.txn_of.result) same is.txn_is in
+          let who : actor (event_of (names_of h) w.in-Some.row) ≡ u = (w.txn_of.ensures (names_of h) w.in-Some.ensures.within).1 ∙ sym named in
+          subst (λ (xs : List Bounds). EachTxn (λ t. IsKnownTo h t (p + 1)) h xs) (sym (ap (λ (v : Vec Bounds Global). v.items) w.all-is))
+          (each_set h all n w.put_row.new.self (λ i t b. IsKnownTo h t p b) (λ i t b. IsKnownTo h t (p + 1) b) u here
+          (λ i t b other apart known. known_on h wf t p (λ a. other (sym (access_actor h wf t p _ (sym w.in-Some.ensures.event) a) ∙ who)) b known)
+          (λ b known at. w.put_row.ensures (subst (IsKnownTo h u p) (same_row h all n b w.index_mut.result.now at w.index_mut.ensures.value) known))
+          c.loop-before.invariant)
+      | in-Some+else-index w ↦
+          let n = w.reader_at-reader.result.number in
+          let u = w.reader_at-reader.result.txn in
+          let is = w.reader_at-reader.ensures in
+          let here : IsTxnAt h n u = subst (λ g. IsTxnAt g n u) same (subst (IsTxnAt c.args.ix.now n) (sym is.txn_is) is.numbered) in
+          let named : u ≡ txn_at (names_of h) w.txn_of.result = subst (λ g. u ≡ txn_at (names_of g) w.txn_of.result) same is.txn_is in
+          let who : actor (event_of (names_of h) w.in-Some.row) ≡ u = (w.txn_of.ensures (names_of h) w.in-Some.ensures.within).1 ∙ sym named in
+          subst (λ (xs : List Bounds). EachTxn (λ t. IsKnownTo h t (p + 1)) h xs) (sym (ap (λ (v : Vec Bounds Global). v.items) w.all-is))
+          (λ i t at.
+          let row = c.loop-before.invariant i t at in
+          let known : IsKnownTo h t (p + 1) row.0 = elim (cases_eq t u) [
+            | inl own ↦
+                let number : i ≡ n = one_number h i n u (subst (IsTxnAt h i) own at) here in
+                let read : row.0 ≡ w.index.result.now = same_row h all n row.0 w.index.result.now (subst (λ j. slice_get all j ≡ Some row.0) number row.1) w.index.ensures in
+                known_fit h wf t p (p + 1) row.0 (subst (λ (b : Bounds). b.misfit ≡ false) (sym read) w.if-index.false) row.2
+            | inr other ↦ known_on h wf t p (λ a. other (sym (access_actor h wf t p _ (sym w.in-Some.ensures.event) a) ∙ who)) row.0 row.2
+          ] in
+          (row.0, row.1, known))
+      | in_default w ↦
+          subst (λ (xs : List Bounds). EachTxn (λ t. IsKnownTo h t (p + 1)) h xs) (sym (ap (λ (v : Vec Bounds Global). v.items) w.all-is))
+          (λ i t at. (let row = c.loop-before.invariant i t at in (row.0, row.1, known_on h wf t p (none_accesses h wf t p w.in_default.ensures.event) row.0 row.2)))
+    ]
+
+pub loop-i-init : goal.loop-i-init
+loop-i-init c i t at =
+    let row = c.loop-before.invariant i t at in
+    let long = c.len-before-end.ensures.len in
+    let end : c.loop-before.before + 1 ≡ length c.args.log.now + 1 = let last = c.loop-before.auto.before-end in let test = c.loop-before-test.false in omega arith in
+    (row.0, row.1, ((λ none. absurd (omega arith)), λ _. subst (λ p. IsKnownTo c.args.log.now t p row.0) end row.2))
+
+pub index-requires-in-loop-i : goal.index-requires-in-loop-i
+index-requires-in-loop-i c =
+    let row = c.loop-i.invariant c.loop-i.i _ (number_at c.args.log.now c.args.ix.now c.requires.index c.txns-txn-items.result.now c.txns-txn-items.ensures c.loop-i.i c.loop-i-test.true) in
+    let below = slice_get_within c.loop-i.all.items c.loop-i.i row.0 row.1 in
+    omega (arith, c.loop-i.all.ok.0)
+
+pub index_mut-requires-then-index-2 : goal.index_mut-requires-then-index-2
+index_mut-requires-then-index-2 c =
+    let row = c.loop-i.invariant c.loop-i.i _ (number_at c.args.log.now c.args.ix.now c.requires.index c.txns-txn-items.result.now c.txns-txn-items.ensures c.loop-i.i c.loop-i-test.true) in
+    let below = slice_get_within c.loop-i.all.items c.loop-i.i row.0 row.1 in
+    omega (arith, c.loop-i.all.ok.0)
+
+pub loop-i-preserved : goal.loop-i-preserved
+loop-i-preserved c =
+    let h = c.args.log.now in
+    let wf = c.law.ensures in
+    let n = c.loop-i.i in
+    let all = c.loop-i.all.items in
+    let x = get_or c.txns-txn-items.result.now n 0 in
+    let here : IsTxnAt h n x = number_at h c.args.ix.now c.requires.index c.txns-txn-items.result.now c.txns-txn-items.ensures n c.loop-i-test.true in
+    elim c.if-index-2.branch [
+      | then-index-2 w ↦
+          let new = w.put_writes.new.self in
+          let r = w.index_mut-then-index-2.result.now in
+          let s = c.index-in-loop-i.result.now in
+          subst (AreKnownFrom h (n + 1)) (sym (ap (λ (v : Vec Bounds Global). v.items) w.all-is))
+          (each_set h all n new (λ i t b. (i < n → IsKnownOf h t b) × (n ≤ i → IsKnownTo h t (length h + 1) b)) (λ i t b. (i < n + 1 → IsKnownOf h t b) × (n + 1 ≤ i → IsKnownTo h t (length h + 1) b)) x here
+          (λ i t b other apart known. ((λ less. known.0 (omega arith)), (λ more. known.1 (omega arith))))
+          (λ b known at.
+          let read : b ≡ r = same_row h all n b r at w.index_mut-then-index-2.ensures.value in
+          let first : b ≡ s = same_row h all n b s at c.index-in-loop-i.ensures in
+          let bad : r.misfit ≡ true = subst (λ (y : Bounds). y.misfit ≡ true) (sym first ∙ read) w.if-index-2.true in
+          let low = subst (λ g. IsBound (λ c d. d ≤ c) 0 (ReadAsks g x) r.low → IsLow g x new.low) c.requires.index w.put_writes.ensures.low in
+          ((λ less. known_of h wf x (has_event_at h n x here) r new bad (subst (IsKnownTo h x (length h + 1)) read (known.1 (omega arith))) low w.put_writes.ensures.rest), (λ more. absurd (omega arith))))
+          c.loop-i.invariant)
+      | else-index-2 w ↦
+          let s = c.index-in-loop-i.result.now in
+          subst (AreKnownFrom h (n + 1)) (sym (ap (λ (v : Vec Bounds Global). v.items) w.all-is))
+          (λ i t at.
+          let row = c.loop-i.invariant i t at in (
+            row.0,
+            row.1,
+            (
+              (λ less. elim (cases_lt i n) [
+                | inl before ↦ row.2.0 before
+                | inr after ↦
+                    let number : i ≡ n = omega arith in
+                    let read : row.0 ≡ s = same_row h all n row.0 s (subst (λ j. slice_get all j ≡ Some row.0) number row.1) c.index-in-loop-i.ensures in
+                    known_of_fit h wf t (length h + 1) row.0 (subst (λ (b : Bounds). b.misfit ≡ false) (sym read) w.if-index-2.false) (row.2.1 after)
+              ]),
+              (λ more. row.2.1 (omega arith)),
+            ),
+          ))
+    ]
+
+pub returns : goal.returns
+returns c i t at =
+    let row = c.loop-i.invariant i t at in
+    let below = number_below c.args.log.now c.args.ix.now c.requires.index c.txns-txn-items.result.now c.txns-txn-items.ensures i t at in
+    let done = c.loop-i-test.false in
+    (row.0, row.1, row.2.0 (omega arith))

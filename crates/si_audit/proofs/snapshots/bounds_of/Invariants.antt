@@ -1,0 +1,11 @@
+-- The rows have what the events so far tell; then the rows so far have all that is to be known.
+use Rattle.std.proofs.Common.{◌+◌}
+use Rattle.si_audit.specs.Bounds.{EachTxn, IsKnownTo}
+use Rattle.si_audit.proofs.Shared.EachKnown.{AreKnownFrom}
+use Rattle.si_audit.proofs.snapshots.bounds_of.Given as goal
+
+abbrev pub invariant-loop-before : goal.invariant-loop-before
+invariant-loop-before l = EachTxn (λ t. IsKnownTo l.log t (l.before + 1)) l.log l.all.items
+
+abbrev pub invariant-loop-i : goal.invariant-loop-i
+invariant-loop-i l = AreKnownFrom l.log l.i l.all.items
