@@ -3,7 +3,7 @@
 #: make run HISTORY=FILE       audits a history (without HISTORY examples/write_skew.history) and says what its status means
 #: make run EXPLAIN=1          leaves out edges and pivots, and tells below each finding which events make it
 #: make run MAX_EVENTS=N        takes a history of up to N events, and with MAX_BYTES=N of up to N bytes (100000 and 16777216)
-#: make run BRIEF=1 CHECK=si   leaves out edges and pivots, and the status tells of another level: serializable, ssi or si
+#: make run BRIEF=1 CHECK=si   leaves out edges and pivots, and the status tells of another level: serializable, ssi, si or gsi
 #: make                        proves and builds the program, where there is none or a source is newer than it
 #: make build                  proves and builds the program in any case; the kit knows what it has proved already
 #: make test                   tests the kept program and the companion, in minutes and without a proof, and says what it didn't test

@@ -40,7 +40,11 @@ case $CHECK in
         kept="isolation was kept"
         broken="isolation was broken"
         ;;
-    *) fail "CHECK is serializable, ssi or si, and not $CHECK" ;;
+    gsi)
+        kept="for each transaction there is a snapshot that fits, taken before its first read or write"
+        broken="for some transaction there is no snapshot that fits, taken before its first read or write; EXPLAIN=1 says why"
+        ;;
+    *) fail "CHECK is serializable, ssi, si or gsi, and not $CHECK" ;;
 esac
 brief=$(option BRIEF "$BRIEF" --brief) || exit 2
 explain=$(option EXPLAIN "$EXPLAIN" --explain) || exit 2

@@ -3,11 +3,12 @@
 
     PYTHONPATH=tools python3 -m fuzz_texts PROGRAM [--count N] [--seed N] [--only N]
 
-Each text is an example, or a random history, with some of its bytes or tokens changed, and is given four times: for the full
-report by the default workers, and for the full, the brief and the explained report by some workers, with some cuts and under some
-level. They have to agree as docs/FORMAT.md and docs/USAGE.md say: the status is 0, 1 or 3, and that of the level; standard error
-stays empty; each report ends with a line feed and holds nothing but printable ASCII; the brief report is the full one without
-edges and pivots, and the explained one without its reasons is the brief one. A text is made from the seed and its own number
+Each text is an example, or a random history, with some of its bytes or tokens changed, and is given five times: for the full and
+for the explained report by the default workers, and for the full, the brief and the explained report by some workers, with some
+cuts and under some level. They have to agree as docs/FORMAT.md and docs/USAGE.md say: the status is 0, 1 or 3, and that of the
+level, which of gsi only the explained report tells; standard error stays empty; each report ends with a line feed and holds
+nothing but printable ASCII; the brief report is the full one without edges and pivots, and the explained one without its reasons
+and without the lines of snapshots is the brief one. A text is made from the seed and its own number
 alone, so --only gives one text again. The first text that fails is kept as out/fuzzed.history. The last line is
 'N passed, M failed'.
 """
@@ -35,7 +36,7 @@ SHARES = 50
 # Of all runs at least so many have each of the statuses, so that each kind is tried.
 LEAST_SHARE = 0.05
 MAX_KEY = 2**64 - 1
-LEVELS = ("serializable", "ssi", "si")
+LEVELS = ("serializable", "ssi", "si", "gsi")
 FORMS: tuple[list[str], ...] = ([], ["--brief"], ["--explain"])
 EXAMPLES = [path.read_bytes() for path in sorted(Path("examples").glob("**/*.history"))]
 
@@ -47,6 +48,14 @@ class Ran:
     status: int
     report: bytes
     said: bytes
+
+
+@dataclass(frozen=True)
+class Reports:
+    """The full and the explained report of a text, by the default workers."""
+
+    full: bytes
+    explained: bytes
 
 
 class Hanging(Exception):
@@ -131,43 +140,49 @@ def shared(text: bytes, rng: Random) -> list[str]:
     return ["--workers", str(rng.choice((1, 2, 3, 4, 7, 64))), *cuts]
 
 
-def status_of(report: bytes, level: str) -> int:
-    """The status that a report has under a level, as docs/USAGE.md says it."""
-    if report.startswith(b"refused: "):
+def status_of(reports: Reports, level: str) -> int:
+    """The status that a text with these reports has under a level, as docs/USAGE.md says it."""
+    if reports.full.startswith(b"refused: "):
         return 3
+    if level == "gsi":
+        return 1 if re.search(rb"^snapshot [0-9]+ none$", reports.explained, re.MULTILINE) else 0
     line = {"serializable": b"serializable yes", "ssi": b"ssi pass", "si": b"isolation kept"}[level]
-    lines = report.split(b"\n")
+    lines = reports.full.split(b"\n")
     return 0 if b"isolation kept" in lines and line in lines else 1
 
 
 def told(report: bytes) -> bytes:
     """What every form of a report tells: a brief report."""
-    lines = report.splitlines(keepends=True)
-    return b"".join(line for line in lines if not line.startswith((b"  ", b"dangerous ", b"edge ", b"pivot ")))
+    others = b"  ", b"snapshot ", b"dangerous ", b"edge ", b"pivot "
+    return b"".join(line for line in report.splitlines(keepends=True) if not line.startswith(others))
 
 
-def fault_of(ran: Ran, level: str, form: list[str], full: bytes) -> str | None:
-    """What is wrong with a run, whose full report is this one."""
-    if ran.said or ran.status != status_of(ran.report, level):
+def fault_of(ran: Ran, level: str, form: list[str], reports: Reports) -> str | None:
+    """What is wrong with a run on a text that has these reports."""
+    if ran.said or ran.status != status_of(reports, level):
         return f"status {ran.status}, and {ran.said!r} on standard error"
     if not re.fullmatch(rb"[ -~\n]*\n", ran.report):
         return "a report that doesn't end with a line feed, or holds what can't be printed"
-    if told(ran.report) != told(full) or (form == ["--brief"] and ran.report != told(full)):
+    if told(ran.report) != told(reports.full) or (form == ["--brief"] and ran.report != told(reports.full)):
         return "the report is another"
-    if not form and ran.report != full:
+    if not form and ran.report != reports.full:
         return "the full report is another"
+    if form == ["--explain"] and ran.report != reports.explained:
+        return "the explained report is another"
     return "the explained report has edges or pivots" if form and re.search(rb"^(edge|pivot) ", ran.report, re.MULTILINE) else None
 
 
 def faults(runner: Runner, text: bytes, rng: Random) -> Iterator[str]:
     """What is wrong with the runs on a text."""
     runner.give(text)
-    full = runner.run([])
-    yield from filter(None, [fault_of(full, LEVELS[0], [], full.report)])
+    full, explained = runner.run([]), runner.run(["--explain"])
+    reports = Reports(full.report, explained.report)
+    for ran, form in ((full, FORMS[0]), (explained, FORMS[2])):
+        yield from filter(None, [fault_of(ran, LEVELS[0], form, reports)])
     for form in FORMS:
         level = rng.choice(LEVELS)
         words = [*form, "--check", level, *shared(text, rng)]
-        fault = fault_of(runner.run(words), level, form, full.report)
+        fault = fault_of(runner.run(words), level, form, reports)
         if fault:
             yield f"{' '.join(words)}: {fault}"
 

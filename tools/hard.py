@@ -46,11 +46,13 @@ def brief(
     found: Below | None = None,
     steps: list[str] | None = None,
     dangerous: list[str] | None = None,
+    snapshots: Below | None = None,
 ) -> Case:
     """A case with its brief report: the counts are of committed, aborted and open transactions, isolation is broken where
     something was found, the last line says whether there is a serial order, and the test of serializable snapshot isolation
     fails where something was found or is dangerous. The explained report has besides how many were found, which are of one
-    name, what stands below each, the steps below the last line, and the lines of a dangerous structure."""
+    name, what stands below each, the lines of the transactions that their starts don't fit, the steps below the last line, and
+    the lines of a dangerous structure."""
     committed, aborted, still_open = counts
     names = [below[0].partition(":")[0].strip() for below in (found or {}).values()]
     is_ordered = last.startswith("order")
@@ -63,6 +65,8 @@ def brief(
         last: steps or [],
     }
     explained = [it for line, below in lines.items() for it in (line, *below)]
+    at = explained.index(f"ssi {'fail' if found or dangerous else 'pass'}")
+    explained[at:at] = [it for line, below in (snapshots or {}).items() for it in (line, *below)]
     return Case(joined(tokens), of_lines(lines), 1 if found or not is_ordered else 0, of_lines(explained))
 
 
@@ -78,6 +82,11 @@ def version(txn: int, key: int, place: int) -> str:
 def lost_update(txn: int, start: int, read: str, first: str, second: str) -> list[str]:
     """What stands below a bad write: when the later transaction starts, its read, and both versions."""
     return [f"  lost update: transaction {txn} starts after event {start}; {read}; {first}; {second}"]
+
+
+def too_late(commit: str, write: str, act: str) -> list[str]:
+    """What stands below a transaction that no snapshot fits: it wrote what was committed only when it had acted."""
+    return [f"  not without {commit}: {write}", f"  not after {act}"]
 
 
 ALLOWED = "  allowed under snapshot isolation: two rw steps between overlapping transactions follow one another"
@@ -110,7 +119,15 @@ def lost_updates(size: int) -> Case:
         )
         for it in range(1, count)
     }
-    return brief(tokens, (count, 0, 0), f"cycle 1 >ww:{KEY}> 2 >rw:{KEY}> 1", found, two_steps(versions[0], versions[1]))
+    writes = [it.partition(",")[0] for it in versions]
+    snapshots = {
+        f"snapshot {it + 1} none": too_late(
+            f"event {3 * it + 1} c{it}", writes[it], f"event {3 * it - 1} r{it + 1}[{KEY}:{it - 1}]"
+        )
+        for it in range(1, count)
+    }
+    steps = two_steps(versions[0], versions[1])
+    return brief(tokens, (count, 0, 0), f"cycle 1 >ww:{KEY}> 2 >rw:{KEY}> 1", found, steps, snapshots=snapshots)
 
 
 def all_at_once(size: int) -> Case:
@@ -126,7 +143,15 @@ def all_at_once(size: int) -> Case:
         for it in ids
         for other in range(it + 1, count + 1)
     }
-    return brief(tokens, (count, 0, 0), f"cycle 1 >ww:{KEY}> 2 >rw:{KEY}> 1", found, two_steps(versions[0], versions[1]))
+    # The version before the own one is that of the transaction before.
+    snapshots = {
+        f"snapshot {it} none": too_late(
+            f"event {count + 2 * it - 2} c{it - 1}", f"event {count + 2 * it - 1} w{it}[{KEY}]", f"event {it} r{it}[{KEY}:0]"
+        )
+        for it in ids[1:]
+    }
+    steps = two_steps(versions[0], versions[1])
+    return brief(tokens, (count, 0, 0), f"cycle 1 >ww:{KEY}> 2 >rw:{KEY}> 1", found, steps, snapshots=snapshots)
 
 
 def same_keys(size: int) -> Case:
@@ -141,7 +166,8 @@ def same_keys(size: int) -> Case:
         found[f"bad-write {key} 1 2"] = lost_update(2, 2, f"event {4 * key - 1} r2[{key}:0]", first, second)
     first = f"event 2 w1[1], {ends[0]}"
     steps = [f"  1 >ww:1> 2: {first}; event 4 w2[1], {ends[1]}", f"  2 >rw:1> 1: event 3 r2[1:0]; {first}", FORBIDDEN]
-    return brief([*tokens, "c1", "c2"], (2, 0, 0), "cycle 1 >ww:1> 2 >rw:1> 1", found, steps)
+    snapshots = {"snapshot 2 none": too_late(ends[0], "event 4 w2[1]", "event 3 r2[1:0]")}
+    return brief([*tokens, "c1", "c2"], (2, 0, 0), "cycle 1 >ww:1> 2 >rw:1> 1", found, steps, snapshots=snapshots)
 
 
 def readers_ahead(size: int) -> Case:
@@ -150,6 +176,7 @@ def readers_ahead(size: int) -> Case:
     count = size // 5
     tokens = [f"b{2 * it}" for it in range(1, count + 1)]
     found: Below = {}
+    snapshots: Below = {}
     for it in range(1, 2 * count, 2):
         place = len(tokens) + 3
         read = f"r{it + 1}[{KEY}:{it}]"
@@ -158,7 +185,8 @@ def readers_ahead(size: int) -> Case:
             f"  future read: event {place} {read}; transaction {it + 1} starts after event {it // 2}",
             f"  saw: {version(it, KEY, place - 2)}",
         ]
-    return brief(tokens, (2 * count, 0, 0), ordered(range(1, 2 * count + 1)), found)
+        snapshots[f"snapshot {it + 1} from {place - 1} to {place - 1}"] = []
+    return brief(tokens, (2 * count, 0, 0), ordered(range(1, 2 * count + 1)), found, snapshots=snapshots)
 
 
 def held_snapshots(size: int) -> Case:
@@ -217,7 +245,57 @@ def stale_list(size: int) -> Case:
         ]
         for key in keys
     }
-    return brief(tokens, (3, 0, 0), ordered([1, 3, 2]), found)
+    snapshots: Below = {f"snapshot 3 from {count + 1} to {2 * count + 1}": []}
+    return brief(tokens, (3, 0, 0), ordered([1, 3, 2]), found, snapshots=snapshots)
+
+
+def stale_reads(size: int) -> Case:
+    """A key with many versions. A hundredth of the size is readers, each of a version that many others have come after."""
+    readers = size // 100
+    count = (size - 2 * readers) // 2
+    each = count // readers
+    # The reader of a version has the next number, so that numbers ascend in the order.
+    numbers = [1 + it + -(-it // each) for it in range(count)]
+    behind = each // 2
+    tokens: list[str] = []
+    places: list[int] = []
+    found: Below = {}
+    snapshots: Below = {}
+    for at, writer in enumerate(numbers):
+        places.append(len(tokens) + 1)
+        tokens += [f"w{writer}[{KEY}]", f"c{writer}"]
+        read = at - behind
+        if read >= 0 and read % each == 0:
+            reader, saw, place = numbers[read] + 1, numbers[read], len(tokens) + 1
+            found[f"bad-read {place} {reader} {KEY} saw {saw} due {writer}"] = [
+                f"  stale read: event {place} r{reader}[{KEY}:{saw}]; transaction {reader} starts after event {place - 1}",
+                f"  saw: {version(saw, KEY, places[read])}",
+                f"  due: {version(writer, KEY, places[at])}",
+            ]
+            snapshots[f"snapshot {reader} from {places[read] + 1} to {places[read + 1]}"] = []
+            tokens += [f"r{reader}[{KEY}:{saw}]", f"c{reader}"]
+    committed = len(numbers) + len(snapshots)
+    order = sorted([*numbers, *(numbers[it] + 1 for it in range(0, count - behind, each))])
+    return brief(tokens, (committed, 0, 0), ordered(order), found, snapshots=snapshots)
+
+
+def missed_by_ranges(size: int) -> Case:
+    """A hundredth of the size is readers, and two fifths are keys. Each reader passes over all keys by a range, before they are
+    written but for the first one, which it misses."""
+    readers, count = size // 100, 2 * size // 5
+    writer = readers + 1
+    tokens = [f"w{writer}[0]", f"c{writer}", *(f"r{it}[0..{MAX_KEY}]" for it in range(1, readers + 1))]
+    tokens += [*(f"w{writer + 1}[{key}]" for key in range(1, count)), f"c{writer + 1}"]
+    found = {
+        f"bad-read {it + 2} {it} 0 saw 0 due {writer}": [
+            f"  phantom: event {it + 2} r{it}[0..{MAX_KEY}]; transaction {it} starts after event {it + 1}",
+            f"  due: {version(writer, 0, 1)}",
+        ]
+        for it in range(1, readers + 1)
+    }
+    snapshots: Below = {f"snapshot {it} from 0 to 1": [] for it in range(1, readers + 1)}
+    tokens += [f"c{it}" for it in range(1, readers + 1)]
+    return brief(tokens, (readers + 2, 0, 0), ordered(range(1, readers + 3)), found, snapshots=snapshots)
 
 
 def wide_ranges(size: int) -> Case:
@@ -295,3 +373,6 @@ KINDS: dict[str, Callable[[int], Case]] = {
         ring,
     )
 }
+
+# Those kinds of which an explained report of 100,000 events has a thousand bad reads, each with a snapshot that fits its reader.
+OLD_SNAPSHOTS: dict[str, Callable[[int], Case]] = {it.__name__: it for it in (stale_reads, missed_by_ranges)}

@@ -7,8 +7,9 @@ Each whole report is worked out by a formula, from the rules of docs/FORMAT.md. 
 worker, and to four with some cuts; those that are refused once more, for the explained report. Those of hard.py are asked for
 the brief report and for the explained one, under a limit of memory too: at SIZE, which is 100,000 where it isn't given, and at
 a fourth of it. The greater one may take at most some eight times as long, and a moment. An explained report may take as much
-memory as a brief one, and its own bytes. Beyond 100,000 events time and memory may grow with the size. Proofs bound neither, so
-that they are small is shown here alone.
+memory as a brief one, and its own bytes. Beyond 100,000 events time and memory may grow with the size. The explained report of
+a thousand bad reads has to be there in two seconds, also where each reader passes over 40,000 keys. Proofs bound neither time
+nor memory, so that they are small is shown here alone.
 The last line is 'N passed, M failed'.
 """
 
@@ -39,6 +40,8 @@ HARD_MEGABYTES = 300
 BRIEF, EXPLAIN = "--brief", "--explain"
 GROWTH = 8
 MOMENT = 0.2
+# The same of a thousand bad reads, each with a snapshot that fits its reader, whatever that passes over.
+OLD_SECONDS = 2
 
 
 def clean(events: int, committed: list[int], still_open: int = 0, edges: str = "") -> bytes:
@@ -296,6 +299,11 @@ class Tried:
         self.make(lambda: in_form(make(), EXPLAIN))
         self.runs(f"{make.__name__} {EXPLAIN}", [[EXPLAIN, *it] for it in LINES], SECONDS)
 
+    def old(self, name: str) -> None:
+        """The explained report of a thousand bad reads."""
+        self.make(lambda: in_form(hard.OLD_SNAPSHOTS[name](MAX_EVENTS), EXPLAIN))
+        self.runs(f"{name} {EXPLAIN}", [[EXPLAIN, *it] for it in LINES], OLD_SECONDS, HARD_MEGABYTES)
+
     def hard(self, name: str, size: int) -> None:
         """One hard kind in the brief and in the explained form, at a fourth of the size and at the whole."""
         for form in (BRIEF, EXPLAIN):
@@ -330,6 +338,8 @@ def main(words: Sequence[str]) -> int:
             tried.runs(make.__name__, LINES, SECONDS)
         for make in REFUSED:
             tried.explained(make)
+        for name in hard.OLD_SNAPSHOTS:
+            tried.old(name)
         for name in hard.KINDS:
             tried.hard(name, size)
     print(f"{tried.passed} passed, {tried.failed} failed")

@@ -127,6 +127,7 @@ same "the greatest key" examples/clean.report 18446744073709551615 0 0
 same "the most cuts" examples/clean.report $(seq 0 1023) 7
 same "the level ssi" examples/clean.report --check ssi
 same "the level si" examples/clean.report --check=si
+same "the level gsi" examples/clean.report --check gsi 5
 explained clean 0 --explain
 explained clean 0 --explain --workers 64 14
 explained lost_update 1 --explain --explain
@@ -135,6 +136,11 @@ explained aborted_read 1 --explain --brief --brief 0 1 2 3
 explained stale_read 1 1 --explain 18446744073709551615 --workers=3
 explained read_only_anomaly 1 --explain --check ssi 2 1
 explained refused 3 --explain --check=si
+explained refused 3 --explain --check gsi
+explained stale_read 0 --explain --check gsi 1
+explained stale_read 1 --check si --explain
+explained read_skew 1 --explain --check=gsi --workers 1
+explained lost_update 1 --brief --check gsi --explain
 explained refused_name 3 --explain --brief --workers 2 7
 events=$(wc -w <"$history")
 bytes=$(wc -c <"$history")
@@ -167,7 +173,16 @@ help "-h after others" --workers 64 14 -h
 
 "$PROGRAM" $(seq 1 1024) <"$history" >out/report 2>out/said
 told "too many cuts" $? 2 "si_audit: too many cuts"
-for level in serializable:1 ssi:1 si:0; do
+for example in stale_read:0 read_skew:1; do
+    name=${example%:*}
+    "$PROGRAM" --check gsi <"examples/$name.history" >out/report 2>out/said
+    told "$name, held against gsi" $? "${example#*:}" ""
+    count "$name, held against gsi: its report" "$(cmp "examples/$name.report" out/report 2>&1)"
+    "$PROGRAM" --check gsi --brief <"examples/$name.history" >out/report 2>out/said
+    told "$name in brief, held against gsi" $? "${example#*:}" ""
+    count "$name in brief, held against gsi: its report" "$(grep -v -e '^edge' -e '^pivot' "examples/$name.report" | cmp - out/report 2>&1)"
+done
+for level in serializable:1 ssi:1 si:0 gsi:0; do
     "$PROGRAM" --brief --check "${level%:*}" <examples/write_skew.history >out/report 2>out/said
     told "write skew, held against ${level%:*}" $? "${level#*:}" ""
     count "write skew in brief: its report" "$(grep -v -e '^edge' -e '^pivot' examples/write_skew.report | cmp - out/report 2>&1)"

@@ -32,7 +32,7 @@ LIMITS = {
     "companion/README.md": 500,
     "docs/AUDIT.md": 700,
     "docs/DATABASES.md": 2_450,
-    "docs/FORMAT.md": 3_000,
+    "docs/FORMAT.md": 3_350,
     "docs/PICTURES.md": 950,
     "docs/RECORDING.md": 2_800,
     "docs/SCALE.md": 600,

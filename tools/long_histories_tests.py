@@ -78,6 +78,7 @@ class FindingsTest(unittest.TestCase):
                     self.same(schedule, text)
                     lines = 2 * (name != "write-skew") + 2 * (name in ("aborted-read", "uncommitted-read", "own-write-missed"))
                     self.assertEqual(len(schedule.found.findings), lines)
+                    self.assertEqual(len(schedule.found.snapshots), 2 * (name != "write-skew"))
 
     def test_all_anomalies(self) -> None:
         for kind in KINDS:

@@ -1,6 +1,7 @@
 """A simulated store under snapshot isolation that writes each event as it is recorded, so that a history may be of any length.
 
-Of each key the store knows the two newest versions, and those before them that an open transaction may still have to see.
+Of each key the store knows the first version, the two newest ones, and those before them that an open transaction may still
+have to see.
 """
 
 from __future__ import annotations
@@ -42,7 +43,7 @@ class Versions:
     def __init__(self, keys: int) -> None:
         nothing = bytes(4 * keys)
         self.commits, self.writers, self._writes = (array("I", nothing) for _ in range(3))
-        self._earlier = tuple(array("I", nothing) for _ in range(3))
+        self._earlier, self._first = (tuple(array("I", nothing) for _ in range(3)) for _ in range(2))
         self._older: dict[int, list[Version]] = {}
 
     def newest(self, key: int) -> Version:
@@ -51,6 +52,10 @@ class Versions:
     def earlier(self, key: int) -> Version:
         """The version before the newest one."""
         return Version(*(column[key] for column in self._earlier))
+
+    def first(self, key: int) -> Version:
+        """The version that came after version 0."""
+        return Version(*(column[key] for column in self._first))
 
     def due(self, start: int, key: int) -> int:
         """Who wrote the version that a snapshot has which was taken at this start."""
@@ -62,6 +67,9 @@ class Versions:
     def add(self, key: int, version: Version, oldest: int) -> None:
         """Adds the newest version of a key. No open transaction started before `oldest`."""
         newest, earlier = self.newest(key), self.earlier(key)
+        if not newest.commit:
+            for column, number in zip(self._first, version):
+                column[key] = number
         if oldest >= newest.commit:
             self._older.pop(key, None)
         else:

@@ -5,9 +5,10 @@
 
 EVENTS is how many the longest history has, from 50,000 on, and 1,000,000 where it isn't given. Of each history the brief and
 the explained report are looked at. Up to the line `ssi` they have to be those that the generator gives, byte for byte: the
-counts, and each bad read, bad write and unexplained read, in the explained one with its name and its events. Behind it stands
-whether the test of serializable snapshot isolation fails and whether there is an order, which has each committed transaction
-once. Limits of one event less, and of one byte less, refuse the longest. The last line is 'N passed, M failed'.
+counts, and each bad read, bad write and unexplained read, in the explained one with its name and its events, and there too
+which snapshots would fit the transactions that their starts don't fit. Behind it stands whether the test of serializable
+snapshot isolation fails and whether there is an order, which has each committed transaction once. Limits of one event less, and
+of one byte less, refuse the longest. The last line is 'N passed, M failed'.
 """
 
 from __future__ import annotations

@@ -40,6 +40,10 @@ runs "make run EXPLAIN=no" "$out/brief" "$broken" run BRIEF=yes EXPLAIN=no
 runs "make run EXPLAIN=1" examples/write_skew.explained "$broken" run EXPLAIN=1
 runs "make run EXPLAIN=1 BRIEF=1" examples/write_skew.explained "$broken" run EXPLAIN=1 BRIEF=1
 runs "make run CHECK=si" examples/write_skew.report "status 0: isolation was kept" run CHECK=si
+fits="status 0: for each transaction there is a snapshot that fits, taken before its first read or write"
+runs "make run CHECK=gsi" examples/stale_read.report "$fits" run CHECK=gsi HISTORY=examples/stale_read.history
+broken="status 1: for some transaction there is no snapshot that fits, taken before its first read or write; EXPLAIN=1 says why"
+runs "make run CHECK=gsi EXPLAIN=1" examples/read_skew.explained "$broken" run CHECK=gsi EXPLAIN=1 HISTORY=examples/read_skew.history
 broken="status 1: the history fails the test of serializable snapshot isolation"
 runs "make run CHECK=ssi" examples/write_skew.report "$broken" run CHECK=ssi
 refused="status 3: the text is no history, and was refused"
@@ -62,6 +66,7 @@ failing() {
 }
 
 failing "make run BRIEF=2" "make run: BRIEF is 1 or 0, and not 2" run BRIEF=2
+failing "make run CHECK=rc" "make run: CHECK is serializable, ssi, si or gsi, and not rc" run CHECK=rc
 said="error: invalid value '0' for '--max-events <N>': 0 is not in 1..=500000000"
 failing "make run MAX_EVENTS=0" "$said" run MAX_EVENTS=0
 failing "make run EXPLAIN=all" "make run: EXPLAIN is 1 or 0, and not all" run EXPLAIN=all

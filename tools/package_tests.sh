@@ -98,6 +98,7 @@ test_debian() {
     done
     if command -v bash >/dev/null 2>&1; then
         completes "a level" "ssi" si_audit --check ss
+        completes "another level" "gsi" si_audit --check g
         completes "an option" "--explain" si_audit --ex
         completes "the limits" "--max-bytes --max-events" si_audit --max
         completes "a command" "from-events" si-history from-e

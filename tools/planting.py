@@ -7,6 +7,7 @@ from __future__ import annotations
 
 from collections.abc import Callable, Iterator
 from dataclasses import dataclass, field
+from typing import NamedTuple
 
 from long_store import Store, Transaction, Version
 
@@ -24,6 +25,8 @@ class Found:
     findings: list[tuple[tuple[int, ...], str, list[str]]] = field(default_factory=list)
     names: list[str] = field(default_factory=list)
     """The names of the bad reads and the bad writes."""
+    snapshots: list[tuple[int, str, list[str]]] = field(default_factory=list)
+    """The lines of transactions that their starts don't fit, each by its transaction, with the reasons below it."""
     breaks_isolation: bool = False
     has_no_order: bool = False
     """Whether a read is unexplained, or there is a cycle."""
@@ -38,6 +41,9 @@ class Found:
         for _, line, reasons in sorted(self.findings):
             yield line
             yield from reasons if explained else ()
+        for _, line, reasons in sorted(self.snapshots) if explained else ():
+            yield line
+            yield from reasons
 
     def read(self, name: str, key: int, reader: Reader, saw: Version, due: Version, saw_end: str = "c") -> None:
         """A bad read under its name. It is unexplained where the reader wrote the key, or the version was never committed."""
@@ -52,6 +58,7 @@ class Found:
         if key in reader.txn.written or saw_end != "c":
             self.findings.append(((2, reader.place, key), f"unexplained {reader.place} {txn} {key} {saw.writer}", reasons))
             self.has_no_order = True
+            self.torn(txn, f"in no snapshot: event {reader.place} {reader.token}")
 
     def writes(self, key: int, first: Version, second: Version, reader: Reader) -> None:
         """A lost update: the writer of the second version starts before the first was committed, and read one before that."""
@@ -61,6 +68,36 @@ class Found:
         reason += f"; {first.told(key)}; {second.told(key)}"
         self.findings.append(((1, *order), f"bad-write {' '.join(map(str, order))}", [reason]))
         self.breaks_isolation = self.has_no_order = self.fails_ssi = True
+        # The second writer acts by its read, and the first version is committed behind that.
+        asks = f"not without event {first.commit} c{first.writer}: event {second.write} w{second.writer}[{key}]"
+        self.torn(second.writer, asks, f"not after event {reader.place} {reader.token}")
+
+    def fits(self, txn: int, least: int, greatest: int) -> None:
+        """The snapshots from one place to another fit a transaction, and its start doesn't."""
+        self.snapshots.append((txn, f"snapshot {txn} from {least} to {greatest}", []))
+
+    def torn(self, txn: int, *reasons: str) -> None:
+        """No snapshot fits a transaction."""
+        self.snapshots.append((txn, f"snapshot {txn} none", [f"  {it}" for it in reasons]))
+
+    def old(self, reader: Reader, saw: Version, after: Version) -> None:
+        """A reader saw a version, and so not the one after that; of the other keys of its range it saw the newest versions."""
+        txn, beside = reader.txn.number, reader.beside
+        least = max(saw.commit, beside.commit)
+        if least < after.commit:
+            self.fits(txn, least, after.commit - 1)
+        else:
+            asks = f"not without event {least} c{beside.writer}: event {reader.place} {beside.token}"
+            self.torn(txn, asks, f"not with event {after.commit} c{after.writer}: event {reader.place} {reader.token}")
+
+
+class Beside(NamedTuple):
+    """The latest commit of what a range saw of other keys: its place, who committed, and the range with the pair of the first
+    such key."""
+
+    commit: int = 0
+    writer: int = 0
+    token: str = ""
 
 
 @dataclass(slots=True)
@@ -70,6 +107,7 @@ class Reader:
     txn: Transaction
     place: int
     token: str
+    beside: Beside = Beside()
 
 
 def read_version(store: Store, txn: Transaction, key: int, version: Version) -> Reader:
@@ -81,9 +119,12 @@ def read_version(store: Store, txn: Transaction, key: int, version: Version) -> 
 def read_in_range(store: Store, txn: Transaction, key: int, version: Version, reach: int) -> Reader:
     """A transaction reads a range around a key, and sees this version of that key."""
     low, high = max(0, key - reach), min(store.keys - 1, key + reach)
+    commits, writers = store.versions.commits, store.versions.writers
+    latest = max((it for it in range(low, high + 1) if it != key), key=commits.__getitem__)
+    beside = Beside(commits[latest], writers[latest], f"r{txn.number}[{low}..{high};{latest}:{writers[latest]}]")
     place = store.read_range(txn, low, high, {key: version.writer})
     pair = f";{key}:{version.writer}" if version.writer else ""
-    return Reader(txn, place, f"r{txn.number}[{low}..{high}{pair}]")
+    return Reader(txn, place, f"r{txn.number}[{low}..{high}{pair}]", beside)
 
 
 def stale_read(store: Store, key: int, found: Found) -> None:
@@ -92,6 +133,7 @@ def stale_read(store: Store, key: int, found: Found) -> None:
     reader = read_version(store, store.start(), key, saw)
     store.commit(reader.txn)
     found.read("stale read", key, reader, saw, due)
+    found.old(reader, saw, due)
 
 
 def stale_in_range(store: Store, key: int, found: Found) -> None:
@@ -100,6 +142,7 @@ def stale_in_range(store: Store, key: int, found: Found) -> None:
     reader = read_in_range(store, store.start(), key, saw, 20)
     store.commit(reader.txn)
     found.read("stale read" if saw.writer else "phantom", key, reader, saw, due)
+    found.old(reader, saw, due)
 
 
 def phantom(store: Store, key: int, found: Found) -> None:
@@ -108,6 +151,7 @@ def phantom(store: Store, key: int, found: Found) -> None:
     reader = read_in_range(store, store.start(), key, nothing, 2)
     store.commit(reader.txn)
     found.read("phantom", key, reader, nothing, due)
+    found.old(reader, nothing, store.versions.first(key))
 
 
 def future_read(store: Store, key: int, found: Found) -> None:
@@ -121,6 +165,8 @@ def future_read(store: Store, key: int, found: Found) -> None:
     reader = read_version(store, reading, key, saw)
     store.commit(reading)
     found.read("future read", key, reader, saw, due)
+    # It acts right behind the commit.
+    found.fits(reading.number, saw.commit, saw.commit)
 
 
 def aborted_read(store: Store, key: int, found: Found) -> None:

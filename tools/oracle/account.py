@@ -7,7 +7,7 @@ from typing import NamedTuple
 KINDS = ("ww", "wr", "rw")
 WW, WR, RW = range(3)
 # The levels that a history can be held against, as --check names them.
-LEVELS = (SERIALIZABLE, SSI, SI) = ("serializable", "ssi", "si")
+LEVELS = (SERIALIZABLE, SSI, SI, GSI) = ("serializable", "ssi", "si", "gsi")
 
 
 class BadRead(NamedTuple):
@@ -68,6 +68,18 @@ class Pivot(NamedTuple):
     firsts: list[int]
 
 
+class Snapshot(NamedTuple):
+    """A transaction that its start doesn't fit, and the least and the greatest number before it acts that fits it, if one
+    does."""
+
+    txn: int
+    fitting: tuple[int, int] | None
+
+    @property
+    def line(self) -> str:
+        return f"snapshot {self.txn} {'none' if self.fitting is None else f'from {self.fitting[0]} to {self.fitting[1]}'}"
+
+
 class Counts(NamedTuple):
     events: int
     committed: int
@@ -84,6 +96,7 @@ class Account:
     bad_reads: list[BadRead]
     bad_writes: list[BadWrite]
     unexplained: list[Unexplained]
+    snapshots: list[Snapshot]
     edges: list[Edge]
     pivots: list[Pivot]
     is_serializable: bool
@@ -103,10 +116,11 @@ class Account:
     def status(self, level: str = SERIALIZABLE) -> int:
         """The program's status where it is told to check this level."""
         met = {SERIALIZABLE: self.is_kept and self.is_serializable, SSI: self.passes, SI: self.is_kept}
+        met[GSI] = all(it.fitting is not None for it in self.snapshots)
         return 0 if met[level] else 1
 
     def lines(self, brief: bool = False) -> Iterator[str]:
-        """The lines of the report. A brief one has none of edges and pivots."""
+        """The lines of the report. A brief one has none of edges and pivots, and only the explained one tells of snapshots."""
         yield from self.head()
         yield from (it.line for it in self.bad_reads)
         yield from (it.line for it in self.bad_writes)

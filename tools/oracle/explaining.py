@@ -1,13 +1,15 @@
 """The explained report: what stands below the lines of the brief one, as docs/FORMAT.md words it.
 
 The findings are those of an account. Each answer that is asked for here goes over all events of the history again: there is
-no table of them, and no search.
+no table of them, and no search. Only why no snapshot fits a transaction is told from tables.
 """
 
 from collections.abc import Iterable, Iterator
 
 from oracle.account import RW, WR, WW, Account, BadRead, BadWrite, Edge, bytes_of, last_line
 from oracle.events import Event, Form
+from oracle.snapshots import Deeds, asked_for, deeds_of, excluded, never_due
+from oracle.tables import Tables
 from oracle.trying import History
 
 NAMES = ("own write missed", "aborted read", "uncommitted read", "future read", "phantom", "stale read")
@@ -22,8 +24,8 @@ def report(events: list[Event], account: Account) -> bytes:
     return bytes_of(Explanation(events, account).lines())
 
 
-def spelled(event: Event, key: int) -> str:
-    """An event as its token, of whose listed pairs only that of the key is left."""
+def spelled(event: Event, key: int | None) -> str:
+    """An event as its token, of whose listed pairs only that of the key is left, and none where no key is given."""
     if event.form is Form.RANGE:
         pairs = "".join(f";{it}:{saw}" for it, saw in event.pairs if it == key)
         return f"r{event.txn}[{event.lo}..{event.hi}{pairs}]"
@@ -62,6 +64,7 @@ class Explanation(History):
             yield from with_reasons(write.line, [self.write_reason(write)])
         for lost in account.unexplained:
             yield from with_reasons(lost.line, self.read_reasons(bad_reads[lost.place, lost.key]))
+        yield from self.snapshot_lines()
         yield account.ssi_line
         if account.is_kept and not account.passes:
             yield from self.structure_lines()
@@ -74,7 +77,7 @@ class Explanation(History):
         if names:
             yield "  " + ", ".join(f"{names.count(it)} {it}" for it in (*NAMES, *WRITE_NAMES) if it in names)
 
-    def told(self, place: int, key: int) -> str:
+    def told(self, place: int, key: int | None = None) -> str:
         """The event at a place, as far as it is about the key."""
         return f"event {place} {spelled(self.at[place], key)}"
 
@@ -127,6 +130,28 @@ class Explanation(History):
         lost = (self.told(place, write.key) for place in list(self.losses(write))[:1])
         versions = (self.version(it, write.key) for it in (write.first, write.second))
         return "; ".join([f"{self.write_name(write)}: {self.start_told(write.second)}", *lost, *versions])
+
+    def snapshot_lines(self) -> Iterator[str]:
+        """The lines of the transactions that their starts don't fit. Where none fits, two events say why, or one read."""
+        if self.account.snapshots:
+            tables = Tables(list(self.at.values()))
+            deeds = deeds_of(tables)
+            for it in self.account.snapshots:
+                reasons = self.torn(tables, it.txn, deeds[it.txn]) if it.fitting is None else ()
+                yield from with_reasons(it.line, reasons)
+
+    def torn(self, tables: Tables, txn: int, deeds: Deeds) -> Iterator[str]:
+        """Why no snapshot fits a transaction."""
+        never = never_due(tables, txn, deeds)
+        if never is not None:
+            yield f"in no snapshot: {self.told(never.place, never.key)}"
+            return
+        asked, not_had = asked_for(tables, txn, deeds), excluded(tables, txn, deeds)
+        yield f"not without {self.told(asked.commit)}: {self.told(asked.place, asked.key)}"
+        if not_had is None:
+            yield f"not after {self.told(deeds.before)}"
+        else:
+            yield f"not with {self.told(not_had.commit)}: {self.told(not_had.place, not_had.key)}"
 
     def cycle_reasons(self) -> Iterator[str]:
         """What stands below the last line: the steps of a cycle, and whether snapshot isolation allows it."""

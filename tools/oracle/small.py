@@ -1,4 +1,4 @@
-"""Small random texts: of a store that mostly reads what is due, and of nobody in particular."""
+"""Small random texts: of a store that mostly reads what is due, perhaps from another start, and of nobody in particular."""
 
 from random import Random
 
@@ -20,6 +20,8 @@ class Maker:
         self.tokens: list[str] = []
         self.keys = rng.choice(KEYS)
         self.ids = rng.sample(rng.choice(IDS), rng.randint(1, 5))
+        # By how many events the snapshots are taken later than it is recorded, or earlier.
+        self.late = rng.choice((0, 0, 0, 0, 0, 0, -4, 8))
 
     def add(self, token: str) -> None:
         event = event_of(token.encode())
@@ -40,7 +42,8 @@ class Maker:
         if txn in writers:
             return txn
         history = History(events)
-        return history.due(txn, len(events) + 1, key) if txn in history.txns else history.newest(key)
+        start = history.start(txn) if txn in history.txns else len(events)
+        return history.due(txn, len(events) + 1, key, max(0, start + self.late))
 
     def range_read(self, txn: int, honest: bool) -> str:
         lo, hi = sorted(self.rng.choice([*self.keys, 0, 7, 15]) for _ in range(2))
@@ -74,9 +77,12 @@ class Maker:
                 self.add(f"{self.rng.choice('ccccca')}{txn}")
 
     def text(self) -> bytes:
-        """The text, of up to 24 tokens, perhaps a past before them, and some commits."""
+        """The text, of up to 24 tokens, perhaps begins and a past before them, and some commits."""
         honest = self.rng.random() < 0.5
-        if self.rng.random() < 0.4:
+        if self.late > 0:
+            for txn in self.ids:
+                self.add(f"b{txn}")
+        if self.late > 0 or self.rng.random() < 0.4:
             self.add_past()
         for _ in range(self.rng.randint(0, 24)):
             self.add(self.token(honest))

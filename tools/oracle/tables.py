@@ -42,11 +42,11 @@ class Tables:
         first = self.writes[key].get(txn)
         return first is not None and first < place
 
-    def due(self, txn: int, place: int, key: int) -> int:
-        """The version of a written key that is due to a read by the transaction at a place."""
+    def due(self, txn: int, place: int, key: int, start: int | None = None) -> int:
+        """The version of a written key that is due to a read by the transaction at a place, from its start or from another."""
         if self.is_own(txn, place, key):
             return txn
-        seen = bisect_right(self.places[key], self.starts[txn])
+        seen = bisect_right(self.places[key], self.starts[txn] if start is None else start)
         return self.versions[key][seen - 1] if seen else 0
 
     def overlap(self, left: int, right: int) -> bool:

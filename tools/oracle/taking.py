@@ -11,6 +11,7 @@ from collections.abc import Iterable, Iterator
 
 from oracle.account import RW, WR, WW, Account, BadRead, BadWrite, Counts, Edge, Pivot, Unexplained
 from oracle.events import Event, Form
+from oracle.snapshots import snapshots
 from oracle.tables import Tables
 
 
@@ -137,6 +138,7 @@ def account_of(events: list[Event]) -> Account:
         bad_reads=sorted(bad_reads(tables)),
         bad_writes=sorted(bad_writes(tables)),
         unexplained=lost,
+        snapshots=list(snapshots(tables)),
         edges=found,
         pivots=list(pivots(tables, found)),
         is_serializable=is_serializable,

@@ -13,12 +13,18 @@ from oracle.tables import Tables
 
 STEP = re.compile(r"[0-9]+ >(ww|wr|rw):[0-9]+> [0-9]+: (.*)")
 RANGE = re.compile(r"r[0-9]+\[[0-9]+\.\.[0-9]+(;[^\]]*)?\]")
+STARTS = re.compile(r"transaction ([0-9]+) starts after event ([0-9]+)")
+SNAPSHOT = re.compile(r"snapshot ([0-9]+) from ([0-9]+) to [0-9]+")
+ASKS = re.compile(r"not without event [0-9]+ c[0-9]+: event [0-9]+ ([rw]).*")
 WHERE = re.compile(r"line ([0-9]+), column [0-9]+: (.*)")
 COUNTS = re.compile(r"[0-9]+ [a-z ]+(, [0-9]+ [a-z ]+)*")
 ESCAPED = re.compile(r"\\x[0-9a-f]{2}")
 
 RANGES = ("range with the pair", "range without it")
 COUNTED = ("findings of one name counted", "findings of several names counted")
+NOT_WITHOUT = ("not without, by a read", "not without, by a write")
+TORN = tuple(f"{it}, {end}" for it in NOT_WITHOUT for end in ("not with", "not after"))
+SNAPSHOTS = ("snapshot before the start", "snapshot after the start", "snapshot after the start of a bad write", "in no snapshot", *TORN)
 REFUSALS = ("refusal in line 1", "refusal in a later line", "token cut", "token with strange bytes")
 REASONS = (
     *NAMES,
@@ -31,17 +37,33 @@ REASONS = (
     "forbidden under snapshot isolation",
     *RANGES,
     *COUNTED,
+    *SNAPSHOTS,
     *REFUSALS,
 )
 
 
 def shapes_of(explained: bytes) -> Iterator[str]:
     """Which of REASONS the lines of an explained report show."""
+    yield from shapes_of_snapshots(explained.decode())
     for line in explained.decode().splitlines():
         if line.startswith("  "):
             yield from shapes_of_reason(line.strip())
         elif line.startswith("dangerous "):
             yield "dangerous"
+
+
+def shapes_of_snapshots(explained: str) -> Iterator[str]:
+    """Which of SNAPSHOTS the lines of an explained report show but for `in no snapshot`. Of each transaction with such a line
+    the reasons above it tell the start."""
+    starts = dict(STARTS.findall(explained))
+    readers = set(re.findall(r"^bad-read [0-9]+ ([0-9]+) ", explained, re.MULTILINE))
+    for txn, least in SNAPSHOT.findall(explained):
+        is_after = int(least) > int(starts[txn])
+        yield SNAPSHOTS[is_after if not is_after or txn in readers else 2]
+    lines = explained.splitlines()
+    for line, below in zip(lines, lines[1:]):
+        if found := ASKS.fullmatch(line.strip()):
+            yield f"{NOT_WITHOUT['rw'.index(found[1])]}, {'not after' if below.startswith('  not after ') else 'not with'}"
 
 
 def shapes_of_reason(line: str) -> Iterator[str]:

@@ -139,11 +139,14 @@ class Reports(unittest.TestCase):
         pivot = "r1[1:0] r2[2:0] w2[1] w3[2] c3 c2 c1"
         skew = "r1[1:0] r1[2:0] r2[1:0] r2[2:0] w1[2] w2[1] c1 c2"
         for text, statuses in (
-            ("c1", (0, 0, 0)),
-            ("w1[1] w2[1] c1 c2", (1, 1, 1)),
-            ("w1[1] r1[1:0] c1", (1, 1, 1)),
-            (pivot, (0, 1, 0)),
-            (skew, (1, 1, 0)),
+            ("c1", (0, 0, 0, 0)),
+            ("w1[1] w2[1] c1 c2", (1, 1, 1, 1)),
+            ("w1[1] r1[1:0] c1", (1, 1, 1, 1)),
+            ("w1[1] c1 r2[1:0] c2", (1, 1, 1, 0)),
+            ("b1 w2[1] c2 w1[1] c1", (1, 1, 1, 0)),
+            ("w1[1] c1 r2[1:0] c2 r3[1:0] r3[1:1]", (1, 1, 1, 1)),
+            (pivot, (0, 1, 0, 0)),
+            (skew, (1, 1, 0, 0)),
         ):
             account: Account = taking.account_of(events_of(text))
             self.assertEqual(tuple(map(account.status, LEVELS)), statuses)
@@ -240,7 +243,7 @@ class Explained(unittest.TestCase):
                 continue
             account = taking.account_of(events)
             lines = explaining.report(events, account).decode().splitlines()
-            others = [it for it in lines if not it.startswith(("  ", "dangerous "))]
+            others = [it for it in lines if not it.startswith(("  ", "snapshot ", "dangerous "))]
             self.assertEqual(others, list(account.lines(brief=True)))
 
     def test_own_write_missed(self) -> None:
@@ -388,10 +391,89 @@ class Explained(unittest.TestCase):
             "3 >rw:3> 4: event 4 r3[3:0]; event 9 w4[3], event 11 c4",
         )
 
+    def assert_snapshots(self, text: str, *wanted: str) -> None:
+        """Exactly these are the lines of snapshots, with what explains them; they stand before the line ssi. Both ways say which
+        starts fit."""
+        events = events_of(text)
+        self.assertEqual(trying.account_of(events), taking.account_of(events))
+        lines = self.lines(text)
+        at = next(at for at, it in enumerate(lines) if it.startswith("ssi "))
+        self.assertEqual(lines[at - len(wanted) : at], list(wanted))
+        self.assertEqual(sum(it.startswith("snapshot ") for it in lines), sum(it.startswith("snapshot ") for it in wanted))
+
+    def test_a_snapshot_before_the_start(self) -> None:
+        self.assert_snapshots("w1[1] c1 w2[1] c2 w3[1] c3 r4[1:2] c4", "snapshot 4 from 4 to 5")
+        self.assert_snapshots("w1[1] c1 r2[0..9] c2", "snapshot 2 from 0 to 1")
+        # What it wrote asks for the commit of 2, and its read excludes that of 3.
+        self.assert_snapshots("w2[1] c2 w3[2] c3 r1[2:0] w1[1] c1", "snapshot 1 from 2 to 3")
+        self.assert_snapshots("w2[1] c2 w3[2] c3 r1[2:0] w1[1] a1", "snapshot 1 from 0 to 3")
+
+    def test_a_snapshot_after_the_start(self) -> None:
+        self.assert_snapshots("b1 w2[1] c2 r1[1:2] c1", "snapshot 1 from 3 to 3")
+        self.assert_snapshots("b1 w2[1] c2 w1[1] c1", "snapshot 1 from 3 to 3")
+        self.assert_snapshots("b1 w2[1] c2 w3[1] c3 b4 w1[2] r1[1:2] w1[1]", "snapshot 1 from 3 to 4")
+        # What an open transaction wrote asks for nothing, and what it wrote itself no commit.
+        self.assert_snapshots("b1 w2[1] c2 w1[1] r1[1:1]")
+        self.assert_snapshots("b1@0 c1 w2[1] c2 b3@0 a3")
+
+    def test_in_no_snapshot(self) -> None:
+        self.assert_snapshots("w1[1] r1[1:0] c1", "snapshot 1 none", "  in no snapshot: event 2 r1[1:0]")
+        self.assert_snapshots("w1[1] r2[1:1] c2 a1", "snapshot 2 none", "  in no snapshot: event 2 r2[1:1]")
+        self.assert_snapshots("w1[1] r2[1:1] c2", "snapshot 2 none", "  in no snapshot: event 2 r2[1:1]")
+        # A range has two such keys, and 3 reads the version of 1 that is no longer due before the one that is in no snapshot.
+        self.assert_snapshots(
+            "w1[5] w1[7] c1 w2[7] w2[5] r2[0..9;5:1,7:1]", "snapshot 2 none", "  in no snapshot: event 6 r2[0..9;5:1]"
+        )
+        self.assert_snapshots(
+            "w1[1] c1 w2[1] c2 r3[1:1] w4[1] r3[1..2;1:4] c3", "snapshot 3 none", "  in no snapshot: event 7 r3[1..2;1:4]"
+        )
+
+    def test_no_snapshot_by_two_reads(self) -> None:
+        both = "snapshot 3 none", "  not without event 6 c2: event 8 r3[2:2]", "  not with event 6 c2: event 7 r3[1:1]"
+        self.assert_snapshots("w1[1] w1[2] c1 w2[1] w2[2] c2 r3[1:1] r3[2:2] c3", *both)
+        # One event asks for the commit that it excludes. The last read says the same.
+        both = "snapshot 3 none", "  not without event 3 c1: event 4 r3[1..2;1:1]", "  not with event 3 c1: event 4 r3[1..2]"
+        self.assert_snapshots("w1[1] w1[2] c1 r3[1..2;1:1] r3[1:1] r3[2:0] c3", *both)
+        both = "snapshot 1 none", "  not without event 3 c2: event 4 r1[1:2]", "  not after event 1 r1[2:0]"
+        self.assert_snapshots("r1[2:0] w2[1] c2 r1[1:2] c1", *both)
+        # It acts by a range, and excludes the commit of 2 only behind that.
+        both = "snapshot 1 none", "  not without event 6 c2: event 8 r1[1:2]", "  not after event 3 r1[2..3]"
+        self.assert_snapshots("w3[2] c3 r1[2..3;2:3] w2[4] w2[1] c2 r1[4:0] r1[1:2] c1", *both)
+
+    def test_no_snapshot_by_a_write(self) -> None:
+        both = "snapshot 1 none", "  not without event 4 c2: event 6 w1[1]", "  not with event 2 c3: event 5 r1[2:0]"
+        self.assert_snapshots("w3[2] c3 w2[1] c2 r1[2:0] w1[1] w1[1] c1", *both)
+        both = "snapshot 2 none", "  not without event 5 c1: event 4 w2[1]", "  not after event 2 r2[1:0]"
+        self.assert_snapshots("r1[1:0] r2[1:0] w1[1] w2[1] c1 c2", *both)
+        # A read that asks for the same commit comes before a write, and a later commit before both.
+        both = "snapshot 2 none", "  not without event 4 c1: event 5 r2[2:1]", "  not after event 1 w2[1]"
+        self.assert_snapshots("w2[1] w1[1] w1[2] c1 r2[2:1] c2", *both)
+        both = "snapshot 2 none", "  not without event 6 c3: event 8 w2[3]", "  not after event 1 w2[1]"
+        self.assert_snapshots("w2[1] w1[1] w1[2] c1 w3[3] c3 r2[2:1] w2[3] c2", *both)
+
+    def test_fitting_starts_are_an_interval(self) -> None:
+        for number in range(500):
+            events = read(small.text_of(Random(f"interval {number}")))
+            if not isinstance(events, Refusal):
+                history = trying.History(events)
+                for txn in history.txns:
+                    fitting = history.fitting(txn)
+                    self.assertEqual(fitting, list(range(min(fitting), max(fitting) + 1)) if fitting else [])
+
+    def test_each_level_implies_the_weaker_ones(self) -> None:
+        for number in range(500):
+            events = read(small.text_of(Random(f"levels {number}")))
+            if not isinstance(events, Refusal):
+                account = taking.account_of(events)
+                serializable, ssi, si, gsi = map(account.status, LEVELS)
+                self.assertGreaterEqual(ssi, serializable)
+                self.assertGreaterEqual(serializable, si)
+                self.assertGreaterEqual(si, gsi)
+
     def test_what_small_texts_show(self) -> None:
         shown: Counter[str] = Counter()
-        for number in range(2000):
-            text = small.text_of(Random(f"shown {number}"))
+        for number in range(4000):
+            text = small.text_of(Random(f"small {number}"))
             events = read(text)
             case = Case(text, events, events if isinstance(events, Refusal) else taking.account_of(events))
             shown.update(set(shapes_of(case.explained)))
@@ -487,7 +569,7 @@ class Hard(unittest.TestCase):
     """That the formulas of the hard kinds give the reports, of small histories."""
 
     def test_reports(self) -> None:
-        for name, make in hard.KINDS.items():
+        for name, make in (hard.KINDS | hard.OLD_SNAPSHOTS).items():
             with self.subTest(kind=name):
                 case = make(505)
                 events = events_of(case.text.decode())

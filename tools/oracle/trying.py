@@ -8,7 +8,7 @@ from collections.abc import Iterator
 from dataclasses import dataclass
 from itertools import combinations, permutations
 
-from oracle.account import RW, WR, WW, Account, BadRead, BadWrite, Counts, Edge, Pivot, Unexplained
+from oracle.account import RW, WR, WW, Account, BadRead, BadWrite, Counts, Edge, Pivot, Snapshot, Unexplained
 from oracle.events import MAX_KEY, Event, Form
 
 
@@ -62,16 +62,30 @@ class History:
         """Whether two committed transactions overlap."""
         return self.start(left) < self.commit(right) and self.start(right) < self.commit(left)
 
-    def due(self, txn: int, place: int, key: int) -> int:
-        """The version of the key that is due to a read by the transaction at a place."""
+    def due(self, txn: int, place: int, key: int, start: int | None = None) -> int:
+        """The version of the key that is due to a read by the transaction at a place, from its own start or from another one."""
         if self.wrote(txn, key, place):
             return txn
-        seen = [it for it in self.committed if self.wrote(it, key) and self.commit(it) <= self.start(txn)]
+        start = self.start(txn) if start is None else start
+        seen = [it for it in self.committed if self.wrote(it, key) and self.commit(it) <= start]
         return max(seen, key=self.commit, default=0)
 
-    def newest(self, key: int) -> int:
-        """The version due to a transaction that starts behind the last event."""
-        return max((it for it in self.committed if self.wrote(it, key)), key=self.commit, default=0)
+    def acts(self, txn: int) -> int:
+        """The place of the transaction's first read or write, or of its first event where it has neither."""
+        own = [place for place, it in self.at.items() if it.txn == txn]
+        return next((it for it in own if self.at[it].form in (Form.READ, Form.RANGE, Form.WRITE)), own[0])
+
+    def fits(self, txn: int, start: int) -> bool:
+        """Whether a start fits the transaction: each read saw what is due from it, and, if the transaction committed, no
+        other writer of one of its keys committed behind it and before the transaction."""
+        if any(it.saw != self.due(txn, it.place, it.key, start) for it in self.reads() if it.txn == txn):
+            return False
+        others = [it for it in self.committed if it != txn and any(self.wrote(it, key) and self.wrote(txn, key) for key in self.keys)]
+        return txn not in self.committed or not any(start < self.commit(it) < self.commit(txn) for it in others)
+
+    def fitting(self, txn: int) -> list[int]:
+        """All numbers before the transaction acts that fit it."""
+        return [it for it in range(self.acts(txn)) if self.fits(txn, it)]
 
     def reads(self) -> Iterator[Read]:
         """Each key that each read covers."""
@@ -109,6 +123,12 @@ class History:
             or it.saw not in (0, it.txn, *self.committed)
         ]
         return sorted(found)
+
+    def snapshots(self) -> Iterator[Snapshot]:
+        for txn in self.txns:
+            if not self.fits(txn, self.start(txn)):
+                fitting = self.fitting(txn)
+                yield Snapshot(txn, (min(fitting), max(fitting)) if fitting else None)
 
     def edges(self) -> list[Edge]:
         found: set[Edge] = set()
@@ -193,6 +213,7 @@ def account_of(events: list[Event]) -> Account:
         bad_reads=history.bad_reads(),
         bad_writes=history.bad_writes(),
         unexplained=history.unexplained(),
+        snapshots=list(history.snapshots()),
         edges=edges,
         pivots=list(history.pivots(edges)),
         is_serializable=any(history.replays(it) for it in orders),
