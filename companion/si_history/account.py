@@ -14,7 +14,7 @@ from si_history.facts import Facts
 from si_history.findings import HEADS, Finding, Kind, groups_of, name_of_read
 from si_history.history import Abort, Begin, Commit, Event, RangeRead, Read, Write
 from si_history.log_kinds import LogKind
-from si_history.report import BadRead, Explained, Report
+from si_history.report import BadRead, Explained, Report, Snapshot
 from si_history.wording import Wording
 
 MOST_PARTIES = 12
@@ -23,11 +23,12 @@ NAMES = {
     Kind.BAD_READ: "bad read", Kind.BAD_WRITE: "bad write", Kind.UNEXPLAINED: "unexplained read", Kind.CYCLE: "cycle",
     Kind.STRUCTURE: "dangerous structure", Kind.PIVOT: "pivot",
 }
-BREAKS = {
+BREAKS: dict[Kind, tuple[str, ...]] = {
     Kind.BAD_READ: ("si", "ssi", "serializable"), Kind.BAD_WRITE: ("si", "ssi", "serializable"),
     Kind.UNEXPLAINED: ("ssi", "serializable"), Kind.CYCLE: ("ssi", "serializable"), Kind.STRUCTURE: ("ssi",), Kind.PIVOT: (),
 }
-"""The levels that a history doesn't meet which has such a finding, by what the levels mean (docs/USAGE.md)."""
+"""The levels that a history doesn't meet which has such a finding, by what the levels mean (docs/USAGE.md). Where no snapshot fits
+the transaction of a bad read, or the second one of a bad write, gsi is one of them too."""
 
 
 @dataclass(frozen=True, slots=True)
@@ -54,7 +55,8 @@ class Told:
     """A finding, as it is told. `breaks` are the levels that no history meets which has it.
 
     It is undecided where it depends on an outcome that the log doesn't tell. `more` are those of the reasons that only the
-    report tells, and neither the sentence nor the moments.
+    report tells, and neither the sentence nor the moments. `snapshot` tells which snapshots would fit who read, or the second who
+    wrote, where the report does.
     """
 
     kind: Kind
@@ -67,6 +69,7 @@ class Told:
     transactions: tuple[int, ...]
     moments: tuple[Moment, ...]
     is_undecided: bool
+    snapshot: Snapshot | None = None
 
 
 @dataclass(slots=True)
@@ -120,6 +123,12 @@ def _counts(report: Report) -> Counter[str]:
     return +counts
 
 
+def levels_broken_by(finding: Finding) -> tuple[str, ...]:
+    """The levels that no history meets which has the finding."""
+    is_torn = finding.snapshot is not None and finding.snapshot.fitting is None
+    return ("gsi", *BREAKS[finding.kind]) if is_torn else BREAKS[finding.kind]
+
+
 def counts_against(level: str, counts: Mapping[str, int]) -> dict[str, int]:
     """Of these counts those of findings that no history has which meets the level."""
     others = {NAMES[kind] for kind, levels in BREAKS.items() if level not in levels}
@@ -154,8 +163,8 @@ class _Chronicle:
         moments = {(moment.place, moment.what, moment.number): moment for moment in self._moments(finding, parties)}
         ordered = sorted(moments.values(), key=lambda moment: (moment.place, moment.what == "start"))
         return Told(
-            finding.kind, name_of(finding.kind, found), BREAKS[finding.kind], finding.title, finding.reasons, finding.more, found,
-            parties, tuple(ordered), self._names.is_undecided(finding.deciding),
+            finding.kind, name_of(finding.kind, found), levels_broken_by(finding), finding.title, finding.reasons, finding.more, found,
+            parties, tuple(ordered), self._names.is_undecided(finding.deciding), finding.snapshot,
         )
 
     def _moments(self, finding: Finding, parties: Sequence[int]) -> Iterator[Moment]:

@@ -45,7 +45,8 @@ statuses:
   5  there was nothing to audit: no event, or no transaction that committed
 
 levels:
-  si            snapshot isolation was kept
+  gsi           each transaction has some snapshot that fits it, taken before it acts
+  si            snapshot isolation was kept: the snapshot of its start fits each
   serializable  that, and some serial order explains the committed transactions
   ssi           that, and the test of serializable snapshot isolation is passed
 
@@ -64,7 +65,7 @@ def register(commands: argparse._SubParsersAction[argparse.ArgumentParser]) -> N
     )
     parser.add_argument("log", metavar="LOG", help="the log; - is standard input")
     parser.add_argument(
-        "--check", metavar="LEVEL", choices=LEVELS, default="si", help="what the status tells of: si, ssi or serializable (si)"
+        "--check", metavar="LEVEL", choices=LEVELS, default="si", help="what the status tells of: gsi, si, ssi or serializable (si)"
     )
     parser.add_argument(
         "--as", dest="kind", choices=[kind.value for kind in LogKind], help="what the log is, where it doesn't show"

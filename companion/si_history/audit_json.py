@@ -9,7 +9,7 @@ from si_history.audited import Audited
 from si_history.auditor import LEVELS
 from si_history.facts import Facts
 from si_history.legend import Legend, hash_of
-from si_history.report import BadRead, BadWrite, Cycle, Edge, Explained, Report, Structure, Unexplained
+from si_history.report import BadRead, BadWrite, Cycle, Edge, Explained, Report, Snapshot, Structure, Unexplained
 
 FORMAT = "si-history audit 1"
 OUTCOMES = {0: "meets", 1: "falls short", 2: "not audited", 3: "refused", 4: "fault", 5: "nothing to audit"}
@@ -23,7 +23,7 @@ def json_of_audit(audited: Audited, account: Account, auditor: str) -> str:
     made |= {"kind": log.kind.value, "auditor": auditor, "history": _history(audited)}
     if audited.has_verdict and report is not None and audited.facts is not None:
         teller = _Teller(audited.facts, log.legend or Legend())
-        made |= {"verdicts": _verdicts(report), "levels": {level: report.meets(level) for level in LEVELS}}
+        made |= {"verdicts": _verdicts(report), "levels": _levels(report)}
         made |= {"counts": account.counts, "findings": [teller.finding(told) for told in account.told]}
         made |= {"left_out": account.total - len(account.told), "undecided": account.undecided}
     return _line(made)
@@ -61,6 +61,11 @@ def _verdicts(report: Report) -> Json:
     }
 
 
+def _levels(report: Report) -> Json:
+    """Which levels are met. Of gsi a report of an earlier auditor tells nothing."""
+    return {level: report.meets(level) if level != "gsi" or report.tells_snapshots else None for level in LEVELS}
+
+
 class _Teller:
     """Tells findings by the log's names, as they are there."""
 
@@ -71,7 +76,7 @@ class _Teller:
     def finding(self, told: Told) -> Json:
         return {
             "name": told.name, "breaks": list(told.breaks), "sentence": told.sentence, "reasons": list(told.reasons),
-            "undecided": told.is_undecided, "about": self._about(told.found),
+            "undecided": told.is_undecided, "about": self._about(told.found), "snapshot": self._snapshot(told.snapshot),
             "transactions": [self._transaction(number) for number in told.transactions],
             "moments": [self._moment(moment) for moment in told.moments],
         }
@@ -87,6 +92,13 @@ class _Teller:
         if isinstance(found, BadWrite):
             return {"key": self._key(found.key), "transactions": [self._name(found.first), self._name(found.second)]}
         return {"steps": [self._step(step) for step in found.steps]} if isinstance(found, (Cycle, Structure)) else {}
+
+    def _snapshot(self, snapshot: Snapshot | None) -> Json | None:
+        """Which snapshots would fit the transaction that its start doesn't fit."""
+        if snapshot is None:
+            return None
+        first, last = snapshot.fitting or (None, None)
+        return {"transaction": self._name(snapshot.transaction), "from": first, "to": last}
 
     def _step(self, step: Edge) -> Json:
         return {

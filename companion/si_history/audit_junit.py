@@ -12,7 +12,7 @@ from si_history.audited import Audited
 from si_history.report import Report
 
 SUITE = "si-history audit"
-ORDER = ("si", "serializable", "ssi")
+ORDER = ("gsi", "si", "serializable", "ssi")
 """What meets a level meets those before it."""
 _NO_XML = re.compile("[^\t\n\r\x20-\ud7ff\ue000-\ufffd\U00010000-\U0010ffff]")
 
@@ -38,11 +38,11 @@ def _cases(audited: Audited, report: Report, account: Account) -> Iterator[str]:
         more = f"\nAnd {left:,} findings more." if left else ""
         if report.meets(level):
             yield _case(audited.log.source, level, "")
-        elif at <= asked:
+        elif at <= asked and (level != "gsi" or report.tells_snapshots):
             message = _value(why(report, level))
             yield _case(audited.log.source, level, f"    <failure message={message}>{_text(told + more)}</failure>\n")
         else:
-            message = _value(f"not asked for: {why(report, level)}")
+            message = _value(f"not asked for: {why(report, level)}" if at > asked else why(report, level))
             yield _case(audited.log.source, level, f"    <skipped message={message}/>\n")
 
 

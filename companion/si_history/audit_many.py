@@ -57,7 +57,9 @@ def register(commands: argparse._SubParsersAction[argparse.ArgumentParser]) -> N
         formatter_class=argparse.RawDescriptionHelpFormatter,
     )
     parser.add_argument("folder", metavar="DIR", help="the folder of the logs")
-    parser.add_argument("--check", metavar="LEVEL", choices=LEVELS, default="si", help="the level to meet: si, ssi or serializable (si)")
+    parser.add_argument(
+        "--check", metavar="LEVEL", choices=LEVELS, default="si", help="the level to meet: gsi, si, ssi or serializable (si)"
+    )
     parser.add_argument("--jobs", metavar="N", type=_jobs, help="how many runs are audited at a time (as many as there are processors)")
     parser.add_argument("--dask", metavar="ADDRESS", help="give the runs to the workers of this Dask scheduler")
     parser.add_argument(

@@ -12,7 +12,10 @@ from si_history.report import Counts, ReadName, Report
 from si_history.unseen import visible
 from si_history.wording import counted
 
-LEVELS = {"si": "snapshot isolation", "ssi": "serializable snapshot isolation", "serializable": "serializability"}
+LEVELS = {
+    "gsi": "generalized snapshot isolation", "si": "snapshot isolation", "ssi": "serializable snapshot isolation",
+    "serializable": "serializability",
+}
 WIDEST_WORDS = 72
 MOST_FIELDS = 3
 
@@ -63,6 +66,8 @@ def _verdict(audited: Audited, report: Report, style: Style) -> str:
 
 def why(report: Report, level: str) -> str:
     """What the report says of a level, in words."""
+    if level == "gsi":
+        return _why_generalized(report)
     kept = f"isolation was {'kept' if report.isolation.holds else 'broken'}"
     if level == "si":
         return kept
@@ -70,6 +75,15 @@ def why(report: Report, level: str) -> str:
         return f"{kept}, and the ssi test is {'passed' if report.ssi.holds else 'failed'}"
     order = "some serial order explains" if report.serializable.holds else "no serial order explains"
     return f"{kept}, and {order} the committed transactions"
+
+
+def _why_generalized(report: Report) -> str:
+    """What the report says of the level gsi."""
+    if not report.tells_snapshots:
+        return "the auditor's report does not tell which snapshots would fit"
+    if report.torn_count:
+        return f"no snapshot fits {counted(report.torn_count, 'transaction')}"
+    return "each transaction has a snapshot that fits it"
 
 
 def _counts(counts: Counts) -> str:

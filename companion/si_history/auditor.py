@@ -23,7 +23,7 @@ from si_history.limits import STANDARD, Limits, add_limit_arguments, limits_of
 from si_history.memory import in_words, memory_limit, size_of
 
 PROGRAM = "si_audit"
-LEVELS = ("si", "ssi", "serializable")
+LEVELS = ("gsi", "si", "ssi", "serializable")
 LEAST_VERSION = (0, 2, 0)
 """The first version that has `--explain` and `--check`."""
 SECONDS_FOR_VERSION = 60.0

@@ -75,8 +75,9 @@ def _counts(report: Report) -> str:
 
 
 def statements_of(report: Report) -> list[Statement]:
-    """The verdict in words."""
-    return [_isolation(report), _serializable(report), _ssi(report)]
+    """The verdict in words. Where isolation was broken it tells besides whether some snapshots would fit."""
+    generalized = [] if report.isolation.holds or not report.tells_snapshots else [_generalized(report)]
+    return [_isolation(report), *generalized, _serializable(report), _ssi(report)]
 
 
 def _isolation(report: Report) -> Statement:
@@ -87,6 +88,14 @@ def _isolation(report: Report) -> Statement:
     counts = ((reads, "bad read"), (len(report.bad_writes) + report.count_left_out("bad-write"), "bad write"))
     found = " and ".join(counted(count, noun) for count, noun in counts if count)
     return Statement(False, "Snapshot isolation was broken", f"Found: {found}." if found else "")
+
+
+def _generalized(report: Report) -> Statement:
+    if not report.torn_count:
+        meaning = "Each transaction has a snapshot that would fit it, taken before its first read or write."
+        return Statement(True, "Generalized snapshot isolation was kept", meaning)
+    meaning = f"There is no snapshot that would fit {counted(report.torn_count, 'transaction')}, taken before the first read or write."
+    return Statement(False, "Generalized snapshot isolation was broken", meaning)
 
 
 def _serializable(report: Report) -> Statement:

@@ -12,6 +12,7 @@ from dataclasses import dataclass, replace
 from si_history.cycles import allowing_steps
 from si_history.facts import Facts, Fate, version_seen
 from si_history.history import RangeRead
+from si_history.fitting import told_snapshot
 from si_history.named_reasons import told_remark
 from si_history.naming import Names
 from si_history.report import (
@@ -61,7 +62,8 @@ class Arrow:
 class Finding:
     """One finding: what was found, why, and which transactions, places and keys it is about, the foremost first.
 
-    `more` are those of the reasons that only the report tells.
+    `more` are those of the reasons that only the report tells. `snapshot` tells which snapshots would fit who read, or the
+    second who wrote, where the report tells that.
     """
 
     kind: Kind
@@ -72,6 +74,7 @@ class Finding:
     keys: tuple[int, ...] = ()
     arrows: tuple[Arrow, ...] = ()
     more: tuple[str, ...] = ()
+    snapshot: Snapshot | None = None
 
     @property
     def deciding(self) -> tuple[int, ...]:
@@ -130,25 +133,23 @@ class _Teller:
         self._snapshots = {snapshot.transaction: snapshot for snapshot in snapshots}
 
     def finding(self, found: Found) -> Finding:
-        told, more = self._told(found), tuple(self._more(found))
-        return replace(told, reasons=(*told.reasons, *more), more=more)
+        told, snapshot = self._told(found), self._snapshot_of(found)
+        more = tuple(self._more(found, snapshot))
+        return replace(told, reasons=(*told.reasons, *more), more=more, snapshot=snapshot)
 
-    def _more(self, found: Found) -> Iterator[str]:
-        """What else the report says of a finding, and of the snapshots that fit its reader."""
+    def _snapshot_of(self, found: Found) -> Snapshot | None:
+        """Which snapshots would fit the transaction whose start a finding speaks against."""
+        if isinstance(found, (BadRead, BadWrite)):
+            return self._snapshots.get(found.transaction if isinstance(found, BadRead) else found.second)
+        return None
+
+    def _more(self, found: Found, snapshot: Snapshot | None) -> Iterator[str]:
+        """What else the report says of a finding, and of the snapshots that would fit."""
         remarks = [] if isinstance(found, Pivot) else found.remarks
-        snapshot = self._snapshots.get(found.transaction) if isinstance(found, BadRead) else None
         if snapshot is not None:
-            reader = self._say.transaction(snapshot.transaction)
-            if snapshot.fitting is None:
-                yield f"No snapshot fits all that {reader} read."
-            else:
-                first, last = map(self._after, snapshot.fitting)
-                yield f"A snapshot that was taken from {first} to {last} fits all that {reader} read."
+            yield from told_snapshot(snapshot, self._say)
             remarks = [*remarks, *snapshot.remarks]
         yield from (told_remark(remark, self._say.names) for remark in remarks)
-
-    def _after(self, count: int) -> str:
-        return f"after {self._say.place(count)}" if count else "before all events"
 
     def _told(self, found: Found) -> Finding:
         match found:

@@ -9,7 +9,7 @@ import re
 from collections import Counter
 
 from si_history.reasons import is_remark
-from si_history.report import ReadName, Role
+from si_history.report import BOUNDS, ReadName, Role
 from si_history.report_words import Malformed, short
 
 NAMES = {"bad-read": "bad read", "bad-write": "bad write", "unexplained": "unexplained read"}
@@ -17,17 +17,22 @@ NAMES = {"bad-read": "bad read", "bad-write": "bad write", "unexplained": "unexp
 _NUMBER = "(?:0|[1-9][0-9]{0,19})"
 _FORMS = {
     head: re.compile(form.replace("#", _NUMBER))
-    for head, form in (("bad-read", "bad-read # # # saw # due #"), ("bad-write", "bad-write # # #"), ("unexplained", "unexplained # # # #"))
+    for head, form in (
+        ("bad-read", "bad-read # # # saw # due #"), ("bad-write", "bad-write # # #"), ("unexplained", "unexplained # # # #"),
+        ("snapshot", "snapshot # (?:none|from # to #)"),
+    )
 }
 _PLACED = rf"event {_NUMBER} [a-z]{_NUMBER}(?:\[[0-9:.;,]*\])?"
 _PART = f"(?:transaction {_NUMBER} starts after event {_NUMBER}|{_PLACED}(?:, {_PLACED})?)"
+_ROLES = "|".join(role.value for role in Role if role not in BOUNDS)
 _REASON = re.compile(
-    f"(?:({'|'.join(name.value for name in ReadName)})|{'|'.join(role.value for role in Role)}): {_PART}(?:; {_PART})*"
+    f"(?:({'|'.join(name.value for name in ReadName)})|{_ROLES}): {_PART}(?:; {_PART})*"
+    f"|not with(?:out)? {_PLACED}: {_PLACED}|not after {_PLACED}"
 )
 
 
 class LeftOut:
-    """Counts findings by the first word of their lines, and by their names."""
+    """Counts findings by the first word of their lines, and by their names. A snapshot's is `from` or `none`."""
 
     def __init__(self) -> None:
         self.counts: Counter[tuple[str, str]] = Counter()
@@ -39,7 +44,7 @@ class LeftOut:
         if not _FORMS[head].fullmatch(line):
             raise Malformed(f"a line '{head} ..' is wanted, and {short(line)} is none")
         self._head, self._is_named = head, head != "bad-read"
-        self.counts[head, NAMES[head]] += 1
+        self.counts[head, NAMES.get(head) or line.split(" ")[2]] += 1
 
     def explain(self, line: str) -> None:
         """Looks at a line below the last finding, which may name it. Raises Malformed where no report has such a line."""

@@ -35,6 +35,7 @@ def check_report(report: Report, facts: Facts) -> None:
         _check_reasons(write.reasons, facts)
     for snapshot in report.snapshots:
         facts.transaction(snapshot.transaction)
+        _check_reasons(snapshot.reasons, facts)
     for path in (report.cycle, report.structure):
         if path is not None:
             for number in path.transactions:

@@ -5,7 +5,7 @@ from __future__ import annotations
 from si_history.history import Abort, Commit, Event, RangeRead, Read, Write, event_of
 from si_history.naming import Names, tight
 from si_history.reasons import NUMBERED
-from si_history.report import Edge, Placed, Reason, Started, Version
+from si_history.report import BOUNDS, Edge, Placed, Reason, Started, Version
 
 
 def told(reason: Reason, names: Names) -> str:
@@ -31,6 +31,8 @@ class _Writer:
         return where if token is None else f"{where} {self._event(event_of(token, 1))}"
 
     def line(self, reason: Reason) -> str:
+        if reason.head in BOUNDS:
+            return f"{self._head(reason)} {': '.join(map(self._part, reason.parts))}"
         return f"{self._head(reason)}: {'; '.join(map(self._part, reason.parts))}"
 
     def _head(self, reason: Reason) -> str:

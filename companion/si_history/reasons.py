@@ -7,19 +7,23 @@ import re
 from si_history.errors import BadInput
 from si_history.history import Abort, Commit, RangeRead, Read, Write, event_of
 from si_history.report import (
-    BadRead, BadWrite, Cycle, Edge, EdgeKind, Explained, Placed, ReadName, Reason, Role, Snapshot, Started, Structure,
+    BOUNDS, BadRead, BadWrite, Cycle, Edge, EdgeKind, Explained, Placed, ReadName, Reason, Role, Snapshot, Started, Structure,
     Unexplained, Version,
 )
 from si_history.report_words import Malformed, number_of, short, step_of
 
-_HEADS: dict[str, ReadName | Role] = {name.value: name for name in ReadName} | {role.value: role for role in Role}
+_HEADS: dict[str, ReadName | Role] = {
+    **{name.value: name for name in ReadName}, **{role.value: role for role in Role if role not in BOUNDS}
+}
 _STARTED = re.compile("transaction ([0-9]+) starts after event ([0-9]+)")
 _EVENT = re.compile("event ([0-9]+) ([a-z][^ ]*)")
+_BOUND = re.compile("(not without|not with) (event [^ ]* c[0-9]*): (.*)|(not after) (.*)")
+_BOUND_FRONT = re.compile("not (?:without|with|after) event ")
 
 # The parts that a line may have: a read, a version, or a start.
 _LETTERS = {Placed: "R", Version: "V", Started: "S"}
 _SHAPES = {
-    Role.SAW: "V", Role.DUE: "V", Role.LOST_UPDATE: "SRVV", Role.WRITE_CONFLICT: "SVV", Role.BOTH_WRITE: "SVV",
+    Role.SAW: "V", Role.DUE: "V", Role.IN_NO_SNAPSHOT: "R", Role.LOST_UPDATE: "SRVV", Role.WRITE_CONFLICT: "SVV", Role.BOTH_WRITE: "SVV",
     EdgeKind.WW: "VV", EdgeKind.WR: "VRV?", EdgeKind.RW: "RV?V",
 } | {name: "RS" for name in ReadName}
 
@@ -52,7 +56,7 @@ def is_remark(line: str) -> bool:
     It has words, a colon and more words, all of it in ASCII, and its events are events. No known reason that is misspelt is one:
     what begins as one has to be one.
     """
-    if not _REMARK.fullmatch(line) or line.partition(": ")[0] in _HEADS:
+    if not _REMARK.fullmatch(line) or line.partition(": ")[0] in _HEADS or _BOUND_FRONT.match(line):
         return False
     try:
         for _, place, token in NUMBERED.findall(line):
@@ -67,6 +71,8 @@ def is_remark(line: str) -> bool:
 
 def reason_of(line: str) -> Reason:
     """The reason that a line gives; the two spaces before it are left out. Raises Malformed where it gives none."""
+    if found := _BOUND.fullmatch(line):
+        return _bound(line, found)
     start, _, rest = line.partition(": ")
     try:
         head = _HEADS.get(start) or _step(start.split(" "))
@@ -77,6 +83,23 @@ def reason_of(line: str) -> Reason:
     if not re.fullmatch(shape, "".join(_LETTERS[type(part)] for part in parts)):
         raise Malformed(f"what stands behind '{start}:' is not what an explained report has there")
     return Reason(head, parts)
+
+
+def _bound(line: str, found: re.Match[str]) -> Reason:
+    """The reason of a line that says which commit a snapshot has to have, or must not have, or before what it was taken."""
+    role = Role(found[1] or found[4])
+    try:
+        placed = tuple(_placed(text) for text in (found[2], found[3], found[5]) if text is not None)
+    except (Malformed, BadInput):
+        raise Malformed(f"no report explains a finding by the line {short(line)}") from None
+    match placed[-1].event:
+        case Read() | RangeRead(listed=()):
+            return Reason(role, placed)
+        case RangeRead(listed=(_,)) if role is not Role.NOT_AFTER:
+            return Reason(role, placed)
+        case Write() if role is not Role.NOT_WITH:
+            return Reason(role, placed)
+    raise Malformed(f"what stands behind '{role.value} ..' is not what an explained report has there")
 
 
 def _step(words: list[str]) -> Edge:
@@ -115,9 +138,23 @@ def fits_below(finding: Explained, reason: Reason) -> bool:
         case BadWrite():
             return count == 0 and reason.head in (Role.LOST_UPDATE, Role.WRITE_CONFLICT, Role.BOTH_WRITE)
         case Snapshot():
-            return False
+            heads = [one.head for one in finding.reasons]
+            fitting = _BELOW_SNAPSHOT.get(tuple(heads), ()) if finding.fitting is None else ()
+            return reason.head in fitting and _is_of(reason, finding.transaction)
         case BadRead() | Unexplained():
             if count == 0:
                 return isinstance(reason.head, ReadName) or bool(finding.remarks) and isinstance(reason.head, Role)
             last = finding.reasons[-1].head
             return isinstance(last, ReadName) and reason.head is Role.SAW or last is not Role.DUE and reason.head is Role.DUE
+
+
+_BELOW_SNAPSHOT: dict[tuple[ReadName | Role | Edge, ...], tuple[Role, ...]] = {
+    (): (Role.IN_NO_SNAPSHOT, Role.NOT_WITHOUT), (Role.NOT_WITHOUT,): (Role.NOT_WITH, Role.NOT_AFTER),
+}
+"""What may come next below a transaction that no snapshot fits, by the reasons so far."""
+
+
+def _is_of(reason: Reason, transaction: int) -> bool:
+    """Whether the last event of a reason is one of this transaction."""
+    last = reason.parts[-1]
+    return isinstance(last, Placed) and last.event.transaction == transaction

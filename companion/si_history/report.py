@@ -54,6 +54,18 @@ class Role(enum.Enum):
     WRITE_CONFLICT = "write conflict"
     BOTH_WRITE = "both write and overlap"
     """What earlier auditors call both of them."""
+    IN_NO_SNAPSHOT = "in no snapshot"
+    """A read of what no snapshot has."""
+    NOT_WITHOUT = "not without"
+    """A commit that the snapshot has to have, and the event that asks for it."""
+    NOT_WITH = "not with"
+    """A commit that the snapshot must not have, and the read that excludes it."""
+    NOT_AFTER = "not after"
+    """The first read or write, before which the snapshot was taken."""
+
+
+BOUNDS = (Role.NOT_WITHOUT, Role.NOT_WITH, Role.NOT_AFTER)
+"""The roles of lines that name an event before their colon, or have none."""
 
 
 @dataclass(frozen=True, slots=True)
@@ -186,7 +198,10 @@ class Structure:
 
 @dataclass(slots=True)
 class Snapshot:
-    """Which snapshots fit a transaction that its start doesn't fit: those after so many events, from first to last, or none."""
+    """Which snapshots fit a transaction that its start doesn't fit: those after so many events, from first to last, or none.
+
+    None is taken behind its first read or write.
+    """
 
     transaction: int
     fitting: tuple[int, int] | None
@@ -218,8 +233,21 @@ class Report:
         """How many findings were not kept whose lines begin with this word."""
         return sum(count for (word, _), count in self.left_out.items() if word == head)
 
+    @property
+    def tells_snapshots(self) -> bool:
+        """Whether the report tells which snapshots would fit. A brief one doesn't, nor that of an earlier auditor; where isolation
+        was kept each start fits."""
+        return self.isolation.holds or bool(self.snapshots) or self.count_left_out("snapshot") > 0
+
+    @property
+    def torn_count(self) -> int:
+        """How many transactions no snapshot fits."""
+        return sum(it.fitting is None for it in self.snapshots) + self.left_out.get(("snapshot", "none"), 0)
+
     def meets(self, level: str) -> bool:
-        """Whether the report says that the history meets a level, which is `si`, `ssi` or `serializable`."""
+        """Whether the report says that the history meets a level, which is `gsi`, `si`, `ssi` or `serializable`."""
+        if level == "gsi":
+            return self.tells_snapshots and not self.torn_count
         if level == "serializable":
             return self.isolation.holds and self.serializable.holds
         return self.isolation.holds if level == "si" else self.ssi.holds

@@ -20,7 +20,7 @@ from si_history.left_out import LeftOut
 from si_history.progress import Progress
 from si_history.reasons import fits_below, is_class, is_counts, is_remark, reason_of
 from si_history.report import (
-    BadRead, BadWrite, Counts, Cycle, Edge, EdgeKind, Explained, Order, Pivot, Report, Snapshot, Structure,
+    BadRead, BadWrite, Counts, Cycle, Edge, EdgeKind, Explained, Order, Pivot, Report, Role, Snapshot, Structure,
     Unexplained, Verdict,
 )
 from si_history.report_words import KINDS, Malformed, number_of, numbers_of, short, steps_of
@@ -62,7 +62,8 @@ class ReportText:
 def read_report(text: ReportText, most: int | None = None) -> Report:
     """The report that a text is, without its edges. Raises BadInput where it is none, or a refusal.
 
-    Where `most` is given, so many findings of a kind are kept at most, and the others are counted.
+    Where `most` is given, so many findings of a kind are kept at most, and the others are counted. The snapshots of the bad reads
+    and bad writes that are kept are kept too.
     """
     reader = _Reader(most)
     number = 0
@@ -191,6 +192,7 @@ class _Reader:
         self._bad_writes: list[BadWrite] = []
         self._unexplained: list[Unexplained] = []
         self._snapshots: list[Snapshot] = []
+        self._told_with: set[str] | None = None
         self._pivots: list[Pivot] = []
         self._structures: list[Structure] = []
         self._outcomes: list[Order | Cycle] = []
@@ -209,18 +211,26 @@ class _Reader:
         else:
             head = line.partition(" ")[0]
             self._move(head)
-            self._is_leaving_out = self._has_enough(head)
+            self._is_leaving_out = self._has_enough(head, line)
             if self._is_leaving_out:
                 self._left_out.take(head, line)
             else:
                 self._last = self._kept(line.split(" "))
 
-    def _has_enough(self, head: str) -> bool:
+    def _has_enough(self, head: str, line: str) -> bool:
         """Whether so many findings of a line's kind are kept that this one is counted alone."""
+        if head == "snapshot" and self._most is not None and len(self._snapshots) >= self._most:
+            return line.partition(" ")[2].partition(" ")[0] not in self._parties()
         kept: dict[str, list[BadRead] | list[BadWrite] | list[Unexplained]] = {
             "bad-read": self._bad_reads, "bad-write": self._bad_writes, "unexplained": self._unexplained,
         }
         return self._most is not None and head in kept and len(kept[head]) >= self._most
+
+    def _parties(self) -> set[str]:
+        """The transactions of which the snapshots are told with the bad reads and the bad writes that are kept."""
+        if self._told_with is None:
+            self._told_with = {str(read.transaction) for read in self._bad_reads} | {str(write.second) for write in self._bad_writes}
+        return self._told_with
 
     def _explain(self, line: str) -> None:
         """Takes a line that explains the one before it."""
@@ -299,6 +309,8 @@ class _Reader:
         for explained in (*self._structures, *self._outcomes):
             if not isinstance(explained, Order) and len(explained.reasons) not in (0, len(explained.steps)):
                 raise Malformed("of the steps above some are explained and some are not")
+        if any(one.reasons and one.reasons[-1].head is Role.NOT_WITHOUT for one in self._snapshots):
+            raise Malformed("why no snapshot fits a transaction is told in part alone")
         isolation, ssi, serializable = self._verdicts
         return Report(
             self._counts[0], isolation, self._bad_reads, self._bad_writes, self._unexplained, self._edges,

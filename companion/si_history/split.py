@@ -35,7 +35,8 @@ EPILOG = """\
 A part starts with what is needed of transactions of earlier parts. A transaction that
 is open at a cut is in the part in which it ends, with its start named. Cycles and
 dangerous structures that join transactions of several parts are in no report; what is
-printed says whether there can be such.
+printed says whether there can be such. Which older snapshots would fit a transaction
+the whole alone tells: a part lacks versions of the past.
 
 Status 2: the input is no history, or can't be cut so, or a file can't be written or is
 there already. Then none is written.
@@ -119,6 +120,7 @@ def told(name: str, parts: list[tuple[str, PartText]]) -> str:
     else:
         lines += [
             "No committed transaction started before a cut and ended behind it: the whole meets",
-            "each level exactly if each part meets it.",
+            "si, ssi and serializable each exactly if each part meets it.",
         ]
+    lines += ["It falls short of gsi if a part does, and may if none does: parts lack versions of the past."]
     return "".join(f"{line}\n" for line in lines)

@@ -27,6 +27,10 @@ part, and their commits are in the same order, as far as it decides. So its cycl
 whole. But cycles and dangerous structures of transactions that are judged in several parts are in none. Where no committed
 transaction judged behind a cut started before it (`over` is 0), overlapping ones are judged together, and if isolation was kept
 each edge between parts leads forward: then the whole passes `ssi`, and is serializable, exactly where each part does and is.
+
+*Which snapshots would fit* a transaction isn't the same either. One that fits it in the whole has its like in the part, with
+those of its commits that the part has: the versions that were seen are there, and no later one that the whole hasn't. So where a
+part falls short of gsi the whole does. But a version between one that was seen and its successor in the part can be missing.
 """
 
 from __future__ import annotations

@@ -75,7 +75,7 @@ class AuditTest(unittest.TestCase):
 @unittest.skipUnless(PROGRAM.exists(), NO_PROGRAM)
 class VerdictTest(AuditTest):
     def test_levels(self) -> None:
-        for level, status in (("si", 0), ("ssi", 1), ("serializable", 1)):
+        for level, status in (("gsi", 0), ("si", 0), ("ssi", 1), ("serializable", 1)):
             text = self.ends(status, "", "--check", level, "-", given=SKEW)
             self.assertTrue(text.startswith(f"standard input {'falls short of' if status else 'meets'} "), text)
         self.assertEqual(self.run_audit("-", given=SKEW).returncode, 0)
@@ -110,7 +110,7 @@ class VerdictTest(AuditTest):
         self.assertIn("<title>Audit of run.jsonl</title>", page)
         self.assertIn("Future read: order-1 read stock/tea and saw order-2&#x27;s version", page)
         self.assertEqual(SCHEMA.faults(json.loads((self.place / "json").read_text())), [])
-        self.assertEqual(len(ElementTree.fromstring((self.place / "junit").read_text()).findall(".//failure")), 1)
+        self.assertEqual(len(ElementTree.fromstring((self.place / "junit").read_text()).findall(".//failure")), 2)
         kept = {path.name: path.read_bytes() for path in (self.place / "kept" / "here").iterdir()}
         self.assertEqual(set(kept), {"run.history", "run.legend", "run.report"})
         self.assertEqual(kept["run.history"], SHOP.with_name("shop.history").read_bytes())
@@ -119,7 +119,7 @@ class VerdictTest(AuditTest):
             [sys.executable, "-m", "si_history", "names", "--legend", "run.legend", "--history", "run.history", "run.report"],
             cwd=self.place / "kept" / "here", env=ENVIRONMENT, capture_output=True, timeout=LONG_SECONDS,
         )
-        self.assertEqual((named.returncode, named.stdout.count(b"order-1")), (0, 4))
+        self.assertEqual((named.returncode, named.stdout.count(b"order-1")), (0, 7))
 
     def test_data_in_place_of_the_text(self) -> None:
         made = json.loads(self.ends(1, "", "--json", "-", str(SHOP)))
@@ -304,7 +304,7 @@ class FailureTest(AuditTest):
         self.assertEqual((self.place / "run.history").read_bytes(), EVENTS)
 
     def test_command_lines(self) -> None:
-        for words in ([], ["-", "-"], ["--check", "gsi", "-"], ["--as", "csv", "-"], ["--memory", "1K", "-"], ["--jsn", "x", "-"]):
+        for words in ([], ["-", "-"], ["--check", "rc", "-"], ["--as", "csv", "-"], ["--memory", "1K", "-"], ["--jsn", "x", "-"]):
             with self.subTest(words=words):
                 done = self.run_audit(*words, given=EVENTS)
                 self.assertEqual((done.returncode, done.stdout, done.stderr.count(b"\n")), (2, b"", 1), done.stderr)

@@ -147,6 +147,15 @@ class CommandTest(InFolder):
             done = self.audit("--check", level)
             self.assertEqual((done.returncode, self.rows(done)), (1, [("kept", f"meets {level}"), ("skew", f"falls short of {level}")]))
 
+    def test_the_level_gsi(self) -> None:
+        """A stale read of a whole snapshot meets it, and a lost update doesn't."""
+        self.put(skew=SKEW, stale="w1[1] c1 r2[1:0] c2\n")
+        done = self.audit("--check", "gsi")
+        self.assertEqual((done.returncode, self.rows(done)), (0, [("skew", "meets gsi"), ("stale", "meets gsi")]))
+        self.put(broken=BROKEN)
+        done = self.audit("--check", "gsi")
+        self.assertEqual((done.returncode, self.rows(done)[0]), (1, ("broken", "falls short of gsi")))
+
     def test_every_example(self) -> None:
         """A run of the examples falls short where the status that is kept beside it says so at its level, serializable."""
         self.folder = REPOSITORY / "examples"

@@ -33,6 +33,9 @@ shop falls short of snapshot isolation (level si): isolation was broken.
   1 future read
 
 1. Future read: order-1 read stock/tea and saw order-2's version, where load's version was due.
+   No snapshot would fit order-1.
+   It would have to have the commit of order-2 at event 20 (line 3 of the log): its read at event 13 (line 2 of the log) asks for that.
+   It would have to be taken before its read at event 9 (line 2 of the log), the first thing that it did.
    load     started                                   line 1, timestamp 100
    load     wrote stock/tea                           line 1, operation 2, event 3
    load     committed                                 line 1, timestamp 101, event 4
@@ -129,6 +132,7 @@ class TextTest(unittest.TestCase):
         ])
         one = by_program(lines)
         self.assertEqual(text_of_audit(one, account_of(one, 20), Style()).partition("was due.\n")[2], (
+            "   A snapshot that was taken from before all events to after event 1 (line 1 of the log) would fit B.\n"
             "   A  started                             line 1\n"
             "   A  wrote k                             line 1, time 10:01, session 3\n"
             "   A  committed                           line 2, time 10:02\n"
@@ -139,13 +143,47 @@ class TextTest(unittest.TestCase):
 
     def test_what_else_the_report_says(self) -> None:
         """A report of a later auditor: a name that is not known, and a snapshot that fits."""
-        report = EXPLAINED.read_text().replace("  future read: ", "  early read: ").replace("ssi fail", "snapshot 2 from 20 to 22\nssi fail")
+        report = EXPLAINED.read_text().replace("  future read: ", "  early read: ")
+        torn = report[report.index("snapshot 2 none"):report.index("ssi fail")]
+        report = report.replace(torn, "snapshot 2 from 20 to 22\n")
         one = by_report(report, 1, SHOP.read_bytes())
         text = text_of_audit(one, account_of(one, 20), Style())
         self.assertIn("\n  1 early read\n", text)
-        self.assertIn("\n   A snapshot that was taken from after event 20 (line 3 of the log) to after event 22 (line 6 of the log) fits", text)
+        self.assertIn("\n   A snapshot that was taken from after event 20 (line 3 of the log) to after event 22 (line 6 of the log) would fit", text)
         made = json_of(one)
-        self.assertEqual((SCHEMA.faults(made), made["counts"], made["findings"][0]["name"]), ([], {"early read": 1}, "early read"))
+        finding = made["findings"][0]
+        self.assertEqual((SCHEMA.faults(made), made["counts"], finding["name"]), ([], {"early read": 1}, "early read"))
+        self.assertEqual(finding["snapshot"], {"transaction": "order-1", "from": 20, "to": 22})
+        self.assertEqual((finding["breaks"], made["levels"]["gsi"]), (["si", "ssi", "serializable"], True))
+
+    def test_the_level_gsi(self) -> None:
+        """It is told by the lines of snapshots alone, and has to go with the auditor's status."""
+        report = EXPLAINED.read_text()
+        torn = report[report.index("snapshot 2 none"):report.index("ssi fail")]
+        fitting = report.replace(torn, "snapshot 2 from 20 to 22\n")
+        for text, status, front, apart in (
+            (report, 1, "shop falls short of generalized snapshot isolation (level gsi): no snapshot fits 1 transaction.\n", 0),
+            (fitting, 0, "shop meets generalized snapshot isolation (level gsi): each transaction has a snapshot that fits it.\n", 1),
+        ):
+            one = by_report(text, status, SHOP.read_bytes(), "gsi")
+            told = text_of_audit(one, account_of(one, 20), Style())
+            self.assertTrue(told.startswith(front), told)
+            self.assertEqual(told.count("Also found, for which level gsi does not ask:"), apart)
+        for text, status in ((report, 0), (fitting, 1), (report.replace(torn, ""), 0)):
+            one = by_report(text, status, SHOP.read_bytes(), "gsi")
+            self.assertEqual((one.status, one.problem), (4, f"the auditor's status is {status}, and its report says otherwise"))
+
+    def test_an_auditor_that_tells_no_snapshots(self) -> None:
+        """Of gsi the report of an earlier auditor tells nothing, where isolation was broken."""
+        report = EXPLAINED.read_text()
+        torn = report[report.index("snapshot 2 none"):report.index("ssi fail")]
+        one = by_report(report.replace(torn, ""), 1, SHOP.read_bytes())
+        made = json_of(one)
+        self.assertEqual((SCHEMA.faults(made), made["levels"]), ([], {"gsi": None, "si": False, "ssi": False, "serializable": False}))
+        self.assertIsNone(made["findings"][0]["snapshot"])
+        text = junit_of_audit(one, account_of(one, 20))
+        self.assertIn('<skipped message="the auditor\'s report does not tell which snapshots would fit"/>', text)
+        self.assertIn(' failures="1" ', text)
 
     def test_unknown_outcomes(self) -> None:
         """A finding that depends on an outcome that nobody knows says so."""
@@ -169,7 +207,9 @@ class JsonTest(unittest.TestCase):
         made = self.check(json_of(shop()))
         self.assertEqual((made["status"], made["outcome"], made["kind"], made["level"]), (1, "falls short", "transactions", "si"))
         self.assertEqual(made["verdicts"], {"isolation_kept": False, "ssi_pass": False, "serializable": True})
-        self.assertEqual(made["levels"], {"si": False, "ssi": False, "serializable": False})
+        self.assertEqual(made["levels"], {"gsi": False, "si": False, "ssi": False, "serializable": False})
+        self.assertEqual(made["findings"][0]["snapshot"], {"transaction": "order-1", "from": None, "to": None})
+        self.assertEqual(made["findings"][0]["breaks"], ["gsi", "si", "ssi", "serializable"])
         self.assertEqual((made["counts"], made["left_out"]), ({"future read": 1}, 0))
         finding = made["findings"][0]
         about = {"event": 13, "transaction": "order-1", "key": "stock/tea", "saw": "order-2", "due": "load"}
@@ -262,21 +302,22 @@ class JunitTest(unittest.TestCase):
     def test_the_shop(self) -> None:
         text = junit_of_audit(shop(), account_of(shop(), 20))
         self.assertEqual(self.cases(text), {
+            "gsi": [("failure", "no snapshot fits 1 transaction")],
             "si": [("failure", "isolation was broken")],
             "serializable": [("skipped", "not asked for: isolation was broken, and some serial order explains the committed transactions")],
             "ssi": [("skipped", "not asked for: isolation was broken, and the ssi test is failed")],
         })
-        failure = ElementTree.fromstring(text).find(".//failure")
-        assert failure is not None
-        self.assertEqual(failure.text, "Future read: order-1 read stock/tea and saw order-2's version, where load's version was due.")
+        for failure in ElementTree.fromstring(text).findall(".//failure"):
+            self.assertEqual(failure.text, "Future read: order-1 read stock/tea and saw order-2's version, where load's version was due.")
 
     @unittest.skipUnless(PROGRAM.exists(), NO_PROGRAM)
     def test_levels(self) -> None:
         """Of write skew the level that is asked for fails, and those that it holds; those beyond it are skipped."""
         for level, wanted in (
-            ("si", {"si": "", "serializable": "skipped", "ssi": "skipped"}),
-            ("serializable", {"si": "", "serializable": "failure", "ssi": "skipped"}),
-            ("ssi", {"si": "", "serializable": "failure", "ssi": "failure"}),
+            ("gsi", {"gsi": "", "si": "", "serializable": "skipped", "ssi": "skipped"}),
+            ("si", {"gsi": "", "si": "", "serializable": "skipped", "ssi": "skipped"}),
+            ("serializable", {"gsi": "", "si": "", "serializable": "failure", "ssi": "skipped"}),
+            ("ssi", {"gsi": "", "si": "", "serializable": "failure", "ssi": "failure"}),
         ):
             one = by_program(SKEW, level)
             found = self.cases(junit_of_audit(one, account_of(one, 20)))

@@ -202,7 +202,7 @@ class ProgramTest(unittest.TestCase):
         """Write skew keeps snapshot isolation, and is not serializable."""
         skew = b"b1 b2 r1[1:0] r1[2:0] r2[1:0] r2[2:0] w1[1] w2[2] c1 c2\n"
         statuses = [self.run_program(skew, "--explain", "--check", level).status for level in auditor.LEVELS]
-        self.assertEqual(statuses, [0, 1, 1])
+        self.assertEqual(statuses, [0, 0, 1, 1])
 
     def test_a_refusal(self) -> None:
         outcome = self.run_program(b"w1[1] c1 !\n", "--explain")

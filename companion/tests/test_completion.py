@@ -34,7 +34,7 @@ class CandidatesTest(unittest.TestCase):
         self.assertNotIn("--seed", self.completed("names", "-"))
 
     def test_choices(self) -> None:
-        self.assertEqual(self.completed("audit", "--check", ""), ["si", "ssi", "serializable"])
+        self.assertEqual(self.completed("audit", "--check", ""), ["gsi", "si", "ssi", "serializable"])
         self.assertEqual(self.completed("audit", "--check", "s"), ["si", "ssi", "serializable"])
         self.assertEqual(self.completed("audit", "--check", "se"), ["serializable"])
         self.assertEqual(self.completed("audit", "--quiet", "--check", "ss"), ["ssi"])

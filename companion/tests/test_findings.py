@@ -2,6 +2,7 @@
 
 from __future__ import annotations
 
+import re
 import unittest
 
 from si_history.cycles import allowing_steps
@@ -10,9 +11,10 @@ from si_history.facts import Facts
 from si_history.findings import Finding, Kind, Look
 from si_history.history import parse
 from si_history.legend import Legend
+from si_history.matching import check_report
 from si_history.naming import Names
 from si_history.report import Edge, EdgeKind
-from si_history.report_text import ReportText
+from si_history.report_text import ReportText, read_report
 from si_history.wording import Wording
 from tests.pages import LOST_UPDATE_HISTORY, Told, example, told
 from tests.support import REPOSITORY
@@ -137,15 +139,51 @@ class SentencesTest(unittest.TestCase):
         foot = "ssi fail", "serializable no", "cycle 1 >wr:1> 3 >rw:2> 1"
         below = ["  intermediate read: event 7 r3[1:2]", "  saw: event 5 w2[1], event 6 c2"]
         for snapshot, said in (
-            (["snapshot 3 from 6 to 7"], ["A snapshot that was taken from after event 6 to after event 7 fits all that transaction 3 read."]),
-            (["snapshot 3 from 0 to 7"], ["A snapshot that was taken from before all events to after event 7 fits all that transaction 3 read."]),
-            (["snapshot 3 none", "  not without event 4 c1: event 7 r3[1:2]"], [
-                "No snapshot fits all that transaction 3 read.", "not without event 4 c1: event 7 r3[1:2]",
+            (["snapshot 3 from 6 to 7"], ["A snapshot that was taken from after event 6 to after event 7 would fit transaction 3."]),
+            (["snapshot 3 from 0 to 7"], ["A snapshot that was taken from before all events to after event 7 would fit transaction 3."]),
+            (["snapshot 3 from 6 to 6", "  of 3: event 6 c2"], [
+                "A snapshot that was taken after event 6 would fit transaction 3.", "of 3: event 6 c2",
+            ]),
+            (["snapshot 3 none", "  not without event 4 c1: event 7 r3[1:2]", "  not after event 1 r3[2:0]"], [
+                "No snapshot would fit transaction 3.",
+                "It would have to have the commit of transaction 1 at event 4: its read at event 7 asks for that.",
+                "It would have to be taken before its read at event 1, the first thing that it did.",
+            ]),
+            (["snapshot 3 none", "  not without event 6 c2: event 7 r3[1:2]", "  not with event 4 c1: event 1 r3[2:0]"], [
+                "No snapshot would fit transaction 3.",
+                "It would have to have the commit of transaction 2 at event 6: its read at event 7 asks for that.",
+                "It would have to be without the commit of transaction 1 at event 4: its read at event 1 excludes that.",
+            ]),
+            (["snapshot 3 none", "  in no snapshot: event 7 r3[1:2]"], [
+                "No snapshot would fit transaction 3.", "No snapshot has what it saw at event 7.",
             ]),
         ):
             found = told("r3[2:0] w1[1] w1[2] c1 w2[1] c2 r3[1:2] c3", lines(*head, *below, *snapshot, *foot)).findings[0]
             self.assertTrue(found.title.startswith("Intermediate read: transaction 3 read key 1"), found.title)
             self.assertEqual(sorted(found.reasons[-len(said) - 1 :]), sorted([*said, "intermediate read: event 7 r3[1:2]"]))
+
+    def test_which_snapshots_would_fit_the_second_writer(self) -> None:
+        """A write asks for the commit; the transaction acts before that."""
+        write = example("lost_update", ".explained").findings[0]
+        self.assertEqual(write.more, (
+            "No snapshot would fit transaction 2.",
+            "It would have to have the commit of transaction 1 at event 5: its write at event 4 asks for that.",
+            "It would have to be taken before its read at event 2, the first thing that it did.",
+        ))
+        assert write.snapshot is not None
+        self.assertEqual((write.snapshot.transaction, write.snapshot.fitting), (2, None))
+
+    def test_another_history_of_snapshots(self) -> None:
+        """A reason of a snapshot names an event that is another one in the history."""
+        history = (REPOSITORY / "examples" / "lost_update.history").read_text()
+        text = (REPOSITORY / "examples" / "lost_update.explained").read_text()
+        for one, other, said in (
+            ("not without event 5 c1", "not without event 6 c1", "event 6 is c2, and in the report c1"),
+            ("  not after event 2 r2[1:0]", "  not after event 3 r2[1:0]", "event 3 is w1[1], and in the report r2[1:0]"),
+        ):
+            self.assertIn(one, text)
+            with self.subTest(other=other), self.assertRaisesRegex(BadInput, re.escape(said)):
+                check_report(read_report(ReportText(text.replace(one, other).encode())), Facts(parse(history)))
 
     def test_a_range_read(self) -> None:
         bad = example("missed_key", ".explained").findings[0]
@@ -261,7 +299,9 @@ class SentencesTest(unittest.TestCase):
                     (finding for finding in explained if finding.kind is not Kind.STRUCTURE),
                     (finding for finding in full if finding.kind is not Kind.PIVOT), strict=True,
                 ):
-                    self.assertEqual((one.kind, one.reasons, one.transactions, one.places), (other.kind, other.reasons, other.transactions, other.places))
+                    reasons = one.reasons[: len(one.reasons) - len(one.more)]
+                    self.assertEqual((one.kind, reasons, one.transactions, one.places), (other.kind, other.reasons, other.transactions, other.places))
+                    self.assertEqual(bool(one.more), one.kind in (Kind.BAD_READ, Kind.BAD_WRITE))
                     self.assertEqual(one.title.partition(": ")[2], other.title.partition(": ")[2])
                 names = [finding.title.partition(":")[0].lower() for finding in explained if finding.kind is Kind.BAD_READ]
                 listed = text.splitlines()

@@ -196,15 +196,34 @@ class CommandTest(unittest.TestCase):
             '  intermediate read: event 5 (line 15) "out" read acct/5 to "a\\"b" and saw the initial version of acct/5, 17 of transaction'
             ' "late one"; event 3 (line 13) "late one" committed; after event 4 (line 14)\n'
         )
-        snapshot = 'snapshot 4 from 0 to 2\nsnapshot 3 none\n  not with event 3 c3: event 5 r4[1..2;1:0]\n'
+        snapshot = 'snapshot 4 from 0 to 2\n  fits not: event 3 c3, event 5 r4[1..2;1:0]\n'
         named_snapshot = (
-            'snapshot "out" from event 0 to event 2 (line 12)\nsnapshot "late one" none\n  not with event 3 (line 13) "late one" committed:'
+            'snapshot "out" from event 0 to event 2 (line 12)\n  fits not: event 3 (line 13) "late one" committed,'
             ' event 5 (line 15) "out" read acct/5 to "a\\"b" and saw the initial version of acct/5\n'
         )
         at_ssi, named_at = STALE.index("ssi fail"), NAMED_STALE.index("unexplained")
         report = STALE[:at] + later + STALE[at:at_ssi] + snapshot + STALE[at_ssi:]
         wanted = NAMED_STALE[:named_at] + named + NAMED_STALE[named_at:].replace("ssi fail\n", named_snapshot + "ssi fail\n")
         self.assertEqual(self.run_names(report, history=STALE_HISTORY), (0, wanted, ""))
+
+    def test_snapshots(self) -> None:
+        """Which snapshots fit, and why none does: events in words, and where in the log they are."""
+        range_read = '"out" read acct/5 to "a\\"b"'
+        for below, wanted in (
+            ("snapshot 4 from 0 to 2\n", 'snapshot "out" from event 0 to event 2 (line 12)\n'),
+            ("snapshot 4 none\n  in no snapshot: event 6 r4[2:1]\n",
+             'snapshot "out" none\n  in no snapshot: event 6 (line 16) "out" read "a\\"b" and saw T7\'s version\n'),
+            ("snapshot 4 none\n  not without event 3 c3: event 6 r4[2:1]\n  not with event 3 c3: event 5 r4[1..2;1:0]\n",
+             'snapshot "out" none\n  not without event 3 (line 13) "late one" committed: event 6 (line 16) "out" read "a\\"b" and saw T7\'s version\n'
+             '  not with event 3 (line 13) "late one" committed: '
+             f'event 5 (line 15) {range_read} and saw the initial version of acct/5\n'),
+            ("snapshot 4 none\n  not without event 3 c3: event 6 r4[2:1]\n  not after event 5 r4[1..2]\n",
+             'snapshot "out" none\n  not without event 3 (line 13) "late one" committed: event 6 (line 16) "out" read "a\\"b" and saw T7\'s version\n'
+             f'  not after event 5 (line 15) {range_read}\n'),
+        ):
+            with self.subTest(below=below):
+                report, named = STALE.replace("ssi fail\n", below + "ssi fail\n"), NAMED_STALE.replace("ssi fail\n", wanted + "ssi fail\n")
+                self.assertEqual(self.run_names(report, history=STALE_HISTORY), (0, named, ""))
 
     def test_a_legend_of_another_history(self) -> None:
         said = "si-history: H: the legend is of another history: it was not written with this text\n"

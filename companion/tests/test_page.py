@@ -139,6 +139,28 @@ class MarkupTest(unittest.TestCase):
         for words in ("Snapshot isolation was kept.", "The history is serializable.", "The ssi test passes.", "explains the history: 2, 1."):
             self.assertIn(words, page)
 
+    def test_which_snapshots_would_fit(self) -> None:
+        """The verdict tells it where isolation was broken and the report is explained, and below the findings stands which, or why none."""
+        for name, wanted in (
+            ("read_skew", (
+                "Generalized snapshot isolation was broken.",
+                "There is no snapshot that would fit 1 transaction, taken before the first read or write.",
+                "<li>No snapshot would fit transaction 1.</li>"
+                "<li>It would have to have the commit of transaction 2 at event 4: its read at event 5 asks for that.</li>"
+                "<li>It would have to be taken before its read at event 1, the first thing that it did.</li>",
+            )),
+            ("stale_read", (
+                "Generalized snapshot isolation was kept.", "Each transaction has a snapshot that would fit it",
+                "<li>A snapshot that was taken from after event 4 to after event 5 would fit transaction 4.</li>",
+            )),
+            ("own_write_missed", ("<li>No snapshot would fit transaction 1.</li><li>No snapshot has what it saw at event 2.</li>",)),
+        ):
+            page = example(name, ".explained").page
+            for words in wanted:
+                self.assertIn(words, page)
+            self.assertNotIn("Generalized", example(name).page)
+        self.assertNotIn("Generalized", example("clean", ".explained").page)
+
     def test_findings_that_are_only_counted(self) -> None:
         found = bad_reads(30, most=3)
         self.assertEqual([(len(group.findings), group.count) for group in found.groups], [(3, 30)])

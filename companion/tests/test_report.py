@@ -5,7 +5,7 @@ from __future__ import annotations
 import unittest
 
 from si_history.errors import BadInput
-from si_history.history import Commit, RangeRead, Write
+from si_history.history import Commit, RangeRead, Read, Write
 from si_history.reasons import is_class, is_counts
 from si_history.report import (
     BadRead, BadWrite, Counts, Cycle, Edge, EdgeKind, Order, Pivot, Placed, ReadName, Reason, Role, Started, Unexplained, Verdict,
@@ -138,7 +138,7 @@ class ReadTest(unittest.TestCase):
                 text = path.read_text()
                 report = read_report(ReportText(text.encode()))
                 brief = read_report(ReportText.from_path(str(path.with_suffix(".report"))))
-                explained = [*report.bad_reads, *report.bad_writes, *report.unexplained]
+                explained = [*report.bad_reads, *report.bad_writes, *report.unexplained, *report.snapshots]
                 explained += [each for each in (report.structure, report.cycle) if each is not None]
                 below = [line[2:] for line in text.splitlines() if line.startswith("  ")]
                 self.assertEqual(
@@ -147,7 +147,10 @@ class ReadTest(unittest.TestCase):
                 )
                 for each in explained:
                     each.reasons.clear()
-                brief.edge_count, brief.pivots, brief.structure = 0, [], report.structure
+                told = [one.transaction for one in report.snapshots]
+                self.assertEqual(set(told), {read.transaction for read in report.bad_reads} | {write.second for write in report.bad_writes})
+                self.assertEqual(told, sorted(told))
+                brief.edge_count, brief.pivots, brief.structure, brief.snapshots = 0, [], report.structure, report.snapshots
                 self.assertEqual(report, brief)
 
     def test_every_example(self) -> None:
@@ -278,7 +281,7 @@ class RefusedTest(unittest.TestCase):
 
     def test_what_is_not_known_is_kept(self) -> None:
         """Lines that a later auditor may write below a finding: they stand beside the reasons, and disturb none of them."""
-        remarks = ["intermediate read: event 5 r1[0..9;2:2]; transaction 1 starts after event 0", "not without event 4 c2: event 5 r1[2:2]",
+        remarks = ["intermediate read: event 5 r1[0..9;2:2]; transaction 1 starts after event 0", "not by event 4 c2: event 5 r1[2:2]",
                    "others: 17", "seen: event 3 w2[2]"]
         for at in (2, 3, 4, 5):
             lines = [*EXPLAINED[: at + 1], *(f"  {remark}" for remark in remarks), *EXPLAINED[at + 1 :]]
@@ -306,6 +309,11 @@ class RefusedTest(unittest.TestCase):
                     ):
                         self.assertEqual(kept, every[:most])
                         self.assertEqual(some.count_left_out(head), len(every[most:]))
+                    self.assertEqual(some.torn_count, whole.torn_count)
+                    self.assertEqual(some.meets("gsi"), whole.meets("gsi"))
+                    parties = {read.transaction for read in some.bad_reads} | {write.second for write in some.bad_writes}
+                    kept_too = [one for at, one in enumerate(whole.snapshots) if at < most or one.transaction in parties]
+                    self.assertEqual(some.snapshots, kept_too)
                     names = [read.reasons[0].head.value for read in whole.bad_reads[most:]]
                     self.assertEqual({name: some.left_out["bad-read", name] for name in names}, {name: names.count(name) for name in names})
                     self.assertEqual((some.counts, some.isolation, some.outcome), (whole.counts, whole.isolation, whole.outcome))
@@ -325,10 +333,48 @@ class RefusedTest(unittest.TestCase):
         at = EXPLAINED.index("ssi fail")
         lines = ["snapshot 1 none", "  not without event 4 c2: event 5 r1[2:2]", "  not with event 2 c3: event 5 r1[2:2]", "snapshot 2 from 0 to 7"]
         report = read_report(text_of("\n".join([*EXPLAINED[:at], *lines, *EXPLAINED[at:]]) + "\n"))
-        self.assertEqual([(one.transaction, one.fitting, len(one.remarks)) for one in report.snapshots], [(1, None, 2), (2, (0, 7), 0)])
+        self.assertEqual([(one.transaction, one.fitting, len(one.reasons)) for one in report.snapshots], [(1, None, 2), (2, (0, 7), 0)])
+        commit, read = Placed(4, Commit(2)), Placed(5, Read(1, 2, 2))
+        self.assertEqual(report.snapshots[0].reasons[0], Reason(Role.NOT_WITHOUT, (commit, read)))
+        self.assertEqual((report.tells_snapshots, report.torn_count, report.meets("gsi")), (True, 1, False))
+        report.snapshots.pop(0)
+        self.assertTrue(report.meets("gsi"))
+        report.snapshots.clear()
+        self.assertEqual((report.tells_snapshots, report.meets("gsi")), (False, False))
+
+    def test_why_no_snapshot_fits(self) -> None:
+        """Each of the reasons, alone and with the one that may follow it; and what is none, or not there."""
+        at = EXPLAINED.index("ssi fail")
+
+        def reading(*lines: str) -> list[Reason]:
+            return read_report(text_of("\n".join([*EXPLAINED[:at], *lines, *EXPLAINED[at:]]) + "\n")).snapshots[0].reasons
+
+        torn, never = "snapshot 1 none", "  in no snapshot: event 5 r1[0..9;2:2]"
+        asked, without, after = "  not without event 4 c2: event 5 w1[2]", "  not with event 4 c2: event 5 r1[2:0]", "  not after event 5 r1[0..9]"
+        for below, heads in (
+            ([never], [Role.IN_NO_SNAPSHOT]), ([asked, without], [Role.NOT_WITHOUT, Role.NOT_WITH]),
+            ([asked, after], [Role.NOT_WITHOUT, Role.NOT_AFTER]), ([], []),
+        ):
+            with self.subTest(below=below):
+                self.assertEqual([reason.head for reason in reading(torn, *below)], heads)
+        for lines in (
+            [torn, without], [torn, after], [torn, asked], [torn, never, without], [torn, asked, asked], [torn, asked, without, after],
+            ["snapshot 1 from 0 to 2", never], ["snapshot 2 none", never], [torn, "  in no snapshot: event 5 w1[2]"],
+            [torn, "  in no snapshot: event 5 r1[2:2]; transaction 1 starts after event 0"],
+            [torn, asked.replace("w1[2]", "c1"), without], [torn, asked.replace("c2", "a2"), without], [torn, asked, without.replace("r1[2:0]", "w1[2]")],
+            [torn, asked, after.replace("9]", "9;2:2]")], [torn, asked, after.replace("r1[0..9]", "b1")], [torn, asked.replace(":", ""), without],
+            [torn, asked, "  not after event 5"], [torn, asked, after.replace("5", "05")],
+        ):
+            with self.subTest(lines=lines), self.assertRaises(BadInput):
+                reading(*lines)
+
+    def test_faulty_snapshots(self) -> None:
+        at = EXPLAINED.index("ssi fail")
         for faulty in ("snapshot 1", "snapshot 1 from 2", "snapshot 1 to 2", "snapshot x none", "snapshot 1 from 1 to 2 to 3", "snapshot 01 none"):
             with self.subTest(faulty=faulty), self.assertRaises(BadInput):
                 read_report(text_of("\n".join([*EXPLAINED[:at], faulty, *EXPLAINED[at:]]) + "\n"))
+            with self.subTest(faulty=faulty), self.assertRaises(BadInput):
+                read_report(text_of("\n".join([*EXPLAINED[:at], faulty, *EXPLAINED[at:]]) + "\n"), 0)
 
     def test_faulty_structures(self) -> None:
         for at, line in (

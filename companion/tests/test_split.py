@@ -30,7 +30,7 @@ from tests.support import NO_PROGRAM, PROGRAM, REPOSITORY, audit, run_command
 
 sys.path.insert(0, str(REPOSITORY / "tools"))
 from histories import Store, interleave  # noqa: E402
-from oracle.account import Account  # noqa: E402
+from oracle.account import LEVELS, Account  # noqa: E402
 from oracle.reading import Refusal, read  # noqa: E402
 from oracle.small import text_of as small_text  # noqa: E402
 from oracle.store import HABITS, ErringStore, Habits, ids, keys  # noqa: E402
@@ -172,7 +172,7 @@ class RandomTest(unittest.TestCase):
             for pivot in found.pivots:
                 for one, other in zip(pivot[1:], pivots[pivot.txn][1:], strict=True):
                     self.assertLessEqual(set(one), set(other))
-            for level in ("si", "ssi", "serializable"):
+            for level in LEVELS:
                 self.assertLessEqual(found.status(level), whole.status(level))
 
     @unittest.skipUnless(PROGRAM.exists(), NO_PROGRAM)
@@ -320,7 +320,8 @@ class CommandTest(unittest.TestCase):
         status, told, fault = self.split("--events", "6", "-o", f"{self.place}/run", str(self.run_path))
         self.assertEqual((status, fault), (0, ""))
         self.assertRegex(told, r"^\S*run\.history: 7 events, in 2 parts\.\n\n  \S*run-001\.history  places 1 to 5, 0 added\n")
-        self.assertIn("the whole meets\neach level exactly if each part meets it.\n", told)
+        self.assertIn("the whole meets\nsi, ssi and serializable each exactly if each part meets it.\n", told)
+        self.assertTrue(told.endswith("\nIt falls short of gsi if a part does, and may if none does: parts lack versions of the past.\n"))
         self.assertEqual(
             self.names(), ["run-001.history", "run-001.legend", "run-002.history", "run-002.legend", "run.history"]
         )
