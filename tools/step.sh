@@ -85,8 +85,8 @@ case $name in
         set -- modules unittest -q witnesses.tests
         ;;
     ledger)
-        what="the ledger of the wrong edits' witnesses is of the edits and files at hand"
-        set -- modules witnesses check
+        what="the ledger of the wrong edits' witnesses is of the edits, files and program at hand"
+        set -- modules witnesses check "$PROGRAM"
         ;;
     lines)
         what="the program on command lines, and with devices that fail"

@@ -1,9 +1,10 @@
 """Makes and checks the ledger of the edits' witnesses.
 
-    PYTHONPATH=tools python3 -m witnesses check            the ledger is of the edits, files and witnesses at hand
+    PYTHONPATH=tools python3 -m witnesses check PROGRAM    the ledger is of the edits, files and witnesses at hand, and the
+                                                           program answers the texts among these as it has them
     PYTHONPATH=tools python3 -m witnesses try PROGRAM N    checks it, and tries N of its entries, other ones for each commit
     PYTHONPATH=tools python3 -m witnesses make PROGRAM [all | TITLE..]
-                                                           tries what the ledger lacks, or all, or these, and keeps it
+                                                           tries what check finds wrong, or all, or these, and keeps it
 
 PROGRAM is made of the sources at hand. The last line is 'N passed, M failed'.
 """
@@ -23,7 +24,7 @@ from witnesses.edits import ROOT, edits
 from witnesses.fault import Fault
 from witnesses.inputs import Input, inputs_of
 from witnesses.ledger import Entry
-from witnesses.making import entry_of
+from witnesses.making import OTHERWISE, entry_of, fault_of_program
 
 # An edit is compiled on a processor and a half, and takes a gigabyte.
 AT_ONCE = 2
@@ -40,15 +41,19 @@ class Known:
         }
         self.entries = ledger.read()
 
-    def fault(self, title: str) -> str:
-        """Tells what is wrong with the edit's witness or its entry, or answers an empty text."""
+    def fault(self, title: str, program: str = "") -> str:
+        """Tells what is wrong with the edit's witness or its entry, or answers an empty text. The program, where one is
+        given, must answer as the entry has it."""
         if title not in self.edits:
             return "there is no such edit"
         if title not in self.inputs:
             return "it has no witness"
         if title not in self.entries:
             return "it has no entry in the ledger"
-        return self.entries[title].fault(self.edits[title], self.inputs[title])
+        why = self.entries[title].fault(self.edits[title], self.inputs[title])
+        if why or not program:
+            return why
+        return fault_of_program(program, self.entries[title], self.given(title))
 
     def titles(self) -> list[str]:
         return sorted({*self.edits, *self.inputs, *self.entries})
@@ -59,9 +64,9 @@ class Known:
         return [it for it in self.inputs[title] if not entry.fault(edit, [it])]
 
 
-def check(known: Known) -> tuple[int, int]:
+def check(known: Known, program: str) -> tuple[int, int]:
     """Holds the ledger against what is at hand. Returns how many passed, and how many failed."""
-    faults = {title: known.fault(title) for title in known.titles()}
+    faults = {title: known.fault(title, program) for title in known.titles()}
     wrong = {title: why for title, why in faults.items() if why}
     for title, why in wrong.items():
         print(f"{title}: {why} (make witnesses)")
@@ -87,7 +92,7 @@ def chosen(known: Known, count: int, by: str) -> list[str]:
 def tried(program: str, known: Known, title: str) -> str:
     """Tries an entry again. Tells what is wrong, or answers an empty text."""
     entry = entry_of(program, known.edits[title], known.given(title))
-    return "" if entry.real == known.entries[title].real else "the code answers otherwise than the ledger has it"
+    return "" if entry.real == known.entries[title].real else OTHERWISE
 
 
 def some_tried(program: str, known: Known, count: int) -> tuple[int, int]:
@@ -115,7 +120,7 @@ def make(program: str, known: Known, words: Sequence[str]) -> tuple[int, int]:
     entries were made, and how many could not."""
     titles = [it for it in known.titles() if it in known.edits]
     if not words:
-        titles = [it for it in titles if known.fault(it)]
+        titles = [it for it in titles if known.fault(it, program)]
     elif list(words) != ["all"]:
         titles = list(words)
     passed = failed = 0
@@ -147,10 +152,10 @@ def shown(entry: Entry) -> str:
 def main(words: Sequence[str]) -> int:
     try:
         known = Known()
-        if list(words) == ["check"]:
-            passed, failed = check(known)
+        if len(words) == 2 and words[0] == "check":
+            passed, failed = check(known, words[1])
         elif len(words) == 3 and words[0] == "try" and words[2].isdecimal():
-            passed, failed = check(known)
+            passed, failed = check(known, words[1])
             some = some_tried(words[1], known, int(words[2]))
             passed, failed = passed + some[0], failed + some[1]
         elif len(words) >= 2 and words[0] == "make":

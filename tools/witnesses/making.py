@@ -13,6 +13,7 @@ from witnesses.fault import Fault
 from witnesses.inputs import Call, Input, Nothing, Test, Text, hash_of
 from witnesses.ledger import Entry
 
+OTHERWISE = "the code answers otherwise than the ledger has it"
 # Whoever has it compiles the code as it is, so that no two do so for the same inputs.
 AS_IT_IS = Lock()
 
@@ -46,9 +47,20 @@ def tried_as_it_is(crate: str, group: tuple[Input, ...]) -> list[Answer]:
     return tried(None, crate, group)
 
 
+def asks_program(given: Input) -> bool:
+    """Whether the program at hand tells what the code answers: it reads a text, and no option of `rt try` is given."""
+    return alike(given) == (Text, ())
+
+
+def fault_of_program(program: str, entry: Entry, inputs: list[Input]) -> str:
+    """Tells that the program answers otherwise than the entry has it, or answers an empty text."""
+    texts = [it for it in inputs if isinstance(it, Text) and asks_program(it)]
+    return "" if all(of_program(program, it) == entry.real for it in texts) else OTHERWISE
+
+
 def of_code(program: str, crate: str, group: tuple[Input, ...]) -> list[Answer]:
-    """What the code answers as it is: the program at hand, where no option of `rt try` is given."""
-    if alike(group[0]) == (Text, ()):
+    """What the code answers as it is: the program at hand, where that can tell."""
+    if asks_program(group[0]):
         return [of_program(program, it) for it in group if isinstance(it, Text)]
     with AS_IT_IS:
         return tried_as_it_is(crate, group)

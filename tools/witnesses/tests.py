@@ -217,13 +217,13 @@ class CommandLine(Kit):
 
     def test_check(self) -> None:
         """What lacks is told, until it is made. What changes is told, too."""
-        status, text = self.told("check")
+        status, text = self.told("check", self.program())
         self.assertEqual((status, text.count("it has no entry in the ledger")), (1, 2))
         status, text = self.told("make", self.program())
         self.assertEqual((status, text.splitlines()[-1]), (0, "2 passed, 0 failed"))
-        self.assertEqual(self.told("check"), (0, "2 passed, 0 failed\n"))
+        self.assertEqual(self.told("check", self.program()), (0, "2 passed, 0 failed\n"))
         self.write("first\n  text: abc\n\nthird\n  text: ab\n")
-        status, text = self.told("check")
+        status, text = self.told("check", self.program())
         self.assertEqual(status, 1)
         self.assertIn("low/first: the witness is another one", text)
         self.assertIn("low/second: it has no witness", text)
@@ -240,10 +240,10 @@ class CommandLine(Kit):
     def test_edit_that_is_gone(self) -> None:
         self.told("make", self.program())
         (self.root / "crates" / "low" / "must-fail" / "second.edit").unlink()
-        self.assertIn("low/second: there is no such edit", self.told("check")[1])
+        self.assertIn("low/second: there is no such edit", self.told("check", self.program())[1])
         self.write("first\n  text: ab\n")
         self.told("make", self.program())
-        self.assertEqual(self.told("check"), (0, "1 passed, 0 failed\n"))
+        self.assertEqual(self.told("check", self.program()), (0, "1 passed, 0 failed\n"))
 
     def test_try(self) -> None:
         """An entry is tried again; where the code answers otherwise now, that is told."""
@@ -257,8 +257,20 @@ class CommandLine(Kit):
         self.assertEqual(status, 1)
         self.assertIn("low/first: the code answers otherwise than the ledger has it", text)
 
+    def test_other_program(self) -> None:
+        """An entry whose answer isn't the program's is told without a kit, and made anew."""
+        self.told("make", self.program())
+        entries = ledger.read()
+        ledger.write({**entries, "low/first": replace(entries["low/first"], real=["status 9"])})
+        status, text = self.told("check", self.program())
+        told = "low/first: the code answers otherwise than the ledger has it (make witnesses)\n1 passed, 1 failed\n"
+        self.assertEqual((status, text), (1, told))
+        status, text = self.told("make", self.program())
+        self.assertEqual((status, text.splitlines()[-1]), (0, "1 passed, 0 failed"))
+        self.assertEqual(ledger.read(), entries)
+
     def test_usage(self) -> None:
-        lines: list[list[str]] = [[], ["check", "x"], ["try", "p"], ["try", "p", "x"], ["make"]]
+        lines: list[list[str]] = [[], ["check"], ["check", "p", "x"], ["try", "p"], ["try", "p", "x"], ["make"]]
         for words in lines:
             status, text = self.told(*words)
             self.assertEqual(status, 2)
@@ -361,7 +373,7 @@ class Repository(unittest.TestCase):
             self.assertEqual((len(one), chosen(known, 5, "1")), (5, one))
             self.assertNotEqual(one, other)
             self.assertNotIn("low/7", chosen(known, 40, "1"))
-            self.assertEqual(check(known), (40, 0))
+            self.assertEqual(check(known, ""), (40, 0))
 
 
 if __name__ == "__main__":
