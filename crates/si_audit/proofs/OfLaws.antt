@@ -4,6 +4,7 @@ pub mod ExplainedExists
 pub mod ExplainedLeft
 pub mod FindingsExist
 pub mod FormsLeft
+pub mod GsiHidden
 pub mod Levels
 pub mod LinesTold
 pub mod OneExplanation

@@ -104,3 +104,13 @@ PlainTextLaw limits form text = ((i : ℕ) → ¬ NamesStart text i) → IsUntou
 -- the text has a report of this form, and no other
 abbrev pub HasOneReport : Limits → Form → List ℕ → Type 0
 HasOneReport limits form text = (bytes : List ℕ) × IsReport limits form text bytes × ((others : List ℕ) → IsReport limits form text others → bytes ≡ others)
+
+-- both texts have these bytes for a report of this form
+abbrev pub HaveSameBytes : Limits → Form → List ℕ → List ℕ → Type 0
+HaveSameBytes limits form text other = (bytes : List ℕ) × IsReport limits form text bytes × IsReport limits form other bytes
+
+-- two texts have the same full and the same brief report, and a run at the level gsi ends cleanly over one of them and not over the
+-- other
+abbrev pub HidesGsi : Limits → Type 0
+HidesGsi limits = (text : List ℕ) × (other : List ℕ) × HaveSameBytes limits Full text other × HaveSameBytes limits Brief text other
+    × IsOutcome limits Gsi text Clean × IsOutcome limits Gsi other Faulty

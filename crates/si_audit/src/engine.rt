@@ -1,5 +1,5 @@
 //! The engine: a text goes in, a report comes out, and it knows no device.
-ghost use Rattle.std.specs.Prelude.{◌≡◌, ◌≢◌, ◌<◌, ◌≤◌, ◌++◌, ℕ, List, [], drop, take, length, vec_capacity, IfOk, OnOk, IsFalse, IsTrue, ◌↔◌};
+ghost use Rattle.std.specs.Prelude.{◌≡◌, ◌≢◌, ◌<◌, ◌≤◌, ◌++◌, ℕ, List, [], drop, take, length, vec_capacity, IfOk, MatchOption, OnOk, IsFalse, IsTrue, ◌↔◌};
 ghost use Rattle.sia_events.specs.Limits.{Limits};
 ghost use Rattle.si_audit.specs.Options.{Choices};
 ghost use Rattle.si_audit.specs.Engine.{EndsFed, IsAt, IsFed, TellsFed, rest_from, IsReceived, IsReportOf, IsOutcomeOf, Told};
@@ -175,23 +175,16 @@ fn next_byte(sheets: &[Vec<u8>], mut sheet: usize, mut at: usize) -> (usize, usi
     (sheet, at)
 }
 
-/// Whether the history of which this is the judgement meets the level.
-fn meets(
-    alloc: Global,
-    log: &Log,
-    ix: &Index,
-    j: &Judgement,
-    level: Level,
-) -> Result<bool, NoMemory>
-    requires index { ix.now ≡ log.now }
-    requires judgement { IsJudgement log.now j.now }
-    ensures { IfOk result (λ meets. IsTrue meets ↔ Meets level log.now) }
+/// Whether the history of which this is the judgement meets the level, if the judgement tells it.
+fn meets(j: &Judgement, level: Level) -> Option<bool>
+    ensures { (h : List Event) → IsJudgement h j.now
+        → MatchOption result (level ≡ Level.Gsi) (λ meets. IsTrue meets ↔ Meets level h) }
 {
     match level {
-        Level::Serializable => Ok(j.is_kept() && j.serializable),
-        Level::Ssi => Ok(j.pass),
-        Level::Si => Ok(j.is_kept()),
-        Level::Gsi => is_generalized(alloc, log, ix, j),
+        Level::Serializable => Some(j.is_kept() && j.serializable),
+        Level::Ssi => Some(j.pass),
+        Level::Si => Some(j.is_kept()),
+        Level::Gsi => None,
     }
 }
 
@@ -218,9 +211,12 @@ fn report_of_log<C: Crew>(
 {
     let ix = index_log(alloc, &log)?;
     let (judgement, accesses) = judged(crew, alloc, &log, &ix, o)?;
-    let outcome = outcome_where(meets(alloc, &log, &ix, &judgement, o.level())?);
+    let meets = match meets(&judgement, o.level()) {
+        Some(meets) => meets,
+        None => is_generalized(alloc, &log, &ix, &judgement)?,
+    };
     Ok(Report {
-        outcome,
+        outcome: outcome_where(meets),
         sheets: sheets_of(crew, alloc, log, &ix, &judgement, &accesses, o)?,
         sheet: 0,
         at: 0,

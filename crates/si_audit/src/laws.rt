@@ -1,9 +1,9 @@
 //! Laws over the definitions of a report. Their bodies are empty: what they say is all in the contract.
-ghost use Rattle.std.specs.Prelude.{List, ℕ};
+ghost use Rattle.std.specs.Prelude.{◌≤◌, List, ℕ};
 ghost use Rattle.sia_events.specs.Limits.{Limits, greatest, AreWithin};
 ghost use Rattle.sia_events.specs.declared.event.Event.{Event};
 ghost use Rattle.sia_events.specs.Refusals.{IsWellFormed};
-ghost use Rattle.si_audit.specs.Laws.{CleanLaw, FormsLaw, HasOneReport, LevelsLaw, LinesLaw, PlainTextLaw, SnapshotsLaw};
+ghost use Rattle.si_audit.specs.Laws.{CleanLaw, FormsLaw, HasOneReport, HidesGsi, LevelsLaw, LinesLaw, PlainTextLaw, SnapshotsLaw};
 ghost use Rattle.si_audit.specs.Report.{HasSameReport, OneReport};
 ghost use Rattle.si_audit.specs.declared.options.Form.{Form};
 
@@ -37,6 +37,11 @@ pub fn forms_law()
 /// Off a report of any form it can be read how the run of its text ends at each level.
 pub fn lines_law()
     ensures { (limits : Limits) (form : Form) (text : List ℕ) → LinesLaw limits form text }
+{}
+
+/// But off a full or a brief report it can't be read how the run ends at the level `gsi`.
+pub fn gsi_law()
+    ensures { (limits : Limits) → 5 ≤ limits.events → 30 ≤ limits.bytes → HidesGsi limits }
 {}
 
 /// A text without named starts, its starts and its report are what they would be if no event could name a start.

@@ -115,9 +115,6 @@ pub(crate) fn sheets_of<C: Crew>(
             report_of(alloc, j, sheets, &pivots)
         }
         Form::Brief => report_of(alloc, j, Vec::new(alloc), &[]),
-        Form::Explained => {
-            let sheet = explained(alloc, &log, index, j, accesses)?;
-            one_sheet(alloc, sheet)
-        }
+        Form::Explained => one_sheet(alloc, explained(alloc, &log, index, j, accesses)?),
     }
 }

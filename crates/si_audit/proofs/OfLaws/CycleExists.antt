@@ -7,10 +7,15 @@ use Rattle.std.proofs.lemmas.List.Elements.{All-nil, All-cons}
 use Rattle.sia_events.proofs.Shared.Decisions.{Decided, first_below}
 use Rattle.sia_parts.specs.declared.finding.Edge.{Edge}
 use Rattle.sia_graph.specs.declared.cycle.Step.{Step}
+use Rattle.sia_graph.specs.Dangerous.{IsLeast}
 use Rattle.sia_graph.specs.Orders.{Leads}
 use Rattle.sia_graph.specs.Cycles.{GoesBack, GoesRound, IsPrevious, IsPrintedCycle, IsStuckSet, TakesLeastEdge}
 use Rattle.sia_graph.proofs.Shared.PartedLists.{contains_in}
 use Rattle.sia_graph.proofs.Shared.ReadyOrders.{In}
+
+-- the least number that has P, where one has it
+pub least_of : (P : ℕ → Type 0) → ((n : ℕ) → Decided (P n)) → (n : ℕ) → P n → (x : ℕ) × IsLeast P x
+least_of P decide n p = elim (first_below P decide (n + 1)) [ inl w ↦ (w.0, (w.2, w.3)) | inr none ↦ absurd (none n (omega arith) p) ]
 
 -- a list without t: shorter where t was in it
 pub others : (t : ℕ) (xs : List ℕ) → (ys : List ℕ) × (length ys ≤ length xs) × (In t xs → length ys < length xs) × ((u : ℕ) → In u xs → t ≢ u → In u ys)
@@ -89,24 +94,21 @@ module _ (E : Edge → Type 0) (S : List ℕ) (f : ℕ → ℕ) (previous : (t :
     on_or_not v = elim (first_below (λ m. go m x ≡ v) (λ m. cases_eq (go m x) v) d) [ inl w ↦ inl (w.0, w.1, w.2) | inr none ↦ inr (λ w. none w.0 w.1 w.2) ]
 
     least_home : (m : ℕ) × IsHome (go m x)
-    least_home = elim (first_below IsOn on_or_not (x + 1)) [
-      | inr none ↦ absurd (none x (omega arith) (0, some, refl))
-      | inl w ↦
-          let (home, below, (m, less, at), least) = w in
-          let turned : m + d ≡ d + m = omega arith in (
-            m,
-            (
-              d,
-              some,
-              sym (go_more m d x) ∙ ap (λ k. go k x) turned ∙ go_more d m x ∙ ap (go m) round,
-              λ k.
-                  let u = within (suc (m + k)) (m + k) (omega arith) in
-                  let up : home ≤ go u.0 x = least (go u.0 x) (u.0, u.1, refl) in
-                  let there : go u.0 x ≡ go k (go m x) = u.2 ∙ go_more m k x in
-                  omega arith,
-            ),
-          )
-    ]
+    least_home =
+        let (home, ((m, less, at), least)) = least_of IsOn on_or_not x (0, some, refl) in
+        let turned : m + d ≡ d + m = omega arith in (
+          m,
+          (
+            d,
+            some,
+            sym (go_more m d x) ∙ ap (λ k. go k x) turned ∙ go_more d m x ∙ ap (go m) round,
+            λ k.
+                let u = within (suc (m + k)) (m + k) (omega arith) in
+                let up : home ≤ go u.0 x = least (go u.0 x) (u.0, u.1, refl) in
+                let there : go u.0 x ≡ go k (go m x) = u.2 ∙ go_more m k x in
+                omega arith,
+          ),
+        )
 
   module _ (edge : (p q : ℕ) → Leads E p q → (s : Step) × (s.txn ≡ p) × TakesLeastEdge E s q) (home : ℕ) (in_set : Contains S home) (low : (k : ℕ) → home ≤ go k home) where
     abbrev start_of : List Step → ℕ
@@ -140,15 +142,12 @@ module _ (E : Edge → Type 0) (S : List ℕ) (f : ℕ → ℕ) (previous : (t :
 
     whole_ring : (d : ℕ) → 0 < d → go d home ≡ home → (first : Step) × (steps : List Step) × (first.txn ≡ home) × All (λ s. first.txn < s.txn) steps × GoesRound E S (first ∷ steps) home
     whole_ring zero some round = absurd (omega arith)
-    whole_ring (suc d) some round = elim (first_below (λ n. go (suc n) home ≡ home) (λ n. cases_eq (go (suc n) home) home) (suc d)) [
-      | inr none ↦ absurd (none d (omega arith) round)
-      | inl w ↦
-          let (n, below, back_home, least) = w in
-          let r = ring n (λ j l e. let m : n ≤ j = least j e in omega arith) in
-          let m = one_more n r.0 r.2 r.1 in
-          let first : m.0.txn ≡ home = m.2 ∙ back_home in
-          (m.0, r.0, first, all_above m.0.txn r.0 (sym first) r.3, m.1)
-    ]
+    whole_ring (suc d) some round =
+        let (n, (back_home, least)) = least_of (λ n. go (suc n) home ≡ home) (λ n. cases_eq (go (suc n) home) home) d round in
+        let r = ring n (λ j l e. let m : n ≤ j = least j e in omega arith) in
+        let m = one_more n r.0 r.2 r.1 in
+        let first : m.0.txn ≡ home = m.2 ∙ back_home in
+        (m.0, r.0, first, all_above m.0.txn r.0 (sym first) r.3, m.1)
 
   -- the cycle to which the least member leads back
   module _ (IsMember : ℕ → Type 0) (stuck : IsStuckSet IsMember E S) (least : ℕ) (c : Contains S least) (low : (t : ℕ) → Contains S t → least ≤ t) where

@@ -1,5 +1,5 @@
 -- The account of a well-formed history has an explained report.
-use Rattle.std.proofs.Common.{◌≡◌, ◌≢◌, ◌⊎◌, inl, inr, ◌+◌, ◌<◌, ℕ, length, Some, List, [], ◌∷◌, ◌++◌, codes, refl, sym, subst, arith}
+use Rattle.std.proofs.Common.{◌≡◌, ◌≢◌, ◌⊎◌, inl, inr, ◌<◌, ℕ, length, Some, List, [], ◌∷◌, ◌++◌, codes, refl, sym, subst, arith}
 use Rattle.std.proofs.lemmas.Bool.{cases_eq, cases_lt}
 use Rattle.std.proofs.lemmas.Option.{slice_get_within}
 use Rattle.sia_events.specs.declared.event.Event.{Event}
@@ -33,7 +33,7 @@ use Rattle.sia_graph.specs.declared.judgement.Verdict.{Verdict}
 use Rattle.sia_graph.specs.declared.judgement.Verdict.TheVariants.{Order, Cycle}
 use Rattle.sia_graph.specs.Allowed.{IsAllowedAt, IsRwOverlap}
 use Rattle.sia_graph.specs.Cycles.{GoesRound, step_edge}
-use Rattle.sia_graph.specs.Dangerous.{HasFirst, IsLeast, MayBeFirst}
+use Rattle.sia_graph.specs.Dangerous.{HasFirst, MayBeFirst}
 use Rattle.sia_graph.specs.Verdicts.{IsVerdict}
 use Rattle.sia_graph.proofs.OfLaws.AllowedCycles.{both_at, edge_at, place_after}
 use Rattle.sia_graph.proofs.Shared.Deciding.{either_decided, not_decided, three_decided}
@@ -46,16 +46,14 @@ use Rattle.si_audit.specs.Explained.{IsExplained, TellsAll, TellsDanger, TellsVe
 use Rattle.si_audit.specs.Lines.{bad_read_line, bad_write_line, edge_word, unexplained_line, verdict_line}
 use Rattle.si_audit.specs.Reasons.{TellsBadRead, TellsBadWrite, TellsClass, TellsConflict, TellsEvents, TellsSight, TellsStep, TellsUnexplained, reason, untold_of}
 use Rattle.si_audit.proofs.OfLaws.CountsTold.{counts_told}
-use Rattle.si_audit.proofs.OfLaws.FindingsExist.{seen_small, top, top_is}
+use Rattle.si_audit.proofs.OfLaws.CycleExists.{least_of}
+use Rattle.si_audit.proofs.OfLaws.FindingsExist.{seen_small, top_is}
 use Rattle.si_audit.proofs.OfLaws.VerdictExists.{some_committed}
-use Rattle.si_audit.proofs.Shared.SnapshotsExist.{snapshots_exist}
+use Rattle.si_audit.proofs.Shared.SnapshotsExist.{snapshots_exist, some_or_none}
 use Rattle.si_audit.proofs.Shared.Told.{Told, all_told}
 
 line_told : {A : Type 0} (line_of : A → List ℕ) (Tells : A → List ℕ → Type 0) (x : A) → Told (Tells x) → Told (WithReasons line_of Tells x)
 line_told line_of Tells x told = (line_of x ++ told.0, (told.0, told.1, refl))
-
-least_of : (P : ℕ → Type 0) → ((n : ℕ) → Decided (P n)) → (n : ℕ) → P n → (x : ℕ) × IsLeast P x
-least_of P decide n p = elim (first_below P decide (n + 1)) [ inl w ↦ (w.0, (w.2, w.3)) | inr none ↦ absurd (none n (omega arith) p) ]
 
 module _ (h : List Event) (wf : IsWellFormed h) where
   version_told : (k v : ℕ) → Wrote h v k → Told (TellsVersion h k v)
@@ -104,17 +102,13 @@ module _ (h : List Event) (wf : IsWellFormed h) where
 
   loses_or_not : (k first second p : ℕ) → Decided (LosesAt h k first second p)
   loses_or_not k first second p =
-      elim (first_below (λ v. SawAt h p second k v × (¬ WroteBefore h second k p) × IsVersionBefore h k v first)
-      (λ v. three_decided (SawAt h p second k v) (¬ WroteBefore h second k p) (IsVersionBefore h k v first) (saw_at_or_not h p second k v) (not_decided (WroteBefore h second k p) (wrote_before_or_not h second k p)) (before_or_not k v first)) top) [
-        | inl x ↦ inl (x.0, x.2.0, x.2.1, x.2.2)
-        | inr none ↦ inr (λ x. none x.0 (let small = (seen_small h wf p second k x.0 x.1).3 in let is = top_is in omega arith) (x.1, x.2, x.3))
-      ]
+      decided_alike ((v : ℕ) × (SawAt h p second k v × (¬ WroteBefore h second k p) × IsVersionBefore h k v first)) (LosesAt h k first second p) (λ x. (x.0, x.1.0, x.1.1, x.1.2)) (λ x. (x.0, (x.1, x.2, x.3)))
+      (some_or_none (λ v. SawAt h p second k v × (¬ WroteBefore h second k p) × IsVersionBefore h k v first)
+      (λ v. three_decided (SawAt h p second k v) (¬ WroteBefore h second k p) (IsVersionBefore h k v first) (saw_at_or_not h p second k v) (not_decided (WroteBefore h second k p) (wrote_before_or_not h second k p)) (before_or_not k v first))
+      (λ v x. let small = (seen_small h wf p second k v x.0).3 in let is = top_is in omega arith))
 
   lost_or_not : (k first second : ℕ) → Decided (IsLostUpdate h k first second)
-  lost_or_not k first second = elim (first_below (LosesAt h k first second) (loses_or_not k first second) top) [
-    | inl x ↦ inl (x.0, x.2)
-    | inr none ↦ inr (λ x. none x.0 (let small = (seen_small h wf x.0 second k x.1.0 x.1.1).0 in let is = top_is in omega arith) x.1)
-  ]
+  lost_or_not k first second = some_or_none (LosesAt h k first second) (loses_or_not k first second) (λ p x. let small = (seen_small h wf p second k x.0 x.1).0 in let is = top_is in omega arith)
 
   conflict_told : (b : BadWrite) (start : List ℕ) → Told (TellsConflict h b start)
   conflict_told b start = elim (lost_or_not b.key b.first b.second) [
@@ -150,10 +144,8 @@ module _ (h : List Event) (wf : IsWellFormed h) where
 
     sight_or_not : (q : ℕ) → Decided ((w : ℕ) × (IsSight q w))
     sight_or_not q =
-        elim (first_below (IsSight q) (λ w. both (SawAt h q (reader_of e.kind e.src e.dst) e.key w) (Gives e.kind h e.src e.dst e.key w) (saw_at_or_not h q (reader_of e.kind e.src e.dst) e.key w) (gives_or_not e.kind e.src e.dst e.key w)) top) [
-          | inl x ↦ inl (x.0, x.2)
-          | inr none ↦ inr (λ x. none x.0 (let small = (seen_small h wf q (reader_of e.kind e.src e.dst) e.key x.0 x.1.0).3 in let is = top_is in omega arith) x.1)
-        ]
+        some_or_none (IsSight q) (λ w. both (SawAt h q (reader_of e.kind e.src e.dst) e.key w) (Gives e.kind h e.src e.dst e.key w) (saw_at_or_not h q (reader_of e.kind e.src e.dst) e.key w) (gives_or_not e.kind e.src e.dst e.key w))
+        (λ w x. let small = (seen_small h wf q (reader_of e.kind e.src e.dst) e.key w x.0).3 in let is = top_is in omega arith)
 
     sight_told : (p v : ℕ) → SawAt h p (reader_of e.kind e.src e.dst) e.key v → Gives e.kind h e.src e.dst e.key v → Told (TellsSight h e)
     sight_told p v saw gives =
@@ -221,18 +213,12 @@ module _ (h : List Event) (wf : IsWellFormed h) where
       let class = class_told edges in
       (told.0 ++ class.0, (told.0, class.0, told.1, class.1, refl))
 
-  from_or_not : (t u : ℕ) → Decided ((s : ℕ) × (IsVulnerable h s t × ((u ≡ s) ⊎ CommitsBefore h u s)))
-  from_or_not t u =
-      some_committed h (λ s. IsVulnerable h s t × ((u ≡ s) ⊎ CommitsBefore h u s)) (may_be_or_not t u) (λ s x. source_committed h s t x.0)
-    where
-      may_be_or_not : (t u s : ℕ) → Decided (IsVulnerable h s t × ((u ≡ s) ⊎ CommitsBefore h u s))
-      may_be_or_not t u s = both (IsVulnerable h s t) ((u ≡ s) ⊎ CommitsBefore h u s) (vulnerable_decided h wf s t) (either_decided (u ≡ s) (CommitsBefore h u s) (cases_eq u s) (commits_before_decided h wf u s))
+  may_be_or_not : (t u s : ℕ) → Decided (MayBeFirst h t u s)
+  may_be_or_not t u s = both (IsVulnerable h s t) ((u ≡ s) ⊎ CommitsBefore h u s) (vulnerable_decided h wf s t) (either_decided (u ≡ s) (CommitsBefore h u s) (cases_eq u s) (commits_before_decided h wf u s))
 
   first_or_not : (t u : ℕ) → Decided (IsFirst h t u)
-  first_or_not t u = elim (three_decided (IsVulnerable h t u) (CommitsBefore h u t) ((s : ℕ) × (IsVulnerable h s t × ((u ≡ s) ⊎ CommitsBefore h u s))) (vulnerable_decided h wf t u) (commits_before_decided h wf u t) (from_or_not t u)) [
-    | inl x ↦ inl (x.0, x.1, x.2.0, x.2.1.0, x.2.1.1)
-    | inr none ↦ inr (λ f. none (f.0, f.1, (f.2, (f.3, f.4))))
-  ]
+  first_or_not t u = decided_alike (IsVulnerable h t u × CommitsBefore h u t × ((s : ℕ) × (MayBeFirst h t u s))) (IsFirst h t u) (λ x. (x.0, x.1, x.2.0, x.2.1.0, x.2.1.1)) (λ f. (f.0, f.1, (f.2, (f.3, f.4))))
+      (three_decided (IsVulnerable h t u) (CommitsBefore h u t) ((s : ℕ) × (MayBeFirst h t u s)) (vulnerable_decided h wf t u) (commits_before_decided h wf u t) (some_committed h (MayBeFirst h t u) (may_be_or_not t u) (λ s x. source_committed h s t x.0)))
 
   has_first_or_not : (t : ℕ) → Decided (HasFirst h t)
   has_first_or_not t = some_committed h (IsFirst h t) (first_or_not t) (λ u f. target_committed h t u f.0)
@@ -248,7 +234,7 @@ module _ (h : List Event) (wf : IsWellFormed h) where
       let (pivot, p) = least_of (HasFirst h) has_first_or_not t has in
       let (last, l) = least_of (IsFirst h pivot) (first_or_not pivot) p.0.0 p.0.1 in
       let f = l.0 in
-      let (first, x) = least_of (MayBeFirst h pivot last) (λ s. both (IsVulnerable h s pivot) ((last ≡ s) ⊎ CommitsBefore h last s) (vulnerable_decided h wf s pivot) (either_decided (last ≡ s) (CommitsBefore h last s) (cases_eq last s) (commits_before_decided h wf last s))) f.2 (f.3, f.4) in
+      let (first, x) = least_of (MayBeFirst h pivot last) (may_be_or_not pivot last) f.2 (f.3, f.4) in
       let (first_key, a) = least_of (RwEdge h first pivot) (edge_decided h wf Rw first pivot) x.0.0.1 x.0.0.2 in
       let (last_key, b) = least_of (RwEdge h pivot last) (edge_decided h wf Rw pivot last) f.0.1 f.0.2 in
       let d : Dangerous = record { first = first; first_key = first_key; pivot = pivot; last_key = last_key; last = last } in

@@ -3,18 +3,19 @@ use Rattle.std.proofs.Common.{◌≡◌, ◌≢◌, ◌⊎◌, inl, inr, ℕ, ze
 use Rattle.std.specs.Prelude.{Contains, ⊤}
 use Rattle.std.specs.List.{AllByRecursion}
 use Rattle.std.proofs.lemmas.Bool.{cases_eq, cases_lt}
-use Rattle.std.proofs.lemmas.List.Elements.{All-contains, Contains-get_or}
+use Rattle.std.proofs.lemmas.List.Elements.{Contains-get_or}
 use Rattle.sia_events.specs.declared.event.Event.{Event}
-use Rattle.sia_events.specs.declared.event.Event.TheVariants.{Begin, Read, Range, Write, Commit, Abort}
+use Rattle.sia_events.specs.declared.event.Event.TheVariants.{Write}
 use Rattle.sia_events.specs.Events.{actor, Saw}
 use Rattle.sia_events.specs.Isolation.{IsBadRead, IsBadWrite, IsUnexplained}
 use Rattle.sia_events.specs.Lists.{ListsBy, Precedes}
 use Rattle.sia_events.specs.Places.{at_place}
 use Rattle.sia_events.specs.Reads.{IsDue, SawAt}
-use Rattle.sia_events.specs.Refusals.{IsInRange, IsKey, IsVersion, IsWellFormed}
+use Rattle.sia_events.specs.Refusals.{IsWellFormed}
 use Rattle.sia_events.specs.Transactions.{IsCommitted, StartsBeforeCommit, Wrote, WroteBefore}
 use Rattle.sia_events.proofs.Shared.Decisions.{Decided, both, decided_alike}
 use Rattle.sia_events.proofs.OfLaws.Due.{has_due, one_due}
+use Rattle.sia_events.proofs.OfLaws.Seen.{actor_is_txn, saw_written}
 use Rattle.sia_events.proofs.Worked.OneList.{Precedes-asym}
 use Rattle.sia_events.proofs.Writing.Ranges.{one_version}
 use Rattle.sia_events.proofs.OfLaws.SawDecisions.{saw_at_or_not}
@@ -26,6 +27,7 @@ use Rattle.sia_parts.specs.declared.finding.BadWrite.{BadWrite}
 use Rattle.sia_parts.specs.declared.finding.Unexplained.{Unexplained}
 use Rattle.sia_parts.specs.Entries.{bad_read_rank, bad_write_rank, unexplained_rank}
 use Rattle.sia_parts.specs.Findings.{ListsBadReads, ListsBadWrites, ListsUnexplained}
+use Rattle.sia_parts.proofs.Auditing.KeyLemmas.{seen_key}
 use Rattle.sia_parts.proofs.Auditing.Members.{contains_first, contains_later}
 use Rattle.sia_graph.proofs.Shared.Deciding.{either_decided, not_decided, three_decided}
 use Rattle.sia_graph.proofs.Shared.Facts.{commits_before_decided, lifetime_of}
@@ -102,42 +104,18 @@ by_two p k q l xs ys (inr a) = elim a.1 [ inl less ↦ inl (inr (a.0, inl less))
 never_before : (xs ys : List ℕ) → xs ≡ ys → ¬ Precedes xs ys
 never_before xs ys e p = let q = subst (λ (zs : List ℕ). Precedes zs ys) e p in Precedes-asym ys ys q q
 
-actor_small : (e : Event) → IsInRange e → actor e < 4294967296
-actor_small (Begin t start) r = let a = r.0.1 in omega arith
-actor_small (Read t k v) r = let a = r.0.1 in omega arith
-actor_small (Range t lo hi listed) r = let a = r.0.1 in omega arith
-actor_small (Write t k) r = let a = r.0.1 in omega arith
-actor_small (Commit t) r = let a = r.1 in omega arith
-actor_small (Abort t) r = let a = r.1 in omega arith
-
-saw_small : (e : Event) (k v : ℕ) → IsInRange e → Saw e k v → (k < 18446744073709551616) × (v < 18446744073709551616)
-saw_small (Begin t start) k v r saw = absurd saw
-saw_small (Read t key seen) k v r saw = let a = saw.0 in let b = saw.1 in let c = r.1 in let d = r.2 in (omega arith, omega arith)
-saw_small (Range t lo hi listed) k v r saw =
-    let most = saw.1 in
-    let up : hi < 2 ^ 64 = r.2 in (
-      omega arith,
-      elim saw.2 [
-        | inl c ↦ let both_small = All-contains (λ p. IsKey p.0 × IsVersion p.1) listed (k, v) r.3 c in let a : v < 2 ^ 32 = both_small.1 in omega arith
-        | inr none ↦ let z = none.1 in omega arith
-      ],
-    )
-saw_small (Write t key) k v r saw = absurd saw
-saw_small (Commit t) k v r saw = absurd saw
-saw_small (Abort t) k v r saw = absurd saw
-
 module _ (h : List Event) (wf : IsWellFormed h) where
   pub wrote_small : (t k p : ℕ) → at_place h p ≡ Some (Write t k) → (t < 4294967296) × (k < 18446744073709551616)
   wrote_small t k p at = let r = event_in_range h wf p (Write t k) at in let a = r.0.1 in let b : k < 2 ^ 64 = r.1 in (omega arith, omega arith)
 
   pub seen_small : (p t k v : ℕ) → SawAt h p t k v → (p < 18446744073709551616) × (t < 4294967296) × (k < 18446744073709551616) × (v < 18446744073709551616)
-  seen_small p t k v (e, at, same, saw) =
-      let r = event_in_range h wf p e at in
-      let most : p ≤ length h = (place_within h p e at).1 in
+  seen_small p t k v saw =
+      let most : p ≤ length h = (place_within h p saw.0 saw.1).1 in
       let few : length h ≤ 500000000 = few_events h wf in
-      let small : actor e < 4294967296 = actor_small e r in
-      let more = saw_small e k v r saw in
-      (omega arith, omega arith, more.0, more.1)
+      let txn : t < 2 ^ 32 = (actor_is_txn h wf t p (saw.0, saw.1, saw.2)).1 in
+      let key : k < 2 ^ 64 = seen_key h wf p t k v saw in
+      let version : v < 2 ^ 64 = elim (cases_eq v 0) [ inl none ↦ omega arith | inr later ↦ (let w = saw_written h wf p t k v saw later in let small = (wrote_small v k w.0 w.2).0 in omega arith) ] in
+      (omega arith, omega arith, omega arith, omega arith)
 
   due_small : (t p k v : ℕ) → t < 4294967296 → IsDue h t p k v → v < 4294967296
   due_small t p k v small (inl own) = let e = own.1 in omega arith

@@ -1,5 +1,5 @@
 -- A well-formed history has a least order that keeps every edge, or a cycle that is printed.
-use Rattle.std.proofs.Common.{◌≡◌, ◌⊎◌, inl, inr, ℕ, zero, suc, ◌+◌, ◌<◌, ◌≤◌, Some, List, [], ◌∷◌, ◌++◌, length, map, refl, sym, subst, ◌∙◌, arith}
+use Rattle.std.proofs.Common.{◌≡◌, ◌⊎◌, inl, inr, ℕ, zero, suc, ◌<◌, ◌≤◌, Some, List, [], ◌∷◌, ◌++◌, length, map, refl, sym, subst, ◌∙◌, arith}
 use Rattle.std.specs.Prelude.{Contains}
 use Rattle.std.proofs.lemmas.Bool.{cases_Bool, cases_eq}
 use Rattle.sia_events.specs.declared.event.Event.{Event}
@@ -9,7 +9,7 @@ use Rattle.sia_events.specs.Lists.{ListsAscending}
 use Rattle.sia_events.specs.Places.{at_place}
 use Rattle.sia_events.specs.Refusals.{IsWellFormed}
 use Rattle.sia_events.specs.Transactions.{IsCommitted}
-use Rattle.sia_events.proofs.Shared.Decisions.{Decided, both, decided_alike, first_below}
+use Rattle.sia_events.proofs.Shared.Decisions.{Decided, both, decided_alike}
 use Rattle.sia_events.proofs.Shared.TransactionDecisions.{committed_or_not}
 use Rattle.sia_parts.specs.declared.finding.Edge.{Edge}
 use Rattle.sia_parts.specs.declared.finding.Kind.{Kind}
@@ -30,7 +30,7 @@ use Rattle.sia_graph.proofs.OfPivots.ListedAs.{mapped}
 use Rattle.sia_graph.proofs.Shared.PartedLists.{contains_in}
 use Rattle.sia_graph.proofs.Shared.Positions.{Stands, contains_stands, false_stands, stands_contains, stands_last, stands_more, true_stands}
 use Rattle.sia_graph.proofs.Shared.ReadyOrders.{In}
-use Rattle.si_audit.proofs.OfLaws.CycleExists.{cycle_exists, others}
+use Rattle.si_audit.proofs.OfLaws.CycleExists.{cycle_exists, least_of, others}
 
 event_in : (h : List Event) (p : ℕ) (e : Event) → at_place h p ≡ Some e → Contains h e
 event_in h zero e at = absurd cc
@@ -87,31 +87,25 @@ module _ (h : List Event) (wf : IsWellFormed h) where
         (λ e. three_decided (e.src ≡ p) (e.dst ≡ q) ((kind_number e.kind ≡ n) × (e.key ≡ k)) (cases_eq e.src p) (cases_eq e.dst q) (both (kind_number e.kind ≡ n) (e.key ≡ k) (cases_eq (kind_number e.kind) n) (cases_eq e.key k)))
 
     by_key : (n : ℕ) → OfKind n → ((m : ℕ) → OfKind m → n ≤ m) → (s : Step) × (s.txn ≡ p) × TakesLeastEdge (IsEdge h) s q
-    by_key n (e1, is1, (src1, dst1, kind1)) first = elim (first_below (OfKey n) (key_or_not n) (e1.key + 1)) [
-      | inr none ↦ absurd (none e1.key (omega arith) (e1, is1, (src1, dst1, (kind1, refl))))
-      | inl w ↦
-          let (k, below, (e, is, (src, dst, (kind, key))), least) = w in
-          let same : e ≡ record { src = p; kind = e.kind; dst = q; key = e.key } = (λ i. record { src = src i; kind = e.kind; dst = dst i; key = e.key }) in (
-            record { txn = p; kind = e.kind; key = e.key },
-            refl,
-            (
-              subst (IsEdge h) same is,
-              λ d is_edge from to before. elim before [
-                | inl less ↦ let m : n ≤ kind_number d.kind = first (kind_number d.kind) (d, is_edge, (from, to, refl)) in omega arith
-                | inr x ↦ elim x.1 [
-                  | inl less ↦ let m : k ≤ d.key = least d.key (d, is_edge, (from, to, (x.0 ∙ kind, refl))) in omega arith
-                  | inr y ↦ y.1
-                ]
-              ],
-            ),
-          )
-    ]
+    by_key n (e1, is1, (src1, dst1, kind1)) first =
+        let (k, ((e, is, (src, dst, (kind, key))), least)) = least_of (OfKey n) (key_or_not n) e1.key (e1, is1, (src1, dst1, (kind1, refl))) in
+        let same : e ≡ record { src = p; kind = e.kind; dst = q; key = e.key } = (λ i. record { src = src i; kind = e.kind; dst = dst i; key = e.key }) in (
+          record { txn = p; kind = e.kind; key = e.key },
+          refl,
+          (
+            subst (IsEdge h) same is,
+            λ d is_edge from to before. elim before [
+              | inl less ↦ let m : n ≤ kind_number d.kind = first (kind_number d.kind) (d, is_edge, (from, to, refl)) in omega arith
+              | inr x ↦ elim x.1 [
+                | inl less ↦ let m : k ≤ d.key = least d.key (d, is_edge, (from, to, (x.0 ∙ kind, refl))) in omega arith
+                | inr y ↦ y.1
+              ]
+            ],
+          ),
+        )
 
     least_edge : Leads (IsEdge h) p q → (s : Step) × (s.txn ≡ p) × TakesLeastEdge (IsEdge h) s q
-    least_edge (e, is, src, dst) = elim (first_below OfKind kind_or_not (kind_number e.kind + 1)) [
-      | inr none ↦ absurd (none (kind_number e.kind) (omega arith) (e, is, (src, dst, refl)))
-      | inl w ↦ by_key w.0 w.2 w.3
-    ]
+    least_edge (e, is, src, dst) = let w = least_of OfKind kind_or_not (kind_number e.kind) (e, is, (src, dst, refl)) in by_key w.0 w.1.0 w.1.1
 
   abbrev IsReady : List ℕ → ℕ → Type 0
   IsReady front t = IsCommitted h t × ¬ Stands front t × ((s : ℕ) → Leads (IsEdge h) s t → Stands front s)
@@ -137,18 +131,15 @@ module _ (h : List Event) (wf : IsWellFormed h) where
   grown zero rest front l f all = absurd (omega arith)
   grown (suc n) rest front l f all = elim (some_committed h (IsReady front) (ready_or_not front) (λ t r. r.0)) [
     | inr none ↦ (front, f, λ t r. none (t, r))
-    | inl some ↦ elim (first_below (IsReady front) (ready_or_not front) (some.0 + 1)) [
-      | inr none ↦ absurd (none some.0 (omega arith) some.1)
-      | inl w ↦
-          let (t, below, ready, least) = w in
-          let r = others t rest in
-          let there : In t rest = elim (all t ready.0) [ inl s ↦ absurd (ready.1 s) | inr i ↦ i ] in
-          let less : length r.0 < length rest = r.2 there in
-          grown n r.0 (front ++ t ∷ []) (omega arith) (front_more (IsCommitted h) (IsEdge h) front t f ready least) (λ u c. elim (all u c) [
-            | inl s ↦ inl (stands_more front t u s)
-            | inr i ↦ elim (cases_eq t u) [ inl e ↦ inl (subst (Stands (front ++ t ∷ [])) e (stands_last front t)) | inr other ↦ inr (r.3 u i other) ]
-          ])
-    ]
+    | inl some ↦
+        let (t, (ready, least)) = least_of (IsReady front) (ready_or_not front) some.0 some.1 in
+        let r = others t rest in
+        let there : In t rest = elim (all t ready.0) [ inl s ↦ absurd (ready.1 s) | inr i ↦ i ] in
+        let less : length r.0 < length rest = r.2 there in
+        grown n r.0 (front ++ t ∷ []) (omega arith) (front_more (IsCommitted h) (IsEdge h) front t f ready least) (λ u c. elim (all u c) [
+          | inl s ↦ inl (stands_more front t u s)
+          | inr i ↦ elim (cases_eq t u) [ inl e ↦ inl (subst (Stands (front ++ t ∷ [])) e (stands_last front t)) | inr other ↦ inr (r.3 u i other) ]
+        ])
   ]
 
   module _ (front : List ℕ) (f : IsFront (IsCommitted h) (IsEdge h) front) (none : (t : ℕ) → ¬ IsReady front t) where
@@ -179,19 +170,15 @@ module _ (h : List Event) (wf : IsWellFormed h) where
         | inr out ↦ (t, λ c. absurd (out ((lists.each t).0 c)))
         | inl left ↦
             let s = fed t left in
-            elim (first_below (λ p. IsLeft p × Leads (IsEdge h) p t) (λ p. both (IsLeft p) (Leads (IsEdge h) p t) (left_or_not p) (leads_or_not p t)) (s.0 + 1)) [
-              | inr nothing ↦ absurd (nothing s.0 (omega arith) (s.1, s.2))
-              | inl w ↦ (w.0, λ c. ((lists.each w.0).1 w.2.0, w.2.1, λ q in_set l. w.3 q ((lists.each q).0 in_set, l)))
-            ]
+            let w = least_of (λ p. IsLeft p × Leads (IsEdge h) p t) (λ p. both (IsLeft p) (Leads (IsEdge h) p t) (left_or_not p) (leads_or_not p t)) s.0 (s.1, s.2) in
+            (w.0, λ c. ((lists.each w.0).1 w.1.0.0, w.1.0.1, λ q in_set l. w.1.1 q ((lists.each q).0 in_set, l)))
       ]
 
       cycle : (t : ℕ) → IsLeft t → (v : Verdict) × IsVerdict (IsCommitted h) (IsEdge h) v
-      cycle t left = elim (first_below IsLeft left_or_not (t + 1)) [
-        | inr nothing ↦ absurd (nothing t (omega arith) left)
-        | inl w ↦
-            let made = cycle_exists (IsEdge h) set (λ u. (picked u).0) (λ u c. (picked u).1 c) (IsCommitted h) is_stuck w.0 ((lists.each w.0).1 w.2) (λ u c. w.3 u ((lists.each u).0 c)) least_edge in
-            (Cycle made.0, (no_order (IsCommitted h) (IsEdge h) IsLeft (λ u l. let s = fed u l in (l.0, s.0, s.1, s.2)) t left, made.1))
-      ]
+      cycle t left =
+          let w = least_of IsLeft left_or_not t left in
+          let made = cycle_exists (IsEdge h) set (λ u. (picked u).0) (λ u c. (picked u).1 c) (IsCommitted h) is_stuck w.0 ((lists.each w.0).1 w.1.0) (λ u c. w.1.1 u ((lists.each u).0 c)) least_edge in
+          (Cycle made.0, (no_order (IsCommitted h) (IsEdge h) IsLeft (λ u l. let s = fed u l in (l.0, s.0, s.1, s.2)) t left, made.1))
 
     settled : (v : Verdict) × IsVerdict (IsCommitted h) (IsEdge h) v
     settled = elim (some_committed h IsLeft left_or_not (λ t l. l.0)) [

@@ -5,6 +5,7 @@ use Rattle.std.specs.Prelude.{IfSome, IsSomeAnd, option_map, slice_get}
 use Rattle.std.specs.Str.{bytes_eq}
 use Rattle.std.specs.Borrow.{Bor}
 use Rattle.std.proofs.lemmas.List.{length-map}
+use Rattle.std.proofs.lemmas.List.Elements.{All-map}
 use Rattle.std.proofs.lemmas.Slice.Eq.{bytes_eq-Decides}
 use Rattle.clap.specs.Texts.{items_of}
 use Rattle.clap.specs.Facts.{Entry, EntryPasses, HasIn, IsParsed, PassesArg, args_of, groups_of, parser_of_value, unwrap_or_range}
@@ -73,11 +74,6 @@ first_in_bounds : (lo hi : ℕ) (vs : List (Bor Text)) → 0 < length vs → All
     → IsSomeAnd (option_map (λ s. s.now) (slice_get vs 0)) (IsUnsignedIn lo hi)
 first_in_bounds lo hi [] lt h = absurd (omega arith)
 first_in_bounds lo hi (v ∷ vs) lt h = h 0 v (omega arith)
-
-texts_in_bounds : (lo hi : ℕ) (vs : List (Bor Text)) → All (λ v. IsUnsignedIn lo hi v.now) vs → All (IsUnsignedIn lo hi) (map (λ s. s.now) vs)
-texts_in_bounds lo hi [] h k d lt = absurd (omega arith)
-texts_in_bounds lo hi (v ∷ vs) h zero d lt = h 0 v (omega arith)
-texts_in_bounds lo hi (v ∷ vs) h (suc k) d lt = texts_in_bounds lo hi vs (λ j e less. h (suc j) e (omega arith)) k d (omega arith)
 
 module _ (c : Command) (m : ArgMatches) (p : IsParsedFrom c m) (app : app_of c ≡ program) where
   same_rules : map rule_of (args_of c) ≡ rules
@@ -235,7 +231,7 @@ module _ (c : Command) (m : ArgMatches) (p : IsParsedFrom c m) (app : app_of c �
           → All (IsUnsignedIn 0 18446744073709551615) (raw_values x)
       step x e =
           subst (λ (y : MatchedArg). All (IsUnsignedIn 0 18446744073709551615) (raw_values y)) e.1
-          (texts_in_bounds 0 18446744073709551615 e.0.1.vals.items
+          (All-map (IsUnsignedIn 0 18446744073709551615) (λ s. s.now) e.0.1.vals.items
           (in_bounds 1 d (omega arith) (codes "cut") named (omega arith) own e.0 e.3 e.2 0 18446744073709551615 (ap (λ (r : Rule). r.parser) rule)))
 
       go : (o : Option MatchedArg) → matched_of (found_of m) (codes "cut") ≡ o

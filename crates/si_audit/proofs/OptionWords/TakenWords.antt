@@ -4,7 +4,7 @@ use Rattle.std.specs.Prelude.{if◌then◌else◌, codes, encode_utf8, slice_get
 use Rattle.std.specs.List.{list_all}
 use Rattle.std.specs.Option.{option_map_or}
 use Rattle.std.specs.Str.{bytes_eq, chars}
-use Rattle.std.proofs.lemmas.Bool.{eqb-true, le-leb, ltb-false}
+use Rattle.std.proofs.lemmas.Bool.{and_from, eqb-true, le-leb, ltb-false}
 use Rattle.clap.specs.Values.{refused_kind}
 use Rattle.clap.specs.ValueTests.{accepts}
 use Rattle.clap.specs.Facts.{parser_of_value, unwrap_or_range}
@@ -30,9 +30,6 @@ neither : (a b : Kinds) → or_else a b ≡ [] → (a ≡ []) × (b ≡ [])
 neither [] b e = (refl, e)
 neither (k ∷ ks) b e = cc
 
-all_pass : (a b : Bool) → a ≡ true → b ≡ true → (a && b) ≡ true
-all_pass a b p q = rw (p, q) refl
-
 -- a test that makes a kind has failed
 not_met : (b : Bool) (k : ErrorKind) (rest : Kinds) → (if b then k ∷ [] else rest) ≡ [] → (b ≡ false) × (rest ≡ [])
 not_met true k rest e = cc
@@ -52,7 +49,7 @@ values_taken : (i : Bool) (p : ValueParser) (ts : List Text) → values_kinds i 
 values_taken i p [] e = refl
 values_taken i p (t ∷ ts) e =
     let parts = neither (value_kinds i p t) (values_kinds i p ts) e in
-    all_pass _ _ (value_taken i p t parts.0) (values_taken i p ts parts.1)
+    and_from _ _ (value_taken i p t parts.0) (values_taken i p ts parts.1)
 
 range_taken : (least most n : ℕ) → range_kinds least most n ≡ [] → (nat_le least n ≡ true) × (nat_le n most ≡ true)
 range_taken least most n e = go (least == most) refl (not_met (nat_lt 0 least && n == 0) kind.InvalidValue _ e).1
@@ -80,7 +77,7 @@ repeat_taken false again e = refl
 set_taken : (again : Bool) (a : Rule) (values : List Text) (rows : List Row) → action_fault action.Set again a values rows ≡ [] → action_passes action.Set again a values rows ≡ true
 set_taken again a values rows e =
     let parts = neither _ _ e in
-    all_pass _ _ (repeat_taken (has_row a.id rows) again parts.0) (values_taken a.ignore_case (parser_of_value a.parser) values parts.1)
+    and_from _ _ (repeat_taken (has_row a.id rows) again parts.0) (values_taken a.ignore_case (parser_of_value a.parser) values parts.1)
 
 action_taken : (x : ArgAction) (again : Bool) (a : Rule) (values : List Text) (rows : List Row) → action_fault x again a values rows ≡ [] → action_passes x again a values rows ≡ true
 action_taken action.Set again a values rows e = set_taken again a values rows e
@@ -98,7 +95,7 @@ use_taken : (again : Bool) (a : Rule) (values : List Text) (rows : List Row) →
 use_taken again a values rows e =
     let parts = neither (range_kinds (unwrap_or_range a.range).start_inclusive (most_values a) (length values)) _ e in
     let range = range_taken (unwrap_or_range a.range).start_inclusive (most_values a) (length values) parts.0 in
-    all_pass _ _ range.0 (all_pass _ _ range.1 (action_taken (action_of a) again a (values_or_missing a values) rows parts.1))
+    and_from _ _ range.0 (and_from _ _ range.1 (action_taken (action_of a) again a (values_or_missing a values) rows parts.1))
 
 module _ (c : List Rule) (again : Bool) where
   settle_taken : (h : Held) → settle_fault c again h ≡ [] → settle_passes c again h ≡ true
@@ -117,7 +114,7 @@ module _ (c : List Rule) (again : Bool) where
   react_taken : (a : Rule) (values : List Text) (h : Held) → react_fault c again a values h ≡ [] → react_passes c again a values h ≡ true
   react_taken a values h e =
       let parts = neither (settle_fault c again h) _ e in
-      all_pass _ _ (settle_taken h parts.0) (use_taken again a values (settled c h).rows parts.1)
+      and_from _ _ (settle_taken h parts.0) (use_taken again a values (settled c h).rows parts.1)
 
   option_taken : (a : Rule) (v : Option Text) (h : Held) → option_fault c again a v h ≡ [] → option_passes c again a v h ≡ true
   option_taken a None h e = settle_taken h e
@@ -144,7 +141,7 @@ module _ (c : List Rule) (again : Bool) where
       go true e = option_taken a (attached_value rest) h e
       go false e =
           let parts = neither (react_fault c again a [] h) _ e in
-          all_pass _ _ (react_taken a [] h parts.0) (after (reacted c a [] h) parts.1)
+          and_from _ _ (react_taken a [] h parts.0) (after (reacted c a [] h) parts.1)
 
   bundle_step_taken : (x : Option ℕ) (flags : Text) (skip : ℕ) (h : Held) (kinds : Text → ℕ → Held → Kinds) (passes : Text → ℕ → Held → Bool)
       → ((f : Text) (s : ℕ) (g : Held) → kinds f s g ≡ [] → passes f s g ≡ true)
@@ -225,14 +222,14 @@ module _ (s : Shape) where
       go true known e = refl
       go false known e =
           let parts = neither (word_fault s names w.is_trailing w.waiting word w.held) _ e in
-          all_pass _ _ (word_taken names w.is_trailing w.waiting word w.held parts.0) (step_taken w.position known.0 known.1 parts.1)
+          and_from _ _ (word_taken names w.is_trailing w.waiting word w.held parts.0) (step_taken w.position known.0 known.1 parts.1)
 
   walk_taken : (names : Names) (w : Walk) (words : List Text) → walk_fault s names w words ≡ [] → walk_passes s names w words ≡ true
   unfolding walk_fault walk_passes
   walk_taken names w [] e = refl
   walk_taken names w (word ∷ rest) e =
       let parts = neither (turn_fault s names w word) _ e in
-      all_pass _ _ (turn_taken names w word parts.0) (walk_taken names (walked s.rules names w word) rest parts.1)
+      and_from _ _ (turn_taken names w word parts.0) (walk_taken names (walked s.rules names w word) rest parts.1)
 
   -- where each default passes and nothing more is asked of the matches
   level_taken : (h : Held) (words : List Text) → list_all default_passes s.rules ≡ true → ((rows : List Row) → is_valid s rows false ≡ true)
@@ -241,15 +238,15 @@ module _ (s : Shape) where
       let end = (walk s.rules [] h words).held in
       let walked_on = neither (walk_fault s [] (walk_from h) words) _ e in
       let settled_on = neither (settle_fault s.rules s.args_override_self end) _ walked_on.1 in
-      all_pass _ _ (walk_taken [] (walk_from h) words walked_on.0)
-      (all_pass _ _ (settle_taken s.rules s.args_override_self end settled_on.0) (all_pass _ _ defaults (valid (finished s.rules end))))
+      and_from _ _ (walk_taken [] (walk_from h) words walked_on.0)
+      (and_from _ _ (settle_taken s.rules s.args_override_self end settled_on.0) (and_from _ _ defaults (valid (finished s.rules end))))
 
 -- a simple command without subcommands takes the words at which it finds no fault
 pub no_fault_taken : (a : App) (words : List Text) → is_simple a ≡ true → (built a).subs ≡ [] → list_all default_passes (built a).top.rules ≡ true
     → ((rows : List Row) → is_valid (built a).top rows false ≡ true) → fault_of a words ≡ [] → takes a words ≡ true
 no_fault_taken a words simple none defaults valid e =
     let level = sym (leaf_fault (built a) nothing_held (argument_words a words) none) ∙ e in
-    all_pass _ _ simple
+    and_from _ _ simple
     (leaf_takes (built a) nothing_held (argument_words a words) none (level_taken (built a).top nothing_held (argument_words a words) defaults valid level))
 
 -- the program's command is such a one

@@ -11,13 +11,17 @@ use Rattle.sia_events.specs.Refusals.{IsWellFormed}
 use Rattle.sia_events.specs.Transactions.{HasEvent}
 use Rattle.sia_events.proofs.Shared.TransactionDecisions.{place_within}
 use Rattle.si_audit.specs.Bounds.{EachTxn, IsKnownOf}
-use Rattle.si_audit.specs.Snapshots.{AccessesAt, FitsStart, IsSnapshot}
+use Rattle.si_audit.specs.Snapshots.{AccessesAt, Fits, FitsStart, IsSnapshot}
 use Rattle.si_audit.specs.declared.snapshots.Bounds.{Bounds}
 use Rattle.si_audit.proofs.Shared.SnapshotStarts.{fits_start, start_before}
 
 -- a read or write is an event of the history
 pub access_within : (h : List Event) (t p : ℕ) → AccessesAt h t p → (0 < p) × (p ≤ length h)
 access_within h t p access = elim access.1 [ inl wrote ↦ place_within h p (Write t access.0) wrote | inr saw ↦ place_within h p saw.1.0 saw.1.1 ]
+
+-- what neither reads nor writes fits every snapshot
+pub idle_fits : (h : List Event) (t n : ℕ) → ((p : ℕ) → ¬ AccessesAt h t p) → Fits h t n
+idle_fits h t n none = record { reads = λ p k v saw. absurd (none p (k, inr (v, saw))); writes = λ k u c d own other less. absurd (none own.0.0 (k, inl own.0.1)) }
 
 -- each transaction's row is there
 pub row_known : (h : List Event) (all : List Bounds) → EachTxn (IsKnownOf h) h all → (txns : List ℕ) → ListsAscending (HasEvent h) txns → (i : ℕ) → i < length txns → (d : Bounds) → (i < length all) × HasEvent h (slice_index txns i) × IsKnownOf h (slice_index txns i) (get_or all i d)

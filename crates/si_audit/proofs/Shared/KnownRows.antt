@@ -14,12 +14,10 @@ use Rattle.sia_events.proofs.Shared.TransactionDecisions.{has_start, place_withi
 use Rattle.si_audit.specs.Bounds.{IsBound, IsFirstSoFar, IsKnownOf, IsKnownTo, IsLow, IsSoFar, Sees}
 use Rattle.si_audit.specs.Snapshots.{AccessesAt, Bars, FitsStart, IsFirst, IsInNone, ReadAsks}
 use Rattle.si_audit.specs.declared.snapshots.Bounds.{Bounds}
+use Rattle.si_audit.proofs.Shared.KnownFits.{access_within, idle_fits}
 use Rattle.si_audit.proofs.Shared.SightsSoFar.{bound_alike, sees_none}
 
 module _ (h : List Event) (wf : IsWellFormed h) (t : ℕ) where
-  access_within : (p : ℕ) → AccessesAt h t p → (0 < p) × (p ≤ length h)
-  access_within p a = elim a.1 [ inl wrote ↦ place_within h p (Write t a.0) wrote | inr saw ↦ place_within h p saw.1.0 saw.1.1 ]
-
   -- who reads or writes at a place is the actor there
   pub access_actor : (p : ℕ) (e : Event) → at_place h p ≡ Some e → AccessesAt h t p → actor e ≡ t
   access_actor p e at a = elim a.1 [
@@ -48,7 +46,7 @@ module _ (h : List Event) (wf : IsWellFormed h) (t : ℕ) where
   first_at : (p f g : ℕ) → AccessesAt h t p → IsFirstSoFar h t p f → (f ≡ 0 → g ≡ p) → (0 < f → g ≡ f) → IsFirstSoFar h t (p + 1) g
   first_at p f g here is zero more = elim is [
     | inl before ↦ (let same = zero before.0 in inr (subst (AccessesAt h t) (sym same) here, λ q a. let from = before.1 q a in omega arith))
-    | inr some ↦ (let same = more (access_within f some.0).0 in inr (subst (AccessesAt h t) (sym same) some.0, λ q a. let from = some.1 q a in omega arith))
+    | inr some ↦ (let same = more (access_within h t f some.0).0 in inr (subst (AccessesAt h t) (sym same) some.0, λ q a. let from = some.1 q a in omega arith))
   ]
 
   -- a place where t neither reads nor writes tells nothing
@@ -80,15 +78,7 @@ module _ (h : List Event) (wf : IsWellFormed h) (t : ℕ) where
   }
 
   fits_idle : HasEvent h t → ((p : ℕ) → ¬ AccessesAt h t p) → FitsStart h t
-  fits_idle has none =
-      let start = has_start h t has in (
-        start.0,
-        start.1,
-        record {
-          reads = λ p k v saw. absurd (none p (k, inr (v, saw)));
-          writes = λ k u c d own other less. absurd (none own.0.0 (k, inl own.0.1));
-        },
-      )
+  fits_idle has none = let start = has_start h t has in (start.0, start.1, idle_fits h t start.0 none)
 
   -- where the start fits there is no more to be known
   pub known_of_fit : (p : ℕ) (b : Bounds) → b.misfit ≡ false → IsKnownTo h t p b → IsKnownOf h t b
@@ -106,7 +96,7 @@ module _ (h : List Event) (wf : IsWellFormed h) (t : ℕ) where
     low = λ _. low (bound_alike (λ c d. d ≤ c) 0 (λ c q k. IsSoFar h (length h + 1) 0 q k × ReadAsks h t c q k) (ReadAsks h t) (λ c q k w. w.1) (λ c q k r. (inl (seen q k r.0 r.1), r)) old.low (is.reads bad).low);
     high = λ _. bound_alike (λ c d. c ≤ d) 4294967295 (λ c q k. IsSoFar h (length h + 1) 0 q k × Bars h t c q k) (Bars h t) (λ c q k w. w.1) (λ c q k r. (inl (seen q k r.0 r.3), r)) old.high (is.reads bad).high;
     first = λ _. elim (is.first bad) [
-      | inl none ↦ absurd (is.marked.misfit.0 bad (fits_idle has (λ p a. let w = (access_within p a).1 in let from = none.1 p a in absurd (omega arith))))
+      | inl none ↦ absurd (is.marked.misfit.0 bad (fits_idle has (λ p a. let w = (access_within h t p a).1 in let from = none.1 p a in absurd (omega arith))))
       | inr some ↦ some
     ];
   })

@@ -3,17 +3,16 @@ use Rattle.std.proofs.Common.{◌≡◌, ◌≢◌, ◌⊎◌, inl, inr, ℕ, �
 use Rattle.std.specs.Prelude.{◌↔◌}
 use Rattle.std.proofs.lemmas.Bool.{cases_eq, cases_lt}
 use Rattle.sia_events.specs.declared.event.Event.{Event}
-use Rattle.sia_events.specs.declared.event.Event.TheVariants.{Commit}
-use Rattle.sia_events.specs.NarrowDependencies.{CommitsVersion, IsAsOf}
+use Rattle.sia_events.specs.NarrowDependencies.{CommitsVersion}
 use Rattle.sia_events.specs.Reads.{SawAt}
 use Rattle.sia_events.specs.Refusals.{IsWellFormed}
 use Rattle.sia_events.specs.Transactions.{CommitsAt, WroteBefore}
 use Rattle.sia_events.proofs.OfLaws.Looks.{commits_above}
 use Rattle.sia_events.proofs.OfLaws.Seen.{actor_is_txn, saw_written}
-use Rattle.sia_events.proofs.OfLaws.Versions.{writer_not_zero}
 use Rattle.sia_events.proofs.Shared.Decisions.{at_most}
 use Rattle.sia_events.proofs.Shared.TransactionDecisions.{committed_or_not, wrote_before_or_not}
 use Rattle.sia_events.proofs.Writing.WellFormed.{one_commit}
+use Rattle.sia_parts.proofs.Auditing.AsOf.{one_as_of, zero_commits_not}
 use Rattle.si_audit.specs.Snapshots.{Bars, Fits, IsAsked, IsDueFrom, IsInNone, IsNewestIn, ReadAsks}
 
 -- each read is of some snapshot, each commit that is asked for is in this one, and none that is barred
@@ -23,10 +22,6 @@ pub record IsBounded (h : List Event) (t n : ℕ) : Type 0 where
   pub high : (c p k : ℕ) → Bars h t c p k → n < c
 
 module _ (h : List Event) (wf : IsWellFormed h) (t n : ℕ) where
-  -- nothing commits as 0
-  zero_never : (c : ℕ) → ¬ CommitsAt h 0 c
-  zero_never c at = let above : 0 < 0 = (actor_is_txn h wf 0 c (Commit 0, at, refl)).0 in omega arith
-
   module _ (fits : Fits h t n) where
     fit_none : (p k : ℕ) → ¬ IsInNone h t p k
     fit_none p k odd = of_due (fits.reads p k odd.0 odd.1) odd.2
@@ -47,7 +42,7 @@ module _ (h : List Event) (wf : IsWellFormed h) (t n : ℕ) where
             let same : c ≡ newest.0 = one_commit h wf asks.0 c newest.0 asks.3 newest.1.1 in
             let within : newest.0 ≤ n = newest.2 in
             omega arith
-        of_due (inr (out, inr none)) = absurd (zero_never c (subst (λ v. CommitsAt h v c) none.1 asks.3))
+        of_due (inr (out, inr none)) = absurd (zero_commits_not h wf c (subst (λ v. CommitsAt h v c) none.1 asks.3))
 
     fit_low : (c : ℕ) → IsAsked h t c → c ≤ n
     fit_low c asked = elim asked.2 [
@@ -61,16 +56,12 @@ module _ (h : List Event) (wf : IsWellFormed h) (t n : ℕ) where
         below : bars.1 < c
         below = bars.7
 
-        as_of : (d : ℕ) → CommitsVersion h k bars.0 d → IsAsOf h bars.0 bars.1 → bars.1 ≡ d
-        as_of d version (inl first) = absurd (writer_not_zero h wf bars.0 k version.0 first.0)
-        as_of d version (inr at) = one_commit h wf bars.0 bars.1 d at version.1
-
         of_due : IsDueFrom h n t p k bars.0 → n < c
         of_due (inl own) = absurd (bars.4 own.1)
         of_due (inr (out, inl newest)) = elim (cases_lt n c) [
           | inl less ↦ less
           | inr most ↦
-              let same : bars.1 ≡ newest.0 = as_of newest.0 newest.1 bars.5 in
+              let same : bars.1 ≡ newest.0 = one_as_of h wf bars.0 bars.1 newest.0 bars.5 (inr newest.1.1) in
               let last : c ≤ newest.0 = newest.3 bars.2 c bars.6 most in
               absurd (omega (arith, below))
         ]

@@ -1,5 +1,5 @@
 -- The start of a transaction fits it exactly if none of its reads is bad and none of its writes.
-use Rattle.std.proofs.Common.{◌≡◌, ◌⊎◌, inl, inr, ℕ, ◌<◌, ◌≤◌, List, [], ◌∷◌, refl, sym, subst, arith}
+use Rattle.std.proofs.Common.{◌≡◌, ◌⊎◌, inl, inr, ℕ, ◌<◌, ◌≤◌, List, refl, sym, subst, arith}
 use Rattle.std.specs.Prelude.{◌↔◌, Contains, ⊤}
 use Rattle.std.proofs.lemmas.Bool.{cases_eq, cases_lt}
 use Rattle.sia_events.specs.declared.event.Event.{Event}
@@ -14,22 +14,19 @@ use Rattle.sia_events.proofs.Shared.Decisions.{Decided, at_most}
 use Rattle.sia_events.proofs.Shared.Starts.{one_start}
 use Rattle.sia_events.proofs.Shared.TransactionDecisions.{has_start}
 use Rattle.sia_events.proofs.Writing.WellFormed.{one_commit}
-use Rattle.sia_parts.proofs.Auditing.Members.{contains_first, contains_later, contains_none, first_or_later}
 use Rattle.sia_parts.specs.Findings.{ListsBadReads, ListsBadWrites}
 use Rattle.sia_parts.specs.declared.finding.BadRead.{BadRead}
 use Rattle.sia_parts.specs.declared.finding.BadWrite.{BadWrite}
+use Rattle.sia_graph.proofs.Shared.Deciding.{element_decided}
+use Rattle.sia_graph.proofs.Shared.Positions.{contains_stands, stands_contains}
 use Rattle.si_audit.proofs.OfLaws.FindingsExist.{bad_reads_exist, bad_writes_exist}
 use Rattle.si_audit.specs.Snapshots.{AccessesAt, Fits, FitsStart, IsDueFrom}
 
 -- a member of a list that has P, or none
 member_or_none : {A : Type 0} (P : A → Type 0) → ((x : A) → Decided (P x)) → (xs : List A) → ((x : A) × Contains xs x × P x) ⊎ ((x : A) → Contains xs x → ¬ P x)
-member_or_none P decide [] = inr (λ x c p. contains_none x c)
-member_or_none P decide (x ∷ xs) = elim (decide x) [
-  | inl has ↦ inl (x, contains_first x xs, has)
-  | inr not ↦ elim (member_or_none P decide xs) [
-    | inl found ↦ inl (found.0, contains_later x found.0 xs found.1, found.2)
-    | inr none ↦ inr (λ y c p. elim (first_or_later x y xs c) [ inl same ↦ not (subst P (sym same) p) | inr later ↦ none y later p ])
-  ]
+member_or_none P decide xs = elim (element_decided P decide xs) [
+  | inl w ↦ inl (w.1, stands_contains xs w.1 (w.0, w.2), w.3)
+  | inr none ↦ inr (λ x c p. let s = contains_stands xs x c in none (s.0, x, s.1, p))
 ]
 
 -- no read of t is bad, and no write

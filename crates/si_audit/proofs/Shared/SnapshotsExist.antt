@@ -21,6 +21,7 @@ use Rattle.si_audit.specs.SnapshotLines.{IsNeeded, TellsExcluded, TellsNone, Tel
 use Rattle.si_audit.specs.Snapshots.{AccessesAt, Bars, Fits, FitsStart, IsAsked, IsFirst, IsInNone, IsSnapshot, ReadAsks, WriteAsks}
 use Rattle.si_audit.proofs.OfLaws.FindingsExist.{seen_small, top, top_is, undue_or_not, wrote_small}
 use Rattle.si_audit.proofs.OfLaws.VerdictExists.{txns_listed}
+use Rattle.si_audit.proofs.Shared.KnownFits.{access_within, idle_fits}
 use Rattle.si_audit.proofs.Shared.SnapshotBounds.{fits_bounds}
 use Rattle.si_audit.proofs.Shared.Told.{Told, all_told}
 
@@ -35,7 +36,7 @@ module _ (P : ℕ → Type 0) (decide : (n : ℕ) → Decided (P n)) (small : (n
   greatest_or_none : ((n : ℕ) × P n × ((m : ℕ) → P m → m ≤ n)) ⊎ ((n : ℕ) → ¬ P n)
   greatest_or_none = elim (last_below P decide top) [ inl found ↦ inl (found.0, found.2, λ m p. found.3 m (small m p) p) | inr none ↦ inr (λ n p. none n (small n p) p) ]
 
-  some_or_none : Decided ((n : ℕ) × P n)
+  pub some_or_none : Decided ((n : ℕ) × P n)
   some_or_none = elim least_or_none [ inl found ↦ inl (found.0, found.1) | inr none ↦ inr (λ some. none some.0 some.1) ]
 
 -- the first place and key of which P holds, or none
@@ -218,7 +219,7 @@ module _ (h : List Event) (wf : IsWellFormed h) (t : ℕ) where
     | inl x ↦ (_, inl (x.0, x.1, x.2, refl))
     | inr none ↦ elim greatest_asked [
       | inr free ↦ absurd (never 0 (
-        λ p a. elim a.1 [ inl writes ↦ (place_within h p (Write t a.0) writes).0 | inr saw ↦ (place_within h p saw.1.0 saw.1.1).0 ],
+        λ p a. (access_within h t p a).0,
         (fits_bounds h wf t 0).1 (record { none = none; low = λ c a. absurd (free c a); high = λ c p k b. let less : b.1 < c = b.7 in omega arith }),
       ))
       | inl found ↦
@@ -248,10 +249,7 @@ module _ (h : List Event) (wf : IsWellFormed h) (t : ℕ) where
         | inl fits ↦ ([], inl ((start.0, start.1, fits), refl))
         | inr misfit ↦ elim first_access [
           | inl first ↦ misfit_told (λ x. misfit (subst (Fits h t) (one_start h t x.0 start.0 x.1 start.1) x.2)) first.0 first.1
-          | inr none ↦ absurd (misfit (record {
-            reads = λ p k v saw. absurd (none p (k, inr (v, saw)));
-            writes = λ k u c d own other less. absurd (none own.0.0 (k, inl own.0.1));
-          }))
+          | inr none ↦ absurd (misfit (idle_fits h t start.0 none))
         ]
       ]
 

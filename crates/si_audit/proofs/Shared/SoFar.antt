@@ -263,12 +263,3 @@ module _ (h : List Event) (wf : IsWellFormed h) (t p : ℕ) where
         | inr most ↦ subst (Sees h t p m p (m + 1) old) (sym most.1) (sees_low m key v commit at now other saw old mid low mid.high
             (high_left m key v commit at now other saw mid.high (λ u e made late. let least = there.2 u e made late in let under = most.0 in omega arith)))
       ]
-
--- what some reads and then some more tell
-pub sees_then : (h : List Event) (t p m n o : ℕ) (a b c : Bounds) → Sees h t p m p n a b → Sees h t p n p o b c → Sees h t p m p o a c
-sees_then h t p m n o a b c first second = record {
-  misfit = second.misfit ∙ first.misfit;
-  never = second.never ∙ first.never;
-  first = second.first ∙ first.first;
-  bounds = λ so. second.bounds (first.bounds so);
-}

@@ -44,9 +44,9 @@ returns-in-Brief g c =
     ))
     c.report_of-in-Brief.ensures
 
-pub returns-in_ok-sheet-in-Explained : goal.returns-in_ok-sheet-in-Explained
-returns-in_ok-sheet-in-Explained g c =
+pub returns-in_ok-explained-in-Explained : goal.returns-in_ok-explained-in-Explained
+returns-in_ok-explained-in-Explained g c =
     let report = λ (form : Form) (bytes : List ℕ). IsReportOf form c.args.log bytes in
     ok_map _ _ c.one_sheet.result
-    (λ sheets is. subst (λ (form : Form). report form (text_of sheets.items)) (sym (sym c.form.ensures ∙ c.in-Explained.is)) (subst (report Explained) (sym is) c.in_ok-sheet-in-Explained.ensures))
+    (λ sheets is. subst (λ (form : Form). report form (text_of sheets.items)) (sym (sym c.form.ensures ∙ c.in-Explained.is)) (subst (report Explained) (sym is) c.in_ok-explained-in-Explained.ensures))
     c.one_sheet.ensures

@@ -4,7 +4,8 @@ use Rattle.std.specs.Prelude.{slice_index}
 use Rattle.sia_events.proofs.OfLaws.Seen.{actor_is_txn}
 use Rattle.sia_index.specs.Info.{IsKeyAt}
 use Rattle.sia_index.proofs.Shared.KeyChains.{key_number}
-use Rattle.si_audit.proofs.Shared.SoFar.{sees_passed, sees_then}
+use Rattle.si_audit.proofs.Shared.SightsSoFar.{sees_then}
+use Rattle.si_audit.proofs.Shared.SoFar.{sees_passed}
 use Rattle.si_audit.proofs.snapshots.Bounds.pass.Goals as goal
 
 pub bounds-written_keys-number : goal.bounds-written_keys-number
@@ -38,8 +39,8 @@ loop-number-preserved c =
           let passed = sees_passed h wf t p c.loop-number.next n c.saturating_sub.result c.loop-number.self more least
           (λ i k after before is. read i k (omega arith) (omega arith) is) (λ i k after before is. found.2 i k after before is) in
           let one = c.see.ensures t n 0 first.0 first.1 (sym named.1) at (inl (refl, first.3)) some (read n key (omega arith) less at) in
-          sees_then h t p c.args.from n (n + 1) c.args.self.now c.loop-number.self c.see.new.self
-          (sees_then h t p c.args.from c.loop-number.next n c.args.self.now c.loop-number.self c.loop-number.self (so.sees t has read) passed)
+          sees_then h wf t p c.args.from p n p (n + 1) c.args.self.now c.loop-number.self c.see.new.self
+          (sees_then h wf t p c.args.from p c.loop-number.next p n c.args.self.now c.loop-number.self c.loop-number.self (so.sees t has read) passed)
           one;
     }
 
@@ -50,6 +51,6 @@ returns c t has read =
     let so = c.loop-number.invariant in
     let low = so.low in
     let least : c.loop-number.self.high.commit ≤ c.saturating_sub.result + 1 = omega arith in
-    sees_then h t p c.args.from c.loop-number.next c.args.to c.args.self.now c.loop-number.self c.loop-number.self (so.sees t has read)
+    sees_then h c.law.ensures t p c.args.from p c.loop-number.next p c.args.to c.args.self.now c.loop-number.self c.loop-number.self (so.sees t has read)
     (sees_passed h c.law.ensures t p c.loop-number.next c.args.to c.saturating_sub.result c.loop-number.self so.high least
     (λ i k after before is. read i k (omega arith) before is) c.in_default.ensures)
