@@ -1,8 +1,10 @@
 -- What holds while the nodes of a graph are taken one after another: how many steps hold each node back, and which nodes wait
 -- where.
 use Rattle.std.specs.Prelude.{◌≡◌, ◌≢◌, ◌⊎◌, ◌↔◌, ℕ, suc, ◌+◌, ◌<◌, ◌≤◌, ◌==◌, Bool, true, false, IsTrue, List, [], ◌∷◌, Some, Contains, count_by, length, slice_get, slice_index, slice_index_or}
-use Rattle.std.specs.BTreeSet.{BTreeSet, contains}
+use Rattle.std.specs.BinaryHeap.{IsHeap, heap_items}
+use Rattle.std.specs.List.Sorted.{IsStrictlyIncreasing}
 use Rattle.std.specs.Ordering.{nat_cmp}
+use Rattle.std.specs.declared.cmp.Reverse.{Reverse}
 use Rattle.sia_graph.specs.Fronts.{IsFront}
 use Rattle.sia_graph.specs.Graphs.{IsGraphEdge, LeadsTo}
 use Rattle.sia_graph.specs.declared.order.Graph.{Graph}
@@ -53,19 +55,48 @@ pub record IsUnderWay (g : Graph) (done : List Bool) (counts passed first next :
   pub left : (t s : ℕ) → WaitsAt g.sources counts passed t s → IsDone done s → s ≡ waking
   pub taken : (t : ℕ) → t < length counts → IsDone done t → slice_index counts t ≡ 0
 
--- the place is one of those that are ready
-abbrev pub HasReady : BTreeSet ℕ → ℕ → Type 0
-HasReady places i = IsTrue (contains nat_cmp places i)
+-- how often a place stands in a run and among others
+abbrev pub held : List ℕ → List (Reverse ℕ) → ℕ → ℕ
+held run others i = times i run + count_by (λ x. x.0 == i) others
+
+-- the place stands in one of the two, once
+abbrev pub HasReady : List ℕ → List (Reverse ℕ) → ℕ → Type 0
+HasReady run others i = held run others i ≡ 1
+
+-- a run that ascends, and others as a heap: places before an end, each once
+pub record AreBefore (run : List ℕ) (others : List (Reverse ℕ)) (end : ℕ) : Type 0 where
+  pub ascends : IsStrictlyIncreasing run
+  pub order : IsHeap (λ x y. nat_cmp y.0 x.0) others
+  pub once : (i : ℕ) → held run others i ≤ 1
+  pub before : (i : ℕ) → HasReady run others i → i < end
 
 -- i is ready: it is one of those behind the end, or it stands from the end on and nothing is left in its count
 abbrev pub IsReadyAt : (ℕ → Type 0) → ℕ → List ℕ → ℕ → Type 0
 IsReadyAt IsBehind end counts i = IsBehind i ⊎ ((end ≤ i) × (i < length counts) × (slice_index counts i ≡ 0))
 
+abbrev pub IsBehind : Taking → ℕ → Type 0
+IsBehind k = HasReady k.run.items (heap_items k.others)
+
+abbrev pub IsReadyIn : Taking → ℕ → Type 0
+IsReadyIn k = IsReadyAt (IsBehind k) k.end k.counts.items
+
+-- what is ready behind the end stands as it should
+abbrev pub AreBehind : Taking → Type 0
+AreBehind k = AreBefore k.run.items (heap_items k.others) k.end × (k.end ≤ length k.counts.items)
+
+-- the least that is ready no more is, and what isn't told of that stays as it was
+pub record IsTaken (old new : Taking) (place : ℕ) : Type 0 where
+  pub member : IsReadyIn old place
+  pub least : (i : ℕ) → IsReadyIn old i → place ≤ i
+  pub taken : (i : ℕ) → IsReadyIn new i ↔ (IsReadyIn old i × (place ≢ i))
+  pub behind : AreBehind new
+  pub same : new ≡ record { counts = old.counts; passed = old.passed; first_waiting = old.first_waiting; next_waiting = old.next_waiting; run = new.run; others = new.others; end = new.end }
+
 -- and what is ready is at hand
 pub record IsTaking (g : Graph) (done : List Bool) (k : Taking) (pending : ℕ → ℕ) (waking : ℕ) : Type 0 where
   pub under_way : IsUnderWay g done k.counts.items k.passed.items k.first_waiting.items k.next_waiting.items pending waking
-  pub ready : (t : ℕ) → t < length k.counts.items → IsReadyAt (HasReady k.behind) k.end k.counts.items t ↔ ((slice_index k.counts.items t ≡ 0) × ¬ IsDone done t)
-  pub before : (t : ℕ) → HasReady k.behind t → t < k.end
+  pub ready : (t : ℕ) → t < length k.counts.items → IsReadyIn k t ↔ ((slice_index k.counts.items t ≡ 0) × ¬ IsDone done t)
+  pub before : AreBefore k.run.items (heap_items k.others) k.end
   pub within : k.end ≤ length k.counts.items
 
 -- one fewer is still to be taken from the count of the node, and as many as before from others

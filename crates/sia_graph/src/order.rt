@@ -4,12 +4,13 @@ ghost use Rattle.std.specs.List.{range_with_len};
 ghost use Rattle.sia_graph.specs.Graphs.{IsGraph};
 ghost use Rattle.sia_graph.specs.Taken.{AreTakenNodes};
 ghost use Rattle.sia_graph.specs.declared.order.Graph.{Graph};
-ghost use Rattle.sia_graph.specs.UnderWay.{HasReady, IsDone, IsLastFront, IsOneFewer, IsReadyAt, IsTaking, WaitsAt, none_pending, times};
+ghost use Rattle.sia_graph.specs.UnderWay.{AreBehind, IsDone, IsLastFront, IsOneFewer, IsReadyIn, IsTaken, IsTaking, WaitsAt, none_pending, times};
 
 use sia_events::{NoMemory, TxnId};
 use sia_index::lists::Lists;
 use std::alloc::Global;
-use std::collections::BTreeSet;
+use std::cmp::Reverse;
+use std::collections::{BinaryHeap, VecDeque};
 use std::marker::Model;
 
 /// A list of transactions.
@@ -62,32 +63,10 @@ struct Taking {
     /// The first of those that wait at each node, and for each that waits the next.
     first_waiting: Vec<u32>,
     next_waiting: Vec<u32>,
-    /// What is ready before `end`. From there on, that is told by the counts.
-    behind: BTreeSet<usize>,
+    /// What is ready before `end`: a run that ascends, as most of it comes, and others. From there on, that is told by the counts.
+    run: VecDeque<usize>,
+    others: BinaryHeap<Reverse<usize>>,
     end: usize,
-}
-
-/// Takes the least ready place: the least of those behind `end`, or the first from there on, which is then passed.
-///
-/// Each place is looked at once from `end` on, so only those that become ready behind it cost a search.
-fn next_ready(behind: &mut BTreeSet<usize>, counts: &[u32], end: &mut usize) -> Option<usize>
-    requires behind { (i : ℕ) → HasReady behind.old i → i < end.old }
-    requires within { end.old ≤ length counts.now }
-    ensures empty { IfNone result ((i : ℕ) → IsReadyAt (HasReady behind.old) end.old counts.now i → ⊥) }
-    ensures member { IfSome result (IsReadyAt (HasReady behind.old) end.old counts.now) }
-    ensures least { IfSome result (λ p. (i : ℕ) → IsReadyAt (HasReady behind.old) end.old counts.now i
-        → p ≤ i) }
-    ensures taken { IfSome result (λ p. (i : ℕ) → IsReadyAt (HasReady behind.new) end.new counts.now i
-        ↔ (IsReadyAt (HasReady behind.old) end.old counts.now i × (p ≢ i))) }
-    ensures behind { IfSome result (λ p. (i : ℕ) → HasReady behind.new i → i < end.new) }
-    ensures within { IfSome result (λ p. end.new ≤ length counts.now) }
-{
-    if let Some(place) = behind.pop_first() {
-        return Some(place);
-    }
-    let place = *end + counts[*end..].iter().position(|count| *count == 0)?;
-    *end = place + 1;
-    Some(place)
 }
 
 /// The place of the first of these nodes, from a place on, that isn't done.
@@ -122,15 +101,13 @@ impl Taking {
                 counts[target] = counts[target].checked_add(1).ok_or(NoMemory)?;
             }
         }
-        let passed = vec![in alloc; 0usize; nodes]?;
-        let first_waiting = vec![in alloc; NONE; nodes]?;
-        let next_waiting = vec![in alloc; NONE; nodes]?;
         Ok(Taking {
             counts,
-            passed,
-            first_waiting,
-            next_waiting,
-            behind: BTreeSet::new(alloc),
+            passed: vec![in alloc; 0usize; nodes]?,
+            first_waiting: vec![in alloc; NONE; nodes]?,
+            next_waiting: vec![in alloc; NONE; nodes]?,
+            run: VecDeque::new(alloc),
+            others: BinaryHeap::new(alloc),
             end: 0,
         })
     }
@@ -165,7 +142,11 @@ impl Taking {
             None => {
                 self.counts[node] = 0;
                 if node < self.end {
-                    self.behind.insert(node)?;
+                    if self.run.back().copied().unwrap_or(0) < node {
+                        self.run.push_back(node)?;
+                    } else {
+                        self.others.push(Reverse(node))?;
+                    }
                 }
                 Ok(())
             }
@@ -192,11 +173,10 @@ impl Taking {
             → WaitsAt g.sources self.new.counts.items self.new.passed.items u s
             → WaitsAt g.sources self.old.counts.items self.old.passed.items u s × (u ≢ t)) }
     {
-        let node = self.first_waiting[at];
-        if node == NONE {
+        let node = self.first_waiting[at] as usize;
+        if node == NONE as usize {
             return None;
         }
-        let node = node as usize;
         self.first_waiting[at] = self.next_waiting[node];
         self.counts[node] += 1;
         Some(node)
@@ -221,6 +201,25 @@ impl Taking {
         }
         Ok(())
     }
+
+    /// Takes the least ready place: the least of those behind `end`, or the first from there on, which is then passed. Only those
+    /// that become ready behind `end`, below the run's last, cost a search.
+    fn take(&mut self) -> Option<usize>
+        requires { AreBehind self.old }
+        ensures { MatchOption result ((i : ℕ) → ¬ IsReadyIn self.old i) (IsTaken self.old self.new) }
+    {
+        let first = self.run.front().copied().unwrap_or(usize::MAX);
+        let Reverse(other) = self.others.peek().copied().unwrap_or(Reverse(usize::MAX));
+        if first < other {
+            return self.run.pop_front();
+        }
+        let Some(Reverse(place)) = self.others.pop() else {
+            let left = &self.counts[self.end..];
+            self.end += left.iter().position(|count| *count == 0)? + 1;
+            return Some(self.end - 1);
+        };
+        Some(place)
+    }
 }
 
 /// Takes the least node to which no step leads from one that is left, again and again, while there is one. Beside those that were
@@ -238,7 +237,7 @@ fn take_all(alloc: Global, graph: &Graph, nodes: usize) -> Result<(Vec<usize>, V
         taking.release(graph, &done, node)?;
     }
     let mut order = Vec::with_capacity(alloc, nodes)?;
-    while let Some(node) = next_ready(&mut taking.behind, &taking.counts, &mut taking.end) {
+    while let Some(node) = taking.take() {
         order.push(node)?;
         done[node] = true;
         taking.finish(graph, &done, node)?;

@@ -4,7 +4,7 @@ use Rattle.std.specs.Prelude.{◌↔◌}
 use Rattle.std.proofs.lemmas.Bool.{cases_Bool, cases_eq}
 use Rattle.std.proofs.lemmas.List.{get_or-set_same, get_or-set_other, length-set}
 use Rattle.sia_graph.specs.Graphs.{IsGraph}
-use Rattle.sia_graph.specs.UnderWay.{HasReady, IsDone, IsReadyAt, IsTaking, IsUnderWay, none_pending, times, told}
+use Rattle.sia_graph.specs.UnderWay.{IsDone, IsReadyAt, IsReadyIn, IsTaking, IsUnderWay, none_pending, times, told}
 use Rattle.sia_graph.specs.declared.order.Graph.{Graph}
 use Rattle.sia_graph.specs.declared.order.Taking.{Taking}
 use Rattle.sia_graph.proofs.Orders.Told.{told_done}
@@ -62,7 +62,7 @@ module _ (n : ℕ) (g : Graph) (graph : IsGraph n g) (done : List Bool) (k : Tak
     ];
   }
 
-  pub done_ready : (After : ℕ → Type 0) (end : ℕ) → ((u : ℕ) → IsReadyAt After end k.counts.items u ↔ (IsReadyAt (HasReady k.behind) k.end k.counts.items u × (t ≢ u)))
+  pub done_ready : (After : ℕ → Type 0) (end : ℕ) → ((u : ℕ) → IsReadyAt After end k.counts.items u ↔ (IsReadyIn k u × (t ≢ u)))
       → (u : ℕ) → u < length k.counts.items → IsReadyAt After end k.counts.items u ↔ ((get_or k.counts.items u 0 ≡ 0) × ¬ IsDone more u)
   done_ready After end taken u l = (
     λ r.

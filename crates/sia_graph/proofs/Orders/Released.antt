@@ -4,7 +4,7 @@ use Rattle.std.specs.Prelude.{◌↔◌, All, Contains}
 use Rattle.std.proofs.lemmas.List.{get_or-set_same, get_or-set_other, get_or_default, length-set}
 use Rattle.std.proofs.lemmas.Option.{slice_get-get_or}
 use Rattle.sia_graph.specs.Graphs.{IsGraph}
-use Rattle.sia_graph.specs.UnderWay.{AreChains, HasReady, IsDone, IsOneFewer, IsReadyAt, IsTaking, IsUnderWay, WaitsAt}
+use Rattle.sia_graph.specs.UnderWay.{AreChains, IsBehind, IsDone, IsOneFewer, IsReadyAt, IsTaking, IsUnderWay, WaitsAt}
 use Rattle.sia_graph.specs.declared.order.Graph.{Graph}
 use Rattle.sia_graph.specs.declared.order.Taking.{Taking}
 use Rattle.sia_graph.proofs.Orders.Chains.{chain_longer}
@@ -86,19 +86,19 @@ module _ (g : Graph) (done : List Bool) (k : Taking) (node : ℕ) (below : node 
         (set lower node 0) k.passed.items (m ∙ l) is.under_way.passed_long (λ t n. get_or-set_other lower node t 0 0 n ∙ elsewhere t n) (λ t n. refl) less fewer many two
         (get_or-set_same lower node 0 0 (omega arith)) refl all
 
-    pub ready_free : (After : ℕ → Type 0) → ((t : ℕ) → After t ↔ (HasReady k.behind t ⊎ ((node ≡ t) × (node < k.end))))
+    pub ready_free : (After : ℕ → Type 0) → ((t : ℕ) → After t ↔ (IsBehind k t ⊎ ((node ≡ t) × (node < k.end))))
         → (t : ℕ) → t < length (set lower node 0) → IsReadyAt After k.end (set lower node 0) t ↔ ((get_or (set lower node 0) t 0 ≡ 0) × ¬ IsDone done t)
     ready_free After noted =
         let l = length-set counts node v in
         let m = length-set lower node 0 in
-        one_freed (IsDone done) (HasReady k.behind) k.end counts (set lower node 0) (m ∙ l) node (λ t n. get_or-set_other lower node t 0 0 n ∙ elsewhere t n) (let m = many in omega arith) is.ready
+        one_freed (IsDone done) (IsBehind k) k.end counts (set lower node 0) (m ∙ l) node (λ t n. get_or-set_other lower node t 0 0 n ∙ elsewhere t n) (let m = many in omega arith) is.ready
         After noted (λ d. (let z = is.under_way.taken node below d in let m = many in omega arith)) below (get_or-set_same lower node 0 0 (omega arith))
 
-  pub ready_held : (t : ℕ) → t < length lower → IsReadyAt (HasReady k.behind) k.end lower t ↔ ((get_or lower t 0 ≡ 0) × ¬ IsDone done t)
+  pub ready_held : (t : ℕ) → t < length lower → IsReadyAt (IsBehind k) k.end lower t ↔ ((get_or lower t 0 ≡ 0) × ¬ IsDone done t)
   ready_held =
       let a = at_node in
       let m = many in
-      none_freed (IsDone done) (HasReady k.behind) k.end counts lower (length-set counts node v) node elsewhere (omega arith) is.ready below (omega arith)
+      none_freed (IsDone done) (IsBehind k) k.end counts lower (length-set counts node v) node elsewhere (omega arith) is.ready below (omega arith)
 
 -- where others wait, they waited
 module _ (g : Graph) (counts passed cs ps : List ℕ) (node : ℕ) (long : length cs ≡ length counts) (cs_other : (t : ℕ) → t ≢ node → get_or cs t 0 ≡ get_or counts t 0)

@@ -9,7 +9,7 @@ use Rattle.sia_parts.specs.declared.finding.Kind.TheVariants.{Ww}
 use Rattle.sia_graph.specs.Fronts.{IsFront, left_over, stands}
 use Rattle.sia_graph.specs.Graphs.{IsGraph, IsGraphEdge, LeadsTo}
 use Rattle.sia_graph.specs.Orders.{Leads}
-use Rattle.sia_graph.specs.UnderWay.{HasReady, IsDone, IsLastFront, IsReadyAt, IsTaking, none_pending, told}
+use Rattle.sia_graph.specs.UnderWay.{IsDone, IsLastFront, IsReadyIn, IsTaking, none_pending, told}
 use Rattle.sia_graph.specs.declared.order.Graph.{Graph}
 use Rattle.sia_graph.specs.declared.order.Taking.{Taking}
 use Rattle.sia_graph.proofs.Shared.Counted.{one_fewer}
@@ -69,7 +69,7 @@ module _ (n : ℕ) (g : Graph) (graph : IsGraph n g) (done : List Bool) (k : Tak
     abbrev M : ℕ → Type 0
     M = Contains (range_with_len 0 n)
 
-    ready_is : (t : ℕ) → t < n → IsReadyAt (HasReady k.behind) k.end k.counts.items t → IsReady M (IsGraphEdge g) front t
+    ready_is : (t : ℕ) → t < n → IsReadyIn k t → IsReady M (IsGraphEdge g) front t
     ready_is t l r =
         let w = (is.ready t (omega arith)).0 r in (
           in_range n t l,
@@ -77,7 +77,7 @@ module _ (n : ℕ) (g : Graph) (graph : IsGraph n g) (done : List Bool) (k : Tak
           (λ s leads. let e = edge_leads g s t leads in (of.is_done s (graph.within s t e).0).0 (all_done t l w.0 s e)),
         )
 
-    is_ready : (t : ℕ) → IsReady M (IsGraphEdge g) front t → IsReadyAt (HasReady k.behind) k.end k.counts.items t
+    is_ready : (t : ℕ) → IsReady M (IsGraphEdge g) front t → IsReadyIn k t
     is_ready t r =
         let l = range_in n t r.0 in
         (is.ready t (omega arith)).1 (
@@ -88,7 +88,7 @@ module _ (n : ℕ) (g : Graph) (graph : IsGraph n g) (done : List Bool) (k : Tak
           (λ d. r.1 ((of.is_done t l).0 d)),
         )
 
-    pub front_taken : (t : ℕ) → t < n → IsReadyAt (HasReady k.behind) k.end k.counts.items t → ((u : ℕ) → IsReadyAt (HasReady k.behind) k.end k.counts.items u → t ≤ u)
+    pub front_taken : (t : ℕ) → t < n → IsReadyIn k t → ((u : ℕ) → IsReadyIn k u → t ≤ u)
         → IsFrontOf n g (set done t true) (front ++ t ∷ [])
     front_taken t l r least = record {
       is_front = front_more M (IsGraphEdge g) front t of.is_front (ready_is t l r) (λ u s. least u (is_ready u s));
@@ -107,14 +107,14 @@ module _ (n : ℕ) (g : Graph) (graph : IsGraph n g) (done : List Bool) (k : Tak
     }
 
     -- a ready node is a node that isn't done, and has no count
-    pub ready_within : (t : ℕ) → IsReadyAt (HasReady k.behind) k.end k.counts.items t → t < n
-    ready_within t (inl b) = let l = is.before t b in let w = is.within in omega arith
+    pub ready_within : (t : ℕ) → IsReadyIn k t → t < n
+    ready_within t (inl b) = let l = is.before.before t b in let w = is.within in omega arith
     ready_within t (inr w) = let l = w.1 in omega arith
 
-    pub ready_left : (t : ℕ) → t < n → IsReadyAt (HasReady k.behind) k.end k.counts.items t → (get_or k.counts.items t 0 ≡ 0) × ¬ IsDone done t
+    pub ready_left : (t : ℕ) → t < n → IsReadyIn k t → (get_or k.counts.items t 0 ≡ 0) × ¬ IsDone done t
     ready_left t l r = (is.ready t (omega arith)).0 r
 
-    pub last_front : ((t : ℕ) → ¬ IsReadyAt (HasReady k.behind) k.end k.counts.items t) → IsLastFront M g done front
+    pub last_front : ((t : ℕ) → ¬ IsReadyIn k t) → IsLastFront M g done front
     last_front none = record {
       is_front = of.is_front;
       is_done = λ t m. of.is_done t (range_in n t m);

@@ -6,7 +6,7 @@ use Rattle.std.proofs.lemmas.Bool.{and_from, and_parts, cases_Bool, cases_eq, ca
 use Rattle.std.proofs.lemmas.List.{get_or-set_same, get_or-set_other, get_or_past, length-set}
 use Rattle.std.proofs.lemmas.List.FromFn.{get_or-range_with_len, length-range_with_len}
 use Rattle.std.proofs.lemmas.Option.{get_or_from_slice_get, same_Some, slice_get-get_or}
-use Rattle.sia_graph.specs.UnderWay.{AreChains, HasReady, IsChain, IsDone, IsOneFewer, IsReadyAt, IsTaking, IsUnderWay, WaitsAt}
+use Rattle.sia_graph.specs.UnderWay.{AreChains, IsBehind, IsChain, IsDone, IsOneFewer, IsReadyAt, IsTaking, IsUnderWay, WaitsAt}
 use Rattle.sia_graph.specs.declared.order.Graph.{Graph}
 use Rattle.sia_graph.specs.declared.order.Taking.{Taking}
 use Rattle.sia_graph.proofs.Orders.Chains.{chain_ended, chain_goes_on, chain_once}
@@ -182,8 +182,8 @@ module _ (g : Graph) (done : List Bool) (k : Taking) (pending : ℕ → ℕ) (at
             (λ p. omega arith) (λ z. absurd (omega arith)) (λ i s b is_at. is.under_way.passed_done node i s node_within b is_at)
             (λ z. absurd (omega arith)) (λ s w d. absurd (not_now s w)) (λ d. absurd (let z = is.under_way.taken node node_within d in omega arith))
 
-        pub ready_woken : (t : ℕ) → t < length cs → IsReadyAt (HasReady k.behind) k.end cs t ↔ ((get_or cs t 0 ≡ 0) × ¬ IsDone done t)
+        pub ready_woken : (t : ℕ) → t < length cs → IsReadyAt (IsBehind k) k.end cs t ↔ ((get_or cs t 0 ≡ 0) × ¬ IsDone done t)
         ready_woken =
             let one = node_waits.1 in
             let t = two in
-            none_freed (IsDone done) (HasReady k.behind) k.end k.counts.items cs (length-set k.counts.items node v) node elsewhere (omega arith) is.ready node_within (omega arith)
+            none_freed (IsDone done) (IsBehind k) k.end k.counts.items cs (length-set k.counts.items node v) node elsewhere (omega arith) is.ready node_within (omega arith)

@@ -1,14 +1,15 @@
-use Rattle.std.proofs.Common.{◌≡◌, ◌≢◌, ◌<◌, ◌≤◌, ◌+◌, ℕ, List, [], Bool, true, false, cond, inl, inr, length, get_or, replicate, set, ap, sym, subst, ◌∙◌, arith, rules}
+use Rattle.std.proofs.Common.{◌≡◌, ◌≢◌, ◌<◌, ◌≤◌, ◌+◌, ℕ, [], Bool, true, false, cond, inl, inr, length, get_or, replicate, set, ap, sym, subst, ◌∙◌, arith, rules}
 use Rattle.std.specs.Prelude.{◌↔◌}
 use Rattle.std.specs.List.{range_with_len}
 use Rattle.std.proofs.lemmas.Bool.{cases_lt, le-ltb, lt-ltb}
-use Rattle.std.proofs.lemmas.List.{get_or-replicate, get_or_past, length-replicate}
+use Rattle.std.proofs.lemmas.List.{get_or-replicate, get_or-set_same, get_or_past, length-replicate}
 use Rattle.sia_graph.specs.Fronts.{left_over}
-use Rattle.sia_graph.specs.UnderWay.{HasReady, IsDone, IsReadyAt, IsTaking, none_pending, times}
+use Rattle.sia_graph.specs.UnderWay.{IsBehind, IsDone, IsReadyIn, IsTaking, none_pending, times}
 use Rattle.sia_graph.proofs.Orders.DoneNodes.{done_ready, done_under_way}
 use Rattle.sia_graph.proofs.Orders.Pending.{as_taking, first_fewer, not_yet}
 use Rattle.sia_graph.proofs.Orders.TakenFronts.{IsFrontOf, fewer_left, front_taken, last_front, no_front, ready_left, ready_within}
 use Rattle.sia_graph.proofs.order.take_all.Goals.{In-Some}
+use Rattle.sia_graph.specs.declared.order.Taking.{Taking}
 use Rattle.sia_graph.proofs.order.take_all.Goals as goal
 
 -- nothing is done in a list of false alone
@@ -51,23 +52,32 @@ loop-node-2-init c =
           (no_front c.args.nodes c.args.graph.now c.in_ok-done.done.items (is.0.under_way.done_long ∙ is.1) is.2),
     )
 
--- what is next is ready, and the least that is
-ready : (c : In-Some) → IsReadyAt (HasReady c.loop-node-2.taking.behind) c.loop-node-2.taking.end c.loop-node-2.taking.counts.items c.in-Some.node
-ready c = subst (λ (l : List ℕ). IsReadyAt (HasReady c.loop-node-2.taking.behind) c.loop-node-2.taking.end l c.in-Some.node) c.deref-in-loop-node-2.ensures.value c.in-Some.ensures.member
-
 within : (c : In-Some) → c.in-Some.node < c.args.nodes
 within c =
     let is = c.loop-node-2.invariant in
-    ready_within c.args.nodes c.args.graph.now c.requires.graph c.loop-node-2.done.items c.loop-node-2.taking is.1 is.0 c.loop-node-2.order.items is.2 c.in-Some.node (ready c)
+    ready_within c.args.nodes c.args.graph.now c.requires.graph c.loop-node-2.done.items c.loop-node-2.taking is.1 is.0 c.loop-node-2.order.items is.2 c.in-Some.node c.in-Some.ensures.member
 
 left : (c : In-Some) → (get_or c.loop-node-2.taking.counts.items c.in-Some.node 0 ≡ 0) × ¬ IsDone c.loop-node-2.done.items c.in-Some.node
 left c =
     let is = c.loop-node-2.invariant in
-    ready_left c.args.nodes c.args.graph.now c.requires.graph c.loop-node-2.done.items c.loop-node-2.taking is.1 is.0 c.loop-node-2.order.items is.2 c.in-Some.node (within c) (ready c)
+    ready_left c.args.nodes c.args.graph.now c.requires.graph c.loop-node-2.done.items c.loop-node-2.taking is.1 is.0 c.loop-node-2.order.items is.2 c.in-Some.node (within c) c.in-Some.ensures.member
 
--- the places that are ready, of the counts as a list
-abbrev Popped : In-Some → List ℕ → Type 0
-Popped c l = (i : ℕ) → IsReadyAt (HasReady c.next_ready.new.behind) c.next_ready.new.end l i ↔ (IsReadyAt (HasReady c.loop-node-2.taking.behind) c.loop-node-2.taking.end l i × (c.in-Some.node ≢ i))
+pub index_mut-requires : goal.index_mut-requires
+index_mut-requires c = let l = within (goal.at.index_mut-requires c).In-Some in let e = c.loop-node-2.invariant.2.done_long in let ok = c.loop-node-2.done.ok.0 in omega arith
+
+pub finish-requires-clause-node : goal.finish-requires-clause-node
+finish-requires-clause-node c =
+    let l = within (goal.at.finish-requires-clause-node c).In-Some in
+    let e = ap (λ (k : Taking). length k.counts.items) c.in-Some.ensures.same in
+    let long = c.loop-node-2.invariant.1 in
+    let few = c.requires.few in
+    (omega arith, omega arith)
+
+pub finish-requires-clause-done : goal.finish-requires-clause-done
+finish-requires-clause-done c =
+    let l = within (goal.at.finish-requires-clause-done c).In-Some in
+    let e = c.loop-node-2.invariant.2.done_long in
+    ap (λ d. get_or d c.in-Some.node false) c.deref-in-Some.ensures.value ∙ get_or-set_same c.loop-node-2.done.items c.in-Some.node true false (omega arith)
 
 pub finish-requires-clause-is : goal.finish-requires-clause-is
 finish-requires-clause-is c =
@@ -78,17 +88,16 @@ finish-requires-clause-is c =
     let k = c.loop-node-2.taking in
     let t = c.in-Some.node in
     let free = left before in
-    let counts = c.deref-in-loop-node-2.ensures.value in
-    let popped = subst (λ (l : List ℕ). Popped before l) counts c.in-Some.ensures.taken in
-    subst (λ d. IsTaking g d (record { counts = k.counts; passed = k.passed; first_waiting = k.first_waiting; next_waiting = k.next_waiting; behind = c.next_ready.new.behind; end = c.next_ready.new.end })
-    (λ u. times u (get_or g.targets t [])) t)
-    (sym c.deref-in-Some.ensures.value)
-    (record {
+    let new = c.take.new.self in
+    let popped = c.in-Some.ensures in
+    subst (λ d. IsTaking g d new (λ u. times u (get_or g.targets t [])) t) (sym c.deref-in-Some.ensures.value)
+    (subst (λ k. IsTaking g (set done t true) k (λ u. times u (get_or g.targets t [])) t) (sym popped.same) (record {
       under_way = done_under_way c.args.nodes g c.requires.graph done k is.1 is.0 t (within before) free.0 free.1;
-      ready = done_ready c.args.nodes g c.requires.graph done k is.1 is.0 t (within before) free.0 free.1 (HasReady c.next_ready.new.behind) c.next_ready.new.end popped;
-      before = c.in-Some.ensures.behind;
-      within = let w = c.in-Some.ensures.within in let e = ap (length {A = ℕ}) counts in omega arith;
-    })
+      ready = done_ready c.args.nodes g c.requires.graph done k is.1 is.0 t (within before) free.0 free.1 (IsBehind new) new.end
+          (subst (λ (x : Taking). (u : ℕ) → IsReadyIn x u ↔ (IsReadyIn k u × (t ≢ u))) popped.same popped.taken);
+      before = popped.behind.0;
+      within = subst (λ (x : Taking). x.end ≤ length x.counts.items) popped.same popped.behind.1;
+    }))
 
 pub loop-node-2-smaller : goal.loop-node-2-smaller
 loop-node-2-smaller c =
@@ -108,14 +117,12 @@ loop-node-2-preserved c =
     let done = c.loop-node-2.done.items in
     let k = c.loop-node-2.taking in
     let t = c.in-Some.node in
-    let long = c.in_ok-finish.ensures.long ∙ is.1 in
-    let counts = c.deref-in-loop-node-2.ensures.value in
-    let least = subst (λ (l : List ℕ). (i : ℕ) → IsReadyAt (HasReady k.behind) k.end l i → t ≤ i) counts c.in-Some.ensures.least in (
+    let long = c.in_ok-finish.ensures.long ∙ ap (λ (k : Taking). length k.counts.items) c.in-Some.ensures.same ∙ is.1 in (
       subst (λ m. IsTaking g (set done t true) c.finish.new.self none_pending m) long
           (subst (λ d. IsTaking g d c.finish.new.self none_pending (length c.finish.new.self.counts.items)) c.deref-in-Some.ensures.value c.in_ok-finish.ensures.is),
       long,
       subst (λ front. IsFrontOf n g (set done t true) front) (sym c.in_ok-push.ensures.items)
-          (front_taken n g c.requires.graph done k is.1 is.0 c.loop-node-2.order.items is.2 t (within before) (ready before) least),
+          (front_taken n g c.requires.graph done k is.1 is.0 c.loop-node-2.order.items is.2 t (within before) c.in-Some.ensures.member c.in-Some.ensures.least),
     )
 
 pub returns-clause-last : goal.returns-clause-last
@@ -123,4 +130,4 @@ returns-clause-last c =
     let is = c.loop-node-2.invariant in
     let k = c.loop-node-2.taking in
     last_front c.args.nodes c.args.graph.now c.requires.graph c.loop-node-2.done.items k is.1 is.0 c.loop-node-2.order.items is.2
-    (subst (λ (l : List ℕ). (i : ℕ) → ¬ IsReadyAt (HasReady k.behind) k.end l i) c.deref-in-loop-node-2.ensures.value c.in_default.ensures.empty)
+    c.in_default.ensures

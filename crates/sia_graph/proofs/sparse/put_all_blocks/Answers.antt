@@ -1,14 +1,8 @@
 use Rattle.std.proofs.Common.{arith, get_or, inl, inr}
 use Rattle.std.proofs.lemmas.Bool.{cases_lt}
 use Rattle.sia_parts.specs.declared.accesses.RangeMiss.{RangeMiss}
-use Rattle.sia_graph.proofs.SparseGraphs.StretchBlocks.{blocks_all, blocks_more, blocks_none, held_below}
+use Rattle.sia_graph.proofs.SparseGraphs.StretchBlocks.{blocks_all, blocks_more, held_below}
 use Rattle.sia_graph.proofs.sparse.put_all_blocks.Goals as goal
-
-pub loop-stretch-init : goal.loop-stretch-init
-loop-stretch-init c = blocks_none c.args.size c.args.stretches.now c.args.blocks.now.items
-
-pub put_blocks-requires-clause-within : goal.put_blocks-requires-clause-within
-put_blocks-requires-clause-within c = let low = c.min.ensures in let high = c.min-in-loop-stretch.ensures in (omega arith, omega arith)
 
 pub loop-stretch-preserved : goal.loop-stretch-preserved
 loop-stretch-preserved c =
@@ -33,9 +27,3 @@ loop-stretch-preserved c =
 
 pub returns-clause-over : goal.returns-clause-over
 returns-clause-over c = blocks_all c.args.size c.args.stretches.now c.loop-stretch.stretch-index c.args.blocks.now.items c.loop-stretch.blocks.items (omega arith) c.loop-stretch.invariant
-
-pub returns-clause-keeps : goal.returns-clause-keeps
-returns-clause-keeps c = c.loop-stretch.invariant.keeps
-
-pub returns-clause-within : goal.returns-clause-within
-returns-clause-within c = c.loop-stretch.invariant.within

@@ -13,9 +13,3 @@ loop-low-preserved c =
 pub returns-clause-over : goal.returns-clause-over
 returns-clause-over c =
     climbed c.args.size c.args.from c.args.to c.args.blocks.now.items c.loop-low.blocks.items c.loop-low.low c.loop-low.high c.loop-low.invariant (omega arith)
-
-pub returns-clause-keeps : goal.returns-clause-keeps
-returns-clause-keeps c = c.loop-low.invariant.keeps
-
-pub returns-clause-within : goal.returns-clause-within
-returns-clause-within c = c.loop-low.invariant.within

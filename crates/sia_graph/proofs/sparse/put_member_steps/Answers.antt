@@ -10,15 +10,12 @@ use Rattle.sia_graph.specs.KeyBlocks.{IsUnderSome}
 use Rattle.sia_graph.specs.Makers.{IsMaker, IsMakerBefore, IsNextMaker}
 use Rattle.sia_graph.specs.Passed.{IsHeldBy}
 use Rattle.sia_graph.specs.SparseGraphs.{IsStepTo}
-use Rattle.sia_graph.proofs.Shared.AccessLists.{saw_inside, saw_is, saw_position}
+use Rattle.sia_graph.proofs.Shared.AccessLists.{saw_is, saw_position}
 use Rattle.sia_graph.proofs.Shared.MakersTold.{maker_told}
 use Rattle.sia_graph.proofs.Shared.MemberSteps.{size_few, sources_put, targets_put}
 use Rattle.sia_graph.proofs.SparseGraphs.StepsPut.{few_before, few_maker, few_next, step_put}
 use Rattle.sia_graph.proofs.sparse.put_member_steps.Goals.{After-at-seen-items, After-made_by-made-items}
 use Rattle.sia_graph.proofs.sparse.put_member_steps.Goals as goal
-
-pub at-seen-items-requires : goal.at-seen-items-requires
-at-seen-items-requires c = let e = c.args.evidence.now in saw_inside e.index.now e.accesses.now c.requires.evidence.accesses c.args.txn c.requires.txn.0 c.requires.txn.1
 
 -- each of these was seen, and stands at a position
 has_seen : (c : After-at-seen-items) → (n : ℕ) → n < length c.at-seen-items.result.now → HasPosition c.args.evidence.now.index.now (get_or c.at-seen-items.result.now n 0)

@@ -1,11 +1,8 @@
-use Rattle.std.proofs.Common.{ℕ, List, ◌++◌, ◌∷◌, [], ◌<◌, length, take, get_or, ap, sym, subst, ◌∙◌, arith}
-use Rattle.std.proofs.lemmas.List.{take_all, take_more}
+use Rattle.std.proofs.Common.{ℕ, List, ◌++◌, ◌∷◌, [], take, get_or, ap, sym, ◌∙◌}
+use Rattle.std.proofs.lemmas.List.{take_more}
 use Rattle.sia_index.specs.Lists.{with_last}
-use Rattle.sia_graph.proofs.Shared.RowLists.{last_more, some_list}
+use Rattle.sia_graph.proofs.Shared.RowLists.{last_more}
 use Rattle.sia_graph.proofs.sparse.put_row.Goals as goal
-
-pub put-requires : goal.put-requires
-put-requires c = record { some = subst (λ (l : List (List ℕ)). 0 < length l) (sym c.loop-node.invariant) (some_list c.args.lists.now (take c.loop-node.node-index c.args.row.now)) }
 
 pub loop-node-preserved : goal.loop-node-preserved
 loop-node-preserved c =
@@ -16,6 +13,3 @@ loop-node-preserved c =
     ∙ ap (λ (l : List (List ℕ)). with_last l (get_or row n 0)) c.loop-node.invariant
     ∙ last_more old (take n row) (get_or row n 0)
     ∙ ap (λ (l : List ℕ). old ++ (l ∷ [])) (sym (take_more row n 0 c.loop-node-test.true))
-
-pub returns : goal.returns
-returns c = c.loop-node.invariant ∙ ap (λ (l : List ℕ). c.args.lists.now ++ (l ∷ [])) (take_all c.loop-node.node-index c.args.row.now (omega arith))

@@ -9,7 +9,7 @@ use Rattle.sia_parts.specs.Sights.{Adds}
 use Rattle.sia_graph.specs.Passed.{IsHeldBy}
 use Rattle.sia_graph.proofs.Shared.AccessLists.{few_missed, held_passed, missed_inside, missed_is, own_passed}
 use Rattle.sia_parts.proofs.Shared.Adding.{adds_nothing, adds_push}
-use Rattle.sia_graph.proofs.OnEvidence.JoinedMisses.{HasJoinedTo, joined_held, joined_more, joined_none, joined_own}
+use Rattle.sia_graph.proofs.OnEvidence.JoinedMisses.{joined_held, joined_more, joined_none, joined_own}
 use Rattle.sia_graph.proofs.OnEvidence.PassedKeys.{HasCutTo, cut_held, cut_more, cut_none, cut_own}
 use Rattle.std.proofs.lemmas.Bool.{cases_lt}
 use Rattle.sia_graph.proofs.evidence.Passed.fill.Goals.{After-loop-miss, After-sort_unstable_by_key, then-next-miss+in_ok-push-2, else-next-miss}

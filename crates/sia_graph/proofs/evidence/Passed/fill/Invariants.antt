@@ -1,6 +1,4 @@
-use Rattle.std.proofs.Common.{◌≡◌, ◌-◌, ℕ, List, Contains, get_or}
-use Rattle.std.specs.Prelude.{◌↔◌}
-use Rattle.sia_graph.specs.Makers.{IsFirstMaker}
+use Rattle.std.proofs.Common.{◌≡◌, ◌-◌}
 use Rattle.sia_graph.proofs.OnEvidence.JoinedMisses.{HasJoinedTo}
 use Rattle.sia_graph.proofs.OnEvidence.PassedKeys.{HasCutTo}
 use Rattle.sia_graph.proofs.evidence.Passed.fill.Given as goal

@@ -1,10 +1,14 @@
-use Rattle.std.proofs.Common.{◌≡◌, ◌-◌, ◌<◌, ◌≤◌, ℕ, [], Bool, rules, tests, List, Some, length, get_or, set, slice_get, inl, inr, ◌⊎◌, ap, refl, sym, subst, ◌∙◌, arith}
-use Rattle.std.proofs.lemmas.Bool.{cases_eq}
+use Rattle.std.proofs.Common.{◌≡◌, ◌+◌, ◌-◌, ◌<◌, ◌≤◌, ℕ, [], Bool, List, Some, length, get_or, set, slice_get, inl, inr, ◌⊎◌, ap, refl, sym, subst, ◌∙◌, arith}
+use Rattle.std.specs.BinaryHeap.{heap_items}
+use Rattle.std.specs.List.Sorted.{IsStrictlyIncreasing}
+use Rattle.std.proofs.lemmas.Bool.{cases_eq, cases_lt}
 use Rattle.std.proofs.lemmas.List.{get_or-set_same, get_or-set_other, get_or_default, length-set}
 use Rattle.std.proofs.lemmas.Option.{same_Some, slice_get-get_or}
 use Rattle.std.specs.Prelude.{◌↔◌}
-use Rattle.sia_graph.specs.UnderWay.{HasReady, IsDone}
-use Rattle.sia_graph.proofs.Orders.Released.{others_waited, ready_free, ready_held, sources_within, under_way_free, under_way_held, under_way_waiting}
+use Rattle.sia_graph.specs.UnderWay.{HasReady, IsBehind, IsDone, IsOneFewer, IsReadyAt, IsTaking, IsUnderWay, held}
+use Rattle.sia_graph.proofs.Orders.Released.{many, others_waited, ready_free, ready_held, sources_within, under_way_free, under_way_held, under_way_waiting}
+use Rattle.sia_graph.proofs.Orders.ReadySets.{ascends_more, one, others_more, put_before, put_noted, read_at, run_more}
+use Rattle.sia_graph.proofs.order.Taking.release.Goals.{In-None}
 use Rattle.sia_graph.proofs.order.Taking.release.Goals as goal
 
 pub returns-then-index-gt1-clause-is : goal.returns-then-index-gt1-clause-is
@@ -111,8 +115,17 @@ returns-in-Some-clause-others c t s w d =
       )
     ]
 
-pub returns-in_ok-insert-in-None-clause-is : goal.returns-in_ok-insert-in-None-clause-is
-returns-in_ok-insert-in-None-clause-is c pending less waking is fewer =
+abbrev lowered : In-None → List ℕ
+lowered c = set (set c.args.self.now.counts.items c.args.node (c.index_mut.result.now - 1)) c.args.node 0
+
+-- nothing holds the node back, and it wasn't ready, whatever is told of what is
+freed : (c : In-None) (pending less : ℕ → ℕ) (waking : ℕ) → IsTaking c.args.graph.now c.args.done.now c.args.self.now pending waking → IsOneFewer c.args.node pending less
+    → IsUnderWay c.args.graph.now c.args.done.now (lowered c) c.args.self.now.passed.items c.args.self.now.first_waiting.items c.args.self.now.next_waiting.items less waking
+    × ((After : ℕ → Type 0) → ((t : ℕ) → After t ↔ (IsBehind c.args.self.now t ⊎ ((c.args.node ≡ t) × (c.args.node < c.args.self.now.end))))
+    → (t : ℕ) → t < length (lowered c) → IsReadyAt After c.args.self.now.end (lowered c) t ↔ ((get_or (lowered c) t 0 ≡ 0) × ¬ IsDone c.args.done.now t))
+    × (held c.args.self.now.run.items (heap_items c.args.self.now.others) c.args.node ≡ 0)
+    × (c.args.self.now.end ≤ length (lowered c))
+freed c pending less waking is fewer =
     let k = c.args.self.now in
     let node = c.args.node in
     let below = c.requires.node.0 in
@@ -123,39 +136,63 @@ returns-in_ok-insert-in-None-clause-is c pending less waking is fewer =
     let longer = length-set (set k.counts.items node v) node 0 in
     let same = get_or-set_same k.counts.items node v c.index.result.now below in
     let few = c.if-index-gt1.false in
-    let low : v ≤ 1 = omega arith in
-    let noted : (i : ℕ) → HasReady c.insert.new.self i ↔ (HasReady k.behind i ⊎ ((node ≡ i) × (node < k.end))) = search (rules, tests) in
-    record {
-      under_way = under_way_free c.args.graph.now c.args.done.now k node below v c.index_mut.result.now old refl pending less waking is fewer low
+    let m = many c.args.graph.now c.args.done.now k node below v c.index_mut.result.now old refl pending less waking is fewer in
+    let once = is.before.once node in (
+      under_way_free c.args.graph.now c.args.done.now k node below v c.index_mut.result.now old refl pending less waking is fewer (omega arith)
           (elsewhere (λ from row. (i : ℕ) → from ≤ i → i < length row → IsDone c.args.done.now (get_or row i 0)) c.index-2.result.now (get_or k.passed.items node 0)
           c.at-sources.result.now (get_or c.args.graph.now.sources node [])
-          (c.index-2.ensures ∙ get_or_default k.passed.items node c.index-2.result.now 0 (let l = is.under_way.passed_long in omega arith)) c.at-sources.ensures c.in-None.ensures);
-      ready = ready_free c.args.graph.now c.args.done.now k node below v c.index_mut.result.now old refl pending less waking is fewer low (HasReady c.insert.new.self) noted;
-      before = λ t b. elim ((noted t).0 b) [ inl had ↦ is.before t had | inr w ↦ (let e = w.0 in let x = w.1 in omega arith) ];
-      within = let e = is.within in omega arith;
+          (c.index-2.ensures ∙ get_or_default k.passed.items node c.index-2.result.now 0 (let l = is.under_way.passed_long in omega arith)) c.at-sources.ensures c.in-None.ensures),
+      ready_free c.args.graph.now c.args.done.now k node below v c.index_mut.result.now old refl pending less waking is fewer (omega arith),
+      elim (cases_lt 0 (held k.run.items (heap_items k.others) node)) [
+        | inl some ↦ absurd (let z = ((is.ready node below).0 (inl (omega arith))).0 in omega arith)
+        | inr none ↦ omega arith
+      ],
+      (let e = is.within in omega arith),
+    )
+
+pub returns-in_ok-push_back-in-None-clause-is : goal.returns-in_ok-push_back-in-None-clause-is
+returns-in_ok-push_back-in-None-clause-is c pending less waking is fewer =
+    let k = c.args.self.now in
+    let node = c.args.node in
+    let run = k.run.items in
+    let others = heap_items k.others in
+    let f = freed (goal.at.returns-in_ok-push_back-in-None-clause-is c).In-None pending less waking is fewer in
+    let items = c.in_ok-push_back-in-None.ensures.items in
+    let differ : (i : ℕ) → held c.push_back.new.self.items others i ≡ one node i + held run others i = λ i. ap (λ xs. held xs others i) items ∙ run_more run node others i in
+    let last = read_at 0 c.unwrap_or.result run (k.run.len - 1) c.back.result c.copied.result c.unwrap_or.ensures c.copied.ensures c.back.ensures.item in
+    let above : get_or run (length run - 1) 0 < node = (let e : get_or run (k.run.len - 1) 0 ≡ get_or run (length run - 1) 0 = ap (λ n. get_or run (n - 1) 0) k.run.ok.0 in let l = c.if-unwrap_or-node.true in omega arith) in
+    let put = put_before run others c.push_back.new.self.items others k.end node is.before f.2 differ c.if-node-self.true in
+    record {
+      under_way = f.0;
+      ready = f.1 (HasReady c.push_back.new.self.items others) (put_noted run others c.push_back.new.self.items others k.end node is.before f.2 differ c.if-node-self.true);
+      before = put (subst IsStrictlyIncreasing (sym items) (ascends_more run node 0 is.before.ascends above)) is.before.order;
+      within = f.3;
+    }
+
+pub returns-in_ok-push-in-None-clause-is : goal.returns-in_ok-push-in-None-clause-is
+returns-in_ok-push-in-None-clause-is c pending less waking is fewer =
+    let k = c.args.self.now in
+    let node = c.args.node in
+    let run = k.run.items in
+    let others = heap_items k.others in
+    let more = heap_items c.push.new.self in
+    let pushed = c.in_ok-push-in-None.ensures in
+    let f = freed (goal.at.returns-in_ok-push-in-None-clause-is c).In-None pending less waking is fewer in
+    let differ = others_more run (record { 0 = node }) others more pushed.permutation in
+    record {
+      under_way = f.0;
+      ready = f.1 (HasReady run more) (put_noted run others run more k.end node is.before f.2 differ c.if-node-self.true);
+      before = put_before run others run more k.end node is.before f.2 differ c.if-node-self.true is.before.ascends (pushed.heap_order is.before.order);
+      within = f.3;
     }
 
 pub returns-else-node-self-clause-is : goal.returns-else-node-self-clause-is
 returns-else-node-self-clause-is c pending less waking is fewer =
-    let k = c.args.self.now in
-    let node = c.args.node in
-    let below = c.requires.node.0 in
-    let v = c.index_mut.result.now - 1 in
-    let old = c.index_mut.ensures.value ∙ get_or_default k.counts.items node c.index_mut.result.now 0 below in
-    let kept = c.index.ensures in
-    let long = length-set k.counts.items node v in
-    let longer = length-set (set k.counts.items node v) node 0 in
-    let same = get_or-set_same k.counts.items node v c.index.result.now below in
-    let few = c.if-index-gt1.false in
-    let low : v ≤ 1 = omega arith in
+    let f = freed (goal.at.returns-else-node-self-clause-is c).In-None pending less waking is fewer in
     let past = c.if-node-self.false in
-    let noted : (i : ℕ) → HasReady k.behind i ↔ (HasReady k.behind i ⊎ ((node ≡ i) × (node < k.end))) = λ i. ((λ b. inl b), (λ b. elim b [ inl had ↦ had | inr w ↦ absurd (let x = w.1 in omega arith) ])) in
     record {
-      under_way = under_way_free c.args.graph.now c.args.done.now k node below v c.index_mut.result.now old refl pending less waking is fewer low
-          (elsewhere (λ from row. (i : ℕ) → from ≤ i → i < length row → IsDone c.args.done.now (get_or row i 0)) c.index-2.result.now (get_or k.passed.items node 0)
-          c.at-sources.result.now (get_or c.args.graph.now.sources node [])
-          (c.index-2.ensures ∙ get_or_default k.passed.items node c.index-2.result.now 0 (let l = is.under_way.passed_long in omega arith)) c.at-sources.ensures c.in-None.ensures);
-      ready = ready_free c.args.graph.now c.args.done.now k node below v c.index_mut.result.now old refl pending less waking is fewer low (HasReady k.behind) noted;
+      under_way = f.0;
+      ready = f.1 (IsBehind c.args.self.now) (λ i. ((λ b. inl b), (λ b. elim b [ inl had ↦ had | inr w ↦ absurd (let x = w.1 in omega arith) ])));
       before = is.before;
-      within = let e = is.within in omega arith;
+      within = f.3;
     }
