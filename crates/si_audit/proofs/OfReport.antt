@@ -1,3 +1,3 @@
 pub mod Chains
-pub mod SheetsInTurn
+pub mod EdgesInTurn
 pub mod SpacedWords

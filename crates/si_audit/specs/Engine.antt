@@ -1,6 +1,5 @@
--- What an auditor was fed, what a run answers to one history, and what a report has yet to give.
-use Rattle.std.specs.Prelude.{◌≡◌, ℕ, ◌≤◌, List, length, drop, take}
-use Rattle.std.specs.Global.{Vec}
+-- What an auditor was fed, and what a run answers to one history.
+use Rattle.std.specs.Prelude.{◌≡◌, ◌++◌, ℕ, List, [], Option, None, Some}
 use Rattle.sia_events.specs.Limits.{Limits}
 use Rattle.si_audit.specs.declared.options.Form.TheVariants.{Explained}
 use Rattle.si_audit.specs.declared.engine.Auditor.{Auditor}
@@ -8,7 +7,8 @@ use Rattle.si_audit.specs.declared.engine.Outcome.{Outcome}
 use Rattle.si_audit.specs.Options.{Choices}
 use Rattle.si_audit.specs.Outcomes.{IsOutcome, Meets}
 use Rattle.si_audit.specs.Report.{IsReport, TellsAccount}
-use Rattle.si_audit.specs.Sheets.{text_of}
+use Rattle.si_audit.specs.declared.answer.Answer.{Answer}
+use Rattle.si_audit.specs.EdgeLines.{AreLinesFrom}
 use Rattle.sia_events.specs.declared.event.Event.{Event}
 use Rattle.si_audit.specs.declared.engine.Outcome.TheVariants.{Clean, Faulty, Refused}
 use Rattle.si_audit.specs.declared.options.Form.{Form}
@@ -26,27 +26,22 @@ pub record IsFed (limits : Limits) (o : Choices) (a : Auditor) (text : List ℕ)
   pub options : a.options.now ≡ o
   pub received : IsReceived limits (o.form ≡ Explained) a.locator a.text text
 
--- how the run ends, and the bytes that are yet to be given
-pub record Told : Type 0 where
-  pub outcome : Outcome
-  pub bytes : List ℕ
+-- the lines of all edges of the history, if there is one
+abbrev pub AreLinesOf : Option (List Event) → List ℕ → Type 0
+AreLinesOf None lines = lines ≡ []
+AreLinesOf (Some h) lines = AreLinesFrom h 0 lines
 
--- the bytes are the report of whatever text the auditor was fed, in the form of its options
-abbrev pub TellsFed : Auditor → Told → Type 0
-TellsFed a r = (limits : Limits) (o : Choices) (text : List ℕ) → IsFed limits o a text → IsReport limits o.form text r.bytes
+-- the bytes of a report
+abbrev pub HasText : Answer → List ℕ → Type 0
+HasText a bytes = (lines : List ℕ) × AreLinesOf a.found lines × (bytes ≡ a.front.items ++ lines ++ a.back.items)
+
+-- its report is that of whatever text the auditor was fed, in the form of its options
+abbrev pub TellsFed : Auditor → Answer → Type 0
+TellsFed a r = (limits : Limits) (o : Choices) (text : List ℕ) → IsFed limits o a text → (bytes : List ℕ) × IsReport limits o.form text bytes × HasText r bytes
 
 -- and so the run over it ends, at their level
-abbrev pub EndsFed : Auditor → Told → Type 0
+abbrev pub EndsFed : Auditor → Answer → Type 0
 EndsFed a r = (limits : Limits) (o : Choices) (text : List ℕ) → IsFed limits o a text → IsOutcome limits o.level text r.outcome
-
--- what stands on the sheets from this one on, without the first bytes of it
-abbrev pub rest_from : List (Vec ℕ) → ℕ → ℕ → List ℕ
-rest_from sheets sheet at = drop at (text_of (drop sheet sheets))
-
--- the place is one of this sheet, or behind all sheets
-pub record IsAt (sheets : List (Vec ℕ)) (sheet at : ℕ) : Type 0 where
-  pub within : sheet ≤ length sheets
-  pub on_it : at ≤ length (text_of (take 1 (drop sheet sheets)))
 
 -- how a run over this history ends
 abbrev pub IsOutcomeOf : Level → List Event → Outcome → Type 0

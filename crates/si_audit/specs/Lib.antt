@@ -13,6 +13,8 @@ pub mod Report
 pub mod Outcomes
 pub mod Devices
 pub mod Spaced
-pub mod Sheets
+pub mod Found
+pub mod EdgeLines
+pub mod Giving
 pub mod Engine
 pub mod Laws

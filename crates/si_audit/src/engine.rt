@@ -1,31 +1,35 @@
 //! The engine: a text goes in, a report comes out, and it knows no device.
-ghost use Rattle.std.specs.Prelude.{◌≡◌, ◌≢◌, ◌<◌, ◌≤◌, ◌++◌, ℕ, List, [], drop, take, length, vec_capacity, IfOk, MatchOption, OnOk, IsFalse, IsTrue, ◌↔◌};
+ghost use Rattle.std.specs.Prelude.{◌≡◌, ◌+◌, ◌<◌, ◌≤◌, ◌++◌, ℕ, List, [], ⊤, flat_map, length, vec_capacity, IfOk, MatchOption, OnOk, IsFalse, IsTrue, ◌↔◌};
 ghost use Rattle.sia_events.specs.Limits.{Limits};
 ghost use Rattle.si_audit.specs.Options.{Choices};
-ghost use Rattle.si_audit.specs.Engine.{EndsFed, IsAt, IsFed, TellsFed, rest_from, IsReceived, IsReportOf, IsOutcomeOf, Told};
+ghost use Rattle.si_audit.specs.Engine.{AreLinesOf, EndsFed, HasText, IsFed, TellsFed, IsReceived, IsReportOf, IsOutcomeOf};
+ghost use Rattle.si_audit.specs.Giving.{IsYet, bytes_left};
+ghost use Rattle.si_audit.specs.Account.{account_with};
+ghost use Rattle.si_audit.specs.Lines as lines;
 ghost use Rattle.si_audit.specs.Report.{TellsRefusal};
 ghost use Rattle.si_audit.specs.Outcomes.{Meets};
-ghost use Rattle.si_audit.specs.Sheets.{text_of};
 ghost use Rattle.sia_events.specs.declared.event.Event.{Event};
 ghost use Rattle.sia_events.specs.Refusals.{IsRefusal};
 ghost use Rattle.sia_events.specs.Streaming.{Progress};
 ghost use Rattle.sia_events.specs.declared.fault.TextFault.{TextFault};
 ghost use Rattle.si_audit.specs.declared.options.Form.{Form};
 ghost use Rattle.sia_graph.specs.Judgements.{IsJudgement};
+ghost use Rattle.sia_parts.specs.Accesses.{AreAccesses};
 
+use crate::answer::{Answer, Found, Report};
 use crate::audit::judged;
 use crate::crew::{Alone, Crew, InThreads};
-use crate::explain::push_place;
+use crate::edge_lines::EdgeLines;
+use crate::explain::{explained, push_place};
 use crate::options::{Form, Level, Options};
-use crate::report::push_refusal;
-use crate::sheets::{one_sheet, sheets_of};
+use crate::report::{push_back, push_front, push_refusal};
 use crate::snapshots::is_generalized;
 use sia_events::{Locator, Log, NoMemory, TextFault, TextReader};
-use sia_graph::Judgement;
+use sia_graph::{Evidence, Judgement, Pivot, listing_law, pivots_of};
 use sia_index::Index;
 use sia_index::make::index_log;
+use sia_parts::{Accesses, Edge};
 use std::alloc::Global;
-use std::marker::Model;
 use std::sync::Wait;
 use std::thread::Threads;
 
@@ -72,8 +76,8 @@ impl<'a> Auditor<'a> {
         Ok(())
     }
 
-    /// The report of the text, by a crew.
-    fn finish_by<C: Crew>(self, alloc: Global, crew: &C) -> Result<Report, NoMemory>
+    /// What the text comes to, by a crew.
+    fn finish_by<C: Crew>(self, alloc: Global, crew: &C) -> Result<Answer, NoMemory>
         requires { C.ready crew.now }
         ensures report { IfOk result (TellsFed self.entry) }
         ensures outcome { IfOk result (EndsFed self.entry) }
@@ -87,9 +91,9 @@ impl<'a> Auditor<'a> {
         }
     }
 
-    /// The report of the text, in the form of the options, and the outcome at their level. It is made by the calling thread,
-    /// and the call returns.
-    pub fn finish_alone(self, alloc: Global) -> Result<Report, NoMemory>
+    /// What the text comes to: its report in the form of the options, and the outcome at their level. The calling thread finds
+    /// it, and the call returns.
+    pub fn finish_alone(self, alloc: Global) -> Result<Answer, NoMemory>
         ensures report { IfOk result (TellsFed self.entry) }
         ensures outcome { IfOk result (EndsFed self.entry) }
     {
@@ -98,81 +102,77 @@ impl<'a> Auditor<'a> {
 
     /// The same by as many workers as the options say, where there is something to share. The call waits for its threads, so
     /// nothing promises that it returns.
-    pub fn finish<R: Threads + Wait + Sync>(self, rt: &R, alloc: Global) -> Result<Report, NoMemory>
+    pub fn finish<R: Threads + Wait + Sync>(self, rt: &R, alloc: Global) -> Result<Answer, NoMemory>
         ensures report { IfOk result (TellsFed self.entry) }
         ensures outcome { IfOk result (EndsFed self.entry) }
     {
         let workers = self.options.workers();
-        let is_one_part = self.options.parts().len() == 1 && self.options.form() != Form::Full;
-        if workers == 1 || is_one_part {
+        if workers == 1 || self.options.parts().len() == 1 {
             return self.finish_alone(alloc);
         }
         self.finish_by(alloc, &InThreads { rt, workers })
     }
 }
 
-/// A report, which gives its bytes in pieces. It has all the memory that it needs.
-#[derive(Drop)]
-pub struct Report {
-    outcome: Outcome,
-    sheets: Vec<Vec<u8>>,
-    /// The sheet from which the next byte comes, and its place there.
-    sheet: usize,
-    at: usize,
-}
-
-impl Model for Report {
-    ghost Value = { Told };
-
-    ghost view = { λ r. record { outcome = r.outcome; bytes = rest_from r.sheets.items r.sheet r.at } };
-
-    ghost invariant = { λ r. IsAt r.sheets.items r.sheet r.at };
-}
-
-impl Report {
-    /// How the run ends.
-    pub fn outcome(&self) -> Outcome
-        ensures { result ≡ self.now.outcome }
+impl Answer {
+    /// The report, of which nothing is given yet. It takes all the memory that it needs.
+    pub fn report(&self, alloc: Global) -> Result<Report<'_>, NoMemory>
+        ensures { IfOk result (λ report. (bytes : List ℕ) → HasText self.now bytes → IsYet report bytes) }
     {
-        self.outcome
+        let edges = match &self.found {
+            Some(found) => Some(EdgeLines::of(alloc, &found.index, &found.accesses)?),
+            None => None,
+        };
+        Ok(Report {
+            front: &self.front,
+            edges,
+            back: &self.back,
+        })
     }
+}
 
-    /// Gives the next bytes into a buffer that has room, as many as it has room for, and answers whether there were any. Takes
-    /// no memory.
+impl Report<'_> {
+    /// Gives the next bytes into a buffer that has room for some lines, as many as it has room for, and answers whether there were
+    /// any. Takes no memory.
     pub fn give(&mut self, buffer: &mut Vec<u8>) -> bool
-        requires room { length buffer.old.items < vec_capacity buffer.old }
-        ensures gives { (piece : List ℕ) × (self.old.bytes ≡ piece ++ self.new.bytes)
-            × (buffer.new.items ≡ buffer.old.items ++ piece) × (IsTrue result → 0 < length piece) }
-        ensures end { IsFalse result → (self.new.bytes ≡ []) × (buffer.new.items ≡ buffer.old.items) }
-        ensures outcome { self.new.outcome ≡ self.old.outcome }
+        requires room { length buffer.old.items + 4608 ≤ vec_capacity buffer.old }
+        ensures gives { (bytes : List ℕ) → IsYet self.old bytes → (piece : List ℕ) × (rest : List ℕ)
+            × (bytes ≡ piece ++ rest) × IsYet self.new rest × (buffer.new.items ≡ buffer.old.items ++ piece) }
+        ensures end { IsFalse result → ((bytes : List ℕ) → IsYet self.old bytes → bytes ≡ [])
+            × (buffer.new.items ≡ buffer.old.items) }
+        ensures fewer { IsTrue result → bytes_left self.new < bytes_left self.old }
         ensures room { vec_capacity buffer.old ≤ vec_capacity buffer.new }
     {
-        (self.sheet, self.at) = next_byte(self.sheets.as_slice(), self.sheet, self.at);
-        if self.sheet == self.sheets.len() {
-            return false;
+        if give_front(&mut self.front, buffer) {
+            return true;
         }
-        let rest = &self.sheets[self.sheet][self.at..];
-        let n = rest.len().min(buffer.capacity() - buffer.len());
-        let Ok(()) = buffer.extend_from_slice(&rest[..n]) else {
-            unreachable!()
-        };
-        self.at += n;
-        true
+        if let Some(edges) = &mut self.edges {
+            if edges.give(buffer) {
+                return true;
+            }
+        }
+        self.edges = None;
+        give_front(&mut self.back, buffer)
     }
 }
 
-fn next_byte(sheets: &[Vec<u8>], mut sheet: usize, mut at: usize) -> (usize, usize)
-    requires { IsAt sheets.now sheet at }
-    ensures same { rest_from sheets.now result.0 result.1 ≡ rest_from sheets.now sheet at }
-    ensures at { IsAt sheets.now result.0 result.1 }
-    ensures some { result.0 ≢ length sheets.now
-        → result.1 < length (text_of (take 1 (drop result.0 sheets.now))) }
+/// Gives the first of the bytes into a buffer, as many as it has room for, and answers whether there were any.
+fn give_front(bytes: &mut &[u8], buffer: &mut Vec<u8>) -> bool
+    requires room { length buffer.old.items < vec_capacity buffer.old }
+    ensures gives { (piece : List ℕ) × (bytes.old.now ≡ piece ++ bytes.new.now)
+        × (buffer.new.items ≡ buffer.old.items ++ piece) }
+    ensures end { IsFalse result → (bytes.old.now ≡ []) × (bytes.new.now ≡ [])
+        × (buffer.new.items ≡ buffer.old.items) }
+    ensures fewer { IsTrue result → length bytes.new.now < length bytes.old.now }
+    ensures room { vec_capacity buffer.old ≤ vec_capacity buffer.new }
 {
-    'passing: while sheet < sheets.len() && at == sheets[sheet].len() {
-        sheet += 1;
-        at = 0;
-    }
-    (sheet, at)
+    let rest = *bytes;
+    let n = rest.len().min(buffer.capacity() - buffer.len());
+    let Ok(()) = buffer.extend_from_slice(&rest[..n]) else {
+        unreachable!()
+    };
+    *bytes = &rest[n..];
+    n > 0
 }
 
 /// Whether the history of which this is the judgement meets the level, if the judgement tells it.
@@ -199,28 +199,106 @@ fn outcome_where(meets: bool) -> Outcome
     }
 }
 
+/// The report of the history of a log, in the form asked for, and the outcome at the level. Makes no edge.
 fn report_of_log<C: Crew>(
     crew: &C,
     alloc: Global,
     log: Log,
     o: &Options,
-) -> Result<Report, NoMemory>
+) -> Result<Answer, NoMemory>
     requires { C.ready crew.now }
-    ensures report { IfOk result (λ r. IsReportOf o.now.form log r.bytes) }
-    ensures outcome { IfOk result (λ r. IsOutcomeOf o.now.level log r.outcome) }
+    ensures report { IfOk result (λ a. (bytes : List ℕ) × IsReportOf o.now.form log bytes × HasText a bytes) }
+    ensures outcome { IfOk result (λ a. IsOutcomeOf o.now.level log a.outcome) }
 {
-    let ix = index_log(alloc, &log)?;
-    let (judgement, accesses) = judged(crew, alloc, &log, &ix, o)?;
+    let index = index_log(alloc, &log)?;
+    let (judgement, accesses) = judged(crew, alloc, &log, &index, o)?;
     let meets = match meets(&judgement, o.level()) {
         Some(meets) => meets,
-        None => is_generalized(alloc, &log, &ix, &judgement)?,
+        None => is_generalized(alloc, &log, &index, &judgement)?,
     };
-    Ok(Report {
-        outcome: outcome_where(meets),
-        sheets: sheets_of(crew, alloc, log, &ix, &judgement, &accesses, o)?,
-        sheet: 0,
-        at: 0,
+    let outcome = outcome_where(meets);
+    match o.form() {
+        Form::Full => {
+            drop(log);
+            in_full(alloc, outcome, &judgement, index, accesses)
+        }
+        Form::Brief => in_brief(alloc, outcome, &judgement, &log),
+        Form::Explained => {
+            let sheet = explained(alloc, &log, &index, &judgement, &accesses)?;
+            Ok(one_sheet(alloc, outcome, sheet))
+        }
+    }
+}
+
+fn in_full(
+    alloc: Global,
+    outcome: Outcome,
+    j: &Judgement,
+    index: Index,
+    accesses: Accesses,
+) -> Result<Answer, NoMemory>
+    requires judgement { IsJudgement index j.now }
+    requires accesses { AreAccesses index (λ _. ⊤) accesses }
+    ensures report { IfOk result (λ a. (bytes : List ℕ) × IsReportOf Form.Full index bytes × HasText a bytes) }
+    ensures outcome { IfOk result (λ a. a.outcome ≡ outcome) }
+{
+    index.law();
+    listing_law();
+    let evidence = Evidence {
+        index: &index,
+        accesses: &accesses,
+    };
+    let pivots = pivots_of(alloc, &evidence)?;
+    told(alloc, outcome, j, &pivots, Some(Found { index, accesses }))
+}
+
+fn in_brief(alloc: Global, outcome: Outcome, j: &Judgement, log: &Log) -> Result<Answer, NoMemory>
+    requires { IsJudgement log.now j.now }
+    ensures report { IfOk result (λ a. (bytes : List ℕ) × IsReportOf Form.Brief log.now bytes × HasText a bytes) }
+    ensures outcome { IfOk result (λ a. a.outcome ≡ outcome) }
+{
+    log.law();
+    listing_law();
+    told(alloc, outcome, j, &[], None)
+}
+
+/// The report of a judgement, in which these pivots are told, and the lines of edges that are made from what was found.
+fn told(
+    alloc: Global,
+    outcome: Outcome,
+    j: &Judgement,
+    pivots: &[Pivot],
+    found: Option<Found>,
+) -> Result<Answer, NoMemory>
+    ensures report { IfOk result (λ a. (form : Form) (es : List Edge) (ps : List Pivot) (middle : List ℕ)
+        → AreLinesOf found middle → middle ≡ flat_map lines.edge_line (lines.told form es)
+        → pivots.now ≡ lines.told form ps
+        → HasText a (lines.report_text form (account_with j.now es ps))) }
+    ensures outcome { IfOk result (λ a. a.outcome ≡ outcome) }
+{
+    let mut front = Vec::new(alloc);
+    push_front(&mut front, None, j)?;
+    let mut back = Vec::new(alloc);
+    push_back(&mut back, pivots, j.pass, j.serializable, &j.verdict)?;
+    Ok(Answer {
+        outcome,
+        front,
+        found,
+        back,
     })
+}
+
+/// A report on one sheet.
+fn one_sheet(alloc: Global, outcome: Outcome, front: Vec<u8>) -> Answer
+    ensures text { HasText result front.items }
+    ensures outcome { result.outcome ≡ outcome }
+{
+    Answer {
+        outcome,
+        front,
+        found: None,
+        back: Vec::new(alloc),
+    }
 }
 
 fn report_of_refusal(
@@ -228,22 +306,17 @@ fn report_of_refusal(
     fault: &TextFault,
     locator: &Locator,
     o: &Options,
-) -> Result<Report, NoMemory>
+) -> Result<Answer, NoMemory>
     ensures report { (limits : Limits) (bytes : List ℕ) (reader : Progress)
         → IsReceived limits (o.now.form ≡ Form.Explained) locator.now reader bytes
         → IsRefusal limits bytes fault.now
-        → IfOk result (λ r. TellsRefusal o.now.form bytes fault.now r.bytes) }
-    ensures outcome { IfOk result (λ r. r.outcome ≡ Outcome.Refused) }
+        → IfOk result (λ a. (report : List ℕ) × TellsRefusal o.now.form bytes fault.now report × HasText a report) }
+    ensures outcome { IfOk result (λ a. a.outcome ≡ Outcome.Refused) }
 {
     let mut sheet = Vec::new(alloc);
     push_refusal(&mut sheet, fault)?;
     if let Form::Explained = o.form() {
         push_place(&mut sheet, fault, locator)?;
     }
-    Ok(Report {
-        outcome: Outcome::Refused,
-        sheets: one_sheet(alloc, sheet)?,
-        sheet: 0,
-        at: 0,
-    })
+    Ok(one_sheet(alloc, Outcome::Refused, sheet))
 }

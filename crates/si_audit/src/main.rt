@@ -3,16 +3,17 @@
 #![tactic(auto)]
 
 mod account;
+mod answer;
 mod audit;
 mod crew;
 mod devices;
+mod edge_lines;
 mod engine;
 mod explain;
 mod laws;
 mod options;
 mod report;
 mod run;
-mod sheets;
 mod snapshot_lines;
 mod snapshots;
 #[cfg(test)]

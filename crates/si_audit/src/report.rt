@@ -1,5 +1,5 @@
 //! The lines of a report, and the words of a line. Lines of edges, of which there can be millions, are put together in blocks.
-ghost use Rattle.std.specs.Prelude.{◌≡◌, [], ◌∷◌, ◌++◌, flat_map, map, OnOk, if◌then◌else◌, ◌&&◌, ℕ, List, All, IfSome, ◌+◌, ◌≤◌, length, drop, slice_index, IfOk, ◌<◌};
+ghost use Rattle.std.specs.Prelude.{◌≡◌, [], ◌∷◌, ◌++◌, flat_map, map, OnOk, if◌then◌else◌, ◌&&◌, ℕ, List, All, IfSome, ◌+◌, ◌≤◌, length, drop, vec_capacity, ◌<◌};
 ghost use Rattle.sia_events.specs.Text.{numeral};
 ghost use Rattle.si_audit.specs.Spaced.{spaced, words_of};
 ghost use Rattle.sia_parts.specs.Acts.{HasActs};
@@ -7,18 +7,17 @@ ghost use Rattle.sia_parts.specs.declared.reasons.Recorded.{Recorded};
 ghost use Rattle.sia_graph.specs.Judgements.{IsJudgement};
 ghost use Rattle.si_audit.specs.Explained.{TellsAll, WithReasons, TellsIf, PutsFront};
 ghost use Rattle.sia_events.specs.declared.event.Event.{Event};
-ghost use Rattle.si_audit.specs.Sheets.{row_lines, IsSheetAt};
-ghost use Rattle.sia_graph.specs.AllEdges.{AreAllEdges};
+ghost use Rattle.si_audit.specs.EdgeLines.{row_lines};
 ghost use Rattle.si_audit.specs.Lines as lines;
 ghost use Rattle.si_audit.specs.declared.report.Words.TheVariants as some;
 
 use crate::explain::push_counts;
 use itoa::write_digits;
 use sia_events::{Key, NoMemory, Reason, TextFault, TxnId, push_number};
-use sia_graph::{Judgement, Link, Pivot, Verdict, put_vulnerable};
+use sia_graph::{Judgement, Pivot, Verdict};
 use sia_index::Counts;
-use sia_parts::{BadRead, BadWrite, Edge, EdgeTo, Edges, Kind, Recorded};
-use std::alloc::{AllocError, Global};
+use sia_parts::{BadRead, BadWrite, Edge, EdgeTo, Kind, Recorded};
+use std::alloc::AllocError;
 
 /// Some words of a line.
 #[derive(Clone, Copy)]
@@ -279,7 +278,7 @@ pub(crate) fn push_back(
 const LINES: usize = 64;
 
 /// Room for so many lines, each of less than 72 bytes.
-const ROOM: usize = 4608;
+pub(crate) const ROOM: usize = 4608;
 
 /// Puts the bytes right before `end`. Answers where they start. They are copied to a place of their own first: the compiler
 /// then needs no test whether they overlap with the block, and keeps them in registers.
@@ -330,57 +329,35 @@ fn put_line(block: &mut [u8; ROOM], e: &Edge, end: usize) -> usize
     put(block, b"edge ", end)
 }
 
-/// Adds the lines of the edges from a source, by a block.
-fn push_lines(
+/// Adds lines of the edges from a source, from a row on, as many as there is room for. Answers the row behind them.
+pub(crate) fn put_rows(
     out: &mut Vec<u8>,
     block: &mut [u8; ROOM],
     txns: &[TxnId],
     keys: &[Key],
     source: u32,
     rows: &[EdgeTo],
-) -> Result<(), AllocError>
-    ensures { OnOk result (out.new.items ≡ out.old.items ++ row_lines txns.now keys.now source rows.now) }
+    row: usize,
+) -> usize
+    requires { row ≤ length rows.now }
+    ensures lines { (piece : List ℕ) × (out.new.items ≡ out.old.items ++ piece)
+        × (row_lines txns.now keys.now source (drop row rows.now)
+        ≡ piece ++ row_lines txns.now keys.now source (drop result rows.now)) }
+    ensures within { (row ≤ result) × (result ≤ length rows.now) }
+    ensures some { row < length rows.now → length out.old.items + 4608 ≤ vec_capacity out.old → row < result }
+    ensures room { vec_capacity out.old ≤ vec_capacity out.new }
 {
-    for some in rows.chunks(LINES) {
+    let mut row = row;
+    'putting: while row < rows.len() && out.len() + ROOM <= out.capacity() {
+        let some = &rows[row..rows.len().min(row + LINES)];
         let mut end = ROOM;
         for i in (0..some.len()).rev() {
             end = put_line(block, &some[i].named(txns, keys, source), end);
         }
-        out.extend_from_slice(&block[end..])?;
+        let Ok(()) = out.extend_from_slice(&block[end..]) else {
+            unreachable!()
+        };
+        row += some.len();
     }
-    Ok(())
-}
-
-/// What is made of a chunk of the edges.
-#[derive(Drop)]
-pub(crate) struct Sheet {
-    pub(crate) lines: Vec<u8>,
-    /// The vulnerable edges, each as a link at its source.
-    pub(crate) links: Vec<Link>,
-}
-
-/// What is made of a chunk of all edges, by its number.
-pub(crate) fn sheet_of(
-    alloc: Global,
-    edges: &Edges,
-    bounds: &[u32],
-    number: usize,
-) -> Result<Sheet, NoMemory>
-    requires all { AreAllEdges edges.now bounds.now }
-    requires chunk { number + 1 < length bounds.now }
-    ensures { IfOk result (IsSheetAt edges.now.index.now bounds.now number) }
-{
-    let index = edges.index;
-    let txns = index.committed();
-    let keys = index.written_keys();
-    let mut block = [0; ROOM];
-    let mut rows = Vec::new(alloc);
-    let mut lines = Vec::new(alloc);
-    let mut links = Vec::new(alloc);
-    for source in bounds[number]..bounds[number + 1] {
-        edges.put_from(alloc, source, &mut rows)?;
-        put_vulnerable(index, source, &rows, &mut links)?;
-        push_lines(&mut lines, &mut block, txns, keys, source, &rows)?;
-    }
-    Ok(Sheet { lines, links })
+    row
 }

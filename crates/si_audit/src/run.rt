@@ -4,10 +4,12 @@ ghost use Rattle.std.specs.Io.KnownBytes.{Appends, Keeps};
 ghost use Rattle.si_audit.specs.Report.{IsReport};
 ghost use Rattle.si_audit.specs.Outcomes.{IsOutcome, status_of};
 ghost use Rattle.si_audit.specs.Engine.{IsFed};
+ghost use Rattle.si_audit.specs.Giving.{IsYet};
 ghost use Rattle.si_audit.specs.declared.run.RunFault.TheVariants.{NoMemory as no_memory};
 
+use crate::answer::Report;
 use crate::devices::{Failed, Sink, Source};
-use crate::engine::{Auditor, Outcome, Report};
+use crate::engine::{Auditor, Outcome};
 use crate::options::Options;
 use sia_events::NoMemory;
 use std::alloc::Global;
@@ -40,7 +42,7 @@ impl From<NoMemory> for RunFault {
 /// Reads a history's text to its end, or past the most bytes that the options allow, writes its report in the form asked
 /// for, and flushes once.
 ///
-/// The whole report is made in memory before the first byte is written. Neither device may have failed before. The call
+/// All memory is taken before the first byte is written. Neither device may have failed before. The call
 /// joins its workers and may wait for them.
 pub fn run<T: Threads + Wait + Sync, R: Source, W: Sink>(
     rt: &T,
@@ -78,12 +80,13 @@ pub fn run<T: Threads + Wait + Sync, R: Source, W: Sink>(
         × Appends (W.taken writer.old) (W.taken writer.new) bytes) }
 {
     let auditor = read_text(alloc, reader, o)?;
-    let mut report = auditor.finish(rt, alloc)?;
+    let audited = auditor.finish(rt, alloc)?;
+    let mut report = audited.report(alloc)?;
     let Ok(mut buffer) = Vec::with_capacity(alloc, PIECE) else {
         return Err(RunFault::NoMemory);
     };
     match write_whole(writer, &mut report, &mut buffer) {
-        Ok(()) => Ok(report.outcome()),
+        Ok(()) => Ok(audited.outcome),
         Err(Failed) => Err(RunFault::Write),
     }
 }
@@ -156,15 +159,16 @@ fn write_whole<W: Sink>(
     buffer: &mut Vec<u8>,
 ) -> Result<(), Failed>
     requires sound { IsFalse (W.has_failed writer.old) }
-    requires room { 0 < vec_capacity buffer.old }
-    ensures ok { OnOk result (Appends (W.taken writer.old) (W.taken writer.new) report.old.bytes) }
-    ensures front { OnErr result ((front : List ℕ) × (rest : List ℕ) × (report.old.bytes ≡ front ++ rest)
+    requires room { 4608 ≤ vec_capacity buffer.old }
+    ensures ok { OnOk result ((bytes : List ℕ) → IsYet report.old bytes
+        → Appends (W.taken writer.old) (W.taken writer.new) bytes) }
+    ensures front { OnErr result ((bytes : List ℕ) → IsYet report.old bytes
+        → (front : List ℕ) × (rest : List ℕ) × (bytes ≡ front ++ rest)
         × Appends (W.taken writer.old) (W.taken writer.new) front) }
-    ensures whole { IsFalse (W.has_refused writer.new)
-        → Appends (W.taken writer.old) (W.taken writer.new) report.old.bytes }
+    ensures whole { IsFalse (W.has_refused writer.new) → (bytes : List ℕ) → IsYet report.old bytes
+        → Appends (W.taken writer.old) (W.taken writer.new) bytes }
     ensures failed { IsTrue (W.has_failed writer.new) ↔ IsErr result }
     ensures flushed { OnOk result (IsTrue (W.is_flushed writer.new)) }
-    ensures outcome { report.new.outcome ≡ report.old.outcome }
 {
     buffer.clear();
     'giving: while report.give(buffer) {

@@ -1,6 +1,7 @@
+pub mod InOrder
 pub mod LinkLists
 pub mod ListedAs
+pub mod MissedKeys
+pub mod Overlaps
 pub mod Picked
-pub mod PivotLists
 pub mod Vulnerable
-pub mod VulnerableRows

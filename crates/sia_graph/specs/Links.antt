@@ -1,13 +1,22 @@
--- Transactions that are linked in some way, as lists that serve to find those that are linked to one.
-use Rattle.std.specs.Prelude.{◌≡◌, ◌↔◌, ◌∷◌, [], ℕ, Bool, true, false, List, Contains}
+-- The vulnerable edges, by the numbers of their ends, and what they are found by.
+use Rattle.std.specs.Prelude.{◌≢◌, ◌∷◌, [], ℕ, ◌<◌, ◌≤◌, List}
 use Rattle.sia_events.specs.declared.event.Event.{Event}
 use Rattle.sia_events.specs.DangerousStructures.{IsVulnerable}
 use Rattle.sia_events.specs.Lists.{ListsBy}
-use Rattle.sia_parts.specs.declared.finding.Edge.{Edge}
-use Rattle.sia_parts.specs.declared.finding.Kind.{Kind}
-use Rattle.sia_parts.specs.declared.finding.Kind.TheVariants.{Ww, Wr, Rw}
-use Rattle.sia_parts.specs.Groups.{IsGroup}
-use Rattle.sia_graph.specs.declared.pivot.Link.{Link}
+use Rattle.sia_events.specs.NarrowDependencies.{CommitsVersion}
+use Rattle.sia_events.specs.Transactions.{Overlap}
+use Rattle.sia_index.specs.declared.info.KeyVersion.{KeyVersion}
+use Rattle.sia_index.specs.Info.{IsKeyAt}
+use Rattle.sia_index.specs.Numbers.{IsCommittedAt}
+use Rattle.sia_index.specs.Positions.{IsAtPosition}
+use Rattle.sia_parts.specs.declared.accesses.RangeMiss.{RangeMiss}
+use Rattle.sia_graph.specs.declared.vulnerable.Link.{Link}
+use Rattle.sia_graph.specs.declared.vulnerable.Source.{Source}
+use Rattle.sia_graph.specs.Evidence.{IsEvidence}
+
+-- a vulnerable edge leads from number i to number j
+abbrev pub IsVulnerableAt : List Event → ℕ → ℕ → Type 0
+IsVulnerableAt h i j = (t : ℕ) × (u : ℕ) × IsCommittedAt h i t × IsCommittedAt h j u × IsVulnerable h t u
 
 abbrev pub link_rank : Link → List ℕ
 link_rank l = l.at ∷ l.other ∷ []
@@ -16,27 +25,19 @@ link_rank l = l.at ∷ l.other ∷ []
 abbrev pub ListsLinks : (ℕ → ℕ → Type 0) → List Link → Type 0
 ListsLinks R links = ListsBy link_rank (λ l. R l.at l.other) links
 
--- some edge of the kind rw leads from t to u
-abbrev pub HasRw : List Edge → ℕ → ℕ → Type 0
-HasRw edges t u = (e : Edge) × Contains edges e × (e.kind ≡ Rw) × (e.src ≡ t) × (e.dst ≡ u)
+-- numbers i and j differ and overlap, and a version of k that j made is committed behind place c
+abbrev pub OverlapsAfter : List Event → ℕ → ℕ → ℕ → ℕ → Type 0
+OverlapsAfter h i k c j = (t : ℕ) × (u : ℕ) × (d : ℕ) × IsCommittedAt h i t × IsCommittedAt h j u × CommitsVersion h k u d × (c < d) × (j ≢ i) × Overlap h t u
 
--- the list holds the ends of the edges of the kind rw whose ends have R
-abbrev pub AreEnds : (ℕ → ℕ → Type 0) → List Edge → List Link → Type 0
-AreEnds R edges links = (l : Link) → Contains links l ↔ (HasRw edges l.at l.other × R l.at l.other)
+-- so a version of its key behind that at position q
+abbrev pub OverlapsBehind : List Event → ℕ → ℕ → ℕ → Type 0
+OverlapsBehind h i q j = (v : KeyVersion) × IsAtPosition h q v × OverlapsAfter h i v.key v.commit j
 
--- the list holds the ends of each vulnerable edge, at its source
-abbrev pub AreVulnerable : List Event → List Link → Type 0
-AreVulnerable h links = (l : Link) → Contains links l ↔ IsVulnerable h l.at l.other
+-- so any version of a key of the range miss
+abbrev pub OverlapsIn : List Event → ℕ → RangeMiss → ℕ → Type 0
+OverlapsIn h i miss j = (n : ℕ) × (k : ℕ) × (miss.from ≤ n) × (n < miss.to) × IsKeyAt h n k × OverlapsAfter h i k 0 j
 
-abbrev pub is_rw : Kind → Bool
-is_rw Ww = false
-is_rw Wr = false
-is_rw Rw = true
-
--- t and u are linked in the list
-abbrev pub AreLinked : List Link → ℕ → ℕ → Type 0
-AreLinked links t u = Contains links (record { at = t; other = u })
-
--- these links are those of t, which stand side by side
-abbrev pub AreLinksAt : List Link → ℕ → List Link → Type 0
-AreLinksAt links t group = IsGroup (λ l. l.at) links t group
+-- a source is a committed transaction of what was written and seen
+pub record IsSource (s : Source) : Type 0 where
+  pub evidence : IsEvidence s.evidence.now
+  pub txn : (t : ℕ) × IsCommittedAt s.evidence.now.index.now s.number t

@@ -2,14 +2,13 @@
 ghost use Rattle.std.specs.Prelude.{◌↔◌, IsTrue};
 ghost use Rattle.sia_graph.specs.Allowed.{IsAllowed, IsRwOverlap};
 
-use crate::pivot::leads_rw;
 use sia_index::Index;
-use sia_parts::Edge;
+use sia_parts::{Edge, Kind};
 
-fn is_rw_overlap(ix: &Index, e: &Edge) -> bool
+pub(crate) fn is_rw_overlap(ix: &Index, e: &Edge) -> bool
     ensures { IsTrue result ↔ IsRwOverlap ix.now e.now }
 {
-    leads_rw(e.kind) && ix.overlap(e.src, e.dst)
+    matches!(e.kind, Kind::Rw) && ix.overlap(e.src, e.dst)
 }
 
 /// Whether of these edges, which lead round a cycle, two rw edges between overlapping transactions follow one another.

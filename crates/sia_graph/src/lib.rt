@@ -13,6 +13,7 @@ mod serial_replay;
 mod sparse;
 mod ssi;
 mod twos;
+mod vulnerable;
 
 pub use allowed::is_allowed;
 pub use cycle::{Step, Steps};
@@ -24,6 +25,6 @@ pub use laws::{
 };
 pub use listed_edges::settle;
 pub use order::Txns;
-pub use pivot::{Link, Pivot, pivots, pivots_of_links, put_vulnerable};
+pub use pivot::{Pivot, pivots, pivots_of};
 pub use serial_replay::{Mismatch, ReplayFault, replay};
 pub use ssi::{Dangerous, dangerous_of, passes, ssi_pass};

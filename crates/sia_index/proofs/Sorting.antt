@@ -4,3 +4,4 @@ pub mod Finding
 pub mod Offsets
 pub mod Points
 pub mod SideBySide
+pub mod SortedLists

@@ -1,5 +1,4 @@
 pub mod AccessRows
-pub mod ChunkBoundLemmas
 pub mod EdgeLists
 pub mod EdgeLoops
 pub mod EdgeNames
@@ -7,4 +6,5 @@ pub mod KeyEnds
 pub mod PositionEdges
 pub mod PositionOrder
 pub mod Readings
+pub mod Room
 pub mod Sources

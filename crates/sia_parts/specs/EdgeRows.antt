@@ -1,10 +1,13 @@
 -- The edges from one transaction as rows, by numbers, and what they are made from: the positions of what was written and seen.
-use Rattle.std.specs.Prelude.{◌≡◌, ◌≢◌, ◌⊎◌, ℕ, ◌+◌, ◌<◌, ◌≤◌, List, [], Contains, length, map, slice_index, slice_index_or}
+use Rattle.std.specs.Prelude.{◌≡◌, ◌≢◌, ◌⊎◌, ℕ, ◌+◌, ◌-◌, ◌*◌, ◌<◌, ◌≤◌, List, [], Contains, length, map, slice_index, slice_index_or, take, vec_capacity}
+use Rattle.std.specs.Global.{Vec}
+use Rattle.std.specs.List.Sorted.{IsNonDecreasingBy}
 use Rattle.sia_events.specs.declared.event.Event.{Event}
 use Rattle.sia_events.specs.Lists.{ListsAscending, ListsBy}
 use Rattle.sia_events.specs.Transactions.{IsCommitted}
 use Rattle.sia_index.specs.declared.info.KeyVersion.{KeyVersion}
 use Rattle.sia_index.specs.Info.{AreWrittenKeys, IsKeyAt}
+use Rattle.sia_index.specs.Lists.{joined}
 use Rattle.sia_index.specs.Numbers.{IsCommittedAt}
 use Rattle.sia_index.specs.Positions.{ArePositions, HasPosition, IsAtPosition}
 use Rattle.sia_parts.specs.declared.accesses.RangeMiss.{RangeMiss}
@@ -18,6 +21,7 @@ use Rattle.sia_parts.specs.declared.finding.Kind.TheVariants.{Ww, Wr, Rw}
 use Rattle.sia_parts.specs.Accesses.{AreAccesses, Missed, SawPosition}
 use Rattle.sia_parts.specs.Entries.{IsEdge, edge_rank}
 use Rattle.sia_parts.specs.Parts.{IsWithin}
+use Rattle.sia_parts.specs.Sights.{Adds}
 
 -- the row by names, from this source
 abbrev pub edge_of : List ℕ → List ℕ → ℕ → EdgeTo → Edge
@@ -74,10 +78,41 @@ pub record AreReadings (h : List Event) (a : Accesses) (readings : List (List Re
   pub seen : (p : ℕ) (reading : Reading) → Contains (slice_index_or readings p []) reading → (reading.position ≡ p) × SawPosition a reading.reader p
   pub newest : (u q : ℕ) → SawPosition a u q → (p : ℕ) × StandsBehind h q p × HasReading readings p u
 
+-- what number i saw, and what it passed over
+abbrev pub saw_by : Edges → ℕ → List ℕ
+saw_by edges i = slice_index_or edges.accesses.saw i []
+
+abbrev pub missed_by : Edges → ℕ → List RangeMiss
+missed_by edges i = slice_index_or edges.accesses.missed i []
+
+-- how many are noted before position q, and from one to before another
+abbrev pub noted_before : List (List Reading) → ℕ → ℕ
+noted_before readings q = length (joined (take q readings))
+
+abbrev pub noted_between : List (List Reading) → ℕ → ℕ → ℕ
+noted_between readings q e = noted_before readings e - noted_before readings q
+
+-- how many rows there are from one source at most: for each position three to its maker, which are of what the source made, saw
+-- and passed over, and one for each who is noted
+abbrev pub row_bound : Edges → ℕ
+row_bound edges = 3 * length edges.readings + length (joined edges.readings)
+
+-- there is room for so many rows more
+abbrev pub HasRoom : ℕ → Vec EdgeTo → Type 0
+HasRoom n rows = length rows.items + n ≤ vec_capacity rows
+
+-- the list has what has P more, which are so many at most, in the same room
+pub record Puts (P : EdgeTo → Type 0) (most : ℕ) (old new : Vec EdgeTo) : Type 0 where
+  pub adds : Adds P old.items new.items
+  pub few : length new.items ≤ length old.items + most
+  pub room : vec_capacity new ≡ vec_capacity old
+
 -- edges can be told from it
 pub record CanTell (edges : Edges) : Type 0 where
-  pub accesses : AreAccesses edges.index.now (IsWithin edges.within) edges.accesses.now
-  pub readings : AreReadings edges.index.now edges.accesses.now edges.readings
+  pub accesses : AreAccesses edges.index.now (IsWithin edges.within) edges.accesses
+  pub saw_rise : (i : ℕ) → IsNonDecreasingBy (λ q. q) (saw_by edges i)
+  pub missed_rise : (i : ℕ) → IsNonDecreasingBy (λ miss. miss.from) (missed_by edges i)
+  pub readings : AreReadings edges.index.now edges.accesses edges.readings
 
 -- the new list has readings of u more: each of a position that it saw, and of each that it saw one of that or of a newer one
 pub record ReadsMore (h : List Event) (u : ℕ) (Saw : ℕ → Type 0) (old new : List Reading) : Type 0 where
@@ -85,15 +120,9 @@ pub record ReadsMore (h : List Event) (u : ℕ) (Saw : ℕ → Type 0) (old new 
   pub each : (reading : Reading) → Contains new reading → Contains old reading ⊎ ((reading.reader ≡ u) × Saw reading.position)
   pub newest : (q : ℕ) → Saw q → (p : ℕ) × StandsBehind h q p × Contains new (record { position = p; reader = u })
 
--- what number i saw, and what it passed over
-abbrev pub saw_by : Edges → ℕ → List ℕ
-saw_by edges i = slice_index_or edges.accesses.now.saw i []
-
-abbrev pub missed_by : Edges → ℕ → List RangeMiss
-missed_by edges i = slice_index_or edges.accesses.now.missed i []
-
 -- the positions of the key that q is of end before e
 pub record IsKeyEnd (h : List Event) (q e : ℕ) : Type 0 where
+  pub of : (j : ℕ) × IsOfKey h j q
   pub there : (p : ℕ) → q ≤ p → p < e → HasPosition h p
   pub own : (j p : ℕ) → IsOfKey h j q → q ≤ p → p < e → IsOfKey h j p
   pub past : (j p : ℕ) → IsOfKey h j q → IsOfKey h j p → p < e

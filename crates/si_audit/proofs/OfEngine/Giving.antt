@@ -1,30 +1,38 @@
--- What is left of sheets, and what a piece takes of it.
-use Rattle.std.proofs.Common.{◌≡◌, ℕ, ◌+◌, ◌-◌, ◌<◌, ◌≤◌, List, ◌++◌, length, take, drop, get_or, append-nil, ap, sym, ◌∙◌, append_assoc, take-append-drop, arith}
-use Rattle.std.specs.Global.{Vec}
-use Rattle.std.proofs.Math.Seq.{drop-drop}
-use Rattle.std.proofs.lemmas.List.{at_drop_more, drop-append-le}
-use Rattle.std.proofs.lemmas.Grind.{common_steps}
-use Rattle.si_audit.specs.Engine.{rest_from}
-use Rattle.si_audit.specs.Sheets.{text_of}
+-- What a report has, and what is left of it where a piece was given.
+use Rattle.std.proofs.Common.{◌≡◌, ℕ, List, [], ◌++◌, flat_map, length, refl, ap, sym, ◌∙◌, append_assoc, arith}
+use Rattle.std.specs.Prelude.{⊤}
+use Rattle.std.proofs.lemmas.List.{get_or_default}
+use Rattle.sia_events.specs.declared.event.Event.{Event}
+use Rattle.sia_events.specs.declared.event.Event.TheVariants.{Commit}
+use Rattle.sia_events.specs.Lists.{ListsAscending}
+use Rattle.sia_events.specs.Transactions.{IsCommitted}
+use Rattle.sia_events.proofs.Shared.TransactionDecisions.{committed_or_not}
+use Rattle.sia_parts.specs.declared.finding.Edge.{Edge}
+use Rattle.sia_parts.specs.EdgeRows.{ListsEdgesBetween}
+use Rattle.sia_parts.specs.Findings.{ListsEdges}
+use Rattle.si_audit.specs.EdgeLines.{AreLinesFrom}
+use Rattle.si_audit.specs.Lines.{edge_line}
+use Rattle.si_audit.proofs.OfLaws.VerdictExists.{kind_joins, txns_listed}
 
-module _ (sheets : List (Vec ℕ)) (i at : ℕ) (d : Vec ℕ) (inside : i < length sheets) where
-  -- a sheet, and those behind it
-  pub from_sheet : text_of (drop i sheets) ≡ (get_or sheets i d).items ++ text_of (drop (i + 1) sheets)
-  from_sheet = at_drop_more text_of sheets i d inside
+-- all edges are those of all sources
+between_all : (h : List Event) (txns : List ℕ) → ListsAscending (IsCommitted h) txns → (edges : List Edge) → ListsEdges h (λ _. ⊤) edges → ListsEdgesBetween h (λ _. ⊤) 0 (length txns) edges
+between_all h txns are edges all = record {
+  ascending = all.ascending;
+  each = λ e. (
+    (λ c. (
+        let is = (all.each e).0 c in
+        let at = (are.each e.src).1 (kind_joins h e.kind e.src e.dst e.key is.0).0 in
+        (is.0, is.1, at.0, omega arith, (let below = at.1 in omega arith), (txns, are, at.1, get_or_default txns at.0 0 e.src at.1 ∙ at.2)))),
+    (λ is. (all.each e).1 (is.0, is.1)),
+  );
+}
 
-  pub on_sheet : text_of (take 1 (drop i sheets)) ≡ (get_or sheets i d).items
-  on_sheet = at_drop_more (λ (xs : List (Vec ℕ)). text_of (take 1 xs)) sheets i d inside ∙ append-nil (get_or sheets i d).items
+pub lines_of_all : (h : List Event) (edges : List Edge) → ListsEdges h (λ _. ⊤) edges → AreLinesFrom h 0 (flat_map edge_line edges)
+lines_of_all h edges all =
+    let txns = txns_listed h (IsCommitted h) (committed_or_not h) (λ t c. (c.0, Commit t, c.1, refl)) in
+    (txns.0, txns.1, edges, between_all h txns.0 txns.1 edges all, refl)
 
-  -- a piece of the sheet, and what is left then
-  pub given : (n : ℕ) → at + n ≤ length (get_or sheets i d).items → rest_from sheets i at ≡ take n (drop at (get_or sheets i d).items) ++ rest_from sheets i (at + n)
-  given n within =
-      let items = (get_or sheets i d).items in
-      let behind = text_of (drop (i + 1) sheets) in
-      ap (drop at) from_sheet ∙ drop-append-le at items behind (omega arith)
-      ∙ ap (λ (xs : List ℕ). xs ++ behind) (sym (take-append-drop n (drop at items)) ∙ ap (λ (xs : List ℕ). take n (drop at items) ++ xs) (drop-drop n at items))
-      ∙ append_assoc (take n (drop at items)) (drop (at + n) items) behind
-      ∙ ap (λ (xs : List ℕ). take n (drop at items) ++ xs) (sym (ap (drop (at + n)) from_sheet ∙ drop-append-le (at + n) items behind within))
-
--- what is read from a place to the end is what is left there
-pub piece_of : (xs : List ℕ) (at n : ℕ) → take n (take (length xs - at) (drop at xs)) ≡ take n (drop at xs)
-piece_of xs at n = let all : take (length xs - at) (drop at xs) ≡ drop at xs = grind (arith, common_steps) in ap (take n) all
+-- a piece of these lines, before which nothing is left
+pub lines_given : (bytes front lines none back p rest : List ℕ) → bytes ≡ front ++ lines ++ back → front ≡ [] → none ≡ [] → lines ≡ p ++ rest → bytes ≡ p ++ (none ++ rest ++ back)
+lines_given bytes front lines none back p rest all before now split =
+    all ∙ (λ i. before i ++ split i ++ back) ∙ append_assoc p rest back ∙ sym (ap (λ (xs : List ℕ). p ++ (xs ++ rest ++ back)) now)

@@ -49,7 +49,7 @@ module _ (h : List Event) (P : ℕ → Type 0) (decide : (t : ℕ) → Decided (
       decided_alike ((p : ℕ) × (e : Event) × (at_place h p ≡ Some e) × P (actor e)) ((t : ℕ) × P t) (λ w. (actor w.1, w.3)) (λ w. let c = committed w.0 w.1 in (c.0, Commit w.0, c.1, w.1))
       (event_decided (λ e. P (actor e)) (λ e. decide (actor e)) h)
 
-kind_joins : (h : List Event) (kind : Kind) (t u k : ℕ) → EdgeOfKind h kind t u k → IsCommitted h t × IsCommitted h u
+pub kind_joins : (h : List Event) (kind : Kind) (t u k : ℕ) → EdgeOfKind h kind t u k → IsCommitted h t × IsCommitted h u
 kind_joins h Ww t u k e = ((e.2.0, e.2.2), (e.2.1, e.2.3))
 kind_joins h Wr t u k e = (e.1.1, e.2)
 kind_joins h Rw t u k e = (e.1, e.2.1)

@@ -1,44 +1,31 @@
--- Dangerous structures of a well-formed history, told by rw edges, overlaps and commits.
-use Rattle.std.proofs.Common.{◌≡◌, ◌↔◌, ◌⊎◌, inl, inr, ℕ, cond, ◌+◌, ◌<◌, ◌≤◌, List, [], length, get_or, refl, ap, sym, ◌∙◌, subst, arith}
-use Rattle.std.specs.Prelude.{All, Contains, ⊤}
-use Rattle.std.specs.Ordering.{nat_cmp, ord_max, is_lt}
+-- Vulnerable edges of a well-formed history by the numbers of their ends, and the firsts of dangerous structures by commits.
+use Rattle.std.proofs.Common.{◌≡◌, inl, inr, ℕ, ◌-◌, ◌<◌, ◌≤◌, List, [], ◌∷◌, length, get_or, map, min, refl, sym, subst, ◌∙◌, arith}
+use Rattle.std.specs.Prelude.{◌↔◌, ⊤, AllPairs, Contains, slice_index}
 use Rattle.std.proofs.lemmas.Bool.{cases_lt}
-use Rattle.std.proofs.lemmas.Cmp.{ranked, by_ranked}
-use Rattle.std.proofs.lemmas.List.{get_or_default}
-use Rattle.std.proofs.lemmas.List.Elements.{All-contains}
+use Rattle.std.proofs.lemmas.List.{get_or-map, length-map}
+use Rattle.std.proofs.lemmas.List.Elements.{Contains-get_or}
 use Rattle.sia_events.specs.declared.event.Event.{Event}
-use Rattle.sia_events.specs.declared.event.Event.TheVariants.{Commit}
 use Rattle.sia_events.specs.Refusals.{IsWellFormed}
-use Rattle.sia_events.specs.Transactions.{CommitsAt, IsCommitted, Overlap, CommitsBefore}
-use Rattle.sia_events.specs.Lists.{ListsAscending}
-use Rattle.sia_events.specs.DangerousStructures.{IsVulnerable, IsFirst}
+use Rattle.sia_events.specs.Transactions.{CommitsAt, IsCommitted, Overlap}
+use Rattle.sia_events.specs.Lists.{ListsAscending, Precedes}
+use Rattle.sia_events.specs.DangerousStructures.{IsFirst, IsPivot, IsVulnerable}
 use Rattle.sia_events.proofs.Writing.WellFormed.{one_commit}
 use Rattle.sia_events.proofs.OfLaws.Endings.{one_committer}
+use Rattle.sia_events.proofs.OfLaws.Looks.{commits_above}
+use Rattle.sia_index.specs.declared.info.Lifetime.{Lifetime}
+use Rattle.sia_index.specs.Lifetimes.{IsLifetime}
+use Rattle.sia_index.specs.Numbers.{IsCommittedAt}
 use Rattle.sia_parts.specs.declared.finding.Edge.{Edge}
 use Rattle.sia_parts.specs.declared.finding.Kind.TheVariants.{Rw}
 use Rattle.sia_parts.specs.Entries.{EdgeOfKind}
 use Rattle.sia_parts.specs.Findings.{ListsEdges}
-use Rattle.sia_graph.specs.declared.pivot.Link.{Link}
-use Rattle.sia_graph.specs.Links.{AreEnds, AreVulnerable, HasRw}
-use Rattle.sia_graph.proofs.Shared.Facts.{from_one}
-
--- an rw edge among all edges, between overlapping transactions, is a vulnerable one
-pub vulnerable_by : (h : List Event) (edges : List Edge) → ListsEdges h (λ _. ⊤) edges → (t u : ℕ) → (HasRw edges t u × Overlap h t u) ↔ IsVulnerable h t u
-vulnerable_by h edges l t u = (
-  (λ (has, over).
-      let e = has.0 in
-      let is : EdgeOfKind h e.kind e.src e.dst e.key = ((l.each e).0 has.1).0 in
-      (over, e.key, subst (λ n. EdgeOfKind h Rw t n e.key) has.4 (subst (λ n. EdgeOfKind h Rw n e.dst e.key) has.3 (subst (λ k. EdgeOfKind h k e.src e.dst e.key) has.2 is)))),
-  (λ (over, key, rw_edge).
-      let e : Edge = record { src = t; kind = Rw; dst = u; key = key } in
-      ((e, (l.each e).1 (rw_edge, tt), refl, refl, refl), over)),
-)
-
--- so the ends of all edges are the vulnerable pairs
-pub all_vulnerable : (h : List Event) (edges : List Edge) → ListsEdges h (λ _. ⊤) edges → (links : List Link) → AreEnds (Overlap h) edges links → AreVulnerable h links
-all_vulnerable h edges l links are k =
-    let by = vulnerable_by h edges l k.at k.other in
-    ((λ c. by.0 ((are k).0 c)), (λ v. (are k).1 (by.1 v)))
+use Rattle.sia_parts.specs.Sights.{FromSome}
+use Rattle.sia_graph.specs.declared.vulnerable.Link.{Link}
+use Rattle.sia_graph.specs.Late.{IsLastOf}
+use Rattle.sia_graph.specs.Links.{IsVulnerableAt, ListsLinks, link_rank}
+use Rattle.sia_graph.proofs.Shared.Numbered.{number_of, txn_number}
+use Rattle.sia_graph.proofs.Shared.PositionEdges.{one_txn_at}
+use Rattle.sia_graph.proofs.OfPivots.ListedAs.{mapped}
 
 -- both ends of a vulnerable edge committed
 pub target_committed : (h : List Event) (t u : ℕ) → IsVulnerable h t u → IsCommitted h u
@@ -47,112 +34,137 @@ target_committed h t u v = let s = v.0.0 in (s.1, s.3)
 pub source_committed : (h : List Event) (t u : ℕ) → IsVulnerable h t u → IsCommitted h t
 source_committed h t u v = let s = v.0.1 in (s.1, s.3)
 
--- what commits before one place and no later than another
-abbrev pub CommitsBy : List Event → ℕ → ℕ → ℕ → Type 0
-CommitsBy h own last u = (c : ℕ) × CommitsAt h u c × (c < own) × (c ≤ last)
+-- the link is that of an edge of the kind rw whose ends overlap
+abbrev pub IsLinkOf : List Event → Edge → Link → Type 0
+IsLinkOf h e l = (e.kind ≡ Rw) × Overlap h e.src e.dst × IsCommittedAt h l.at e.src × IsCommittedAt h l.other e.dst
 
--- the greater of two numbers, as `max` tells it
-pub max_is : (a b : ℕ) → ((a ≤ b) × (ord_max nat_cmp a b ≡ b)) ⊎ ((b ≤ a) × (ord_max nat_cmp a b ≡ a))
-max_is a b = by_ranked (b < a) (b ≡ a) (a < b) (nat_cmp b a) (ranked b a (nat_cmp b a) refl)
-    (λ is below. inr (omega arith, ap (λ o. cond (is_lt o) a b) is))
-    (λ is same. inl (omega arith, ap (λ o. cond (is_lt o) a b) is))
-    (λ is above. inl (omega arith, ap (λ o. cond (is_lt o) a b) is))
+-- of all edges those are the vulnerable ones
+pub links_of_edges : (h : List Event) (edges : List Edge) → ListsEdges h (λ _. ⊤) edges → (l : Link) → FromSome (IsLinkOf h) edges l ↔ IsVulnerableAt h l.at l.other
+links_of_edges h edges all l = (
+  (λ f.
+      let e = f.0 in
+      let is : EdgeOfKind h e.kind e.src e.dst e.key = ((all.each e).0 f.1).0 in
+      (e.src, e.dst, f.2.2, f.2.3, (f.2.1, e.key, subst (λ k. EdgeOfKind h k e.src e.dst e.key) f.2.0 is))),
+  (λ v.
+      let e : Edge = record { src = v.0; kind = Rw; dst = v.1; key = v.4.1 } in
+      (e, (all.each e).1 (v.4.2, tt), (refl, v.4.0, v.2, v.3))),
+)
 
--- the greatest commit among the first n of the transactions
-abbrev pub IsLastTo : List Event → List ℕ → ℕ → ℕ → Type 0
-IsLastTo h txns n last = ((i : ℕ) → i < n → (c : ℕ) → CommitsAt h (get_or txns i 0) c → c ≤ last)
-    × ((last ≡ 0) ⊎ ((i : ℕ) × (i < n) × CommitsAt h (get_or txns i 0) last))
+-- the commit of the link's source
+abbrev pub CommitsIn : List Lifetime → Link → ℕ → Type 0
+CommitsIn lifetimes l y = (get_or lifetimes l.at (record { start = 0; commit = 0 })).commit ≡ y
 
-module _ (h : List Event) (wf : IsWellFormed h) where
-  -- a commit within bounds
-  pub within_bounds : (t c own last : ℕ) → CommitsAt h t c → CommitsBy h own last t → (c < own) × (c ≤ last)
-  within_bounds t c own last at (d, is, early, late) = let same : d ≡ c = one_commit h wf t d c is at in (omega arith, omega arith)
-
-  -- one more, which commits
-  pub last_more : (txns : List ℕ) (n last c next : ℕ) → IsLastTo h txns n last → CommitsAt h (get_or txns n 0) c → ((last ≤ c) × (next ≡ c)) ⊎ ((c ≤ last) × (next ≡ last)) → IsLastTo h txns (n + 1) next
-  last_more txns n last c next is at which = (
-    (λ i l d commits. elim (cases_lt i n) [
-      | inl less ↦ let below : d ≤ last = is.0 i less d commits in elim which [ inl w ↦ let a = w.0 in let b = w.1 in omega arith | inr w ↦ let a = w.0 in let b = w.1 in omega arith ]
-      | inr more ↦
-          let same : i ≡ n = omega arith in
-          let one : d ≡ c = one_commit h wf (get_or txns n 0) d c (subst (λ j. CommitsAt h (get_or txns j 0) d) same commits) at in
-          elim which [ inl w ↦ let a = w.0 in let b = w.1 in omega arith | inr w ↦ let a = w.0 in let b = w.1 in omega arith ]
-    ]),
-    elim which [
-      | inl w ↦ inr (n, omega arith, subst (CommitsAt h (get_or txns n 0)) (sym w.1) at)
-      | inr w ↦ elim is.1 [
-        | inl none ↦ inl (w.1 ∙ none)
-        | inr some ↦ inr (some.0, (let l = some.1 in omega arith), subst (CommitsAt h (get_or txns some.0 0)) (sym w.1) some.2)
-      ]
-    ],
-  )
-
-  -- one more, which doesn't
-  pub last_same : (txns : List ℕ) (n last : ℕ) → IsLastTo h txns n last → ¬ IsCommitted h (get_or txns n 0) → IsLastTo h txns (n + 1) last
-  last_same txns n last is none = (
-    (λ i l d commits. elim (cases_lt i n) [
-      | inl less ↦ is.0 i less d commits
-      | inr more ↦ let same : i ≡ n = omega arith in absurd (none (d, subst (λ j. CommitsAt h (get_or txns j 0) d) same commits))
-    ]),
-    elim is.1 [
-      | inl zero_ ↦ inl zero_
-      | inr some ↦ inr (some.0, (let l = some.1 in omega arith), some.2)
-    ],
-  )
-
-  -- over all of them
-  pub last_all : (txns : List ℕ) (n last : ℕ) → length txns ≤ n → IsLastTo h txns n last → All (λ t. (c : ℕ) → CommitsAt h t c → c ≤ last) txns
-  last_all txns n last long is i d l c at = is.0 i (omega arith) c (subst (λ t. CommitsAt h t c) (get_or_default txns i d 0 l) at)
-
-  -- commits compared by their places
-  pub before_by : (t u c d : ℕ) → CommitsAt h t c → CommitsAt h u d → CommitsBefore h t u ↔ (c < d)
-  before_by t u c d a b = (
-    (λ w.
-        let x : w.0 ≡ c = one_commit h wf t w.0 c w.2 a in
-        let y : w.1 ≡ d = one_commit h wf u w.1 d w.3 b in
-        let less = w.4 in
-        omega arith),
-    (λ less. (c, d, a, b, less)),
-  )
-
-  module _ (txn own last : ℕ) (ins : List ℕ) (own_at : CommitsAt h txn own) (are_ins : ListsAscending (λ t. IsVulnerable h t txn) ins)
-      (greatest : All (λ t. (c : ℕ) → CommitsAt h t c → c ≤ last) ins) (attained : (last ≡ 0) ⊎ ((t : ℕ) × Contains ins t × CommitsAt h t last)) where
-    -- what commits first does so before the pivot, and no later than the last of those with an edge to it
-    pub first_by : (u : ℕ) → (IsVulnerable h txn u × CommitsBy h own last u) ↔ IsFirst h txn u
-    first_by u = (
-      (λ (v, (c, at, early, within)).
-          let w : (in_from : ℕ) × IsVulnerable h in_from txn × ((u ≡ in_from) ⊎ CommitsBefore h u in_from) = elim attained [
-            | inl none ↦ absurd (let some = from_one h c (Commit u) at in omega arith)
-            | inr w ↦ (
-              w.0,
-              (are_ins.each w.0).0 w.1,
-              elim (cases_lt c last) [
-                | inl less ↦ inr ((before_by u w.0 c last at w.2).1 less)
-                | inr more ↦ let same : c ≡ last = omega arith in inl (one_committer h u w.0 last (subst (CommitsAt h u) same at) w.2)
-              ],
-            )
-          ] in
-          (v, (before_by u txn c own at own_at).1 early, w.0, w.1, w.2)),
-      (λ (v, early, in_from, into, or).
-          let at = target_committed h txn u v in
-          let d = source_committed h in_from txn into in
-          let below : d.0 ≤ last = All-contains (λ t. (c : ℕ) → CommitsAt h t c → c ≤ last) ins in_from greatest ((are_ins.each in_from).1 into) d.0 d.1 in (
-            v,
-            (
-              at.0,
-              at.1,
-              (before_by u txn at.0 own at.1 own_at).0 early,
-              elim or [
-                | inl same ↦ let e : at.0 ≡ d.0 = one_commit h wf u at.0 d.0 at.1 (subst (λ t. CommitsAt h t d.0) (sym same) d.1) in omega arith
-                | inr less ↦ let l = (before_by u in_from at.0 d.0 at.1 d.1).0 less in omega arith
-              ],
-            ),
-          )),
-    )
-
--- what doesn't commit has no first
-pub none_first : (h : List Event) (txn : ℕ) → ¬ IsCommitted h txn → ListsAscending (IsFirst h txn) []
-none_first h txn none = record {
-  ascending = λ i j d less below. absurd (omega arith);
-  each = λ u. ((λ c. absurd (let below = c.1 in omega arith)), (λ first. absurd (none (source_committed h txn u first.0))));
+-- the names of the ends ascend, and are those that have Q
+pub names_listed : (h : List Event) (txns : List ℕ) → ListsAscending (IsCommitted h) txns → (by : Link → ℕ) (links : List Link) → AllPairs (λ k l. by k < by l) links → (Q : ℕ → Type 0)
+    → ((l : Link) → Contains links l → (u : ℕ) × IsCommittedAt h (by l) u × Q u) → ((u : ℕ) → Q u → (l : Link) × Contains links l × IsCommittedAt h (by l) u)
+    → ListsAscending Q (map (λ l. slice_index txns (by l)) links)
+names_listed h txns are by links up Q each has = record {
+  ascending = λ i j d less below.
+      let e : Link = record { at = 0; other = 0 } in
+      let more : j < length links = omega (arith, length-map links (λ (k : Link). slice_index txns (by k))) in
+      let first = get_or-map (λ (k : Link). slice_index txns (by k)) links i e d (omega arith) in
+      let second = get_or-map (λ (k : Link). slice_index txns (by k)) links j e d more in
+      let last = each (get_or links j e) (Contains-get_or links j e more) in
+      let within = (txn_number h txns are (by (get_or links j e)) last.0 last.1).0 in
+      let under = up i j e less more in
+      subst (λ n. Precedes (get_or (map (λ (k : Link). slice_index txns (by k)) links) i d ∷ []) (n ∷ [])) (sym second)
+      (subst (λ n. Precedes (n ∷ []) (slice_index txns (by (get_or links j e)) ∷ [])) (sym first) (are.ascending (by (get_or links i e)) (by (get_or links j e)) 0 under within));
+  each = λ u. (
+    (λ c.
+        let w = (mapped (λ (k : Link). slice_index txns (by k)) links u).0 c in
+        let q = each w.0 w.1 in
+        subst Q (sym (txn_number h txns are (by w.0) q.0 q.1).1 ∙ w.2) q.2),
+    (λ q.
+        let w = has u q in
+        (mapped (λ (k : Link). slice_index txns (by k)) links u).1 (w.0, w.1, (txn_number h txns are (by w.0) u w.2).1)),
+  );
 }
+
+module _ (h : List Event) (n t : ℕ) (at : IsCommittedAt h n t) (txns : List ℕ) (are : ListsAscending (IsCommitted h) txns) where
+  -- so the sources of the vulnerable edges to number n, and the targets of those from it
+  pub ins_named : (ins : List Link) → ListsLinks (λ i j. (j ≡ n) × IsVulnerableAt h i j) ins → ListsAscending (λ u. IsVulnerable h u t) (map (λ l. slice_index txns l.at) ins)
+  ins_named ins l = names_listed h txns are (λ k. k.at) ins
+      (λ i j d less below. of_ranks (get_or ins i d) (get_or ins j d) ((l.each (get_or ins i d)).0 (Contains-get_or ins i d (omega arith))).0 ((l.each (get_or ins j d)).0 (Contains-get_or ins j d below)).0 (l.ascending i j d less below))
+      (λ u. IsVulnerable h u t)
+      (λ k c. let v = (l.each k).0 c in (v.1.0, v.1.2, subst (IsVulnerable h v.1.0) (one_txn_at h n v.1.1 t (subst (λ m. IsCommittedAt h m v.1.1) v.0 v.1.3) at) v.1.4))
+      (λ u v. let i = number_of h txns are u (source_committed h u t v) in (record { at = i.0; other = n }, (l.each (record { at = i.0; other = n })).1 (refl, (u, t, i.1, at, v)), i.1))
+    where
+      of_ranks : (j k : Link) → j.other ≡ n → k.other ≡ n → Precedes (link_rank j) (link_rank k) → j.at < k.at
+      of_ranks j k a b (inl less) = less
+      of_ranks j k a b (inr (same, inl less)) = absurd (omega arith)
+      of_ranks j k a b (inr (same, inr none)) = absurd none.1
+
+  pub outs_named : (outs : List Link) → ListsLinks (λ i j. (i ≡ n) × IsVulnerableAt h i j) outs → ListsAscending (IsVulnerable h t) (map (λ l. slice_index txns l.other) outs)
+  outs_named outs l = names_listed h txns are (λ k. k.other) outs
+      (λ i j d less below. of_ranks (get_or outs i d) (get_or outs j d) ((l.each (get_or outs i d)).0 (Contains-get_or outs i d (omega arith))).0 ((l.each (get_or outs j d)).0 (Contains-get_or outs j d below)).0 (l.ascending i j d less below))
+      (IsVulnerable h t)
+      (λ k c. let v = (l.each k).0 c in (v.1.1, v.1.3, subst (λ u. IsVulnerable h u v.1.1) (one_txn_at h n v.1.0 t (subst (λ m. IsCommittedAt h m v.1.0) v.0 v.1.2) at) v.1.4))
+      (λ u v. let j = number_of h txns are u (target_committed h t u v) in (record { at = n; other = j.0 }, (l.each (record { at = n; other = j.0 })).1 (refl, (t, u, at, j.1, v)), j.1))
+    where
+      of_ranks : (j k : Link) → j.at ≡ n → k.at ≡ n → Precedes (link_rank j) (link_rank k) → j.other < k.other
+      of_ranks j k a b (inl less) = absurd (omega arith)
+      of_ranks j k a b (inr (same, inl less)) = less
+      of_ranks j k a b (inr (same, inr none)) = absurd none.1
+
+  -- it is a pivot exactly if there are edges of both sorts
+  pub is_pivot : (ins outs : List Link) → ListsLinks (λ i j. (j ≡ n) × IsVulnerableAt h i j) ins → ListsLinks (λ i j. (i ≡ n) × IsVulnerableAt h i j) outs
+      → (((k : Link) × Contains ins k) × ((k : Link) × Contains outs k)) ↔ IsPivot h t
+  is_pivot ins outs l m = (
+    (λ w.
+        let v = (l.each w.0.0).0 w.0.1 in
+        let x = (m.each w.1.0).0 w.1.1 in (
+          (v.1.0, subst (IsVulnerable h v.1.0) (one_txn_at h n v.1.1 t (subst (λ m. IsCommittedAt h m v.1.1) v.0 v.1.3) at) v.1.4),
+          (x.1.1, subst (λ u. IsVulnerable h u x.1.1) (one_txn_at h n x.1.0 t (subst (λ m. IsCommittedAt h m x.1.0) x.0 x.1.2) at) x.1.4),
+        )),
+    (λ is.
+        let i = number_of h txns are is.0.0 (source_committed h is.0.0 t is.0.1) in
+        let j = number_of h txns are is.1.0 (target_committed h t is.1.0 is.1.1) in (
+          (record { at = i.0; other = n }, (l.each (record { at = i.0; other = n })).1 (refl, (is.0.0, t, i.1, at, is.0.1))),
+          (record { at = n; other = j.0 }, (m.each (record { at = n; other = j.0 })).1 (refl, (t, is.1.0, at, j.1, is.1.1))),
+        )),
+  )
+
+  -- what commits first does so before the pivot, and no later than the last of those with an edge to it
+  module _ (wf : IsWellFormed h) (lifetimes : List Lifetime) (live : (i u : ℕ) → IsCommittedAt h i u → (i < length lifetimes) × ((d : Lifetime) → IsLifetime h u (get_or lifetimes i d)))
+      (own last : ℕ) (commits : CommitsAt h t own) (ins : List Link) (l : ListsLinks (λ i j. (j ≡ n) × IsVulnerableAt h i j) ins) (greatest : IsLastOf (FromSome (CommitsIn lifetimes) ins) last) where
+    pub first_by : (u e : ℕ) → IsVulnerable h t u → CommitsAt h u e → (e ≤ min last (own - 1)) ↔ IsFirst h t u
+    first_by u e v ends = (
+      (λ le.
+          let above = commits_above h u e ends in
+          let w = (greatest e above).0 (omega arith) in
+          let k = w.1.0 in
+          let x = (l.each k).0 w.1.1 in
+          let into = subst (IsVulnerable h x.1.0) (one_txn_at h n x.1.1 t (subst (λ m. IsCommittedAt h m x.1.1) x.0 x.1.3) at) x.1.4 in
+          let d = (live k.at x.1.0 x.1.2).1 (record { start = 0; commit = 0 }) in
+          let is = w.1.2 in
+          let most = w.2 in (
+            v,
+            (e, own, ends, commits, (let b = commits_above h t own commits in omega arith)),
+            x.1.0,
+            into,
+            elim (cases_lt e w.0) [
+              | inl less ↦ inr (e, w.0, ends, subst (CommitsAt h x.1.0) is d.1, less)
+              | inr more ↦ let same : e ≡ w.0 = omega arith in inl (one_committer h u x.1.0 w.0 (subst (CommitsAt h u) same ends) (subst (CommitsAt h x.1.0) is d.1))
+            ],
+          )),
+      (λ first.
+          let b = first.1 in
+          let one = one_commit h wf u b.0 e b.2 ends in
+          let two = one_commit h wf t b.1 own b.3 commits in
+          let early = b.4 in
+          let i = number_of h at.0 at.1 first.2 (source_committed h first.2 t first.3) in
+          let k : Link = record { at = i.0; other = n } in
+          let has = (l.each k).1 (refl, (first.2, t, i.1, at, first.3)) in
+          let d = (live i.0 first.2 i.1).1 (record { start = 0; commit = 0 }) in
+          let y = (get_or lifetimes i.0 (record { start = 0; commit = 0 })).commit in
+          let le : e ≤ y = elim first.4 [
+            | inl same ↦ let z = one_commit h wf u e y ends (subst (λ x. CommitsAt h x y) (sym same) d.1) in omega arith
+            | inr before ↦
+                let p = one_commit h wf u before.0 e before.2 ends in
+                let q = one_commit h wf first.2 before.1 y before.3 d.1 in
+                let less = before.4 in
+                omega arith
+          ] in
+          let most = (greatest e (commits_above h u e ends)).1 (y, (k, has, refl), le) in
+          omega arith),
+    )

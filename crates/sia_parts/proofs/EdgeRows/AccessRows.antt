@@ -1,26 +1,32 @@
 -- What one transaction saw and passed over, as the rows of its edges take it.
-use Rattle.std.proofs.Common.{◌≡◌, ◌⊎◌, inl, inr, ℕ, ◌+◌, ◌-◌, ◌<◌, ◌≤◌, List, [], ◌∷◌, ◌++◌, Some, length, take, max, ap, sym, subst, ◌∙◌, arith}
+use Rattle.std.proofs.Common.{◌≡◌, ◌⊎◌, inl, inr, ℕ, ◌+◌, ◌-◌, ◌<◌, ◌≤◌, List, [], ◌∷◌, ◌++◌, Some, length, take, max, false, refl, ap, sym, subst, ◌∙◌, arith}
 use Rattle.std.specs.Prelude.{All, Contains, slice_index, slice_index_or}
 use Rattle.std.specs.List.{slice_get}
-use Rattle.std.specs.List.Sorted.{IsNonDecreasingBy, IsPermutation}
+use Rattle.std.specs.List.Sorted.{IsNonDecreasingBy, IsSorted}
+use Rattle.std.specs.Ordering.{is_lt, nat_cmp, ordering_then}
+use Rattle.std.specs.declared.cmp.Ordering.{Ordering}
+use Rattle.std.specs.declared.cmp.Ordering.TheVariants.{Less, Equal, Greater}
 use Rattle.std.proofs.lemmas.Bool.{cases_lt}
 use Rattle.std.proofs.lemmas.List.{get_or-take, get_or_default, length-take, take_more}
 use Rattle.std.proofs.lemmas.List.Elements.{Contains-append_left, Contains-get_or, Contains-push, Contains-push_cases}
-use Rattle.std.proofs.lemmas.List.Sorted.{Contains-permutation, IsPermutation-sym}
-use Rattle.std.proofs.lemmas.Option.{get_or_from_slice_get, slice_get-get_or}
+use Rattle.std.proofs.lemmas.List.Sorted.{IsNonDecreasingBy-from_sort, Contains-permutation, IsPermutation-sym}
+use Rattle.std.proofs.lemmas.Option.{get_or_from_slice_get, slice_get-get_or, slice_get_within}
 use Rattle.sia_events.specs.declared.event.Event.{Event}
 use Rattle.sia_index.specs.Info.{HasKeyAt}
+use Rattle.sia_index.specs.Lists.{AreInOrder}
 use Rattle.sia_index.specs.Numbers.{IsCommittedAt}
 use Rattle.sia_index.specs.Positions.{HasPosition}
 use Rattle.sia_parts.specs.declared.accesses.Accesses.{Accesses}
 use Rattle.sia_parts.specs.declared.accesses.RangeMiss.{RangeMiss}
 use Rattle.sia_parts.specs.declared.edges.EdgeTo.{EdgeTo}
 use Rattle.sia_parts.specs.declared.edges.Reading.{Reading}
-use Rattle.sia_parts.specs.Accesses.{AreAccesses, HasMiss}
-use Rattle.sia_parts.specs.EdgeRows.{IsMissRow, ReadsMore, StandsBehind}
-use Rattle.sia_parts.specs.Sights.{Adds, FromSome}
-use Rattle.sia_parts.proofs.Shared.Adding.{FromFirst, adds_same, from_more}
+use Rattle.sia_parts.specs.Accesses.{AreAccesses, HasMiss, IsLook}
+use Rattle.sia_parts.specs.ByReader.{HasRow}
+use Rattle.sia_parts.specs.EdgeRows.{IsKeyEnd, IsMissRow, ReadsMore, StandsBehind}
+use Rattle.sia_parts.specs.Sights.{Adds}
+use Rattle.sia_parts.proofs.Shared.Adding.{FromFirst, from_more}
 use Rattle.sia_parts.proofs.EdgeRows.EdgeLoops.{ReachesTo, StandsFrom, adds_held}
+use Rattle.sia_parts.proofs.EdgeRows.Room.{key_stands}
 
 -- lists by number
 pub at_number : {A : Type 0} (lists : List (List A)) (i : ℕ) → i < length lists → (x : A) → Contains (slice_index_or lists i []) x → (list : List A) × (slice_get lists i ≡ Some list) × Contains list x
@@ -51,22 +57,86 @@ module _ (h : List Event) (Within : ℕ → Type 0) (a : Accesses) (are : AreAcc
       let is = (are.missed i last (miss, has, omega arith, omega arith)).3 in
       (is.0, is.1, (let inside = is.2 in omega arith))
 
--- what a sort leaves gives the same rows
-pub from_sorted : {A B : Type 0} (P : A → B → Type 0) (xs ys : List A) → IsPermutation xs ys → (old new : List B) → Adds (FromSome P ys) old new → Adds (FromSome P xs) old new
-from_sorted P xs ys moved old new = adds_same (FromSome P ys) (FromSome P xs) old new
-    (λ y f. (f.0, Contains-permutation ys xs f.0 (IsPermutation-sym xs ys moved) f.1, f.2))
-    (λ y f. (f.0, Contains-permutation xs ys f.0 moved f.1, f.2))
+-- accesses in order are of the same
+module _ {A : Type 0} (cmp : A → A → Ordering) (lists rows : List (List A)) (are : AreInOrder cmp lists rows) (i : ℕ) (x : A) where
+  ordered_to : HasRow lists i x → HasRow rows i x
+  ordered_to (list, is, c) = at_number rows i (let below = slice_get_within lists i list is in let long = are.long in omega arith) x
+      (Contains-permutation _ _ x (are.moved i) (of_number lists i x (list, is, c)))
 
--- what gives nothing that the one before doesn't
-pub from_same : {A B : Type 0} (P : A → B → Type 0) (xs : List A) (i : ℕ) (d : A) (old mid : List B) → 0 < i → i < length xs → ((y : B) → P (slice_index_or xs i d) y → P (slice_index_or xs (i - 1) d) y)
+  ordered_from : HasRow rows i x → HasRow lists i x
+  ordered_from (list, is, c) = at_number lists i (let below = slice_get_within rows i list is in let long = are.long in omega arith) x
+      (Contains-permutation _ _ x (IsPermutation-sym _ _ (are.moved i)) (of_number rows i x (list, is, c)))
+
+pub same_accesses : (h : List Event) (Within : ℕ → Type 0) (a b : Accesses) (cmp : ℕ → ℕ → Ordering) (by : RangeMiss → RangeMiss → Ordering) → AreInOrder cmp a.saw b.saw → AreInOrder by a.missed b.missed
+    → AreAccesses h Within a → AreAccesses h Within b
+same_accesses h Within a b cmp by saw missed are = record {
+  saw_long = λ txns list. saw.long ∙ are.saw_long txns list;
+  missed_long = λ txns list. missed.long ∙ are.missed_long txns list;
+  saw = λ i q is. (let look = are.saw i q (ordered_from cmp a.saw b.saw saw i q is) in (look.0, look.1, look.2, look_to i q look.0 look.1 look.2 look.3, look.4, look.5));
+  missed = λ i j is. are.missed i j (is.0, ordered_from by a.missed b.missed missed i is.0 is.1, is.2, is.3);
+  some = λ i miss has. are.some i miss (ordered_from by a.missed b.missed missed i miss has);
+  each = λ t k c u look wrote within. elim (are.each t k c u look wrote within) [
+    | inl at ↦ inl (at.0, at.1, look_to at.0 at.1 t k c at.2)
+    | inr at ↦ inr (
+      at.0,
+      at.1,
+      record {
+        txn = at.2.txn;
+        key = (let key = at.2.key in let miss = key.2 in (key.0, key.1, (miss.0, ordered_to by a.missed b.missed missed at.1 miss.0 miss.1, miss.2, miss.3)));
+      },
+    )
+  ];
+}
+  where
+    look_to : (i q t k c : ℕ) → IsLook h a i q t k c → IsLook h b i q t k c
+    look_to i q t k c look = record { saw = ordered_to cmp a.saw b.saw saw i q look.saw; txn = look.txn; version = look.version }
+
+-- range misses in order begin in order
+not_before : (a b : Ordering) → is_lt (ordering_then a b) ≡ false → is_lt a ≡ false
+not_before Less b is = is
+not_before Equal b is = refl
+not_before Greater b is = refl
+
+pub misses_rise : (xs : List RangeMiss) → IsSorted (λ x y. ordering_then (nat_cmp x.from y.from) (nat_cmp x.to y.to)) xs → IsNonDecreasingBy (λ (miss : RangeMiss). miss.from) xs
+misses_rise xs sorted = IsNonDecreasingBy-from_sort (λ (miss : RangeMiss). miss.from) xs (λ k d low below. not_before (nat_cmp (slice_index_or xs (k + 1) d).from (slice_index_or xs k d).from) _ (sorted k d low below))
+
+-- what stands at place n of a list, and what stands before it
+module _ {A : Type 0} (xs : List A) (n : ℕ) (d : A) (below : n < length xs) where
+  pub first_kept : (x : A) → Contains (take n xs) x → Contains (take (n + 1) xs) x
+  first_kept x c = subst (λ ys. Contains ys x) (sym (take_more xs n d below)) (Contains-append_left (take n xs) (slice_index_or xs n d ∷ []) x c)
+
+  pub first_last : Contains (take (n + 1) xs) (slice_index_or xs n d)
+  first_last = subst (λ ys. Contains ys (slice_index_or xs n d)) (sym (take_more xs n d below)) (Contains-push (take n xs) (slice_index_or xs n d))
+
+  pub first_below : (by : A → ℕ) → IsNonDecreasingBy by xs → (x : A) → Contains (take n xs) x → by x ≤ by (slice_index_or xs n d)
+  first_below by rise x c =
+      let long = length-take n xs in
+      let before : c.0 < n = (let b = c.1 in omega arith) in
+      let up = rise c.0 n d (omega arith) below in
+      let is = ap by (get_or_default xs c.0 d x (omega arith) ∙ sym (get_or-take n xs c.0 x before) ∙ c.2) in
+      omega arith
+
+-- what gives nothing that one before it doesn't
+pub from_held : {A B : Type 0} (P : A → B → Type 0) (xs : List A) (i : ℕ) (d : A) (old mid : List B) → i < length xs → (x : A) → Contains (take i xs) x → ((y : B) → P (slice_index_or xs i d) y → P x y)
     → Adds (FromFirst P xs i) old mid → Adds (FromFirst P xs (i + 1)) old mid
-from_same P xs i d old mid some below same before =
-    let at : i - 1 < i = omega arith in
-    from_more P xs i d old mid mid below before (adds_held (P (slice_index_or xs i d)) mid (λ y p. (before y).1 (inr (
-      slice_index_or xs (i - 1) d,
-      (i - 1, (let long = length-take i xs in omega arith), get_or-take i xs (i - 1) (slice_index_or xs (i - 1) d) at ∙ get_or_default xs (i - 1) (slice_index_or xs (i - 1) d) d (omega arith)),
-      same y p,
-    ))))
+from_held P xs i d old mid below x has same before = from_more P xs i d old mid mid below before (adds_held (P (slice_index_or xs i d)) mid (λ y p. (before y).1 (inr (x, has, same y p))))
+
+-- the end is that of the key of one of the first n positions, where there is one
+abbrev pub EndsKey : List Event → List ℕ → ℕ → ℕ → Type 0
+EndsKey h xs n end = 0 < end → (p : ℕ) × Contains (take n xs) p × IsKeyEnd h p end
+
+module _ (h : List Event) (xs : List ℕ) (n : ℕ) (below : n < length xs) where
+  pub ends_more : (end : ℕ) → IsKeyEnd h (slice_index xs n) end → EndsKey h xs (n + 1) end
+  ends_more end is some = (slice_index xs n, first_last xs n 0 below, is)
+
+  pub ends_same : (end : ℕ) → EndsKey h xs n end → EndsKey h xs (n + 1) end
+  ends_same end ends some = let is = ends some in (is.0, first_kept xs n 0 below is.0 is.1, is.2)
+
+  -- before the end a position of the key stands behind the one
+  pub ends_behind : IsNonDecreasingBy (λ q. q) xs → (end : ℕ) → EndsKey h xs n end → slice_index xs n < end → (p : ℕ) × Contains (take n xs) p × StandsBehind h p (slice_index xs n)
+  ends_behind rise end ends less =
+      let is = ends (omega arith) in
+      (is.0, is.1, key_stands h is.0 end is.2 (slice_index xs n) (first_below xs n 0 below (λ q. q) rise is.0 is.1) less)
 
 -- readings of positions, from the last one back
 module _ (h : List Event) (u : ℕ) (saw : List ℕ) (old : List Reading) where
@@ -122,14 +192,11 @@ module _ (h : List Event) (u : ℕ) (saw : List ℕ) (old : List Reading) where
       ];
     }
 
-  pub reads_all : (xs : List ℕ) → IsPermutation xs saw → (n : ℕ) → n ≡ 0 → (new : List Reading) → ReadsMore h u (StandsFrom saw n) old new → ReadsMore h u (Contains xs) old new
-  reads_all xs moved n zero new reads = record {
+  pub reads_all : (n : ℕ) → n ≡ 0 → (new : List Reading) → ReadsMore h u (StandsFrom saw n) old new → ReadsMore h u (Contains saw) old new
+  reads_all n zero new reads = record {
     keeps = reads.keeps;
-    each = λ reading c. elim (reads.each reading c) [
-      | inl first ↦ inl first
-      | inr is ↦ inr (is.0, Contains-permutation saw xs reading.position (IsPermutation-sym xs saw moved) (is.1.0, is.1.2, is.1.3))
-    ];
-    newest = λ q c. (let at = Contains-permutation xs saw q moved c in reads.newest q (at.0, omega arith, at.1, at.2));
+    each = λ reading c. elim (reads.each reading c) [ inl first ↦ inl first | inr is ↦ inr (is.0, (is.1.0, is.1.2, is.1.3)) ];
+    newest = λ q c. reads.newest q (c.0, omega arith, c.1, c.2);
   }
 
 -- range misses, one after another
@@ -138,25 +205,10 @@ module _ (h : List Event) (i : ℕ) (misses : List RangeMiss) (n : ℕ) (d : Ran
   abbrev here : RangeMiss
   here = slice_index_or misses n d
 
-  more : (x : RangeMiss) → Contains (take n misses) x → Contains (take (n + 1) misses) x
-  more x c = subst (λ xs. Contains xs x) (sym (take_more misses n d below)) (Contains-append_left (take n misses) (here ∷ []) x c)
-
-  last : Contains (take (n + 1) misses) here
-  last = subst (λ xs. Contains xs here) (sym (take_more misses n d below)) (Contains-push (take n misses) here)
-
-  -- those before begin no later
-  begins : (x : RangeMiss) → Contains (take n misses) x → x.from ≤ here.from
-  begins x c =
-      let long = length-take n misses in
-      let before : c.0 < n = (let b = c.1 in omega arith) in
-      let up = rise c.0 n d (omega arith) below in
-      let is = ap (λ (m : RangeMiss). m.from) (get_or_default misses c.0 d x (omega arith) ∙ sym (get_or-take n misses c.0 x before) ∙ c.2) in
-      omega arith
-
   pub reaches_more : (new : ℕ) → new ≡ max here.to end → ReachesTo misses (n + 1) new
   reaches_more new is j less all = elim (cases_lt j here.to) [
-    | inl under ↦ (here, last, all here last, under)
-    | inr over ↦ (let m = reaches j (omega arith) (λ x c. all x (more x c)) in (m.0, more m.0 m.1, m.2, m.3))
+    | inl under ↦ (let last = first_last misses n d below in (here, last, all here last, under))
+    | inr over ↦ (let m = reaches j (omega arith) (λ x c. all x (first_kept misses n d below x c)) in (m.0, first_kept misses n d below m.0 m.1, m.2, m.3))
   ]
 
   pub misses_next : (from : ℕ) → from ≡ max here.from end → (old mid new : List EdgeTo) → Adds (FromFirst (λ (miss : RangeMiss). IsMissRow h i miss.from miss.to) misses n) old mid
@@ -172,7 +224,7 @@ module _ (h : List Event) (i : ℕ) (misses : List RangeMiss) (n : ℕ) (d : Ran
         | inr over ↦ (adds row).1 (inr (row_is.0, row_is.1, (let low = row_is.2 in omega arith), row_is.3, row_is.4, row_is.5))
         | inl under ↦ (
             let low = row_is.2 in
-            let m = reaches row.key under (λ x c. let first = begins x c in omega arith) in
+            let m = reaches row.key under (λ x c. let first = first_below misses n d below (λ (miss : RangeMiss). miss.from) rise x c in omega arith) in
             (adds row).1 (inl ((before row).1 (inr (m.0, m.1, (row_is.0, row_is.1, m.2, m.3, row_is.4, row_is.5))))))
       ]
     ]),

@@ -108,7 +108,7 @@ module _ (edges : Edges) (i : ℕ) where
   pub readers_none : (q : ℕ) (old : List EdgeTo) → Adds (ReadersBelow edges i q q) old old
   readers_none q old = adds_nothing (ReadersBelow edges i q q) old (λ row is. let low = is.4 in let high = is.5 in omega arith)
 
-  pub readers_more : (q n j : ℕ) (old mid new : List EdgeTo) → AreReadings edges.index.now edges.accesses.now edges.readings → q ≤ n → IsOfKey edges.index.now j q → IsOfKey edges.index.now j n
+  pub readers_more : (q n j : ℕ) (old mid new : List EdgeTo) → AreReadings edges.index.now edges.accesses edges.readings → q ≤ n → IsOfKey edges.index.now j q → IsOfKey edges.index.now j n
       → Adds (ReadersBelow edges i q n) old mid → Adds (FromSome (IsReadingRow i j) (slice_index_or edges.readings n [])) mid new → Adds (ReadersBelow edges i q (n + 1)) old new
   readers_more q n j old mid new are low of here before more =
       adds_same (λ row. ReadersBelow edges i q n row ⊎ FromSome (IsReadingRow i j) (slice_index_or edges.readings n []) row) (ReadersBelow edges i q (n + 1)) old new

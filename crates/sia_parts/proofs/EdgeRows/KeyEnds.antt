@@ -12,17 +12,9 @@ use Rattle.sia_index.specs.Positions.{HasPosition, IsAtPosition, IsVersion}
 use Rattle.sia_index.proofs.Shared.KeyChains.{key_number}
 use Rattle.sia_index.proofs.Shared.Ordered.{ascends}
 use Rattle.sia_parts.specs.declared.cutting.Part.{Part}
-use Rattle.sia_parts.specs.EdgeRows.{IsKeyEnd, IsOfKey, StandsBehind}
+use Rattle.sia_parts.specs.EdgeRows.{IsKeyEnd, IsOfKey}
 use Rattle.sia_parts.specs.Parts.{IsWithin}
 use Rattle.sia_parts.proofs.EdgeRows.PositionOrder.{ascends_at, is_version, one_version, same_number}
-
--- keys with numbers that are the same
-pub one_number : (h : List Event) (q p n m : ℕ) → n ≡ m → IsOfKey h n q → IsOfKey h m p → q ≤ p → StandsBehind h q p
-one_number h q p n m same a b le = record {
-  le = le;
-  forth = λ j of. subst (λ i. IsOfKey h i p) (sym (same_number h j n q of a ∙ same)) b;
-  back = λ j of. subst (λ i. IsOfKey h i q) (sym (same_number h j m p of b ∙ sym same)) a;
-}
 
 module _ (h : List Event) (keys : List ℕ) (are : AreWrittenKeys h keys) where
   -- the key of a version has a number
@@ -40,7 +32,7 @@ module _ (h : List Event) (keys : List ℕ) (are : AreWrittenKeys h keys) where
       omega arith
 
   -- a later position has no lesser number
-  rises_at : (q p n m : ℕ) (v w : KeyVersion) → IsAtPosition h q v → IsAtPosition h p w → IsKeyAt h n v.key → IsKeyAt h m w.key → q ≤ p → n ≤ m
+  pub rises_at : (q p n m : ℕ) (v w : KeyVersion) → IsAtPosition h q v → IsAtPosition h p w → IsKeyAt h n v.key → IsKeyAt h m w.key → q ≤ p → n ≤ m
   rises_at q p n m v w at other a b le = elim (cases_lt m n) [
     | inr most ↦ most
     | inl less ↦ absurd (let under = less_key m n w.key v.key b a less in elim (cases_lt q p) [
@@ -52,6 +44,7 @@ module _ (h : List Event) (keys : List ℕ) (are : AreWrittenKeys h keys) where
   -- where the positions of the keys up to number n end
   pub ends_at : (q n : ℕ) → IsOfKey h n q → (e : ℕ) → ((p : ℕ) → p < e → HasPosition h p) → ((p : ℕ) (v : KeyVersion) (j : ℕ) → IsAtPosition h p v → IsKeyAt h j v.key → (p < e) ↔ (j < n + 1)) → IsKeyEnd h q e
   ends_at q n own e within parts = record {
+    of = (n, own);
     there = λ p low below. within p below;
     own = λ j p of low below. (
         let here = within p below in

@@ -7,6 +7,7 @@ use Rattle.sia_events.specs.NarrowDependencies.{CommitsVersion, Looked}
 use Rattle.sia_events.specs.Refusals.{IsWellFormed}
 use Rattle.sia_events.specs.Transactions.{CommitsAt, Wrote}
 use Rattle.sia_events.proofs.Shared.TransactionDecisions.{place_within}
+use Rattle.sia_events.proofs.Writing.WellFormed.{one_commit}
 use Rattle.sia_index.specs.declared.info.KeyVersion.{KeyVersion}
 use Rattle.sia_index.specs.Info.{IsKeyAt}
 use Rattle.sia_index.specs.Numbers.{IsCommittedAt}
@@ -32,6 +33,15 @@ module _ (h : List Event) (wf : IsWellFormed h) where
       let same = one_key h j m.version.key k m.key key in
       let own = one_committed h i m.version.txn t m.maker txn in
       (subst (λ x. CommitsVersion h x t m.version.commit) same (subst (λ x. CommitsVersion h m.version.key x m.version.commit) own (made_version m.version q m.at m.made)), same)
+
+  -- two versions of a key have two makers
+  pub makers_apart : (i u j q p : ℕ) → IsMadeAt h i j q → IsMadeAt h u j p → q < p → u ≢ i
+  makers_apart i u j q p m n less same =
+      let first = of_made i j q m.version.txn m.version.key m.maker m.key m in
+      let second = of_made u j p m.version.txn m.version.key (subst (λ x. IsCommittedAt h x m.version.txn) (sym same) m.maker) m.key n in
+      let one = one_commit h wf m.version.txn m.version.commit n.version.commit first.0.1 second.0.1 in
+      let more = by_commit h q p m.version n.version m.at n.at (sym second.1) less in
+      omega arith
 
   -- each version that was made has a position
   pub made_at : (versions : List KeyVersion) → AreAllVersions h versions → (i j t k c : ℕ) → IsCommittedAt h i t → IsKeyAt h j k → CommitsVersion h k t c → (q : ℕ) × (m : IsMadeAt h i j q) × (m.version ≡ record { key = k; commit = c; txn = t })

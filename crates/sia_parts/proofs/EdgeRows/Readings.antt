@@ -72,6 +72,10 @@ pub record AreReadingsTo (h : List Event) (a : Accesses) (n : ℕ) (readings : L
   pub newest : (u q : ℕ) → u < n → SawPosition a u q → (p : ℕ) × StandsBehind h q p × Contains readings (record { position = p; reader = u })
 
 module _ (h : List Event) (a : Accesses) where
+  -- what was passed over doesn't matter
+  pub readings_of : (n : ℕ) (readings : List Reading) → AreReadingsTo h (record { saw = a.saw; missed = [] }) n readings → AreReadingsTo h a n readings
+  readings_of n readings to = record { seen = to.seen; newest = to.newest }
+
   pub readings_none : AreReadingsTo h a 0 []
   readings_none = record {
     seen = λ reading c. absurd (let below = c.1 in omega arith);

@@ -35,8 +35,6 @@ const NOTHING: Worked<'static> = Worked {
 pub struct More<'a> {
     /// Behind the edges, more that lead from one to each target up to before another, and what their keys rise by.
     pub edges: &'a [(Edge, TxnId, Key)],
-    /// How many places the chunks lie between, where they are counted.
-    pub places: usize,
     /// The committed transactions, where any are named.
     pub committed: &'a [TxnId],
     /// What each of them saw, where anything is named: positions of versions, and range misses.
@@ -48,7 +46,6 @@ pub struct More<'a> {
 /// No more than that.
 const NO_MORE: More<'static> = More {
     edges: &[],
-    places: 0,
     committed: &[],
     saw: &[],
     parts: &[],
@@ -461,7 +458,6 @@ pub const MORE: &[(Worked<'static>, More<'static>)] = &[
                 (edge!(32, Rw, 1, 7), 21, 0),
                 (edge!(33, Rw, 1, 7), 21, 0),
             ],
-            places: 25,
             ..NO_MORE
         },
     ),

@@ -75,34 +75,7 @@ fn are_accesses(alloc: Global, found: &Accesses, it: &More<'_>) -> Result<bool, 
     Ok(is_so)
 }
 
-// How many places the chunks lie between, and whether they have the edges, one after another.
-fn in_chunks(
-    alloc: Global,
-    ix: &Index,
-    accesses: &Accesses,
-    wanted: &[Edge],
-) -> Result<(usize, bool), NoMemory>
-    requires { AreAccesses ix.now (λ _. ⊤) accesses.now }
-{
-    ix.law();
-    let told = Edges::of(alloc, ix, accesses, None)?;
-    let places = told.chunks(alloc)?;
-    let mut edges = Vec::new(alloc);
-    let mut rows = Vec::new(alloc);
-    for i in 1..places.len() {
-        for source in places[i - 1]..places[i] {
-            if (source as usize) < told.index.committed().len() {
-                told.put_from(alloc, source, &mut rows)?;
-                for row in &rows {
-                    edges.push(row.named(ix.committed(), ix.written_keys(), source))?;
-                }
-            }
-        }
-    }
-    Ok((places.len(), edges.as_slice() == wanted))
-}
-
-// Whether all that is wanted is found, with these edges, part by part of the cutting and gathered, and the same edges in chunks.
+// Whether all that is wanted is found, with these edges, part by part of the cutting and gathered, and the same edges at all keys at once.
 fn is_found(
     alloc: Global,
     h: &History,
@@ -124,8 +97,7 @@ fn is_found(
     let is_so = are_findings(&findings, edges, it)
         && (more.committed.is_empty() || committed == more.committed)
         && are_accesses(alloc, &gathering.accesses, more)?;
-    let (places, is_same) = in_chunks(alloc, ix, &gathering.accesses, edges)?;
-    Ok(is_so && is_same && (more.places == 0 || places == more.places))
+    Ok(is_so && edges_at(alloc, ix, &gathering.accesses, None)?.as_slice() == edges)
 }
 
 // The same, cut in each of the ways, and in the single parts.

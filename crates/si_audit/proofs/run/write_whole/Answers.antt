@@ -1,34 +1,62 @@
 -- A piece more was written, or a front of it.
-use Rattle.std.proofs.Common.{◌≡◌, List, ℕ, ◌++◌, ap, sym, subst, ◌∙◌, append_assoc, rules}
-use Rattle.std.specs.Io.KnownBytes.{Appends}
-use Rattle.std.proofs.KnownBytes.{Appends-trans}
-use Rattle.si_audit.proofs.Shared.OnSheets.{on_err}
+use Rattle.std.proofs.Common.{◌≡◌, List, ℕ, [], ◌++◌, Option, Result, Ok, Err, OnOk, OnErr, append-nil, refl, ap, sym, subst, ◌∙◌, append_assoc, rules}
+use Rattle.std.specs.Io.KnownBytes.{Appends, Keeps}
+use Rattle.std.proofs.KnownBytes.{Appends-kept, Appends-trans}
 use Rattle.si_audit.proofs.run.write_whole.Goals as goal
 
+-- a fact that a failure wants
+on_err : {A E : Type 0} (P : Type 0) (r : Result A E) → P → OnErr r P
+on_err P (Ok x) p = tt
+on_err P (Err e) p = p
+
+on_ok : {A E : Type 0} (P : Type 0) (r : Result A E) → P → OnOk r P
+on_ok P (Ok x) p = p
+on_ok P (Err e) p = tt
+
+-- what was written is all, where nothing is left
+all_written : (a b c : Option (List ℕ)) (bytes front rest : List ℕ) → bytes ≡ front ++ rest → rest ≡ [] → Appends a b front → Keeps b c → Appends a c bytes
+all_written a b c bytes front rest split none wrote kept = subst (Appends a c) (sym (split ∙ ap (λ (xs : List ℕ). front ++ xs) none ∙ append-nil front)) (Appends-kept a b c front wrote kept)
+
+pub returns-clause-ok : goal.returns-clause-ok
+returns-clause-ok g c = on_ok _ c.flush.result (λ bytes yet.
+    let before = c.giving.invariant.written bytes yet in
+    all_written _ _ _ bytes before.0 before.1 before.2 ((c.giving-test.ensures.end refl).0 before.1 before.3) before.4 c.flush.ensures.bytes)
+
+pub returns-clause-front : goal.returns-clause-front
+returns-clause-front g c = on_err _ c.flush.result (λ bytes yet.
+    let before = c.giving.invariant.written bytes yet in
+    (before.0, before.1, before.2, Appends-kept _ _ _ before.0 before.4 c.flush.ensures.bytes))
+
+pub returns-clause-whole : goal.returns-clause-whole
+returns-clause-whole g c _ bytes yet =
+    let before = c.giving.invariant.written bytes yet in
+    all_written _ _ _ bytes before.0 before.1 before.2 ((c.giving-test.ensures.end refl).0 before.1 before.3) before.4 c.flush.ensures.bytes
+
 pub returns-in_err-write_bytes-clause-front : goal.returns-in_err-write_bytes-clause-front
-returns-in_err-write_bytes-clause-front g c =
-    let before = c.giving.invariant in
-    let piece = c.give.ensures.gives in
-    let whole : piece.0 ≡ c.as_slice.result.now = sym (c.as_slice.ensures.value ∙ piece.2 ∙ ap (λ (xs : List ℕ). xs ++ piece.0) before.empty) in
-    let part = c.in_err-write_bytes.ensures.err in
-    on_err _ c.from_residual.result (
-      before.front ++ part.0,
-      part.1 ++ c.give.new.self.bytes,
-      before.split ∙ ap (λ (xs : List ℕ). before.front ++ xs) (piece.1 ∙ ap (λ (xs : List ℕ). xs ++ c.give.new.self.bytes) (whole ∙ part.2) ∙ append_assoc part.0 part.1 c.give.new.self.bytes) ∙ sym (append_assoc before.front part.0 (part.1 ++ c.give.new.self.bytes)),
-      Appends-trans _ _ _ _ _ before.appended part.3,
-    )
+returns-in_err-write_bytes-clause-front g c = on_err _ c.from_residual.result (λ bytes yet.
+    let before = c.giving.invariant.written bytes yet in
+    let piece = c.give.ensures.gives before.1 before.3 in
+    let whole : piece.0 ≡ c.as_slice.result.now = sym (c.as_slice.ensures.value ∙ piece.4 ∙ ap (λ (xs : List ℕ). xs ++ piece.0) c.giving.invariant.empty) in
+    let part = c.in_err-write_bytes.ensures.err in (
+      before.0 ++ part.0,
+      part.1 ++ piece.1,
+      before.2 ∙ ap (λ (xs : List ℕ). before.0 ++ xs) (piece.2 ∙ ap (λ (xs : List ℕ). xs ++ piece.1) (whole ∙ part.2) ∙ append_assoc part.0 part.1 piece.1) ∙ sym (append_assoc before.0 part.0 (part.1 ++ piece.1)),
+      Appends-trans _ _ _ _ _ before.4 part.3,
+    ))
 
 pub giving-preserved : goal.giving-preserved
-giving-preserved g c =
-    let before = c.giving.invariant in
-    let piece = c.give.ensures.gives in
-    record {
-      front = before.front ++ piece.0;
-      split = before.split ∙ ap (λ (xs : List ℕ). before.front ++ xs) piece.1 ∙ sym (append_assoc before.front piece.0 c.give.new.self.bytes);
-      appended = Appends-trans _ _ _ _ _ before.appended (subst (Appends (g.W.Sink.taken c.giving.writer) (g.W.Sink.taken c.write_bytes.new.writer)) (c.as_slice.ensures.value ∙ piece.2 ∙ ap (λ (xs : List ℕ). xs ++ piece.0) before.empty) c.in_ok-write_bytes.ensures.ok);
-      sound = search rules;
-      open_still = search rules;
-      empty = search rules;
-      room = search rules;
-      outcome = search rules;
-    }
+giving-preserved g c = record {
+  written = λ bytes yet.
+      let before = c.giving.invariant.written bytes yet in
+      let piece = c.give.ensures.gives before.1 before.3 in (
+        before.0 ++ piece.0,
+        piece.1,
+        before.2 ∙ ap (λ (xs : List ℕ). before.0 ++ xs) piece.2 ∙ sym (append_assoc before.0 piece.0 piece.1),
+        piece.3,
+        Appends-trans _ _ _ _ _ before.4 (subst (Appends (g.W.Sink.taken c.giving.writer) (g.W.Sink.taken c.write_bytes.new.writer)) (c.as_slice.ensures.value ∙ piece.4 ∙ ap (λ (xs : List ℕ). xs ++ piece.0) c.giving.invariant.empty) c.in_ok-write_bytes.ensures.ok),
+      );
+  sound = search rules;
+  open_still = search rules;
+  empty = search rules;
+  room = search rules;
+}

@@ -1,38 +1,102 @@
-use Rattle.std.proofs.Common.{◌∷◌, [], ap, sym, subst, ◌∙◌}
-use Rattle.sia_events.specs.Lists.{ListsAscending}
-use Rattle.sia_events.specs.DangerousStructures.{IsFirst}
+-- The greatest commit of the ins, and of the outs the next that commits early enough.
+use Rattle.std.proofs.Common.{◌∷◌, ◌++◌, ◌+◌, ◌<◌, ◌≤◌, ◌∙◌, [], ℕ, List, length, get_or, map, refl, ap, arith, sym, subst}
+use Rattle.std.specs.Prelude.{◌↔◌, slice_index}
+use Rattle.std.proofs.lemmas.List.{get_or-map, length-map, take_all}
+use Rattle.std.proofs.lemmas.List.Elements.{Contains-get_or}
+use Rattle.sia_events.specs.DangerousStructures.{IsFirst, IsVulnerable}
+use Rattle.sia_index.specs.Numbers.{IsCommittedAt}
+use Rattle.sia_index.specs.declared.info.Lifetime.{Lifetime}
+use Rattle.sia_parts.specs.Sights.{FromSome}
+use Rattle.sia_parts.proofs.Shared.Adding.{FromFirst, first_more}
+use Rattle.sia_graph.specs.declared.vulnerable.Link.{Link}
+use Rattle.sia_graph.specs.Late.{IsLastOf}
 use Rattle.sia_graph.proofs.OfPivots.ListedAs.{listed_as}
-use Rattle.sia_graph.proofs.OfPivots.Picked.{ArePicked, none_picked, picked_more, picked_same, all_picked}
-use Rattle.sia_graph.proofs.OfPivots.Vulnerable.{CommitsBy, first_by, none_first}
-use Rattle.sia_graph.proofs.pivot.firsts.Goals.{then-commits_by+in_ok-push, else-commits_by}
+use Rattle.sia_graph.proofs.OfPivots.Overlaps.{lived}
+use Rattle.sia_graph.proofs.OfPivots.Picked.{all_picked, none_picked, picked_more, picked_same}
+use Rattle.sia_graph.proofs.OfPivots.Vulnerable.{CommitsIn, first_by, outs_named}
+use Rattle.sia_graph.proofs.Shared.Numbered.{txn_number}
+use Rattle.sia_graph.proofs.Shared.PositionEdges.{one_txn_at}
+use Rattle.sia_graph.proofs.SsiTest.Entering.{last_either}
+use Rattle.sia_graph.proofs.pivot.firsts.Goals.{After-min-last, then-lifetimes-out+in_ok-push, else-lifetimes-out}
 use Rattle.sia_graph.proofs.pivot.firsts.Goals as goal
 
+abbrev none : Link
+none = record { at = 0; other = 0 }
+
+abbrev unlived : Lifetime
+unlived = record { start = 0; commit = 0 }
+
+pub bounds-lifetimes-into : goal.bounds-lifetimes-into
+bounds-lifetimes-into c =
+    let link = get_or c.args.ins.now c.loop-into.into-index none in
+    let v = (c.requires.ins.each link).0 (Contains-get_or c.args.ins.now c.loop-into.into-index none c.loop-into-test.true) in
+    (lived c.args.ix.now c.lifetimes-lifetimes.result.now c.lifetimes-lifetimes.ensures link.at v.1.0 v.1.2).0
+
+pub loop-into-preserved : goal.loop-into-preserved
+loop-into-preserved c =
+    let C = CommitsIn c.lifetimes-lifetimes.result.now in
+    let ins = c.args.ins.now in
+    let i = c.loop-into.into-index in
+    last_either (FromFirst C ins i) (C (get_or ins i none)) (FromFirst C ins (i + 1)) c.loop-into.last _ c.max-last.result c.max-last.ensures (first_more C ins i none c.loop-into-test.true) c.loop-into.invariant
+    (λ x some. ((λ le. (_, refl, le)), (λ w. let e = w.1 in let l = w.2 in omega arith)))
+
+pub bounds-lifetimes-out : goal.bounds-lifetimes-out
+bounds-lifetimes-out c =
+    let link = get_or c.args.outs.now c.loop-out.out-index none in
+    let v = (c.requires.outs.each link).0 (Contains-get_or c.args.outs.now c.loop-out.out-index none c.loop-out-test.true) in
+    (lived c.args.ix.now c.lifetimes-lifetimes.result.now c.lifetimes-lifetimes.ensures link.other v.1.1 v.1.3).0
+
+pub bounds-txns-out : goal.bounds-txns-out
+bounds-txns-out c =
+    let link = get_or c.args.outs.now c.loop-out.out-index none in
+    let v = (c.requires.outs.each link).0 (Contains-get_or c.args.outs.now c.loop-out.out-index none c.loop-out-test.true) in
+    (txn_number c.args.ix.now c.committed-txns.result.now c.committed-txns.ensures link.other v.1.1 v.1.3).0
+
 pub loop-out-init : goal.loop-out-init
-loop-out-init c =
-    let by = CommitsBy c.args.ix.now c.in-Some.own.commit c.last_commit-last.result in
-    subst (ArePicked (λ t. t ∷ []) by c.args.outs.now 0) (sym c.new-firsts.ensures.items) (none_picked (λ t. t ∷ []) by c.args.outs.now)
+loop-out-init c t at = rw c.new-firsts.ensures.items (none_picked (λ u. u ∷ []) (IsFirst c.args.ix.now t) (map (λ (link : Link). slice_index c.committed-txns.result.now link.other) c.args.outs.now))
+
+-- each of the outs is a first exactly if it commits early enough
+early : (c : After-min-last) → (t : ℕ) → IsCommittedAt c.args.ix.now c.args.txn t → (n : ℕ) → n < length c.args.outs.now
+    → ((get_or c.lifetimes-lifetimes.result.now (get_or c.args.outs.now n none).other unlived).commit ≤ c.min-last.result) ↔ IsFirst c.args.ix.now t (slice_index c.committed-txns.result.now (get_or c.args.outs.now n none).other)
+early c t at n below =
+    let h = c.args.ix.now in
+    let lifetimes = c.lifetimes-lifetimes.result.now in
+    let live = lived h lifetimes c.lifetimes-lifetimes.ensures in
+    let link = get_or c.args.outs.now n none in
+    let v = (c.requires.outs.each link).0 (Contains-get_or c.args.outs.now n none below) in
+    let from = one_txn_at h c.args.txn v.1.0 t (subst (λ m. IsCommittedAt h m v.1.0) v.0 v.1.2) at in
+    let named = (txn_number h c.committed-txns.result.now c.committed-txns.ensures link.other v.1.1 v.1.3).1 in
+    let ins = c.args.ins.now in
+    let all = subst (λ (xs : List Link). IsLastOf (FromSome (CommitsIn lifetimes) xs) c.loop-into.last) (take_all c.loop-into.into-index ins (let e = c.loop-into-test.false in omega arith)) c.loop-into.invariant in
+    rw (named, c.min-last.ensures) (first_by h c.args.txn t at c.committed-txns.result.now c.committed-txns.ensures c.law.ensures lifetimes live _ c.loop-into.last ((live c.args.txn t at).1 unlived).1 ins c.requires.ins all v.1.1 _
+    (subst (λ x. IsVulnerable h x v.1.1) from v.1.4) ((live link.other v.1.1 v.1.3).1 unlived).1)
 
 pub loop-out-preserved : goal.loop-out-preserved
-loop-out-preserved c =
+loop-out-preserved c t at =
+    let h = c.args.ix.now in
     let outs = c.args.outs.now in
-    let by = CommitsBy c.args.ix.now c.in-Some.own.commit c.last_commit-last.result in
-    let firsts = c.loop-out.firsts.items in
-    let now = c.if-commits_by.firsts.items in
-    elim c.if-commits_by.branch [
-      | then-commits_by+in_ok-push w ↦
-          picked_more (λ t. t ∷ []) by outs c.requires.outs.ascending c.loop-out.out-index 0 c.loop-out-test.true firsts now c.loop-out.invariant (c.commits_by.ensures.0 w.if-commits_by.true) (ap (λ v. v.items) w.firsts-is ∙ w.in_ok-push.ensures.items)
-      | else-commits_by w ↦
-          picked_same (λ t. t ∷ []) by outs c.requires.outs.ascending c.loop-out.out-index 0 c.loop-out-test.true firsts now c.loop-out.invariant (λ has. let told = c.commits_by.ensures.1 has in let f = w.if-commits_by.false in absurd (let g = sym f ∙ told in cc)) (ap (λ v. v.items) w.firsts-is)
+    let n = c.loop-out.out-index in
+    let txns = c.committed-txns.result.now in
+    let names = map (λ (link : Link). slice_index txns link.other) outs in
+    let up = (outs_named h c.args.txn t at txns c.committed-txns.ensures outs c.requires.outs).ascending in
+    let within : n < length names = let l = c.loop-out-test.true in omega (arith, length-map outs (λ (link : Link). slice_index txns link.other)) in
+    let named = get_or-map (λ (link : Link). slice_index txns link.other) outs n none 0 c.loop-out-test.true in
+    let tells = early (goal.at.loop-out-preserved c).After-min-last t at n c.loop-out-test.true in
+    elim c.if-lifetimes-out.branch [
+      | then-lifetimes-out+in_ok-push w ↦
+          picked_more (λ u. u ∷ []) (IsFirst h t) names up n 0 within c.loop-out.firsts.items c.if-lifetimes-out.firsts.items (c.loop-out.invariant t at) (rw named (tells.0 w.if-lifetimes-out.true))
+          (ap (λ v. v.items) w.firsts-is ∙ w.in_ok-push.ensures.items ∙ ap (λ m. c.loop-out.firsts.items ++ m ∷ []) (sym named))
+      | else-lifetimes-out w ↦
+          picked_same (λ u. u ∷ []) (IsFirst h t) names up n 0 within c.loop-out.firsts.items c.if-lifetimes-out.firsts.items (c.loop-out.invariant t at)
+          (λ is. let le = tells.1 (subst (IsFirst h t) named is) in let more = w.if-lifetimes-out.false in omega arith) (ap (λ v. v.items) w.firsts-is)
     ]
 
 pub returns : goal.returns
-returns c =
+returns c t at =
     let h = c.args.ix.now in
-    let outs = c.requires.outs in
-    let by = CommitsBy h c.in-Some.own.commit c.last_commit-last.result in
-    let first = first_by h c.law.ensures c.args.txn c.in-Some.own.commit c.last_commit-last.result c.args.ins.now c.in-Some.ensures.1 c.requires.ins c.last_commit-last.ensures.greatest c.last_commit-last.ensures.attained in
-    listed_as (λ t. t ∷ []) _ _ (λ u. ((λ w. (first u).0 ((outs.each u).0 w.0, w.1)), (λ is. let w = (first u).1 is in ((outs.each u).1 w.0, w.1)))) _
-    (all_picked (λ t. t ∷ []) by c.args.outs.now c.loop-out.out-index c.loop-out-test.false c.loop-out.firsts.items c.loop-out.invariant)
-
-pub returns-in_default : goal.returns-in_default
-returns-in_default c = subst (ListsAscending (IsFirst c.args.ix.now c.args.txn)) (sym c.new-firsts.ensures.items) (none_first c.args.ix.now c.args.txn c.in_default.ensures)
+    let outs = c.args.outs.now in
+    let txns = c.committed-txns.result.now in
+    let names = map (λ (link : Link). slice_index txns link.other) outs in
+    let are = outs_named h c.args.txn t at txns c.committed-txns.ensures outs c.requires.outs in
+    listed_as (λ u. u ∷ []) _ (IsFirst h t) (λ u. ((λ w. w.1), (λ is. ((are.each u).1 is.0, is)))) c.loop-out.firsts.items
+    (all_picked (λ u. u ∷ []) (IsFirst h t) names c.loop-out.out-index (let l = c.loop-out-test.false in omega (arith, length-map outs (λ (link : Link). slice_index txns link.other))) c.loop-out.firsts.items (c.loop-out.invariant t at))

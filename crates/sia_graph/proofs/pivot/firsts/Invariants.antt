@@ -1,7 +1,15 @@
-use Rattle.std.proofs.Common.{◌∷◌, []}
+use Rattle.std.specs.Prelude.{◌∷◌, [], ℕ, map, slice_index}
+use Rattle.sia_index.specs.Numbers.{IsCommittedAt}
+use Rattle.sia_events.specs.DangerousStructures.{IsFirst}
+use Rattle.sia_parts.proofs.Shared.Adding.{FromFirst}
+use Rattle.sia_graph.specs.Late.{IsLastOf}
+use Rattle.sia_graph.specs.declared.vulnerable.Link.{Link}
 use Rattle.sia_graph.proofs.OfPivots.Picked.{ArePicked}
-use Rattle.sia_graph.proofs.OfPivots.Vulnerable.{CommitsBy}
+use Rattle.sia_graph.proofs.OfPivots.Vulnerable.{CommitsIn}
 use Rattle.sia_graph.proofs.pivot.firsts.Given as goal
 
+abbrev pub invariant-loop-into : goal.invariant-loop-into
+invariant-loop-into l = IsLastOf (FromFirst (CommitsIn l.lifetimes) l.ins l.into-index) l.last
+
 abbrev pub invariant-loop-out : goal.invariant-loop-out
-invariant-loop-out l = ArePicked (λ t. t ∷ []) (CommitsBy l.ix l.own.commit l.last) l.outs l.out-index l.firsts.items
+invariant-loop-out l = (t : ℕ) → IsCommittedAt l.ix l.txn t → ArePicked (λ u. u ∷ []) (IsFirst l.ix t) (map (λ (link : Link). slice_index l.txns link.other) l.outs) l.out-index l.firsts.items

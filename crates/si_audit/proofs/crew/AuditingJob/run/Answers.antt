@@ -3,7 +3,7 @@ use Rattle.std.specs.Prelude.{IfSome}
 use Rattle.std.proofs.lemmas.Option.{slice_get-get_or}
 use Rattle.sia_parts.specs.Gathering.{IsPartFound}
 use Rattle.sia_parts.specs.Parts.{IsInPart}
-use Rattle.si_audit.specs.Sheets.{IsFoundAt}
+use Rattle.si_audit.specs.Found.{IsFoundAt}
 use Rattle.si_audit.proofs.Shared.Results.{ok_map, other_error}
 use Rattle.si_audit.proofs.crew.AuditingJob.run.Goals as goal
 

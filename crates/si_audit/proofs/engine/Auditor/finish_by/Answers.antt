@@ -3,11 +3,11 @@ use Rattle.std.proofs.Common.{◌≡◌, ℕ, List, Result, Ok, Err, IfOk, inl, 
 use Rattle.sia_events.specs.Limits.{Limits}
 use Rattle.si_audit.specs.declared.engine.Auditor.{Auditor}
 use Rattle.si_audit.specs.declared.options.Form.TheVariants.{Explained}
-use Rattle.si_audit.specs.Engine.{IsFed, IsReceived}
+use Rattle.si_audit.specs.Engine.{HasText, IsFed, IsOutcomeOf, IsReceived, IsReportOf}
 use Rattle.si_audit.specs.Options.{Choices}
 use Rattle.si_audit.specs.Outcomes.{IsOutcome}
 use Rattle.si_audit.specs.Report.{IsReport}
-use Rattle.si_audit.proofs.OfEngine.OfHistory.{refusal_of}
+use Rattle.si_audit.proofs.OfEngine.OfHistory.{outcome_of_text, refusal_of, report_of_text}
 use Rattle.si_audit.proofs.Shared.Results.{ok_map}
 use Rattle.si_audit.proofs.engine.Auditor.finish_by.Goals as goal
 
@@ -18,15 +18,28 @@ of_each : {A E : Type 0} (a : Auditor) (P : Limits → Choices → List ℕ → 
 of_each a P (Ok x) each = each
 of_each a P (Err e) each = tt
 
+pub returns-in-Ok : goal.returns-in-Ok
+returns-in-Ok g c =
+    let a = c.args.self in
+    let answer = c.report_of_log in
+    let h = c.in-Ok.log in record {
+      report = of_each a (λ limits o text r. (bytes : List ℕ) × IsReport limits o.form text bytes × HasText r bytes) answer.result (λ limits o text fed.
+          let reads = c.in-Ok.ensures.reads limits text fed.received.0 in
+          ok_map _ _ answer.result (λ r told. (told.0, report_of_text limits text h o.form told.0 reads.0 reads.1 (subst (λ (chosen : Choices). IsReportOf chosen.form h told.0) fed.options told.1), told.2)) answer.ensures.report);
+      outcome = of_each a (λ limits o text r. IsOutcome limits o.level text r.outcome) answer.result (λ limits o text fed.
+          let reads = c.in-Ok.ensures.reads limits text fed.received.0 in
+          ok_map _ _ answer.result (λ r is. outcome_of_text limits text h o.level r.outcome reads.0 reads.1 (subst (λ (chosen : Choices). IsOutcomeOf chosen.level h r.outcome) fed.options is)) answer.ensures.outcome);
+    }
+
 pub returns-in_default : goal.returns-in_default
 returns-in_default g c =
     let a = c.args.self in
     let answer = c.report_of_refusal in
     let fault = c.in-Err.fault in record {
-      report = of_each a (λ limits o text r. IsReport limits o.form text r.bytes) answer.result (λ limits o text fed.
+      report = of_each a (λ limits o text r. (bytes : List ℕ) × IsReport limits o.form text bytes × HasText r bytes) answer.result (λ limits o text fed.
           let refusal = refusal_of limits text fault c.in_default.not-NoMemory (c.in-Err.ensures.reads limits text fed.received.0) in
           let received = subst (λ (chosen : Choices). IsReceived limits (chosen.form ≡ Explained) a.locator a.text text) (sym fed.options) fed.received in
-          ok_map _ _ answer.result (λ r told. subst (λ (chosen : Choices). IsReport limits chosen.form text r.bytes) fed.options (inl (fault, refusal, told))) (answer.ensures.report limits text a.text received refusal));
+          ok_map _ _ answer.result (λ r told. (told.0, subst (λ (chosen : Choices). IsReport limits chosen.form text told.0) fed.options (inl (fault, refusal, told.1)), told.2)) (answer.ensures.report limits text a.text received refusal));
       outcome = of_each a (λ limits o text r. IsOutcome limits o.level text r.outcome) answer.result (λ limits o text fed.
           let refusal = refusal_of limits text fault c.in_default.not-NoMemory (c.in-Err.ensures.reads limits text fed.received.0) in
           ok_map _ _ answer.result (λ r is. subst (IsOutcome limits o.level text) (sym is) (fault, refusal)) answer.ensures.outcome);

@@ -1,73 +1,73 @@
 -- The makers behind the next position, where it is the oldest of its key. Else those are told already.
-use Rattle.std.proofs.Common.{◌∙◌, ◌-◌, ◌<◌, length, sym, subst, arith}
-use Rattle.std.specs.Prelude.{slice_index}
-use Rattle.std.proofs.lemmas.List.{get_or_default}
-use Rattle.std.proofs.lemmas.List.Sorted.{All-permutation}
-use Rattle.sia_index.specs.Positions.{HasPosition}
+use Rattle.std.proofs.Common.{◌∙◌, length, refl, sym, arith}
+use Rattle.std.specs.List.Sorted.{IsNonDecreasingBy}
 use Rattle.sia_parts.specs.declared.finding.Kind.TheVariants.{Rw}
-use Rattle.sia_parts.specs.EdgeRows.{IsMakerRow, StandsBehind}
+use Rattle.sia_parts.specs.EdgeRows.{IsMakerRow}
 use Rattle.sia_parts.specs.Parts.{IsWithin}
-use Rattle.sia_parts.proofs.EdgeRows.AccessRows.{from_same, from_sorted, saw_positions, saw_within}
-use Rattle.sia_parts.proofs.Shared.Adding.{from_all, from_more}
+use Rattle.sia_parts.proofs.EdgeRows.AccessRows.{ends_behind, ends_more, ends_same, from_held, saw_positions, saw_within}
+use Rattle.sia_parts.proofs.Shared.Adding.{from_all, from_more, from_none}
 use Rattle.sia_parts.proofs.EdgeRows.EdgeLoops.{makers_behind}
+use Rattle.sia_parts.proofs.EdgeRows.Room.{end_behind, end_within, puts_like}
 use Rattle.sia_parts.proofs.edges.Edges.put_seen.Goals as goal
-use Rattle.sia_parts.proofs.edges.Edges.put_seen.Goals.{then-i-eq0+in_ok-put_makers, else-i-eq0+else-not-stands_behind}
+use Rattle.sia_parts.proofs.edges.Edges.put_seen.Goals.{then-position-end, else-position-end}
 
-pub stands_behind-requires-clause-first : goal.stands_behind-requires-clause-first
-stands_behind-requires-clause-first c =
+pub loop-position-init : goal.loop-position-init
+loop-position-init c = ((λ some. absurd (omega arith)), omega arith, record { adds = from_none (IsMakerRow c.args.self.now.index.now c.args.source Rw) c.at-position-items.result.now _; few = omega arith; room = refl })
+
+pub put_makers-end-requires-clause-position : goal.put_makers-end-requires-clause-position
+put_makers-end-requires-clause-position c =
     let self = c.args.self.now in
     let h = self.index.now in
-    let below = saw_within h (IsWithin self.within) self.accesses.now c.requires.tell.accesses c.args.source c.requires.source.0 c.requires.source.1 in
-    let all = saw_positions h (IsWithin self.within) self.accesses.now c.requires.tell.accesses c.args.source below in
-    let sorted = All-permutation (HasPosition h) _ _ c.sort_unstable.ensures.permutation (rw (c.in_ok-saw.ensures.items, c.at.ensures) all) in
-    let xs = c.sort_unstable.new.self.items in
-    let below : c.loop-i.i < length xs = let b = c.loop-i-test.true in let e = c.len-i-end.ensures in let l = c.sort_unstable.new.self.ok.0 in omega arith in
-    let before : c.loop-i.i - 1 < length xs = (let some = c.if-i-eq0.false in omega arith) in
-    subst (HasPosition h) (sym (c.index.ensures ∙ get_or_default xs (c.loop-i.i - 1) c.index.result.now 0 before)) (sorted (c.loop-i.i - 1) 0 before)
+    let below = saw_within h (IsWithin self.within) self.accesses c.requires.tell.accesses c.args.source c.requires.source.0 c.requires.source.1 in
+    rw c.at-position-items.ensures (saw_positions h (IsWithin self.within) self.accesses c.requires.tell.accesses c.args.source below c.loop-position.position-index 0 (rw c.at-position-items.ensures at c.loop-position-test.true))
 
-pub stands_behind-requires-clause-second : goal.stands_behind-requires-clause-second
-stands_behind-requires-clause-second c =
-    let self = c.args.self.now in
-    let h = self.index.now in
-    let below = saw_within h (IsWithin self.within) self.accesses.now c.requires.tell.accesses c.args.source c.requires.source.0 c.requires.source.1 in
-    let all = saw_positions h (IsWithin self.within) self.accesses.now c.requires.tell.accesses c.args.source below in
-    let sorted = All-permutation (HasPosition h) _ _ c.sort_unstable.ensures.permutation (rw (c.in_ok-saw.ensures.items, c.at.ensures) all) in
-    let xs = c.sort_unstable.new.self.items in
-    let below : c.loop-i.i < length xs = let b = c.loop-i-test.true in let e = c.len-i-end.ensures in let l = c.sort_unstable.new.self.ok.0 in omega arith in
-    subst (HasPosition h) (sym (c.index-else-i-eq0.ensures ∙ get_or_default xs c.loop-i.i c.index-else-i-eq0.result.now 0 below)) (sorted c.loop-i.i 0 below)
+pub put_makers-end-requires-clause-room : goal.put_makers-end-requires-clause-room
+put_makers-end-requires-clause-room c end is =
+    let most = end_within c.args.self.now.index.now _ end is (length c.args.self.now.readings) c.requires.tell.readings.long in
+    let behind = end_behind c.args.self.now.index.now _ end is in
+    let few = c.loop-position.invariant.2.few in
+    let same = c.loop-position.invariant.2.room in
+    let past = c.if-position-end.true in
+    let room = c.requires.room in
+    omega arith
 
-pub put_makers-requires : goal.put_makers-requires
-put_makers-requires c =
-    let self = c.args.self.now in
-    let h = self.index.now in
-    let below = saw_within h (IsWithin self.within) self.accesses.now c.requires.tell.accesses c.args.source c.requires.source.0 c.requires.source.1 in
-    let all = saw_positions h (IsWithin self.within) self.accesses.now c.requires.tell.accesses c.args.source below in
-    let sorted = All-permutation (HasPosition h) _ _ c.sort_unstable.ensures.permutation (rw (c.in_ok-saw.ensures.items, c.at.ensures) all) in
-    let xs = c.sort_unstable.new.self.items in
-    let below : c.loop-i.i < length xs = let b = c.loop-i-test.true in let e = c.len-i-end.ensures in let l = c.sort_unstable.new.self.ok.0 in omega arith in
-    subst (HasPosition h) (sym (c.index-then-i-eq0.ensures ∙ get_or_default xs c.loop-i.i c.index-then-i-eq0.result.now 0 below)) (sorted c.loop-i.i 0 below)
-
-pub loop-i-preserved : goal.loop-i-preserved
-loop-i-preserved c =
+pub loop-position-preserved : goal.loop-position-preserved
+loop-position-preserved c =
     let h = c.args.self.now.index.now in
     let P = IsMakerRow h c.args.source Rw in
-    let xs = c.sort_unstable.new.self.items in
-    let below : c.loop-i.i < length xs = let b = c.loop-i-test.true in let e = c.len-i-end.ensures in let l = c.sort_unstable.new.self.ok.0 in omega arith in
-    elim c.if-i-eq0.branch [
-      | then-i-eq0+in_ok-put_makers w ↦
-          let here = w.index-then-i-eq0.ensures ∙ get_or_default xs c.loop-i.i w.index-then-i-eq0.result.now 0 below in
-          rw w.rows-is (from_more P xs c.loop-i.i 0 _ _ _ below c.loop-i.invariant (rw here at w.in_ok-put_makers.ensures))
-      | else-i-eq0+else-not-stands_behind w ↦
-          let some : 0 < c.loop-i.i = (let other = w.if-i-eq0.false in omega arith) in
-          let before : c.loop-i.i - 1 < length xs = omega arith in
-          let one = w.index.ensures ∙ get_or_default xs (c.loop-i.i - 1) w.index.result.now 0 before in
-          let two = w.index-else-i-eq0.ensures ∙ get_or_default xs c.loop-i.i w.index-else-i-eq0.result.now 0 below in
-          let behind = subst (λ n. StandsBehind h n (slice_index xs c.loop-i.i)) one (subst (λ n. StandsBehind h w.index.result.now n) two (w.stands_behind.ensures w.if-not-stands_behind.false)) in
-          rw w.rows-is (from_same P xs c.loop-i.i 0 _ _ some below (λ row p. makers_behind h c.args.source Rw _ _ behind row p) c.loop-i.invariant)
+    let xs = c.at-position-items.result.now in
+    let n = c.loop-position.position-index in
+    let rise : IsNonDecreasingBy (λ q. q) xs = rw c.at-position-items.ensures (c.requires.tell.saw_rise c.args.source) in
+    let below = c.loop-position-test.true in
+    let before = c.loop-position.invariant.2 in
+    elim c.if-position-end.branch [
+      | then-position-end w ↦
+          let puts = w.put_makers-end.ensures.puts in
+          rw (w.rows-is, w.end-is) (
+            ends_more h xs n below _ w.put_makers-end.ensures.end,
+            end_within h _ _ w.put_makers-end.ensures.end (length c.args.self.now.readings) c.requires.tell.readings.long,
+            record {
+              adds = from_more P xs n 0 _ _ _ below before.adds puts.adds;
+              few = (
+                  let behind = end_behind h _ _ w.put_makers-end.ensures.end in
+                  let past = w.if-position-end.true in
+                  let few = before.few in
+                  let more = puts.few in
+                  omega arith);
+              room = puts.room ∙ before.room;
+            },
+          )
+      | else-position-end w ↦
+          let behind = ends_behind h xs n below rise c.loop-position.end c.loop-position.invariant.0 (let less = w.if-position-end.false in omega arith) in
+          rw (w.rows-is, w.end-is) (
+            ends_same h xs n below _ c.loop-position.invariant.0,
+            c.loop-position.invariant.1,
+            puts_like _ _ _ _ _ _ before (omega arith) (from_held P xs n 0 _ _ below behind.0 behind.1 (λ row p. makers_behind h c.args.source Rw _ _ behind.2 row p) before.adds),
+          )
     ]
 
 pub returns : goal.returns
 returns c =
     let P = IsMakerRow c.args.self.now.index.now c.args.source Rw in
-    from_sorted P _ _ (rw (c.in_ok-saw.ensures.items, c.at.ensures) at c.sort_unstable.ensures.permutation) _ _
-    (from_all P c.sort_unstable.new.self.items c.loop-i.i _ _ (let last = c.loop-i-test.false in let e = c.len-i-end.ensures in let l = c.sort_unstable.new.self.ok.0 in omega arith) c.loop-i.invariant)
+    let before = c.loop-position.invariant.2 in
+    rw (sym c.at-position-items.ensures) (puts_like _ _ _ _ _ _ before c.loop-position.invariant.1 (from_all P c.at-position-items.result.now c.loop-position.position-index _ _ c.loop-position-test.false before.adds))

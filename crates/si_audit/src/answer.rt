@@ -1,0 +1,53 @@
+//! What a text comes to, and its report, which is given in pieces.
+use crate::edge_lines::EdgeLines;
+use crate::engine::Outcome;
+use sia_index::Index;
+use sia_parts::Accesses;
+use std::marker::Model;
+
+/// What the lines of edges are made from.
+#[derive(Drop)]
+pub struct Found {
+    pub(crate) index: Index,
+    pub(crate) accesses: Accesses,
+}
+
+impl Model for Found {
+    ghost use Rattle.std.specs.Prelude.{List, ⊤};
+    ghost use Rattle.sia_events.specs.declared.event.Event.{Event};
+    ghost use Rattle.sia_parts.specs.Accesses.{AreAccesses};
+
+    ghost Value = { List Event };
+
+    ghost view = { λ f. f.index };
+
+    ghost invariant = { λ f. AreAccesses f.index (λ _. ⊤) f.accesses };
+}
+
+/// What a text comes to: how its run ends, and its report.
+#[derive(Drop)]
+pub struct Answer {
+    pub outcome: Outcome,
+    /// The lines before those of edges, which are made from what was found, if they are told, and the lines behind them.
+    pub(crate) front: Vec<u8>,
+    pub(crate) found: Option<Found>,
+    pub(crate) back: Vec<u8>,
+}
+
+/// A report, which gives its bytes in pieces. It has all the memory that it needs.
+#[derive(Drop)]
+pub struct Report<'a> {
+    pub(crate) front: &'a [u8],
+    pub(crate) edges: Option<EdgeLines<'a>>,
+    pub(crate) back: &'a [u8],
+}
+
+impl<'a> Model for Report<'a> {
+    ghost use Rattle.si_audit.specs.Giving.{CanGive, Left};
+
+    ghost Value = { Left };
+
+    ghost view = { λ r. record { front = r.front.now; edges = r.edges; back = r.back.now } };
+
+    ghost invariant = { λ r. CanGive r.edges };
+}
