@@ -65,6 +65,7 @@ impl<'a> EdgeLines<'a> {
             × (text ≡ piece ++ rest) × AreYet self.new rest × (buffer.new.items ≡ buffer.old.items ++ piece) }
         ensures end { IsFalse result → ((text : List ℕ) → AreYet self.old text → text ≡ [])
             × (buffer.new.items ≡ buffer.old.items) }
+        ensures some { IsTrue result → length buffer.old.items < length buffer.new.items }
         ensures fewer { IsTrue result → rows_left self.new < rows_left self.old }
         ensures room { vec_capacity buffer.old ≤ vec_capacity buffer.new }
     {

@@ -91,8 +91,7 @@ impl<'a> Auditor<'a> {
         }
     }
 
-    /// What the text comes to: its report in the form of the options, and the outcome at their level. The calling thread finds
-    /// it, and the call returns.
+    /// What the text comes to, in the form and at the level of the options. The calling thread finds it, and the call returns.
     pub fn finish_alone(self, alloc: Global) -> Result<Answer, NoMemory>
         ensures report { IfOk result (TellsFed self.entry) }
         ensures outcome { IfOk result (EndsFed self.entry) }
@@ -100,8 +99,7 @@ impl<'a> Auditor<'a> {
         self.finish_by(alloc, &Alone)
     }
 
-    /// The same by as many workers as the options say, where there is something to share. The call waits for its threads, so
-    /// nothing promises that it returns.
+    /// The same by as many workers as the options say, where there is work to share. It waits, so nothing promises that it returns.
     pub fn finish<R: Threads + Wait + Sync>(self, rt: &R, alloc: Global) -> Result<Answer, NoMemory>
         ensures report { IfOk result (TellsFed self.entry) }
         ensures outcome { IfOk result (EndsFed self.entry) }
@@ -132,14 +130,14 @@ impl Answer {
 }
 
 impl Report<'_> {
-    /// Gives the next bytes into a buffer that has room for some lines, as many as it has room for, and answers whether there were
-    /// any. Takes no memory.
+    /// Gives the next bytes into a buffer that has room for some lines, and answers whether there were any. Takes no memory.
     pub fn give(&mut self, buffer: &mut Vec<u8>) -> bool
         requires room { length buffer.old.items + 4608 ≤ vec_capacity buffer.old }
         ensures gives { (bytes : List ℕ) → IsYet self.old bytes → (piece : List ℕ) × (rest : List ℕ)
             × (bytes ≡ piece ++ rest) × IsYet self.new rest × (buffer.new.items ≡ buffer.old.items ++ piece) }
         ensures end { IsFalse result → ((bytes : List ℕ) → IsYet self.old bytes → bytes ≡ [])
             × (buffer.new.items ≡ buffer.old.items) }
+        ensures some { IsTrue result → length buffer.old.items < length buffer.new.items }
         ensures fewer { IsTrue result → bytes_left self.new < bytes_left self.old }
         ensures room { vec_capacity buffer.old ≤ vec_capacity buffer.new }
     {
@@ -163,6 +161,7 @@ fn give_front(bytes: &mut &[u8], buffer: &mut Vec<u8>) -> bool
         × (buffer.new.items ≡ buffer.old.items ++ piece) }
     ensures end { IsFalse result → (bytes.old.now ≡ []) × (bytes.new.now ≡ [])
         × (buffer.new.items ≡ buffer.old.items) }
+    ensures some { IsTrue result → length buffer.old.items < length buffer.new.items }
     ensures fewer { IsTrue result → length bytes.new.now < length bytes.old.now }
     ensures room { vec_capacity buffer.old ≤ vec_capacity buffer.new }
 {
