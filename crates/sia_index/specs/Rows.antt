@@ -46,10 +46,6 @@ pub record IsStretch (rows : List WriteRow) (t from to : ℕ) : Type 0 where
   pub own : (i : ℕ) (d : WriteRow) → from ≤ i → i < to → (slice_index_or rows i d).txn ≡ t
   pub whole : (i : ℕ) (d : WriteRow) → i < length rows → (slice_index_or rows i d).txn ≡ t → (from ≤ i) × (i < to)
 
--- the row of the write event at place p, if there is one
-abbrev pub IsWriteEvent : List Event → ℕ → Option WriteRow → Type 0
-IsWriteEvent h p row = MatchOption row ((t k : ℕ) → ¬ WritesAt h t k p) (λ w. (w.place ≡ p) × WritesAt h w.txn w.key p)
-
 -- of the versions of all keys those of k stand from one place to below another, version 0 first
 pub record IsKeyStretch (versions : List KeyVersion) (k from to : ℕ) : Type 0 where
   pub some : from < to

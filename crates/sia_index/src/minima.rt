@@ -1,7 +1,7 @@
 //! The least numbers of rows in blocks, and of blocks in a tree. A search for a low number passes all rows below a node at once.
 ghost use Rattle.std.specs.Prelude.{◌<◌, ◌≤◌, ◌+◌, ◌*◌, ◌/◌, ℕ, IfOk, MatchOption, length};
 ghost use Rattle.std.specs.List.{AllWithin};
-ghost use Rattle.sia_index.specs.Minima.{AreMinima, Covers, IsNextBelow, IsPower, PassesBlocks};
+ghost use Rattle.sia_index.specs.Minima.{AreMinima, Covers, IsNextBelow, PassesBlocks};
 
 use crate::keyed::By;
 use std::alloc::{AllocError, Global};
@@ -14,7 +14,8 @@ const BLOCK: usize = 16;
 pub fn minima_of<T, O: By<T>>(alloc: Global, rows: &[T]) -> Result<Vec<u64>, AllocError>
     ensures { IfOk result (λ minima. AreMinima O.by rows.now minima.items) }
 {
-    let size = size_for(rows.len());
+    // The least power of 2 that is enough blocks.
+    let size = rows.len().div_ceil(BLOCK).next_power_of_two();
     let mut minima = vec![in alloc; u64::MAX; 2 * size]?;
     for (i, row) in rows.iter().enumerate() {
         let leaf = size + i / BLOCK;
@@ -24,19 +25,6 @@ pub fn minima_of<T, O: By<T>>(alloc: Global, rows: &[T]) -> Result<Vec<u64>, All
         minima[node] = minima[2 * node].min(minima[2 * node + 1]);
     }
     Ok(minima)
-}
-
-/// The least power of 2 that is enough blocks.
-fn size_for(rows: usize) -> usize
-    ensures power { IsPower result }
-    ensures enough { rows ≤ result * 16 }
-    ensures few { result ≤ 2305843009213693952 }
-{
-    let mut size = 1;
-    while size < rows.div_ceil(BLOCK) {
-        size *= 2;
-    }
-    size
 }
 
 /// The first place, from `from` to below `to`, of a row whose number is below the limit.

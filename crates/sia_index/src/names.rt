@@ -1,11 +1,9 @@
 //! Names by their numbers in a log, where the row of each number stands, and the table of written keys.
-ghost use Rattle.std.specs.Prelude.{◌≢◌, ◌<◌, All, AllPairs, Contains, IfOk, IsTrue};
-ghost use Rattle.sia_events.specs.Numbering.{keys_of};
-ghost use Rattle.sia_index.specs.Rows.{AreNumbered, IsWritten};
+ghost use Rattle.std.specs.Prelude.{◌≢◌, ◌<◌, All, AllPairs, IfOk};
 ghost use Rattle.sia_index.specs.Tables.{AreKeys, ArePlaces};
 
 use crate::keyed::By;
-use crate::ordering::in_order;
+use crate::ordering::Sorter;
 use sia_events::{Key, Log};
 use std::alloc::{AllocError, Global};
 
@@ -55,41 +53,25 @@ pub struct Keys {
 pub fn keys_of(alloc: Global, log: &Log) -> Result<Keys, AllocError>
     ensures { IfOk result (λ keys. AreKeys log.now keys) }
 {
-    let rows = written(alloc, log)?;
-    let mut keys = Vec::with_capacity(alloc, rows.len())?;
-    for row in &rows {
-        keys.push(row.name)?;
-    }
-    let numbers = places_of(alloc, log.key_count(), &rows)?;
-    Ok(Keys { keys, numbers })
-}
-
-fn written(alloc: Global, log: &Log) -> Result<Vec<Numbered>, AllocError>
-    ensures { IfOk result (λ rows. AreNumbered (IsWritten log.now) (keys_of log.now) rows.items) }
-{
-    let count = log.key_count() as usize;
-    let mut rows = Vec::with_capacity(alloc, count)?;
-    let mut guesses = vec![in alloc; 0usize; count]?;
+    let count = log.key_count();
+    let mut rows = Vec::with_capacity(alloc, count as usize)?;
+    let mut guesses = vec![in alloc; 0usize; count as usize]?;
     for before in 0..log.write_count() {
         let number = log.write(before + 1).key;
         let row = Numbered {
             name: log.key(number),
             number,
         };
-        if !stands_at(&rows, row, guesses[number as usize]) {
+        if rows.get(guesses[number as usize]) != Some(&row) {
             guesses[number as usize] = rows.len();
             rows.push(row)?;
         }
     }
-    let sorted = in_order::<Numbered, ByName>(alloc, rows)?;
-    Ok(sorted)
-}
-
-fn stands_at(rows: &[Numbered], row: Numbered, place: usize) -> bool
-    ensures { IsTrue result → Contains rows.now row }
-{
-    match rows.get(place) {
-        Some(there) => *there == row,
-        None => false,
+    Sorter::with_capacity(alloc, rows.len())?.sort::<ByName>(&mut rows);
+    let mut keys = Vec::with_capacity(alloc, rows.len())?;
+    for row in &rows {
+        keys.push(row.name)?;
     }
+    let numbers = places_of(alloc, count, &rows)?;
+    Ok(Keys { keys, numbers })
 }

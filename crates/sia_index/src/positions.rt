@@ -13,7 +13,6 @@ use crate::index::Index;
 use crate::info::{Made, WriteAt};
 use crate::keyed::{ByPlace, place_above};
 use crate::minima::next_below;
-use crate::versions::before_commit;
 
 impl Index {
     /// The number of the log's key among the written ones, if it is written.
@@ -134,7 +133,7 @@ impl Index {
         if self.commit_at(position) > place {
             return false;
         }
-        place <= before_commit(self.commit_behind(position))
+        place <= self.commit_behind(position).wrapping_sub(1)
     }
 
     /// The position of the newest version of written key number `i` as of the place, by a search.

@@ -1,11 +1,9 @@
 //! The tables of transactions and of write events.
-ghost use Rattle.std.specs.Prelude.{◌≡◌, ℕ, List, Some, All, IfOk, slice_get};
-ghost use Rattle.sia_events.specs.declared.event.Event.{Event};
-ghost use Rattle.sia_events.specs.Numbering.{Ends, txns_of};
-ghost use Rattle.sia_events.specs.Transactions.{StartsAt, IsCommitted, HasEvent};
-ghost use Rattle.sia_index.specs.Info.{IsInfo};
+ghost use Rattle.std.specs.Prelude.{◌≡◌, Some, All, IfOk, slice_get};
+ghost use Rattle.sia_events.specs.Numbering.{txns_of};
+ghost use Rattle.sia_events.specs.Transactions.{IsCommitted, HasEvent};
 ghost use Rattle.sia_index.specs.Lifetimes.{AreLifetimes};
-ghost use Rattle.sia_index.specs.Rows.{AreNumbered, AreNamesOf, AreWrites, IsWriteEvent};
+ghost use Rattle.sia_index.specs.Rows.{AreNumbered, AreNamesOf, AreWrites};
 ghost use Rattle.sia_index.specs.Tables.{AreInfos, AreTxns, AreWriteTables};
 ghost use Rattle.sia_events.specs.Lists.{ListsAscending};
 
@@ -13,8 +11,8 @@ use crate::info::{Fate, Lifetime, TxnInfo};
 use crate::keyed::{By, ByKey, ByPlace, ByTxn};
 use crate::minima::minima_of;
 use crate::names::{ByName, Numbered, places_of};
-use crate::ordering::{in_order, offsets_of};
-use sia_events::{Key, Log, Row, TxnEnd, TxnId, TxnRow};
+use crate::ordering::{Sorter, offsets_of};
+use sia_events::{Key, Log, Row, TxnEnd, TxnId};
 use std::alloc::{AllocError, Global};
 
 /// Every transaction once, ascending, and every committed one, and beside each what is known of it. The tables of numbers
@@ -34,25 +32,6 @@ pub fn txns_of(alloc: Global, log: &Log) -> Result<Txns, AllocError>
     ensures { IfOk result (λ txns. AreTxns log.now txns) }
 {
     log.law();
-    let rows = numbered(alloc, log)?;
-    let (ids, infos) = infos_of(alloc, log, &rows)?;
-    let numbers = places_of(alloc, log.txn_count(), &rows)?;
-    let (ended, committed, lifetimes) = committed_of(alloc, log, &rows)?;
-    let committed_numbers = places_of(alloc, log.txn_count(), &ended)?;
-    Ok(Txns {
-        ids,
-        infos,
-        numbers,
-        committed,
-        lifetimes,
-        committed_numbers,
-    })
-}
-
-/// The transactions of the log, by name. Mostly their numbers are in the order of their names.
-fn numbered(alloc: Global, log: &Log) -> Result<Vec<Numbered>, AllocError>
-    ensures { IfOk result (λ rows. AreNumbered (HasEvent log.now) (txns_of log.now) rows.items) }
-{
     let count = log.txn_count();
     let mut rows = Vec::with_capacity(alloc, count as usize)?;
     for number in 0..count {
@@ -61,8 +40,20 @@ fn numbered(alloc: Global, log: &Log) -> Result<Vec<Numbered>, AllocError>
             number,
         })?;
     }
-    let sorted = in_order::<Numbered, ByName>(alloc, rows)?;
-    Ok(sorted)
+    // Mostly the numbers are in the order of the names.
+    Sorter::with_capacity(alloc, rows.len())?.sort::<ByName>(&mut rows);
+    let (ids, infos) = infos_of(alloc, log, &rows)?;
+    let numbers = places_of(alloc, count, &rows)?;
+    let (ended, committed, lifetimes) = committed_of(alloc, log, &rows)?;
+    let committed_numbers = places_of(alloc, count, &ended)?;
+    Ok(Txns {
+        ids,
+        infos,
+        numbers,
+        committed,
+        lifetimes,
+        committed_numbers,
+    })
 }
 
 /// The transactions of the rows, and beside each what is known of it.
@@ -79,26 +70,19 @@ fn infos_of(
     let mut infos = Vec::with_capacity(alloc, rows.len())?;
     for row in rows {
         let txn = log.txn(row.number);
+        let (ended, fate) = match txn.end {
+            TxnEnd::Open => (None, Fate::Unfinished),
+            TxnEnd::Committed(place) => (Some(place), Fate::Committed),
+            TxnEnd::Aborted(place) => (Some(place), Fate::Aborted),
+        };
         ids.push(txn.name)?;
-        infos.push(info_of(txn))?;
+        infos.push(TxnInfo {
+            start: txn.start,
+            ended,
+            fate,
+        })?;
     }
     Ok((ids, infos))
-}
-
-/// What the row of a transaction tells of it.
-fn info_of(row: TxnRow) -> TxnInfo
-    ensures { (h : List Event) (t : ℕ) → StartsAt h t row.start → Ends h t row.end → IsInfo h t result }
-{
-    let (ended, fate) = match row.end {
-        TxnEnd::Open => (None, Fate::Unfinished),
-        TxnEnd::Committed(place) => (Some(place), Fate::Committed),
-        TxnEnd::Aborted(place) => (Some(place), Fate::Aborted),
-    };
-    TxnInfo {
-        start: row.start,
-        ended,
-        fate,
-    }
 }
 
 /// Of all transactions the committed ones, and beside each when it starts and commits.
@@ -192,23 +176,16 @@ fn rows_of(alloc: Global, log: &Log) -> Result<Vec<WriteRow>, AllocError>
 {
     let mut rows = Vec::with_capacity(alloc, log.len() as usize)?;
     for before in 0..log.len() {
-        if let Some(row) = row_at(log, before + 1) {
-            rows.push(row)?;
-        }
-    }
-    let sorted = in_order::<WriteRow, ByTxn>(alloc, rows)?;
-    Ok(sorted)
-}
-
-fn row_at(log: &Log, place: u32) -> Option<WriteRow>
-    ensures { IsWriteEvent log.now place result }
-{
-    match log.row(place) {
-        Some(Row::Write { txn, key, .. }) => Some(WriteRow {
+        let place = before + 1;
+        let Some(Row::Write { txn, key, .. }) = log.row(place) else {
+            continue
+        };
+        rows.push(WriteRow {
             txn: log.txn(txn).name,
             key: log.key(key),
             place,
-        }),
-        _ => None,
+        })?;
     }
+    Sorter::with_capacity(alloc, rows.len())?.sort::<ByTxn>(&mut rows);
+    Ok(rows)
 }

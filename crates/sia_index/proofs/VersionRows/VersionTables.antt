@@ -1,5 +1,5 @@
 -- The tables of versions, as loops over their rows fill them.
-use Rattle.std.proofs.Common.{◌≡◌, ◌≢◌, inl, inr, ℕ, ◌+◌, ◌-◌, ◌<◌, ◌≤◌, List, [], ◌∷◌, ◌++◌, length, set, get_or, Some, None, refl, sym, subst, ◌∙◌, ap, arith, slice_get}
+use Rattle.std.proofs.Common.{◌≡◌, ◌≢◌, inl, inr, ℕ, zero, suc, ◌%◌, ◌+◌, ◌-◌, ◌<◌, ◌≤◌, List, [], ◌∷◌, ◌++◌, length, set, get_or, Some, None, refl, sym, subst, ◌∙◌, ap, arith, slice_get}
 use Rattle.std.specs.Prelude.{All, AllPairs, Contains, slice_index, slice_index_or}
 use Rattle.std.proofs.lemmas.Bool.{cases_lt, cases_eq}
 use Rattle.std.proofs.lemmas.List.{get_or_default, get_or_append_left, get_or_push, get_or-set_same, get_or-set_other, length-set, length_push}
@@ -12,7 +12,7 @@ use Rattle.sia_events.specs.Transactions.{CommitsAt}
 use Rattle.sia_index.specs.declared.info.WriteAt.{WriteAt}
 use Rattle.sia_index.specs.declared.versions.MadeRow.{MadeRow}
 use Rattle.sia_index.specs.declared.versions.VersionRow.{VersionRow}
-use Rattle.sia_index.specs.VersionRows.{AreFirsts, AreMadeRows, AreRowsBelow, AreWritesAt, AreZeroRows, IsMadeRow, IsVersionRow}
+use Rattle.sia_index.specs.VersionRows.{AreFirsts, AreMadeRows, AreRowsBelow, AreWritesAt, AreZeroRows, IsMadeRow, IsVersionRow, before_commit}
 use Rattle.sia_index.proofs.Shared.NumberedNames.{same_some}
 
 abbrev pub no_row : VersionRow
@@ -20,6 +20,11 @@ no_row = record { key = 0; commit = 0; maker = 0; write = 0 }
 
 abbrev pub no_write : WriteAt
 no_write = record { key = 0; position = None }
+
+-- less 1, in 32 bits, a commit is how many events stand before it
+pub before_wrapped : (n : ℕ) → n < 4294967296 → (n + 4294967295) % 4294967296 ≡ before_commit n
+before_wrapped zero fits = refl
+before_wrapped (suc n) fits = omega arith
 
 -- one more at the end of a list in which each is before each later one
 pub pairs_push : {A : Type 0} (R : A → A → Type 0) (xs : List A) (y : A) → AllPairs R xs → All (λ x. R x y) xs → AllPairs R (xs ++ y ∷ [])

@@ -1,12 +1,14 @@
 -- Each row adds its transaction.
 use Rattle.std.proofs.Common.{◌≡◌, ◌+◌, ◌∙◌, [], ◌∷◌, ◌++◌, length, sym, subst, ap, arith}
 use Rattle.std.specs.Prelude.{slice_index_or}
-use Rattle.sia_index.specs.Info.{IsInfo}
+use Rattle.sia_events.specs.Numbering.{Ends}
+use Rattle.sia_index.specs.Info.{EndsAs, IsInfo}
 use Rattle.sia_index.specs.declared.names.Numbered.{Numbered}
 use Rattle.sia_index.specs.Rows.{IsColumn}
 use Rattle.sia_index.proofs.Shared.Columns.{column_more}
 use Rattle.sia_index.proofs.TxnTables.KnownTxns.{beside_more}
 use Rattle.sia_index.proofs.Shared.NumberedNames.{none_numbered, same_some}
+use Rattle.sia_index.proofs.txns.infos_of.Goals.{in-Open, in-Committed, in-Aborted}
 use Rattle.sia_index.proofs.txns.infos_of.Goals as goal
 
 pub loop-row-init : goal.loop-row-init
@@ -22,9 +24,14 @@ loop-row-preserved c =
     let row = slice_index_or rows n none_numbered in
     let name : c.txn-txn.result.name ≡ row.name = same_some _ _ (sym c.txn-txn.ensures.name ∙ c.requires n none_numbered c.loop-row-test.true) in
     let so = c.loop-row.invariant in
+    let known : EndsAs c.args.log.now c.txn-txn.result.name c.match-txn.ended.1 c.match-txn.ended.0 = elim c.match-txn.branch [
+      | in-Open w ↦ rw w.ended-is (subst (Ends c.args.log.now c.txn-txn.result.name) w.in-Open.is c.txn-txn.ensures.ends)
+      | in-Committed w ↦ rw w.ended-is (subst (Ends c.args.log.now c.txn-txn.result.name) w.in-Committed.is c.txn-txn.ensures.ends)
+      | in-Aborted w ↦ rw w.ended-is (subst (Ends c.args.log.now c.txn-txn.result.name) w.in-Aborted.is c.txn-txn.ensures.ends)
+    ] in
     rw (c.in_ok-push.ensures.items, c.in_ok-push-2.ensures.items) (
       subst (λ t. IsColumn (λ (r : Numbered). r.name) rows (n + 1) (ids ++ t ∷ [])) (sym name) (column_more (λ (r : Numbered). r.name) rows n ids so.0 none_numbered c.loop-row-test.true),
-      beside_more (IsInfo c.args.log.now) n ids _ _ _ so.0.0 so.1 (c.info_of.ensures c.args.log.now c.txn-txn.result.name c.txn-txn.ensures.starts c.txn-txn.ensures.ends),
+      beside_more (IsInfo c.args.log.now) n ids _ _ _ so.0.0 so.1 (c.txn-txn.ensures.starts, known),
     )
 
 pub returns-clause-names : goal.returns-clause-names

@@ -1,8 +1,9 @@
 -- It isn't before its own commit, and before the next one.
-use Rattle.std.proofs.Common.{subst, arith}
+use Rattle.std.proofs.Common.{◌+◌, ◌%◌, subst, arith}
 use Rattle.std.proofs.lemmas.Bool.{le-leb, leb-true}
 use Rattle.sia_index.specs.Tables.{AreTables}
 use Rattle.sia_index.proofs.Answering.PositionLaws.{newest_is}
+use Rattle.sia_index.proofs.VersionRows.VersionTables.{before_wrapped}
 use Rattle.sia_index.proofs.index.Index.is_newest.Goals as goal
 
 pub returns-then-commit_at-place : goal.returns-then-commit_at-place
@@ -12,7 +13,7 @@ pub returns : goal.returns
 returns c v at =
     let are = subst (λ h. AreTables h c.self.inside.txns c.self.inside.keys c.self.inside.versions c.self.inside.writes) c.self.view_is c.self.invariant in
     let told = newest_is c.args.self.now _ _ _ _ are c.args.position c.args.place c.commit_behind.result v (c.commit_behind.ensures v at) (let within = c.if-commit_at-place.false in let is = c.commit_at.ensures v at in omega arith) c.ranges.place.fits in
-    let is = c.before_commit.ensures in (
-      (λ yes. told.0 (let within = leb-true c.args.place c.before_commit.result yes in omega arith)),
-      (λ newest. le-leb c.args.place c.before_commit.result (let within = told.1 newest in omega arith)),
+    let is = before_wrapped c.commit_behind.result (omega arith) in (
+      (λ yes. told.0 (let within = leb-true c.args.place ((c.commit_behind.result + 4294967295) % 4294967296) yes in omega arith)),
+      (λ newest. le-leb c.args.place ((c.commit_behind.result + 4294967295) % 4294967296) (let within = told.1 newest in omega arith)),
     )

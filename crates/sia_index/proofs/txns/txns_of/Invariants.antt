@@ -3,7 +3,7 @@ use Rattle.sia_events.specs.Numbering.{txns_of}
 use Rattle.sia_events.specs.Transactions.{HasEvent}
 use Rattle.sia_index.proofs.TxnTables.Collected.{HoldsBelow}
 use Rattle.sia_index.proofs.Shared.NumberedNames.{IsRowOf}
-use Rattle.sia_index.proofs.txns.numbered.Given as goal
+use Rattle.sia_index.proofs.txns.txns_of.Given as goal
 
 abbrev pub invariant-loop-number : goal.invariant-loop-number
 invariant-loop-number l = HoldsBelow (IsRowOf (HasEvent l.log) (txns_of l.log)) l.number l.rows.items
