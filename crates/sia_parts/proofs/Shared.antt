@@ -5,3 +5,4 @@ pub mod FewNumbers
 pub mod Listing
 pub mod OneNumber
 pub mod Options
+pub mod RowTxns

@@ -10,7 +10,7 @@ ghost use Rattle.sia_parts.specs.Parts.{IsInPart};
 ghost use Rattle.sia_index.specs.Positions.{HasPosition, IsAtPosition};
 ghost use Rattle.sia_index.specs.declared.info.KeyVersion.{KeyVersion as version};
 ghost use Rattle.sia_parts.specs.Seeing.{IsScope, Gains, IsOrigin, IsSightWithin, origin_in, txn_in};
-ghost use Rattle.sia_parts.specs.Sights.{Adds, IsBadWith, FromSome};
+ghost use Rattle.sia_parts.specs.Sights.{Adds, IsBadWith};
 ghost use Rattle.sia_events.specs.Numbering.{Names, names_of, event_of, key_at, txns_of, version_at, IsSeen, IsWithin, IsMarked};
 ghost use Rattle.sia_events.specs.Places.{at_place};
 ghost use Rattle.sia_parts.specs.Accesses.{AreSights};
@@ -219,17 +219,6 @@ fn seen_of(alloc: Global, scope: &Scope, places: &[u32]) -> Result<Seen, NoMemor
         missed: ByReader::new(alloc),
         near: (scope.first, scope.end),
     };
-    put_reads(scope, places, &mut seen)?;
-    put_in_order(&mut seen.bad_reads)?;
-    Ok(seen)
-}
-
-fn put_reads(scope: &Scope, places: &[u32], seen: &mut Seen) -> Result<(), NoMemory>
-    requires { IsScope scope.now }
-    ensures { OnOk result (Gains scope.now.ix.now
-        (λ s. FromSome (λ place. IsSightWithin scope.now.ix.now place scope.now.first scope.now.end)
-        places.now s) seen.old seen.new) }
-{
     let mut last: Option<Known> = None;
     for place in places {
         let Some(row) = scope.log.row(*place) else {
@@ -237,9 +226,10 @@ fn put_reads(scope: &Scope, places: &[u32], seen: &mut Seen) -> Result<(), NoMem
         };
         let known = known_after(scope.ix, last, txn_of(row), *place);
         last = Some(known);
-        put_row(scope, &known, row, seen)?;
+        put_row(scope, &known, row, &mut seen)?;
     }
-    Ok(())
+    put_in_order(&mut seen.bad_reads)?;
+    Ok(seen)
 }
 
 /// Adds what the event saw, if it is a read.

@@ -1,7 +1,6 @@
 //! Cutting the keys into parts.
-ghost use Rattle.std.specs.Prelude.{◌≡◌, ◌⊎◌, ◌<◌, ◌≤◌, length, Contains, All, IfOk, OnOk, Err};
+ghost use Rattle.std.specs.Prelude.{◌≡◌, ◌<◌, ◌≤◌, length, All, IfOk, OnOk, Err};
 ghost use Rattle.std.specs.List.Sorted.{IsStrictlyIncreasing};
-ghost use Rattle.sia_events.specs.Lists.{ListsAscending};
 ghost use Rattle.sia_parts.specs.Parts.{parts_from, IsCutting, HasTooManyCuts, OnePartLaw};
 ghost use Rattle.sia_parts.specs.declared.cutting.CutFault.TheVariants as faults;
 
@@ -45,22 +44,15 @@ pub fn cut(alloc: Global, points: &[Key]) -> Result<Vec<Part>, CutFault>
     ensures bound { IfOk result (λ parts. length parts.items ≤ 1024) }
     ensures ordered { IfOk result (λ parts. All (λ part. part.lo ≤ part.hi) parts.items) }
 {
-    let starts = starts_of(alloc, points)?;
+    let mut starts = Vec::with_capacity(alloc, points.len() + 1)?;
+    starts.extend_from_slice(points)?;
+    starts.extend_from_slice(&[0])?;
+    starts.sort_unstable();
+    starts.dedup();
     if starts.len() > MAX_PARTS {
         return Err(CutFault::TooMany);
     }
     Ok(parts_of(alloc, &starts)?)
-}
-
-fn starts_of(alloc: Global, points: &[Key]) -> Result<Vec<Key>, AllocError>
-    ensures { IfOk result (λ starts. ListsAscending (λ s. (s ≡ 0) ⊎ Contains points.now s) starts.items) }
-{
-    let mut starts = Vec::with_capacity(alloc, points.len() + 1)?;
-    starts.extend_from_slice(points)?;
-    starts.push(0)?;
-    starts.sort_unstable();
-    starts.dedup();
-    Ok(starts)
 }
 
 fn parts_of(alloc: Global, starts: &[Key]) -> Result<Vec<Part>, AllocError>

@@ -22,7 +22,7 @@ use sia_events::{Key, NoMemory, TxnId};
 use sia_index::Index;
 use sia_index::keyed::By;
 use sia_index::lists::Lists;
-use sia_index::ordering::sort_distinct;
+use sia_index::ordering::Sorter;
 use std::alloc::Global;
 
 /// An edge from a source that is known, by the number of its target among the committed transactions and that of its key among
@@ -46,6 +46,17 @@ impl EdgeTo {
             kind: self.kind,
             key: keys.get(self.key as usize).copied().unwrap_or(0),
         }
+    }
+}
+
+/// By target.
+struct ByTarget;
+
+impl By<EdgeTo> for ByTarget {
+    ghost by = { λ row. row.target };
+
+    fn number(row: &EdgeTo) -> u64 {
+        u64::from(row.target)
     }
 }
 
@@ -119,7 +130,7 @@ impl<'a> Edges<'a> {
     }
 
     /// Puts the edges from the source into the list, which has room for them, each once, in order, in place of what it held.
-    pub fn put_from(&self, source: u32, rows: &mut Vec<EdgeTo>)
+    pub fn put_from(&self, source: u32, rows: &mut Vec<EdgeTo>, sorter: &mut Sorter<EdgeTo>)
         requires tell { CanTell self.now }
         requires source { (t : ℕ) × IsCommittedAt self.now.index.now source t }
         requires room { row_bound self.now ≤ vec_capacity rows.old }
@@ -131,7 +142,7 @@ impl<'a> Edges<'a> {
         self.put_made(source, rows);
         self.put_seen(source, rows);
         self.put_missed(source, rows);
-        sort_distinct(rows);
+        sorter.sort::<ByTarget>(rows);
     }
 
     /// Adds the edges of what the source made: to later versions, and to who saw its own or later ones.
@@ -308,8 +319,9 @@ pub fn edges_at(
     let keys = ix.written_keys();
     let mut all = Vec::new(alloc);
     let mut rows = Vec::with_capacity(alloc, edges.most_rows())?;
+    let mut sorter = Sorter::with_capacity(alloc, edges.most_rows())?;
     for source in 0..txns.len() as u32 {
-        edges.put_from(source, &mut rows);
+        edges.put_from(source, &mut rows, &mut sorter);
         for row in &rows {
             all.push(row.named(txns, keys, source))?;
         }

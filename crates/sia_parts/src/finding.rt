@@ -1,5 +1,5 @@
 //! What is found wrong in a history, and its edges; and the findings of all parts together.
-ghost use Rattle.std.specs.Prelude.{ℕ, List, Contains, IfOk, OnOk};
+ghost use Rattle.std.specs.Prelude.{ℕ, List, IfOk};
 ghost use Rattle.std.specs.List.{AllZip};
 ghost use Rattle.sia_events.specs.declared.event.Event.{Event};
 ghost use Rattle.sia_events.specs.Refusals.{IsWellFormed};
@@ -7,7 +7,6 @@ ghost use Rattle.sia_parts.specs.declared.cutting.Part.{Part};
 ghost use Rattle.sia_parts.specs.Findings.{AreFindings, ArePartFindings};
 ghost use Rattle.sia_parts.specs.Gathering.{IsGathering, IsPartFound};
 ghost use Rattle.sia_parts.specs.Parts.{IsCutting, IsInPart};
-ghost use Rattle.sia_parts.specs.Sights.{Adds};
 
 use crate::accesses::{Accesses, ByReader, RangeMiss, accesses_at};
 use sia_events::{Key, NoMemory, TxnId, Version};
@@ -138,7 +137,11 @@ impl Gathering {
             missed: ByReader::new(alloc),
         };
         for part in parts {
-            put_part(part, &mut all)?;
+            all.bad_reads.extend_from_slice(&part.bad_reads)?;
+            all.bad_writes.extend_from_slice(&part.bad_writes)?;
+            all.unexplained.extend_from_slice(&part.unexplained)?;
+            all.saw.append(part.saw)?;
+            all.missed.append(part.missed)?;
         }
         put_in_order(&mut all.bad_reads)?;
         put_in_order(&mut all.bad_writes)?;
@@ -150,21 +153,4 @@ impl Gathering {
             accesses: accesses_at(alloc, ix, None, all.saw, all.missed)?,
         })
     }
-}
-
-fn put_part(part: PartFound, all: &mut PartFound) -> Result<(), NoMemory>
-    ensures bad_reads { OnOk result
-        (Adds (Contains part.bad_reads.items) all.old.bad_reads.items all.new.bad_reads.items) }
-    ensures bad_writes { OnOk result
-        (Adds (Contains part.bad_writes.items) all.old.bad_writes.items all.new.bad_writes.items) }
-    ensures unexplained { OnOk result
-        (Adds (Contains part.unexplained.items) all.old.unexplained.items all.new.unexplained.items) }
-    ensures saw { OnOk result (Adds (Contains part.saw) all.old.saw all.new.saw) }
-    ensures missed { OnOk result (Adds (Contains part.missed) all.old.missed all.new.missed) }
-{
-    all.bad_reads.extend_from_slice(&part.bad_reads)?;
-    all.bad_writes.extend_from_slice(&part.bad_writes)?;
-    all.unexplained.extend_from_slice(&part.unexplained)?;
-    all.saw.append(part.saw)?;
-    Ok(all.missed.append(part.missed)?)
 }

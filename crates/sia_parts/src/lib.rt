@@ -17,7 +17,7 @@ pub use finding::{
     BadRead, BadWrite, Edge, Findings, Gathering, Kind, PartFindings, PartFound, Unexplained,
     gather,
 };
-pub use reads::Reads;
+pub use reads::{Reads, txn_of};
 pub use reasons::{
     Act, FirstSight, Recorded, acts_of, anomaly_of, first_sight, loss_of, push_event, push_start,
     push_unless, push_version, reader_of_edge,

@@ -138,7 +138,7 @@ fn put_read(
 }
 
 /// The log's transaction whose event the row is.
-pub(crate) fn txn_of(row: Row) -> u32
+pub fn txn_of(row: Row) -> u32
     ensures { result ≡ txn_in row }
 {
     match row {

@@ -1,6 +1,5 @@
 //! What a line of reasons tells: events, the names of bad reads and bad writes, and where an edge was first seen.
 ghost use Rattle.std.specs.Prelude.{◌≡◌, ◌≢◌, ◌++◌, ℕ, List, OnOk, codes, All, Contains, MatchOption, ◌↔◌, ◌==◌, IfOk, IsTrue, if◌then◌else◌};
-ghost use Rattle.std.specs.List.Sorted.{IsNonDecreasingBy};
 ghost use Rattle.sia_events.specs.Text.{numeral};
 ghost use Rattle.sia_events.specs.Transactions.{Wrote, StartsAt, CommitsBefore};
 ghost use Rattle.sia_parts.specs.Telling.{TellsUnless, TellsVersion, event_words};
@@ -117,10 +116,7 @@ fn wrong_with(ix: &Index, saw: Version, start: u32) -> Option<Anomaly>
         Fate::Unfinished => Some(Anomaly::UncommittedRead),
         Fate::Committed => {
             let end = ix.lifetime_of(saw)?.commit;
-            if start < end {
-                return Some(Anomaly::FutureRead);
-            }
-            None
+            (start < end).then_some(Anomaly::FutureRead)
         }
     }
 }
@@ -184,7 +180,8 @@ pub fn acts_of(alloc: Global, h: &Log, mut txns: Vec<TxnId>) -> Result<Vec<Act>,
     txns.sort_unstable_by_key(|txn| *txn);
     for before in 0..h.len() {
         if let Some(act) = act_at(h, before + 1) {
-            if is_among(&txns, act.txn) {
+            let txn = u64::from(act.txn);
+            if !between::<TxnId, ByTxn>(&txns, txn, txn).is_empty() {
                 acts.push(act)?;
             }
         }
@@ -199,26 +196,14 @@ fn act_at(h: &Log, place: u32) -> Option<Act>
 {
     let (txn, key) = match h.row(place)? {
         Row::Read { txn, key, .. } | Row::OwnRead { txn, key, .. } => (txn, h.key(key)),
-        Row::Range { txn, range, .. } => (txn, key_for(h.range(range))),
+        Row::Range { txn, range, .. } => {
+            let (lo, hi) = h.range(range);
+            (txn, if lo == hi { lo } else { Key::MAX })
+        }
         _ => return None,
     };
     let txn = h.txn(txn).name;
     Some(Act { txn, key, place })
-}
-
-/// Under which key the read of a range stands.
-fn key_for(ends: (Key, Key)) -> Key
-    ensures { result ≡ (if ends.0 == ends.1 then ends.0 else 18446744073709551615) }
-{
-    if ends.0 == ends.1 { ends.0 } else { Key::MAX }
-}
-
-fn is_among(txns: &[TxnId], txn: TxnId) -> bool
-    requires { IsNonDecreasingBy (λ t. t) txns.now }
-    ensures { IsTrue result ↔ Contains txns.now txn }
-{
-    let n = u64::from(txn);
-    !between::<TxnId, ByTxn>(txns, n, n).is_empty()
 }
 
 fn commits_before(ix: &Index, first: TxnId, second: TxnId) -> bool
@@ -312,8 +297,5 @@ pub fn loss_of(of: &Recorded, b: &BadWrite) -> Option<u32>
     };
     let sight = first_sight(of.history, of.index, of.acts, &missed)?;
     let write = of.index.first_write(b.second, b.key)?;
-    if sight.place < write {
-        return Some(sight.place);
-    }
-    None
+    (sight.place < write).then_some(sight.place)
 }

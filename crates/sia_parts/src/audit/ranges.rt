@@ -1,5 +1,5 @@
 //! What a range read saw of the keys of a part: the keys that it listed, and those that it passed over.
-ghost use Rattle.std.specs.Prelude.{◌≡◌, ◌↔◌, ◌+◌, ◌<◌, ◌≤◌, ℕ, All, Contains, OnOk, IsTrue, Some, false, length, slice_index_or};
+ghost use Rattle.std.specs.Prelude.{◌≡◌, ◌↔◌, ◌+◌, ◌<◌, ◌≤◌, ℕ, All, Contains, OnOk, Some, length};
 ghost use Rattle.sia_events.specs.declared.event.Event.TheVariants as events;
 ghost use Rattle.sia_events.specs.Numbering.{names_of, pair_at, range_at, ranges_of, AscendByKey, IsPair};
 ghost use Rattle.sia_events.specs.Places.{at_place};
@@ -10,7 +10,7 @@ ghost use Rattle.sia_index.specs.Info.{HasKeyAt, IsReader};
 ghost use Rattle.sia_parts.specs.Accesses.{IsMissAt, IsPassedBy};
 ghost use Rattle.sia_parts.specs.Known.{IsKnown};
 ghost use Rattle.sia_parts.specs.Seeing.{Gains, IsCover, IsGap, IsMiss, HaveUpTo, IsOrigin, IsScope, IsSightWithin, origin_in};
-ghost use Rattle.sia_parts.specs.Sights.{Adds, FromSight, FromSome, Gives, IsBadOf};
+ghost use Rattle.sia_parts.specs.Sights.{Adds, FromSight, Gives, IsBadOf};
 
 use crate::accesses::{ByReader, RangeMiss};
 use crate::audit::sights::{
@@ -53,8 +53,7 @@ pub(crate) fn put_range(
     let listed = scope.log.listed(range);
     let lo = from.max(scope.part.lo);
     let hi = to.min(scope.part.hi);
-    let behind = pairs_from(scope.log, listed, from, lo);
-    let pairs = pairs_up_to(scope.log, behind, hi, to);
+    let pairs = pairs_within(scope.log, listed, (from, to), lo, hi);
     let (first, end) = numbers_within(scope.ix, lo, hi, near_of(scope, pairs, seen.near));
     seen.near = (first, end);
     let cover = Cover {
@@ -222,47 +221,34 @@ fn put_miss(
         (λ at. (number ≡ Some at.0) × IsMissAt miss at.1) missed.old missed.new) }
     ensures some { OnOk result (All IsMiss missed.old → All IsMiss missed.new) }
 {
-    match number {
-        Some(reader) if !is_held(missed, reader, miss) => Ok(missed.put(reader, miss)?),
-        _ => Ok(()),
+    let Some(reader) = number else {
+        return Ok(());
+    };
+    if let Some((last, held)) = missed.last() {
+        if last == reader && held.from <= miss.from && miss.to <= held.to {
+            return Ok(());
+        }
     }
+    Ok(missed.put(reader, miss)?)
 }
 
-/// Whether the last miss is of the reader, and holds this one.
-#[inline(always)]
-fn is_held(missed: &ByReader<RangeMiss>, reader: u32, miss: RangeMiss) -> bool
-    ensures { IsTrue result → (j : ℕ) → IsMissAt miss j → FromSome IsPassedBy missed.now (reader, j) }
-{
-    match missed.last() {
-        Some((last, held)) => last == reader && held.from <= miss.from && miss.to <= held.to,
-        None => false,
-    }
-}
-
-fn pairs_from<'a>(log: &Log, pairs: &'a [u32], least: Key, lo: Key) -> &'a [u32]
+/// Those of a range's pairs whose keys are from `lo` to `hi`. Where these are all keys of the range nothing is searched for.
+fn pairs_within<'a>(log: &Log, pairs: &'a [u32], range: (Key, Key), lo: Key, hi: Key) -> &'a [u32]
     requires numbers { All (IsPair (names_of log.now)) pairs.now }
     requires ascend { AscendByKey log.now pairs.now }
-    requires inside { All (λ p. least ≤ (pair_at (names_of log.now) p).0) pairs.now }
+    requires inside { All (λ p. (range.0 ≤ (pair_at (names_of log.now) p).0)
+        × ((pair_at (names_of log.now) p).0 ≤ range.1)) pairs.now }
     ensures ascend { AscendByKey log.now result.now }
-    ensures each { (p : ℕ) → Contains result.now p
-        ↔ (Contains pairs.now p × (lo ≤ (pair_at (names_of log.now) p).0)) }
+    ensures each { (p : ℕ) → Contains result.now p ↔ (Contains pairs.now p
+        × (lo ≤ (pair_at (names_of log.now) p).0) × ((pair_at (names_of log.now) p).0 ≤ hi)) }
 {
-    if lo <= least {
-        return pairs;
+    let mut from = 0;
+    if range.0 < lo {
+        from = log.place_of(pairs, lo);
     }
-    &pairs[log.place_of(pairs, lo)..]
-}
-
-fn pairs_up_to<'a>(log: &Log, pairs: &'a [u32], hi: Key, most: Key) -> &'a [u32]
-    requires numbers { All (IsPair (names_of log.now)) pairs.now }
-    requires ascend { AscendByKey log.now pairs.now }
-    requires inside { All (λ p. (pair_at (names_of log.now) p).0 ≤ most) pairs.now }
-    ensures ascend { AscendByKey log.now result.now }
-    ensures each { (p : ℕ) → Contains result.now p
-        ↔ (Contains pairs.now p × ((pair_at (names_of log.now) p).0 ≤ hi)) }
-{
-    if most <= hi {
-        return pairs;
+    let mut to = pairs.len();
+    if hi < range.1 {
+        to = log.place_of(pairs, hi + 1);
     }
-    &pairs[..log.place_of(pairs, hi + 1)]
+    &pairs[from.min(to)..to]
 }

@@ -6,14 +6,12 @@ use Rattle.std.proofs.lemmas.Option.{same_Some}
 use Rattle.std.proofs.lemmas.List.Elements.{All-contains, All-push, Contains-append_left, Contains-push}
 use Rattle.sia_events.specs.declared.event.Event.{Event}
 use Rattle.sia_events.specs.Events.{Saw}
-use Rattle.sia_events.specs.Numbering.{Names, names_of, event_of, txns_of, IsWithin}
-use Rattle.sia_events.specs.declared.log.Row.{Row}
-use Rattle.sia_events.specs.declared.log.Row.TheVariants as rows
+use Rattle.sia_events.specs.Numbering.{names_of, event_of, txns_of}
 use Rattle.sia_index.proofs.VersionRows.StableDeal.{dealt_have}
 use Rattle.sia_events.specs.Reads.{SawAt}
 use Rattle.sia_events.proofs.Shared.TransactionDecisions.{place_within}
 use Rattle.sia_parts.specs.declared.reads.Read.{Read}
-use Rattle.sia_parts.specs.Seeing.{txn_in}
+use Rattle.sia_parts.proofs.Shared.RowTxns.{txn_within}
 use Rattle.sia_parts.proofs.Shared.Options.{if_not_there}
 use Rattle.sia_parts.proofs.reads.reads_by_txn.Goals as goal
 use Rattle.sia_parts.proofs.reads.reads_by_txn.Goals.{in-Some+then-is_some+in_ok-push, in-Some+else-is_some, in_default}
@@ -29,15 +27,6 @@ step h n old new has keeps here p t k v le saw = elim (cases_lt n p) [
       (r.0, r.1, r.2 ∙ sym same)
   | inr before ↦ let r = has p t k v before saw in (r.0, keeps r.0 r.1, r.2)
 ]
-
-txn_within : (names : Names) (row : Row) → IsWithin names row → txn_in row < length names.txns
-txn_within names (rows.Begin d start) is = is
-txn_within names (rows.Read d k w) is = is.0
-txn_within names (rows.OwnRead d k w) is = is.0
-txn_within names (rows.Range d r w) is = is.0
-txn_within names (rows.Write d k w) is = is.0
-txn_within names (rows.Commit d) is = is
-txn_within names (rows.Abort d) is = is
 
 pub loop-before-init : goal.loop-before-init
 loop-before-init c = rw c.in_ok-reads.ensures.items ((λ p t k v le saw. let within = place_within c.args.log.now p saw.0 saw.1 in absurd (let some = within.0 in omega arith)), (λ i d below. absurd (omega arith)))

@@ -1,8 +1,7 @@
 -- The pairs that the range listed within the part, and the numbers of its keys there.
-use Rattle.std.proofs.Common.{ℕ, ◌≤◌, ◌≡◌, List, sym, subst, ◌∙◌, arith}
+use Rattle.std.proofs.Common.{ℕ, ◌≤◌, sym, subst, ◌∙◌, arith}
 use Rattle.std.specs.Prelude.{◌↔◌, All, Contains}
 use Rattle.std.proofs.lemmas.List.Elements.{All-contains}
-use Rattle.sia_events.specs.declared.event.Event.{Event}
 use Rattle.sia_events.specs.Numbering.{names_of, pair_at, AscendByKey, IsPair}
 use Rattle.sia_events.specs.Reads.{SawAt}
 use Rattle.sia_parts.specs.Seeing.{IsSightWithin}
@@ -12,33 +11,17 @@ use Rattle.sia_parts.proofs.Auditing.RangeCovers.{all_from, cover_gains, key_unl
 use Rattle.sia_parts.proofs.Auditing.Viewing.{on_ok}
 use Rattle.sia_parts.proofs.audit.ranges.put_range.Goals as goal
 
-cut_both : (h l : List Event) → h ≡ l → (listed behind pairs : List ℕ) (lo hi : ℕ) → ((q : ℕ) → Contains behind q ↔ (Contains listed q × (lo ≤ (pair_at (names_of l) q).0))) → ((q : ℕ) → Contains pairs q ↔ (Contains behind q × ((pair_at (names_of l) q).0 ≤ hi)))
-    → (q : ℕ) → Contains pairs q ↔ (Contains listed q × (lo ≤ (pair_at (names_of h) q).0) × ((pair_at (names_of h) q).0 ≤ hi))
-cut_both h l same listed behind pairs lo hi first second q = subst (λ g. Contains pairs q ↔ (Contains listed q × (lo ≤ (pair_at (names_of g) q).0) × ((pair_at (names_of g) q).0 ≤ hi))) (sym same) (
-  (λ c. let b = (second q).0 c in let a = (first q).0 b.0 in (a.0, a.1, b.1)),
-  (λ w. (second q).1 ((first q).1 (w.0, w.1), w.2)),
-)
-
-pub pairs_from-behind-requires-clause-inside : goal.pairs_from-behind-requires-clause-inside
-pairs_from-behind-requires-clause-inside c =
+pub pairs_within-pairs-requires-clause-inside : goal.pairs_within-pairs-requires-clause-inside
+pairs_within-pairs-requires-clause-inside c =
     let h = c.args.scope.now.ix.now in
     let is = range_in c.args.scope.now c.requires.scope c.args.known.now.reader.place c.args.known.now.reader.txn c.args.range c.listed-listed.result.now c.listed-listed.ensures.pairs c.requires.event c.range-from.result.0 c.range-from.result.1 c.max-lo.result c.min-hi.result c.range-from.ensures.lo c.range-from.ensures.hi c.max-lo.ensures c.min-hi.ensures in
-    subst (λ l. All (λ q. c.range-from.result.0 ≤ (pair_at (names_of l) q).0) c.listed-listed.result.now) c.requires.scope.same
-    (all_from (λ q. c.range-from.result.0 ≤ (pair_at (names_of h) q).0) c.listed-listed.result.now (λ q has. let inside = (pair_inside h c.requires.scope.well_formed _ _ _ _ _ is.at q has).0 in let from = is.from in omega arith))
-
-pub pairs_up_to-pairs-requires-clause-numbers : goal.pairs_up_to-pairs-requires-clause-numbers
-pairs_up_to-pairs-requires-clause-numbers c = all_from (IsPair (names_of c.args.scope.now.log.now)) c.pairs_from-behind.result.now (λ q has. All-contains (IsPair (names_of c.args.scope.now.log.now)) c.listed-listed.result.now q c.listed-listed.ensures.within ((c.pairs_from-behind.ensures.each q).0 has).0)
-
-pub pairs_up_to-pairs-requires-clause-inside : goal.pairs_up_to-pairs-requires-clause-inside
-pairs_up_to-pairs-requires-clause-inside c =
-    let h = c.args.scope.now.ix.now in
-    let is = range_in c.args.scope.now c.requires.scope c.args.known.now.reader.place c.args.known.now.reader.txn c.args.range c.listed-listed.result.now c.listed-listed.ensures.pairs c.requires.event c.range-from.result.0 c.range-from.result.1 c.max-lo.result c.min-hi.result c.range-from.ensures.lo c.range-from.ensures.hi c.max-lo.ensures c.min-hi.ensures in
-    subst (λ l. All (λ q. (pair_at (names_of l) q).0 ≤ c.range-from.result.1) c.pairs_from-behind.result.now) c.requires.scope.same
-    (all_from (λ q. (pair_at (names_of h) q).0 ≤ c.range-from.result.1) c.pairs_from-behind.result.now (λ q has. let inside = (pair_inside h c.requires.scope.well_formed _ _ _ _ _ is.at q ((c.pairs_from-behind.ensures.each q).0 has).0).1 in let to = is.to in omega arith))
+    subst (λ l. All (λ q. (c.range-from.result.0 ≤ (pair_at (names_of l) q).0) × ((pair_at (names_of l) q).0 ≤ c.range-from.result.1)) c.listed-listed.result.now) c.requires.scope.same
+    (all_from (λ q. (c.range-from.result.0 ≤ (pair_at (names_of h) q).0) × ((pair_at (names_of h) q).0 ≤ c.range-from.result.1)) c.listed-listed.result.now
+    (λ q has. let inside = pair_inside h c.requires.scope.well_formed _ _ _ _ _ is.at q has in let low = inside.0 in let high = inside.1 in let from = is.from in let to = is.to in (omega arith, omega arith)))
 
 pub near_of-requires-clause-pairs : goal.near_of-requires-clause-pairs
-near_of-requires-clause-pairs c = all_from (IsPair (names_of c.args.scope.now.log.now)) c.pairs_up_to-pairs.result.now
-    (λ q has. All-contains (IsPair (names_of c.args.scope.now.log.now)) c.listed-listed.result.now q c.listed-listed.ensures.within ((c.pairs_from-behind.ensures.each q).0 ((c.pairs_up_to-pairs.ensures.each q).0 has).0).0)
+near_of-requires-clause-pairs c = all_from (IsPair (names_of c.args.scope.now.log.now)) c.pairs_within-pairs.result.now
+    (λ q has. All-contains (IsPair (names_of c.args.scope.now.log.now)) c.listed-listed.result.now q c.listed-listed.ensures.within ((c.pairs_within-pairs.ensures.each q).0 has).0)
 
 pub put_covered-requires-clause-cover : goal.put_covered-requires-clause-cover
 put_covered-requires-clause-cover c =
@@ -46,15 +29,15 @@ put_covered-requires-clause-cover c =
     let listed = c.listed-listed.result.now in
     let h = c.args.scope.now.ix.now in
     let is = range_in c.args.scope.now c.requires.scope c.args.known.now.reader.place c.args.known.now.reader.txn c.args.range c.listed-listed.result.now c.listed-listed.ensures.pairs c.requires.event c.range-from.result.0 c.range-from.result.1 c.max-lo.result c.min-hi.result c.range-from.ensures.lo c.range-from.ensures.hi c.max-lo.ensures c.min-hi.ensures in
-    let those = cut_both h c.args.scope.now.log.now c.requires.scope.same listed c.pairs_from-behind.result.now c.pairs_up_to-pairs.result.now c.max-lo.result c.min-hi.result c.pairs_from-behind.ensures.each c.pairs_up_to-pairs.ensures.each in
-    let pairs = c.pairs_up_to-pairs.result.now in
+    let those = subst (λ l. (q : ℕ) → Contains c.pairs_within-pairs.result.now q ↔ (Contains listed q × (c.max-lo.result ≤ (pair_at (names_of l) q).0) × ((pair_at (names_of l) q).0 ≤ c.min-hi.result))) (sym c.requires.scope.same) c.pairs_within-pairs.ensures.each in
+    let pairs = c.pairs_within-pairs.result.now in
     let low = is.low in
     let high = is.high in
     record {
       each = c.numbers_within-first.ensures;
       numbers = subst (λ l. All (IsPair (names_of l)) pairs) (sym c.requires.scope.same)
-          (all_from (IsPair (names_of c.args.scope.now.log.now)) pairs (λ q has. All-contains (IsPair (names_of c.args.scope.now.log.now)) listed q c.listed-listed.ensures.within ((c.pairs_from-behind.ensures.each q).0 ((c.pairs_up_to-pairs.ensures.each q).0 has).0).0));
-      ascend = subst (λ l. AscendByKey l pairs) (sym c.requires.scope.same) c.pairs_up_to-pairs.ensures.ascend;
+          (all_from (IsPair (names_of c.args.scope.now.log.now)) pairs (λ q has. All-contains (IsPair (names_of c.args.scope.now.log.now)) listed q c.listed-listed.ensures.within ((c.pairs_within-pairs.ensures.each q).0 has).0));
+      ascend = subst (λ l. AscendByKey l pairs) (sym c.requires.scope.same) c.pairs_within-pairs.ensures.ascend;
       inside = all_from (λ q. (c.max-lo.result ≤ (pair_at (names_of h) q).0) × ((pair_at (names_of h) q).0 ≤ c.min-hi.result)) pairs (λ q has. let w = (those q).0 has in (w.1, w.2));
       listed = all_from (λ q. SawAt h c.args.known.now.reader.place c.args.known.now.reader.txn (pair_at (names_of h) q).0 (pair_at (names_of h) q).1) pairs (λ q has. pair_saw h wf _ _ _ _ listed is.at q ((those q).0 has).0);
       unlisted = key_unlisted h wf _ _ _ _ listed is.at c.max-lo.result c.min-hi.result (omega arith) (omega arith) pairs those;

@@ -38,4 +38,4 @@ returns-clause-edges c =
     let all = adds_both (λ (row : EdgeTo). Made row ⊎ Seen row) Missed [] _ _ (adds_both Made Seen [] _ _ first c.put_seen.ensures.adds) c.put_missed.ensures.adds in
     let each = added_to_none (IsRow self i) _ all in
     rows_are self c.requires.tell c.law.ensures i c.requires.source.0 c.requires.source.1 _
-    (λ row. ((λ has. (each row).0 ((c.sort_distinct.ensures.same row).0 has)), (λ is. (c.sort_distinct.ensures.same row).1 ((each row).1 is)))) c.sort_distinct.ensures.sorted
+    (λ row. ((λ has. (each row).0 ((c.sort.ensures.same row).0 has)), (λ is. (c.sort.ensures.same row).1 ((each row).1 is)))) c.sort.ensures.sorted

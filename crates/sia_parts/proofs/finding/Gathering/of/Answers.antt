@@ -12,7 +12,7 @@ use Rattle.sia_parts.specs.Gathering.{IsPartFound}
 use Rattle.sia_parts.specs.Accesses.{AreSights}
 use Rattle.sia_parts.specs.Parts.{IsCutting, IsInPart}
 use Rattle.sia_parts.specs.Sights.{Adds, FromSome}
-use Rattle.sia_parts.proofs.Shared.Adding.{added_to_none, from_nothing, from_push}
+use Rattle.sia_parts.proofs.Shared.Adding.{added_to_none, adds_list, from_nothing, from_push}
 use Rattle.sia_parts.proofs.Shared.AllSights.{all_sights}
 use Rattle.sia_parts.proofs.Gathered.FieldLemmas.{bad_reads_all, bad_writes_all, unexplained_all}
 use Rattle.sia_parts.proofs.finding.Gathering.of.Goals as goal
@@ -28,11 +28,11 @@ loop-part-init c = record {
 
 pub loop-part-preserved : goal.loop-part-preserved
 loop-part-preserved c = record {
-  bad_reads = from_push (λ (part : PartFound). Contains part.bad_reads.items) c.loop-part.yielded c.in-Some.part [] _ _ c.loop-part.invariant.bad_reads c.in_ok-put_part.ensures.bad_reads;
-  bad_writes = from_push (λ (part : PartFound). Contains part.bad_writes.items) c.loop-part.yielded c.in-Some.part [] _ _ c.loop-part.invariant.bad_writes c.in_ok-put_part.ensures.bad_writes;
-  unexplained = from_push (λ (part : PartFound). Contains part.unexplained.items) c.loop-part.yielded c.in-Some.part [] _ _ c.loop-part.invariant.unexplained c.in_ok-put_part.ensures.unexplained;
-  saw = from_push (λ (part : PartFound). Contains part.saw) c.loop-part.yielded c.in-Some.part [] _ _ c.loop-part.invariant.saw c.in_ok-put_part.ensures.saw;
-  missed = from_push (λ (part : PartFound). Contains part.missed) c.loop-part.yielded c.in-Some.part [] _ _ c.loop-part.invariant.missed c.in_ok-put_part.ensures.missed;
+  bad_reads = from_push (λ (part : PartFound). Contains part.bad_reads.items) c.loop-part.yielded c.in-Some.part [] _ _ c.loop-part.invariant.bad_reads (rw (c.in_ok-extend_from_slice.ensures.items, c.deref.ensures.value) (adds_list _ _));
+  bad_writes = from_push (λ (part : PartFound). Contains part.bad_writes.items) c.loop-part.yielded c.in-Some.part [] _ _ c.loop-part.invariant.bad_writes (rw (c.in_ok-extend_from_slice-2.ensures.items, c.deref-in-loop-part.ensures.value) (adds_list _ _));
+  unexplained = from_push (λ (part : PartFound). Contains part.unexplained.items) c.loop-part.yielded c.in-Some.part [] _ _ c.loop-part.invariant.unexplained (rw (c.in_ok-extend_from_slice-3.ensures.items, c.deref-in-loop-part-2.ensures.value) (adds_list _ _));
+  saw = from_push (λ (part : PartFound). Contains part.saw) c.loop-part.yielded c.in-Some.part [] _ _ c.loop-part.invariant.saw c.in_ok-append.ensures;
+  missed = from_push (λ (part : PartFound). Contains part.missed) c.loop-part.yielded c.in-Some.part [] _ _ c.loop-part.invariant.missed c.in_ok-append-2.ensures;
 }
 
 -- what the parts have seen, as soon as all have been taken
