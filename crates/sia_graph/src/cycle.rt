@@ -1,15 +1,12 @@
 //! The cycle that is printed where no order keeps every edge, and the least edge from one transaction to another.
 ghost use Rattle.std.specs.Prelude.{◌≡◌, ◌<◌, ◌≤◌, ℕ, IfOk, List, Contains, length, slice_index, ◌↔◌};
 ghost use Rattle.std.specs.List.Sorted.{IsStrictlyIncreasing};
-ghost use Rattle.sia_events.specs.Lists.{ListsAscending};
-ghost use Rattle.sia_events.specs.Transactions.{IsCommitted};
 ghost use Rattle.sia_parts.specs.Entries.{IsEdge};
 ghost use Rattle.sia_graph.specs.Cycles.{IsPrintedCycle, IsStuckSet, TakesLeastEdge};
 ghost use Rattle.sia_graph.specs.Evidence.{IsEvidence};
 ghost use Rattle.sia_graph.specs.Orders.{Leads};
 ghost use Rattle.sia_graph.specs.Previous.{IsLeftIn};
 ghost use Rattle.sia_graph.specs.Searched.{CanFind, IsEdgeIn, IsMemberIn};
-ghost use Rattle.sia_graph.specs.Taken.{AreLeftOver};
 ghost use Rattle.sia_graph.specs.Walks.{AreLeastSources, AreLeft, GoesRoundFrom, LeadsBack, StaysWithin, back};
 ghost use Rattle.sia_graph.specs.declared.cycle.Step.{Step};
 ghost use Rattle.sia_events.specs.Dependencies.{RwEdge};
@@ -23,14 +20,12 @@ ghost use Rattle.sia_graph.specs.LeastEdges.{AreMade, IsKeyOf, IsLeastEdgeBetwee
 ghost use Rattle.sia_graph.specs.Twos.{HaveOneKey, IsLeastNumber};
 
 use crate::evidence::Evidence;
-use crate::order::NONE;
-use crate::twos::Earlier;
+use crate::order::{Listing, NONE};
 use sia_events::{Key, NoMemory, TxnId};
 use sia_index::Index;
 use sia_index::keyed::{ByPlace, place_from};
 use sia_parts::{Edge, Kind};
 use std::alloc::Global;
-use std::marker::Model;
 
 /// A step of a cycle: from a transaction by an edge to the next.
 #[derive(Clone, Copy, PartialEq, Eq)]
@@ -41,30 +36,7 @@ pub struct Step {
 }
 
 /// The steps of a cycle.
-#[derive(Drop)]
-pub struct Steps {
-    steps: Vec<Step>,
-}
-
-impl Model for Steps {
-    ghost Value = { List Step };
-
-    ghost view = { λ a. a.steps.items };
-}
-
-impl Steps {
-    pub(crate) fn new(steps: Vec<Step>) -> Self
-        ensures { result ≡ steps.items }
-    {
-        Steps { steps }
-    }
-
-    pub fn as_slice(&self) -> &[Step]
-        ensures { result.now ≡ self.now }
-    {
-        self.steps.as_slice()
-    }
-}
+pub type Steps = Listing<Step>;
 
 /// Where the least edge from one transaction to another is found.
 #[derive(Clone, Copy)]
@@ -103,22 +75,6 @@ fn least_step(edges: &EdgesIn, ids: &[TxnId], before: usize, at: usize) -> Step
             }
         }
     }
-}
-
-/// The least position that some number of steps back reach, up to `count`.
-fn least_within(previous: &[usize], start: usize, count: usize) -> usize
-    requires within { StaysWithin previous.now }
-    requires start { start < length previous.now }
-    ensures reached { (n : ℕ) × (n ≤ count) × (back previous.now n start ≡ result) }
-    ensures least { (n : ℕ) → n ≤ count → result ≤ back previous.now n start }
-{
-    let mut least = start;
-    let mut at = start;
-    for _step in 0..count {
-        at = previous[at];
-        least = least.min(at);
-    }
-    least
 }
 
 /// The steps of the cycle on which `home` is the least, from `home` on.
@@ -181,30 +137,13 @@ pub(crate) fn cycle_of(
     for _ in 0..previous.len() {
         place = previous[place];
     }
-    let home = least_within(previous, place, previous.len());
-    steps_round(alloc, edges, ids, previous, home)
-}
-
-/// The cycle that is printed of those that are left, by the numbers of the committed transactions.
-pub(crate) fn cycle_of_left(
-    alloc: Global,
-    evidence: &Evidence,
-    left: &[bool],
-) -> Result<Vec<Step>, NoMemory>
-    requires is { IsEvidence evidence.now }
-    requires left { (txns : List ℕ) × ListsAscending (IsCommitted evidence.now.index.now) txns
-        × AreLeftOver (IsCommitted evidence.now.index.now) (IsEdge evidence.now.index.now) txns left.now }
-    ensures { IfOk result (λ steps. IsPrintedCycle (IsCommitted evidence.now.index.now)
-        (IsEdge evidence.now.index.now) steps.items) }
-{
-    let earlier = Earlier::of(alloc, evidence, left)?;
-    let mut previous = Vec::with_capacity(alloc, left.len())?;
-    for txn in 0..left.len() {
-        let source = earlier.least_source(evidence, txn as u32);
-        previous.push(if source == NONE { txn } else { source as usize })?;
+    // As many more go round it.
+    let mut home = place;
+    'round: for _ in 0..previous.len() {
+        place = previous[place];
+        home = home.min(place);
     }
-    let edges = EdgesIn::Seen(&*evidence);
-    cycle_of(alloc, &edges, evidence.index.committed(), left, &previous)
+    steps_round(alloc, edges, ids, previous, home)
 }
 
 /// Where the positions of the keys from this number on begin.

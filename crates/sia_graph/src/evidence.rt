@@ -1,14 +1,12 @@
 //! What the verdict on a history rests on: its index, and what committed transactions saw and passed over.
-ghost use Rattle.std.specs.Prelude.{◌≡◌, ◌↔◌, ℕ, Some, ◌⊎◌, ◌<◌, ◌≤◌, All, Contains, OnOk};
+ghost use Rattle.std.specs.Prelude.{◌≡◌, ◌↔◌, ℕ, Some, All, Contains, OnOk};
 ghost use Rattle.sia_index.specs.Positions.{HasPosition};
-ghost use Rattle.sia_index.specs.Info.{HasKeyAt};
 ghost use Rattle.sia_graph.specs.Evidence.{IsEvidence};
 ghost use Rattle.sia_graph.specs.Makers.{IsFirstMaker, IsMakerBefore, IsNextMaker};
 ghost use Rattle.sia_graph.specs.Passed.{IsSizeFor, IsHeldBy, IsOwnPassed, IsPassed};
-ghost use Rattle.std.specs.List.Sorted.{IsNonDecreasing, IsNonDecreasingBy};
+ghost use Rattle.std.specs.List.Sorted.{IsNonDecreasing};
 ghost use Rattle.sia_index.specs.Numbers.{IsCommittedAt};
 ghost use Rattle.sia_parts.specs.declared.accesses.RangeMiss.{RangeMiss};
-ghost use Rattle.sia_parts.specs.Sights.{Adds};
 
 use sia_events::NoMemory;
 use sia_index::Index;
@@ -51,14 +49,6 @@ pub(crate) fn maker_before(index: &Index, position: u32) -> Option<u32>
     index.maker_at(index.position_before(position)?)
 }
 
-/// The number of who made the first version of a key.
-pub(crate) fn first_maker(index: &Index, key: u32) -> Option<u32>
-    requires { HasKeyAt index.now key }
-    ensures { (i : ℕ) → (result ≡ Some i) ↔ IsFirstMaker index.now key i }
-{
-    next_maker(index, index.first_position(key))
-}
-
 /// The keys that one transaction passed over: those of which it made the first version itself, and stretches of the others.
 #[derive(Drop)]
 pub(crate) struct Passed {
@@ -68,20 +58,6 @@ pub(crate) struct Passed {
     misses: Vec<RangeMiss>,
     /// The keys of which it made the first version, passed over or not.
     firsts: Vec<u32>,
-}
-
-/// The first of the keys from one to before another, or the other.
-fn next_of(keys: &[u32], from: u32, to: u32) -> u32
-    requires rise { IsNonDecreasing keys.now }
-    requires order { from ≤ to }
-    ensures within { (from ≤ result) × (result ≤ to) }
-    ensures before { (j : ℕ) → from ≤ j → j < result → ¬ Contains keys.now j }
-    ensures is { result < to → Contains keys.now result }
-{
-    match keys.get(keys.partition_point(|key| *key < from)) {
-        Some(key) => to.min(*key),
-        None => to,
-    }
 }
 
 /// The keys of which the transaction made the first version.
@@ -94,7 +70,7 @@ fn put_firsts(index: &Index, txn: u32, firsts: &mut Vec<u32>) -> Result<(), NoMe
     firsts.clear();
     for position in index.made_by(txn as usize) {
         let key = index.key_at(*position);
-        if first_maker(index, key) == Some(txn) {
+        if next_maker(index, index.first_position(key)) == Some(txn) {
             firsts.push(key)?;
         }
     }
@@ -136,7 +112,9 @@ impl Passed {
         for miss in &self.misses {
             let mut from = miss.from.max(reached);
             while from < miss.to {
-                let next = next_of(&self.firsts, from, miss.to);
+                let place = self.firsts.partition_point(|key| *key < from);
+                let own = self.firsts.get(place);
+                let next = own.copied().unwrap_or(miss.to).min(miss.to);
                 self.stretches.push(RangeMiss { from, to: next })?;
                 if next < miss.to {
                     self.own.push(next)?;

@@ -12,12 +12,13 @@ ghost use Rattle.sia_events.specs.Transactions.{IsCommitted};
 ghost use Rattle.sia_parts.specs.Entries.{IsEdge};
 ghost use Rattle.sia_graph.specs.Evidence.{IsEvidence};
 
-use crate::cycle::{Steps, cycle_of_left};
+use crate::cycle::{EdgesIn, Steps, cycle_of};
 use crate::evidence::{Evidence, size_for};
 use crate::laws::{replay_law, ssi_law};
-use crate::order::{Taken, Txns, take_nodes};
+use crate::order::{NONE, Taken, Txns, take_nodes};
 use crate::sparse::graph_of;
 use crate::ssi::{Dangerous, dangerous_of, passes};
+use crate::twos::Earlier;
 use sia_events::{Log, NoMemory};
 use sia_index::{Counts, Index, counted};
 use sia_parts::{Accesses, BadRead, BadWrite, Gathering, Unexplained};
@@ -121,10 +122,17 @@ pub fn settle_accesses(alloc: Global, evidence: &Evidence) -> Result<Verdict, No
 {
     let size = size_for(evidence);
     let graph = graph_of(alloc, evidence, size)?;
-    match take_nodes(alloc, size, evidence.index.committed(), &graph)? {
+    let txns = evidence.index.committed();
+    match take_nodes(alloc, size, txns, &graph)? {
         Taken::Whole(order) => Ok(Verdict::Order(Txns::new(order))),
         Taken::Rest(left) => {
-            let steps = cycle_of_left(alloc, evidence, &left)?;
+            let earlier = Earlier::of(alloc, evidence, &left)?;
+            let mut previous = Vec::with_capacity(alloc, left.len())?;
+            for txn in 0..left.len() {
+                let source = earlier.least_source(evidence, txn as u32);
+                previous.push(if source == NONE { txn } else { source as usize })?;
+            }
+            let steps = cycle_of(alloc, &EdgesIn::Seen(&*evidence), txns, &left, &previous)?;
             Ok(Verdict::Cycle(Steps::new(steps)))
         }
     }

@@ -1,5 +1,5 @@
 //! The least order that keeps every step, by Kahn's algorithm: always the least node that is ready is taken.
-ghost use Rattle.std.specs.Prelude.{◌≡◌, ◌≢◌, ◌↔◌, ◌<◌, ◌≤◌, ◌+◌, ◌*◌, [], ℕ, Bool, All, Contains, IfNone, IfOk, IfSome, MatchOption, OnOk, length, slice_index, slice_index_or, List};
+ghost use Rattle.std.specs.Prelude.{◌≡◌, ◌≢◌, ◌<◌, ◌≤◌, ◌+◌, ◌*◌, [], ℕ, Bool, All, Contains, IfNone, IfOk, IfSome, MatchOption, OnOk, length, slice_index, slice_index_or, List};
 ghost use Rattle.std.specs.List.{range_with_len};
 ghost use Rattle.sia_graph.specs.Graphs.{IsGraph};
 ghost use Rattle.sia_graph.specs.Taken.{AreTakenNodes};
@@ -13,31 +13,36 @@ use std::cmp::Reverse;
 use std::collections::{BinaryHeap, VecDeque};
 use std::marker::Model;
 
-/// A list of transactions.
+/// A list that is told.
 #[derive(Drop)]
-pub struct Txns {
-    txns: Vec<TxnId>,
+pub struct Listing<T> {
+    rows: Vec<T>,
 }
 
-impl Model for Txns {
-    ghost Value = { List ℕ };
+impl<T> Model for Listing<T> {
+    ghost use Rattle.std.specs.Prelude.{List};
 
-    ghost view = { λ a. a.txns.items };
+    ghost Value = { List T };
+
+    ghost view = { λ a. a.rows.items };
 }
 
-impl Txns {
-    pub fn new(txns: Vec<TxnId>) -> Self
-        ensures { result ≡ txns.items }
+impl<T> Listing<T> {
+    pub fn new(rows: Vec<T>) -> Self
+        ensures { result ≡ rows.items }
     {
-        Txns { txns }
+        Listing { rows }
     }
 
-    pub fn as_slice(&self) -> &[TxnId]
+    pub fn as_slice(&self) -> &[T]
         ensures { result.now ≡ self.now }
     {
-        self.txns.as_slice()
+        self.rows.as_slice()
     }
 }
+
+/// A list of transactions.
+pub type Txns = Listing<TxnId>;
 
 /// Which nodes lead to which: a node leads to its targets, and is led to from its sources. Each step is told once, at its target or
 /// at its source.

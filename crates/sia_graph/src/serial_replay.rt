@@ -58,19 +58,6 @@ fn commit_places(alloc: Global, h: &History) -> Result<BTreeMap<TxnId, u32>, NoM
     Ok(commits)
 }
 
-/// Whether the list holds each committed transaction once and nothing else.
-fn is_order(alloc: Global, h: &History, order: &[TxnId]) -> Result<bool, NoMemory>
-    ensures { IfOk result (λ r. IsTrue r ↔ IsOrder h.now order.now) }
-{
-    let mut left = commit_places(alloc, h)?;
-    for txn in order {
-        if left.remove(txn).is_none() {
-            return Ok(false);
-        }
-    }
-    Ok(left.is_empty())
-}
-
 fn version_of(versions: &BTreeMap<Key, TxnId>, key: Key) -> Version
     ensures { result ≡ version_in versions.now key }
 {
@@ -162,10 +149,7 @@ fn wrong_in_range(
     let unlisted = wrong_unlisted(versions, lo, hi, listed);
     match wrong_listed(versions, listed) {
         None => unlisted,
-        Some(key) => match unlisted {
-            None => Some(key),
-            Some(other) => Some(if key < other { key } else { other }),
-        },
+        Some(key) => Some(unlisted.unwrap_or(key).min(key)),
     }
 }
 
@@ -261,7 +245,13 @@ pub fn replay(alloc: Global, h: &History, order: &[TxnId]) -> Result<Option<Mism
     ensures replays { IfOk result (λ found. MatchOption found (Replays h.now order.now)
         (λ m. IsFirstMismatch h.now order.now m.place m.key m.found)) }
 {
-    if !is_order(alloc, h, order)? {
+    let mut left = commit_places(alloc, h)?;
+    for txn in order {
+        if left.remove(txn).is_none() {
+            return Err(ReplayFault::NotAnOrder);
+        }
+    }
+    if !left.is_empty() {
         return Err(ReplayFault::NotAnOrder);
     }
     let commits = commit_places(alloc, h)?;

@@ -10,22 +10,12 @@ ghost use Rattle.sia_graph.specs.NarrowSteps.{node_of};
 ghost use Rattle.sia_graph.specs.Passed.{IsHeldBy, IsPassed, IsSizeFor};
 ghost use Rattle.sia_graph.specs.SparseGraphs.{AreMemberTargets, AreSourcesOf, IsSparse};
 
-use crate::evidence::{Evidence, Passed, first_maker, maker_before, next_maker};
+use crate::evidence::{Evidence, Passed, maker_before, next_maker};
 use crate::order::Graph;
 use sia_events::NoMemory;
 use sia_index::lists::Lists;
 use sia_parts::RangeMiss;
 use std::alloc::Global;
-
-fn put_where_odd(number: u32, block: u32, blocks: &mut Vec<u32>) -> Result<(), NoMemory>
-    ensures { OnOk result ((b : ℕ) → Contains blocks.new.items b
-        ↔ (Contains blocks.old.items b ⊎ ((b ≡ block) × (number % 2 ≡ 1)))) }
-{
-    if number % 2 == 1 {
-        blocks.push(block)?;
-    }
-    Ok(())
-}
 
 /// Adds blocks that are over the keys from a number to before another, and over no others of `size` keys: at most two of each
 /// height.
@@ -42,8 +32,12 @@ fn put_blocks(size: u32, from: u32, to: u32, blocks: &mut Vec<u32>) -> Result<()
     let mut low = size + from;
     let mut high = size + to;
     while low < high {
-        put_where_odd(low, low, blocks)?;
-        put_where_odd(high, high - 1, blocks)?;
+        if low % 2 == 1 {
+            blocks.push(low)?;
+        }
+        if high % 2 == 1 {
+            blocks.push(high - 1)?;
+        }
         low = (low + 1) / 2;
         high /= 2;
     }
@@ -148,7 +142,8 @@ pub(crate) fn graph_of(alloc: Global, evidence: &Evidence, size: u32) -> Result<
         targets.clear();
         // A block leads to its halves, and a leaf to who made the first version of its key.
         if block >= size {
-            let first = first_maker(evidence.index, block - size);
+            let zero = evidence.index.first_position(block - size);
+            let first = next_maker(evidence.index, zero);
             put_other(size, u32::MAX, first, &mut targets)?;
         } else if block > 0 {
             targets.push(2 * block)?;

@@ -4,12 +4,11 @@ ghost use Rattle.sia_events.specs.declared.event.Event.{Event};
 ghost use Rattle.sia_events.specs.DangerousStructures.{IsFirst, NoFirst, PassesSsi};
 ghost use Rattle.sia_events.specs.Isolation.{IsolationKept};
 ghost use Rattle.sia_events.specs.Transactions.{CommitsAt, IsCommitted};
-ghost use Rattle.sia_index.specs.declared.info.KeyVersion.{KeyVersion};
 ghost use Rattle.sia_index.specs.Numbers.{IsCommittedAt};
-ghost use Rattle.sia_index.specs.Positions.{HasPosition, IsAtPosition};
+ghost use Rattle.sia_index.specs.Positions.{HasPosition};
 ghost use Rattle.sia_parts.specs.Findings.{AreFindings, ListsBadReads, ListsBadWrites};
 ghost use Rattle.sia_graph.specs.Dangerous.{HasFirst, IsDangerous, IsLeast, MayBeFirst};
-ghost use Rattle.sia_graph.specs.EarlyVersions.{HasEarly, IsFollowedBy, IsLimit};
+ghost use Rattle.sia_graph.specs.EarlyVersions.{HasEarly, IsLimit};
 ghost use Rattle.sia_graph.specs.Evidence.{IsEvidence};
 ghost use Rattle.sia_graph.specs.Pivots.{ArePivots};
 ghost use Rattle.sia_events.specs.Lists.{ListsAscending};
@@ -25,19 +24,6 @@ use sia_index::Index;
 use sia_parts::{BadRead, BadWrite, Findings};
 use std::alloc::Global;
 
-/// Whether the next version of the same key is committed up to the place.
-fn is_next_by(index: &Index, position: u32, place: u32) -> bool
-    requires { HasPosition index.now position }
-    ensures { (v : KeyVersion) → IsAtPosition index.now position v
-        → IsTrue result ↔ IsFollowedBy index.now v place }
-{
-    index.law();
-    match index.next_position(position) {
-        Some(next) => index.commit_at(next) <= place,
-        None => false,
-    }
-}
-
 /// Whether an rw edge leads from the transaction to one that commits up to the place, which is before its own commit.
 fn has_early(evidence: &Evidence, txn: u32, place: u32) -> bool
     requires evidence { IsEvidence evidence.now }
@@ -48,8 +34,10 @@ fn has_early(evidence: &Evidence, txn: u32, place: u32) -> bool
 {
     let index = evidence.index;
     for position in evidence.accesses.saw.at(txn as usize) {
-        if is_next_by(index, *position, place) {
-            return true;
+        if let Some(next) = index.next_position(*position) {
+            if index.commit_at(next) <= place {
+                return true;
+            }
         }
     }
     for miss in evidence.accesses.missed.at(txn as usize) {
@@ -85,12 +73,6 @@ fn least_pivot(alloc: Global, evidence: &Evidence) -> Result<Option<(u32, u32)>,
     Ok(None)
 }
 
-pub(crate) fn are_none(bad_reads: &[BadRead], bad_writes: &[BadWrite]) -> bool
-    ensures { IsTrue result ↔ ((bad_reads.now ≡ []) × (bad_writes.now ≡ [])) }
-{
-    bad_reads.is_empty() && bad_writes.is_empty()
-}
-
 /// Whether there is no bad read, no bad write, and no dangerous structure whose last transaction commits first, as `ssi_pass`
 /// tells it of all findings: whether no version commits before one who saw what was before it, and no later than one that in turn
 /// saw a version before the reader's own. The bad reads and the bad writes are those of the history at all keys.
@@ -105,7 +87,7 @@ pub fn passes(
     requires bad_writes { ListsBadWrites evidence.now.index.now (λ _. ⊤) bad_writes.now }
     ensures { IfOk result (λ passes. IsTrue passes ↔ PassesSsi evidence.now.index.now) }
 {
-    if !are_none(bad_reads, bad_writes) {
+    if !bad_reads.is_empty() || !bad_writes.is_empty() {
         return Ok(false);
     }
     Ok(least_pivot(alloc, evidence)?.is_none())
@@ -121,7 +103,8 @@ pub fn ssi_pass(f: &Findings, p: &[Pivot]) -> bool
         → IsTrue result ↔ PassesSsi h }
 {
     p.iter().all(|pivot| pivot.firsts.as_slice().is_empty())
-        && are_none(&f.bad_reads, &f.bad_writes)
+        && f.bad_reads.is_empty()
+        && f.bad_writes.is_empty()
 }
 
 /// A dangerous structure whose last transaction commits first: an rw edge leads from the first to the pivot, and one on to the last.

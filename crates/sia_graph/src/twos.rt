@@ -1,5 +1,5 @@
 //! The two least of the transactions that are left and made a version, saw one or passed over its key.
-ghost use Rattle.std.specs.Prelude.{◌≡◌, ◌≢◌, ◌⊎◌, ◌<◌, ◌≤◌, ◌++◌, ◌*◌, ℕ, Bool, All, IfOk, List, Some, Contains, length, map};
+ghost use Rattle.std.specs.Prelude.{◌≡◌, ◌≢◌, ◌⊎◌, ◌<◌, ◌++◌, ◌*◌, ℕ, Bool, All, IfOk, List, Some, Contains, length, map};
 ghost use Rattle.sia_events.specs.Lists.{CountsAll};
 ghost use Rattle.sia_events.specs.Refusals.{IsWellFormed};
 ghost use Rattle.sia_events.specs.Transactions.{IsCommitted};
@@ -35,19 +35,14 @@ const NO_TWO: Two = Two {
 fn with(two: Two, number: u32) -> Two
     ensures { IsWith two number result }
 {
-    if number < two.least {
-        return Two {
-            least: number,
-            next: two.least,
-        };
-    }
-    if two.least < number && number < two.next {
-        return Two {
-            least: two.least,
-            next: number,
-        };
-    }
-    two
+    let (least, next) = if number < two.least {
+        (number, two.least)
+    } else if number == two.least {
+        (number, two.next)
+    } else {
+        (two.least, two.next.min(number))
+    };
+    Two { least, next }
 }
 
 /// The least but `me`.

@@ -14,13 +14,14 @@ use Rattle.sia_index.proofs.Shared.KeyChains.{key_number}
 use Rattle.sia_index.specs.Info.{AreWrittenKeys, IsKeyAt}
 use Rattle.sia_index.specs.Positions.{ArePositions, IsAtPosition, IsVersion}
 use Rattle.sia_index.specs.declared.info.KeyVersion.{KeyVersion}
+use Rattle.sia_parts.proofs.Auditing.Passing.{number_from}
 use Rattle.sia_parts.proofs.CutKeys.StartLemmas.{increasing}
 use Rattle.sia_parts.specs.declared.accesses.RangeMiss.{RangeMiss}
 use Rattle.sia_parts.specs.declared.finding.Kind.{Kind}
 use Rattle.sia_parts.specs.declared.finding.Kind.TheVariants.{Ww, Wr, Rw}
 use Rattle.sia_graph.specs.LeastEdges.{AreMade, IsKeyOf, IsMadeWithin, IsMet, IsMissMet, Meets}
 use Rattle.sia_graph.specs.Twos.{HaveOneKey, IsLeastNumber}
-use Rattle.sia_graph.proofs.Shared.AscendingIds.{ids_less, ids_no_less}
+use Rattle.sia_graph.proofs.Shared.AscendingIds.{ids_no_less}
 use Rattle.sia_graph.proofs.Shared.LeastNumbers.{least_same}
 use Rattle.sia_graph.proofs.Shared.Numbered.{one_key_number}
 use Rattle.sia_graph.proofs.Shared.PositionEdges.{commits_less, one_at, one_key_at}
@@ -33,27 +34,6 @@ IsSpan Wr p start end from to = (from ≡ start) × (to ≡ p + 1)
 IsSpan Rw p start end from to = (from ≡ p + 1) × (to ≡ end)
 
 module _ (h : List Event) where
-  -- a key behind another has a number behind
-  numbers_rise : (i j k l : ℕ) → IsKeyAt h i k → IsKeyAt h j l → k ≤ l → i ≤ j
-  numbers_rise i j k l a b most =
-      let x = key_number h b.0 b.1 i k a in
-      elim (cases_lt j i) [
-        | inr le ↦ le
-        | inl less ↦
-            let m = ids_less b.0 (increasing b.0 b.1.ascending) j i less x.0 in
-            let e = x.1 in
-            let f = b.3 in
-            absurd (omega arith)
-      ]
-
-  pub keys_most : (i j k l : ℕ) → IsKeyAt h i k → IsKeyAt h j l → i ≤ j → k ≤ l
-  keys_most i j k l a b most =
-      let x = key_number h b.0 b.1 i k a in
-      let m = ids_no_less b.0 (increasing b.0 b.1.ascending) i j most b.2 in
-      let e = x.1 in
-      let f = b.3 in
-      omega arith
-
   -- a key that is written has a number
   pub number_of_key : (keys : List ℕ) → AreWrittenKeys h keys → (k t : ℕ) → Wrote h t k → (j : ℕ) × IsKeyAt h j k
   number_of_key keys are k t wrote = let w = (are.each k).1 (t, wrote) in (w.0, (keys, are, w.1, get_or_default keys w.0 0 k w.1 ∙ w.2))
@@ -72,7 +52,7 @@ module _ (h : List Event) where
 
   pub rises : (p q i j : ℕ) → IsKeyOf h p i → IsKeyOf h q j → p ≤ q → i ≤ j
   rises p q i j a b most = elim (cases_lt p q) [
-    | inl less ↦ numbers_rise i j a.0.key b.0.key a.2 b.2 (keys_rise p q a.0 b.0 a.1 b.1 less)
+    | inl less ↦ number_from h b.2.0 b.2.1 i j a.0.key b.0.key a.2 b.2 (keys_rise p q a.0 b.0 a.1 b.1 less)
     | inr more ↦
         let same : p ≡ q = omega arith in
         let e = one_key_number h i j b.0.key (subst (λ (v : KeyVersion). IsKeyAt h i v.key) (one_at h q a.0 b.0 (subst (λ n. IsAtPosition h n a.0) same a.1) b.1) a.2) b.2 in

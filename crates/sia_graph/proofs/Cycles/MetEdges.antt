@@ -20,10 +20,11 @@ use Rattle.sia_parts.specs.declared.accesses.Accesses.{Accesses}
 use Rattle.sia_parts.specs.declared.accesses.RangeMiss.{RangeMiss}
 use Rattle.sia_parts.specs.declared.finding.Kind.{Kind}
 use Rattle.sia_parts.specs.declared.finding.Kind.TheVariants.{Ww, Wr, Rw}
+use Rattle.sia_parts.proofs.Auditing.Passing.{key_before}
 use Rattle.sia_graph.specs.Dangerous.{IsLeast}
 use Rattle.sia_graph.specs.LeastEdges.{IsKeyOf, IsLeastEdgeBetween, IsMet, IsMissMet}
 use Rattle.sia_graph.specs.Twos.{IsLeastNumber}
-use Rattle.sia_graph.proofs.Cycles.KeyStretches.{keys_most, number_of_key}
+use Rattle.sia_graph.proofs.Cycles.KeyStretches.{number_of_key}
 use Rattle.sia_graph.proofs.Shared.Numbered.{one_key_number, one_number}
 use Rattle.sia_graph.proofs.Shared.PositionEdges.{MadeAt, commits_less, made_commits, one_at, rw_positions, wr_positions, ww_positions}
 
@@ -40,7 +41,7 @@ module _ (h : List Event) where
   pub least_key : (P E : ℕ → Type 0) → AreNumbersOf h P E → (r : ℕ) → IsLeastNumber P r → (r ≡ 4294967295 → (k : ℕ) × E k) → (k : ℕ) × IsKeyAt h r k × IsLeast E k
   least_key P E are r (inl has) some =
       let w = are.0 r has.0 in
-      (w.0, w.1, (w.2, λ y e. let x = are.1 y e in keys_most h r x.0 w.0 y w.1 x.1 (has.1 x.0 x.2)))
+      (w.0, w.1, (w.2, λ y e. let x = are.1 y e in key_before h x.1.0 x.1.1 r x.0 w.0 y w.1 x.1 (has.1 x.0 x.2)))
   least_key P E are r (inr none) some = let e = some none.0 in let x = are.1 e.0 e.1 in absurd (none.1 x.0 x.2)
 
   -- where the least number is none there is no edge

@@ -40,7 +40,7 @@ edge_told x y e =
     let kind = same_kind x.kind y.kind number in
     λ i. record { src = src i; dst = dst i; kind = kind i; key = key i }
 
-event_in : (h : List Event) (p : ℕ) (e : Event) → at_place h p ≡ Some e → Contains h e
+pub event_in : (h : List Event) (p : ℕ) (e : Event) → at_place h p ≡ Some e → Contains h e
 event_in h zero e at = absurd cc
 event_in h (suc i) e at = stands_contains h e (i, at)
 

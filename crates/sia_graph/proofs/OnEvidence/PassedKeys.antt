@@ -1,6 +1,6 @@
 -- The keys that were passed over, cut between own ones, stretch by stretch.
-use Rattle.std.proofs.Common.{◌≡◌, ◌⊎◌, inl, inr, ℕ, ◌+◌, ◌<◌, ◌≤◌, List, [], ◌∷◌, ◌++◌, true, false, length, get_or, ltb, sym, subst, arith}
-use Rattle.std.specs.Prelude.{◌↔◌, Contains}
+use Rattle.std.proofs.Common.{◌≡◌, ◌⊎◌, inl, inr, ℕ, ◌+◌, ◌<◌, ◌≤◌, List, [], ◌∷◌, ◌++◌, Bor, Option, None, Some, true, false, length, get_or, ltb, min, unwrap_or, sym, subst, arith}
+use Rattle.std.specs.Prelude.{◌↔◌, Contains, IfSome, is_some, option_copied}
 use Rattle.std.specs.List.Sorted.{IsNonDecreasing, IsPartitionPoint}
 use Rattle.std.proofs.lemmas.Bool.{cases_lt, ltb-true, ltb-false}
 use Rattle.std.proofs.lemmas.List.{get_or_default}
@@ -23,6 +23,29 @@ module _ (numbers : List ℕ) (rise : IsNonDecreasing numbers) (start at : ℕ) 
   pub above : (x : ℕ) → at < length numbers → x ≡ get_or numbers at x → start ≤ x
   above x inside is = let a = ltb-false (get_or numbers at x) start (point.1 at x (omega arith) inside) in omega arith
 
+-- the first of the keys from one to before another, or the other
+abbrev pub IsNextKey : List ℕ → ℕ → ℕ → ℕ → Type 0
+IsNextKey keys from to next = (from ≤ next) × (next ≤ to) × ((j : ℕ) → from ≤ j → j < next → ¬ Contains keys j) × (next < to → Contains keys next)
+
+pub next_key : (keys : List ℕ) (rise : IsNonDecreasing keys) (from at : ℕ) (point : IsPartitionPoint (λ n. ltb n from ≡ true) (λ n. ltb n from ≡ false) keys at) (got : Option (Bor ℕ)) (to next : ℕ)
+    → from ≤ to → is_some got ≡ ltb at (length keys) → IfSome got (λ there. there.now ≡ get_or keys at there.now) → next ≡ min (unwrap_or (option_copied got) to) to → IsNextKey keys from to next
+next_key keys rise from at point None to next order none here is =
+    let past = ltb-false at (length keys) (sym none) in (
+      omega arith,
+      omega arith,
+      none_from keys rise from at point next (λ k d l b. absurd (omega arith)),
+      λ l. absurd (omega arith),
+    )
+next_key keys rise from at point (Some there) to next order some here is =
+    let inside = ltb-true at (length keys) (sym some) in
+    let rest = rest_from keys rise from at point there.now inside here in
+    let up = above keys rise from at point there.now inside here in (
+      omega arith,
+      omega arith,
+      none_from keys rise from at point next (λ k d l b. let r = rest k d l b in omega arith),
+      λ l. let same : there.now ≡ next = omega arith in subst (λ x. Contains keys x) same (at, inside, sym here),
+    )
+
 -- one stretch more
 pub held_push : (xs : List RangeMiss) (s : RangeMiss) (j : ℕ) → (IsHeldBy xs j ⊎ ((s.from ≤ j) × (j < s.to))) ↔ IsHeldBy (xs ++ s ∷ []) j
 held_push xs s j = some_push (λ (s : RangeMiss) j. (s.from ≤ j) × (j < s.to)) xs s j
@@ -41,10 +64,10 @@ module _ (keys : List ℕ) (start to : ℕ) (own₀ : List ℕ) (held₀ : List 
     held_are = λ j. ((λ u. inl u), (λ e. elim e [ inl u ↦ u | inr p ↦ let a = p.0 in let b = p.2 in absurd (omega arith) ]));
   }
 
-  pub cut_more : (own mid : List ℕ) (held : List RangeMiss) (from next : ℕ) → HasCutTo keys start to own₀ own held₀ held from → from < to → from ≤ next → next ≤ to
-      → ((j : ℕ) → from ≤ j → j < next → ¬ Contains keys j) → (next < to → Contains keys next) → Adds (λ j. (j ≡ next) × (next < to)) own mid
+  pub cut_more : (own mid : List ℕ) (held : List RangeMiss) (from next : ℕ) → HasCutTo keys start to own₀ own held₀ held from → IsNextKey keys from to next
+      → Adds (λ j. (j ≡ next) × (next < to)) own mid
       → HasCutTo keys start to own₀ mid held₀ (held ++ record { from = from; to = next } ∷ []) (next + 1)
-  cut_more own mid held from next cut some up most none is adds = record {
+  cut_more own mid held from next cut (up, most, none, is) adds = record {
     started = let a = cut.started in omega arith;
     own_are =
         adds_same (λ j. ((start ≤ j) × (j < to) × (j < from) × Contains keys j) ⊎ ((j ≡ next) × (next < to))) (λ j. (start ≤ j) × (j < to) × (j < next + 1) × Contains keys j) own₀ mid

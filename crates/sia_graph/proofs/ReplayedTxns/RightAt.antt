@@ -1,5 +1,5 @@
 -- Whether an event of a replay is right at a key.
-use Rattle.std.proofs.Common.{◌≡◌, ◌≢◌, ◌⊎◌, inl, inr, ℕ, ◌+◌, ◌<◌, ◌≤◌, true, false, List, [], ◌∷◌, length, get_or, map, Option, Some, None, Result, Ok, Err, ltb, unwrap_or, ap, sym, ◌∙◌, refl, subst, arith}
+use Rattle.std.proofs.Common.{◌≡◌, ◌≢◌, ◌⊎◌, inl, inr, ℕ, ◌+◌, ◌<◌, ◌≤◌, true, false, List, [], ◌∷◌, length, get_or, map, min, Option, Some, None, Result, Ok, Err, ltb, unwrap_or, ap, sym, ◌∙◌, refl, subst, arith}
 use Rattle.std.specs.Prelude.{All, Contains, IsTrue, ◌↔◌, MatchOption}
 use Rattle.std.specs.List.Sorted.{IsStrictlyIncreasing, IsBinarySearchResult, IsSearchInRange}
 use Rattle.std.proofs.lemmas.Bool.{cases_lt, cases_eq, cases_order, ne_eqb, ltb-true, lt-ltb, le-ltb, eq-eqb}
@@ -140,3 +140,24 @@ none_listed_wrong found t lo hi listed (Some key) here w = (
   unlisted_wrong found t lo hi listed key w.0 w.1 w.2 w.3,
   λ k l. range_agrees found t lo hi listed k (here k) (λ low high none. w.4 k l low none),
 )
+
+-- the lesser of the first wrong key that is listed and the first that isn't
+pub least_wrong : (found : ℕ → ℕ) (t lo hi : ℕ) (listed : List (ℕ × ℕ)) (r : Option ℕ) (key least : ℕ) → All (λ p. (lo ≤ p.0) × (p.0 ≤ hi)) listed
+    → (v : ℕ) × Contains listed (key, v) × (v ≢ found key) → ((k v : ℕ) → k < key → Contains listed (k, v) → v ≡ found k)
+    → MatchOption r ((k : ℕ) → lo ≤ k → k ≤ hi → ((v : ℕ) → ¬ Contains listed (k, v)) → found k ≡ 0)
+    (λ key. (lo ≤ key) × (key ≤ hi) × ((v : ℕ) → ¬ Contains listed (key, v)) × (found key ≢ 0) × ((k : ℕ) → k < key → lo ≤ k → ((v : ℕ) → ¬ Contains listed (k, v)) → found k ≡ 0))
+    → least ≡ min (unwrap_or r key) key
+    → (¬ Agrees found (Range t lo hi listed) least) × ((k : ℕ) → k < least → Agrees found (Range t lo hi listed) k)
+least_wrong found t lo hi listed None key least within w before nothing is =
+    let same : key ≡ least = omega arith in (
+      subst (λ n. ¬ Agrees found (Range t lo hi listed) n) same (listed_wrong found t lo hi listed within key w.0 w.1 w.2),
+      λ k l. range_agrees found t lo hi listed k (λ v. before k v (omega arith)) (nothing k),
+    )
+least_wrong found t lo hi listed (Some other) key least within w before u is =
+    let Wrong = λ (n : ℕ). ¬ Agrees found (Range t lo hi listed) n in (
+      elim (cases_lt key other) [
+        | inl less ↦ let same : key ≡ least = omega arith in subst Wrong same (listed_wrong found t lo hi listed within key w.0 w.1 w.2)
+        | inr more ↦ let same : other ≡ least = omega arith in subst Wrong same (unlisted_wrong found t lo hi listed other u.0 u.1 u.2 u.3)
+      ],
+      λ k l. range_agrees found t lo hi listed k (λ v. before k v (omega arith)) (λ low high none. u.4 k (omega arith) low none),
+    )

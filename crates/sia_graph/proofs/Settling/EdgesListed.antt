@@ -1,11 +1,10 @@
 -- A list of edges between ids, as a graph of the places of the ids: what is settled of the places is settled of the ids, and how
 -- the least sources are found.
-use Rattle.std.proofs.Common.{◌≡◌, ◌≢◌, ◌⊎◌, inl, inr, ℕ, zero, suc, ◌+◌, ◌-◌, ◌*◌, ◌<◌, ◌≤◌, Bool, List, [], ◌++◌, length, get_or, ap, sym, ◌∙◌, subst, arith}
+use Rattle.std.proofs.Common.{◌≡◌, ◌≢◌, ◌⊎◌, inl, inr, ℕ, zero, suc, ◌+◌, ◌-◌, ◌*◌, ◌<◌, ◌≤◌, Bool, List, [], length, get_or, ap, sym, ◌∙◌, subst, arith}
 use Rattle.std.specs.Prelude.{◌↔◌, All, AllPairs, Contains}
 use Rattle.std.specs.List.Sorted.{IsNonDecreasingBy, IsStrictlyIncreasing}
 use Rattle.std.proofs.lemmas.Bool.{cases_eq, cases_lt}
 use Rattle.std.proofs.lemmas.List.{get_or_default, get_or_past}
-use Rattle.std.proofs.lemmas.List.Elements.{Contains-append_cases, Contains-append_left, Contains-append_right}
 use Rattle.sia_events.specs.Closures.LeadsInSteps.{step}
 use Rattle.sia_events.specs.Lists.{Precedes}
 use Rattle.sia_events.proofs.OfLaws.Closures.{leads_through}
@@ -13,6 +12,7 @@ use Rattle.sia_parts.specs.declared.finding.Edge.{Edge}
 use Rattle.sia_parts.specs.Entries.{edge_rank}
 use Rattle.sia_parts.specs.Groups.{IsGroup}
 use Rattle.sia_parts.specs.Sights.{FromSome}
+use Rattle.sia_parts.proofs.OfReasons.InTwoNumbers.{group_holds}
 use Rattle.sia_graph.specs.Blocks.{IsWayThrough, LeadsThrough}
 use Rattle.sia_graph.specs.Graphs.{IsGraphEdge, LeadsTo}
 use Rattle.sia_graph.specs.ListedGraphs.{IsGraphOf, IsTargetOf}
@@ -175,33 +175,17 @@ least_found ids edges g of left same previous are i l = elim (are.1 i (omega ari
 pub all_in : {A : Type 0} (P : A → Type 0) (xs : List A) (x : A) → All P xs → Contains xs x → P x
 all_in P xs x all c = subst P c.2 (all c.0 x c.1)
 
--- the rows of one number are those that have it
-pub group_has : {A : Type 0} (number : A → ℕ) (xs : List A) (t : ℕ) (group : List A) → IsGroup number xs t group → (x : A) → Contains group x ↔ (Contains xs x × (number x ≡ t))
-group_has number xs t group is x = (
-  (λ c. (
-    subst (λ l. Contains l x) (sym is.2) (Contains-append_right is.0 (group ++ is.1) x (Contains-append_left group is.1 x c)),
-    all_in (λ y. number y ≡ t) group x is.4 c,
-  )),
-  (λ w. elim (Contains-append_cases is.0 (group ++ is.1) x (subst (λ l. Contains l x) is.2 w.0)) [
-    | inl before ↦ let l = all_in (λ y. number y < t) is.0 x is.3 before in let e = w.1 in absurd (omega arith)
-    | inr rest ↦ elim (Contains-append_cases group is.1 x rest) [
-      | inl here ↦ here
-      | inr after ↦ let l = all_in (λ y. t < number y) is.1 x is.5 after in let e = w.1 in absurd (omega arith)
-    ]
-  ]),
-)
-
 -- the places to which the edges of one source lead
 pub group_targets : (ids : List ℕ) (edges group : List Edge) (p : ℕ) (row : List ℕ) → IsGroup (λ e. e.src) edges (get_or ids p 0) group → ((q : ℕ) → Contains row q ↔ FromSome (IsTargetOf ids) group q)
     → AreTargetsAt ids edges p row
 group_targets ids edges group p row is has q = (
   (λ c.
       let w = (has q).0 c in
-      let e = (group_has (λ (x : Edge). x.src) edges (get_or ids p 0) group is w.0).0 w.1 in
+      let e = (group_holds (λ (x : Edge). x.src) edges (get_or ids p 0) group is w.0).0 w.1 in
       (w.2.0, (w.0, e.0, e.1, sym w.2.1))),
   (λ w.
       let leads = w.1 in
-      (has q).1 (leads.0, (group_has (λ (x : Edge). x.src) edges (get_or ids p 0) group is leads.0).1 (leads.1, leads.2), (w.0, sym leads.3))),
+      (has q).1 (leads.0, (group_holds (λ (x : Edge). x.src) edges (get_or ids p 0) group is leads.0).1 (leads.1, leads.2), (w.0, sym leads.3))),
 )
 
 -- such rows for all ids, and none of sources, are the graph

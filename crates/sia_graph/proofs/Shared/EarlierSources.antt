@@ -1,5 +1,5 @@
 -- What is at hand of those who made, saw or passed over versions, and the edges to a transaction that this tells.
-use Rattle.std.proofs.Common.{◌≡◌, ◌≢◌, ◌⊎◌, inl, inr, ℕ, ◌-◌, ◌<◌, ◌≤◌, Bool, List, length, min, refl, ap, sym, subst, ◌∙◌, arith}
+use Rattle.std.proofs.Common.{◌≡◌, ◌≢◌, ◌⊎◌, inl, inr, ℕ, ◌-◌, ◌<◌, ◌≤◌, Bool, List, min, refl, ap, sym, subst, ◌∙◌, arith}
 use Rattle.std.specs.Prelude.{◌↔◌, ⊤, Contains}
 use Rattle.std.proofs.lemmas.Bool.{cases_eq}
 use Rattle.sia_events.specs.declared.event.Event.{Event}
@@ -7,12 +7,11 @@ use Rattle.sia_events.specs.Lists.{ListsAscending}
 use Rattle.sia_events.specs.NarrowDependencies.{IsNextVersion}
 use Rattle.sia_events.specs.Refusals.{IsWellFormed}
 use Rattle.sia_events.specs.Transactions.{CommitsAt}
-use Rattle.sia_events.proofs.Worked.OneList.{one_list_by}
 use Rattle.sia_events.proofs.Writing.WellFormed.{one_commit}
 use Rattle.sia_index.proofs.Shared.KeyChains.{key_number}
 use Rattle.sia_index.specs.Info.{IsKeyAt}
 use Rattle.sia_index.specs.Numbers.{IsCommittedAt}
-use Rattle.sia_index.specs.Positions.{AreAllVersions, ArePositions, IsAtPosition, IsVersion}
+use Rattle.sia_index.specs.Positions.{AreAllVersions, IsAtPosition}
 use Rattle.sia_index.specs.declared.info.KeyVersion.{KeyVersion}
 use Rattle.sia_parts.specs.Accesses.{AreAccesses, HasMiss, Missed, SawPosition}
 use Rattle.sia_parts.specs.Entries.{EdgeOfKind}
@@ -29,10 +28,6 @@ use Rattle.sia_graph.proofs.Shared.LeastNumbers.{least_join, least_none, least_s
 use Rattle.sia_graph.proofs.Shared.Numbered.{one_key_number, one_number}
 use Rattle.sia_graph.proofs.Shared.PositionEdges.{commits_less, made_commits, one_at, one_txn_at, rw_positions, wr_positions, ww_positions}
 use Rattle.sia_graph.proofs.Shared.PositionTwos.{before_below, below_before, none_below}
-
--- each list of all versions is as long
-pub one_count : (h : List Event) (n m : ℕ) → ArePositions h n → ArePositions h m → n ≡ m
-one_count h n m a b = sym a.2 ∙ ap (length {A = KeyVersion}) (one_list_by _ (IsVersion h) a.0 b.0 a.1 b.1) ∙ b.2
 
 -- each miss is of keys that blocks are over
 pub miss_within : (h : List Event) (a : Accesses) → AreAccesses h (λ _. ⊤) a → (size : ℕ) → IsSizeFor size h a → (i : ℕ) (miss : RangeMiss) → HasMiss a i miss → (miss.from < miss.to) × (miss.to ≤ size)

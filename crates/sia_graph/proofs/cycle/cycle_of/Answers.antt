@@ -1,14 +1,15 @@
 use Rattle.std.specs.Prelude.{MatchOption, unwrap_or}
 use Rattle.std.specs.List.{AllWithin, HoldsAt}
 use Rattle.std.proofs.lemmas.Iterator.{IsFirst-from_position, YieldsList-from_slice}
-use Rattle.std.proofs.Common.{◌≡◌, ℕ, Bool, true, false, List, Option, None, Some, rules, sym, ◌+◌, ◌<◌, ◌≤◌, length, ap, get_or, refl, subst, ◌∙◌, arith}
+use Rattle.std.proofs.Common.{◌≡◌, ◌⊎◌, inl, inr, ℕ, Bool, true, false, List, Option, None, Some, rules, sym, ◌+◌, ◌<◌, ◌≤◌, length, ap, get_or, refl, subst, ◌∙◌, arith}
+use Rattle.std.proofs.lemmas.Bool.{cases_lt}
 use Rattle.std.proofs.lemmas.Result.{IfOk-weaker}
 use Rattle.sia_graph.specs.Previous.{IsLeftIn}
 use Rattle.sia_graph.specs.Searched.{IsEdgeIn, IsMemberIn}
 use Rattle.sia_graph.specs.Walks.{ArePreviousFrom, StaysWithin, back}
 use Rattle.sia_graph.proofs.Cycles.PrintedCycle.{fed_by_stuck, least_home, previous_from, round_home, shifted, leads_all, printed, stays_within}
-use Rattle.sia_graph.proofs.Cycles.Walks.{back_more, back_next, ends_round, stays}
-use Rattle.sia_graph.proofs.cycle.cycle_of.Goals.{After-loop, After-unwrap_or-place}
+use Rattle.sia_graph.proofs.Cycles.Walks.{back_more, back_next, ends_round, least_more, stays}
+use Rattle.sia_graph.proofs.cycle.cycle_of.Goals.{After-loop, After-round, After-unwrap_or-place}
 use Rattle.sia_graph.proofs.cycle.cycle_of.Goals as goal
 
 -- the first that is left
@@ -38,10 +39,17 @@ reached c =
     let all : c.loop.counter ≡ length c.args.previous.now = let a = c.loop-test.false in let b = c.loop.auto.counter-end in omega arith in
     sym (c.loop.invariant.1 ∙ ap (λ n. back c.args.previous.now n c.unwrap_or-place.result) all)
 
-round : (c : After-loop) → (period : ℕ) × (0 < period) × (period ≤ length c.args.previous.now) × (back c.args.previous.now period c.loop.place ≡ c.loop.place)
-round c =
+turns : (c : After-loop) → (period : ℕ) × (0 < period) × (period ≤ length c.args.previous.now) × (back c.args.previous.now period c.loop.place ≡ c.loop.place)
+turns c =
     subst (λ place. (period : ℕ) × (0 < period) × (period ≤ length c.args.previous.now) × (back c.args.previous.now period place ≡ place)) (reached c)
-    (ends_round c.args.previous.now c.unwrap_or-place.result (within (goal.at.least_within-home-requires-clause-within c).After-unwrap_or-place) (started (goal.at.least_within-home-requires-clause-within c).After-unwrap_or-place))
+    (ends_round c.args.previous.now c.unwrap_or-place.result (within (goal.at.round-init c).After-unwrap_or-place) (started (goal.at.round-init c).After-unwrap_or-place))
+
+-- home is the least of as many steps back from there
+home_is : (c : After-round) → ((n : ℕ) × (n ≤ length c.args.previous.now) × (back c.args.previous.now n c.loop.place ≡ c.round.home)) × ((n : ℕ) → n ≤ length c.args.previous.now → c.round.home ≤ back c.args.previous.now n c.loop.place)
+home_is c =
+    let all : c.round.counter ≡ length c.args.previous.now = let a = c.round-test.false in let b = c.round.auto.counter-end in omega arith in
+    let so = c.round.invariant in
+    ((so.2.0, (let few = so.2.1 in omega arith), so.2.2), (λ n few. so.3 n (omega arith)))
 
 pub loop-init : goal.loop-init
 loop-init c = (started c, refl)
@@ -52,8 +60,30 @@ loop-preserved c = (
   ap (λ i. get_or c.args.previous.now i 0) c.loop.invariant.1 ∙ sym (back_next c.args.previous.now c.loop.counter c.unwrap_or-place.result),
 )
 
-pub least_within-home-requires-clause-within : goal.least_within-home-requires-clause-within
-least_within-home-requires-clause-within c = within (goal.at.least_within-home-requires-clause-within c).After-unwrap_or-place
+pub round-init : goal.round-init
+round-init c = (
+  c.loop.invariant.0,
+  refl,
+  (0, omega arith, refl),
+  λ n few. let none : n ≡ 0 = omega arith in subst (λ k. c.loop.place ≤ back c.args.previous.now k c.loop.place) (sym none) (omega arith),
+)
+
+pub round-preserved : goal.round-preserved
+round-preserved c =
+    let previous = c.args.previous.now in
+    let next = get_or previous c.round.place 0 in
+    let home = c.min-home.result in
+    let is = c.min-home.ensures in
+    let chosen : ((next < c.round.home) × (home ≡ next)) ⊎ ((c.round.home ≤ next) × (home ≡ c.round.home)) = elim (cases_lt next c.round.home) [
+      | inl less ↦ inl (less, omega arith)
+      | inr more ↦ inr (more, omega arith)
+    ] in
+    let more = least_more previous c.loop.place c.round.counter c.round.place c.round.home next c.round.invariant.1 refl c.round.invariant.2 c.round.invariant.3 home chosen in (
+      within (goal.at.round-preserved c).After-unwrap_or-place c.round.place c.round.invariant.0,
+      ap (λ i. get_or previous i 0) c.round.invariant.1 ∙ sym (back_next previous c.round.counter c.loop.place),
+      more.0,
+      more.1,
+    )
 
 pub steps_round-requires-clause-within : goal.steps_round-requires-clause-within
 steps_round-requires-clause-within c = within (goal.at.steps_round-requires-clause-within c).After-unwrap_or-place
@@ -61,20 +91,20 @@ steps_round-requires-clause-within c = within (goal.at.steps_round-requires-clau
 pub steps_round-requires-clause-home : goal.steps_round-requires-clause-home
 steps_round-requires-clause-home c =
     let previous = c.args.previous.now in
-    let v = c.least_within-home.ensures.reached in
+    let v = (home_is (goal.at.steps_round-requires-clause-home c).After-round).0 in
     subst (λ i. i < length previous) v.2 (stays previous (within (goal.at.steps_round-requires-clause-home c).After-unwrap_or-place) v.0 c.loop.place c.loop.invariant.0)
 
 pub steps_round-requires-clause-round : goal.steps_round-requires-clause-round
 steps_round-requires-clause-round c =
-    let w = round (goal.at.steps_round-requires-clause-round c).After-loop in
-    let v = c.least_within-home.ensures in
-    (w.0, w.1, w.2, round_home c.args.previous.now c.loop.place w.0 c.least_within-home.result w.1 w.3 (v.reached.0, v.reached.2) (λ n l. v.least n (let few = w.2 in omega arith)))
+    let w = turns (goal.at.steps_round-requires-clause-round c).After-loop in
+    let v = home_is (goal.at.steps_round-requires-clause-round c).After-round in
+    (w.0, w.1, w.2, round_home c.args.previous.now c.loop.place w.0 c.round.home w.1 w.3 (v.0.0, v.0.2) (λ n l. v.1 n (let few = w.2 in omega arith)))
 
 pub steps_round-requires-clause-least : goal.steps_round-requires-clause-least
 steps_round-requires-clause-least c =
-    let w = round (goal.at.steps_round-requires-clause-least c).After-loop in
-    let v = c.least_within-home.ensures in
-    least_home c.args.previous.now c.loop.place w.0 c.least_within-home.result w.1 w.3 (v.reached.0, v.reached.2) (λ n l. v.least n (let few = w.2 in omega arith))
+    let w = turns (goal.at.steps_round-requires-clause-least c).After-loop in
+    let v = home_is (goal.at.steps_round-requires-clause-least c).After-round in
+    least_home c.args.previous.now c.loop.place w.0 c.round.home w.1 w.3 (v.0.0, v.0.2) (λ n l. v.1 n (let few = w.2 in omega arith))
 
 -- as many steps back from the start lead home
 homed : (c : After-loop) (home n : ℕ) → back c.args.previous.now n c.loop.place ≡ home → back c.args.previous.now (length c.args.previous.now + n) c.unwrap_or-place.result ≡ home
@@ -93,9 +123,9 @@ steps_round-requires-clause-leads c =
     let first = start_is (goal.at.steps_round-requires-clause-leads c).After-unwrap_or-place in
     let inside : start < length ids = let a = first.0 in let b = c.requires.long.0 in omega arith in
     let are = previous_from ids E L previous start c.requires.least inside first.1 (fed_by_stuck ids (IsMemberIn ids c.args.edges.now) E L r.0 r.2 r.1) in
-    let v = c.least_within-home.ensures.reached in
-    let home = homed (goal.at.steps_round-requires-clause-leads c).After-loop c.least_within-home.result v.0 v.2 in
-    leads_all ids E L previous c.least_within-home.result (subst (ArePreviousFrom ids E L previous) home (shifted ids E L previous (length previous + v.0) start are))
+    let v = (home_is (goal.at.steps_round-requires-clause-leads c).After-round).0 in
+    let home = homed (goal.at.steps_round-requires-clause-leads c).After-loop c.round.home v.0 v.2 in
+    leads_all ids E L previous c.round.home (subst (ArePreviousFrom ids E L previous) home (shifted ids E L previous (length previous + v.0) start are))
 
 pub returns : goal.returns
 returns c =
@@ -109,9 +139,9 @@ returns c =
     let first = start_is (goal.at.returns c).After-unwrap_or-place in
     let inside : start < length ids = let a = first.0 in let b = c.requires.long.0 in omega arith in
     let are = previous_from ids E L previous start c.requires.least inside first.1 (fed_by_stuck ids M E L r.0 r.2 r.1) in
-    let v = c.least_within-home.ensures.reached in
-    let home = homed (goal.at.returns c).After-loop c.least_within-home.result v.0 v.2 in
+    let v = (home_is (goal.at.returns c).After-round).0 in
+    let home = homed (goal.at.returns c).After-loop c.round.home v.0 v.2 in
     IfOk-weaker c.steps_round.result _ _
-    (λ steps made. printed ids E L previous c.requires.ascending r.0 r.2 M start (length previous + v.0) c.least_within-home.result steps.items
+    (λ steps made. printed ids E L previous c.requires.ascending r.0 r.2 M start (length previous + v.0) c.round.home steps.items
     are inside first.1 first.2 home (made r.0) r.1)
     c.steps_round.ensures

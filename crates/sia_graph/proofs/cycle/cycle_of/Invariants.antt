@@ -1,6 +1,11 @@
-use Rattle.std.proofs.Common.{◌≡◌, ◌<◌, length}
+use Rattle.std.proofs.Common.{◌≡◌, ℕ, ◌<◌, ◌≤◌, length}
 use Rattle.sia_graph.specs.Walks.{back}
 use Rattle.sia_graph.proofs.cycle.cycle_of.Given as goal
 
 abbrev pub invariant-loop : goal.invariant-loop
 invariant-loop l = (l.place < length l.previous) × (l.place ≡ back l.previous l.counter l.initial.place)
+
+abbrev pub invariant-round : goal.invariant-round
+invariant-round l = (l.place < length l.previous) × (l.place ≡ back l.previous l.counter l.initial.place)
+    × ((n : ℕ) × (n ≤ l.counter) × (back l.previous n l.initial.place ≡ l.home))
+    × ((n : ℕ) → n ≤ l.counter → l.home ≤ back l.previous n l.initial.place)

@@ -6,7 +6,7 @@ use Rattle.std.proofs.lemmas.Map.Keys.{non_decreasing_from_sorted}
 use Rattle.sia_parts.specs.Sights.{Adds}
 use Rattle.sia_parts.proofs.Shared.Adding.{FromFirst, adds_nothing, adds_push, from_all, from_more, from_none}
 use Rattle.sia_graph.specs.Makers.{IsFirstMaker}
-use Rattle.sia_graph.proofs.Shared.MakersTold.{is_told}
+use Rattle.sia_graph.proofs.Shared.MakersTold.{first_told, is_told}
 use Rattle.sia_graph.proofs.OnEvidence.FirstKeys.{IsFirstKeyAt, first_put, firsts_are}
 use Rattle.sia_graph.proofs.evidence.put_firsts.Goals as goal
 use Rattle.sia_graph.proofs.evidence.put_firsts.Goals.{then-eq+in_ok-push, else-eq}
@@ -23,13 +23,16 @@ key_at-key-requires c =
     let w = ((c.made_by-position-items.ensures c.requires.txn.0 c.requires.txn.1).each (get_or made n 0)).0 (Contains-get_or made n 0 c.loop-position-test.true) in
     (w.0, w.1)
 
-pub first_maker-requires : goal.first_maker-requires
-first_maker-requires c =
+pub first_position-requires : goal.first_position-requires
+first_position-requires c =
     let made = c.made_by-position-items.result.now in
     let n = c.loop-position.position-index in
     let w = ((c.made_by-position-items.ensures c.requires.txn.0 c.requires.txn.1).each (get_or made n 0)).0 (Contains-get_or made n 0 c.loop-position-test.true) in
     let key = c.key_at-key.ensures w.0 w.1 in
     (key.0, key.1, key.2)
+
+pub next_maker-requires : goal.next_maker-requires
+next_maker-requires c = let w = c.first_position.ensures in (w.0, w.1)
 
 pub loop-position-preserved : goal.loop-position-preserved
 loop-position-preserved c =
@@ -41,8 +44,9 @@ loop-position-preserved c =
     let w = ((c.made_by-position-items.ensures c.requires.txn.0 c.requires.txn.1).each (get_or made n 0)).0 (Contains-get_or made n 0 c.loop-position-test.true) in
     let before = c.loop-position.firsts.items in
     let now = c.if-eq.firsts.items in
-    let is = is_told c.first_maker.result txn c.eq.result c.eq.ensures in
-    let told : IsTrue c.eq.result ↔ IsFirstMaker h key txn = ((λ t. (c.first_maker.ensures txn).0 (is.0 t)), (λ m. is.1 ((c.first_maker.ensures txn).1 m))) in
+    let first = first_told h key c.first_position.result c.first_position.ensures.0 c.first_position.ensures.1 c.first_position.ensures.2 c.first_position.ensures.3 txn in
+    let is = is_told c.next_maker.result txn c.eq.result c.eq.ensures in
+    let told : IsTrue c.eq.result ↔ IsFirstMaker h key txn = ((λ t. first.0 ((c.next_maker.ensures txn).0 (is.0 t))), (λ m. is.1 ((c.next_maker.ensures txn).1 (first.1 m)))) in
     let put : Adds (λ j. (j ≡ key) × IsFirstMaker h key txn) before now = elim c.if-eq.branch [
       | then-eq+in_ok-push v ↦
           subst (Adds (λ j. (j ≡ key) × IsFirstMaker h key txn) before) (sym (ap (λ (l : Vec ℕ Global). l.items) v.firsts-is ∙ v.in_ok-push.ensures.items))

@@ -1,5 +1,11 @@
-use Rattle.std.proofs.Common.{subst, sym, arith}
+use Rattle.std.proofs.Common.{◌≡◌, ◌≢◌, ◌∙◌, ℕ, List, [], ◌∷◌, Bool, ap, arith, get_or, length, refl, sym, subst}
+use Rattle.sia_events.specs.Lists.{ListsAscending}
 use Rattle.sia_events.specs.Transactions.{IsCommitted}
+use Rattle.sia_graph.specs.Previous.{IsLeftIn}
+use Rattle.sia_graph.specs.Walks.{AreLeastSources, AreLeft}
+use Rattle.sia_events.proofs.Worked.OneList.{one_list_by}
+use Rattle.sia_parts.proofs.CutKeys.StartLemmas.{increasing}
+use Rattle.sia_graph.proofs.Cycles.LeftSources.{IsPrevious, least_source, previous_is, previous_more}
 use Rattle.sia_parts.specs.Entries.{IsEdge}
 use Rattle.sia_graph.specs.Cycles.{IsPrintedCycle}
 use Rattle.sia_graph.specs.Orders.{IsLeastOrder}
@@ -8,43 +14,114 @@ use Rattle.sia_graph.proofs.Shared.MemberSteps.{size_few}
 use Rattle.sia_graph.proofs.Shared.Numbered.{few_txns}
 use Rattle.sia_graph.proofs.Shared.StandIns.{of_history}
 use Rattle.sia_graph.proofs.OnEvidence.TakenMembers.{taken_members}
-use Rattle.sia_graph.proofs.judgement.settle_accesses.Goals.{In_ok-order}
+use Rattle.sia_graph.proofs.judgement.settle_accesses.Goals.{In-Rest, In_ok-order, then-source, else-source}
 use Rattle.sia_graph.proofs.judgement.settle_accesses.Goals as goal
 
 pub take_nodes-requires-clause-few : goal.take_nodes-requires-clause-few
 take_nodes-requires-clause-few c =
     let e = c.args.evidence.now in
     let size = size_few c.size_for-size.result e.index.now e.accesses.now c.requires.evidence.well_formed c.size_for-size.ensures in
-    let txns = few_txns e.index.now c.requires.evidence.well_formed c.committed.result.now c.committed.ensures in
+    let txns = few_txns e.index.now c.requires.evidence.well_formed c.committed-txns.result.now c.committed-txns.ensures in
     omega arith
 
 pub take_nodes-requires-clause-graph : goal.take_nodes-requires-clause-graph
-take_nodes-requires-clause-graph c = (c.in_ok-graph.ensures c.committed.result.now c.committed.ensures).graph
+take_nodes-requires-clause-graph c = (c.in_ok-graph.ensures c.committed-txns.result.now c.committed-txns.ensures).graph
 
 -- how taking the committed transactions ends
-members : (c : In_ok-order) → IsTaken (IsCommitted c.args.evidence.now.index.now) (IsEdge c.args.evidence.now.index.now) c.committed.result.now c.in_ok-order.field-0
+members : (c : In_ok-order) → IsTaken (IsCommitted c.args.evidence.now.index.now) (IsEdge c.args.evidence.now.index.now) c.committed-txns.result.now c.in_ok-order.field-0
 members c =
     let h = c.args.evidence.now.index.now in
-    let txns = c.committed.result.now in
+    let txns = c.committed-txns.result.now in
     let size = c.size_for-size.result in
     let graph = c.in_ok-graph.graph in
     taken_members (IsCommitted h) (IsEdge h) size txns graph
-    (of_history h _ _ _ _ (c.in_ok-graph.ensures txns c.committed.ensures).stands) c.in_ok-order.field-0 c.in_ok-order.ensures
+    (of_history h _ _ _ _ (c.in_ok-graph.ensures txns c.committed-txns.ensures).stands) c.in_ok-order.field-0 c.in_ok-order.ensures
 
 pub returns-in-Whole : goal.returns-in-Whole
 returns-in-Whole c =
     let h = c.args.evidence.now.index.now in
-    let whole = subst (IsTaken (IsCommitted h) (IsEdge h) c.committed.result.now) c.in-Whole.is (members (goal.at.returns-in-Whole c).In_ok-order) in
+    let whole = subst (IsTaken (IsCommitted h) (IsEdge h) c.committed-txns.result.now) c.in-Whole.is (members (goal.at.returns-in-Whole c).In_ok-order) in
     subst (IsLeastOrder (IsCommitted h) (IsEdge h)) (sym c.new.ensures) whole
 
-pub cycle_of_left-requires-clause-left : goal.cycle_of_left-requires-clause-left
-cycle_of_left-requires-clause-left c =
+-- what is left is stuck
+left_is : (c : In-Rest) → (txns : List ℕ) × ListsAscending (IsCommitted c.args.evidence.now.index.now) txns × AreLeftOver (IsCommitted c.args.evidence.now.index.now) (IsEdge c.args.evidence.now.index.now) txns c.in-Rest.left.items
+left_is c =
     let h = c.args.evidence.now.index.now in
-    let left = subst (IsTaken (IsCommitted h) (IsEdge h) c.committed.result.now) c.in-Rest.is (members (goal.at.cycle_of_left-requires-clause-left c).In_ok-order) in
-    (c.committed.result.now, c.committed.ensures, subst (AreLeftOver (IsCommitted h) (IsEdge h) c.committed.result.now) (sym c.deref.ensures.value) left)
+    let txns = c.committed-txns.result.now in (
+      txns,
+      c.committed-txns.ensures,
+      subst (IsTaken (IsCommitted h) (IsEdge h) txns) c.in-Rest.is
+          (taken_members (IsCommitted h) (IsEdge h) c.size_for-size.result txns c.in_ok-graph.graph
+          (of_history h _ _ _ _ (c.in_ok-graph.ensures txns c.committed-txns.ensures).stands) c.in_ok-order.field-0 c.in_ok-order.ensures),
+    )
+
+pub of-requires-clause-left : goal.of-requires-clause-left
+of-requires-clause-left c = let w = left_is (goal.at.of-requires-clause-left c).In-Rest in (w.0, w.1, sym (ap (length {A = Bool}) c.deref.ensures.value ∙ w.2.long))
+
+pub overflow_cast-txn : goal.overflow_cast-txn
+overflow_cast-txn c =
+    let w = left_is (goal.at.overflow_cast-txn c).In-Rest in
+    let few = few_txns c.args.evidence.now.index.now c.requires.evidence.well_formed w.0 w.1 in
+    let long = w.2.long in
+    let l = c.loop-txn-test.true in
+    omega arith
+
+pub least_source-source-requires-clause-me : goal.least_source-source-requires-clause-me
+least_source-source-requires-clause-me c =
+    let w = left_is (goal.at.least_source-source-requires-clause-me c).In-Rest in
+    (get_or w.0 c.loop-txn.txn 0, (w.0, w.1, (let l = c.loop-txn-test.true in let long = w.2.long in omega arith), refl))
+
+pub loop-txn-preserved : goal.loop-txn-preserved
+loop-txn-preserved c =
+    let h = c.args.evidence.now.index.now in
+    let left = c.in-Rest.left.items in
+    let w = left_is (goal.at.loop-txn-preserved c).In-Rest in
+    let i = c.loop-txn.txn in
+    let source = c.least_source-source.result in
+    let place = c.if-source.push in
+    let none : source ≡ 4294967295 → place ≡ i = λ e. elim c.if-source.branch [
+      | then-source w ↦ w.push-is
+      | else-source w ↦ absurd (w.if-source.false e)
+    ] in
+    let some : source ≢ 4294967295 → place ≡ source = λ n. elim c.if-source.branch [
+      | then-source w ↦ absurd (n w.if-source.true)
+      | else-source w ↦ w.push-is
+    ] in
+    previous_more (IsPrevious h left) c.loop-txn.previous.items c.push.new.self.items i place c.in_ok-push-in-Rest.ensures.items c.loop-txn.invariant.0 c.loop-txn.invariant.1
+    (previous_is h w.0 w.1 left i (let l = c.loop-txn-test.true in let long = w.2.long in omega arith) c.requires.evidence.well_formed source place none some (c.least_source-source.ensures left (rw c.deref.ensures.value at c.in_ok-earlier-in-Rest.ensures)))
+
+pub cycle_of-requires-clause-ascending : goal.cycle_of-requires-clause-ascending
+cycle_of-requires-clause-ascending c = increasing c.committed-txns.result.now c.committed-txns.ensures.ascending
+
+pub cycle_of-requires-clause-long : goal.cycle_of-requires-clause-long
+cycle_of-requires-clause-long c =
+    let w = left_is (goal.at.cycle_of-requires-clause-long c).In-Rest in
+    let same = ap (length {A = ℕ}) (one_list_by (λ x. x ∷ []) (IsCommitted c.args.evidence.now.index.now) w.0 c.committed-txns.result.now w.1 c.committed-txns.ensures) in
+    let all : length c.loop-txn.previous.items ≡ length c.in-Rest.left.items = (let e = c.loop-txn.invariant.0 in let l = c.loop-txn-test.false in let m = c.loop-txn.auto.txn-end in omega arith) in
+    (ap (length {A = Bool}) c.deref-in-Rest.ensures.value ∙ w.2.long ∙ same, ap (length {A = ℕ}) c.deref-in-Rest-2.ensures.value ∙ all ∙ w.2.long ∙ same)
+
+pub cycle_of-requires-clause-stuck : goal.cycle_of-requires-clause-stuck
+cycle_of-requires-clause-stuck c =
+    let w = left_is (goal.at.cycle_of-requires-clause-stuck c).In-Rest in
+    let same = one_list_by (λ x. x ∷ []) (IsCommitted c.args.evidence.now.index.now) w.0 c.committed-txns.result.now w.1 c.committed-txns.ensures in
+    rw c.deref-in-Rest.ensures.value (w.2.stuck, w.2.is_stuck, subst (λ (xs : List ℕ). AreLeft xs (IsLeftIn c.in-Rest.left.items) w.2.stuck) same w.2.each)
+
+pub cycle_of-requires-clause-least : goal.cycle_of-requires-clause-least
+cycle_of-requires-clause-least c =
+    let h = c.args.evidence.now.index.now in
+    let txns = c.committed-txns.result.now in
+    let left = c.in-Rest.left.items in
+    let w = left_is (goal.at.cycle_of-requires-clause-least c).In-Rest in
+    let same = ap (length {A = ℕ}) (one_list_by (λ x. x ∷ []) (IsCommitted h) txns w.0 c.committed-txns.ensures w.1) in
+    let end = c.loop-txn-test.false in
+    let long = w.2.long in
+    rw c.deref-in-Rest.ensures.value (subst (AreLeastSources txns (IsEdge h) (IsLeftIn left)) (sym c.deref-in-Rest-2.ensures.value)
+    (λ i below. least_source h txns c.committed-txns.ensures left i below (get_or c.loop-txn.previous.items i 0) (c.loop-txn.invariant.1 i (omega arith))))
+
+pub cycle_of-requires-clause-some : goal.cycle_of-requires-clause-some
+cycle_of-requires-clause-some c = rw c.deref-in-Rest.ensures.value (left_is (goal.at.cycle_of-requires-clause-some c).In-Rest).2.some
 
 pub returns : goal.returns
 returns c =
     let h = c.args.evidence.now.index.now in
-    let left = subst (IsTaken (IsCommitted h) (IsEdge h) c.committed.result.now) c.in-Rest.is (members (goal.at.returns c).In_ok-order) in
-    (left.none_keeps, subst (IsPrintedCycle (IsCommitted h) (IsEdge h)) (sym c.new-in-Rest.ensures) c.in_ok-steps-in-Rest.ensures)
+    ((left_is (goal.at.returns c).In-Rest).2.none_keeps, subst (IsPrintedCycle (IsCommitted h) (IsEdge h)) (sym c.new-in-Rest.ensures) c.in_ok-steps-in-Rest.ensures)

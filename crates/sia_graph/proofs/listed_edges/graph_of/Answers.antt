@@ -8,10 +8,11 @@ use Rattle.sia_parts.specs.Groups.{IsGroup}
 use Rattle.sia_parts.specs.Sights.{Adds, FromSome}
 use Rattle.sia_parts.proofs.Shared.Adding.{FromFirst, added_to_none, adds_push, from_all, from_more, from_none}
 use Rattle.sia_parts.proofs.OfReasons.Groups.{group_between}
+use Rattle.sia_parts.proofs.OfReasons.InTwoNumbers.{group_holds}
 use Rattle.sia_graph.specs.ListedGraphs.{IsTargetOf}
 use Rattle.std.specs.List.Sorted.{IsPartitionPoint, IsStrictlyIncreasing}
 use Rattle.sia_graph.proofs.Shared.AscendingIds.{found_position, ids_rise, one_id}
-use Rattle.sia_graph.proofs.Settling.EdgesListed.{AreTargetsAt, all_in, graph_made, group_has, group_targets}
+use Rattle.sia_graph.proofs.Settling.EdgesListed.{AreTargetsAt, all_in, graph_made, group_targets}
 use Rattle.sia_graph.proofs.Shared.RowLists.{AreLists, lists_more}
 use Rattle.sia_graph.proofs.listed_edges.graph_of.Goals.{After-between-edge-items}
 use Rattle.sia_graph.proofs.listed_edges.graph_of.Goals as goal
@@ -38,7 +39,7 @@ member c n below =
     let edges = c.args.edges.now in
     let own = c.between-edge-items.result.now in
     let edge = get_or own n none in
-    let there = (group_has (λ (e : Edge). e.src) edges (get_or c.args.ids.now c.loop-id.id-index 0) own (group c) edge).0 (Contains-get_or own n none below) in
+    let there = (group_holds (λ (e : Edge). e.src) edges (get_or c.args.ids.now c.loop-id.id-index 0) own (group c) edge).0 (Contains-get_or own n none below) in
     (all_in (λ (e : Edge). Contains c.args.ids.now e.src × Contains c.args.ids.now e.dst × (e.src ≢ e.dst)) edges edge c.requires.joins there.0).1
 
 pub loop-edge-init : goal.loop-edge-init

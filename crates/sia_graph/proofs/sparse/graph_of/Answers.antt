@@ -13,6 +13,7 @@ use Rattle.sia_graph.proofs.Shared.RowLists.{block_sources, block_targets, membe
 use Rattle.sia_graph.proofs.SparseGraphs.StepsPut.{few_first}
 use Rattle.sia_graph.proofs.SparseGraphs.SparseStands.{sparse}
 use Rattle.sia_graph.proofs.sparse.graph_of.Goals.{then-block-size+in_ok-put_other, else-block-size+then-block-gt0+in_ok-push+in_ok-push-2, else-block-size+else-block-gt0}
+use Rattle.sia_graph.proofs.Shared.MakersTold.{first_told}
 use Rattle.sia_graph.proofs.sparse.graph_of.Goals as goal
 
 -- a block leads to its halves, and the block 0 nowhere
@@ -42,7 +43,10 @@ pub put_other-requires : goal.put_other-requires
 put_other-requires c =
     let e = c.args.evidence.now in (
       size_few c.args.size e.index.now e.accesses.now c.requires.evidence.well_formed c.requires.size,
-      λ i is. few_first e.index.now c.requires.evidence.well_formed (c.loop-block.block - c.args.size) i ((c.first_maker-first.ensures i).0 is),
+      λ i is.
+          let zero = c.first_position-zero.ensures in
+          let told = first_told e.index.now (c.loop-block.block - c.args.size) c.first_position-zero.result zero.0 zero.1 zero.2 zero.3 i in
+          few_first e.index.now c.requires.evidence.well_formed (c.loop-block.block - c.args.size) i (told.0 ((c.next_maker-first.ensures i).0 is)),
     )
 
 pub overflow_mul-block-end : goal.overflow_mul-block-end
@@ -62,9 +66,12 @@ loop-block-preserved c =
     let steps : are c.if-block-size.targets = elim c.if-block-size.branch [
       | then-block-size+in_ok-put_other w ↦
           let from = w.if-block-size.true in
-          let first = w.first_maker-first in
+          let zero = w.first_position-zero.ensures in
+          let first = w.next_maker-first in
           subst are (sym w.targets-is)
-          (leaf_put h size b c.requires.evidence.well_formed (b - size) (omega arith) (omega arith) first.result first.ensures w.put_other.new.row.items
+          (leaf_put h size b c.requires.evidence.well_formed (b - size) (omega arith) (omega arith) first.result
+          (λ i. let told = first_told h (b - size) w.first_position-zero.result zero.0 zero.1 zero.2 zero.3 i in ((λ e. told.0 ((first.ensures i).0 e)), (λ m. (first.ensures i).1 (told.1 m))))
+          w.put_other.new.row.items
           (subst (λ (l : List ℕ). Adds (λ n. (i : ℕ) × (first.result ≡ Some i) × (i ≢ 4294967295) × (n ≡ node_of size i)) l w.put_other.new.row.items) c.clear.ensures.items w.in_ok-put_other.ensures))
       | else-block-size+then-block-gt0+in_ok-push+in_ok-push-2 w ↦
           let items : w.push-then-block-gt0.new.self.items ≡ (2 * b) ∷ (2 * b + 1) ∷ [] =

@@ -1,14 +1,43 @@
-use Rattle.std.proofs.Common.{arith}
+use Rattle.std.proofs.Common.{◌≡◌, ◌≢◌, ◌↔◌, ◌⊎◌, ◌%◌, ◌-◌, ◌++◌, ◌∷◌, [], ℕ, List, inl, inr, sym, subst, arith}
+use Rattle.std.specs.Prelude.{Contains}
+use Rattle.std.proofs.lemmas.List.Elements.{Contains-append_left, Contains-push, Contains-push_cases}
 use Rattle.sia_graph.proofs.SparseGraphs.KeyBlocks.{climb_none, climb_more, climbed}
+use Rattle.sia_graph.proofs.sparse.put_blocks.Goals.{then-low-eq1+in_ok-push, else-low-eq1, then-high-eq1+in_ok-push-2, else-high-eq1}
 use Rattle.sia_graph.proofs.sparse.put_blocks.Goals as goal
+
+-- a block more, if the number is odd
+abbrev HasOdd : ℕ → ℕ → List ℕ → List ℕ → Type 0
+HasOdd n block old new = (b : ℕ) → Contains new b ↔ (Contains old b ⊎ ((b ≡ block) × (n % 2 ≡ 1)))
+
+odd_put : (n block : ℕ) (old : List ℕ) → n % 2 ≡ 1 → HasOdd n block old (old ++ block ∷ [])
+odd_put n block old odd b = (
+  (λ has. elim (Contains-push_cases old block b has) [ inl before ↦ inl before | inr same ↦ inr (sym same, odd) ]),
+  (λ so. elim so [
+    | inl before ↦ Contains-append_left old (block ∷ []) b before
+    | inr w ↦ subst (Contains (old ++ block ∷ [])) (sym w.0) (Contains-push old block)
+  ]),
+)
+
+even_left : (n block : ℕ) (old : List ℕ) → n % 2 ≢ 1 → HasOdd n block old old
+even_left n block old even b = ((λ has. inl has), (λ so. elim so [ inl before ↦ before | inr w ↦ absurd (even w.1) ]))
 
 pub loop-low-init : goal.loop-low-init
 loop-low-init c = climb_none c.args.size c.args.from c.args.to c.requires.within.1 c.args.blocks.now.items
 
 pub loop-low-preserved : goal.loop-low-preserved
 loop-low-preserved c =
-    climb_more c.args.size c.args.from c.args.to c.args.blocks.now.items c.loop-low.blocks.items c.loop-low.low c.loop-low.high c.loop-low.invariant (omega arith)
-    c.put_where_odd.new.blocks.items c.put_where_odd-in-loop-low.new.blocks.items c.in_ok-put_where_odd.ensures c.in_ok-put_where_odd-2.ensures
+    let low = c.loop-low.low in
+    let high = c.loop-low.high in
+    let first : HasOdd low low c.loop-low.blocks.items c.if-low-eq1.blocks.items = elim c.if-low-eq1.branch [
+      | then-low-eq1+in_ok-push w ↦ rw (w.blocks-is, w.in_ok-push.ensures.items) (odd_put low low c.loop-low.blocks.items w.if-low-eq1.true)
+      | else-low-eq1 w ↦ rw w.blocks-is (even_left low low c.loop-low.blocks.items w.if-low-eq1.false)
+    ] in
+    let last : HasOdd high (high - 1) c.if-low-eq1.blocks.items c.if-high-eq1.blocks.items = elim c.if-high-eq1.branch [
+      | then-high-eq1+in_ok-push-2 w ↦ rw (w.blocks-is, w.in_ok-push-2.ensures.items) (odd_put high (high - 1) c.if-low-eq1.blocks.items w.if-high-eq1.true)
+      | else-high-eq1 w ↦ rw w.blocks-is (even_left high (high - 1) c.if-low-eq1.blocks.items w.if-high-eq1.false)
+    ] in
+    climb_more c.args.size c.args.from c.args.to c.args.blocks.now.items c.loop-low.blocks.items low high c.loop-low.invariant c.loop-low-test.true
+    c.if-low-eq1.blocks.items c.if-high-eq1.blocks.items first last
 
 pub returns-clause-over : goal.returns-clause-over
 returns-clause-over c =

@@ -9,11 +9,12 @@ use Rattle.sia_index.specs.Info.{HasKeyAt, IsKeyAt}
 use Rattle.sia_index.specs.Positions.{HasVersionUpTo, IsAtPosition}
 use Rattle.sia_parts.specs.declared.accesses.RangeMiss.{RangeMiss}
 use Rattle.sia_parts.specs.Accesses.{HasMiss, SawPosition}
-use Rattle.sia_graph.specs.EarlyVersions.{HasEarly}
+use Rattle.sia_graph.specs.EarlyVersions.{HasEarly, IsFollowedBy}
+use Rattle.sia_index.specs.declared.info.KeyVersion.{KeyVersion}
 use Rattle.sia_graph.proofs.Shared.AccessLists.{missed_is, saw_is, saw_position}
-use Rattle.sia_graph.proofs.SsiTest.EarlyFirsts.{missed_early, none_early, saw_early}
+use Rattle.sia_graph.proofs.SsiTest.EarlyFirsts.{missed_early, next_follows, none_early, none_follows, saw_early}
 use Rattle.sia_graph.proofs.Shared.PositionEdges.{one_txn_at}
-use Rattle.sia_graph.proofs.ssi.has_early.Goals.{After-at-position-items, After-at-miss-items}
+use Rattle.sia_graph.proofs.ssi.has_early.Goals.{After-at-position-items, After-at-miss-items, In-Some, in-Some+else-commit_at-place, in_default}
 use Rattle.sia_graph.proofs.ssi.has_early.Goals as goal
 
 -- what is listed was seen, and the other way round
@@ -23,25 +24,43 @@ seen c p has =
     let txn = c.requires.txn in
     (saw_is e.index.now e.accesses.now c.requires.evidence.accesses c.args.txn txn.0 txn.2 p).0 (subst (λ (l : List ℕ). Contains l p) c.at-position-items.ensures has)
 
-pub is_next_by-requires : goal.is_next_by-requires
-is_next_by-requires c =
+pub next_position-requires : goal.next_position-requires
+next_position-requires c =
     let e = c.args.evidence.now in
     let txn = c.requires.txn in
     let saw = c.at-position-items.result.now in
     let n = c.loop-position.position-index in
-    saw_position e.index.now e.accesses.now c.requires.evidence.accesses c.args.txn txn.0 txn.2 (get_or saw n 0) (seen (goal.at.is_next_by-requires c).After-at-position-items (get_or saw n 0) (Contains-get_or saw n 0 c.loop-position-test.true))
+    saw_position e.index.now e.accesses.now c.requires.evidence.accesses c.args.txn txn.0 txn.2 (get_or saw n 0) (seen (goal.at.next_position-requires c).After-at-position-items (get_or saw n 0) (Contains-get_or saw n 0 c.loop-position-test.true))
 
-pub returns-then-is_next_by : goal.returns-then-is_next_by
-returns-then-is_next_by c t at =
+-- where the next version of the same key is and when it was committed
+next_is : (c : In-Some) → (v : KeyVersion) × IsAtPosition c.args.evidence.now.index.now (get_or c.at-position-items.result.now c.loop-position.position-index 0) v × (w : KeyVersion)
+    × IsAtPosition c.args.evidence.now.index.now c.in-Some.next w × (IsFollowedBy c.args.evidence.now.index.now v c.args.place ↔ (w.commit ≤ c.args.place))
+next_is c =
+    let e = c.args.evidence.now in
+    let txn = c.requires.txn in
+    let saw = c.at-position-items.result.now in
+    let n = c.loop-position.position-index in
+    let q = get_or saw n 0 in
+    let v = saw_position e.index.now e.accesses.now c.requires.evidence.accesses c.args.txn txn.0 txn.2 q ((saw_is e.index.now e.accesses.now c.requires.evidence.accesses c.args.txn txn.0 txn.2 q).0 (subst (λ (l : List ℕ). Contains l q) c.at-position-items.ensures (Contains-get_or saw n 0 c.loop-position-test.true))) in
+    let w = c.in-Some.ensures v.0 v.1 in
+    let told = next_follows e.index.now c.requires.evidence.well_formed q c.in-Some.next v.0 w.0 v.1 w.1 w.2 w.3 w.4 c.args.place in
+    (v.0, v.1, w.0, w.1, (told.1, told.0))
+
+pub commit_at-requires : goal.commit_at-requires
+commit_at-requires c = let is = next_is (goal.at.commit_at-requires c).In-Some in (is.2, is.3)
+
+pub returns-then-commit_at-place : goal.returns-then-commit_at-place
+returns-then-commit_at-place c t at =
     let e = c.args.evidence.now in
     let h = e.index.now in
     let txn = c.requires.txn in
     let saw = c.at-position-items.result.now in
     let n = c.loop-position.position-index in
     let q = get_or saw n 0 in
-    let has = seen (goal.at.returns-then-is_next_by c).After-at-position-items q (Contains-get_or saw n 0 c.loop-position-test.true) in
-    let v = saw_position h e.accesses.now c.requires.evidence.accesses c.args.txn txn.0 txn.2 q has in
-    let early = saw_early h c.requires.evidence.well_formed e.accesses.now c.requires.evidence.accesses c.args.txn txn.0 txn.1 c.args.place txn.2 txn.3 txn.4 q v.0 v.1 has ((c.is_next_by.ensures v.0 v.1).0 c.if-is_next_by.true) in
+    let has = seen (goal.at.returns-then-commit_at-place c).After-at-position-items q (Contains-get_or saw n 0 c.loop-position-test.true) in
+    let is = next_is (goal.at.returns-then-commit_at-place c).In-Some in
+    let by = subst (λ n. n ≤ c.args.place) (c.commit_at.ensures is.2 is.3) c.if-commit_at-place.true in
+    let early = saw_early h c.requires.evidence.well_formed e.accesses.now c.requires.evidence.accesses c.args.txn txn.0 txn.1 c.args.place txn.2 txn.3 txn.4 q is.0 is.1 has (is.4.1 by) in
     ((λ is. subst (λ x. HasEarly h x c.args.place) (one_txn_at h c.args.txn txn.0 t txn.2 at) early), (λ f. refl))
 
 pub loop-position-preserved : goal.loop-position-preserved
@@ -52,7 +71,18 @@ loop-position-preserved c p v has there f =
     let q = get_or saw n 0 in
     elim (Contains-push_cases (take n saw) q p (subst (λ (xs : List ℕ). Contains xs p) (take_more saw n 0 c.loop-position-test.true) has)) [
       | inl before ↦ c.loop-position.invariant p v before there f
-      | inr same ↦ false≢true (sym c.if-is_next_by.false ∙ (c.is_next_by.ensures v (subst (λ r. IsAtPosition h r v) (sym same) there)).1 f)
+      | inr same ↦
+          let here = subst (λ r. IsAtPosition h r v) (sym same) there in
+          elim c.match-next_position.branch [
+            | in-Some+else-commit_at-place w ↦
+                let x = w.in-Some.ensures v here in
+                let told = next_follows h c.requires.evidence.well_formed q w.in-Some.next v x.0 here x.1 x.2 x.3 x.4 c.args.place in
+                let late = w.if-commit_at-place.false in
+                let commit = w.commit_at.ensures x.0 x.1 in
+                let by = told.1 f in
+                absurd (omega arith)
+            | in_default w ↦ absurd (none_follows h c.requires.evidence.well_formed v (w.in_default.ensures v here) c.args.place f)
+          ]
     ]
 
 pub loop-miss-init : goal.loop-miss-init

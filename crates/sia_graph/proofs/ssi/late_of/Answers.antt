@@ -13,7 +13,7 @@ use Rattle.sia_graph.proofs.Shared.MemberSteps.{size_few}
 use Rattle.sia_graph.proofs.Shared.Numbered.{few_txns}
 use Rattle.sia_graph.proofs.Shared.PositionTwos.{positions_below, below_positions}
 use Rattle.sia_graph.proofs.SsiTest.Stands.{look_there, stands_there}
-use Rattle.sia_graph.proofs.Shared.EarlierSources.{one_count}
+use Rattle.sia_parts.proofs.EdgeRows.Room.{one_count}
 use Rattle.sia_graph.proofs.SsiTest.LastMarks.{HasLastTo, last_all, last_more, last_none}
 use Rattle.sia_graph.proofs.SsiTest.Raised.{below_max}
 use Rattle.sia_graph.proofs.ssi.late_of.Goals.{then-commit_at-eq0, else-commit_at-eq0}

@@ -1,5 +1,5 @@
 use Rattle.std.proofs.Common.{◌<◌, length, arith}
-use Rattle.sia_graph.proofs.Shared.EarlierSources.{one_count}
+use Rattle.sia_parts.proofs.EdgeRows.Room.{one_count}
 use Rattle.sia_graph.proofs.TwoLeast.EnteredTwos.{run_first, run_next}
 use Rattle.sia_graph.proofs.Shared.PositionTwos.{below_positions}
 use Rattle.sia_graph.proofs.twos.run_up.Goals as goal

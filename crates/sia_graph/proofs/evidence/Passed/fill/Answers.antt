@@ -1,6 +1,6 @@
-use Rattle.std.proofs.Common.{◌≡◌, ◌⊎◌, ◌++◌, ◌+◌, ◌<◌, ◌≤◌, ◌∙◌, ℕ, List, Vec, Global, ap, arith, get_or, inl, inr, length, max, refl, rules, subst, sym}
-use Rattle.std.specs.List.Sorted.{IsNonDecreasing, IsNonDecreasingBy}
-use Rattle.std.proofs.lemmas.List.Sorted.{Contains-permutation, IsPermutation-sym, answers_always}
+use Rattle.std.proofs.Common.{◌≡◌, ◌⊎◌, ◌++◌, ◌+◌, ◌<◌, ◌≤◌, ◌∙◌, ℕ, List, Vec, Global, ap, arith, false, get_or, inl, inr, length, ltb, max, refl, rules, subst, sym, true}
+use Rattle.std.specs.List.Sorted.{IsNonDecreasing, IsNonDecreasingBy, IsPartitionPoint}
+use Rattle.std.proofs.lemmas.List.Sorted.{Contains-permutation, IsPartitionPoint-from_clause, IsPartitionedBy-ltb, IsPermutation-sym, answers_always}
 use Rattle.sia_parts.proofs.OfReasons.InTwoNumbers.{firsts_rise, rise_from_sort}
 use Rattle.std.specs.Prelude.{◌↔◌, Contains}
 use Rattle.std.proofs.lemmas.List.Elements.{Contains-get_or}
@@ -10,9 +10,9 @@ use Rattle.sia_graph.specs.Passed.{IsHeldBy}
 use Rattle.sia_graph.proofs.Shared.AccessLists.{few_missed, held_passed, missed_inside, missed_is, own_passed}
 use Rattle.sia_parts.proofs.Shared.Adding.{adds_nothing, adds_push}
 use Rattle.sia_graph.proofs.OnEvidence.JoinedMisses.{joined_held, joined_more, joined_none, joined_own}
-use Rattle.sia_graph.proofs.OnEvidence.PassedKeys.{HasCutTo, cut_held, cut_more, cut_none, cut_own}
+use Rattle.sia_graph.proofs.OnEvidence.PassedKeys.{HasCutTo, IsNextKey, cut_held, cut_more, cut_none, cut_own, next_key}
 use Rattle.std.proofs.lemmas.Bool.{cases_lt}
-use Rattle.sia_graph.proofs.evidence.Passed.fill.Goals.{After-loop-miss, After-sort_unstable_by_key, then-next-miss+in_ok-push-2, else-next-miss}
+use Rattle.sia_graph.proofs.evidence.Passed.fill.Goals.{After-loop-miss, After-min-next, After-sort_unstable_by_key, then-next-miss+in_ok-push-2, else-next-miss}
 use Rattle.sia_graph.proofs.evidence.Passed.fill.Goals as goal
 
 -- all range misses stand in the list
@@ -60,23 +60,35 @@ loop-from-init c = (
   cut_none c.loop-miss.self.1.1.1.1.0.items c.max-from.result (get_or c.deref-miss-items.result.now c.loop-miss.miss-index none).to c.loop-miss.self.1.0.items c.loop-miss.self.1.1.0.items,
 )
 
-pub next_of-next-requires-clause-rise : goal.next_of-next-requires-clause-rise
-next_of-next-requires-clause-rise c =
-    subst IsNonDecreasing (sym (c.deref.ensures.value ∙ ap (λ (v : Vec ℕ Global). v.items) (c.loop-from.invariant.1 ∙ c.loop-miss.invariant.1))) c.in_ok-put_firsts.ensures.rise
+next_own : (c : After-min-next) → IsNextKey c.loop-miss.self.1.1.1.1.0.items c.loop-from.from (get_or c.deref-miss-items.result.now c.loop-miss.miss-index none).to c.min-next.result
+next_own c =
+    let keys = c.loop-miss.self.1.1.1.1.0.items in
+    let from = c.loop-from.from in
+    let own = ap (λ (v : Vec ℕ Global). v.items) c.loop-from.invariant.1 in
+    let rise : IsNonDecreasing keys = subst IsNonDecreasing (sym (ap (λ (v : Vec ℕ Global). v.items) c.loop-miss.invariant.1)) c.in_ok-put_firsts.ensures.rise in
+    let looked : c.deref.result.now ≡ keys = c.deref.ensures.value ∙ own in
+    let point = IsPartitionPoint-from_clause (λ key. ltb key from) c.deref.result.now _ c.partition_point-place.ensures.partitioned
+    (IsPartitionedBy-ltb (λ key. key) c.deref.result.now from (subst IsNonDecreasing (sym looked) rise)) (λ a r f k. search rules) in
+    let got : c.deref-in-loop-from.result.now ≡ keys = c.deref-in-loop-from.ensures.value ∙ own in
+    next_key keys rise from c.partition_point-place.result
+    (subst (λ l. IsPartitionPoint (λ n. ltb n from ≡ true) (λ n. ltb n from ≡ false) l c.partition_point-place.result) looked point)
+    c.get-own.result _ _ (let more = c.loop-from-test.true in omega arith) (rw got at c.get-own.ensures.lookup.0) (rw got at c.get-own.ensures.lookup.1) (rw (c.unwrap_or.ensures, c.copied.ensures) at c.min-next.ensures)
+
+pub loop-from-smaller : goal.loop-from-smaller
+loop-from-smaller c = let up = (next_own (goal.at.loop-from-smaller c).After-min-next).0 in let more = c.loop-from-test.true in omega arith
 
 pub overflow_add-from : goal.overflow_add-from
 overflow_add-from c =
     let n = c.loop-miss.miss-index in
     let inside = c.loop-miss-test.true in
     let a = subst (λ (l : List RangeMiss). n < length l → (get_or l n none).to ≤ 1073741824) (sym c.deref-miss-items.ensures.value) (few (goal.at.overflow_add-from c).After-sort_unstable_by_key n none) inside in
-    let b = c.next_of-next.ensures.within.1 in
+    let b = (next_own (goal.at.overflow_add-from c).After-min-next).1 in
     omega arith
 
 pub loop-from-preserved : goal.loop-from-preserved
 loop-from-preserved c =
     let keys = c.loop-miss.self.1.1.1.1.0.items in
-    let is : c.deref.result.now ≡ keys = c.deref.ensures.value ∙ ap (λ (v : Vec ℕ Global). v.items) c.loop-from.invariant.1 in
-    let next = c.next_of-next in
+    let next = c.min-next in
     let to = (get_or c.deref-miss-items.result.now c.loop-miss.miss-index none).to in
     let start = c.max-from.result in
     let before = c.loop-from.self.1.0.items in
@@ -92,9 +104,7 @@ loop-from-preserved c =
       c.loop-from.invariant.1,
       subst (λ (l : List RangeMiss). HasCutTo keys start to c.loop-miss.self.1.0.items own c.loop-miss.self.1.1.0.items l (next.result + 1)) (sym c.in_ok-push.ensures.items)
           (cut_more keys start to c.loop-miss.self.1.0.items c.loop-miss.self.1.1.0.items before own c.loop-from.self.1.1.0.items c.loop-from.from next.result c.loop-from.invariant.2
-          c.loop-from-test.true next.ensures.within.0 next.ensures.within.1
-          (subst (λ l. (j : ℕ) → c.loop-from.from ≤ j → j < next.result → ¬ Contains l j) is next.ensures.before)
-          (subst (λ l. next.result < to → Contains l next.result) is next.ensures.is) put),
+          (next_own (goal.at.loop-from-preserved c).After-min-next) put),
     )
 
 pub loop-miss-preserved : goal.loop-miss-preserved

@@ -1,6 +1,0 @@
-use Rattle.std.proofs.Common.{◌≡◌, ◌<◌, ℕ, get_or, length}
-use Rattle.sia_graph.proofs.Cycles.LeftSources.{IsPrevious}
-use Rattle.sia_graph.proofs.cycle.cycle_of_left.Given as goal
-
-abbrev pub invariant-loop-txn : goal.invariant-loop-txn
-invariant-loop-txn l = (length l.previous.items ≡ l.txn) × ((i : ℕ) → i < l.txn → IsPrevious l.evidence.index.now l.left i (get_or l.previous.items i 0))
