@@ -1,3 +1,5 @@
 pub mod Chains
 pub mod EdgesInTurn
+pub mod RowLines
 pub mod SpacedWords
+pub mod TextsInTurn

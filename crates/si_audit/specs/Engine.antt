@@ -8,7 +8,7 @@ use Rattle.si_audit.specs.Options.{Choices}
 use Rattle.si_audit.specs.Outcomes.{IsOutcome, Meets}
 use Rattle.si_audit.specs.Report.{IsReport, TellsAccount}
 use Rattle.si_audit.specs.declared.answer.Answer.{Answer}
-use Rattle.si_audit.specs.EdgeLines.{AreLinesFrom}
+use Rattle.si_audit.specs.EdgeLines.{AreEdgeLines}
 use Rattle.sia_events.specs.declared.event.Event.{Event}
 use Rattle.si_audit.specs.declared.engine.Outcome.TheVariants.{Clean, Faulty, Refused}
 use Rattle.si_audit.specs.declared.options.Form.{Form}
@@ -29,7 +29,7 @@ pub record IsFed (limits : Limits) (o : Choices) (a : Auditor) (text : List ℕ)
 -- the lines of all edges of the history, if there is one
 abbrev pub AreLinesOf : Option (List Event) → List ℕ → Type 0
 AreLinesOf None lines = lines ≡ []
-AreLinesOf (Some h) lines = AreLinesFrom h 0 lines
+AreLinesOf (Some h) lines = AreEdgeLines h lines
 
 -- the bytes of a report
 abbrev pub HasText : Answer → List ℕ → Type 0

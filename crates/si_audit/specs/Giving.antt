@@ -1,32 +1,43 @@
--- What a report has yet to give.
-use Rattle.std.specs.Prelude.{◌≡◌, ◌+◌, ◌++◌, ℕ, List, [], Option, None, Some, length, ⊤}
-use Rattle.si_audit.specs.declared.edge_lines.EdgeLines.{EdgeLines}
-use Rattle.si_audit.specs.EdgeLines.{AreReady, AreYet, rows_left}
+-- What is yet to be given of the text of transactions, one after another.
+use Rattle.std.specs.Prelude.{◌≡◌, ◌<◌, ◌≤◌, ◌+◌, ◌-◌, ◌*◌, ◌++◌, ℕ, List, [], ◌∷◌, drop, length, vec_capacity, ⊤}
+use Rattle.std.specs.List.{concat}
+use Rattle.si_audit.specs.declared.giving.Stretch.{Stretch}
+use Rattle.si_audit.specs.Sheet.{text_on}
 
--- bytes before the lines of edges, these lines, if they are told, and bytes behind them
-pub record Left : Type 0 where
-  pub front : List ℕ
-  pub edges : Option EdgeLines
-  pub back : List ℕ
+-- the texts of the numbers from this one on
+abbrev pub AreTexts : (ℕ → List ℕ → Type 0) → ℕ → List (List ℕ) → Type 0
+AreTexts Tells from [] = ⊤
+AreTexts Tells from (text ∷ texts) = Tells from text × AreTexts Tells (from + 1) texts
 
--- the lines can be made
-abbrev pub CanGive : Option EdgeLines → Type 0
-CanGive None = ⊤
-CanGive (Some edges) = AreReady edges
+-- the text of all numbers from one to before another
+abbrev pub IsTextOf : (ℕ → List ℕ → Type 0) → ℕ → ℕ → List ℕ → Type 0
+IsTextOf Tells from to text = (texts : List (List ℕ)) × AreTexts Tells from texts × (from + length texts ≡ to) × (text ≡ concat texts)
 
--- they are these
-abbrev pub AreYetOf : Option EdgeLines → List ℕ → Type 0
-AreYetOf None lines = lines ≡ []
-AreYetOf (Some edges) lines = AreYet edges lines
+-- there is room for the rows of a transaction, and the stretch is of so many transactions
+pub record CanFill {R : Type 0} (count most : ℕ) (s : Stretch R) : Type 0 where
+  pub room : most ≤ vec_capacity s.rows
+  pub few : length s.rows.items ≤ vec_capacity s.rows
+  pub row : s.row ≤ length s.rows.items
+  pub next : s.next ≤ s.end
+  pub end : s.end ≤ count
+  pub size : 72 ≤ length s.sheet.bytes.items
 
--- all bytes that are left
-abbrev pub IsYet : Left → List ℕ → Type 0
-IsYet r bytes = (lines : List ℕ) × AreYetOf r.edges lines × (bytes ≡ r.front ++ lines ++ r.back)
+-- the text is what stands on the sheet, what the rows tell, and what is told of the transactions from the next one on
+abbrev pub IsLeft : {R : Type 0} → (ℕ → List ℕ → Type 0) → (ℕ → List R → ℕ → List ℕ) → Stretch R → List ℕ → Type 0
+IsLeft Tells text_of s text = (rest : List ℕ) × IsTextOf Tells s.next s.end rest
+    × (text ≡ drop s.sheet.given (text_on s.sheet) ++ text_of (s.next - 1) s.rows.items s.row ++ rest)
 
-abbrev pub left_of : Option EdgeLines → ℕ
-left_of None = 0
-left_of (Some edges) = rows_left edges
+-- how many rows and transactions are left at most
+abbrev pub rows_left : {R : Type 0} → Stretch R → ℕ
+rows_left s = (s.end - s.next) * (vec_capacity s.rows + 1) + (length s.rows.items - s.row)
 
--- how many bytes, lines and sources are left at most
-abbrev pub bytes_left : Left → ℕ
-bytes_left r = length r.front + left_of r.edges + length r.back
+-- how many bytes, rows and transactions are left at most, where each row counts as much as a full sheet
+abbrev pub steps_left : {R : Type 0} → Stretch R → ℕ
+steps_left s = rows_left s * (length s.sheet.bytes.items + 1) + (s.sheet.end - s.sheet.given)
+
+-- rows were put on the sheet, or transactions without rows were passed, if there were any and it had room
+pub record Fills {R : Type 0} (old new : Stretch R) : Type 0 where
+  pub size : length new.sheet.bytes.items ≡ length old.sheet.bytes.items
+  pub given : new.sheet.given ≡ old.sheet.given
+  pub most : rows_left new ≤ rows_left old
+  pub fewer : 0 < rows_left old → old.sheet.end + 72 ≤ length old.sheet.bytes.items → rows_left new < rows_left old

@@ -14,7 +14,10 @@ pub mod Outcomes
 pub mod Devices
 pub mod Spaced
 pub mod Found
-pub mod EdgeLines
+pub mod Spelled
+pub mod Sheet
 pub mod Giving
+pub mod EdgeLines
+pub mod Left
 pub mod Engine
 pub mod Laws

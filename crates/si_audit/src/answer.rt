@@ -1,8 +1,10 @@
 //! What a text comes to, and its report, which is given in pieces.
 use crate::edge_lines::EdgeLines;
 use crate::engine::Outcome;
+use crate::giving::Giving;
+use crate::spelled::Spelled;
 use sia_index::Index;
-use sia_parts::Accesses;
+use sia_parts::{Accesses, EdgeTo};
 use std::marker::Model;
 
 /// What the lines of edges are made from.
@@ -10,18 +12,20 @@ use std::marker::Model;
 pub struct Found {
     pub(crate) index: Index,
     pub(crate) accesses: Accesses,
+    pub(crate) spelled: Spelled,
 }
 
 impl Model for Found {
     ghost use Rattle.std.specs.Prelude.{List, ⊤};
     ghost use Rattle.sia_events.specs.declared.event.Event.{Event};
     ghost use Rattle.sia_parts.specs.Accesses.{AreAccesses};
+    ghost use Rattle.si_audit.specs.Spelled.{AreSpelled};
 
     ghost Value = { List Event };
 
     ghost view = { λ f. f.index };
 
-    ghost invariant = { λ f. AreAccesses f.index (λ _. ⊤) f.accesses };
+    ghost invariant = { λ f. AreAccesses f.index (λ _. ⊤) f.accesses × AreSpelled f.index f.spelled };
 }
 
 /// What a text comes to: how its run ends, and its report.
@@ -38,12 +42,12 @@ pub struct Answer {
 #[derive(Drop)]
 pub struct Report<'a> {
     pub(crate) front: &'a [u8],
-    pub(crate) edges: Option<EdgeLines<'a>>,
+    pub(crate) edges: Option<Giving<EdgeLines<'a>, EdgeTo>>,
     pub(crate) back: &'a [u8],
 }
 
 impl<'a> Model for Report<'a> {
-    ghost use Rattle.si_audit.specs.Giving.{CanGive, Left};
+    ghost use Rattle.si_audit.specs.Left.{CanGive, Left};
 
     ghost Value = { Left };
 

@@ -1,88 +1,103 @@
-//! The lines of all edges, made as they are given: no edge is kept behind its line.
-ghost use Rattle.std.specs.Prelude.{◌≡◌, ◌+◌, ◌++◌, ◌<◌, ◌≤◌, [], ℕ, List, ⊤, IfOk, IsFalse, IsTrue, length, vec_capacity};
-ghost use Rattle.sia_parts.specs.Accesses.{AreAccesses};
-ghost use Rattle.si_audit.specs.EdgeLines.{AreLinesFrom, AreReady, AreYet, HasTaken, rows_left};
+//! The lines of all edges, source by source.
+ghost use Rattle.std.specs.Prelude.{◌≡◌, ◌+◌, ◌++◌, ◌≤◌, ℕ, List, ⊤, IfOk, length, slice_index};
+ghost use Rattle.std.proofs.Common.{ap, flat_map, le_refl};
+ghost use Rattle.std.proofs.lemmas.List.{drop_all};
+ghost use Rattle.sia_parts.specs.EdgeRows.{row_bound};
+ghost use Rattle.sia_parts.specs.Entries.{kind_number};
+ghost use Rattle.si_audit.specs.EdgeLines.{AreEdgeLines, AreReady, AreLinesFrom, row_line, row_text};
+ghost use Rattle.si_audit.specs.Giving.{IsTextOf};
 
-use crate::report::{ROOM, put_rows};
-use sia_events::NoMemory;
-use sia_index::Index;
-use sia_parts::{Accesses, EdgeTo, Edges};
+use crate::answer::Found;
+use crate::sheet::{ROOM, Sheet, Word, put};
+use crate::spelled::Spelled;
+use crate::told::Told;
+use sia_events::{NoMemory, TxnId};
+use sia_index::ordering::Sorter;
+use sia_parts::{EdgeTo, Edges, Kind};
 use std::alloc::Global;
 
-/// What gives the lines of all edges, source by source.
+/// What the lines of edges are made from.
 #[derive(Drop)]
-pub struct EdgeLines<'a> {
+pub(crate) struct EdgeLines<'a> {
     edges: Edges<'a>,
-    /// The edges from the source before the next one, and the first of them whose line is yet to be given.
-    rows: Vec<EdgeTo>,
-    row: usize,
-    next: u32,
-    /// How many sources there are.
-    end: u32,
+    spelled: &'a Spelled,
+    txns: &'a [TxnId],
+    count: u32,
 }
 
 impl<'a> EdgeLines<'a> {
-    /// All are yet to be given. Takes all the memory that they need.
-    pub(crate) fn of(
-        alloc: Global,
-        index: &'a Index,
-        accesses: &Accesses,
-    ) -> Result<EdgeLines<'a>, NoMemory>
-        requires { AreAccesses index.now (λ _. ⊤) accesses.now }
+    /// Takes all the memory that they need.
+    pub(crate) fn of(alloc: Global, found: &'a Found) -> Result<EdgeLines<'a>, NoMemory>
         ensures ready { IfOk result AreReady }
-        ensures all { IfOk result (λ lines. (text : List ℕ) → AreLinesFrom index.now 0 text → AreYet lines text) }
+        ensures all { IfOk result (λ lines. (text : List ℕ) → AreEdgeLines found.now text
+            → IsTextOf (AreLinesFrom lines.edges.index.now) 0 lines.count text) }
     {
-        let edges = Edges::of(alloc, index, accesses, None)?;
-        let rows = Vec::with_capacity(alloc, edges.most_rows())?;
+        let index = &found.index;
         index.law();
-        let end = index.committed().len() as u32;
+        let txns = index.committed();
         Ok(EdgeLines {
-            edges,
-            rows,
-            row: 0,
-            next: 0,
-            end,
+            edges: Edges::of(alloc, index, &found.accesses, None)?,
+            spelled: &found.spelled,
+            txns,
+            count: txns.len() as u32,
         })
     }
+}
 
-    /// Takes the edges from the next source.
-    fn take_source(&mut self)
-        requires ready { AreReady self.old }
-        requires more { self.old.next < self.old.end }
-        ensures { HasTaken self.old self.new }
-    {
-        self.edges.put_from(self.next, &mut self.rows);
-        self.row = 0;
-        self.next += 1;
+impl Told for EdgeLines<'_> {
+    type Row = EdgeTo;
+
+    ghost is_ready = { AreReady };
+
+    ghost count = { λ lines. lines.count };
+
+    ghost most = { λ lines. row_bound lines.edges };
+
+    ghost tells = { λ lines. AreLinesFrom lines.edges.index.now };
+
+    ghost text = { row_text };
+
+    ghost ends = { λ lines number rows. ap (flat_map (row_line lines.spelled.now (slice_index lines.txns.now number)))
+        (drop_all (length rows) rows (le_refl (length rows))) };
+
+    fn count(&self) -> u32 {
+        self.count
     }
 
-    /// Gives lines into a buffer that has room for some, as many as it has room for, and answers whether there were any.
-    pub(crate) fn give(&mut self, buffer: &mut Vec<u8>) -> bool
-        requires ready { AreReady self.old }
-        requires room { length buffer.old.items + 4608 ≤ vec_capacity buffer.old }
-        ensures ready { AreReady self.new }
-        ensures gives { (text : List ℕ) → AreYet self.old text → (piece : List ℕ) × (rest : List ℕ)
-            × (text ≡ piece ++ rest) × AreYet self.new rest × (buffer.new.items ≡ buffer.old.items ++ piece) }
-        ensures end { IsFalse result → ((text : List ℕ) → AreYet self.old text → text ≡ [])
-            × (buffer.new.items ≡ buffer.old.items) }
-        ensures some { IsTrue result → length buffer.old.items < length buffer.new.items }
-        ensures fewer { IsTrue result → rows_left self.new < rows_left self.old }
-        ensures room { vec_capacity buffer.old ≤ vec_capacity buffer.new }
-    {
-        let txns = self.edges.index.committed();
-        let keys = self.edges.index.written_keys();
-        let mut block = [0; ROOM];
-        let before = buffer.len();
-        'giving: while buffer.len() + ROOM <= buffer.capacity() {
-            if self.row < self.rows.len() {
-                let source = self.next.saturating_sub(1);
-                self.row = put_rows(buffer, &mut block, txns, keys, source, &self.rows, self.row);
-            } else if self.next < self.end {
-                self.take_source();
-            } else {
-                break;
-            }
+    fn most_rows(&self) -> usize {
+        self.edges.most_rows()
+    }
+
+    fn put_of(&self, number: u32, rows: &mut Vec<EdgeTo>, sorter: &mut Sorter<EdgeTo>) {
+        self.edges.put_from(number, rows, sorter);
+    }
+
+    fn put_rows(&self, number: u32, rows: &[EdgeTo], row: usize, sheet: &mut Sheet) -> usize {
+        let source = u64::from(self.txns.get(number as usize).copied().unwrap_or(0));
+        let head = Word::of(b"edge ", source, b" ");
+        let heads = [head.with(b"ww"), head.with(b"wr"), head.with(b"rw")];
+        let (txns, keys) = (&*self.spelled.txns, &*self.spelled.keys);
+        let bytes = &mut *sheet.bytes;
+        let mut end = sheet.end;
+        let mut row = row;
+        'putting: while row < rows.len() && end + ROOM <= bytes.len() {
+            let to = &rows[row];
+            end = put(&heads, number_of(to.kind), bytes, end);
+            end = put(txns, to.target, bytes, end);
+            end = put(keys, to.key, bytes, end);
+            row += 1;
         }
-        before < buffer.len()
+        sheet.end = end;
+        row
+    }
+}
+
+fn number_of(kind: Kind) -> u32
+    ensures { result ≡ kind_number kind }
+{
+    match kind {
+        Kind::Ww => 0,
+        Kind::Wr => 1,
+        Kind::Rw => 2,
     }
 }

@@ -3,7 +3,7 @@ ghost use Rattle.std.specs.Prelude.{◌≡◌, ◌+◌, ◌<◌, ◌≤◌, ◌+
 ghost use Rattle.sia_events.specs.Limits.{Limits};
 ghost use Rattle.si_audit.specs.Options.{Choices};
 ghost use Rattle.si_audit.specs.Engine.{AreLinesOf, EndsFed, HasText, IsFed, TellsFed, IsReceived, IsReportOf, IsOutcomeOf};
-ghost use Rattle.si_audit.specs.Giving.{IsYet, bytes_left};
+ghost use Rattle.si_audit.specs.Left.{IsYet, bytes_left};
 ghost use Rattle.si_audit.specs.Account.{account_with};
 ghost use Rattle.si_audit.specs.Lines as lines;
 ghost use Rattle.si_audit.specs.Report.{TellsRefusal};
@@ -21,9 +21,12 @@ use crate::audit::judged;
 use crate::crew::{Alone, Crew, InThreads};
 use crate::edge_lines::EdgeLines;
 use crate::explain::{explained, push_place};
+use crate::giving::Giving;
 use crate::options::{Form, Level, Options};
 use crate::report::{push_back, push_front, push_refusal};
+use crate::sheet::give_front;
 use crate::snapshots::is_generalized;
+use crate::spelled::Spelled;
 use sia_events::{Locator, Log, NoMemory, TextFault, TextReader};
 use sia_graph::{Evidence, Judgement, Pivot, listing_law, pivots_of};
 use sia_index::Index;
@@ -118,7 +121,7 @@ impl Answer {
         ensures { IfOk result (λ report. (bytes : List ℕ) → HasText self.now bytes → IsYet report bytes) }
     {
         let edges = match &self.found {
-            Some(found) => Some(EdgeLines::of(alloc, &found.index, &found.accesses)?),
+            Some(found) => Some(Giving::of(alloc, EdgeLines::of(alloc, found)?)?),
             None => None,
         };
         Ok(Report {
@@ -130,9 +133,9 @@ impl Answer {
 }
 
 impl Report<'_> {
-    /// Gives the next bytes into a buffer that has room for some lines, and answers whether there were any. Takes no memory.
+    /// Gives the next bytes into a buffer that has room, and answers whether there were any. Takes no memory.
     pub fn give(&mut self, buffer: &mut Vec<u8>) -> bool
-        requires room { length buffer.old.items + 4608 ≤ vec_capacity buffer.old }
+        requires room { length buffer.old.items < vec_capacity buffer.old }
         ensures gives { (bytes : List ℕ) → IsYet self.old bytes → (piece : List ℕ) × (rest : List ℕ)
             × (bytes ≡ piece ++ rest) × IsYet self.new rest × (buffer.new.items ≡ buffer.old.items ++ piece) }
         ensures end { IsFalse result → ((bytes : List ℕ) → IsYet self.old bytes → bytes ≡ [])
@@ -152,26 +155,6 @@ impl Report<'_> {
         self.edges = None;
         give_front(&mut self.back, buffer)
     }
-}
-
-/// Gives the first of the bytes into a buffer, as many as it has room for, and answers whether there were any.
-fn give_front(bytes: &mut &[u8], buffer: &mut Vec<u8>) -> bool
-    requires room { length buffer.old.items < vec_capacity buffer.old }
-    ensures gives { (piece : List ℕ) × (bytes.old.now ≡ piece ++ bytes.new.now)
-        × (buffer.new.items ≡ buffer.old.items ++ piece) }
-    ensures end { IsFalse result → (bytes.old.now ≡ []) × (bytes.new.now ≡ [])
-        × (buffer.new.items ≡ buffer.old.items) }
-    ensures some { IsTrue result → length buffer.old.items < length buffer.new.items }
-    ensures fewer { IsTrue result → length bytes.new.now < length bytes.old.now }
-    ensures room { vec_capacity buffer.old ≤ vec_capacity buffer.new }
-{
-    let rest = *bytes;
-    let n = rest.len().min(buffer.capacity() - buffer.len());
-    let Ok(()) = buffer.extend_from_slice(&rest[..n]) else {
-        unreachable!()
-    };
-    *bytes = &rest[n..];
-    n > 0
 }
 
 /// Whether the history of which this is the judgement meets the level, if the judgement tells it.
@@ -248,7 +231,13 @@ fn in_full(
         accesses: &accesses,
     };
     let pivots = pivots_of(alloc, &evidence)?;
-    told(alloc, outcome, j, &pivots, Some(Found { index, accesses }))
+    let spelled = Spelled::of(alloc, &index)?;
+    let found = Found {
+        index,
+        accesses,
+        spelled,
+    };
+    told(alloc, outcome, j, &pivots, Some(found))
 }
 
 fn in_brief(alloc: Global, outcome: Outcome, j: &Judgement, log: &Log) -> Result<Answer, NoMemory>

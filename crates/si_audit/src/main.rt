@@ -10,14 +10,18 @@ mod devices;
 mod edge_lines;
 mod engine;
 mod explain;
+mod giving;
 mod laws;
 mod options;
 mod report;
 mod run;
+mod sheet;
 mod snapshot_lines;
 mod snapshots;
+mod spelled;
 #[cfg(test)]
 mod tests;
+mod told;
 mod words;
 
 use devices::FromStd;

@@ -7,7 +7,6 @@ ghost use Rattle.sia_parts.specs.declared.reasons.Recorded.{Recorded};
 ghost use Rattle.sia_graph.specs.Judgements.{IsJudgement};
 ghost use Rattle.si_audit.specs.Explained.{TellsAll, WithReasons, TellsIf, PutsFront};
 ghost use Rattle.sia_events.specs.declared.event.Event.{Event};
-ghost use Rattle.si_audit.specs.EdgeLines.{row_lines};
 ghost use Rattle.si_audit.specs.Lines as lines;
 ghost use Rattle.si_audit.specs.declared.report.Words.TheVariants as some;
 
@@ -272,92 +271,4 @@ pub(crate) fn push_back(
     push_whether(out, b"ssi", pass, b"pass", b"fail")?;
     push_whether(out, b"serializable", serializable, b"yes", b"no")?;
     push_verdict(out, verdict)
-}
-
-/// How many lines are put together before they are appended.
-const LINES: usize = 64;
-
-/// Room for so many lines, each of less than 72 bytes.
-pub(crate) const ROOM: usize = 4608;
-
-/// Puts the bytes right before `end`. Answers where they start. They are copied to a place of their own first: the compiler
-/// then needs no test whether they overlap with the block, and keeps them in registers.
-#[inline]
-fn put<const N: usize>(block: &mut [u8; ROOM], bytes: &[u8; N], end: usize) -> usize
-    requires { (N ≤ end) × (end ≤ 4608) }
-    ensures room { result + N ≡ end }
-    ensures bytes { drop result block.new ≡ bytes.now ++ drop end block.old }
-{
-    let copied = *bytes;
-    let start = end - N;
-    block[start..end].copy_from_slice(&copied);
-    start
-}
-
-fn word(kind: Kind) -> [u8; 4]
-    ensures { result ≡ 32 ∷ (lines.kind_word kind ++ 32 ∷ []) }
-{
-    match kind {
-        Kind::Ww => *b" ww ",
-        Kind::Wr => *b" wr ",
-        Kind::Rw => *b" rw ",
-    }
-}
-
-#[inline]
-fn put_number(block: &mut [u8; ROOM], n: u64, end: usize) -> usize
-    requires { (20 ≤ end) × (end ≤ 4608) }
-    ensures room { (result ≤ end) × (end ≤ result + 20) }
-    ensures bytes { drop result block.new ≡ numeral n ++ drop end block.old }
-{
-    write_digits(n, block, end)
-}
-
-/// Puts the edge's whole line right before `end`. Answers where it starts.
-#[inline]
-fn put_line(block: &mut [u8; ROOM], e: &Edge, end: usize) -> usize
-    requires { (72 ≤ end) × (end ≤ 4608) }
-    ensures room { (result ≤ end) × (end ≤ result + 72) }
-    ensures bytes { drop result block.new ≡ lines.edge_line e.now ++ drop end block.old }
-{
-    let end = put(block, b"\n", end);
-    let end = put_number(block, e.key, end);
-    let end = put(block, b" ", end);
-    let end = put_number(block, u64::from(e.dst), end);
-    let end = put(block, &word(e.kind), end);
-    let end = put_number(block, u64::from(e.src), end);
-    put(block, b"edge ", end)
-}
-
-/// Adds lines of the edges from a source, from a row on, as many as there is room for. Answers the row behind them.
-pub(crate) fn put_rows(
-    out: &mut Vec<u8>,
-    block: &mut [u8; ROOM],
-    txns: &[TxnId],
-    keys: &[Key],
-    source: u32,
-    rows: &[EdgeTo],
-    row: usize,
-) -> usize
-    requires { row ≤ length rows.now }
-    ensures lines { (piece : List ℕ) × (out.new.items ≡ out.old.items ++ piece)
-        × (row_lines txns.now keys.now source (drop row rows.now)
-        ≡ piece ++ row_lines txns.now keys.now source (drop result rows.now)) }
-    ensures within { (row ≤ result) × (result ≤ length rows.now) }
-    ensures some { row < length rows.now → length out.old.items + 4608 ≤ vec_capacity out.old → row < result }
-    ensures room { vec_capacity out.old ≤ vec_capacity out.new }
-{
-    let mut row = row;
-    'putting: while row < rows.len() && out.len() + ROOM <= out.capacity() {
-        let some = &rows[row..rows.len().min(row + LINES)];
-        let mut end = ROOM;
-        for i in (0..some.len()).rev() {
-            end = put_line(block, &some[i].named(txns, keys, source), end);
-        }
-        let Ok(()) = out.extend_from_slice(&block[end..]) else {
-            unreachable!()
-        };
-        row += some.len();
-    }
-    row
 }

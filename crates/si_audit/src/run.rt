@@ -4,7 +4,7 @@ ghost use Rattle.std.specs.Io.KnownBytes.{Appends, Keeps};
 ghost use Rattle.si_audit.specs.Report.{IsReport};
 ghost use Rattle.si_audit.specs.Outcomes.{IsOutcome, status_of};
 ghost use Rattle.si_audit.specs.Engine.{IsFed};
-ghost use Rattle.si_audit.specs.Giving.{IsYet};
+ghost use Rattle.si_audit.specs.Left.{IsYet};
 ghost use Rattle.si_audit.specs.declared.run.RunFault.TheVariants.{NoMemory as no_memory};
 
 use crate::answer::Report;
@@ -159,7 +159,7 @@ fn write_whole<W: Sink>(
     buffer: &mut Vec<u8>,
 ) -> Result<(), Failed>
     requires sound { IsFalse (W.has_failed writer.old) }
-    requires room { 4608 ≤ vec_capacity buffer.old }
+    requires room { 0 < vec_capacity buffer.old }
     ensures ok { OnOk result ((bytes : List ℕ) → IsYet report.old bytes
         → Appends (W.taken writer.old) (W.taken writer.new) bytes) }
     ensures front { OnErr result ((bytes : List ℕ) → IsYet report.old bytes

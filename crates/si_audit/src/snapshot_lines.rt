@@ -1,13 +1,12 @@
 //! The lines of the snapshots that fit transactions which their recorded starts don't fit.
 ghost use Rattle.std.specs.Prelude.{◌≡◌, ◌++◌, List, ℕ, IsTrue, OnOk};
-ghost use Rattle.sia_events.specs.Transactions.{HasEvent};
 ghost use Rattle.si_audit.specs.Bounds.{EachTxn, IsKnownOf};
 ghost use Rattle.si_audit.specs.Explained.{TellsSnapshots};
-ghost use Rattle.si_audit.specs.SnapshotLines.{TellsNone, TellsSnapshot, bound_words};
+ghost use Rattle.si_audit.specs.SnapshotLines.{TellsNone, bound_words};
 ghost use Rattle.si_audit.specs.Snapshots.{IsSnapshot};
 
 use crate::snapshots::{Bound, Bounds};
-use sia_events::{Log, NoMemory, Row, TxnId, push_number};
+use sia_events::{Log, NoMemory, Row, push_number};
 use sia_index::Index;
 use sia_parts::push_event;
 
@@ -46,25 +45,6 @@ fn push_none(out: &mut Vec<u8>, h: &Log, b: &Bounds) -> Result<(), NoMemory>
     Ok(push_number(out, b"", hi, b"]\n")?)
 }
 
-fn push_snapshot(out: &mut Vec<u8>, h: &Log, t: TxnId, b: &Bounds) -> Result<(), NoMemory>
-    requires txn { HasEvent h.now t }
-    requires bounds { IsKnownOf h.now t b.now }
-    ensures { OnOk result ((bytes : List ℕ) × TellsSnapshot h.now t bytes
-        × (out.new.items ≡ out.old.items ++ bytes)) }
-{
-    h.law();
-    if !b.misfit {
-        return Ok(());
-    }
-    if !b.fits() {
-        push_number(out, b"snapshot ", u64::from(t), b" none\n")?;
-        return push_none(out, h, b);
-    }
-    push_number(out, b"snapshot ", u64::from(t), b" from ")?;
-    push_number(out, b"", u64::from(b.low.commit), b" to ")?;
-    Ok(push_number(out, b"", u64::from(b.high.commit.min(b.first) - 1), b"\n")?)
-}
-
 /// The lines of all transactions, of which so much is known.
 pub(crate) fn push_snapshots(
     out: &mut Vec<u8>,
@@ -77,9 +57,18 @@ pub(crate) fn push_snapshots(
     ensures { OnOk result ((bytes : List ℕ) × TellsSnapshots h.now bytes
         × (out.new.items ≡ out.old.items ++ bytes)) }
 {
+    h.law();
     let txns = ix.txns();
     for i in 0..txns.len() {
-        push_snapshot(out, h, txns[i], &all[i])?;
+        let (name, b) = (u64::from(txns[i]), &all[i]);
+        if b.misfit && b.fits() {
+            push_number(out, b"snapshot ", name, b" from ")?;
+            push_number(out, b"", u64::from(b.low.commit), b" to ")?;
+            push_number(out, b"", u64::from(b.high.commit.min(b.first) - 1), b"\n")?;
+        } else if b.misfit {
+            push_number(out, b"snapshot ", name, b" none\n")?;
+            push_none(out, h, b)?;
+        }
     }
     Ok(())
 }

@@ -2,7 +2,7 @@
 ghost use Rattle.std.specs.Prelude.{◌≡◌, ◌≢◌, ◌↔◌, ◌+◌, ◌-◌, ◌<◌, ◌≤◌, ℕ, List, None, Some, IfOk, IsTrue, length};
 ghost use Rattle.sia_events.specs.Events.{actor};
 ghost use Rattle.sia_events.specs.NarrowDependencies.{IsAsOf};
-ghost use Rattle.sia_events.specs.Numbering.{IsWithin, Names, event_of, names_of, range_at, ranges_of, txn_at, version_at, write_at, writes_of};
+ghost use Rattle.sia_events.specs.Numbering.{IsWithin, event_of, names_of, range_at, ranges_of, version_at, write_at, writes_of};
 ghost use Rattle.sia_events.specs.Places.{at_place};
 ghost use Rattle.sia_events.specs.Reads.{SawAt};
 ghost use Rattle.sia_events.specs.Refusals.{IsWellFormed};
@@ -13,13 +13,14 @@ ghost use Rattle.sia_index.specs.Info.{HasKeyAt, IsKeyAt};
 ghost use Rattle.sia_index.specs.Positions.{HasPosition, IsAtPosition};
 ghost use Rattle.sia_index.specs.declared.info.KeyVersion.{KeyVersion};
 ghost use Rattle.sia_graph.specs.Judgements.{IsJudgement};
-ghost use Rattle.si_audit.specs.Bounds.{AreSoFar, EachTxn, IsBound, IsFirstSoFar, IsKnownOf, IsKnownTo, IsLow, Sees};
+ghost use Rattle.si_audit.specs.Bounds.{EachTxn, IsBound, IsKnownOf, IsKnownTo, IsLow, Sees};
 ghost use Rattle.si_audit.specs.Snapshots.{IsGeneralized, IsSnapshot, ReadAsks};
 
 use sia_events::{Key, Log, NoMemory, Row, TxnId};
 use sia_graph::Judgement;
 use sia_index::Index;
 use sia_index::keyed::{ByKey, ByTxn, place_above, place_from};
+use sia_parts::txn_of;
 use std::alloc::Global;
 
 /// A commit that a snapshot has to have, or must not have, and the first place and key that say so: place 0 where there is none.
@@ -225,22 +226,6 @@ fn misfits_of(alloc: Global, ix: &Index, j: &Judgement) -> Result<Vec<Bounds>, N
         all[number].misfit = true;
     }
     Ok(all)
-}
-
-/// The log's transaction whose event the row is.
-fn txn_of(row: Row) -> u32
-    ensures { (names : Names) → IsWithin names row → (result < length names.txns)
-        × (actor (event_of names row) ≡ txn_at names result) }
-{
-    match row {
-        Row::Begin { txn, .. } => txn,
-        Row::Read { txn, .. } => txn,
-        Row::OwnRead { txn, .. } => txn,
-        Row::Range { txn, .. } => txn,
-        Row::Write { txn, .. } => txn,
-        Row::Commit { txn } => txn,
-        Row::Abort { txn } => txn,
-    }
 }
 
 /// What is known of the snapshots of each transaction, in the order of the index.

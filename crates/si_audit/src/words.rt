@@ -3,7 +3,7 @@ ghost use Rattle.std.specs.Prelude.{◌≡◌, ◌≢◌, ◌<◌, ◌≤◌, �
 ghost use Rattle.clap.specs.Words.{IsUnsignedIn, app_of, first_of, found_of, kind_of, new_rule, rows_of, rule_of};
 ghost use Rattle.clap.specs.declared.builder.action.ArgAction.TheVariants.{Set};
 ghost use Rattle.clap.specs.declared.error.kind.ErrorKind.TheVariants.{OutOfMemory};
-ghost use Rattle.si_audit.specs.Words.{HasNumbers, IsOwed, GivesOptions, StandsInTheWay, cuts_among, form_among, level_among, limits_among, number_among, number_rule, workers_among, AreChosen, ChooseNoLevel, ChooseTooManyCuts, number_in, program};
+ghost use Rattle.si_audit.specs.Words.{HasNumbers, IsOwed, GivesOptions, StandsInTheWay, cuts_among, level_among, limits_among, number_among, number_rule, workers_among, AreChosen, ChooseNoLevel, ChooseTooManyCuts, number_in, program};
 ghost use Rattle.si_audit.specs.declared.words.LineFault.TheVariants.{NoMemory};
 
 use crate::options::{Form, Level, Options, OptionsFault};
@@ -206,6 +206,13 @@ fn options_of(alloc: Global, matches: &ArgMatches<'_>) -> Result<Options, LineFa
     let Some(level) = level_in(matches) else {
         return Err(LineFault::UnknownLevel);
     };
+    let form = if matches.get_count("explain") != 0 {
+        Form::Explained
+    } else if matches.get_count("brief") == 0 {
+        Form::Full
+    } else {
+        Form::Brief
+    };
     let workers = number_of(matches, "workers") as u8;
     let events = number_of(matches, "max-events");
     let bytes = number_of(matches, "max-bytes");
@@ -213,25 +220,13 @@ fn options_of(alloc: Global, matches: &ArgMatches<'_>) -> Result<Options, LineFa
     match Options::new(alloc, workers, cuts.as_slice()) {
         Ok(options) => Ok(
             options
-                .with_form(form_in(matches))
+                .with_form(form)
                 .with_level(level)
                 .with_limits(Limits::new(events, bytes).unwrap()),
         ),
         Err(OptionsFault::TooManyCuts) => Err(LineFault::TooManyCuts),
         Err(OptionsFault::NoMemory) => Err(LineFault::NoMemory),
         Err(OptionsFault::Workers) => unreachable!(),
-    }
-}
-
-fn form_in(matches: &ArgMatches<'_>) -> Form
-    ensures { result ≡ form_among (rows_of (found_of matches.now)) }
-{
-    if matches.get_count("explain") != 0 {
-        Form::Explained
-    } else if matches.get_count("brief") == 0 {
-        Form::Full
-    } else {
-        Form::Brief
     }
 }
 

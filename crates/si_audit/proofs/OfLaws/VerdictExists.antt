@@ -23,7 +23,7 @@ use Rattle.sia_graph.specs.Fronts.{IsFront, stands}
 use Rattle.sia_graph.specs.Orders.{Leads}
 use Rattle.sia_graph.specs.Verdicts.{IsVerdict}
 use Rattle.sia_graph.proofs.Shared.Deciding.{element_decided, event_decided, not_decided, three_decided}
-use Rattle.sia_graph.proofs.OfLaws.FiniteHistories.{edge_list_exists}
+use Rattle.sia_graph.proofs.OfLaws.FiniteHistories.{edge_list_exists, event_in}
 use Rattle.sia_graph.proofs.OfLaws.FiniteLists.{list_of}
 use Rattle.sia_graph.proofs.Shared.Fronts.{front_more, front_none, no_order, none_fed, whole_front}
 use Rattle.sia_graph.proofs.OfPivots.ListedAs.{mapped}
@@ -31,10 +31,6 @@ use Rattle.sia_graph.proofs.Shared.PartedLists.{contains_in}
 use Rattle.sia_graph.proofs.Shared.Positions.{Stands, contains_stands, false_stands, stands_contains, stands_last, stands_more, true_stands}
 use Rattle.sia_graph.proofs.Shared.ReadyOrders.{In}
 use Rattle.si_audit.proofs.OfLaws.CycleExists.{cycle_exists, least_of, others}
-
-event_in : (h : List Event) (p : ℕ) (e : Event) → at_place h p ≡ Some e → Contains h e
-event_in h zero e at = absurd cc
-event_in h (suc i) e at = stands_contains h e (i, at)
 
 -- the list of the transactions that have P, which have events
 pub txns_listed : (h : List Event) (P : ℕ → Type 0) → ((t : ℕ) → Decided (P t)) → ((t : ℕ) → P t → (p : ℕ) × (e : Event) × (at_place h p ≡ Some e) × (actor e ≡ t)) → (ts : List ℕ) × ListsAscending P ts

@@ -1,142 +1,134 @@
--- The lines of edges in turn: those of a source, and those of the later ones.
-use Rattle.std.proofs.Common.{◌≡◌, inl, inr, Bool, true, ℕ, ◌+◌, ◌-◌, ◌*◌, ◌<◌, List, [], ◌++◌, drop, flat_map, length, map, refl, ap, sym, subst, ◌∙◌, arith}
-use Rattle.std.specs.Prelude.{vec_capacity, Contains, filter, slice_index, ⊤}
+-- The lines of all edges are those of each source in turn, and those of a source are what its rows tell.
+use Rattle.std.proofs.Common.{◌≡◌, inl, inr, Bool, true, false, ℕ, zero, suc, ◌+◌, ◌<◌, List, [], ◌∷◌, ◌++◌, flat_map, length, map, refl, ap, sym, subst, ◌∙◌, arith, append_assoc}
+use Rattle.std.specs.Prelude.{All, Contains, codes, filter, slice_index, slice_index_or, ⊤}
+use Rattle.std.specs.List.{concat}
 use Rattle.std.proofs.Math.Dec.{ltb}
-use Rattle.std.proofs.lemmas.Bool.{cases_lt, lt-ltb, ltb-true}
-use Rattle.std.proofs.Math.Nat.{mul_comm}
+use Rattle.std.proofs.lemmas.Bool.{cases_lt, lt-ltb, ltb-false, ltb-true}
 use Rattle.std.proofs.lemmas.Grind.{flat_map-append}
-use Rattle.std.proofs.lemmas.List.{append_assoc}
-use Rattle.std.proofs.lemmas.Nat.{mul-add-lt}
+use Rattle.std.proofs.lemmas.List.{get_or-map, get_or_default}
 use Rattle.std.proofs.lemmas.List.Elements.{All-contains, All-contains_itself, All-filter, filter_passes}
+use Rattle.std.proofs.lemmas.List.Folds.{flat_map-map}
 use Rattle.std.proofs.lemmas.List.Kept.{AllPairs-filter}
 use Rattle.sia_events.specs.declared.event.Event.{Event}
 use Rattle.sia_events.specs.Lists.{ListsAscending, ListsBy, Precedes}
+use Rattle.sia_events.specs.Text.{numeral}
 use Rattle.sia_events.specs.Transactions.{IsCommitted}
 use Rattle.sia_events.proofs.Worked.OneList.{one_list_by}
 use Rattle.sia_index.specs.Info.{AreWrittenKeys}
 use Rattle.sia_index.proofs.Shared.Ordered.{ascends}
 use Rattle.sia_index.proofs.VersionRows.StableDeal.{filter_has}
 use Rattle.sia_parts.specs.declared.edges.EdgeTo.{EdgeTo}
-use Rattle.sia_parts.specs.declared.edges.Edges.{Edges}
 use Rattle.sia_parts.specs.declared.finding.Edge.{Edge}
+use Rattle.sia_parts.specs.declared.finding.Kind.{Kind}
 use Rattle.sia_parts.specs.EdgeRows.{AreEdgesFrom, edge_of, IsEdgeBetween, ListsEdgesBetween}
 use Rattle.sia_parts.specs.Entries.{edge_rank}
+use Rattle.sia_parts.specs.Findings.{ListsEdges}
 use Rattle.sia_parts.proofs.Auditing.Committing.{committed_number}
 use Rattle.sia_parts.proofs.EdgeRows.EdgeLists.{edges_joined, edges_none}
-use Rattle.si_audit.specs.declared.edge_lines.EdgeLines.{EdgeLines}
-use Rattle.si_audit.specs.EdgeLines.{AreReady, AreYetFrom, HasTaken, row_lines, rows_left}
+use Rattle.si_audit.specs.EdgeLines.{AreLinesFrom}
+use Rattle.si_audit.specs.Giving.{AreTexts, IsTextOf}
 use Rattle.si_audit.specs.Lines.{edge_line}
+use Rattle.si_audit.proofs.OfLaws.VerdictExists.{kind_joins}
 
--- the edge is from a source behind this one
-abbrev is_later : ℕ → Edge → Bool
-is_later t e = ltb t e.src
+-- those of a list that pass a test
+passing : {A : Type 0} (rank : A → List ℕ) (P Q : A → Type 0) (test : A → Bool) → ((x : A) → P x → test x ≡ true → Q x) → ((x : A) → Q x → P x × (test x ≡ true))
+    → (xs : List A) → ListsBy rank P xs → ListsBy rank Q (filter test xs)
+passing {A} rank P Q test has only xs all = record {
+  ascending = AllPairs-filter (λ x y. Precedes (rank x) (rank y)) test xs all.ascending;
+  each = λ x. (
+    (λ c. has x
+        ((all.each x).0 (All-contains (Contains xs) (filter test xs) x (All-filter test (Contains xs) xs (All-contains_itself xs)) c))
+        (All-contains (λ y. test y ≡ true) (filter test xs) x (filter_passes test xs) c)),
+    (λ is. let p = only x is in filter_has test xs x p.1 ((all.each x).1 p.0)),
+  );
+}
 
-module _ (h : List Event) (txns : List ℕ) (are : ListsAscending (IsCommitted h) txns) (i to : ℕ) where
-  abbrev IsFrom : ℕ → Edge → Type 0
-  IsFrom from = IsEdgeBetween h (λ _. ⊤) from to
+module _ (h : List Event) (txns : List ℕ) (are : ListsAscending (IsCommitted h) txns) where
+  abbrev IsFrom : ℕ → ℕ → Edge → Type 0
+  IsFrom = IsEdgeBetween h (λ _. ⊤)
 
-  abbrev t : ℕ
-  t = slice_index txns i
+  -- the number of a source tells its place
+  at_number : (i j : ℕ) (e : Edge) (is : IsFrom i j e) → (is.2 < length txns) × (slice_index txns is.2 ≡ e.src)
+  at_number i j e is = committed_number h txns are is.2 e.src is.5
 
-  goes_on : (e : Edge) → IsFrom i e → is_later t e ≡ true → IsFrom (i + 1) e
-  goes_on e is later =
-      let at = committed_number h txns are is.2 e.src is.5 in
-      let there = at.1 in
-      elim (cases_lt i is.2) [
-        | inl less ↦ (is.0, is.1, is.2, omega arith, is.4, is.5)
-        | inr same ↦ (
-            let here = ap (slice_index txns) (let low = is.3 in let e : is.2 ≡ i = omega arith in e) in
-            let less = ltb-true t e.src later in
-            absurd (omega arith))
-      ]
+  module _ (i to : ℕ) (less : i < to) where
+    abbrev later : Edge → Bool
+    later e = ltb (slice_index txns i) e.src
 
-  stands_later : (e : Edge) → IsFrom (i + 1) e → is_later t e ≡ true
-  stands_later e is =
-      let at = committed_number h txns are is.2 e.src is.5 in
-      let low = is.3 in
-      let less : t < slice_index txns is.2 = ascends (λ (x : ℕ). x) (IsCommitted h) txns are i is.2 0 (omega arith) at.0 in
-      let there = at.1 in
-      lt-ltb t e.src (omega arith)
+    abbrev own : Edge → Bool
+    own e = ltb e.src (slice_index txns i + 1)
 
-  -- all edges are those of a source, and the later ones of them
-  parted_at : i < to → (edges xs : List Edge) → ListsBy edge_rank (IsFrom i) edges → ListsEdgesBetween h (λ _. ⊤) i (i + 1) xs
-      → ListsBy edge_rank (IsFrom (i + 1)) (filter (is_later t) edges) × (edges ≡ xs ++ filter (is_later t) edges)
-  parted_at less edges xs all first = (
-    rest,
-    one_list_by edge_rank (IsFrom i) edges (xs ++ filter (is_later t) edges) all (edges_joined h (λ _. ⊤) i (i + 1) to (omega arith) (omega arith) xs (filter (is_later t) edges) first rest),
-  )
-    where
-      rest : ListsBy edge_rank (IsFrom (i + 1)) (filter (is_later t) edges)
-      rest = record {
-        ascending = AllPairs-filter (λ x y. Precedes (edge_rank x) (edge_rank y)) (is_later t) edges all.ascending;
-        each = λ e. (
-          (λ c. goes_on e
-              ((all.each e).0 (All-contains (Contains edges) (filter (is_later t) edges) e (All-filter (is_later t) (Contains edges) edges (All-contains_itself edges)) c))
-              (All-contains (λ x. is_later t x ≡ true) (filter (is_later t) edges) e (filter_passes (is_later t) edges) c)),
-          (λ is. filter_has (is_later t) edges e (stands_later e is) ((all.each e).1 (is.0, is.1, is.2, (let low = is.3 in omega arith), is.4, is.5))),
-        );
-      }
+    is_own : (e : Edge) → IsFrom i to e → own e ≡ true → IsFrom i (i + 1) e
+    is_own e is small =
+        let at = at_number i to e is in
+        let name = at.1 in
+        let low = is.3 in
+        elim (cases_lt i is.2) [
+          | inl more ↦ (
+              let up : slice_index txns i < slice_index txns is.2 = ascends (λ (x : ℕ). x) (IsCommitted h) txns are i is.2 0 more at.0 in
+              let few = ltb-true e.src (slice_index txns i + 1) small in
+              absurd (omega arith))
+          | inr most ↦ (is.0, is.1, is.2, is.3, omega arith, is.5)
+        ]
 
--- of these sources there are as many as the end says
-pub as_many : (e : EdgeLines) (edges : Edges) → e.edges ≡ edges → AreReady e → (txns : List ℕ) → ListsAscending (IsCommitted edges.index.now) txns → e.end ≡ length txns
-as_many e edges same ready txns are =
-    let (own, own_are, long) = ready.sources in
-    long ∙ ap length (one_list_by _ _ own txns (subst (λ es. ListsAscending (IsCommitted es.index.now) own) same own_are) are)
+    own_is : (e : Edge) → IsFrom i (i + 1) e → IsFrom i to e × (own e ≡ true)
+    own_is e is =
+        let at = at_number i (i + 1) e is in
+        let name = at.1 in
+        let same : is.2 ≡ i = (let low = is.3 in let high = is.4 in omega arith) in
+        let src : slice_index txns i ≡ e.src = ap (slice_index txns) (sym same) ∙ name in
+        ((is.0, is.1, is.2, is.3, omega arith, is.5), lt-ltb e.src (slice_index txns i + 1) (omega arith))
 
--- with a source taken less is left
-pub source_fewer : (old new : EdgeLines) → HasTaken old new → old.next < old.end → rows_left new < rows_left old
-source_fewer old new taken more =
-    let a : new.end - new.next ≡ old.end - old.next - 1 = (let e = taken.end in let n = taken.next in omega arith) in
-    let b : vec_capacity new.rows + 1 ≡ vec_capacity old.rows + 1 = ap (λ n. n + 1) taken.room in
-    let e : (new.end - new.next) * (vec_capacity new.rows + 1) ≡ (old.end - old.next - 1) * (vec_capacity old.rows + 1) = λ i. a i * b i in
-    let few = taken.ready.few in
-    omega (arith, mul-add-lt (old.end - old.next - 1) (vec_capacity old.rows + 1) (length new.rows.items) (old.end - old.next) (omega arith) (omega arith), mul_comm (old.end - old.next) (vec_capacity old.rows + 1))
+    is_later : (e : Edge) → IsFrom i to e → later e ≡ true → IsFrom (i + 1) to e
+    is_later e is more =
+        let at = at_number i to e is in
+        let name = at.1 in
+        let low = is.3 in
+        elim (cases_lt i is.2) [
+          | inl above ↦ (is.0, is.1, is.2, omega arith, is.4, is.5)
+          | inr most ↦ (
+              let same : is.2 ≡ i = omega arith in
+              let src : slice_index txns i ≡ e.src = ap (slice_index txns) (sym same) ∙ name in
+              let big = ltb-true (slice_index txns i) e.src more in
+              absurd (omega arith))
+        ]
 
--- behind this piece the text is the lines of these rows and those of later sources
-abbrev pub GoesOn : List Event → ℕ → List EdgeTo → List ℕ → List ℕ → Type 0
-GoesOn h next rows piece text = (rest : List ℕ) × (text ≡ piece ++ rest) × AreYetFrom h next rows rest
+    later_is : (e : Edge) → IsFrom (i + 1) to e → IsFrom i to e × (later e ≡ true)
+    later_is e is =
+        let at = at_number (i + 1) to e is in
+        let name = at.1 in
+        let low = is.3 in
+        let up : slice_index txns i < slice_index txns is.2 = ascends (λ (x : ℕ). x) (IsCommitted h) txns are i is.2 0 (omega arith) at.0 in
+        ((is.0, is.1, is.2, omega arith, is.4, is.5), lt-ltb (slice_index txns i) e.src (omega arith))
 
-module _ (h : List Event) (txns keys : List ℕ) (are : ListsAscending (IsCommitted h) txns) (keys_are : AreWrittenKeys h keys) (piece text : List ℕ) where
-  -- some lines of a source were given
-  pub rows_given : (next : ℕ) (rows more : List EdgeTo) (given : List ℕ) → row_lines txns keys (next - 1) rows ≡ given ++ row_lines txns keys (next - 1) more → GoesOn h next rows piece text → GoesOn h next more (piece ++ given) text
-  rows_given next rows more given is (rest, at, yet) = (
-    row_lines txns keys (next - 1) more ++ yet.rest,
-    at ∙ ap (λ (l : List ℕ). piece ++ l) (yet.lines txns keys are keys_are ∙ ap (λ (l : List ℕ). l ++ yet.rest) is ∙ append_assoc given (row_lines txns keys (next - 1) more) yet.rest)
-        ∙ sym (append_assoc piece given (row_lines txns keys (next - 1) more ++ yet.rest)),
-    record {
-      rest = yet.rest;
-      later = yet.later;
-      lines = λ ts ks ts_are ks_are.
-          let same = one_list_by _ _ txns ts are ts_are in
-          let one = one_list_by _ _ keys ks keys_are ks_are in
-          λ i. row_lines (same i) (one i) (next - 1) more ++ yet.rest;
-    },
-  )
+    -- the edges from a source, and those from later ones
+    parted : (edges : List Edge) → ListsEdgesBetween h (λ _. ⊤) i to edges
+        → (xs ys : List Edge) × ListsEdgesBetween h (λ _. ⊤) i (i + 1) xs × ListsEdgesBetween h (λ _. ⊤) (i + 1) to ys × (edges ≡ xs ++ ys)
+    parted edges all =
+        let xs = filter own edges in
+        let ys = filter later edges in
+        let first = passing edge_rank (IsFrom i to) (IsFrom i (i + 1)) own is_own own_is edges all in
+        let rest = passing edge_rank (IsFrom i to) (IsFrom (i + 1) to) later is_later later_is edges all in
+        (xs, ys, first, rest, one_list_by edge_rank (IsFrom i to) edges (xs ++ ys) all (edges_joined h (λ _. ⊤) i (i + 1) to (omega arith) (omega arith) xs ys first rest))
 
-  -- the next source was taken
-  pub source_taken : (old : List EdgeTo) → old ≡ [] → (i next row : ℕ) → i < length txns → next ≡ i + 1 → row ≡ 0 → (rows : List EdgeTo) → AreEdgesFrom h (λ _. ⊤) i rows
-      → GoesOn h i old piece text → GoesOn h next (drop row rows) piece text
-  source_taken old none i next row less up first rows taken (whole, at, yet) = rw (up, first) (
-      let (ts, ts_are, edges, between, is) = yet.later in
-      let long = ap length (one_list_by _ _ txns ts are ts_are) in
-      let parted = λ (us ks : List ℕ) (us_are : ListsAscending (IsCommitted h) us) (ks_are : AreWrittenKeys h ks). parted_at h txns are i (length ts) (omega arith) edges (map (edge_of us ks i) rows) between (taken.edges us ks us_are ks_are) in
-      let later = filter (is_later (slice_index txns i)) edges in
-      let lines : whole ≡ flat_map edge_line edges = yet.lines txns keys are keys_are ∙ ap (λ l. row_lines txns keys (i - 1) l ++ yet.rest) none ∙ is in
-      let back : i ≡ i + 1 - 1 = omega arith in (
-        whole,
-        at,
-        record {
-          rest = flat_map edge_line later;
-          later = (ts, ts_are, later, (parted txns keys are keys_are).0, refl);
-          lines = λ us ks us_are ks_are. lines ∙ ap (flat_map edge_line) (parted us ks us_are ks_are).1 ∙ flat_map-append edge_line (map (edge_of us ks i) rows) later
-              ∙ ap (λ n. row_lines us ks n rows ++ flat_map edge_line later) back;
-        },
-      ))
+  lines_from : (n i : ℕ) (edges : List Edge) → ListsEdgesBetween h (λ _. ⊤) i (i + n) edges → IsTextOf (AreLinesFrom h) i (i + n) (flat_map edge_line edges)
+  lines_from zero i edges all =
+      ([], tt, omega arith, ap (flat_map edge_line) (one_list_by edge_rank (IsFrom i (i + zero)) edges [] all (subst (λ to. ListsEdgesBetween h (λ _. ⊤) i to []) (omega arith) (edges_none h (λ _. ⊤) i))))
+  lines_from (suc n) i edges all =
+      let (xs, ys, first, rest, is) = parted i (i + suc n) (omega arith) edges all in
+      let up : i + suc n ≡ i + 1 + n = omega arith in
+      let (texts, tell, long, same) = lines_from n (i + 1) ys (subst (λ to. ListsEdgesBetween h (λ _. ⊤) (i + 1) to ys) up rest) in
+      (flat_map edge_line xs ∷ texts, ((xs, first, refl), tell), omega arith, ap (flat_map edge_line) is ∙ flat_map-append edge_line xs ys ∙ ap (λ (b : List ℕ). flat_map edge_line xs ++ b) same)
 
-  -- where no source is left nothing is
-  pub none_left : (rows : List EdgeTo) → rows ≡ [] → (next : ℕ) → next ≡ length txns → piece ≡ [] → GoesOn h next rows piece text → text ≡ []
-  none_left rows none next last empty (rest, at, yet) =
-      let (ts, ts_are, edges, between, is) = yet.later in
-      let no_edges = subst (λ n. ListsEdgesBetween h (λ _. ⊤) next n []) (last ∙ ap length (one_list_by _ _ txns ts are ts_are)) (edges_none h (λ _. ⊤) next) in
-      at ∙ ap (λ (l : List ℕ). l ++ rest) empty ∙ yet.lines txns keys are keys_are ∙ ap (λ l. row_lines txns keys (next - 1) l ++ yet.rest) none ∙ is
-      ∙ ap (flat_map edge_line) (one_list_by edge_rank (IsEdgeBetween h (λ _. ⊤) next (length ts)) edges [] between no_edges)
+  -- all edges are those of all sources
+  pub lines_in_turn : (edges : List Edge) → ListsEdges h (λ _. ⊤) edges → IsTextOf (AreLinesFrom h) 0 (length txns) (flat_map edge_line edges)
+  lines_in_turn edges all = subst (λ n. IsTextOf (AreLinesFrom h) 0 n (flat_map edge_line edges)) (omega arith) (lines_from (length txns) 0 edges (record {
+    ascending = all.ascending;
+    each = λ e. (
+      (λ c. (
+          let is = (all.each e).0 c in
+          let at = (are.each e.src).1 (kind_joins h e.kind e.src e.dst e.key is.0).0 in
+          (is.0, is.1, at.0, omega arith, (let below = at.1 in omega arith), (txns, are, at.1, get_or_default txns at.0 0 e.src at.1 ∙ at.2)))),
+      (λ is. (all.each e).1 (is.0, is.1)),
+    );
+  }))

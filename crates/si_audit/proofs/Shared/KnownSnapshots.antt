@@ -59,6 +59,10 @@ module _ (h : List Event) (wf : IsWellFormed h) (t : ℕ) (b : Bounds) (known : 
       | inl free ↦ absurd (never 0 ((snapshots_between 0).1 (low_least 0 (λ c asked. absurd (free.1 c asked)), high_above 0 (omega arith) (λ c p k bars. let less : bars.1 < c = bars.7 in omega arith), first_within.0)))
     ]
 
+  -- one that fits is before what is barred, and before the first access
+  pub early : (n : ℕ) → IsSnapshot h t n → (n < b.high.commit) × (n < b.first)
+  early n fits = let within = (snapshots_between ((fits_bounds h wf t n).0 fits.1).none n).0 fits in (within.1, within.2)
+
   -- from one to another, where one fits
   pub spans : (n : ℕ) → IsSnapshot h t n → (end : ℕ) → end ≤ b.high.commit → end ≤ b.first → ((m : ℕ) → m < b.high.commit → m < b.first → m < end) → AreSnapshots h t b.low.commit (end - 1)
   spans n fits end before early last =

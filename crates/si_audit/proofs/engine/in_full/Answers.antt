@@ -2,7 +2,6 @@ use Rattle.std.proofs.Common.{flat_map, refl}
 use Rattle.si_audit.specs.declared.options.Form.TheVariants.{Full}
 use Rattle.si_audit.specs.Account.{account_with}
 use Rattle.si_audit.specs.Lines.{edge_line, report_text}
-use Rattle.si_audit.proofs.OfEngine.Giving.{lines_of_all}
 use Rattle.si_audit.proofs.Shared.Clean.{account_is}
 use Rattle.si_audit.proofs.Shared.Results.{ok_map}
 use Rattle.si_audit.proofs.engine.in_full.Goals as goal
@@ -18,6 +17,6 @@ returns-clause-report c =
     (λ a is. (
       report_text Full account,
       (account, account_is h j c.requires.judgement edges.0 edges.1 pivots c.in_ok-pivots.ensures, refl),
-      is Full edges.0 pivots (flat_map edge_line edges.0) (lines_of_all h edges.0 edges.1) refl c.deref.ensures.value,
+      is Full edges.0 pivots (flat_map edge_line edges.0) (edges.0, edges.1, refl) refl c.deref.ensures.value,
     ))
     c.told.ensures.report

@@ -4,8 +4,9 @@ use Rattle.std.specs.Prelude.{slice_get}
 use Rattle.std.proofs.lemmas.Bool.{cases_eq, cases_lt}
 use Rattle.std.proofs.lemmas.Option.{slice_get_within}
 use Rattle.sia_events.specs.Events.{actor}
-use Rattle.sia_events.specs.Numbering.{event_of, names_of, txn_at}
+use Rattle.sia_events.specs.Numbering.{event_of, names_of, txn_at, txns_of}
 use Rattle.sia_index.specs.Numbers.{IsTxnAt}
+use Rattle.sia_parts.proofs.Shared.RowTxns.{txn_acts, txn_within}
 use Rattle.si_audit.specs.Bounds.{EachTxn, IsBound, IsKnownOf, IsKnownTo, IsLow}
 use Rattle.si_audit.specs.Snapshots.{ReadAsks}
 use Rattle.si_audit.specs.declared.snapshots.Bounds.{Bounds}
@@ -16,6 +17,9 @@ use Rattle.si_audit.proofs.snapshots.bounds_of.Goals.{in-Some+then-index, in-Som
 
 pub loop-before-init : goal.loop-before-init
 loop-before-init c = subst (λ g. EachTxn (λ t. IsKnownTo g t 1) g c.in_ok-all.all.items) c.requires.index c.in_ok-all.ensures
+
+pub reader_at-reader-requires : goal.reader_at-reader-requires
+reader_at-reader-requires c = subst (λ g. c.txn_of.result < length (txns_of g)) (sym c.requires.index) (subst (λ n. n < length (txns_of c.args.log.now)) (sym c.txn_of.ensures) (txn_within (names_of c.args.log.now) c.in-Some.row c.in-Some.ensures.within))
 
 pub index-requires : goal.index-requires
 index-requires c =
@@ -43,7 +47,7 @@ loop-before-preserved c =
           let is = w.reader_at-reader.ensures in
           let here : IsTxnAt h n u = subst (λ g. IsTxnAt g n u) same (subst (IsTxnAt c.args.ix.now n) (sym is.txn_is) is.numbered) in
           let named : u ≡ txn_at (names_of h) w.txn_of.result = subst (λ g. u ≡ txn_at (names_of g) w.txn_of.result) same is.txn_is in
-          let who : actor (event_of (names_of h) w.in-Some.row) ≡ u = (w.txn_of.ensures (names_of h) w.in-Some.ensures.within).1 ∙ sym named in
+          let who : actor (event_of (names_of h) w.in-Some.row) ≡ u = txn_acts (names_of h) w.in-Some.row ∙ ap (txn_at (names_of h)) (sym w.txn_of.ensures) ∙ sym named in
           subst (λ (xs : List Bounds). EachTxn (λ t. IsKnownTo h t (p + 1)) h xs) (sym (ap (λ (v : Vec Bounds Global). v.items) w.all-is))
           (each_set h all n w.put_row.new.self (λ i t b. IsKnownTo h t p b) (λ i t b. IsKnownTo h t (p + 1) b) u here
           (λ i t b other apart known. known_on h wf t p (λ a. other (sym (access_actor h wf t p _ (sym w.in-Some.ensures.event) a) ∙ who)) b known)
@@ -55,7 +59,7 @@ loop-before-preserved c =
           let is = w.reader_at-reader.ensures in
           let here : IsTxnAt h n u = subst (λ g. IsTxnAt g n u) same (subst (IsTxnAt c.args.ix.now n) (sym is.txn_is) is.numbered) in
           let named : u ≡ txn_at (names_of h) w.txn_of.result = subst (λ g. u ≡ txn_at (names_of g) w.txn_of.result) same is.txn_is in
-          let who : actor (event_of (names_of h) w.in-Some.row) ≡ u = (w.txn_of.ensures (names_of h) w.in-Some.ensures.within).1 ∙ sym named in
+          let who : actor (event_of (names_of h) w.in-Some.row) ≡ u = txn_acts (names_of h) w.in-Some.row ∙ ap (txn_at (names_of h)) (sym w.txn_of.ensures) ∙ sym named in
           subst (λ (xs : List Bounds). EachTxn (λ t. IsKnownTo h t (p + 1)) h xs) (sym (ap (λ (v : Vec Bounds Global). v.items) w.all-is))
           (λ i t at.
           let row = c.loop-before.invariant i t at in

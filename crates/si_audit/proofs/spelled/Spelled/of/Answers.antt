@@ -1,0 +1,14 @@
+use Rattle.std.proofs.Common.{◌<◌, ◌≤◌, ◌^◌, length, arith, rules}
+use Rattle.std.specs.Prelude.{slice_index_or}
+use Rattle.si_audit.proofs.OfReport.RowLines.{numeral_short}
+use Rattle.si_audit.proofs.spelled.Spelled.of.Goals as goal
+
+pub of-requires : goal.of-requires
+of-requires c =
+    let fits : c.from.result < 2 ^ 64 = search rules in
+    omega (arith, numeral_short 20 c.from.result (omega arith) (omega arith) fits)
+
+pub of-requires-in-loop-key : goal.of-requires-in-loop-key
+of-requires-in-loop-key c =
+    let fits : slice_index_or c.written_keys-written.result.now c.loop-key.key-index 0 < 2 ^ 64 = search rules in
+    omega (arith, numeral_short 20 (slice_index_or c.written_keys-written.result.now c.loop-key.key-index 0) (omega arith) (omega arith) fits)
