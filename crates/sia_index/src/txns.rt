@@ -11,7 +11,7 @@ use crate::info::{Fate, Lifetime, TxnInfo};
 use crate::keyed::{By, ByKey, ByPlace, ByTxn};
 use crate::minima::minima_of;
 use crate::names::{ByName, Numbered, places_of};
-use crate::ordering::{Sorter, offsets_of};
+use crate::ordering::Sorter;
 use sia_events::{Key, Log, Row, TxnEnd, TxnId};
 use std::alloc::{AllocError, Global};
 
@@ -162,7 +162,16 @@ pub fn writes_of(alloc: Global, log: &Log, ids: &[TxnId]) -> Result<Writes, Allo
     ensures { IfOk result (λ writes. AreWriteTables log.now ids.now writes) }
 {
     let rows = rows_of(alloc, log)?;
-    let starts = offsets_of::<TxnId, ByTxn, WriteRow, ByTxn>(alloc, ids, &rows)?;
+    // Where those of each transaction begin, and where those of the last end.
+    let mut starts = Vec::with_capacity(alloc, ids.len())?;
+    let mut at = 0;
+    starts.push(at)?;
+    for id in ids {
+        while at < rows.len() && rows[at].txn <= *id {
+            at += 1;
+        }
+        starts.push(at)?;
+    }
     let minima = minima_of::<WriteRow, ByPlace>(alloc, &rows)?;
     Ok(Writes {
         rows,
