@@ -294,22 +294,19 @@ pub fn counted(h: &Log, ix: &Index) -> Counts
     ensures { AreCounts h.now result }
 {
     ix.law();
-    let events = h.len();
+    let mut counts = Counts {
+        events: h.len(),
+        committed: 0,
+        aborted: 0,
+        unfinished: 0,
+    };
     let txns = ix.txns();
-    let mut committed: u32 = 0;
-    let mut aborted: u32 = 0;
-    let mut unfinished: u32 = 0;
     for (i, _) in txns.iter().enumerate() {
         match ix.txn_at(i).fate {
-            Fate::Committed => committed += 1,
-            Fate::Aborted => aborted += 1,
-            Fate::Unfinished => unfinished += 1,
+            Fate::Committed => counts.committed += 1,
+            Fate::Aborted => counts.aborted += 1,
+            Fate::Unfinished => counts.unfinished += 1,
         }
     }
-    Counts {
-        events,
-        committed,
-        aborted,
-        unfinished,
-    }
+    counts
 }
