@@ -190,24 +190,16 @@ fn next_doubtful(ix: &Index, known: &Known, own: bool, from: u32, to: u32) -> Op
         result }
 {
     let visible = ix.next_visible(from, to, known.reader.start);
-    if !own {
+    let end = visible.unwrap_or(to);
+    if !own || from >= end {
         return visible;
     }
-    next_own_number(ix, known.reader, from, visible.unwrap_or(to)).or(visible)
-}
-
-/// A number of a key, below which the reader had written no key from the one on before.
-fn next_own_number(ix: &Index, reader: Reader, from: u32, to: u32) -> Option<u32>
-    requires reader { IsReader ix.now reader.txn reader.place reader }
-    requires keys { (i : ℕ) → i < to → HasKeyAt ix.now i }
-    ensures { HaveUpTo (λ k. ¬ WroteBefore ix.now reader.txn k reader.place) ix.now from to result }
-{
-    if from >= to {
-        return None;
-    }
     let keys = ix.written_keys();
-    let key = ix.next_own(reader, keys[from as usize], keys[to as usize - 1])?;
-    Some(place_from::<Key, ByKey>(keys, key) as u32)
+    let (lo, hi) = (keys[from as usize], keys[end as usize - 1]);
+    match ix.next_own(known.reader, lo, hi) {
+        Some(key) => Some(place_from::<Key, ByKey>(keys, key) as u32),
+        None => visible,
+    }
 }
 
 /// Adds the miss, if the reader has a number, and what was put last doesn't hold it.
