@@ -14,14 +14,14 @@ ghost use Rattle.sia_parts.specs.Sights.{Adds, IsBadWith};
 ghost use Rattle.sia_events.specs.Numbering.{Names, names_of, event_of, key_at, txns_of, version_at, IsSeen, IsWithin, IsMarked};
 ghost use Rattle.sia_events.specs.Places.{at_place};
 ghost use Rattle.sia_parts.specs.Accesses.{AreSights};
-ghost use Rattle.sia_parts.specs.Known.{IsKnown, IsLastKnown};
+ghost use Rattle.sia_parts.specs.Known.{IsKnown};
 
 pub(crate) mod ranges;
 pub(crate) mod sights;
 
 use crate::accesses::{ByReader, accesses_at};
 use crate::audit::ranges::put_range;
-use crate::audit::sights::{Known, Origin, Scope, Seen, put_read};
+use crate::audit::sights::{Known, Origin, Scope, Seen, numbers_within, put_read};
 use crate::cutting::Part;
 use crate::edges::{edges_at, first_or_end};
 use crate::finding::{BadRead, BadWrite, PartFindings, PartFound, Unexplained};
@@ -72,7 +72,14 @@ pub fn find_in_part(
     ensures { IfOk result (IsPartFound log.now (IsInPart part)) }
 {
     ix.law();
-    let scope = Scope::of(log, ix, part);
+    let (first, end) = numbers_within(ix, part.lo, part.hi, (0, u32::MAX));
+    let scope = Scope {
+        log,
+        ix,
+        part,
+        first,
+        end,
+    };
     let seen = seen_of(alloc, &scope, places)?;
     Ok(PartFound {
         bad_writes: bad_writes_of(alloc, &scope)?,
@@ -174,33 +181,6 @@ fn put_bad_with(ix: &Index, second: u32, bad: &mut Vec<BadWrite>) -> Result<(), 
     Ok(())
 }
 
-/// What is known of the log's transaction, which reads at the place. Where it read last, nothing is looked up.
-#[inline(always)]
-fn known_after(ix: &Index, last: Option<Known>, txn: u32, place: u32) -> Known
-    requires txn { txn < length (txns_of ix.now) }
-    requires last { IsLastKnown ix.now last }
-    ensures txn { result.txn ≡ txn }
-    ensures place { result.reader.place ≡ place }
-    ensures known { IsKnown ix.now result }
-{
-    if let Some(known) = last {
-        if known.txn == txn {
-            return Known {
-                reader: Reader {
-                    place,
-                    ..known.reader
-                },
-                ..known
-            };
-        }
-    }
-    Known {
-        txn,
-        reader: ix.reader_at(txn, place),
-        number: ix.committed_number(txn),
-    }
-}
-
 /// What the reads at these places, among which are all of the part, saw at its keys.
 fn seen_of(alloc: Global, scope: &Scope, places: &[u32]) -> Result<Seen, NoMemory>
     requires scope { IsScope scope.now }
@@ -224,7 +204,22 @@ fn seen_of(alloc: Global, scope: &Scope, places: &[u32]) -> Result<Seen, NoMemor
         let Some(row) = scope.log.row(*place) else {
             continue;
         };
-        let known = known_after(scope.ix, last, txn_of(row), *place);
+        let (txn, place) = (txn_of(row), *place);
+        // Where it read last, nothing is looked up.
+        let known = match last {
+            Some(known) if known.txn == txn => Known {
+                reader: Reader {
+                    place,
+                    ..known.reader
+                },
+                ..known
+            },
+            _ => Known {
+                txn,
+                reader: scope.ix.reader_at(txn, place),
+                number: scope.ix.committed_number(txn),
+            },
+        };
         last = Some(known);
         put_row(scope, &known, row, &mut seen)?;
     }

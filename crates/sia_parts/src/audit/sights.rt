@@ -30,25 +30,6 @@ pub(crate) struct Scope<'a> {
     pub(crate) end: u32,
 }
 
-impl Scope<'_> {
-    pub(crate) fn of<'a>(log: &'a Log, ix: &'a Index, part: Part) -> Scope<'a>
-        requires { ix.now ≡ log.now }
-        ensures scope { IsScope result }
-        ensures index { result.ix.now ≡ ix.now }
-        ensures part { result.part ≡ part }
-    {
-        ix.law();
-        let (first, end) = numbers_within(ix, part.lo, part.hi, (0, u32::MAX));
-        Scope {
-            log,
-            ix,
-            part,
-            first,
-            end,
-        }
-    }
-}
-
 /// The number of the first written key from `lo` to `hi`, and that behind the last one. Mostly they are those that are near.
 pub(crate) fn numbers_within(ix: &Index, lo: Key, hi: Key, near: (u32, u32)) -> (u32, u32)
     requires { IsWellFormed ix.now }

@@ -1,5 +1,12 @@
 -- Each place adds what its event saw, and what all of the part saw is put in order.
-use Rattle.std.proofs.Common.{ℕ, get_or, subst}
+use Rattle.std.proofs.Common.{◌≡◌, ℕ, List, Some, get_or, refl, rules, subst, sym, ◌∙◌}
+use Rattle.std.specs.Prelude.{◌↔◌, ⊤, MatchOption}
+use Rattle.sia_events.specs.declared.event.Event.{Event}
+use Rattle.sia_index.specs.declared.info.Reader.{Reader}
+use Rattle.sia_index.specs.Info.{IsReader}
+use Rattle.sia_index.specs.Numbers.{IsCommittedAt}
+use Rattle.sia_parts.specs.declared.audit.sights.Known.{Known}
+use Rattle.sia_parts.specs.Known.{IsKnown}
 use Rattle.sia_events.specs.Isolation.{IsBadRead}
 use Rattle.sia_parts.specs.declared.finding.BadRead.{BadRead}
 use Rattle.sia_parts.specs.Entries.{bad_read_rank}
@@ -8,14 +15,52 @@ use Rattle.sia_parts.specs.Seeing.{Gains, IsSightWithin}
 use Rattle.sia_parts.proofs.Shared.Listing.{put_listed, bad_read_before}
 use Rattle.sia_parts.proofs.Auditing.Gaining.{gains_all, gains_more, gains_none, nothing_there}
 use Rattle.sia_parts.proofs.Auditing.SeenAll.{bad_reads_are, sights_are}
+use Rattle.sia_parts.proofs.audit.seen_of.Goals.{Joined-last, in-Some-last, in_default-last}
 use Rattle.sia_parts.proofs.audit.seen_of.Goals as goal
+
+own_reader : (h : List Event) (t p : ℕ) (r : Reader) → IsReader h t p r → IsReader h r.txn r.place r
+own_reader h t p r is = subst (λ u. IsReader h u r.place r) (sym is.txn_is) (subst (λ q. IsReader h t q r) (sym is.place_is) is)
+
+-- what is known of who reads, at the place
+record IsKnownAt (h : List Event) (known : Known) (txn place : ℕ) : Type 0 where
+  same : known.txn ≡ txn
+  at : known.reader.place ≡ place
+  is : IsKnown h known
+
+-- where another one read, or nobody, it is looked up
+known_now : (c : Joined-last) → IsKnownAt c.args.scope.now.ix.now c.match-last.known c.txn_of-txn.result (get_or c.args.places.now c.loop-place.place-index 0)
+known_now c =
+    let h = c.args.scope.now.ix.now in
+    elim c.match-last.branch [
+      | in-Some-last w ↦
+          let old = subst (λ o. MatchOption o ⊤ (IsKnown h)) w.in-Some-last.is c.loop-place.invariant.last in
+          rw w.known-is (record { same = w.if-known-txn.true; at = refl; is = search rules })
+      | in_default-last w ↦
+          let is = w.reader_at.ensures in
+          rw w.known-is (record {
+            same = refl;
+            at = is.place_is;
+            is = record {
+              few = search rules;
+              name = is.txn_is;
+              reader = own_reader h _ _ w.reader_at.result is;
+              number = subst (λ t. (i : ℕ) → (w.committed_number.result ≡ Some i) ↔ IsCommittedAt h i t) (sym is.txn_is) w.committed_number.ensures;
+            };
+          })
+    ]
+
+pub put_row-requires-clause-known : goal.put_row-requires-clause-known
+put_row-requires-clause-known c = (known_now (goal.at.put_row-requires-clause-known c).Joined-last).is
+
+pub put_row-requires-clause-txn : goal.put_row-requires-clause-txn
+put_row-requires-clause-txn c = (known_now (goal.at.put_row-requires-clause-txn c).Joined-last).same ∙ c.txn_of-txn.ensures
 
 pub loop-place-preserved : goal.loop-place-preserved
 loop-place-preserved c =
     let h = c.args.scope.now.ix.now in
     let P = λ (place : ℕ). IsSightWithin h place c.args.scope.now.first c.args.scope.now.end in
-    let next = subst (λ p. Gains h (P p) c.loop-place.seen c.put_row.new.seen) c.known_after-known.ensures.place c.in_ok-put_row.ensures in
-    record { last = c.known_after-known.ensures.known; gains = gains_more h P c.args.places.now c.loop-place.place-index 0 c.loop-place-test.true _ c.loop-place.seen c.put_row.new.seen c.loop-place.invariant.gains next }
+    let next = subst (λ p. Gains h (P p) c.loop-place.seen c.put_row.new.seen) (known_now (goal.at.loop-place-preserved c).Joined-last).at c.in_ok-put_row.ensures in
+    record { last = (known_now (goal.at.loop-place-preserved c).Joined-last).is; gains = gains_more h P c.args.places.now c.loop-place.place-index 0 c.loop-place-test.true _ c.loop-place.seen c.put_row.new.seen c.loop-place.invariant.gains next }
 
 pub loop-place-preserved-in_default : goal.loop-place-preserved-in_default
 loop-place-preserved-in_default c =
