@@ -1,5 +1,5 @@
 //! The least order that keeps every step, by Kahn's algorithm: always the least node that is ready is taken.
-ghost use Rattle.std.specs.Prelude.{◌≡◌, ◌≢◌, ◌<◌, ◌≤◌, ◌+◌, ◌*◌, [], ℕ, Bool, All, Contains, IfNone, IfOk, IfSome, MatchOption, OnOk, length, slice_index, slice_index_or, List};
+ghost use Rattle.std.specs.Prelude.{◌≡◌, ◌≢◌, ◌<◌, ◌≤◌, ◌+◌, ◌*◌, [], ℕ, Bool, All, Contains, IfOk, MatchOption, OnOk, length, slice_index, slice_index_or, List};
 ghost use Rattle.std.specs.List.{range_with_len};
 ghost use Rattle.sia_graph.specs.Graphs.{IsGraph};
 ghost use Rattle.sia_graph.specs.Taken.{AreTakenNodes};
@@ -158,35 +158,6 @@ impl Taking {
         }
     }
 
-    /// The first of those that wait at a node waits there no more, but is to be released.
-    fn wake(&mut self, at: usize) -> Option<usize>
-        requires at { at < length self.old.counts.items }
-        requires is { (g : Graph) × (done : List Bool) × (pending : ℕ → ℕ)
-            × IsTaking g done self.old pending at }
-        ensures long { length self.new.counts.items ≡ length self.old.counts.items }
-        ensures none { IfNone result ((g : Graph) (done : List Bool) (pending : ℕ → ℕ)
-            → IsTaking g done self.old pending at
-            → IsTaking g done self.new pending (length self.new.counts.items)) }
-        ensures one { IfSome result (λ t. (g : Graph) (done : List Bool) (pending more : ℕ → ℕ)
-            → IsTaking g done self.old pending at → IsOneFewer t more pending
-            → IsTaking g done self.new more at) }
-        ensures waited { IfSome result (λ t. (g : Graph) (done : List Bool) (pending : ℕ → ℕ)
-            → IsTaking g done self.old pending at
-            → WaitsAt g.sources self.old.counts.items self.old.passed.items t at) }
-        ensures others { IfSome result (λ t. (g : Graph) (done : List Bool) (pending : ℕ → ℕ) (u s : ℕ)
-            → IsTaking g done self.old pending at
-            → WaitsAt g.sources self.new.counts.items self.new.passed.items u s
-            → WaitsAt g.sources self.old.counts.items self.old.passed.items u s × (u ≢ t)) }
-    {
-        let node = self.first_waiting[at] as usize;
-        if node == NONE as usize {
-            return None;
-        }
-        self.first_waiting[at] = self.next_waiting[node];
-        self.counts[node] += 1;
-        Some(node)
-    }
-
     /// The node is done: those that wait at it are looked at, and its targets are released.
     fn finish(&mut self, graph: &Graph, done: &[bool], node: usize) -> Result<(), NoMemory>
         requires graph { IsGraph (length self.old.counts.items) graph.now }
@@ -198,8 +169,12 @@ impl Taking {
             (length self.new.counts.items)) }
         ensures long { OnOk result (length self.new.counts.items ≡ length self.old.counts.items) }
     {
-        while let Some(waiting) = self.wake(node) {
-            self.release(graph, done, waiting)?;
+        'waiting: while self.first_waiting[node] != NONE {
+            // The first that waits waits there no more, but is to be released.
+            let first = self.first_waiting[node] as usize;
+            self.first_waiting[node] = self.next_waiting[first];
+            self.counts[first] += 1;
+            self.release(graph, done, first)?;
         }
         for target in graph.targets.at(node) {
             self.release(graph, done, *target as usize)?;

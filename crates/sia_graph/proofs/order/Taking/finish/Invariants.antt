@@ -4,11 +4,11 @@ use Rattle.sia_graph.specs.UnderWay.{IsTaking, times}
 use Rattle.sia_graph.proofs.Orders.Woken.{waits_test}
 use Rattle.sia_graph.proofs.order.Taking.finish.Given as goal
 
-abbrev pub invariant-loop-waiting : goal.invariant-loop-waiting
-invariant-loop-waiting l = IsTaking l.graph l.done l.self (λ t. times t (get_or l.graph.targets l.node [])) l.node × (length l.self.counts.items ≡ length l.initial.self.counts.items)
+abbrev pub invariant-waiting : goal.invariant-waiting
+invariant-waiting l = IsTaking l.graph l.done l.self (λ t. times t (get_or l.graph.targets l.node [])) l.node × (length l.self.counts.items ≡ length l.initial.self.counts.items)
 
-abbrev pub decreases-loop-waiting : goal.decreases-loop-waiting
-decreases-loop-waiting l = count_by (waits_test l.graph.sources l.self.counts.items l.self.passed.items l.node) (range_with_len 0 (length l.self.counts.items))
+abbrev pub decreases-waiting : goal.decreases-waiting
+decreases-waiting l = count_by (waits_test l.graph.sources l.self.counts.items l.self.passed.items l.node) (range_with_len 0 (length l.self.counts.items))
 
 abbrev pub invariant-loop-target : goal.invariant-loop-target
 invariant-loop-target l =
