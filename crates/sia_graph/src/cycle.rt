@@ -7,7 +7,7 @@ ghost use Rattle.sia_graph.specs.Evidence.{IsEvidence};
 ghost use Rattle.sia_graph.specs.Orders.{Leads};
 ghost use Rattle.sia_graph.specs.Previous.{IsLeftIn};
 ghost use Rattle.sia_graph.specs.Searched.{CanFind, IsEdgeIn, IsMemberIn};
-ghost use Rattle.sia_graph.specs.Walks.{AreLeastSources, AreLeft, GoesRoundFrom, LeadsBack, StaysWithin, back};
+ghost use Rattle.sia_graph.specs.Walks.{AreLeastSources, AreLeft};
 ghost use Rattle.sia_graph.specs.declared.cycle.Step.{Step};
 ghost use Rattle.sia_events.specs.Dependencies.{RwEdge};
 ghost use Rattle.sia_index.specs.Info.{IsKeyAt};
@@ -77,43 +77,6 @@ fn least_step(edges: &EdgesIn, ids: &[TxnId], before: usize, at: usize) -> Step
     }
 }
 
-/// The steps of the cycle on which `home` is the least, from `home` on.
-fn steps_round(
-    alloc: Global,
-    edges: &EdgesIn,
-    ids: &[TxnId],
-    previous: &[usize],
-    home: usize,
-) -> Result<Vec<Step>, NoMemory>
-    requires can { CanFind ids.now edges.now }
-    requires ascending { IsStrictlyIncreasing ids.now }
-    requires long { length previous.now ≡ length ids.now }
-    requires within { StaysWithin previous.now }
-    requires home { home < length previous.now }
-    requires round { (period : ℕ) × (0 < period) × (period ≤ length previous.now) × (back previous.now period home ≡ home) }
-    requires least { (n : ℕ) → home ≤ back previous.now n home }
-    requires leads { (n : ℕ)
-        → Leads (IsEdgeIn edges.now) (slice_index ids.now
-        (slice_index previous.now (back previous.now n home)))
-        (slice_index ids.now (back previous.now n home)) }
-    ensures { IfOk result (λ steps. (stuck : List ℕ)
-        → LeadsBack stuck ids.now (IsEdgeIn edges.now) previous.now home
-        → GoesRoundFrom stuck (IsEdgeIn edges.now) (slice_index ids.now home) steps.items) }
-{
-    let mut steps = Vec::new(alloc);
-    let mut at = home;
-    'walk: loop {
-        let before = previous[at];
-        steps.push(least_step(edges, ids, before, at))?;
-        if before == home {
-            break;
-        }
-        at = before;
-    }
-    steps.reverse();
-    Ok(steps)
-}
-
 /// The cycle that going back from the least transaction that is left reaches, where what is left is stuck.
 pub(crate) fn cycle_of(
     alloc: Global,
@@ -143,7 +106,18 @@ pub(crate) fn cycle_of(
         place = previous[place];
         home = home.min(place);
     }
-    steps_round(alloc, edges, ids, previous, home)
+    let mut steps = Vec::new(alloc);
+    let mut at = home;
+    'walk: loop {
+        let before = previous[at];
+        steps.push(least_step(edges, ids, before, at))?;
+        if before == home {
+            break;
+        }
+        at = before;
+    }
+    steps.reverse();
+    Ok(steps)
 }
 
 /// Where the positions of the keys from this number on begin.

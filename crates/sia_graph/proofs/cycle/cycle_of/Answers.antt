@@ -1,15 +1,17 @@
 use Rattle.std.specs.Prelude.{MatchOption, unwrap_or}
 use Rattle.std.specs.List.{AllWithin, HoldsAt}
 use Rattle.std.proofs.lemmas.Iterator.{IsFirst-from_position, YieldsList-from_slice}
-use Rattle.std.proofs.Common.{◌≡◌, ◌⊎◌, inl, inr, ℕ, Bool, true, false, List, Option, None, Some, rules, sym, ◌+◌, ◌<◌, ◌≤◌, length, ap, get_or, refl, subst, ◌∙◌, arith}
+use Rattle.std.proofs.Common.{◌≡◌, ◌⊎◌, inl, inr, ℕ, Bool, true, false, List, Option, None, Some, rules, sym, ◌+◌, ◌<◌, ◌≤◌, length, ap, get_or, refl, reverse, subst, ◌∙◌, arith}
 use Rattle.std.proofs.lemmas.Bool.{cases_lt}
-use Rattle.std.proofs.lemmas.Result.{IfOk-weaker}
 use Rattle.sia_graph.specs.Previous.{IsLeftIn}
 use Rattle.sia_graph.specs.Searched.{IsEdgeIn, IsMemberIn}
-use Rattle.sia_graph.specs.Walks.{ArePreviousFrom, StaysWithin, back}
+use Rattle.sia_graph.specs.Walks.{ArePreviousFrom, GoesRoundFrom, LeadsBack, StaysWithin, back}
+use Rattle.sia_graph.specs.declared.cycle.Step.{Step}
+use Rattle.sia_graph.specs.Orders.{Leads}
+use Rattle.sia_graph.proofs.Cycles.Rounds.{IsPartOfRound, part_more, part_none, round_made}
 use Rattle.sia_graph.proofs.Cycles.PrintedCycle.{fed_by_stuck, least_home, previous_from, round_home, shifted, leads_all, printed, stays_within}
 use Rattle.sia_graph.proofs.Cycles.Walks.{back_more, back_next, ends_round, least_more, stays}
-use Rattle.sia_graph.proofs.cycle.cycle_of.Goals.{After-loop, After-round, After-unwrap_or-place}
+use Rattle.sia_graph.proofs.cycle.cycle_of.Goals.{After-loop, After-new-steps, After-round, After-unwrap_or-place}
 use Rattle.sia_graph.proofs.cycle.cycle_of.Goals as goal
 
 -- the first that is left
@@ -85,25 +87,23 @@ round-preserved c =
       more.1,
     )
 
-pub steps_round-requires-clause-within : goal.steps_round-requires-clause-within
-steps_round-requires-clause-within c = within (goal.at.steps_round-requires-clause-within c).After-unwrap_or-place
-
-pub steps_round-requires-clause-home : goal.steps_round-requires-clause-home
-steps_round-requires-clause-home c =
+-- home is a place on the cycle
+home_inside : (c : After-new-steps) → c.round.home < length c.args.previous.now
+home_inside c =
     let previous = c.args.previous.now in
-    let v = (home_is (goal.at.steps_round-requires-clause-home c).After-round).0 in
-    subst (λ i. i < length previous) v.2 (stays previous (within (goal.at.steps_round-requires-clause-home c).After-unwrap_or-place) v.0 c.loop.place c.loop.invariant.0)
+    let v = (home_is (goal.at.walk-init c).After-round).0 in
+    subst (λ i. i < length previous) v.2 (stays previous (within (goal.at.walk-init c).After-unwrap_or-place) v.0 c.loop.place c.loop.invariant.0)
 
-pub steps_round-requires-clause-round : goal.steps_round-requires-clause-round
-steps_round-requires-clause-round c =
-    let w = turns (goal.at.steps_round-requires-clause-round c).After-loop in
-    let v = home_is (goal.at.steps_round-requires-clause-round c).After-round in
+round_is : (c : After-new-steps) → (period : ℕ) × (0 < period) × (period ≤ length c.args.previous.now) × (back c.args.previous.now period c.round.home ≡ c.round.home)
+round_is c =
+    let w = turns (goal.at.walk-init c).After-loop in
+    let v = home_is (goal.at.walk-init c).After-round in
     (w.0, w.1, w.2, round_home c.args.previous.now c.loop.place w.0 c.round.home w.1 w.3 (v.0.0, v.0.2) (λ n l. v.1 n (let few = w.2 in omega arith)))
 
-pub steps_round-requires-clause-least : goal.steps_round-requires-clause-least
-steps_round-requires-clause-least c =
-    let w = turns (goal.at.steps_round-requires-clause-least c).After-loop in
-    let v = home_is (goal.at.steps_round-requires-clause-least c).After-round in
+least_is : (c : After-new-steps) → (n : ℕ) → c.round.home ≤ back c.args.previous.now n c.round.home
+least_is c =
+    let w = turns (goal.at.walk-init c).After-loop in
+    let v = home_is (goal.at.walk-init c).After-round in
     least_home c.args.previous.now c.loop.place w.0 c.round.home w.1 w.3 (v.0.0, v.0.2) (λ n l. v.1 n (let few = w.2 in omega arith))
 
 -- as many steps back from the start lead home
@@ -112,36 +112,75 @@ homed c home n is =
     let previous = c.args.previous.now in
     back_more previous (length previous) n c.unwrap_or-place.result ∙ ap (back previous n) (reached c) ∙ is
 
-pub steps_round-requires-clause-leads : goal.steps_round-requires-clause-leads
-steps_round-requires-clause-leads c =
+-- each step back is along an edge from the least that leads there
+previous_are : (c : After-unwrap_or-place) → ArePreviousFrom c.args.ids.now (IsEdgeIn c.args.edges.now) (IsLeftIn c.args.left.now) c.args.previous.now c.unwrap_or-place.result
+previous_are c =
+    let ids = c.args.ids.now in
+    let E = IsEdgeIn c.args.edges.now in
+    let L = IsLeftIn c.args.left.now in
+    let r = c.requires.stuck in
+    let first = start_is c in
+    let inside : c.unwrap_or-place.result < length ids = let a = first.0 in let b = c.requires.long.0 in omega arith in
+    previous_from ids E L c.args.previous.now c.unwrap_or-place.result c.requires.least inside first.1 (fed_by_stuck ids (IsMemberIn ids c.args.edges.now) E L r.0 r.2 r.1)
+
+leads_is : (c : After-new-steps) (n : ℕ) → Leads (IsEdgeIn c.args.edges.now) (get_or c.args.ids.now (get_or c.args.previous.now (back c.args.previous.now n c.round.home) 0) 0) (get_or c.args.ids.now (back c.args.previous.now n c.round.home) 0)
+leads_is c =
     let ids = c.args.ids.now in
     let E = IsEdgeIn c.args.edges.now in
     let L = IsLeftIn c.args.left.now in
     let previous = c.args.previous.now in
     let start = c.unwrap_or-place.result in
-    let r = c.requires.stuck in
-    let first = start_is (goal.at.steps_round-requires-clause-leads c).After-unwrap_or-place in
-    let inside : start < length ids = let a = first.0 in let b = c.requires.long.0 in omega arith in
-    let are = previous_from ids E L previous start c.requires.least inside first.1 (fed_by_stuck ids (IsMemberIn ids c.args.edges.now) E L r.0 r.2 r.1) in
-    let v = (home_is (goal.at.steps_round-requires-clause-leads c).After-round).0 in
-    let home = homed (goal.at.steps_round-requires-clause-leads c).After-loop c.round.home v.0 v.2 in
-    leads_all ids E L previous c.round.home (subst (ArePreviousFrom ids E L previous) home (shifted ids E L previous (length previous + v.0) start are))
+    let v = (home_is (goal.at.walk-init c).After-round).0 in
+    let home = homed (goal.at.walk-init c).After-loop c.round.home v.0 v.2 in
+    leads_all ids E L previous c.round.home (subst (ArePreviousFrom ids E L previous) home (shifted ids E L previous (length previous + v.0) start (previous_are (goal.at.walk-init c).After-unwrap_or-place)))
+
+pub walk-init : goal.walk-init
+walk-init c =
+    let round = round_is c in (
+      round.0,
+      round.2,
+      round.3,
+      subst (λ (l : List Step). IsPartOfRound c.args.ids.now (IsEdgeIn c.args.edges.now) c.args.previous.now c.round.home round.0 l c.round.home) (sym c.new-steps.ensures.items)
+          (part_none c.args.ids.now (IsEdgeIn c.args.edges.now) c.args.previous.now c.round.home round.0 (home_inside c) round.1),
+    )
+
+pub bounds-previous-at : goal.bounds-previous-at
+bounds-previous-at c = c.walk.invariant.3.inside
+
+pub least_step-requires-clause-leads : goal.least_step-requires-clause-leads
+least_step-requires-clause-leads c =
+    subst (λ i. Leads (IsEdgeIn c.args.edges.now) (get_or c.args.ids.now (get_or c.args.previous.now i 0) 0) (get_or c.args.ids.now i 0)) (sym c.walk.invariant.3.reached)
+    (leads_is (goal.at.least_step-requires-clause-leads c).After-new-steps (length c.walk.steps.items))
+
+pub walk-preserved : goal.walk-preserved
+walk-preserved c =
+    let previous = c.args.previous.now in
+    let part = c.walk.invariant in
+    let before = (goal.at.walk-preserved c).After-new-steps in (
+      part.0,
+      part.1,
+      part.2,
+      subst (λ (l : List Step). IsPartOfRound c.args.ids.now (IsEdgeIn c.args.edges.now) previous c.round.home part.0 l (get_or previous c.walk.at 0)) (sym c.in_ok-push.ensures.items)
+          (part_more c.args.ids.now c.requires.ascending (IsEdgeIn c.args.edges.now) previous c.requires.long.1 (within (goal.at.walk-preserved c).After-unwrap_or-place) c.round.home (home_inside before) part.0 part.2 (least_is before)
+          c.walk.steps.items c.walk.at part.3 c.least_step.result c.least_step.ensures.from c.least_step.ensures.least c.if-before-home.false),
+    )
 
 pub returns : goal.returns
 returns c =
     let ids = c.args.ids.now in
     let E = IsEdgeIn c.args.edges.now in
-    let M = IsMemberIn ids c.args.edges.now in
     let L = IsLeftIn c.args.left.now in
     let previous = c.args.previous.now in
     let start = c.unwrap_or-place.result in
     let r = c.requires.stuck in
     let first = start_is (goal.at.returns c).After-unwrap_or-place in
     let inside : start < length ids = let a = first.0 in let b = c.requires.long.0 in omega arith in
-    let are = previous_from ids E L previous start c.requires.least inside first.1 (fed_by_stuck ids M E L r.0 r.2 r.1) in
+    let before = (goal.at.returns c).After-new-steps in
     let v = (home_is (goal.at.returns c).After-round).0 in
     let home = homed (goal.at.returns c).After-loop c.round.home v.0 v.2 in
-    IfOk-weaker c.steps_round.result _ _
-    (λ steps made. printed ids E L previous c.requires.ascending r.0 r.2 M start (length previous + v.0) c.round.home steps.items
-    are inside first.1 first.2 home (made r.0) r.1)
-    c.steps_round.ensures
+    let part = c.walk.invariant in
+    let made = λ (leads : LeadsBack r.0 ids E previous c.round.home). subst (λ (l : List Step). GoesRoundFrom r.0 E (get_or ids c.round.home 0) l) (sym (c.reverse.ensures.items ∙ ap reverse c.in_ok-push.ensures.items))
+    (round_made ids c.requires.ascending E previous c.requires.long.1 (within (goal.at.returns c).After-unwrap_or-place) c.round.home (home_inside before) part.0 part.2 (least_is before)
+    c.walk.steps.items c.walk.at part.3 c.least_step.result c.least_step.ensures.from c.least_step.ensures.least c.if-before-home.true r.0 leads) in
+    printed ids E L previous c.requires.ascending r.0 r.2 (IsMemberIn ids c.args.edges.now) start (length previous + v.0) c.round.home c.reverse.new.self.items
+    (previous_are (goal.at.returns c).After-unwrap_or-place) inside first.1 first.2 home made r.1
