@@ -1,13 +1,12 @@
 //! The serial replay of a history by an order of its committed transactions.
-ghost use Rattle.std.specs.Prelude.{◌≡◌, ◌↔◌, ◌<◌, ◌≤◌, ◌≢◌, ◌++◌, ℕ, All, Contains, Err, IfOk, IsTrue, List, MatchOption, None, OnOk, Option, Some, map};
+ghost use Rattle.std.specs.Prelude.{◌≡◌, ◌↔◌, ◌<◌, ◌≤◌, ◌≢◌, ◌++◌, ℕ, Contains, Err, IfOk, IsTrue, List, MatchOption, None, OnOk, Option, Some, map};
 ghost use Rattle.std.specs.List.Sorted.{IsStrictlyIncreasing};
 ghost use Rattle.sia_events.specs.declared.event.Event.{Event};
-ghost use Rattle.sia_events.specs.declared.event.Event.TheVariants.{Range};
 ghost use Rattle.sia_events.specs.Places.{at_place};
 ghost use Rattle.sia_events.specs.Replay.{IsFirstMismatch, IsOrder, MayFollow, Replays, events_of};
 ghost use Rattle.sia_events.specs.Transactions.{Wrote};
 ghost use Rattle.sia_graph.specs.declared.serial_replay.Mismatch.{Mismatch};
-ghost use Rattle.sia_graph.specs.Replaying.{Agrees, AreCommits, AreFirsts, AreNext, AreWritten, IsRight, IsWrongAt, Tells, first_at, version_in};
+ghost use Rattle.sia_graph.specs.Replaying.{AreCommits, AreFirsts, AreNext, AreWritten, IsRight, IsWrongAt, Tells, first_at, version_in};
 ghost use Rattle.sia_graph.specs.declared.serial_replay.ReplayFault.TheVariants as faults;
 
 use sia_events::{Event, History, Key, NoMemory, TxnId, Version};
@@ -131,28 +130,6 @@ fn wrong_unlisted(
     None
 }
 
-/// The least key at which a range read isn't right.
-fn wrong_in_range(
-    versions: &BTreeMap<Key, TxnId>,
-    lo: Key,
-    hi: Key,
-    listed: &[(Key, Version)],
-) -> Option<Key>
-    requires forward { lo ≤ hi }
-    requires listed { IsStrictlyIncreasing (map (λ p. p.0) listed.now) }
-    requires within { All (λ p. (lo ≤ p.0) × (p.0 ≤ hi)) listed.now }
-    ensures { (t : ℕ) → MatchOption result ((k : ℕ)
-        → Agrees (version_in versions.now) (Range t lo hi listed.now) k)
-        (λ key. ¬ Agrees (version_in versions.now) (Range t lo hi listed.now) key
-        × ((k : ℕ) → k < key → Agrees (version_in versions.now) (Range t lo hi listed.now) k)) }
-{
-    let unlisted = wrong_unlisted(versions, lo, hi, listed);
-    match wrong_listed(versions, listed) {
-        None => unlisted,
-        Some(key) => Some(unlisted.unwrap_or(key).min(key)),
-    }
-}
-
 /// The least key at which an event isn't right.
 fn wrong_key(
     h: &History,
@@ -170,7 +147,12 @@ fn wrong_key(
     match event {
         Event::Read { key, saw, .. } => (version_of(versions, *key) != *saw).then_some(*key),
         Event::Range { lo, hi, listed, .. } => {
-            wrong_in_range(versions, *lo, *hi, listed.as_slice())
+            let listed = listed.as_slice();
+            let unlisted = wrong_unlisted(versions, *lo, *hi, listed);
+            match wrong_listed(versions, listed) {
+                None => unlisted,
+                Some(key) => Some(unlisted.unwrap_or(key).min(key)),
+            }
         }
         Event::Write { txn, key } => {
             let found = version_of(versions, *key);

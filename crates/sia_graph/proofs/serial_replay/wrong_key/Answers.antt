@@ -7,22 +7,22 @@ use Rattle.sia_events.specs.Replay.{MayFollow}
 use Rattle.sia_graph.specs.Replaying.{IsRight, IsWrongAt, version_in}
 use Rattle.std.specs.List.Sorted.{IsStrictlyIncreasing}
 use Rattle.sia_events.proofs.Writing.Ranges.{bounds_in_order, list_in_order}
-use Rattle.sia_graph.proofs.ReplayedTxns.RightAt.{write_right}
+use Rattle.sia_graph.proofs.ReplayedTxns.RightAt.{least_wrong, none_listed_wrong, write_right}
 use Rattle.sia_graph.proofs.serial_replay.wrong_key.Goals as goal
 
-pub wrong_in_range-requires-clause-forward : goal.wrong_in_range-requires-clause-forward
-wrong_in_range-requires-clause-forward c =
+pub wrong_unlisted-unlisted-requires-clause-forward : goal.wrong_unlisted-unlisted-requires-clause-forward
+wrong_unlisted-unlisted-requires-clause-forward c =
     bounds_in_order c.args.h.now c.len-events.ensures.well_formed c.requires.event.0 c.in-Range.txn c.in-Range.lo c.in-Range.hi c.in-Range.listed (c.requires.event.1 ∙ ap Some c.in-Range.is)
 
-pub wrong_in_range-requires-clause-listed : goal.wrong_in_range-requires-clause-listed
-wrong_in_range-requires-clause-listed c =
-    subst (λ l. IsStrictlyIncreasing (map (λ (p : ℕ × ℕ). p.0) l)) (sym c.as_slice.ensures)
+pub wrong_unlisted-unlisted-requires-clause-listed : goal.wrong_unlisted-unlisted-requires-clause-listed
+wrong_unlisted-unlisted-requires-clause-listed c =
+    subst (λ l. IsStrictlyIncreasing (map (λ (p : ℕ × ℕ). p.0) l)) (sym c.as_slice-listed.ensures)
     (list_in_order c.args.h.now c.len-events.ensures.well_formed c.requires.event.0 c.in-Range.txn c.in-Range.lo c.in-Range.hi c.in-Range.listed (c.requires.event.1 ∙ ap Some c.in-Range.is)).1
 
-pub wrong_in_range-requires-clause-within : goal.wrong_in_range-requires-clause-within
-wrong_in_range-requires-clause-within c =
-    subst (λ l. All (λ (p : ℕ × ℕ). (c.in-Range.lo ≤ p.0) × (p.0 ≤ c.in-Range.hi)) l) (sym c.as_slice.ensures)
-    (list_in_order c.args.h.now c.len-events.ensures.well_formed c.requires.event.0 c.in-Range.txn c.in-Range.lo c.in-Range.hi c.in-Range.listed (c.requires.event.1 ∙ ap Some c.in-Range.is)).0
+pub wrong_listed-requires : goal.wrong_listed-requires
+wrong_listed-requires c =
+    subst (λ l. IsStrictlyIncreasing (map (λ (p : ℕ × ℕ). p.0) l)) (sym c.as_slice-listed.ensures)
+    (list_in_order c.args.h.now c.len-events.ensures.well_formed c.requires.event.0 c.in-Range.txn c.in-Range.lo c.in-Range.hi c.in-Range.listed (c.requires.event.1 ∙ ap Some c.in-Range.is)).1
 
 -- of an event what was found at the least key
 told : (h : List Event) (found : ℕ → ℕ) (e : Event) (r : Option ℕ) → MatchOption r ((k : ℕ) → IsRight h found e k) (λ key. ¬ IsRight h found e key × ((k : ℕ) → k < key → IsRight h found e k))
@@ -30,12 +30,30 @@ told : (h : List Event) (found : ℕ → ℕ) (e : Event) (r : Option ℕ) → M
 told h found e None right = right
 told h found e (Some key) wrong = (wrong.0, wrong.1, refl)
 
-pub returns-in-Range : goal.returns-in-Range
-returns-in-Range c =
+-- the same of a range, whose list is this slice
+range_told : (h : List Event) (found : ℕ → ℕ) (t lo hi : ℕ) (listed slice : List (ℕ × ℕ)) → slice ≡ listed → (e : Event) → e ≡ Range t lo hi listed → (r : Option ℕ)
+    → MatchOption r ((k : ℕ) → IsRight h found (Range t lo hi slice) k) (λ key. ¬ IsRight h found (Range t lo hi slice) key × ((k : ℕ) → k < key → IsRight h found (Range t lo hi slice) k))
+    → MatchOption r ((k : ℕ) → IsRight h found e k) (λ key. IsWrongAt h found e key (found key))
+range_told h found t lo hi listed slice same e is r so =
+    subst (λ (d : Event). MatchOption r ((k : ℕ) → IsRight h found d k) (λ key. IsWrongAt h found d key (found key))) (sym (is ∙ ap (λ (l : List (ℕ × ℕ)). Range t lo hi l) (sym same))) (told h found (Range t lo hi slice) r so)
+
+pub returns-in-None : goal.returns-in-None
+returns-in-None c =
     let found = version_in c.args.versions.now in
-    let is = c.in-Range.is ∙ ap (λ (l : List (ℕ × ℕ)). Range c.in-Range.txn c.in-Range.lo c.in-Range.hi l) (sym c.as_slice.ensures) in
-    subst (λ (e : Event). MatchOption c.wrong_in_range.result ((k : ℕ) → IsRight c.args.h.now found e k) (λ key. IsWrongAt c.args.h.now found e key (found key))) (sym is)
-    (told c.args.h.now found (Range c.in-Range.txn c.in-Range.lo c.in-Range.hi c.as_slice.result.now) c.wrong_in_range.result (c.wrong_in_range.ensures c.in-Range.txn))
+    let listed = c.as_slice-listed.result.now in
+    range_told c.args.h.now found c.in-Range.txn c.in-Range.lo c.in-Range.hi c.in-Range.listed listed c.as_slice-listed.ensures c.args.event.now c.in-Range.is c.wrong_unlisted-unlisted.result
+    (none_listed_wrong found c.in-Range.txn c.in-Range.lo c.in-Range.hi listed c.wrong_unlisted-unlisted.result c.in-None.ensures c.wrong_unlisted-unlisted.ensures)
+
+pub returns-in-Some : goal.returns-in-Some
+returns-in-Some c =
+    let found = version_in c.args.versions.now in
+    let listed = c.as_slice-listed.result.now in
+    let w = c.in-Some.ensures in
+    let within = subst (λ l. All (λ (p : ℕ × ℕ). (c.in-Range.lo ≤ p.0) × (p.0 ≤ c.in-Range.hi)) l) (sym c.as_slice-listed.ensures)
+    (list_in_order c.args.h.now c.len-events.ensures.well_formed c.requires.event.0 c.in-Range.txn c.in-Range.lo c.in-Range.hi c.in-Range.listed (c.requires.event.1 ∙ ap Some c.in-Range.is)).0 in
+    range_told c.args.h.now found c.in-Range.txn c.in-Range.lo c.in-Range.hi c.in-Range.listed listed c.as_slice-listed.ensures c.args.event.now c.in-Range.is (Some c.min.result)
+    (least_wrong found c.in-Range.txn c.in-Range.lo c.in-Range.hi listed c.wrong_unlisted-unlisted.result c.in-Some.key _ within (w.0.0, w.0.1, w.0.2) w.1
+    c.wrong_unlisted-unlisted.ensures (rw c.unwrap_or.ensures at c.min.ensures))
 
 -- of a write event what it may follow
 write_told : (h : List Event) (found : ℕ → ℕ) (t key : ℕ) (may : Bool) (r : Option ℕ) → r ≡ then_some (not may) key → IsTrue may ↔ MayFollow h key (found key) t
