@@ -11,7 +11,7 @@ ghost use Rattle.sia_index.specs.Positions.{HasPosition, IsAtPosition};
 ghost use Rattle.sia_index.specs.declared.info.KeyVersion.{KeyVersion as version};
 ghost use Rattle.sia_parts.specs.Seeing.{IsScope, Gains, IsOrigin, IsSightWithin, origin_in, txn_in};
 ghost use Rattle.sia_parts.specs.Sights.{Adds, IsBadWith};
-ghost use Rattle.sia_events.specs.Numbering.{Names, names_of, event_of, key_at, txns_of, version_at, IsSeen, IsWithin, IsMarked};
+ghost use Rattle.sia_events.specs.Numbering.{Names, names_of, event_of, key_at, version_at, IsSeen, IsWithin, IsMarked};
 ghost use Rattle.sia_events.specs.Places.{at_place};
 ghost use Rattle.sia_parts.specs.Accesses.{AreSights};
 ghost use Rattle.sia_parts.specs.Known.{IsKnown};

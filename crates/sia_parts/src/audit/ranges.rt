@@ -5,8 +5,7 @@ ghost use Rattle.sia_events.specs.Numbering.{names_of, pair_at, range_at, ranges
 ghost use Rattle.sia_events.specs.Places.{at_place};
 ghost use Rattle.sia_events.specs.Reads.{IsDue};
 ghost use Rattle.sia_events.specs.Refusals.{IsWellFormed};
-ghost use Rattle.sia_events.specs.Transactions.{WroteBefore};
-ghost use Rattle.sia_index.specs.Info.{HasKeyAt, IsReader};
+ghost use Rattle.sia_index.specs.Info.{HasKeyAt};
 ghost use Rattle.sia_parts.specs.Accesses.{IsMissAt, IsPassedBy};
 ghost use Rattle.sia_parts.specs.Known.{IsKnown};
 ghost use Rattle.sia_parts.specs.Seeing.{Gains, IsCover, IsGap, IsMiss, HaveUpTo, IsOrigin, IsScope, IsSightWithin, origin_in};
@@ -18,8 +17,8 @@ use crate::audit::sights::{
 };
 use crate::finding::BadRead;
 use sia_events::{Key, Log, NoMemory};
+use sia_index::Index;
 use sia_index::keyed::{ByKey, place_from};
-use sia_index::{Index, Reader};
 
 /// What a range read covers of a part: the keys from `lo` to `hi`, whose numbers among the written ones are those from `first` to
 /// before `end`, and the pairs that it listed of these. Where `own` isn't true, its reader is known not to have written them before.
