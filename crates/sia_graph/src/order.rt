@@ -1,5 +1,5 @@
 //! The least order that keeps every step, by Kahn's algorithm: always the least node that is ready is taken.
-ghost use Rattle.std.specs.Prelude.{◌≡◌, ◌≢◌, ◌<◌, ◌≤◌, ◌+◌, ◌*◌, [], ℕ, Bool, All, Contains, IfOk, MatchOption, OnOk, length, slice_index, slice_index_or, List};
+ghost use Rattle.std.specs.Prelude.{◌≡◌, ◌≢◌, ◌<◌, ◌+◌, ◌*◌, [], ℕ, Bool, Contains, IfOk, MatchOption, OnOk, length, slice_index_or, List};
 ghost use Rattle.std.specs.List.{range_with_len};
 ghost use Rattle.sia_graph.specs.Graphs.{IsGraph};
 ghost use Rattle.sia_graph.specs.Taken.{AreTakenNodes};
@@ -74,22 +74,6 @@ struct Taking {
     end: usize,
 }
 
-/// The place of the first of these nodes, from a place on, that isn't done.
-fn first_left(nodes: &[u32], done: &[bool], from: usize) -> Option<usize>
-    requires { All (λ s. s < length done.now) nodes.now }
-    ensures { MatchOption result ((i : ℕ) → from ≤ i → i < length nodes.now
-        → IsDone done.now (slice_index nodes.now i))
-        (λ p. (from ≤ p) × (p < length nodes.now) × (¬ IsDone done.now (slice_index nodes.now p))
-        × ((i : ℕ) → from ≤ i → i < p → IsDone done.now (slice_index nodes.now i))) }
-{
-    for i in from..nodes.len() {
-        if !done[nodes[i] as usize] {
-            return Some(i);
-        }
-    }
-    None
-}
-
 impl Taking {
     /// Nothing is taken, and each node is to be released once.
     fn of(alloc: Global, graph: &Graph, nodes: usize) -> Result<Taking, NoMemory>
@@ -136,26 +120,26 @@ impl Taking {
             return Ok(());
         }
         let sources = graph.sources.at(node);
-        match first_left(sources, done, self.passed[node]) {
-            Some(place) => {
-                self.passed[node] = place;
-                let at = sources[place] as usize;
-                self.next_waiting[node] = self.first_waiting[at];
-                self.first_waiting[at] = node as u32;
-                Ok(())
-            }
-            None => {
-                self.counts[node] = 0;
-                if node < self.end {
-                    if self.run.back().copied().unwrap_or(0) < node {
-                        self.run.push_back(node)?;
-                    } else {
-                        self.others.push(Reverse(node))?;
-                    }
-                }
-                Ok(())
+        let mut place = self.passed[node];
+        while place < sources.len() && done[sources[place] as usize] {
+            place += 1;
+        }
+        if place < sources.len() {
+            self.passed[node] = place;
+            let at = sources[place] as usize;
+            self.next_waiting[node] = self.first_waiting[at];
+            self.first_waiting[at] = node as u32;
+            return Ok(());
+        }
+        self.counts[node] = 0;
+        if node < self.end {
+            if self.run.back().copied().unwrap_or(0) < node {
+                self.run.push_back(node)?;
+            } else {
+                self.others.push(Reverse(node))?;
             }
         }
+        Ok(())
     }
 
     /// The node is done: those that wait at it are looked at, and its targets are released.

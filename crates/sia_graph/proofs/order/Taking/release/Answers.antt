@@ -1,4 +1,4 @@
-use Rattle.std.proofs.Common.{◌≡◌, ◌+◌, ◌-◌, ◌<◌, ◌≤◌, ℕ, [], Bool, List, Some, length, get_or, set, slice_get, inl, inr, ◌⊎◌, ap, refl, sym, subst, ◌∙◌, arith}
+use Rattle.std.proofs.Common.{◌≡◌, ◌+◌, ◌-◌, ◌<◌, ◌≤◌, ℕ, [], Bool, true, false, List, Some, length, get_or, set, slice_get, inl, inr, ◌⊎◌, ap, refl, sym, subst, ◌∙◌, arith}
 use Rattle.std.specs.BinaryHeap.{heap_items}
 use Rattle.std.specs.List.Sorted.{IsStrictlyIncreasing}
 use Rattle.std.proofs.lemmas.Bool.{cases_eq, cases_lt}
@@ -8,7 +8,7 @@ use Rattle.std.specs.Prelude.{◌↔◌}
 use Rattle.sia_graph.specs.UnderWay.{HasReady, IsBehind, IsDone, IsOneFewer, IsReadyAt, IsTaking, IsUnderWay, held}
 use Rattle.sia_graph.proofs.Orders.Released.{many, others_waited, ready_free, ready_held, sources_within, under_way_free, under_way_held, under_way_waiting}
 use Rattle.sia_graph.proofs.Orders.ReadySets.{ascends_more, one, others_more, put_before, put_noted, read_at, run_more}
-use Rattle.sia_graph.proofs.order.Taking.release.Goals.{In-None}
+use Rattle.sia_graph.proofs.order.Taking.release.Goals.{Else-place-sources, Then-place-sources, then-loop-place-test+else-done-sources, else-loop-place-test}
 use Rattle.sia_graph.proofs.order.Taking.release.Goals as goal
 
 pub returns-then-index-gt1-clause-is : goal.returns-then-index-gt1-clause-is
@@ -29,39 +29,61 @@ returns-then-index-gt1-clause-is c pending less waking is fewer =
       within = let e = is.within in omega arith;
     }
 
-pub first_left-requires : goal.first_left-requires
-first_left-requires c k d l =
-    let is = c.requires.is.2 in
-    let e = is.under_way.done_long in
-    let a = sources_within c.args.graph.now (length c.args.self.now.counts.items) c.args.node c.requires.graph c.at-sources.result.now c.at-sources.ensures k d l in
-    omega arith
-
-pub index-requires-in-Some : goal.index-requires-in-Some
-index-requires-in-Some c =
-    let w = c.requires.is.2.under_way in
-    let e = w.first_long in
-    let ok = c.args.self.now.first_waiting.ok.0 in
-    let a = sources_within c.args.graph.now (length c.args.self.now.counts.items) c.args.node c.requires.graph c.at-sources.result.now c.at-sources.ensures c.in-Some.place 0 c.in-Some.ensures.1 in
-    omega arith
-
-pub index_mut-requires-in-Some-3 : goal.index_mut-requires-in-Some-3
-index_mut-requires-in-Some-3 c =
-    let w = c.requires.is.2.under_way in
-    let e = w.first_long in
-    let ok = c.args.self.now.first_waiting.ok.0 in
-    let a = sources_within c.args.graph.now (length c.args.self.now.counts.items) c.args.node c.requires.graph c.at-sources.result.now c.at-sources.ensures c.in-Some.place 0 c.in-Some.ensures.1 in
-    omega arith
-
 -- the place of the first source that isn't done
 abbrev IsFirst : List Bool → ℕ → ℕ → List ℕ → Type 0
 IsFirst done p from row = (from ≤ p) × (p < length row) × (¬ IsDone done (get_or row p 0)) × ((i : ℕ) → from ≤ i → i < p → IsDone done (get_or row i 0))
+
+pub loop-place-preserved : goal.loop-place-preserved
+loop-place-preserved c =
+    let place = c.loop-place.place in
+    let so = c.loop-place.invariant in (
+      (let low = so.0 in omega arith),
+      λ k low below. elim (cases_lt k place) [
+        | inl before ↦ so.1 k low before
+        | inr more ↦ let same : place ≡ k = omega arith in subst (λ n. IsDone c.args.done.now (get_or c.at-sources.result.now n 0)) same c.if-done-sources.true
+      ],
+    )
+
+first_left : (c : Then-place-sources) → IsFirst c.args.done.now c.loop-place.place c.index-place.result.now c.at-sources.result.now
+first_left c = (
+  c.loop-place.invariant.0,
+  c.if-place-sources.true,
+  (λ is. elim c.loop-place-test.branch [
+    | then-loop-place-test+else-done-sources w ↦ let no : true ≡ false = sym is ∙ w.if-done-sources.false in cc
+    | else-loop-place-test w ↦ let end = w.loop-place-test.false in let inside = c.if-place-sources.true in absurd (omega arith)
+  ]),
+  c.loop-place.invariant.1,
+)
+
+pub bounds-done-sources : goal.bounds-done-sources
+bounds-done-sources c =
+    let is = c.requires.is.2 in
+    let e = is.under_way.done_long in
+    let a = sources_within c.args.graph.now (length c.args.self.now.counts.items) c.args.node c.requires.graph c.at-sources.result.now c.at-sources.ensures c.loop-place.place 0 c.loop-place-test.true in
+    omega arith
+
+pub index-requires-then-place-sources : goal.index-requires-then-place-sources
+index-requires-then-place-sources c =
+    let w = c.requires.is.2.under_way in
+    let e = w.first_long in
+    let ok = c.args.self.now.first_waiting.ok.0 in
+    let a = sources_within c.args.graph.now (length c.args.self.now.counts.items) c.args.node c.requires.graph c.at-sources.result.now c.at-sources.ensures c.loop-place.place 0 c.if-place-sources.true in
+    omega arith
+
+pub index_mut-requires-then-place-sources-3 : goal.index_mut-requires-then-place-sources-3
+index_mut-requires-then-place-sources-3 c =
+    let w = c.requires.is.2.under_way in
+    let e = w.first_long in
+    let ok = c.args.self.now.first_waiting.ok.0 in
+    let a = sources_within c.args.graph.now (length c.args.self.now.counts.items) c.args.node c.requires.graph c.at-sources.result.now c.at-sources.ensures c.loop-place.place 0 c.if-place-sources.true in
+    omega arith
 
 -- what is known of a row and a place from which it was looked at, of an equal row and an equal place
 elsewhere : (P : ℕ → List ℕ → Type 0) (from n : ℕ) (row other : List ℕ) → from ≡ n → row ≡ other → P from row → P n other
 elsewhere P from n row other e f p = subst (λ r. P n r) f (subst (λ k. P k row) e p)
 
-pub returns-in-Some-clause-is : goal.returns-in-Some-clause-is
-returns-in-Some-clause-is c pending less waking is fewer =
+pub returns-then-place-sources-clause-is : goal.returns-then-place-sources-clause-is
+returns-then-place-sources-clause-is c pending less waking is fewer =
     let k = c.args.self.now in
     let node = c.args.node in
     let below = c.requires.node.0 in
@@ -75,23 +97,23 @@ returns-in-Some-clause-is c pending less waking is fewer =
     let l = w.first_long in
     let passed = w.passed_long in
     let f =
-    elsewhere (IsFirst c.args.done.now c.in-Some.place) c.index-2.result.now (get_or k.passed.items node 0) c.at-sources.result.now (get_or c.args.graph.now.sources node [])
-    (c.index-2.ensures ∙ get_or_default k.passed.items node c.index-2.result.now 0 (omega arith)) c.at-sources.ensures c.in-Some.ensures in
+    elsewhere (IsFirst c.args.done.now c.loop-place.place) c.index-place.result.now (get_or k.passed.items node 0) c.at-sources.result.now (get_or c.args.graph.now.sources node [])
+    (c.index-place.ensures ∙ get_or_default k.passed.items node c.index-place.result.now 0 (omega arith)) c.at-sources.ensures (first_left (goal.at.returns-then-place-sources-clause-is c).Then-place-sources) in
     let row = c.at-sources.result.now in
-    let at = get_or row c.in-Some.place 0 in
-    let is_at : at ≡ get_or (get_or c.args.graph.now.sources node []) c.in-Some.place 0 = ap (λ (r : List ℕ). get_or r c.in-Some.place 0) c.at-sources.ensures in
-    let at_below : at < length k.counts.items = sources_within c.args.graph.now (length k.counts.items) node c.requires.graph row c.at-sources.ensures c.in-Some.place 0 c.in-Some.ensures.1 in
+    let at = get_or row c.loop-place.place 0 in
+    let is_at : at ≡ get_or (get_or c.args.graph.now.sources node []) c.loop-place.place 0 = ap (λ (r : List ℕ). get_or r c.loop-place.place 0) c.at-sources.ensures in
+    let at_below : at < length k.counts.items = sources_within c.args.graph.now (length k.counts.items) node c.requires.graph row c.at-sources.ensures c.loop-place.place 0 c.if-place-sources.true in
     record {
       under_way = under_way_waiting c.args.graph.now c.args.done.now k node below v c.index_mut.result.now old refl pending less waking is fewer (omega arith)
-          c.in-Some.place f.1 f.0 at is_at c.in-Some.ensures.2 f.3 at_below (let m = c.requires.node.1 in omega arith)
-          c.index-in-Some.result.now (c.index-in-Some.ensures ∙ get_or_default k.first_waiting.items at c.index-in-Some.result.now 0 (omega arith));
+          c.loop-place.place f.1 f.0 at is_at (λ is. f.2 (subst (IsDone c.args.done.now) is_at is)) f.3 at_below (let m = c.requires.node.1 in omega arith)
+          c.index-then-place-sources.result.now (c.index-then-place-sources.ensures ∙ get_or_default k.first_waiting.items at c.index-then-place-sources.result.now 0 (omega arith));
       ready = ready_held c.args.graph.now c.args.done.now k node below v c.index_mut.result.now old refl pending less waking is fewer;
       before = is.before;
       within = let e = is.within in omega arith;
     }
 
-pub returns-in-Some-clause-others : goal.returns-in-Some-clause-others
-returns-in-Some-clause-others c t s w d =
+pub returns-then-place-sources-clause-others : goal.returns-then-place-sources-clause-others
+returns-then-place-sources-clause-others c t s w d =
     let k = c.args.self.now in
     let node = c.args.node in
     let v = c.index_mut.result.now - 1 in
@@ -101,25 +123,25 @@ returns-in-Some-clause-others c t s w d =
     let row = get_or c.args.graph.now.sources node [] in
     elim (cases_eq t node) [
       | inl e ↦
-          let f = elsewhere (IsFirst c.args.done.now c.in-Some.place) c.index-2.result.now c.index-2.result.now c.at-sources.result.now row refl c.at-sources.ensures c.in-Some.ensures in
-          let at : slice_get row (get_or (set k.passed.items node c.in-Some.place) node 0) ≡ Some s =
-          subst (λ u. slice_get (get_or c.args.graph.now.sources u []) (get_or (set k.passed.items node c.in-Some.place) u 0) ≡ Some s) e w.2 in
-          let same : get_or row c.in-Some.place 0 ≡ s =
+          let f = elsewhere (IsFirst c.args.done.now c.loop-place.place) c.index-place.result.now c.index-place.result.now c.at-sources.result.now row refl c.at-sources.ensures (first_left (goal.at.returns-then-place-sources-clause-others c).Then-place-sources) in
+          let at : slice_get row (get_or (set k.passed.items node c.loop-place.place) node 0) ≡ Some s =
+          subst (λ u. slice_get (get_or c.args.graph.now.sources u []) (get_or (set k.passed.items node c.loop-place.place) u 0) ≡ Some s) e w.2 in
+          let same : get_or row c.loop-place.place 0 ≡ s =
           same_Some _ _
-          (sym (slice_get-get_or row c.in-Some.place 0 f.1) ∙ ap (slice_get row) (sym (get_or-set_same k.passed.items node c.in-Some.place 0 (omega arith))) ∙ at) in
+          (sym (slice_get-get_or row c.loop-place.place 0 f.1) ∙ ap (slice_get row) (sym (get_or-set_same k.passed.items node c.loop-place.place 0 (omega arith))) ∙ at) in
           absurd (f.2 (subst (IsDone c.args.done.now) (sym same) d))
       | inr n ↦ (
-        others_waited c.args.graph.now k.counts.items k.passed.items (set k.counts.items node v) (set k.passed.items node c.in-Some.place) node (length-set k.counts.items node v)
-            (λ u m. get_or-set_other k.counts.items node u v 0 m) (λ u m. get_or-set_other k.passed.items node u c.in-Some.place 0 m) t s n w,
+        others_waited c.args.graph.now k.counts.items k.passed.items (set k.counts.items node v) (set k.passed.items node c.loop-place.place) node (length-set k.counts.items node v)
+            (λ u m. get_or-set_other k.counts.items node u v 0 m) (λ u m. get_or-set_other k.passed.items node u c.loop-place.place 0 m) t s n w,
         n,
       )
     ]
 
-abbrev lowered : In-None → List ℕ
+abbrev lowered : Else-place-sources → List ℕ
 lowered c = set (set c.args.self.now.counts.items c.args.node (c.index_mut.result.now - 1)) c.args.node 0
 
 -- nothing holds the node back, and it wasn't ready, whatever is told of what is
-freed : (c : In-None) (pending less : ℕ → ℕ) (waking : ℕ) → IsTaking c.args.graph.now c.args.done.now c.args.self.now pending waking → IsOneFewer c.args.node pending less
+freed : (c : Else-place-sources) (pending less : ℕ → ℕ) (waking : ℕ) → IsTaking c.args.graph.now c.args.done.now c.args.self.now pending waking → IsOneFewer c.args.node pending less
     → IsUnderWay c.args.graph.now c.args.done.now (lowered c) c.args.self.now.passed.items c.args.self.now.first_waiting.items c.args.self.now.next_waiting.items less waking
     × ((After : ℕ → Type 0) → ((t : ℕ) → After t ↔ (IsBehind c.args.self.now t ⊎ ((c.args.node ≡ t) × (c.args.node < c.args.self.now.end))))
     → (t : ℕ) → t < length (lowered c) → IsReadyAt After c.args.self.now.end (lowered c) t ↔ ((get_or (lowered c) t 0 ≡ 0) × ¬ IsDone c.args.done.now t))
@@ -139,9 +161,9 @@ freed c pending less waking is fewer =
     let m = many c.args.graph.now c.args.done.now k node below v c.index_mut.result.now old refl pending less waking is fewer in
     let once = is.before.once node in (
       under_way_free c.args.graph.now c.args.done.now k node below v c.index_mut.result.now old refl pending less waking is fewer (omega arith)
-          (elsewhere (λ from row. (i : ℕ) → from ≤ i → i < length row → IsDone c.args.done.now (get_or row i 0)) c.index-2.result.now (get_or k.passed.items node 0)
+          (elsewhere (λ from row. (i : ℕ) → from ≤ i → i < length row → IsDone c.args.done.now (get_or row i 0)) c.index-place.result.now (get_or k.passed.items node 0)
           c.at-sources.result.now (get_or c.args.graph.now.sources node [])
-          (c.index-2.ensures ∙ get_or_default k.passed.items node c.index-2.result.now 0 (let l = is.under_way.passed_long in omega arith)) c.at-sources.ensures c.in-None.ensures),
+          (c.index-place.ensures ∙ get_or_default k.passed.items node c.index-place.result.now 0 (let l = is.under_way.passed_long in omega arith)) c.at-sources.ensures (λ i low below. c.loop-place.invariant.1 i low (let end = c.if-place-sources.false in omega arith))),
       ready_free c.args.graph.now c.args.done.now k node below v c.index_mut.result.now old refl pending less waking is fewer (omega arith),
       elim (cases_lt 0 (held k.run.items (heap_items k.others) node)) [
         | inl some ↦ absurd (let z = ((is.ready node below).0 (inl (omega arith))).0 in omega arith)
@@ -150,14 +172,14 @@ freed c pending less waking is fewer =
       (let e = is.within in omega arith),
     )
 
-pub returns-in_ok-push_back-in-None-clause-is : goal.returns-in_ok-push_back-in-None-clause-is
-returns-in_ok-push_back-in-None-clause-is c pending less waking is fewer =
+pub returns-in_ok-push_back-clause-is : goal.returns-in_ok-push_back-clause-is
+returns-in_ok-push_back-clause-is c pending less waking is fewer =
     let k = c.args.self.now in
     let node = c.args.node in
     let run = k.run.items in
     let others = heap_items k.others in
-    let f = freed (goal.at.returns-in_ok-push_back-in-None-clause-is c).In-None pending less waking is fewer in
-    let items = c.in_ok-push_back-in-None.ensures.items in
+    let f = freed (goal.at.returns-in_ok-push_back-clause-is c).Else-place-sources pending less waking is fewer in
+    let items = c.in_ok-push_back.ensures.items in
     let differ : (i : ℕ) → held c.push_back.new.self.items others i ≡ one node i + held run others i = λ i. ap (λ xs. held xs others i) items ∙ run_more run node others i in
     let last = read_at 0 c.unwrap_or.result run (k.run.len - 1) c.back.result c.copied.result c.unwrap_or.ensures c.copied.ensures c.back.ensures.item in
     let above : get_or run (length run - 1) 0 < node = (let e : get_or run (k.run.len - 1) 0 ≡ get_or run (length run - 1) 0 = ap (λ n. get_or run (n - 1) 0) k.run.ok.0 in let l = c.if-unwrap_or-node.true in omega arith) in
@@ -169,15 +191,15 @@ returns-in_ok-push_back-in-None-clause-is c pending less waking is fewer =
       within = f.3;
     }
 
-pub returns-in_ok-push-in-None-clause-is : goal.returns-in_ok-push-in-None-clause-is
-returns-in_ok-push-in-None-clause-is c pending less waking is fewer =
+pub returns-in_ok-push-clause-is : goal.returns-in_ok-push-clause-is
+returns-in_ok-push-clause-is c pending less waking is fewer =
     let k = c.args.self.now in
     let node = c.args.node in
     let run = k.run.items in
     let others = heap_items k.others in
     let more = heap_items c.push.new.self in
-    let pushed = c.in_ok-push-in-None.ensures in
-    let f = freed (goal.at.returns-in_ok-push-in-None-clause-is c).In-None pending less waking is fewer in
+    let pushed = c.in_ok-push.ensures in
+    let f = freed (goal.at.returns-in_ok-push-clause-is c).Else-place-sources pending less waking is fewer in
     let differ = others_more run (record { 0 = node }) others more pushed.permutation in
     record {
       under_way = f.0;
@@ -188,7 +210,7 @@ returns-in_ok-push-in-None-clause-is c pending less waking is fewer =
 
 pub returns-else-node-self-clause-is : goal.returns-else-node-self-clause-is
 returns-else-node-self-clause-is c pending less waking is fewer =
-    let f = freed (goal.at.returns-else-node-self-clause-is c).In-None pending less waking is fewer in
+    let f = freed (goal.at.returns-else-node-self-clause-is c).Else-place-sources pending less waking is fewer in
     let past = c.if-node-self.false in
     record {
       under_way = f.0;
