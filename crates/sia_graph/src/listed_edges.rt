@@ -1,13 +1,10 @@
 //! The least order of transactions that keeps a list of edges, or where none does a cycle of these.
-ghost use Rattle.std.specs.Prelude.{◌≡◌, ◌≢◌, ◌<◌, ℕ, All, AllPairs, Contains, IfOk, List, OnOk, length};
+ghost use Rattle.std.specs.Prelude.{◌≢◌, ◌<◌, All, AllPairs, Contains, IfOk, OnOk, length};
 ghost use Rattle.std.specs.List.Sorted.{IsNonDecreasingBy, IsStrictlyIncreasing};
 ghost use Rattle.sia_events.specs.Lists.{Precedes};
-ghost use Rattle.sia_parts.specs.declared.finding.Edge.{Edge};
 ghost use Rattle.sia_parts.specs.Entries.{edge_rank};
 ghost use Rattle.sia_graph.specs.ListedGraphs.{IsGraphOf};
-ghost use Rattle.sia_graph.specs.Previous.{IsLeftIn};
 ghost use Rattle.sia_graph.specs.Verdicts.{IsVerdict};
-ghost use Rattle.sia_graph.specs.Walks.{AreLeastSources};
 
 use crate::cycle::{EdgesIn, Steps, cycle_of};
 use crate::judgement::Verdict;
@@ -56,27 +53,6 @@ fn graph_of(alloc: Global, ids: &[TxnId], edges: &[Edge]) -> Result<Graph, NoMem
     Ok(Graph { targets, sources })
 }
 
-/// For each place the least one that is left and leads to it. What has none leads to itself.
-fn least_sources(alloc: Global, graph: &Graph, left: &[bool]) -> Result<Vec<usize>, NoMemory>
-    requires { (ids : List ℕ) × (edges : List Edge) × IsGraphOf ids edges graph.now
-        × (length left.now ≡ length ids) }
-    ensures long { IfOk result (λ previous. length previous.items ≡ length left.now) }
-    ensures least { IfOk result (λ previous. (ids : List ℕ) (edges : List Edge)
-        → IsGraphOf ids edges graph.now
-        → length left.now ≡ length ids
-        → AreLeastSources ids (Contains edges) (IsLeftIn left.now) previous.items) }
-{
-    let mut previous: Vec<usize> = (0..left.len()).collect(alloc)?;
-    for source in (0..left.len()).rev() {
-        if left[source] {
-            for target in graph.targets.at(source) {
-                previous[*target as usize] = source;
-            }
-        }
-    }
-    Ok(previous)
-}
-
 /// The least order of the ids that keeps the edges, or where none does the cycle that is printed.
 pub fn settle(alloc: Global, ids: &[TxnId], edges: &[Edge]) -> Result<Verdict, NoMemory>
     requires ids { IsStrictlyIncreasing ids.now }
@@ -88,8 +64,17 @@ pub fn settle(alloc: Global, ids: &[TxnId], edges: &[Edge]) -> Result<Verdict, N
     match take_nodes(alloc, 0, ids, &graph)? {
         Taken::Whole(order) => Ok(Verdict::Order(Txns::new(order))),
         Taken::Rest(left) => {
-            let previous = least_sources(alloc, &graph, &left)?;
-            let cycle = cycle_of(alloc, &EdgesIn::Listed(edges), ids, &left, &previous)?;
+            let left = left.as_slice();
+            // The least place that is left and leads to each. What has none leads to itself.
+            let mut previous: Vec<usize> = (0..left.len()).collect(alloc)?;
+            for source in (0..left.len()).rev() {
+                if left[source] {
+                    for target in graph.targets.at(source) {
+                        previous[*target as usize] = source;
+                    }
+                }
+            }
+            let cycle = cycle_of(alloc, &EdgesIn::Listed(edges), ids, left, &previous)?;
             Ok(Verdict::Cycle(Steps::new(cycle)))
         }
     }
