@@ -1,5 +1,5 @@
 //! Edges, source by source, made from the positions of what transactions wrote and saw.
-ghost use Rattle.std.specs.Prelude.{◌≡◌, ◌↔◌, ◌<◌, ◌+◌, ◌-◌, ℕ, All, Contains, IfOk, IsTrue, OnOk, length, ◌≤◌, List, vec_capacity};
+ghost use Rattle.std.specs.Prelude.{◌≡◌, ◌↔◌, ◌<◌, ◌+◌, ◌-◌, ℕ, All, Contains, IfOk, IsTrue, OnOk, length, ◌≤◌, vec_capacity};
 ghost use Rattle.std.specs.List.Sorted.{IsNonDecreasingBy};
 ghost use Rattle.sia_index.specs.Numbers.{IsCommittedAt};
 ghost use Rattle.sia_index.specs.Info.{IsKeyAt};
@@ -12,8 +12,6 @@ ghost use Rattle.sia_parts.specs.EdgeRows.{AreEdgesFrom, CanTell, HasRoom, IsKey
 ghost use Rattle.sia_parts.specs.Findings.{ListsEdges};
 ghost use Rattle.sia_parts.specs.Parts.{IsWithin};
 ghost use Rattle.sia_parts.specs.Sights.{FromSome};
-ghost use Rattle.sia_events.specs.Lists.{ListsAscending};
-ghost use Rattle.sia_events.specs.Transactions.{IsCommitted};
 
 use crate::accesses::Accesses;
 use crate::cutting::Part;
@@ -139,21 +137,7 @@ impl<'a> Edges<'a> {
     {
         self.index.law();
         rows.clear();
-        self.put_made(source, rows);
-        self.put_seen(source, rows);
-        self.put_missed(source, rows);
-        sorter.sort::<ByTarget>(rows);
-    }
-
-    /// Adds the edges of what the source made: to later versions, and to who saw its own or later ones.
-    fn put_made(&self, source: u32, rows: &mut Vec<EdgeTo>)
-        requires tell { CanTell self.now }
-        requires source { (t : ℕ) × IsCommittedAt self.now.index.now source t }
-        requires room { HasRoom (length self.now.readings + length (joined self.now.readings)) rows.old }
-        ensures { Puts (IsMadeRow self.now source)
-            (length self.now.readings + length (joined self.now.readings)) rows.old rows.new }
-    {
-        self.index.law();
+        // What the source made leads to later versions, and to who saw its own or later ones.
         let made = self.index.made_by(source as usize);
         for position in made {
             if self.is_within(*position) {
@@ -161,6 +145,9 @@ impl<'a> Edges<'a> {
                 self.put_readers(source, *position, end, rows);
             }
         }
+        self.put_seen(source, rows);
+        self.put_missed(source, rows);
+        sorter.sort::<ByTarget>(rows);
     }
 
     /// Adds the edges to the versions behind those that the source saw. Of each key the oldest one has them all.

@@ -3,8 +3,8 @@ use Rattle.std.specs.Prelude.{◌+◌, ◌<◌, ◌≤◌, ℕ, length, slice_in
 use Rattle.sia_parts.specs.EdgeRows.{Puts, noted_before}
 use Rattle.sia_parts.proofs.Shared.Adding.{FromFirst}
 use Rattle.sia_parts.proofs.EdgeRows.EdgeLoops.{MadeHere}
-use Rattle.sia_parts.proofs.edges.Edges.put_made.Given as goal
+use Rattle.sia_parts.proofs.edges.Edges.put_from.Given as goal
 
 abbrev pub invariant-loop-position : goal.invariant-loop-position
 invariant-loop-position l = (low : ℕ) × (low ≤ length l.fn.self.readings) × ((k : ℕ) → l.position-index ≤ k → k < length l.made → low ≤ slice_index l.made k)
-    × Puts (FromFirst (MadeHere l.fn.self l.source) l.made l.position-index) (low + noted_before l.fn.self.readings low) l.fn.rows l.rows
+    × Puts (FromFirst (MadeHere l.fn.self l.source) l.made l.position-index) (low + noted_before l.fn.self.readings low) l.initial.rows l.rows
