@@ -3,12 +3,11 @@ ghost use Rattle.std.specs.Prelude.{◌≡◌, ◌↔◌, ◌<◌, ◌+◌, ◌-
 ghost use Rattle.std.specs.List.Sorted.{IsNonDecreasingBy};
 ghost use Rattle.sia_index.specs.Numbers.{IsCommittedAt};
 ghost use Rattle.sia_index.specs.Info.{IsKeyAt};
-ghost use Rattle.sia_index.specs.Lists.{joined};
 ghost use Rattle.sia_index.specs.Positions.{HasPosition, IsAtPosition};
 ghost use Rattle.sia_index.specs.declared.info.KeyVersion.{KeyVersion as version};
 ghost use Rattle.sia_parts.specs.declared.finding.Kind.TheVariants.{Rw};
 ghost use Rattle.sia_parts.specs.Accesses.{AreAccesses};
-ghost use Rattle.sia_parts.specs.EdgeRows.{AreEdgesFrom, CanTell, HasRoom, IsKeyEnd, IsMadeRow, IsMakerRow, IsMissRow, IsOfKey, IsReaderRow, Puts, ReadsMore, edge_of, missed_by, noted_between, row_bound, saw_by};
+ghost use Rattle.sia_parts.specs.EdgeRows.{AreEdgesFrom, CanTell, HasRoom, IsKeyEnd, IsMakerRow, IsMissRow, IsOfKey, IsReaderRow, Puts, ReadsMore, edge_of, missed_by, noted_between, row_bound, saw_by};
 ghost use Rattle.sia_parts.specs.Findings.{ListsEdges};
 ghost use Rattle.sia_parts.specs.Parts.{IsWithin};
 ghost use Rattle.sia_parts.specs.Sights.{FromSome};
