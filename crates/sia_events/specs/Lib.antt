@@ -2,7 +2,6 @@ pub mod Places
 pub mod Limits
 pub mod Lists
 pub mod Text
-pub mod Spelled
 pub mod Events
 pub mod Refusals
 pub mod Parsing

@@ -1,23 +1,12 @@
 //! Writing the canonical text of a history.
-ghost use Rattle.std.specs.Prelude.{◌≡◌, ◌++◌, ◌∷◌, flat_map, OnOk, IfOk};
-ghost use Rattle.sia_events.specs.declared.event.Event.TheVariants as events;
+ghost use Rattle.std.specs.Prelude.{◌≡◌, ◌++◌, OnOk, IfOk};
 ghost use Rattle.sia_events.specs.Text.{numeral, spell_list, spell, canonical};
-ghost use Rattle.sia_events.specs.Spelled.{spelled};
 
 use crate::event::{Event, Key, Version};
 use crate::fault::NoMemory;
 use crate::history::History;
 use itoa::Buffer;
 use std::alloc::{AllocError, Global};
-
-/// A piece of the spelling of an event.
-#[derive(Clone, Copy)]
-enum Piece<'a> {
-    /// A byte and a number.
-    Marked(u8, u64),
-    Byte(u8),
-    Listed(&'a [(Key, Version)]),
-}
 
 /// Writes a number between some bytes.
 pub fn push_number(
@@ -34,53 +23,15 @@ pub fn push_number(
     out.extend_from_slice(behind)
 }
 
-fn push_marked(out: &mut Vec<u8>, mark: u8, n: u64) -> Result<(), AllocError>
-    ensures { OnOk result (out.new.items ≡ out.old.items ++ (mark ∷ numeral n)) }
-{
-    push_number(out, &[mark], n, b"")
-}
-
 fn push_list(out: &mut Vec<u8>, listed: &[(Key, Version)]) -> Result<(), AllocError>
     ensures { OnOk result (out.new.items ≡ out.old.items ++ spell_list listed.now) }
 {
     for (i, (key, saw)) in listed.iter().enumerate() {
-        push_marked(out, if i == 0 { b';' } else { b',' }, *key)?;
-        push_marked(out, b':', u64::from(*saw))?;
+        let mark = if i == 0 { b';' } else { b',' };
+        push_number(out, &[mark], *key, b":")?;
+        push_number(out, b"", u64::from(*saw), b"")?;
     }
     Ok(())
-}
-
-fn push_pieces(out: &mut Vec<u8>, pieces: &[Piece]) -> Result<(), AllocError>
-    ensures { OnOk result (out.new.items ≡ out.old.items ++ flat_map spelled pieces.now) }
-{
-    for piece in pieces {
-        match piece {
-            Piece::Marked(mark, n) => push_marked(out, *mark, *n)?,
-            Piece::Byte(byte) => out.push(*byte)?,
-            Piece::Listed(listed) => push_list(out, listed)?,
-        }
-    }
-    Ok(())
-}
-
-fn push_range(
-    out: &mut Vec<u8>,
-    txn: u64,
-    lo: Key,
-    hi: Key,
-    listed: &[(Key, Version)],
-) -> Result<(), AllocError>
-    ensures { OnOk result (out.new.items ≡ out.old.items ++ spell (events.Range txn lo hi listed.now)) }
-{
-    let pieces = [
-        Piece::Marked(b'r', txn),
-        Piece::Marked(b'[', lo),
-        Piece::Byte(b'.'),
-        Piece::Marked(b'.', hi),
-        Piece::Listed(listed),
-        Piece::Byte(b']'),
-    ];
-    push_pieces(out, &pieces)
 }
 
 pub(crate) fn push_event(out: &mut Vec<u8>, event: &Event) -> Result<(), AllocError>
@@ -88,34 +39,33 @@ pub(crate) fn push_event(out: &mut Vec<u8>, event: &Event) -> Result<(), AllocEr
 {
     let txn = u64::from(event.txn());
     match event {
-        Event::Begin { start: None, .. } => push_pieces(out, &[Piece::Marked(b'b', txn)]),
+        Event::Begin { start: None, .. } => push_number(out, b"b", txn, b""),
         Event::Begin {
             start: Some(start),
             ..
         } => {
-            let start = u64::from(*start);
-            push_pieces(out, &[Piece::Marked(b'b', txn), Piece::Marked(b'@', start)])
+            push_number(out, b"b", txn, b"@")?;
+            push_number(out, b"", u64::from(*start), b"")
         }
         Event::Read { key, saw, .. } => {
-            let pieces = [
-                Piece::Marked(b'r', txn),
-                Piece::Marked(b'[', *key),
-                Piece::Marked(b':', u64::from(*saw)),
-                Piece::Byte(b']'),
-            ];
-            push_pieces(out, &pieces)
+            push_number(out, b"r", txn, b"[")?;
+            push_number(out, b"", *key, b":")?;
+            push_number(out, b"", u64::from(*saw), b"]")
         }
-        Event::Range { lo, hi, listed, .. } => push_range(out, txn, *lo, *hi, listed.as_slice()),
+        Event::Range { lo, hi, listed, .. } => {
+            push_number(out, b"r", txn, b"[")?;
+            push_number(out, b"", *lo, b"..")?;
+            push_number(out, b"", *hi, b"")?;
+            push_list(out, listed.as_slice())?;
+            out.push(b']')?;
+            Ok(())
+        }
         Event::Write { key, .. } => {
-            let pieces = [
-                Piece::Marked(b'w', txn),
-                Piece::Marked(b'[', *key),
-                Piece::Byte(b']'),
-            ];
-            push_pieces(out, &pieces)
+            push_number(out, b"w", txn, b"[")?;
+            push_number(out, b"", *key, b"]")
         }
-        Event::Commit { .. } => push_pieces(out, &[Piece::Marked(b'c', txn)]),
-        Event::Abort { .. } => push_pieces(out, &[Piece::Marked(b'a', txn)]),
+        Event::Commit { .. } => push_number(out, b"c", txn, b""),
+        Event::Abort { .. } => push_number(out, b"a", txn, b""),
     }
 }
 

@@ -1,5 +1,5 @@
 -- A text that is written from left to right, one more part at its end.
-use Rattle.std.proofs.Common.{◌≡◌, ◌≢◌, ℕ, suc, ◌<◌, List, [], ◌∷◌, ◌++◌, map, length, refl, ap, sym, ◌∙◌, append_assoc, arith}
+use Rattle.std.proofs.Common.{◌≡◌, ◌≢◌, ℕ, suc, ◌<◌, List, [], ◌∷◌, ◌++◌, map, length, refl, ap, sym, ◌∙◌, append-nil, append_assoc, arith}
 use Rattle.std.specs.List.{join_with_byte}
 use Rattle.std.specs.Prelude.{Err, Ok, OnOk, Result, if◌then◌else◌, is_ok}
 use Rattle.sia_events.specs.declared.event.Event.{Event}
@@ -24,6 +24,10 @@ canonical_push f es e = ap (λ (xs : List (List ℕ)). join_with_byte 32 (spell 
 pub list_step : (front : List (ℕ × ℕ)) (p : ℕ × ℕ) (b : ℕ) → (length front ≡ 0 → b ≡ 59) → (length front ≢ 0 → b ≡ 44) → spell_list (front ++ p ∷ []) ≡ spell_list front ++ (b ∷ spell_pair p)
 list_step [] p b first later = let is = first refl in ap (λ n. n ∷ spell_pair p) (sym is)
 list_step (q ∷ ps) p b first later = let is = later (λ e. (let some : suc (length ps) ≡ 0 = e in omega arith)) in list_push q ps p ∙ ap (λ n. spell_list (q ∷ ps) ++ (n ∷ spell_pair p)) (sym is)
+
+-- a listed key as it is written, with nothing before and behind its version
+pub pair_put : (o l m k c v : List ℕ) → (((((((o ++ l) ++ m) ++ k) ++ c) ++ []) ++ v) ++ []) ≡ o ++ (l ++ (m ++ ((k ++ c) ++ v)))
+pair_put o l m k c v = simp (append_assoc, append-nil)
 
 pub canonical_first : (es : List Event) (e : Event) → length es ≡ 0 → canonical (es ++ e ∷ []) ≡ canonical es ++ spell e
 canonical_first [] e none = refl
