@@ -13,8 +13,3 @@ ReadsAs limits text (Ok h) = IsAccepted limits text × StandsFor text h
 ReadsAs limits text (Err NoMemory) = ⊤
 ReadsAs limits text (Err TextTooLong) = IsRefusal limits text TextTooLong
 ReadsAs limits text (Err (Refused token reason)) = IsRefusal limits text (Refused token reason)
-
--- the same where the events of an accepted text stand beside the answer
-abbrev pub EndsAs : Limits → List ℕ → List Event → Result ⊤ TextFault → Type 0
-EndsAs limits text h (Ok done) = ReadsAs limits text (Ok h)
-EndsAs limits text h (Err fault) = ReadsAs limits text (Err fault)

@@ -6,7 +6,7 @@ ghost use Rattle.sia_events.specs.Judging.{HasText};
 ghost use Rattle.sia_events.specs.Drafts.{Knows};
 ghost use Rattle.sia_events.specs.LogTables.{AreTables, events_of};
 ghost use Rattle.sia_events.specs.Limits.{Limits, standard};
-ghost use Rattle.sia_events.specs.Reading.{EndsAs, ReadsAs};
+ghost use Rattle.sia_events.specs.Reading.{ReadsAs};
 ghost use Rattle.sia_events.specs.Refusals.{IsWellFormed};
 ghost use Rattle.sia_events.specs.Streaming.{StandsForRead, Progress};
 
@@ -141,63 +141,28 @@ impl TextReader {
             → ReadsAs limits text result }
         ensures lost { self.lost ≡ true → result ≡ Err OutOfMemory }
     {
-        let TextReader {
-            alloc: _,
-            limits,
-            mut judge,
-            count,
-            fault,
-            unfinished,
-            lost,
-        } = self;
-        end(&mut judge, limits, count, fault, &unfinished, lost)?;
-        Ok(Log {
-            tables: judge.draft.tables,
-        })
-    }
-}
-
-/// Judges the last token, unless it is settled already why there is no history.
-fn end(
-    judge: &mut Judge,
-    limits: Limits,
-    count: u64,
-    fault: Option<(u32, Reason)>,
-    unfinished: &[u8],
-    lost: bool,
-) -> Result<(), TextFault>
-    requires { lost ≡ false → IsNone fault → count ≤ limits.bytes
-        → Knows judge.old.draft × HasText limits count (events_of judge.old.draft.tables) unfinished.now }
-    ensures reads { (text : List ℕ) → StandsForRead limits (record {
-      limits = limits;
-      count = count;
-      fault = fault;
-      events = events_of judge.old.draft.tables;
-      unfinished = unfinished.now;
-      lost = lost;
-    }) text
-        → EndsAs limits text (events_of judge.new.draft.tables) result }
-    ensures well_formed { OnOk result (IsWellFormed (events_of judge.new.draft.tables)) }
-    ensures tables { OnOk result (AreTables judge.new.draft.tables) }
-    ensures lost { lost ≡ true → result ≡ Err OutOfMemory }
-{
-    limits.law();
-    if lost {
-        return Err(TextFault::NoMemory);
-    }
-    if count > limits.bytes() {
-        return Err(TextFault::TextTooLong);
-    }
-    if let Some((token, reason)) = fault {
-        return Err(TextFault::Refused { token, reason });
-    }
-    match judge.take_some(limits, unfinished) {
-        Ok(()) => Ok(()),
-        Err(Refusal::NoMemory) => Err(TextFault::NoMemory),
-        Err(Refusal::Bad(reason)) => Err(TextFault::Refused {
-            token: judge.next_token(),
-            reason,
-        }),
+        let limits = self.limits;
+        limits.law();
+        if self.lost {
+            return Err(TextFault::NoMemory);
+        }
+        if self.count > limits.bytes() {
+            return Err(TextFault::TextTooLong);
+        }
+        if let Some((token, reason)) = self.fault {
+            return Err(TextFault::Refused { token, reason });
+        }
+        let mut judge = self.judge;
+        match judge.take_some(limits, &self.unfinished) {
+            Ok(()) => Ok(Log {
+                tables: judge.draft.tables,
+            }),
+            Err(Refusal::NoMemory) => Err(TextFault::NoMemory),
+            Err(Refusal::Bad(reason)) => Err(TextFault::Refused {
+                token: judge.next_token(),
+                reason,
+            }),
+        }
     }
 }
 

@@ -9,7 +9,7 @@ use Rattle.sia_events.specs.declared.fault.Reason.{Reason}
 use Rattle.sia_events.specs.declared.fault.TextFault.TheVariants.{Refused}
 use Rattle.sia_events.specs.Text.{spell, is_separator, tokens, StandsFor}
 use Rattle.sia_events.specs.Refusals.{HasReason, IsFirstFault, IsRefusal, IsAccepted, IsWellFormed}
-use Rattle.sia_events.specs.Streaming.{IsCutAtLastSeparator, StandsForRead}
+use Rattle.sia_events.specs.Streaming.{IsCutAtLastSeparator, Progress, StandsForRead}
 use Rattle.sia_events.specs.Judging.{JudgedAll, StopsAt, as_token, HasText}
 use Rattle.sia_events.proofs.Shared.Cuts.{some_cut, cut_then, tokens_then, tokens_cut}
 use Rattle.sia_events.proofs.JudgedTexts.Judged.{JudgedAll-append}
@@ -90,6 +90,13 @@ module _ (limits : Limits) (text piece : List ℕ) (count more : ℕ) (counts : 
   stands_decided (Some f) events unfinished lost some stands = stands_kept events unfinished lost lost f.0 f.1 stands
 
 -- ---- the end
+
+-- what is shown of a reader's fields, of its own limits and of its fault as it was found
+pub at_end : (P : Limits → Type 0) (r now : Progress) → r ≡ now → (fault : Option (ℕ × Reason)) → r.fault ≡ fault → (limits : Limits) (text : List ℕ)
+    → (StandsForRead r.limits (record { limits = r.limits; count = r.count; fault = fault; events = r.events; unfinished = r.unfinished; lost = r.lost }) text → P r.limits) → StandsForRead limits now text → P limits
+at_end P r now view fault is limits text shown stands =
+    let given = subst (λ (p : Progress). StandsForRead limits p text) (sym view) stands in
+    by_own (λ l. StandsForRead l r text) P r.limits limits given.limits_are (λ own. shown (subst (λ (o : Option (ℕ × Reason)). StandsForRead r.limits (record { limits = r.limits; count = r.count; fault = o; events = r.events; unfinished = r.unfinished; lost = r.lost }) text) is own)) given
 
 module _ (limits : Limits) (text : List ℕ) (count : ℕ) (events all : List Event) (unfinished : List ℕ) (lost : Bool) (stands : StandsForRead limits (record { limits = limits; count = count; fault = None; events = events; unfinished = unfinished; lost = lost }) text) (few : count ≤ limits.bytes) (clean : IsClean limits events) where
   short_text : length text ≤ limits.bytes
