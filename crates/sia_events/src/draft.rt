@@ -398,20 +398,6 @@ impl Draft {
         if write != 0 {
             return Ok(write);
         }
-        let write = self.new_write(txn, key)?;
-        Ok(write)
-    }
-
-    fn new_write(&mut self, txn: u32, key: u32) -> Result<u32, AllocError>
-        requires found { AreFound self.old }
-        requires txn { txn < length self.old.tables.txns.items }
-        requires key { key < length self.old.tables.keys.items }
-        ensures found { OnOk result (AreFound self.new) }
-        ensures same { OnOk result (SameButWrites self.old.tables self.new.tables) }
-        ensures rows { OnOk result (self.new.tables.writes.items
-            ≡ self.old.tables.writes.items ++ new_write txn key ∷ []) }
-        ensures is { IfOk result (λ w. w ≡ length self.old.tables.writes.items + 1) }
-    {
         let number = self.tables.writes.len();
         if number >= MOST_ROWS {
             return Err(AllocError);

@@ -33,7 +33,13 @@ impl History {
         ensures { IfOk result (λ h. h ≡ log) }
     {
         log.law();
-        let events = listed_out(alloc, &log)?;
+        let mut events = Vec::with_capacity(alloc, log.len() as usize)?;
+        for before in 0..log.len() {
+            if let Some(row) = log.row(before + 1) {
+                let listed = pairs_of(alloc, &log, row)?;
+                events.push(event_from(&log, row, Listed::new(listed)))?;
+            }
+        }
         Ok(History { events, log })
     }
 
@@ -68,20 +74,6 @@ impl History {
         }
         self.events.get(place as usize - 1)
     }
-}
-
-/// The events of the log.
-fn listed_out(alloc: Global, log: &Log) -> Result<Vec<Event>, AllocError>
-    ensures { IfOk result (λ events. events.items ≡ log.now) }
-{
-    let mut events = Vec::with_capacity(alloc, log.len() as usize)?;
-    for before in 0..log.len() {
-        if let Some(row) = log.row(before + 1) {
-            let listed = pairs_of(alloc, log, row)?;
-            events.push(event_from(log, row, Listed::new(listed)))?;
-        }
-    }
-    Ok(events)
 }
 
 /// The event that a row stands for, with these listed pairs if it is a range read.

@@ -75,12 +75,6 @@ impl OwnWrites {
         Ok(())
     }
 
-    fn writer(&self, txn: u32) -> Option<Writer>
-        ensures { result ≡ slice_get self.now.writers.items txn }
-    {
-        self.writers.get(txn as usize).copied()
-    }
-
     /// The number of the row of the transaction's write of the key.
     pub(crate) fn find(&self, rows: &[WriteRow], txn: u32, key: u32) -> Option<u32>
         requires few { length rows.now ≤ 2 ^ 29 }
@@ -89,7 +83,7 @@ impl OwnWrites {
             ≡ Some (txn * 4294967296 + key)) }
         ensures none { IfNone result (IsNoneOf rows.now txn key) }
     {
-        let Writer { newest, count } = self.writer(txn)?;
+        let Writer { newest, count } = self.writers.get(txn as usize).copied()?;
         if count > FEW {
             let code = u64::from(txn) * 4_294_967_296 + u64::from(key);
             return self.table.find(rows, code);
