@@ -1,5 +1,5 @@
 //! The explained report: the lines of the brief one, with reasons.
-ghost use Rattle.std.specs.Prelude.{◌≡◌, ◌++◌, ◌∷◌, ⊤, ℕ, List, IfOk, OnOk, ◌≢◌, All, codes};
+ghost use Rattle.std.specs.Prelude.{◌≡◌, ◌++◌, ◌∷◌, ⊤, ℕ, List, IfOk, OnOk, ◌≢◌, All};
 ghost use Rattle.sia_events.specs.Transactions.{IsCommitted};
 ghost use Rattle.sia_parts.specs.Entries.{IsEdge};
 ghost use Rattle.sia_parts.specs.Accesses.{AreAccesses};
@@ -15,8 +15,7 @@ ghost use Rattle.si_audit.specs.RefusedPlaces.{TellsToken};
 ghost use Rattle.sia_parts.specs.declared.finding.Kind.TheVariants.{Ww};
 ghost use Rattle.sia_parts.specs.Acts.{HasActs};
 ghost use Rattle.sia_parts.specs.Sightings.{reader_of};
-ghost use Rattle.sia_parts.specs.Telling.{start_words};
-ghost use Rattle.si_audit.specs.Reasons.{TellsClass, TellsEvents, TellsSight, TellsStep};
+ghost use Rattle.si_audit.specs.Reasons.{TellsEvents, TellsSight, TellsStep};
 ghost use Rattle.sia_events.specs.Isolation.{IsBadRead, IsBadWrite, IsUnexplained};
 ghost use Rattle.si_audit.specs.Counts.{TellsCounts};
 ghost use Rattle.si_audit.specs.Lines as lines;
@@ -32,7 +31,7 @@ use sia_events::{Anomaly, Locator, Log, NoMemory, TextFault, push_number, push_s
 use sia_graph::{Judgement, Step, Verdict, danger_of, is_allowed, listing_law};
 use sia_index::Index;
 use sia_parts::{
-    Accesses, Act, BadRead, BadWrite, Edge, Kind, Recorded, Unexplained, acts_of, anomaly_of,
+    Accesses, BadRead, BadWrite, Edge, Kind, Recorded, Unexplained, acts_of, anomaly_of,
     first_sight, loss_of, push_event, push_start, push_unless, push_version, reader_of_edge,
 };
 use std::alloc::{AllocError, Global};
@@ -111,14 +110,17 @@ fn push_verdict_reasons(
         (TellsVerdict of.now.history.now) verdict.now bytes × (out.new.items ≡ out.old.items ++ bytes)) }
 {
     push_verdict(out, verdict)?;
-    match verdict {
-        Verdict::Order(_) => Ok(()),
-        Verdict::Cycle(steps) => {
-            let edges = edges_of(alloc, steps.as_slice())?;
-            push_steps(alloc, out, of, &edges)?;
-            Ok(push_class(out, of.index, &edges)?)
-        }
-    }
+    let Verdict::Cycle(steps) = verdict else {
+        return Ok(());
+    };
+    let edges = edges_of(alloc, steps.as_slice())?;
+    push_steps(alloc, out, of, &edges)?;
+    let class: &[u8] = if is_allowed(of.index, &edges) {
+        b"  allowed under snapshot isolation: two rw steps between overlapping transactions follow one another\n"
+    } else {
+        b"  forbidden under snapshot isolation: no two rw steps between overlapping transactions follow one another\n"
+    };
+    Ok(out.extend_from_slice(class)?)
 }
 
 pub(crate) fn explained(
@@ -163,34 +165,26 @@ pub(crate) fn push_place(
         → OnOk result ((bytes : List ℕ) × TellsToken text fault.now bytes
         × (out.new.items ≡ out.old.items ++ bytes)) }
 {
-    match fault {
-        TextFault::NoMemory | TextFault::TextTooLong => Ok(()),
-        TextFault::Refused { .. } => {
-            let place = locator.place();
-            push_number(out, b"  line ", place.line, b", column ")?;
-            push_number(out, b"", place.column, b": ")?;
-            push_shown(out, locator.token())?;
-            Ok(out.extend_from_slice(b"\n")?)
-        }
-    }
+    let TextFault::Refused { .. } = fault else {
+        return Ok(());
+    };
+    let place = locator.place();
+    push_number(out, b"  line ", place.line, b", column ")?;
+    push_number(out, b"", place.column, b": ")?;
+    push_shown(out, locator.token())?;
+    Ok(out.extend_from_slice(b"\n")?)
 }
 
 /// Some words, the first read at which a version was seen that gives the edge, and this version.
-fn push_sight(
-    out: &mut Vec<u8>,
-    before: &[u8],
-    of: &Recorded,
-    acts: &[Act],
-    e: &Edge,
-) -> Result<(), NoMemory>
+fn push_sight(out: &mut Vec<u8>, before: &[u8], of: &Recorded, e: &Edge) -> Result<(), NoMemory>
     requires index { of.now.index.now ≡ of.now.history.now }
-    requires acts { HasActs of.now.history.now (reader_of e.now.kind e.now.src e.now.dst) acts.now }
+    requires acts { HasActs of.now.history.now (reader_of e.now.kind e.now.src e.now.dst) of.now.acts.now }
     requires edge { IsEdge of.now.history.now e.now }
     requires read { e.now.kind ≢ Ww }
     ensures { OnOk result ((words : List ℕ) × TellsSight of.now.history.now e.now words
         × (out.new.items ≡ out.old.items ++ before.now ++ words)) }
 {
-    let Some(sight) = first_sight(of.history, of.index, acts, e) else {
+    let Some(sight) = first_sight(of.history, of.index, of.acts, e) else {
         return Ok(());
     };
     push_event(out, before, of.history, e.key, sight.place)?;
@@ -198,9 +192,9 @@ fn push_sight(
     push_unless(out, of, e.key, sight.version, known, (b"; ", b""))
 }
 
-fn push_events(out: &mut Vec<u8>, of: &Recorded, acts: &[Act], e: &Edge) -> Result<(), NoMemory>
+fn push_events(out: &mut Vec<u8>, of: &Recorded, e: &Edge) -> Result<(), NoMemory>
     requires index { of.now.index.now ≡ of.now.history.now }
-    requires acts { HasActs of.now.history.now (reader_of e.now.kind e.now.src e.now.dst) acts.now }
+    requires acts { HasActs of.now.history.now (reader_of e.now.kind e.now.src e.now.dst) of.now.acts.now }
     requires edge { IsEdge of.now.history.now e.now }
     ensures { OnOk result ((words : List ℕ) × TellsEvents e.now.kind of.now.history.now e.now words
         × (out.new.items ≡ out.old.items ++ words)) }
@@ -212,10 +206,10 @@ fn push_events(out: &mut Vec<u8>, of: &Recorded, acts: &[Act], e: &Edge) -> Resu
         }
         Kind::Wr => {
             push_version(out, b"", of, e.key, e.src)?;
-            push_sight(out, b"; ", of, acts, e)
+            push_sight(out, b"; ", of, e)
         }
         Kind::Rw => {
-            push_sight(out, b"", of, acts, e)?;
+            push_sight(out, b"", of, e)?;
             push_version(out, b"; ", of, e.key, e.dst)
         }
     }
@@ -234,6 +228,7 @@ fn push_steps(
 {
     let readers = edges.iter().map(|e| reader_of_edge(e)).collect(alloc)?;
     let acts = acts_of(alloc, of.history, readers)?;
+    let of = Recorded { acts: &acts, ..*of };
     for e in edges {
         let words = [
             Words::Text(b""),
@@ -243,26 +238,10 @@ fn push_steps(
             Words::Text(b""),
         ];
         push_words(out, &words)?;
-        push_events(out, of, &acts, e)?;
+        push_events(out, &of, e)?;
         out.extend_from_slice(b"\n")?;
     }
     Ok(())
-}
-
-/// Whether snapshot isolation allows a cycle of these edges.
-fn push_class(out: &mut Vec<u8>, ix: &Index, edges: &[Edge]) -> Result<(), AllocError>
-    ensures { OnOk result ((bytes : List ℕ) × TellsClass ix.now edges.now bytes
-        × (out.new.items ≡ out.old.items ++ bytes)) }
-{
-    if is_allowed(ix, edges) {
-        out.extend_from_slice(
-            b"  allowed under snapshot isolation: two rw steps between overlapping transactions follow one another\n",
-        )
-    } else {
-        out.extend_from_slice(
-            b"  forbidden under snapshot isolation: no two rw steps between overlapping transactions follow one another\n",
-        )
-    }
 }
 
 /// The names of bad reads, and behind them those of bad writes.
@@ -348,23 +327,6 @@ impl Finding for BadRead {
     }
 }
 
-/// The name of a bad write and the start of its later committer, and of a lost update the read that makes it one.
-fn push_name(out: &mut Vec<u8>, of: &Recorded, b: &BadWrite, start: u32) -> Result<(), NoMemory>
-    requires index { of.now.index.now ≡ of.now.history.now }
-    requires acts { HasActs of.now.history.now b.now.second of.now.acts.now }
-    requires bad { IsBadWrite of.now.history.now b.now.key b.now.first b.now.second }
-    ensures { OnOk result ((words : List ℕ) × reasons.TellsConflict of.now.history.now b.now
-        (start_words b.now.second start) words × (out.new.items ≡ out.old.items ++ codes "  " ++ words)) }
-{
-    match loss_of(of, b) {
-        Some(place) => {
-            push_start(out, b"  lost update: transaction ", b.second, start, b"; ")?;
-            push_event(out, b"", of.history, b.key, place)
-        }
-        None => Ok(push_start(out, b"  write conflict: transaction ", b.second, start, b"")?),
-    }
-}
-
 impl Finding for BadWrite {
     ghost line = { lines.bad_write_line };
 
@@ -387,7 +349,14 @@ impl Finding for BadWrite {
         let Some(info) = of.index.txn(self.second) else {
             return Ok(());
         };
-        push_name(out, of, self, info.start)?;
+        let (second, start) = (self.second, info.start);
+        match loss_of(of, self) {
+            Some(place) => {
+                push_start(out, b"  lost update: transaction ", second, start, b"; ")?;
+                push_event(out, b"", of.history, self.key, place)?;
+            }
+            None => push_start(out, b"  write conflict: transaction ", second, start, b"")?,
+        }
         push_version(out, b"; ", of, self.key, self.first)?;
         push_unless(out, of, self.key, self.second, self.first, (b"; ", b"\n"))
     }

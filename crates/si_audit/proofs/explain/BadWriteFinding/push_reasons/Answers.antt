@@ -1,11 +1,14 @@
-use Rattle.std.proofs.Common.{◌≡◌, ◌++◌, codes, inl, inr, refl, subst, sym, arith}
+use Rattle.std.proofs.Common.{◌≡◌, ◌++◌, ◌∙◌, List, ℕ, [], ap, codes, inl, inr, refl, subst, sym, arith}
 use Rattle.std.proofs.lemmas.Result.{on_ok_weaker}
 use Rattle.sia_events.specs.declared.event.Event.TheVariants.{Write}
 use Rattle.sia_events.specs.Transactions.{CommitsAt, HasEvent, StartsAt}
 use Rattle.sia_events.proofs.Writing.WellFormed.{one_commit}
-use Rattle.si_audit.specs.Reasons.{reason}
-use Rattle.si_audit.proofs.Shared.Pushed.{two_things}
+use Rattle.sia_events.specs.Text.{numeral}
+use Rattle.sia_parts.specs.Telling.{event_words, start_words}
+use Rattle.si_audit.specs.Reasons.{TellsConflict, reason}
+use Rattle.si_audit.proofs.Shared.Pushed.{start_alone, start_pushed, two_things}
 use Rattle.si_audit.proofs.explain.BadWriteFinding.push_reasons.Goals as goal
+use Rattle.si_audit.proofs.explain.BadWriteFinding.push_reasons.Goals.{in-Some-loss_of+in_ok-push_start-in-Some-loss_of+in_ok-push_event-in-Some-loss_of, in-None+in_ok-push_start-in-None}
 
 pub push_unless-requires-clause-wrote : goal.push_unless-requires-clause-wrote
 push_unless-requires-clause-wrote c other = c.requires.found.0.1
@@ -21,7 +24,21 @@ returns c =
     let b = c.args.self.now in
     let h = c.args.of.now.history.now in
     let s = c.in-Some.info.start in
-    let name = c.in_ok-push_name.ensures in
+    let name : (words : List ℕ) × TellsConflict h b (start_words b.second s) words × (c.match-loss_of.out.items ≡ c.args.out.now.items ++ codes "  " ++ words) = elim c.match-loss_of.branch [
+      | in-Some-loss_of+in_ok-push_start-in-Some-loss_of+in_ok-push_event-in-Some-loss_of w ↦
+          let place = w.in-Some-loss_of.place in (
+            codes "lost update: " ++ start_words b.second s ++ codes "; " ++ event_words h b.key place,
+            inl (place, w.in-Some-loss_of.ensures, refl),
+            rw w.out-is (w.in_ok-push_event-in-Some-loss_of.ensures ∙ ap (λ (x : List ℕ). x ++ [] ++ event_words h b.key place) w.in_ok-push_start-in-Some-loss_of.ensures
+                ∙ start_pushed c.args.out.now.items (codes "  ") (codes "lost update: ") (codes "transaction ") (numeral b.second) (codes " starts after event ") (numeral s) (codes "; ") (event_words h b.key place)),
+          )
+      | in-None+in_ok-push_start-in-None w ↦ (
+        codes "write conflict: " ++ start_words b.second s,
+        inr (w.in-None.ensures, refl),
+        rw w.out-is (w.in_ok-push_start-in-None.ensures
+            ∙ start_alone c.args.out.now.items (codes "  ") (codes "write conflict: ") (codes "transaction ") (numeral b.second) (codes " starts after event ") (numeral s)),
+      )
+    ] in
     let first = c.in_ok-push_version.ensures in
     let known = c.in-Some.ensures in
     let before = c.requires.found.0.3 in
