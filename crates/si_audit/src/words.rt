@@ -1,9 +1,9 @@
 //! The options that the words of the command line choose.
-ghost use Rattle.std.specs.Prelude.{◌≡◌, ◌≢◌, ◌<◌, ◌≤◌, ◌∷◌, [], false, Err, IfErr, IfOk, IsSomeAnd, Some, map, string_bytes};
+ghost use Rattle.std.specs.Prelude.{◌≡◌, ◌≢◌, ◌<◌, ◌∷◌, [], false, Err, IfErr, IfOk, IsSomeAnd, Some, map, string_bytes};
 ghost use Rattle.clap.specs.Words.{IsUnsignedIn, app_of, first_of, found_of, kind_of, new_rule, rows_of, rule_of};
 ghost use Rattle.clap.specs.declared.builder.action.ArgAction.TheVariants.{Set};
 ghost use Rattle.clap.specs.declared.error.kind.ErrorKind.TheVariants.{OutOfMemory};
-ghost use Rattle.si_audit.specs.Words.{HasNumbers, IsOwed, GivesOptions, StandsInTheWay, cuts_among, level_among, limits_among, number_among, number_rule, workers_among, AreChosen, ChooseNoLevel, ChooseTooManyCuts, number_in, program};
+ghost use Rattle.si_audit.specs.Words.{HasNumbers, IsOwed, GivesOptions, StandsInTheWay, cuts_among, level_among, number_among, AreChosen, ChooseNoLevel, ChooseTooManyCuts, number_in, program};
 ghost use Rattle.si_audit.specs.declared.words.LineFault.TheVariants.{NoMemory};
 
 use crate::options::{Form, Level, Options, OptionsFault};
@@ -66,12 +66,6 @@ Examples:
   si_audit --workers 8 1000 2000 3000 <run.history >run.report
   si_audit --brief --max-events 10000000 --max-bytes 400000000 <run.history";
 
-/// The most events that a text may be allowed.
-const MAX_EVENTS: u64 = 500_000_000;
-
-/// The most bytes that a text may be allowed.
-const MAX_BYTES: u64 = 17_179_869_184;
-
 /// Why the words give no options.
 #[derive(Drop)]
 pub enum LineFault {
@@ -119,32 +113,25 @@ fn command<'a>(alloc: Global) -> Result<Command<'a>, AllocError>
         .help(CUTS_HELP)
         .value_parser(ValueParser::Unsigned(0, u64::MAX));
     let arguments = vec![in alloc;
-        number_option(alloc, "workers", 64, "4", WORKERS_HELP),
+        option(alloc, "workers", "N", "4", WORKERS_HELP).value_parser(ValueParser::Unsigned(1, 64)),
         cuts,
         named(alloc, "brief", ArgAction::Count, BRIEF_HELP),
         named(alloc, "explain", ArgAction::Count, EXPLAIN_HELP),
         option(alloc, "check", "LEVEL", "serializable", CHECK_HELP),
-        number_option(alloc, "max-events", MAX_EVENTS, "100000", EVENTS_HELP),
-        number_option(alloc, "max-bytes", MAX_BYTES, "16777216", BYTES_HELP),
+        option(alloc, "max-events", "N", "100000", EVENTS_HELP).value_parser(ValueParser::Unsigned(
+            1,
+            500_000_000
+        )),
+        option(alloc, "max-bytes", "N", "16777216", BYTES_HELP).value_parser(ValueParser::Unsigned(
+            1,
+            17_179_869_184
+        )),
     ]?;
     Command::new(alloc, "si_audit")
         .version(VERSION)
         .about(ABOUT)
         .after_help(MORE_HELP)
         .args(arguments)
-}
-
-fn number_option<'a>(
-    alloc: Global,
-    name: &'a str,
-    most: u64,
-    usual: &'a str,
-    help: &'a str,
-) -> Arg<'a>
-    ensures rule { rule_of result ≡ number_rule name.now most usual.now }
-    ensures local { result.global ≡ false }
-{
-    option(alloc, name, "N", usual, help).value_parser(ValueParser::Unsigned(1, most))
 }
 
 fn option<'a>(

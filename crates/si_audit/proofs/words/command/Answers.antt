@@ -33,7 +33,7 @@ pub returns : goal.returns
 returns c =
     let start_is : app_of c.after_help.result ≡ with_version (new_app (codes "si_audit")) =
     ap app_of_fields c.after_help.ensures ∙ (ap app_of_fields c.about.ensures ∙ (ap app_of_fields c.version.ensures ∙ ap with_version c.new-2.ensures.app)) in
-    let workers : IsFor workers_rule c.number_option.result = record { rule = c.number_option.ensures.rule; local = c.number_option.ensures.local } in
+    let workers : IsFor workers_rule c.value_parser.result = parsed _ c.option.result c.value_parser.result (Unsigned 1 64) (record { rule = c.option.ensures.rule; local = c.option.ensures.local }) c.value_parser.ensures.others (c.value_parser.ensures.given.1 ∙ ap Some c.value_parser.ensures.given.2) in
     let cuts : IsFor cuts_rule c.value_parser-cuts.result =
     parsed (record (new_rule (codes "cut")) { action = Some Append; value_names = 1 }) c.help.result c.value_parser-cuts.result (Unsigned 0 18446744073709551615) (record {
       rule = ap rule_of c.help.ensures ∙ (ap rule_of c.action.ensures ∙ ap (λ (s : Rule). record s { action = Some Append })
@@ -42,9 +42,9 @@ returns c =
     }) c.value_parser-cuts.ensures.others (c.value_parser-cuts.ensures.given.1 ∙ ap Some c.value_parser-cuts.ensures.given.2) in
     let brief : IsFor brief_rule c.named.result = record { rule = c.named.ensures.rule; local = c.named.ensures.local } in
     let explain : IsFor explain_rule c.named-2.result = record { rule = c.named-2.ensures.rule; local = c.named-2.ensures.local } in
-    let check : IsFor check_rule c.option.result = record { rule = c.option.ensures.rule; local = c.option.ensures.local } in
-    let events : IsFor events_rule c.number_option-2.result = record { rule = c.number_option-2.ensures.rule; local = c.number_option-2.ensures.local } in
-    let bytes : IsFor bytes_rule c.number_option-3.result = record { rule = c.number_option-3.ensures.rule; local = c.number_option-3.ensures.local } in
-    IfOk-weaker c.args-2.result _ _ (λ r adds. all_added c.in_ok-arguments.arguments.items c.number_option.result c.value_parser-cuts.result c.named.result
-    c.named-2.result c.option.result c.number_option-2.result c.number_option-3.result c.after_help.result r c.in_ok-arguments.ensures.items start_is
+    let check : IsFor check_rule c.option-2.result = record { rule = c.option-2.ensures.rule; local = c.option-2.ensures.local } in
+    let events : IsFor events_rule c.value_parser-2.result = parsed _ c.option-3.result c.value_parser-2.result (Unsigned 1 500000000) (record { rule = c.option-3.ensures.rule; local = c.option-3.ensures.local }) c.value_parser-2.ensures.others (c.value_parser-2.ensures.given.1 ∙ ap Some c.value_parser-2.ensures.given.2) in
+    let bytes : IsFor bytes_rule c.value_parser-3.result = parsed _ c.option-4.result c.value_parser-3.result (Unsigned 1 17179869184) (record { rule = c.option-4.ensures.rule; local = c.option-4.ensures.local }) c.value_parser-3.ensures.others (c.value_parser-3.ensures.given.1 ∙ ap Some c.value_parser-3.ensures.given.2) in
+    IfOk-weaker c.args-2.result _ _ (λ r adds. all_added c.in_ok-arguments.arguments.items c.value_parser.result c.value_parser-cuts.result c.named.result
+    c.named-2.result c.option-2.result c.value_parser-2.result c.value_parser-3.result c.after_help.result r c.in_ok-arguments.ensures.items start_is
     workers cuts brief explain check events bytes adds) c.args-2.ensures
