@@ -68,7 +68,8 @@ pub trait Sink {
 /// One of std's readers or writers. Each call is passed on, and any error is a failure, an interrupted call included.
 #[derive(Drop)]
 pub struct FromStd<D> {
-    device: D,
+    /// The reader or writer itself.
+    pub(crate) device: D,
     refused: bool,
     flush_failed: bool,
     flushed: bool,
@@ -88,13 +89,6 @@ impl<D> FromStd<D> {
             flushed: false,
             reads: 0,
         }
-    }
-
-    /// The reader or writer itself.
-    pub fn into_inner(self) -> D
-        ensures { result ≡ device_of self }
-    {
-        self.device
     }
 }
 

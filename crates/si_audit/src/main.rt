@@ -92,19 +92,14 @@ fn tell<R: Alloc<A = Global> + Print + Eprint>(rt: &R, fault: LineFault) -> u8 {
     }
 }
 
-/// The program's words, its name first.
-fn words_given<R: Env + Alloc<A = Global>>(rt: &R) -> std::io::Result<Vec<String>> {
-    Ok(std::env::args(rt)?.collect(rt.alloc())?)
-}
-
 /// The options that the program's words give, or the status where they give none, which is told.
 fn options_given<R: Env + Alloc<A = Global> + Print + Eprint>(rt: &R) -> Result<Options, u8> {
-    match words_given(rt) {
-        Ok(words) => options_from(rt.alloc(), words.as_slice()).map_err(|fault| tell(rt, fault)),
+    match std::env::args(rt).map(|words| words.collect::<Vec<String>>(rt.alloc())) {
+        Ok(Ok(words)) => options_from(rt.alloc(), &words).map_err(|fault| tell(rt, fault)),
         Err(error) if error.kind() == ErrorKind::InvalidData => {
             Err(say(rt, "an argument is not UTF-8", LINE_REFUSED))
         }
-        Err(_) => Err(say(rt, RunFault::NoMemory, NOT_DONE)),
+        _ => Err(say(rt, RunFault::NoMemory, NOT_DONE)),
     }
 }
 

@@ -34,9 +34,6 @@ pub enum Form {
     Explained,
 }
 
-/// The greatest number of workers.
-const MAX_WORKERS: u8 = 64;
-
 /// How many workers audit which parts, the form of the report, the level that the status tells of, and the limits of a
 /// text. Neither workers nor parts change the report or the status.
 #[derive(Drop)]
@@ -89,7 +86,7 @@ impl Options {
         ensures workers { (result ≡ Err OptionsFault.Workers) ↔ ((workers ≡ 0) ⊎ (64 < workers)) }
         ensures too_many { result ≡ Err OptionsFault.TooManyCuts → HasTooManyCuts cuts.now }
     {
-        if workers == 0 || workers > MAX_WORKERS {
+        if workers == 0 || workers > 64 {
             return Err(OptionsFault::Workers);
         }
         match cut(alloc, cuts) {

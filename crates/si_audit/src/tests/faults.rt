@@ -158,7 +158,7 @@ fn ends<T: Threads + Wait + Sync>(
     Ok(
         result == it.result
             && status(&result) == it.status
-            && writer.into_inner().taken.as_slice() == written,
+            && writer.device.taken.as_slice() == written,
     )
 }
 

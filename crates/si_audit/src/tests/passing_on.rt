@@ -55,7 +55,7 @@ fn reads(rt: HostRuntime) {
             let answer = reader.read(&mut piece);
             is_told = is_told && (answer, piece, reader.failed()) == *wanted;
         }
-        assert!(rt; is_told && reader.into_inner().calls as usize == told.len());
+        assert!(rt; is_told && reader.device.calls as usize == told.len());
     }
 }
 
@@ -140,7 +140,7 @@ fn writes(rt: HostRuntime) -> Result<(), Fail> {
             let found = writer.flush();
             is_told = is_told && (found, writer.failed()) == (answer, answer.is_err());
         }
-        let device = writer.into_inner();
+        let device = &writer.device;
         let taken = (device.taken.as_slice(), device.writes, device.flushes);
         assert!(rt; is_told && taken == it.taken);
     }

@@ -633,7 +633,7 @@ fn is_told<T: Threads + Wait + Sync>(
     // The writer takes what is written without asking for memory, so that a call which finds none is one of the program's.
     let mut writer = FromStd::new(Vec::with_capacity(alloc, 65536)?);
     let ended = run(rt, alloc, &mut reader, &mut writer, &options)?;
-    Ok(ended == outcome && writer.into_inner().as_slice() == report)
+    Ok(ended == outcome && writer.device.as_slice() == report)
 }
 
 /// Whether the report of the history's audit, whose edges are no numbers, is that of the row.
@@ -695,7 +695,7 @@ fn limits(rt: HostRuntime) -> Result<(), Fail> {
         let mut reader = FromStd::new(*text);
         let mut writer = FromStd::new(Vec::with_capacity(rt.alloc(), 256)?);
         run(&rt, rt.alloc(), &mut reader, &mut writer, &options)?;
-        assert_eq!(rt; writer.into_inner().as_slice(), *report);
+        assert_eq!(rt; writer.device.as_slice(), *report);
     }
     Ok(())
 }

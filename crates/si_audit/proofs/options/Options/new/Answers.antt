@@ -10,5 +10,5 @@ returns-in-Ok-clause-few c = c.in-Ok.ensures.few
 pub returns-in-Ok-clause-workers : goal.returns-in-Ok-clause-workers
 returns-in-Ok-clause-workers c = (
   (λ e. cc),
-  (λ bad. elim bad [ inl zero ↦ absurd (c.if-workers-eq0.false zero) | inr more ↦ absurd (let most = c.if-workers-gt-MAX_WORKERS.false in omega arith) ]),
+  (λ bad. elim bad [ inl zero ↦ absurd (c.if-workers-eq0.false zero) | inr more ↦ absurd (let most = c.if-workers-gt64.false in omega arith) ]),
 )
