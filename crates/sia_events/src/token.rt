@@ -1,6 +1,6 @@
 //! One token: the event that it spells.
 ghost use Rattle.std.specs.Prelude.{ℕ, List};
-ghost use Rattle.sia_events.specs.Parsing.{Gives, kept, event_with, after_byte, ended, begin_at, write_at, item_at, pairs_at, list_at, list_of, range_at, read_at, commit_at, abort_at, event_at};
+ghost use Rattle.sia_events.specs.Parsing.{Gives, kept, event_with, after_byte, ended, begin_at, write_at, item_at, list_at, list_of, range_at, read_at, commit_at, abort_at, event_at};
 
 use crate::draft::{Draft, NO_KEY};
 use crate::event::{Key, TxnId, Version};
@@ -92,32 +92,7 @@ fn item(txn: Number, key: Number, text: &[u8]) -> Result<Token, Refusal>
     Ok(Token::Read { txn, key, saw })
 }
 
-/// Takes in listed keys with commas between. It answers whether all numbers are in their ranges, and what follows the last.
-fn pairs<'a>(
-    listed: &mut Vec<(Key, Version)>,
-    spellings: &mut Spellings,
-    draft: &Draft,
-    text: &'a [u8],
-) -> Result<(bool, &'a [u8]), Refusal>
-    ensures { Gives (λ x. (kept x.0 listed.new.items, x.1.now)) result (pairs_at text.now) }
-{
-    listed.clear();
-    spellings.last = NO_KEY;
-    // Once a number was out of its range, the pairs count for nothing.
-    let mut in_range = true;
-    let mut rest = text;
-    loop {
-        let (next, after) = spellings.pair(draft, rest)?;
-        in_range &= next.is_some();
-        listed.push(next.unwrap_or((0, 0)))?;
-        match after.strip_prefix(b",") {
-            Some(more) => rest = more,
-            None => return Ok((in_range, after)),
-        }
-    }
-}
-
-#[tactic(auto, unfolding(crate::specs::Parsing::list_at))]
+/// Takes in the listed keys, if there are any. It answers whether all numbers are in their ranges, and what follows the last.
 fn list<'a>(
     listing: &mut Listing,
     draft: &Draft,
@@ -125,11 +100,20 @@ fn list<'a>(
 ) -> Result<(bool, &'a [u8]), Refusal>
     ensures { Gives (λ x. (kept x.0 listing.new.pairs.items, x.1.now)) result (list_at text.now) }
 {
-    match text {
-        [b';', rest @ ..] => pairs(&mut listing.pairs, &mut listing.spellings, draft, rest),
-        _ => {
-            listing.pairs.clear();
-            Ok((true, text))
+    listing.pairs.clear();
+    listing.spellings.last = NO_KEY;
+    let Some(mut rest) = text.strip_prefix(b";") else {
+        return Ok((true, text));
+    };
+    // Once a number was out of its range, the pairs count for nothing.
+    let mut in_range = true;
+    loop {
+        let (next, after) = listing.spellings.pair(draft, rest)?;
+        in_range &= next.is_some();
+        listing.pairs.push(next.unwrap_or((0, 0)))?;
+        match after.strip_prefix(b",") {
+            Some(more) => rest = more,
+            None => return Ok((in_range, after)),
         }
     }
 }

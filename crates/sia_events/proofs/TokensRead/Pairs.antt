@@ -6,7 +6,7 @@ use Rattle.std.proofs.Math.Bool.{and-true}
 use Rattle.sia_events.specs.declared.fault.Reason.{Reason}
 use Rattle.sia_events.specs.declared.fault.Refusal.{Refusal}
 use Rattle.sia_events.specs.declared.fault.Refusal.TheVariants as refusals
-use Rattle.sia_events.specs.Parsing.{◌>>=◌, Fails, kept, joined, one_pair, begins_with, pair_at, pairs_within, pairs_at}
+use Rattle.sia_events.specs.Parsing.{◌>>=◌, Fails, kept, joined, one_pair, begins_with, pair_at, pairs_within, pairs_at, list_at}
 
 abbrev pub with_front : Option (List (ℕ × ℕ)) → Result (Option (List (ℕ × ℕ)) × List ℕ) Reason → Result (Option (List (ℕ × ℕ)) × List ℕ) Reason
 with_front front read = read >>= λ x. Ok (joined front x.0, x.1)
@@ -36,10 +36,18 @@ starts bytes = nothing_before (pairs_within (length bytes + 1) bytes)
     nothing_before (Ok (Some ps, rest)) = refl
     nothing_before (Err r) = refl
 
--- whether a comma is ahead, as a search for it answers
-pub comma_ahead : (bytes : List ℕ) → pointwise nat_eq (take 1 bytes) (44 ∷ []) ≡ begins_with 44 bytes
-comma_ahead [] = refl
-comma_ahead (c ∷ rest) = and-true (c == 44)
+-- whether a byte is ahead, as a search for it answers
+pub ahead : (b : ℕ) (bytes : List ℕ) → pointwise nat_eq (take 1 bytes) (b ∷ []) ≡ begins_with b bytes
+ahead b [] = refl
+ahead b (c ∷ rest) = and-true (c == b)
+
+pub list_begun : (bytes rest : List ℕ) → begins_with 59 bytes ≡ true → rest ≡ drop 1 bytes → pairs_at rest ≡ list_at bytes
+unfolding list_at
+list_begun bytes rest begun is = rw (begun, is) refl
+
+pub no_list : (bytes : List ℕ) → begins_with 59 bytes ≡ false → list_at bytes ≡ Ok (Some [], bytes)
+unfolding list_at
+no_list bytes none = rw none refl
 
 -- after a pair and a comma
 pub goes_on : (more : ℕ) (front : Option (List (ℕ × ℕ))) (bytes : List ℕ) (pair : Option (ℕ × ℕ)) (after : List ℕ) (total : Result (Option (List (ℕ × ℕ)) × List ℕ) Reason) → length bytes < more → length (drop 1 after) < length after → length after ≤ length bytes
