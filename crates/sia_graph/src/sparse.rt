@@ -17,34 +17,8 @@ use sia_index::lists::Lists;
 use sia_parts::RangeMiss;
 use std::alloc::Global;
 
-/// Adds blocks that are over the keys from a number to before another, and over no others of `size` keys: at most two of each
+/// Adds blocks that are over the keys of the stretches, and over no others of `size` keys: for each stretch at most two of each
 /// height.
-fn put_blocks(size: u32, from: u32, to: u32, blocks: &mut Vec<u32>) -> Result<(), NoMemory>
-    requires within { (from ≤ size) × (to ≤ size) }
-    requires few { size ≤ 1000000000 }
-    ensures over { OnOk result ((j : ℕ) → j < size
-        → IsUnderSome size blocks.new.items j
-        ↔ (IsUnderSome size blocks.old.items j ⊎ ((from ≤ j) × (j < to)))) }
-    ensures keeps { OnOk result ((b : ℕ) → Contains blocks.old.items b → Contains blocks.new.items b) }
-    ensures within { OnOk result ((b : ℕ) → Contains blocks.new.items b
-        → Contains blocks.old.items b ⊎ ((0 < b) × (b < 2 * size))) }
-{
-    let mut low = size + from;
-    let mut high = size + to;
-    while low < high {
-        if low % 2 == 1 {
-            blocks.push(low)?;
-        }
-        if high % 2 == 1 {
-            blocks.push(high - 1)?;
-        }
-        low = (low + 1) / 2;
-        high /= 2;
-    }
-    Ok(())
-}
-
-/// The same for stretches of keys.
 pub(crate) fn put_all_blocks(
     size: u32,
     stretches: &[RangeMiss],
@@ -59,7 +33,18 @@ pub(crate) fn put_all_blocks(
         → Contains blocks.old.items b ⊎ ((0 < b) × (b < 2 * size))) }
 {
     for stretch in stretches {
-        put_blocks(size, stretch.from.min(size), stretch.to.min(size), blocks)?;
+        let (from, to) = (stretch.from.min(size), stretch.to.min(size));
+        let (mut low, mut high) = (size + from, size + to);
+        while low < high {
+            if low % 2 == 1 {
+                blocks.push(low)?;
+            }
+            if high % 2 == 1 {
+                blocks.push(high - 1)?;
+            }
+            low = (low + 1) / 2;
+            high /= 2;
+        }
     }
     Ok(())
 }
