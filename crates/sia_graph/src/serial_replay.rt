@@ -63,29 +63,6 @@ fn version_of(versions: &BTreeMap<Key, TxnId>, key: Key) -> Version
     versions.get(&key).copied().unwrap_or(0)
 }
 
-/// Whether the transaction's version of a key that it wrote may come after the version found.
-fn may_follow(
-    h: &History,
-    commits: &BTreeMap<TxnId, u32>,
-    key: Key,
-    found: Version,
-    txn: TxnId,
-) -> bool
-    requires commits { AreCommits h.now commits.now }
-    requires written { found ≢ 0 → Wrote h.now found key }
-    requires writes { Wrote h.now txn key }
-    ensures { IsTrue result ↔ MayFollow h.now key found txn }
-{
-    let _events = h.len();
-    if found == 0 || found == txn {
-        return true;
-    }
-    match (commits.get(&found), commits.get(&txn)) {
-        (Some(first), Some(second)) => *first < *second,
-        _ => false,
-    }
-}
-
 /// The least listed key that was seen at another version than the replay has.
 fn wrong_listed(versions: &BTreeMap<Key, TxnId>, listed: &[(Key, Version)]) -> Option<Key>
     requires { IsStrictlyIncreasing (map (λ p. p.0) listed.now) }
@@ -156,7 +133,13 @@ fn wrong_key(
         }
         Event::Write { txn, key } => {
             let found = version_of(versions, *key);
-            (!may_follow(h, commits, *key, found, *txn)).then_some(*key)
+            if found == 0 || found == *txn {
+                return None;
+            }
+            match (commits.get(&found), commits.get(txn)) {
+                (Some(first), Some(second)) => (*first >= *second).then_some(*key),
+                _ => Some(*key),
+            }
         }
         _ => None,
     }

@@ -1,5 +1,6 @@
-use Rattle.std.proofs.Common.{arith, Bool, true, false, ◌≡◌, ◌<◌, ◌≤◌, ℕ, List, Option, None, Some, refl, ap, sym, subst, ◌∙◌, map}
-use Rattle.std.specs.Prelude.{◌↔◌, All, IsTrue, MatchOption, not}
+use Rattle.std.proofs.Common.{arith, ◌≡◌, ◌≢◌, inl, inr, ltb, leb, unwrap_or, ◌<◌, ◌≤◌, ℕ, List, Option, None, Some, refl, ap, sym, subst, ◌∙◌, map}
+use Rattle.std.specs.Prelude.{◌↔◌, All, IsTrue, MatchOption}
+use Rattle.std.proofs.lemmas.Bool.{cases_lt, le-leb, le-ltb, lt-leb, lt-ltb}
 use Rattle.std.specs.Bool.{then_some}
 use Rattle.sia_events.specs.declared.event.Event.{Event}
 use Rattle.sia_events.specs.declared.event.Event.TheVariants.{Range, Write}
@@ -7,7 +8,7 @@ use Rattle.sia_events.specs.Replay.{MayFollow}
 use Rattle.sia_graph.specs.Replaying.{IsRight, IsWrongAt, version_in}
 use Rattle.std.specs.List.Sorted.{IsStrictlyIncreasing}
 use Rattle.sia_events.proofs.Writing.Ranges.{bounds_in_order, list_in_order}
-use Rattle.sia_graph.proofs.ReplayedTxns.RightAt.{least_wrong, none_listed_wrong, write_right}
+use Rattle.sia_graph.proofs.ReplayedTxns.RightAt.{follows_iff, least_wrong, none_listed_wrong, write_right}
 use Rattle.sia_graph.proofs.serial_replay.wrong_key.Goals as goal
 
 pub wrong_unlisted-unlisted-requires-clause-forward : goal.wrong_unlisted-unlisted-requires-clause-forward
@@ -55,23 +56,29 @@ returns-in-Some c =
     (least_wrong found c.in-Range.txn c.in-Range.lo c.in-Range.hi listed c.wrong_unlisted-unlisted.result c.in-Some.key _ within (w.0.0, w.0.1, w.0.2) w.1
     c.wrong_unlisted-unlisted.ensures (rw c.unwrap_or.ensures at c.min.ensures))
 
--- of a write event what it may follow
-write_told : (h : List Event) (found : ℕ → ℕ) (t key : ℕ) (may : Bool) (r : Option ℕ) → r ≡ then_some (not may) key → IsTrue may ↔ MayFollow h key (found key) t
+-- of a write event what it may follow, where both commit
+write_told : (h : List Event) (found : ℕ → ℕ) (t key c d : ℕ) (r : Option ℕ) → r ≡ then_some (leb d c) key → IsTrue (ltb c d) ↔ MayFollow h key (found key) t
     → MatchOption r ((k : ℕ) → IsRight h found (Write t key) k) (λ k. IsWrongAt h found (Write t key) k (found k))
-write_told h found t key true r is may = subst (λ r. MatchOption r ((k : ℕ) → IsRight h found (Write t key) k) (λ k. IsWrongAt h found (Write t key) k (found k))) (sym is) (write_right h found t key (may.0 refl))
-write_told h found t key false r is may =
-    subst (λ r. MatchOption r ((k : ℕ) → IsRight h found (Write t key) k) (λ k. IsWrongAt h found (Write t key) k (found k))) (sym is)
-    ((λ right. let no = may.1 (right refl) in cc), (λ k l e. absurd (omega arith)), refl)
+write_told h found t key c d r is may = elim (cases_lt c d) [
+  | inl less ↦ let off = lt-leb d c less in rw (is, off) (write_right h found t key (may.0 (lt-ltb c d less)))
+  | inr more ↦ let on = le-leb d c more in let no = le-ltb c d more in rw (is, on) ((λ right. let yes = may.1 (right refl) in cc), (λ k l e. absurd (omega arith)), refl)
+]
 
-pub returns-in-Write : goal.returns-in-Write
-returns-in-Write c =
+present : (o : Option ℕ) (v : ℕ) → v ≡ unwrap_or o 0 → v ≢ 0 → o ≡ Some v
+present None v is some = absurd (some is)
+present (Some w) v is some = ap Some (sym is)
+
+pub returns-in-Some-Some : goal.returns-in-Some-Some
+returns-in-Some-Some c =
     let h = c.args.h.now in
     let found = version_in c.args.versions.now in
     let key = c.in-Write.key in
     let txn = c.in-Write.txn in
-    let r = c.then_some-in-Write.result in
-    subst (λ (e : Event). MatchOption r ((k : ℕ) → IsRight h found e k) (λ k. IsWrongAt h found e k (found k))) (sym c.in-Write.is)
-    (write_told h found txn key c.may_follow.result r c.then_some-in-Write.ensures (subst (λ v. IsTrue c.may_follow.result ↔ MayFollow h key v txn) c.version_of-found.ensures c.may_follow.ensures))
-
-pub may_follow-requires-clause-writes : goal.may_follow-requires-clause-writes
-may_follow-requires-clause-writes c = (c.requires.event.0, c.requires.event.1 ∙ ap Some c.in-Write.is)
+    let is = c.version_of-found.ensures in
+    let some = c.if-found-eq0.false in
+    let before =
+    follows_iff h c.len-events.ensures.well_formed key c.version_of-found.result txn _ _ some c.if-found-txn.false (c.requires.written key _ (present _ c.version_of-found.result is some))
+    (c.requires.event.0, c.requires.event.1 ∙ ap Some c.in-Write.is)
+    ((c.requires.commits c.version_of-found.result _).0 (sym c.in-Some-Some.ensures.value)) ((c.requires.commits txn _).0 (sym c.in-Some-Some.ensures'.value)) in
+    subst (λ (e : Event). MatchOption c.then_some-in-Some-Some.result ((k : ℕ) → IsRight h found e k) (λ k. IsWrongAt h found e k (found k))) (sym c.in-Write.is)
+    (write_told h found txn key _ _ c.then_some-in-Some-Some.result c.then_some-in-Some-Some.ensures (subst (λ v. IsTrue (ltb c.in-Some-Some.first.now c.in-Some-Some.second.now) ↔ MayFollow h key v txn) is before))
