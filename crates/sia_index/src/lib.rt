@@ -6,7 +6,7 @@ mod info;
 pub mod keyed;
 pub mod lists;
 pub mod make;
-mod minima;
+pub mod minima;
 mod names;
 pub mod ordering;
 mod positions;

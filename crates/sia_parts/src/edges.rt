@@ -57,7 +57,7 @@ impl By<EdgeTo> for ByTarget {
     }
 }
 
-/// The newest version of a key that a transaction saw, by its position, and the number of the transaction.
+/// The version at a position, and the number of a transaction that saw it.
 #[derive(Clone, Copy)]
 pub struct Reading {
     pub position: u32,
@@ -65,7 +65,7 @@ pub struct Reading {
 }
 
 /// By position.
-struct ByPosition;
+pub struct ByPosition;
 
 impl By<Reading> for ByPosition {
     ghost by = { λ reading. reading.position };
