@@ -9,6 +9,7 @@ use Rattle.si_audit.specs.Outcomes.{IsOutcome, Meets}
 use Rattle.si_audit.specs.Report.{IsReport, TellsAccount}
 use Rattle.si_audit.specs.declared.answer.Answer.{Answer}
 use Rattle.si_audit.specs.EdgeLines.{AreEdgeLines}
+use Rattle.si_audit.specs.PivotLines.{ArePivotLines}
 use Rattle.sia_events.specs.declared.event.Event.{Event}
 use Rattle.si_audit.specs.declared.engine.Outcome.TheVariants.{Clean, Faulty, Refused}
 use Rattle.si_audit.specs.declared.options.Form.{Form}
@@ -26,10 +27,10 @@ pub record IsFed (limits : Limits) (o : Choices) (a : Auditor) (text : List ℕ)
   pub options : a.options.now ≡ o
   pub received : IsReceived limits (o.form ≡ Explained) a.locator a.text text
 
--- the lines of all edges of the history, if there is one
+-- the lines of all edges of the history and behind them those of all pivots, if there is one
 abbrev pub AreLinesOf : Option (List Event) → List ℕ → Type 0
 AreLinesOf None lines = lines ≡ []
-AreLinesOf (Some h) lines = AreEdgeLines h lines
+AreLinesOf (Some h) lines = (edges : List ℕ) × (pivots : List ℕ) × AreEdgeLines h edges × ArePivotLines h pivots × (lines ≡ edges ++ pivots)
 
 -- the bytes of a report
 abbrev pub HasText : Answer → List ℕ → Type 0

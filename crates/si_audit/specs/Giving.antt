@@ -1,6 +1,7 @@
 -- What is yet to be given of the text of transactions, one after another.
-use Rattle.std.specs.Prelude.{◌≡◌, ◌<◌, ◌≤◌, ◌+◌, ◌-◌, ◌*◌, ◌++◌, ℕ, List, [], ◌∷◌, drop, length, vec_capacity, ⊤}
+use Rattle.std.specs.Prelude.{◌≡◌, ◌<◌, ◌≤◌, ◌+◌, ◌-◌, ◌*◌, ◌++◌, ℕ, List, [], ◌∷◌, Option, None, Some, drop, length, vec_capacity, ⊤}
 use Rattle.std.specs.List.{concat}
+use Rattle.si_audit.specs.declared.giving.Giving.{Giving}
 use Rattle.si_audit.specs.declared.giving.Stretch.{Stretch}
 use Rattle.si_audit.specs.Sheet.{text_on}
 
@@ -41,3 +42,17 @@ pub record Fills {R : Type 0} (old new : Stretch R) : Type 0 where
   pub given : new.sheet.given ≡ old.sheet.given
   pub most : rows_left new ≤ rows_left old
   pub fewer : 0 < rows_left old → old.sheet.end + 72 ≤ length old.sheet.bytes.items → rows_left new < rows_left old
+
+-- what is told can be given, if it is told
+abbrev pub CanGive : {T R : Type 0} → (T → Type 0) → (T → ℕ) → (T → ℕ) → Option (Giving T R) → Type 0
+CanGive IsReady count most None = ⊤
+CanGive IsReady count most (Some g) = IsReady g.told × CanFill (count g.told) (most g.told) g.stretch
+
+-- this text is left of it, none where it isn't told
+abbrev pub IsLeftOf : {T R : Type 0} → (T → ℕ → List ℕ → Type 0) → (T → ℕ → List R → ℕ → List ℕ) → Option (Giving T R) → List ℕ → Type 0
+IsLeftOf tells text_of None text = text ≡ []
+IsLeftOf tells text_of (Some g) text = IsLeft (tells g.told) (text_of g.told) g.stretch text
+
+abbrev pub left_of : {T R : Type 0} → Option (Giving T R) → ℕ
+left_of None = 0
+left_of (Some g) = steps_left g.stretch

@@ -1,36 +1,42 @@
 -- What a report has yet to give.
-use Rattle.std.specs.Prelude.{◌≡◌, ◌+◌, ◌++◌, ℕ, List, [], Option, None, Some, length, ⊤}
+use Rattle.std.specs.Prelude.{◌≡◌, ◌+◌, ◌++◌, ℕ, List, Option, length}
+use Rattle.sia_graph.specs.declared.neighbours.Neighbour.{Neighbour}
+use Rattle.sia_graph.specs.Found.{most_found}
 use Rattle.sia_parts.specs.declared.edges.EdgeTo.{EdgeTo}
 use Rattle.sia_parts.specs.EdgeRows.{row_bound}
 use Rattle.si_audit.specs.declared.edge_lines.EdgeLines.{EdgeLines}
 use Rattle.si_audit.specs.declared.giving.Giving.{Giving}
+use Rattle.si_audit.specs.declared.pivot_lines.PivotLines.{PivotLines}
 use Rattle.si_audit.specs.EdgeLines.{AreLinesFrom, AreReady, row_text}
-use Rattle.si_audit.specs.Giving.{CanFill, IsLeft, steps_left}
+use Rattle.si_audit.specs.Giving.{CanGive, IsLeftOf, left_of}
+use Rattle.si_audit.specs.PivotLines.{ArePivotsReady, IsLineOf, pivot_text}
 
--- bytes before the lines of edges, these lines, if they are told, and bytes behind them
+-- bytes before the lines of edges, these lines and those of pivots, if they are told, and bytes behind them
 pub record Left : Type 0 where
   pub front : List ℕ
   pub edges : Option (Giving EdgeLines EdgeTo)
+  pub pivots : Option (Giving PivotLines Neighbour)
   pub back : List ℕ
 
 -- the lines can be made
-abbrev pub CanGive : Option (Giving EdgeLines EdgeTo) → Type 0
-CanGive None = ⊤
-CanGive (Some g) = AreReady g.told × CanFill g.told.count (row_bound g.told.edges) g.stretch
+abbrev pub CanGiveEdges : Option (Giving EdgeLines EdgeTo) → Type 0
+CanGiveEdges edges = CanGive AreReady (λ e. e.count) (λ e. row_bound e.edges) edges
+
+abbrev pub CanGivePivots : Option (Giving PivotLines Neighbour) → Type 0
+CanGivePivots pivots = CanGive ArePivotsReady (λ p. p.count) (λ p. most_found p.neighbours) pivots
 
 -- they are these
-abbrev pub AreYet : Option (Giving EdgeLines EdgeTo) → List ℕ → Type 0
-AreYet None lines = lines ≡ []
-AreYet (Some g) lines = IsLeft (AreLinesFrom g.told.edges.index.now) (row_text g.told) g.stretch lines
+abbrev pub AreEdgesLeft : Option (Giving EdgeLines EdgeTo) → List ℕ → Type 0
+AreEdgesLeft edges text = IsLeftOf (λ e. AreLinesFrom e.edges.index.now) row_text edges text
+
+abbrev pub ArePivotsLeft : Option (Giving PivotLines Neighbour) → List ℕ → Type 0
+ArePivotsLeft pivots text = IsLeftOf (λ p. IsLineOf p.neighbours.evidence.index.now) pivot_text pivots text
 
 -- all bytes that are left
 abbrev pub IsYet : Left → List ℕ → Type 0
-IsYet r bytes = (lines : List ℕ) × AreYet r.edges lines × (bytes ≡ r.front ++ lines ++ r.back)
+IsYet r bytes = (edges : List ℕ) × (pivots : List ℕ) × AreEdgesLeft r.edges edges × ArePivotsLeft r.pivots pivots
+    × (bytes ≡ r.front ++ edges ++ pivots ++ r.back)
 
-abbrev pub left_of : Option (Giving EdgeLines EdgeTo) → ℕ
-left_of None = 0
-left_of (Some g) = steps_left g.stretch
-
--- how many bytes, lines and sources are left at most
+-- how many bytes, rows and transactions are left at most
 abbrev pub bytes_left : Left → ℕ
-bytes_left r = length r.front + left_of r.edges + length r.back
+bytes_left r = length r.front + left_of r.edges + left_of r.pivots + length r.back

@@ -18,6 +18,7 @@ pub mod Spelled
 pub mod Sheet
 pub mod Giving
 pub mod EdgeLines
+pub mod PivotLines
 pub mod Left
 pub mod Engine
 pub mod Laws

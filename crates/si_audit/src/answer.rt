@@ -2,12 +2,14 @@
 use crate::edge_lines::EdgeLines;
 use crate::engine::Outcome;
 use crate::giving::Giving;
+use crate::pivot_lines::PivotLines;
 use crate::spelled::Spelled;
+use sia_graph::Neighbour;
 use sia_index::Index;
 use sia_parts::{Accesses, EdgeTo};
 use std::marker::Model;
 
-/// What the lines of edges are made from.
+/// What the lines of edges and of pivots are made from.
 #[derive(Drop)]
 pub struct Found {
     pub(crate) index: Index,
@@ -32,7 +34,7 @@ impl Model for Found {
 #[derive(Drop)]
 pub struct Answer {
     pub outcome: Outcome,
-    /// The lines before those of edges, which are made from what was found, if they are told, and the lines behind them.
+    /// The lines before those of edges and pivots, which are made from what was found, if they are told, and those behind them.
     pub(crate) front: Vec<u8>,
     pub(crate) found: Option<Found>,
     pub(crate) back: Vec<u8>,
@@ -43,15 +45,16 @@ pub struct Answer {
 pub struct Report<'a> {
     pub(crate) front: &'a [u8],
     pub(crate) edges: Option<Giving<EdgeLines<'a>, EdgeTo>>,
+    pub(crate) pivots: Option<Giving<PivotLines<'a>, Neighbour>>,
     pub(crate) back: &'a [u8],
 }
 
 impl<'a> Model for Report<'a> {
-    ghost use Rattle.si_audit.specs.Left.{CanGive, Left};
+    ghost use Rattle.si_audit.specs.Left.{CanGiveEdges, CanGivePivots, Left};
 
     ghost Value = { Left };
 
-    ghost view = { λ r. record { front = r.front.now; edges = r.edges; back = r.back.now } };
+    ghost view = { λ r. record { front = r.front.now; edges = r.edges; pivots = r.pivots; back = r.back.now } };
 
-    ghost invariant = { λ r. CanGive r.edges };
+    ghost invariant = { λ r. CanGiveEdges r.edges × CanGivePivots r.pivots };
 }

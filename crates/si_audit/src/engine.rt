@@ -21,14 +21,15 @@ use crate::audit::judged;
 use crate::crew::{Alone, Crew, InThreads};
 use crate::edge_lines::EdgeLines;
 use crate::explain::{explained, push_place};
-use crate::giving::Giving;
+use crate::giving::{Giving, give_told};
 use crate::options::{Form, Level, Options};
+use crate::pivot_lines::PivotLines;
 use crate::report::{push_back, push_front, push_refusal};
 use crate::sheet::give_front;
 use crate::snapshots::is_generalized;
 use crate::spelled::Spelled;
 use sia_events::{Locator, Log, NoMemory, TextFault, TextReader};
-use sia_graph::{Evidence, Judgement, Pivot, listing_law, pivots_of};
+use sia_graph::{Judgement, Pivot, listing_law};
 use sia_index::Index;
 use sia_index::make::index_log;
 use sia_parts::{Accesses, Edge};
@@ -120,14 +121,22 @@ impl Answer {
     pub fn report(&self, alloc: Global) -> Result<Report<'_>, NoMemory>
         ensures { IfOk result (λ report. (bytes : List ℕ) → HasText self.now bytes → IsYet report bytes) }
     {
-        let edges = match &self.found {
-            Some(found) => Some(Giving::of(alloc, EdgeLines::of(alloc, found)?)?),
-            None => None,
+        let (front, back) = (&*self.front, &*self.back);
+        let Some(found) = &self.found else {
+            return Ok(Report {
+                front,
+                edges: None,
+                pivots: None,
+                back,
+            });
         };
+        let edges = Giving::of(alloc, EdgeLines::of(alloc, found)?)?;
+        let pivots = Giving::of(alloc, PivotLines::of(alloc, found)?)?;
         Ok(Report {
-            front: &self.front,
-            edges,
-            back: &self.back,
+            front,
+            edges: Some(edges),
+            pivots: Some(pivots),
+            back,
         })
     }
 }
@@ -147,12 +156,12 @@ impl Report<'_> {
         if give_front(&mut self.front, buffer) {
             return true;
         }
-        if let Some(edges) = &mut self.edges {
-            if edges.give(buffer) {
-                return true;
-            }
+        if give_told(&mut self.edges, buffer) {
+            return true;
         }
-        self.edges = None;
+        if give_told(&mut self.pivots, buffer) {
+            return true;
+        }
         give_front(&mut self.back, buffer)
     }
 }
@@ -226,18 +235,13 @@ fn in_full(
 {
     index.law();
     listing_law();
-    let evidence = Evidence {
-        index: &index,
-        accesses: &accesses,
-    };
-    let pivots = pivots_of(alloc, &evidence)?;
     let spelled = Spelled::of(alloc, &index)?;
     let found = Found {
         index,
         accesses,
         spelled,
     };
-    told(alloc, outcome, j, &pivots, Some(found))
+    told(alloc, outcome, j, Some(found))
 }
 
 fn in_brief(alloc: Global, outcome: Outcome, j: &Judgement, log: &Log) -> Result<Answer, NoMemory>
@@ -247,27 +251,27 @@ fn in_brief(alloc: Global, outcome: Outcome, j: &Judgement, log: &Log) -> Result
 {
     log.law();
     listing_law();
-    told(alloc, outcome, j, &[], None)
+    told(alloc, outcome, j, None)
 }
 
-/// The report of a judgement, in which these pivots are told, and the lines of edges that are made from what was found.
+/// The report of a judgement, with the lines of edges and of pivots that are made from what was found.
 fn told(
     alloc: Global,
     outcome: Outcome,
     j: &Judgement,
-    pivots: &[Pivot],
     found: Option<Found>,
 ) -> Result<Answer, NoMemory>
     ensures report { IfOk result (λ a. (form : Form) (es : List Edge) (ps : List Pivot) (middle : List ℕ)
-        → AreLinesOf found middle → middle ≡ flat_map lines.edge_line (lines.told form es)
-        → pivots.now ≡ lines.told form ps
+        → AreLinesOf found middle
+        → middle ≡ flat_map lines.edge_line (lines.told form es)
+        ++ flat_map lines.pivot_line (lines.told form ps)
         → HasText a (lines.report_text form (account_with j.now es ps))) }
     ensures outcome { IfOk result (λ a. a.outcome ≡ outcome) }
 {
     let mut front = Vec::new(alloc);
     push_front(&mut front, None, j)?;
     let mut back = Vec::new(alloc);
-    push_back(&mut back, pivots, j.pass, j.serializable, &j.verdict)?;
+    push_back(&mut back, &[], j.pass, j.serializable, &j.verdict)?;
     Ok(Answer {
         outcome,
         front,

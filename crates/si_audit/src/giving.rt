@@ -1,6 +1,6 @@
 //! What is told of the committed transactions, made as it is given: nothing is kept behind its bytes.
 ghost use Rattle.std.specs.Prelude.{◌≡◌, ◌↔◌, ◌+◌, ◌++◌, ◌<◌, ◌≤◌, [], ℕ, List, IfOk, IsFalse, IsTrue, length, vec_capacity};
-ghost use Rattle.si_audit.specs.Giving.{CanFill, Fills, IsLeft, IsTextOf, steps_left};
+ghost use Rattle.si_audit.specs.Giving.{CanFill, CanGive, Fills, IsLeft, IsLeftOf, IsTextOf, left_of, steps_left};
 
 use crate::sheet::{ROOM, Sheet};
 use crate::told::Told;
@@ -110,4 +110,31 @@ impl<R: Copy + Ord + Drop, T: Told<Row = R> + Drop> Giving<T, R> {
         }
         true
     }
+}
+
+/// Gives bytes of what is told, if it is told, as `give` does. Where there were none it is let go.
+pub(crate) fn give_told<R: Copy + Ord + Drop, T: Told<Row = R> + Drop>(
+    giving: &mut Option<Giving<T, R>>,
+    buffer: &mut Vec<u8>,
+) -> bool
+    requires can { CanGive T.is_ready T.count T.most giving.old }
+    requires room { length buffer.old.items < vec_capacity buffer.old }
+    ensures can { CanGive T.is_ready T.count T.most giving.new }
+    ensures gives { (text : List ℕ) → IsLeftOf T.tells T.text giving.old text
+        → (piece : List ℕ) × (rest : List ℕ) × (text ≡ piece ++ rest)
+        × IsLeftOf T.tells T.text giving.new rest × (buffer.new.items ≡ buffer.old.items ++ piece) }
+    ensures end { IsFalse result → ((text : List ℕ) → IsLeftOf T.tells T.text giving.old text → text ≡ [])
+        × IsLeftOf T.tells T.text giving.new [] × (left_of giving.new ≡ 0)
+        × (buffer.new.items ≡ buffer.old.items) }
+    ensures some { IsTrue result → length buffer.old.items < length buffer.new.items }
+    ensures fewer { IsTrue result → left_of giving.new < left_of giving.old }
+    ensures room { vec_capacity buffer.old ≤ vec_capacity buffer.new }
+{
+    if let Some(some) = &mut *giving {
+        if some.give(buffer) {
+            return true;
+        }
+    }
+    *giving = None;
+    false
 }

@@ -13,6 +13,7 @@ mod explain;
 mod giving;
 mod laws;
 mod options;
+mod pivot_lines;
 mod report;
 mod run;
 mod sheet;

@@ -85,6 +85,19 @@ pub(crate) struct Word {
 }
 
 impl Word {
+    /// These bytes.
+    pub(crate) fn from_bytes(bytes: &[u8]) -> Word
+        requires { length bytes.now ≤ 23 }
+        ensures len { result.len ≡ length bytes.now }
+        ensures bytes { take result.len result.bytes ≡ bytes.now }
+    {
+        let none = Word {
+            bytes: [0; 23],
+            len: 0,
+        };
+        none.with(bytes)
+    }
+
     /// The number, between these bytes.
     pub(crate) fn of(before: &[u8], n: u64, after: &[u8]) -> Word
         requires { length before.now + length (numeral n) + length after.now ≤ 23 }
@@ -93,11 +106,7 @@ impl Word {
     {
         let mut digits = [0; 20];
         let start = write_digits(n, &mut digits, 20);
-        let none = Word {
-            bytes: [0; 23],
-            len: 0,
-        };
-        none.with(before).with(&digits[start..]).with(after)
+        Word::from_bytes(before).with(&digits[start..]).with(after)
     }
 
     /// It, and these bytes behind it.

@@ -1,5 +1,6 @@
 pub mod Cycles
 pub mod OfLaws
+pub mod OfNeighbours
 pub mod OfPivots
 pub mod OnEvidence
 pub mod Orders

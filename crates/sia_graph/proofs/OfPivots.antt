@@ -1,7 +1,8 @@
-pub mod InOrder
+pub mod EarlyOuts
 pub mod LinkLists
 pub mod ListedAs
-pub mod MissedKeys
+pub mod Outs
 pub mod Overlaps
 pub mod Picked
+pub mod PivotRows
 pub mod Vulnerable

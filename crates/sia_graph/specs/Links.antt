@@ -1,5 +1,5 @@
 -- The vulnerable edges, by the numbers of their ends, and what they are found by.
-use Rattle.std.specs.Prelude.{◌≢◌, ◌∷◌, [], ℕ, ◌<◌, ◌≤◌, List}
+use Rattle.std.specs.Prelude.{◌≡◌, ◌≢◌, ◌+◌, ◌∷◌, [], ℕ, ◌<◌, ◌≤◌, List}
 use Rattle.sia_events.specs.declared.event.Event.{Event}
 use Rattle.sia_events.specs.DangerousStructures.{IsVulnerable}
 use Rattle.sia_events.specs.Lists.{ListsBy}
@@ -10,9 +10,8 @@ use Rattle.sia_index.specs.Info.{IsKeyAt}
 use Rattle.sia_index.specs.Numbers.{IsCommittedAt}
 use Rattle.sia_index.specs.Positions.{IsAtPosition}
 use Rattle.sia_parts.specs.declared.accesses.RangeMiss.{RangeMiss}
-use Rattle.sia_graph.specs.declared.vulnerable.Link.{Link}
-use Rattle.sia_graph.specs.declared.vulnerable.Source.{Source}
-use Rattle.sia_graph.specs.Evidence.{IsEvidence}
+use Rattle.sia_graph.specs.declared.pivot.Link.{Link}
+use Rattle.sia_graph.specs.Twos.{HaveOneKey}
 
 -- a vulnerable edge leads from number i to number j
 abbrev pub IsVulnerableAt : List Event → ℕ → ℕ → Type 0
@@ -33,11 +32,10 @@ OverlapsAfter h i k c j = (t : ℕ) × (u : ℕ) × (d : ℕ) × IsCommittedAt h
 abbrev pub OverlapsBehind : List Event → ℕ → ℕ → ℕ → Type 0
 OverlapsBehind h i q j = (v : KeyVersion) × IsAtPosition h q v × OverlapsAfter h i v.key v.commit j
 
+-- the last position before e is of the key of that at position q, and isn't before it
+abbrev pub EndsBehind : List Event → ℕ → ℕ → Type 0
+EndsBehind h q e = (p : ℕ) × (e ≡ p + 1) × (q ≤ p) × HaveOneKey h q p
+
 -- so any version of a key of the range miss
 abbrev pub OverlapsIn : List Event → ℕ → RangeMiss → ℕ → Type 0
 OverlapsIn h i miss j = (n : ℕ) × (k : ℕ) × (miss.from ≤ n) × (n < miss.to) × IsKeyAt h n k × OverlapsAfter h i k 0 j
-
--- a source is a committed transaction of what was written and seen
-pub record IsSource (s : Source) : Type 0 where
-  pub evidence : IsEvidence s.evidence.now
-  pub txn : (t : ℕ) × IsCommittedAt s.evidence.now.index.now s.number t

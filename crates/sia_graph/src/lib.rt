@@ -7,13 +7,13 @@ mod evidence;
 mod judgement;
 mod laws;
 mod listed_edges;
+mod neighbours;
 mod order;
 mod pivot;
 mod serial_replay;
 mod sparse;
 mod ssi;
 mod twos;
-mod vulnerable;
 
 pub use allowed::is_allowed;
 pub use cycle::{Step, Steps};
@@ -24,7 +24,8 @@ pub use laws::{
     stand_in_law,
 };
 pub use listed_edges::settle;
+pub use neighbours::{Neighbour, Neighbours, Role};
 pub use order::Txns;
-pub use pivot::{Pivot, pivots, pivots_of};
+pub use pivot::{Pivot, pivots};
 pub use serial_replay::{Mismatch, ReplayFault, replay};
 pub use ssi::{Dangerous, dangerous_of, passes, ssi_pass};

@@ -4,14 +4,11 @@ ghost use Rattle.sia_events.specs.DangerousStructures.{IsFirst};
 ghost use Rattle.sia_events.specs.Lists.{ListsAscending};
 ghost use Rattle.sia_parts.specs.Findings.{AreFindings};
 ghost use Rattle.sia_index.specs.Numbers.{IsCommittedAt};
-ghost use Rattle.sia_graph.specs.Evidence.{IsEvidence};
 ghost use Rattle.sia_graph.specs.Links.{IsVulnerableAt, ListsLinks};
 ghost use Rattle.sia_graph.specs.Pivots.{ArePivots};
 
 use crate::allowed::is_rw_overlap;
-use crate::evidence::Evidence;
 use crate::order::Txns;
-use crate::vulnerable::{Link, vulnerable_of};
 use sia_events::{NoMemory, TxnId};
 use sia_index::Index;
 use sia_index::keyed::{By, ByTxn, place_from};
@@ -30,6 +27,13 @@ pub struct Pivot {
     pub outs: Txns,
     /// Those of `outs` that commit first in some dangerous structure around it.
     pub firsts: Txns,
+}
+
+/// A vulnerable edge, by the numbers of its ends among the committed transactions.
+#[derive(Clone, Copy, PartialEq, Eq, PartialOrd, Ord)]
+pub(crate) struct Link {
+    pub at: u32,
+    pub other: u32,
 }
 
 /// By the end from which the edge leads.
@@ -137,13 +141,4 @@ pub fn pivots(alloc: Global, f: &Findings, ix: &Index) -> Result<Vec<Pivot>, NoM
     }
     put_in_order(&mut links)?;
     Ok(pivots_by(alloc, ix, &links)?)
-}
-
-/// The same with no list of edges, by what was written and seen.
-pub fn pivots_of(alloc: Global, evidence: &Evidence) -> Result<Vec<Pivot>, NoMemory>
-    requires { IsEvidence evidence.now }
-    ensures { IfOk result (λ found. ArePivots evidence.now.index.now found.items) }
-{
-    let links = vulnerable_of(alloc, evidence)?;
-    Ok(pivots_by(alloc, evidence.index, &links)?)
 }

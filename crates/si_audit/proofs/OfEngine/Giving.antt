@@ -1,17 +1,22 @@
 -- What is left of a report where a piece was given.
-use Rattle.std.proofs.Common.{◌≡◌, ℕ, List, [], ◌++◌, Some, ap, subst, sym, ◌∙◌, append_assoc}
-use Rattle.sia_parts.specs.declared.edges.EdgeTo.{EdgeTo}
-use Rattle.si_audit.specs.declared.edge_lines.EdgeLines.{EdgeLines}
-use Rattle.si_audit.specs.declared.giving.Giving.{Giving}
-use Rattle.si_audit.specs.EdgeLines.{AreLinesFrom, row_text}
-use Rattle.si_audit.specs.Giving.{IsLeft}
-use Rattle.si_audit.specs.Left.{AreYet}
+use Rattle.std.proofs.Common.{◌≡◌, ℕ, List, [], ◌++◌, ap, sym, ◌∙◌, append_assoc}
+
+piece_first : (p r s b : List ℕ) → (p ++ r) ++ s ++ b ≡ p ++ (r ++ s ++ b)
+piece_first p r s b = simp append_assoc
 
 -- a piece of the lines of edges, before which nothing is left
-pub lines_given : (bytes front lines none back p rest : List ℕ) → bytes ≡ front ++ lines ++ back → front ≡ [] → none ≡ [] → lines ≡ p ++ rest → bytes ≡ p ++ (none ++ rest ++ back)
-lines_given bytes front lines none back p rest all before now split =
-    all ∙ (λ i. before i ++ split i ++ back) ∙ append_assoc p rest back ∙ sym (ap (λ (xs : List ℕ). p ++ (xs ++ rest ++ back)) now)
+pub edges_given : (bytes front edges none pivots back p rest : List ℕ) → bytes ≡ front ++ edges ++ pivots ++ back → front ≡ [] → none ≡ [] → edges ≡ p ++ rest → bytes ≡ p ++ (none ++ rest ++ pivots ++ back)
+edges_given bytes front edges none pivots back p rest all before now split =
+    all ∙ (λ i. before i ++ split i ++ pivots ++ back) ∙ piece_first p rest pivots back ∙ sym (ap (λ (xs : List ℕ). p ++ (xs ++ rest ++ pivots ++ back)) now)
 
--- what tells is the same
-pub still_told : (old new : Giving EdgeLines EdgeTo) → new.told ≡ old.told → (text : List ℕ) → IsLeft (AreLinesFrom old.told.edges.index.now) (row_text old.told) new.stretch text → AreYet (Some new) text
-still_told old new same text left = subst (λ told. IsLeft (AreLinesFrom told.edges.index.now) (row_text told) new.stretch text) (sym same) left
+-- and one of the lines of pivots
+pub pivots_given : (bytes front edges none pivots back p rest : List ℕ) → bytes ≡ front ++ edges ++ pivots ++ back → front ≡ [] → edges ≡ [] → none ≡ [] → pivots ≡ p ++ rest → bytes ≡ p ++ (none ++ [] ++ rest ++ back)
+pivots_given bytes front edges none pivots back p rest all before gone now split =
+    all ∙ (λ i. before i ++ gone i ++ split i ++ back) ∙ append_assoc p rest back ∙ sym (ap (λ (xs : List ℕ). p ++ (xs ++ [] ++ rest ++ back)) now)
+
+-- and one of what stands before them
+pub front_given : (bytes front edges pivots back p rest : List ℕ) → bytes ≡ front ++ edges ++ pivots ++ back → front ≡ p ++ rest → bytes ≡ p ++ (rest ++ edges ++ pivots ++ back)
+front_given bytes front edges pivots back p rest all split = all ∙ ap (λ (xs : List ℕ). xs ++ edges ++ pivots ++ back) split ∙ behind p rest edges pivots back
+  where
+    behind : (p r e v b : List ℕ) → (p ++ r) ++ e ++ v ++ b ≡ p ++ (r ++ e ++ v ++ b)
+    behind p r e v b = simp append_assoc

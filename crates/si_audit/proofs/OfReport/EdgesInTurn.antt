@@ -31,7 +31,7 @@ use Rattle.si_audit.specs.Lines.{edge_line}
 use Rattle.si_audit.proofs.OfLaws.VerdictExists.{kind_joins}
 
 -- those of a list that pass a test
-passing : {A : Type 0} (rank : A → List ℕ) (P Q : A → Type 0) (test : A → Bool) → ((x : A) → P x → test x ≡ true → Q x) → ((x : A) → Q x → P x × (test x ≡ true))
+pub passing : {A : Type 0} (rank : A → List ℕ) (P Q : A → Type 0) (test : A → Bool) → ((x : A) → P x → test x ≡ true → Q x) → ((x : A) → Q x → P x × (test x ≡ true))
     → (xs : List A) → ListsBy rank P xs → ListsBy rank Q (filter test xs)
 passing {A} rank P Q test has only xs all = record {
   ascending = AllPairs-filter (λ x y. Precedes (rank x) (rank y)) test xs all.ascending;

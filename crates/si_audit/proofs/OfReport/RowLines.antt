@@ -31,7 +31,7 @@ parts_of_line : (a s k b c e : List ℕ) → a ++ s ++ k ++ (s ++ b) ++ (s ++ c 
 parts_of_line a s k b c e = simp append_assoc
 
 -- the word of a number that is spelled
-spelled_at : (word : ℕ → List ℕ) (words : List Word) (names : List ℕ) (i : ℕ) → map text_of words ≡ map word names → i < length names → word_at words i ≡ word (slice_index names i)
+pub spelled_at : (word : ℕ → List ℕ) (words : List Word) (names : List ℕ) (i : ℕ) → map text_of words ≡ map word names → i < length names → word_at words i ≡ word (slice_index names i)
 spelled_at word words names i same below = ap (λ (texts : List (List ℕ)). slice_index_or texts i []) same ∙ get_or-map word names i 0 [] below
 
 -- a number below a power of ten has so many digits at most
@@ -77,7 +77,7 @@ heads_are head a b d t is ww wr rw Ww = ww ∙ ap (λ (l : List ℕ). l ++ codes
 heads_are head a b d t is ww wr rw Wr = wr ∙ ap (λ (l : List ℕ). l ++ codes "wr") is
 heads_are head a b d t is ww wr rw Rw = rw ∙ ap (λ (l : List ℕ). l ++ codes "rw") is
 
-line_put : (old piece a b c : List ℕ) → old ++ piece ++ a ++ b ++ c ≡ old ++ (piece ++ (a ++ b ++ c))
+pub line_put : (old piece a b c : List ℕ) → old ++ piece ++ a ++ b ++ c ≡ old ++ (piece ++ (a ++ b ++ c))
 line_put old piece a b c = simp append_assoc
 
 -- one more line is put

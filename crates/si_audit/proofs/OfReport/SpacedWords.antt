@@ -13,7 +13,7 @@ pub join_spaced : (w : List ℕ) (ws : List (List ℕ)) → join_with_byte 32 (w
 join_spaced w [] = sym (append-nil w)
 join_spaced w (v ∷ ws) = ap (λ (xs : List ℕ). w ++ (32 ∷ xs)) (join_spaced v ws)
 
-spaced-append : (xs ys : List (List ℕ)) → spaced (xs ++ ys) ≡ spaced xs ++ spaced ys
+pub spaced-append : (xs ys : List (List ℕ)) → spaced (xs ++ ys) ≡ spaced xs ++ spaced ys
 spaced-append xs ys = flat_map-append (λ (word : List ℕ). 32 ∷ word) xs ys
 
 -- the words of all steps

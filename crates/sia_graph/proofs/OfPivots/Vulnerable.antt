@@ -1,17 +1,14 @@
--- Vulnerable edges of a well-formed history by the numbers of their ends, and the firsts of dangerous structures by commits.
-use Rattle.std.proofs.Common.{◌≡◌, inl, inr, ℕ, ◌-◌, ◌<◌, ◌≤◌, List, [], ◌∷◌, length, get_or, map, min, refl, sym, subst, ◌∙◌, arith}
+-- Vulnerable edges of a well-formed history by the numbers of their ends, and the commits of their sources.
+use Rattle.std.proofs.Common.{◌≡◌, inl, inr, ℕ, ◌<◌, List, [], ◌∷◌, length, get_or, map, refl, sym, subst, ◌∙◌, arith}
 use Rattle.std.specs.Prelude.{◌↔◌, ⊤, AllPairs, Contains, slice_index}
-use Rattle.std.proofs.lemmas.Bool.{cases_lt}
 use Rattle.std.proofs.lemmas.List.{get_or-map, length-map}
 use Rattle.std.proofs.lemmas.List.Elements.{Contains-get_or}
 use Rattle.sia_events.specs.declared.event.Event.{Event}
 use Rattle.sia_events.specs.Refusals.{IsWellFormed}
 use Rattle.sia_events.specs.Transactions.{CommitsAt, IsCommitted, Overlap}
 use Rattle.sia_events.specs.Lists.{ListsAscending, Precedes}
-use Rattle.sia_events.specs.DangerousStructures.{IsFirst, IsPivot, IsVulnerable}
+use Rattle.sia_events.specs.DangerousStructures.{IsPivot, IsVulnerable}
 use Rattle.sia_events.proofs.Writing.WellFormed.{one_commit}
-use Rattle.sia_events.proofs.OfLaws.Endings.{one_committer}
-use Rattle.sia_events.proofs.OfLaws.Looks.{commits_above}
 use Rattle.sia_index.specs.declared.info.Lifetime.{Lifetime}
 use Rattle.sia_index.specs.Lifetimes.{IsLifetime}
 use Rattle.sia_index.specs.Numbers.{IsCommittedAt}
@@ -20,8 +17,7 @@ use Rattle.sia_parts.specs.declared.finding.Kind.TheVariants.{Rw}
 use Rattle.sia_parts.specs.Entries.{EdgeOfKind}
 use Rattle.sia_parts.specs.Findings.{ListsEdges}
 use Rattle.sia_parts.specs.Sights.{FromSome}
-use Rattle.sia_graph.specs.declared.vulnerable.Link.{Link}
-use Rattle.sia_graph.specs.Late.{IsLastOf}
+use Rattle.sia_graph.specs.declared.pivot.Link.{Link}
 use Rattle.sia_graph.specs.Links.{IsVulnerableAt, ListsLinks, link_rank}
 use Rattle.sia_graph.proofs.Shared.Numbered.{number_of, txn_number}
 use Rattle.sia_graph.proofs.Shared.PositionEdges.{one_txn_at}
@@ -124,47 +120,15 @@ module _ (h : List Event) (n t : ℕ) (at : IsCommittedAt h n t) (txns : List �
         )),
   )
 
-  -- what commits first does so before the pivot, and no later than the last of those with an edge to it
-  module _ (wf : IsWellFormed h) (lifetimes : List Lifetime) (live : (i u : ℕ) → IsCommittedAt h i u → (i < length lifetimes) × ((d : Lifetime) → IsLifetime h u (get_or lifetimes i d)))
-      (own last : ℕ) (commits : CommitsAt h t own) (ins : List Link) (l : ListsLinks (λ i j. (j ≡ n) × IsVulnerableAt h i j) ins) (greatest : IsLastOf (FromSome (CommitsIn lifetimes) ins) last) where
-    pub first_by : (u e : ℕ) → IsVulnerable h t u → CommitsAt h u e → (e ≤ min last (own - 1)) ↔ IsFirst h t u
-    first_by u e v ends = (
-      (λ le.
-          let above = commits_above h u e ends in
-          let w = (greatest e above).0 (omega arith) in
-          let k = w.1.0 in
-          let x = (l.each k).0 w.1.1 in
-          let into = subst (IsVulnerable h x.1.0) (one_txn_at h n x.1.1 t (subst (λ m. IsCommittedAt h m x.1.1) x.0 x.1.3) at) x.1.4 in
-          let d = (live k.at x.1.0 x.1.2).1 (record { start = 0; commit = 0 }) in
-          let is = w.1.2 in
-          let most = w.2 in (
-            v,
-            (e, own, ends, commits, (let b = commits_above h t own commits in omega arith)),
-            x.1.0,
-            into,
-            elim (cases_lt e w.0) [
-              | inl less ↦ inr (e, w.0, ends, subst (CommitsAt h x.1.0) is d.1, less)
-              | inr more ↦ let same : e ≡ w.0 = omega arith in inl (one_committer h u x.1.0 w.0 (subst (CommitsAt h u) same ends) (subst (CommitsAt h x.1.0) is d.1))
-            ],
-          )),
-      (λ first.
-          let b = first.1 in
-          let one = one_commit h wf u b.0 e b.2 ends in
-          let two = one_commit h wf t b.1 own b.3 commits in
-          let early = b.4 in
-          let i = number_of h at.0 at.1 first.2 (source_committed h first.2 t first.3) in
-          let k : Link = record { at = i.0; other = n } in
-          let has = (l.each k).1 (refl, (first.2, t, i.1, at, first.3)) in
-          let d = (live i.0 first.2 i.1).1 (record { start = 0; commit = 0 }) in
-          let y = (get_or lifetimes i.0 (record { start = 0; commit = 0 })).commit in
-          let le : e ≤ y = elim first.4 [
-            | inl same ↦ let z = one_commit h wf u e y ends (subst (λ x. CommitsAt h x y) (sym same) d.1) in omega arith
-            | inr before ↦
-                let p = one_commit h wf u before.0 e before.2 ends in
-                let q = one_commit h wf first.2 before.1 y before.3 d.1 in
-                let less = before.4 in
-                omega arith
-          ] in
-          let most = (greatest e (commits_above h u e ends)).1 (y, (k, has, refl), le) in
-          omega arith),
-    )
+  -- the commits of those from whom an edge leads to it
+  pub ins_commit : IsWellFormed h → (lifetimes : List Lifetime) → ((i u : ℕ) → IsCommittedAt h i u → (i < length lifetimes) × ((d : Lifetime) → IsLifetime h u (get_or lifetimes i d))) → (ins : List Link)
+      → ListsLinks (λ i j. (j ≡ n) × IsVulnerableAt h i j) ins → (c : ℕ) → FromSome (CommitsIn lifetimes) ins c ↔ ((s : ℕ) × IsVulnerable h s t × CommitsAt h s c)
+  ins_commit wf lifetimes live ins l c = (
+    (λ (k, has, is).
+        let x = (l.each k).0 has in
+        (x.1.0, subst (IsVulnerable h x.1.0) (one_txn_at h n x.1.1 t (subst (λ m. IsCommittedAt h m x.1.1) x.0 x.1.3) at) x.1.4, subst (CommitsAt h x.1.0) is ((live k.at x.1.0 x.1.2).1 (record { start = 0; commit = 0 })).1)),
+    (λ (s, v, commits).
+        let i = number_of h at.0 at.1 s (source_committed h s t v) in
+        let k : Link = record { at = i.0; other = n } in
+        (k, (l.each k).1 (refl, (s, t, i.1, at, v)), one_commit h wf s _ c ((live i.0 s i.1).1 (record { start = 0; commit = 0 })).1 commits)),
+  )

@@ -12,4 +12,4 @@ returns-clause-report c =
     let j = c.args.j.now in
     let (edges, pivots) = c.listing_law.ensures h c.law.ensures in
     let account = account_with j edges.0 pivots.0 in
-    ok_map _ _ c.told.result (λ a is. (report_text Brief account, (account, account_is h j c.requires edges.0 edges.1 pivots.0 pivots.1, refl), is Brief edges.0 pivots.0 [] refl refl refl)) c.told.ensures.report
+    ok_map _ _ c.told.result (λ a is. (report_text Brief account, (account, account_is h j c.requires edges.0 edges.1 pivots.0 pivots.1, refl), is Brief edges.0 pivots.0 [] refl refl)) c.told.ensures.report

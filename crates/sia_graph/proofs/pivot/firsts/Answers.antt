@@ -8,12 +8,13 @@ use Rattle.sia_index.specs.Numbers.{IsCommittedAt}
 use Rattle.sia_index.specs.declared.info.Lifetime.{Lifetime}
 use Rattle.sia_parts.specs.Sights.{FromSome}
 use Rattle.sia_parts.proofs.Shared.Adding.{FromFirst, first_more}
-use Rattle.sia_graph.specs.declared.vulnerable.Link.{Link}
+use Rattle.sia_graph.specs.declared.pivot.Link.{Link}
 use Rattle.sia_graph.specs.Late.{IsLastOf}
 use Rattle.sia_graph.proofs.OfPivots.ListedAs.{listed_as}
 use Rattle.sia_graph.proofs.OfPivots.Overlaps.{lived}
 use Rattle.sia_graph.proofs.OfPivots.Picked.{all_picked, none_picked, picked_more, picked_same}
-use Rattle.sia_graph.proofs.OfPivots.Vulnerable.{CommitsIn, first_by, outs_named}
+use Rattle.sia_graph.proofs.OfPivots.EarlyOuts.{EntersAt, first_by, last_same}
+use Rattle.sia_graph.proofs.OfPivots.Vulnerable.{CommitsIn, ins_commit, outs_named}
 use Rattle.sia_graph.proofs.Shared.Numbered.{txn_number}
 use Rattle.sia_graph.proofs.Shared.PositionEdges.{one_txn_at}
 use Rattle.sia_graph.proofs.SsiTest.Entering.{last_either}
@@ -68,7 +69,8 @@ early c t at n below =
     let named = (txn_number h c.committed-txns.result.now c.committed-txns.ensures link.other v.1.1 v.1.3).1 in
     let ins = c.args.ins.now in
     let all = subst (λ (xs : List Link). IsLastOf (FromSome (CommitsIn lifetimes) xs) c.loop-into.last) (take_all c.loop-into.into-index ins (let e = c.loop-into-test.false in omega arith)) c.loop-into.invariant in
-    rw (named, c.min-last.ensures) (first_by h c.args.txn t at c.committed-txns.result.now c.committed-txns.ensures c.law.ensures lifetimes live _ c.loop-into.last ((live c.args.txn t at).1 unlived).1 ins c.requires.ins all v.1.1 _
+    let greatest = last_same (FromSome (CommitsIn lifetimes) ins) (EntersAt h t) c.loop-into.last (ins_commit h c.args.txn t at c.committed-txns.result.now c.committed-txns.ensures c.law.ensures lifetimes live ins c.requires.ins) all in
+    rw (named, c.min-last.ensures) (first_by h c.law.ensures t _ c.loop-into.last ((live c.args.txn t at).1 unlived).1 greatest v.1.1 _
     (subst (λ x. IsVulnerable h x v.1.1) from v.1.4) ((live link.other v.1.1 v.1.3).1 unlived).1)
 
 pub loop-out-preserved : goal.loop-out-preserved

@@ -3,7 +3,7 @@ use Rattle.sia_index.specs.Numbers.{IsCommittedAt}
 use Rattle.sia_events.specs.DangerousStructures.{IsFirst}
 use Rattle.sia_parts.proofs.Shared.Adding.{FromFirst}
 use Rattle.sia_graph.specs.Late.{IsLastOf}
-use Rattle.sia_graph.specs.declared.vulnerable.Link.{Link}
+use Rattle.sia_graph.specs.declared.pivot.Link.{Link}
 use Rattle.sia_graph.proofs.OfPivots.Picked.{ArePicked}
 use Rattle.sia_graph.proofs.OfPivots.Vulnerable.{CommitsIn}
 use Rattle.sia_graph.proofs.pivot.firsts.Given as goal

@@ -8,7 +8,7 @@ use Rattle.sia_events.specs.Lists.{ListsAscending}
 use Rattle.sia_events.specs.DangerousStructures.{IsFirst, IsPivot, IsVulnerable}
 use Rattle.sia_index.specs.Numbers.{IsCommittedAt}
 use Rattle.sia_graph.specs.declared.pivot.Pivot.{Pivot}
-use Rattle.sia_graph.specs.declared.vulnerable.Link.{Link}
+use Rattle.sia_graph.specs.declared.pivot.Link.{Link}
 use Rattle.sia_graph.specs.Links.{IsVulnerableAt, ListsLinks}
 use Rattle.sia_graph.specs.Pivots.{ListsNeighbours}
 use Rattle.sia_graph.proofs.OfPivots.LinkLists.{dealt_listed, length-dealt, some_link}

@@ -1,19 +1,17 @@
--- Nothing is given yet: the lines are those of all sources.
-use Rattle.std.proofs.Common.{◌++◌, ◌∙◌, subst, sym}
+-- Nothing is given yet: the lines are those of all numbers.
+use Rattle.std.proofs.Common.{List, ℕ, ◌++◌, ◌∙◌, ap, append_assoc, subst, sym}
 use Rattle.si_audit.specs.Engine.{AreLinesOf}
-use Rattle.si_audit.specs.Left.{AreYet}
 use Rattle.si_audit.proofs.answer.Answer.report.Goals as goal
-use Rattle.si_audit.proofs.answer.Answer.report.Goals.{in-Some+in_ok-of-in-Some+in_ok-of-in-Some-2, in-None}
 
 pub returns : goal.returns
-returns c bytes has = (
-  has.0,
-  elim c.match-self.branch [
-    | in-Some+in_ok-of-in-Some+in_ok-of-in-Some-2 w ↦
-        let all = subst (λ f. AreLinesOf f has.0) w.in-Some.is has.1 in
-        let left = w.in_ok-of-in-Some-2.ensures.all has.0 (w.in_ok-of-in-Some.ensures.all has.0 all) in
-        subst (λ e. AreYet e has.0) (sym w.edges-is) (rw w.in_ok-of-in-Some-2.ensures.told left)
-    | in-None w ↦ subst (λ e. AreYet e has.0) (sym w.edges-is) (subst (λ f. AreLinesOf f has.0) w.in-None.is has.1)
-  ],
-  has.2 ∙ (λ i. sym c.deref.ensures.value i ++ has.0 ++ sym c.deref-2.ensures.value i),
-)
+returns c bytes (lines, are, all) =
+    let (edges, pivots, edges_are, pivots_are, both) = subst (λ f. AreLinesOf f lines) c.in-Some.is are in
+    let edges_left = c.in_ok-edges.ensures.all edges (c.in_ok-of.ensures.all edges edges_are) in
+    let pivots_left = c.in_ok-pivots.ensures.all pivots (c.in_ok-of-2.ensures.all pivots pivots_are) in (
+      edges,
+      pivots,
+      rw c.in_ok-edges.ensures.told edges_left,
+      rw c.in_ok-pivots.ensures.told pivots_left,
+      all ∙ (λ i. sym c.deref.ensures.value i ++ both i ++ sym c.deref-2.ensures.value i)
+          ∙ ap (λ (xs : List ℕ). xs ++ c.deref-2.result.now) (sym (append_assoc c.deref.result.now edges pivots)),
+    )

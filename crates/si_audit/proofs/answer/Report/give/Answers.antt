@@ -1,60 +1,68 @@
--- A piece of the lines of edges, before which nothing is left.
-use Rattle.std.proofs.Common.{◌≡◌, ℕ, List, [], ◌++◌, refl, ap, sym, subst, ◌∙◌}
-use Rattle.si_audit.specs.Left.{AreYet, IsYet, Left}
-use Rattle.si_audit.proofs.OfEngine.Giving.{lines_given, still_told}
+-- A piece of the bytes before the lines of edges, of these, of those of pivots, or of the bytes behind them, before which nothing is left.
+use Rattle.std.proofs.Common.{ℕ, List, [], ◌++◌, refl, ap, sym, subst, ◌∙◌}
+use Rattle.si_audit.specs.Left.{IsYet, Left}
+use Rattle.si_audit.proofs.OfEngine.Giving.{edges_given, front_given, pivots_given}
 use Rattle.si_audit.proofs.answer.Report.give.Goals as goal
-use Rattle.si_audit.proofs.answer.Report.give.Goals.{After-give_front-2, in-Some+else-give, in_default}
 
-pub returns-then-give-clause-gives : goal.returns-then-give-clause-gives
-returns-then-give-clause-gives c bytes yet =
-    let mine = subst (λ (r : Left). IsYet r bytes) (sym c.self.view_is) yet in
-    let piece = c.give.ensures.gives mine.0 (subst (λ e. AreYet e mine.0) c.in-Some.is mine.1) in
+pub returns-then-give_front-clause-gives : goal.returns-then-give_front-clause-gives
+returns-then-give_front-clause-gives c bytes yet =
+    let (edges, pivots, mine, later, all) = subst (λ (r : Left). IsYet r bytes) (sym c.self.view_is) yet in
+    let (piece, parted, put) = c.give_front.ensures.gives in
+    let rest = c.give_front.new.bytes.now in
+    let back = c.self.inside.back.now in
+    (piece, rest ++ edges ++ pivots ++ back, front_given bytes c.self.inside.front.now edges pivots back piece rest all parted, (edges, pivots, mine, later, refl), put)
+
+pub returns-then-give_told-clause-gives : goal.returns-then-give_told-clause-gives
+returns-then-give_told-clause-gives c bytes yet =
+    let (edges, pivots, mine, later, all) = subst (λ (r : Left). IsYet r bytes) (sym c.self.view_is) yet in
+    let (piece, rest, parted, left, put) = c.give_told.ensures.gives edges mine in
     let front = c.if-give_front.ensures.end refl in
     let none = c.give_front.new.bytes.now in
     let back = c.self.inside.back.now in (
-      piece.0,
-      none ++ piece.1 ++ back,
-      lines_given bytes c.self.inside.front.now mine.0 none back piece.0 piece.1 mine.2 front.0 front.1 piece.2,
-      (piece.1, still_told c.in-Some.edges c.give.new.self c.give.ensures.told piece.1 piece.3, refl),
-      piece.4 ∙ ap (λ (xs : List ℕ). xs ++ piece.0) front.2,
+      piece,
+      none ++ rest ++ pivots ++ back,
+      edges_given bytes c.self.inside.front.now edges none pivots back piece rest all front.0 front.1 parted,
+      (rest, pivots, left, later, refl),
+      put ∙ ap (λ (xs : List ℕ). xs ++ piece) front.2,
     )
 
--- where the front gave nothing, and the lines of edges none, the buffer is the same
-same : (c : After-give_front-2) → (c.match-self.self-inside.front.now ≡ []) × (c.match-self.buffer.items ≡ c.args.buffer.now.items)
-same c =
+pub returns-then-give_told-2-clause-gives : goal.returns-then-give_told-2-clause-gives
+returns-then-give_told-2-clause-gives c bytes yet =
+    let (edges, pivots, mine, later, all) = subst (λ (r : Left). IsYet r bytes) (sym c.self.view_is) yet in
+    let (gone, still, zero, same) = c.if-give_told.ensures.end refl in
+    let (piece, rest, parted, left, put) = c.give_told-2.ensures.gives pivots later in
     let front = c.if-give_front.ensures.end refl in
-    elim c.match-self.branch [
-      | in-Some+else-give w ↦ (ap (λ r. r.front.now) w.self-inside-is ∙ front.1, ap (λ b. b.items) w.buffer-is ∙ (w.if-give.ensures.end refl).1 ∙ front.2)
-      | in_default w ↦ (ap (λ r. r.front.now) w.self-inside-is ∙ front.1, ap (λ b. b.items) w.buffer-is ∙ front.2)
-    ]
-
--- the back is left
-back_left : (c : After-give_front-2) (bytes : List ℕ) → IsYet c.args.self.now bytes → bytes ≡ c.match-self.self-inside.back.now
-back_left c bytes yet =
-    let (lines, mine, all) = subst (λ (r : Left). IsYet r bytes) (sym c.self.view_is) yet in
-    let front = c.if-give_front.ensures.end refl in
-    elim c.match-self.branch [
-      | in-Some+else-give w ↦
-          let none = (w.if-give.ensures.end refl).0 lines (subst (λ e. AreYet e lines) w.in-Some.is mine) in
-          all ∙ (λ i. front.0 i ++ none i ++ sym (ap (λ r. r.back.now) w.self-inside-is) i)
-      | in_default w ↦
-          let none = subst (λ e. AreYet e lines) w.in_default.is mine in
-          all ∙ (λ i. front.0 i ++ none i ++ sym (ap (λ r. r.back.now) w.self-inside-is) i)
-    ]
+    let none = c.give_front.new.bytes.now in
+    let back = c.self.inside.back.now in (
+      piece,
+      none ++ [] ++ rest ++ back,
+      pivots_given bytes c.self.inside.front.now edges none pivots back piece rest all front.0 (gone edges mine) front.1 parted,
+      ([], rest, still, left, refl),
+      put ∙ ap (λ (xs : List ℕ). xs ++ piece) (same ∙ front.2),
+    )
 
 pub returns-clause-gives : goal.returns-clause-gives
 returns-clause-gives c bytes yet =
-    let now = (goal.at.returns-clause-gives c).After-give_front-2 in
-    let (piece, parted, put) = c.give_front-2.ensures.gives in (
+    let (edges, pivots, mine, later, all) = subst (λ (r : Left). IsYet r bytes) (sym c.self.view_is) yet in
+    let (gone, still, zero, same) = c.if-give_told.ensures.end refl in
+    let (gone_too, still_too, zero_too, same_too) = c.if-give_told-2.ensures.end refl in
+    let (piece, parted, put) = c.give_front-2.ensures.gives in
+    let front = c.if-give_front.ensures.end refl in (
       piece,
       c.give_front-2.new.bytes.now,
-      back_left now bytes yet ∙ parted,
-      ([], refl, sym (ap (λ (xs : List ℕ). xs ++ [] ++ c.give_front-2.new.bytes.now) (same now).0)),
-      put ∙ ap (λ (xs : List ℕ). xs ++ piece) (same now).1,
+      all ∙ (λ i. front.0 i ++ gone edges mine i ++ gone_too pivots later i ++ parted i),
+      ([], [], still, still_too, sym (ap (λ (xs : List ℕ). xs ++ [] ++ [] ++ c.give_front-2.new.bytes.now) front.1)),
+      put ∙ ap (λ (xs : List ℕ). xs ++ piece) (same_too ∙ same ∙ front.2),
     )
 
 pub returns-clause-end : goal.returns-clause-end
-returns-clause-end c = λ no. (
-  (λ bytes yet. back_left (goal.at.returns-clause-end c).After-give_front-2 bytes yet ∙ (c.give_front-2.ensures.end no).0),
-  (c.give_front-2.ensures.end no).2 ∙ (same (goal.at.returns-clause-end c).After-give_front-2).1,
-)
+returns-clause-end c = λ no.
+    let (gone, still, zero, same) = c.if-give_told.ensures.end refl in
+    let (gone_too, still_too, zero_too, same_too) = c.if-give_told-2.ensures.end refl in
+    let front = c.if-give_front.ensures.end refl in
+    let last = c.give_front-2.ensures.end no in (
+      (λ bytes yet.
+          let (edges, pivots, mine, later, all) = subst (λ (r : Left). IsYet r bytes) (sym c.self.view_is) yet in
+          all ∙ (λ i. front.0 i ++ gone edges mine i ++ gone_too pivots later i ++ last.0 i)),
+      last.2 ∙ same_too ∙ same ∙ front.2,
+    )

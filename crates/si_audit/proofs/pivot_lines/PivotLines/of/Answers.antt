@@ -1,0 +1,20 @@
+use Rattle.std.proofs.Common.{length, subst, sym, ◌∙◌, arith}
+use Rattle.sia_events.specs.Lists.{ListsAscending}
+use Rattle.sia_events.specs.Transactions.{IsCommitted}
+use Rattle.sia_parts.proofs.EdgeRows.Readings.{few_txns}
+use Rattle.si_audit.specs.Giving.{IsTextOf}
+use Rattle.si_audit.specs.PivotLines.{IsLineOf}
+use Rattle.si_audit.proofs.OfReport.PivotsInTurn.{pivots_in_turn}
+use Rattle.si_audit.proofs.pivot_lines.PivotLines.of.Goals as goal
+
+pub overflow_cast-result : goal.overflow_cast-result
+overflow_cast-result c = let few = few_txns _ c.law.ensures c.committed-txns.result.now c.committed-txns.ensures in omega arith
+
+pub returns-clause-all : goal.returns-clause-all
+returns-clause-all c = λ text all.
+    let (pivots, lists, is) = all in
+    let h = c.args.found.now in
+    let txns = c.committed-txns.result.now in
+    let are = subst (λ g. ListsAscending (IsCommitted g) txns) c.found.view_is c.committed-txns.ensures in
+    subst (λ g. IsTextOf (IsLineOf g) 0 (length txns) text) (sym (c.in_ok-of.ensures.index ∙ c.found.view_is))
+    (subst (IsTextOf (IsLineOf h) 0 (length txns)) (sym is) (pivots_in_turn h txns are pivots lists))

@@ -1,0 +1,16 @@
+-- Each position has a list of those who saw the version there.
+use Rattle.std.proofs.Common.{length, ap, arith}
+use Rattle.sia_parts.specs.declared.edges.Reading.{Reading}
+use Rattle.sia_parts.proofs.EdgeRows.Room.{one_count}
+use Rattle.sia_graph.proofs.neighbours.Neighbours.most_rows.Goals as goal
+
+pub overflow_add-result-2 : goal.overflow_add-result-2
+overflow_add-result-2 c = let small = c.args.self.now.passings.small in let ok = c.args.self.now.passings.ok in let l = c.len.ensures in omega arith
+
+pub returns : goal.returns
+returns c =
+    let same = one_count c.args.self.now.evidence.index.now _ _ c.position_count-positions.ensures c.requires.looks.long in
+    let long = ap (length {A = Reading}) c.rows.ensures in
+    let all = c.len.ensures in
+    let ok = c.args.self.now.passings.ok in
+    omega arith
