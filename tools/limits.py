@@ -7,7 +7,7 @@ Each whole report is worked out by a formula, from the rules of docs/FORMAT.md. 
 worker, and to four with some cuts; those that are refused once more, for the explained report. Those of hard.py are asked for
 the brief report and for the explained one, under a limit of memory too: at SIZE, which is 100,000 where it isn't given, and at
 a fourth of it. The greater one may take at most some eight times as long, and a moment. An explained report may take as much
-memory as a brief one, and its own bytes. Beyond 100,000 events time and memory may grow with the size. The explained report of
+memory as a brief one, and its own bytes; a full one with four million edges and eight million neighbours of pivots 40 MB. Beyond 100,000 events time and memory may grow with the size. The explained report of
 a thousand bad reads has to be there in two seconds, also where each reader passes over 40,000 keys. Proofs bound neither time
 nor memory, so that they are small is shown here alone.
 The last line is 'N passed, M failed'.
@@ -40,6 +40,8 @@ HARD_MEGABYTES = 300
 BRIEF, EXPLAIN = "--brief", "--explain"
 GROWTH = 8
 MOMENT = 0.2
+# What a full report takes at most, however many edges and pivots it has.
+FULL_MEGABYTES = 40
 # The same of a thousand bad reads, each with a snapshot that fits its reader, whatever that passes over.
 OLD_SECONDS = 2
 
@@ -68,6 +70,22 @@ def ring() -> Case:
     lines += [f"pivot {i} in {behind[i]} out {before[i]}{firsts.get(i, '')}" for i in before]
     steps = "".join(f" >rw:{i % count + 1}> {i}" for i in range(count, 0, -1))
     lines += ["ssi fail", "serializable no", f"cycle 1{steps}"]
+    return Case(joined(tokens), ("\n".join(lines) + "\n").encode(), 1)
+
+
+def all_overlapping() -> Case:
+    """Transactions that overlap: each reads all keys and writes the one of its number. So each is a pivot between all others."""
+    count = 2_000
+    ids = [str(it) for it in range(1, count + 1)]
+    tokens = [f"r{it}[1..{count}]" for it in ids] + [f"w{it}[{it}]" for it in ids] + [f"c{it}" for it in ids]
+    lines = [f"events {3 * count} committed {count} aborted 0 open 0", "isolation kept"]
+    lines += [f"edge {it} rw {other} {other}" for it in ids for other in ids if other != it]
+    # Commits ascend, and each transaction is before and behind all others. So those are first that commit before the pivot.
+    for place, it in enumerate(ids):
+        others = " ".join(ids[:place] + ids[place + 1 :])
+        firsts = "".join(f" {other}" for other in ids[:place])
+        lines.append(f"pivot {it} in {others} out {others}{' first' + firsts if firsts else ''}")
+    lines += ["ssi fail", "serializable no", "cycle 1 >rw:2> 2 >rw:1> 1"]
     return Case(joined(tokens), ("\n".join(lines) + "\n").encode(), 1)
 
 
@@ -336,6 +354,8 @@ def main(words: Sequence[str]) -> int:
         for make in CASES:
             tried.make(make)
             tried.runs(make.__name__, LINES, SECONDS)
+        tried.make(all_overlapping)
+        tried.runs(all_overlapping.__name__, LINES, SECONDS, FULL_MEGABYTES)
         for make in REFUSED:
             tried.explained(make)
         for name in hard.OLD_SNAPSHOTS:
