@@ -18,7 +18,7 @@ pub use fault::NoMemory;
 pub use job::{Gate, Job, OpenGate};
 pub use line::line_up;
 pub use pool::{Crew, work_off};
-pub use rule::{core_law, rule_law};
+pub use rule::laws_hold;
 pub use taker::{Taken, Taker};
 
 #[cfg(test)]

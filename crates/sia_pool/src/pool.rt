@@ -4,13 +4,12 @@ ghost use Rattle.std.specs.List.{range_with_len, concat};
 ghost use Rattle.std.specs.List.Sorted.{IsStrictlyIncreasing};
 ghost use Rattle.sia_pool.specs.Core.{Reached};
 ghost use Rattle.sia_pool.specs.Answers.{lists_of, AnswersEach};
-ghost use Rattle.sia_pool.specs.Threads.{IsInOrder};
 
 use crate::fault::NoMemory;
 use crate::job::{Gate, Job};
 use crate::line::line_up;
 use crate::threads::{Worked, run_all, work};
-use std::alloc::{AllocError, Global};
+use std::alloc::Global;
 use std::sync::Wait;
 use std::thread::Threads;
 
@@ -59,18 +58,11 @@ where
     } = run_all(rt, alloc, takers, job, gate)?;
     // The owner, which has all views back, takes what is left. Its last pop shows that nothing is.
     work(rt, &mut taker, &mut answers, job, gate)?;
-    let outs = in_order(alloc, answers)?;
+    // No two answers are to one part, so there is nothing to keep stable.
+    answers.sort_unstable_by_key(|answer| answer.0);
+    let outs = answers.into_iter().map(|(_, out)| out).collect(alloc)?;
     Ok(Crew {
         outs,
         shares: taker.into_shares(),
     })
-}
-
-/// The answers without their parts, in the order of the parts.
-fn in_order<Out: Drop>(alloc: Global, mut answers: Vec<(u32, Out)>) -> Result<Vec<Out>, AllocError>
-    ensures { IfOk result (λ outs. IsInOrder answers.items outs.items) }
-{
-    // No two answers are to one part, so there is nothing to keep stable.
-    answers.sort_unstable_by_key(|answer| answer.0);
-    answers.into_iter().map(|(_, out)| out).collect(alloc)
 }

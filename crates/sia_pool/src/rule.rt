@@ -87,14 +87,12 @@ pub type StealerEnd = Stealer<u32, Global, View, PoolRule>;
 /// A port of the deque, with the view of the stealer that has it.
 pub type StealerPass = Pass<u32, View>;
 
-/// What the states look like that the core reaches, of which `work_off` and `Taker::next_part` speak.
-pub fn core_law()
-    ensures { CoreLaw }
-{}
-
-/// That each kind of step of the deque keeps its rule, and that a state which meets the rule is one that the core reaches.
-pub fn rule_law()
-    ensures { RuleLaw }
+/// Does nothing. Each clause is a law.
+pub fn laws_hold()
+    // What the states look like that the core reaches, of which `work_off` and `Taker::next_part` speak.
+    ensures core_law { CoreLaw }
+    // That each kind of step of the deque keeps its rule, and that a state which meets the rule is one that the core reaches.
+    ensures rule_law { RuleLaw }
 {}
 
 /// The view of a taker: what its port of the deque records. It is for proofs, and no value of it is made.

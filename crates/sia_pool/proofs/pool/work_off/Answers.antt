@@ -1,5 +1,10 @@
-use Rattle.std.proofs.Common.{◌<◌, subst}
-use Rattle.sia_pool.proofs.FinishLemmas.{ready, all_counted, have_run, all_back, finished}
+use Rattle.std.proofs.Common.{◌<◌, ◌∙◌, ℕ, Ok, subst, rules}
+use Rattle.std.proofs.lemmas.Iterator.{YieldsList-from_map, items_from_collect}
+use Rattle.std.proofs.lemmas.Iterator.Adapters.{YieldsList-from_vec}
+use Rattle.std.proofs.lemmas.Iterator.Consumers.{YieldsList-at}
+use Rattle.std.proofs.lemmas.List.Sorted.{IsNonDecreasingBy-from_sort_by_key}
+use Rattle.sia_pool.proofs.FinishLemmas.{IsFinished, ready, all_counted, have_run, all_back, finished}
+use Rattle.sia_pool.proofs.pool.work_off.Goals.{After-into_shares}
 use Rattle.sia_pool.proofs.pool.work_off.Goals as goal
 
 pub run_all-requires-clause-ready : goal.run_all-requires-clause-ready
@@ -18,38 +23,30 @@ into_shares-requires-clause-all g c =
     all_back (g.J.Job.owes c.args.job.now) c.args.count c.args.workers c.in_ok-taker.field-0.taker c.work.new.taker c.in_ok-taker.field-0.answers.items c.work.new.answers.items _
     (have_run (g.J.Job.owes c.args.job.now) c.args.count c.args.workers c.in_ok-takers.takers.items _ _ c.in_ok-takers.ensures c.in_ok-taker.ensures) c.in_ok-work.ensures
 
-pub returns-clause-len : goal.returns-clause-len
-returns-clause-len g c =
-    (finished (g.J.Job.owes c.args.job.now) c.args.count c.args.workers c.in_ok-taker.field-0.taker c.work.new.taker c.in_ok-taker.field-0.answers.items c.work.new.answers.items _
+-- what the call promises
+done : (g : _) (c : After-into_shares g) → IsFinished (g.J.Job.owes c.args.job.now) c.args.count c.args.workers c.in_ok-outs.outs.items c.into_shares.result.items
+done g c =
+    let sorted = c.sort_unstable_by_key.new.self in
+    let items = items_from_collect {E = ℕ} (Ok c.in_ok-outs.outs) c.in_ok-outs.ensures.ran (YieldsList-from_map _ (λ a. a.1) (YieldsList-at c.map.ensures.source (YieldsList-from_vec sorted.items c.into_iter.ensures.rest (c.into_iter.ensures.len ∙ sorted.ok.0))) c.map.ensures.closure (λ x r q k. search rules)) in
+    finished (g.J.Job.owes c.args.job.now) c.args.count c.args.workers c.in_ok-taker.field-0.taker c.work.new.taker c.in_ok-taker.field-0.answers.items c.work.new.answers.items _
     (have_run _ c.args.count c.args.workers c.in_ok-takers.takers.items _ _ c.in_ok-takers.ensures c.in_ok-taker.ensures)
-    c.in_ok-work.ensures c.in_ok-outs.outs.items c.into_shares.result.items c.in_ok-outs.ensures c.into_shares.ensures).len
+    c.in_ok-work.ensures c.in_ok-outs.outs.items c.into_shares.result.items
+    (sorted.items, c.sort_unstable_by_key.ensures.permutation, IsNonDecreasingBy-from_sort_by_key (λ a. a.0) _ c.sort_unstable_by_key.ensures.sorted (λ a r q k. search rules), items) c.into_shares.ensures
+
+pub returns-clause-len : goal.returns-clause-len
+returns-clause-len g c = (done g (goal.at.returns-clause-len g c).After-into_shares).len
 
 pub returns-clause-owed : goal.returns-clause-owed
-returns-clause-owed g c =
-    (finished (g.J.Job.owes c.args.job.now) c.args.count c.args.workers c.in_ok-taker.field-0.taker c.work.new.taker c.in_ok-taker.field-0.answers.items c.work.new.answers.items _
-    (have_run _ c.args.count c.args.workers c.in_ok-takers.takers.items _ _ c.in_ok-takers.ensures c.in_ok-taker.ensures)
-    c.in_ok-work.ensures c.in_ok-outs.outs.items c.into_shares.result.items c.in_ok-outs.ensures c.into_shares.ensures).owed
+returns-clause-owed g c = (done g (goal.at.returns-clause-owed g c).After-into_shares).owed
 
 pub returns-clause-reached : goal.returns-clause-reached
-returns-clause-reached g c =
-    (finished (g.J.Job.owes c.args.job.now) c.args.count c.args.workers c.in_ok-taker.field-0.taker c.work.new.taker c.in_ok-taker.field-0.answers.items c.work.new.answers.items _
-    (have_run _ c.args.count c.args.workers c.in_ok-takers.takers.items _ _ c.in_ok-takers.ensures c.in_ok-taker.ensures)
-    c.in_ok-work.ensures c.in_ok-outs.outs.items c.into_shares.result.items c.in_ok-outs.ensures c.into_shares.ensures).reached
+returns-clause-reached g c = (done g (goal.at.returns-clause-reached g c).After-into_shares).reached
 
 pub returns-clause-workers : goal.returns-clause-workers
-returns-clause-workers g c =
-    (finished (g.J.Job.owes c.args.job.now) c.args.count c.args.workers c.in_ok-taker.field-0.taker c.work.new.taker c.in_ok-taker.field-0.answers.items c.work.new.answers.items _
-    (have_run _ c.args.count c.args.workers c.in_ok-takers.takers.items _ _ c.in_ok-takers.ensures c.in_ok-taker.ensures)
-    c.in_ok-work.ensures c.in_ok-outs.outs.items c.into_shares.result.items c.in_ok-outs.ensures c.into_shares.ensures).sized
+returns-clause-workers g c = (done g (goal.at.returns-clause-workers g c).After-into_shares).sized
 
 pub returns-clause-once : goal.returns-clause-once
-returns-clause-once g c =
-    (finished (g.J.Job.owes c.args.job.now) c.args.count c.args.workers c.in_ok-taker.field-0.taker c.work.new.taker c.in_ok-taker.field-0.answers.items c.work.new.answers.items _
-    (have_run _ c.args.count c.args.workers c.in_ok-takers.takers.items _ _ c.in_ok-takers.ensures c.in_ok-taker.ensures)
-    c.in_ok-work.ensures c.in_ok-outs.outs.items c.into_shares.result.items c.in_ok-outs.ensures c.into_shares.ensures).once
+returns-clause-once g c = (done g (goal.at.returns-clause-once g c).After-into_shares).once
 
 pub returns-clause-ascending : goal.returns-clause-ascending
-returns-clause-ascending g c =
-    (finished (g.J.Job.owes c.args.job.now) c.args.count c.args.workers c.in_ok-taker.field-0.taker c.work.new.taker c.in_ok-taker.field-0.answers.items c.work.new.answers.items _
-    (have_run _ c.args.count c.args.workers c.in_ok-takers.takers.items _ _ c.in_ok-takers.ensures c.in_ok-taker.ensures)
-    c.in_ok-work.ensures c.in_ok-outs.outs.items c.into_shares.result.items c.in_ok-outs.ensures c.into_shares.ensures).ascending
+returns-clause-ascending g c = (done g (goal.at.returns-clause-ascending g c).After-into_shares).ascending
