@@ -1,5 +1,5 @@
 -- What a log that is being made holds of the events so far.
-use Rattle.std.specs.Prelude.{◌≡◌, ◌≢◌, ◌⊎◌, ℕ, zero, suc, ◌-◌, ◌==◌, ◌<◌, ◌≤◌, ◌^◌, true, false, List, [], ◌∷◌, ◌++◌, map, length, Some, None, Result, Ok, Err, ⊤, slice_get}
+use Rattle.std.specs.Prelude.{◌≡◌, ◌≢◌, ◌⊎◌, ℕ, zero, suc, ◌+◌, ◌-◌, ◌==◌, ◌<◌, ◌≤◌, ◌^◌, true, false, List, [], ◌∷◌, ◌++◌, map, length, Some, None, Result, Ok, Err, ⊤, slice_get}
 use Rattle.std.specs.Prelude.{Bool, ◌||◌}
 use Rattle.std.specs.List.{list_any, list_all, fold}
 use Rattle.sia_events.specs.declared.event.Event.{Event}
@@ -12,17 +12,18 @@ use Rattle.sia_events.specs.declared.log.TxnEnd.TheVariants.{Open}
 use Rattle.sia_events.specs.declared.log.TxnRow.{TxnRow}
 use Rattle.sia_events.specs.declared.log.WriteRow.{WriteRow}
 use Rattle.sia_events.specs.declared.log.SeenRow.{SeenRow}
+use Rattle.sia_events.specs.declared.draft.Mention.{Mention}
 use Rattle.sia_events.specs.declared.log.Tables.{Tables}
 use Rattle.sia_events.specs.declared.draft.Draft.{Draft}
 use Rattle.sia_events.specs.Finding.{Finds}
 use Rattle.sia_events.specs.OwnWrites.{Tracks}
 use Rattle.sia_events.specs.Known.{ends, fault_of}
-use Rattle.sia_events.specs.Numbering.{Names, entered, same_number, same_pair, IsSeen, IsWithin, IsMarked, event_of, pair_at, writes_of}
+use Rattle.sia_events.specs.Numbering.{Names, entered, same_number, same_pair, IsSeen, IsWithin, IsMarked, event_of, mark, pair_at, writes_of}
 use Rattle.sia_events.specs.LogTables.{AreTables, AreSound, txn_names, names_in, events_of}
 
 -- a row by key: its write made its version of the key
 abbrev pub AreSeen : Names → List SeenRow → Type 0
-AreSeen names seen = (i : ℕ) (x : SeenRow) → slice_get seen i ≡ Some x → (k : ℕ) × (slice_get names.keys i ≡ Some k) × IsSeen names k x.version x.write
+AreSeen names seen = (i : ℕ) (x : SeenRow) → slice_get seen i ≡ Some x → (slice_get names.keys i ≡ Some x.key) × IsSeen names x.key x.version x.write
 
 -- each row is found by its name
 pub record AreFound (d : Draft) : Type 0 where
@@ -31,6 +32,7 @@ pub record AreFound (d : Draft) : Type 0 where
   pub keys : Finds d.keys (map (λ key. key) d.tables.keys.items)
   pub writes : Tracks d.writes d.tables.writes.items
   pub long : length d.tables.txns.items ≤ length d.writes.writers.items
+  pub level : length d.last_seen.items ≡ length d.tables.keys.items
   pub seen : AreSeen (names_in d.tables) d.last_seen.items
 
 unfoldable pub Knows : Draft → Type 0
@@ -107,6 +109,19 @@ pub record IsReadRow (names : Names) (t k v : ℕ) (r : Row) : Type 0 where
   pub spells : event_of names r ≡ Read t k v
   pub within : IsWithin names r
   pub marked : (h : List Event) → names.writes ≡ writes_of h → IsMarked names h r
+
+-- the listed keys with their versions
+abbrev pub mentioned : List Mention → List (ℕ × ℕ)
+mentioned listed = map (λ m. (m.key, m.saw)) listed
+
+-- a listed pair has the number: that of its write, or of its key, which may be a new one, where version 0 was seen
+pub record HasPair (t u : Tables) (k v pair : ℕ) : Type 0 where
+  pub number : ℕ
+  pub write : ℕ
+  pub has : HasKey t u k number
+  pub seen : IsSeen (names_in u) k v write
+  pub some : 0 < write → pair ≡ write
+  pub none : write ≡ 0 → pair ≡ mark + number
 
 -- a listed pair has a number at the end of the list of all pairs
 pub record ListsOne (t u : Tables) (k v : ℕ) : Type 0 where

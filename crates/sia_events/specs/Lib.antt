@@ -1,5 +1,6 @@
 pub mod Places
 pub mod Limits
+pub mod Listings
 pub mod Lists
 pub mod Text
 pub mod Events

@@ -2,7 +2,7 @@
 ghost use Rattle.std.specs.Prelude.{◌≡◌, ◌≢◌, ◌+◌, ◌^◌, ◌≤◌, ◌<◌, ◌++◌, ◌∷◌, [], ℕ, Some, true, false, length, not, nat_lt, slice_get, IfOk, IfErr, IfSome, IfNone, MatchOption, OnOk};
 ghost use Rattle.std.specs.List.{list_any};
 ghost use Rattle.sia_events.specs.declared.event.Event.TheVariants as an_event;
-ghost use Rattle.sia_events.specs.Drafts.{AreFound, Knows, CanTake, SameButTxns, SameButWrites, IsNew, new_txn, Acts, HasKey, HasWrite, IsReadRow, IsWriteOr, Lists, ListsOne, StopsListing, StopsAtPair, StopsActing, Takes};
+ghost use Rattle.sia_events.specs.Drafts.{AreFound, Knows, CanTake, SameButTxns, SameButWrites, IsNew, new_txn, Acts, HasKey, HasPair, HasWrite, IsReadRow, IsWriteOr, Lists, ListsOne, StopsListing, StopsAtPair, StopsActing, Takes, mentioned};
 ghost use Rattle.sia_events.specs.Known.{ends, goes_up, least_after};
 ghost use Rattle.sia_events.specs.LogTables.{events_of, names_in, txn_names};
 ghost use Rattle.sia_events.specs.Numbering.{IsSeen, same_pair};
@@ -25,6 +25,14 @@ pub(crate) struct Draft {
     last_seen: Vec<SeenRow>,
 }
 
+/// A listed key with its version, and the number that the key may well have.
+#[derive(Clone, Copy)]
+pub(crate) struct Mention {
+    pub(crate) key: Key,
+    pub(crate) saw: Version,
+    pub(crate) number: u32,
+}
+
 /// The number of a listed pair: its write's, or the mark and its key's where version 0 was seen.
 fn pair_number(key: u32, write: u32) -> u32
     requires key { key < 2 ^ 29 }
@@ -45,20 +53,17 @@ fn follows(before: Option<Key>, lo: Key, key: Key) -> bool
 }
 
 /// Whether the listed keys lie from `lo` to `hi`, each greater than the one before it.
-fn is_good_list(lo: Key, hi: Key, listed: &[(Key, Version)]) -> bool
-    ensures { result ≡ goes_up lo hi listed.now }
+fn is_good_list(lo: Key, hi: Key, listed: &[Mention]) -> bool
+    ensures { result ≡ goes_up lo hi (mentioned listed.now) }
 {
     let mut before: Option<Key> = None;
-    for (key, _) in listed {
-        if !follows(before, lo, *key) {
+    for mention in listed {
+        if !follows(before, lo, mention.key) {
             return false;
         }
-        if hi < *key {
-            return false;
-        }
-        before = Some(*key);
+        before = Some(mention.key);
     }
-    true
+    before.is_none_or(|last| last <= hi)
 }
 
 impl Draft {
@@ -189,6 +194,7 @@ impl Draft {
             return Err(AllocError);
         }
         self.last_seen.push(SeenRow {
+            key: name,
             version: 0,
             write: 0,
         })?;
@@ -209,44 +215,41 @@ impl Draft {
         }
     }
 
-    fn seen_last(&self, key: u32, saw: Version) -> Option<u32>
+    fn seen_last(&self, number: u32, key: Key, saw: Version) -> Option<u32>
         requires { AreFound self.now }
-        ensures { (k : ℕ) → slice_get self.now.tables.keys.items key ≡ Some k
-            → IfSome result (IsSeen (names_in self.now.tables) k saw) }
+        ensures key { IfSome result (λ w. slice_get self.now.tables.keys.items number ≡ Some key) }
+        ensures seen { IfSome result (IsSeen (names_in self.now.tables) key saw) }
     {
-        match self.last_seen.get(key as usize) {
-            Some(row) if row.version == saw => Some(row.write),
+        match self.last_seen.get(number as usize) {
+            Some(row) if row.key == key && row.version == saw => Some(row.write),
             _ => None,
         }
     }
 
     /// The write that made the version of the key: 0 made version 0.
-    fn seen(&mut self, key: u32, saw: Version) -> Option<u32>
-        requires { AreFound self.old }
+    fn seen(&mut self, number: u32, key: Key, saw: Version) -> Option<u32>
+        requires found { AreFound self.old }
+        requires key { slice_get self.old.tables.keys.items number ≡ Some key }
         ensures same { self.new.tables ≡ self.old.tables }
         ensures found { AreFound self.new }
-        ensures some { (k : ℕ) → slice_get self.old.tables.keys.items key ≡ Some k
-            → IfSome result (IsSeen (names_in self.old.tables) k saw) }
-        ensures none { (k : ℕ) → slice_get self.old.tables.keys.items key ≡ Some k
-            → IfNone result ((saw ≢ 0) × (list_any (same_pair (k, saw)) (names_in self.old.tables).writes
-            ≡ false)) }
+        ensures some { IfSome result (IsSeen (names_in self.old.tables) key saw) }
+        ensures none { IfNone result ((saw ≢ 0) × (list_any (same_pair (key, saw))
+            (names_in self.old.tables).writes ≡ false)) }
     {
-        if let Some(write) = self.seen_last(key, saw) {
+        if let Some(write) = self.seen_last(number, key, saw) {
             return Some(write);
         }
         if saw == 0 {
             return Some(0);
         }
         let txn = self.find_txn(saw)?;
-        let write = self.write_by(txn, key);
+        let write = self.write_by(txn, number);
         if write == 0 {
             return None;
         }
-        if let Some(row) = self.last_seen.get_mut(key as usize) {
-            *row = SeenRow {
-                version: saw,
-                write,
-            };
+        if let Some(row) = self.last_seen.get_mut(number as usize) {
+            row.version = saw;
+            row.write = write;
         }
         Some(write)
     }
@@ -278,11 +281,11 @@ impl Draft {
         ensures { Takes self.old self.new (an_event.Read txn key saw) result }
     {
         let txn = self.actor(txn)?;
-        let key = self.key(NO_KEY, key)?;
-        let Some(saw) = self.seen(key, saw) else {
+        let number = self.key(NO_KEY, key)?;
+        let Some(saw) = self.seen(number, key, saw) else {
             return Err(Refusal::Bad(Reason::NotWritten));
         };
-        let row = self.read_row(txn, key, saw);
+        let row = self.read_row(txn, number, saw);
         self.tables.events.push(row)?;
         Ok(())
     }
@@ -305,11 +308,10 @@ impl Draft {
         txn: TxnId,
         lo: Key,
         hi: Key,
-        listed: &[(Key, Version)],
-        behind: &[u32],
+        listed: &[Mention],
     ) -> Result<(), Refusal>
         requires { CanTake self.old }
-        ensures { Takes self.old self.new (an_event.Range txn lo hi listed.now) result }
+        ensures { Takes self.old self.new (an_event.Range txn lo hi (mentioned listed.now)) result }
     {
         let txn = self.actor(txn)?;
         if hi < lo {
@@ -319,7 +321,7 @@ impl Draft {
             return Err(Refusal::Bad(Reason::BadList));
         }
         let from = self.tables.pairs.len();
-        self.list(listed, behind)?;
+        self.list(listed)?;
         let to = self.tables.pairs.len();
         let range = self.tables.ranges.len();
         if range >= MOST_ROWS {
@@ -340,37 +342,47 @@ impl Draft {
         Ok(())
     }
 
-    /// Takes in the listed pairs. By the number of a key, `behind` has that of the one that may well be listed next.
-    fn list(&mut self, listed: &[(Key, Version)], behind: &[u32]) -> Result<(), Refusal>
+    /// Takes in the listed pairs.
+    fn list(&mut self, listed: &[Mention]) -> Result<(), Refusal>
         requires { AreFound self.old }
         ensures found { OnOk result (AreFound self.new) }
-        ensures lists { OnOk result (Lists self.old.tables self.new.tables listed.now) }
-        ensures refused { IfErr result (StopsListing self.old self.new listed.now) }
+        ensures lists { OnOk result (Lists self.old.tables self.new.tables (mentioned listed.now)) }
+        ensures refused { IfErr result (StopsListing self.old self.new (mentioned listed.now)) }
     {
-        let mut guess = NO_KEY;
-        for (key, saw) in listed {
-            let number = self.list_one(guess, *key, *saw)?;
-            guess = behind.get(number as usize).copied().unwrap_or(NO_KEY);
+        if listed.len() > MOST_PAIRS - self.tables.pairs.len() {
+            return Err(Refusal::NoMemory);
+        }
+        for mention in listed {
+            let pair = match self.known_pair(mention) {
+                Some(pair) => pair,
+                None => self.other_pair(mention)?,
+            };
+            self.tables.pairs.push(pair)?;
         }
         Ok(())
     }
 
-    /// Takes in a listed pair, and answers the number of its key.
-    fn list_one(&mut self, guess: u32, key: Key, saw: Version) -> Result<u32, Refusal>
+    /// The number of a listed pair, where that of its key is the given one, and its version was seen last.
+    fn known_pair(&self, mention: &Mention) -> Option<u32>
+        requires { AreFound self.now }
+        ensures { IfSome result (HasPair self.now.tables self.now.tables mention.now.key mention.now.saw) }
+    {
+        let write = self.seen_last(mention.number, mention.key, mention.saw)?;
+        Some(pair_number(mention.number, write))
+    }
+
+    #[inline(never)]
+    fn other_pair(&mut self, mention: &Mention) -> Result<u32, Refusal>
         requires { AreFound self.old }
         ensures found { OnOk result (AreFound self.new) }
-        ensures lists { OnOk result (ListsOne self.old.tables self.new.tables key saw) }
-        ensures refused { IfErr result (StopsAtPair self.old self.new key saw) }
+        ensures has { IfOk result (HasPair self.old.tables self.new.tables mention.now.key mention.now.saw) }
+        ensures refused { IfErr result (StopsAtPair self.old self.new mention.now.key mention.now.saw) }
     {
-        let number = self.key(guess, key)?;
-        let Some(write) = self.seen(number, saw) else {
+        let number = self.key(mention.number, mention.key)?;
+        let Some(write) = self.seen(number, mention.key, mention.saw) else {
             return Err(Refusal::Bad(Reason::NotWritten));
         };
-        if self.tables.pairs.len() >= MOST_PAIRS {
-            return Err(Refusal::NoMemory);
-        }
-        self.tables.pairs.push(pair_number(number, write))?;
-        Ok(number)
+        Ok(pair_number(number, write))
     }
 
     #[tactic(auto, unfolding(crate::specs::Drafts::Takes))]

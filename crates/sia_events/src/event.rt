@@ -12,31 +12,31 @@ pub type Version = u32;
 
 pub type Key = u64;
 
-/// The keys that a range read listed, each with the version that it saw.
+/// A list: of what a range read listed, or of what a verdict lists.
 #[derive(Drop)]
-pub struct Listed {
-    pairs: Vec<(Key, Version)>,
+pub struct Listed<T> {
+    rows: Vec<T>,
 }
 
-impl Model for Listed {
-    ghost use Rattle.std.specs.Prelude.{List, ℕ};
+impl<T> Model for Listed<T> {
+    ghost use Rattle.std.specs.Prelude.{List};
 
-    ghost Value = { List (ℕ × ℕ) };
+    ghost Value = { List T };
 
-    ghost view = { λ a. a.pairs.items };
+    ghost view = { λ a. a.rows.items };
 }
 
-impl Listed {
-    pub fn new(pairs: Vec<(Key, Version)>) -> Self
-        ensures { result ≡ pairs.items }
+impl<T> Listed<T> {
+    pub fn new(rows: Vec<T>) -> Self
+        ensures { result ≡ rows.items }
     {
-        Listed { pairs }
+        Listed { rows }
     }
 
-    pub fn as_slice(&self) -> &[(Key, Version)]
+    pub fn as_slice(&self) -> &[T]
         ensures { result.now ≡ self.now }
     {
-        self.pairs.as_slice()
+        self.rows.as_slice()
     }
 }
 
@@ -56,7 +56,8 @@ pub enum Event {
         txn: TxnId,
         lo: Key,
         hi: Key,
-        listed: Listed,
+        /// The keys that are listed, each with the version that it was seen at.
+        listed: Listed<(Key, Version)>,
     },
     Write {
         txn: TxnId,

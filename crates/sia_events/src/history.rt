@@ -9,7 +9,7 @@ ghost use Rattle.sia_events.specs.declared.event.Event.{Event};
 use crate::event::{Event, Key, Listed, Version};
 use crate::fault::NoMemory;
 use crate::log::{Log, Row};
-use std::alloc::{AllocError, Global};
+use std::alloc::Global;
 use std::marker::Model;
 
 /// A well-formed history: its events, in the order in which they were recorded.
@@ -36,8 +36,13 @@ impl History {
         let mut events = Vec::with_capacity(alloc, log.len() as usize)?;
         for before in 0..log.len() {
             if let Some(row) = log.row(before + 1) {
-                let listed = pairs_of(alloc, &log, row)?;
-                events.push(event_from(&log, row, Listed::new(listed)))?;
+                let mut pairs = Vec::new(alloc);
+                if let Row::Range { range, .. } = row {
+                    for pair in log.listed(range) {
+                        pairs.push(log.pair(*pair))?;
+                    }
+                }
+                events.push(event_from(&log, row, Listed::new(pairs)))?;
             }
         }
         Ok(History { events, log })
@@ -77,7 +82,7 @@ impl History {
 }
 
 /// The event that a row stands for, with these listed pairs if it is a range read.
-pub(crate) fn event_from(log: &Log, row: Row, listed: Listed) -> Event
+pub(crate) fn event_from(log: &Log, row: Row, listed: Listed<(Key, Version)>) -> Event
     requires { IsWithin (names_of log.now) row }
     ensures { result ≡ listing listed (event_of (names_of log.now) row) }
 {
@@ -111,21 +116,4 @@ pub(crate) fn event_from(log: &Log, row: Row, listed: Listed) -> Event
             txn: log.txn(txn).name,
         },
     }
-}
-
-/// The pairs that the event listed, if it is a range read.
-fn pairs_of(alloc: Global, log: &Log, row: Row) -> Result<Vec<(Key, Version)>, AllocError>
-    requires { IsWithin (names_of log.now) row }
-    ensures { IfOk result (λ pairs. listing pairs.items (event_of (names_of log.now) row)
-        ≡ event_of (names_of log.now) row) }
-{
-    let Row::Range { range, .. } = row else {
-        return Ok(Vec::new(alloc));
-    };
-    let listed = log.listed(range);
-    let mut pairs = Vec::with_capacity(alloc, listed.len())?;
-    for pair in listed {
-        pairs.push(log.pair(*pair))?;
-    }
-    Ok(pairs)
 }

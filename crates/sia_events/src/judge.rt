@@ -4,7 +4,7 @@ ghost use Rattle.std.specs.List.{AllByRecursion, position_or_len};
 ghost use Rattle.std.specs.Simd.Lanes.{chunk};
 ghost use Rattle.sia_events.specs.declared.event.Event.{Event as AnEvent};
 ghost use Rattle.sia_events.specs.Parsing.{Fails, event_with};
-ghost use Rattle.sia_events.specs.Drafts.{Knows, CanTake, Takes, Stays};
+ghost use Rattle.sia_events.specs.Drafts.{Knows, CanTake, Takes, Stays, mentioned};
 ghost use Rattle.sia_events.specs.LogTables.{events_of};
 ghost use Rattle.sia_events.specs.Judging.{judged, JudgedAll, Halts, HaltsIn, as_token, IsSplitAfter};
 ghost use Rattle.sia_events.specs.Text.{is_separator, tokens};
@@ -63,15 +63,12 @@ impl Judge {
     /// Takes the event of a token beside which its listed pairs stand, unless it has a reason.
     fn admit(&mut self, token: Token) -> Result<(), Refusal>
         requires { CanTake self.old.draft }
-        ensures { Takes self.old.draft self.new.draft (event_with self.old.listing.pairs.items token) result }
+        ensures { Takes self.old.draft self.new.draft (event_with (mentioned self.old.listing.pairs.items) token) result }
     {
         match token {
             Token::Begin { txn, start } => self.draft.begin(txn, start),
             Token::Read { txn, key, saw } => self.draft.read(txn, key, saw),
-            Token::Range { txn, lo, hi } => {
-                let behind = &self.listing.spellings.behind;
-                self.draft.range(txn, lo, hi, &self.listing.pairs, behind)
-            }
+            Token::Range { txn, lo, hi } => self.draft.range(txn, lo, hi, &self.listing.pairs),
             Token::Write { txn, key } => self.draft.write(txn, key),
             Token::Commit { txn } => self.draft.commit(txn),
             Token::Abort { txn } => self.draft.abort(txn),

@@ -22,10 +22,7 @@ mod writer;
 pub use event::{Anomaly, Event, Key, Listed, TxnId, Version};
 pub use fault::{NoMemory, Reason, TextFault};
 pub use history::History;
-pub use laws::{
-    accepted_text_has_a_history, anomaly_law, canonical_law, greater_limits_accept,
-    named_starts_only_add, narrow_law, one_history, one_refusal, round_trip, unwritten_law,
-};
+pub use laws::laws_hold;
 pub use limits::Limits;
 pub use locating::{Locator, Place};
 pub use log::{Log, Row, TxnEnd, TxnRow, WriteRow};

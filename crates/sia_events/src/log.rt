@@ -200,6 +200,7 @@ pub struct WriteRow {
 /// A version of a key that was seen, and the write that made it.
 #[derive(Clone, Copy)]
 pub(crate) struct SeenRow {
+    pub(crate) key: Key,
     pub(crate) version: Version,
     pub(crate) write: u32,
 }

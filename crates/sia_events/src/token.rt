@@ -1,11 +1,13 @@
 //! One token: the event that it spells.
-ghost use Rattle.std.specs.Prelude.{ℕ, List};
-ghost use Rattle.sia_events.specs.Parsing.{Gives, kept, event_with, after_byte, ended, begin_at, write_at, item_at, list_at, list_of, range_at, read_at, commit_at, abort_at, event_at};
+ghost use Rattle.std.specs.Prelude.{◌≡◌, ℕ, List, IfOk, IfErr, MatchOption};
+ghost use Rattle.sia_events.specs.Drafts.{mentioned};
+ghost use Rattle.sia_events.specs.Listings.{listed, TakesPair};
+ghost use Rattle.sia_events.specs.Parsing.{Gives, Fails, event_with, after_byte, ended, begin_at, write_at, item_at, list_at, list_of, pair_at, range_at, read_at, commit_at, abort_at, event_at};
 
-use crate::draft::{Draft, NO_KEY};
+use crate::draft::{Draft, Mention, NO_KEY};
 use crate::event::{Key, TxnId, Version};
 use crate::fault::{Reason, Refusal};
-use crate::mentions::{Spellings, pair};
+use crate::mentions::{Spelling, SpellingRow, keep, pair};
 use crate::number::{Number, after, number, txn_in, version_in};
 use std::alloc::Global;
 
@@ -20,19 +22,63 @@ pub(crate) enum Token {
     Abort { txn: TxnId },
 }
 
-/// What the last range read listed, and how pairs were spelled.
+/// What the last range read listed, and by the numbers of keys how they were spelled.
 #[derive(Drop)]
 pub(crate) struct Listing {
-    pub(crate) pairs: Vec<(Key, Version)>,
-    pub(crate) spellings: Spellings,
+    pub(crate) pairs: Vec<Mention>,
+    /// Once a number was out of its range, the pairs count for nothing.
+    in_range: bool,
+    rows: Vec<SpellingRow>,
+    /// The number of the key that may well be listed next.
+    guess: u32,
 }
 
 impl Listing {
     pub(crate) fn new(alloc: Global) -> Self {
         Listing {
             pairs: Vec::new(alloc),
-            spellings: Spellings::new(alloc),
+            in_range: true,
+            rows: Vec::new(alloc),
+            guess: NO_KEY,
         }
+    }
+
+    /// Takes in a pair, where it is spelled as the key that is guessed was the last time, and answers what follows.
+    #[inline(always)]
+    fn take_again<'a>(&mut self, text: &'a [u8]) -> Result<Option<&'a [u8]>, Refusal>
+        ensures takes { IfOk result (λ taken. MatchOption taken (listed self.new ≡ listed self.old)
+            (λ rest. TakesPair (listed self.old) (listed self.new) text.now rest.now)) }
+        ensures fails { IfErr result (λ fault. Fails fault (pair_at text.now)) }
+    {
+        let number = self.guess;
+        if let Some(SpellingRow { spelling, behind }) = self.rows.get(number as usize) {
+            if let Some(rest) = spelling.past(text) {
+                let Spelling { key, saw, .. } = *spelling;
+                self.pairs.push(Mention { key, saw, number })?;
+                self.guess = *behind;
+                return Ok(Some(rest));
+            }
+        }
+        Ok(None)
+    }
+
+    /// Takes in any pair.
+    #[inline(never)]
+    fn take<'a>(&mut self, draft: &Draft, text: &'a [u8]) -> Result<&'a [u8], Refusal>
+        ensures takes { IfOk result (λ rest. TakesPair (listed self.old) (listed self.new) text.now rest.now) }
+        ensures fails { IfErr result (λ fault. Fails fault (pair_at text.now)) }
+    {
+        let (read, rest) = pair(text)?;
+        let Some((key, saw)) = read else {
+            self.in_range = false;
+            return Ok(rest);
+        };
+        let number = draft.find_key(self.guess, key).unwrap_or(NO_KEY);
+        let spelling = Spelling::of(&text[..text.len() - rest.len()], key, saw);
+        let last = self.pairs.last().map_or(NO_KEY, |last| last.number);
+        self.guess = keep(&mut self.rows, last, number, spelling)?;
+        self.pairs.push(Mention { key, saw, number })?;
+        Ok(rest)
     }
 }
 
@@ -92,28 +138,31 @@ fn item(txn: Number, key: Number, text: &[u8]) -> Result<Token, Refusal>
     Ok(Token::Read { txn, key, saw })
 }
 
-/// Takes in the listed keys, if there are any. It answers whether all numbers are in their ranges, and what follows the last.
+/// Takes in the listed pairs, if there are any. It answers what follows the last.
 fn list<'a>(
     listing: &mut Listing,
     draft: &Draft,
+    lo: Number,
     text: &'a [u8],
-) -> Result<(bool, &'a [u8]), Refusal>
-    ensures { Gives (λ x. (kept x.0 listing.new.pairs.items, x.1.now)) result (list_at text.now) }
+) -> Result<&'a [u8], Refusal>
+    ensures { Gives (λ rest. (listed listing.new, rest.now)) result (list_at text.now) }
 {
     listing.pairs.clear();
-    listing.spellings.last = NO_KEY;
+    listing.in_range = true;
     let Some(mut rest) = text.strip_prefix(b";") else {
-        return Ok((true, text));
+        return Ok(text);
     };
-    // Once a number was out of its range, the pairs count for nothing.
-    let mut in_range = true;
+    // A list mostly begins with the first key of the range.
+    let first = lo.and_then(|lo| draft.find_key(NO_KEY, lo));
+    listing.guess = first.unwrap_or(NO_KEY);
     loop {
-        let (next, after) = listing.spellings.pair(draft, rest)?;
-        in_range &= next.is_some();
-        listing.pairs.push(next.unwrap_or((0, 0)))?;
+        let after = match listing.take_again(rest)? {
+            Some(after) => after,
+            None => listing.take(draft, rest)?,
+        };
         match after.strip_prefix(b",") {
             Some(more) => rest = more,
-            None => return Ok((in_range, after)),
+            None => return Ok(after),
         }
     }
 }
@@ -126,21 +175,21 @@ fn range(
     lo: Number,
     text: &[u8],
 ) -> Result<Token, Refusal>
-    ensures { Gives (event_with listing.new.pairs.items) result (range_at txn lo text.now) }
+    ensures { Gives (event_with (mentioned listing.new.pairs.items)) result (range_at txn lo text.now) }
 {
     let (hi, rest) = number(text)?;
-    let (in_range, rest) = list(listing, draft, rest)?;
+    let rest = list(listing, draft, lo, rest)?;
     end(after(rest, b']')?)?;
     let txn = txn_in(txn)?;
     match (lo, hi) {
-        (Some(lo), Some(hi)) if in_range => Ok(Token::Range { txn, lo, hi }),
+        (Some(lo), Some(hi)) if listing.in_range => Ok(Token::Range { txn, lo, hi }),
         _ => Err(Refusal::Bad(Reason::BadNumber)),
     }
 }
 
 #[tactic(auto, unfolding(crate::specs::Parsing::read_at, crate::specs::Parsing::after_byte))]
 fn read(listing: &mut Listing, draft: &Draft, txn: Number, text: &[u8]) -> Result<Token, Refusal>
-    ensures { Gives (event_with listing.new.pairs.items) result (read_at txn text.now) }
+    ensures { Gives (event_with (mentioned listing.new.pairs.items)) result (read_at txn text.now) }
 {
     let (first, rest) = number(after(text, b'[')?)?;
     if let [b':', rest @ ..] = rest {
@@ -154,7 +203,7 @@ fn read(listing: &mut Listing, draft: &Draft, txn: Number, text: &[u8]) -> Resul
 
 #[tactic(auto, unfolding(crate::specs::Parsing::event_at, crate::specs::Parsing::commit_at, crate::specs::Parsing::abort_at))]
 pub(crate) fn event_of(listing: &mut Listing, draft: &Draft, token: &[u8]) -> Result<Token, Refusal>
-    ensures { Gives (event_with listing.new.pairs.items) result (event_at token.now) }
+    ensures { Gives (event_with (mentioned listing.new.pairs.items)) result (event_at token.now) }
 {
     let [letter, rest @ ..] = token else {
         return Err(Refusal::Bad(Reason::BadEvent));

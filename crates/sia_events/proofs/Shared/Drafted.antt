@@ -23,7 +23,7 @@ use Rattle.sia_events.specs.Known.{acts, ends, writes, fault_of}
 use Rattle.sia_events.specs.Numbering.{Names, keys_of, ranges_of, mark, range_at, txn_at, key_at, version_at, pair_at, IsPair, names_of, IsSeen, txns_of, writes_of, entered, same_number, same_pair, event_of, IsWithin, IsMarked, keys_in, writes_in, ranges_in}
 use Rattle.sia_events.specs.LogTables.{range_of, names_but_ranges, txn_names, write_names, names_in, events_of, AreSound, AreTables, AreOnce, IsWriteRow, IsRangeRow, Lives}
 use Rattle.sia_events.specs.Drafts.{AreSeen, AreFound, Knows, Acts, IsNew, new_txn, SameButTxns}
-use Rattle.sia_events.proofs.LogRows.Distinct.{pairs_tell, new_none, there_some, entered_new, entered_there, numbered_acts, numbered_writes, names_push}
+use Rattle.sia_events.proofs.LogRows.Distinct.{pairs_tell, new_none, there_some, entered_new, entered_there, numbered_acts, numbered_writes, names_push, push_there}
 use Rattle.sia_events.specs.declared.event.Event.TheVariants.{Begin, Read, Range, Write, Commit, Abort}
 use Rattle.sia_events.specs.declared.log.TxnEnd.TheVariants.{Open}
 use Rattle.sia_events.specs.Numbering.{Ends}
@@ -39,7 +39,7 @@ use Rattle.sia_events.specs.declared.fault.Reason.{Reason}
 use Rattle.sia_events.specs.declared.fault.Reason.TheVariants.{AlreadyEnded, AlreadyBegun, BadStart, EmptyRange, BadList, NotWritten}
 use Rattle.sia_events.specs.declared.fault.Refusal.{Refusal}
 use Rattle.sia_events.specs.declared.fault.Refusal.TheVariants as refusals
-use Rattle.sia_events.specs.Drafts.{ListsOne, Lists, is_seen, StopsAtPair, StopsListing, StopsActing, Takes, HasKey, HasWrite, IsReadRow, SameButWrites}
+use Rattle.sia_events.specs.Drafts.{ListsOne, Lists, is_seen, StopsAtPair, StopsListing, StopsActing, Takes, HasKey, HasPair, HasWrite, IsReadRow, SameButWrites}
 use Rattle.sia_events.specs.Known.{own_fault, is_explained, read_fault, range_fault, goes_up}
 use Rattle.std.proofs.Math.Bool.{or-true}
 use Rattle.sia_events.proofs.Shared.Faults.{IsAmong, any_among, among_any, ends_is, same_true, true_false}
@@ -167,58 +167,41 @@ still_seen : (t u : Tables) (rows : List SeenRow) → AreSound t → AreSound u 
 still_seen t u rows sound sound_u grows seen = λ i x at.
     let r = seen i x at in
     let more = extends t u sound grows (few_writes u sound_u.short.writes) in
-    (r.0, front_get (names_in t).keys (names_in u).keys i r.0 more.keys r.1, seen_more (names_in t) (names_in u) more r.0 x.version x.write r.2)
+    (front_get (names_in t).keys (names_in u).keys i x.key more.keys r.0, seen_more (names_in t) (names_in u) more x.key x.version x.write r.1)
 
-pub found_more : (d e : Draft) → AreFound d → AreSound e.tables × Grows d.tables e.tables → Finds e.txns (txn_names e.tables.txns.items) → Finds e.keys (map (λ (k : ℕ). k) e.tables.keys.items) → Tracks e.writes e.tables.writes.items → length e.tables.txns.items ≤ length e.writes.writers.items → e.last_seen.items ≡ d.last_seen.items → AreFound e
-found_more d e found g txns keys writes long same = record {
+pub found_more : (d e : Draft) → AreFound d → AreSound e.tables × Grows d.tables e.tables → Finds e.txns (txn_names e.tables.txns.items) → Finds e.keys (map (λ (k : ℕ). k) e.tables.keys.items) → Tracks e.writes e.tables.writes.items → length e.tables.txns.items ≤ length e.writes.writers.items → e.tables.keys.items ≡ d.tables.keys.items → e.last_seen.items ≡ d.last_seen.items → AreFound e
+found_more d e found g txns keys writes long kept same = record {
   sound = g.0;
   txns = txns;
   keys = keys;
   writes = writes;
   long = long;
+  level = ap length same ∙ found.level ∙ ap length (sym kept);
   seen = subst (AreSeen (names_in e.tables)) (sym same) (still_seen d.tables e.tables d.last_seen.items found.sound g.0 g.1 found.seen);
 }
 
--- no key was seen yet at another version than 0
-none_seen : (names : Names) (rows : List SeenRow) → AreSeen names rows → length rows < length names.keys → AreSeen names (rows ++ record { version = 0; write = 0 } ∷ [])
-none_seen names rows seen less = λ i x at. elim (push_cases rows (record { version = 0; write = 0 }) i x at) [
-  | inl old ↦ seen i x old
-  | inr new ↦ (get_or names.keys i 0, slice_get-get_or names.keys i 0 (let e = new.0 in omega arith), rw (new.1) refl)
-]
-
--- the rows are no more than the keys
-seen_within : (names : Names) (rows : List SeenRow) → AreSeen names rows → length rows ≤ length names.keys
-seen_within names rows seen = by_length (length rows) refl where
-  by_length : (n : ℕ) → length rows ≡ n → n ≤ length names.keys
-  by_length zero is = omega arith
-  by_length (suc n) is =
-      let row = get_or rows n (record { version = 0; write = 0 }) in
-      let r = seen n row (slice_get-get_or rows n (record { version = 0; write = 0 }) (omega arith)) in
-      let w = slice_get_within names.keys n r.0 r.1 in
-      omega arith
-
-pub key_found : (d e : Draft) (k : ℕ) → AreFound d → e.tables.keys.items ≡ d.tables.keys.items ++ k ∷ [] → AreSound e.tables × Grows d.tables e.tables → Finds e.txns (txn_names e.tables.txns.items) → Finds e.keys (map (λ (i : ℕ). i) e.tables.keys.items) → Tracks e.writes e.tables.writes.items → length e.tables.txns.items ≤ length e.writes.writers.items → e.last_seen.items ≡ d.last_seen.items ++ record { version = 0; write = 0 } ∷ [] → AreFound e
+pub key_found : (d e : Draft) (k : ℕ) → AreFound d → e.tables.keys.items ≡ d.tables.keys.items ++ k ∷ [] → AreSound e.tables × Grows d.tables e.tables → Finds e.txns (txn_names e.tables.txns.items) → Finds e.keys (map (λ (i : ℕ). i) e.tables.keys.items) → Tracks e.writes e.tables.writes.items → length e.tables.txns.items ≤ length e.writes.writers.items → e.last_seen.items ≡ d.last_seen.items ++ record { key = k; version = 0; write = 0 } ∷ [] → AreFound e
 key_found d e k found pushed g txns keys writes long more =
     let seen = still_seen d.tables e.tables d.last_seen.items found.sound g.0 g.1 found.seen in
-    let few = seen_within (names_in d.tables) d.last_seen.items found.seen in
-    let many : length e.tables.keys.items ≡ length d.tables.keys.items + 1 = ap length pushed ∙ length-append d.tables.keys.items (k ∷ []) in
+    let is : slice_get e.tables.keys.items (length d.last_seen.items) ≡ Some k = rw (pushed) (push_there d.tables.keys.items k (length d.last_seen.items) found.level) in
     record {
       sound = g.0;
       txns = txns;
       keys = keys;
       writes = writes;
       long = long;
-      seen = subst (AreSeen (names_in e.tables)) (sym more) (none_seen (names_in e.tables) d.last_seen.items seen (omega arith));
+      level = ap length more ∙ length-append d.last_seen.items (record { key = k; version = 0; write = 0 } ∷ []) ∙ ap (λ n. n + 1) found.level ∙ sym (ap length pushed ∙ length-append d.tables.keys.items (k ∷ []));
+      seen = subst (AreSeen (names_in e.tables)) (sym more) (λ i x at. elim (push_cases d.last_seen.items (record { key = k; version = 0; write = 0 }) i x at) [
+        | inl old ↦ seen i x old
+        | inr new ↦ (rw (new.0, new.1) is, rw (new.1) refl)
+      ]);
     }
 
 -- another version of a key is seen
-pub seen_now : (names : Names) (rows : List SeenRow) (key v w : ℕ) → AreSeen names rows → ((k : ℕ) → slice_get names.keys key ≡ Some k → IsSeen names k v w) → key < length rows → AreSeen names (set rows key (record { version = v; write = w }))
-seen_now names rows key v w seen made less = λ i x at. elim (set_cases rows key i (record { version = v; write = w }) x at) [
-  | inl old ↦ seen i x old
-  | inr new ↦
-      let few = seen_within names rows seen in
-      let is : slice_get names.keys i ≡ Some (get_or names.keys i 0) = slice_get-get_or names.keys i 0 (let e = new.0 in omega arith) in
-      (get_or names.keys i 0, is, rw (new.1) (made (get_or names.keys i 0) (rw (← new.0) is)))
+pub seen_now : (names : Names) (rows : List SeenRow) (key v w : ℕ) (old : SeenRow) → AreSeen names rows → ((k : ℕ) → slice_get names.keys key ≡ Some k → IsSeen names k v w) → slice_get rows key ≡ Some old → AreSeen names (set rows key (record { key = old.key; version = v; write = w }))
+seen_now names rows key v w old seen made is = λ i x at. elim (set_cases rows key i (record { key = old.key; version = v; write = w }) x at) [
+  | inl same ↦ seen i x same
+  | inr new ↦ (let r = seen key old is in (rw (new.0, new.1) r.0, rw (new.1) (made old.key r.0)))
 ]
 
 marked_step : (d e : Draft) (ev : Event) (r : Row) → AreTables d.tables → AreSound d.tables → Grows d.tables e.tables → length (names_in e.tables).writes < mark → e.tables.events.items ≡ d.tables.events.items ++ r ∷ []
@@ -314,7 +297,7 @@ some_same e = cc
 found_same : (u e : Draft) → AreFound u → AreSound e.tables × Grows u.tables e.tables → e.txns ≡ u.txns → e.keys ≡ u.keys → e.writes ≡ u.writes → e.last_seen.items ≡ u.last_seen.items → txn_names e.tables.txns.items ≡ txn_names u.tables.txns.items → e.tables.keys.items ≡ u.tables.keys.items → e.tables.writes.items ≡ u.tables.writes.items → AreFound e
 found_same u e found g fx fk fw fs txns keys writes =
     let many : length e.tables.txns.items ≡ length u.tables.txns.items = sym (length-map e.tables.txns.items (λ (x : TxnRow). x.name)) ∙ ap length txns ∙ length-map u.tables.txns.items (λ (x : TxnRow). x.name) in
-    found_more u e found g (rw (fx, txns) found.txns) (rw (fk, keys) found.keys) (rw (fw, writes) found.writes) (rw (fw, many) found.long) fs
+    found_more u e found g (rw (fx, txns) found.txns) (rw (fk, keys) found.keys) (rw (fw, writes) found.writes) (rw (fw, many) found.long) keys fs
 
 -- one row more, where the names stay as they are
 pub found_pushed : (u e : Draft) (r : Row) → AreFound u → e.txns ≡ u.txns → e.keys ≡ u.keys → e.writes ≡ u.writes → e.last_seen.items ≡ u.last_seen.items → txn_names e.tables.txns.items ≡ txn_names u.tables.txns.items → e.tables.keys.items ≡ u.tables.keys.items → e.tables.writes.items ≡ u.tables.writes.items → e.tables.ranges.items ≡ u.tables.ranges.items → e.tables.pairs.items ≡ u.tables.pairs.items
@@ -638,26 +621,26 @@ seen_is_pair names k v zero kn p seen key few some none = let is : p ≡ mark + 
 seen_is_pair names k v (suc s) kn p seen key few some none = let is : p ≡ suc s = some (omega arith) in let w = slice_get_within names.writes s (k, v) seen in inl (omega arith, omega arith, few)
 
 -- one listed pair more
-pub pair_pushed : (t w e : Draft) (k v s kn p : ℕ) → AreFound t → HasKey t.tables w.tables k kn → AreFound w → IsSeen (names_in w.tables) k v s → (0 < s → p ≡ s) → (s ≡ 0 → p ≡ mark + kn) → length w.tables.pairs.items < 2147483648
+pub pair_pushed : (t w e : Draft) (k v p : ℕ) → AreFound t → HasPair t.tables w.tables k v p → AreFound w → length w.tables.pairs.items < 2147483648
     → e.txns ≡ w.txns → e.keys ≡ w.keys → e.writes ≡ w.writes → e.last_seen.items ≡ w.last_seen.items → e.tables.txns.items ≡ w.tables.txns.items → e.tables.keys.items ≡ w.tables.keys.items → e.tables.writes.items ≡ w.tables.writes.items → e.tables.ranges.items ≡ w.tables.ranges.items → e.tables.events.items ≡ w.tables.events.items → e.tables.pairs.items ≡ w.tables.pairs.items ++ p ∷ []
     → AreFound e × ListsOne t.tables e.tables k v
-pair_pushed t w e k v s kn p found_t has found seen some none room fx fk fw fs txns keys writes ranges events pairs =
+pair_pushed t w e k v p found_t is found room fx fk fw fs txns keys writes ranges events pairs =
     let few = few_writes w.tables found.sound.short.writes in
-    let is_pair = seen_is_pair (names_in w.tables) k v s kn p seen has.is few some none in
+    let is_pair = seen_is_pair (names_in w.tables) k v is.write is.number p is.seen is.has.is few is.some is.none in
     let g = pair_grown w.tables e.tables p found.sound txns keys writes ranges events pairs room is_pair in
     let few_e = few_writes e.tables g.0.short.writes in
-    let same = writes_kept t.tables w.tables found_t.sound (key_grows t.tables w.tables k kn has) has.same.writes in (
+    let same = writes_kept t.tables w.tables found_t.sound (key_grows t.tables w.tables k is.number is.has) is.has.same.writes in (
       found_same w e found g fx fk fw fs (ap txn_names txns) keys writes,
       record {
-        txns = txns ∙ has.same.txns;
-        keys = keys ∙ has.keys;
-        writes = writes ∙ has.same.writes;
-        ranges = ranges ∙ has.same.ranges;
-        events = events ∙ has.same.events;
+        txns = txns ∙ is.has.same.txns;
+        keys = keys ∙ is.has.keys;
+        writes = writes ∙ is.has.same.writes;
+        ranges = ranges ∙ is.has.same.ranges;
+        events = events ∙ is.has.same.events;
         pair = p;
-        pairs = pairs ∙ ap (λ (ps : List ℕ). ps ++ p ∷ []) has.same.pairs;
-        is = pair_same (names_in w.tables) (names_in e.tables) (extends w.tables e.tables found.sound g.1 few_e) p is_pair ∙ seen_pair (names_in w.tables) k v s kn p seen has.is few some none;
-        seen = ap (λ (ws : List (ℕ × ℕ)). is_seen ws (k, v)) (sym same) ∙ seen_is (names_in w.tables) k v s seen;
+        pairs = pairs ∙ ap (λ (ps : List ℕ). ps ++ p ∷ []) is.has.same.pairs;
+        is = pair_same (names_in w.tables) (names_in e.tables) (extends w.tables e.tables found.sound g.1 few_e) p is_pair ∙ seen_pair (names_in w.tables) k v is.write is.number p is.seen is.has.is few is.some is.none;
+        seen = ap (λ (ws : List (ℕ × ℕ)). is_seen ws (k, v)) (sym same) ∙ seen_is (names_in w.tables) k v is.write is.seen;
       },
     )
 
@@ -734,10 +717,10 @@ seen_few t sound k v (suc s) seen =
     let few : length t.writes.items ≤ 536870912 = sound.short.writes in
     omega arith
 
-pub one_there : (xs : List (ℕ × ℕ)) (i : ℕ) → i < length xs → xs ≡ take i xs ++ get_or xs i (0, 0) ∷ drop (i + 1) xs
-one_there [] i less = absurd (omega arith)
-one_there (x ∷ xs) zero less = refl
-one_there (x ∷ xs) (suc i) less = let e : suc (i + 1) ≡ suc i + 1 = omega arith in ap (λ ys. x ∷ ys) (one_there xs i (omega arith)) ∙ ap (λ j. x ∷ (take i xs ++ get_or xs i (0, 0) ∷ drop j (x ∷ xs))) e
+pub one_there : {A : Type 0} (y : A) (xs : List A) (i : ℕ) → i < length xs → xs ≡ take i xs ++ get_or xs i y ∷ drop (i + 1) xs
+one_there y [] i less = absurd (omega arith)
+one_there y (x ∷ xs) zero less = refl
+one_there y (x ∷ xs) (suc i) less = let e : suc (i + 1) ≡ suc i + 1 = omega arith in ap (λ ys. x ∷ ys) (one_there y xs i (omega arith)) ∙ ap (λ j. x ∷ (take i xs ++ get_or xs i y ∷ drop j (x ∷ xs))) e
 
 explained_seen : (h : List Event) (listed : List (ℕ × ℕ)) → list_all (is_explained h) listed ≡ list_all (is_seen (writes_of h)) listed
 unfolding is_explained
@@ -813,7 +796,7 @@ range_now d u w e t n lo hi listed r number writes_before knows acting found_u o
     let x : Draft = record { tables = record { txns = w.tables.txns; keys = w.tables.keys; writes = w.tables.writes; ranges = e.tables.ranges; pairs = w.tables.pairs; events = w.tables.events }; txns = w.txns; keys = w.keys; writes = w.writes; last_seen = w.last_seen } in
     let long : length w.tables.pairs.items ≡ length u.tables.pairs.items + length lists.more = ap length lists.pairs ∙ length-append u.tables.pairs.items lists.more in
     let g = range_grown w.tables x.tables r found.sound refl refl refl refl refl ranges (omega arith) (omega arith, omega arith) in
-    let found_x : AreFound x = found_more w x found g found.txns found.keys found.writes found.long refl in
+    let found_x : AreFound x = found_more w x found g found.txns found.keys found.writes found.long refl refl in
     let is_txn : slice_get (names_in e.tables).txns n ≡ Some t = ap (λ (xs : List TxnRow). slice_get (txn_names xs) n) (txns ∙ lists.txns) ∙ acting.is in
     let count : length (names_in e.tables).ranges ≡ length w.tables.ranges.items + 1 = length-map e.tables.ranges.items (range_of (names_but_ranges e.tables.txns.items e.tables.keys.items e.tables.writes.items) e.tables.pairs.items) ∙ ap length ranges ∙ length-append w.tables.ranges.items (r ∷ []) in
     let f = found_pushed x e (rows.Range n number writes_before) found_x fx fk fw fs (ap txn_names txns) keys writes refl pairs events (slice_get_within (names_in e.tables).txns n t is_txn, omega arith) in
@@ -858,6 +841,7 @@ none_known d txns keys writes ranges pairs events fx fk fw fs =
         keys = subst (λ (xs : List ℕ). Finds d.keys (map (λ (k : ℕ). k) xs)) (sym keys) fk;
         writes = subst (Tracks d.writes) (sym writes) fw;
         long = rw (txns) (omega arith);
+        level = ap length fs ∙ ap length (sym keys);
         seen = subst (AreSeen (names_in d.tables)) (sym fs) (λ i x at. absurd (let e : None ≡ Some x = at in cc));
       },
     )

@@ -1,6 +1,6 @@
 -- Reading listed keys one after the other, as a loop does.
 use Rattle.std.proofs.Common.{◌≡◌, ℕ, zero, suc, ◌+◌, ◌<◌, ◌≤◌, true, false, List, [], length, take, drop, Option, Some, None, Result, Ok, Err, refl, sym, ap, ◌∙◌, append_assoc, arith}
-use Rattle.std.specs.Prelude.{Bool, ◌&&◌, ◌==◌, nat_eq, ◌∷◌, ◌++◌, is_some, unwrap_or}
+use Rattle.std.specs.Prelude.{Bool, ◌==◌, nat_eq, ◌∷◌, ◌++◌}
 use Rattle.std.specs.Cmp.Lexicographic.{pointwise}
 use Rattle.std.proofs.Math.Bool.{and-true}
 use Rattle.sia_events.specs.declared.fault.Reason.{Reason}
@@ -21,11 +21,15 @@ with_front-with_front : (front one : Option (List (ℕ × ℕ))) (read : Result 
 with_front-with_front front one (Ok x) = ap (λ ps. Ok (ps, x.1)) (joined-assoc front one x.0)
 with_front-with_front front one (Err r) = refl
 
--- a pair is pushed, or something in its place where it counts for nothing
-pub one_pushed : (old : Bool) {some : Bool} (pairs : List (ℕ × ℕ)) {all : List (ℕ × ℕ)} (next : Option (ℕ × ℕ)) {one : ℕ × ℕ} → some ≡ is_some next → one ≡ unwrap_or next (0, 0) → all ≡ pairs ++ one ∷ [] → kept (old && some) all ≡ joined (kept old pairs) (one_pair next)
-one_pushed false pairs next s o a = refl
-one_pushed true pairs None s o a = rw s refl
-one_pushed true pairs (Some p) s o a = rw (s, a, o) refl
+-- a pair is pushed
+pub pair_joins : (old : Bool) (pairs : List (ℕ × ℕ)) {all : List (ℕ × ℕ)} (p : ℕ × ℕ) → all ≡ pairs ++ p ∷ [] → kept old all ≡ joined (kept old pairs) (one_pair (Some p))
+pair_joins false pairs p is = refl
+pair_joins true pairs p is = ap Some is
+
+-- a pair counts for nothing
+pub none_joins : (old : Bool) (pairs : List (ℕ × ℕ)) → None ≡ joined (kept old pairs) (one_pair None)
+none_joins false pairs = refl
+none_joins true pairs = refl
 
 pub starts : (bytes : List ℕ) → with_front (Some []) (pairs_within (length bytes + 1) bytes) ≡ pairs_at bytes
 unfolding pairs_at

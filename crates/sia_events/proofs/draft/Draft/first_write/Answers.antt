@@ -37,7 +37,7 @@ same t u txns keys ranges pairs events = record {
 pub returns-clause-found : goal.returns-clause-found
 returns-clause-found c = found_more c.args.self.now _ c.requires.found (write_grown c.args.self.now.tables _ (new_write c.args.txn c.args.key) c.requires.found.sound (same _ _ refl refl refl refl refl) c.in_ok-push.ensures.items (few c) c.requires.txn c.requires.key) c.requires.found.txns c.requires.found.keys
     (subst (Tracks c.add.new.self) c.deref.ensures.value (c.in_ok-add.ensures.tracks c.args.self.now.tables.writes.items c.args.key (c.deref.ensures.value ∙ c.in_ok-push.ensures.items) c.requires.found.writes))
-    (rw (c.in_ok-add.ensures.same) c.requires.found.long) refl
+    (rw (c.in_ok-add.ensures.same) c.requires.found.long) refl refl
 
 pub returns-clause-has : goal.returns-clause-has
 returns-clause-has c = λ t k is_txn is_key. new_has_write c.args.self.now.tables _ c.args.txn c.args.key t k _ (same _ _ refl refl refl refl refl) c.in_ok-push.ensures.items is_txn is_key (let ok = c.args.self.now.tables.writes.ok in omega (arith, c.len-number.ensures)) (subst (IsWriteOr (names_in c.args.self.now.tables) (k, t)) c.if-write-ne0.false (c.write_by-write.ensures t k is_txn is_key))

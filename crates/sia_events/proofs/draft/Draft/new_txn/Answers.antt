@@ -36,7 +36,7 @@ returns-clause-found c = found_more c.args.self.now _ c.requires.found (txn_grow
   pairs = refl;
   events = refl;
 }) c.in_ok-push.ensures.items (few c) c.requires.new)
-    (subst (λ (xs : List TxnRow). Finds c.add_from.new.self (txn_names xs)) c.deref.ensures.value (c.in_ok-add_from.ensures (below_last c.args.self.now.txns _ (txn_names c.args.self.now.tables.txns.items) c.args.name c.len-number.result (ap txn_names c.deref.ensures.value ∙ one_more c) (len c) c.requires.found.txns))) c.requires.found.keys (c.in_ok-add_txn.ensures.kept c.args.self.now.tables.writes.items c.requires.found.writes) (long c) refl
+    (subst (λ (xs : List TxnRow). Finds c.add_from.new.self (txn_names xs)) c.deref.ensures.value (c.in_ok-add_from.ensures (below_last c.args.self.now.txns _ (txn_names c.args.self.now.tables.txns.items) c.args.name c.len-number.result (ap txn_names c.deref.ensures.value ∙ one_more c) (len c) c.requires.found.txns))) c.requires.found.keys (c.in_ok-add_txn.ensures.kept c.args.self.now.tables.writes.items c.requires.found.writes) (long c) refl refl
 
 pub returns-clause-is : goal.returns-clause-is
 returns-clause-is c = rw (one_more c) (push_there (txn_names c.args.self.now.tables.txns.items) c.args.name _ (len c))

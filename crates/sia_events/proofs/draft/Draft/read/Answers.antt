@@ -19,15 +19,15 @@ returns-in_err-txn c =
 pub returns-in_default : goal.returns-in_default
 returns-in_default c =
     let same = c.seen.ensures.same in
-    let has = subst (λ (t : Tables). HasKey c.actor.new.self.tables t c.args.key c.in_ok-key.key) (sym same) c.in_ok-key.ensures.has in
-    let none = subst (λ (t : Tables). (c.args.saw ≢ 0) × (list_any (same_pair (c.args.key, c.args.saw)) (names_in t).writes ≡ false)) (sym same) (c.in_default.ensures.none c.args.key c.in_ok-key.ensures.has.is) in
-    read_refused c.args.self.now c.actor.new.self c.seen.new.self c.args.txn c.in_ok-txn.txn c.args.key c.in_ok-key.key c.args.saw c.requires.knows c.in_ok-txn.ensures.acts has c.seen.ensures.found none.0 none.1
+    let has = subst (λ (t : Tables). HasKey c.actor.new.self.tables t c.args.key c.in_ok-number.number) (sym same) c.in_ok-number.ensures.has in
+    let none = subst (λ (t : Tables). (c.args.saw ≢ 0) × (list_any (same_pair (c.args.key, c.args.saw)) (names_in t).writes ≡ false)) (sym same) c.in_default.ensures.none in
+    read_refused c.args.self.now c.actor.new.self c.seen.new.self c.args.txn c.in_ok-txn.txn c.args.key c.in_ok-number.number c.args.saw c.requires.knows c.in_ok-txn.ensures.acts has c.seen.ensures.found none.0 none.1
 
 pub returns : goal.returns
 returns c =
     let same = c.seen.ensures.same in
-    let has = subst (λ (t : Tables). HasKey c.actor.new.self.tables t c.args.key c.in_ok-key.key) (sym same) c.in_ok-key.ensures.has in
-    let seen = subst (λ (t : Tables). IsSeen (names_in t) c.args.key c.args.saw c.in-Some.saw) (sym same) (c.in-Some.ensures.some c.args.key c.in_ok-key.ensures.has.is) in
+    let has = subst (λ (t : Tables). HasKey c.actor.new.self.tables t c.args.key c.in_ok-number.number) (sym same) c.in_ok-number.ensures.has in
+    let seen = subst (λ (t : Tables). IsSeen (names_in t) c.args.key c.args.saw c.in-Some.saw) (sym same) c.in-Some.ensures.some in
     let is_txn = ap (λ (xs : List TxnRow). slice_get (txn_names xs) c.in_ok-txn.txn) has.same.txns ∙ c.in_ok-txn.ensures.acts.is in
     let row = c.read_row-row.ensures c.args.txn c.args.key c.args.saw is_txn has.is seen in
-    read_now c.args.self.now c.actor.new.self c.seen.new.self _ c.args.txn c.in_ok-txn.txn c.args.key c.in_ok-key.key c.args.saw c.in-Some.saw c.read_row-row.result c.requires.knows c.in_ok-txn.ensures.acts has c.seen.ensures.found seen row.spells row.within row.marked refl refl refl refl refl refl refl refl refl refl c.in_ok-push.ensures.items
+    read_now c.args.self.now c.actor.new.self c.seen.new.self _ c.args.txn c.in_ok-txn.txn c.args.key c.in_ok-number.number c.args.saw c.in-Some.saw c.read_row-row.result c.requires.knows c.in_ok-txn.ensures.acts has c.seen.ensures.found seen row.spells row.within row.marked refl refl refl refl refl refl refl refl refl refl c.in_ok-push.ensures.items

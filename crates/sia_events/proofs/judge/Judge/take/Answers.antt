@@ -3,6 +3,7 @@ use Rattle.std.proofs.Common.{◌≢◌, length, arith}
 use Rattle.std.proofs.lemmas.List.{length-map}
 use Rattle.sia_events.specs.Numbering.{event_of}
 use Rattle.sia_events.specs.LogTables.{events_of, names_in}
+use Rattle.sia_events.specs.Drafts.{mentioned}
 use Rattle.sia_events.specs.Parsing.{event_with}
 use Rattle.sia_events.proofs.JudgedTexts.Taken.{taken, knows_after, refused, stays}
 use Rattle.sia_events.proofs.judge.Judge.take.Goals as goal
@@ -17,13 +18,13 @@ admit-requires c = record {
 }
 
 pub returns-clause-taken : goal.returns-clause-taken
-returns-clause-taken c = taken c.args.limits c.args.self.now.draft c.admit.new.self.draft (event_with c.event_of.new.listing.pairs.items c.in_ok-token.token) c.args.token.now c.admit.result (room c) c.in_ok-token.ensures c.admit.ensures
+returns-clause-taken c = taken c.args.limits c.args.self.now.draft c.admit.new.self.draft (event_with (mentioned c.event_of.new.listing.pairs.items) c.in_ok-token.token) c.args.token.now c.admit.result (room c) c.in_ok-token.ensures c.admit.ensures
 
 pub returns-clause-knows : goal.returns-clause-knows
-returns-clause-knows c = knows_after c.args.self.now.draft c.admit.new.self.draft (event_with c.event_of.new.listing.pairs.items c.in_ok-token.token) c.admit.result c.admit.ensures
+returns-clause-knows c = knows_after c.args.self.now.draft c.admit.new.self.draft (event_with (mentioned c.event_of.new.listing.pairs.items) c.in_ok-token.token) c.admit.result c.admit.ensures
 
 pub returns-clause-refused : goal.returns-clause-refused
-returns-clause-refused c = refused c.args.limits c.args.self.now.draft c.admit.new.self.draft (event_with c.event_of.new.listing.pairs.items c.in_ok-token.token) c.args.token.now c.admit.result (room c) c.in_ok-token.ensures c.admit.ensures
+returns-clause-refused c = refused c.args.limits c.args.self.now.draft c.admit.new.self.draft (event_with (mentioned c.event_of.new.listing.pairs.items) c.in_ok-token.token) c.args.token.now c.admit.result (room c) c.in_ok-token.ensures c.admit.ensures
 
 pub returns-clause-kept : goal.returns-clause-kept
-returns-clause-kept c = stays c.args.self.now.draft c.admit.new.self.draft (event_with c.event_of.new.listing.pairs.items c.in_ok-token.token) c.admit.result c.admit.ensures
+returns-clause-kept c = stays c.args.self.now.draft c.admit.new.self.draft (event_with (mentioned c.event_of.new.listing.pairs.items) c.in_ok-token.token) c.admit.result c.admit.ensures
