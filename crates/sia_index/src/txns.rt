@@ -1,9 +1,8 @@
 //! The tables of transactions and of write events.
 ghost use Rattle.std.specs.Prelude.{◌≡◌, Some, All, IfOk, slice_get};
 ghost use Rattle.sia_events.specs.Numbering.{txns_of};
-ghost use Rattle.sia_events.specs.Transactions.{IsCommitted, HasEvent};
-ghost use Rattle.sia_index.specs.Lifetimes.{AreLifetimes};
-ghost use Rattle.sia_index.specs.Rows.{AreNumbered, AreNamesOf, AreWrites};
+ghost use Rattle.sia_events.specs.Transactions.{HasEvent};
+ghost use Rattle.sia_index.specs.Rows.{AreNamesOf};
 ghost use Rattle.sia_index.specs.Tables.{AreInfos, AreTxns, AreWriteTables};
 ghost use Rattle.sia_events.specs.Lists.{ListsAscending};
 
@@ -35,16 +34,25 @@ pub fn txns_of(alloc: Global, log: &Log) -> Result<Txns, AllocError>
     let count = log.txn_count();
     let mut rows = Vec::with_capacity(alloc, count as usize)?;
     for number in 0..count {
-        rows.push(Numbered {
-            name: u64::from(log.txn(number).name),
-            number,
-        })?;
+        let name = u64::from(log.txn(number).name);
+        rows.push(Numbered { name, number })?;
     }
     // Mostly the numbers are in the order of the names.
     Sorter::with_capacity(alloc, rows.len())?.sort::<ByName>(&mut rows);
     let (ids, infos) = infos_of(alloc, log, &rows)?;
     let numbers = places_of(alloc, count, &rows)?;
-    let (ended, committed, lifetimes) = committed_of(alloc, log, &rows)?;
+    let mut ended = Vec::with_capacity(alloc, rows.len())?;
+    let mut committed = Vec::with_capacity(alloc, rows.len())?;
+    let mut lifetimes = Vec::with_capacity(alloc, rows.len())?;
+    for row in &rows {
+        let txn = log.txn(row.number);
+        if let TxnEnd::Committed(commit) = txn.end {
+            let start = txn.start;
+            ended.push(*row)?;
+            committed.push(txn.name)?;
+            lifetimes.push(Lifetime { start, commit })?;
+        }
+    }
     let committed_numbers = places_of(alloc, count, &ended)?;
     Ok(Txns {
         ids,
@@ -76,44 +84,10 @@ fn infos_of(
             TxnEnd::Aborted(place) => (Some(place), Fate::Aborted),
         };
         ids.push(txn.name)?;
-        infos.push(TxnInfo {
-            start: txn.start,
-            ended,
-            fate,
-        })?;
+        let start = txn.start;
+        infos.push(TxnInfo { start, ended, fate })?;
     }
     Ok((ids, infos))
-}
-
-/// Of all transactions the committed ones, and beside each when it starts and commits.
-fn committed_of(
-    alloc: Global,
-    log: &Log,
-    rows: &[Numbered],
-) -> Result<(Vec<Numbered>, Vec<TxnId>, Vec<Lifetime>), AllocError>
-    requires { AreNumbered (HasEvent log.now) (txns_of log.now) rows.now }
-    ensures rows { IfOk result (λ (ended, names, lifetimes).
-        AreNumbered (IsCommitted log.now) (txns_of log.now) ended.items) }
-    ensures names { IfOk result (λ (ended, names, lifetimes). AreNamesOf ended.items names.items) }
-    ensures lifetimes { IfOk result (λ (ended, names, lifetimes). AreLifetimes log.now names.items
-        lifetimes.items) }
-{
-    log.law();
-    let mut ended = Vec::with_capacity(alloc, rows.len())?;
-    let mut names = Vec::with_capacity(alloc, rows.len())?;
-    let mut lifetimes = Vec::with_capacity(alloc, rows.len())?;
-    for row in rows {
-        let txn = log.txn(row.number);
-        if let TxnEnd::Committed(commit) = txn.end {
-            ended.push(*row)?;
-            names.push(txn.name)?;
-            lifetimes.push(Lifetime {
-                start: txn.start,
-                commit,
-            })?;
-        }
-    }
-    Ok((ended, names, lifetimes))
 }
 
 /// A write event.
@@ -161,7 +135,17 @@ pub fn writes_of(alloc: Global, log: &Log, ids: &[TxnId]) -> Result<Writes, Allo
     requires { ListsAscending (HasEvent log.now) ids.now }
     ensures { IfOk result (λ writes. AreWriteTables log.now ids.now writes) }
 {
-    let rows = rows_of(alloc, log)?;
+    let mut rows = Vec::with_capacity(alloc, log.len() as usize)?;
+    for before in 0..log.len() {
+        let place = before + 1;
+        let Some(Row::Write { txn, key, .. }) = log.row(place) else {
+            continue
+        };
+        let txn = log.txn(txn).name;
+        let key = log.key(key);
+        rows.push(WriteRow { txn, key, place })?;
+    }
+    Sorter::with_capacity(alloc, rows.len())?.sort::<ByTxn>(&mut rows);
     // Where those of each transaction begin, and where those of the last end.
     let mut starts = Vec::with_capacity(alloc, ids.len())?;
     let mut at = 0;
@@ -178,23 +162,4 @@ pub fn writes_of(alloc: Global, log: &Log, ids: &[TxnId]) -> Result<Writes, Allo
         starts,
         minima,
     })
-}
-
-fn rows_of(alloc: Global, log: &Log) -> Result<Vec<WriteRow>, AllocError>
-    ensures { IfOk result (λ rows. AreWrites log.now rows.items) }
-{
-    let mut rows = Vec::with_capacity(alloc, log.len() as usize)?;
-    for before in 0..log.len() {
-        let place = before + 1;
-        let Some(Row::Write { txn, key, .. }) = log.row(place) else {
-            continue
-        };
-        rows.push(WriteRow {
-            txn: log.txn(txn).name,
-            key: log.key(key),
-            place,
-        })?;
-    }
-    Sorter::with_capacity(alloc, rows.len())?.sort::<ByTxn>(&mut rows);
-    Ok(rows)
 }
