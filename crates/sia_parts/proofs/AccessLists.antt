@@ -1,3 +1,4 @@
 pub mod Dealt
+pub mod Joined
 pub mod LastLists
 pub mod Runs

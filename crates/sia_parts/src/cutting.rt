@@ -1,14 +1,20 @@
 //! Cutting the keys into parts.
-ghost use Rattle.std.specs.Prelude.{◌≡◌, ◌<◌, ◌≤◌, length, All, IfOk, OnOk, Err};
+ghost use Rattle.std.specs.Prelude.{◌≡◌, ◌<◌, ◌≤◌, ℕ, List, length, All, IfOk, OnOk, Err};
 ghost use Rattle.std.specs.List.Sorted.{IsStrictlyIncreasing};
 ghost use Rattle.sia_parts.specs.Parts.{parts_from, IsCutting, HasTooManyCuts, OnePartLaw};
 ghost use Rattle.sia_parts.specs.declared.cutting.CutFault.TheVariants as faults;
 
-use sia_events::Key;
+use sia_events::{Key, Log, NoMemory, Row};
 use std::alloc::{AllocError, Global};
 
 /// The greatest number of parts.
 const MAX_PARTS: usize = 1024;
+
+/// One event in so many is looked at, and one of so many keys that it listed.
+const APART: u32 = 31;
+
+/// So many listed keys of these events are worth sharing: about 200,000 of all.
+const FEW: usize = 6500;
 
 /// A part of the keys: those from `lo` to `hi`, both included.
 #[derive(Clone, Copy, Debug, PartialEq, Eq)]
@@ -69,6 +75,45 @@ fn parts_of(alloc: Global, starts: &[Key]) -> Result<Vec<Part>, AllocError>
         parts.push(Part { lo: starts[i], hi })?;
     }
     Ok(parts)
+}
+
+/// About so many parts, of which as much was read of one as of another, or one where little was read. Nobody promises which they are.
+pub fn even_cutting(alloc: Global, log: &Log, count: u16) -> Result<Vec<Part>, NoMemory>
+    ensures parts { IfOk result (λ parts. (points : List ℕ) × IsCutting points parts.items) }
+    ensures bound { IfOk result (λ parts. length parts.items ≤ 1024) }
+{
+    let count = usize::from(count).max(1);
+    let keys = sampled(alloc, log)?;
+    let distance = keys.len() / count + 1;
+    let mut points = Vec::with_capacity(alloc, count)?;
+    for key in keys.iter().step_by(distance).skip(1) {
+        points.push(*key)?;
+    }
+    // There are too few points for the other fault.
+    let Ok(parts) = cut(alloc, &points) else {
+        return Err(NoMemory);
+    };
+    Ok(parts)
+}
+
+/// Some of the keys that range reads listed, ascending, or none where they listed few. Other reads cost too little to be shared.
+fn sampled(alloc: Global, log: &Log) -> Result<Vec<Key>, NoMemory> {
+    let mut listed = 0usize;
+    let mut keys = Vec::new(alloc);
+    for number in 0..log.len() / APART {
+        if let Some(Row::Range { range, .. }) = log.row(number * APART + 1) {
+            let pairs = log.listed(range);
+            listed = listed.saturating_add(pairs.len());
+            for pair in pairs.iter().step_by(APART as usize) {
+                keys.push(log.pair(*pair).0)?;
+            }
+        }
+    }
+    if listed < FEW {
+        keys.clear();
+    }
+    keys.sort_unstable();
+    Ok(keys)
 }
 
 /// A law, and nothing else: each key is in exactly one part of a cutting.

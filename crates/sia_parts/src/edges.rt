@@ -17,7 +17,7 @@ use crate::cutting::Part;
 use crate::finding::{Edge, Kind};
 use sia_events::{Key, NoMemory, TxnId};
 use sia_index::Index;
-use sia_index::keyed::By;
+use sia_index::keyed::{By, ByTxn};
 use sia_index::lists::Lists;
 use sia_index::ordering::Sorter;
 use std::alloc::Global;
@@ -47,9 +47,7 @@ impl EdgeTo {
 }
 
 /// By target.
-struct ByTarget;
-
-impl By<EdgeTo> for ByTarget {
+impl By<EdgeTo> for ByTxn {
     ghost by = { λ row. row.target };
 
     fn number(row: &EdgeTo) -> u64 {
@@ -146,7 +144,7 @@ impl<'a> Edges<'a> {
         }
         self.put_seen(source, rows);
         self.put_missed(source, rows);
-        sorter.sort::<ByTarget>(rows);
+        sorter.sort::<ByTxn>(rows);
     }
 
     /// Adds the edges to the versions behind those that the source saw. Of each key the oldest one has them all.
@@ -176,8 +174,7 @@ impl<'a> Edges<'a> {
         self.index.law();
         let mut end = 0;
         for miss in self.accesses.missed.at(source as usize) {
-            let first = miss.from.max(end);
-            let mut from = first;
+            let mut from = miss.from.max(end);
             while let Some(key) = self.index.next_visible(from, miss.to, u32::MAX) {
                 self.put_makers(source, Kind::Rw, self.index.first_position(key), rows);
                 from = key + 1;
@@ -194,8 +191,9 @@ impl<'a> Edges<'a> {
         ensures puts { Puts (IsMakerRow self.now.index.now source kind position) (result - position)
             rows.old rows.new }
     {
-        let end = key_end(self.index, position);
+        self.index.law();
         let key = self.index.key_at(position);
+        let end = first_or_end(self.index, key + 1);
         for behind in position + 1..end {
             let target = self.index.maker_at(behind).unwrap_or(source);
             if target != source {
@@ -244,17 +242,8 @@ impl<'a> Edges<'a> {
     }
 }
 
-/// Where the positions of the key end that the position is of.
-fn key_end(ix: &Index, position: u32) -> u32
-    requires { HasPosition ix.now position }
-    ensures { IsKeyEnd ix.now position result }
-{
-    ix.law();
-    first_or_end(ix, ix.key_at(position) + 1)
-}
-
 /// The position of version 0 of the key of this number, or how many positions there are if there is no such key.
-pub(crate) fn first_or_end(ix: &Index, key: u32) -> u32
+pub fn first_or_end(ix: &Index, key: u32) -> u32
     ensures within { (q : ℕ) → q < result → HasPosition ix.now q }
     ensures parts { (q : ℕ) (v : version) (j : ℕ) → IsAtPosition ix.now q v → IsKeyAt ix.now j v.key
         → (q < result) ↔ (j < key) }
@@ -278,8 +267,9 @@ fn put_readings(
     ensures { OnOk result (ReadsMore ix.now reader (Contains saw.now) readings.old.items
         readings.new.items) }
 {
+    ix.law();
     for i in (0..saw.len()).rev() {
-        if i + 1 == saw.len() || saw[i + 1] >= key_end(ix, saw[i]) {
+        if i + 1 == saw.len() || saw[i + 1] >= first_or_end(ix, ix.key_at(saw[i]) + 1) {
             readings.push(Reading {
                 position: saw[i],
                 reader,

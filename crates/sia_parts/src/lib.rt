@@ -11,8 +11,8 @@ mod reasons;
 
 pub use accesses::{Accesses, ByReader, RangeMiss};
 pub use audit::{audit_part, find_in_part};
-pub use cutting::{CutFault, Part, cut, one_part};
-pub use edges::{ByPosition, EdgeTo, Edges, Reading, edges_at};
+pub use cutting::{CutFault, Part, cut, even_cutting, one_part};
+pub use edges::{ByPosition, EdgeTo, Edges, Reading, edges_at, first_or_end};
 pub use finding::{
     BadRead, BadWrite, Edge, Findings, Gathering, Kind, PartFindings, PartFound, Unexplained,
     gather,

@@ -19,8 +19,8 @@ use sia_index::keyed::{By, ByKey, ByTxn, place_above};
 use sia_index::lists::Lists;
 use std::alloc::Global;
 
-/// For each of some parts the places of the read events that concern it, transaction by transaction in the order of the log's
-/// numbers, and then by place.
+/// For each of some parts the places of the read events that concern it. They ascend, but those of a part alone come transaction
+/// by transaction: of several parts each has few of a transaction, and one way through the log costs less.
 #[derive(Drop)]
 pub struct Reads {
     pub(crate) dealt: Vec<Vec<u32>>,
@@ -55,13 +55,16 @@ impl Reads {
         requires { (points : List ℕ) × IsCutting points parts.now }
         ensures { IfOk result (λ reads. AreReads log.now parts.now reads) }
     {
-        let reads = reads_by_txn(alloc, log)?;
         let mut dealt = Vec::with_capacity(alloc, parts.len())?;
+        if parts.len() == 1 {
+            dealt.push(places_by_txn(alloc, log)?)?;
+            return Ok(Reads { dealt });
+        }
         for _ in 0..parts.len() {
             dealt.push(Vec::new(alloc))?;
         }
-        for read in reads.rows() {
-            put_read(log, parts, read.place, &mut dealt)?;
+        for before in 0..log.len() {
+            put_read(log, parts, before + 1, &mut dealt)?;
         }
         Ok(Reads { dealt })
     }
@@ -76,6 +79,18 @@ impl Reads {
             None => &[],
         }
     }
+}
+
+/// The places of all read events, transaction by transaction in the order of the log's numbers, and then by place.
+fn places_by_txn(alloc: Global, log: &Log) -> Result<Vec<u32>, NoMemory>
+    ensures { IfOk result (λ places. (p t k v : ℕ) → SawAt log.now p t k v → Contains places.items p) }
+{
+    let reads = reads_by_txn(alloc, log)?;
+    let mut places = Vec::with_capacity(alloc, reads.rows().len())?;
+    for read in reads.rows() {
+        places.push(read.place)?;
+    }
+    Ok(places)
 }
 
 fn reads_by_txn(alloc: Global, log: &Log) -> Result<Lists<Read>, NoMemory>
@@ -128,8 +143,10 @@ fn put_read(
     if let Some(row) = log.row(place) {
         if let Some((lo, hi)) = covered(log, row) {
             let from = place_above::<Part, ByKey>(parts, lo).saturating_sub(1);
-            let to = place_above::<Part, ByKey>(parts, hi);
-            for i in from..to {
+            for i in from..parts.len() {
+                if hi < parts[i].lo {
+                    return Ok(());
+                }
                 dealt[i].push(place)?;
             }
         }

@@ -1,5 +1,5 @@
 -- The readings of all transactions, dealt to their positions.
-use Rattle.std.proofs.Common.{◌≡◌, inl, inr, ℕ, ◌+◌, ◌<◌, ◌≤◌, Bool, true, cond, eqb, List, [], ◌∷◌, length, refl, ap, sym, subst, ◌∙◌, arith}
+use Rattle.std.proofs.Common.{◌≡◌, inl, inr, ℕ, ◌+◌, ◌-◌, ◌<◌, ◌≤◌, Bool, true, cond, eqb, List, [], ◌∷◌, length, refl, ap, sym, subst, ◌∙◌, arith}
 use Rattle.std.specs.Prelude.{◌↔◌, All, Contains, slice_index, slice_index_or}
 use Rattle.std.specs.List.{filter}
 use Rattle.std.proofs.lemmas.Bool.{cases_Bool, cases_lt, eq-eqb, eqb-true}
@@ -115,9 +115,9 @@ module _ (h : List Event) (a : Accesses) where
           (is.0, is.1, dealt_has (λ (r : Reading). r.position) count readings (record { position = is.0; reader = u }) is.2 (below_count u is.0 (to.seen _ is.2))));
     }
 
--- the committed transactions have numbers of 32 bits
-pub few_txns : (h : List Event) → IsWellFormed h → (txns : List ℕ) → ListsAscending (IsCommitted h) txns → length txns < 4294967296
-few_txns h wf txns are = elim (cases_lt 4294967295 (length txns)) [
-  | inl many ↦ absurd (let few = few_committed h wf 4294967295 (slice_index txns 4294967295) (txns, are, many, refl) in omega arith)
-  | inr few ↦ omega arith
+-- committed transactions are few
+pub few_txns : (h : List Event) → IsWellFormed h → (txns : List ℕ) → ListsAscending (IsCommitted h) txns → length txns ≤ 536870912
+few_txns h wf txns are = elim (cases_lt 536870912 (length txns)) [
+  | inl many ↦ absurd (let few = few_committed h wf (length txns - 1) (slice_index txns (length txns - 1)) (txns, are, (omega arith), refl) in omega arith)
+  | inr few ↦ few
 ]

@@ -1,38 +1,24 @@
 -- Looks and edges: a look of one up to another's commit, or after it.
-use Rattle.std.proofs.Common.{◌≡◌, ◌≢◌, ◌⊎◌, inl, inr, ℕ, ◌<◌, ◌≤◌, List, refl, sym, subst, ◌∙◌, arith}
+use Rattle.std.proofs.Common.{◌≡◌, ◌≢◌, ◌⊎◌, inl, inr, ℕ, ◌<◌, ◌≤◌, List, refl, subst, arith}
 use Rattle.std.proofs.lemmas.Bool.{cases_eq}
 use Rattle.sia_events.specs.declared.event.Event.{Event}
-use Rattle.sia_events.specs.declared.event.Event.TheVariants.{Commit}
 use Rattle.sia_events.specs.NarrowDependencies.{IsAsOf, Looked}
 use Rattle.sia_events.specs.Refusals.{IsWellFormed}
 use Rattle.sia_events.specs.Transactions.{IsCommitted, CommitsAt, Wrote}
 use Rattle.sia_events.specs.Dependencies.{IsVersionBefore, WrEdge, RwEdge}
 use Rattle.sia_events.proofs.Writing.WellFormed.{one_commit}
 use Rattle.sia_events.proofs.OfLaws.Endings.{one_committer}
-use Rattle.sia_events.proofs.OfLaws.Seen.{saw_written, actor_is_txn}
+use Rattle.sia_events.proofs.OfLaws.Seen.{saw_written}
 use Rattle.sia_events.proofs.OfLaws.Versions.{writer_not_zero}
-use Rattle.sia_events.proofs.Shared.TransactionDecisions.{place_within}
+use Rattle.sia_parts.proofs.Auditing.AsOf.{commit_positive, zero_commits_not}
 
 module _ (h : List Event) (wf : IsWellFormed h) where
-  pub commit_positive : (t c : ℕ) → CommitsAt h t c → 0 < c
-  commit_positive t c at = (place_within h c (Commit t) at).0
-
-  pub zero_commits_not : (c : ℕ) → ¬ CommitsAt h 0 c
-  zero_commits_not c at = let positive : 0 < 0 = (actor_is_txn h wf 0 c (Commit 0, at, refl)).0 in omega arith
-
-  -- a version is as of one place
-  pub one_as_of : (v c d : ℕ) → IsAsOf h v c → IsAsOf h v d → c ≡ d
-  one_as_of v c d (inl a) (inl b) = a.1 ∙ sym b.1
-  one_as_of v c d (inl a) (inr b) = absurd (zero_commits_not d (subst (λ u. CommitsAt h u d) a.0 b))
-  one_as_of v c d (inr a) (inl b) = absurd (zero_commits_not c (subst (λ u. CommitsAt h u c) b.0 a))
-  one_as_of v c d (inr a) (inr b) = one_commit h wf v c d a b
-
   -- a committed transaction's sight of a key as of place c is a wr edge from each other writer up to there
   pub wr_from_look : (k : ℕ) (t u c d : ℕ) → t ≢ u → Wrote h t k → CommitsAt h t d → Looked h u k c → d ≤ c → WrEdge h t u k
   wr_from_look k t u c d other wrote at look le = of_version look.5
     where
       of_version : IsAsOf h look.2 c → WrEdge h t u k
-      of_version (inl none) = absurd (let positive = commit_positive t d at in let zero = none.1 in omega arith)
+      of_version (inl none) = absurd (let positive = commit_positive h wf t d at in let zero = none.1 in omega arith)
       of_version (inr commits) = (
         other,
         (wrote, (d, at)),
@@ -45,7 +31,7 @@ module _ (h : List Event) (wf : IsWellFormed h) where
         elim (cases_eq d c) [
           | inl same ↦ inl (one_committer h t look.2 c (subst (CommitsAt h t) same at) commits)
           | inr differ ↦
-              let seen = saw_written h wf look.1 u k look.2 look.3 (λ zero. zero_commits_not c (subst (λ v. CommitsAt h v c) zero commits)) in
+              let seen = saw_written h wf look.1 u k look.2 look.3 (λ zero. zero_commits_not h wf c (subst (λ v. CommitsAt h v c) zero commits)) in
               inr (inr (wrote, (seen.0, seen.2), (d, c, at, commits, (let less : d < c = omega arith in less))))
         ],
       )
@@ -70,7 +56,7 @@ module _ (h : List Event) (wf : IsWellFormed h) where
       of_version : IsAsOf h look.2 c → RwEdge h t u k
       of_version (inl none) = (other, look.0, (wrote, (d, at)), look.1, look.2, look.3, inl none.0, look.4, inl (none.0, (wrote, (d, at))))
       of_version (inr commits) =
-          let seen = saw_written h wf look.1 t k look.2 look.3 (λ zero. zero_commits_not c (subst (λ v. CommitsAt h v c) zero commits)) in
+          let seen = saw_written h wf look.1 t k look.2 look.3 (λ zero. zero_commits_not h wf c (subst (λ v. CommitsAt h v c) zero commits)) in
           (other, look.0, (wrote, (d, at)), look.1, look.2, look.3, inr (c, commits), look.4, inr ((seen.0, seen.2), wrote, (c, d, commits, at, less)))
 
   -- and each rw edge is so
@@ -78,11 +64,11 @@ module _ (h : List Event) (wf : IsWellFormed h) where
   look_of_rw k t u edge = of_version edge.6
     where
       of_version : (edge.4 ≡ 0) ⊎ IsCommitted h edge.4 → (c : ℕ) × (d : ℕ) × CommitsAt h u d × Looked h t k c × (c < d)
-      of_version (inl zero) = (0, edge.2.1.0, edge.2.1.1, (edge.1, edge.3, edge.4, edge.5, edge.7, inl (zero, refl)), commit_positive u edge.2.1.0 edge.2.1.1)
+      of_version (inl zero) = (0, edge.2.1.0, edge.2.1.1, (edge.1, edge.3, edge.4, edge.5, edge.7, inl (zero, refl)), commit_positive h wf u edge.2.1.0 edge.2.1.1)
       of_version (inr commits) = (commits.0, edge.2.1.0, edge.2.1.1, (edge.1, edge.3, edge.4, edge.5, edge.7, inr commits.1), of_before edge.8)
         where
           of_before : IsVersionBefore h k edge.4 u → commits.0 < edge.2.1.0
-          of_before (inl none) = absurd (zero_commits_not commits.0 (subst (λ v. CommitsAt h v commits.0) none.0 commits.1))
+          of_before (inl none) = absurd (zero_commits_not h wf commits.0 (subst (λ v. CommitsAt h v commits.0) none.0 commits.1))
           of_before (inr both) =
               let own : both.2.1 ≡ edge.2.1.0 = one_commit h wf u both.2.1 edge.2.1.0 both.2.3 edge.2.1.1 in
               let seen : both.2.0 ≡ commits.0 = one_commit h wf edge.4 both.2.0 commits.0 both.2.2 commits.1 in

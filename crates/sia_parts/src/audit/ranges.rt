@@ -13,7 +13,7 @@ ghost use Rattle.sia_parts.specs.Sights.{Adds, FromSight, Gives, IsBadOf};
 
 use crate::accesses::{ByReader, RangeMiss};
 use crate::audit::sights::{
-    Known, Origin, Scope, Seen, View, due_at, numbers_within, put_if_bad, put_view,
+    Known, Origin, Scope, Seen, due_at, numbers_within, put_if_bad, put_view,
 };
 use crate::finding::BadRead;
 use sia_events::{Key, Log, NoMemory};
@@ -83,6 +83,7 @@ fn near_of(scope: &Scope, pairs: &[u32], others: (u32, u32)) -> (u32, u32)
 }
 
 /// Adds what was seen of the keys listed, and of those between them.
+#[inline(never)]
 fn put_covered(scope: &Scope, known: &Known, cover: &Cover, seen: &mut Seen) -> Result<(), NoMemory>
     requires scope { IsScope scope.now }
     requires known { IsKnown scope.now.ix.now known.now }
@@ -102,7 +103,7 @@ fn put_covered(scope: &Scope, known: &Known, cover: &Cover, seen: &mut Seen) -> 
                 && scope
                     .ix
                     .wrote_before(known.reader, origin.names(scope.log).0);
-            put_view(scope, known, &View { origin, at, mine }, seen)?;
+            put_view(scope, known, origin, at, mine, seen)?;
         }
     }
     put_gap(scope.ix, known, cover.own, next, cover.end, seen)

@@ -135,7 +135,7 @@ pub(crate) fn put_read(
     if at.key < scope.first || scope.end <= at.key {
         return Ok(());
     }
-    put_view(scope, known, &View { origin, at, mine }, seen)
+    put_view(scope, known, origin, at, mine, seen)
 }
 
 /// Adds what was seen of a written key. Mostly it was due, which two loads tell.
@@ -143,27 +143,31 @@ pub(crate) fn put_read(
 pub(crate) fn put_view(
     scope: &Scope,
     known: &Known,
-    view: &View,
+    origin: Origin,
+    at: WriteAt,
+    mine: bool,
     seen: &mut Seen,
 ) -> Result<(), NoMemory>
     requires scope { IsScope scope.now }
     requires known { IsKnown scope.now.ix.now known.now }
-    requires view { IsView scope.now.ix.now known.now view.now }
+    requires view { IsView scope.now.ix.now known.now (record { origin = origin; at = at; mine = mine }) }
     ensures { OnOk result (Gains scope.now.ix.now
-        (IsSightWithin scope.now.ix.now known.now.reader.place view.now.at.key
-        (view.now.at.key + 1)) seen.old seen.new) }
+        (IsSightWithin scope.now.ix.now known.now.reader.place at.key (at.key + 1))
+        seen.old seen.new) }
 {
-    if !view.mine {
-        if let Some(position) = view.at.position {
+    if !mine {
+        if let Some(position) = at.position {
             if scope.ix.is_newest(position, known.reader.start) {
                 return put_position(known.number, position, &mut seen.saw);
             }
         }
     }
-    put_doubtful(scope, known, view, seen)
+    // What is seldom made stands in no turn of a loop.
+    put_doubtful(scope, known, &View { origin, at, mine }, seen)
 }
 
 /// The same, where it may not have been due.
+#[inline(never)]
 fn put_doubtful(scope: &Scope, known: &Known, view: &View, seen: &mut Seen) -> Result<(), NoMemory>
     requires scope { IsScope scope.now }
     requires known { IsKnown scope.now.ix.now known.now }

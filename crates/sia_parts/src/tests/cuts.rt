@@ -35,9 +35,10 @@ fn parts_and_numbers(rt: HostRuntime) -> Result<(), Fail> {
     Ok(())
 }
 
-// 2 comes first in the log, so that it has the lesser number. Its range at place 5 is of the keys on both sides of a cut, and so
-// is 3's at place 9. An own write is read at places 3 and 7.
-const DEALT: &[&[u32]] = &[&[1, 5, 3], &[5, 9], &[7, 9], &[]];
+// 2's range at place 5 is of the keys on both sides of a cut, and so is 3's at place 9. An own write is read at places 3 and 7.
+const DEALT: &[&[u32]] = &[&[1, 3, 5], &[5, 9], &[7, 9], &[]];
+// Of one part they come transaction by transaction, and 2 comes first in the log.
+const WHOLE: &[u32] = &[1, 5, 7, 3, 9];
 
 #[test]
 fn reads_of_parts(rt: HostRuntime) -> Result<(), Fail> {
@@ -49,5 +50,7 @@ fn reads_of_parts(rt: HostRuntime) -> Result<(), Fail> {
         assert!(rt; reads.of_part(i) == *wanted, "part {i}");
     }
     assert!(rt; reads.of_part(4).is_empty());
+    let whole = Reads::of(rt.alloc(), history.log(), &cut(rt.alloc(), &[])?)?;
+    assert!(rt; whole.of_part(0) == WHOLE);
     Ok(())
 }

@@ -1,7 +1,8 @@
 -- What was seen is due, and its look is added.
-use Rattle.std.proofs.Common.{◌≡◌, false, refl}
+use Rattle.std.proofs.Common.{refl}
 use Rattle.sia_index.specs.declared.info.KeyVersion.{KeyVersion}
 use Rattle.sia_index.specs.Positions.{IsAtPosition, IsNewestAsOf}
+use Rattle.sia_parts.specs.declared.audit.sights.View.{View}
 use Rattle.sia_parts.specs.Sights.{IsBadOf}
 use Rattle.sia_parts.proofs.Shared.Adding.{adds_nothing}
 use Rattle.sia_parts.proofs.Auditing.Gaining.{look_gains}
@@ -15,9 +16,9 @@ returns-then-is_newest c =
     let wf = c.requires.scope.well_formed in
     let known = c.args.known.now in
     let is_known = c.requires.known in
-    let view = c.args.view.now in
+    let view : View = record { origin = c.args.origin; at = c.args.at; mine = c.args.mine } in
     let is = c.requires.view in
-    let no : view.mine ≡ false = cc (c.if-not-view.true) in
+    let no = c.if-not-mine.true in
     let at : (w : KeyVersion) → IsAtPosition h c.in-Some.position w → IsNewestAsOf h known.reader.start w = λ w there. (c.is_newest.ensures w there).0 c.if-is_newest.true in
     let due = seen_is_due h wf known is_known view is c.in-Some.position c.in-Some.is no at in
     let there = stands h wf known is_known view is c.in-Some.position c.in-Some.is in

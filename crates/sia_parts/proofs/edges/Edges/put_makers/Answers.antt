@@ -1,23 +1,38 @@
 -- The maker of the next version, if it isn't the source.
 use Rattle.std.proofs.Common.{◌≡◌, ◌∙◌, refl, sym, subst, arith}
-use Rattle.sia_parts.specs.EdgeRows.{IsMadeAt, IsOfKey}
+use Rattle.sia_parts.specs.EdgeRows.{IsKeyEnd, IsMadeAt, IsOfKey}
 use Rattle.sia_parts.proofs.EdgeRows.EdgeLoops.{maker_at, makers_all, makers_none, makers_push, makers_skip}
+use Rattle.sia_parts.proofs.EdgeRows.KeyEnds.{ends_at}
+use Rattle.sia_parts.proofs.Shared.FewNumbers.{few_keys}
 use Rattle.sia_parts.proofs.EdgeRows.Room.{end_behind, puts_like, puts_push}
 use Rattle.sia_parts.proofs.edges.Edges.put_makers.Goals as goal
-use Rattle.sia_parts.proofs.edges.Edges.put_makers.Goals.{then-target-source, else-target-source}
+use Rattle.sia_parts.proofs.edges.Edges.put_makers.Goals.{After-first_or_end-end, then-target-source, else-target-source}
+
+-- where the positions of the key end
+ends : (c : After-first_or_end-end) → IsKeyEnd c.args.self.now.index.now c.args.position c.first_or_end-end.result
+ends c =
+    let key = c.key_at-key.ensures c.requires.position.0 c.requires.position.1 in
+    let own : IsOfKey c.args.self.now.index.now c.key_at-key.result c.args.position = record { version = c.requires.position.0; at = c.requires.position.1; key = key } in
+    ends_at c.args.self.now.index.now key.0 key.1 c.args.position c.key_at-key.result own c.first_or_end-end.result c.first_or_end-end.ensures.within c.first_or_end-end.ensures.parts
+
+pub overflow_add-key : goal.overflow_add-key
+overflow_add-key c = let few = few_keys c.args.self.now.index.now c.law.ensures c.key_at-key.result c.requires.position.0.key (c.key_at-key.ensures c.requires.position.0 c.requires.position.1) in omega arith
+
+pub returns-clause-end : goal.returns-clause-end
+returns-clause-end c = ends (goal.at.returns-clause-end c).After-first_or_end-end
 
 pub overflow_step-behind : goal.overflow_step-behind
 overflow_step-behind c =
     let own : IsOfKey c.args.self.now.index.now c.key_at-key.result c.args.position = record { version = c.requires.position.0; at = c.requires.position.1; key = c.key_at-key.ensures c.requires.position.0 c.requires.position.1 } in
-    let below = c.key_end-end.ensures.past c.key_at-key.result c.args.position own own in
-    let fits = c.key_end-end.auto in
+    let below = (ends (goal.at.overflow_step-behind c).After-first_or_end-end).past c.key_at-key.result c.args.position own own in
+    let fits = c.first_or_end-end.auto in
     omega arith
 
 pub maker_at-requires : goal.maker_at-requires
 maker_at-requires c =
     let own : IsOfKey c.args.self.now.index.now c.key_at-key.result c.args.position = record { version = c.requires.position.0; at = c.requires.position.1; key = c.key_at-key.ensures c.requires.position.0 c.requires.position.1 } in
     let low = c.loop-behind.auto.behind in
-    let there = c.key_end-end.ensures.own c.key_at-key.result c.loop-behind.behind own (omega arith) c.loop-behind-test.true in
+    let there = (ends (goal.at.maker_at-requires c).After-first_or_end-end).own c.key_at-key.result c.loop-behind.behind own (omega arith) c.loop-behind-test.true in
     (there.version, there.at)
 
 pub loop-behind-preserved : goal.loop-behind-preserved
@@ -26,7 +41,7 @@ loop-behind-preserved c =
     let i = c.args.source in
     let own : IsOfKey h c.key_at-key.result c.args.position = record { version = c.requires.position.0; at = c.requires.position.1; key = c.key_at-key.ensures c.requires.position.0 c.requires.position.1 } in
     let low = c.loop-behind.auto.behind in
-    let there = c.key_end-end.ensures.own c.key_at-key.result c.loop-behind.behind own (omega arith) c.loop-behind-test.true in
+    let there = (ends (goal.at.loop-behind-preserved c).After-first_or_end-end).own c.key_at-key.result c.loop-behind.behind own (omega arith) c.loop-behind-test.true in
     let known = maker_at h i c.loop-behind.behind c.key_at-key.result c.maker_at.result there.version there.at there.key (c.maker_at.ensures there.version there.at) in
     let before = c.loop-behind.invariant in
     elim c.if-target-source.branch [
@@ -43,7 +58,7 @@ loop-behind-init c = record { adds = makers_none c.args.self.now.index.now c.arg
 
 pub push_reserved-requires : goal.push_reserved-requires
 push_reserved-requires c =
-    let room = c.requires.room c.key_end-end.result c.key_end-end.ensures in
+    let room = c.requires.room c.first_or_end-end.result (ends (goal.at.push_reserved-requires c).After-first_or_end-end) in
     let few = c.loop-behind.invariant.few in
     let same = c.loop-behind.invariant.room in
     let low = c.loop-behind.auto.behind in
@@ -55,5 +70,5 @@ pub returns-clause-puts : goal.returns-clause-puts
 returns-clause-puts c =
     let before = c.loop-behind.invariant in
     let last = c.loop-behind-test.false in
-    let some = end_behind c.args.self.now.index.now c.args.position c.key_end-end.result c.key_end-end.ensures in
-    puts_like _ _ _ _ _ _ before (let most = c.loop-behind.auto in omega arith) (makers_all c.args.self.now.index.now c.args.source c.args.kind c.args.position c.key_end-end.result c.loop-behind.behind _ _ c.key_end-end.ensures (omega arith) before.adds)
+    let some = end_behind c.args.self.now.index.now c.args.position c.first_or_end-end.result (ends (goal.at.returns-clause-puts c).After-first_or_end-end) in
+    puts_like _ _ _ _ _ _ before (let most = c.loop-behind.auto in omega arith) (makers_all c.args.self.now.index.now c.args.source c.args.kind c.args.position c.first_or_end-end.result c.loop-behind.behind _ _ (ends (goal.at.returns-clause-puts c).After-first_or_end-end) (omega arith) before.adds)

@@ -41,8 +41,8 @@ pub loop-key-init : goal.loop-key-init
 loop-key-init c = (
   omega arith,
   inl refl,
-  takes_later c.args.self.now _ c.loop-miss.end _ _ (let is = c.max-first.ensures in omega arith) c.loop-miss.invariant.1,
-  misses_none c.args.self.now.index.now c.law.ensures c.args.source c.max-first.result _,
+  takes_later c.args.self.now _ c.loop-miss.end _ _ (let is = c.max-from.ensures in omega arith) c.loop-miss.invariant.1,
+  misses_none c.args.self.now.index.now c.law.ensures c.args.source c.max-from.result _,
 )
 
 pub next_visible-requires : goal.next_visible-requires
@@ -78,7 +78,7 @@ loop-key-preserved c =
       omega arith,
       inr (omega arith),
       takes_more c.args.self.now _ c.requires.tell.readings.long c.loop-key.from c.in-Some.key c.first_position.result _ _ _ c.loop-key.invariant.2 from (record { version = first.0; at = first.1; key = first.2 }) c.put_makers.ensures.end puts.few puts.room,
-      misses_more h c.law.ensures c.args.source c.max-first.result c.loop-key.from c.in-Some.key c.first_position.result _ _ _ low from c.in-Some.ensures.2 first.0 first.1 first.2 first.3
+      misses_more h c.law.ensures c.args.source c.max-from.result c.loop-key.from c.in-Some.key c.first_position.result _ _ _ low from c.in-Some.ensures.2 first.0 first.1 first.2 first.3
           c.loop-key.invariant.3 puts.adds,
     )
 
@@ -90,14 +90,14 @@ loop-miss-preserved c =
     let below = c.loop-miss-test.true in
     let rise : IsNonDecreasingBy (λ (miss : RangeMiss). miss.from) xs = rw c.at-miss-items.ensures (c.requires.tell.missed_rise c.args.source) in
     let some = (next_miss c.args.self.now c.requires.tell c.args.source c.requires.source.0 c.requires.source.1 xs c.at-miss-items.ensures n below).0 in
-    let first = c.max-first.ensures in
+    let first = c.max-from.ensures in
     let end = c.max-end.ensures in
     let key = c.loop-key.invariant in
     let high : c.loop-key.from ≤ c.max-end.result = elim key.1 [ inl same ↦ omega arith | inr most ↦ omega arith ] in (
       reaches_more h c.args.source xs n none below rise c.loop-miss.end c.loop-miss.invariant.0 _ end,
       takes_later c.args.self.now _ c.loop-key.from _ _ high key.2,
       misses_next h c.args.source xs n none below rise c.loop-miss.end c.loop-miss.invariant.0 _ first _ _ _ c.loop-miss.invariant.2
-          (misses_all h c.law.ensures c.args.source c.max-first.result c.loop-key.from _ _ _ key.1 c.in_default.ensures key.3),
+          (misses_all h c.law.ensures c.args.source c.max-from.result c.loop-key.from _ _ _ key.1 c.in_default.ensures key.3),
     )
 
 pub returns : goal.returns

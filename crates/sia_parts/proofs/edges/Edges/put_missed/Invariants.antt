@@ -14,8 +14,8 @@ invariant-loop-miss l = ReachesTo l.miss-items l.miss-index l.end × TakesTo l.f
     × Adds (FromFirst (λ (miss : RangeMiss). IsMissRow l.fn.self.index.now l.source miss.from miss.to) l.miss-items l.miss-index) l.fn.rows.items l.rows.items
 
 abbrev pub invariant-loop-key : goal.invariant-loop-key
-invariant-loop-key l = (l.first ≤ l.from) × ((l.from ≡ l.first) ⊎ (l.from ≤ l.miss.to)) × TakesTo l.fn.self l.from l.fn.rows l.rows
-    × Adds (IsMissRow l.fn.self.index.now l.source l.first l.from) l.initial.rows.items l.rows.items
+invariant-loop-key l = (l.initial.from ≤ l.from) × ((l.from ≡ l.initial.from) ⊎ (l.from ≤ l.miss.to)) × TakesTo l.fn.self l.from l.fn.rows l.rows
+    × Adds (IsMissRow l.fn.self.index.now l.source l.initial.from l.from) l.initial.rows.items l.rows.items
 
 abbrev pub decreases-loop-key : goal.decreases-loop-key
 decreases-loop-key l = l.miss.to - l.from

@@ -3,8 +3,8 @@ use Rattle.std.proofs.Common.{◌≡◌, length}
 use Rattle.sia_parts.proofs.ReadLists.DealtReads.{HasDealt}
 use Rattle.sia_parts.proofs.reads.Reads.of.Given as goal
 
-abbrev pub invariant-loop-read : goal.invariant-loop-read
-invariant-loop-read l = HasDealt l.log l.parts l.read-items l.read-index l.dealt.items
+abbrev pub invariant-loop-before : goal.invariant-loop-before
+invariant-loop-before l = HasDealt l.log l.parts l.before l.dealt.items
 
 abbrev pub invariant-loop : goal.invariant-loop
 invariant-loop l = length l.dealt.items ≡ l.counter
