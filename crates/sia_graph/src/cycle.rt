@@ -20,11 +20,11 @@ ghost use Rattle.sia_graph.specs.LeastEdges.{AreMade, IsKeyOf, IsLeastEdgeBetwee
 ghost use Rattle.sia_graph.specs.Twos.{HaveOneKey, IsLeastNumber};
 
 use crate::evidence::Evidence;
-use crate::order::{Listing, NONE};
-use sia_events::{Key, NoMemory, TxnId};
+use crate::order::NONE;
+use sia_events::{Key, Listed, NoMemory, TxnId};
 use sia_index::Index;
 use sia_index::keyed::{ByPlace, place_from};
-use sia_parts::{Edge, Kind};
+use sia_parts::{Edge, Kind, first_or_end};
 use std::alloc::Global;
 
 /// A step of a cycle: from a transaction by an edge to the next.
@@ -36,7 +36,7 @@ pub struct Step {
 }
 
 /// The steps of a cycle.
-pub type Steps = Listing<Step>;
+pub type Steps = Listed<Step>;
 
 /// Where the least edge from one transaction to another is found.
 #[derive(Clone, Copy)]
@@ -55,26 +55,20 @@ fn least_step(edges: &EdgesIn, ids: &[TxnId], before: usize, at: usize) -> Step
     ensures from { result.txn ≡ slice_index ids.now before }
     ensures least { TakesLeastEdge (IsEdgeIn edges.now) result (slice_index ids.now at) }
 {
-    match edges {
+    let (kind, key) = match edges {
         EdgesIn::Listed(list) => {
             let (src, dst) = (ids[before], ids[at]);
             let i = list.partition_point(|e| e.src < src || e.src == src && e.dst < dst);
             let e = &list[i];
-            Step {
-                txn: src,
-                kind: e.kind,
-                key: e.key,
-            }
+            (e.kind, e.key)
         }
         EdgesIn::Seen(evidence) => {
             let (kind, key) = least_edge(evidence, before as u32, at as u32);
-            Step {
-                txn: ids[before],
-                kind,
-                key: evidence.index.written_keys()[key as usize],
-            }
+            (kind, evidence.index.written_keys()[key as usize])
         }
-    }
+    };
+    let txn = ids[before];
+    Step { txn, kind, key }
 }
 
 /// The cycle that going back from the least transaction that is left reaches, where what is left is stuck.
@@ -120,16 +114,6 @@ pub(crate) fn cycle_of(
     Ok(steps)
 }
 
-/// Where the positions of the keys from this number on begin.
-fn start_of(index: &Index, key: u32) -> u32
-    ensures { (q i : ℕ) → IsKeyOf index.now q i → (result ≤ q) ↔ (key ≤ i) }
-{
-    if key as usize >= index.written_keys().len() {
-        return index.position_count();
-    }
-    index.first_position(key)
-}
-
 /// From where to before where a version is to stand to make an edge of this kind with the one at the position.
 fn span_met(index: &Index, kind: Kind, position: u32) -> (u32, u32)
     requires { HasPosition index.now position }
@@ -138,7 +122,7 @@ fn span_met(index: &Index, kind: Kind, position: u32) -> (u32, u32)
 {
     index.law();
     let key = index.key_at(position);
-    let (start, end) = (start_of(index, key), start_of(index, key + 1));
+    let (start, end) = (first_or_end(index, key), first_or_end(index, key + 1));
     match kind {
         Kind::Ww => (start, position),
         Kind::Wr => (start, position + 1),
@@ -186,7 +170,7 @@ pub(crate) fn least_rw(evidence: &Evidence, t: u32, u: u32) -> u32
     let made = index.made_by(u as usize);
     let mut least = least_met(Kind::Rw, index, made, evidence.accesses.saw.at(t as usize));
     for miss in evidence.accesses.missed.at(t as usize) {
-        let (from, to) = (start_of(index, miss.from), start_of(index, miss.to));
+        let (from, to) = (first_or_end(index, miss.from), first_or_end(index, miss.to));
         least = least.min(least_made(index, made, from, to));
     }
     least

@@ -1,8 +1,8 @@
 //! What the verdict on a history rests on: its index, and what committed transactions saw and passed over.
-ghost use Rattle.std.specs.Prelude.{◌≡◌, ◌↔◌, ℕ, Some, All, Contains, OnOk};
+ghost use Rattle.std.specs.Prelude.{◌≡◌, ◌↔◌, ℕ, Some, Contains, OnOk};
 ghost use Rattle.sia_index.specs.Positions.{HasPosition};
 ghost use Rattle.sia_graph.specs.Evidence.{IsEvidence};
-ghost use Rattle.sia_graph.specs.Makers.{IsFirstMaker, IsMakerBefore, IsNextMaker};
+ghost use Rattle.sia_graph.specs.Makers.{IsFirstMaker, IsNextMaker};
 ghost use Rattle.sia_graph.specs.Passed.{IsSizeFor, IsHeldBy, IsOwnPassed, IsPassed};
 ghost use Rattle.std.specs.List.Sorted.{IsNonDecreasing};
 ghost use Rattle.sia_index.specs.Numbers.{IsCommittedAt};
@@ -38,15 +38,6 @@ pub(crate) fn next_maker(index: &Index, position: u32) -> Option<u32>
     ensures { (i : ℕ) → (result ≡ Some i) ↔ IsNextMaker index.now position i }
 {
     index.maker_at(index.next_position(position)?)
-}
-
-/// The number of who made the version of the same key before this one. Nobody made version 0.
-pub(crate) fn maker_before(index: &Index, position: u32) -> Option<u32>
-    requires { HasPosition index.now position }
-    ensures { (i : ℕ) → (result ≡ Some i) ↔ IsMakerBefore index.now position i }
-{
-    index.law();
-    index.maker_at(index.position_before(position)?)
 }
 
 /// The keys that one transaction passed over: those of which it made the first version itself, and stretches of the others.

@@ -19,10 +19,7 @@ pub use allowed::is_allowed;
 pub use cycle::{Step, Steps};
 pub use evidence::Evidence;
 pub use judgement::{Judgement, Verdict, danger_of, judge, settle_accesses};
-pub use laws::{
-    blocks_law, closure_law, cycle_law, firsts_law, listing_law, pivot_law, replay_law, ssi_law,
-    stand_in_law,
-};
+pub use laws::{laws_hold, listing_law, replay_law, ssi_law};
 pub use listed_edges::settle;
 pub use neighbours::{Neighbour, Neighbours, Role};
 pub use order::Txns;

@@ -1,48 +1,18 @@
 //! The least order that keeps every step, by Kahn's algorithm: always the least node that is ready is taken.
-ghost use Rattle.std.specs.Prelude.{◌≡◌, ◌≢◌, ◌<◌, ◌+◌, ◌*◌, [], ℕ, Bool, Contains, IfOk, MatchOption, OnOk, length, slice_index_or, List};
-ghost use Rattle.std.specs.List.{range_with_len};
+ghost use Rattle.std.specs.Prelude.{◌≡◌, ◌≢◌, ◌<◌, ◌+◌, ◌*◌, [], ℕ, Bool, IfOk, MatchOption, OnOk, length, slice_index_or, List};
 ghost use Rattle.sia_graph.specs.Graphs.{IsGraph};
 ghost use Rattle.sia_graph.specs.Taken.{AreTakenNodes};
 ghost use Rattle.sia_graph.specs.declared.order.Graph.{Graph};
-ghost use Rattle.sia_graph.specs.UnderWay.{AreBehind, IsDone, IsLastFront, IsOneFewer, IsReadyIn, IsTaken, IsTaking, WaitsAt, none_pending, times};
+ghost use Rattle.sia_graph.specs.UnderWay.{AreBehind, IsDone, IsOneFewer, IsReadyIn, IsTaken, IsTaking, WaitsAt, none_pending, times};
 
-use sia_events::{NoMemory, TxnId};
+use sia_events::{Listed, NoMemory, TxnId};
 use sia_index::lists::Lists;
 use std::alloc::Global;
 use std::cmp::Reverse;
 use std::collections::{BinaryHeap, VecDeque};
-use std::marker::Model;
-
-/// A list that is told.
-#[derive(Drop)]
-pub struct Listing<T> {
-    rows: Vec<T>,
-}
-
-impl<T> Model for Listing<T> {
-    ghost use Rattle.std.specs.Prelude.{List};
-
-    ghost Value = { List T };
-
-    ghost view = { λ a. a.rows.items };
-}
-
-impl<T> Listing<T> {
-    pub fn new(rows: Vec<T>) -> Self
-        ensures { result ≡ rows.items }
-    {
-        Listing { rows }
-    }
-
-    pub fn as_slice(&self) -> &[T]
-        ensures { result.now ≡ self.now }
-    {
-        self.rows.as_slice()
-    }
-}
 
 /// A list of transactions.
-pub type Txns = Listing<TxnId>;
+pub type Txns = Listed<TxnId>;
 
 /// Which nodes lead to which: a node leads to its targets, and is led to from its sources. Each step is told once, at its target or
 /// at its source.
@@ -186,29 +156,6 @@ impl Taking {
     }
 }
 
-/// Takes the least node to which no step leads from one that is left, again and again, while there is one. Beside those that were
-/// taken stands for each node whether it was.
-fn take_all(alloc: Global, graph: &Graph, nodes: usize) -> Result<(Vec<usize>, Vec<bool>), NoMemory>
-    requires few { nodes < 4294967295 }
-    requires graph { IsGraph nodes graph.now }
-    ensures long { IfOk result (λ (order, done). length done.items ≡ nodes) }
-    ensures last { IfOk result (λ (order, done). IsLastFront
-        (Contains (range_with_len 0 nodes)) graph.now done.items order.items) }
-{
-    let mut taking = Taking::of(alloc, graph, nodes)?;
-    let mut done = vec![in alloc; false; nodes]?;
-    for node in 0..nodes {
-        taking.release(graph, &done, node)?;
-    }
-    let mut order = Vec::with_capacity(alloc, nodes)?;
-    while let Some(node) = taking.take() {
-        order.push(node)?;
-        done[node] = true;
-        taking.finish(graph, &done, node)?;
-    }
-    Ok((order, done))
-}
-
 /// How taking one transaction after another ends.
 #[derive(Drop)]
 pub(crate) enum Taken {
@@ -219,7 +166,8 @@ pub(crate) enum Taken {
 }
 
 /// The least order of the transactions that keeps every step of a graph of blocks over `size` keys and transactions, or those that
-/// are left where none does.
+/// are left where none does. The least node to which no step leads from one that is left is taken, again and again, while there is
+/// one.
 pub(crate) fn take_nodes(
     alloc: Global,
     size: u32,
@@ -231,12 +179,23 @@ pub(crate) fn take_nodes(
     ensures { IfOk result (AreTakenNodes size txns.now graph.now) }
 {
     let floor = 2 * size as usize;
-    let (order, done) = take_all(alloc, graph, floor + txns.len())?;
+    let nodes = floor + txns.len();
+    let mut taking = Taking::of(alloc, graph, nodes)?;
+    let mut done = vec![in alloc; false; nodes]?;
+    for node in 0..nodes {
+        taking.release(graph, &done, node)?;
+    }
+    let mut order = Vec::with_capacity(alloc, nodes)?;
+    while let Some(node) = taking.take() {
+        order.push(node)?;
+        done[node] = true;
+        taking.finish(graph, &done, node)?;
+    }
     if done.iter().all(|is_done| *is_done) {
         let mut names = Vec::with_capacity(alloc, txns.len())?;
-        for node in order.as_slice() {
-            if *node >= floor {
-                names.push(txns[*node - floor])?;
+        for taken in order.as_slice() {
+            if *taken >= floor {
+                names.push(txns[*taken - floor])?;
             }
         }
         return Ok(Taken::Whole(names));

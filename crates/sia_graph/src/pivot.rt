@@ -14,7 +14,7 @@ use sia_index::Index;
 use sia_index::keyed::{By, ByTxn, place_from};
 use sia_index::lists::Lists;
 use sia_index::ordering::put_in_order;
-use sia_parts::{Findings, Kind};
+use sia_parts::Findings;
 use std::alloc::{AllocError, Global};
 
 /// The transaction in the middle of a dangerous structure, with all the transactions at its other ends.
@@ -101,29 +101,6 @@ fn firsts(
     Ok(firsts)
 }
 
-/// Every pivot, by all vulnerable edges.
-fn pivots_by(alloc: Global, ix: &Index, links: &[Link]) -> Result<Vec<Pivot>, AllocError>
-    requires { ListsLinks (IsVulnerableAt ix.now) links.now }
-    ensures { IfOk result (λ found. ArePivots ix.now found.items) }
-{
-    let txns = ix.committed();
-    let into = Lists::<Link>::deal::<ByTarget>(alloc, txns.len(), links)?;
-    let out = Lists::<Link>::deal::<BySource>(alloc, txns.len(), links)?;
-    let mut found = Vec::new(alloc);
-    for txn in 0..txns.len() {
-        let (ins, outs) = (into.at(txn), out.at(txn));
-        if !ins.is_empty() && !outs.is_empty() {
-            found.push(Pivot {
-                txn: txns[txn],
-                ins: Txns::new(names::<BySource>(alloc, txns, ins)?),
-                outs: Txns::new(names::<ByTarget>(alloc, txns, outs)?),
-                firsts: Txns::new(firsts(alloc, ix, txn, ins, outs)?),
-            })?;
-        }
-    }
-    Ok(found)
-}
-
 /// Every pivot, ascending, with its neighbours. The findings are those of the index's history, at all keys.
 pub fn pivots(alloc: Global, f: &Findings, ix: &Index) -> Result<Vec<Pivot>, NoMemory>
     requires { AreFindings ix.now f.now }
@@ -140,5 +117,19 @@ pub fn pivots(alloc: Global, f: &Findings, ix: &Index) -> Result<Vec<Pivot>, NoM
         }
     }
     put_in_order(&mut links)?;
-    Ok(pivots_by(alloc, ix, &links)?)
+    let into = Lists::<Link>::deal::<ByTarget>(alloc, txns.len(), &links)?;
+    let out = Lists::<Link>::deal::<BySource>(alloc, txns.len(), &links)?;
+    let mut found = Vec::new(alloc);
+    for txn in 0..txns.len() {
+        let (ins, outs) = (into.at(txn), out.at(txn));
+        if !ins.is_empty() && !outs.is_empty() {
+            found.push(Pivot {
+                txn: txns[txn],
+                ins: Txns::new(names::<BySource>(alloc, txns, ins)?),
+                outs: Txns::new(names::<ByTarget>(alloc, txns, outs)?),
+                firsts: Txns::new(firsts(alloc, ix, txn, ins, outs)?),
+            })?;
+        }
+    }
+    Ok(found)
 }

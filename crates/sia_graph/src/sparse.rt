@@ -10,7 +10,7 @@ ghost use Rattle.sia_graph.specs.NarrowSteps.{node_of};
 ghost use Rattle.sia_graph.specs.Passed.{IsHeldBy, IsPassed, IsSizeFor};
 ghost use Rattle.sia_graph.specs.SparseGraphs.{AreMemberTargets, AreSourcesOf, IsSparse};
 
-use crate::evidence::{Evidence, Passed, maker_before, next_maker};
+use crate::evidence::{Evidence, Passed, next_maker};
 use crate::order::Graph;
 use sia_events::NoMemory;
 use sia_index::lists::Lists;
@@ -91,7 +91,10 @@ fn put_member_steps(
         put_other(size, txn, next_maker(index, *seen), targets)?;
     }
     for made in index.made_by(txn as usize) {
-        put_other(size, txn, maker_before(index, *made), sources)?;
+        // Nobody made version 0.
+        if let Some(before) = index.position_before(*made) {
+            put_other(size, txn, index.maker_at(before), sources)?;
+        }
     }
     put_all_blocks(size, &passed.stretches, targets)?;
     Ok(())

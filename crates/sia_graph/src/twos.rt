@@ -1,14 +1,13 @@
 //! The two least of the transactions that are left and made a version, saw one or passed over its key.
-ghost use Rattle.std.specs.Prelude.{◌≡◌, ◌≢◌, ◌⊎◌, ◌<◌, ◌++◌, ◌*◌, ℕ, Bool, All, IfOk, List, Some, Contains, length, map};
+ghost use Rattle.std.specs.Prelude.{◌≡◌, ◌≢◌, ◌<◌, ◌++◌, ◌*◌, ℕ, Bool, All, IfOk, List, Some, Contains, length, map};
 ghost use Rattle.sia_events.specs.Lists.{CountsAll};
 ghost use Rattle.sia_events.specs.Refusals.{IsWellFormed};
 ghost use Rattle.sia_events.specs.Transactions.{IsCommitted};
 ghost use Rattle.sia_index.specs.Numbers.{IsCommittedAt};
 ghost use Rattle.sia_index.specs.Positions.{ArePositions, HasPosition};
-ghost use Rattle.sia_parts.specs.Accesses.{Missed};
 ghost use Rattle.sia_parts.specs.declared.accesses.Accesses.{Accesses};
 ghost use Rattle.sia_graph.specs.Evidence.{IsEvidence};
-ghost use Rattle.sia_graph.specs.Twos.{AreEarlier, AreTwosOf, AreTwosOver, IsBeforeVersion, IsLeastNumber, IsLeftPasser, IsLeftSource, IsUpTo, IsWith};
+ghost use Rattle.sia_graph.specs.Twos.{AreEarlier, AreTwosOf, IsBeforeVersion, IsLeastNumber, IsLeftSource, IsUpTo, IsWith};
 
 use crate::evidence::{Evidence, size_for};
 use crate::order::NONE;
@@ -85,25 +84,6 @@ fn run_up(index: &Index, twos: &mut [Two])
     }
 }
 
-/// Of those who passed over a key the least but `me`. Nobody passed over one that blocks aren't over.
-fn least_passing(nodes: &[Two], size: u32, key: u32, me: u32) -> u32
-    requires { length nodes.now ≡ 2 * size }
-    ensures { (a : Accesses) (left : List Bool) → AreTwosOver size (IsLeftPasser a left) nodes.now
-        → (key < size) ⊎ ((r : ℕ) → ¬ Missed a r key)
-        → IsLeastNumber (λ r. IsLeftPasser a left key r × (r ≢ me)) result }
-{
-    if key >= size {
-        return NONE;
-    }
-    let mut least = NONE;
-    let mut block = size as usize + key as usize;
-    while block > 0 {
-        least = least.min(other(nodes[block], me));
-        block /= 2;
-    }
-    least
-}
-
 /// Who made a version or saw one, by position, and who passed over keys, by blocks of these: of each the two least that are left.
 #[derive(Drop)]
 pub(crate) struct Earlier {
@@ -155,7 +135,18 @@ impl Earlier {
             → IsLeastNumber (λ r. IsBeforeVersion index.now a left position r × (r ≢ me)) result }
     {
         let made = other(self.makers[position as usize], me);
-        let passed = least_passing(&self.passed, self.size, index.key_at(position), me);
+        let key = index.key_at(position);
+        // Nobody passed over a key that blocks aren't over.
+        let mut block = if key < self.size {
+            self.size as usize + key as usize
+        } else {
+            0
+        };
+        let mut passed = NONE;
+        while block > 0 {
+            passed = passed.min(other(self.passed[block], me));
+            block /= 2;
+        }
         let seen = match index.position_before(position) {
             Some(before) => other(self.readers[before as usize], me),
             None => NONE,

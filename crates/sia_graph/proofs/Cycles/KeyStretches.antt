@@ -10,9 +10,8 @@ use Rattle.sia_events.specs.declared.event.Event.{Event}
 use Rattle.sia_events.specs.Lists.{Precedes}
 use Rattle.sia_events.specs.Transactions.{Wrote}
 use Rattle.sia_events.proofs.Worked.OneList.{one_list_by}
-use Rattle.sia_index.proofs.Shared.KeyChains.{key_number}
 use Rattle.sia_index.specs.Info.{AreWrittenKeys, IsKeyAt}
-use Rattle.sia_index.specs.Positions.{ArePositions, IsAtPosition, IsVersion}
+use Rattle.sia_index.specs.Positions.{IsAtPosition, IsVersion}
 use Rattle.sia_index.specs.declared.info.KeyVersion.{KeyVersion}
 use Rattle.sia_parts.proofs.Auditing.Passing.{number_from}
 use Rattle.sia_parts.proofs.CutKeys.StartLemmas.{increasing}
@@ -23,9 +22,8 @@ use Rattle.sia_graph.specs.LeastEdges.{AreMade, IsKeyOf, IsMadeWithin, IsMet, Is
 use Rattle.sia_graph.specs.Twos.{HaveOneKey, IsLeastNumber}
 use Rattle.sia_graph.proofs.Shared.AscendingIds.{ids_no_less}
 use Rattle.sia_graph.proofs.Shared.LeastNumbers.{least_same}
-use Rattle.sia_graph.proofs.Shared.Numbered.{one_key_number}
-use Rattle.sia_graph.proofs.Shared.PositionEdges.{commits_less, one_at, one_key_at}
-use Rattle.sia_graph.proofs.Shared.PositionTwos.{positions_below}
+use Rattle.sia_parts.proofs.Shared.OneNumber.{one_key_number, one_key as one_key_at}
+use Rattle.sia_parts.proofs.EdgeRows.PositionOrder.{one_version as one_at}
 
 -- from where to before where a version stands that makes an edge of this kind with the one at p
 abbrev pub IsSpan : Kind → ℕ → ℕ → ℕ → ℕ → ℕ → Type 0
@@ -69,26 +67,13 @@ module _ (h : List Event) where
       let f = ap (λ (x : KeyVersion). x.key) (one_at h q one.1 b.0 one.3 b.1) in
       one_key_number h i j b.0.key (subst (IsKeyAt h i) (e ∙ one.4 ∙ f) a.2) b.2
 
-  -- version 0 of a key stands first of what has its number or a greater one
-  pub from_first : (s j q i : ℕ) → (v : KeyVersion) × IsAtPosition h s v × IsKeyAt h j v.key × (v.commit ≡ 0) → IsKeyOf h q i → (s ≤ q) ↔ (j ≤ i)
-  from_first s j q i first of = (
-    (λ most. rises s q j i (first.0, first.1, first.2) of most),
-    (λ most. elim (cases_lt q s) [
-      | inr le ↦ le
-      | inl less ↦
-          let back = rises q s i j of (first.0, first.1, first.2) (omega arith) in
-          let key = one_key_at h j of.0.key first.0.key (subst (λ n. IsKeyAt h n of.0.key) (let e : i ≡ j = omega arith in e) of.2) first.2 in
-          let l = commits_less h q s of.0 first.0 of.1 first.1 key less in
-          let zero = first.3 in
-          absurd (omega arith)
-    ]),
-  )
-
-  pub from_none : (keys : List ℕ) → AreWrittenKeys h keys → (count j q i : ℕ) → ArePositions h count → length keys ≤ j → IsKeyOf h q i → (count ≤ q) ↔ (j ≤ i)
-  from_none keys are count j q i positions most of =
-      let l = positions_below h count q positions (of.0, of.1) in
-      let n = (key_number h keys are i of.0.key of.2).0 in
-      ((λ e. absurd (omega arith)), (λ e. absurd (omega arith)))
+  -- where the positions of the keys from one number on begin
+  pub begins_at : (s j q i : ℕ) → ((q : ℕ) (v : KeyVersion) (i : ℕ) → IsAtPosition h q v → IsKeyAt h i v.key → (q < s) ↔ (i < j)) → IsKeyOf h q i → (s ≤ q) ↔ (j ≤ i)
+  begins_at s j q i parts of =
+      let part = parts q of.0 i of.1 of.2 in (
+        (λ most. elim (cases_lt i j) [ inl less ↦ let back = part.1 less in absurd (omega arith) | inr le ↦ le ]),
+        (λ most. elim (cases_lt q s) [ inl less ↦ let back = part.0 less in absurd (omega arith) | inr le ↦ le ]),
+      )
 
   -- what a kind asks for is a stretch of positions
   pub met : (kind : Kind) (p j q i start end from to : ℕ) → IsKeyOf h p j → IsKeyOf h q i → (start ≤ q) ↔ (j ≤ i) → (end ≤ q) ↔ (j + 1 ≤ i) → IsSpan kind p start end from to

@@ -11,7 +11,8 @@ use Rattle.sia_graph.specs.Orders.{Leads}
 use Rattle.sia_graph.specs.Previous.{IsLeftIn}
 use Rattle.sia_graph.specs.Twos.{IsLeastNumber, IsLeftSource}
 use Rattle.sia_graph.specs.Walks.{IsLeastSource, IsSource}
-use Rattle.sia_graph.proofs.Shared.Numbered.{few_txns, txn_number}
+use Rattle.sia_graph.proofs.Shared.Numbered.{txn_number}
+use Rattle.sia_parts.proofs.EdgeRows.Readings.{few_txns}
 
 -- p is the least of these, or i itself where there is none
 abbrev pub IsPrevious : List Event → List Bool → ℕ → ℕ → Type 0

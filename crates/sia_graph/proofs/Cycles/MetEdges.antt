@@ -25,8 +25,9 @@ use Rattle.sia_graph.specs.Dangerous.{IsLeast}
 use Rattle.sia_graph.specs.LeastEdges.{IsKeyOf, IsLeastEdgeBetween, IsMet, IsMissMet}
 use Rattle.sia_graph.specs.Twos.{IsLeastNumber}
 use Rattle.sia_graph.proofs.Cycles.KeyStretches.{number_of_key}
-use Rattle.sia_graph.proofs.Shared.Numbered.{one_key_number, one_number}
-use Rattle.sia_graph.proofs.Shared.PositionEdges.{MadeAt, commits_less, made_commits, one_at, rw_positions, wr_positions, ww_positions}
+use Rattle.sia_graph.proofs.Shared.PositionEdges.{MadeAt, made_commits, rw_positions, wr_positions, ww_positions}
+use Rattle.sia_parts.proofs.Shared.OneNumber.{one_key_number, one_committed_number as one_number}
+use Rattle.sia_parts.proofs.EdgeRows.PositionOrder.{by_commit as commits_less, one_version as one_at}
 
 -- the positions of the versions that t made
 abbrev pub AreMadeBy : List Event → ℕ → List ℕ → Type 0

@@ -19,14 +19,13 @@ use Rattle.sia_parts.proofs.EdgeRows.KeyEnds.{rises_at}
 use Rattle.sia_parts.proofs.EdgeRows.PositionEdges.{edge_is_told, makers_apart, told_is_edge}
 use Rattle.sia_parts.proofs.EdgeRows.PositionOrder.{between_of_key, by_commit, made_of_key, one_key_of, same_number}
 use Rattle.sia_parts.proofs.Shared.Adding.{FromFirst, from_more}
-use Rattle.sia_parts.proofs.Shared.OneNumber.{one_key}
+use Rattle.sia_parts.proofs.Shared.OneNumber.{one_key, one_committed as one_txn_at}
 use Rattle.sia_graph.specs.declared.neighbours.Neighbour.{Neighbour}
 use Rattle.sia_graph.specs.declared.neighbours.Neighbours.{Neighbours}
 use Rattle.sia_graph.specs.declared.neighbours.Passing.{Passing}
 use Rattle.sia_graph.specs.declared.neighbours.Role.TheVariants.{In}
 use Rattle.sia_graph.specs.Found.{BeginUpTo, CanFind, IsInRow, IsLookerRow, IsPasserRow}
 use Rattle.sia_graph.specs.Links.{IsVulnerableAt}
-use Rattle.sia_graph.proofs.Shared.PositionEdges.{one_txn_at}
 
 -- the row of one who saw a version before that at position q, which number i made, or passed over its key
 abbrev pub IsInAt : Neighbours → ℕ → ℕ → Neighbour → Type 0

@@ -15,14 +15,13 @@ use Rattle.sia_parts.specs.declared.accesses.Accesses.{Accesses}
 use Rattle.sia_parts.specs.declared.edges.Reading.{Reading}
 use Rattle.sia_parts.specs.Accesses.{AreAccesses, SawPosition}
 use Rattle.sia_parts.specs.Sights.{Adds, FromSome}
-use Rattle.sia_parts.proofs.EdgeRows.PositionOrder.{position_below}
+use Rattle.sia_parts.proofs.EdgeRows.PositionOrder.{position_below, by_commit as commits_less, one_version as one_at}
 use Rattle.sia_parts.proofs.EdgeRows.Readings.{dealt_gives, dealt_has, length-dealt}
 use Rattle.sia_parts.proofs.Shared.Adding.{adds_nothing, adds_push}
 use Rattle.sia_graph.specs.Found.{AreLooks}
 use Rattle.sia_graph.specs.Twos.{HaveOneKey}
 use Rattle.sia_graph.proofs.Shared.AccessLists.{saw_is}
 use Rattle.sia_graph.proofs.Shared.Numbered.{commits_at}
-use Rattle.sia_graph.proofs.Shared.PositionEdges.{commits_less, one_at}
 
 -- the look of number i at position q, behind which a later version of the key stands
 abbrev pub IsLaterLook : List Event → ℕ → ℕ → Reading → Type 0

@@ -28,7 +28,7 @@ use Rattle.sia_graph.specs.Links.{IsVulnerableAt}
 use Rattle.sia_graph.specs.Neighbours.{HasRole}
 use Rattle.sia_graph.proofs.OfPivots.Vulnerable.{source_committed}
 use Rattle.sia_graph.proofs.Shared.Numbered.{number_of}
-use Rattle.sia_graph.proofs.Shared.PositionEdges.{one_txn_at}
+use Rattle.sia_parts.proofs.Shared.OneNumber.{one_committed as one_txn_at}
 
 -- what `==` of roles says
 pub same_role : (r s : Role) → sameb the_type r s ≡ true → r ≡ s

@@ -13,7 +13,7 @@ use Rattle.sia_index.specs.Lists.{dealt, rows_of}
 use Rattle.sia_index.proofs.VersionRows.StableDeal.{filter_has}
 use Rattle.sia_graph.specs.declared.pivot.Link.{Link}
 use Rattle.sia_graph.specs.Links.{ListsLinks, link_rank}
-use Rattle.sia_graph.proofs.OfPivots.ListedAs.{precedes_last, precedes_then}
+use Rattle.sia_index.proofs.Shared.Ordered.{precedes_last, precedes_then}
 
 abbrev pub by_link : Link → Link → Ordering
 by_link k l = ordering_then (nat_cmp k.at l.at) (nat_cmp k.other l.other)

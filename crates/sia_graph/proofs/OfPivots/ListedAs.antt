@@ -1,11 +1,9 @@
 -- Lists of all that has a property, and what a sort makes of a list.
-use Rattle.std.proofs.Common.{◌≡◌, ◌↔◌, inl, inr, ℕ, ◌<◌, List, [], ◌∷◌, length, map, refl, ap, sym, ◌∙◌, arith}
+use Rattle.std.proofs.Common.{◌≡◌, ◌↔◌, ℕ, ◌<◌, List, [], ◌∷◌, length, map, ap, sym, ◌∙◌, arith}
 use Rattle.std.specs.Prelude.{Contains, slice_index_or}
-use Rattle.std.specs.Ordering.{ordering_then, nat_cmp}
 use Rattle.std.specs.declared.cmp.Ordering.{Ordering}
 use Rattle.std.specs.declared.cmp.Ordering.TheVariants.{Less}
 use Rattle.std.specs.List.Sorted.{IsStrictlySortedBy}
-use Rattle.std.proofs.lemmas.Cmp.{ranked, by_ranked}
 use Rattle.std.proofs.lemmas.List.{get_or-map, length-map}
 use Rattle.std.proofs.lemmas.List.Elements.{Contains-get_or}
 use Rattle.std.proofs.lemmas.Map.Keys.{Less-from_sorted}
@@ -17,18 +15,6 @@ listed_as rank P Q same xs l = record {
   ascending = l.ascending;
   each = λ x. ((λ c. (same x).0 ((l.each x).0 c)), (λ q. (l.each x).1 ((same x).1 q)));
 }
-
--- what is less by its last number is before by its rank
-pub precedes_last : (a b : ℕ) → nat_cmp a b ≡ Less → Precedes (a ∷ []) (b ∷ [])
-precedes_last a b less = by_ranked (a < b) (a ≡ b) (b < a) (nat_cmp a b) (ranked a b (nat_cmp a b) refl) (λ is below. inl below) (λ is same. cc) (λ is above. cc)
-
--- what is less by this number, or where that is the same by the rest, is before by its rank
-pub precedes_then : (a b : ℕ) (o : Ordering) (xs ys : List ℕ) → ordering_then (nat_cmp a b) o ≡ Less → (o ≡ Less → Precedes xs ys) → Precedes (a ∷ xs) (b ∷ ys)
-precedes_then a b o xs ys less rest =
-    by_ranked (a < b) (a ≡ b) (b < a) (nat_cmp a b) (ranked a b (nat_cmp a b) refl)
-    (λ is below. inl below)
-    (λ is same. inr (same, rest (rw is at less)))
-    (λ is above. let no = rw is at less in cc)
 
 -- a list without repeats, in an order that goes with the ranks, that holds what another holds
 pub listed_in_order : {A : Type 0} (rank : A → List ℕ) (c : A → A → Ordering) → ((x y : A) → c x y ≡ Less → Precedes (rank x) (rank y))

@@ -27,7 +27,7 @@ use Rattle.sia_parts.specs.Sights.{Adds, FromSome}
 use Rattle.sia_parts.proofs.EdgeRows.AccessRows.{first_below, first_kept, first_last}
 use Rattle.sia_parts.proofs.EdgeRows.EdgeLoops.{ReachesTo}
 use Rattle.sia_parts.proofs.EdgeRows.KeyEnds.{rises_at}
-use Rattle.sia_parts.proofs.EdgeRows.PositionOrder.{ascends_at}
+use Rattle.sia_parts.proofs.EdgeRows.PositionOrder.{ascends_at, by_commit_from as commits_most, one_version as one_at}
 use Rattle.sia_parts.proofs.EdgeRows.Room.{StandFrom}
 use Rattle.sia_parts.proofs.Shared.Adding.{FromFirst, adds_both, adds_nothing, adds_same, first_more}
 use Rattle.sia_graph.specs.declared.neighbours.Neighbour.{Neighbour}
@@ -36,9 +36,9 @@ use Rattle.sia_graph.specs.declared.neighbours.Neighbours.{Neighbours}
 use Rattle.sia_graph.specs.Found.{CanFind, OverlapAt, PutsMore, missed_of, saw_of}
 use Rattle.sia_graph.specs.Links.{EndsBehind, IsVulnerableAt, OverlapsAfter, OverlapsBehind, OverlapsIn}
 use Rattle.sia_graph.proofs.Shared.AccessLists.{missed_is, saw_is, saw_position}
-use Rattle.sia_graph.proofs.Shared.Numbered.{one_number}
-use Rattle.sia_graph.proofs.Shared.PositionEdges.{commits_most, look_of_rw, one_at, one_key_at, one_txn_at, rw_from_look}
+use Rattle.sia_graph.proofs.Shared.PositionEdges.{look_of_rw, rw_from_look}
 use Rattle.sia_graph.proofs.Shared.PositionTwos.{positions_below}
+use Rattle.sia_parts.proofs.Shared.OneNumber.{one_committed_number as one_number, one_key as one_key_at, one_committed as one_txn_at}
 
 -- nothing, the same, and one after another
 pub puts_none : (P : Neighbour → Type 0) (rows : Vec Neighbour) → ((n : Neighbour) → ¬ P n) → PutsMore P 0 rows rows

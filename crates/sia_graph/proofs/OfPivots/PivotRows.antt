@@ -24,10 +24,12 @@ use Rattle.sia_graph.specs.Late.{IsLastOf}
 use Rattle.sia_graph.specs.Links.{IsVulnerableAt}
 use Rattle.sia_graph.specs.Neighbours.{AreNeighbours, HasRole, IsPivotAt, neighbour_rank, role_number}
 use Rattle.sia_graph.proofs.OfPivots.EarlyOuts.{EntersAt, ins_enter, last_same}
-use Rattle.sia_graph.proofs.OfPivots.ListedAs.{listed_in_order, precedes_last, precedes_then}
+use Rattle.sia_graph.proofs.OfPivots.ListedAs.{listed_in_order}
 use Rattle.sia_graph.proofs.OfPivots.Vulnerable.{source_committed, target_committed}
 use Rattle.sia_graph.proofs.Shared.Numbered.{number_of}
-use Rattle.sia_graph.proofs.Shared.PositionEdges.{look_of_rw, made_at, one_txn_at}
+use Rattle.sia_graph.proofs.Shared.PositionEdges.{look_of_rw, made_at}
+use Rattle.sia_index.proofs.Shared.Ordered.{precedes_last, precedes_then}
+use Rattle.sia_parts.proofs.Shared.OneNumber.{one_committed as one_txn_at}
 
 -- roles go by their numbers
 role_order : (r s : Role) → cmp-value.it r s ≡ nat_cmp (role_number r) (role_number s)

@@ -20,8 +20,8 @@ use Rattle.sia_parts.specs.Sights.{FromSome}
 use Rattle.sia_graph.specs.declared.pivot.Link.{Link}
 use Rattle.sia_graph.specs.Links.{IsVulnerableAt, ListsLinks, link_rank}
 use Rattle.sia_graph.proofs.Shared.Numbered.{number_of, txn_number}
-use Rattle.sia_graph.proofs.Shared.PositionEdges.{one_txn_at}
 use Rattle.sia_graph.proofs.OfPivots.ListedAs.{mapped}
+use Rattle.sia_parts.proofs.Shared.OneNumber.{one_committed as one_txn_at}
 
 -- both ends of a vulnerable edge committed
 pub target_committed : (h : List Event) (t u : ℕ) → IsVulnerable h t u → IsCommitted h u

@@ -10,8 +10,8 @@ use Rattle.sia_index.specs.Positions.{ArePositions, IsAtPosition}
 use Rattle.sia_parts.specs.Sights.{Adds, FromSome}
 use Rattle.sia_parts.proofs.Shared.Adding.{adds_same, added_to_none}
 use Rattle.sia_graph.specs.Makers.{IsFirstMaker}
-use Rattle.sia_graph.proofs.Shared.Numbered.{one_key_number}
-use Rattle.sia_graph.proofs.Shared.PositionEdges.{one_at, one_txn_at, position_of}
+use Rattle.sia_parts.proofs.Shared.OneNumber.{one_key_number, one_committed as one_txn_at}
+use Rattle.sia_parts.proofs.EdgeRows.PositionOrder.{one_version as one_at, position_of}
 
 -- position q is of a version of key number j, and number i made the first version of that key
 abbrev pub IsFirstKeyAt : List Event → ℕ → ℕ → ℕ → Type 0

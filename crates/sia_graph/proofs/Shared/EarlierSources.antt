@@ -25,9 +25,10 @@ use Rattle.sia_graph.specs.Previous.{IsLeftIn}
 use Rattle.sia_graph.specs.Twos.{HaveOneKey, IsBeforeVersion, IsLeastNumber, IsLeftMaker, IsLeftReader, IsLeftSource, IsTwo, IsUpTo}
 use Rattle.sia_graph.specs.declared.twos.Two.{Two}
 use Rattle.sia_graph.proofs.Shared.LeastNumbers.{least_join, least_none, least_same, other_of}
-use Rattle.sia_graph.proofs.Shared.Numbered.{one_key_number, one_number}
-use Rattle.sia_graph.proofs.Shared.PositionEdges.{commits_less, made_commits, one_at, one_txn_at, rw_positions, wr_positions, ww_positions}
+use Rattle.sia_graph.proofs.Shared.PositionEdges.{made_commits, rw_positions, wr_positions, ww_positions}
 use Rattle.sia_graph.proofs.Shared.PositionTwos.{before_below, below_before, none_below}
+use Rattle.sia_parts.proofs.Shared.OneNumber.{one_key_number, one_committed_number as one_number, one_committed as one_txn_at}
+use Rattle.sia_parts.proofs.EdgeRows.PositionOrder.{by_commit as commits_less, one_version as one_at}
 
 -- each miss is of keys that blocks are over
 pub miss_within : (h : List Event) (a : Accesses) → AreAccesses h (λ _. ⊤) a → (size : ℕ) → IsSizeFor size h a → (i : ℕ) (miss : RangeMiss) → HasMiss a i miss → (miss.from < miss.to) × (miss.to ≤ size)

@@ -15,8 +15,9 @@ use Rattle.sia_index.specs.Numbers.{IsCommittedAt}
 use Rattle.sia_index.specs.Positions.{IsAtPosition, NoneBehind}
 use Rattle.sia_index.specs.Info.{IsKeyAt}
 use Rattle.sia_graph.specs.Makers.{IsFirstMaker, IsMaker, IsMakerBefore, IsNextMaker}
-use Rattle.sia_graph.proofs.Shared.Numbered.{commits_at, one_next, one_number}
-use Rattle.sia_graph.proofs.Shared.PositionEdges.{one_at, one_key_at}
+use Rattle.sia_graph.proofs.Shared.Numbered.{commits_at, one_next}
+use Rattle.sia_parts.proofs.Shared.OneNumber.{one_committed_number as one_number, one_key as one_key_at}
+use Rattle.sia_parts.proofs.EdgeRows.PositionOrder.{one_version as one_at}
 
 -- whether a number is the one that was found
 pub is_told : (found : Option ℕ) (i : ℕ) (r : Bool) → r ≡ option_eq eqb found (Some i) → IsTrue r ↔ (found ≡ Some i)

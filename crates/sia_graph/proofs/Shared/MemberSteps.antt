@@ -20,8 +20,8 @@ use Rattle.sia_graph.specs.NarrowSteps.{node_of}
 use Rattle.sia_graph.specs.Passed.{IsPassed, IsSizeFor}
 use Rattle.sia_graph.specs.SparseGraphs.{AreMemberTargets, AreSourcesOf, IsBlockStep, IsStepTo}
 use Rattle.sia_graph.proofs.SparseGraphs.KeyBlocks.{some_power}
-use Rattle.sia_graph.proofs.Shared.PositionEdges.{one_txn_at}
 use Rattle.sia_graph.proofs.SparseGraphs.StepsPut.{few_first}
+use Rattle.sia_parts.proofs.Shared.OneNumber.{one_committed as one_txn_at}
 
 pub size_few : (size : ℕ) (h : List Event) (a : Accesses) → IsWellFormed h → IsSizeFor size h a → size ≤ 536870912
 size_few size h a wf (inl some) = let f = few_written h wf some.0 some.1 in let e = some.2 in omega arith

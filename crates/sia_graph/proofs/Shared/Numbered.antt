@@ -1,46 +1,29 @@
 -- A number, a key's number and a position each stand for one thing, and each committed version stands at a position.
-use Rattle.std.proofs.Common.{◌≡◌, inl, inr, ℕ, ◌-◌, ◌<◌, ◌≤◌, List, [], ◌∷◌, length, refl, sym, subst, ◌∙◌, arith}
+use Rattle.std.proofs.Common.{◌≡◌, inl, inr, ℕ, ◌<◌, List, [], ◌∷◌, length, subst, ◌∙◌, arith}
 use Rattle.std.specs.Prelude.{slice_index}
-use Rattle.std.proofs.lemmas.Bool.{cases_lt}
 use Rattle.std.proofs.lemmas.List.{get_or_default}
 use Rattle.std.proofs.lemmas.List.Elements.{Contains-get_or}
 use Rattle.sia_events.specs.declared.event.Event.{Event}
 use Rattle.sia_events.specs.Lists.{ListsAscending}
 use Rattle.sia_events.specs.NarrowDependencies.{CommitsVersion, IsNextVersion}
-use Rattle.sia_events.specs.Refusals.{IsWellFormed}
 use Rattle.sia_events.specs.Transactions.{IsCommitted}
 use Rattle.sia_events.proofs.OfLaws.Endings.{one_committer}
 use Rattle.sia_events.proofs.Worked.OneList.{one_list_by}
 use Rattle.sia_index.specs.declared.info.KeyVersion.{KeyVersion}
-use Rattle.sia_index.specs.Info.{IsKeyAt}
 use Rattle.sia_index.specs.Numbers.{IsCommittedAt}
 use Rattle.sia_index.specs.Positions.{IsAtPosition}
-use Rattle.sia_index.proofs.Shared.KeyChains.{key_number}
-use Rattle.sia_parts.proofs.Shared.FewNumbers.{few_committed}
-use Rattle.sia_parts.proofs.CutKeys.StartLemmas.{increasing}
-use Rattle.sia_graph.proofs.Shared.AscendingIds.{one_id}
-use Rattle.sia_graph.proofs.Shared.PositionEdges.{is_version}
+use Rattle.sia_parts.proofs.EdgeRows.PositionOrder.{is_version}
 
 module _ (h : List Event) where
   -- a number of a committed transaction is one in each list of these
   pub txn_number : (txns : List ℕ) → ListsAscending (IsCommitted h) txns → (i t : ℕ) → IsCommittedAt h i t → (i < length txns) × (slice_index txns i ≡ t)
   txn_number txns are i t at = subst (λ (xs : List ℕ). (i < length xs) × (slice_index xs i ≡ t)) (one_list_by (λ x. x ∷ []) (IsCommitted h) at.0 txns at.1 are) (at.2, at.3)
 
-  pub one_number : (i j t : ℕ) → IsCommittedAt h i t → IsCommittedAt h j t → i ≡ j
-  one_number i j t a b =
-      let x = txn_number b.0 b.1 i t a in
-      one_id b.0 (increasing b.0 b.1.ascending) i j x.0 b.2 (x.1 ∙ sym b.3)
-
   pub number_of : (txns : List ℕ) → ListsAscending (IsCommitted h) txns → (t : ℕ) → IsCommitted h t → (i : ℕ) × IsCommittedAt h i t
   number_of txns are t c = let w = (are.each t).1 c in (w.0, (txns, are, w.1, get_or_default txns w.0 0 t w.1 ∙ w.2))
 
   pub is_committed_at : (i t : ℕ) → IsCommittedAt h i t → IsCommitted h t
   is_committed_at i t at = subst (IsCommitted h) at.3 ((at.1.each (slice_index at.0 i)).0 (Contains-get_or at.0 i 0 at.2))
-
-  pub one_key_number : (i j k : ℕ) → IsKeyAt h i k → IsKeyAt h j k → i ≡ j
-  one_key_number i j k a b =
-      let x = key_number h b.0 b.1 i k a in
-      one_id b.0 (increasing b.0 b.1.ascending) i j x.0 b.2 (x.1 ∙ sym b.3)
 
   -- what stands at a position is committed, but version 0
   pub commits_at : (q : ℕ) (v : KeyVersion) → IsAtPosition h q v → 0 < v.commit → CommitsVersion h v.key v.txn v.commit
@@ -53,10 +36,3 @@ module _ (h : List Event) where
       let m = b.3 t a.0 a.1 a.2 in
       let same : a.0 ≡ b.0 = omega arith in
       one_committer h t u b.0 (subst (λ d. CommitsVersion h k t d) same a.1).1 b.1.1
-
--- they are few
-pub few_txns : (h : List Event) → IsWellFormed h → (txns : List ℕ) → ListsAscending (IsCommitted h) txns → length txns ≤ 536870912
-few_txns h wf txns are = elim (cases_lt 0 (length txns)) [
-  | inl some ↦ let f = few_committed h wf (length txns - 1) (slice_index txns (length txns - 1)) (txns, are, (omega arith), refl) in omega arith
-  | inr none ↦ omega arith
-]

@@ -15,7 +15,8 @@ use Rattle.sia_graph.specs.Twos.{AreTwosOf, HaveOneKey, IsTwo, IsUpTo, IsWith}
 use Rattle.sia_graph.specs.declared.twos.Two.{Two}
 use Rattle.sia_graph.proofs.Shared.LeastNumbers.{two_same, two_with}
 use Rattle.sia_graph.proofs.Shared.Numbered.{commits_at}
-use Rattle.sia_graph.proofs.Shared.PositionEdges.{commits_less, one_at, positions_most}
+use Rattle.sia_graph.proofs.Shared.PositionEdges.{positions_most}
+use Rattle.sia_parts.proofs.EdgeRows.PositionOrder.{by_commit as commits_less, one_version as one_at}
 
 -- of a position the one before it of the same key, if there is one
 abbrev pub IsBefore : List Event → ℕ → Option ℕ → Type 0

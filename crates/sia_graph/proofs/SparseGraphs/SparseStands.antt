@@ -42,9 +42,11 @@ use Rattle.sia_graph.specs.StandIns.{LeadsByName}
 use Rattle.sia_graph.specs.Taken.{node_list}
 use Rattle.sia_graph.proofs.Shared.AscendingIds.{ids_less}
 use Rattle.sia_graph.proofs.SparseGraphs.KeyBlocks.{doubled, some_power}
-use Rattle.sia_graph.proofs.Shared.Numbered.{commits_at, is_committed_at, number_of, one_next, one_number, txn_number}
-use Rattle.sia_graph.proofs.Shared.PositionEdges.{one_at, one_key_at, one_txn_at, position_of, rw_from_look, wr_from_look}
+use Rattle.sia_graph.proofs.Shared.Numbered.{commits_at, is_committed_at, number_of, one_next, txn_number}
+use Rattle.sia_graph.proofs.Shared.PositionEdges.{rw_from_look, wr_from_look}
 use Rattle.sia_graph.proofs.Shared.Ranges.{range_is}
+use Rattle.sia_parts.proofs.Shared.OneNumber.{one_committed_number as one_number, one_key as one_key_at, one_committed as one_txn_at}
+use Rattle.sia_parts.proofs.EdgeRows.PositionOrder.{one_version as one_at, position_of}
 
 -- a block that is over what one of its halves is over
 over_half : (size b c j : ℕ) → 2 * b ≤ c → c ≤ 2 * b + 1 → IsOver size c j → IsOver size b j

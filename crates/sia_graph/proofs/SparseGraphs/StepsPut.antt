@@ -7,7 +7,7 @@ use Rattle.sia_index.specs.Numbers.{IsCommittedAt}
 use Rattle.sia_parts.specs.Sights.{Adds}
 use Rattle.sia_parts.proofs.Shared.Adding.{adds_same}
 use Rattle.sia_parts.proofs.Shared.FewNumbers.{few_committed}
-use Rattle.sia_graph.specs.Makers.{IsFirstMaker, IsMaker, IsMakerBefore, IsNextMaker}
+use Rattle.sia_graph.specs.Makers.{IsFirstMaker, IsMaker, IsNextMaker}
 use Rattle.sia_graph.specs.NarrowSteps.{node_of}
 use Rattle.sia_graph.specs.SparseGraphs.{IsStepTo}
 
@@ -28,9 +28,6 @@ module _ (h : List Event) (wf : IsWellFormed h) where
 
   pub few_next : (q i : ℕ) → IsNextMaker h q i → i < 1073741824
   few_next q i m = few i m.2 m.4
-
-  pub few_before : (q i : ℕ) → IsMakerBefore h q i → i < 1073741824
-  few_before q i m = few i m.2 m.7
 
   pub few_first : (j i : ℕ) → IsFirstMaker h j i → i < 1073741824
   few_first j i m = few i m.1 m.4

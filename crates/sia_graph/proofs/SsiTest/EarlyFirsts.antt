@@ -28,8 +28,10 @@ use Rattle.sia_graph.specs.Extremes.{HasRwEdge}
 use Rattle.sia_graph.specs.Late.{AreCommits, Enters, IsLastOf}
 use Rattle.sia_graph.proofs.OfLaws.Extremes.{firsts_hold}
 use Rattle.sia_graph.proofs.SsiTest.Stands.{look_at}
-use Rattle.sia_graph.proofs.Shared.Numbered.{commits_at, number_of, one_number, txn_number}
-use Rattle.sia_graph.proofs.Shared.PositionEdges.{look_of_rw, one_at, one_key_at, one_txn_at, rw_from_look}
+use Rattle.sia_graph.proofs.Shared.Numbered.{commits_at, number_of, txn_number}
+use Rattle.sia_graph.proofs.Shared.PositionEdges.{look_of_rw, rw_from_look}
+use Rattle.sia_parts.proofs.Shared.OneNumber.{one_committed_number as one_number, one_key as one_key_at, one_committed as one_txn_at}
+use Rattle.sia_parts.proofs.EdgeRows.PositionOrder.{one_version as one_at}
 
 -- what is told of an option, by whether it is there
 pub there_or_not : {A : Type 0} (P : Type 0) (Q : A → Type 0) (o : Option A) → MatchOption o P Q → ((is_some o ≡ true) × (a : A) × Q a) ⊎ ((is_some o ≡ false) × P)

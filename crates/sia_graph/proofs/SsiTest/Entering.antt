@@ -11,8 +11,8 @@ use Rattle.sia_index.specs.Positions.{IsAtPosition}
 use Rattle.sia_parts.specs.Sights.{FromSome}
 use Rattle.sia_parts.proofs.Shared.Adding.{FromFirst, first_more}
 use Rattle.sia_graph.specs.Late.{AreLate, Enters, EntersAt, IsLastOf}
-use Rattle.sia_graph.proofs.Shared.PositionEdges.{one_at, position_of}
 use Rattle.sia_graph.proofs.SsiTest.Raised.{below_max}
+use Rattle.sia_parts.proofs.EdgeRows.PositionOrder.{one_version as one_at, position_of}
 
 -- the version at position q is one that such an edge leads to
 abbrev pub EntersPosition : List Event → List ℕ → ℕ → ℕ → Type 0

@@ -24,7 +24,7 @@ use Rattle.sia_graph.proofs.Shared.AscendingIds.{ids_no_less}
 use Rattle.sia_graph.proofs.SsiTest.EarlyFirsts.{first_early}
 use Rattle.sia_graph.proofs.OfLaws.Extremes.{entered_from}
 use Rattle.sia_graph.proofs.Shared.Numbered.{number_of, txn_number}
-use Rattle.sia_graph.proofs.Shared.PositionEdges.{one_txn_at}
+use Rattle.sia_parts.proofs.Shared.OneNumber.{one_committed as one_txn_at}
 
 -- a structure whose transactions are these
 pub named : (h : List Event) (d : Dangerous) (first pivot last : ℕ) → (d.first ≡ first) × (d.pivot ≡ pivot) × (d.last ≡ last) → IsLeast (HasFirst h) pivot → IsLeast (IsFirst h pivot) last

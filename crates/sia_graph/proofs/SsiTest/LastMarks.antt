@@ -12,9 +12,10 @@ use Rattle.sia_index.specs.declared.info.KeyVersion.{KeyVersion}
 use Rattle.sia_index.specs.Info.{IsKeyAt}
 use Rattle.sia_index.specs.Positions.{ArePositions, IsAtPosition, IsVersion}
 use Rattle.sia_graph.specs.Late.{AreLastBefore, IsMarkedBefore, IsMarkedOver}
-use Rattle.sia_graph.proofs.Shared.Numbered.{commits_at, one_key_number}
-use Rattle.sia_graph.proofs.Shared.PositionEdges.{commits_less, one_at, position_of, positions_less}
+use Rattle.sia_graph.proofs.Shared.Numbered.{commits_at}
 use Rattle.sia_graph.proofs.Shared.PositionTwos.{positions_below}
+use Rattle.sia_parts.proofs.Shared.OneNumber.{one_key_number}
+use Rattle.sia_parts.proofs.EdgeRows.PositionOrder.{by_commit as commits_less, one_version as one_at, position_of, by_position as positions_less}
 
 module _ (h : List Event) where
   abbrev rank : KeyVersion → List ℕ

@@ -23,9 +23,11 @@ use Rattle.sia_graph.proofs.Shared.Facts.{lifetime_of}
 use Rattle.sia_graph.proofs.SsiTest.LastMarks.{zero_before}
 use Rattle.sia_graph.proofs.SsiTest.Marks.{none_marked}
 use Rattle.sia_graph.proofs.Shared.NoStuckSet.{rw_unseen}
-use Rattle.sia_graph.proofs.Shared.Numbered.{commits_at, one_number, txn_number}
+use Rattle.sia_graph.proofs.Shared.Numbered.{commits_at, txn_number}
 use Rattle.sia_graph.proofs.SsiTest.Stands.{look_at}
-use Rattle.sia_graph.proofs.Shared.PositionEdges.{commits_less, look_of_rw, one_at, one_key_at, one_txn_at, positions_less, rw_from_look}
+use Rattle.sia_graph.proofs.Shared.PositionEdges.{look_of_rw, rw_from_look}
+use Rattle.sia_parts.proofs.Shared.OneNumber.{one_committed_number as one_number, one_key as one_key_at, one_committed as one_txn_at}
+use Rattle.sia_parts.proofs.EdgeRows.PositionOrder.{by_commit as commits_less, one_version as one_at, by_position as positions_less}
 
 module _ (h : List Event) (wf : IsWellFormed h) (kept : IsolationKept h) where
   -- who looked at a version and made a later one made the next one

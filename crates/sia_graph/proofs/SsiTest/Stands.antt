@@ -16,7 +16,8 @@ use Rattle.sia_graph.specs.Late.{IsLookAt, StandsAt}
 use Rattle.sia_graph.specs.Makers.{IsMaker}
 use Rattle.sia_graph.specs.Passed.{IsOwnPassed}
 use Rattle.sia_graph.proofs.Shared.MakersTold.{next_told, none_next}
-use Rattle.sia_graph.proofs.Shared.PositionEdges.{commits_less, one_at, one_key_at, one_txn_at}
+use Rattle.sia_parts.proofs.EdgeRows.PositionOrder.{by_commit as commits_less, one_version as one_at}
+use Rattle.sia_parts.proofs.Shared.OneNumber.{one_key as one_key_at, one_committed as one_txn_at}
 
 -- one position has the version of a key at a commit
 pub one_position : (h : List Event) (p q : ℕ) (v w : KeyVersion) → IsAtPosition h p v → IsAtPosition h q w → v.key ≡ w.key → v.commit ≡ w.commit → p ≡ q

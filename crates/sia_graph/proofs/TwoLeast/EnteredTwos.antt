@@ -21,8 +21,8 @@ use Rattle.sia_graph.specs.declared.twos.Two.{Two}
 use Rattle.sia_graph.proofs.Shared.AccessLists.{missed_is, saw_is}
 use Rattle.sia_graph.proofs.TwoLeast.BlockTwos.{At, entries_few, entry_cases, over_as, over_more}
 use Rattle.sia_graph.proofs.Shared.LeastNumbers.{two_merged, two_none, two_same}
-use Rattle.sia_graph.proofs.Shared.PositionEdges.{one_txn_at}
 use Rattle.sia_graph.proofs.Shared.PositionTwos.{up_to_first, up_to_next}
+use Rattle.sia_parts.proofs.Shared.OneNumber.{one_committed as one_txn_at}
 
 -- who has P at a place is entered there
 pub record AreEntered (P : ℕ → ℕ → Type 0) (twos : List Two) : Type 0 where

@@ -11,7 +11,7 @@ use Rattle.sia_graph.specs.LeastEdges.{IsMet}
 use Rattle.sia_graph.specs.Orders.{Leads}
 use Rattle.sia_graph.proofs.Shared.AccessLists.{saw_inside, saw_is, saw_position}
 use Rattle.sia_graph.proofs.Cycles.MetEdges.{AreNumbersOf, least_key, least_of_kind, no_key, not_same, of_last, wr_met, ww_met}
-use Rattle.sia_graph.proofs.Shared.PositionEdges.{one_txn_at}
+use Rattle.sia_parts.proofs.Shared.OneNumber.{one_committed as one_txn_at}
 use Rattle.sia_graph.proofs.cycle.least_edge.Goals.{After-least_met-ww, After-least_met-wr}
 use Rattle.sia_graph.proofs.cycle.least_edge.Goals as goal
 

@@ -11,9 +11,9 @@ use Rattle.sia_graph.specs.LeastEdges.{IsMet, IsMissMet}
 use Rattle.sia_graph.specs.Twos.{IsLeastNumber}
 use Rattle.sia_graph.proofs.Shared.AccessLists.{missed_inside, missed_is, saw_inside, saw_is, saw_position}
 use Rattle.sia_graph.proofs.Shared.LeastNumbers.{first_least, least_join, least_none}
-use Rattle.sia_graph.proofs.Cycles.KeyStretches.{as_missed}
+use Rattle.sia_graph.proofs.Cycles.KeyStretches.{as_missed, begins_at}
 use Rattle.sia_graph.proofs.Cycles.MetEdges.{least_key, rw_met}
-use Rattle.sia_graph.proofs.Shared.PositionEdges.{one_txn_at}
+use Rattle.sia_parts.proofs.Shared.OneNumber.{one_committed as one_txn_at}
 use Rattle.sia_graph.proofs.cycle.least_rw.Goals as goal
 
 pub made_by-made-requires : goal.made_by-made-requires
@@ -56,7 +56,7 @@ loop-miss-preserved c =
       min w.0 new,
       omega arith,
       first_least (IsMissMet h made) misses i d w.0 new c.loop-miss-test.true w.1 (omega arith) w.2
-          (as_missed h made (get_or misses i d) c.start_of-from.result c.start_of-to.result new c.start_of-from.ensures c.start_of-to.ensures c.least_made.ensures),
+          (as_missed h made (get_or misses i d) c.first_or_end-from.result c.first_or_end-to.result new (λ q j. begins_at h c.first_or_end-from.result (get_or misses i d).from q j c.first_or_end-from.ensures.parts) (λ q j. begins_at h c.first_or_end-to.result (get_or misses i d).to q j c.first_or_end-to.ensures.parts) c.least_made.ensures),
       omega arith,
     )
 

@@ -4,6 +4,7 @@ use Rattle.sia_index.proofs.Shared.KeyChains.{key_number}
 use Rattle.sia_index.specs.Info.{IsKeyAt}
 use Rattle.sia_parts.proofs.Shared.FewNumbers.{few_committed}
 use Rattle.sia_parts.specs.Entries.{EdgeOfKind, IsEdge}
+use Rattle.sia_parts.specs.declared.finding.Edge.{Edge}
 use Rattle.sia_parts.specs.declared.finding.Kind.{Kind}
 use Rattle.sia_parts.specs.declared.finding.Kind.TheVariants.{Ww}
 use Rattle.sia_graph.specs.Searched.{CanFind, IsEdgeIn}
@@ -15,7 +16,7 @@ use Rattle.std.specs.List.Sorted.{IsPartitionPoint}
 use Rattle.std.proofs.lemmas.List.Sorted.{IsPartitionPoint-from_clause}
 use Rattle.sia_graph.specs.Walks.{is_before}
 use Rattle.sia_graph.proofs.Cycles.LeastEdges.{least_edge, parted, point_within}
-use Rattle.sia_graph.proofs.cycle.least_step.Goals.{After-least_edge-kind, After-partition_point-i}
+use Rattle.sia_graph.proofs.cycle.least_step.Goals.{After-least_edge-kind, After-partition_point-i, in-Listed, in-Seen}
 use Rattle.sia_graph.proofs.cycle.least_step.Goals as goal
 
 -- where the edges from the one to the other stand in the list
@@ -30,15 +31,6 @@ bounds-list-i c =
     let ids = c.args.ids.now in
     let leads = subst (λ (e : EdgesIn). Leads (IsEdgeIn e) (get_or ids c.args.before 0) (get_or ids c.args.at 0)) c.in-Listed.is c.requires.leads in
     point_within c.in-Listed.list.now (subst (CanFind ids) c.in-Listed.is c.requires.can) (get_or ids c.args.before 0) (get_or ids c.args.at 0) _ (point (goal.at.bounds-list-i c).After-partition_point-i) leads
-
-pub returns-in-Listed-clause-least : goal.returns-in-Listed-clause-least
-returns-in-Listed-clause-least c =
-    let ids = c.args.ids.now in
-    let list = c.in-Listed.list.now in
-    let x = get_or list c.partition_point-i.result (record { src = 0; dst = 0; kind = Ww; key = 0 }) in
-    let leads = subst (λ (e : EdgesIn). Leads (IsEdgeIn e) (get_or ids c.args.before 0) (get_or ids c.args.at 0)) c.in-Listed.is c.requires.leads in
-    subst (λ (e : EdgesIn). TakesLeastEdge (IsEdgeIn e) (record { txn = get_or ids c.args.before 0; kind = x.kind; key = x.key }) (get_or ids c.args.at 0)) (sym c.in-Listed.is)
-    (least_edge list (subst (CanFind ids) c.in-Listed.is c.requires.can) (get_or ids c.args.before 0) (get_or ids c.args.at 0) _ (point (goal.at.returns-in-Listed-clause-least c).After-partition_point-i) leads (record { src = 0; dst = 0; kind = Ww; key = 0 }))
 
 pub overflow_cast-before : goal.overflow_cast-before
 overflow_cast-before c =
@@ -85,12 +77,25 @@ same_key h t u kind k key same least =
     subst (λ j. TakesLeastEdge (IsEdge h) (record { txn = t; kind = kind; key = j }) u) same
     (least.0, λ e is from to. least.1 e.kind e.key (subst (λ v. EdgeOfKind h e.kind t v e.key) to (subst (λ v. EdgeOfKind h e.kind v e.dst e.key) from is)))
 
-pub returns-in-Seen-clause-least : goal.returns-in-Seen-clause-least
-returns-in-Seen-clause-least c =
-    let h = c.in-Seen.evidence.now.index.now in
+pub returns-clause-least : goal.returns-clause-least
+returns-clause-least c =
     let ids = c.args.ids.now in
-    let w = least (goal.at.returns-in-Seen-clause-least c).After-least_edge-kind in
-    let key = get_or c.written_keys.result.now c.least_edge-kind.result.1 0 in
-    subst (λ (e : EdgesIn). TakesLeastEdge (IsEdgeIn e) (record { txn = get_or ids c.args.before 0; kind = c.least_edge-kind.result.0; key = key }) (get_or ids c.args.at 0)) (sym c.in-Seen.is)
-    (same_key h (get_or ids c.args.before 0) (get_or ids c.args.at 0) c.least_edge-kind.result.0 w.0 key
-    (sym (key_number h c.written_keys.result.now c.written_keys.ensures c.least_edge-kind.result.1 w.0 w.1).1) w.2)
+    let src = get_or ids c.args.before 0 in
+    let dst = get_or ids c.args.at 0 in
+    elim c.match-edges.branch [
+      | in-Listed w ↦
+          let list = w.in-Listed.list.now in
+          let none : Edge = record { src = 0; dst = 0; kind = Ww; key = 0 } in
+          let x = get_or list w.partition_point-i.result none in
+          let can = subst (CanFind ids) w.in-Listed.is c.requires.can in
+          let leads = subst (λ (e : EdgesIn). Leads (IsEdgeIn e) src dst) w.in-Listed.is c.requires.leads in
+          let point = IsPartitionPoint-from_clause (is_before src dst) list _ w.partition_point-i.ensures.partitioned (parted list can src dst) (λ a r q k. search rules) in
+          rw w.kind-is (subst (λ (e : EdgesIn). TakesLeastEdge (IsEdgeIn e) (record { txn = src; kind = x.kind; key = x.key }) dst) (sym w.in-Listed.is) (least_edge list can src dst _ point leads none))
+      | in-Seen w ↦
+          let h = w.in-Seen.evidence.now.index.now in
+          let can = subst (CanFind ids) w.in-Seen.is c.requires.can in
+          let f = w.least_edge-kind.ensures src dst (ids, can.0, c.requires.within.0, refl) (ids, can.0, c.requires.within.1, refl) in
+          let key = get_or w.written_keys.result.now w.least_edge-kind.result.1 0 in
+          rw w.kind-is (subst (λ (e : EdgesIn). TakesLeastEdge (IsEdgeIn e) (record { txn = src; kind = w.least_edge-kind.result.0; key = key }) dst) (sym w.in-Seen.is)
+          (same_key h src dst w.least_edge-kind.result.0 f.0 key (sym (key_number h w.written_keys.result.now w.written_keys.ensures w.least_edge-kind.result.1 f.0 f.1).1) f.2))
+    ]

@@ -11,7 +11,7 @@ use Rattle.sia_events.specs.Transactions.{IsCommitted}
 use Rattle.sia_parts.specs.Entries.{IsEdge}
 use Rattle.sia_graph.specs.Verdicts.{IsOrderVerdict, IsVerdict}
 use Rattle.sia_graph.proofs.OnEvidence.Judging.{passed_is_serializable, serializable_where}
-use Rattle.sia_graph.proofs.judgement.judge.Goals.{After-deref-2, in-Order, in_default, then-matches, else-matches}
+use Rattle.sia_graph.proofs.judgement.judge.Goals.{After-deref-2, After-ssi_law, in-Order, in_default, then-matches, else-matches}
 use Rattle.sia_graph.proofs.judgement.judge.Goals as goal
 
 none_if_empty : (xs : List Unexplained) (n : ℕ) (empty : Bool) → length xs ≡ n → empty ≡ (n == 0) → IsTrue empty ↔ (xs ≡ [])
@@ -37,6 +37,21 @@ passes-requires c = record {
 pub settle_accesses-requires : goal.settle_accesses-requires
 settle_accesses-requires c = record { evidence = (passes-requires (goal.at.settle_accesses-requires c).After-deref-2).evidence }
 
+-- the answer is whether an order was found and no read is unexplained
+serial : (c : After-ssi_law) → IsTrue c.if-matches.serializable ↔ (IsOrderVerdict c.in_ok-verdict.verdict × (c.args.found.unexplained.items ≡ []))
+serial c = elim c.match-matches.branch [
+  | in-Order v ↦ elim c.if-matches.branch [
+    | then-matches w ↦
+        let none = none_if_empty c.args.found.unexplained.items _ w.is_empty-serializable.result (let ok = c.args.found.unexplained.ok.0 in omega arith) w.is_empty-serializable.ensures in
+        ((λ yes. (subst IsOrderVerdict (sym v.in-Order.is) tt, none.0 (sym w.serializable-is ∙ yes))), (λ are. w.serializable-is ∙ none.1 are.1))
+    | else-matches w ↦ absurd (true_false _ v.matches-is w.if-matches.false)
+  ]
+  | in_default v ↦ elim c.if-matches.branch [
+    | then-matches w ↦ absurd (true_false _ w.if-matches.true v.matches-is)
+    | else-matches w ↦ ((λ yes. absurd (true_false _ yes (w.serializable-is ∙ v.matches-is))), (λ are. absurd (no_order c.in_ok-verdict.verdict are.0 v.in_default.not-Order)))
+  ]
+]
+
 pub returns-clause-exact : goal.returns-clause-exact
 returns-clause-exact c =
     let h = c.args.log.now in
@@ -44,25 +59,13 @@ returns-clause-exact c =
     let is = c.requires.found in
     let verdict = c.in_ok-verdict.verdict in
     let verdict_is = subst (λ i. IsVerdict (IsCommitted i) (IsEdge i) verdict) c.requires.index c.in_ok-verdict.ensures in
-    let serial : IsTrue c.if-matches.serializable ↔ (IsOrderVerdict verdict × (c.args.found.unexplained.items ≡ [])) = elim c.match-matches.branch [
-      | in-Order v ↦ elim c.if-matches.branch [
-        | then-matches w ↦
-            let none = none_if_empty c.args.found.unexplained.items _ w.is_empty-serializable.result (let ok = c.args.found.unexplained.ok.0 in omega arith) w.is_empty-serializable.ensures in
-            ((λ yes. (subst IsOrderVerdict (sym v.in-Order.is) tt, none.0 (sym w.serializable-is ∙ yes))), (λ are. w.serializable-is ∙ none.1 are.1))
-        | else-matches w ↦ absurd (true_false _ v.matches-is w.if-matches.false)
-      ]
-      | in_default v ↦ elim c.if-matches.branch [
-        | then-matches w ↦ absurd (true_false _ w.if-matches.true v.matches-is)
-        | else-matches w ↦ ((λ yes. absurd (true_false _ yes (w.serializable-is ∙ v.matches-is))), (λ are. absurd (no_order verdict are.0 v.in_default.not-Order)))
-      ]
-    ] in
     record {
       counts = c.counted.ensures;
       bad_reads = is.bad_reads;
       bad_writes = is.bad_writes;
       unexplained = is.unexplained;
       pass = subst (λ i. IsTrue c.in_ok-pass.pass ↔ PassesSsi i) c.requires.index c.in_ok-pass.ensures;
-      serializable = serializable_where h wf verdict verdict_is c.args.found.unexplained.items is.unexplained (c.replay_law.ensures h wf) c.if-matches.serializable serial;
+      serializable = serializable_where h wf verdict verdict_is c.args.found.unexplained.items is.unexplained (c.replay_law.ensures h wf) c.if-matches.serializable (serial (goal.at.returns-clause-exact c).After-ssi_law);
       verdict = verdict_is;
     }
 
@@ -72,18 +75,6 @@ returns-clause-pass c =
     let wf = c.law.ensures in
     let verdict = c.in_ok-verdict.verdict in
     let verdict_is = subst (λ i. IsVerdict (IsCommitted i) (IsEdge i) verdict) c.requires.index c.in_ok-verdict.ensures in
-    let serial : IsTrue c.if-matches.serializable ↔ (IsOrderVerdict verdict × (c.args.found.unexplained.items ≡ [])) = elim c.match-matches.branch [
-      | in-Order v ↦ elim c.if-matches.branch [
-        | then-matches w ↦
-            let none = none_if_empty c.args.found.unexplained.items _ w.is_empty-serializable.result (let ok = c.args.found.unexplained.ok.0 in omega arith) w.is_empty-serializable.ensures in
-            ((λ yes. (subst IsOrderVerdict (sym v.in-Order.is) tt, none.0 (sym w.serializable-is ∙ yes))), (λ are. w.serializable-is ∙ none.1 are.1))
-        | else-matches w ↦ absurd (true_false _ v.matches-is w.if-matches.false)
-      ]
-      | in_default v ↦ elim c.if-matches.branch [
-        | then-matches w ↦ absurd (true_false _ w.if-matches.true v.matches-is)
-        | else-matches w ↦ ((λ yes. absurd (true_false _ yes (w.serializable-is ∙ v.matches-is))), (λ are. absurd (no_order verdict are.0 v.in_default.not-Order)))
-      ]
-    ] in
     let pass_is = subst (λ i. IsTrue c.in_ok-pass.pass ↔ PassesSsi i) c.requires.index c.in_ok-pass.ensures in
     passed_is_serializable h wf verdict verdict_is c.args.found.unexplained.items c.requires.found.unexplained (c.ssi_law.ensures h wf)
-    c.if-matches.serializable c.in_ok-pass.pass serial pass_is
+    c.if-matches.serializable c.in_ok-pass.pass (serial (goal.at.returns-clause-pass c).After-ssi_law) pass_is

@@ -11,9 +11,9 @@ use Rattle.sia_graph.specs.Cycles.{IsPrintedCycle}
 use Rattle.sia_graph.specs.Orders.{IsLeastOrder}
 use Rattle.sia_graph.specs.Taken.{AreLeftOver, IsTaken}
 use Rattle.sia_graph.proofs.Shared.MemberSteps.{size_few}
-use Rattle.sia_graph.proofs.Shared.Numbered.{few_txns}
 use Rattle.sia_graph.proofs.Shared.StandIns.{of_history}
 use Rattle.sia_graph.proofs.OnEvidence.TakenMembers.{taken_members}
+use Rattle.sia_parts.proofs.EdgeRows.Readings.{few_txns}
 use Rattle.sia_graph.proofs.judgement.settle_accesses.Goals.{In-Rest, In_ok-order, then-source, else-source}
 use Rattle.sia_graph.proofs.judgement.settle_accesses.Goals as goal
 

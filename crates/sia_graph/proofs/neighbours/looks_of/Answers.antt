@@ -6,8 +6,8 @@ use Rattle.sia_index.specs.Numbers.{IsCommittedAt}
 use Rattle.sia_index.specs.Positions.{HasPosition}
 use Rattle.sia_parts.proofs.Shared.Adding.{from_all, from_more, from_none}
 use Rattle.sia_graph.proofs.Shared.AccessLists.{saw_is, saw_position}
-use Rattle.sia_graph.proofs.Shared.Numbered.{few_txns}
 use Rattle.sia_graph.proofs.OfNeighbours.Looks.{IsLaterLook, look_left, look_pushed, looks_below, looks_dealt, looks_more, looks_none}
+use Rattle.sia_parts.proofs.EdgeRows.Readings.{few_txns}
 use Rattle.sia_graph.proofs.neighbours.looks_of.Goals.{After-at-position-items, then-is_some+in_ok-push, else-is_some}
 use Rattle.sia_graph.proofs.neighbours.looks_of.Goals as goal
 

@@ -4,8 +4,8 @@ use Rattle.sia_parts.specs.declared.accesses.RangeMiss.{RangeMiss}
 use Rattle.sia_parts.proofs.Shared.Adding.{from_all, from_more, from_none}
 use Rattle.std.proofs.lemmas.List.Sorted.{IsNonDecreasingBy-from_sort_by_key}
 use Rattle.sia_graph.specs.declared.neighbours.Passing.{Passing}
-use Rattle.sia_graph.proofs.Shared.Numbered.{few_txns}
 use Rattle.sia_graph.proofs.OfNeighbours.Passings.{IsPassingOf, passing_pushed, passings_are, passings_more, passings_none}
+use Rattle.sia_parts.proofs.EdgeRows.Readings.{few_txns}
 use Rattle.sia_graph.proofs.neighbours.passings_of.Goals as goal
 
 pub overflow_cast-reader-end : goal.overflow_cast-reader-end

@@ -16,8 +16,8 @@ use Rattle.sia_graph.proofs.OfPivots.Picked.{all_picked, none_picked, picked_mor
 use Rattle.sia_graph.proofs.OfPivots.EarlyOuts.{EntersAt, first_by, last_same}
 use Rattle.sia_graph.proofs.OfPivots.Vulnerable.{CommitsIn, ins_commit, outs_named}
 use Rattle.sia_graph.proofs.Shared.Numbered.{txn_number}
-use Rattle.sia_graph.proofs.Shared.PositionEdges.{one_txn_at}
 use Rattle.sia_graph.proofs.SsiTest.Entering.{last_either}
+use Rattle.sia_parts.proofs.Shared.OneNumber.{one_committed as one_txn_at}
 use Rattle.sia_graph.proofs.pivot.firsts.Goals.{After-min-last, then-lifetimes-out+in_ok-push, else-lifetimes-out}
 use Rattle.sia_graph.proofs.pivot.firsts.Goals as goal
 

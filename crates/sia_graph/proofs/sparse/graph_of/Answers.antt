@@ -8,10 +8,10 @@ use Rattle.sia_events.proofs.Worked.OneList.{one_list_by}
 use Rattle.sia_graph.specs.NarrowSteps.{node_of}
 use Rattle.sia_graph.specs.SparseGraphs.{HasNodes, IsBlockStep}
 use Rattle.sia_graph.proofs.Shared.MemberSteps.{leaf_put, size_few}
-use Rattle.sia_graph.proofs.Shared.Numbered.{few_txns}
 use Rattle.sia_graph.proofs.Shared.RowLists.{block_sources, block_targets, member_targets, nodes_more, nodes_to}
 use Rattle.sia_graph.proofs.SparseGraphs.StepsPut.{few_first}
 use Rattle.sia_graph.proofs.SparseGraphs.SparseStands.{sparse}
+use Rattle.sia_parts.proofs.EdgeRows.Readings.{few_txns}
 use Rattle.sia_graph.proofs.sparse.graph_of.Goals.{then-block-size+in_ok-put_other, else-block-size+then-block-gt0+in_ok-push+in_ok-push-2, else-block-size+else-block-gt0}
 use Rattle.sia_graph.proofs.Shared.MakersTold.{first_told}
 use Rattle.sia_graph.proofs.sparse.graph_of.Goals as goal

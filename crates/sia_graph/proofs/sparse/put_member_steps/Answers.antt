@@ -1,20 +1,25 @@
-use Rattle.std.proofs.Common.{◌⊎◌, ◌<◌, ℕ, List, length, get_or, sym, subst, arith}
-use Rattle.std.specs.Prelude.{◌↔◌, Contains}
+use Rattle.std.proofs.Common.{◌≡◌, ◌⊎◌, ◌<◌, ℕ, List, Option, Some, length, get_or, sym, subst, arith}
+use Rattle.std.specs.Prelude.{◌↔◌, Contains, MatchOption}
 use Rattle.std.proofs.lemmas.List.Elements.{Contains-get_or}
-use Rattle.sia_index.specs.Positions.{HasPosition}
+use Rattle.sia_events.specs.declared.event.Event.{Event}
+use Rattle.sia_events.specs.NarrowDependencies.{IsNextVersion}
+use Rattle.sia_events.specs.Refusals.{IsWellFormed}
+use Rattle.sia_index.specs.Numbers.{IsCommittedAt}
+use Rattle.sia_index.specs.Positions.{HasPosition, IsAtPosition}
+use Rattle.sia_index.specs.declared.info.KeyVersion.{KeyVersion}
 use Rattle.sia_parts.specs.declared.accesses.RangeMiss.{RangeMiss}
 use Rattle.sia_parts.specs.Accesses.{SawPosition}
 use Rattle.sia_parts.specs.Sights.{Adds, FromSome}
-use Rattle.sia_parts.proofs.Shared.Adding.{from_all, from_more}
+use Rattle.sia_parts.proofs.Shared.Adding.{adds_nothing, from_all, from_more}
 use Rattle.sia_graph.specs.KeyBlocks.{IsUnderSome}
 use Rattle.sia_graph.specs.Makers.{IsMaker, IsMakerBefore, IsNextMaker}
 use Rattle.sia_graph.specs.Passed.{IsHeldBy}
 use Rattle.sia_graph.specs.SparseGraphs.{IsStepTo}
 use Rattle.sia_graph.proofs.Shared.AccessLists.{saw_is, saw_position}
-use Rattle.sia_graph.proofs.Shared.MakersTold.{maker_told}
+use Rattle.sia_graph.proofs.Shared.MakersTold.{before_told, maker_told, none_before}
 use Rattle.sia_graph.proofs.Shared.MemberSteps.{size_few, sources_put, targets_put}
-use Rattle.sia_graph.proofs.SparseGraphs.StepsPut.{few_before, few_maker, few_next, step_put}
-use Rattle.sia_graph.proofs.sparse.put_member_steps.Goals.{After-at-seen-items, After-made_by-made-items}
+use Rattle.sia_graph.proofs.SparseGraphs.StepsPut.{few_maker, few_next, step_put}
+use Rattle.sia_graph.proofs.sparse.put_member_steps.Goals.{After-at-seen-items, After-made_by-made-items, in-Some+in_ok-put_other-3, in_default}
 use Rattle.sia_graph.proofs.sparse.put_member_steps.Goals as goal
 
 -- each of these was seen, and stands at a position
@@ -38,8 +43,8 @@ maker_at-requires c = has_seen (goal.at.maker_at-requires c).After-at-seen-items
 pub next_maker-requires : goal.next_maker-requires
 next_maker-requires c = has_seen (goal.at.next_maker-requires c).After-at-seen-items c.loop-seen.seen-index c.loop-seen-test.true
 
-pub maker_before-requires : goal.maker_before-requires
-maker_before-requires c = has_made (goal.at.maker_before-requires c).After-made_by-made-items c.loop-made.made-index c.loop-made-test.true
+pub position_before-requires : goal.position_before-requires
+position_before-requires c = has_made (goal.at.position_before-requires c).After-made_by-made-items c.loop-made.made-index c.loop-made-test.true
 
 pub put_other-requires : goal.put_other-requires
 put_other-requires c =
@@ -57,12 +62,6 @@ put_other-requires-in-loop-seen c =
     let wf = c.requires.evidence.well_formed in
     (size_few c.args.size e.index.now e.accesses.now wf c.requires.size, λ i is. few_next e.index.now wf _ i ((c.next_maker.ensures i).0 is))
 
-pub put_other-requires-in-loop-made : goal.put_other-requires-in-loop-made
-put_other-requires-in-loop-made c =
-    let e = c.args.evidence.now in
-    let wf = c.requires.evidence.well_formed in
-    (size_few c.args.size e.index.now e.accesses.now wf c.requires.size, λ i is. few_before e.index.now wf _ i ((c.maker_before.ensures i).0 is))
-
 pub loop-seen-preserved : goal.loop-seen-preserved
 loop-seen-preserved c =
     let h = c.args.evidence.now.index.now in
@@ -78,13 +77,45 @@ loop-seen-preserved c =
           (step_put size txn (IsNextMaker h) q c.next_maker.result c.next_maker.ensures _ c.put_other-in-loop-seen.new.row.items c.in_ok-put_other-2.ensures),
     )
 
+pub maker_at-requires-in-Some : goal.maker_at-requires-in-Some
+maker_at-requires-in-Some c =
+    let at = has_made (goal.at.maker_at-requires-in-Some c).After-made_by-made-items c.loop-made.made-index c.loop-made-test.true in
+    let w = c.in-Some.ensures at.0 at.1 in
+    (w.0, w.1)
+
+pub put_other-requires-in-Some : goal.put_other-requires-in-Some
+put_other-requires-in-Some c =
+    let e = c.args.evidence.now in
+    let h = e.index.now in
+    let wf = c.requires.evidence.well_formed in
+    let at = has_made (goal.at.put_other-requires-in-Some c).After-made_by-made-items c.loop-made.made-index c.loop-made-test.true in
+    let w = c.in-Some.ensures at.0 at.1 in
+    (size_few c.args.size h e.accesses.now wf c.requires.size, λ i is. few_maker h wf c.in-Some.before i ((maker_told h c.in-Some.before w.0 w.1 c.maker_at-in-Some.result (c.maker_at-in-Some.ensures w.0 w.1) i).0 is))
+
+-- who made the version before, as it was found
+found_before : (h : List Event) → IsWellFormed h → (q p : ℕ) (v w : KeyVersion) → IsAtPosition h q v → IsAtPosition h p w → w.key ≡ v.key → w.commit < v.commit → IsNextVersion h v.key w.commit v.txn
+    → (found : Option ℕ) → MatchOption found (w.commit ≡ 0) (λ i. (0 < w.commit) × IsCommittedAt h i w.txn) → (i : ℕ) → (found ≡ Some i) ↔ IsMakerBefore h q i
+found_before h wf q p v w at there key less next found is i =
+    let told = maker_told h p w there found is i in
+    let before = before_told h q v at wf p w there key less next i in
+    ((λ e. before.0 (told.0 e)), (λ m. told.1 (before.1 m)))
+
 pub loop-made-preserved : goal.loop-made-preserved
 loop-made-preserved c =
     let h = c.args.evidence.now.index.now in
+    let wf = c.requires.evidence.well_formed in
     let made = c.made_by-made-items.result.now in
     let n = c.loop-made.made-index in
-    from_more (IsStepTo c.args.size c.args.txn (IsMakerBefore h)) made n 0 _ _ c.put_other-in-loop-made.new.row.items c.loop-made-test.true c.loop-made.invariant
-    (step_put c.args.size c.args.txn (IsMakerBefore h) (get_or made n 0) c.maker_before.result c.maker_before.ensures _ c.put_other-in-loop-made.new.row.items c.in_ok-put_other-3.ensures)
+    let q = get_or made n 0 in
+    let at = has_made (goal.at.loop-made-preserved c).After-made_by-made-items n c.loop-made-test.true in
+    let P = IsStepTo c.args.size c.args.txn (IsMakerBefore h) in
+    from_more P made n 0 _ _ c.match-position_before.sources.items c.loop-made-test.true c.loop-made.invariant
+    (elim c.match-position_before.branch [
+      | in-Some+in_ok-put_other-3 w ↦
+          let f = w.in-Some.ensures at.0 at.1 in
+          rw w.sources-is (step_put c.args.size c.args.txn (IsMakerBefore h) q w.maker_at-in-Some.result (found_before h wf q w.in-Some.before at.0 f.0 at.1 f.1 f.2 f.3 f.4 w.maker_at-in-Some.result (w.maker_at-in-Some.ensures f.0 f.1)) _ _ w.in_ok-put_other-3.ensures)
+      | in_default w ↦ rw w.sources-is (adds_nothing (P q) c.loop-made.sources.items (λ m s. none_before h q at.0 at.1 (w.in_default.ensures at.0 at.1) s.0 s.1))
+    ])
 
 pub put_all_blocks-requires : goal.put_all_blocks-requires
 put_all_blocks-requires c = let e = c.args.evidence.now in let few = size_few c.args.size e.index.now e.accesses.now c.requires.evidence.well_formed c.requires.size in omega arith

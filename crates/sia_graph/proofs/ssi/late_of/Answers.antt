@@ -10,12 +10,12 @@ use Rattle.sia_graph.specs.Passed.{IsHeldBy, IsOwnPassed}
 use Rattle.sia_graph.proofs.SsiTest.Marks.{passed_marked, passed_unmarked, seen_marked, seen_unmarked}
 use Rattle.sia_graph.proofs.SsiTest.LateEdges.{lates}
 use Rattle.sia_graph.proofs.Shared.MemberSteps.{size_few}
-use Rattle.sia_graph.proofs.Shared.Numbered.{few_txns}
 use Rattle.sia_graph.proofs.Shared.PositionTwos.{positions_below, below_positions}
 use Rattle.sia_graph.proofs.SsiTest.Stands.{look_there, stands_there}
 use Rattle.sia_parts.proofs.EdgeRows.Room.{one_count}
 use Rattle.sia_graph.proofs.SsiTest.LastMarks.{HasLastTo, last_all, last_more, last_none}
 use Rattle.sia_graph.proofs.SsiTest.Raised.{below_max}
+use Rattle.sia_parts.proofs.EdgeRows.Readings.{few_txns}
 use Rattle.sia_graph.proofs.ssi.late_of.Goals.{then-commit_at-eq0, else-commit_at-eq0}
 use Rattle.sia_graph.proofs.ssi.late_of.Goals as goal
 

@@ -10,7 +10,7 @@ use Rattle.sia_graph.specs.EarlyVersions.{AreValuesFrom}
 use Rattle.sia_graph.proofs.SsiTest.EarlyFirsts.{values_more, values_none}
 use Rattle.sia_graph.specs.Late.{AreLate, Enters, IsLastOf}
 use Rattle.sia_graph.proofs.SsiTest.FoundFirsts.{first_fits, first_least}
-use Rattle.sia_graph.proofs.Shared.Numbered.{few_txns}
+use Rattle.sia_parts.proofs.EdgeRows.Readings.{few_txns}
 use Rattle.sia_graph.proofs.ssi.least_first.Goals.{After-greatest_entering, After-loop-txn, then-place-commit, else-place-commit}
 use Rattle.sia_graph.proofs.ssi.least_first.Goals as goal
 

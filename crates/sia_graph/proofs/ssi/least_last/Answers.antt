@@ -14,8 +14,9 @@ use Rattle.sia_graph.specs.Late.{AreLate, Enters}
 use Rattle.sia_graph.proofs.SsiTest.EarlyFirsts.{commit_lived}
 use Rattle.sia_graph.proofs.SsiTest.FoundFirsts.{first_committed, last_least, reached_first}
 use Rattle.sia_graph.proofs.SsiTest.Marks.{none_there}
-use Rattle.sia_graph.proofs.Shared.Numbered.{few_txns, number_of, txn_number}
-use Rattle.sia_graph.proofs.Shared.PositionEdges.{one_txn_at}
+use Rattle.sia_graph.proofs.Shared.Numbered.{number_of, txn_number}
+use Rattle.sia_parts.proofs.EdgeRows.Readings.{few_txns}
+use Rattle.sia_parts.proofs.Shared.OneNumber.{one_committed as one_txn_at}
 use Rattle.sia_graph.proofs.ssi.least_last.Goals.{In_ok-late, else-is_early-via-then-is_early+else-greatest_entering-gt0, else-is_early-via-else-is_early}
 use Rattle.sia_graph.proofs.ssi.least_last.Goals as goal
 

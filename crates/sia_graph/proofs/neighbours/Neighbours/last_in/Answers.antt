@@ -12,8 +12,8 @@ use Rattle.sia_graph.specs.Found.{InCommits}
 use Rattle.sia_graph.proofs.OfPivots.Outs.{first_all}
 use Rattle.sia_graph.proofs.OfPivots.Overlaps.{lived}
 use Rattle.sia_events.specs.Transactions.{CommitsAt}
-use Rattle.sia_graph.proofs.Shared.PositionEdges.{one_txn_at}
 use Rattle.sia_graph.proofs.SsiTest.Entering.{last_either}
+use Rattle.sia_parts.proofs.Shared.OneNumber.{one_committed as one_txn_at}
 use Rattle.sia_graph.proofs.neighbours.Neighbours.last_in.Goals.{then-eq, else-eq}
 use Rattle.sia_graph.proofs.neighbours.Neighbours.last_in.Goals as goal
 

@@ -1,9 +1,0 @@
-use Rattle.std.specs.Prelude.{◌∷◌, [], All, map}
-use Rattle.sia_events.specs.DangerousStructures.{IsPivot}
-use Rattle.sia_graph.specs.declared.pivot.Pivot.{Pivot}
-use Rattle.sia_graph.specs.Pivots.{ListsNeighbours}
-use Rattle.sia_graph.proofs.OfPivots.Picked.{ArePicked}
-use Rattle.sia_graph.proofs.pivot.pivots_by.Given as goal
-
-abbrev pub invariant-loop-txn : goal.invariant-loop-txn
-invariant-loop-txn l = ArePicked (λ t. t ∷ []) (IsPivot l.ix) l.txns l.txn (map (λ (p : Pivot). p.txn) l.found.items) × All (ListsNeighbours l.ix) l.found.items
