@@ -1,6 +1,7 @@
 //! How a history is audited.
-ghost use Rattle.std.specs.Prelude.{◌≡◌, ◌<◌, ⊤, IfOk, IsTrue};
+ghost use Rattle.std.specs.Prelude.{◌≡◌, ◌<◌, ◌≤◌, ⊤, ℕ, List, length, IfOk, IsTrue};
 ghost use Rattle.sia_parts.specs.Accesses.{AreAccesses};
+ghost use Rattle.sia_parts.specs.Parts.{IsCutting};
 ghost use Rattle.sia_graph.specs.Judgements.{IsJudgement};
 ghost use Rattle.sia_graph.specs.Verdicts.{IsOrderVerdict};
 ghost use Rattle.si_audit.specs.Account.{IsAccount, account_of};
@@ -12,10 +13,26 @@ use sia_events::{History, Log, NoMemory};
 use sia_graph::{Judgement, judge, pivots};
 use sia_index::Index;
 use sia_index::make::index_log;
-use sia_parts::{Accesses, Findings, Gathering, Reads, edges_at};
+use sia_parts::{Accesses, Findings, Gathering, Part, Reads, edges_at, even_cutting};
 use std::alloc::Global;
 use std::sync::Wait;
 use std::thread::Threads;
+
+/// The parts that the options name, or where they name no cut, even ones for several workers.
+pub(crate) fn parts_for(
+    alloc: Global,
+    log: &Log,
+    o: &Options,
+    workers: u8,
+) -> Result<Vec<Part>, NoMemory>
+    ensures cutting { IfOk result (λ parts. (points : List ℕ) × IsCutting points parts.items) }
+    ensures few { IfOk result (λ parts. length parts.items ≤ 1024) }
+{
+    if o.parts().len() > 1 || workers == 1 {
+        return Ok(Vec::from_slice(alloc, o.parts())?);
+    }
+    even_cutting(alloc, log, u16::from(workers))
+}
 
 /// Judges the history of a log by its index and by a crew. Beside the judgement stands what its edges are made from.
 pub(crate) fn judged<C: Crew>(
@@ -23,17 +40,18 @@ pub(crate) fn judged<C: Crew>(
     alloc: Global,
     log: &Log,
     ix: &Index,
-    o: &Options,
+    parts: &[Part],
 ) -> Result<(Judgement, Accesses), NoMemory>
     requires ready { C.ready crew.now }
     requires index { ix.now ≡ log.now }
+    requires cutting { (points : List ℕ) × IsCutting points parts.now }
+    requires few { length parts.now ≤ 1024 }
     ensures exact { IfOk result (λ (j, accesses). IsJudgement log.now j) }
     ensures pass { IfOk result (λ (j, accesses). IsTrue j.pass
         → IsTrue j.serializable × IsOrderVerdict j.verdict) }
     ensures accesses { IfOk result (λ (j, accesses). AreAccesses ix.now (λ _. ⊤) accesses) }
 {
     log.law();
-    let parts = o.parts();
     let reads = Reads::of(alloc, log, parts)?;
     let job = Auditing {
         alloc,
@@ -63,7 +81,7 @@ pub fn audit<R: Threads + Wait + Sync>(
     let ix = index_log(alloc, log)?;
     let workers = o.workers();
     let crew = InThreads { rt, workers };
-    let (j, accesses) = judged(&crew, alloc, log, &ix, o)?;
+    let (j, accesses) = judged(&crew, alloc, log, &ix, o.parts())?;
     let findings = Findings {
         bad_reads: j.bad_reads,
         bad_writes: j.bad_writes,

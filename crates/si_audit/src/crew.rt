@@ -44,6 +44,9 @@ pub(crate) trait Crew {
     /// What the calls ask of those who work.
     ghost ready: { Self → Type 0 };
 
+    /// How many they are.
+    fn workers(&self) -> u8;
+
     /// What is found at the keys of each of the first parts.
     fn find(&self, alloc: Global, count: u32, job: &Auditing) -> Result<Vec<PartFound>, NoMemory>
         requires ready { ready self.now }
@@ -62,6 +65,10 @@ pub(crate) struct Alone;
 
 impl Crew for Alone {
     ghost ready = { λ _. ⊤ };
+
+    fn workers(&self) -> u8 {
+        1
+    }
 
     fn find(&self, alloc: Global, count: u32, job: &Auditing) -> Result<Vec<PartFound>, NoMemory> {
         let mut found = Vec::new(alloc);
@@ -82,6 +89,10 @@ pub(crate) struct InThreads<'a, R: Threads + Wait + Sync> {
 
 impl<R: Threads + Wait + Sync> Crew for InThreads<'_, R> {
     ghost ready = { λ _. IsSync R.row };
+
+    fn workers(&self) -> u8 {
+        self.workers
+    }
 
     fn find(&self, alloc: Global, count: u32, job: &Auditing) -> Result<Vec<PartFound>, NoMemory> {
         let workers = u32::from(self.workers).min(count.max(1));

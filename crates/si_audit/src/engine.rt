@@ -17,7 +17,7 @@ ghost use Rattle.sia_graph.specs.Judgements.{IsJudgement};
 ghost use Rattle.sia_parts.specs.Accesses.{AreAccesses};
 
 use crate::answer::{Answer, Found, Report};
-use crate::audit::judged;
+use crate::audit::{judged, parts_for};
 use crate::crew::{Alone, Crew, InThreads};
 use crate::edge_lines::EdgeLines;
 use crate::explain::{explained, push_place};
@@ -103,13 +103,14 @@ impl<'a> Auditor<'a> {
         self.finish_by(alloc, &Alone)
     }
 
-    /// The same by as many workers as the options say, where there is work to share. It waits, so nothing promises that it returns.
+    /// The same by as many workers as the options say. Where they name no cut and much was read, the keys are cut evenly. It waits,
+    /// so nothing promises that it returns.
     pub fn finish<R: Threads + Wait + Sync>(self, rt: &R, alloc: Global) -> Result<Answer, NoMemory>
         ensures report { IfOk result (TellsFed self.entry) }
         ensures outcome { IfOk result (EndsFed self.entry) }
     {
         let workers = self.options.workers();
-        if workers == 1 || self.options.parts().len() == 1 {
+        if workers == 1 {
             return self.finish_alone(alloc);
         }
         self.finish_by(alloc, &InThreads { rt, workers })
@@ -202,7 +203,8 @@ fn report_of_log<C: Crew>(
     ensures outcome { IfOk result (λ a. IsOutcomeOf o.now.level log a.outcome) }
 {
     let index = index_log(alloc, &log)?;
-    let (judgement, accesses) = judged(crew, alloc, &log, &index, o)?;
+    let parts = parts_for(alloc, &log, o, crew.workers())?;
+    let (judgement, accesses) = judged(crew, alloc, &log, &index, &parts)?;
     let meets = match meets(&judgement, o.level()) {
         Some(meets) => meets,
         None => is_generalized(alloc, &log, &index, &judgement)?,

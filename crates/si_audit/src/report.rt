@@ -1,5 +1,5 @@
 //! The lines of a report, and the words of a line. Lines of edges, of which there can be millions, are put together in blocks.
-ghost use Rattle.std.specs.Prelude.{◌≡◌, [], ◌∷◌, ◌++◌, flat_map, map, OnOk, if◌then◌else◌, ◌&&◌, ℕ, List, All, IfSome, ◌+◌, ◌≤◌, length, drop, vec_capacity, ◌<◌};
+ghost use Rattle.std.specs.Prelude.{◌≡◌, [], ◌∷◌, ◌++◌, flat_map, map, OnOk, if◌then◌else◌, ◌&&◌, ℕ, List, All, IfSome};
 ghost use Rattle.sia_events.specs.Text.{numeral};
 ghost use Rattle.si_audit.specs.Spaced.{spaced, words_of};
 ghost use Rattle.sia_parts.specs.Acts.{HasActs};
@@ -11,11 +11,10 @@ ghost use Rattle.si_audit.specs.Lines as lines;
 ghost use Rattle.si_audit.specs.declared.report.Words.TheVariants as some;
 
 use crate::explain::push_counts;
-use itoa::write_digits;
 use sia_events::{Key, NoMemory, Reason, TextFault, TxnId, push_number};
 use sia_graph::{Judgement, Pivot, Verdict};
 use sia_index::Counts;
-use sia_parts::{BadRead, BadWrite, Edge, EdgeTo, Kind, Recorded};
+use sia_parts::{BadRead, BadWrite, Kind, Recorded};
 use std::alloc::AllocError;
 
 /// Some words of a line.

@@ -663,6 +663,32 @@ fn reports(rt: HostRuntime) -> Result<(), Fail> {
     Ok(())
 }
 
+/// What a history comes to that reads so much that its keys are cut where no cut is named, worked out by hand.
+const MUCH_READ: &[u8] =
+    b"events 6043 committed 2 aborted 0 open 0\nisolation broken\nbad-read 6042 2 10 saw 0 due 1\nssi fail\nserializable no\ncycle 1 >wr:1> 2 >rw:10> 1\n";
+
+#[test]
+fn even_cuts(rt: HostRuntime) -> Result<(), Fail> {
+    let mut text = Vec::from_slice(
+        rt.alloc(),
+        b"w1[1] w1[2] w1[3] w1[4] w1[5] w1[6] w1[7] w1[8] w1[9] w1[10] w1[11] w1[12] w1[13] w1[14] w1[15] w1[16] w1[17] w1[18] w1[19] w1[20] w1[21] w1[22] w1[23] w1[24] w1[25] w1[26] w1[27] w1[28] w1[29] w1[30] w1[31] w1[32] w1[33] w1[34] w1[35] w1[36] w1[37] w1[38] w1[39] w1[40] c1 ",
+    )?;
+    for _ in 0..6000 {
+        text.extend_from_slice(
+            b"r2[1..40;1:1,2:1,3:1,4:1,5:1,6:1,7:1,8:1,9:1,10:1,11:1,12:1,13:1,14:1,15:1,16:1,17:1,18:1,19:1,20:1,21:1,22:1,23:1,24:1,25:1,26:1,27:1,28:1,29:1,30:1,31:1,32:1,33:1,34:1,35:1,36:1,37:1,38:1,39:1,40:1] ",
+        )?;
+    }
+    text.extend_from_slice(b"r2[10:0] c2")?;
+    for workers in [1, 2, 64] {
+        let options = Options::new(rt.alloc(), workers, &[])?.with_form(Form::Brief);
+        let mut reader = FromStd::new(text.as_slice());
+        let mut writer = FromStd::new(Vec::with_capacity(rt.alloc(), 256)?);
+        run(&rt, rt.alloc(), &mut reader, &mut writer, &options)?;
+        assert_eq!(rt; writer.device.as_slice(), MUCH_READ);
+    }
+    Ok(())
+}
+
 /// A text, the most events and bytes that it may have, and its brief report.
 const LIMITED: &[(&[u8], u64, u64, &[u8])] = &[
     (

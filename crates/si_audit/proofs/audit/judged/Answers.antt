@@ -8,11 +8,11 @@ use Rattle.si_audit.proofs.Shared.Owed.{each_owed}
 use Rattle.si_audit.proofs.audit.judged.Goals as goal
 
 pub of-requires : goal.of-requires
-of-requires g c = c.parts-parts.ensures.cutting
+of-requires g c = c.requires.cutting
 
 pub of-requires-2 : goal.of-requires-2
 of-requires-2 g c =
-    let parts = c.parts-parts.result.now in
+    let parts = c.args.parts.now in
     let owed = each_owed (λ (part : Part) (found : PartFound). IsPartFound c.args.log.now (IsInPart part) found) parts c.in-Ok.parts.items c.in-Ok.ensures.len c.in-Ok.ensures.owed in
-    let cutting = c.parts-parts.ensures.cutting in
+    let cutting = c.requires.cutting in
     (cutting.0, parts, cutting.1, subst (λ h. AllZip (λ (part : Part) (found : PartFound). IsPartFound h (IsInPart part) found) parts c.in-Ok.parts.items) (sym c.requires.index) owed)
