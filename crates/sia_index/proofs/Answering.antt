@@ -1,7 +1,6 @@
 pub mod Due
 pub mod KeptTransactions
-pub mod NextKeys
+pub mod OwnRows
 pub mod PositionLaws
-pub mod Stretches
 pub mod Table
 pub mod Tallies

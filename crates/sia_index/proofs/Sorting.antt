@@ -1,7 +1,7 @@
 pub mod Dealt
 pub mod DealtRows
 pub mod Finding
-pub mod Offsets
+pub mod Placed
 pub mod Points
 pub mod SideBySide
 pub mod SortedLists

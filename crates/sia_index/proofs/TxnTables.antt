@@ -1,3 +1,4 @@
 pub mod Collected
+pub mod DealtWrites
 pub mod KnownTxns
 pub mod PlacesOf

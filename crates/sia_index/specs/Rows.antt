@@ -1,7 +1,8 @@
 -- The rows of an index's tables: what each says of a history, and the order that they stand in.
-use Rattle.std.specs.Prelude.{◌≡◌, ◌<◌, ◌≤◌, ℕ, Option, Some, MatchOption, List, [], ◌∷◌, All, AllPairs, Contains, length, slice_get, slice_index_or}
+use Rattle.std.specs.Prelude.{◌≡◌, ◌↔◌, ◌<◌, ◌≤◌, ℕ, Option, Some, MatchOption, List, [], ◌∷◌, All, AllPairs, Contains, length, slice_get, slice_index_or}
+use Rattle.std.specs.List.Sorted.{IsNonDecreasingBy}
 use Rattle.sia_events.specs.declared.event.Event.{Event}
-use Rattle.sia_events.specs.Lists.{ListsBy, Precedes}
+use Rattle.sia_events.specs.Lists.{ListsBy}
 use Rattle.sia_events.specs.Transactions.{WritesAt, Wrote}
 use Rattle.sia_index.specs.declared.info.Made.{Made}
 use Rattle.sia_index.specs.declared.info.KeyVersion.{KeyVersion}
@@ -21,30 +22,22 @@ IsLastWithin versions place made = Contains versions made × (made.commit ≤ pl
     × All (λ other. other.commit ≤ place → other.commit ≤ made.commit) versions
 
 -- of the names in a log those that have K, by name, each with its number there
-abbrev pub AreNumbered : (ℕ → Type 0) → List ℕ → List Numbered → Type 0
+abbrev pub AreNumbered : (ℕ → Type 0) → List ℕ → List (Numbered ℕ) → Type 0
 AreNumbered K names rows = ListsBy (λ row. row.name ∷ row.number ∷ []) (λ row. (slice_get names row.number ≡ Some row.name) × K row.name) rows
 
 -- the names of the rows, each at the place of its row
-abbrev pub AreNamesOf : List Numbered → List ℕ → Type 0
-AreNamesOf rows names = (length names ≡ length rows) × ((i : ℕ) (d : ℕ) (e : Numbered) → i < length names → slice_index_or names i d ≡ (slice_index_or rows i e).name)
+abbrev pub AreNamesOf : List (Numbered ℕ) → List ℕ → Type 0
+AreNamesOf rows names = (length names ≡ length rows) × ((i : ℕ) (d : ℕ) (e : Numbered ℕ) → i < length names → slice_index_or names i d ≡ (slice_index_or rows i e).name)
 
 -- some write event names k
 abbrev pub IsWritten : List Event → ℕ → Type 0
 IsWritten h k = (t : ℕ) × Wrote h t k
 
--- every write event, by transaction and key
-abbrev pub AreWrites : List Event → List WriteRow → Type 0
-AreWrites h writes = ListsBy (λ w. w.txn ∷ w.key ∷ w.place ∷ []) (λ w. WritesAt h w.txn w.key w.place) writes
-
-abbrev pub AscendsByWrite : List WriteRow → Type 0
-AscendsByWrite writes = AllPairs (λ x y. Precedes (x.txn ∷ x.key ∷ x.place ∷ []) (y.txn ∷ y.key ∷ y.place ∷ [])) writes
-
--- the rows from one place to below another are those of t
-pub record IsStretch (rows : List WriteRow) (t from to : ℕ) : Type 0 where
-  pub le : from ≤ to
-  pub bound : to ≤ length rows
-  pub own : (i : ℕ) (d : WriteRow) → from ≤ i → i < to → (slice_index_or rows i d).txn ≡ t
-  pub whole : (i : ℕ) (d : WriteRow) → i < length rows → (slice_index_or rows i d).txn ≡ t → (from ≤ i) × (i < to)
+-- the writes of t, whose number is n, by key and then by place
+pub record AreWritesOf (h : List Event) (t n : ℕ) (rows : List WriteRow) : Type 0 where
+  pub keys_rise : IsNonDecreasingBy (λ row. row.key) rows
+  pub places_rise : AllPairs (λ x y. x.key ≡ y.key → x.place ≤ y.place) rows
+  pub each : (row : WriteRow) → Contains rows row ↔ (WritesAt h t row.key row.place × (row.txn ≡ n))
 
 -- of the versions of all keys those of k stand from one place to below another, version 0 first
 pub record IsKeyStretch (versions : List KeyVersion) (k from to : ℕ) : Type 0 where

@@ -1,6 +1,5 @@
 -- What the tables of an index hold of its history.
 use Rattle.std.specs.Prelude.{◌≡◌, ◌<◌, ◌≤◌, ◌+◌, ℕ, Option, Some, None, MatchOption, List, [], length, slice_get, slice_index, slice_index_or}
-use Rattle.std.specs.List.Sorted.{IsPartitionPoint}
 use Rattle.sia_events.specs.declared.event.Event.{Event}
 use Rattle.sia_events.specs.Lists.{ListsAscending}
 use Rattle.sia_events.specs.Numbering.{txns_of, keys_of}
@@ -10,7 +9,7 @@ use Rattle.sia_index.specs.Info.{IsInfo}
 use Rattle.sia_index.specs.Lifetimes.{AreLifetimes}
 use Rattle.sia_index.specs.Lists.{joined}
 use Rattle.sia_index.specs.Minima.{AreMinima}
-use Rattle.sia_index.specs.Rows.{AreWrites, IsColumn, IsWritten}
+use Rattle.sia_index.specs.Rows.{AreWritesOf, IsColumn, IsWritten}
 use Rattle.sia_index.specs.VersionRows.{AreFirsts, AreRowsByPosition, AreWritesAt, commit_behind, made_row}
 use Rattle.sia_index.specs.declared.versions.VersionRow.{VersionRow}
 use Rattle.sia_index.specs.declared.info.TxnInfo.{TxnInfo}
@@ -18,13 +17,6 @@ use Rattle.sia_index.specs.declared.names.Keys.{Keys}
 use Rattle.sia_index.specs.declared.txns.Txns.{Txns}
 use Rattle.sia_index.specs.declared.versions.Versions.{Versions}
 use Rattle.sia_index.specs.declared.txns.Writes.{Writes}
-
--- the offsets of the groups of the first n numbers among the rows
-pub record AreOffsets {A : Type 0} (by : A → ℕ) (numbers : List ℕ) (rows : List A) (offsets : List ℕ) (n : ℕ) : Type 0 where
-  pub count : length offsets ≡ n + 1
-  pub first : slice_index offsets 0 ≡ 0
-  pub bound : (i : ℕ) → i < n → slice_index offsets i ≤ slice_index offsets (i + 1) × (slice_index offsets (i + 1) ≤ length rows)
-  pub split : (i : ℕ) → i < n → IsPartitionPoint (λ row. by row ≤ slice_index numbers i) (λ row. slice_index numbers i < by row) rows (slice_index offsets (i + 1))
 
 -- for each number below the count the place of the row that has it, if there is one
 pub record ArePlaces {A : Type 0} (number : A → ℕ) (rows : List A) (count : ℕ) (places : List (Option ℕ)) : Type 0 where
@@ -54,9 +46,9 @@ pub record AreTxns (h : List Event) (t : Txns) : Type 0 where
 abbrev pub AreKeys : List Event → Keys → Type 0
 AreKeys h k = AreNumbers (IsWritten h) (keys_of h) k.keys.items k.numbers.items
 
--- the positions of the versions that each of so many transactions made, by its number, each ascending
+-- the positions of the versions that each of so many transactions made, by its number, each ascending, and of those that nobody made
 abbrev pub AreMadeBy : List VersionRow → ℕ → List (List ℕ) → Type 0
-AreMadeBy rows txns lists = (length lists ≡ txns)
+AreMadeBy rows txns lists = (length lists ≡ txns + 1)
     × ((t : ℕ) → t < txns → ListsAscending (λ q. (row : VersionRow) × (slice_get rows q ≡ Some row) × (0 < row.write) × (row.maker ≡ t)) (slice_index_or lists t []))
 
 -- the tables by position, by key, by write and by transaction
@@ -71,11 +63,11 @@ pub record AreVersionTables (h : List Event) (committed keys : List ℕ) (v : Ve
   pub first_commits_are : IsColumn (commit_behind v.made.items) v.firsts.items (length v.firsts.items) v.first_commits.items
   pub minima_are : AreMinima (λ place. place) v.first_commits.items v.minima.items
 
--- the writes of every transaction, one after another
+-- the writes of each transaction by its number, and the least places of all
 pub record AreWriteTables (h : List Event) (ids : List ℕ) (w : Writes) : Type 0 where
-  pub rows_are : AreWrites h w.rows.items
-  pub starts_are : AreOffsets (λ row. row.txn) ids w.rows.items w.starts.items (length ids)
-  pub minima_are : AreMinima (λ row. row.place) w.rows.items w.minima.items
+  pub count : length w.by_txn ≡ length ids
+  pub each : (i : ℕ) → i < length ids → AreWritesOf h (slice_index ids i) i (slice_index_or w.by_txn i [])
+  pub minima_are : AreMinima (λ row. row.place) (joined w.by_txn) w.minima.items
 
 pub record AreTables (h : List Event) (t : Txns) (k : Keys) (v : Versions) (w : Writes) : Type 0 where
   pub well_formed : IsWellFormed h

@@ -9,9 +9,8 @@ ghost use Rattle.sia_index.specs.Info.{IsInfo, IsKeyAt, HasKeyAt, AreVersions, A
 ghost use Rattle.sia_index.specs.Lifetimes.{AreLifetimes, IsLifetime};
 ghost use Rattle.sia_index.specs.Numbers.{HasTxnAt, IsTxnAt, IsCommittedAt};
 ghost use Rattle.sia_index.specs.Positions.{AreAllVersions};
-ghost use Rattle.sia_index.specs.Rows.{AreWrites, IsKeyStretch, IsStretch, PassesNone};
+ghost use Rattle.sia_index.specs.Rows.{IsKeyStretch, PassesNone};
 ghost use Rattle.sia_index.specs.declared.info.KeyVersion.{KeyVersion};
-ghost use Rattle.sia_index.specs.declared.txns.WriteRow.{WriteRow};
 ghost use Rattle.sia_index.specs.Tables.{AreTables};
 ghost use Rattle.sia_events.specs.Reads.{IsDue};
 ghost use Rattle.sia_index.specs.Counting.{AreCounts};
@@ -186,22 +185,12 @@ impl Index {
         requires { IsTxnAt self.now i t }
         ensures { MatchOption result (¬ Wrote self.now t k) (IsFirstWrite self.now t k) }
     {
-        let (from, to) = self.stretch_at(t, i);
-        let at = from + place_from::<WriteRow, ByKey>(&self.writes.rows[from..to], k);
-        if at < to && self.writes.rows[at].key == k {
-            Some(self.writes.rows[at].place)
-        } else {
-            None
+        let own = self.writes.by_txn.at(i);
+        let row = own.get(place_from::<WriteRow, ByKey>(own, k))?;
+        if row.key != k {
+            return None;
         }
-    }
-
-    /// Where the rows of transaction number `i` start and end among those of all writes.
-    pub(crate) fn stretch_at(&self, t: TxnId, i: usize) -> (usize, usize)
-        requires { IsTxnAt self.now i t }
-        ensures { (rows : List WriteRow) → AreWrites self.now rows → IsStretch rows t result.0 result.1 }
-    {
-        let _ = t;
-        (self.writes.starts[i], self.writes.starts[i + 1])
+        Some(row.place)
     }
 }
 
@@ -229,14 +218,12 @@ impl Index {
         requires { IsTxnAt self.now number t }
         ensures { IsReader self.now t place result }
     {
-        let _ = &self.of;
-        let (from, to) = self.stretch_at(t, number);
         Reader {
             txn: t,
             number,
             place,
             start: self.txn_at(number).start,
-            has_written: from < to,
+            has_written: !self.writes.by_txn.at(number).is_empty(),
         }
     }
 
@@ -278,8 +265,8 @@ impl Index {
         if !reader.has_written {
             return None;
         }
-        let rows = &self.writes.rows;
-        let (from, to) = self.stretch_at(reader.txn, reader.number);
+        let rows = self.writes.by_txn.rows();
+        let (from, to) = self.writes.by_txn.span(reader.number);
         let first = from + place_from::<WriteRow, ByKey>(&rows[from..to], lo);
         let last = from + place_above::<WriteRow, ByKey>(&rows[from..to], hi);
         let place = u64::from(reader.place);

@@ -4,32 +4,40 @@ ghost use Rattle.sia_index.specs.Tables.{AreKeys, ArePlaces};
 
 use crate::keyed::By;
 use crate::ordering::Sorter;
-use sia_events::{Key, Log};
+use sia_events::{Key, Log, TxnId};
 use std::alloc::{AllocError, Global};
 
 /// The name of a transaction or of a key, and its number in the log.
 #[derive(Clone, Copy, PartialEq, Eq, PartialOrd, Ord)]
-pub struct Numbered {
-    pub name: u64,
+pub struct Numbered<N> {
+    pub name: N,
     pub number: u32,
 }
 
 /// By name.
 pub struct ByName;
 
-impl By<Numbered> for ByName {
+impl By<Numbered<Key>> for ByName {
     ghost by = { λ row. row.name };
 
-    fn number(row: &Numbered) -> u64 {
+    fn number(row: &Numbered<Key>) -> u64 {
         row.name
     }
 }
 
+impl By<Numbered<TxnId>> for ByName {
+    ghost by = { λ row. row.name };
+
+    fn number(row: &Numbered<TxnId>) -> u64 {
+        u64::from(row.name)
+    }
+}
+
 /// For each number below the count the place of the row that has it, if there is one.
-pub fn places_of(
+pub fn places_of<N>(
     alloc: Global,
     count: u32,
-    rows: &[Numbered],
+    rows: &[Numbered<N>],
 ) -> Result<Vec<Option<u32>>, AllocError>
     requires apart { AllPairs (λ x y. x.number ≢ y.number) rows.now }
     requires within { All (λ row. row.number < count) rows.now }
@@ -55,16 +63,13 @@ pub fn keys_of(alloc: Global, log: &Log) -> Result<Keys, AllocError>
 {
     let count = log.key_count();
     let mut rows = Vec::with_capacity(alloc, count as usize)?;
-    let mut guesses = vec![in alloc; 0usize; count as usize]?;
+    let mut known = vec![in alloc; false; count as usize]?;
     for before in 0..log.write_count() {
         let number = log.write(before + 1).key;
-        let row = Numbered {
-            name: log.key(number),
-            number,
-        };
-        if rows.get(guesses[number as usize]) != Some(&row) {
-            guesses[number as usize] = rows.len();
-            rows.push(row)?;
+        if !known[number as usize] {
+            known[number as usize] = true;
+            let name = log.key(number);
+            rows.push(Numbered { name, number })?;
         }
     }
     Sorter::with_capacity(alloc, rows.len())?.sort::<ByName>(&mut rows);

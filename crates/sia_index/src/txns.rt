@@ -1,13 +1,12 @@
 //! The tables of transactions and of write events.
 ghost use Rattle.std.specs.Prelude.{◌≡◌, Some, All, IfOk, slice_get};
 ghost use Rattle.sia_events.specs.Numbering.{txns_of};
-ghost use Rattle.sia_events.specs.Transactions.{HasEvent};
 ghost use Rattle.sia_index.specs.Rows.{AreNamesOf};
 ghost use Rattle.sia_index.specs.Tables.{AreInfos, AreTxns, AreWriteTables};
-ghost use Rattle.sia_events.specs.Lists.{ListsAscending};
 
 use crate::info::{Fate, Lifetime, TxnInfo};
 use crate::keyed::{By, ByKey, ByPlace, ByTxn};
+use crate::lists::Lists;
 use crate::minima::minima_of;
 use crate::names::{ByName, Numbered, places_of};
 use crate::ordering::Sorter;
@@ -34,7 +33,7 @@ pub fn txns_of(alloc: Global, log: &Log) -> Result<Txns, AllocError>
     let count = log.txn_count();
     let mut rows = Vec::with_capacity(alloc, count as usize)?;
     for number in 0..count {
-        let name = u64::from(log.txn(number).name);
+        let name = log.txn(number).name;
         rows.push(Numbered { name, number })?;
     }
     // Mostly the numbers are in the order of the names.
@@ -68,7 +67,7 @@ pub fn txns_of(alloc: Global, log: &Log) -> Result<Txns, AllocError>
 fn infos_of(
     alloc: Global,
     log: &Log,
-    rows: &[Numbered],
+    rows: &[Numbered<TxnId>],
 ) -> Result<(Vec<TxnId>, Vec<TxnInfo>), AllocError>
     requires { All (λ row. slice_get (txns_of log.now) row.number ≡ Some row.name) rows.now }
     ensures names { IfOk result (λ r. AreNamesOf rows.now r.0.items) }
@@ -90,12 +89,12 @@ fn infos_of(
     Ok((ids, infos))
 }
 
-/// A write event.
+/// A write event: its key, its place, and the number of its transaction among all of them.
 #[derive(Clone, Copy, PartialEq, Eq, PartialOrd, Ord)]
 pub struct WriteRow {
-    pub txn: TxnId,
     pub key: Key,
     pub place: u32,
+    pub txn: u32,
 }
 
 impl By<WriteRow> for ByKey {
@@ -122,18 +121,17 @@ impl By<WriteRow> for ByPlace {
     }
 }
 
-/// Every write event, those of one transaction after those of another.
+/// The write events of each transaction, by its number, and the least places of all in a row.
 #[derive(Drop)]
 pub struct Writes {
-    pub rows: Vec<WriteRow>,
-    pub starts: Vec<usize>,
+    pub by_txn: Lists<WriteRow>,
     pub minima: Vec<u64>,
 }
 
 /// The writes of the log, whose transactions are these.
-pub fn writes_of(alloc: Global, log: &Log, ids: &[TxnId]) -> Result<Writes, AllocError>
-    requires { ListsAscending (HasEvent log.now) ids.now }
-    ensures { IfOk result (λ writes. AreWriteTables log.now ids.now writes) }
+pub fn writes_of(alloc: Global, log: &Log, txns: &Txns) -> Result<Writes, AllocError>
+    requires { AreTxns log.now txns.now }
+    ensures { IfOk result (λ writes. AreWriteTables log.now txns.now.ids.items writes) }
 {
     let mut rows = Vec::with_capacity(alloc, log.len() as usize)?;
     for before in 0..log.len() {
@@ -141,25 +139,12 @@ pub fn writes_of(alloc: Global, log: &Log, ids: &[TxnId]) -> Result<Writes, Allo
         let Some(Row::Write { txn, key, .. }) = log.row(place) else {
             continue
         };
-        let txn = log.txn(txn).name;
         let key = log.key(key);
-        rows.push(WriteRow { txn, key, place })?;
+        let txn = txns.numbers[txn as usize].unwrap_or(0);
+        rows.push(WriteRow { key, place, txn })?;
     }
-    Sorter::with_capacity(alloc, rows.len())?.sort::<ByTxn>(&mut rows);
-    // Where those of each transaction begin, and where those of the last end.
-    let mut starts = Vec::with_capacity(alloc, ids.len())?;
-    let mut at = 0;
-    starts.push(at)?;
-    for id in ids {
-        while at < rows.len() && rows[at].txn <= *id {
-            at += 1;
-        }
-        starts.push(at)?;
-    }
-    let minima = minima_of::<WriteRow, ByPlace>(alloc, &rows)?;
-    Ok(Writes {
-        rows,
-        starts,
-        minima,
-    })
+    let mut by_txn = Lists::deal::<ByTxn>(alloc, txns.ids.len(), &rows)?;
+    by_txn.sort();
+    let minima = minima_of::<WriteRow, ByPlace>(alloc, by_txn.rows())?;
+    Ok(Writes { by_txn, minima })
 }

@@ -21,7 +21,7 @@ use Rattle.sia_index.proofs.TxnTables.Collected.{HoldsBelow, holds_one, holds_sa
 use Rattle.sia_index.proofs.Shared.LogNames.{StandOnce, keys_stand_once, numbered_has_event, write_has_number, numbered_wrote}
 use Rattle.sia_index.proofs.Shared.Ordered.{ascends, precedes_last, precedes_then}
 
-abbrev pub none_numbered : Numbered
+abbrev pub none_numbered : Numbered ℕ
 none_numbered = record { name = 0; number = 0 }
 
 -- of an ascending list no two places have one number
@@ -35,21 +35,21 @@ one_place xs up i j in_i in_j same = elim (cases_lt i j) [
 ]
 
 -- what is sorted is listed by name and number
-by_name : (x y : Numbered) → ordering_then (nat_cmp x.name y.name) (nat_cmp x.number y.number) ≡ Rattle.std.specs.declared.cmp.Ordering.TheVariants.Less → Precedes (x.name ∷ x.number ∷ []) (y.name ∷ y.number ∷ [])
+by_name : (x y : Numbered ℕ) → ordering_then (nat_cmp x.name y.name) (nat_cmp x.number y.number) ≡ Rattle.std.specs.declared.cmp.Ordering.TheVariants.Less → Precedes (x.name ∷ x.number ∷ []) (y.name ∷ y.number ∷ [])
 by_name x y less = precedes_then x.name y.name (nat_cmp x.number y.number) (x.number ∷ []) (y.number ∷ []) less (precedes_last x.number y.number)
 
-same_row : (x y : Numbered) → x.name ≡ y.name → x.number ≡ y.number → x ≡ y
+same_row : (x y : Numbered ℕ) → x.name ≡ y.name → x.number ≡ y.number → x ≡ y
 same_row x y name number = λ i. record { name = name i; number = number i }
 
 pub same_some : {A : Type 0} (x y : A) → Some x ≡ Some y → x ≡ y
 same_some x y e = cc
 
 -- the row of name number q, if it has K
-abbrev pub IsRowOf : (ℕ → Type 0) → List ℕ → Numbered → ℕ → Type 0
+abbrev pub IsRowOf : (ℕ → Type 0) → List ℕ → Numbered ℕ → ℕ → Type 0
 IsRowOf K names row q = (row.number ≡ q) × (slice_get names q ≡ Some row.name) × K row.name
 
-module _ (K : ℕ → Type 0) (names : List ℕ) (n t : ℕ) (rows : List Numbered) (holds : HoldsBelow (IsRowOf K names) n rows) (here : slice_get names n ≡ Some t) where
-  name_is : (x : Numbered) → IsRowOf K names x n → t ≡ x.name
+module _ (K : ℕ → Type 0) (names : List ℕ) (n t : ℕ) (rows : List (Numbered ℕ)) (holds : HoldsBelow (IsRowOf K names) n rows) (here : slice_get names n ≡ Some t) where
+  name_is : (x : Numbered ℕ) → IsRowOf K names x n → t ≡ x.name
   name_is x is = same_some t x.name (sym here ∙ is.1)
 
   pub numbered_more : K t → HoldsBelow (IsRowOf K names) (n + 1) (rows ++ record { name = t; number = n } ∷ [])
@@ -58,7 +58,7 @@ module _ (K : ℕ → Type 0) (names : List ℕ) (n t : ℕ) (rows : List Number
   pub numbered_skip : ¬ K t → HoldsBelow (IsRowOf K names) (n + 1) rows
   numbered_skip none = holds_same (IsRowOf K names) n rows holds (λ x is. none (subst K (sym (name_is x is)) is.2))
 
-pub numbered_listed : (K : ℕ → Type 0) (names : List ℕ) (n : ℕ) (xs ys : List Numbered) → n ≡ length names → HoldsBelow (IsRowOf K names) n xs → IsStrictlySortedBy (λ x y. ordering_then (nat_cmp x.name y.name) (nat_cmp x.number y.number)) ys → ((x : Numbered) → Contains xs x → Contains ys x) → ((x : Numbered) → Contains ys x → Contains xs x) → AreNumbered K names ys
+pub numbered_listed : (K : ℕ → Type 0) (names : List ℕ) (n : ℕ) (xs ys : List (Numbered ℕ)) → n ≡ length names → HoldsBelow (IsRowOf K names) n xs → IsStrictlySortedBy (λ x y. ordering_then (nat_cmp x.name y.name) (nat_cmp x.number y.number)) ys → ((x : Numbered ℕ) → Contains xs x → Contains ys x) → ((x : Numbered ℕ) → Contains ys x → Contains xs x) → AreNumbered K names ys
 numbered_listed K names n xs ys all holds = collected (IsRowOf K names) (λ row. row.name ∷ row.number ∷ []) (λ row. (slice_get names row.number ≡ Some row.name) × K row.name) (λ x y. ordering_then (nat_cmp x.name y.name) (nat_cmp x.number y.number))
     by_name n
     (λ x. (
@@ -68,11 +68,11 @@ numbered_listed K names n xs ys all holds = collected (IsRowOf K names) (λ row.
     xs ys holds
 
 -- the row of the key of write number q
-abbrev pub IsRowOfWrite : List Event → Numbered → ℕ → Type 0
+abbrev pub IsRowOfWrite : List Event → Numbered ℕ → ℕ → Type 0
 IsRowOfWrite h row q = (slice_get (keys_of h) row.number ≡ Some row.name) × (t : ℕ) × (slice_get (writes_of h) q ≡ Some (row.name, t))
 
-module _ (h : List Event) (n t : ℕ) (rows : List Numbered) (row : Numbered) (holds : HoldsBelow (IsRowOfWrite h) n rows) (named : slice_get (keys_of h) row.number ≡ Some row.name) (here : slice_get (writes_of h) n ≡ Some (row.name, t)) where
-  alone : (x : Numbered) → IsRowOfWrite h x n → row ≡ x
+module _ (h : List Event) (n t : ℕ) (rows : List (Numbered ℕ)) (row : Numbered ℕ) (holds : HoldsBelow (IsRowOfWrite h) n rows) (named : slice_get (keys_of h) row.number ≡ Some row.name) (here : slice_get (writes_of h) n ≡ Some (row.name, t)) where
+  alone : (x : Numbered ℕ) → IsRowOfWrite h x n → row ≡ x
   alone x is =
       let name : row.name ≡ x.name = ap (λ (p : ℕ × ℕ). p.0) (same_some (row.name, t) (x.name, is.1) (sym here ∙ is.2)) in
       same_row row x name (keys_stand_once h row.number x.number x.name (subst (λ k. slice_get (keys_of h) row.number ≡ Some k) name named) is.0)
@@ -83,7 +83,7 @@ module _ (h : List Event) (n t : ℕ) (rows : List Numbered) (row : Numbered) (h
   pub key_again : Contains rows row → HoldsBelow (IsRowOfWrite h) (n + 1) rows
   key_again there = holds_again (IsRowOfWrite h) n rows row holds there alone
 
-pub keys_listed : (h : List Event) (n : ℕ) (xs ys : List Numbered) → n ≡ length (writes_of h) → HoldsBelow (IsRowOfWrite h) n xs → IsStrictlySortedBy (λ x y. ordering_then (nat_cmp x.name y.name) (nat_cmp x.number y.number)) ys → ((x : Numbered) → Contains xs x → Contains ys x) → ((x : Numbered) → Contains ys x → Contains xs x) → AreNumbered (IsWritten h) (keys_of h) ys
+pub keys_listed : (h : List Event) (n : ℕ) (xs ys : List (Numbered ℕ)) → n ≡ length (writes_of h) → HoldsBelow (IsRowOfWrite h) n xs → IsStrictlySortedBy (λ x y. ordering_then (nat_cmp x.name y.name) (nat_cmp x.number y.number)) ys → ((x : Numbered ℕ) → Contains xs x → Contains ys x) → ((x : Numbered ℕ) → Contains ys x → Contains xs x) → AreNumbered (IsWritten h) (keys_of h) ys
 keys_listed h n xs ys all holds = collected (IsRowOfWrite h) (λ row. row.name ∷ row.number ∷ []) (λ row. (slice_get (keys_of h) row.number ≡ Some row.name) × IsWritten h row.name) (λ x y. ordering_then (nat_cmp x.name y.name) (nat_cmp x.number y.number))
     by_name n
     (λ x. (
@@ -92,8 +92,8 @@ keys_listed h n xs ys all holds = collected (IsRowOfWrite h) (λ row. row.name �
     ))
     xs ys holds
 
-module _ (K : ℕ → Type 0) (names : List ℕ) (rows : List Numbered) (are : AreNumbered K names rows) where
-  pub row_at : (i : ℕ) (d : Numbered) → i < length rows → slice_get names (slice_index_or rows i d).number ≡ Some (slice_index_or rows i d).name
+module _ (K : ℕ → Type 0) (names : List ℕ) (rows : List (Numbered ℕ)) (are : AreNumbered K names rows) where
+  pub row_at : (i : ℕ) (d : Numbered ℕ) → i < length rows → slice_get names (slice_index_or rows i d).number ≡ Some (slice_index_or rows i d).name
   row_at i d below = ((are.each (slice_index_or rows i d)).0 (Contains-get_or rows i d below)).0
 
   pub rows_named : All (λ row. slice_get names row.number ≡ Some row.name) rows
@@ -113,7 +113,7 @@ module _ (K : ℕ → Type 0) (names : List ℕ) (rows : List Numbered) (are : A
         | inr rest ↦ elim rest.1 [ inl before ↦ omega arith | inr never ↦ never.1 ]
       ]
 
-  module _ (once : StandOnce names) (known : (t : ℕ) → K t → (i : ℕ) × (slice_get names i ≡ Some t)) (listed : List ℕ) (named : AreNamesOf rows listed) (numbers : List (Option ℕ)) (places : ArePlaces (λ (row : Numbered). row.number) rows (length names) numbers) where
+  module _ (once : StandOnce names) (known : (t : ℕ) → K t → (i : ℕ) × (slice_get names i ≡ Some t)) (listed : List ℕ) (named : AreNamesOf rows listed) (numbers : List (Option ℕ)) (places : ArePlaces (λ (row : Numbered ℕ). row.number) rows (length names) numbers) where
     row_of : (t i : ℕ) → slice_get names i ≡ Some t → K t → Contains rows (record { name = t; number = i })
     row_of t i at has = (are.each (record { name = t; number = i })).1 (at, has)
 
@@ -130,9 +130,9 @@ module _ (K : ℕ → Type 0) (names : List ℕ) (rows : List Numbered) (are : A
 
     found : (q : ℕ) (place : Option ℕ) → q < length names → slice_index_or numbers q None ≡ place → MatchOption place (¬ K (slice_index names q)) (λ i. (i < length listed) × (slice_index listed i ≡ slice_index names q))
     found q None inside is = λ has.
-        let row : Numbered = record { name = slice_index names q; number = q } in
+        let row : Numbered ℕ = record { name = slice_index names q; number = q } in
         let c = row_of (slice_index names q) q (slice_get-get_or names q 0 inside) has in
-        let at : slice_index_or numbers q None ≡ Some c.0 = ap (λ (r : Numbered). slice_index_or numbers r.number None) (sym c.2) ∙ places.each c.0 row c.1 in
+        let at : slice_index_or numbers q None ≡ Some c.0 = ap (λ (r : Numbered ℕ). slice_index_or numbers r.number None) (sym c.2) ∙ places.each c.0 row c.1 in
         let e : None ≡ Some c.0 = sym is ∙ at in
         absurd cc
     found q (Some i) inside is =
@@ -157,7 +157,7 @@ module _ (K : ℕ → Type 0) (names : List ℕ) (rows : List Numbered) (are : A
           (λ has.
               let number = known t has in
               let c = row_of t number.0 number.1 has in
-              (c.0, (let b = c.1 in omega (arith, named.0)), named.1 c.0 t (record { name = t; number = number.0 }) (let b = c.1 in omega (arith, named.0)) ∙ ap (λ (r : Numbered). r.name) c.2)),
+              (c.0, (let b = c.1 in omega (arith, named.0)), named.1 c.0 t (record { name = t; number = number.0 }) (let b = c.1 in omega (arith, named.0)) ∙ ap (λ (r : Numbered ℕ). r.name) c.2)),
         );
       };
       long = places.long;

@@ -39,22 +39,22 @@ beside_more R n names bs t b long so here = (
 )
 
 -- row number q is this one, and its name has K
-abbrev pub IsRowAt : (ℕ → Type 0) → List Numbered → Numbered → ℕ → Type 0
+abbrev pub IsRowAt : (ℕ → Type 0) → List (Numbered ℕ) → Numbered ℕ → ℕ → Type 0
 IsRowAt K rows row q = (slice_get rows q ≡ Some row) × K row.name
 
-abbrev pub Before : Numbered → Numbered → Type 0
+abbrev pub Before : Numbered ℕ → Numbered ℕ → Type 0
 Before x y = Precedes (x.name ∷ x.number ∷ []) (y.name ∷ y.number ∷ [])
 
 -- of the first n rows those whose names have K, in the same order
-pub record AreChosen (K : ℕ → Type 0) (rows : List Numbered) (n : ℕ) (chosen : List Numbered) : Type 0 where
+pub record AreChosen (K : ℕ → Type 0) (rows : List (Numbered ℕ)) (n : ℕ) (chosen : List (Numbered ℕ)) : Type 0 where
   pub holds : HoldsBelow (IsRowAt K rows) n chosen
   pub ascending : AllPairs Before chosen
 
-module _ (K : ℕ → Type 0) (rows : List Numbered) where
+module _ (K : ℕ → Type 0) (rows : List (Numbered ℕ)) where
   pub none_chosen : AreChosen K rows 0 []
   none_chosen = record { holds = holds_nothing (IsRowAt K rows); ascending = λ i j d less below. absurd (omega arith) }
 
-  module _ (n : ℕ) (chosen : List Numbered) (so : AreChosen K rows n chosen) (row : Numbered) (at : slice_get rows n ≡ Some row) where
+  module _ (n : ℕ) (chosen : List (Numbered ℕ)) (so : AreChosen K rows n chosen) (row : Numbered ℕ) (at : slice_get rows n ≡ Some row) where
     pub chosen_more : AllPairs Before rows → K row.name → AreChosen K rows (n + 1) (chosen ++ row ∷ [])
     chosen_more up has = record {
       holds = holds_one (IsRowAt K rows) n chosen row so.holds (at, has) (λ x is. same_some row x (sym at ∙ is.0));
@@ -67,12 +67,12 @@ module _ (K : ℕ → Type 0) (rows : List Numbered) where
 
     pub chosen_same : ¬ K row.name → AreChosen K rows (n + 1) chosen
     chosen_same none = record {
-      holds = holds_same (IsRowAt K rows) n chosen so.holds (λ x is. none (subst K (ap (λ (r : Numbered). r.name) (same_some x row (sym is.0 ∙ at))) is.1));
+      holds = holds_same (IsRowAt K rows) n chosen so.holds (λ x is. none (subst K (ap (λ (r : Numbered ℕ). r.name) (same_some x row (sym is.0 ∙ at))) is.1));
       ascending = so.ascending;
     }
 
 -- of all rows they are those of the names that have K
-pub chosen_listed : (H K : ℕ → Type 0) (names : List ℕ) (rows : List Numbered) → AreNumbered H names rows → ((t : ℕ) → K t → H t) → (n : ℕ) → n ≡ length rows → (chosen : List Numbered) → AreChosen K rows n chosen → AreNumbered K names chosen
+pub chosen_listed : (H K : ℕ → Type 0) (names : List ℕ) (rows : List (Numbered ℕ)) → AreNumbered H names rows → ((t : ℕ) → K t → H t) → (n : ℕ) → n ≡ length rows → (chosen : List (Numbered ℕ)) → AreChosen K rows n chosen → AreNumbered K names chosen
 chosen_listed H K names rows are within n all chosen so = record {
   ascending = so.ascending;
   each = λ x. (
@@ -87,13 +87,13 @@ chosen_listed H K names rows are within n all chosen so = record {
 }
 
 -- the name of one row more
-pub names_more : (rows : List Numbered) (names : List ℕ) (row : Numbered) → AreNamesOf rows names → AreNamesOf (rows ++ row ∷ []) (names ++ row.name ∷ [])
+pub names_more : (rows : List (Numbered ℕ)) (names : List ℕ) (row : Numbered ℕ) → AreNamesOf rows names → AreNamesOf (rows ++ row ∷ []) (names ++ row.name ∷ [])
 names_more rows names row so = (
   length_push names row.name ∙ ap (λ m. m + 1) so.0 ∙ sym (length_push rows row),
   λ i d e below. elim (cases_lt i (length names)) [
-    | inl less ↦ get_or_append_left names (row.name ∷ []) d i less ∙ so.1 i d e less ∙ ap (λ (r : Numbered). r.name) (sym (get_or_append_left rows (row ∷ []) e i (omega (arith, so.0))))
+    | inl less ↦ get_or_append_left names (row.name ∷ []) d i less ∙ so.1 i d e less ∙ ap (λ (r : Numbered ℕ). r.name) (sym (get_or_append_left rows (row ∷ []) e i (omega (arith, so.0))))
     | inr more ↦
         let is : length names ≡ i = let long = length_push names row.name in omega arith in
-        get_or_push names row.name d i is ∙ ap (λ (r : Numbered). r.name) (sym (get_or_push rows row e i (sym so.0 ∙ is)))
+        get_or_push names row.name d i is ∙ ap (λ (r : Numbered ℕ). r.name) (sym (get_or_push rows row e i (sym so.0 ∙ is)))
   ],
 )

@@ -1,18 +1,16 @@
 -- The tables of versions, as loops over their rows fill them.
 use Rattle.std.proofs.Common.{◌≡◌, ◌≢◌, inl, inr, ℕ, zero, suc, ◌%◌, ◌+◌, ◌-◌, ◌<◌, ◌≤◌, List, [], ◌∷◌, ◌++◌, length, set, get_or, Some, None, refl, sym, subst, ◌∙◌, ap, arith, slice_get}
-use Rattle.std.specs.Prelude.{All, AllPairs, Contains, slice_index, slice_index_or}
+use Rattle.std.specs.Prelude.{All, AllPairs, slice_index, slice_index_or}
 use Rattle.std.proofs.lemmas.Bool.{cases_lt, cases_eq}
 use Rattle.std.proofs.lemmas.List.{get_or_default, get_or_append_left, get_or_push, get_or-set_same, get_or-set_other, length-set, length_push}
-use Rattle.std.proofs.lemmas.List.Elements.{All-push, Contains-append_left, Contains-get_or, Contains-push, Contains-push_cases}
-use Rattle.std.proofs.lemmas.Option.{get_or_from_slice_get, slice_get-get_or}
+use Rattle.std.proofs.lemmas.List.Elements.{All-push, Contains-append_left, Contains-get_or, Contains-push}
 use Rattle.sia_events.specs.declared.event.Event.{Event}
 use Rattle.sia_events.specs.Lists.{Precedes}
 use Rattle.sia_events.specs.Numbering.{names_of, writes_of, write_at}
 use Rattle.sia_events.specs.Transactions.{CommitsAt}
 use Rattle.sia_index.specs.declared.info.WriteAt.{WriteAt}
-use Rattle.sia_index.specs.declared.versions.MadeRow.{MadeRow}
 use Rattle.sia_index.specs.declared.versions.VersionRow.{VersionRow}
-use Rattle.sia_index.specs.VersionRows.{AreFirsts, AreMadeRows, AreRowsBelow, AreWritesAt, AreZeroRows, IsMadeRow, IsVersionRow, before_commit}
+use Rattle.sia_index.specs.VersionRows.{AreFirsts, AreRowsBelow, AreWritesAt, AreZeroRows, IsMadeRow, IsVersionRow, before_commit}
 use Rattle.sia_index.proofs.Shared.NumberedNames.{same_some}
 
 abbrev pub no_row : VersionRow
@@ -41,20 +39,20 @@ pairs_push {A} R xs y pairs all i j d less below =
     ]
 
 -- one key more
-pub zero_more : (n : ℕ) (rows : List VersionRow) (row : VersionRow) → AreZeroRows n rows → row.key ≡ n → row.commit ≡ 0 → row.write ≡ 0 → AreZeroRows (n + 1) (rows ++ row ∷ [])
-zero_more n rows row are key commit write = (
+pub zero_more : (nobody n : ℕ) (rows : List VersionRow) (row : VersionRow) → AreZeroRows nobody n rows → row.key ≡ n → row.commit ≡ 0 → row.write ≡ 0 → row.maker ≡ nobody → AreZeroRows nobody (n + 1) (rows ++ row ∷ [])
+zero_more nobody n rows row are key commit write maker = (
   length_push rows row ∙ ap (λ m. m + 1) are.0,
   λ i d below. elim (cases_lt i n) [
-    | inl less ↦ subst (λ (r : VersionRow). (r.key ≡ i) × (r.commit ≡ 0) × (r.write ≡ 0)) (sym (get_or_append_left rows (row ∷ []) d i (let long = are.0 in omega arith))) (are.1 i d less)
+    | inl less ↦ subst (λ (r : VersionRow). (r.key ≡ i) × (r.commit ≡ 0) × (r.write ≡ 0) × (r.maker ≡ nobody)) (sym (get_or_append_left rows (row ∷ []) d i (let long = are.0 in omega arith))) (are.1 i d less)
     | inr more ↦
         let at : i ≡ n = omega arith in
-        subst (λ (r : VersionRow). (r.key ≡ i) × (r.commit ≡ 0) × (r.write ≡ 0)) (sym (get_or_push rows row d i (let long = are.0 in omega arith))) (key ∙ sym at, commit, write)
+        subst (λ (r : VersionRow). (r.key ≡ i) × (r.commit ≡ 0) × (r.write ≡ 0) × (r.maker ≡ nobody)) (sym (get_or_push rows row d i (let long = are.0 in omega arith))) (key ∙ sym at, commit, write, maker)
   ],
 )
 
 module _ (h : List Event) (committed keys : List ℕ) where
   -- before the first write they are those of version 0
-  pub rows_none : (rows : List VersionRow) → AreZeroRows (length keys) rows → AreRowsBelow h committed keys 0 rows
+  pub rows_none : (rows : List VersionRow) → AreZeroRows (length committed) (length keys) rows → AreRowsBelow h committed keys 0 rows
   rows_none rows are =
       let long = are.0 in
       record {
@@ -70,7 +68,7 @@ module _ (h : List Event) (committed keys : List ℕ) where
             let x = are.1 i d (omega arith) in
             let key = x.0 in
             let write = x.2 in
-            ((omega arith, inl (x.2, x.1)), omega arith);
+            ((omega arith, inl (x.2, x.1, x.3)), omega arith);
         zeros = λ i below. (
           slice_index_or rows i no_row,
           Contains-get_or rows i no_row (omega arith),
@@ -221,45 +219,3 @@ module _ (h : List Event) (keys : List ℕ) (rows : List VersionRow) (n : ℕ) (
     where
       more : WriteAt
       more = record { key = old.key; position = Some n }
-
--- the maker of the next row, if its version has one
-module _ (rows : List VersionRow) (n : ℕ) (made : List MadeRow) (are : AreMadeRows rows n made) (some : n < length rows) (r : VersionRow) where
-  at_n : (row : VersionRow) → slice_get rows n ≡ Some row → slice_index_or rows n r ≡ row
-  at_n row at = get_or_from_slice_get rows n row r at
-
-  pub made_skip : (slice_index_or rows n r).write ≡ 0 → AreMadeRows rows (n + 1) made
-  made_skip none = record {
-    ascending = are.ascending;
-    each = λ m. (
-      (λ c. let old = (are.each m).0 c in ((let less = old.0 in omega arith), old.1, old.2, old.3, old.4)),
-      (λ (less, row, at, written, maker). elim (cases_lt m.position n) [
-        | inl before ↦ (are.each m).1 (before, row, at, written, maker)
-        | inr last ↦
-            let same : m.position ≡ n = omega arith in
-            let e = ap (λ (x : VersionRow). x.write) (at_n row (ap (slice_get rows) (sym same) ∙ at)) in
-            absurd (omega arith)
-      ]),
-    );
-  }
-
-  pub made_more : 0 < (slice_index_or rows n r).write → AreMadeRows rows (n + 1) (made ++ record { maker = (slice_index_or rows n r).maker; position = n } ∷ [])
-  made_more written_here = record {
-    ascending = pairs_push (λ (x : MadeRow) y. x.position < y.position) made next are.ascending (λ i d below. ((are.each (slice_index_or made i d)).0 (Contains-get_or made i d below)).0);
-    each = λ m. (
-      (λ c. elim (Contains-push_cases made next m c) [
-        | inl before ↦ let old = (are.each m).0 before in ((let less = old.0 in omega arith), old.1, old.2, old.3, old.4)
-        | inr same ↦ subst (λ (x : MadeRow). (x.position < n + 1) × (row : VersionRow) × (slice_get rows x.position ≡ Some row) × (0 < row.write) × (row.maker ≡ x.maker)) same
-            (omega arith, slice_index_or rows n r, slice_get-get_or rows n r some, written_here, refl)
-      ]),
-      (λ (less, row, at, written, maker). elim (cases_lt m.position n) [
-        | inl before ↦ Contains-append_left made (next ∷ []) m ((are.each m).1 (before, row, at, written, maker))
-        | inr last ↦
-            let same : n ≡ m.position = omega arith in
-            let own : (slice_index_or rows n r).maker ≡ m.maker = ap (λ (x : VersionRow). x.maker) (at_n row (ap (slice_get rows) same ∙ at)) ∙ maker in
-            subst (Contains (made ++ next ∷ [])) (λ i. record { maker = own i; position = same i }) (Contains-push made next)
-      ]),
-    );
-  }
-    where
-      next : MadeRow
-      next = record { maker = (slice_index_or rows n r).maker; position = n }

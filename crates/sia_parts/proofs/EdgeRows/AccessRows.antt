@@ -1,11 +1,10 @@
 -- What one transaction saw and passed over, as the rows of its edges take it.
-use Rattle.std.proofs.Common.{◌≡◌, ◌⊎◌, inl, inr, ℕ, ◌+◌, ◌-◌, ◌<◌, ◌≤◌, List, [], ◌∷◌, ◌++◌, Some, length, take, max, false, refl, ap, sym, subst, ◌∙◌, arith}
+use Rattle.std.proofs.Common.{◌≡◌, ◌⊎◌, inl, inr, ℕ, ◌+◌, ◌-◌, ◌<◌, ◌≤◌, List, [], ◌∷◌, ◌++◌, Some, length, take, max, ap, sym, subst, ◌∙◌, arith}
 use Rattle.std.specs.Prelude.{All, Contains, slice_index, slice_index_or}
 use Rattle.std.specs.List.{slice_get}
 use Rattle.std.specs.List.Sorted.{IsNonDecreasingBy, IsSorted}
-use Rattle.std.specs.Ordering.{is_lt, nat_cmp, ordering_then}
+use Rattle.std.specs.Ordering.{nat_cmp, ordering_then}
 use Rattle.std.specs.declared.cmp.Ordering.{Ordering}
-use Rattle.std.specs.declared.cmp.Ordering.TheVariants.{Less, Equal, Greater}
 use Rattle.std.proofs.lemmas.Bool.{cases_lt}
 use Rattle.std.proofs.lemmas.List.{get_or-take, get_or_default, length-take, take_more}
 use Rattle.std.proofs.lemmas.List.Elements.{Contains-append_left, Contains-get_or, Contains-push, Contains-push_cases}
@@ -16,6 +15,7 @@ use Rattle.sia_index.specs.Info.{HasKeyAt}
 use Rattle.sia_index.specs.Lists.{AreInOrder}
 use Rattle.sia_index.specs.Numbers.{IsCommittedAt}
 use Rattle.sia_index.specs.Positions.{HasPosition}
+use Rattle.sia_index.proofs.Shared.Ordered.{not_before}
 use Rattle.sia_parts.specs.declared.accesses.Accesses.{Accesses}
 use Rattle.sia_parts.specs.declared.accesses.RangeMiss.{RangeMiss}
 use Rattle.sia_parts.specs.declared.edges.EdgeTo.{EdgeTo}
@@ -92,11 +92,6 @@ same_accesses h Within a b cmp by saw missed are = record {
     look_to i q t k c look = record { saw = ordered_to cmp a.saw b.saw saw i q look.saw; txn = look.txn; version = look.version }
 
 -- range misses in order begin in order
-not_before : (a b : Ordering) → is_lt (ordering_then a b) ≡ false → is_lt a ≡ false
-not_before Less b is = is
-not_before Equal b is = refl
-not_before Greater b is = refl
-
 pub misses_rise : (xs : List RangeMiss) → IsSorted (λ x y. ordering_then (nat_cmp x.from y.from) (nat_cmp x.to y.to)) xs → IsNonDecreasingBy (λ (miss : RangeMiss). miss.from) xs
 misses_rise xs sorted = IsNonDecreasingBy-from_sort (λ (miss : RangeMiss). miss.from) xs (λ k d low below. not_before (nat_cmp (slice_index_or xs (k + 1) d).from (slice_index_or xs k d).from) _ (sorted k d low below))
 

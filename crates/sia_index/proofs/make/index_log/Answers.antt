@@ -1,16 +1,13 @@
 -- The tables are those of the history.
 use Rattle.sia_index.proofs.make.index_log.Goals as goal
 
-pub writes_of-requires : goal.writes_of-requires
-writes_of-requires c = rw c.deref.ensures.value c.in_ok-txns.ensures.all.listed_are
-
 pub invariant_of-result : goal.invariant_of-result
 invariant_of-result c = rw c.of.ensures (record {
   well_formed = c.law.ensures;
   txns_are = c.in_ok-txns.ensures;
   keys_are = c.in_ok-keys.ensures;
   versions_are = c.in_ok-versions.ensures;
-  writes_are = rw c.deref.ensures.value at c.in_ok-writes.ensures;
+  writes_are = c.in_ok-writes.ensures;
 })
 
 pub returns : goal.returns

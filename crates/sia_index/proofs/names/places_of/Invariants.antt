@@ -4,4 +4,4 @@ use Rattle.sia_index.proofs.TxnTables.PlacesOf.{PlacesSoFar}
 use Rattle.sia_index.proofs.names.places_of.Given as goal
 
 abbrev pub invariant-loop-i : goal.invariant-loop-i
-invariant-loop-i l = PlacesSoFar (λ (row : Numbered). row.number) l.rows l.i l.count l.places.items
+invariant-loop-i g l = PlacesSoFar (λ (row : Numbered g.row.N.Denot). row.number) l.rows l.i l.count l.places.items

@@ -1,5 +1,5 @@
 -- Each row adds its transaction.
-use Rattle.std.proofs.Common.{◌≡◌, ◌+◌, ◌∙◌, [], ◌∷◌, ◌++◌, length, sym, subst, ap, arith}
+use Rattle.std.proofs.Common.{ℕ, ◌≡◌, ◌+◌, ◌∙◌, [], ◌∷◌, ◌++◌, length, sym, subst, ap, arith}
 use Rattle.std.specs.Prelude.{slice_index_or}
 use Rattle.sia_events.specs.Numbering.{Ends}
 use Rattle.sia_index.specs.Info.{EndsAs, IsInfo}
@@ -30,14 +30,14 @@ loop-row-preserved c =
       | in-Aborted w ↦ rw w.ended-is (subst (Ends c.args.log.now c.txn-txn.result.name) w.in-Aborted.is c.txn-txn.ensures.ends)
     ] in
     rw (c.in_ok-push.ensures.items, c.in_ok-push-2.ensures.items) (
-      subst (λ t. IsColumn (λ (r : Numbered). r.name) rows (n + 1) (ids ++ t ∷ [])) (sym name) (column_more (λ (r : Numbered). r.name) rows n ids so.0 none_numbered c.loop-row-test.true),
+      subst (λ t. IsColumn (λ (r : Numbered ℕ). r.name) rows (n + 1) (ids ++ t ∷ [])) (sym name) (column_more (λ (r : Numbered ℕ). r.name) rows n ids so.0 none_numbered c.loop-row-test.true),
       beside_more (IsInfo c.args.log.now) n ids _ _ _ so.0.0 so.1 (c.txn-txn.ensures.starts, known),
     )
 
 pub returns-clause-names : goal.returns-clause-names
 returns-clause-names c =
     let end : c.loop-row.row-index ≡ length c.args.rows.now = (let last = c.loop-row-test.false in let most = c.loop-row.auto in omega arith) in
-    subst (λ n. IsColumn (λ (r : Numbered). r.name) c.args.rows.now n c.loop-row.ids.items) end c.loop-row.invariant.0
+    subst (λ n. IsColumn (λ (r : Numbered ℕ). r.name) c.args.rows.now n c.loop-row.ids.items) end c.loop-row.invariant.0
 
 pub returns-clause-infos : goal.returns-clause-infos
 returns-clause-infos c =

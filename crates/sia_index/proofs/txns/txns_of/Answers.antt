@@ -1,5 +1,5 @@
 -- Each number adds its row, and the tables are those of the rows.
-use Rattle.std.proofs.Common.{◌≡◌, ◌∙◌, [], ◌∷◌, ◌++◌, List, Some, length, refl, sym, subst, arith, slice_get}
+use Rattle.std.proofs.Common.{ℕ, ◌≡◌, ◌∙◌, [], ◌∷◌, ◌++◌, List, Some, length, refl, sym, subst, arith, slice_get}
 use Rattle.std.specs.Prelude.{slice_index_or}
 use Rattle.std.proofs.lemmas.List.{length_push}
 use Rattle.std.proofs.lemmas.Option.{slice_get-get_or}
@@ -26,8 +26,8 @@ loop-number-init c = rw c.in_ok-rows.ensures.items (holds_nothing (IsRowOf (HasE
 pub loop-number-preserved : goal.loop-number-preserved
 loop-number-preserved c =
     let h = c.args.log.now in
-    let t = c.txn.result.name in
-    rw (c.in_ok-push.ensures.items, c.from-name.ensures) (numbered_more (HasEvent h) (txns_of h) c.loop-number.number t c.loop-number.rows.items c.loop-number.invariant c.txn.ensures.name (start_has_event h t c.txn.result.start c.txn.ensures.starts))
+    let t = c.txn-name.result.name in
+    rw c.in_ok-push.ensures.items (numbered_more (HasEvent h) (txns_of h) c.loop-number.number t c.loop-number.rows.items c.loop-number.invariant c.txn-name.ensures.name (start_has_event h t c.txn-name.result.start c.txn-name.ensures.starts))
 
 numbered : (c : After-sort) → AreNumbered (HasEvent c.args.log.now) (txns_of c.args.log.now) c.sort.new.list.items
 numbered c = numbered_listed _ _ c.loop-number.number _ _ (omega (arith, c.txn_count-count.ensures)) c.loop-number.invariant c.sort.ensures.sorted (λ x. (c.sort.ensures.same x).1) (λ x. (c.sort.ensures.same x).0)
@@ -42,7 +42,7 @@ pub places_of-requires-clause-within : goal.places_of-requires-clause-within
 places_of-requires-clause-within c = rw (c.deref-2.ensures.value, c.txn_count-count.ensures) (rows_within (HasEvent c.args.log.now) _ _ (numbered (goal.at.places_of-requires-clause-within c).After-sort))
 
 -- the same of the rows that are gone through
-rows_of : (c : After-sort) (rows : List Numbered) → rows ≡ c.sort.new.list.items → AreNumbered (HasEvent c.args.log.now) (txns_of c.args.log.now) rows
+rows_of : (c : After-sort) (rows : List (Numbered ℕ)) → rows ≡ c.sort.new.list.items → AreNumbered (HasEvent c.args.log.now) (txns_of c.args.log.now) rows
 rows_of c rows is = subst (AreNumbered (HasEvent c.args.log.now) (txns_of c.args.log.now)) (sym is) (numbered c)
 
 pub loop-row-init : goal.loop-row-init
@@ -97,8 +97,8 @@ places_of-requires-2-clause-within c = rw (c.deref-3.ensures.value, c.txn_count-
 pub returns : goal.returns
 returns c =
     let h = c.args.log.now in
-    let numbers : ArePlaces (λ (row : Numbered). row.number) c.sort.new.list.items (length (txns_of h)) c.in_ok-numbers.numbers.items = rw (c.deref-2.ensures.value, c.txn_count-count.ensures) at c.in_ok-numbers.ensures in
-    let committed : ArePlaces (λ (row : Numbered). row.number) c.loop-row.ended.items (length (txns_of h)) c.in_ok-committed_numbers.committed_numbers.items = rw (c.deref-3.ensures.value, c.txn_count-count.ensures) at c.in_ok-committed_numbers.ensures in
+    let numbers : ArePlaces (λ (row : Numbered ℕ). row.number) c.sort.new.list.items (length (txns_of h)) c.in_ok-numbers.numbers.items = rw (c.deref-2.ensures.value, c.txn_count-count.ensures) at c.in_ok-numbers.ensures in
+    let committed : ArePlaces (λ (row : Numbered ℕ). row.number) c.loop-row.ended.items (length (txns_of h)) c.in_ok-committed_numbers.committed_numbers.items = rw (c.deref-3.ensures.value, c.txn_count-count.ensures) at c.in_ok-committed_numbers.ensures in
     record {
       all = numbers_are (HasEvent h) (txns_of h) c.sort.new.list.items (numbered (goal.at.returns c).After-sort) (txns_stand_once h) (event_has_number h) _ (rw c.deref.ensures.value at c.in_ok-ids.ensures.names) _ numbers;
       infos = c.in_ok-ids.ensures.infos;
