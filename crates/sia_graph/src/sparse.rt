@@ -120,7 +120,7 @@ pub(crate) fn graph_of(alloc: Global, evidence: &Evidence, size: u32) -> Result<
     let nodes = 2 * size as usize + evidence.index.committed().len();
     let positions = evidence.index.position_count() as usize;
     let mut graph = Graph {
-        targets: Lists::with_capacity(alloc, nodes, positions)?,
+        targets: Lists::with_capacity(alloc, nodes, 2 * positions)?,
         sources: Lists::with_capacity(alloc, nodes, positions)?,
     };
     let mut passed = Passed::none(alloc);
