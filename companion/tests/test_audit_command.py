@@ -257,7 +257,7 @@ class FailureTest(AuditTest):
 
     @unittest.skipUnless(PROGRAM.exists(), NO_PROGRAM)
     def test_memory(self) -> None:
-        given = b"".join(b"w%d[%d]\n" % (n % 1000 + 1, n) for n in range(90_000))
+        given = b"".join(b"w%d[%d]\n" % (n + 1, n) for n in range(90_000))
         self.fails(4, "standard input: the auditor ran out of memory: it may take 16 MB, which --memory changes", "--memory", "16M", given=given)
 
     @unittest.skipUnless(PROGRAM.exists(), NO_PROGRAM)
