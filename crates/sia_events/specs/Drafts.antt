@@ -29,10 +29,10 @@ AreSeen names seen = (i : ℕ) (x : SeenRow) → slice_get seen i ≡ Some x →
 pub record AreFound (d : Draft) : Type 0 where
   pub sound : AreSound d.tables
   pub txns : Finds d.txns (txn_names d.tables.txns.items)
-  pub keys : Finds d.keys (map (λ key. key) d.tables.keys.items)
+  pub keys : Finds d.keys (map (λ row. row.key) d.last_seen.items)
   pub writes : Tracks d.writes d.tables.writes.items
   pub long : length d.tables.txns.items ≤ length d.writes.writers.items
-  pub level : length d.last_seen.items ≡ length d.tables.keys.items
+  pub level : map (λ row. row.key) d.last_seen.items ≡ d.tables.keys.items
   pub seen : AreSeen (names_in d.tables) d.last_seen.items
 
 unfoldable pub Knows : Draft → Type 0

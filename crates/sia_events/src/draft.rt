@@ -162,13 +162,14 @@ impl Draft {
     /// The number of the key, if it was read, listed or written. It may well be the guess.
     #[inline(always)]
     pub(crate) fn find_key(&self, guess: u32, name: Key) -> Option<u32>
-        ensures some { IfSome result (λ n. slice_get self.now.tables.keys.items n ≡ Some name) }
+        ensures some { AreFound self.now
+            → IfSome result (λ n. slice_get self.now.tables.keys.items n ≡ Some name) }
         ensures none { AreFound self.now → IfNone result (IsNew self.now.tables.keys.items name) }
     {
-        if self.tables.keys.get(guess as usize).copied() == Some(name) {
-            return Some(guess);
+        match self.last_seen.get(guess as usize) {
+            Some(row) if row.key == name => Some(guess),
+            _ => self.keys.find(&self.last_seen, name),
         }
-        self.keys.find(&self.tables.keys, name)
     }
 
     #[inline(always)]
@@ -199,7 +200,7 @@ impl Draft {
             write: 0,
         })?;
         self.tables.keys.push(name)?;
-        self.keys.add_from(&self.tables.keys, number)?;
+        self.keys.add_from(&self.last_seen, number)?;
         Ok(number as u32)
     }
 
@@ -247,11 +248,22 @@ impl Draft {
         if write == 0 {
             return None;
         }
+        self.see(number, saw, write);
+        Some(write)
+    }
+
+    /// The version of the key with the number is the one that was seen or made last.
+    fn see(&mut self, number: u32, version: Version, write: u32)
+        requires found { AreFound self.old }
+        requires seen { (k : ℕ) → slice_get self.old.tables.keys.items number ≡ Some k
+            → IsSeen (names_in self.old.tables) k version write }
+        ensures same { self.new.tables ≡ self.old.tables }
+        ensures found { AreFound self.new }
+    {
         if let Some(row) = self.last_seen.get_mut(number as usize) {
-            row.version = saw;
+            row.version = version;
             row.write = write;
         }
-        Some(write)
     }
 
     #[tactic(auto, unfolding(crate::specs::Drafts::Takes))]
@@ -416,6 +428,8 @@ impl Draft {
         }
         self.tables.writes.push(WriteRow { txn, key })?;
         self.writes.add(&self.tables.writes, txn)?;
+        let version = self.tables.txns[txn as usize].name;
+        self.see(key, version, number as u32 + 1);
         Ok(number as u32 + 1)
     }
 

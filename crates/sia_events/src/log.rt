@@ -197,7 +197,7 @@ pub struct WriteRow {
     pub key: u32,
 }
 
-/// A version of a key that was seen, and the write that made it.
+/// A key, the version of it that was seen or made last, and the write that made it.
 #[derive(Clone, Copy)]
 pub(crate) struct SeenRow {
     pub(crate) key: Key,
@@ -272,11 +272,11 @@ impl Named for TxnRow {
     }
 }
 
-impl Named for Key {
-    ghost named = { λ key. key };
+impl Named for SeenRow {
+    ghost named = { λ row. row.key };
 
     fn name(&self) -> u64 {
-        *self
+        self.key
     }
 }
 

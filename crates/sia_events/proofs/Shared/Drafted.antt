@@ -169,28 +169,28 @@ still_seen t u rows sound sound_u grows seen = λ i x at.
     let more = extends t u sound grows (few_writes u sound_u.short.writes) in
     (front_get (names_in t).keys (names_in u).keys i x.key more.keys r.0, seen_more (names_in t) (names_in u) more x.key x.version x.write r.1)
 
-pub found_more : (d e : Draft) → AreFound d → AreSound e.tables × Grows d.tables e.tables → Finds e.txns (txn_names e.tables.txns.items) → Finds e.keys (map (λ (k : ℕ). k) e.tables.keys.items) → Tracks e.writes e.tables.writes.items → length e.tables.txns.items ≤ length e.writes.writers.items → e.tables.keys.items ≡ d.tables.keys.items → e.last_seen.items ≡ d.last_seen.items → AreFound e
+pub found_more : (d e : Draft) → AreFound d → AreSound e.tables × Grows d.tables e.tables → Finds e.txns (txn_names e.tables.txns.items) → Finds e.keys (map (λ (x : SeenRow). x.key) e.last_seen.items) → Tracks e.writes e.tables.writes.items → length e.tables.txns.items ≤ length e.writes.writers.items → e.tables.keys.items ≡ d.tables.keys.items → e.last_seen.items ≡ d.last_seen.items → AreFound e
 found_more d e found g txns keys writes long kept same = record {
   sound = g.0;
   txns = txns;
   keys = keys;
   writes = writes;
   long = long;
-  level = ap length same ∙ found.level ∙ ap length (sym kept);
+  level = ap (map (λ (x : SeenRow). x.key)) same ∙ found.level ∙ sym kept;
   seen = subst (AreSeen (names_in e.tables)) (sym same) (still_seen d.tables e.tables d.last_seen.items found.sound g.0 g.1 found.seen);
 }
 
-pub key_found : (d e : Draft) (k : ℕ) → AreFound d → e.tables.keys.items ≡ d.tables.keys.items ++ k ∷ [] → AreSound e.tables × Grows d.tables e.tables → Finds e.txns (txn_names e.tables.txns.items) → Finds e.keys (map (λ (i : ℕ). i) e.tables.keys.items) → Tracks e.writes e.tables.writes.items → length e.tables.txns.items ≤ length e.writes.writers.items → e.last_seen.items ≡ d.last_seen.items ++ record { key = k; version = 0; write = 0 } ∷ [] → AreFound e
+pub key_found : (d e : Draft) (k : ℕ) → AreFound d → e.tables.keys.items ≡ d.tables.keys.items ++ k ∷ [] → AreSound e.tables × Grows d.tables e.tables → Finds e.txns (txn_names e.tables.txns.items) → Finds e.keys (map (λ (x : SeenRow). x.key) e.last_seen.items) → Tracks e.writes e.tables.writes.items → length e.tables.txns.items ≤ length e.writes.writers.items → e.last_seen.items ≡ d.last_seen.items ++ record { key = k; version = 0; write = 0 } ∷ [] → AreFound e
 key_found d e k found pushed g txns keys writes long more =
     let seen = still_seen d.tables e.tables d.last_seen.items found.sound g.0 g.1 found.seen in
-    let is : slice_get e.tables.keys.items (length d.last_seen.items) ≡ Some k = rw (pushed) (push_there d.tables.keys.items k (length d.last_seen.items) found.level) in
+    let is : slice_get e.tables.keys.items (length d.last_seen.items) ≡ Some k = rw (pushed) (push_there d.tables.keys.items k (length d.last_seen.items) (sym (length-map d.last_seen.items (λ (x : SeenRow). x.key)) ∙ ap length found.level)) in
     record {
       sound = g.0;
       txns = txns;
       keys = keys;
       writes = writes;
       long = long;
-      level = ap length more ∙ length-append d.last_seen.items (record { key = k; version = 0; write = 0 } ∷ []) ∙ ap (λ n. n + 1) found.level ∙ sym (ap length pushed ∙ length-append d.tables.keys.items (k ∷ []));
+      level = ap (map (λ (x : SeenRow). x.key)) more ∙ map-append (λ (x : SeenRow). x.key) d.last_seen.items (record { key = k; version = 0; write = 0 } ∷ []) ∙ ap (λ ks. ks ++ k ∷ []) found.level ∙ sym pushed;
       seen = subst (AreSeen (names_in e.tables)) (sym more) (λ i x at. elim (push_cases d.last_seen.items (record { key = k; version = 0; write = 0 }) i x at) [
         | inl old ↦ seen i x old
         | inr new ↦ (rw (new.0, new.1) is, rw (new.1) refl)
@@ -297,7 +297,7 @@ some_same e = cc
 found_same : (u e : Draft) → AreFound u → AreSound e.tables × Grows u.tables e.tables → e.txns ≡ u.txns → e.keys ≡ u.keys → e.writes ≡ u.writes → e.last_seen.items ≡ u.last_seen.items → txn_names e.tables.txns.items ≡ txn_names u.tables.txns.items → e.tables.keys.items ≡ u.tables.keys.items → e.tables.writes.items ≡ u.tables.writes.items → AreFound e
 found_same u e found g fx fk fw fs txns keys writes =
     let many : length e.tables.txns.items ≡ length u.tables.txns.items = sym (length-map e.tables.txns.items (λ (x : TxnRow). x.name)) ∙ ap length txns ∙ length-map u.tables.txns.items (λ (x : TxnRow). x.name) in
-    found_more u e found g (rw (fx, txns) found.txns) (rw (fk, keys) found.keys) (rw (fw, writes) found.writes) (rw (fw, many) found.long) keys fs
+    found_more u e found g (rw (fx, txns) found.txns) (rw (fk, fs) found.keys) (rw (fw, writes) found.writes) (rw (fw, many) found.long) keys fs
 
 -- one row more, where the names stay as they are
 pub found_pushed : (u e : Draft) (r : Row) → AreFound u → e.txns ≡ u.txns → e.keys ≡ u.keys → e.writes ≡ u.writes → e.last_seen.items ≡ u.last_seen.items → txn_names e.tables.txns.items ≡ txn_names u.tables.txns.items → e.tables.keys.items ≡ u.tables.keys.items → e.tables.writes.items ≡ u.tables.writes.items → e.tables.ranges.items ≡ u.tables.ranges.items → e.tables.pairs.items ≡ u.tables.pairs.items
@@ -838,10 +838,10 @@ none_known d txns keys writes ranges pairs events fx fk fw fs =
       record {
         sound = sound;
         txns = subst (λ (xs : List TxnRow). Finds d.txns (txn_names xs)) (sym txns) fx;
-        keys = subst (λ (xs : List ℕ). Finds d.keys (map (λ (k : ℕ). k) xs)) (sym keys) fk;
+        keys = subst (λ (xs : List SeenRow). Finds d.keys (map (λ (x : SeenRow). x.key) xs)) (sym fs) fk;
         writes = subst (Tracks d.writes) (sym writes) fw;
         long = rw (txns) (omega arith);
-        level = ap length fs ∙ ap length (sym keys);
+        level = ap (map (λ (x : SeenRow). x.key)) fs ∙ sym keys;
         seen = subst (AreSeen (names_in d.tables)) (sym fs) (λ i x at. absurd (let e : None ≡ Some x = at in cc));
       },
     )
