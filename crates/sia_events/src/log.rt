@@ -53,6 +53,14 @@ impl Log {
         self.tables.events.len() as u32
     }
 
+    /// All events by numbers, in order.
+    pub fn rows(&self) -> &[Row]
+        ensures events { map (event_of (names_of self.now)) result.now ≡ self.now }
+        ensures within { All (IsWithin (names_of self.now)) result.now }
+    {
+        &self.tables.events
+    }
+
     /// The event at a place, counted from 1, by numbers. There is none at 0 and above the length.
     pub fn row(&self, place: u32) -> Option<Row>
         ensures event { option_map (event_of (names_of self.now)) result ≡ at_place self.now place }
