@@ -1,3 +1,4 @@
+pub mod AllPlaces
 pub mod DealtPlaces
 pub mod DealtReads
 pub mod PartOrder

@@ -25,7 +25,7 @@ use crate::audit::sights::{Known, Origin, Scope, Seen, numbers_within, put_read}
 use crate::cutting::Part;
 use crate::edges::{edges_at, first_or_end};
 use crate::finding::{BadRead, BadWrite, PartFindings, PartFound, Unexplained};
-use crate::reads::{Reads, txn_of};
+use crate::reads::{Reads, is_read, txn_of};
 use sia_events::{History, Key, Log, NoMemory, Row, TxnId};
 use sia_index::ordering::put_in_order;
 use sia_index::{Index, Reader};
@@ -204,6 +204,9 @@ fn seen_of(alloc: Global, scope: &Scope, places: &[u32]) -> Result<Seen, NoMemor
         let Some(row) = scope.log.row(*place) else {
             continue;
         };
+        if !is_read(row) {
+            continue;
+        }
         let (txn, place) = (txn_of(row), *place);
         // Where it read last, nothing is looked up.
         let known = match last {

@@ -1,43 +1,37 @@
 //! Read events dealt to parts of the keys.
-ghost use Rattle.std.specs.Prelude.{◌≡◌, ◌<◌, ◌≤◌, ℕ, List, Some, AllPairs, MatchOption, Contains, IfOk, OnOk, length, ◌-◌};
+ghost use Rattle.std.specs.Prelude.{◌≡◌, ◌<◌, ◌≤◌, ℕ, List, Some, AllPairs, MatchOption, Contains, IfOk, IsTrue, OnOk, length, ◌-◌};
 ghost use Rattle.std.specs.List.{slice_get};
 ghost use Rattle.std.specs.List.Sorted.{IsNonDecreasingBy};
 ghost use Rattle.sia_events.specs.declared.event.Event.{Event};
 ghost use Rattle.sia_events.specs.Events.{Saw};
-ghost use Rattle.sia_events.specs.Numbering.{names_of, event_of, IsWithin};
+ghost use Rattle.sia_events.specs.Numbering.{Names, names_of, event_of, IsWithin};
 ghost use Rattle.sia_events.specs.Reads.{SawAt};
 ghost use Rattle.sia_parts.specs.declared.cutting.Part.{Part as part};
-ghost use Rattle.sia_parts.specs.declared.reads.Read.{Read as read};
 ghost use Rattle.sia_parts.specs.Dealing.{AreReads, Deals, HasReadsOf};
 ghost use Rattle.sia_parts.specs.Parts.{IsCutting};
 ghost use Rattle.sia_parts.specs.Seeing.{txn_in};
-ghost use Rattle.sia_index.specs.Lists.{joined};
 
 use crate::cutting::Part;
 use sia_events::{Key, Log, NoMemory, Row};
-use sia_index::keyed::{By, ByKey, ByTxn, place_above};
+use sia_index::keyed::{By, ByKey, place_above};
 use sia_index::lists::Lists;
 use std::alloc::Global;
 
-/// For each of some parts the places of the read events that concern it. They ascend, but those of a part alone come transaction
-/// by transaction: of several parts each has few of a transaction, and one way through the log costs less.
+/// For each of some parts the places of the read events that concern it, which ascend. A part alone has the places of all events,
+/// transaction by transaction: of several parts each has few of a transaction, and one way through the log costs less.
 #[derive(Drop)]
 pub struct Reads {
     pub(crate) dealt: Vec<Vec<u32>>,
 }
 
-/// A read event: the log's transaction, and its place.
-#[derive(Clone, Copy)]
-struct Read {
-    txn: u32,
-    place: u32,
-}
+/// By the log's transaction.
+struct ByActor;
 
-impl By<Read> for ByTxn {
-    ghost by = { λ r. r.txn };
+impl By<Row> for ByActor {
+    ghost by = { λ row. txn_in row };
 
-    fn number(r: &Read) -> u64 {
-        u64::from(r.txn)
+    fn number(row: &Row) -> u64 {
+        u64::from(txn_of(*row))
     }
 }
 
@@ -81,35 +75,28 @@ impl Reads {
     }
 }
 
-/// The places of all read events, transaction by transaction in the order of the log's numbers, and then by place.
+/// The places of all events, transaction by transaction in the order of the log's numbers, and then by place.
 fn places_by_txn(alloc: Global, log: &Log) -> Result<Vec<u32>, NoMemory>
     ensures { IfOk result (λ places. (p t k v : ℕ) → SawAt log.now p t k v → Contains places.items p) }
 {
-    let reads = reads_by_txn(alloc, log)?;
-    let mut places = Vec::with_capacity(alloc, reads.rows().len())?;
-    for read in reads.rows() {
-        places.push(read.place)?;
+    log.law();
+    let lists = Lists::<u32>::places::<Row, ByActor>(alloc, log.txn_count() as usize, log.rows())?;
+    let mut places = lists.into_rows();
+    for place in places.iter_mut() {
+        *place += 1;
     }
     Ok(places)
 }
 
-fn reads_by_txn(alloc: Global, log: &Log) -> Result<Lists<Read>, NoMemory>
-    ensures { IfOk result (λ reads. (p t k v : ℕ) → SawAt log.now p t k v
-        → (r : read) × Contains (joined reads) r × (r.place ≡ p)) }
+/// Whether the event is a read.
+#[inline(always)]
+pub(crate) fn is_read(row: Row) -> bool
+    ensures { (names : Names) (k v : ℕ) → Saw (event_of names row) k v → IsTrue result }
 {
-    let count = log.len();
-    let mut reads = Vec::with_capacity(alloc, count as usize)?;
-    for before in 0..count {
-        if let Some(row) = log.row(before + 1) {
-            if covered(log, row).is_some() {
-                reads.push(Read {
-                    txn: txn_of(row),
-                    place: before + 1,
-                })?;
-            }
-        }
-    }
-    Ok(Lists::deal::<ByTxn>(alloc, log.txn_count() as usize, &reads)?)
+    matches!(
+        row,
+        Row::Read { .. } | Row::OwnRead { .. } | Row::Range { .. }
+    )
 }
 
 /// The first and the last key that the event may have seen, if it is a read.

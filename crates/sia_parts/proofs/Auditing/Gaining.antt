@@ -1,5 +1,5 @@
 -- What is seen, sight by sight.
-use Rattle.std.proofs.Common.{◌≡◌, ◌≢◌, ◌⊎◌, inl, inr, ℕ, ◌+◌, ◌<◌, ◌≤◌, List, Option, Some, None, Vec, Global, length, get_or, refl, ap, sym, subst, ◌∙◌, arith}
+use Rattle.std.proofs.Common.{◌≡◌, ◌≢◌, ◌⊎◌, inl, inr, ℕ, ◌+◌, ◌<◌, ◌≤◌, List, Option, Some, Vec, Global, length, get_or, refl, ap, sym, subst, ◌∙◌, arith}
 use Rattle.std.specs.Prelude.{◌↔◌, All}
 use Rattle.std.proofs.lemmas.Bool.{cases_lt}
 use Rattle.std.proofs.lemmas.List.{take_all}
@@ -176,10 +176,11 @@ module _ (h : List Event) (P : ℕ → Sight → Type 0) (xs : List ℕ) where
   pub gains_all : (n : ℕ) (old new : Seen) → length xs ≤ n → Gains h (λ s. FromFirst P xs n s) old new → Gains h (λ s. FromSome P xs s) old new
   gains_all n old new all gains = subst (λ ys. Gains h (λ s. FromSome P ys s) old new) (take_all n xs all) gains
 
-  -- at a place without an event nothing is seen
-  pub nothing_there : (l : List Event) → h ≡ l → (p from to : ℕ) → None ≡ at_place l p → (s : Sight) → ¬ IsSightWithin h p from to s
-  nothing_there l same p from to none s is =
-      let at : at_place h p ≡ Some is.1.0 = subst (λ q. at_place h q ≡ Some is.1.0) is.0 is.1.1 in
-      let own : None ≡ at_place h p = subst (λ g. None ≡ at_place g p) (sym same) none in
-      let never : None ≡ Some is.1.0 = own ∙ at in
-      cc
+-- a place without an event, or with one that read nothing, adds nothing
+pub gains_nothing : (h l : List Event) → h ≡ l → (from to : ℕ) (xs : List ℕ) (n : ℕ) → n < length xs → ((e : Event) (k v : ℕ) → at_place l (get_or xs n 0) ≡ Some e → ¬ Saw e k v)
+    → (old new : Seen) → Gains h (λ s. FromFirst (λ p. IsSightWithin h p from to) xs n s) old new → Gains h (λ s. FromFirst (λ p. IsSightWithin h p from to) xs (n + 1) s) old new
+gains_nothing h l same from to xs n below none old new gains =
+    let p = get_or xs n 0 in
+    gains_more h (λ q. IsSightWithin h q from to) xs n 0 below old new new gains (gains_none h (IsSightWithin h p from to) (λ s is.
+    let there : at_place h p ≡ Some is.1.0 = subst (λ q. at_place h q ≡ Some is.1.0) is.0 is.1.1 in
+    none is.1.0 s.key s.saw (subst (λ g. at_place g p ≡ Some is.1.0) same there) is.1.3) new)

@@ -1,7 +1,10 @@
 -- Each place adds what its event saw, and what all of the part saw is put in order.
-use Rattle.std.proofs.Common.{◌≡◌, ℕ, List, Some, get_or, refl, rules, subst, sym, ◌∙◌}
+use Rattle.std.proofs.Common.{◌≡◌, ℕ, List, None, Some, get_or, refl, rules, subst, sym, ◌∙◌}
 use Rattle.std.specs.Prelude.{◌↔◌, ⊤, MatchOption}
+use Rattle.std.proofs.lemmas.Option.{same_Some}
 use Rattle.sia_events.specs.declared.event.Event.{Event}
+use Rattle.sia_events.specs.Events.{Saw}
+use Rattle.sia_events.specs.Numbering.{names_of, event_of}
 use Rattle.sia_index.specs.declared.info.Reader.{Reader}
 use Rattle.sia_index.specs.Info.{IsReader}
 use Rattle.sia_index.specs.Numbers.{IsCommittedAt}
@@ -13,7 +16,7 @@ use Rattle.sia_parts.specs.Entries.{bad_read_rank}
 use Rattle.sia_parts.specs.Parts.{IsInPart}
 use Rattle.sia_parts.specs.Seeing.{Gains, IsSightWithin}
 use Rattle.sia_parts.proofs.Shared.Listing.{put_listed, bad_read_before}
-use Rattle.sia_parts.proofs.Auditing.Gaining.{gains_all, gains_more, gains_none, nothing_there}
+use Rattle.sia_parts.proofs.Auditing.Gaining.{gains_all, gains_more, gains_nothing}
 use Rattle.sia_parts.proofs.Auditing.SeenAll.{bad_reads_are, sights_are}
 use Rattle.sia_parts.proofs.audit.seen_of.Goals.{Joined-last, in-Some-last, in_default-last}
 use Rattle.sia_parts.proofs.audit.seen_of.Goals as goal
@@ -63,16 +66,22 @@ loop-place-preserved c =
     record { last = (known_now (goal.at.loop-place-preserved c).Joined-last).is; gains = gains_more h P c.args.places.now c.loop-place.place-index 0 c.loop-place-test.true _ c.loop-place.seen c.put_row.new.seen c.loop-place.invariant.gains next }
 
 pub loop-place-preserved-in_default : goal.loop-place-preserved-in_default
-loop-place-preserved-in_default c =
-    let h = c.args.scope.now.ix.now in
-    let P = λ (place : ℕ). IsSightWithin h place c.args.scope.now.first c.args.scope.now.end in
-    let places = c.args.places.now in
-    let n = c.loop-place.place-index in
-    record {
-      last = c.loop-place.invariant.last;
-      gains = gains_more h P places n 0 c.loop-place-test.true _ c.loop-place.seen c.loop-place.seen c.loop-place.invariant.gains
-          (gains_none h (P (get_or places n 0)) (nothing_there h P places c.args.scope.now.log.now c.requires.scope.same (get_or places n 0) c.args.scope.now.first c.args.scope.now.end c.in_default.ensures.event) c.loop-place.seen);
-    }
+loop-place-preserved-in_default c = record {
+  last = c.loop-place.invariant.last;
+  gains = gains_nothing c.args.scope.now.ix.now c.args.scope.now.log.now c.requires.scope.same c.args.scope.now.first c.args.scope.now.end c.args.places.now c.loop-place.place-index c.loop-place-test.true
+      (λ e k v at saw. let never : None ≡ Some e = c.in_default.ensures.event ∙ at in absurd cc) _ c.loop-place.seen c.loop-place.invariant.gains;
+}
+
+pub loop-place-preserved-then-not-is_read : goal.loop-place-preserved-then-not-is_read
+loop-place-preserved-then-not-is_read c = record {
+  last = c.loop-place.invariant.last;
+  gains = gains_nothing c.args.scope.now.ix.now c.args.scope.now.log.now c.requires.scope.same c.args.scope.now.first c.args.scope.now.end c.args.places.now c.loop-place.place-index c.loop-place-test.true
+      (λ e k v at saw.
+      let event : e ≡ event_of (names_of c.args.scope.now.log.now) c.in-Some.row = same_Some _ _ (sym at ∙ sym c.in-Some.ensures.event) in
+      let read = c.is_read.ensures (names_of c.args.scope.now.log.now) k v (subst (λ x. Saw x k v) event saw) in
+      let unread = c.if-not-is_read.true in
+      absurd cc) _ c.loop-place.seen c.loop-place.invariant.gains;
+}
 
 pub returns-clause-bad_reads : goal.returns-clause-bad_reads
 returns-clause-bad_reads c =

@@ -1,31 +1,46 @@
--- Each place is listed in its turn.
-use Rattle.std.proofs.Common.{◌≡◌, inl, inr, get_or, ap, sym, subst, ◌∙◌, arith}
-use Rattle.std.specs.Prelude.{Contains}
-use Rattle.std.proofs.lemmas.Bool.{cases_lt}
-use Rattle.std.proofs.lemmas.List.{get_or_default}
-use Rattle.std.proofs.lemmas.List.Elements.{Contains-append_left, Contains-push}
-use Rattle.sia_parts.specs.declared.reads.Read.{Read}
+-- Each place is dealt, and then counted from 1.
+use Rattle.std.proofs.Common.{◌≡◌, ℕ, ◌-◌, ◌<◌, length, ap, subst, sym, ◌∙◌, arith, le_refl}
+use Rattle.std.specs.Prelude.{All, Contains}
+use Rattle.std.proofs.lemmas.List.{length-map}
+use Rattle.std.proofs.lemmas.List.Elements.{All-weaker}
+use Rattle.sia_events.specs.declared.log.Row.{Row}
+use Rattle.sia_events.specs.Numbering.{names_of, event_of, IsWithin}
+use Rattle.sia_events.proofs.Shared.TransactionDecisions.{place_within}
+use Rattle.sia_events.proofs.Writing.WellFormed.{few_events}
+use Rattle.sia_index.specs.Lists.{joined, places_by}
+use Rattle.sia_parts.specs.Seeing.{txn_in}
+use Rattle.sia_parts.proofs.ReadLists.AllPlaces.{count_all, count_more, places_have, places_within}
+use Rattle.sia_parts.proofs.Shared.RowTxns.{txn_within}
 use Rattle.sia_parts.proofs.reads.places_by_txn.Goals as goal
 
-abbrev none : Read
-none = record { txn = 0; place = 0 }
+pub overflow_add-place : goal.overflow_add-place
+overflow_add-place c =
+    let h = c.args.log.now in
+    let rows = c.rows.result.now in
+    let old = c.deref_mut-place-items.result.now in
+    let n = c.loop-place.place-index in
+    let below : n < length old = c.loop-place-test.true in
+    let all = places_within txn_in c.txn_count.result rows in
+    let dealt : old ≡ joined (places_by txn_in c.txn_count.result rows) = c.deref_mut-place-items.ensures.value ∙ c.into_rows-places.ensures ∙ ap joined c.in_ok-lists.ensures in
+    let here = subst (λ l. All (λ i. i < length rows) l) (sym dealt) all n 0 below in
+    let same = c.loop-place.invariant.behind n (le_refl n) in
+    let long = sym (length-map rows (event_of (names_of h))) ∙ ap length c.rows.ensures.events in
+    let few = few_events h c.law.ensures in
+    omega arith
 
-pub loop-read-preserved : goal.loop-read-preserved
-loop-read-preserved c m r less =
-    let reads = c.rows-read-items.result.now in
-    let i = c.loop-read.read-index in
-    let places = c.loop-read.places.items in
-    let here = (get_or reads i none).place in
-    rw c.in_ok-push.ensures.items (elim (cases_lt m i) [
-      | inl before ↦ Contains-append_left places _ _ (c.loop-read.invariant m r before)
-      | inr after ↦
-          let same : m ≡ i = omega arith in
-          subst (Contains _) (sym (ap (λ (x : Read). x.place) (ap (λ j. get_or reads j r) same ∙ get_or_default reads i r none c.loop-read-test.true))) (Contains-push places here)
-    ])
+pub loop-place-preserved : goal.loop-place-preserved
+loop-place-preserved c = count_more c.loop-place.place-index c.deref_mut-place-items.result.now c.loop-place.place-items c.loop-place-test.true c.loop-place.invariant
 
 pub returns : goal.returns
 returns c p t k v saw =
-    let f = c.in_ok-reads.ensures p t k v saw in
-    let has : Contains c.rows-read-items.result.now f.0 = subst (λ l. Contains l f.0) (sym c.rows-read-items.ensures) f.1 in
-    let end = c.loop-read-test.false in
-    subst (Contains c.loop-read.places.items) (ap (λ (x : Read). x.place) has.2 ∙ f.2) (c.loop-read.invariant has.0 f.0 (let below = has.1 in omega arith))
+    let h = c.args.log.now in
+    let rows = c.rows.result.now in
+    let old = c.deref_mut-place-items.result.now in
+    let count = c.txn_count.result in
+    let within = place_within h p saw.0 saw.1 in
+    let dealt : old ≡ joined (places_by txn_in count rows) = c.deref_mut-place-items.ensures.value ∙ c.into_rows-places.ensures ∙ ap joined c.in_ok-lists.ensures in
+    let long = sym (length-map rows (event_of (names_of h))) ∙ ap length c.rows.ensures.events in
+    let few : All (λ (row : Row). txn_in row < count) rows = All-weaker (IsWithin (names_of h)) (λ row. txn_in row < count) (λ row is. subst (λ n. txn_in row < n) (sym c.txn_count.ensures) (txn_within (names_of h) row is)) rows c.rows.ensures.within in
+    let there = places_have txn_in count rows few (p - 1) (let some = within.0 in let most = within.1 in omega arith) in
+    count_all c.loop-place.place-index c.into_rows-places.result.len old c.loop-place.place-items c.into_rows-places.result.items c.loop-place-test.false c.loop-place.invariant
+    (let ok = c.into_rows-places.result.ok in let same = ap (length {A = ℕ}) c.deref_mut-place-items.ensures.value in omega arith) (ap (length {A = ℕ}) (sym c.deref_mut-place-items.ensures.value)) p within.0 (subst (λ l. Contains l (p - 1)) (sym dealt) there)

@@ -1,8 +1,6 @@
--- The places of the reads so far are listed.
-use Rattle.std.proofs.Common.{ℕ, ◌<◌}
-use Rattle.std.specs.Prelude.{Contains, slice_index_or}
-use Rattle.sia_parts.specs.declared.reads.Read.{Read}
+-- The places so far are counted from 1.
+use Rattle.sia_parts.proofs.ReadLists.AllPlaces.{CountsTo}
 use Rattle.sia_parts.proofs.reads.places_by_txn.Given as goal
 
-abbrev pub invariant-loop-read : goal.invariant-loop-read
-invariant-loop-read l = (m : ℕ) (r : Read) → m < l.read-index → Contains l.places.items (slice_index_or l.read-items m r).place
+abbrev pub invariant-loop-place : goal.invariant-loop-place
+invariant-loop-place l = CountsTo l.place-index l.initial.place-items l.place-items

@@ -1,6 +1,6 @@
 -- The tables grow by one key.
 use Rattle.std.proofs.Common.{◌≡◌, ◌++◌, ◌∷◌, [], ℕ, ◌<◌, List, length, map, refl, sym, subst, ◌∙◌, ap, arith}
-use Rattle.std.proofs.lemmas.List.{length-map, map-append}
+use Rattle.std.proofs.lemmas.List.{map-append}
 use Rattle.sia_events.specs.Finding.{Finds}
 use Rattle.sia_events.specs.declared.log.SeenRow.{SeenRow}
 use Rattle.sia_events.proofs.LogRows.Logs.{key_grown}
