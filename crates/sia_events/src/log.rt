@@ -30,13 +30,6 @@ impl Model for Log {
     ghost invariant = { λ l. AreTables l.tables × IsWellFormed (events_of l.tables) };
 }
 
-/// The row of the event with the number, counted from 0.
-fn stored_row(tables: &Tables, number: usize) -> Option<Row>
-    ensures { result ≡ slice_get tables.now.events.items number }
-{
-    tables.events.get(number).copied()
-}
-
 impl Log {
     /// A law of every log, and nothing else: it is well-formed.
     pub fn law(&self)
@@ -70,7 +63,7 @@ impl Log {
         if place == 0 {
             return None;
         }
-        stored_row(&self.tables, place as usize - 1)
+        self.tables.events.get(place as usize - 1).copied()
     }
 
     /// How many transactions there are.
