@@ -201,12 +201,10 @@ fn seen_of(alloc: Global, scope: &Scope, places: &[u32]) -> Result<Seen, NoMemor
     };
     let mut last: Option<Known> = None;
     for place in places {
-        let Some(row) = scope.log.row(*place) else {
-            continue;
+        let row = match scope.log.row(*place) {
+            Some(row) if is_read(row) => row,
+            _ => continue,
         };
-        if !is_read(row) {
-            continue;
-        }
         let (txn, place) = (txn_of(row), *place);
         // Where it read last, nothing is looked up.
         let known = match last {
