@@ -11,7 +11,7 @@ ghost use Rattle.sia_events.specs.OwnWrites.{new_write};
 use crate::event::{Key, TxnId, Version};
 use crate::fault::{Reason, Refusal};
 use crate::finder::{Finder, IN_ORDER, MOST_ROWS, SPREAD};
-use crate::log::{MARK, RangeRow, Row, SeenRow, Tables, TxnEnd, TxnRow, WriteRow};
+use crate::log::{RangeRow, Row, SeenRow, Tables, TxnEnd, TxnRow, WriteRow, pair_number};
 use crate::own_writes::OwnWrites;
 use std::alloc::{AllocError, Global};
 
@@ -31,16 +31,6 @@ pub(crate) struct Mention {
     pub(crate) key: Key,
     pub(crate) saw: Version,
     pub(crate) number: u32,
-}
-
-/// The number of a listed pair: its write's, or the mark and its key's where version 0 was seen.
-fn pair_number(key: u32, write: u32) -> u32
-    requires key { key < 2 ^ 29 }
-    requires write { write ≤ 2 ^ 29 }
-    ensures some { 0 < write → result ≡ write }
-    ensures none { write ≡ 0 → result ≡ 2147483648 + key }
-{
-    if write == 0 { MARK + key } else { write }
 }
 
 fn follows(before: Option<Key>, lo: Key, key: Key) -> bool

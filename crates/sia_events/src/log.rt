@@ -1,8 +1,8 @@
 //! A log: a well-formed history as rows of numbers.
-ghost use Rattle.std.specs.Prelude.{◌≡◌, All, Some, ◌<◌, ◌≤◌, ◌-◌, length, map, IfSome, slice_get, take, List, ◌+◌, ◌*◌};
+ghost use Rattle.std.specs.Prelude.{◌≡◌, All, Some, ◌<◌, ◌≤◌, ◌-◌, length, map, IfSome, slice_get, take, List, ◌+◌, ◌*◌, ◌^◌};
 ghost use Rattle.std.specs.Option.{option_map};
 ghost use Rattle.sia_events.specs.LogTables.{events_of, AreTables};
-ghost use Rattle.sia_events.specs.Numbering.{names_of, txns_of, keys_of, writes_of, ranges_of, event_of, pair_at, txn_at, key_at, version_at, range_at, AscendByKey, IsPair, IsWithin, IsMarked, Ends};
+ghost use Rattle.sia_events.specs.Numbering.{names_of, txns_of, keys_of, writes_of, ranges_of, event_of, pair_at, txn_at, key_at, version_at, range_at, AscendByKey, IsPair, IsSeen, IsWithin, IsMarked, Ends};
 ghost use Rattle.sia_events.specs.Places.{at_place};
 ghost use Rattle.sia_events.specs.Refusals.{IsWellFormed};
 ghost use Rattle.sia_events.specs.Transactions.{StartsAt};
@@ -14,7 +14,17 @@ use std::marker::Model;
 use std::mem::size_of;
 
 /// What stands at the mark and above it among listed pairs is a key that was seen at version 0.
-pub(crate) const MARK: u32 = 2_147_483_648;
+const MARK: u32 = 2_147_483_648;
+
+/// The number of a listed pair: its write's, or the mark and its key's where version 0 was seen.
+#[inline(always)]
+pub(crate) fn pair_number(key: u32, write: u32) -> u32
+    requires { key < 2 ^ 29 }
+    ensures some { 0 < write → result ≡ write }
+    ensures none { write ≡ 0 → result ≡ 2147483648 + key }
+{
+    if write == 0 { MARK + key } else { write }
+}
 
 /// A well-formed history, in which transactions, keys, first writes and ranges are numbered as they first appear.
 #[derive(Drop)]
@@ -137,7 +147,7 @@ impl Log {
         (range.lo, range.hi)
     }
 
-    /// The pairs that a range listed, each as a number that `pair` and `listed_numbers` understand.
+    /// The pairs that a range listed, each as a number that `pair` and `pair_numbers` understand.
     pub fn listed(&self, number: u32) -> &[u32]
         requires { number < length (ranges_of self.now) }
         ensures pairs { map (pair_at (names_of self.now)) result.now
@@ -158,11 +168,28 @@ impl Log {
         (self.key(key), self.version(write))
     }
 
+    /// The number of a pair, by those of its key and of its write: `pair_numbers` turned round.
+    #[inline(always)]
+    pub fn pair_of(&self, key: u32, write: u32) -> u32
+        requires key { key < length (keys_of self.now) }
+        requires seen { IsSeen (names_of self.now) (key_at (names_of self.now) key)
+            (version_at (names_of self.now) write) write }
+        ensures number { IsPair (names_of self.now) result }
+        ensures pair { pair_at (names_of self.now) result
+            ≡ (key_at (names_of self.now) key, version_at (names_of self.now) write) }
+    {
+        let _ = &self.tables;
+        pair_number(key, write)
+    }
+
     /// The numbers of the key and of the write of a listed pair.
+    #[inline(always)]
     pub fn pair_numbers(&self, pair: u32) -> (u32, u32)
         requires { IsPair (names_of self.now) pair }
         ensures key { result.0 < length (keys_of self.now) }
         ensures write { result.1 ≤ length (writes_of self.now) }
+        ensures seen { IsSeen (names_of self.now) (key_at (names_of self.now) result.0)
+            (version_at (names_of self.now) result.1) result.1 }
         ensures pair { pair_at (names_of self.now) pair
             ≡ (key_at (names_of self.now) result.0, version_at (names_of self.now) result.1) }
     {

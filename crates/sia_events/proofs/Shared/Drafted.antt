@@ -709,14 +709,6 @@ lists_refused t u w front all back k v (refusals.Bad r) sound found lists stops_
       neither true b c e = rw (e) refl
       neither false b c e = refl
 
-pub seen_few : (t : Tables) → AreSound t → (k v s : ℕ) → IsSeen (names_in t) k v s → s ≤ 536870912
-seen_few t sound k v zero seen = omega arith
-seen_few t sound k v (suc s) seen =
-    let w = slice_get_within (names_in t).writes s (k, v) seen in
-    let l : length (names_in t).writes ≡ length t.writes.items = length-map t.writes.items (λ (y : WriteRow). (get_or t.keys.items y.key 0, get_or (txn_names t.txns.items) y.txn 0)) in
-    let few : length t.writes.items ≤ 536870912 = sound.short.writes in
-    omega arith
-
 pub one_there : {A : Type 0} (y : A) (xs : List A) (i : ℕ) → i < length xs → xs ≡ take i xs ++ get_or xs i y ∷ drop (i + 1) xs
 one_there y [] i less = absurd (omega arith)
 one_there y (x ∷ xs) zero less = refl

@@ -7,18 +7,19 @@ use Rattle.std.proofs.lemmas.Bool.Decides.{nat_tests}
 use Rattle.std.proofs.lemmas.List.{length-map, get_or-map}
 use Rattle.std.proofs.lemmas.List.Kept.{AllPairs-from_increasing}
 use Rattle.std.proofs.lemmas.Grind.{take_at_read}
-use Rattle.std.proofs.lemmas.Option.{slice_get-map, slice_get-get_or, get_or_from_slice_get}
+use Rattle.std.proofs.lemmas.Option.{slice_get-map, slice_get-get_or, get_or_from_slice_get, slice_get_within}
 use Rattle.sia_events.specs.declared.event.Event.{Event}
 use Rattle.sia_events.specs.declared.event.Event.TheVariants.{Begin, Read, Range, Write, Commit, Abort}
 use Rattle.sia_events.specs.declared.log.Row.{Row}
 use Rattle.sia_events.specs.declared.log.TxnRow.{TxnRow}
 use Rattle.sia_events.specs.declared.log.RangeRow.{RangeRow}
+use Rattle.sia_events.specs.declared.log.WriteRow.{WriteRow}
 use Rattle.sia_events.specs.declared.log.Tables.{Tables}
 use Rattle.sia_events.specs.Places.{at_place}
 use Rattle.sia_events.specs.Refusals.{IsWellFormed}
 use Rattle.sia_events.specs.Transactions.{StartsAt}
-use Rattle.sia_events.specs.Numbering.{Names, names_of, txns_of, ranges_of, IsPair, mark, key_at, version_at, write_at, range_at, pair_at, ranges_in, event_of, IsMarked, AscendByKey}
-use Rattle.sia_events.specs.LogTables.{names_in, names_but_ranges, range_of, events_of, AreTables, Lives}
+use Rattle.sia_events.specs.Numbering.{Names, names_of, txns_of, ranges_of, IsPair, IsSeen, mark, key_at, version_at, write_at, range_at, pair_at, ranges_in, event_of, IsMarked, AscendByKey}
+use Rattle.sia_events.specs.LogTables.{names_in, txn_names, names_but_ranges, range_of, events_of, AreTables, Lives}
 use Rattle.sia_events.proofs.Writing.WellFormed.{few_events}
 use Rattle.sia_events.proofs.Writing.Ranges.{list_in_order}
 use Rattle.sia_events.proofs.LogRows.Lived.{to_get}
@@ -46,19 +47,45 @@ range_listed t n r tables less is =
     let named = get_or_from_slice_get (names_in t).ranges n (range_of (names_but_ranges t.txns.items t.keys.items t.writes.items) t.pairs.items r) (0, 0, []) (map_get (range_of (names_but_ranges t.txns.items t.keys.items t.writes.items) t.pairs.items) t.ranges.items n r there) in
     ap (λ (ns : Names). map (pair_at ns) (take (r.to - r.from) (drop r.from t.pairs.items))) (sym tables.names) ∙ ap (λ (x : ℕ × ℕ × List (ℕ × ℕ)). x.2) (sym named) ∙ ap (λ (ns : Names). (range_at ns n).2) tables.names
 
-pub pair_low : (names : Names) (p k t : ℕ) → p < mark → 0 < p → slice_get names.writes (p - 1) ≡ Some (k, t) → pair_at names p ≡ (k, version_at names p)
-unfolding pair_at
-pair_low names zero k t low above at = absurd (omega arith)
-pair_low names (suc p) k t low above at =
-    let below : nat_lt (suc p) mark ≡ true = grind (arith, nat_tests) in
+pub seen_low : (names : Names) (p k t : ℕ) → 0 < p → slice_get names.writes (p - 1) ≡ Some (k, t) → IsSeen names k (version_at names p) p
+seen_low names zero k t above at = absurd (omega arith)
+seen_low names (suc p) k t above at =
     let e : suc p - 1 ≡ p = omega arith in
-    let is = get_or_from_slice_get names.writes (suc p - 1) (k, t) (0, 0) at in
-    let version : version_at names (suc p) ≡ t = ap (λ i. (write_at names i).1) (sym e) ∙ ap (λ (q : ℕ × ℕ). q.1) is in
-    rw (below) (is ∙ ap (λ v. (k, v)) (sym version))
+    let there : slice_get names.writes p ≡ Some (k, t) = ap (slice_get names.writes) (sym e) ∙ at in
+    there ∙ ap (λ (q : ℕ × ℕ). Some (k, q.1)) (sym (get_or_from_slice_get names.writes p (k, t) (0, 0) there))
+
+-- what was seen of a write is what it made
+pub seen_write : (names : Names) (k v w : ℕ) → 0 < w → IsSeen names k v w → write_at names (w - 1) ≡ (k, v)
+seen_write names k v zero some seen = absurd (omega arith)
+seen_write names k v (suc w) some seen = let e : suc w - 1 ≡ w = omega arith in ap (write_at names) e ∙ get_or_from_slice_get names.writes w (k, v) (0, 0) seen
+
+pub pair_low : (names : Names) (p k v : ℕ) → p < mark → 0 < p → IsSeen names k v p → pair_at names p ≡ (k, v)
+unfolding pair_at
+pair_low names p k v low above seen = let below : nat_lt p mark ≡ true = grind (arith, nat_tests) in rw (below) (seen_write names k v p above seen)
 
 pub pair_high : (names : Names) (p : ℕ) → mark ≤ p → pair_at names p ≡ (key_at names (p - mark), version_at names 0)
 unfolding pair_at
 pair_high names p high = let above : nat_lt p mark ≡ false = grind (arith, nat_tests) in rw (above) refl
+
+-- what a pair's number stands for
+pub seen_pair : (names : Names) (k w p : ℕ) → k < length names.keys → length names.writes < mark → IsSeen names (key_at names k) (version_at names w) w → (0 < w → p ≡ w) → (w ≡ 0 → p ≡ mark + k)
+    → IsPair names p × (pair_at names p ≡ (key_at names k, version_at names w))
+seen_pair names k zero p key few seen some none =
+    let is = none refl in
+    let back : mark + k - mark ≡ k = omega arith in
+    rw is ((inr (omega arith, omega arith)), pair_high names (mark + k) (omega arith) ∙ ap (λ j. (key_at names j, 0)) back)
+seen_pair names k (suc w) p key few seen some none =
+    let is = some (omega arith) in
+    let within = slice_get_within names.writes w (key_at names k, version_at names (suc w)) seen in
+    rw is ((inl (omega arith, omega arith, few)), pair_low names (suc w) (key_at names k) (version_at names (suc w)) (omega arith) (omega arith) seen)
+
+-- there are few keys and first writes
+pub few_names : (t : Tables) (h : List Event) → AreTables t → events_of t ≡ h → (length (names_of h).keys ≤ 536870912) × (length (names_of h).writes < mark)
+few_names t h tables is =
+    let long : length (names_in t).writes ≡ length t.writes.items = length-map t.writes.items (λ (y : WriteRow). (get_or t.keys.items y.key 0, get_or (txn_names t.txns.items) y.txn 0)) in
+    let keys : length t.keys.items ≤ 536870912 = tables.sound.short.keys in
+    let writes : length t.writes.items ≤ 536870912 = tables.sound.short.writes in
+    subst (λ (ns : Names). (length ns.keys ≤ 536870912) × (length ns.writes < mark)) (tables.names ∙ ap names_of is) (keys, omega arith)
 
 pub txn_room : (t : Tables) (n : ℕ) → AreTables t → n < length (txns_of (events_of t)) → n < length t.txns.items
 txn_room t n tables less = let e : length (txns_of (events_of t)) ≡ length t.txns.items = ap (λ (ns : Names). length ns.txns) (sym tables.names) ∙ length-map t.txns.items (λ (x : TxnRow). x.name) in omega arith

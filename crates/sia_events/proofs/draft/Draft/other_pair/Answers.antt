@@ -5,7 +5,7 @@ use Rattle.sia_events.specs.declared.log.Tables.{Tables}
 use Rattle.sia_events.specs.Numbering.{IsSeen}
 use Rattle.sia_events.specs.LogTables.{names_in}
 use Rattle.sia_events.specs.Drafts.{HasKey}
-use Rattle.sia_events.proofs.Shared.Drafted.{pair_refused, seen_few}
+use Rattle.sia_events.proofs.Shared.Drafted.{pair_refused}
 use Rattle.sia_events.proofs.draft.Draft.other_pair.Goals as goal
 
 pub returns-in_default-clause-refused : goal.returns-in_default-clause-refused
@@ -13,11 +13,8 @@ returns-in_default-clause-refused c =
     let none = c.in_default.ensures.none in
     pair_refused c.args.self.now c.key.new.self c.seen.new.self c.args.mention.now.key c.args.mention.now.saw c.in_ok-number.number c.requires c.in_ok-number.ensures.has c.in_ok-number.ensures.found c.seen.ensures.same none.0 none.1
 
-pub pair_number-requires-clause-key : goal.pair_number-requires-clause-key
-pair_number-requires-clause-key c = let w = slice_get_within c.key.new.self.tables.keys.items c.in_ok-number.number c.args.mention.now.key c.in_ok-number.ensures.has.is in let few = c.in_ok-number.ensures.found.sound.short.keys in omega arith
-
-pub pair_number-requires-clause-write : goal.pair_number-requires-clause-write
-pair_number-requires-clause-write c = seen_few c.key.new.self.tables c.in_ok-number.ensures.found.sound c.args.mention.now.key c.args.mention.now.saw c.in-Some.write c.in-Some.ensures.some
+pub pair_number-requires : goal.pair_number-requires
+pair_number-requires c = let w = slice_get_within c.key.new.self.tables.keys.items c.in_ok-number.number c.args.mention.now.key c.in_ok-number.ensures.has.is in let few = c.in_ok-number.ensures.found.sound.short.keys in omega arith
 
 pub returns-clause-has : goal.returns-clause-has
 returns-clause-has c =
