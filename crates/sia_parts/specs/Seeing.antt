@@ -1,9 +1,9 @@
 -- What reads saw at the keys of a part, by numbers of the log and by positions.
-use Rattle.std.specs.Prelude.{◌≡◌, ◌≢◌, ◌⊎◌, ◌↔◌, ℕ, ◌-◌, ◌<◌, ◌≤◌, List, Bool, All, false, IsTrue, MatchOption, Option, length}
+use Rattle.std.specs.Prelude.{◌≡◌, ◌≢◌, ◌⊎◌, ◌↔◌, ℕ, ◌<◌, ◌≤◌, List, Bool, All, false, IsTrue, MatchOption, Option}
 use Rattle.sia_events.specs.declared.event.Event.{Event}
 use Rattle.sia_events.specs.declared.log.Row.{Row}
 use Rattle.sia_events.specs.declared.log.Row.TheVariants as rows
-use Rattle.sia_events.specs.Numbering.{Names, names_of, key_at, pair_at, write_at, AscendByKey, IsPair}
+use Rattle.sia_events.specs.Numbering.{names_of, pair_at, AscendByKey, IsPair}
 use Rattle.sia_events.specs.Reads.{SawAt}
 use Rattle.sia_events.specs.Refusals.{IsWellFormed}
 use Rattle.sia_events.specs.Transactions.{IsCommitted, WroteBefore}
@@ -15,8 +15,6 @@ use Rattle.sia_parts.specs.declared.audit.sights.Known.{Known}
 use Rattle.sia_parts.specs.declared.audit.ranges.Cover.{Cover}
 use Rattle.sia_parts.specs.declared.audit.sights.Scope.{Scope}
 use Rattle.sia_parts.specs.declared.audit.sights.Seen.{Seen}
-use Rattle.sia_parts.specs.declared.audit.sights.Origin.{Origin}
-use Rattle.sia_parts.specs.declared.audit.sights.Origin.TheVariants as origins
 use Rattle.sia_parts.specs.Sights.{Sight, Adds, FromSome, FromSight, IsSight, IsBadOf, LooksAt}
 use Rattle.sia_parts.specs.declared.audit.sights.View.{View}
 use Rattle.sia_parts.specs.declared.accesses.RangeMiss.{RangeMiss}
@@ -66,16 +64,6 @@ pub record Gains (h : List Event) (P : Sight → Type 0) (old new : Seen) : Type
   pub placed : All (IsPlaced h) old.saw → All (IsPlaced h) new.saw
   pub some : All IsMiss old.missed → All IsMiss new.missed
 
--- the key and the version that something made
-abbrev pub origin_in : Names → Origin → ℕ × ℕ
-origin_in names (origins.Write w) = write_at names (w - 1)
-origin_in names (origins.Nobody k) = (key_at names k, 0)
-
--- the number has something that it stands for
-abbrev pub IsOrigin : Names → Origin → Type 0
-IsOrigin names (origins.Write w) = (0 < w) × (w ≤ length names.writes)
-IsOrigin names (origins.Nobody k) = k < length names.keys
-
 -- the version of k that v made, or version 0, stands at position q
 abbrev pub IsPositionOf : List Event → ℕ → ℕ → ℕ → Type 0
 IsPositionOf h k v q = (w : KeyVersion) × IsAtPosition h q w × (w.key ≡ k) × (w.txn ≡ v)
@@ -87,10 +75,10 @@ pub record IsVersionAt (h : List Event) (k v : ℕ) (at : WriteAt) : Type 0 wher
 
 -- the reader saw the version at its place
 pub record IsView (h : List Event) (known : Known) (view : View) : Type 0 where
-  pub origin : IsOrigin (names_of h) view.origin
-  pub saw : SawAt h known.reader.place known.reader.txn (origin_in (names_of h) view.origin).0 (origin_in (names_of h) view.origin).1
-  pub at : IsVersionAt h (origin_in (names_of h) view.origin).0 (origin_in (names_of h) view.origin).1 view.at
-  pub mine : IsTrue view.mine ↔ WroteBefore h known.reader.txn (origin_in (names_of h) view.origin).0 known.reader.place
+  pub pair : IsPair (names_of h) view.pair
+  pub saw : SawAt h known.reader.place known.reader.txn (pair_at (names_of h) view.pair).0 (pair_at (names_of h) view.pair).1
+  pub at : IsVersionAt h (pair_at (names_of h) view.pair).0 (pair_at (names_of h) view.pair).1 view.at
+  pub mine : IsTrue view.mine ↔ WroteBefore h known.reader.txn (pair_at (names_of h) view.pair).0 known.reader.place
 
 -- the keys from lo to hi, of which the reader saw the listed ones at their versions, and the others at version 0
 pub record IsCover (h : List Event) (known : Known) (cover : Cover) : Type 0 where

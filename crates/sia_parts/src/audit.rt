@@ -9,9 +9,9 @@ ghost use Rattle.sia_parts.specs.Gathering.{IsPartFound};
 ghost use Rattle.sia_parts.specs.Parts.{IsInPart};
 ghost use Rattle.sia_index.specs.Positions.{HasPosition, IsAtPosition};
 ghost use Rattle.sia_index.specs.declared.info.KeyVersion.{KeyVersion as version};
-ghost use Rattle.sia_parts.specs.Seeing.{IsScope, Gains, IsOrigin, IsSightWithin, origin_in, txn_in};
+ghost use Rattle.sia_parts.specs.Seeing.{IsScope, Gains, IsSightWithin, txn_in};
 ghost use Rattle.sia_parts.specs.Sights.{Adds, IsBadWith};
-ghost use Rattle.sia_events.specs.Numbering.{Names, names_of, event_of, key_at, version_at, IsSeen, IsWithin, IsMarked};
+ghost use Rattle.sia_events.specs.Numbering.{names_of, event_of, IsWithin, IsMarked};
 ghost use Rattle.sia_events.specs.Places.{at_place};
 ghost use Rattle.sia_parts.specs.Accesses.{AreSights};
 ghost use Rattle.sia_parts.specs.Known.{IsKnown};
@@ -21,7 +21,7 @@ pub(crate) mod sights;
 
 use crate::accesses::{ByReader, accesses_at};
 use crate::audit::ranges::put_range;
-use crate::audit::sights::{Known, Origin, Scope, Seen, numbers_within, put_read};
+use crate::audit::sights::{Known, Scope, Seen, numbers_within, put_read};
 use crate::cutting::Part;
 use crate::edges::{edges_at, first_or_end};
 use crate::finding::{BadRead, BadWrite, PartFindings, PartFound, Unexplained};
@@ -244,23 +244,13 @@ fn put_row(scope: &Scope, known: &Known, row: Row, seen: &mut Seen) -> Result<()
         seen.new) }
 {
     match row {
-        Row::Read { key, saw, .. } => put_read(scope, known, origin_of(key, saw), false, seen),
-        Row::OwnRead { key, saw, .. } => put_read(scope, known, origin_of(key, saw), true, seen),
+        Row::Read { key, saw, .. } => {
+            put_read(scope, known, scope.log.pair_of(key, saw), false, seen)
+        }
+        Row::OwnRead { key, saw, .. } => {
+            put_read(scope, known, scope.log.pair_of(key, saw), true, seen)
+        }
         Row::Range { range, .. } => put_range(scope, known, range, seen),
         _ => Ok(()),
-    }
-}
-
-/// What made the version of the key that was seen.
-#[inline(always)]
-fn origin_of(key: u32, saw: u32) -> Origin
-    ensures { (names : Names) → key < length names.keys
-        → IsSeen names (key_at names key) (version_at names saw) saw
-        → IsOrigin names result × (origin_in names result ≡ (key_at names key, version_at names saw)) }
-{
-    if saw == 0 {
-        Origin::Nobody(key)
-    } else {
-        Origin::Write(saw)
     }
 }

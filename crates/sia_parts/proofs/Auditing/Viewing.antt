@@ -4,7 +4,7 @@ use Rattle.std.specs.Prelude.{MatchOption, OnOk}
 use Rattle.sia_events.specs.declared.event.Event.{Event}
 use Rattle.sia_events.specs.declared.event.Event.TheVariants.{Read}
 use Rattle.sia_events.specs.Events.{Saw}
-use Rattle.sia_events.specs.Numbering.{names_of}
+use Rattle.sia_events.specs.Numbering.{names_of, pair_at}
 use Rattle.sia_events.specs.Places.{at_place}
 use Rattle.sia_events.specs.Reads.{IsDue}
 use Rattle.sia_events.specs.Refusals.{IsWellFormed}
@@ -20,7 +20,7 @@ use Rattle.sia_parts.specs.Sights.{Sight, Adds, IsBadOf, IsSight, LooksAt}
 use Rattle.sia_parts.specs.declared.audit.sights.View.{View}
 use Rattle.sia_parts.specs.declared.finding.BadRead.{BadRead}
 use Rattle.sia_parts.specs.Known.{IsKnown}
-use Rattle.sia_parts.specs.Seeing.{Gains, IsPositionOf, IsSightWithin, IsView, origin_in}
+use Rattle.sia_parts.specs.Seeing.{Gains, IsPositionOf, IsSightWithin, IsView}
 use Rattle.sia_parts.proofs.Auditing.Gaining.{GainsLook, gains_one, gains_same, is_sight, one_sight}
 use Rattle.sia_parts.proofs.Shared.OneNumber.{at_is_written, one_key_number}
 use Rattle.sia_parts.proofs.Auditing.Positions.{newest_is_due}
@@ -41,10 +41,10 @@ module _ (h : List Event) (wf : IsWellFormed h) (known : Known) (is_known : IsKn
   p = known.reader.place
 
   abbrev k : ℕ
-  k = (origin_in (names_of h) view.origin).0
+  k = (pair_at (names_of h) view.pair).0
 
   abbrev v : ℕ
-  v = (origin_in (names_of h) view.origin).1
+  v = (pair_at (names_of h) view.pair).1
 
   abbrev pub seen_sight : Sight
   seen_sight = record { place = known.reader.place; txn = known.reader.txn; key = k; saw = v }
@@ -80,7 +80,7 @@ module _ (h : List Event) (wf : IsWellFormed h) (known : Known) (is_known : IsKn
   own_not same at look = look.2 same
 
   -- what the names give, where they are those of the version
-  pub bad_named : (names : ℕ × ℕ) → names ≡ origin_in (names_of h) view.origin → (due : ℕ) → IsDue h known.reader.txn known.reader.place k due → (old new : List BadRead)
+  pub bad_named : (names : ℕ × ℕ) → names ≡ pair_at (names_of h) view.pair → (due : ℕ) → IsDue h known.reader.txn known.reader.place k due → (old new : List BadRead)
       → ((g : List Event) → IsSight g (record { place = known.reader.place; txn = known.reader.txn; key = names.0; saw = names.1 }) → IsDue g known.reader.txn known.reader.place names.0 due
       → Adds (IsBadOf g (record { place = known.reader.place; txn = known.reader.txn; key = names.0; saw = names.1 })) old new) → Adds (IsBadOf h seen_sight) old new
   bad_named names same due is_due old new adds = subst (λ (q : ℕ × ℕ). IsSight h (record { place = known.reader.place; txn = known.reader.txn; key = q.0; saw = q.1 }) → IsDue h known.reader.txn known.reader.place q.0 due

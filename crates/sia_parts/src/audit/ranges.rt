@@ -8,12 +8,12 @@ ghost use Rattle.sia_events.specs.Refusals.{IsWellFormed};
 ghost use Rattle.sia_index.specs.Info.{HasKeyAt};
 ghost use Rattle.sia_parts.specs.Accesses.{IsMissAt, IsPassedBy};
 ghost use Rattle.sia_parts.specs.Known.{IsKnown};
-ghost use Rattle.sia_parts.specs.Seeing.{Gains, IsCover, IsGap, IsMiss, HaveUpTo, IsOrigin, IsScope, IsSightWithin, origin_in};
+ghost use Rattle.sia_parts.specs.Seeing.{Gains, IsCover, IsGap, IsMiss, HaveUpTo, IsScope, IsSightWithin};
 ghost use Rattle.sia_parts.specs.Sights.{Adds, FromSight, Gives, IsBadOf};
 
 use crate::accesses::{ByReader, RangeMiss};
 use crate::audit::sights::{
-    Known, Origin, Scope, Seen, due_at, numbers_within, put_if_bad, put_view,
+    Known, Scope, Seen, due_at, numbers_within, put_if_bad, put_view, stands,
 };
 use crate::finding::BadRead;
 use sia_events::{Key, Log, NoMemory};
@@ -74,8 +74,8 @@ fn near_of(scope: &Scope, pairs: &[u32], others: (u32, u32)) -> (u32, u32)
     let (Some(first), Some(last)) = (pairs.first(), pairs.last()) else {
         return others;
     };
-    let first = origin_of_pair(scope.log, *first).stands(scope.ix);
-    let last = origin_of_pair(scope.log, *last).stands(scope.ix);
+    let first = stands(scope, *first);
+    let last = stands(scope, *last);
     match (first, last) {
         (Some(first), Some(last)) => (first.key, last.key.saturating_add(1)),
         _ => others,
@@ -94,34 +94,15 @@ fn put_covered(scope: &Scope, known: &Known, cover: &Cover, seen: &mut Seen) -> 
 {
     let mut next = cover.first;
     for pair in cover.pairs {
-        let origin = origin_of_pair(scope.log, *pair);
         // Version 0 of a key that isn't written is due to everyone.
-        if let Some(at) = origin.stands(scope.ix) {
+        if let Some(at) = stands(scope, *pair) {
             put_gap(scope.ix, known, cover.own, next, at.key, seen)?;
             next = at.key + 1;
-            let mine = cover.own
-                && scope
-                    .ix
-                    .wrote_before(known.reader, origin.names(scope.log).0);
-            put_view(scope, known, origin, at, mine, seen)?;
+            let mine = cover.own && scope.ix.wrote_before(known.reader, scope.log.pair(*pair).0);
+            put_view(scope, known, *pair, at, mine, seen)?;
         }
     }
     put_gap(scope.ix, known, cover.own, next, cover.end, seen)
-}
-
-/// What made the version that was listed.
-#[inline(always)]
-fn origin_of_pair(log: &Log, pair: u32) -> Origin
-    requires { IsPair (names_of log.now) pair }
-    ensures origin { IsOrigin (names_of log.now) result }
-    ensures same { origin_in (names_of log.now) result ≡ pair_at (names_of log.now) pair }
-{
-    log.law();
-    if pair <= log.write_count() {
-        Origin::Write(pair)
-    } else {
-        Origin::Nobody(log.pair_numbers(pair).0)
-    }
 }
 
 /// Adds what was seen of keys from one number to before another, none of which was listed. Without `own` the reader wrote none before.

@@ -1,14 +1,14 @@
 //! What a read saw of one key: whether it is bad, and where the version stands.
 ghost use Rattle.std.specs.Prelude.{◌≡◌, ◌↔◌, ◌+◌, ◌<◌, ℕ, List, Some, IsTrue, OnOk, MatchOption, ◌-◌, ◌≤◌};
 ghost use Rattle.sia_events.specs.declared.event.Event.{Event};
-ghost use Rattle.sia_events.specs.Numbering.{names_of};
+ghost use Rattle.sia_events.specs.Numbering.{names_of, pair_at, IsPair};
 ghost use Rattle.sia_events.specs.Places.{at_place};
 ghost use Rattle.sia_events.specs.Reads.{IsDue};
 ghost use Rattle.sia_events.specs.Refusals.{IsWellFormed};
 ghost use Rattle.sia_events.specs.Transactions.{Wrote, WroteBefore};
 ghost use Rattle.sia_index.specs.Info.{HasKeyAt, IsKeyAt};
 ghost use Rattle.sia_parts.specs.Known.{IsKnown};
-ghost use Rattle.sia_parts.specs.Seeing.{Gains, IsOrigin, IsScope, IsSightWithin, IsVersionAt, IsView, origin_in};
+ghost use Rattle.sia_parts.specs.Seeing.{Gains, IsScope, IsSightWithin, IsVersionAt, IsView};
 ghost use Rattle.sia_parts.specs.Sights.{Adds, IsSight, IsBadOf, bad_sight};
 ghost use Rattle.sia_events.specs.declared.event.Event.TheVariants as events;
 
@@ -63,79 +63,62 @@ pub(crate) struct Seen {
     pub(crate) near: (u32, u32),
 }
 
-/// What made a version: a write of the log, or nobody, for version 0 of a key of the log.
-#[derive(Clone, Copy)]
-pub(crate) enum Origin {
-    Write(u32),
-    Nobody(u32),
-}
-
-/// A version that a reader saw, and where it stands. `mine` says whether the reader had written the key before.
+/// A pair that a reader saw, by its number in the log, and where its version stands. `mine` says whether the reader had written the key before.
 #[derive(Clone, Copy)]
 pub(crate) struct View {
-    pub(crate) origin: Origin,
+    pub(crate) pair: u32,
     pub(crate) at: WriteAt,
     pub(crate) mine: bool,
 }
 
-impl Origin {
-    pub(crate) fn names(self, log: &Log) -> (Key, Version)
-        requires { IsOrigin (names_of log.now) self }
-        ensures { result ≡ origin_in (names_of log.now) self }
-    {
-        match self {
-            Origin::Write(write) => (log.key(log.write(write).key), log.version(write)),
-            Origin::Nobody(key) => (log.key(key), 0),
-        }
+/// Where the version of the pair stands, if its key is written.
+#[inline(always)]
+pub(crate) fn stands(scope: &Scope, pair: u32) -> Option<WriteAt>
+    requires scope { IsScope scope.now }
+    requires pair { IsPair (names_of scope.now.ix.now) pair }
+    ensures { MatchOption result
+        ((t : ℕ) → ¬ Wrote scope.now.ix.now t (pair_at (names_of scope.now.ix.now) pair).0)
+        (IsVersionAt scope.now.ix.now (pair_at (names_of scope.now.ix.now) pair).0
+        (pair_at (names_of scope.now.ix.now) pair).1) }
+{
+    let (key, write) = scope.log.pair_numbers(pair);
+    if write > 0 {
+        return Some(scope.ix.write_at(write));
     }
-
-    #[inline(always)]
-    pub(crate) fn stands(self, ix: &Index) -> Option<WriteAt>
-        requires well_formed { IsWellFormed ix.now }
-        requires origin { IsOrigin (names_of ix.now) self }
-        ensures { MatchOption result ((t : ℕ) → ¬ Wrote ix.now t (origin_in (names_of ix.now) self).0)
-            (IsVersionAt ix.now (origin_in (names_of ix.now) self).0 (origin_in (names_of ix.now) self).1) }
-    {
-        match self {
-            Origin::Write(write) => Some(ix.write_at(write)),
-            Origin::Nobody(key) => {
-                let number = ix.written_number(key)?;
-                Some(WriteAt {
-                    key: number,
-                    position: Some(ix.first_position(number)),
-                })
-            }
-        }
-    }
+    let number = scope.ix.written_number(key)?;
+    Some(WriteAt {
+        key: number,
+        position: Some(scope.ix.first_position(number)),
+    })
 }
 
 #[inline(always)]
 pub(crate) fn put_read(
     scope: &Scope,
     known: &Known,
-    origin: Origin,
+    pair: u32,
     mine: bool,
     seen: &mut Seen,
 ) -> Result<(), NoMemory>
     requires scope { IsScope scope.now }
     requires known { IsKnown scope.now.ix.now known.now }
-    requires origin { IsOrigin (names_of scope.now.ix.now) origin }
+    requires pair { IsPair (names_of scope.now.ix.now) pair }
     requires event { at_place scope.now.ix.now known.now.reader.place
-        ≡ Some (events.Read known.now.reader.txn (origin_in (names_of scope.now.ix.now) origin).0
-        (origin_in (names_of scope.now.ix.now) origin).1) }
+        ≡ Some (events.Read known.now.reader.txn (pair_at (names_of scope.now.ix.now) pair).0
+        (pair_at (names_of scope.now.ix.now) pair).1) }
     requires mine { IsTrue mine ↔ WroteBefore scope.now.ix.now known.now.reader.txn
-        (origin_in (names_of scope.now.ix.now) origin).0 known.now.reader.place }
+        (pair_at (names_of scope.now.ix.now) pair).0 known.now.reader.place }
     ensures { OnOk result (Gains scope.now.ix.now
         (IsSightWithin scope.now.ix.now known.now.reader.place scope.now.first scope.now.end) seen.old
         seen.new) }
 {
-    let Some(at) = origin.stands(scope.ix) else {
+    let Some(at) = stands(scope, pair) else {
         return Ok(());
     };
     if at.key < scope.first || scope.end <= at.key {
         return Ok(());
     }
-    put_view(scope, known, origin, at, mine, seen)
+    put_view(scope, known, pair, at, mine, seen)
 }
 
 /// Adds what was seen of a written key. Mostly it was due, which two loads tell.
@@ -143,14 +126,14 @@ pub(crate) fn put_read(
 pub(crate) fn put_view(
     scope: &Scope,
     known: &Known,
-    origin: Origin,
+    pair: u32,
     at: WriteAt,
     mine: bool,
     seen: &mut Seen,
 ) -> Result<(), NoMemory>
     requires scope { IsScope scope.now }
     requires known { IsKnown scope.now.ix.now known.now }
-    requires view { IsView scope.now.ix.now known.now (record { origin = origin; at = at; mine = mine }) }
+    requires view { IsView scope.now.ix.now known.now (record { pair = pair; at = at; mine = mine }) }
     ensures { OnOk result (Gains scope.now.ix.now
         (IsSightWithin scope.now.ix.now known.now.reader.place at.key (at.key + 1))
         seen.old seen.new) }
@@ -163,7 +146,7 @@ pub(crate) fn put_view(
         }
     }
     // What is seldom made stands in no turn of a loop.
-    put_doubtful(scope, known, &View { origin, at, mine }, seen)
+    put_doubtful(scope, known, &View { pair, at, mine }, seen)
 }
 
 /// The same, where it may not have been due.
@@ -176,7 +159,7 @@ fn put_doubtful(scope: &Scope, known: &Known, view: &View, seen: &mut Seen) -> R
         (IsSightWithin scope.now.ix.now known.now.reader.place view.now.at.key
         (view.now.at.key + 1)) seen.old seen.new) }
 {
-    let (key, saw) = view.origin.names(scope.log);
+    let (key, saw) = scope.log.pair(view.pair);
     let due = due_at(scope.ix, known, view.at.key, view.mine);
     let read = BadRead {
         place: known.reader.place,

@@ -2,10 +2,8 @@
 use Rattle.std.proofs.Common.{◌≡◌, ℕ, ◌+◌, get_or, sym, subst, arith}
 use Rattle.std.specs.Prelude.{◌↔◌, IsTrue}
 use Rattle.sia_events.specs.Numbering.{names_of, pair_at}
-use Rattle.sia_events.specs.Reads.{SawAt}
-use Rattle.sia_events.specs.Transactions.{Wrote, WroteBefore}
-use Rattle.sia_index.specs.Info.{IsKeyAt}
-use Rattle.sia_parts.specs.Seeing.{IsOrigin, IsSightWithin, origin_in}
+use Rattle.sia_events.specs.Transactions.{WroteBefore}
+use Rattle.sia_parts.specs.Seeing.{IsSightWithin}
 use Rattle.sia_parts.proofs.Auditing.Covered.{covered_all, covered_more, covered_none, covered_unwritten, inside_cover, next_number, not_behind, not_between, not_own_within}
 use Rattle.sia_parts.proofs.Shared.FewNumbers.{few_keys}
 use Rattle.sia_parts.proofs.Auditing.Gaining.{gains_none, gains_then}
@@ -24,9 +22,7 @@ put_gap-requires-clause-gap c =
     let h = c.args.scope.now.ix.now in
     let n = c.loop-pair.pair-index in
     let p = get_or c.args.cover.now.pairs.now n 0 in
-    let o = c.origin_of_pair-origin.result in
-    let same : origin_in (names_of h) o ≡ pair_at (names_of h) p = subst (λ l. origin_in (names_of l) o ≡ pair_at (names_of l) p) (sym c.requires.scope.same) c.origin_of_pair-origin.ensures.same in
-    let at : IsKeyAt h c.in-Some.at.key (pair_at (names_of h) p).0 = subst (λ (q : ℕ × ℕ). IsKeyAt h c.in-Some.at.key q.0) same c.in-Some.ensures.key in
+    let at = c.in-Some.ensures.key in
     let so = c.loop-pair.invariant.covered in
     let inside = inside_cover h c.args.known.now c.args.cover.now c.requires.cover n c.loop-pair.next so 0 c.loop-pair-test.true c.in-Some.at.key at in
     record {
@@ -42,20 +38,18 @@ put_view-requires-clause-view c =
     let h = c.args.scope.now.ix.now in
     let n = c.loop-pair.pair-index in
     let p = get_or c.args.cover.now.pairs.now n 0 in
-    let o = c.origin_of_pair-origin.result in
-    let same : origin_in (names_of h) o ≡ pair_at (names_of h) p = subst (λ l. origin_in (names_of l) o ≡ pair_at (names_of l) p) (sym c.requires.scope.same) c.origin_of_pair-origin.ensures.same in
     let inside = c.requires.cover.inside n 0 c.loop-pair-test.true in
-    let mine : IsTrue c.if-cover.mine ↔ WroteBefore h c.args.known.now.reader.txn (origin_in (names_of h) o).0 c.args.known.now.reader.place = elim c.if-cover.branch [
+    let mine : IsTrue c.if-cover.mine ↔ WroteBefore h c.args.known.now.reader.txn (pair_at (names_of h) p).0 c.args.known.now.reader.place = elim c.if-cover.branch [
       | then-cover w ↦
-          let named : w.names.result ≡ origin_in (names_of h) o = subst (λ l. w.names.result ≡ origin_in (names_of l) o) (sym c.requires.scope.same) w.names.ensures in
+          let named : w.pair.result ≡ pair_at (names_of h) p = subst (λ l. w.pair.result ≡ pair_at (names_of l) p) (sym c.requires.scope.same) w.pair.ensures in
           rw w.mine-is (subst (λ (q : ℕ × ℕ). IsTrue w.wrote_before-mine.result ↔ WroteBefore h c.args.known.now.reader.txn q.0 c.args.known.now.reader.place) named w.wrote_before-mine.ensures)
       | else-cover w ↦
-          let none = subst (λ (q : ℕ × ℕ). ¬ WroteBefore h c.args.known.now.reader.txn q.0 c.args.known.now.reader.place) (sym same) (c.requires.cover.own w.if-cover.false (pair_at (names_of h) p).0 inside.0 inside.1) in
+          let none = c.requires.cover.own w.if-cover.false (pair_at (names_of h) p).0 inside.0 inside.1 in
           rw w.mine-is ((λ e. absurd cc), (λ before. absurd (none before)))
     ] in
     record {
-      origin = subst (λ l. IsOrigin (names_of l) o) (sym c.requires.scope.same) c.origin_of_pair-origin.ensures.origin;
-      saw = subst (λ (q : ℕ × ℕ). SawAt h c.args.known.now.reader.place c.args.known.now.reader.txn q.0 q.1) (sym same) (c.requires.cover.listed n 0 c.loop-pair-test.true);
+      pair = c.requires.cover.numbers n 0 c.loop-pair-test.true;
+      saw = c.requires.cover.listed n 0 c.loop-pair-test.true;
       at = c.in-Some.ensures;
       mine = mine;
     }
@@ -65,8 +59,6 @@ loop-pair-preserved c =
     let h = c.args.scope.now.ix.now in
     let n = c.loop-pair.pair-index in
     let p = get_or c.args.cover.now.pairs.now n 0 in
-    let o = c.origin_of_pair-origin.result in
-    let same : origin_in (names_of h) o ≡ pair_at (names_of h) p = subst (λ l. origin_in (names_of l) o ≡ pair_at (names_of l) p) (sym c.requires.scope.same) c.origin_of_pair-origin.ensures.same in
     let so = c.loop-pair.invariant.covered in
     let gains = c.loop-pair.invariant.gains in
     let place = c.args.known.now.reader.place in
@@ -77,15 +69,14 @@ loop-pair-preserved c =
     elim c.match-stands.branch [
       | in-Some+in_ok-put_gap+in_ok-put_view w ↦
           let i = w.in-Some.at.key in
-          let at : IsKeyAt h i (pair_at (names_of h) p).0 = subst (λ (q : ℕ × ℕ). IsKeyAt h i q.0) same w.in-Some.ensures.key in
+          let at = w.in-Some.ensures.key in
           let low = so.low in
           let more = next_number h known cover is n c.loop-pair.next so 0 c.loop-pair-test.true i at in
           let passed = gains_then h place first c.loop-pair.next i low more c.args.seen.now c.loop-pair.seen w.put_gap.new.seen gains w.in_ok-put_gap.ensures in
           let all = gains_then h place first i (i + 1) (omega arith) (omega arith) c.args.seen.now w.put_gap.new.seen w.put_view.new.seen passed w.in_ok-put_view.ensures in
           rw (w.next-is, w.seen-is) (record { covered = covered_more h known cover is n c.loop-pair.next so 0 c.loop-pair-test.true i at; gains = all })
       | in_default w ↦
-          let none : (u : ℕ) → ¬ Wrote h u (pair_at (names_of h) p).0 = subst (λ (q : ℕ × ℕ). (u : ℕ) → ¬ Wrote h u q.0) same w.in_default.ensures in
-          rw (w.next-is, w.seen-is) (record { covered = covered_unwritten h known cover is n c.loop-pair.next so 0 c.loop-pair-test.true none; gains = gains })
+          rw (w.next-is, w.seen-is) (record { covered = covered_unwritten h known cover is n c.loop-pair.next so 0 c.loop-pair-test.true w.in_default.ensures; gains = gains })
     ]
 
 pub put_gap-requires-2-clause-gap : goal.put_gap-requires-2-clause-gap

@@ -1,13 +1,12 @@
 -- The sight is bad where another version is due, and gives a look where the version is another's.
 use Rattle.std.proofs.Common.{◌≡◌, ℕ, ap, sym, subst, ◌∙◌}
-use Rattle.sia_events.specs.Numbering.{names_of}
-use Rattle.sia_parts.specs.Seeing.{IsOrigin, origin_in}
+use Rattle.sia_events.specs.Numbering.{names_of, pair_at, IsPair}
 use Rattle.sia_parts.proofs.Auditing.Gaining.{look_gains, no_look}
 use Rattle.sia_parts.proofs.Auditing.Viewing.{bad_named, gains_view, looks_not, on_ok, own_not, seen_sight, stands}
 use Rattle.sia_parts.proofs.audit.sights.put_doubtful.Goals as goal
 
-pub names-key-requires : goal.names-key-requires
-names-key-requires c = subst (λ l. IsOrigin (names_of l) c.args.view.now.origin) c.requires.scope.same c.requires.view.origin
+pub pair-key-requires : goal.pair-key-requires
+pair-key-requires c = subst (λ l. IsPair (names_of l) c.args.view.now.pair) c.requires.scope.same c.requires.view.pair
 
 pub returns-then-saw-known : goal.returns-then-saw-known
 returns-then-saw-known c =
@@ -18,8 +17,8 @@ returns-then-saw-known c =
     let view = c.args.view.now in
     let is = c.requires.view in
     let sight = seen_sight h wf known is_known view is in
-    let names : c.names-key.result ≡ origin_in (names_of h) view.origin = subst (λ l. c.names-key.result ≡ origin_in (names_of l) view.origin) (sym c.requires.scope.same) c.names-key.ensures in
-    let bad = bad_named h wf known is_known view is c.names-key.result names c.due_at-due.result (c.due_at-due.ensures _ is.at.key is.mine) c.args.seen.now.bad_reads.items c.put_if_bad.new.bad.items (c.in_ok-put_if_bad.ensures) in
+    let names : c.pair-key.result ≡ pair_at (names_of h) view.pair = subst (λ l. c.pair-key.result ≡ pair_at (names_of l) view.pair) (sym c.requires.scope.same) c.pair-key.ensures in
+    let bad = bad_named h wf known is_known view is c.pair-key.result names c.due_at-due.result (c.due_at-due.ensures _ is.at.key is.mine) c.args.seen.now.bad_reads.items c.put_if_bad.new.bad.items (c.in_ok-put_if_bad.ensures) in
     gains_view h wf known is_known view is c.args.seen.now c.put_if_bad.new.bad c.args.seen.now.saw bad (no_look h sight (own_not h wf known is_known view is (sym (ap (λ (q : ℕ × ℕ). q.1) names) ∙ c.if-saw-known.true)) c.args.seen.now.saw)
 
 pub returns-in-Some : goal.returns-in-Some
@@ -31,8 +30,8 @@ returns-in-Some c =
     let view = c.args.view.now in
     let is = c.requires.view in
     let sight = seen_sight h wf known is_known view is in
-    let names : c.names-key.result ≡ origin_in (names_of h) view.origin = subst (λ l. c.names-key.result ≡ origin_in (names_of l) view.origin) (sym c.requires.scope.same) c.names-key.ensures in
-    let bad = bad_named h wf known is_known view is c.names-key.result names c.due_at-due.result (c.due_at-due.ensures _ is.at.key is.mine) c.args.seen.now.bad_reads.items c.put_if_bad.new.bad.items (c.in_ok-put_if_bad.ensures) in
+    let names : c.pair-key.result ≡ pair_at (names_of h) view.pair = subst (λ l. c.pair-key.result ≡ pair_at (names_of l) view.pair) (sym c.requires.scope.same) c.pair-key.ensures in
+    let bad = bad_named h wf known is_known view is c.pair-key.result names c.due_at-due.result (c.due_at-due.ensures _ is.at.key is.mine) c.args.seen.now.bad_reads.items c.put_if_bad.new.bad.items (c.in_ok-put_if_bad.ensures) in
     let there = stands h wf known is_known view is c.in-Some.position c.in-Some.is in
     on_ok c.put_position.result _ _
     (λ adds. gains_view h wf known is_known view is c.args.seen.now c.put_if_bad.new.bad c.put_position.new.saw bad
@@ -48,6 +47,6 @@ returns-in-None c =
     let view = c.args.view.now in
     let is = c.requires.view in
     let sight = seen_sight h wf known is_known view is in
-    let names : c.names-key.result ≡ origin_in (names_of h) view.origin = subst (λ l. c.names-key.result ≡ origin_in (names_of l) view.origin) (sym c.requires.scope.same) c.names-key.ensures in
-    let bad = bad_named h wf known is_known view is c.names-key.result names c.due_at-due.result (c.due_at-due.ensures _ is.at.key is.mine) c.args.seen.now.bad_reads.items c.put_if_bad.new.bad.items (c.in_ok-put_if_bad.ensures) in
+    let names : c.pair-key.result ≡ pair_at (names_of h) view.pair = subst (λ l. c.pair-key.result ≡ pair_at (names_of l) view.pair) (sym c.requires.scope.same) c.pair-key.ensures in
+    let bad = bad_named h wf known is_known view is c.pair-key.result names c.due_at-due.result (c.due_at-due.ensures _ is.at.key is.mine) c.args.seen.now.bad_reads.items c.put_if_bad.new.bad.items (c.in_ok-put_if_bad.ensures) in
     gains_view h wf known is_known view is c.args.seen.now c.put_if_bad.new.bad c.args.seen.now.saw bad (no_look h sight (looks_not h wf known is_known view is c.in-None.is) c.args.seen.now.saw)

@@ -9,7 +9,7 @@ use Rattle.sia_parts.proofs.audit.sights.put_read.Goals.{then-at-scope-via-then-
 
 pub put_view-requires-clause-view : goal.put_view-requires-clause-view
 put_view-requires-clause-view c = record {
-  origin = c.requires.origin;
+  pair = c.requires.pair;
   saw = (Read _ _ _, c.requires.event, refl, (refl, refl));
   at = c.in-Some.ensures;
   mine = c.requires.mine;

@@ -16,7 +16,7 @@ returns-then-is_newest c =
     let wf = c.requires.scope.well_formed in
     let known = c.args.known.now in
     let is_known = c.requires.known in
-    let view : View = record { origin = c.args.origin; at = c.args.at; mine = c.args.mine } in
+    let view : View = record { pair = c.args.pair; at = c.args.at; mine = c.args.mine } in
     let is = c.requires.view in
     let no = c.if-not-mine.true in
     let at : (w : KeyVersion) → IsAtPosition h c.in-Some.position w → IsNewestAsOf h known.reader.start w = λ w there. (c.is_newest.ensures w there).0 c.if-is_newest.true in
