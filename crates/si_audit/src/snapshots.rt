@@ -146,8 +146,7 @@ impl Bounds {
         let end = place_above::<Key, ByKey>(keys, hi) as u32;
         let mut next = place_from::<Key, ByKey>(keys, lo) as u32;
         for pair in listed {
-            let (key, _) = log.pair_numbers(*pair);
-            let write = if *pair <= log.write_count() { *pair } else { 0 };
+            let (key, write) = log.pair_numbers(*pair);
             if let Some(number) = ix.written_number(key) {
                 self.pass(ix, next, number, place);
                 self.put(log, ix, txn, place, number, write);

@@ -2,7 +2,6 @@ pub mod AsOf
 pub mod Committing
 pub mod Covered
 pub mod CutPairs
-pub mod FewWrites
 pub mod Gaining
 pub mod KeyLemmas
 pub mod KeyNumbers

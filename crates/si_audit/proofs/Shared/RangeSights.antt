@@ -1,10 +1,10 @@
 -- A range read covers the written keys from one number to before another, and what it listed of them.
-use Rattle.std.proofs.Common.{◌≡◌, ◌⊎◌, inl, inr, ℕ, zero, suc, ◌-◌, ◌<◌, ◌≤◌, List, Some, None, true, false, length, map, refl, ap, sym, subst, ◌∙◌, arith}
+use Rattle.std.proofs.Common.{◌≡◌, inl, inr, ℕ, ◌-◌, ◌<◌, ◌≤◌, List, Some, None, true, false, length, map, refl, sym, ◌∙◌, arith}
 use Rattle.std.specs.Prelude.{◌↔◌, All}
 use Rattle.std.proofs.lemmas.Bool.{cases_lt, false≢true}
 use Rattle.sia_events.specs.declared.event.Event.{Event}
 use Rattle.sia_events.specs.declared.event.Event.TheVariants.{Range}
-use Rattle.sia_events.specs.Numbering.{Names, names_of, key_at, pair_at, version_at, write_at, writes_of, AscendByKey, IsPair}
+use Rattle.sia_events.specs.Numbering.{names_of, pair_at, AscendByKey, IsPair}
 use Rattle.sia_events.specs.Places.{at_place}
 use Rattle.sia_events.specs.Reads.{SawAt}
 use Rattle.sia_events.specs.Refusals.{IsWellFormed}
@@ -15,7 +15,6 @@ use Rattle.sia_index.specs.Info.{AreWrittenKeys, IsKeyAt}
 use Rattle.sia_index.proofs.Sorting.Points.{PointBelow, PointWithin, point_above, point_below, point_within}
 use Rattle.sia_parts.specs.Seeing.{IsCover}
 use Rattle.sia_parts.proofs.Auditing.Covered.{HasCovered}
-use Rattle.sia_parts.proofs.Auditing.FewWrites.{key_pair, write_above, write_pair}
 use Rattle.sia_parts.proofs.Auditing.KeyNumbers.{IsEnd, numbers_each}
 use Rattle.sia_parts.proofs.Auditing.Passing.{has_number}
 use Rattle.sia_parts.proofs.Auditing.RangeCovers.{all_from, key_unlisted, pair_inside, pair_saw, sight_inside}
@@ -83,26 +82,3 @@ range_reads h wf p t lo hi listed at =
       | inl here ↦ (here.0, (Range t lo hi listed, at, refl, (omega arith, up, inl here.1)))
       | inr none ↦ (0, (Range t lo hi listed, at, refl, (omega arith, up, inr (none, refl))))
     ]
-
--- the write of a listed pair is of its key, and made its version
-pub pair_write : (h : List Event) → IsWellFormed h → (p : ℕ) → IsPair (names_of h) p → (k w : ℕ) → pair_at (names_of h) p ≡ (key_at (names_of h) k, version_at (names_of h) w) → (write : ℕ) → ((p ≤ length (writes_of h)) × (write ≡ p)) ⊎ ((length (writes_of h) < p) × (write ≡ 0))
-    → (write ≤ length (writes_of h)) × (0 < write → (write_at (names_of h) (write - 1)).0 ≡ key_at (names_of h) k) × (version_at (names_of h) write ≡ (pair_at (names_of h) p).1)
-pair_write h wf p pair k w is write told = elim told [
-  | inl low ↦
-      let at = write_pair h wf p pair low.0 in
-      let back = sym low.1 in (
-        (let most = low.0 in let same = low.1 in omega arith),
-        (λ some. subst (λ x. (write_at (names_of h) (x - 1)).0 ≡ key_at (names_of h) k) back (ap (λ (q : ℕ × ℕ). q.0) at ∙ ap (λ (q : ℕ × ℕ). q.0) is)),
-        subst (λ x. version_at (names_of h) x ≡ (pair_at (names_of h) p).1) back (version_made (names_of h) p (write_above h wf p pair low.0) ∙ ap (λ (q : ℕ × ℕ). q.1) at),
-      )
-  | inr high ↦
-      let zero = high.1 in (
-        (omega arith),
-        (λ some. absurd (omega arith)),
-        subst (λ x. version_at (names_of h) x ≡ (pair_at (names_of h) p).1) (sym zero) (ap (λ (q : ℕ × ℕ). q.1) (key_pair h wf p pair high.0 k w is)),
-      )
-]
-  where
-    version_made : (names : Names) (n : ℕ) → 0 < n → version_at names n ≡ (write_at names (n - 1)).1
-    version_made names zero some = absurd (omega arith)
-    version_made names (suc n) some = let same : n ≡ suc n - 1 = omega arith in ap (λ m. (write_at names m).1) same

@@ -1,7 +1,8 @@
 -- The keys between the listed ones were seen at version 0, and those at their versions.
-use Rattle.std.proofs.Common.{◌≡◌, ◌⊎◌, inl, inr, ℕ, ◌+◌, ◌<◌, ◌≤◌, List, length, get_or, refl, ap, sym, subst, arith}
+use Rattle.std.proofs.Common.{◌≡◌, inl, inr, ℕ, ◌+◌, ◌-◌, ◌<◌, ◌≤◌, List, get_or, refl, ap, sym, subst, arith}
 use Rattle.sia_events.specs.declared.event.Event.{Event}
-use Rattle.sia_events.specs.Numbering.{names_of, key_at, pair_at, range_at, version_at, writes_of}
+use Rattle.sia_events.specs.Numbering.{names_of, key_at, pair_at, range_at, version_at, write_at}
+use Rattle.sia_events.proofs.Shared.LogReads.{seen_write}
 use Rattle.sia_events.specs.Reads.{SawAt}
 use Rattle.sia_events.specs.Refusals.{IsWellFormed}
 use Rattle.sia_events.specs.Transactions.{HasEvent, Wrote}
@@ -13,10 +14,10 @@ use Rattle.sia_parts.proofs.Shared.FewNumbers.{few_keys, few_written}
 use Rattle.sia_parts.proofs.Shared.OneNumber.{one_key}
 use Rattle.si_audit.specs.Bounds.{Sees}
 use Rattle.si_audit.specs.declared.snapshots.Bounds.{Bounds}
-use Rattle.si_audit.proofs.Shared.RangeSights.{pair_write, range_seen}
+use Rattle.si_audit.proofs.Shared.RangeSights.{range_seen}
 use Rattle.si_audit.proofs.Shared.SightsSoFar.{sees_place, sees_then}
 use Rattle.si_audit.proofs.snapshots.Bounds.put_range.Goals as goal
-use Rattle.si_audit.proofs.snapshots.Bounds.put_range.Goals.{then-pair-write_count, else-pair-write_count, in-Some, in_default}
+use Rattle.si_audit.proofs.snapshots.Bounds.put_range.Goals.{in-Some, in_default}
 
 -- what a listed pair's key and write are, by the log's numbers
 at_pair : (g h : List Event) → g ≡ h → (number key p w : ℕ) → IsKeyAt g number (key_at (names_of g) key) → pair_at (names_of h) p ≡ (key_at (names_of h) key, version_at (names_of h) w) → IsKeyAt h number (pair_at (names_of h) p).0
@@ -55,17 +56,6 @@ pass-requires-clause-forward c =
     let at = at_pair c.args.ix.now h c.requires.index c.in-Some.number _ _ _ c.in-Some.ensures c.pair_numbers-key.ensures.pair in
     next_number h _ _ so.range.covers n c.loop-pair.next so.covered 0 c.loop-pair-test.true c.in-Some.number at
 
-pub put-requires-clause-write : goal.put-requires-clause-write
-put-requires-clause-write c =
-    let h = c.args.log.now in
-    let wf : IsWellFormed h = subst IsWellFormed c.requires.index c.law.ensures in
-    let q = get_or c.listed-listed.result.now c.loop-pair.pair-index 0 in
-    let told : ((q ≤ length (writes_of h)) × (c.if-pair-write_count.write ≡ q)) ⊎ ((length (writes_of h) < q) × (c.if-pair-write_count.write ≡ 0)) = elim c.if-pair-write_count.branch [
-      | then-pair-write_count w ↦ inl (subst (λ n. q ≤ n) c.write_count.ensures w.if-pair-write_count.true, w.write-is)
-      | else-pair-write_count w ↦ inr (subst (λ n. n < q) c.write_count.ensures w.if-pair-write_count.false, w.write-is)
-    ] in
-    (pair_write h wf q (c.listed-listed.ensures.within c.loop-pair.pair-index 0 c.loop-pair-test.true) _ _ c.pair_numbers-key.ensures.pair c.if-pair-write_count.write told).0
-
 pub loop-pair-preserved : goal.loop-pair-preserved
 loop-pair-preserved c =
     let h = c.args.log.now in
@@ -81,20 +71,16 @@ loop-pair-preserved c =
     let below = c.loop-pair-test.true in
     let key = c.pair_numbers-key.result.0 in
     let pair = c.pair_numbers-key.ensures.pair in
-    let write = c.if-pair-write_count.write in
+    let write = c.pair_numbers-key.result.1 in
     let named : (pair_at names q).0 ≡ key_at names key = ap (λ (x : ℕ × ℕ). x.0) pair in
     elim c.match-written_number.branch [
       | in-Some w ↦
           let i = w.in-Some.number in
           let at : IsKeyAt h i (pair_at names q).0 = at_pair c.args.ix.now h c.requires.index i key q _ w.in-Some.ensures pair in
-          let told : ((q ≤ length (writes_of h)) × (write ≡ q)) ⊎ ((length (writes_of h) < q) × (write ≡ 0)) = elim c.if-pair-write_count.branch [
-            | then-pair-write_count v ↦ inl (subst (λ m. q ≤ m) c.write_count.ensures v.if-pair-write_count.true, v.write-is)
-            | else-pair-write_count v ↦ inr (subst (λ m. m < q) c.write_count.ensures v.if-pair-write_count.false, v.write-is)
-          ] in
-          let made = pair_write h wf q (is.numbers n 0 below) key _ pair write told in
-          let saw : SawAt h p t (key_at names key) (version_at names write) = subst (λ v. SawAt h p t (key_at names key) v) (sym made.2) (subst (λ k. SawAt h p t k (pair_at names q).1) named (is.listed n 0 below)) in
+          let made : 0 < write → (write_at names (write - 1)).0 ≡ key_at names key = λ some. ap (λ (x : ℕ × ℕ). x.0) (seen_write names _ _ write some c.pair_numbers-key.ensures.seen) in
+          let saw : SawAt h p t (key_at names key) (version_at names write) = subst (λ (x : ℕ × ℕ). SawAt h p t x.0 x.1) pair (is.listed n 0 below) in
           let over = passed c.args.ix.now h c.requires.index t p next i c.loop-pair.self w.pass.new.self (p, (_, c.requires.event, refl)) (not_between h _ _ is n next so.covered 0 below i at) w.pass.ensures in
-          let all = sees_then h wf t p next p i p (i + 1) c.loop-pair.self w.pass.new.self w.put.new.self over (w.put.ensures (key_at names key) (subst (IsKeyAt h i) named at) made.1 saw) in
+          let all = sees_then h wf t p next p i p (i + 1) c.loop-pair.self w.pass.new.self w.put.new.self over (w.put.ensures (key_at names key) (subst (IsKeyAt h i) named at) made saw) in
           rw (w.next-is, w.self-is) (record { range = so.range; covered = covered_more h _ _ is n next so.covered 0 below i at; sees = sees_then h wf t p _ p next p (i + 1) c.args.self.now c.loop-pair.self w.put.new.self so.sees all })
       | in_default w ↦
           let none : (u : ℕ) → ¬ Wrote h u (pair_at names q).0 = subst (λ k. (u : ℕ) → ¬ Wrote h u k) (sym named) (subst (λ g. (u : ℕ) → ¬ Wrote g u (key_at (names_of g) key)) c.requires.index w.in_default.ensures) in
