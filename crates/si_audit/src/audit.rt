@@ -19,12 +19,7 @@ use std::sync::Wait;
 use std::thread::Threads;
 
 /// The parts that the options name, or where they name no cut, even ones for several workers.
-pub(crate) fn parts_for(
-    alloc: Global,
-    log: &Log,
-    o: &Options,
-    workers: u8,
-) -> Result<Vec<Part>, NoMemory>
+fn parts_for(alloc: Global, log: &Log, o: &Options, workers: u8) -> Result<Vec<Part>, NoMemory>
     ensures cutting { IfOk result (λ parts. (points : List ℕ) × IsCutting points parts.items) }
     ensures few { IfOk result (λ parts. length parts.items ≤ 1024) }
 {
@@ -35,7 +30,7 @@ pub(crate) fn parts_for(
 }
 
 /// Judges the history of a log by its index and by a crew. Beside the judgement stands what its edges are made from.
-pub(crate) fn judged<C: Crew>(
+fn judged<C: Crew>(
     crew: &C,
     alloc: Global,
     log: &Log,
@@ -65,6 +60,23 @@ pub(crate) fn judged<C: Crew>(
         return Err(NoMemory);
     };
     judge(alloc, log, ix, Gathering::of(alloc, ix, parts)?)
+}
+
+/// The same in the parts that the options name, or in even ones.
+pub(crate) fn judged_in_parts<C: Crew>(
+    crew: &C,
+    alloc: Global,
+    log: &Log,
+    ix: &Index,
+    o: &Options,
+) -> Result<(Judgement, Accesses), NoMemory>
+    requires ready { C.ready crew.now }
+    requires index { ix.now ≡ log.now }
+    ensures exact { IfOk result (λ (j, accesses). IsJudgement log.now j) }
+    ensures accesses { IfOk result (λ (j, accesses). AreAccesses ix.now (λ _. ⊤) accesses) }
+{
+    let parts = parts_for(alloc, log, o, crew.workers())?;
+    judged(crew, alloc, log, ix, &parts)
 }
 
 /// Audits a history by workers, and waits for them. What it answers depends on the history alone.

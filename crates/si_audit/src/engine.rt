@@ -17,7 +17,7 @@ ghost use Rattle.sia_graph.specs.Judgements.{IsJudgement};
 ghost use Rattle.sia_parts.specs.Accesses.{AreAccesses};
 
 use crate::answer::{Answer, Found, Report};
-use crate::audit::{judged, parts_for};
+use crate::audit::judged_in_parts;
 use crate::crew::{Alone, Crew, InThreads};
 use crate::edge_lines::EdgeLines;
 use crate::explain::{explained, push_place};
@@ -203,21 +203,54 @@ fn report_of_log<C: Crew>(
     ensures outcome { IfOk result (λ a. IsOutcomeOf o.now.level log a.outcome) }
 {
     let index = index_log(alloc, &log)?;
-    let parts = parts_for(alloc, &log, o, crew.workers())?;
-    let (judgement, accesses) = judged(crew, alloc, &log, &index, &parts)?;
-    let meets = match meets(&judgement, o.level()) {
+    let (judgement, accesses) = judged_in_parts(crew, alloc, &log, &index, o)?;
+    let outcome = outcome_of(alloc, &log, &index, &judgement, o.level())?;
+    report_in(alloc, o.form(), outcome, log, index, &judgement, accesses)
+}
+
+/// How the run of a history ends at the level.
+fn outcome_of(
+    alloc: Global,
+    log: &Log,
+    ix: &Index,
+    j: &Judgement,
+    level: Level,
+) -> Result<Outcome, NoMemory>
+    requires index { ix.now ≡ log.now }
+    requires judgement { IsJudgement log.now j.now }
+    ensures { IfOk result (IsOutcomeOf level log.now) }
+{
+    let meets = match meets(j, level) {
         Some(meets) => meets,
-        None => is_generalized(alloc, &log, &index, &judgement)?,
+        None => is_generalized(alloc, log, ix, j)?,
     };
-    let outcome = outcome_where(meets);
-    match o.form() {
+    Ok(outcome_where(meets))
+}
+
+/// The report of a judgement in one form.
+fn report_in(
+    alloc: Global,
+    form: Form,
+    outcome: Outcome,
+    log: Log,
+    index: Index,
+    j: &Judgement,
+    accesses: Accesses,
+) -> Result<Answer, NoMemory>
+    requires index { index ≡ log }
+    requires judgement { IsJudgement log j.now }
+    requires accesses { AreAccesses index (λ _. ⊤) accesses }
+    ensures report { IfOk result (λ a. (bytes : List ℕ) × IsReportOf form log bytes × HasText a bytes) }
+    ensures outcome { IfOk result (λ a. a.outcome ≡ outcome) }
+{
+    match form {
         Form::Full => {
             drop(log);
-            in_full(alloc, outcome, &judgement, index, accesses)
+            in_full(alloc, outcome, j, index, accesses)
         }
-        Form::Brief => in_brief(alloc, outcome, &judgement, &log),
+        Form::Brief => in_brief(alloc, outcome, j, &log),
         Form::Explained => {
-            let sheet = explained(alloc, &log, &index, &judgement, &accesses)?;
+            let sheet = explained(alloc, &log, &index, j, &accesses)?;
             Ok(one_sheet(alloc, outcome, sheet))
         }
     }

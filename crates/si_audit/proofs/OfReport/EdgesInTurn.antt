@@ -1,32 +1,26 @@
 -- The lines of all edges are those of each source in turn, and those of a source are what its rows tell.
-use Rattle.std.proofs.Common.{◌≡◌, inl, inr, Bool, true, false, ℕ, zero, suc, ◌+◌, ◌<◌, List, [], ◌∷◌, ◌++◌, flat_map, length, map, refl, ap, sym, subst, ◌∙◌, arith, append_assoc}
-use Rattle.std.specs.Prelude.{All, Contains, codes, filter, slice_index, slice_index_or, ⊤}
-use Rattle.std.specs.List.{concat}
+use Rattle.std.proofs.Common.{◌≡◌, inl, inr, Bool, true, ℕ, zero, suc, ◌+◌, ◌<◌, List, [], ◌∷◌, ◌++◌, flat_map, length, refl, ap, sym, subst, ◌∙◌, arith}
+use Rattle.std.specs.Prelude.{Contains, filter, slice_index, ⊤}
 use Rattle.std.proofs.Math.Dec.{ltb}
-use Rattle.std.proofs.lemmas.Bool.{cases_lt, lt-ltb, ltb-false, ltb-true}
+use Rattle.std.proofs.lemmas.Bool.{cases_lt, lt-ltb, ltb-true}
 use Rattle.std.proofs.lemmas.Grind.{flat_map-append}
-use Rattle.std.proofs.lemmas.List.{get_or-map, get_or_default}
+use Rattle.std.proofs.lemmas.List.{get_or_default}
 use Rattle.std.proofs.lemmas.List.Elements.{All-contains, All-contains_itself, All-filter, filter_passes}
-use Rattle.std.proofs.lemmas.List.Folds.{flat_map-map}
 use Rattle.std.proofs.lemmas.List.Kept.{AllPairs-filter}
 use Rattle.sia_events.specs.declared.event.Event.{Event}
 use Rattle.sia_events.specs.Lists.{ListsAscending, ListsBy, Precedes}
-use Rattle.sia_events.specs.Text.{numeral}
 use Rattle.sia_events.specs.Transactions.{IsCommitted}
 use Rattle.sia_events.proofs.Worked.OneList.{one_list_by}
-use Rattle.sia_index.specs.Info.{AreWrittenKeys}
 use Rattle.sia_index.proofs.Shared.Ordered.{ascends}
 use Rattle.sia_index.proofs.VersionRows.StableDeal.{filter_has}
-use Rattle.sia_parts.specs.declared.edges.EdgeTo.{EdgeTo}
 use Rattle.sia_parts.specs.declared.finding.Edge.{Edge}
-use Rattle.sia_parts.specs.declared.finding.Kind.{Kind}
-use Rattle.sia_parts.specs.EdgeRows.{AreEdgesFrom, edge_of, IsEdgeBetween, ListsEdgesBetween}
+use Rattle.sia_parts.specs.EdgeRows.{IsEdgeBetween, ListsEdgesBetween}
 use Rattle.sia_parts.specs.Entries.{edge_rank}
 use Rattle.sia_parts.specs.Findings.{ListsEdges}
 use Rattle.sia_parts.proofs.Auditing.Committing.{committed_number}
 use Rattle.sia_parts.proofs.EdgeRows.EdgeLists.{edges_joined, edges_none}
 use Rattle.si_audit.specs.EdgeLines.{AreLinesFrom}
-use Rattle.si_audit.specs.Giving.{AreTexts, IsTextOf}
+use Rattle.si_audit.specs.Giving.{IsTextOf}
 use Rattle.si_audit.specs.Lines.{edge_line}
 use Rattle.si_audit.proofs.OfLaws.VerdictExists.{kind_joins}
 

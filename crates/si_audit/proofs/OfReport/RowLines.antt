@@ -1,6 +1,6 @@
 -- The words of a row are the line of its edge.
-use Rattle.std.proofs.Common.{◌≡◌, ℕ, ◌+◌, ◌<◌, ◌≤◌, ◌^◌, List, [], ◌∷◌, ◌++◌, drop, flat_map, get_or, length, map, codes, refl, ap, sym, subst, ◌∙◌, append_assoc}
-use Rattle.std.specs.Prelude.{All, Contains, slice_index, slice_index_or, ⊤}
+use Rattle.std.proofs.Common.{◌≡◌, ℕ, ◌+◌, ◌<◌, ◌≤◌, ◌^◌, List, [], ◌∷◌, ◌++◌, drop, flat_map, get_or, length, map, codes, ap, sym, subst, ◌∙◌, append_assoc}
+use Rattle.std.specs.Prelude.{Contains, slice_index, slice_index_or, ⊤}
 use Rattle.std.proofs.lemmas.Fmt.{length-decimal-le}
 use Rattle.std.proofs.lemmas.List.{at_drop_more, get_or-map}
 use Rattle.std.proofs.lemmas.List.Elements.{All-contains_itself}

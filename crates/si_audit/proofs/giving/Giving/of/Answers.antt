@@ -1,5 +1,5 @@
 -- Nothing is on the sheet, and there are no rows.
-use Rattle.std.proofs.Common.{◌≡◌, ◌++◌, List, ℕ, [], sym, ◌∙◌, ap, subst, refl, arith}
+use Rattle.std.proofs.Common.{◌≡◌, ◌++◌, [], sym, subst, arith}
 use Rattle.si_audit.specs.Giving.{IsTextOf}
 use Rattle.si_audit.proofs.OfReport.TextsInTurn.{all_given}
 use Rattle.si_audit.proofs.giving.Giving.of.Goals as goal

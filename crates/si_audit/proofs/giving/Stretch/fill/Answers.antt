@@ -1,5 +1,5 @@
 -- Each step puts rows on the sheet, or takes the next transaction.
-use Rattle.std.proofs.Common.{rules, ◌≡◌, inl, inr, ◌+◌, ◌++◌, ◌<◌, ◌≤◌, ◌-◌, ◌*◌, ℕ, List, [], length, refl, ap, sym, subst, ◌∙◌, arith}
+use Rattle.std.proofs.Common.{rules, ◌≡◌, inl, ◌+◌, ◌++◌, ◌<◌, ◌≤◌, ◌-◌, ◌*◌, [], length, subst, ◌∙◌, arith}
 use Rattle.std.specs.Prelude.{vec_capacity}
 use Rattle.std.proofs.lemmas.List.{length-take-le}
 use Rattle.si_audit.specs.Giving.{rows_left}
