@@ -32,14 +32,19 @@ pub record AreNumbers (K : ℕ → Type 0) (names listed : List ℕ) (numbers : 
   pub few : length listed ≤ length names
   pub each : (q : ℕ) → q < length names → MatchOption (slice_index_or numbers q None) (¬ K (slice_index names q)) (λ i. (i < length listed) × (slice_index listed i ≡ slice_index names q))
 
--- what is known of each of these transactions stands at its own place
-pub record AreInfos (h : List Event) (ids : List ℕ) (infos : List TxnInfo) : Type 0 where
-  pub count : length infos ≡ length ids
-  pub right : (i : ℕ) (d : TxnInfo) → i < length ids → IsInfo h (slice_index ids i) (slice_index_or infos i d)
+-- what is known of each transaction stands at its number in the log
+pub record AreInfos (h : List Event) (infos : List TxnInfo) : Type 0 where
+  pub count : length infos ≡ length (txns_of h)
+  pub right : (i : ℕ) (d : TxnInfo) → i < length (txns_of h) → IsInfo h (slice_index (txns_of h) i) (slice_index_or infos i d)
+
+-- the number in a log of each of the listed names stands at its place
+abbrev pub AreNumbersOf : List ℕ → List ℕ → List ℕ → Type 0
+AreNumbersOf names listed order = (length order ≡ length listed) × ((i d : ℕ) → i < length listed → slice_get names (slice_index_or order i d) ≡ Some (slice_index listed i))
 
 pub record AreTxns (h : List Event) (t : Txns) : Type 0 where
   pub all : AreNumbers (HasEvent h) (txns_of h) t.ids.items t.numbers.items
-  pub infos : AreInfos h t.ids.items t.infos.items
+  pub order : AreNumbersOf (txns_of h) t.ids.items t.order.items
+  pub infos : AreInfos h t.infos.items
   pub committed : AreNumbers (IsCommitted h) (txns_of h) t.committed.items t.committed_numbers.items
   pub lifetimes : AreLifetimes h t.committed.items t.lifetimes.items
 
@@ -63,10 +68,10 @@ pub record AreVersionTables (h : List Event) (committed keys : List ℕ) (v : Ve
   pub first_commits_are : IsColumn (commit_behind v.made.items) v.firsts.items (length v.firsts.items) v.first_commits.items
   pub minima_are : AreMinima (λ place. place) v.first_commits.items v.minima.items
 
--- the writes of each transaction by its number, and the least places of all
-pub record AreWriteTables (h : List Event) (ids : List ℕ) (w : Writes) : Type 0 where
-  pub count : length w.by_txn ≡ length ids
-  pub each : (i : ℕ) → i < length ids → AreWritesOf h (slice_index ids i) i (slice_index_or w.by_txn i [])
+-- the writes of each transaction by its number in the log, and the least places of all
+pub record AreWriteTables (h : List Event) (w : Writes) : Type 0 where
+  pub count : length w.by_txn ≡ length (txns_of h)
+  pub each : (i : ℕ) → i < length (txns_of h) → AreWritesOf h (slice_index (txns_of h) i) i (slice_index_or w.by_txn i [])
   pub minima_are : AreMinima (λ row. row.place) (joined w.by_txn) w.minima.items
 
 pub record AreTables (h : List Event) (t : Txns) (k : Keys) (v : Versions) (w : Writes) : Type 0 where
@@ -74,4 +79,4 @@ pub record AreTables (h : List Event) (t : Txns) (k : Keys) (v : Versions) (w : 
   pub txns_are : AreTxns h t
   pub keys_are : AreKeys h k
   pub versions_are : AreVersionTables h t.committed.items k.keys.items v
-  pub writes_are : AreWriteTables h t.ids.items w
+  pub writes_are : AreWriteTables h w

@@ -1,5 +1,5 @@
 //! An index of a history, and what it answers.
-ghost use Rattle.std.specs.Prelude.{◌≡◌, ◌<◌, ℕ, MatchOption, ◌↔◌, IsTrue, List, Some, length, All};
+ghost use Rattle.std.specs.Prelude.{◌≡◌, ◌<◌, ℕ, MatchOption, ◌↔◌, IsTrue, List, Some, length, All, slice_get};
 ghost use Rattle.sia_events.specs.declared.event.Event.{Event};
 ghost use Rattle.sia_events.specs.Lists.{ListsAscending};
 ghost use Rattle.sia_events.specs.Numbering.{names_of, txns_of, txn_at};
@@ -78,7 +78,7 @@ impl Index {
         requires { HasTxnAt self.now i }
         ensures { (t : ℕ) → IsTxnAt self.now i t → IsInfo self.now t result }
     {
-        self.txns.infos[i]
+        self.txns.infos[self.txns.order[i] as usize]
     }
 
     /// What is known of a transaction.
@@ -185,7 +185,7 @@ impl Index {
         requires { IsTxnAt self.now i t }
         ensures { MatchOption result (¬ Wrote self.now t k) (IsFirstWrite self.now t k) }
     {
-        let own = self.writes.by_txn.at(i);
+        let own = self.writes.by_txn.at(self.txns.order[i] as usize);
         let row = own.get(place_from::<WriteRow, ByKey>(own, k))?;
         if row.key != k {
             return None;
@@ -201,7 +201,8 @@ impl Index {
         ensures { IsReader self.now t place result }
     {
         let _ = &self.of;
-        self.reader_of(t, self.txn_number(t).unwrap_or(0), place)
+        let number = self.txn_number(t).unwrap_or(0);
+        self.reader_of(t, number, self.txns.order[number], place)
     }
 
     /// The same of the log's transaction: no search is needed.
@@ -210,20 +211,21 @@ impl Index {
         ensures { IsReader self.now (txn_at (names_of self.now) txn) place result }
     {
         let number = self.txns.numbers[txn as usize].unwrap_or(0) as usize;
-        self.reader_of(self.txns.ids[number], number, place)
+        self.reader_of(self.txns.ids[number], number, txn, place)
     }
 
-    /// The same of transaction number `i`.
-    fn reader_of(&self, t: TxnId, number: usize, place: u32) -> Reader
-        requires { IsTxnAt self.now number t }
+    /// The same of a transaction by its number among all of them and by that in the log.
+    fn reader_of(&self, t: TxnId, number: usize, txn: u32, place: u32) -> Reader
+        requires number { IsTxnAt self.now number t }
+        requires txn { slice_get (txns_of self.now) txn ≡ Some t }
         ensures { IsReader self.now t place result }
     {
         Reader {
             txn: t,
             number,
             place,
-            start: self.txn_at(number).start,
-            has_written: !self.writes.by_txn.at(number).is_empty(),
+            start: self.txns.infos[txn as usize].start,
+            has_written: !self.writes.by_txn.at(txn as usize).is_empty(),
         }
     }
 
@@ -266,7 +268,8 @@ impl Index {
             return None;
         }
         let rows = self.writes.by_txn.rows();
-        let (from, to) = self.writes.by_txn.span(reader.number);
+        let txn = self.txns.order[reader.number];
+        let (from, to) = self.writes.by_txn.span(txn as usize);
         let first = from + place_from::<WriteRow, ByKey>(&rows[from..to], lo);
         let last = from + place_above::<WriteRow, ByKey>(&rows[from..to], hi);
         let place = u64::from(reader.place);

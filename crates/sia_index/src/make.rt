@@ -21,10 +21,10 @@ pub fn index_log(alloc: Global, log: &Log) -> Result<Index, NoMemory>
     ensures { IfOk result (λ ix. ix ≡ log.now) }
 {
     log.law();
+    let writes = writes_of(alloc, log)?;
     let txns = txns_of(alloc, log)?;
     let keys = keys_of(alloc, log)?;
     let versions = versions_of(alloc, log, &txns, &keys)?;
-    let writes = writes_of(alloc, log, &txns)?;
     Ok(Index {
         of: Snapshot::of(log),
         txns,

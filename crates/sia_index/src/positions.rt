@@ -76,10 +76,11 @@ impl Index {
         ensures { (v : KeyVersion) → IsAtPosition self.now position v
             → MatchOption result (v.commit ≡ 0) (λ i. (0 < v.commit) × IsCommittedAt self.now i v.txn) }
     {
-        if self.commit_at(position) == 0 {
+        let row = self.versions.rows.rows()[position as usize];
+        if row.commit == 0 {
             return None;
         }
-        Some(self.versions.rows.rows()[position as usize].maker)
+        Some(row.maker)
     }
 
     /// When the version behind the position was committed: 0 where that is another key's version 0, or there is none.

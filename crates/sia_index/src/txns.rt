@@ -1,7 +1,6 @@
 //! The tables of transactions and of write events.
-ghost use Rattle.std.specs.Prelude.{◌≡◌, Some, All, IfOk, slice_get};
-ghost use Rattle.sia_events.specs.Numbering.{txns_of};
-ghost use Rattle.sia_index.specs.Rows.{AreNamesOf};
+ghost use Rattle.std.specs.Prelude.{IfOk, length};
+ghost use Rattle.sia_index.specs.Rows.{AreNamesOf, IsColumn};
 ghost use Rattle.sia_index.specs.Tables.{AreInfos, AreTxns, AreWriteTables};
 
 use crate::info::{Fate, Lifetime, TxnInfo};
@@ -13,13 +12,15 @@ use crate::ordering::Sorter;
 use sia_events::{Key, Log, Row, TxnEnd, TxnId};
 use std::alloc::{AllocError, Global};
 
-/// Every transaction once, ascending, and every committed one, and beside each what is known of it. The tables of numbers
-/// have for each number in the log the place of the transaction among these.
+/// Every transaction once, ascending, and every committed one, with its lifetime beside it. The tables of numbers have for each
+/// number in the log the place of the transaction among these, and `order` has for each place among all the number there.
 #[derive(Drop)]
 pub struct Txns {
     pub ids: Vec<TxnId>,
-    pub infos: Vec<TxnInfo>,
+    pub order: Vec<u32>,
     pub numbers: Vec<Option<u32>>,
+    /// By the log's numbers.
+    pub infos: Vec<TxnInfo>,
     pub committed: Vec<TxnId>,
     pub lifetimes: Vec<Lifetime>,
     pub committed_numbers: Vec<Option<u32>>,
@@ -30,6 +31,7 @@ pub fn txns_of(alloc: Global, log: &Log) -> Result<Txns, AllocError>
     ensures { IfOk result (λ txns. AreTxns log.now txns) }
 {
     log.law();
+    let infos = infos_of(alloc, log)?;
     let count = log.txn_count();
     let mut rows = Vec::with_capacity(alloc, count as usize)?;
     for number in 0..count {
@@ -38,7 +40,7 @@ pub fn txns_of(alloc: Global, log: &Log) -> Result<Txns, AllocError>
     }
     // Mostly the numbers are in the order of the names.
     Sorter::with_capacity(alloc, rows.len())?.sort::<ByName>(&mut rows);
-    let (ids, infos) = infos_of(alloc, log, &rows)?;
+    let (ids, order) = columns_of(alloc, &rows)?;
     let numbers = places_of(alloc, count, &rows)?;
     let mut ended = Vec::with_capacity(alloc, rows.len())?;
     let mut committed = Vec::with_capacity(alloc, rows.len())?;
@@ -55,41 +57,48 @@ pub fn txns_of(alloc: Global, log: &Log) -> Result<Txns, AllocError>
     let committed_numbers = places_of(alloc, count, &ended)?;
     Ok(Txns {
         ids,
-        infos,
+        order,
         numbers,
+        infos,
         committed,
         lifetimes,
         committed_numbers,
     })
 }
 
-/// The transactions of the rows, and beside each what is known of it.
-fn infos_of(
-    alloc: Global,
-    log: &Log,
-    rows: &[Numbered<TxnId>],
-) -> Result<(Vec<TxnId>, Vec<TxnInfo>), AllocError>
-    requires { All (λ row. slice_get (txns_of log.now) row.number ≡ Some row.name) rows.now }
+/// The names of the rows, and beside each its number.
+fn columns_of(alloc: Global, rows: &[Numbered<TxnId>]) -> Result<(Vec<TxnId>, Vec<u32>), AllocError>
     ensures names { IfOk result (λ r. AreNamesOf rows.now r.0.items) }
-    ensures infos { IfOk result (λ r. AreInfos log.now r.0.items r.1.items) }
+    ensures numbers { IfOk result (λ r. IsColumn (λ row. row.number) rows.now (length rows.now) r.1.items) }
 {
-    let mut ids = Vec::with_capacity(alloc, rows.len())?;
-    let mut infos = Vec::with_capacity(alloc, rows.len())?;
+    let mut names = Vec::with_capacity(alloc, rows.len())?;
+    let mut numbers = Vec::with_capacity(alloc, rows.len())?;
     for row in rows {
-        let txn = log.txn(row.number);
+        names.push(row.name)?;
+        numbers.push(row.number)?;
+    }
+    Ok((names, numbers))
+}
+
+/// What is known of each transaction, by its number.
+fn infos_of(alloc: Global, log: &Log) -> Result<Vec<TxnInfo>, AllocError>
+    ensures { IfOk result (λ infos. AreInfos log.now infos.items) }
+{
+    let mut infos = Vec::with_capacity(alloc, log.txn_count() as usize)?;
+    for number in 0..log.txn_count() {
+        let txn = log.txn(number);
         let (ended, fate) = match txn.end {
             TxnEnd::Open => (None, Fate::Unfinished),
             TxnEnd::Committed(place) => (Some(place), Fate::Committed),
             TxnEnd::Aborted(place) => (Some(place), Fate::Aborted),
         };
-        ids.push(txn.name)?;
         let start = txn.start;
         infos.push(TxnInfo { start, ended, fate })?;
     }
-    Ok((ids, infos))
+    Ok(infos)
 }
 
-/// A write event: its key, its place, and the number of its transaction among all of them.
+/// A write event: its key, its place, and the number of its transaction in the log.
 #[derive(Clone, Copy, PartialEq, Eq, PartialOrd, Ord)]
 pub struct WriteRow {
     pub key: Key,
@@ -128,10 +137,9 @@ pub struct Writes {
     pub minima: Vec<u64>,
 }
 
-/// The writes of the log, whose transactions are these.
-pub fn writes_of(alloc: Global, log: &Log, txns: &Txns) -> Result<Writes, AllocError>
-    requires { AreTxns log.now txns.now }
-    ensures { IfOk result (λ writes. AreWriteTables log.now txns.now.ids.items writes) }
+/// The writes of the log.
+pub fn writes_of(alloc: Global, log: &Log) -> Result<Writes, AllocError>
+    ensures { IfOk result (AreWriteTables log.now) }
 {
     let mut rows = Vec::with_capacity(alloc, log.len() as usize)?;
     for before in 0..log.len() {
@@ -140,10 +148,9 @@ pub fn writes_of(alloc: Global, log: &Log, txns: &Txns) -> Result<Writes, AllocE
             continue
         };
         let key = log.key(key);
-        let txn = txns.numbers[txn as usize].unwrap_or(0);
         rows.push(WriteRow { key, place, txn })?;
     }
-    let mut by_txn = Lists::deal::<ByTxn>(alloc, txns.ids.len(), &rows)?;
+    let mut by_txn = Lists::deal::<ByTxn>(alloc, log.txn_count() as usize, &rows)?;
     by_txn.sort();
     let minima = minima_of::<WriteRow, ByPlace>(alloc, by_txn.rows())?;
     Ok(Writes { by_txn, minima })

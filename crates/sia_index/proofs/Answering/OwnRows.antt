@@ -1,19 +1,22 @@
 -- The rows of one transaction's writes, and what stands among them.
-use Rattle.std.proofs.Common.{◌≡◌, ◌≢◌, ℕ, ◌+◌, ◌-◌, ◌<◌, ◌≤◌, List, [], length, Some, None, inl, inr, ap, sym, subst, refl, ◌∙◌, arith}
+use Rattle.std.proofs.Common.{slice_get, ◌≡◌, ◌≢◌, ℕ, ◌+◌, ◌-◌, ◌<◌, ◌≤◌, List, [], length, Some, None, inl, inr, ap, sym, subst, refl, ◌∙◌, arith}
 use Rattle.std.specs.List.{AllWithin}
 use Rattle.std.specs.Prelude.{slice_index_or, slice_range}
 use Rattle.std.proofs.lemmas.Bool.{cases_lt}
 use Rattle.std.proofs.lemmas.List.{get_or_default}
 use Rattle.std.proofs.lemmas.List.Edits.{length-between, get_or-between}
 use Rattle.std.proofs.lemmas.List.Elements.{Contains-get_or}
+use Rattle.std.proofs.lemmas.Option.{get_or_from_slice_get, slice_get_within}
 use Rattle.sia_events.specs.declared.event.Event.{Event}
+use Rattle.sia_events.specs.Numbering.{txns_of}
 use Rattle.sia_events.specs.Transactions.{WritesAt, Wrote, WroteBefore}
 use Rattle.sia_index.specs.declared.names.Keys.{Keys}
 use Rattle.sia_index.specs.declared.txns.Txns.{Txns}
 use Rattle.sia_index.specs.declared.txns.WriteRow.{WriteRow}
 use Rattle.sia_index.specs.declared.txns.Writes.{Writes}
 use Rattle.sia_index.specs.declared.versions.Versions.{Versions}
-use Rattle.sia_index.specs.Info.{IsFirstWrite}
+use Rattle.sia_index.specs.declared.info.TxnInfo.{TxnInfo}
+use Rattle.sia_index.specs.Info.{IsFirstWrite, IsInfo}
 use Rattle.sia_index.specs.Minima.{IsNextBelow}
 use Rattle.sia_index.specs.Numbers.{IsTxnAt}
 use Rattle.sia_index.specs.Rows.{AreWritesOf, PassesNone}
@@ -21,12 +24,28 @@ use Rattle.sia_index.specs.Tables.{AreTables}
 use Rattle.sia_index.proofs.Shared.NumberedNames.{its_number}
 use Rattle.sia_index.proofs.Sorting.Points.{PointBelow, PointWithin, point_below, point_from, point_within, point_above}
 
--- list number i has the writes of transaction number i
-pub own_rows : (g h : List Event) → g ≡ h → (txns : Txns) (keys : Keys) (versions : Versions) (writes : Writes) → AreTables g txns keys versions writes → (i t : ℕ) → IsTxnAt h i t → (i < length writes.by_txn) × AreWritesOf h t i (slice_index_or writes.by_txn i [])
-own_rows g h same txns keys versions writes are i t at =
+-- the number in the log of transaction number i among all
+pub its_order : (g h : List Event) → g ≡ h → (txns : Txns) (keys : Keys) (versions : Versions) (writes : Writes) → AreTables g txns keys versions writes → (i t : ℕ) → IsTxnAt h i t → (i < length txns.order.items) × ((n : ℕ) → n ≡ slice_index_or txns.order.items i n → slice_get (txns_of h) n ≡ Some t)
+its_order g h same txns keys versions writes are i t at =
     let all = subst (λ h. AreTables h txns keys versions writes) same are in
     let number = its_number _ _ all.txns_are.all.listed_are i t at in
-    (omega (arith, all.writes_are.count, number.0), subst (λ u. AreWritesOf h u i (slice_index_or writes.by_txn i [])) number.1 (all.writes_are.each i number.0))
+    let order = all.txns_are.order in
+    (omega (arith, order.0, number.0), λ n is. subst (λ m. slice_get (txns_of h) m ≡ Some t) (sym is) (subst (λ u. slice_get (txns_of h) (slice_index_or txns.order.items i n) ≡ Some u) number.1 (order.1 i n number.0)))
+
+-- what is known of the log's transaction number n
+pub own_info : (g h : List Event) → g ≡ h → (txns : Txns) (keys : Keys) (versions : Versions) (writes : Writes) → AreTables g txns keys versions writes → (n t : ℕ) → slice_get (txns_of h) n ≡ Some t → (n < length txns.infos.items) × ((info : TxnInfo) → info ≡ slice_index_or txns.infos.items n info → IsInfo h t info)
+own_info g h same txns keys versions writes are n t at =
+    let all = subst (λ h. AreTables h txns keys versions writes) same are in
+    let within = slice_get_within (txns_of h) n t at in
+    let infos = all.txns_are.infos in
+    (omega (arith, infos.count), λ info is. subst (IsInfo h t) (sym is) (subst (λ u. IsInfo h u (slice_index_or txns.infos.items n info)) (get_or_from_slice_get (txns_of h) n t 0 at) (infos.right n info within)))
+
+-- list number n has the writes of the log's transaction number n
+pub own_rows : (g h : List Event) → g ≡ h → (txns : Txns) (keys : Keys) (versions : Versions) (writes : Writes) → AreTables g txns keys versions writes → (n t : ℕ) → slice_get (txns_of h) n ≡ Some t → (n < length writes.by_txn) × AreWritesOf h t n (slice_index_or writes.by_txn n [])
+own_rows g h same txns keys versions writes are n t at =
+    let all = subst (λ h. AreTables h txns keys versions writes) same are in
+    let within = slice_get_within (txns_of h) n t at in
+    (omega (arith, all.writes_are.count), subst (λ u. AreWritesOf h u n (slice_index_or writes.by_txn n [])) (get_or_from_slice_get (txns_of h) n t 0 at) (all.writes_are.each n within))
 
 module _ (h : List Event) (t n : ℕ) (rows : List WriteRow) (are : AreWritesOf h t n rows) where
   -- where the row of a write stands

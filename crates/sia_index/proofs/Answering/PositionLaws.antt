@@ -293,6 +293,9 @@ module _ (h : List Event) (txns : Txns) (ks : Keys) (v : Versions) (ws : Writes)
       let own = ap (λ (x : VersionRow). x.key) (row_is q rows same) in
       subst (λ m. IsKeyAt h m w.key) (sym own) (keys, keys_are, (is_row q p.0).0, ap (λ (x : KeyVersion). x.key) p.1)
 
+  pub row_commit : (q : ℕ) (w : KeyVersion) → IsAtPosition h q w → (rows : List VersionRow) → rows ≡ joined v.rows → (slice_index_or rows q no_row).commit ≡ w.commit
+  row_commit q w is rows same = ap (λ (x : VersionRow). x.commit) (row_is q rows same) ∙ ap (λ (x : KeyVersion). x.commit) (at_position q w is).1
+
   pub maker_is : (q : ℕ) (w : KeyVersion) → IsAtPosition h q w → 0 < w.commit → (rows : List VersionRow) → rows ≡ joined v.rows → IsCommittedAt h (slice_index_or rows q no_row).maker w.txn
   maker_is q w is some rows same =
       let p = at_position q w is in

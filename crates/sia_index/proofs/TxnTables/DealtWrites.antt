@@ -1,6 +1,6 @@
 -- The rows of write events, as a loop over the places collects them, and as they are dealt by their transactions and sorted.
 use Rattle.std.proofs.Common.{◌≡◌, ℕ, zero, suc, ◌+◌, ◌-◌, ◌<◌, ◌≤◌, true, false, List, [], ◌∷◌, ◌++◌, length, eqb, Some, refl, sym, subst, ap, ◌∙◌, arith}
-use Rattle.std.specs.Prelude.{All, AllPairs, Contains, slice_index, slice_index_or}
+use Rattle.std.specs.Prelude.{All, Contains, slice_index, slice_index_or}
 use Rattle.std.specs.declared.cmp.Ordering.{Ordering}
 use Rattle.std.specs.declared.cmp.Ordering.TheVariants.{Equal}
 use Rattle.std.specs.Cmp.{nat_cmp_is}
@@ -8,6 +8,7 @@ use Rattle.std.specs.Ordering.{is_lt, nat_cmp, ordering_then}
 use Rattle.std.specs.List.Sorted.{IsPermutation, IsSorted}
 use Rattle.std.proofs.lemmas.Bool.{eq-eqb, eqb-true}
 use Rattle.std.proofs.lemmas.List.Elements.{All-contains, All-contains_itself, All-filter, Contains-get_or, filter_passes}
+use Rattle.std.proofs.lemmas.Option.{slice_get-get_or}
 use Rattle.std.proofs.lemmas.List.FromFn.{get_or-map-range_with_len, length-map-range_with_len}
 use Rattle.std.proofs.lemmas.List.Sorted.{Contains-permutation, IsNonDecreasingBy-from_sort, IsPermutation-sym}
 use Rattle.sia_events.specs.declared.event.Event.{Event}
@@ -18,7 +19,7 @@ use Rattle.sia_events.proofs.Shared.TransactionDecisions.{place_within}
 use Rattle.sia_index.specs.declared.txns.WriteRow.{WriteRow}
 use Rattle.sia_index.specs.Lists.{AreInOrder, dealt, rows_of}
 use Rattle.sia_index.specs.Rows.{AreWritesOf}
-use Rattle.sia_index.proofs.Shared.NumberedNames.{one_place}
+use Rattle.sia_index.proofs.Shared.LogNames.{StandOnce}
 use Rattle.sia_index.proofs.Shared.Ordered.{not_above, not_before}
 use Rattle.sia_index.proofs.TxnTables.Collected.{HoldsBelow, holds_one, holds_same}
 use Rattle.sia_index.proofs.VersionRows.StableDeal.{filter_has}
@@ -53,14 +54,14 @@ module _ (rows : List WriteRow) (sorted : IsSorted row_cmp rows) where
 
 module _ (h : List Event) (ids : List ℕ) where
   -- the rows of the writes so far, where the next place has a write event
-  pub write_more : (n : ℕ) (w : WriteRow) (xs : List WriteRow) → AllPairs (λ x y. x < y) ids → HoldsBelow (IsWriteAt h ids) n xs → IsWriteAt h ids w n → HoldsBelow (IsWriteAt h ids) (n + 1) (xs ++ w ∷ [])
-  write_more n w xs up holds here = holds_one (IsWriteAt h ids) n xs w holds here (λ x is.
+  pub write_more : (n : ℕ) (w : WriteRow) (xs : List WriteRow) → StandOnce ids → HoldsBelow (IsWriteAt h ids) n xs → IsWriteAt h ids w n → HoldsBelow (IsWriteAt h ids) (n + 1) (xs ++ w ∷ [])
+  write_more n w xs once holds here = holds_one (IsWriteAt h ids) n xs w holds here (λ x is.
       let at : at_place h n ≡ Some (Write (slice_index ids w.txn) w.key) = here.2 in
       let there : at_place h n ≡ Some (Write (slice_index ids x.txn) x.key) = is.2 in
       let same : Write (slice_index ids w.txn) w.key ≡ Write (slice_index ids x.txn) x.key = cc in
       let key : w.key ≡ x.key = cc in
       let name : slice_index ids w.txn ≡ slice_index ids x.txn = cc in
-      let txn = one_place ids up w.txn x.txn here.1 is.1 name in
+      let txn = once w.txn x.txn (slice_index ids w.txn) (slice_get-get_or ids w.txn 0 here.1) (slice_get-get_or ids x.txn 0 is.1 ∙ ap Some (sym name)) in
       let place : w.place ≡ x.place = here.0 ∙ sym is.0 in
       λ i. record { key = key i; place = place i; txn = txn i })
 

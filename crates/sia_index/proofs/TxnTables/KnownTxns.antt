@@ -1,6 +1,6 @@
 -- What the row of a transaction in a log tells of it.
 use Rattle.std.proofs.Common.{◌≡◌, ◌≢◌, inl, inr, ℕ, ◌+◌, ◌<◌, List, [], ◌∷◌, ◌++◌, Some, length, refl, sym, subst, ◌∙◌, ap, arith, slice_get}
-use Rattle.std.specs.Prelude.{AllPairs, Contains, slice_index, slice_index_or}
+use Rattle.std.specs.Prelude.{All, AllPairs, Contains, slice_index, slice_index_or}
 use Rattle.std.proofs.lemmas.Bool.{cases_lt}
 use Rattle.std.proofs.lemmas.List.{length_push, get_or_append_left, get_or_push}
 use Rattle.std.proofs.lemmas.List.Elements.{Contains-get_or}
@@ -14,9 +14,10 @@ use Rattle.sia_events.specs.declared.log.TxnEnd.{TxnEnd}
 use Rattle.sia_events.specs.declared.log.TxnEnd.TheVariants.{Open, Committed, Aborted}
 use Rattle.sia_events.proofs.OfLaws.Endings.{one_end}
 use Rattle.sia_events.specs.Transactions.{IsCommitted}
-use Rattle.sia_index.specs.Rows.{AreNamesOf, AreNumbered}
+use Rattle.sia_index.specs.Rows.{AreNamesOf, AreNumbered, IsColumn}
+use Rattle.sia_index.specs.Tables.{AreNumbersOf}
 use Rattle.sia_index.specs.declared.names.Numbered.{Numbered}
-use Rattle.sia_index.proofs.Shared.NumberedNames.{same_some}
+use Rattle.sia_index.proofs.Shared.NumberedNames.{none_numbered, same_some}
 use Rattle.sia_index.proofs.TxnTables.Collected.{HoldsBelow, holds_nothing, holds_one, holds_same}
 
 -- what is known to end otherwise didn't commit
@@ -36,6 +37,29 @@ beside_more R n names bs t b long so here = (
     | inl less ↦ rw (get_or_append_left names (t ∷ []) 0 i (omega arith), get_or_append_left bs (b ∷ []) d i (omega (arith, so.0))) (so.1 i d less)
     | inr more ↦ rw (get_or_push names t 0 i (omega arith), get_or_push bs b d i (omega (arith, so.0))) here
   ],
+)
+
+-- and beside all names
+pub stands_beside : {B : Type 0} (R : ℕ → B → Type 0) (n : ℕ) (names : List ℕ) (bs : List B) (b : B) → StandBeside R n names bs → (t : ℕ) → slice_index names n ≡ t → R t b → StandBeside R (n + 1) names (bs ++ b ∷ [])
+stands_beside R n names bs b so t name here = (
+  length_push bs b ∙ ap (λ m. m + 1) so.0,
+  λ i d below. elim (cases_lt i n) [
+    | inl less ↦ rw (get_or_append_left bs (b ∷ []) d i (omega (arith, so.0))) (so.1 i d less)
+    | inr more ↦
+        let is : n ≡ i = omega arith in
+        rw (get_or_push bs b d i (omega (arith, so.0))) (subst (λ m. R (slice_index names m) b) is (subst (λ u. R u b) (sym name) here))
+  ],
+)
+
+-- the numbers of rows are those of their names
+pub numbers_of_names : (names : List ℕ) (rows : List (Numbered ℕ)) (listed order : List ℕ) → All (λ row. slice_get names row.number ≡ Some row.name) rows → AreNamesOf rows listed → IsColumn (λ (row : Numbered ℕ). row.number) rows (length rows) order → AreNumbersOf names listed order
+numbers_of_names names rows listed order named listed_are order_are = (
+  order_are.0 ∙ sym listed_are.0,
+  λ i d below.
+      let inside : i < length rows = omega (arith, listed_are.0) in
+      let number = order_are.1 i d none_numbered (omega (arith, order_are.0)) in
+      let name = listed_are.1 i 0 none_numbered below in
+      subst (λ m. slice_get names m ≡ Some (slice_index listed i)) (sym number) (subst (λ t. slice_get names (slice_index_or rows i none_numbered).number ≡ Some t) (sym name) (named i none_numbered inside)),
 )
 
 -- row number q is this one, and its name has K

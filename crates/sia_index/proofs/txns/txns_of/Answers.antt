@@ -16,7 +16,7 @@ use Rattle.sia_index.proofs.TxnTables.Collected.{holds_nothing}
 use Rattle.sia_index.proofs.Shared.Fates.{ended_has_event}
 use Rattle.sia_index.proofs.Shared.LogNames.{txns_stand_once, event_has_number}
 use Rattle.sia_index.proofs.Shared.NumberedNames.{IsRowOf, none_numbered, numbered_listed, numbered_more, numbers_are, rows_apart, rows_named, rows_within, same_some}
-use Rattle.sia_index.proofs.TxnTables.KnownTxns.{StandBeside, beside_more, chosen_listed, chosen_more, chosen_same, names_more, none_chosen, not_committed}
+use Rattle.sia_index.proofs.TxnTables.KnownTxns.{StandBeside, beside_more, numbers_of_names, chosen_listed, chosen_more, chosen_same, names_more, none_chosen, not_committed}
 use Rattle.sia_index.proofs.txns.txns_of.Goals.{After-loop-row, After-sort, in-Committed+in_ok-push-2+in_ok-push-3+in_ok-push-4, in_default}
 use Rattle.sia_index.proofs.txns.txns_of.Goals as goal
 
@@ -31,9 +31,6 @@ loop-number-preserved c =
 
 numbered : (c : After-sort) → AreNumbered (HasEvent c.args.log.now) (txns_of c.args.log.now) c.sort.new.list.items
 numbered c = numbered_listed _ _ c.loop-number.number _ _ (omega (arith, c.txn_count-count.ensures)) c.loop-number.invariant c.sort.ensures.sorted (λ x. (c.sort.ensures.same x).1) (λ x. (c.sort.ensures.same x).0)
-
-pub infos_of-requires : goal.infos_of-requires
-infos_of-requires c = rw c.deref.ensures.value (rows_named (HasEvent c.args.log.now) _ _ (numbered (goal.at.infos_of-requires c).After-sort))
 
 pub places_of-requires-clause-apart : goal.places_of-requires-clause-apart
 places_of-requires-clause-apart c = rw c.deref-2.ensures.value (rows_apart (HasEvent c.args.log.now) _ _ (numbered (goal.at.places_of-requires-clause-apart c).After-sort))
@@ -101,7 +98,8 @@ returns c =
     let committed : ArePlaces (λ (row : Numbered ℕ). row.number) c.loop-row.ended.items (length (txns_of h)) c.in_ok-committed_numbers.committed_numbers.items = rw (c.deref-3.ensures.value, c.txn_count-count.ensures) at c.in_ok-committed_numbers.ensures in
     record {
       all = numbers_are (HasEvent h) (txns_of h) c.sort.new.list.items (numbered (goal.at.returns c).After-sort) (txns_stand_once h) (event_has_number h) _ (rw c.deref.ensures.value at c.in_ok-ids.ensures.names) _ numbers;
-      infos = c.in_ok-ids.ensures.infos;
+      order = numbers_of_names (txns_of h) c.sort.new.list.items c.in_ok-ids.ids.items c.in_ok-ids.order.items (rows_named (HasEvent h) _ _ (numbered (goal.at.returns c).After-sort)) (rw c.deref.ensures.value at c.in_ok-ids.ensures.names) (rw c.deref.ensures.value at c.in_ok-ids.ensures.numbers);
+      infos = c.in_ok-infos.ensures;
       committed = numbers_are (IsCommitted h) (txns_of h) c.loop-row.ended.items (ended (goal.at.returns c).After-loop-row (rows_of (goal.at.returns c).After-sort c.deref-row-items.result.now c.deref-row-items.ensures.value)) (txns_stand_once h) (λ t done. event_has_number h t (ended_has_event h t Committed done)) _ c.loop-row.invariant.named _ committed;
       lifetimes = record { long = c.loop-row.invariant.beside.0; each = λ i d below. c.loop-row.invariant.beside.1 i d below };
     }

@@ -1,6 +1,8 @@
 -- The number that the table has.
 use Rattle.std.proofs.Common.{◌∙◌, sym, subst, arith}
 use Rattle.std.proofs.lemmas.List.{get_or_default}
+use Rattle.std.proofs.lemmas.Option.{slice_get-get_or}
+use Rattle.sia_events.specs.Numbering.{txns_of}
 use Rattle.sia_index.specs.Info.{IsReader}
 use Rattle.sia_index.specs.Tables.{AreTables}
 use Rattle.sia_index.proofs.Shared.NumberedNames.{txn_numbered}
@@ -22,7 +24,11 @@ reader_of-requires c =
     let are = subst (λ h. AreTables h c.self.inside.txns c.self.inside.keys c.self.inside.versions c.self.inside.writes) c.self.view_is c.self.invariant in
     let at = txn_numbered _ _ _ are.txns_are.all c.args.txn c.requires c.index.result.now c.unwrap_or-number.result c.index.ensures c.unwrap_or-number.ensures in
     let ids = c.self.inside.txns.ids.items in
-    (ids, are.txns_are.all.listed_are, at.0, sym (c.index-2.ensures ∙ get_or_default ids c.unwrap_or-number.result c.index-2.result.now 0 at.0))
+    let name = c.index-2.ensures ∙ get_or_default ids c.unwrap_or-number.result c.index-2.result.now 0 at.0 in
+    record {
+      number = (ids, are.txns_are.all.listed_are, at.0, sym name);
+      txn = rw (name, at.1) (slice_get-get_or (txns_of c.args.self.now) c.args.txn 0 c.requires);
+    }
 
 pub returns : goal.returns
 returns c =
