@@ -1,5 +1,5 @@
 -- The transactions of a history, counted by how they ended, one after another.
-use Rattle.std.proofs.Common.{◌≡◌, ◌≢◌, ℕ, ◌+◌, ◌<◌, ◌≤◌, List, [], ◌∷◌, ◌++◌, Some, zero, suc, length, map, take, slice_index_or, inl, inr, refl, ap, ◌∙◌, arith, length-append, eqb}
+use Rattle.std.proofs.Common.{◌≡◌, ◌≢◌, ℕ, ◌+◌, ◌<◌, ◌≤◌, List, [], ◌∷◌, ◌++◌, Some, zero, suc, length, map, take, slice_index_or, inl, inr, ap, ◌∙◌, arith, length-append, eqb}
 use Rattle.std.specs.Prelude.{true, AllPairs, Contains}
 use Rattle.std.specs.Cmp.{nat_eq_equiv, unsigned_Decides}
 use Rattle.std.specs.List.{IsDistinct}
@@ -62,17 +62,6 @@ module _ (h : List Event) (wf : IsWellFormed h) (txns : List ℕ) (rises : Rises
       committed_are = unmoved Committed Unfinished ended (λ e. cc) committed are.committed_are;
       aborted_are = unmoved Aborted Unfinished ended (λ e. cc) aborted are.aborted_are;
       unfinished_are = one_more Unfinished ended unfinished are.unfinished_are;
-    }
-
--- none is counted so far
-pub no_tallies : (h : List Event) (txns : List ℕ) → AreTallies h txns 0 0 0 0
-no_tallies h txns = record { committed_are = ([], none Committed, refl); aborted_are = ([], none Aborted, refl); unfinished_are = ([], none Unfinished, refl) }
-  where
-    none : (fate : Fate) → AreKept (EndedSo h fate) txns 0 []
-    none fate = record {
-      ascending = λ i j d less below. absurd (omega arith);
-      each = λ t. ((λ c. absurd (let b = c.1 in omega arith)), (λ w. absurd (let b = w.0.1 in omega arith)));
-      few = omega arith;
     }
 
 -- all are counted

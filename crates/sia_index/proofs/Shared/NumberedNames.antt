@@ -17,7 +17,7 @@ use Rattle.std.proofs.lemmas.Bool.{cases_lt}
 use Rattle.sia_index.specs.declared.names.Numbered.{Numbered}
 use Rattle.sia_index.specs.Rows.{AreNumbered, AreNamesOf, IsWritten}
 use Rattle.sia_index.specs.Tables.{ArePlaces, AreNumbers}
-use Rattle.sia_index.proofs.TxnTables.Collected.{HoldsBelow, holds_one, holds_same, holds_again, collected}
+use Rattle.sia_index.proofs.TxnTables.Collected.{HoldsBelow, holds_one, holds_again, collected}
 use Rattle.sia_index.proofs.Shared.LogNames.{StandOnce, keys_stand_once, numbered_has_event, write_has_number, numbered_wrote}
 use Rattle.sia_index.proofs.Shared.Ordered.{ascends, precedes_last, precedes_then}
 
@@ -54,9 +54,6 @@ module _ (K : ℕ → Type 0) (names : List ℕ) (n t : ℕ) (rows : List (Numbe
 
   pub numbered_more : K t → HoldsBelow (IsRowOf K names) (n + 1) (rows ++ record { name = t; number = n } ∷ [])
   numbered_more has = holds_one (IsRowOf K names) n rows (record { name = t; number = n }) holds (refl, here, has) (λ x is. same_row (record { name = t; number = n }) x (name_is x is) (sym is.0))
-
-  pub numbered_skip : ¬ K t → HoldsBelow (IsRowOf K names) (n + 1) rows
-  numbered_skip none = holds_same (IsRowOf K names) n rows holds (λ x is. none (subst K (sym (name_is x is)) is.2))
 
 pub numbered_listed : (K : ℕ → Type 0) (names : List ℕ) (n : ℕ) (xs ys : List (Numbered ℕ)) → n ≡ length names → HoldsBelow (IsRowOf K names) n xs → IsStrictlySortedBy (λ x y. ordering_then (nat_cmp x.name y.name) (nat_cmp x.number y.number)) ys → ((x : Numbered ℕ) → Contains xs x → Contains ys x) → ((x : Numbered ℕ) → Contains ys x → Contains xs x) → AreNumbered K names ys
 numbered_listed K names n xs ys all holds = collected (IsRowOf K names) (λ row. row.name ∷ row.number ∷ []) (λ row. (slice_get names row.number ≡ Some row.name) × K row.name) (λ x y. ordering_then (nat_cmp x.name y.name) (nat_cmp x.number y.number))

@@ -1,7 +1,7 @@
 -- Trees of least numbers: what is at a node is at most what is at each leaf below it.
-use Rattle.std.proofs.Common.{◌≡◌, inl, inr, ℕ, zero, suc, ◌+◌, ◌*◌, ◌/◌, ◌^◌, ◌<◌, ◌≤◌, List, length, set, ap, sym, subst, ◌∙◌, arith}
+use Rattle.std.proofs.Common.{◌≡◌, inl, inr, ℕ, zero, suc, ◌+◌, ◌*◌, ◌/◌, ◌^◌, ◌<◌, ◌≤◌, List, length, set, ap, sym, ◌∙◌, arith}
 use Rattle.std.specs.Prelude.{slice_index, slice_index_or}
-use Rattle.std.proofs.lemmas.Bool.{cases_lt, cases_eq}
+use Rattle.std.proofs.lemmas.Bool.{cases_lt}
 use Rattle.std.proofs.lemmas.List.{get_or_default, get_or-set_same, get_or-set_other, length-set}
 use Rattle.std.proofs.Math.Nat.{mul-le-mul_left, pow-succ'}
 use Rattle.sia_index.specs.Minima.{AreLeaves, AreMinima, Covers, IsLeastAt, IsPower, IsTree, PassesBlocks}
@@ -15,9 +15,6 @@ power_some (suc e) = let rest = power_some e in let next = power_suc e in omega 
 
 pub is_some : (n : ℕ) → IsPower n → 1 ≤ n
 is_some n power = let some = power_some power.0 in let is = power.1 in omega arith
-
-pub twice_power : (n : ℕ) → IsPower n → IsPower (n * 2)
-twice_power n power = (suc power.0, (let is = power.1 in let next = power_suc power.0 in omega arith))
 
 pub half_power : (n : ℕ) → IsPower n → 1 ≤ n / 2 → IsPower (n / 2) × (n ≡ 2 * (n / 2))
 half_power n (zero, is) some = absurd (omega arith)
@@ -92,32 +89,6 @@ module _ {A : Type 0} (num : A → ℕ) (rows : List A) (n size : ℕ) (minima :
   pub leaf_within : size + n / 16 < length minima
   leaf_within = let count = are.0 in omega arith
 
-  pub leaves_more : (row : A) (old least : ℕ) → old ≡ slice_index_or minima (size + n / 16) old → least ≤ old → least ≤ num (slice_index_or rows n row) → AreLeaves num rows (n + 1) size (set minima (size + n / 16) least)
-  leaves_more row old least read below_old below_row = (
-    length-set minima (size + n / 16) least ∙ are.0,
-    λ block i d first last less. elim (cases_lt i n) [
-      | inl before ↦
-          let is = are.1 block i d first last before in (
-            is.0,
-            elim (cases_eq block (n / 16)) [
-              | inl same ↦
-                  let at = ap (λ b. slice_index (set minima (size + n / 16) least) (size + b)) same ∙ get_or-set_same minima (size + n / 16) least 0 leaf_within in
-                  let was = ap (λ b. slice_index minima (size + b)) same in
-                  let own = read ∙ get_or_default minima (size + n / 16) old 0 leaf_within in
-                  let rest = is.1 in
-                  omega arith
-              | inr other ↦ let at = get_or-set_other minima (size + n / 16) (size + block) least 0 (λ e. other (omega arith)) in let rest = is.1 in omega arith
-            ],
-          )
-      | inr here ↦
-          let same : i ≡ n = omega arith in
-          let leaf : block ≡ n / 16 = omega arith in
-          let at = ap (λ b. slice_index (set minima (size + n / 16) least) (size + b)) leaf ∙ get_or-set_same minima (size + n / 16) least 0 leaf_within in
-          let own = ap (λ m. num (slice_index_or rows m d)) same ∙ ap num (get_or_default rows n d row some) in
-          (omega arith, omega arith)
-    ],
-  )
-
 -- nodes from one on have the least of the two below them
 pub record TreeFrom {A : Type 0} (num : A → ℕ) (rows : List A) (size from : ℕ) (minima : List ℕ) : Type 0 where
   pub leaves : AreLeaves num rows (length rows) size minima
@@ -158,16 +129,6 @@ module _ {A : Type 0} (num : A → ℕ) (rows : List A) (size n : ℕ) (minima :
               (omega arith, omega arith)
         ];
       }
-
-pub tree_whole : {A : Type 0} (num : A → ℕ) (rows : List A) (size : ℕ) (minima : List ℕ) → IsPower size → TreeFrom num rows size 1 minima → AreMinima num rows minima
-tree_whole num rows size minima power tree = (size, record { power = power; count = tree.leaves.0; inner = λ node some below. tree.inner node (omega arith) below }, tree.leaves)
-
--- all blocks stand below the root
-pub covers_all : {A : Type 0} (num : A → ℕ) (rows : List A) (minima : List ℕ) → AreMinima num rows minima → Covers minima 1 0 (length minima / 2)
-covers_all num rows minima are =
-    let count = are.1.count in
-    let half : length minima / 2 ≡ are.0 = omega arith in
-    (are.0, are.1, subst IsPower (sym half) are.1.power, omega arith, omega arith)
 
 -- rows of blocks that are passed
 pub rows_passed : {A : Type 0} (num : A → ℕ) (rows : List A) (minima : List ℕ) → AreMinima num rows minima → (limit from to : ℕ) → PassesBlocks minima limit (from / 16) to → (i : ℕ) (d : A) → from ≤ i → i < to * 16 → i < length rows → limit ≤ num (slice_index_or rows i d)

@@ -1,5 +1,5 @@
 -- Each number adds its transaction.
-use Rattle.std.proofs.Common.{◌≡◌, ◌∙◌, length, ap, subst, arith}
+use Rattle.std.proofs.Common.{◌∙◌, length, ap, subst, arith}
 use Rattle.std.proofs.lemmas.Option.{get_or_from_slice_get}
 use Rattle.sia_events.specs.Numbering.{Ends, txns_of}
 use Rattle.sia_index.specs.Info.{EndsAs, IsInfo}

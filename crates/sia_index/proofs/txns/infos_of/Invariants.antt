@@ -1,5 +1,4 @@
 -- What is known of the first transactions stands at their numbers.
-use Rattle.std.proofs.Common.{◌≡◌}
 use Rattle.sia_events.specs.Numbering.{txns_of}
 use Rattle.sia_index.specs.Info.{IsInfo}
 use Rattle.sia_index.proofs.TxnTables.KnownTxns.{StandBeside}

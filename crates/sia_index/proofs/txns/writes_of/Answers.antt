@@ -1,10 +1,8 @@
 -- Each place adds the row of its event, if that is a write, and the rows are dealt by their transactions.
-use Rattle.std.proofs.Common.{◌≡◌, ◌<◌, ◌∙◌, ℕ, Some, length, refl, sym, subst, ap, arith, rules}
-use Rattle.std.specs.Prelude.{slice_index}
+use Rattle.std.proofs.Common.{◌≡◌, ◌<◌, ◌∙◌, Some, length, refl, sym, subst, ap, arith, rules}
 use Rattle.std.specs.Option.{option_map}
 use Rattle.std.proofs.lemmas.Option.{get_or_from_slice_get}
-use Rattle.sia_events.specs.Numbering.{names_of, txns_of, keys_of, txn_at, key_at, event_of}
-use Rattle.sia_events.specs.Transactions.{HasEvent}
+use Rattle.sia_events.specs.Numbering.{names_of, txns_of, keys_of, key_at, event_of}
 use Rattle.sia_events.specs.declared.log.Row.{Row}
 use Rattle.sia_index.specs.Lists.{AreInOrder}
 use Rattle.sia_index.proofs.Shared.LogNames.{txns_stand_once}
