@@ -74,10 +74,7 @@ impl History {
     pub fn event(&self, place: u32) -> Option<&Event>
         ensures { option_copied result ≡ at_place self.now place }
     {
-        if place == 0 {
-            return None;
-        }
-        self.events.get(place as usize - 1)
+        self.events.get((place as usize).checked_sub(1)?)
     }
 }
 

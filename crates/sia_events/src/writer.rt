@@ -5,10 +5,11 @@ ghost use Rattle.sia_events.specs.Text.{numeral, spell_list, spell, canonical};
 use crate::event::{Event, Key, Version};
 use crate::fault::NoMemory;
 use crate::history::History;
-use itoa::Buffer;
+use itoa::write_digits;
 use std::alloc::{AllocError, Global};
 
-/// Writes a number between some bytes.
+/// Writes a number between some bytes. What is behind its digits is copied too, and cut off: a length that is known is faster.
+#[inline(always)]
 pub fn push_number(
     out: &mut Vec<u8>,
     before: &[u8],
@@ -17,9 +18,11 @@ pub fn push_number(
 ) -> Result<(), AllocError>
     ensures { OnOk result (out.new.items ≡ out.old.items ++ before.now ++ numeral n ++ behind.now) }
 {
-    let mut buffer = Buffer::new();
+    let mut digits = [0; 40];
+    let start = write_digits(n, &mut digits, 20);
     out.extend_from_slice(before)?;
-    out.extend_from_slice(buffer.format(n).as_bytes())?;
+    out.extend_from_slice(&digits[start..start + 20])?;
+    out.truncate(out.len() - start);
     out.extend_from_slice(behind)
 }
 
@@ -57,8 +60,7 @@ pub(crate) fn push_event(out: &mut Vec<u8>, event: &Event) -> Result<(), AllocEr
             push_number(out, b"", *lo, b"..")?;
             push_number(out, b"", *hi, b"")?;
             push_list(out, listed.as_slice())?;
-            out.push(b']')?;
-            Ok(())
+            out.extend_from_slice(b"]")
         }
         Event::Write { key, .. } => {
             push_number(out, b"w", txn, b"[")?;
