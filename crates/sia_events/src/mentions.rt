@@ -1,6 +1,6 @@
 //! How listed pairs were spelled last.
 ghost use Rattle.std.specs.Prelude.{◌≡◌, ◌<◌, ◌≤◌, ℕ, true, Some, Ok, length, take, slice_index, IfOk, IfSome};
-ghost use Rattle.sia_events.specs.Parsing.{Gives, pair_at, SpellsPair};
+ghost use Rattle.sia_events.specs.Parsing.{Gives, begins_with, pair_at, SpellsPair};
 
 use crate::draft::NO_KEY;
 use crate::event::{Key, Version};
@@ -75,18 +75,23 @@ impl Spelling {
         self.len <= same_len(text, &self.bytes)
     }
 
-    /// What follows the pair, where the text begins with its spelling and goes on with no digit.
+    /// What follows the pair, where the text begins with its spelling and goes on with no digit, and whether that is a comma.
     #[inline(always)]
-    pub(crate) fn past<'a>(&self, text: &'a [u8]) -> Option<&'a [u8]>
-        ensures pair { IfSome result (λ rest. pair_at text.now
-            ≡ Ok (Some (self.now.key, self.now.saw), rest.now)) }
-        ensures shorter { IfSome result (λ rest. length rest.now ≤ length text.now) }
+    pub(crate) fn past<'a>(&self, text: &'a [u8]) -> Option<(&'a [u8], bool)>
+        ensures pair { IfSome result (λ x. pair_at text.now
+            ≡ Ok (Some (self.now.key, self.now.saw), x.0.now)) }
+        ensures shorter { IfSome result (λ x. length x.0.now ≤ length text.now) }
+        ensures comma { IfSome result (λ x. x.1 ≡ begins_with 44 x.0.now) }
     {
         let len = self.len as usize;
-        if text.len() <= len || !self.is_ahead(text) || text[len].is_ascii_digit() {
+        if text.len() <= len || !self.is_ahead(text) {
             return None;
         }
-        Some(&text[len..])
+        let goes_on = text[len] == b',';
+        if !goes_on && text[len].is_ascii_digit() {
+            return None;
+        }
+        Some((&text[len..], goes_on))
     }
 }
 

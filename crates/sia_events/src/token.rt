@@ -22,6 +22,9 @@ pub(crate) enum Token {
     Abort { txn: TxnId },
 }
 
+/// What follows a pair, whether that is a comma, and the number of the key that may well be listed next.
+type Taken<'a> = (&'a [u8], bool, u32);
+
 /// What the last range read listed, and by the numbers of keys how they were spelled.
 #[derive(Drop)]
 pub(crate) struct Listing {
@@ -29,8 +32,6 @@ pub(crate) struct Listing {
     /// Once a number was out of its range, the pairs count for nothing.
     in_range: bool,
     rows: Vec<SpellingRow>,
-    /// The number of the key that may well be listed next.
-    guess: u32,
 }
 
 impl Listing {
@@ -39,24 +40,22 @@ impl Listing {
             pairs: Vec::new(alloc),
             in_range: true,
             rows: Vec::new(alloc),
-            guess: NO_KEY,
         }
     }
 
-    /// Takes in a pair, where it is spelled as the key that is guessed was the last time, and answers what follows.
+    /// Takes in a pair, where it is spelled as the key of the number was the last time.
     #[inline(always)]
-    fn take_again<'a>(&mut self, text: &'a [u8]) -> Result<Option<&'a [u8]>, Refusal>
+    fn take_again<'a>(&mut self, number: u32, text: &'a [u8]) -> Result<Option<Taken<'a>>, Refusal>
         ensures takes { IfOk result (λ taken. MatchOption taken (listed self.new ≡ listed self.old)
-            (λ rest. TakesPair (listed self.old) (listed self.new) text.now rest.now)) }
+            (λ x. TakesPair (listed self.old) (listed self.new) text.now x.0.now x.1)) }
         ensures fails { IfErr result (λ fault. Fails fault (pair_at text.now)) }
     {
-        let number = self.guess;
         if let Some(SpellingRow { spelling, behind }) = self.rows.get(number as usize) {
-            if let Some(rest) = spelling.past(text) {
+            if let Some((rest, goes_on)) = spelling.past(text) {
+                let behind = *behind;
                 let Spelling { key, saw, .. } = *spelling;
                 self.pairs.push(Mention { key, saw, number })?;
-                self.guess = *behind;
-                return Ok(Some(rest));
+                return Ok(Some((rest, goes_on, behind)));
             }
         }
         Ok(None)
@@ -64,21 +63,22 @@ impl Listing {
 
     /// Takes in any pair.
     #[inline(never)]
-    fn take<'a>(&mut self, draft: &Draft, text: &'a [u8]) -> Result<&'a [u8], Refusal>
-        ensures takes { IfOk result (λ rest. TakesPair (listed self.old) (listed self.new) text.now rest.now) }
+    fn take<'a>(&mut self, draft: &Draft, guess: u32, text: &'a [u8]) -> Result<Taken<'a>, Refusal>
+        ensures takes { IfOk result (λ x. TakesPair (listed self.old) (listed self.new) text.now x.0.now x.1) }
         ensures fails { IfErr result (λ fault. Fails fault (pair_at text.now)) }
     {
         let (read, rest) = pair(text)?;
+        let goes_on = rest.starts_with(b",");
         let Some((key, saw)) = read else {
             self.in_range = false;
-            return Ok(rest);
+            return Ok((rest, goes_on, guess));
         };
-        let number = draft.find_key(self.guess, key).unwrap_or(NO_KEY);
+        let number = draft.find_key(guess, key).unwrap_or(NO_KEY);
         let spelling = Spelling::of(&text[..text.len() - rest.len()], key, saw);
         let last = self.pairs.last().map_or(NO_KEY, |last| last.number);
-        self.guess = keep(&mut self.rows, last, number, spelling)?;
+        let guess = keep(&mut self.rows, last, number, spelling)?;
         self.pairs.push(Mention { key, saw, number })?;
-        Ok(rest)
+        Ok((rest, goes_on, guess))
     }
 }
 
@@ -154,16 +154,17 @@ fn list<'a>(
     };
     // A list mostly begins with the first key of the range.
     let first = lo.and_then(|lo| draft.find_key(NO_KEY, lo));
-    listing.guess = first.unwrap_or(NO_KEY);
+    let mut guess = first.unwrap_or(NO_KEY);
     loop {
-        let after = match listing.take_again(rest)? {
-            Some(after) => after,
-            None => listing.take(draft, rest)?,
+        let (after, goes_on, next) = match listing.take_again(guess, rest)? {
+            Some(taken) => taken,
+            None => listing.take(draft, guess, rest)?,
         };
-        match after.strip_prefix(b",") {
-            Some(more) => rest = more,
-            None => return Ok(after),
+        if !goes_on {
+            return Ok(after);
         }
+        rest = &after[1..];
+        guess = next;
     }
 }
 

@@ -3,6 +3,7 @@ use Rattle.std.proofs.Common.{◌≡◌, ℕ, zero, suc, ◌+◌, ◌<◌, ◌�
 use Rattle.std.specs.Prelude.{Bool, ◌==◌, nat_eq, ◌∷◌, ◌++◌}
 use Rattle.std.specs.Cmp.Lexicographic.{pointwise}
 use Rattle.std.proofs.Math.Bool.{and-true}
+use Rattle.std.proofs.lemmas.Bool.Decides.{nat_tests}
 use Rattle.sia_events.specs.declared.fault.Reason.{Reason}
 use Rattle.sia_events.specs.declared.fault.Refusal.{Refusal}
 use Rattle.sia_events.specs.declared.fault.Refusal.TheVariants as refusals
@@ -44,6 +45,22 @@ starts bytes = nothing_before (pairs_within (length bytes + 1) bytes)
 pub ahead : (b : ℕ) (bytes : List ℕ) → pointwise nat_eq (take 1 bytes) (b ∷ []) ≡ begins_with b bytes
 ahead b [] = refl
 ahead b (c ∷ rest) = and-true (c == b)
+
+-- whether it is ahead, as a text is asked for it
+pub starts_so : (b : ℕ) (bytes : List ℕ) → pointwise nat_eq (b ∷ []) (take 1 bytes) ≡ begins_with b bytes
+starts_so b [] = refl
+starts_so b (c ∷ rest) = and-true (b == c) ∙ turned (b == c) (c == b) refl refl
+  where
+    turned : (p q : Bool) → nat_eq b c ≡ p → nat_eq c b ≡ q → p ≡ q
+    turned true true e f = refl
+    turned false false e f = refl
+    turned true false e f = absurd (grind (arith, nat_tests))
+    turned false true e f = absurd (grind (arith, nat_tests))
+
+-- a byte that is ahead can be passed
+pub shortened : (b : ℕ) (bytes : List ℕ) → begins_with b bytes ≡ true → length (drop 1 bytes) < length bytes
+shortened b [] begun = absurd cc
+shortened b (c ∷ rest) begun = let less : length rest < suc (length rest) = omega arith in less
 
 pub list_begun : (bytes rest : List ℕ) → begins_with 59 bytes ≡ true → rest ≡ drop 1 bytes → pairs_at rest ≡ list_at bytes
 unfolding list_at

@@ -5,8 +5,8 @@ use Rattle.sia_events.specs.Parsing.{pairs_within, list_at}
 use Rattle.sia_events.proofs.TokensRead.Pairs.{with_front}
 use Rattle.sia_events.proofs.token.list.Given as goal
 
-abbrev pub invariant-loop-after : goal.invariant-loop-after
-invariant-loop-after l = (more : ℕ) × (length l.rest < more) × (with_front (listed l.listing) (pairs_within more l.rest) ≡ list_at l.text)
+abbrev pub invariant-loop-taken : goal.invariant-loop-taken
+invariant-loop-taken l = (more : ℕ) × (length l.rest < more) × (with_front (listed l.listing) (pairs_within more l.rest) ≡ list_at l.text)
 
-abbrev pub decreases-loop-after : goal.decreases-loop-after
-decreases-loop-after l = length l.rest
+abbrev pub decreases-loop-taken : goal.decreases-loop-taken
+decreases-loop-taken l = length l.rest

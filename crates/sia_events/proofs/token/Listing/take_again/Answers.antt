@@ -11,5 +11,6 @@ returns-in-Some-past-clause-takes c = record {
   pair = _;
   read = c.in-Some-past.ensures.pair;
   shorter = c.in-Some-past.ensures.shorter;
+  comma = c.in-Some-past.ensures.comma;
   joins = pair_joins c.args.self.now.in_range (mentioned c.args.self.now.pairs.items) _ (ap mentioned c.in_ok-push.ensures.items ∙ map-append (λ (m : Mention). (m.key, m.saw)) c.args.self.now.pairs.items _);
 }
