@@ -85,8 +85,9 @@ impl OwnWrites {
     {
         let Writer { newest, count } = self.writers.get(txn as usize).copied()?;
         if count > FEW {
-            let code = u64::from(txn) * 4_294_967_296 + u64::from(key);
-            return self.table.find(rows, code);
+            return self
+                .table
+                .find(rows, u64::from(txn) * 4_294_967_296 + u64::from(key));
         }
         let mut at = newest as usize;
         while at > 0 {

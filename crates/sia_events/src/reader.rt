@@ -120,8 +120,7 @@ impl TextReader {
     pub fn refused(&self) -> Option<u32>
         ensures { result ≡ option_map (λ fault. fault.0) self.now.fault }
     {
-        let (token, _) = self.fault?;
-        Some(token)
+        Some(self.fault?.0)
     }
 
     /// The history that the text stands for, or why there is none.

@@ -52,10 +52,9 @@ impl Listing {
     {
         if let Some(SpellingRow { spelling, behind }) = self.rows.get(number as usize) {
             if let Some((rest, goes_on)) = spelling.past(text) {
-                let behind = *behind;
                 let Spelling { key, saw, .. } = *spelling;
                 self.pairs.push(Mention { key, saw, number })?;
-                return Ok(Some((rest, goes_on, behind)));
+                return Ok(Some((rest, goes_on, *behind)));
             }
         }
         Ok(None)
