@@ -429,8 +429,7 @@ impl Draft {
         ensures { Takes self.old self.new (an_event.Commit txn) result }
     {
         let txn = self.actor(txn)?;
-        let end = TxnEnd::Committed(self.count() + 1);
-        self.tables.txns[txn as usize].end = end;
+        self.tables.txns[txn as usize].end = TxnEnd::Committed(self.count() + 1);
         self.tables.events.push(Row::Commit { txn })?;
         Ok(())
     }
@@ -441,8 +440,7 @@ impl Draft {
         ensures { Takes self.old self.new (an_event.Abort txn) result }
     {
         let txn = self.actor(txn)?;
-        let end = TxnEnd::Aborted(self.count() + 1);
-        self.tables.txns[txn as usize].end = end;
+        self.tables.txns[txn as usize].end = TxnEnd::Aborted(self.count() + 1);
         self.tables.events.push(Row::Abort { txn })?;
         Ok(())
     }
